@@ -1,0 +1,15 @@
+# `make` proves and builds the program and leaves it at bin/clpa.
+PROGRAM := bin/clpa
+
+.PHONY: build test clean
+
+build:
+	cd crates/clpa && rt run > /dev/null 2>&1; test -x out/clpa
+	mkdir -p bin
+	cp crates/clpa/out/clpa $(PROGRAM)
+
+test:
+	rt ci
+
+clean:
+	rm -rf bin crates/*/out

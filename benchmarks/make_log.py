@@ -1,0 +1,97 @@
+#!/usr/bin/env python3
+"""Writes a log as services write it: make_log.py MEGABYTES SEED FILE.
+
+The same size and seed give the same bytes. Most lines begin with a stamp, of one of several
+kinds; each service keeps to one kind. The messages hold levels, task and container numbers,
+addresses, decimals, paths and `key=value` pairs; some are followed by a stack trace of lines
+without a stamp. Two words stand in it for the searches: `quorum-lost` in about one line of fifty
+thousand, and `heartbeat` in about one line of twenty.
+"""
+import random
+import sys
+from datetime import datetime, timedelta
+
+LEVELS = ["INFO"] * 16 + ["DEBUG"] * 6 + ["WARN"] * 2 + ["ERROR"]
+SERVICES = ["scheduler", "gateway", "billing", "indexer", "auth", "storage", "mailer", "metrics"]
+CLASSES = ["TaskManager", "BlockStore", "RpcServer", "SessionPool", "Shuffle", "LeaseKeeper"]
+STAMPS = [
+    lambda t: "%04d-%02d-%02d %02d:%02d:%02d,%03d" % parts(t),
+    lambda t: "%04d-%02d-%02d %02d:%02d:%02d.%03d" % parts(t),
+    lambda t: "%04d-%02d-%02dT%02d:%02d:%02d.%03d" % parts(t),
+    lambda t: "[%04d-%02d-%02d %02d:%02d:%02d,%03d]" % parts(t),
+    lambda t: "%04d-%02d-%02d %02d:%02d:%02d" % parts(t)[:6],
+    lambda t: "%04d-%02d-%02dT%02d:%02d:%02dZ" % parts(t)[:6],
+    lambda t: "%02d/%02d/%02d %02d:%02d:%02d" % ((t.year % 100,) + parts(t)[1:6]),
+    lambda t: t.strftime("%b %d %H:%M:%S"),
+]
+
+
+def parts(t):
+    return (t.year, t.month, t.day, t.hour, t.minute, t.second, t.microsecond // 1000)
+
+
+def address(r):
+    return "10.%d.%d.%d:%d" % (r.randrange(4), r.randrange(64), r.randrange(1, 255), r.choice((80, 443, 8020, 9092, 50010)))
+
+
+def message(r):
+    kind = r.random()
+    task = r.randrange(1, 40_000)
+    if kind < 0.05:
+        return "heartbeat from %s in %.3f ms, %d blocks" % (address(r), r.random() * 40, r.randrange(9_000))
+    if kind < 0.25:
+        return "Task task_%d assigned to container: [NodeAddress:%s, ContainerID:container_%d], operation took %.3f SECONDS" % (
+            task, address(r), r.randrange(1, 2_000), r.random() * 5)
+    if kind < 0.45:
+        return "GET /api/v2/accounts/%d/orders?page=%d status=%d bytes=%d took=%.1fms client=%s" % (
+            r.randrange(100_000), r.randrange(40), r.choice((200, 200, 200, 204, 304, 404, 500)), r.randrange(200_000), r.random() * 300, address(r))
+    if kind < 0.60:
+        return "Block blk_%d replicated to %s (%d of 3), checksum %08x" % (r.randrange(1 << 40), address(r), r.randrange(1, 4), r.randrange(1 << 32))
+    if kind < 0.75:
+        return "session=%08x user=user%d action=%s latency=%.2f ok=%s" % (
+            r.randrange(1 << 32), r.randrange(5_000), r.choice(("login", "logout", "refresh", "purchase")), r.random() * 90, r.choice(("true", "true", "false")))
+    if kind < 0.85:
+        return "Compaction of /data/part-%05d finished: %d files, %d -> %d bytes, ratio %.4f" % (
+            r.randrange(2_000), r.randrange(2, 40), r.randrange(1 << 30), r.randrange(1 << 28), r.random())
+    if kind < 0.93:
+        return "queue depth %d, waiting %d, oldest %.2f s" % (r.randrange(900), r.randrange(50), r.random() * 8)
+    if kind < 0.99998:
+        return "retry %d of 5 for task_%d after timeout of %d ms" % (r.randrange(1, 6), task, r.choice((250, 500, 1000, 2000)))
+    return "quorum-lost on %s, term %d" % (address(r), r.randrange(4_000))
+
+
+def trace(r):
+    lines = ["java.io.IOException: connection to %s was reset" % address(r)]
+    for _ in range(r.randrange(4, 12)):
+        name = r.choice(CLASSES)
+        lines.append("\tat com.example.%s.%s(%s.java:%d)" % (name.lower(), r.choice(("run", "call", "apply", "handle")), name, r.randrange(20, 900)))
+    return lines
+
+
+def lines_of(r):
+    now = datetime(2025, 3, 1, 0, 0, 0)
+    while True:
+        now += timedelta(milliseconds=r.randrange(1, 40))
+        service = r.randrange(len(SERVICES))
+        level = r.choice(LEVELS)
+        yield "%s %s [%s] %s: %s" % (STAMPS[service](now), level, SERVICES[service], r.choice(CLASSES), message(r))
+        if level == "ERROR" and r.random() < 0.3:
+            yield from trace(r)
+
+
+def main():
+    size, seed, path = int(sys.argv[1]) * 1_000_000, int(sys.argv[2]), sys.argv[3]
+    written, batch = 0, []
+    with open(path, "w", encoding="ascii", newline="\n") as out:
+        for line in lines_of(random.Random(seed)):
+            batch.append(line)
+            written += len(line) + 1
+            if written >= size or len(batch) == 20_000:
+                out.write("\n".join(batch) + "\n")
+                batch.clear()
+            if written >= size:
+                return
+
+
+if __name__ == "__main__":
+    main()

@@ -1,0 +1,103 @@
+#!/usr/bin/env python3
+"""Times commands in interleaved rounds and prints a table: measure.py ROUNDS FILE CLPA.
+
+Each command's output goes through a pipe to this script, which throws it away: a search that
+sees that its output is the null device may stop at the first hit. The time of a command is that
+from its start until its end, with its output read. Of each command the median over the rounds is
+shown, with the bytes of the file a second, the ratio to the command that it stands beside, and
+the most memory that it had, looked at every few milliseconds.
+"""
+import os
+import select
+import shutil
+import statistics
+import subprocess
+import sys
+import time
+
+RARE, COMMON, WILD = "quorum-lost", "heartbeat", "Task*SECONDS"
+
+
+def peak_of(pid):
+    """The most memory that a running process had so far, in KiB, or 0 where it has ended.
+
+    What `wait4` tells would count the pages of this script, from which the process was forked.
+    """
+    try:
+        with open(f"/proc/{pid}/status", encoding="ascii") as status:
+            return next((int(line.split()[1]) for line in status if line.startswith("VmHWM")), 0)
+    except OSError:
+        return 0
+
+
+def run(words):
+    """Seconds, peak memory in KiB, lines of output, and the exit status."""
+    start = time.perf_counter()
+    with subprocess.Popen(words, stdout=subprocess.PIPE, stderr=subprocess.DEVNULL, env=dict(os.environ, LC_ALL="C")) as child:
+        out = child.stdout.fileno()
+        peak, lines, looked = 0, 0, 0.0
+        while True:
+            ready, _, _ = select.select([out], [], [], 0.005)
+            if time.perf_counter() - looked > 0.005:
+                peak = max(peak, peak_of(child.pid))
+                looked = time.perf_counter()
+            if ready:
+                part = os.read(out, 1 << 20)
+                if not part:
+                    break
+                lines += part.count(b"\n")
+        status = child.wait()
+    return time.perf_counter() - start, peak, lines, status
+
+
+def groups(clpa, path):
+    """Each group: its name, and its commands with their names; the second is the measure."""
+    grep = ["grep", "-a", "-n"]
+    found = []
+    found.append(("show", [("clpa show", [clpa, "-", "show", path]), ("cat", ["cat", path])]))
+    for name, text in (("rare word", RARE), ("common word", COMMON)):
+        commands = [("clpa scan", [clpa, "-", "scan", text, path]), ("grep -F", grep + ["-F", text, path])]
+        if shutil.which("rg"):
+            commands.append(("rg -F", ["rg", "-a", "-n", "-j1", "-F", text, path]))
+        found.append((f"{name} `{text}`", commands))
+    wild = WILD.replace("*", ".*")
+    commands = [("clpa scan", [clpa, "-", "scan", WILD, path]), ("grep", grep + [wild, path])]
+    if shutil.which("rg"):
+        commands.append(("rg", ["rg", "-a", "-n", "-j1", wild, path]))
+    found.append((f"wildcard `{WILD}`", commands))
+    return found
+
+
+def main():
+    rounds, path, clpa = int(sys.argv[1]), sys.argv[2], sys.argv[3]
+    size = os.path.getsize(path)
+    with open(path, "rb") as log:  # so that the first command does not pay for the disk
+        while log.read(1 << 22):
+            pass
+    print("| what | command | seconds | MB/s | ratio | peak MiB | lines out |")
+    print("| --- | --- | --- | --- | --- | --- | --- |")
+    failed = False
+    for what, commands in groups(clpa, path):
+        runs = {name: [] for name, _ in commands}
+        for _ in range(rounds):
+            for name, words in commands:
+                runs[name].append(run(words))
+        middle = {name: statistics.median(r[0] for r in all_runs) for name, all_runs in runs.items()}
+        beside = middle[commands[1][0]]
+        for name, _ in commands:
+            _, _, lines, status = runs[name][0]
+            peak = max(r[1] for r in runs[name]) / 1024
+            note = "" if status == 0 or (status == 1 and name != "clpa scan") else f" (status {status})"
+            failed = failed or bool(note)
+            print("| %s | %s%s | %.3f | %.0f | %.2f | %.1f | %d |" % (what, name, note, middle[name], size / middle[name] / 1e6, beside / middle[name], peak, lines))
+        counts = {runs[name][0][2] for name, _ in commands}
+        if what != "show" and len(counts) > 1:
+            failed = True
+            print(f"| {what} | the commands found different lines: {sorted(counts)} | | | | | |")
+    print()
+    print("ratio: the speed beside `cat` or `grep` on the same file in the same run; above 1 is faster")
+    sys.exit(1 if failed else 0)
+
+
+if __name__ == "__main__":
+    main()

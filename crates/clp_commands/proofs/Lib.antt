@@ -1,0 +1,9 @@
+pub mod AnswerLemmas
+pub mod CutterLemmas
+pub mod OutputLemmas
+pub mod PrintedLemmas
+pub mod PrintingLemmas
+pub mod ReadingLemmas
+pub mod RefusalLemmas
+pub mod ShownLemmas
+pub mod WordLemmas

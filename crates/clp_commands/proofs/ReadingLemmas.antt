@@ -1,0 +1,162 @@
+-- How far the printing of a log's bytes is.
+use Rattle.std.proofs.Common.{◌≡◌, ◌≢◌, refl, sym, ◌∙◌, ap, subst, ℕ, ◌+◌, ◌<◌, ◌≤◌, List, [], ◌∷◌, ◌++◌, length, take, get_or, arith, Bool, true, false, Some}
+use Rattle.std.specs.Prelude.{slice_get}
+use Rattle.std.proofs.lemmas.List.{append-nil, append_assoc, length-append, length-take, get_or-take}
+use Rattle.std.proofs.Math.Seq.{take-append_seam, get_or-append_seam}
+use Rattle.std.proofs.Math.Logic.{dite}
+use Rattle.std.proofs.Math.Decide.{dec_le}
+use Rattle.std.proofs.Math.Nat.{lt_of_not-le}
+use Rattle.std.proofs.lemmas.List.Elements.{All-nil, All-push}
+use Rattle.log_messages.specs.Messages.{IsLine, joined, Messages}
+use Rattle.log_messages.proofs.Steps.{Begins, begins, Begins-line, Messages-ended, Messages-open, Messages-after}
+use Rattle.log_messages.proofs.Exists.{HasMessages, messages_exist}
+use Rattle.clp_commands.specs.Printing.{Prints, PrintsAll, PrintsFirst, PrintsSome, HasMore, IsLong, AreShort, most_bytes, most_messages}
+use Rattle.clp_commands.proofs.PrintingLemmas.{Prints-more}
+
+-- Whole lines were printed, and these bytes are left.
+pub record Reads (tells : ℕ → List ℕ → List ℕ → Type 0) (bytes left : List ℕ) (given : ℕ) (text : List ℕ) : Type 0 where
+  pub lines : List (List ℕ)
+  pub begin : Begins bytes lines left
+  pub count : length lines ≡ given
+  pub few : given ≤ most_messages
+  pub short : AreShort lines
+  pub prints : Prints tells 1 lines text
+
+pub Reads-nothing : (tells : ℕ → List ℕ → List ℕ → Type 0) (bytes : List ℕ) → Reads tells bytes bytes 0 []
+Reads-nothing tells bytes = record { lines = []; begin = begins bytes; count = refl; few = omega arith; short = All-nil (λ m. length m ≤ most_bytes); prints = refl }
+
+-- one more line
+pub Reads-line : (tells : ℕ → List ℕ → List ℕ → Type 0) (bytes left line rest : List ℕ) (given : ℕ) (text more : List ℕ) → Reads tells bytes left given text → IsLine line → length line ≤ most_bytes → given < most_messages → left ≡ line ++ 10 ∷ rest → tells (given + 1) line more → Reads tells bytes rest (given + 1) (text ++ more)
+Reads-line tells bytes left line rest given text more r is fits few e told = record {
+  lines = r.lines ++ line ∷ [];
+  begin = Begins-line bytes r.lines left line rest r.begin is e;
+  count = length-append r.lines (line ∷ []) ∙ ap (λ n. n + 1) r.count;
+  few = omega arith;
+  short = All-push (λ m. length m ≤ most_bytes) r.lines line r.short fits;
+  prints = Prints-more tells 1 r.lines line text more r.prints (subst (λ n. tells n line more) (omega (arith, r.count)) told);
+}
+
+-- a last line without its newline
+pub Reads-last : (tells : ℕ → List ℕ → List ℕ → Type 0) (bytes left line : List ℕ) (given : ℕ) (text more : List ℕ) → Reads tells bytes left given text → IsLine line → line ≢ [] → length line ≤ most_bytes → given < most_messages → left ≡ line → tells (given + 1) line more → PrintsAll tells bytes (text ++ more)
+Reads-last tells bytes left line given text more r is some fits few e told = record {
+  messages = r.lines ++ line ∷ [];
+  ended = false;
+  are = Messages-open bytes r.lines line (subst (λ l. Begins bytes r.lines l) e r.begin) is some;
+  few = omega (arith, length-append r.lines (line ∷ []), r.count);
+  short = All-push (λ m. length m ≤ most_bytes) r.lines line r.short fits;
+  prints = Prints-more tells 1 r.lines line text more r.prints (subst (λ n. tells n line more) (omega (arith, r.count)) told);
+}
+
+-- the end of the bytes
+pub Reads-end : (tells : ℕ → List ℕ → List ℕ → Type 0) (bytes left : List ℕ) (given : ℕ) (text : List ℕ) → Reads tells bytes left given text → left ≡ [] → PrintsAll tells bytes text
+Reads-end tells bytes left given text r none = record {
+  messages = r.lines;
+  ended = true;
+  are = Messages-ended bytes r.lines (subst (λ l. Begins bytes r.lines l) none r.begin);
+  few = omega (arith, r.count, r.few);
+  short = r.short;
+  prints = r.prints;
+}
+
+-- what was printed so far
+pub Reads-first : (tells : ℕ → List ℕ → List ℕ → Type 0) (bytes left : List ℕ) (given : ℕ) (text : List ℕ) → Reads tells bytes left given text → PrintsFirst tells bytes given text
+Reads-first tells bytes left given text r = record {
+  messages = r.lines ++ rest.messages;
+  ended = rest.ended;
+  are = Messages-after bytes r.lines left rest.messages rest.ended r.begin rest.are;
+  enough = omega (arith, length-append r.lines rest.messages, r.count);
+  few = r.few;
+  short = subst AreShort (sym front) r.short;
+  prints = subst (λ ms. Prints tells 1 ms text) (sym front) r.prints;
+}
+  where
+    rest : HasMessages left
+    rest = messages_exist left
+
+    front : take given (r.lines ++ rest.messages) ≡ r.lines
+    front = ap (λ n. take n (r.lines ++ rest.messages)) (sym r.count) ∙ take-append_seam r.lines rest.messages
+
+pub PrintsAll-some : (tells : ℕ → List ℕ → List ℕ → Type 0) (bytes text : List ℕ) → PrintsAll tells bytes text → PrintsSome tells bytes text
+PrintsAll-some tells bytes text p = (
+  length p.messages,
+  record {
+    messages = p.messages;
+    ended = p.ended;
+    are = p.are;
+    enough = omega arith;
+    few = p.few;
+    short = subst AreShort (sym (take_whole p.messages)) p.short;
+    prints = subst (λ ms. Prints tells 1 ms text) (sym (take_whole p.messages)) p.prints;
+  },
+)
+  where
+    take_whole : (xs : List (List ℕ)) → take (length xs) xs ≡ xs
+    take_whole xs = ap (take (length xs)) (sym (append-nil xs)) ∙ take-append_seam xs []
+
+-- the element behind a front
+slice_get-seam : (front : List (List ℕ)) (x : List ℕ) (back : List (List ℕ)) → slice_get (front ++ x ∷ back) (length front) ≡ Some x
+slice_get-seam [] x back = refl
+slice_get-seam (f ∷ front) x back = slice_get-seam front x back
+
+-- The first message of bytes that begin with no newline for so long is longer.
+record FirstIsLong (messages : List (List ℕ)) (limit : ℕ) : Type 0 where
+  first : List ℕ
+  others : List (List ℕ)
+  are : messages ≡ first ∷ others
+  long : limit < length first
+
+-- a line that a newline follows is no shorter
+line_is_long : (line rest : List ℕ) (limit : ℕ) → IsLine (take (limit + 1) (line ++ 10 ∷ rest)) → limit < length line
+line_is_long line rest limit is = dite (dec_le (length line) limit) (λ (short : length line ≤ limit). absurd (is (length line) 0 (within short) (at short))) lt_of_not-le
+  where
+    within : length line ≤ limit → length line < length (take (limit + 1) (line ++ 10 ∷ rest))
+    within short = omega (arith, length-take (limit + 1) (line ++ 10 ∷ rest), length-append line (10 ∷ rest))
+
+    at : length line ≤ limit → get_or (take (limit + 1) (line ++ 10 ∷ rest)) (length line) 0 ≡ 10
+    at short = get_or-take (limit + 1) (line ++ 10 ∷ rest) (length line) 0 (omega arith) ∙ get_or-append_seam line 10 rest 0
+
+first_is_long : (bytes : List ℕ) (messages : List (List ℕ)) (ended : Bool) (limit : ℕ) → Messages bytes messages ended → limit < length bytes → IsLine (take (limit + 1) bytes) → FirstIsLong messages limit
+first_is_long bytes [] true limit m more is = absurd (omega (arith, ap length m.1))
+first_is_long bytes (first ∷ others) true limit m more is = record { first = first; others = others; are = refl; long = line_is_long first (joined others) limit (subst (λ b. IsLine (take (limit + 1) b)) m.1 is) }
+first_is_long bytes messages false limit m more is = open_is_long m.1.front m.1.last m.1.splits m.1.is
+  where
+    open_is_long : (front : List (List ℕ)) (last : List ℕ) → messages ≡ front ++ last ∷ [] → bytes ≡ joined front ++ last → FirstIsLong messages limit
+    open_is_long [] last e f = record { first = last; others = []; are = e; long = omega (arith, ap length f) }
+    open_is_long (first ∷ front) last e f = record { first = first; others = front ++ last ∷ []; are = e; long = line_is_long first (joined front ++ last) limit (subst (λ b. IsLine (take (limit + 1) b)) (f ∙ append_assoc first (10 ∷ joined front) last) is) }
+
+-- the next line is too long
+pub Reads-long : (tells : ℕ → List ℕ → List ℕ → Type 0) (bytes left : List ℕ) (given : ℕ) (text : List ℕ) → Reads tells bytes left given text → most_bytes < length left → IsLine (take (most_bytes + 1) left) → IsLong bytes (given + 1)
+Reads-long tells bytes left given text r more is = record {
+  before = given;
+  follows = refl;
+  messages = r.lines ++ rest.messages;
+  ended = rest.ended;
+  are = Messages-after bytes r.lines left rest.messages rest.ended r.begin rest.are;
+  message = long.first;
+  stands = ap (λ n. slice_get (r.lines ++ rest.messages) n) (sym r.count) ∙ (ap (λ ms. slice_get (r.lines ++ ms) (length r.lines)) long.are ∙ slice_get-seam r.lines long.first long.others);
+  long = long.long;
+}
+  where
+    rest : HasMessages left
+    rest = messages_exist left
+
+    long : FirstIsLong rest.messages most_bytes
+    long = first_is_long left rest.messages rest.ended most_bytes rest.are more is
+
+-- something has messages
+some_messages : (bytes : List ℕ) (messages : List (List ℕ)) (ended : Bool) → Messages bytes messages ended → 0 < length bytes → 0 < length messages
+some_messages bytes [] true m some = absurd (omega (arith, ap length m.1))
+some_messages bytes [] false m some = omega (arith, ap length m.1.splits, length-append m.1.front (m.1.last ∷ []))
+some_messages bytes (first ∷ others) ended m some = omega arith
+
+-- a further line begins
+pub Reads-more : (tells : ℕ → List ℕ → List ℕ → Type 0) (bytes left : List ℕ) (given : ℕ) (text : List ℕ) → Reads tells bytes left given text → 0 < length left → HasMore bytes given
+Reads-more tells bytes left given text r some = record {
+  messages = r.lines ++ rest.messages;
+  ended = rest.ended;
+  are = Messages-after bytes r.lines left rest.messages rest.ended r.begin rest.are;
+  more = omega (arith, length-append r.lines rest.messages, r.count, some_messages left rest.messages rest.ended rest.are some);
+}
+  where
+    rest : HasMessages left
+    rest = messages_exist left

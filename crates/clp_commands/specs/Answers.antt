@@ -1,0 +1,98 @@
+-- What a call of the program answers, by what its words ask for.
+use Rattle.std.specs.Prelude.{◌≡◌, ◌⊎◌, ℕ, List, [], Option, Some, None}
+use Rattle.log_seams.specs.Outside.{Rose}
+use Rattle.wild_match.specs.Reading.{search_pattern, IsLoneBackslash}
+use Rattle.clp_commands.specs.Printing.{Printed}
+use Rattle.clp_commands.specs.Refusal.{Says, status_of, line_of}
+use Rattle.clp_commands.specs.Scanned.{Finds}
+use Rattle.clp_commands.specs.Shown.{Shows}
+use Rattle.clp_commands.specs.Words.{AsksShow, AsksScan, IsUsage}
+use Rattle.clp_commands.specs.declared.refusal.Refusal.{Refusal}
+use Rattle.clp_commands.specs.declared.refusal.Refusal.TheVariants.{Usage, BadPattern, OpenFault, ReadFault, LineTooLong, TooManyLines, SinkFault, OutOfMemory}
+
+-- What the outside tells around a call: the bytes of each log, what the two outputs took before it and have taken after it, and the counts of faults before and after it.
+pub record Around : Type 0 where
+  pub content : List ℕ → Option (List ℕ)
+  pub opens : List ℕ → ℕ × ℕ
+  pub reads : List ℕ → ℕ × ℕ
+  pub out : Option (List ℕ) × Option (List ℕ)
+  pub out_faults : ℕ × ℕ
+  pub err : Option (List ℕ) × Option (List ℕ)
+  pub err_faults : ℕ × ℕ
+
+-- what a shelf and two sinks tell around a call
+abbrev pub around : {H K : Type 0} → (H → List ℕ → Option (List ℕ)) → (H → List ℕ → ℕ) → (H → List ℕ → ℕ) → (K → Option (List ℕ)) → (K → ℕ) → H → H → K → K → K → K → Around
+around content open_faults read_faults written faults shelf shelf_after out out_after err err_after = record {
+  content = content shelf;
+  opens = λ name. (open_faults shelf name, open_faults shelf_after name);
+  reads = λ name. (read_faults shelf name, read_faults shelf_after name);
+  out = (written out, written out_after);
+  out_faults = (faults out, faults out_after);
+  err = (written err, written err_after);
+  err_faults = (faults err, faults err_after);
+}
+
+-- the count of faults rose during the call
+abbrev pub RoseIn : ℕ × ℕ → Type 0
+RoseIn counts = Rose counts.0 counts.1
+
+-- the output took nothing
+abbrev pub TookNothing : Option (List ℕ) × Option (List ℕ) → Type 0
+TookNothing texts = texts.1 ≡ texts.0
+
+-- the error output took this text and no more, unless its count of faults rose
+abbrev pub SaysIn : Around → List ℕ → Type 0
+SaysIn seen text = Says seen.err.0 seen.err.1 seen.err_faults.0 seen.err_faults.1 text
+
+-- the status for an answer, where no refusal is `None`
+abbrev pub exit_status : Option Refusal → ℕ
+exit_status None = 0
+exit_status (Some refusal) = status_of refusal
+
+-- the line for an answer
+abbrev pub error_line : List ℕ → Option Refusal → List ℕ
+error_line name None = []
+error_line name (Some refusal) = line_of name refusal
+
+-- What an answer of the printing of a log rests on, beside what was printed. Want of memory is free.
+abbrev pub HasCause : Around → List ℕ → Option Refusal → Type 0
+HasCause seen name None = Unit {0}
+HasCause seen name (Some OpenFault) = RoseIn (seen.opens name) × TookNothing seen.out
+HasCause seen name (Some ReadFault) = RoseIn (seen.reads name)
+HasCause seen name (Some (LineTooLong line)) = Unit {0}
+HasCause seen name (Some TooManyLines) = Unit {0}
+HasCause seen name (Some SinkFault) = RoseIn seen.out_faults
+HasCause seen name (Some OutOfMemory) = Unit {0}
+HasCause seen name (Some Usage) = ⊥
+HasCause seen name (Some (BadPattern at)) = ⊥
+
+-- The log of this name was printed, or the printing was refused with a cause.
+pub record AnswersLog (tells : ℕ → List ℕ → List ℕ → Type 0) (seen : Around) (name : List ℕ) (status : ℕ) : Type 0 where
+  pub answer : Option Refusal
+  pub status_is : status ≡ exit_status answer
+  pub printed : Printed tells answer (seen.content name) seen.out.0 seen.out.1
+  pub cause : HasCause seen name answer
+  pub said : SaysIn seen (error_line name answer)
+
+-- The call was refused before anything was printed.
+pub record Refuses (seen : Around) (status : ℕ) (refusal : Refusal) : Type 0 where
+  pub status_is : status ≡ status_of refusal
+  pub nothing : TookNothing seen.out
+  pub said : SaysIn seen (line_of [] refusal)
+
+-- A pattern with a lone backslash at this place is refused, or there is no memory to read it.
+abbrev pub RefusesPattern : Around → ℕ → ℕ → Type 0
+RefusesPattern seen status at = Refuses seen status (BadPattern at) ⊎ Refuses seen status OutOfMemory
+
+-- What the program answers: words that are no command, a pattern that ends in a lone backslash, and the two commands.
+pub record Answers (words : List (List ℕ)) (seen : Around) (status : ℕ) : Type 0 where
+  pub usage : IsUsage words → Refuses seen status Usage
+  pub show : (file : List ℕ) → AsksShow words file → AnswersLog (λ _ message text. Shows message text) seen file status
+  pub lone_backslash : (pattern file : List ℕ) (at : ℕ) → AsksScan words pattern file → IsLoneBackslash pattern at → RefusesPattern seen status at
+  pub scan : (pattern file : List ℕ) → AsksScan words pattern file → ((at : ℕ) → ¬ IsLoneBackslash pattern at) → AnswersLog (Finds file (search_pattern pattern)) seen file status
+
+-- A pattern is refused with the place of its lone backslash, or for want of memory.
+abbrev pub IsPatternRefusal : List ℕ → Refusal → Type 0
+IsPatternRefusal text (BadPattern at) = IsLoneBackslash text at
+IsPatternRefusal text OutOfMemory = Unit {0}
+IsPatternRefusal text _ = ⊥

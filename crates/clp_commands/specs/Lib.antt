@@ -1,0 +1,7 @@
+pub mod Answers
+pub mod Output
+pub mod Printing
+pub mod Refusal
+pub mod Scanned
+pub mod Shown
+pub mod Words

@@ -1,0 +1,30 @@
+-- What the words of the command line ask for. The first word is the command.
+use Rattle.std.specs.Prelude.{◌≡◌, ◌≢◌, ℕ, List, [], ◌∷◌, codes}
+use Rattle.clp_commands.specs.declared.words.Command.{Command}
+use Rattle.clp_commands.specs.declared.words.Command.TheVariants.{Show, Scan}
+
+-- a word that is no option: it does not begin with `-`
+abbrev pub IsPlain : List ℕ → Type 0
+IsPlain [] = Unit {0}
+IsPlain (first ∷ _) = first ≢ 45
+
+-- `show FILE`
+pub record AsksShow (words : List (List ℕ)) (file : List ℕ) : Type 0 where
+  pub are : words ≡ codes "show" ∷ file ∷ []
+  pub plain : IsPlain file
+
+-- `scan PATTERN FILE`
+pub record AsksScan (words : List (List ℕ)) (pattern file : List ℕ) : Type 0 where
+  pub are : words ≡ codes "scan" ∷ pattern ∷ file ∷ []
+  pub plain : IsPlain pattern
+  pub plain_file : IsPlain file
+
+-- the words ask for this command
+abbrev pub Asks : List (List ℕ) → Command → Type 0
+Asks words (Show file) = AsksShow words file.now
+Asks words (Scan pattern file) = AsksScan words pattern.now file.now
+
+-- the words ask for no command
+pub record IsUsage (words : List (List ℕ)) : Type 0 where
+  pub no_show : (file : List ℕ) → ¬ AsksShow words file
+  pub no_scan : (pattern file : List ℕ) → ¬ AsksScan words pattern file

@@ -1,0 +1,163 @@
+//! The messages of a log on their way from the log to the output.
+ghost use Rattle.std.specs.Prelude.{◌≡◌, ◌≤◌, ◌⊎◌, ℕ, List, [], OnOk, IfErr, IsErrOf};
+ghost use Rattle.log_seams.specs.Outside.{Rose};
+ghost use Rattle.clp_commands.specs.Printing.{Reaches, Printed, IsFresh, IsLogRefusal, IsReadingRefusal, TellsNext, FailsAfter, answer_of, is_whole, refusal_of};
+ghost use Rattle.clp_commands.specs.declared.refusal.Refusal.TheVariants.{OpenFault, ReadFault, SinkFault, OutOfMemory};
+
+use crate::output::{flush, flush_piece};
+use crate::refusal::Refusal;
+use crate::tell::Tell;
+use line_cut::{Cut, Cutter, CutterRefused};
+use log_seams::{OpenRefused, Shelf, Sink, Source};
+use std::alloc::Global;
+
+/// The most bytes of a line, without its newline.
+const MOST_BYTES: usize = 1_048_576;
+
+/// The most messages of a log.
+const MOST_MESSAGES: u64 = 4_294_967_294;
+
+/// The refusal for a cutter's.
+fn refusal_of(cut: Cut) -> Refusal
+    ensures value { result ≡ refusal_of cut }
+    ensures kind { IsReadingRefusal result }
+{
+    match cut {
+        Cut::ReadFault => Refusal::ReadFault,
+        Cut::LineTooLong { line } => Refusal::LineTooLong { line },
+        Cut::TooManyLines => Refusal::TooManyLines,
+        Cut::OutOfMemory => Refusal::OutOfMemory,
+    }
+}
+
+/// Gathers the text of one message, and sends what was gathered once it is enough for a piece.
+fn print_message<K: Sink, T: Tell>(
+    teller: &T,
+    number: u64,
+    message: &[u8],
+    out: &mut K,
+    gathered: &mut Vec<u8>,
+) -> Result<(), Refusal>
+    ensures ok { OnOk result
+        (TellsNext (T.tells teller.now) number message.now (K.written out.old) (K.written out.new)
+        gathered.old.items gathered.new.items) }
+    ensures failed { IsErrOf result SinkFault
+        → FailsAfter (T.tells teller.now) number message.now (K.written out.old) (K.written out.new)
+        gathered.old.items }
+    ensures cause { IsErrOf result SinkFault → Rose (K.faults out.old) (K.faults out.new) }
+    ensures memory { IsErrOf result OutOfMemory → K.written out.new ≡ K.written out.old }
+    ensures only { IfErr result (λ refusal. (refusal ≡ SinkFault) ⊎ (refusal ≡ OutOfMemory)) }
+    ensures kind { IfErr result IsReadingRefusal }
+    ensures later { K.faults out.old ≤ K.faults out.new }
+{
+    if teller.tell(gathered, number, message).is_err() {
+        return Err(Refusal::OutOfMemory);
+    }
+    match flush_piece(out, gathered) {
+        Ok(()) => Ok(()),
+        Err(_) => Err(Refusal::SinkFault),
+    }
+}
+
+/// Prints the messages that a cutter gives, up to its end or its refusal.
+fn print_messages<S: Source, K: Sink, T: Tell>(
+    cutter: &mut Cutter<S>,
+    teller: &T,
+    out: &mut K,
+    gathered: &mut Vec<u8>,
+) -> Result<(), Refusal>
+    requires fresh { IsFresh cutter.old }
+    requires nothing { gathered.old.items ≡ [] }
+    ensures reaches { Reaches (T.tells teller.now) (answer_of result) (S.left cutter.old.source)
+        (K.written out.old) (K.written out.new) gathered.new.items }
+    ensures read { IsErrOf result ReadFault → Rose (S.faults cutter.old.source) (S.faults cutter.new.source) }
+    ensures sink { IsErrOf result SinkFault → Rose (K.faults out.old) (K.faults out.new) }
+    ensures name { S.name cutter.new.source ≡ S.name cutter.old.source }
+    ensures later { S.faults cutter.old.source ≤ S.faults cutter.new.source }
+    ensures kind { IfErr result IsReadingRefusal }
+    ensures out_later { K.faults out.old ≤ K.faults out.new }
+{
+    let mut number = 0;
+    loop {
+        match cutter.advance() {
+            Ok(Some(_)) => {
+                number += 1;
+                if let Err(refusal) = print_message(teller, number, cutter.line(), out, gathered) {
+                    return Err(refusal);
+                }
+            }
+            Ok(None) => return Ok(()),
+            Err(cut) => return Err(refusal_of(cut)),
+        }
+    }
+}
+
+/// Whether all of the text that the printing came to goes out.
+fn goes_out(outcome: &Result<(), Refusal>) -> bool
+    ensures { result ≡ is_whole (answer_of outcome.now) }
+{
+    !matches!(outcome, Err(Refusal::SinkFault | Refusal::OutOfMemory))
+}
+
+/// Prints the messages of an open log, and sends all that was gathered unless the output failed or
+/// there was no memory.
+fn print_source<S: Source, K: Sink, T: Tell>(
+    alloc: Global,
+    cutter: &mut Cutter<S>,
+    teller: &T,
+    out: &mut K,
+) -> Result<(), Refusal>
+    requires fresh { IsFresh cutter.old }
+    ensures printed { Printed (T.tells teller.now) (answer_of result) (S.left cutter.old.source) (K.written out.old)
+        (K.written out.new) }
+    ensures read { IsErrOf result ReadFault → Rose (S.faults cutter.old.source) (S.faults cutter.new.source) }
+    ensures sink { IsErrOf result SinkFault → Rose (K.faults out.old) (K.faults out.new) }
+    ensures kind { IfErr result IsReadingRefusal }
+    ensures name { S.name cutter.new.source ≡ S.name cutter.old.source }
+    ensures later { S.faults cutter.old.source ≤ S.faults cutter.new.source }
+{
+    let mut gathered = Vec::new(alloc);
+    let outcome = print_messages(cutter, teller, out, &mut gathered);
+    if !goes_out(&outcome) {
+        return outcome;
+    }
+    match flush(out, &mut gathered) {
+        Ok(()) => outcome,
+        Err(_) => Err(Refusal::SinkFault),
+    }
+}
+
+/// Prints the messages of the log of a name.
+pub(crate) fn print_log<H: Shelf, K: Sink, T: Tell>(
+    alloc: Global,
+    teller: &T,
+    shelf: &mut H,
+    name: &str,
+    out: &mut K,
+) -> Result<(), Refusal>
+    ensures printed { Printed (T.tells teller.now) (answer_of result) (H.content shelf.old name.now)
+        (K.written out.old) (K.written out.new) }
+    ensures open { IsErrOf result OpenFault → Rose (H.open_faults shelf.old name.now) (H.open_faults shelf.new name.now) }
+    ensures untouched { IsErrOf result OpenFault → K.written out.new ≡ K.written out.old }
+    ensures read { IsErrOf result ReadFault → Rose (H.read_faults shelf.old name.now) (H.read_faults shelf.new name.now) }
+    ensures sink { IsErrOf result SinkFault → Rose (K.faults out.old) (K.faults out.new) }
+    ensures kind { IfErr result IsLogRefusal }
+    ensures logs { (n : List ℕ) → H.content shelf.new n ≡ H.content shelf.old n }
+{
+    let source = match shelf.open_log(name) {
+        Ok(source) => source,
+        Err(OpenRefused::Failed) => return Err(Refusal::OpenFault),
+        Err(OpenRefused::OutOfMemory) => return Err(Refusal::OutOfMemory),
+    };
+    match Cutter::new(alloc, source, MOST_BYTES, MOST_MESSAGES) {
+        Ok(mut cutter) => {
+            let outcome = print_source(alloc, &mut cutter, teller, out);
+            shelf.close_log(cutter.into_source());
+            outcome
+        }
+        Err(CutterRefused { source }) => {
+            shelf.close_log(source);
+            Err(Refusal::OutOfMemory)
+        }
+    }
+}

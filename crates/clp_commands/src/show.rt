@@ -1,0 +1,130 @@
+//! How `show` prints a message.
+ghost use Rattle.std.specs.Prelude.{◌≡◌, ◌++◌, ◌∷◌, [], ◌%◌, ◌≤◌, ℕ, List, OnOk, length, slice_range};
+ghost use Rattle.clp_commands.specs.Shown.{Shows, hexadecimal_digit, hexadecimal, with_word, marked};
+ghost use Rattle.logtype_text.specs.Parts.{IsSplit};
+ghost use Rattle.var_codec.specs.Codes.{Codes};
+ghost use Rattle.var_codec.specs.declared.Coded.{Coded};
+
+use crate::tell::Tell;
+use logtype_text::{Span, Split, split};
+use std::alloc::{AllocError, Global};
+use var_codec::{Coded, encode};
+
+/// The last hexadecimal digit of a number.
+fn last_digit(number: u64) -> u8
+    ensures { result ≡ hexadecimal_digit (number % 16) }
+{
+    let digit = (number % 16) as u8;
+    if digit < 10 { b'0' + digit } else { 55 + digit }
+}
+
+/// A word of 64 bits as 16 hexadecimal digits in capitals.
+fn hexadecimal(word: u64) -> [u8; 16]
+    ensures { result ≡ hexadecimal 16 word }
+{
+    [
+        last_digit(word >> 60),
+        last_digit(word >> 56),
+        last_digit(word >> 52),
+        last_digit(word >> 48),
+        last_digit(word >> 44),
+        last_digit(word >> 40),
+        last_digit(word >> 36),
+        last_digit(word >> 32),
+        last_digit(word >> 28),
+        last_digit(word >> 24),
+        last_digit(word >> 20),
+        last_digit(word >> 16),
+        last_digit(word >> 12),
+        last_digit(word >> 8),
+        last_digit(word >> 4),
+        last_digit(word),
+    ]
+}
+
+/// Appends a variable with its word.
+fn push_with_word(
+    gathered: &mut Vec<u8>,
+    mark: &[u8],
+    text: &[u8],
+    word: u64,
+) -> Result<(), AllocError>
+    ensures { OnOk result (gathered.new.items ≡ gathered.old.items ++ with_word mark.now text.now word) }
+{
+    gathered.extend_from_slice(mark)?;
+    gathered.extend_from_slice(text)?;
+    gathered.push(b'=')?;
+    gathered.extend_from_slice(&hexadecimal(word))?;
+    gathered.push(b'}')?;
+    Ok(())
+}
+
+/// Appends a variable in braces.
+fn push_variable(gathered: &mut Vec<u8>, text: &[u8]) -> Result<(), AllocError>
+    ensures { OnOk result
+        ((coded : Coded) × Codes text.now coded
+        × (gathered.new.items ≡ gathered.old.items ++ marked text.now coded)) }
+{
+    match encode(text) {
+        Coded::Whole(number) => push_with_word(gathered, b"{i:", text, number.cast_unsigned()),
+        Coded::Decimal(word) => push_with_word(gathered, b"{d:", text, word),
+        Coded::Word => {
+            gathered.extend_from_slice(b"{w:")?;
+            gathered.extend_from_slice(text)?;
+            gathered.push(b'}')?;
+            Ok(())
+        }
+    }
+}
+
+/// Appends the constant bytes from `at` on, and the variable that stands behind them.
+fn push_next(
+    gathered: &mut Vec<u8>,
+    message: &[u8],
+    at: usize,
+    span: Span,
+) -> Result<(), AllocError>
+    requires order { at ≤ span.start }
+    requires forward { span.start ≤ span.end }
+    requires within { span.end ≤ length message.now }
+    ensures { OnOk result
+        ((coded : Coded) × Codes (slice_range message.now span.start span.end) coded
+        × (gathered.new.items
+        ≡ (gathered.old.items ++ slice_range message.now at span.start)
+        ++ marked (slice_range message.now span.start span.end) coded)) }
+{
+    gathered.extend_from_slice(&message[at..span.start])?;
+    push_variable(gathered, &message[span.start..span.end])
+}
+
+/// Appends a message as `show` prints it, and a newline.
+fn push_message(gathered: &mut Vec<u8>, message: &[u8], split: &Split) -> Result<(), AllocError>
+    requires { IsSplit message.now split.now.symbols split.now.spans }
+    ensures { OnOk result
+        ((text : List ℕ) × (gathered.new.items ≡ gathered.old.items ++ text) × Shows message.now text) }
+{
+    let mut at = 0;
+    for span in split.spans.as_slice() {
+        push_next(gathered, message, at, *span)?;
+        at = span.end;
+    }
+    gathered.extend_from_slice(&message[at..])?;
+    gathered.push(b'\n')?;
+    Ok(())
+}
+
+/// Prints every message, with its variables in braces.
+#[derive(Clone, Copy)]
+pub(crate) struct Show {
+    /// Where the memory for the parts of a message comes from.
+    pub(crate) alloc: Global,
+}
+
+impl Tell for Show {
+    ghost tells = { λ _ _ message text. Shows message text };
+
+    fn tell(&self, gathered: &mut Vec<u8>, _number: u64, message: &[u8]) -> Result<(), AllocError> {
+        let split = split(self.alloc, message)?;
+        push_message(gathered, message, &split)
+    }
+}

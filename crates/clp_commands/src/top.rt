@@ -1,0 +1,128 @@
+//! The top call.
+ghost use Rattle.std.specs.Prelude.{◌≡◌, ℕ, List, map, string_bytes, IfOk, IfErr};
+ghost use Rattle.wild_match.specs.Reading.{IsLoneBackslash, search_pattern};
+ghost use Rattle.clp_commands.specs.Answers.{Answers, AnswersLog, IsPatternRefusal, RefusesPattern, around, error_line, exit_status};
+ghost use Rattle.clp_commands.specs.Printing.{answer_of};
+ghost use Rattle.clp_commands.specs.Refusal.{Says};
+ghost use Rattle.clp_commands.specs.Scanned.{Finds};
+
+use crate::log::print_log;
+use crate::refusal::{Refusal, report};
+use crate::scan::Scan;
+use crate::show::Show;
+use crate::tell::Tell;
+use crate::words::{Command, read_words};
+use log_seams::{Shelf, Sink};
+use std::alloc::Global;
+use wild_match::{Matcher, PatternRefusal, read_pattern};
+
+/// Does what the words ask for, and answers the status that the program ends with.
+///
+/// `show FILE` prints each message of a log with its variables in braces. `scan PATTERN FILE` prints
+/// those that the pattern matches, each as `FILE:NUMBER:TEXT`. A refusal has its line on `err`.
+pub fn run<H: Shelf, K: Sink>(
+    alloc: Global,
+    words: &[String],
+    shelf: &mut H,
+    out: &mut K,
+    err: &mut K,
+) -> u8
+    ensures answers { Answers (map string_bytes words.now)
+        (around H.content H.open_faults H.read_faults K.written K.faults
+        shelf.old shelf.new out.old out.new err.old err.new)
+        result }
+    ensures logs { (name : List ℕ) → H.content shelf.new name ≡ H.content shelf.old name }
+{
+    let Some(command) = read_words(words) else {
+        report(err, "", Refusal::Usage);
+        return Refusal::Usage.status();
+    };
+    match command {
+        Command::Show { file } => print_and_report(alloc, &Show { alloc }, shelf, file, out, err),
+        Command::Scan { pattern, file } => scan(alloc, pattern, file, shelf, out, err),
+    }
+}
+
+/// Prints the messages of a log that the pattern of a text matches.
+fn scan<H: Shelf, K: Sink>(
+    alloc: Global,
+    pattern: &str,
+    file: &str,
+    shelf: &mut H,
+    out: &mut K,
+    err: &mut K,
+) -> u8
+    ensures lone { (at : ℕ) → IsLoneBackslash pattern.now at
+        → RefusesPattern
+        (around H.content H.open_faults H.read_faults K.written K.faults
+        shelf.old shelf.new out.old out.new err.old err.new)
+        result at }
+    ensures good { ((at : ℕ) → ¬ IsLoneBackslash pattern.now at)
+        → AnswersLog (Finds file.now (search_pattern pattern.now))
+        (around H.content H.open_faults H.read_faults K.written K.faults
+        shelf.old shelf.new out.old out.new err.old err.new)
+        file.now result }
+    ensures logs { (n : List ℕ) → H.content shelf.new n ≡ H.content shelf.old n }
+{
+    match read_matcher(alloc, pattern) {
+        Ok(matcher) => {
+            let scan = Scan {
+                name: file,
+                matcher: &matcher,
+            };
+            print_and_report(alloc, &scan, shelf, file, out, err)
+        }
+        Err(refusal) => answer(Err(refusal), file, err),
+    }
+}
+
+/// Prints the messages of a log as `teller` says, and answers the status.
+fn print_and_report<H: Shelf, K: Sink, T: Tell>(
+    alloc: Global,
+    teller: &T,
+    shelf: &mut H,
+    name: &str,
+    out: &mut K,
+    err: &mut K,
+) -> u8
+    ensures answers { AnswersLog (T.tells teller.now)
+        (around H.content H.open_faults H.read_faults K.written K.faults
+        shelf.old shelf.new out.old out.new err.old err.new)
+        name.now result }
+    ensures logs { (n : List ℕ) → H.content shelf.new n ≡ H.content shelf.old n }
+{
+    let outcome = print_log(alloc, teller, shelf, name, out);
+    answer(outcome, name, err)
+}
+
+/// The status for an outcome, whose line goes to `err`.
+fn answer<K: Sink>(outcome: Result<(), Refusal>, name: &str, err: &mut K) -> u8
+    ensures status { result ≡ exit_status (answer_of outcome) }
+    ensures said { Says (K.written err.old) (K.written err.new) (K.faults err.old) (K.faults err.new)
+        (error_line name.now (answer_of outcome)) }
+{
+    match outcome {
+        Ok(()) => 0,
+        Err(refusal) => {
+            report(err, name, refusal);
+            refusal.status()
+        }
+    }
+}
+
+/// The pattern of a text, made ready for many messages.
+fn read_matcher(alloc: Global, text: &str) -> Result<Matcher, Refusal>
+    ensures items { IfOk result (λ m. m.items ≡ search_pattern text.now) }
+    ensures good { IfOk result (λ _. (at : ℕ) → ¬ IsLoneBackslash text.now at) }
+    ensures refused { IfErr result (IsPatternRefusal text.now) }
+{
+    let pattern = match read_pattern(alloc, text.as_bytes()) {
+        Ok(pattern) => pattern,
+        Err(PatternRefusal::BadPattern { at }) => return Err(Refusal::BadPattern { at }),
+        Err(PatternRefusal::OutOfMemory) => return Err(Refusal::OutOfMemory),
+    };
+    match Matcher::new(alloc, &pattern) {
+        Ok(matcher) => Ok(matcher),
+        Err(_) => Err(Refusal::OutOfMemory),
+    }
+}

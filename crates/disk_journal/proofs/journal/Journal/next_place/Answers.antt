@@ -1,0 +1,38 @@
+use Rattle.std.proofs.Common.{◌≡◌, ◌≤◌, ◌<◌, ◌+◌, List, ℕ, Option, rules, arith, sym, ◌∙◌, subst}
+use Rattle.log_seams.specs.Disk.{Only}
+use Rattle.record_format.specs.Header.{header_bytes}
+use Rattle.disk_journal.specs.Place.{Walked, AtEnd, OpenAt, Passed}
+use Rattle.disk_journal.proofs.Steps.{walk_ends, walked_on, passed, only_less}
+use Rattle.disk_journal.proofs.journal.Journal.next_place.Goals as goal
+
+pub invariant_of-self-in-None-clause-below : goal.invariant_of-self-in-None-clause-below
+invariant_of-self-in-None-clause-below g c = λ yes. rw c.in-None.is at c.in_ok-look.ensures.small
+
+pub returns-in-None-clause-at_end : goal.returns-in-None-clause-at_end
+returns-in-None-clause-at_end g c =
+    let told = g.D.Disk.seen c.args.self.now.disk.now in
+    let closed = rw c.in-None.is at c.in_ok-look.ensures.closed in
+    let only = only_less told _ (g.D.Disk.images c.look.new.disk) c.requires.settled c.look.ensures.images in
+    let end = walk_ends (header_bytes c.args.self.now.header) c.args.self.now.place c.args.self.now.count told (g.D.Disk.images c.look.new.disk) c.requires.walked closed only in
+    subst (λ (t : Option (List ℕ)). AtEnd (header_bytes c.args.self.now.header) c.args.self.now.place c.args.self.now.count t (g.D.Disk.images c.look.new.disk)) (sym c.look.ensures.seen) end
+
+pub returns-in-Some-clause-walked : goal.returns-in-Some-clause-walked
+returns-in-Some-clause-walked g c =
+    let told = g.D.Disk.seen c.args.self.now.disk.now in
+    let next = c.in-Some.next in
+    let opened = rw c.in-Some.is at c.in_ok-look.ensures.opened in
+    let place = rw c.in-Some.is at c.in_ok-look.ensures.place in
+    let payload : c.args.self.now.place + 10 ≡ next.payload = sym place.1 in
+    let on = walked_on (header_bytes c.args.self.now.header) c.args.self.now.place c.args.self.now.count next.kind next.length told c.requires.walked opened in
+    let there = subst (λ (k : ℕ). Walked (header_bytes c.args.self.now.header) (k + next.length) (c.args.self.now.count + 1) told) payload on in
+    subst (λ (t : Option (List ℕ)). Walked (header_bytes c.args.self.now.header) (next.payload + next.length) (c.args.self.now.count + 1) t) (sym c.look.ensures.seen) there
+
+pub returns-in-Some-clause-passed : goal.returns-in-Some-clause-passed
+returns-in-Some-clause-passed g c =
+    let told = g.D.Disk.seen c.args.self.now.disk.now in
+    let next = c.in-Some.next in
+    let opened = rw c.in-Some.is at c.in_ok-look.ensures.opened in
+    let place = rw c.in-Some.is at c.in_ok-look.ensures.place in
+    let payload : c.args.self.now.place + 10 ≡ next.payload = sym place.1 in
+    subst (λ (k : ℕ). Passed told c.args.self.now.count next.kind k next.length) payload
+      (passed (header_bytes c.args.self.now.header) c.args.self.now.place c.args.self.now.count next.kind next.length told c.requires.walked opened)

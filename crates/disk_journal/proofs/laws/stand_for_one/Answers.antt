@@ -1,0 +1,5 @@
+use Rattle.disk_journal.proofs.Spelling.{stands_one}
+use Rattle.disk_journal.proofs.laws.stand_for_one.Goals as goal
+
+pub returns : goal.returns
+returns c = stands_one

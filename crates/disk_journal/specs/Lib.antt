@@ -1,0 +1,4 @@
+pub mod Record
+pub mod Place
+pub mod Row
+pub mod Laws

@@ -1,0 +1,4 @@
+pub mod Exclusion
+pub mod Finding
+pub mod Giving
+pub mod Windows

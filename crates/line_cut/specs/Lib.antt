@@ -1,0 +1,4 @@
+pub mod Cutting
+pub mod Exclusion
+pub mod Looking
+pub mod Window

@@ -1,0 +1,75 @@
+//! What comes next in a window.
+ghost use Rattle.std.specs.Prelude.{◌≡◌, ◌<◌, ◌≤◌, [], length, IfOk, IfSome, IsTrue, IsFalse, OnErr};
+ghost use Rattle.log_seams.specs.Outside.{Counts, Rose};
+ghost use Rattle.line_cut.specs.Looking.{Sees};
+ghost use Rattle.line_cut.specs.Window.{bytes_left};
+
+use crate::cut::Cut;
+use crate::find_end::{LineEnd, find_end};
+use crate::window::Window;
+use log_seams::{Failed, Source};
+
+/// What comes next in a window.
+#[derive(Clone, Copy)]
+pub(crate) enum Looked {
+    /// A line of so many bytes, and a newline.
+    Line { len: usize },
+    /// A last line of so many bytes, without a newline.
+    Last { len: usize },
+    /// The end of the input.
+    End,
+    /// Nothing that is given.
+    No(Cut),
+}
+
+/// Whether the window holds a byte, after a read where it holds none.
+fn any_left<S: Source>(source: &mut S, window: &mut Window) -> Result<bool, Failed>
+    requires { 0 < window.old.size }
+    ensures some { IfOk result (λ any. IsTrue any → 0 < length window.new.held) }
+    ensures none { IfOk result (λ any. IsFalse any → (window.new.held ≡ []) × IfSome (S.left source.new) (λ rest. rest ≡ [])) }
+    ensures failed { OnErr result (window.new.held ≡ []) }
+    ensures left { bytes_left window.new.held (S.left source.new) ≡ bytes_left window.old.held (S.left source.old) }
+    ensures size { window.new.size ≡ window.old.size }
+    ensures name { S.name source.new ≡ S.name source.old }
+    ensures cause { Counts (S.faults source.old) (S.faults source.new) result }
+{
+    if !window.held().is_empty() {
+        return Ok(true);
+    }
+    Ok(window.fill(source)? > 0)
+}
+
+/// Looks for the line at the front of the window, behind `given` lines.
+pub(crate) fn look<S: Source>(
+    source: &mut S,
+    window: &mut Window,
+    given: u64,
+    max_line: usize,
+    max_lines: u64,
+) -> Looked
+    requires size { max_line < window.old.size }
+    requires count { given ≤ max_lines }
+    ensures sees { Sees (record { given = given; max_line = max_line; max_lines = max_lines }) window.new.held
+        (S.left source.new) (Rose (S.faults source.old) (S.faults source.new)) result }
+    ensures left { bytes_left window.new.held (S.left source.new) ≡ bytes_left window.old.held (S.left source.old) }
+    ensures size { window.new.size ≡ window.old.size }
+    ensures name { S.name source.new ≡ S.name source.old }
+    ensures later { S.faults source.old ≤ S.faults source.new }
+{
+    if given == max_lines {
+        return match any_left(source, window) {
+            Ok(true) => Looked::No(Cut::TooManyLines),
+            Ok(false) => Looked::End,
+            Err(Failed) => Looked::No(Cut::ReadFault),
+        };
+    }
+    match find_end(source, window, max_line) {
+        Ok(LineEnd::Newline { len }) => Looked::Line { len },
+        Ok(LineEnd::EndOfInput) => match window.held().len() {
+            0 => Looked::End,
+            len => Looked::Last { len },
+        },
+        Ok(LineEnd::TooLong) => Looked::No(Cut::LineTooLong { line: given + 1 }),
+        Err(Failed) => Looked::No(Cut::ReadFault),
+    }
+}

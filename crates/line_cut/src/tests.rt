@@ -1,0 +1,247 @@
+use crate::{Cut, Cutter, Mark};
+use log_seams::{Failed, MemSource, PlainSource, Source, Text};
+use std::alloc::{AllocError, Global};
+use std::process::Abort;
+use std::test::Fail;
+
+// The lines that are expected, each with whether a newline followed it, and then the end or an error.
+#[derive(Drop)]
+struct Row<'a> {
+    bytes: &'a [u8],
+    max_line: usize,
+    max_lines: u64,
+    lines: &'a [(&'a [u8], bool)],
+    end: Result<(), Cut>,
+}
+
+fn text(alloc: Global, bytes: &[u8]) -> Result<Text, AllocError> {
+    Ok(Text::new(bytes.to_vec(alloc)?))
+}
+
+// Takes all that a cutter gives, by `next` and by `advance` in turn, and asks twice more behind the end.
+fn compare<R: Abort, S: Source + Drop>(
+    rt: &R,
+    cutter: &mut Cutter<S>,
+    lines: &[(&[u8], bool)],
+    end: Result<(), Cut>,
+) {
+    for (number, (line, ended)) in lines.iter().enumerate() {
+        if number % 2 == 0 {
+            match cutter.next() {
+                Ok(Some(piece)) => {
+                    assert_eq!(rt; piece.line.as_slice(), *line);
+                    assert_eq!(rt; piece.ended, *ended);
+                }
+                other => assert!(rt; false, "no line {number}: {other:?}"),
+            }
+        } else {
+            assert_eq!(rt; cutter.advance(), Ok(Some(Mark { ended: *ended })));
+        }
+        assert_eq!(rt; cutter.line(), *line);
+    }
+    for _ in 0..2 {
+        assert_eq!(rt; cutter.advance(), end.map(|()| None));
+        assert!(rt; cutter.line().is_empty());
+        match cutter.next() {
+            Ok(piece) => assert!(rt; piece.is_none() && end.is_ok()),
+            Err(cut) => assert_eq!(rt; Err(cut), end),
+        }
+    }
+}
+
+#[test]
+fn lines_and_limits(rt: HostRuntime) -> Result<(), Fail> {
+    let alloc = rt.alloc();
+    let rows = [
+        Row {
+            bytes: b"",
+            max_line: 9,
+            max_lines: 9,
+            lines: &[],
+            end: Ok(()),
+        },
+        Row {
+            bytes: b"",
+            max_line: 9,
+            max_lines: 0,
+            lines: &[],
+            end: Ok(()),
+        },
+        Row {
+            bytes: b"a",
+            max_line: 9,
+            max_lines: 9,
+            lines: &[(b"a", false)],
+            end: Ok(()),
+        },
+        Row {
+            bytes: b"a\n",
+            max_line: 9,
+            max_lines: 9,
+            lines: &[(b"a", true)],
+            end: Ok(()),
+        },
+        Row {
+            bytes: b"\n",
+            max_line: 9,
+            max_lines: 9,
+            lines: &[(b"", true)],
+            end: Ok(()),
+        },
+        Row {
+            bytes: b"\n\nx\r\n\xff",
+            max_line: 9,
+            max_lines: 9,
+            lines: &[(b"", true), (b"", true), (b"x\r", true), (b"\xff", false)],
+            end: Ok(()),
+        },
+        Row {
+            bytes: b"a\nb\nc",
+            max_line: 9,
+            max_lines: 2,
+            lines: &[(b"a", true), (b"b", true)],
+            end: Err(Cut::TooManyLines),
+        },
+        Row {
+            bytes: b"a\nb\n",
+            max_line: 9,
+            max_lines: 2,
+            lines: &[(b"a", true), (b"b", true)],
+            end: Ok(()),
+        },
+        Row {
+            bytes: b"a\nbcd\nefgh\ni\n",
+            max_line: 3,
+            max_lines: 9,
+            lines: &[(b"a", true), (b"bcd", true)],
+            end: Err(Cut::LineTooLong { line: 3 }),
+        },
+        Row {
+            bytes: b"a\nbcde",
+            max_line: 3,
+            max_lines: 1,
+            lines: &[(b"a", true)],
+            end: Err(Cut::TooManyLines),
+        },
+        Row {
+            bytes: b"abcd",
+            max_line: 3,
+            max_lines: 1,
+            lines: &[],
+            end: Err(Cut::LineTooLong { line: 1 }),
+        },
+        Row {
+            bytes: b"abc",
+            max_line: 3,
+            max_lines: 1,
+            lines: &[(b"abc", false)],
+            end: Ok(()),
+        },
+    ];
+    for row in &rows {
+        if row.max_line < 1 || row.max_line > 1_048_576 {
+            continue;
+        }
+        let source = PlainSource::new(text(alloc, row.bytes)?);
+        let made = Cutter::new(alloc, source, row.max_line, row.max_lines);
+        let mut cutter = made.map_err(|_| "no memory")?;
+        compare(&rt, &mut cutter, row.lines, row.end);
+    }
+    Ok(())
+}
+
+// A source that gives one byte a read.
+#[derive(Drop)]
+struct OneByte {
+    log: MemSource,
+}
+
+impl Source for OneByte {
+    ghost use Rattle.std.specs.Prelude.{None};
+
+    ghost left = { λ _. None };
+
+    ghost name = { λ _. None };
+
+    ghost faults = { λ s. s.log.faults };
+
+    fn read(&mut self, buf: &mut [u8]) -> Result<usize, Failed> {
+        self.log.read(&mut buf[..1])
+    }
+}
+
+#[test]
+fn the_whole_lines_before_a_fault(rt: HostRuntime) -> Result<(), Fail> {
+    let alloc = rt.alloc();
+    let one: [(&[u8], bool); 1] = [(b"ab", true)];
+    let two: [(&[u8], bool); 2] = [(b"ab", true), (b"cd", true)];
+    let all: [(&[u8], bool); 3] = [(b"ab", true), (b"cd", true), (b"e", false)];
+    // the number of the read that fails, from 0: each read gives one of the bytes, and the one behind them the end
+    let rows: [(u64, &[(&[u8], bool)], Result<(), Cut>); 9] = [
+        (0, &[], Err(Cut::ReadFault)),
+        (1, &[], Err(Cut::ReadFault)),
+        (2, &[], Err(Cut::ReadFault)),
+        (3, &one, Err(Cut::ReadFault)),
+        (4, &one, Err(Cut::ReadFault)),
+        (5, &one, Err(Cut::ReadFault)),
+        (6, &two, Err(Cut::ReadFault)),
+        (7, &two, Err(Cut::ReadFault)),
+        (8, &all, Ok(())),
+    ];
+    for (fails, lines, end) in rows {
+        let log = MemSource::new(text(alloc, b"ab\ncd\ne")?, [fails].to_vec(alloc)?);
+        let made = Cutter::new(alloc, OneByte { log }, 4, 4);
+        let mut cutter = made.map_err(|_| "no memory")?;
+        compare(&rt, &mut cutter, lines, end);
+        assert_eq!(rt; cutter.into_source().log.faults(), u64::from(end.is_err()));
+    }
+    Ok(())
+}
+
+#[test]
+fn lines_up_to_the_greatest_limit(rt: HostRuntime) -> Result<(), Fail> {
+    let alloc = rt.alloc();
+    let longest = vec![in alloc; b'x'; 1_048_576]?;
+    for more in [0, 1] {
+        let mut bytes = b"a\n".to_vec(alloc)?;
+        bytes.extend_from_slice(&longest)?;
+        bytes.extend_from_slice(&vec![in alloc; b'x'; more]?)?;
+        bytes.push(b'\n')?;
+        let source = MemSource::new(Text::new(bytes), Vec::new(alloc));
+        let made = Cutter::new(alloc, source, 1_048_576, 4_294_967_294);
+        let mut cutter = made.map_err(|_| "no memory")?;
+        let lines: [(&[u8], bool); 2] = [(b"a", true), (&longest, true)];
+        if more == 0 {
+            compare(&rt, &mut cutter, &lines, Ok(()));
+        } else {
+            compare(
+                &rt,
+                &mut cutter,
+                &lines[..1],
+                Err(Cut::LineTooLong { line: 2 }),
+            );
+        }
+    }
+    Ok(())
+}
+
+// Lines of many lengths, which go over the ends of what is read at once.
+#[test]
+fn lines_over_the_ends_of_reads(rt: HostRuntime) -> Result<(), Fail> {
+    let alloc = rt.alloc();
+    let mut bytes = Vec::new(alloc);
+    for number in 0..1000usize {
+        bytes.extend_from_slice(&vec![in alloc; b'a'; number % 997]?)?;
+        bytes.push(b'\n')?;
+    }
+    let source = PlainSource::new(Text::new(bytes));
+    let made = Cutter::new(alloc, source, 1000, 1000);
+    let mut cutter = made.map_err(|_| "no memory")?;
+    for number in 0..1000usize {
+        assert_eq!(rt; cutter.advance(), Ok(Some(Mark { ended: true })));
+        assert_eq!(rt; cutter.line().len(), number % 997);
+        assert!(rt; cutter.line().iter().all(|b| *b == b'a'));
+    }
+    assert_eq!(rt; cutter.advance(), Ok(None));
+    Ok(())
+}

@@ -1,0 +1,3 @@
+pub mod Exists
+pub mod Laws
+pub mod Steps

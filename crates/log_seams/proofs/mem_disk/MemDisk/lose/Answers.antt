@@ -1,0 +1,30 @@
+use Rattle.std.proofs.Common.{◌≡◌, ◌∷◌, [], ◌++◌, ◌∙◌, sym, ap, rules, List, ℕ, length, false, refl}
+use Rattle.log_seams.specs.Replay.{events, total, content, Event}
+use Rattle.log_seams.specs.declared.mem_disk.Call.{Call}
+use Rattle.log_seams.specs.declared.mem_disk.Call.TheVariants.{Wrote}
+use Rattle.log_seams.proofs.Events.{wrote_events, wrote_total}
+use Rattle.log_seams.proofs.mem_disk.MemDisk.lose.Goals as goal
+
+pub invariant_of-self-clause-whole : goal.invariant_of-self-clause-whole
+invariant_of-self-clause-whole c =
+    let log : c.extend_from_slice.new.self.items ≡ c.args.self.now.log.items ++ c.args.bytes.now = search rules in
+    ap total c.push_reserved.ensures.items
+    ∙ wrote_total c.args.self.now.calls.items c.args.at (length c.args.bytes.now) false c.args.self.now.log.items c.args.bytes.now c.args.self.now.whole refl
+    ∙ sym (ap (λ (l : List ℕ). length l) log)
+
+pub invariant_of-self-clause-same : goal.invariant_of-self-clause-same
+invariant_of-self-clause-same c =
+    let log : c.extend_from_slice.new.self.items ≡ c.args.self.now.log.items ++ c.args.bytes.now = search rules in
+    let calls : c.push_reserved.new.self.items ≡ _ = c.push_reserved.ensures.items in
+    let same = wrote_events c.args.self.now.calls.items c.args.at (length c.args.bytes.now) false c.args.self.now.log.items c.args.bytes.now c.args.self.now.whole refl in
+    c.args.self.now.same
+    ∙ sym (ap (λ (l : List Event). content c.args.self.now.first l) same)
+    ∙ ap (λ (l : List Call). content c.args.self.now.first (events l (c.args.self.now.log.items ++ c.args.bytes.now))) (sym calls)
+    ∙ ap (λ (l : List ℕ). content c.args.self.now.first (events c.push_reserved.new.self.items l)) (sym log)
+
+pub returns-clause-events : goal.returns-clause-events
+returns-clause-events c =
+    let log : c.extend_from_slice.new.self.items ≡ c.args.self.now.log.items ++ c.args.bytes.now = search rules in
+    ap (λ (l : List Call). events l c.extend_from_slice.new.self.items) c.push_reserved.ensures.items
+    ∙ ap (λ (l : List ℕ). events (c.args.self.now.calls.items ++ Wrote c.args.at (length c.args.bytes.now) false ∷ []) l) log
+    ∙ wrote_events c.args.self.now.calls.items c.args.at (length c.args.bytes.now) false c.args.self.now.log.items c.args.bytes.now c.args.self.now.whole refl

@@ -1,0 +1,9 @@
+pub mod Entries
+pub mod Memory
+pub mod Outside
+pub mod Shelf
+pub mod Tally
+pub mod Disk
+pub mod Moments
+pub mod Replay
+pub mod MemDisk

@@ -1,0 +1,25 @@
+-- What the memory forms of the outside are to their callers.
+use Rattle.std.specs.Prelude.{ℕ, List}
+
+-- the number of the next call, and the numbers of the calls that fail
+pub record CallState : Type 0 where
+  pub made : ℕ
+  pub fails : List ℕ
+
+-- a log in memory: the bytes that are left, its calls, and how often it has failed
+pub record SourceState : Type 0 where
+  pub left : List ℕ
+  pub calls : CallState
+  pub faults : ℕ
+
+-- a sink in memory: what was written, how many bytes it can take in all, its calls, and how often it has failed
+pub record SinkState : Type 0 where
+  pub written : List ℕ
+  pub room : ℕ
+  pub calls : CallState
+  pub faults : ℕ
+
+-- a log that a shelf opened: its name, and the log
+pub record NamedState : Type 0 where
+  pub name : List ℕ
+  pub log : SourceState

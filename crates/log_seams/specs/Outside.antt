@@ -1,0 +1,28 @@
+-- What the calls of a source, a sink and a shelf leave, and what their counts of faults say.
+use Rattle.std.specs.Prelude.{◌≡◌, ◌<◌, ◌≤◌, ◌⊎◌, ℕ, ◌+◌, ◌-◌, ◌^◌, List, [], length, take, drop, Option, None, Some, Result, OnErr}
+
+-- A count of faults never falls. It rose where it is larger, or stands at the last value of u64.
+abbrev pub Rose : ℕ → ℕ → Type 0
+Rose before now = (before < now) ⊎ (2 ^ 64 - 1 ≤ now)
+
+-- what a call's answer says of the count of faults: it did not fall, and at an error it rose
+pub record Counts {T E : Type 0} (before now : ℕ) (result : Result T E) : Type 0 where
+  pub later : before ≤ now
+  pub failed : OnErr result (Rose before now)
+
+-- a count that grew by so much, unless it stands at the last value of u64
+abbrev pub Adds : ℕ → ℕ → ℕ → Type 0
+Adds more before now = (now ≡ before + more) ⊎ (2 ^ 64 - 1 ≤ now)
+
+-- A read took the first n of the bytes that were left, and they stand at the front of the buffer.
+-- None were taken only where none was left.
+pub record TakesFirst (n : ℕ) (buf bytes : List ℕ) (new : Option (List ℕ)) : Type 0 where
+  pub enough : n ≤ length bytes
+  pub begins : take n buf ≡ take n bytes
+  pub at_end : n ≡ 0 → bytes ≡ []
+  pub gone : new ≡ Some (drop n bytes)
+
+-- the same of a source that may tell its bytes: it goes on telling them, or not telling them
+abbrev pub Takes : ℕ → List ℕ → Option (List ℕ) → Option (List ℕ) → Type 0
+Takes n buf None new = new ≡ None
+Takes n buf (Some bytes) new = TakesFirst n buf bytes new

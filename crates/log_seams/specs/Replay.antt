@@ -1,0 +1,132 @@
+-- The calls that a disk in memory keeps, as events with the newest first, and what follows from them:
+-- its bytes, the images that a crash may leave, and the ranges read.
+use Rattle.std.specs.Prelude.{◌≡◌, ◌⊎◌, ℕ, ◌+◌, ◌/◌, ◌≤◌, Bool, true, false, nat_le, if◌then◌else◌, List, [], ◌∷◌, ◌++◌, length, take, drop, replicate, refl}
+use Rattle.std.proofs.Common.{inl, inr, arith, sym, subst}
+use Rattle.log_seams.specs.Disk.{laid, Torn, Elapses}
+use Rattle.log_seams.specs.declared.mem_disk.Call.{Call}
+use Rattle.log_seams.specs.declared.mem_disk.Call.TheVariants.{Wrote, Read, Synced, Other}
+use Rattle.log_seams.specs.declared.mem_disk.Pending.{Pending}
+use Rattle.log_seams.specs.declared.mem_disk.Pending.TheVariants.{All, Nothing, FirstHalf, Ones}
+
+-- a write with its bytes, done or failed; a read that gave n bytes; a sync that succeeded; any other call
+pub data Event : Type 0 where
+  wrote : (done : Bool) (at : ℕ) (bytes : List ℕ) → Event
+  read : (at n : ℕ) → Event
+  synced : Event
+  other : Event
+
+-- how many bytes of the log a call has
+abbrev pub logged : Call → ℕ
+logged (Wrote at count done) = count
+logged (Read at count) = 0
+logged Synced = 0
+logged Other = 0
+
+-- a call that is no write
+abbrev pub IsQuiet : Call → Type 0
+IsQuiet (Wrote at count done) = ⊥
+IsQuiet (Read at count) = Unit {0}
+IsQuiet Synced = Unit {0}
+IsQuiet Other = Unit {0}
+
+abbrev pub total : List Call → ℕ
+total [] = 0
+total (c ∷ calls) = logged c + total calls
+
+-- a call, whose bytes stand at the front of the log
+abbrev pub event_of : Call → List ℕ → Event
+event_of (Wrote at count done) log = wrote done at (take count log)
+event_of (Read at count) log = read at count
+event_of Synced log = synced
+event_of Other log = other
+
+abbrev pub events_after : List Event → List Call → List ℕ → List Event
+events_after older [] log = older
+events_after older (c ∷ calls) log = events_after (event_of c log ∷ older) calls (drop (logged c) log)
+
+-- the events of the calls, whose bytes stand one behind the other in the log
+abbrev pub events : List Call → List ℕ → List Event
+events calls log = events_after [] calls log
+
+abbrev pub after_event : Event → List ℕ → List ℕ
+after_event (wrote done at bytes) old = if done then laid at bytes old else old
+after_event (read at n) old = old
+after_event synced old = old
+after_event other old = old
+
+-- the bytes that a read gives after the events
+abbrev pub content : List ℕ → List Event → List ℕ
+content first [] = first
+content first (e ∷ older) = after_event e (content first older)
+
+-- the ranges that the events read, the oldest first
+abbrev pub reads_of : List Event → List (ℕ × ℕ)
+reads_of [] = []
+reads_of (wrote done at bytes ∷ older) = reads_of older
+reads_of (read at n ∷ older) = reads_of older ++ (at, n) ∷ []
+reads_of (synced ∷ older) = reads_of older
+reads_of (other ∷ older) = reads_of older
+
+-- a crash after the events may leave c
+abbrev pub IsImage : List ℕ → List Event → List ℕ → Type 0
+IsImage first [] c = c ≡ first
+IsImage first (wrote done at bytes ∷ older) c =
+    (c ≡ after_event (wrote done at bytes) (content first older)) ⊎ ((d : List ℕ) × IsImage first older d × Torn at (length bytes) d c)
+IsImage first (read at n ∷ older) c = IsImage first older c
+IsImage first (synced ∷ older) c = c ≡ content first older
+IsImage first (other ∷ older) c = IsImage first older c
+
+-- a crash after the first t of the events, or later, may have left c
+abbrev pub IsSince : List ℕ → List Event → ℕ → List ℕ → Type 0
+IsSince first [] t c = IsImage first [] c
+IsSince first (e ∷ older) t c = IsImage first (e ∷ older) c ⊎ ((t ≤ length older) × IsSince first older t c)
+
+-- what the range of a write holds that was not synced: its bytes, what was there, the first half of its bytes
+-- and then what was there, or the byte 1 in each place
+abbrev pub held : Pending → ℕ → List ℕ → List ℕ → List ℕ
+held All at bytes old = laid at bytes old
+held Nothing at bytes old = old
+held FirstHalf at bytes old = laid at (take (length bytes / 2) bytes) old
+held Ones at bytes old = laid at (replicate (length bytes) 1) old
+
+-- a write past the end is lost with the one before it that would have reached so far
+abbrev pub torn_by : Pending → ℕ → List ℕ → List ℕ → List ℕ
+torn_by pending at bytes old = if nat_le at (length old) then held pending at bytes old else old
+
+-- what a crash after one event more leaves, of what was read before it and of what a crash before it left
+abbrev pub held_after : Pending → Event → List ℕ → List ℕ → List ℕ
+held_after pending (wrote done at bytes) kept torn = torn_by pending at bytes torn
+held_after pending (read at n) kept torn = torn
+held_after pending synced kept torn = kept
+held_after pending other kept torn = torn
+
+-- what a crash leaves after the events, where each write since the last sync that succeeded is held so
+abbrev pub left_by : Pending → List ℕ → List Event → List ℕ
+left_by pending first [] = first
+left_by pending first (e ∷ older) = held_after pending e (content first older) (left_by pending first older)
+
+-- the laws of a disk
+pub reads_as : (first : List ℕ) (events : List Event) → IsImage first events (content first events)
+reads_as first [] = refl
+reads_as first (wrote done at bytes ∷ older) = inl refl
+reads_as first (read at n ∷ older) = reads_as first older
+reads_as first (synced ∷ older) = refl
+reads_as first (other ∷ older) = reads_as first older
+
+pub counts_now : (first : List ℕ) (events : List Event) (t : ℕ) (c : List ℕ) → IsImage first events c → IsSince first events t c
+counts_now first [] t c now = now
+counts_now first (e ∷ older) t c now = inl now
+
+pub only_now : (first : List ℕ) (events : List Event) (c : List ℕ) → IsSince first events (length events) c → IsImage first events c
+only_now first [] c left = left
+only_now first (e ∷ older) c (inl now) = now
+only_now first (e ∷ older) c (inr was) = let late = was.0 in absurd (omega arith)
+
+pub wider : (first : List ℕ) (events : List Event) (s t : ℕ) (c : List ℕ) → s ≤ t → IsSince first events t c → IsSince first events s c
+wider first [] s t c le left = left
+wider first (e ∷ older) s t c le (inl now) = inl now
+wider first (e ∷ older) s t c le (inr was) = let late = was.0 in inr (omega arith, wider first older s t c le was.1)
+
+-- what is read at a place of the content is an image of it too
+pub reads_now : (first : List ℕ) (events : List Event) (bytes : List ℕ) → bytes ≡ content first events → IsImage first events bytes
+reads_now first events bytes same = subst (IsImage first events) (sym same) (reads_as first events)

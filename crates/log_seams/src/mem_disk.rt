@@ -1,0 +1,450 @@
+//! A disk in memory, for tests and for whole runs without a file. It records its calls with the bytes
+//! of each write, fails at the calls that its list names, and tells what a crash may leave.
+ghost use Rattle.std.specs.Prelude.{◌≡◌, ◌≤◌, length, Some, max, IfOk, ◌+◌, OnOk, IsOk, vec_capacity, ◌<◌, ◌^◌};
+ghost use Rattle.log_seams.specs.Disk.{laid, Gave};
+ghost use Rattle.log_seams.specs.Outside.{Rose};
+ghost use Rattle.log_seams.specs.Replay.{logged, total, events, event_of, content, reads_of, IsImage, IsSince, torn_by, after_event, held_after, left_by, reads_now, counts_now, only_now, wider};
+
+use crate::{Disk, Failed, Text};
+use std::alloc::{AllocError, Global};
+
+/// What the ranges hold, after a crash, that were written since the last sync that succeeded.
+#[derive(Clone, Copy, Debug, PartialEq, Eq)]
+pub enum Pending {
+    /// The bytes that were written.
+    All,
+    /// What was there before; past the old end nothing.
+    Nothing,
+    /// The first half of the bytes that were written, rounded down, and then what was there before.
+    FirstHalf,
+    /// The byte 1 in each place.
+    Ones,
+}
+
+/// A recorded call. The bytes of a write stand in the log, behind those of the writes before it.
+#[derive(Clone, Copy, Debug, PartialEq, Eq)]
+pub enum Call {
+    /// A write of `count` bytes at a place, which was done or failed.
+    Wrote { at: u64, count: usize, done: bool },
+    /// A read that gave `count` bytes.
+    Read { at: u64, count: usize },
+    /// A sync that succeeded.
+    Synced,
+    /// A call that changed nothing.
+    Other,
+}
+
+/// A disk in memory. Its calls take no memory: the room for them is taken when it is made.
+#[derive(Drop)]
+pub struct MemDisk {
+    alloc: Global,
+    first: Text,
+    bytes: Vec<u8>,
+    calls: Vec<Call>,
+    log: Vec<u8>,
+    fails: Vec<u64>,
+    room: usize,
+    most: usize,
+    faults: u64,
+    ghost whole: { total calls.items ≡ length log.items },
+    ghost same: { bytes.items ≡ content first (events calls.items log.items) },
+    ghost room_bytes: { room ≤ vec_capacity bytes },
+    ghost room_log: { room ≤ vec_capacity log },
+    ghost room_calls: { most ≤ vec_capacity calls },
+    ghost recorded: { length calls.items ≤ most },
+}
+
+// Writes over what stands at a place, and past the end.
+fn overwrite(file: &mut Vec<u8>, at: usize, bytes: &[u8]) -> Result<(), AllocError>
+    ensures written { OnOk result (file.new.items ≡ laid at bytes.now file.old.items) }
+    ensures room { max (length file.old.items) (at + length bytes.now) ≤ vec_capacity file.old → IsOk result }
+    ensures capacity { vec_capacity file.old ≤ vec_capacity file.new }
+{
+    let at = at.min(file.len());
+    let over = bytes.len().min(file.len() - at);
+    file[at..at + over].copy_from_slice(&bytes[..over]);
+    file.extend_from_slice(&bytes[over..])
+}
+
+// Copies what stands at a place into the front of the buffer.
+fn copy_from(bytes: &[u8], at: u64, buf: &mut [u8]) -> usize
+    ensures told { Gave (Some bytes.now) at result buf.old buf.new }
+    ensures within { result ≤ length buf.old }
+{
+    let start = bytes.len().min(at as usize);
+    let count = buf.len().min(bytes.len() - start);
+    buf[..count].copy_from_slice(&bytes[start..start + count]);
+    count
+}
+
+// Leaves in a range what a crash leaves there of a write that was not synced.
+fn tear(
+    alloc: Global,
+    torn: &mut Vec<u8>,
+    at: usize,
+    bytes: &[u8],
+    pending: Pending,
+) -> Result<(), AllocError>
+    ensures { OnOk result (torn.new.items ≡ torn_by pending at bytes.now torn.old.items) }
+{
+    if at > torn.len() {
+        return Ok(());
+    }
+    match pending {
+        Pending::All => overwrite(torn, at, bytes),
+        Pending::Nothing => Ok(()),
+        Pending::FirstHalf => overwrite(torn, at, &bytes[..bytes.len() / 2]),
+        Pending::Ones => overwrite(torn, at, &vec![in alloc; 1; bytes.len()]?),
+    }
+}
+
+// Does one call again, whose bytes stand at the front of the log: on what is read, and on what a
+// crash leaves.
+fn redo(
+    alloc: Global,
+    kept: &mut Vec<u8>,
+    torn: &mut Vec<u8>,
+    call: Call,
+    log: &[u8],
+    pending: Pending,
+) -> Result<(), AllocError>
+    requires { logged call ≤ length log.now }
+    ensures kept { OnOk result (kept.new.items ≡ after_event (event_of call log.now) kept.old.items) }
+    ensures torn { OnOk result (torn.new.items ≡ held_after pending (event_of call log.now) kept.old.items torn.old.items) }
+{
+    match call {
+        Call::Wrote { at, count, done } => {
+            tear(alloc, torn, at as usize, &log[..count], pending)?;
+            if done {
+                overwrite(kept, at as usize, &log[..count])?;
+            }
+            Ok(())
+        }
+        Call::Synced => {
+            torn.clear();
+            torn.extend_from_slice(kept)
+        }
+        Call::Read { .. } | Call::Other => Ok(()),
+    }
+}
+
+// How many bytes of the log a call has.
+fn logged(call: Call) -> usize
+    ensures { result ≡ logged call }
+{
+    match call {
+        Call::Wrote { count, .. } => count,
+        Call::Read { .. } | Call::Synced | Call::Other => 0,
+    }
+}
+
+// What a crash after the calls leaves.
+fn left_by(
+    alloc: Global,
+    first: &[u8],
+    calls: &[Call],
+    log: &[u8],
+    pending: Pending,
+) -> Result<Vec<u8>, AllocError>
+    requires { total calls.now ≤ length log.now }
+    ensures { IfOk result (λ torn. torn.items ≡ left_by pending first.now (events calls.now log.now)) }
+{
+    let mut kept = first.to_vec(alloc)?;
+    let mut torn = first.to_vec(alloc)?;
+    let mut from = 0;
+    for call in calls {
+        redo(alloc, &mut kept, &mut torn, *call, &log[from..], pending)?;
+        from += logged(*call);
+    }
+    Ok(torn)
+}
+
+impl MemDisk {
+    ghost use Rattle.std.specs.Prelude.{[], ◌∷◌, ◌||◌, is_ok, IsTrue, not, false, true, min, ◌-◌};
+    ghost use Rattle.log_seams.specs.Replay.{IsQuiet, wrote};
+    ghost use Rattle.log_seams.specs.MemDisk.{first_of, bytes_of, calls_of, events_of, events_until, fails_next, lacks_room, SameBut, Rests};
+
+    /// A disk that begins with these bytes. `room` bounds its length and also the sum of the bytes that
+    /// it records; it fails at the calls whose numbers, from 0, stand in `fails`, at each write past the
+    /// room, and at each call from the number `calls` on, which it does not record. All its room is
+    /// taken here.
+    pub fn new(
+        alloc: Global,
+        bytes: Text,
+        room: usize,
+        calls: usize,
+        fails: Vec<u64>,
+    ) -> Result<MemDisk, AllocError>
+        ensures bytes { IfOk result (λ m. bytes_of m ≡ bytes) }
+        ensures first { IfOk result (λ m. first_of m ≡ bytes) }
+        ensures events { IfOk result (λ m. events_of m ≡ []) }
+        ensures calls { IfOk result (λ m. calls_of m ≡ 0) }
+        ensures room { IfOk result (λ m. (m.room ≡ room) × (m.most ≡ calls) × (m.fails.items ≡ fails.items)) }
+        ensures faults { IfOk result (λ m. m.faults ≡ 0) }
+    {
+        let mut content = Vec::with_capacity(alloc, room.max(bytes.as_slice().len()))?;
+        content.extend_from_slice(bytes.as_slice())?;
+        let recorded = Vec::with_capacity(alloc, calls)?;
+        let log = Vec::with_capacity(alloc, room)?;
+        Ok(MemDisk {
+            alloc,
+            first: bytes,
+            bytes: content,
+            calls: recorded,
+            log,
+            fails,
+            room,
+            most: calls,
+            faults: 0,
+        })
+    }
+
+    /// The bytes that a read gives.
+    pub fn bytes(&self) -> &[u8]
+        ensures { result.now ≡ bytes_of self.now }
+    {
+        &self.bytes
+    }
+
+    /// How many calls were recorded.
+    pub fn calls(&self) -> usize
+        ensures { result ≡ calls_of self.now }
+    {
+        self.calls.len()
+    }
+
+    /// The disk as a crash after the first `after` of its recorded calls may leave it: what was written
+    /// up to the last of their syncs that succeeded stands, and each range written since then, also by
+    /// a write that failed, holds what `pending` says, in the order of the writes. A write that begins
+    /// past the end that the crash left is lost. The new disk has the same room and count of calls,
+    /// and no call of it fails by a list.
+    pub fn stopped(&self, after: usize, pending: Pending) -> Result<MemDisk, AllocError>
+        requires { after ≤ calls_of self.now }
+        ensures bytes { IfOk result (λ m. bytes_of m ≡ left_by pending (first_of self.now) (events_until after self.now)) }
+        ensures image { IfOk result (λ m. IsImage (first_of self.now) (events_until after self.now) (bytes_of m)) }
+        ensures first { IfOk result (λ m. first_of m ≡ bytes_of m) }
+        ensures events { IfOk result (λ m. events_of m ≡ []) }
+        ensures calls { IfOk result (λ m. calls_of m ≡ 0) }
+        ensures room { IfOk result (λ m. (m.room ≡ self.now.room) × (m.most ≡ self.now.most) × (m.fails.items ≡ [])) }
+        ensures faults { IfOk result (λ m. m.faults ≡ 0) }
+    {
+        let left = left_by(
+            self.alloc,
+            self.first.as_slice(),
+            &self.calls[..after],
+            &self.log,
+            pending,
+        )?;
+        MemDisk::new(
+            self.alloc,
+            Text::new(left),
+            self.room,
+            self.most,
+            Vec::new(self.alloc),
+        )
+    }
+
+    // Whether the next call fails by its number.
+    fn fails_next(&self) -> bool
+        ensures { result ≡ fails_next self.now }
+    {
+        self.calls.len() >= self.most || self.fails.contains(&(self.calls.len() as u64))
+    }
+
+    // Whether a write there would go past the room.
+    fn lacks_room(&self, at: u64, count: usize) -> bool
+        requires { at + count < 2 ^ 63 }
+        ensures { result ≡ lacks_room self.now at count }
+    {
+        at as usize + count > self.room || count > self.room || self.log.len() > self.room - count
+    }
+
+    // Records a call that changed no byte.
+    fn note(&mut self, call: Call)
+        requires quiet { IsQuiet call }
+        requires room { calls_of self.old < self.old.most }
+        ensures events { events_of self.new ≡ event_of call [] ∷ events_of self.old }
+        ensures same { SameBut self.old self.new }
+        ensures bytes { bytes_of self.new ≡ bytes_of self.old }
+        ensures calls { calls_of self.new ≡ calls_of self.old + 1 }
+        ensures faults { self.new.faults ≡ self.old.faults }
+    {
+        self.calls.push_reserved(call);
+    }
+
+    // Writes, and records it.
+    fn lay(&mut self, at: u64, bytes: &[u8])
+        requires place { at ≤ length (bytes_of self.old) }
+        requires within { lacks_room self.old at (length bytes.now) ≡ false }
+        requires room { calls_of self.old < self.old.most }
+        ensures events { events_of self.new ≡ wrote true at bytes.now ∷ events_of self.old }
+        ensures same { SameBut self.old self.new }
+        ensures bytes { bytes_of self.new ≡ laid at bytes.now (bytes_of self.old) }
+        ensures calls { calls_of self.new ≡ calls_of self.old + 1 }
+        ensures faults { self.new.faults ≡ self.old.faults }
+    {
+        let count = bytes.len();
+        overwrite(&mut self.bytes, at as usize, bytes).unwrap();
+        self.log.extend_from_slice(bytes).unwrap();
+        self.calls.push_reserved(Call::Wrote {
+            at,
+            count,
+            done: true,
+        });
+    }
+
+    // Records a write that failed.
+    fn lose(&mut self, at: u64, bytes: &[u8])
+        requires within { lacks_room self.old at (length bytes.now) ≡ false }
+        requires room { calls_of self.old < self.old.most }
+        ensures events { events_of self.new ≡ wrote false at bytes.now ∷ events_of self.old }
+        ensures same { SameBut self.old self.new }
+        ensures bytes { bytes_of self.new ≡ bytes_of self.old }
+        ensures calls { calls_of self.new ≡ calls_of self.old + 1 }
+        ensures faults { self.new.faults ≡ self.old.faults }
+    {
+        let count = bytes.len();
+        self.log.extend_from_slice(bytes).unwrap();
+        self.calls.push_reserved(Call::Wrote {
+            at,
+            count,
+            done: false,
+        });
+    }
+
+    // Counts a fault, and records the call where it is not past the last.
+    fn fail(&mut self) -> Failed
+        ensures rests { Rests self.old self.new }
+        ensures calls { calls_of self.new ≡ min self.old.most (calls_of self.old + 1) }
+        ensures faults { self.new.faults ≡ min (self.old.faults + 1) (2 ^ 64 - 1) }
+        ensures later { self.old.faults ≤ self.new.faults }
+        ensures rose { Rose self.old.faults self.new.faults }
+    {
+        self.faults = self.faults.saturating_add(1);
+        if self.calls.len() < self.most {
+            self.note(Call::Other);
+            return Failed;
+        }
+        Failed
+    }
+}
+
+impl Disk for MemDisk {
+    ghost use Rattle.std.specs.Prelude.{min, not, ◌||◌, is_ok, is_some, OnErr, IfSome, option_map};
+    ghost use Rattle.log_seams.specs.Disk.{Torn, Follows, NoMore, Only, with_range};
+    ghost use Rattle.log_seams.specs.Outside.{Counts};
+    ghost use Rattle.log_seams.specs.MemDisk.{images_of, clock_of, since_of, bytes_of, calls_of, events_of, told_of, ranges_of, GoesOn, SameBut, fails_next, lacks_room};
+
+    ghost seen = { told_of };
+
+    ghost images = { images_of };
+
+    ghost clock = { clock_of };
+
+    ghost since = { since_of };
+
+    ghost ranges = { ranges_of };
+
+    ghost faults = { λ m. m.faults };
+
+    fn len(&mut self) -> Result<u64, Failed>
+        ensures told { IfOk result (λ n. IfSome (told_of self.old) (λ bytes. n ≡ length bytes)) }
+        ensures seen { told_of self.new ≡ told_of self.old }
+        ensures images { NoMore (images_of self.old) (images_of self.new) }
+        ensures no_fewer { NoMore (images_of self.new) (images_of self.old) }
+        ensures time { GoesOn self.old self.new }
+        ensures ranges { ranges_of self.new ≡ ranges_of self.old }
+        ensures cause { Counts self.old.faults self.new.faults result }
+        ensures succeeds { is_ok result ≡ not (fails_next self.old) }
+        ensures steady { OnOk result (self.new.faults ≡ self.old.faults) }
+        ensures same { SameBut self.old self.new }
+        ensures calls { calls_of self.new ≡ min self.old.most (calls_of self.old + 1) }
+    {
+        if self.fails_next() {
+            return Err(self.fail());
+        }
+        self.note(Call::Other);
+        Ok(self.bytes.len() as u64)
+    }
+
+    fn read(&mut self, at: u64, buf: &mut [u8]) -> Result<usize, Failed>
+        ensures within { IfOk result (λ n. n ≤ length buf.old) }
+        ensures told { IfOk result (λ n. Gave (told_of self.old) at n buf.old buf.new) }
+        ensures seen { told_of self.new ≡ told_of self.old }
+        ensures images { NoMore (images_of self.old) (images_of self.new) }
+        ensures no_fewer { NoMore (images_of self.new) (images_of self.old) }
+        ensures time { GoesOn self.old self.new }
+        ensures range { IfOk result (λ n. ranges_of self.new ≡ with_range at n (ranges_of self.old)) }
+        ensures no_range { OnErr result (ranges_of self.new ≡ ranges_of self.old) }
+        ensures cause { Counts self.old.faults self.new.faults result }
+        ensures succeeds { is_ok result ≡ not (fails_next self.old) }
+        ensures steady { OnOk result (self.new.faults ≡ self.old.faults) }
+        ensures same { SameBut self.old self.new }
+        ensures calls { calls_of self.new ≡ min self.old.most (calls_of self.old + 1) }
+    {
+        if self.fails_next() {
+            return Err(self.fail());
+        }
+        let count = copy_from(&self.bytes, at, buf);
+        self.note(Call::Read { at, count });
+        Ok(count)
+    }
+
+    fn write(&mut self, at: u64, bytes: &[u8]) -> Result<(), Failed>
+        requires place { IfSome (told_of self.old) (λ old. at ≤ length old) }
+        requires end { at + length bytes.now ≤ 2 ^ 62 }
+        ensures written { OnOk result (told_of self.new ≡ option_map (laid at bytes.now) (told_of self.old)) }
+        ensures tells { is_some (told_of self.new) ≡ is_some (told_of self.old) }
+        ensures kept { OnErr result (told_of self.new ≡ told_of self.old) }
+        ensures images { Follows (Torn at (length bytes.now)) (images_of self.old) (images_of self.new) }
+        ensures time { GoesOn self.old self.new }
+        ensures ranges { ranges_of self.new ≡ ranges_of self.old }
+        ensures cause { Counts self.old.faults self.new.faults result }
+        ensures succeeds { is_ok result ≡ not (lacks_room self.old at (length bytes.now) || fails_next self.old) }
+        ensures steady { OnOk result (self.new.faults ≡ self.old.faults) }
+        ensures same { SameBut self.old self.new }
+        ensures calls { calls_of self.new ≡ min self.old.most (calls_of self.old + 1) }
+    {
+        if self.lacks_room(at, bytes.len()) || self.calls.len() >= self.most {
+            return Err(self.fail());
+        }
+        if self.fails_next() {
+            self.lose(at, bytes);
+            self.faults = self.faults.saturating_add(1);
+            return Err(Failed);
+        }
+        self.lay(at, bytes);
+        Ok(())
+    }
+
+    fn sync(&mut self) -> Result<(), Failed>
+        ensures durable { OnOk result (Only (told_of self.new) (images_of self.new)) }
+        ensures seen { told_of self.new ≡ told_of self.old }
+        ensures images { NoMore (images_of self.old) (images_of self.new) }
+        ensures time { GoesOn self.old self.new }
+        ensures ranges { ranges_of self.new ≡ ranges_of self.old }
+        ensures cause { Counts self.old.faults self.new.faults result }
+        ensures succeeds { is_ok result ≡ not (fails_next self.old) }
+        ensures steady { OnOk result (self.new.faults ≡ self.old.faults) }
+        ensures same { SameBut self.old self.new }
+        ensures calls { calls_of self.new ≡ min self.old.most (calls_of self.old + 1) }
+    {
+        if self.fails_next() {
+            return Err(self.fail());
+        }
+        self.note(Call::Synced);
+        Ok(())
+    }
+
+    fn faults(&self) -> u64 {
+        self.faults
+    }
+
+    ghost counts_now = { λ m t c le now. counts_now m.first (events_of m) t c now };
+
+    ghost only_now = { λ m c left. only_now m.first (events_of m) c left };
+
+    ghost wider = { λ m s t c le left. wider m.first (events_of m) s t c le left };
+
+    ghost reads_as = { λ m. reads_now m.first (events_of m) (bytes_of m) m.same };
+}

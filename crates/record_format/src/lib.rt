@@ -1,0 +1,21 @@
+//! The header of an archive and its small records, as bytes and back.
+//!
+//! Each value has one spelling, and no bytes spell two values. A reader answers a value exactly
+//! where the bytes are its spelling, all of them; a writer gives the spelling.
+#![tactic(auto)]
+
+mod files;
+mod header;
+mod laws;
+mod list;
+mod refusal;
+mod texts;
+
+pub use files::{read_files, write_files};
+pub use header::{Header, read_header, write_header};
+pub use laws::{files_are_unique, headers_are_unique, texts_are_unique};
+pub use refusal::FormatRefusal;
+pub use texts::{Texts, read_texts, write_texts};
+
+#[cfg(test)]
+mod tests;

@@ -1,0 +1,18 @@
+-- The moment that a day and a time of that day name, and the numbers that write them.
+use Rattle.std.specs.Prelude.{ℕ, ◌+◌, ◌-◌, ◌*◌, List, [], ◌∷◌, ℤ, pos, ◌+ℤ◌, ◌*ℤ◌, unsigned_abs}
+use Rattle.jiff_core.specs.Date.{epoch_day}
+use Rattle.time_patterns.specs.declared.civil_time.CivilTime.{CivilTime}
+
+-- the milliseconds since the day began
+abbrev pub clock_of : CivilTime → ℕ
+clock_of c = ((c.hour * 60 + c.minute) * 60 + c.second) * 1000 + c.millisecond
+
+-- the milliseconds since 1970-01-01T00:00:00, negative before it
+abbrev pub moment_of : CivilTime → ℤ
+moment_of c = epoch_day c.date *ℤ pos 86_400_000 +ℤ pos (clock_of c)
+
+-- the years after a first one, the month, the day, the hour, the minute, the second and the millisecond
+abbrev pub numbers_of : ℕ → CivilTime → List ℕ
+numbers_of first_year c =
+    (unsigned_abs c.date.year - first_year) ∷ c.date.month ∷ c.date.day
+    ∷ c.hour ∷ c.minute ∷ c.second ∷ c.millisecond ∷ []

@@ -1,0 +1,95 @@
+//! One number of a stamp's text: read and written with all its digits.
+ghost use Rattle.time_patterns.specs.Digits.{digits, byte_text};
+ghost use Rattle.std.specs.Prelude.{◌≡◌, ◌≢◌, ℕ, List, ◌+◌, ◌*◌, ◌^◌, ◌<◌, ◌≤◌, ◌++◌, length, take, drop, IfSome, IfNone};
+
+/// A number of a stamp's text: how many digits it has, and the byte that stands before it.
+#[derive(Clone, Copy, Debug)]
+pub struct Field {
+    pub before: Option<u8>,
+    pub digits: u8,
+}
+
+impl Field {
+    ghost use Rattle.time_patterns.specs.Digits.{field_text};
+
+    /// Reads the byte and the number at the front of the text, and gives what is left of it.
+    /// `None` where they do not stand there.
+    pub fn read<'a>(&self, text: &'a [u8]) -> Option<(u16, &'a [u8])>
+        requires { self.now.digits ≤ 4 }
+        ensures some { IfSome result (λ r. (text.now ≡ field_text self.now r.0 ++ r.1.now) × (r.0 < 10 ^ self.now.digits)) }
+        ensures none { IfNone result ((x : ℕ) (rest : List ℕ) → text.now ≢ field_text self.now x ++ rest) }
+    {
+        let text = skip_byte(self.before, text)?;
+        let (front, rest) = text.split_at_checked(usize::from(self.digits))?;
+        Some((read_digits(front)?, rest))
+    }
+
+    /// Writes the byte and the number at the place, and gives the place behind them.
+    pub fn write(&self, number: u16, out: &mut [u8], at: usize) -> usize
+        requires { at + length (field_text self.now number) ≤ length out.old }
+        ensures text { take result out.new ≡ take at out.old ++ field_text self.now number }
+        ensures rest { drop result out.new ≡ drop result out.old }
+        ensures end { result ≡ at + length (field_text self.now number) }
+    {
+        let at = write_byte(self.before, out, at);
+        let end = at + usize::from(self.digits);
+        let part = &mut out[at..end];
+        write_digits(part, number);
+        end
+    }
+}
+
+/// What follows the byte, if there is one to stand at the front.
+pub fn skip_byte(byte: Option<u8>, text: &[u8]) -> Option<&[u8]>
+    ensures some { IfSome result (λ rest. text.now ≡ byte_text byte ++ rest.now) }
+    ensures none { IfNone result ((rest : List ℕ) → text.now ≢ byte_text byte ++ rest) }
+{
+    let Some(byte) = byte else {
+        return Some(text);
+    };
+    match text.split_first() {
+        Some((first, rest)) if *first == byte => Some(rest),
+        _ => None,
+    }
+}
+
+/// Writes the byte at the place, if there is one, and gives the place behind it.
+pub fn write_byte(byte: Option<u8>, out: &mut [u8], at: usize) -> usize
+    requires { at + length (byte_text byte) ≤ length out.old }
+    ensures text { take result out.new ≡ take at out.old ++ byte_text byte }
+    ensures rest { drop result out.new ≡ drop result out.old }
+    ensures end { result ≡ at + length (byte_text byte) }
+{
+    let Some(byte) = byte else {
+        return at;
+    };
+    out[at] = byte;
+    at + 1
+}
+
+// The number whose digits these bytes are.
+fn read_digits(text: &[u8]) -> Option<u16>
+    requires { length text.now ≤ 4 }
+    ensures some { IfSome result (λ x. (text.now ≡ digits (length text.now) x) × (x < 10 ^ length text.now)) }
+    ensures none { IfNone result ((x : ℕ) → text.now ≢ digits (length text.now) x) }
+{
+    let mut number = 0;
+    for byte in text {
+        if !byte.is_ascii_digit() {
+            return None;
+        }
+        number = number * 10 + u16::from(*byte - b'0');
+    }
+    Some(number)
+}
+
+// Fills the bytes with the last digits of the number.
+fn write_digits(out: &mut [u8], number: u16)
+    ensures { out.new ≡ digits (length out.old) number }
+{
+    let mut left = number;
+    for place in (0..out.len()).rev() {
+        out[place] = b'0' + (left % 10) as u8;
+        left /= 10;
+    }
+}

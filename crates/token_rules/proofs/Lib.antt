@@ -1,0 +1,3 @@
+pub mod ClassLemmas
+pub mod TableLemmas
+pub mod TokenLemmas

@@ -1,0 +1,14 @@
+//! The rules of tokens: which bytes are delimiters, where the tokens of a text lie, and which
+//! tokens are variables.
+#![tactic(auto)]
+
+mod classes;
+mod laws;
+mod tokens;
+
+pub use classes::is_delim;
+pub use laws::tokens_partition;
+pub use tokens::{Token, is_var, next_token};
+
+#[cfg(test)]
+mod tests;

@@ -1,0 +1,10 @@
+pub mod Learning
+pub mod Ends
+pub mod Handed
+pub mod Owned
+pub mod RuleKept
+pub mod Deals
+pub mod Queue
+pub mod Sights
+pub mod Fronts
+pub mod Seats

@@ -1,0 +1,23 @@
+use Rattle.std.proofs.Common.{rules, ap, ◌∙◌}
+use Rattle.turn_lock.specs.Own.{own}
+use Rattle.turn_lock.proofs.RuleKept.{numbers_step, deals_step}
+use Rattle.turn_lock.proofs.Owned.{own_none}
+use Rattle.turn_lock.proofs.handles.Maker.pass.Goals as goal
+
+pub fetch_add-number-requires : goal.fetch_add-number-requires
+fetch_add-number-requires g c = let m = c.args.self.now in (
+  search rules,
+  search rules,
+  numbers_step _ _ _ _ _ m.seat.id m.seat.me m.made m.free.1 m.maker.0 m.maker.2 c.requires.room,
+)
+
+pub split_seat-seat-requires : goal.split_seat-seat-requires
+split_seat-seat-requires g c = (
+  search rules,
+  search rules,
+  deals_step _ _ _ _ _ _ (ap (λ m. m.0.inside) c.fetch_add-number.ensures.2.0 ∙ c.args.self.now.free.1),
+)
+
+pub returns-clause-fresh : goal.returns-clause-fresh
+returns-clause-fresh g c = let n = c.fetch_add-number.result in let step = c.fetch_add-number.ensures.2 in
+    ap (λ m. own n m.0.seen) c.split_seat-seat.ensures.4 ∙ (ap (λ m. own n m.0.seen) step.0 ∙ own_none n 0 c.args.self.now.seat.me.0.seen step.2)

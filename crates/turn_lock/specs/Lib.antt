@@ -1,0 +1,4 @@
+pub mod Grown
+pub mod Own
+pub mod Plays
+pub mod Words

@@ -1,0 +1,18 @@
+//! A lock over a value whose entries only grow. Its turns come in the order of the tickets, and each pass knows which entries it has seen and which it added.
+#![tactic(auto)]
+
+mod board;
+mod grows;
+mod handles;
+mod lock;
+mod maker;
+mod pass;
+mod plays;
+mod steps;
+#[cfg(test)]
+mod tests;
+mod turn;
+
+pub use board::{About, View};
+pub use grows::Grows;
+pub use handles::{LockRefused, Maker, Note, Pass, Turn, TurnLock};

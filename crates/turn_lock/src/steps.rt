@@ -1,0 +1,101 @@
+//! The lock's atomic steps, each through a seat at the table.
+ghost use Rattle.std.specs.Prelude.{◌≡◌, ◌≢◌, ◌⊎◌, ℕ, ◌+◌, ◌<◌, true, false, [], ◌∷◌, Some, None};
+ghost use Rattle.turn_lock.specs.Plays.{IsTable, IsFree, IsInLine, IsMaker, IsReader, Came, Learned, MayAdd, waits, publishes, goes, numbers, joined};
+
+use crate::board::{Board, LENGTH, NUMBERS, Place, SERVING, TICKET};
+use crate::grows::Grows;
+use crate::plays::{Both, Draw, Learn, Look, Number, Publish, Tells};
+use std::sync::Wait;
+use std::time::Duration;
+use std::{hint, thread};
+
+/// Rounds in which the next in line stays on the processor.
+const SPINS: u64 = 200;
+
+/// Rounds after which a thread sleeps between two looks.
+const YIELDS: u64 = 2_000;
+
+/// The longest sleep between two looks, in microseconds.
+const NAP: u64 = 50;
+
+/// Draws the next ticket. After the last one it waits for ever.
+pub(crate) fn draw<V: Grows, R: Wait>(board: &Board<V>, rt: &R, seat: &mut Place<V>) -> u64
+    requires table { (seat.old.table_id ≡ board.now.table_id) × IsTable board.now.table_id }
+    requires free { IsFree seat.old.me }
+    ensures table { seat.new.table_id ≡ seat.old.table_id }
+    ensures view { seat.new.me ≡ (waits seat.old.me.0 result, []) }
+{
+    for _ in rt.forever() {
+        let next = board.peek(TICKET);
+        if next < u64::MAX {
+            let found = board.compare_exchange::<Draw>(seat, TICKET, next, next + 1);
+            if found == next {
+                return next;
+            }
+        }
+    }
+    unreachable!()
+}
+
+/// Lets time pass between two looks at the ticket that is served, which was `found` last. So many turns come before the thread's own.
+fn pause<V: Grows, R: Wait>(board: &Board<V>, rt: &R, round: u64, found: u64, before: u64)
+    requires { IsTable board.now.table_id }
+{
+    if round < SPINS && before <= 1 {
+        hint::spin_loop();
+    } else if round < YIELDS {
+        thread::yield_now();
+    } else {
+        let expected = (found % (1 << 32)) as u32;
+        board.park_timeout(rt, SERVING, expected, Duration::from_micros(NAP));
+    }
+}
+
+/// Waits until the ticket is served, and takes the value's slot.
+pub(crate) fn wait<V: Grows, R: Wait>(board: &Board<V>, rt: &R, seat: &mut Place<V>, ticket: u64)
+    requires table { (seat.old.table_id ≡ board.now.table_id) × IsTable board.now.table_id }
+    requires line { IsInLine seat.old.me ticket }
+    ensures table { seat.new.table_id ≡ seat.old.table_id }
+    ensures came { Came V.entries V.fixed V.may_add seat.old.me seat.new.me }
+{
+    let mut round = 0;
+    for _ in rt.forever() {
+        let found = board.load::<Look<V>>(seat, SERVING);
+        if found == ticket {
+            return;
+        }
+        pause(board, rt, round, found, ticket.wrapping_sub(found));
+        round = if round < YIELDS { round + 1 } else { round };
+    }
+    unreachable!()
+}
+
+/// Makes the length of the history that of the value's list.
+pub(crate) fn publish<V: Grows, J: Tells<V::Entry>>(
+    board: &Board<V>,
+    seat: &mut Place<V>,
+    value: &V,
+)
+    requires table { (seat.old.table_id ≡ board.now.table_id) × IsTable board.now.table_id }
+    requires told { J.told ≡ V.entries value.now }
+    requires turn { (seat.old.me.0.inside ≡ true) × (seat.old.me.0.gone ≡ None) }
+    requires adds { MayAdd V.may_add J.told seat.old.me.0 }
+    ensures table { seat.new.table_id ≡ seat.old.table_id }
+    ensures view { seat.new.me ≡ (publishes J.told seat.old.me.0, seat.old.me.1) }
+{
+    let count = value.count();
+    board.swap::<Publish<V, J>>(seat, LENGTH, count);
+}
+
+/// Takes in another seat, and looks at what both have seen.
+pub(crate) fn join<V: Grows>(board: &Board<V>, seat: &mut Place<V>, other: Place<V>)
+    requires table { (seat.old.table_id ≡ board.now.table_id) × (other.table_id ≡ board.now.table_id) × IsTable board.now.table_id }
+    requires mine { (seat.old.me.0.inside ≡ false) × (seat.old.me.0.gone ≡ None) × (seat.old.me.0.also ≡ []) }
+    requires theirs { IsFree other.me }
+    requires empty { (other.me.0.gone ≡ None) × (other.me.0.ended ≡ []) × (other.me.0.also ≡ []) }
+    ensures table { seat.new.table_id ≡ seat.old.table_id }
+    ensures view { Learned (joined seat.old.me.0 other.me.0, seat.old.me.1) seat.new.me }
+{
+    board.join_seat::<Both>(seat, other);
+    board.load::<Learn>(seat, SERVING);
+}

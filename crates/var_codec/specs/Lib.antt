@@ -1,0 +1,4 @@
+pub mod Codes
+pub mod Digits
+pub mod Fields
+pub mod Laws

@@ -1,0 +1,6 @@
+pub mod Literal
+pub mod Matching
+pub mod Occurring
+pub mod Searching
+pub mod Spelling
+pub mod Stepping

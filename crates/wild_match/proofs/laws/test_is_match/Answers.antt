@@ -1,0 +1,5 @@
+use Rattle.wild_match.proofs.Spelling.{test-is-match}
+use Rattle.wild_match.proofs.laws.test_is_match.Goals as goal
+
+pub returns : goal.returns
+returns c = test-is-match

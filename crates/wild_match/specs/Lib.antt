@@ -1,0 +1,5 @@
+pub mod Laws
+pub mod Matches
+pub mod Reading
+pub mod Runs
+pub mod Whole

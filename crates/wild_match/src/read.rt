@@ -1,0 +1,78 @@
+//! The text of a pattern.
+ghost use Rattle.std.specs.Prelude.{◌≡◌, ◌↔◌, ◌+◌, ℕ, IfOk, Err};
+ghost use Rattle.wild_match.specs.Reading.{IsLoneBackslash, search_pattern, item_of};
+ghost use Rattle.wild_match.specs.declared.read.PatternRefusal.TheVariants.{BadPattern, OutOfMemory};
+
+use crate::pattern::{Item, Pattern};
+use std::alloc::{AllocError, AllocFailed, Global};
+use thiserror::Error;
+
+/// Why a text is no pattern.
+#[derive(Clone, Copy, Debug, Drop, Error, PartialEq, Eq)]
+pub enum PatternRefusal {
+    /// The text ends in a `\` that escapes nothing, which stands at `at`, counted from 0.
+    #[error("lone backslash at {at}")]
+    BadPattern { at: usize },
+    /// The memory of the pattern was refused.
+    #[error("out of memory")]
+    OutOfMemory,
+}
+
+impl From<AllocError> for PatternRefusal {
+    ghost from_gives = { λ _ e. e ≡ OutOfMemory };
+
+    fn from(_e: AllocError) -> PatternRefusal {
+        PatternRefusal::OutOfMemory
+    }
+}
+
+impl<T: Drop> From<AllocFailed<T>> for PatternRefusal {
+    ghost from_gives = { λ _ e. e ≡ OutOfMemory };
+
+    fn from(_e: AllocFailed<T>) -> PatternRefusal {
+        PatternRefusal::OutOfMemory
+    }
+}
+
+/// What a byte spells where no `\` escapes it.
+fn item_of(byte: u8) -> Item
+    ensures { result ≡ item_of byte }
+{
+    match byte {
+        b'*' => Item::Many,
+        b'?' => Item::One,
+        _ => Item::Byte(byte),
+    }
+}
+
+/// Reads the text of a pattern: `*` stands for any bytes, `?` for any one byte, and `\` takes the
+/// next byte literally. The pattern is searched for anywhere in a message, so the answer has
+/// [`Item::Many`] before these items and behind them.
+///
+/// # Errors
+///
+/// [`PatternRefusal::BadPattern`] exactly where the text ends in a `\` that escapes nothing, or
+/// [`PatternRefusal::OutOfMemory`].
+pub fn read_pattern(alloc: Global, text: &[u8]) -> Result<Pattern, PatternRefusal>
+    ensures items { IfOk result (λ pattern. pattern ≡ search_pattern text.now) }
+    ensures good { IfOk result (λ _. (at : ℕ) → ¬ IsLoneBackslash text.now at) }
+    ensures bad { (at : ℕ) → result ≡ Err (BadPattern at) → IsLoneBackslash text.now at }
+{
+    let mut items = Vec::from_slice(alloc, &[Item::Many])?;
+    let mut escaped = false;
+    for byte in text {
+        if escaped {
+            items.push(Item::Byte(*byte))?;
+            escaped = false;
+        } else if *byte == b'\\' {
+            escaped = true;
+        } else {
+            items.push(item_of(*byte))?;
+        }
+    }
+    if escaped {
+        return Err(PatternRefusal::BadPattern { at: text.len() - 1 });
+    }
+    items.push(Item::Many)?;
+    Ok(Pattern::new(items))
+}
