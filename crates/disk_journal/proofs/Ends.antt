@@ -1,10 +1,10 @@
 -- What the two writes of an append leave, and several appends in a row.
-use Rattle.std.proofs.Common.{◌≡◌, ◌≢◌, ◌⊎◌, inl, inr, ⊎_elim, ℕ, zero, suc, ◌+◌, ◌^◌, ◌<◌, ◌≤◌, List, [], ◌∷◌, ◌++◌, length, take, drop, get_or, Option, Some, None, refl, sym, ◌∙◌, ap, subst, arith, length-append}
+use Rattle.std.proofs.Common.{◌≡◌, inl, inr, ⊎_elim, ℕ, zero, suc, ◌+◌, ◌^◌, ◌<◌, ◌≤◌, List, [], ◌∷◌, ◌++◌, length, take, drop, get_or, Option, Some, None, refl, sym, ◌∙◌, ap, subst, arith, length-append}
 use Rattle.std.specs.Prelude.{option_map, is_some}
 use Rattle.std.proofs.lemmas.List.{append_assoc, append-nil, take_more, drop_more}
-use Rattle.log_seams.specs.Disk.{laid, Torn, Only}
-use Rattle.disk_journal.specs.Record.{Saved, body, frame_of, spelled, Stands, WithOrWithout, WithFirst, saved_of, IsFrame, records, Fits, AllFit}
-use Rattle.disk_journal.specs.Place.{IsSettled, AtEnd, TornFrom, BeforeOrAfter, Added, entries, WithFirstTold, AddedFirst, UnderWay}
+use Rattle.log_seams.specs.Disk.{laid, Only}
+use Rattle.disk_journal.specs.Record.{Saved, body, frame_of, spelled, Stands, saved_of, IsFrame, records}
+use Rattle.disk_journal.specs.Place.{IsSettled, AtEnd, TornFrom, BeforeOrAfter, Added, WithFirstTold, AddedFirst, UnderWay}
 use Rattle.disk_journal.specs.Row.{saved_all, size_all}
 use Rattle.disk_journal.proofs.Spelling.{length-body, length-frame, spelled-push, laid_behind, laid_byte, stands_more, torn_behind, torn_gate, fit_push}
 use Rattle.disk_journal.proofs.Steps.{settled_by}
@@ -26,7 +26,7 @@ pub second_image : (head : List ℕ) (place count : ℕ) (told next : Option (Li
 second_image head place count None next images text c end framed is torn = tt
 second_image head place count (Some bytes) next images text c end framed is torn =
     torn_gate head (records count (drop 32 bytes)) (saved_of text) (laid (place + 1) text bytes) (drop (place + 1 + length text) bytes) c end.stands.gate place
-      (written_behind head place count bytes images text end framed) end.at (subst (λ (t : Option (List ℕ)). TornFrom t place 1 c) is torn)
+    (written_behind head place count bytes images text end framed) end.at (subst (λ (t : Option (List ℕ)). TornFrom t place 1 c) is torn)
 
 -- the bytes once the gate is open
 opened_for : (head : List ℕ) (place count : ℕ) (bytes : List ℕ) (images final : List ℕ → Type 0) (text : List ℕ) → length text < 2 ^ 64 → IsSettled head place count images bytes → IsFrame text
@@ -40,12 +40,12 @@ opened_for head place count bytes images final text short end framed only =
     let last = laid place (1 ∷ []) (laid (place + 1) text bytes) in
     let long : length text ≡ 10 + length r.payload = ap (λ (l : List ℕ). length l) framed ∙ length-frame r in
     let whole : last ≡ head ++ spelled rs ++ 1 ∷ (frame_of r ++ after) =
-      laid_byte (head ++ spelled rs) (laid (place + 1) text bytes) (frame_of r ++ after) end.stands.gate place (written_behind head place count bytes images text end framed) end.at 1 in
+    laid_byte (head ++ spelled rs) (laid (place + 1) text bytes) (frame_of r ++ after) end.stands.gate place (written_behind head place count bytes images text end framed) end.at 1 in
     let stands = stands_more head rs r after last whole in
     let base : head ++ spelled rs ++ 1 ∷ body r ≡ head ++ spelled (rs ++ r ∷ []) =
-      append_assoc head (spelled rs) (1 ∷ body r) ∙ ap (λ (l : List ℕ). head ++ l) (sym (spelled-push rs r)) in
+    append_assoc head (spelled rs) (1 ∷ body r) ∙ ap (λ (l : List ℕ). head ++ l) (sym (spelled-push rs r)) in
     let size : length (head ++ spelled (rs ++ r ∷ [])) ≡ place + length text =
-      ap (λ (l : List ℕ). length l) (sym base) ∙ omega (arith, end.at, long, length-append (head ++ spelled rs) (1 ∷ body r), length-body r) in
+    ap (λ (l : List ℕ). length l) (sym base) ∙ omega (arith, end.at, long, length-append (head ++ spelled rs) (1 ∷ body r), length-body r) in
     settled_by head (rs ++ r ∷ []) (place + length text) (count + 1) last final end.header stands (sym size) (omega (arith, end.counted, length-append rs (r ∷ []))) (fit_push rs r end.fit (omega arith)) only
 
 module _ (head : List ℕ) (place count : ℕ) (images final : List ℕ → Type 0) (text : List ℕ) (short : length text < 2 ^ 64) where
@@ -60,7 +60,7 @@ module _ (head : List ℕ) (place count : ℕ) (images final : List ℕ → Type
   appended_to told next last end framed is_next is_last only =
       let is : last ≡ option_map (laid place (1 ∷ [])) (option_map (laid (place + 1) text) told) = is_last ∙ ap (λ (t : Option (List ℕ)). option_map (laid place (1 ∷ [])) t) is_next in
       subst (λ (t : Option (List ℕ)). AtEnd head (place + length text) (count + 1) t final × Added told count (saved_of text) t (count + 1)) (sym is)
-        (appended told end framed (subst (λ (t : Option (List ℕ)). Only t final) is only))
+      (appended told end framed (subst (λ (t : Option (List ℕ)). Only t final) is only))
 
 -- one record more of several, where so many are there
 module _ (head : List ℕ) (told mid : Option (List ℕ)) (count more k : ℕ) (new : List Saved) (r : Saved) (tells : is_some mid ≡ is_some told) (added : AddedFirst told count new k mid more) (next : take (k + 1) new ≡ take k new ++ r ∷ []) where
@@ -73,7 +73,7 @@ module _ (head : List ℕ) (told mid : Option (List ℕ)) (count more k : ℕ) (
   image_by (Some bytes) (Some now) c same adds left =
       let rs = records count (drop 32 bytes) in
       let both : records more (drop 32 now) ++ r ∷ [] ≡ rs ++ take (k + 1) new =
-        ap (λ (l : List Saved). l ++ r ∷ []) adds ∙ append_assoc rs (take k new) (r ∷ []) ∙ ap (λ (l : List Saved). rs ++ l) (sym next) in
+      ap (λ (l : List Saved). l ++ r ∷ []) adds ∙ append_assoc rs (take k new) (r ∷ []) ∙ ap (λ (l : List Saved). rs ++ l) (sym next) in
       ⊎_elim (λ stands. inl (subst (λ (l : List Saved). Stands head l c) adds stands)) (λ stands. inr (subst (λ (l : List Saved). Stands head l c) both stands)) left
 
   pub step_image : (c : List ℕ) → BeforeOrAfter head mid more r c → UnderWay head told count new k c

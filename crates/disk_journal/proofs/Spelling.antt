@@ -1,7 +1,7 @@
 -- How the bytes of a journal begin, go on and are read back.
-use Rattle.std.proofs.Common.{◌≡◌, ◌≢◌, ◌⊎◌, inl, inr, ℕ, zero, suc, ◌+◌, ◌-◌, ◌^◌, ◌<◌, ◌≤◌, List, [], ◌∷◌, ◌++◌, length, take, drop, get_or, refl, sym, ◌∙◌, ap, subst, arith, length-append, length-drop, take-append-drop}
-use Rattle.std.specs.Int.{w64, to_le_bytes, from_le_bytes}
-use Rattle.std.proofs.lemmas.List.{append-nil, append_assoc, append_cancel_left, take_at, drop_at, drop_more, take_all}
+use Rattle.std.proofs.Common.{◌≡◌, ◌≢◌, inl, inr, ℕ, suc, ◌+◌, ◌-◌, ◌<◌, ◌≤◌, List, [], ◌∷◌, ◌++◌, length, take, drop, get_or, refl, sym, ◌∙◌, ap, arith, length-append, take-append-drop}
+use Rattle.std.specs.Int.{w64, to_le_bytes}
+use Rattle.std.proofs.lemmas.List.{append-nil, append_assoc, append_cancel_left, take_at, drop_at, drop_more}
 use Rattle.std.proofs.lemmas.Nat.{from_le_bytes-to_le_bytes_8}
 use Rattle.std.proofs.lemmas.Bool.{cases_eq}
 use Rattle.log_seams.specs.Disk.{laid, Torn}
@@ -36,7 +36,7 @@ pub first_of-body : (r : Saved) (rest : List ℕ) → Fits r → first_of (1 ∷
 first_of-body r rest fits =
     let long = payload_len-body r rest fits in
     let payload : take (payload_len (1 ∷ body r ++ rest)) (drop 10 (1 ∷ body r ++ rest)) ≡ r.payload =
-      ap (λ (l : List ℕ). take (payload_len (1 ∷ body r ++ rest)) l) (payload-body r rest) ∙ take_at r.payload rest _ (sym long) in
+    ap (λ (l : List ℕ). take (payload_len (1 ∷ body r ++ rest)) l) (payload-body r rest) ∙ take_at r.payload rest _ (sym long) in
     λ i. record { kind = kind-body r rest i; payload = payload i }
 
 behind-body : (r : Saved) (rest : List ℕ) → Fits r → drop (10 + payload_len (1 ∷ body r ++ rest)) (1 ∷ body r ++ rest) ≡ rest
@@ -107,9 +107,9 @@ stands_more head rs r after c is = record {
   where
     same : head ++ spelled rs ++ 1 ∷ (frame_of r ++ after) ≡ head ++ spelled (rs ++ r ∷ []) ++ 0 ∷ after
     same =
-      ap (λ (l : List ℕ). head ++ spelled rs ++ 1 ∷ l) (append_assoc (body r) (0 ∷ []) after)
-      ∙ sym (append_assoc (head ++ spelled rs) (1 ∷ body r) (0 ∷ after))
-      ∙ ap (λ (l : List ℕ). l ++ 0 ∷ after) (append_assoc head (spelled rs) (1 ∷ body r) ∙ ap (λ (l : List ℕ). head ++ l) (sym (spelled-push rs r)))
+        ap (λ (l : List ℕ). head ++ spelled rs ++ 1 ∷ l) (append_assoc (body r) (0 ∷ []) after)
+        ∙ sym (append_assoc (head ++ spelled rs) (1 ∷ body r) (0 ∷ after))
+        ∙ ap (λ (l : List ℕ). l ++ 0 ∷ after) (append_assoc head (spelled rs) (1 ∷ body r) ∙ ap (λ (l : List ℕ). head ++ l) (sym (spelled-push rs r)))
 
 -- the write of the record leaves the records as they were
 pub torn_behind : (head : List ℕ) (rs : List Saved) (bytes c : List ℕ) (place n : ℕ) → Stands head rs bytes → place ≡ length (head ++ spelled rs) → Torn (place + 1) n bytes c → Stands head rs c
@@ -137,17 +137,17 @@ same_records [] (s ∷ ss) g h us vs fit_rs fit_ss shut_g shut_h is = let opened
 same_records (r ∷ rs) [] g h us vs fit_rs fit_ss shut_g shut_h is = let opened : h ≡ 1 = cc in absurd (shut_h opened)
 same_records (r ∷ rs) (s ∷ ss) g h us vs fit_rs fit_ss shut_g shut_h is =
     let both : 1 ∷ body r ++ (spelled rs ++ g ∷ us) ≡ 1 ∷ body s ++ (spelled ss ++ h ∷ vs) =
-      sym (append_assoc (1 ∷ body r) (spelled rs) (g ∷ us)) ∙ is ∙ append_assoc (1 ∷ body s) (spelled ss) (h ∷ vs) in
+    sym (append_assoc (1 ∷ body r) (spelled rs) (g ∷ us)) ∙ is ∙ append_assoc (1 ∷ body s) (spelled ss) (h ∷ vs) in
     let first : r ≡ s = sym (first_of-body r _ fit_rs.0) ∙ ap first_of both ∙ first_of-body s _ fit_ss.0 in
     let rest : spelled rs ++ g ∷ us ≡ spelled ss ++ h ∷ vs =
-      sym (behind-body r _ fit_rs.0) ∙ ap (λ (l : List ℕ). drop (10 + payload_len l) l) both ∙ behind-body s _ fit_ss.0 in
+    sym (behind-body r _ fit_rs.0) ∙ ap (λ (l : List ℕ). drop (10 + payload_len l) l) both ∙ behind-body s _ fit_ss.0 in
     let others = same_records rs ss g h us vs fit_rs.1 fit_ss.1 shut_g shut_h rest in
     ap (λ (q : Saved). q ∷ rs) first ∙ ap (λ (l : List Saved). s ∷ l) others
 
 pub stands_one : (head : List ℕ) (rs ss : List Saved) (bytes : List ℕ) → Stands head rs bytes → Stands head ss bytes → AllFit rs → AllFit ss → rs ≡ ss
 stands_one head rs ss bytes one two fit_rs fit_ss =
     same_records rs ss one.gate two.gate one.rest two.rest fit_rs fit_ss one.closed two.closed
-      (append_cancel_left head _ _ (sym (append_assoc head (spelled rs) (one.gate ∷ one.rest)) ∙ sym one.spells ∙ two.spells ∙ append_assoc head (spelled ss) (two.gate ∷ two.rest)))
+    (append_cancel_left head _ _ (sym (append_assoc head (spelled rs) (one.gate ∷ one.rest)) ∙ sym one.spells ∙ two.spells ∙ append_assoc head (spelled ss) (two.gate ∷ two.rest)))
 
 -- the record of a framed text
 kind-frame : (r : Saved) → get_or (frame_of r) 0 0 ≡ r.kind
@@ -161,7 +161,7 @@ tail-frame r = refl
 pub saved_of-frame : (r : Saved) → saved_of (frame_of r) ≡ r
 saved_of-frame r =
     let payload : take (length (frame_of r) - 10) (drop 9 (frame_of r)) ≡ r.payload =
-      ap (λ (l : List ℕ). take (length (frame_of r) - 10) l) (tail-frame r) ∙ take_at r.payload (0 ∷ []) _ (omega (arith, length-frame r)) in
+    ap (λ (l : List ℕ). take (length (frame_of r) - 10) l) (tail-frame r) ∙ take_at r.payload (0 ∷ []) _ (omega (arith, length-frame r)) in
     λ i. record { kind = kind-frame r i; payload = payload i }
 
 pub framed : (kind : ℕ) (payload text : List ℕ) → text ≡ kind ∷ to_le_bytes w64 (length payload) ++ payload ++ 0 ∷ [] → IsFrame text

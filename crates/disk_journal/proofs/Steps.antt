@@ -1,12 +1,11 @@
 -- What was read at a gate says of the bytes of a disk, and how a walk along the records goes on.
-use Rattle.std.proofs.Common.{◌≡◌, ◌≢◌, ◌⊎◌, inl, inr, ℕ, zero, suc, ◌+◌, ◌-◌, ◌^◌, ◌<◌, ◌≤◌, List, [], ◌∷◌, ◌++◌, length, take, drop, get_or, Option, Some, None, refl, sym, ◌∙◌, ap, subst, arith, min, length-append, length-drop, length-take, take-append-drop}
+use Rattle.std.proofs.Common.{◌≡◌, ◌≢◌, ◌⊎◌, inl, inr, ℕ, ◌+◌, ◌-◌, ◌^◌, ◌<◌, ◌≤◌, List, [], ◌∷◌, ◌++◌, length, take, drop, get_or, Option, Some, None, refl, sym, ◌∙◌, ap, subst, arith, length-append, length-drop, length-take, take-append-drop}
 use Rattle.std.specs.Int.{w64, to_le_bytes, from_le_bytes}
-use Rattle.std.proofs.lemmas.List.{append-nil, append_assoc, take_at, drop_at, drop_more, take_all, drop-drop, drop-take, get_or-take, get_or-drop, length-take-le}
-use Rattle.std.proofs.lemmas.Nat.{le_bytes_8}
+use Rattle.std.proofs.lemmas.List.{append-nil, append_assoc, drop_at, drop_more, take_all, drop-drop, drop-take, get_or-take, get_or-drop, length-take-le}
 use Rattle.std.proofs.lemmas.Bool.{cases_eq}
 use Rattle.std.specs.Prelude.{IfSome}
 use Rattle.log_seams.specs.Disk.{Gave, Only, NoMore}
-use Rattle.record_format.specs.Header.{IsHeader, header_bytes}
+use Rattle.record_format.specs.Header.{header_bytes}
 use Rattle.record_format.specs.declared.header.Header.{Header}
 use Rattle.disk_journal.specs.Record.{Saved, body, spelled, Stands, payload_len, records, Fits, AllFit}
 use Rattle.disk_journal.specs.Place.{HasWalked, Walked, IsSettled, AtEnd, NoHeader, IsDamaged, HasClosedGate, ClosedAt, HasRecord, OpenAt, Passed}
@@ -25,7 +24,7 @@ walk_begins (Some bytes) n old new h gave size long enough same =
     let count = gave.0 in
     let all : n ≡ 32 = omega arith in
     let front : header_bytes h ≡ take 32 bytes =
-      sym same ∙ sym (take_all 32 new (omega arith)) ∙ subst (λ (k : ℕ). take k new ≡ take k (drop 0 bytes)) all gave.1 in
+    sym same ∙ sym (take_all 32 new (omega arith)) ∙ subst (λ (k : ℕ). take k new ≡ take k (drop 0 bytes)) all gave.1 in
     let size_head : length (header_bytes h) ≡ 32 = sym (ap (λ (l : List ℕ). length l) same) ∙ long in
     record {
       header = size_head;
@@ -63,7 +62,7 @@ pub settled_by : (head : List ℕ) (ss : List Saved) (place count : ℕ) (bytes 
     → ((c : List ℕ) → images c → c ≡ bytes) → IsSettled head place count images bytes × (records count (drop 32 bytes) ≡ ss)
 settled_by head ss place count bytes images long stands at counts fit only =
     let same : records count (drop 32 bytes) ≡ ss =
-      ap (λ (n : ℕ). records n (drop 32 bytes)) counts ∙ records_of head ss bytes (stands.gate ∷ stands.rest) long stands.spells fit in (
+    ap (λ (n : ℕ). records n (drop 32 bytes)) counts ∙ records_of head ss bytes (stands.gate ∷ stands.rest) long stands.spells fit in (
       record {
         header = long;
         stands = subst (λ (l : List Saved). Stands head l bytes) (sym same) stands;
@@ -125,20 +124,20 @@ module _ (bytes old front : List ℕ) (at n : ℕ) (gave : Gave (Some bytes) at 
       let payload = take len (drop (at + 10) bytes) in
       let tail = drop (at + 10 + len) bytes in
       let split : drop at bytes ≡ front ++ drop 10 (drop at bytes) =
-        sym (take-append-drop 10 (drop at bytes)) ∙ ap (λ (l : List ℕ). l ++ drop 10 (drop at bytes)) (sym (whole_front all size)) in
+      sym (take-append-drop 10 (drop at bytes)) ∙ ap (λ (l : List ℕ). l ++ drop 10 (drop at bytes)) (sym (whole_front all size)) in
       let parts : front ≡ 1 ∷ kind ∷ to_le_bytes w64 len = front_parts size opened ∙ ap (λ (l : List ℕ). 1 ∷ kind ∷ l) (sym spelled_len) in
       let tails : drop 10 (drop at bytes) ≡ payload ++ tail =
-        drop-drop 10 at bytes ∙ sym (take-append-drop len (drop (at + 10) bytes)) ∙ ap (λ (l : List ℕ). payload ++ l) (drop-drop len (at + 10) bytes) in
+      drop-drop 10 at bytes ∙ sym (take-append-drop len (drop (at + 10) bytes)) ∙ ap (λ (l : List ℕ). payload ++ l) (drop-drop len (at + 10) bytes) in
       let long : length payload ≡ len = length-take-le len (drop (at + 10) bytes) (omega (arith, length-drop (at + 10) bytes)) in
       record {
         within = omega arith;
         fits = fits;
         spells =
-          split
-          ∙ ap (λ (l : List ℕ). l ++ drop 10 (drop at bytes)) parts
-          ∙ ap (λ (l : List ℕ). 1 ∷ kind ∷ to_le_bytes w64 len ++ l) tails
-          ∙ sym (append_assoc (1 ∷ kind ∷ to_le_bytes w64 len) payload tail)
-          ∙ ap (λ (l : List ℕ). 1 ∷ l ++ tail) (sym (body_is kind len payload long));
+            split
+            ∙ ap (λ (l : List ℕ). l ++ drop 10 (drop at bytes)) parts
+            ∙ ap (λ (l : List ℕ). 1 ∷ kind ∷ to_le_bytes w64 len ++ l) tails
+            ∙ sym (append_assoc (1 ∷ kind ∷ to_le_bytes w64 len) payload tail)
+            ∙ ap (λ (l : List ℕ). 1 ∷ l ++ tail) (sym (body_is kind len payload long));
       }
 
 -- the same, told of a disk that may not tell its bytes
@@ -185,14 +184,14 @@ walk_on head place count kind len bytes w r =
     let long : length new.payload ≡ len = length-take-le len (drop (place + 10) bytes) (omega (arith, length-drop (place + 10) bytes)) in
     let rest : w.rest ≡ 1 ∷ body new ++ tail = sym (walked_rest head place count bytes w) ∙ r.spells in
     let base : head ++ spelled rs ++ 1 ∷ body new ≡ head ++ spelled (rs ++ new ∷ []) =
-      append_assoc head (spelled rs) (1 ∷ body new) ∙ ap (λ (l : List ℕ). head ++ l) (sym (spelled-push rs new)) in
+    append_assoc head (spelled rs) (1 ∷ body new) ∙ ap (λ (l : List ℕ). head ++ l) (sym (spelled-push rs new)) in
     let spells : bytes ≡ head ++ spelled (rs ++ new ∷ []) ++ tail =
-      w.spells ∙ ap (λ (l : List ℕ). head ++ spelled rs ++ l) rest ∙ sym (append_assoc (head ++ spelled rs) (1 ∷ body new) tail) ∙ ap (λ (l : List ℕ). l ++ tail) base in
+    w.spells ∙ ap (λ (l : List ℕ). head ++ spelled rs ++ l) rest ∙ sym (append_assoc (head ++ spelled rs) (1 ∷ body new) tail) ∙ ap (λ (l : List ℕ). l ++ tail) base in
     let size : length (head ++ spelled (rs ++ new ∷ [])) ≡ place + 10 + len =
-      ap (λ (l : List ℕ). length l) (sym base) ∙ omega (arith, w.at, long, length-append (head ++ spelled rs) (1 ∷ body new), length-body new) in
+    ap (λ (l : List ℕ). length l) (sym base) ∙ omega (arith, w.at, long, length-append (head ++ spelled rs) (1 ∷ body new), length-body new) in
     let fits : Fits new = subst (λ (k : ℕ). k < 2 ^ 64) (sym long) r.fits in
     let both = walked_by head (rs ++ new ∷ []) (place + 10 + len) (count + 1) bytes tail w.header spells (sym size)
-      (omega (arith, w.counted, length-append rs (new ∷ []))) (fit_push rs new w.fit fits) in
+    (omega (arith, w.counted, length-append rs (new ∷ []))) (fit_push rs new w.fit fits) in
     (both.0, (omega arith, both.1))
 
 pub walked_on : (head : List ℕ) (place count kind len : ℕ) (told : Option (List ℕ)) → Walked head place count told → OpenAt place kind len told → Walked head (place + 10 + len) (count + 1) told

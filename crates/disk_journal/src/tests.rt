@@ -5,8 +5,9 @@ ghost use Rattle.record_format.specs.Header.{header_bytes};
 ghost use Rattle.disk_journal.specs.Record.{IsFrame};
 ghost use Rattle.disk_journal.specs.Place.{AtEnd, Walked};
 
-use crate::{AppendRefusal, CreateRefusal, Journal, RecordPlace, StartRefusal, WalkRefusal};
-use crate::{create, frame};
+use crate::{
+    AppendRefusal, CreateRefusal, Journal, RecordPlace, StartRefusal, WalkRefusal, create, frame,
+};
 use log_seams::{Disk, MemDisk, Pending, Text};
 use record_format::Header;
 use std::alloc::{AllocError, Global};
@@ -96,7 +97,10 @@ fn an_empty_journal_has_its_33_bytes(rt: HostRuntime) -> Result<(), Fail> {
     assert_eq!(rt; create(&mut new, &HEADER), Ok(()));
     assert_eq!(rt; new.bytes(), EMPTY.as_slice());
     let mut old = disk(alloc, &WORKED, &[])?;
-    assert_eq!(rt; create(&mut old, &HEADER), Err(CreateRefusal::NotEmpty { len: 155 }));
+    assert_eq!(rt;
+        create(&mut old, &HEADER),
+        Err(CreateRefusal::NotEmpty { len: 155 })
+    );
     assert_eq!(rt; old.bytes(), WORKED.as_slice());
     Ok(())
 }
@@ -192,7 +196,12 @@ fn every_crash_of_three_appends_leaves_a_journal(rt: HostRuntime) -> Result<(), 
         let mut kept = 0;
         let mut journal = Journal::open_journal(&mut run)?;
         if let Ok(None) = journal.next_place() {
-            let _ = append_three(&mut journal, one.as_slice(), two.as_slice(), three.as_slice());
+            let _ = append_three(
+                &mut journal,
+                one.as_slice(),
+                two.as_slice(),
+                three.as_slice(),
+            );
             kept = journal.count();
         }
         for after in 0..=run.calls() {

@@ -18,35 +18,50 @@ fn text(alloc: Global, bytes: &[u8]) -> Result<Text, AllocError> {
     Ok(Text::new(bytes.to_vec(alloc)?))
 }
 
+// The next line by `next`.
+fn compare_piece<R: Abort, S: Source>(rt: &R, cutter: &mut Cutter<S>, line: &[u8], ended: bool) {
+    match cutter.next() {
+        Ok(Some(piece)) => {
+            assert!(rt; piece.line.as_slice() == line);
+            assert_eq!(rt; piece.ended, ended);
+        }
+        Ok(None) => assert!(rt; false, "the end, and no line"),
+        Err(cut) => assert!(rt; false, "no line: {cut:?}"),
+    }
+}
+
+// The end, or the error, by `next` and by `advance`.
+fn compare_end<R: Abort, S: Source>(rt: &R, cutter: &mut Cutter<S>, end: Result<(), Cut>) {
+    match cutter.next() {
+        Ok(Some(_)) => assert!(rt; false, "a line, and no end"),
+        Ok(None) => assert!(rt; end.is_ok()),
+        Err(cut) => assert_eq!(rt; Err(cut), end),
+    }
+    match cutter.advance() {
+        Ok(mark) => assert!(rt; mark.is_none() && end.is_ok()),
+        Err(cut) => assert_eq!(rt; Err(cut), end),
+    }
+    assert!(rt; cutter.line().is_empty());
+}
+
 // Takes all that a cutter gives, by `next` and by `advance` in turn, and asks twice more behind the end.
-fn compare<R: Abort, S: Source + Drop>(
+fn compare<R: Abort, S: Source>(
     rt: &R,
     cutter: &mut Cutter<S>,
     lines: &[(&[u8], bool)],
     end: Result<(), Cut>,
 ) {
-    for (number, (line, ended)) in lines.iter().enumerate() {
+    for (number, row) in lines.iter().enumerate() {
+        let (line, ended) = *row;
         if number % 2 == 0 {
-            match cutter.next() {
-                Ok(Some(piece)) => {
-                    assert_eq!(rt; piece.line.as_slice(), *line);
-                    assert_eq!(rt; piece.ended, *ended);
-                }
-                other => assert!(rt; false, "no line {number}: {other:?}"),
-            }
+            compare_piece(rt, cutter, line, ended);
         } else {
-            assert_eq!(rt; cutter.advance(), Ok(Some(Mark { ended: *ended })));
+            assert_eq!(rt; cutter.advance(), Ok(Some(Mark { ended })));
         }
-        assert_eq!(rt; cutter.line(), *line);
+        assert!(rt; cutter.line() == line);
     }
-    for _ in 0..2 {
-        assert_eq!(rt; cutter.advance(), end.map(|()| None));
-        assert!(rt; cutter.line().is_empty());
-        match cutter.next() {
-            Ok(piece) => assert!(rt; piece.is_none() && end.is_ok()),
-            Err(cut) => assert_eq!(rt; Err(cut), end),
-        }
-    }
+    compare_end(rt, cutter, end);
+    compare_end(rt, cutter, end);
 }
 
 #[test]

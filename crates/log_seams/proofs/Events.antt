@@ -1,9 +1,9 @@
 -- How the events, the content and the images of a disk in memory go on.
 use Rattle.std.proofs.Common.{◌≡◌, ◌⊎◌, inl, inr, ⊎_elim, ℕ, zero, suc, ◌+◌, ◌-◌, ◌/◌, ◌<◌, ◌≤◌, get_or, replicate, length-take, Bool, true, false, List, [], ◌∷◌, ◌++◌, length, take, drop, refl, sym, ◌∙◌, ap, subst, arith, length-append, length-drop}
-use Rattle.std.proofs.lemmas.List.{take-append-le, drop-append-le, drop-drop, take_at, drop_at, drop_all, length-take-le, append_assoc, take_all, drop_more, take_more, length-replicate}
+use Rattle.std.proofs.lemmas.List.{take-append-le, drop-append-le, drop-drop, take_at, drop_at, length-take-le, append_assoc, take_all, drop_more, take_more, length-replicate}
 use Rattle.std.proofs.lemmas.Bool.Decides.{nat_tests}
 use Rattle.log_seams.specs.Disk.{laid, Torn, Follows, NoMore, Elapses}
-use Rattle.log_seams.specs.Replay.{Event, wrote, read, synced, other, logged, total, event_of, events_after, events, after_event, content, IsImage, IsSince, reads_as, IsQuiet, held, torn_by, held_after, left_by}
+use Rattle.log_seams.specs.Replay.{Event, wrote, read, synced, other, logged, total, event_of, events_after, events, after_event, content, IsImage, IsSince, reads_as, IsQuiet, held, torn_by, left_by}
 use Rattle.log_seams.specs.declared.mem_disk.Call.{Call}
 use Rattle.log_seams.specs.declared.mem_disk.Call.TheVariants.{Wrote, Read, Synced, Other}
 use Rattle.log_seams.specs.declared.mem_disk.Pending.{Pending}

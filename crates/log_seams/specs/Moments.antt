@@ -1,5 +1,5 @@
 -- How what a crash may leave goes on, from call to call and from run to run.
-use Rattle.std.specs.Prelude.{◌⊎◌, ℕ, ◌≤◌, List}
+use Rattle.std.specs.Prelude.{ℕ, ◌≤◌, List}
 use Rattle.std.proofs.Common.{inl, inr, ⊎_elim, arith}
 use Rattle.log_seams.specs.Disk.{Elapses, LeavesOnly}
 use Rattle.log_seams.specs.Outside.{Rose}

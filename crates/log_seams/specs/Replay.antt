@@ -1,8 +1,8 @@
 -- The calls that a disk in memory keeps, as events with the newest first, and what follows from them:
 -- its bytes, the images that a crash may leave, and the ranges read.
-use Rattle.std.specs.Prelude.{◌≡◌, ◌⊎◌, ℕ, ◌+◌, ◌/◌, ◌≤◌, Bool, true, false, nat_le, if◌then◌else◌, List, [], ◌∷◌, ◌++◌, length, take, drop, replicate, refl}
+use Rattle.std.specs.Prelude.{◌≡◌, ◌⊎◌, ℕ, ◌+◌, ◌/◌, ◌≤◌, Bool, nat_le, if◌then◌else◌, List, [], ◌∷◌, ◌++◌, length, take, drop, replicate, refl}
 use Rattle.std.proofs.Common.{inl, inr, arith, sym, subst}
-use Rattle.log_seams.specs.Disk.{laid, Torn, Elapses}
+use Rattle.log_seams.specs.Disk.{laid, Torn}
 use Rattle.log_seams.specs.declared.mem_disk.Call.{Call}
 use Rattle.log_seams.specs.declared.mem_disk.Call.TheVariants.{Wrote, Read, Synced, Other}
 use Rattle.log_seams.specs.declared.mem_disk.Pending.{Pending}

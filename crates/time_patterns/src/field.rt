@@ -14,6 +14,7 @@ impl Field {
 
     /// Reads the byte and the number at the front of the text, and gives what is left of it.
     /// `None` where they do not stand there.
+    #[inline(always)]
     pub fn read<'a>(&self, text: &'a [u8]) -> Option<(u16, &'a [u8])>
         requires { self.now.digits ≤ 4 }
         ensures some { IfSome result (λ r. (text.now ≡ field_text self.now r.0 ++ r.1.now) × (r.0 < 10 ^ self.now.digits)) }
@@ -40,6 +41,7 @@ impl Field {
 }
 
 /// What follows the byte, if there is one to stand at the front.
+#[inline(always)]
 pub fn skip_byte(byte: Option<u8>, text: &[u8]) -> Option<&[u8]>
     ensures some { IfSome result (λ rest. text.now ≡ byte_text byte ++ rest.now) }
     ensures none { IfNone result ((rest : List ℕ) → text.now ≢ byte_text byte ++ rest) }
@@ -68,6 +70,7 @@ pub fn write_byte(byte: Option<u8>, out: &mut [u8], at: usize) -> usize
 }
 
 // The number whose digits these bytes are.
+#[inline(always)]
 fn read_digits(text: &[u8]) -> Option<u16>
     requires { length text.now ≤ 4 }
     ensures some { IfSome result (λ x. (text.now ≡ digits (length text.now) x) × (x < 10 ^ length text.now)) }

@@ -22,6 +22,7 @@ pub struct Fields<const N: usize> {
 }
 
 // The numbers at the front of the text, each with the byte before it, and what is left of it.
+#[inline(always)]
 fn read_numbers<'a>(fields: &[Field], text: &'a [u8]) -> Option<([u16; 7], &'a [u8])>
     requires count { length fields.now ≤ 7 }
     requires short { All (λ (f : Field). f.digits ≤ 4) fields.now }
@@ -54,6 +55,7 @@ fn write_numbers(fields: &[Field], numbers: &[u16], out: &mut [u8]) -> usize
 }
 
 // Whether a stamp may end in front of this: nothing or a delimiter follows.
+#[inline]
 fn ends_stamp(rest: &[u8]) -> bool
     ensures { IsTrue result ↔ EndsStamp rest.now }
 {
@@ -70,6 +72,7 @@ impl<const N: usize> Fields<N> {
 
     /// The moment of the text of this pattern with which the line begins, and its length; behind
     /// it a delimiter stands or the line ends. `None` where there is no such text.
+    #[inline(always)]
     pub fn read(&self, line: &[u8]) -> Option<(i64, u8)>
         requires { (year : ℕ) × IsSound (form_of self.now) year }
         ensures some { IfSome result (λ r. (text : List ℕ) × PrintsForm (form_of self.now) r.0 text × BeginsWith line.now text r.1) }

@@ -1,7 +1,6 @@
-use Rattle.std.proofs.Common.{◌≡◌, ◌≤◌, List, ℕ, Option, length, rules, arith, refl, sym, ◌∙◌, subst}
+use Rattle.std.proofs.Common.{◌≡◌, List, ℕ, Option, length, rules, refl, sym, subst}
 use Rattle.record_format.specs.Header.{header_bytes}
 use Rattle.record_format.specs.declared.header.Header.{Header}
-use Rattle.log_seams.specs.Disk.{Gave}
 use Rattle.disk_journal.specs.Place.{Walked, NoHeader}
 use Rattle.disk_journal.proofs.Steps.{short_header, walk_begins}
 use Rattle.disk_journal.proofs.journal.start.Goals as goal
@@ -19,5 +18,5 @@ returns-then-count-lt32-clause-damaged g c = λ at is.
 pub returns-in-Some-clause-walked : goal.returns-in-Some-clause-walked
 returns-in-Some-clause-walked g c =
     let begins : Walked (header_bytes c.in-Some.header) 32 0 (g.D.Disk.seen c.sync.new.self) =
-      walk_begins _ _ _ c.read.new.buf c.in-Some.header c.in_ok-count.ensures.told refl (search rules) c.if-count-lt32.false c.in-Some.ensures.spelled in
+    walk_begins _ _ _ c.read.new.buf c.in-Some.header c.in_ok-count.ensures.told refl (search rules) c.if-count-lt32.false c.in-Some.ensures.spelled in
     subst (λ (t : Option (List ℕ)). Walked (header_bytes c.in-Some.header) 32 0 t) (sym c.read.ensures.seen) begins

@@ -1,12 +1,10 @@
-use Rattle.std.proofs.Common.{◌≡◌, ◌≤◌, ◌<◌, ◌+◌, List, [], ◌∷◌, ◌++◌, ℕ, Option, length, take, get_or, rules, arith, refl, sym, ◌∙◌, ap, subst}
-use Rattle.std.specs.Prelude.{is_some}
-use Rattle.log_seams.specs.Disk.{LeavesOnly}
+use Rattle.std.proofs.Common.{◌≡◌, ◌<◌, ◌+◌, List, [], ◌∷◌, ◌++◌, ℕ, length, take, get_or, arith, refl, sym, ◌∙◌, ap, subst}
 use Rattle.log_seams.specs.Moments.{started, joined}
 use Rattle.record_format.specs.Header.{header_bytes}
 use Rattle.record_format.specs.declared.header.Header.{Header}
-use Rattle.disk_journal.specs.Record.{Saved, saved_of}
-use Rattle.disk_journal.specs.Place.{AtEnd, BeforeOrAfter, Added, WithFirstTold, AddedFirst, UnderWay}
-use Rattle.disk_journal.specs.Row.{saved_all, size_all}
+use Rattle.disk_journal.specs.Record.{saved_of}
+use Rattle.disk_journal.specs.Place.{BeforeOrAfter, Added, WithFirstTold}
+use Rattle.disk_journal.specs.Row.{saved_all}
 use Rattle.disk_journal.proofs.Ends.{step_image, step_added, under_way_first, image_none, added_none, size_more, size_within, saved_more, length-saved}
 use Rattle.disk_journal.proofs.row.append_each.Goals as goal
 
@@ -24,7 +22,7 @@ loop-text-init g c =
       count = omega arith;
       place = omega arith;
       moments = started g.D.Disk.clock g.D.Disk.since g.D.Disk.images g.met.D.Disk.only_now j.disk.now (WithFirstTold (header_bytes j.header) told j.count new)
-        (λ f left. image_none (header_bytes j.header) j.place j.count told (g.D.Disk.images j.disk.now) new f c.requires.at_end left);
+          (λ f left. image_none (header_bytes j.header) j.place j.count told (g.D.Disk.images j.disk.now) new f c.requires.at_end left);
       tells = refl;
       ranges = refl;
       counts = omega arith;
@@ -41,18 +39,18 @@ returns-in-Err-DiskFault-clause-stopped g c =
     let r = saved_of c.text-item.result in
     let same : c.as_slice.result.now ≡ c.text-item.result = c.as_slice.ensures in
     let next : take (i + 1) new ≡ take i new ++ r ∷ [] =
-      saved_more c.args.texts.now i c.text-item.result c.loop-text-test.true ∙ ap (λ (t : List ℕ). take i new ++ saved_of t ∷ []) (sym c.text-item.is) in
+    saved_more c.args.texts.now i c.text-item.result c.loop-text-test.true ∙ ap (λ (t : List ℕ). take i new ++ saved_of t ∷ []) (sym c.text-item.is) in
     let count : c.append.new.self.count ≡ j.count + i = (c.in-Err-DiskFault.ensures.err).0 ∙ inv.count in (
       i,
       c.loop-text-test.true,
       count,
       λ f left.
-        let since = g.met.D.Disk.counts_now c.append.new.self.disk.now (g.D.Disk.clock mid.disk.now) f c.append.ensures.moments.later left in
-        let was = c.append.ensures.moments.each f since in
-        let known : BeforeOrAfter (header_bytes j.header) (g.D.Disk.seen mid.disk.now) mid.count r f =
+          let since = g.met.D.Disk.counts_now c.append.new.self.disk.now (g.D.Disk.clock mid.disk.now) f c.append.ensures.moments.later left in
+          let was = c.append.ensures.moments.each f since in
+          let known : BeforeOrAfter (header_bytes j.header) (g.D.Disk.seen mid.disk.now) mid.count r f =
           subst (λ (t : List ℕ). BeforeOrAfter (header_bytes j.header) (g.D.Disk.seen mid.disk.now) mid.count (saved_of t) f) same
-            (subst (λ (h : Header). BeforeOrAfter (header_bytes h) (g.D.Disk.seen mid.disk.now) mid.count (saved_of c.as_slice.result.now) f) inv.header was) in
-        step_image (header_bytes j.header) told (g.D.Disk.seen mid.disk.now) j.count mid.count i new r inv.tells inv.added next f known,
+          (subst (λ (h : Header). BeforeOrAfter (header_bytes h) (g.D.Disk.seen mid.disk.now) mid.count (saved_of c.as_slice.result.now) f) inv.header was) in
+          step_image (header_bytes j.header) told (g.D.Disk.seen mid.disk.now) j.count mid.count i new r inv.tells inv.added next f known,
     )
 
 -- one append more, in the terms of the whole
@@ -67,16 +65,16 @@ returns-in-Err-DiskFault-clause-moments g c =
     let r = saved_of c.text-item.result in
     let same : c.as_slice.result.now ≡ c.text-item.result = c.as_slice.ensures in
     let next : take (i + 1) new ≡ take i new ++ r ∷ [] =
-      saved_more c.args.texts.now i c.text-item.result c.loop-text-test.true ∙ ap (λ (t : List ℕ). take i new ++ saved_of t ∷ []) (sym c.text-item.is) in
+    saved_more c.args.texts.now i c.text-item.result c.loop-text-test.true ∙ ap (λ (t : List ℕ). take i new ++ saved_of t ∷ []) (sym c.text-item.is) in
     let below : i < length new = omega (arith, length-saved c.args.texts.now, c.loop-text-test.true) in
     joined g.D.Disk.clock g.D.Disk.since g.D.Disk.images g.met.D.Disk.wider j.disk.now mid.disk.now c.append.new.self.disk.now _ _ (WithFirstTold (header_bytes j.header) told j.count new)
-      inv.moments c.append.ensures.moments
-      (λ f was. was)
-      (λ f was.
-        let known : BeforeOrAfter (header_bytes j.header) (g.D.Disk.seen mid.disk.now) mid.count r f =
-          subst (λ (t : List ℕ). BeforeOrAfter (header_bytes j.header) (g.D.Disk.seen mid.disk.now) mid.count (saved_of t) f) same
-            (subst (λ (h : Header). BeforeOrAfter (header_bytes h) (g.D.Disk.seen mid.disk.now) mid.count (saved_of c.as_slice.result.now) f) inv.header was) in
-        under_way_first (header_bytes j.header) told j.count i new f below (step_image (header_bytes j.header) told (g.D.Disk.seen mid.disk.now) j.count mid.count i new r inv.tells inv.added next f known))
+    inv.moments c.append.ensures.moments
+    (λ f was. was)
+    (λ f was.
+    let known : BeforeOrAfter (header_bytes j.header) (g.D.Disk.seen mid.disk.now) mid.count r f =
+    subst (λ (t : List ℕ). BeforeOrAfter (header_bytes j.header) (g.D.Disk.seen mid.disk.now) mid.count (saved_of t) f) same
+    (subst (λ (h : Header). BeforeOrAfter (header_bytes h) (g.D.Disk.seen mid.disk.now) mid.count (saved_of c.as_slice.result.now) f) inv.header was) in
+    under_way_first (header_bytes j.header) told j.count i new f below (step_image (header_bytes j.header) told (g.D.Disk.seen mid.disk.now) j.count mid.count i new r inv.tells inv.added next f known))
 
 pub unreachable-requires : goal.unreachable-requires
 unreachable-requires g c =
@@ -100,14 +98,14 @@ loop-text-preserved g c =
     let r = saved_of c.text-item.result in
     let same : c.as_slice.result.now ≡ c.text-item.result = c.as_slice.ensures in
     let next : take (i + 1) new ≡ take i new ++ r ∷ [] =
-      saved_more c.args.texts.now i c.text-item.result c.loop-text-test.true ∙ ap (λ (t : List ℕ). take i new ++ saved_of t ∷ []) (sym c.text-item.is) in
+    saved_more c.args.texts.now i c.text-item.result c.loop-text-test.true ∙ ap (λ (t : List ℕ). take i new ++ saved_of t ∷ []) (sym c.text-item.is) in
     let long : length c.as_slice.result.now ≡ length (get_or c.args.texts.now i c.text-item.result) = ap (λ (l : List ℕ). length l) (c.as_slice.ensures ∙ c.text-item.is) in
     let ok = c.in-Ok.ensures.ok in
     let ok0 = ok.0 in
     let ok1 = ok.1 in
     let below : i < length new = omega (arith, length-saved c.args.texts.now, c.loop-text-test.true) in
     let one : Added (g.D.Disk.seen mid.disk.now) mid.count r (g.D.Disk.seen c.append.new.self.disk.now) c.append.new.self.count =
-      subst (λ (t : List ℕ). Added (g.D.Disk.seen mid.disk.now) mid.count (saved_of t) (g.D.Disk.seen c.append.new.self.disk.now) c.append.new.self.count) same c.in-Ok.ensures.added in
+    subst (λ (t : List ℕ). Added (g.D.Disk.seen mid.disk.now) mid.count (saved_of t) (g.D.Disk.seen c.append.new.self.disk.now) c.append.new.self.count) same c.in-Ok.ensures.added in
     record {
       name = c.append.ensures.name ∙ inv.name;
       header = c.append.ensures.header ∙ inv.header;
@@ -117,14 +115,14 @@ loop-text-preserved g c =
       count = omega (arith, inv.count, ok0);
       place = omega (arith, inv.place, ok1, long, size_more c.args.texts.now i c.text-item.result c.loop-text-test.true);
       moments =
-        joined g.D.Disk.clock g.D.Disk.since g.D.Disk.images g.met.D.Disk.wider j.disk.now mid.disk.now c.append.new.self.disk.now _ _ (WithFirstTold (header_bytes j.header) told j.count new)
+          joined g.D.Disk.clock g.D.Disk.since g.D.Disk.images g.met.D.Disk.wider j.disk.now mid.disk.now c.append.new.self.disk.now _ _ (WithFirstTold (header_bytes j.header) told j.count new)
           inv.moments c.append.ensures.moments
           (λ f was. was)
           (λ f was.
-            let known : BeforeOrAfter (header_bytes j.header) (g.D.Disk.seen mid.disk.now) mid.count r f =
-              subst (λ (t : List ℕ). BeforeOrAfter (header_bytes j.header) (g.D.Disk.seen mid.disk.now) mid.count (saved_of t) f) same
-                (subst (λ (h : Header). BeforeOrAfter (header_bytes h) (g.D.Disk.seen mid.disk.now) mid.count (saved_of c.as_slice.result.now) f) inv.header was) in
-            under_way_first (header_bytes j.header) told j.count i new f below (step_image (header_bytes j.header) told (g.D.Disk.seen mid.disk.now) j.count mid.count i new r inv.tells inv.added next f known));
+          let known : BeforeOrAfter (header_bytes j.header) (g.D.Disk.seen mid.disk.now) mid.count r f =
+          subst (λ (t : List ℕ). BeforeOrAfter (header_bytes j.header) (g.D.Disk.seen mid.disk.now) mid.count (saved_of t) f) same
+          (subst (λ (h : Header). BeforeOrAfter (header_bytes h) (g.D.Disk.seen mid.disk.now) mid.count (saved_of c.as_slice.result.now) f) inv.header was) in
+          under_way_first (header_bytes j.header) told j.count i new f below (step_image (header_bytes j.header) told (g.D.Disk.seen mid.disk.now) j.count mid.count i new r inv.tells inv.added next f known));
       tells = c.append.ensures.tells ∙ inv.tells;
       ranges = c.append.ensures.ranges ∙ inv.ranges;
       counts = omega (arith, inv.counts, c.append.ensures.counts);

@@ -1,4 +1,4 @@
-use Rattle.std.proofs.Common.{◌≡◌, List, ℕ, Option, length, get_or, rules, arith, refl, sym, subst}
+use Rattle.std.proofs.Common.{◌≡◌, List, ℕ, Option, length, get_or, rules, refl, sym, subst}
 use Rattle.std.specs.Prelude.{IfSome}
 use Rattle.log_seams.specs.Moments.{called, goes_on}
 use Rattle.disk_journal.specs.Place.{OpenAt}
@@ -13,7 +13,7 @@ returns-clause-opened g c =
     let size : length front ≡ 10 = search rules in
     let opened : get_or front 0 0 ≡ 1 = search rules in
     let there = record_read (g.D.Disk.seen c.len.new.self) c.args.at c.in_ok-len.len c.in_ok-count.count _ front told_len c.if-len-at.false c.in_ok-count.ensures.told refl size opened whole.0 c.length_in-length.result
-      c.length_in-length.ensures.spells c.length_in-length.ensures.fits whole.1 in
+    c.length_in-length.ensures.spells c.length_in-length.ensures.fits whole.1 in
     subst (λ (t : Option (List ℕ)). OpenAt c.args.at (get_or front 1 0) c.length_in-length.result t) c.len.ensures.seen there
 
 pub returns-clause-moments : goal.returns-clause-moments

@@ -1,7 +1,6 @@
-use Rattle.std.proofs.Common.{rules, ◌≡◌, ◌≤◌, ◌<◌, ◌+◌, ◌-◌, length, List, ℕ, get_or, take, drop, false, ap, sym, ◌∙◌, arith, ◌∷◌}
+use Rattle.std.proofs.Common.{rules, ◌≡◌, ◌≤◌, ◌+◌, ◌-◌, length, List, ℕ, get_or, take, drop, false, ap, sym, ◌∙◌, arith}
 use Rattle.std.proofs.lemmas.List.{take_rest, length-drop}
-use Rattle.log_seams.specs.Replay.{Event, logged, total, events, event_of, content, after_event, held_after, left_by}
-use Rattle.log_seams.specs.declared.mem_disk.Call.{Call}
+use Rattle.log_seams.specs.Replay.{Event, total, events, event_of, content, after_event, held_after, left_by}
 use Rattle.log_seams.specs.declared.mem_disk.Call.TheVariants.{Wrote}
 use Rattle.log_seams.proofs.Events.{total_within, total_more, events_next}
 use Rattle.log_seams.proofs.mem_disk.left_by.Goals as goal

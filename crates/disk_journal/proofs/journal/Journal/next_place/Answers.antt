@@ -1,7 +1,6 @@
-use Rattle.std.proofs.Common.{◌≡◌, ◌≤◌, ◌<◌, ◌+◌, List, ℕ, Option, rules, arith, sym, ◌∙◌, subst}
-use Rattle.log_seams.specs.Disk.{Only}
+use Rattle.std.proofs.Common.{◌≡◌, ◌+◌, List, ℕ, Option, sym, subst}
 use Rattle.record_format.specs.Header.{header_bytes}
-use Rattle.disk_journal.specs.Place.{Walked, AtEnd, OpenAt, Passed}
+use Rattle.disk_journal.specs.Place.{Walked, AtEnd, Passed}
 use Rattle.disk_journal.proofs.Steps.{walk_ends, walked_on, passed, only_less}
 use Rattle.disk_journal.proofs.journal.Journal.next_place.Goals as goal
 
@@ -35,4 +34,4 @@ returns-in-Some-clause-passed g c =
     let place = rw c.in-Some.is at c.in_ok-look.ensures.place in
     let payload : c.args.self.now.place + 10 ≡ next.payload = sym place.1 in
     subst (λ (k : ℕ). Passed told c.args.self.now.count next.kind k next.length) payload
-      (passed (header_bytes c.args.self.now.header) c.args.self.now.place c.args.self.now.count next.kind next.length told c.requires.walked opened)
+    (passed (header_bytes c.args.self.now.header) c.args.self.now.place c.args.self.now.count next.kind next.length told c.requires.walked opened)

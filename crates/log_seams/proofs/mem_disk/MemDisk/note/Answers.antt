@@ -1,4 +1,4 @@
-use Rattle.std.proofs.Common.{◌≡◌, ◌∷◌, [], ◌++◌, ◌∙◌, sym, ap, rules, List}
+use Rattle.std.proofs.Common.{◌∙◌, sym, ap, List}
 use Rattle.log_seams.specs.Replay.{events, total, content}
 use Rattle.log_seams.specs.declared.mem_disk.Call.{Call}
 use Rattle.log_seams.proofs.Events.{noted_events, noted_total, noted_content}

@@ -1,4 +1,4 @@
-use Rattle.std.proofs.Common.{◌≡◌, ◌≤◌, ◌+◌, ◌∙◌, sym, ap, subst, rules, arith, length, take, List, ℕ}
+use Rattle.std.proofs.Common.{◌≡◌, ◌≤◌, ◌∙◌, sym, subst, rules, arith, length, take}
 use Rattle.std.proofs.lemmas.Result.{IfOk-weaker}
 use Rattle.log_seams.specs.Replay.{total, IsImage, left_by}
 use Rattle.log_seams.specs.MemDisk.{bytes_of, events_until}

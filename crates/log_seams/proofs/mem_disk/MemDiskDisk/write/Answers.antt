@@ -1,4 +1,4 @@
-use Rattle.std.proofs.Common.{◌≡◌, ◌≤◌, length, ap, ◌∙◌, sym, arith, true, false, List, ℕ}
+use Rattle.std.proofs.Common.{◌≤◌, length, ap, arith, true, false, List, ℕ}
 use Rattle.log_seams.specs.Replay.{content}
 use Rattle.log_seams.specs.MemDisk.{events_of}
 use Rattle.log_seams.proofs.Events.{wrote_follows}
