@@ -4,7 +4,7 @@ PROGRAM := bin/clpa
 .PHONY: build test clean
 
 build:
-	cd crates/clpa && rt run > /dev/null 2>&1; test -x out/clpa
+	cd crates/clpa && rt run -- - show data/service.log > /dev/null
 	mkdir -p bin
 	cp crates/clpa/out/clpa $(PROGRAM)
 
