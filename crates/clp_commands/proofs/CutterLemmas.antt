@@ -13,7 +13,7 @@ use Rattle.clp_commands.specs.declared.refusal.Refusal.{Refusal}
 use Rattle.clp_commands.specs.declared.refusal.Refusal.TheVariants.{SinkFault, OutOfMemory as RefusalOutOfMemory}
 use Rattle.clp_commands.specs.Output.{GrewByFront, Gathers}
 use Rattle.clp_commands.proofs.OutputLemmas.{Gathers-nothing, Gathers-more, Gathers-moves, Gathers-front, Gathers-kept}
-use Rattle.clp_commands.proofs.ReadingLemmas.{Reads, Reads-nothing, Reads-line, Reads-last, Reads-end, Reads-first, Reads-long, Reads-more, PrintsAll-some}
+use Rattle.clp_commands.proofs.ReadingLemmas.{Reads, Reads-nothing, Reads-line, Reads-last, Reads-end, Reads-first, Reads-lines, Reads-long, Reads-more, PrintsAll-some}
 
 -- The bytes that are left, up to which lines were printed.
 pub record ReadsTo (tells : ℕ → List ℕ → List ℕ → Type 0) (left : Option (List ℕ)) (given : ℕ) (text bytes : List ℕ) : Type 0 where
@@ -89,7 +89,11 @@ pending_front pending rest (Some behind) e = (behind, cc)
 
 -- a refusal
 pub Stage-refused : {S : Type 0} (tells : ℕ → List ℕ → List ℕ → Type 0) (left : S → Option (List ℕ)) (faults : S → ℕ) (bytes : Option (List ℕ)) (c d : CutterState S) (cut : Cut) (text : List ℕ) → c.max_line ≡ most_bytes → c.max_lines ≡ most_messages → c.progress ≡ Open → Stage tells left bytes c text → RefusedBy left faults c d cut → IfSome bytes (λ b. ComesTo tells (Some (refusal_of cut)) b text)
-Stage-refused tells left faults bytes c d ReadFault text size count is_open s r = Stage-some tells left bytes c text s
+Stage-refused tells left faults bytes c d ReadFault text size count is_open (inl s) r = if_some bytes (λ b t. Reads-lines tells b t.rest c.given text t.reads) s.1
+Stage-refused tells left faults bytes c d ReadFault text size count is_open (inr s) r = absurd (differ (sym is_open ∙ s.0))
+  where
+    differ : Open ≡ Ended → ⊥
+    differ e = cc
 Stage-refused tells left faults bytes c d OutOfMemory text size count is_open s r = Stage-some tells left bytes c text s
 Stage-refused tells left faults bytes c d (LineTooLong line) text size count is_open (inr s) r = absurd (differ (sym is_open ∙ s.0))
   where
@@ -108,7 +112,7 @@ Stage-refused tells left faults bytes c d (LineTooLong line) text size count is_
         let more : most_bytes < length t.rest = omega (arith, cause.2, size, ap length front.1, length-append d.pending front.0) in
         let short : most_bytes + 1 ≤ length d.pending = omega (arith, cause.2, size) in
         let is : IsLine (take (most_bytes + 1) t.rest) = subst (λ x. IsLine (take (most_bytes + 1) x)) (sym front.1) (subst IsLine (sym (take-append-le (most_bytes + 1) d.pending front.0 short)) (subst (λ n. IsLine (take (n + 1) d.pending)) size cause.3)) in
-        (subst (λ n. IsLong b n) (sym cause.0) (Reads-long tells b t.rest c.given text t.reads more is), subst (λ n. PrintsFirst tells b n text) (omega (arith, cause.0)) (Reads-first tells b t.rest c.given text t.reads))
+        (omega (arith, cause.0, cause.1, count), subst (λ n. IsLong b n) (sym cause.0) (Reads-long tells b t.rest c.given text t.reads more is), subst (λ n. PrintsFirst tells b n text) (omega (arith, cause.0)) (Reads-first tells b t.rest c.given text t.reads))
 Stage-refused tells left faults bytes c d TooManyLines text size count is_open (inl s) r = if_some bytes many s.1
   where
     many : (b : List ℕ) → ReadsTo tells (left_of left c) c.given text b → ComesTo tells (Some (refusal_of TooManyLines)) b text

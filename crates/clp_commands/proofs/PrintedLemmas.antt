@@ -4,9 +4,9 @@ use Rattle.std.specs.Prelude.{IfSome}
 use Rattle.clp_commands.specs.Output.{Grew, GrewByFront}
 use Rattle.clp_commands.specs.Printing.{ComesTo, Printed, PrintsSome, Reaches, Took, is_whole, most_messages}
 use Rattle.clp_commands.specs.declared.refusal.Refusal.{Refusal}
-use Rattle.clp_commands.specs.declared.refusal.Refusal.TheVariants.{Usage, BadPattern, OpenFault, ReadFault, LineTooLong, TooManyLines, SinkFault, OutOfMemory}
+use Rattle.clp_commands.specs.declared.refusal.Refusal.TheVariants.{Usage, BadPattern, OpenFault, ReadFault, LineTooLong, TooManyLines, DiskFault, SinkFault, NotEmpty, OutOfMemory}
 use Rattle.clp_commands.proofs.OutputLemmas.{Grew-nothing, Gathers-all, Gathers-front}
-use Rattle.clp_commands.proofs.ReadingLemmas.{PrintsAll-some, Reads-first, Reads-nothing}
+use Rattle.clp_commands.proofs.ReadingLemmas.{PrintsAll-some, PrintsLines-some, Reads-first, Reads-nothing}
 
 -- nothing is the text of no messages
 pub PrintsSome-nothing : (tells : ℕ → List ℕ → List ℕ → Type 0) (bytes : List ℕ) → PrintsSome tells bytes []
@@ -16,13 +16,15 @@ PrintsSome-nothing tells bytes = (0, Reads-first tells bytes bytes 0 [] (Reads-n
 pub ComesTo-some : (tells : ℕ → List ℕ → List ℕ → Type 0) (answer : Option Refusal) (bytes text : List ℕ) → ComesTo tells answer bytes text → PrintsSome tells bytes text
 ComesTo-some tells None bytes text c = PrintsAll-some tells bytes text c
 ComesTo-some tells (Some OpenFault) bytes text c = subst (λ t. PrintsSome tells bytes t) (sym c) (PrintsSome-nothing tells bytes)
-ComesTo-some tells (Some ReadFault) bytes text c = c
-ComesTo-some tells (Some (LineTooLong line)) bytes text c = (line - 1, c.1)
+ComesTo-some tells (Some ReadFault) bytes text c = PrintsLines-some tells bytes text c
+ComesTo-some tells (Some (LineTooLong line)) bytes text c = (line - 1, c.2)
 ComesTo-some tells (Some TooManyLines) bytes text c = (most_messages, c.1)
 ComesTo-some tells (Some SinkFault) bytes text c = c
 ComesTo-some tells (Some OutOfMemory) bytes text c = c
 ComesTo-some tells (Some Usage) bytes text c = absurd c
 ComesTo-some tells (Some (BadPattern at)) bytes text c = absurd c
+ComesTo-some tells (Some DiskFault) bytes text c = absurd c
+ComesTo-some tells (Some (NotEmpty len)) bytes text c = absurd c
 
 -- what is said of told bytes
 some_of : (tells : ℕ → List ℕ → List ℕ → Type 0) (answer : Option Refusal) (bytes : Option (List ℕ)) (text : List ℕ) → IfSome bytes (λ b. ComesTo tells answer b text) → IfSome bytes (λ b. PrintsSome tells b text)

@@ -1,5 +1,10 @@
--- Lists of two and of three words.
-use Rattle.std.proofs.Common.{◌≡◌, sym, ap₂, ◌<◌, ◌≤◌, List, [], ◌∷◌, length, get_or, arith}
+-- Lists of words, by their first ones.
+use Rattle.std.proofs.Common.{◌≡◌, sym, ap, ap₂, subst, ◌∙◌, ◌<◌, ◌≤◌, ◌-◌, ℕ, List, [], ◌∷◌, length, map, take, drop, get_or, codes, arith}
+use Rattle.std.specs.Prelude.{Option, Some, None, IfSome, IfNone}
+use Rattle.std.proofs.lemmas.List.{take_all}
+use Rattle.record_format.specs.declared.header.Header.{Header}
+use Rattle.archive_limits.specs.Limits.{AsksLimits}
+use Rattle.clp_commands.specs.Words.{AsksCreate}
 
 pub two_words : {A : Type 0} (xs : List A) (a b : A) → 2 ≤ length xs → length xs < 3 → a ≡ get_or xs 0 a → b ≡ get_or xs 1 b → xs ≡ a ∷ b ∷ []
 two_words [] a b few many p q = absurd (omega arith)
@@ -13,3 +18,39 @@ three_words (x ∷ []) a b c few many p q r = absurd (omega arith)
 three_words (x ∷ y ∷ []) a b c few many p q r = absurd (omega arith)
 three_words (x ∷ y ∷ z ∷ []) a b c few many p q r = cc
 three_words (x ∷ y ∷ z ∷ w ∷ more) a b c few many p q r = absurd (omega arith)
+
+-- the words behind the first
+abbrev pub behind_first : {A : Type 0} → List A → List A
+behind_first words = take (length words - 1) (drop 1 words)
+
+behind_first-is : {A : Type 0} (word : A) (words : List A) → behind_first (word ∷ words) ≡ words
+behind_first-is word words = take_all (length (word ∷ words) - 1) words (omega arith)
+
+-- words that begin with `create`, whose options ask for a header
+pub AsksCreate-from : {A : Type 0} (f : A → List ℕ) (words : List A) (command : A) (r : Option Header) → 1 ≤ length words → command ≡ get_or words 0 command → f command ≡ codes "create" → IfSome r (λ h. AsksLimits (map f (behind_first words)) h) → IfSome r (AsksCreate (map f words))
+AsksCreate-from f [] command r some first is asks = absurd (omega arith)
+AsksCreate-from f (word ∷ words) command None some first is asks = tt
+AsksCreate-from f (word ∷ words) command (Some h) some first is asks = record {
+  options = map f words;
+  are = ap (λ w. w ∷ map f words) (ap f (sym first) ∙ is);
+  limits = subst (λ options. AsksLimits (map f options) h) (behind_first-is word words) asks;
+}
+
+-- they ask for what their options ask for
+pub AsksCreate-only : {A : Type 0} (f : A → List ℕ) (words : List A) (r : Option Header) → ((h : Header) → AsksLimits (map f (behind_first words)) h → r ≡ Some h) → (h : Header) → AsksCreate (map f words) h → r ≡ Some h
+AsksCreate-only f [] r only h asks = absurd (none asks.are)
+  where
+    none : [] ≡ codes "create" ∷ asks.options → ⊥
+    none e = cc
+AsksCreate-only f (word ∷ words) r only h asks = only h (subst (λ options. AsksLimits options h) (sym (others asks.are) ∙ ap (map f) (sym (behind_first-is word words))) asks.limits)
+  where
+    others : f word ∷ map f words ≡ codes "create" ∷ asks.options → map f words ≡ asks.options
+    others e = cc
+
+-- and where no header is read, they ask for none
+pub AsksCreate-none : (words : List (List ℕ)) (r : Option Header) → ((h : Header) → AsksCreate words h → r ≡ Some h) → IfNone r ((h : Header) → ¬ AsksCreate words h)
+AsksCreate-none words None only = λ h asks. differ h (only h asks)
+  where
+    differ : (h : Header) → None ≡ Some h → ⊥
+    differ h e = cc
+AsksCreate-none words (Some header) only = tt

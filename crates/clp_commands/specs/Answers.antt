@@ -2,13 +2,15 @@
 use Rattle.std.specs.Prelude.{◌≡◌, ◌⊎◌, ℕ, List, [], Option, Some, None}
 use Rattle.log_seams.specs.Outside.{Rose}
 use Rattle.wild_match.specs.Reading.{search_pattern, IsLoneBackslash}
+use Rattle.record_format.specs.declared.header.Header.{Header}
+use Rattle.clp_commands.specs.Created.{CreateLeaves, DiskAround}
 use Rattle.clp_commands.specs.Printing.{Printed}
 use Rattle.clp_commands.specs.Refusal.{Says, status_of, line_of}
 use Rattle.clp_commands.specs.Scanned.{Finds}
 use Rattle.clp_commands.specs.Shown.{Shows}
-use Rattle.clp_commands.specs.Words.{AsksShow, AsksScan, IsUsage}
+use Rattle.clp_commands.specs.Words.{AsksShow, AsksScan, AsksCreate, IsUsage}
 use Rattle.clp_commands.specs.declared.refusal.Refusal.{Refusal}
-use Rattle.clp_commands.specs.declared.refusal.Refusal.TheVariants.{Usage, BadPattern, OpenFault, ReadFault, LineTooLong, TooManyLines, SinkFault, OutOfMemory}
+use Rattle.clp_commands.specs.declared.refusal.Refusal.TheVariants.{Usage, BadPattern, OpenFault, ReadFault, LineTooLong, TooManyLines, DiskFault, SinkFault, NotEmpty, OutOfMemory}
 
 -- What the outside tells around a call: the bytes of each log, what the two outputs took before it and have taken after it, and the counts of faults before and after it.
 pub record Around : Type 0 where
@@ -65,6 +67,8 @@ HasCause seen name (Some SinkFault) = RoseIn seen.out_faults
 HasCause seen name (Some OutOfMemory) = Unit {0}
 HasCause seen name (Some Usage) = ⊥
 HasCause seen name (Some (BadPattern at)) = ⊥
+HasCause seen name (Some DiskFault) = ⊥
+HasCause seen name (Some (NotEmpty len)) = ⊥
 
 -- The log of this name was printed, or the printing was refused with a cause.
 pub record AnswersLog (tells : ℕ → List ℕ → List ℕ → Type 0) (seen : Around) (name : List ℕ) (status : ℕ) : Type 0 where
@@ -84,12 +88,21 @@ pub record Refuses (seen : Around) (status : ℕ) (refusal : Refusal) : Type 0 w
 abbrev pub RefusesPattern : Around → ℕ → ℕ → Type 0
 RefusesPattern seen status at = Refuses seen status (BadPattern at) ⊎ Refuses seen status OutOfMemory
 
--- What the program answers: words that are no command, a pattern that ends in a lone backslash, and the two commands.
-pub record Answers (words : List (List ℕ)) (seen : Around) (status : ℕ) : Type 0 where
+-- An archive was made, or the making was refused with a cause. Nothing was printed. `before` and `after` are what a crash leaves of the disk.
+pub record AnswersCreate (header : Header) (seen : Around) (disk : DiskAround) (before after : List ℕ → Type 0) (status : ℕ) : Type 0 where
+  pub answer : Option Refusal
+  pub status_is : status ≡ exit_status answer
+  pub leaves : CreateLeaves answer header disk before after
+  pub nothing : TookNothing seen.out
+  pub said : SaysIn seen (error_line [] answer)
+
+-- What the program answers: words that are no command, a pattern that ends in a lone backslash, and the commands.
+pub record Answers (words : List (List ℕ)) (seen : Around) (disk : DiskAround) (before after : List ℕ → Type 0) (status : ℕ) : Type 0 where
   pub usage : IsUsage words → Refuses seen status Usage
   pub show : (file : List ℕ) → AsksShow words file → AnswersLog (λ _ message text. Shows message text) seen file status
   pub lone_backslash : (pattern file : List ℕ) (at : ℕ) → AsksScan words pattern file → IsLoneBackslash pattern at → RefusesPattern seen status at
   pub scan : (pattern file : List ℕ) → AsksScan words pattern file → ((at : ℕ) → ¬ IsLoneBackslash pattern at) → AnswersLog (Finds file (search_pattern pattern)) seen file status
+  pub create : (header : Header) → AsksCreate words header → AnswersCreate header seen disk before after status
 
 -- A pattern is refused with the place of its lone backslash, or for want of memory.
 abbrev pub IsPatternRefusal : List ℕ → Refusal → Type 0

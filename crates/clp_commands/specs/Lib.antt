@@ -1,4 +1,5 @@
 pub mod Answers
+pub mod Created
 pub mod Output
 pub mod Printing
 pub mod Refusal

@@ -1,13 +1,13 @@
 -- What is printed of the messages of a log.
 use Rattle.std.specs.Prelude.{◌≡◌, ◌<◌, ◌≤◌, ◌+◌, ◌-◌, ℕ, List, [], ◌∷◌, ◌++◌, Bool, true, false, Option, Some, None, Result, Ok, Err, IfSome, All, length, take, slice_get}
-use Rattle.log_messages.specs.Messages.{Messages}
+use Rattle.log_messages.specs.Messages.{IsLine, Messages, joined}
 use Rattle.clp_commands.specs.Output.{Grew, GrewByFront, Moves, Gathers}
 use Rattle.line_cut.specs.Cutting.{CutterState}
 use Rattle.line_cut.specs.declared.cut.Cut.{Cut}
 use Rattle.line_cut.specs.declared.cut.Cut.TheVariants.{ReadFault as CutReadFault, LineTooLong as CutLineTooLong, TooManyLines as CutTooManyLines, OutOfMemory as CutOutOfMemory}
 use Rattle.line_cut.specs.declared.cut.Progress.TheVariants.{Open}
 use Rattle.clp_commands.specs.declared.refusal.Refusal.{Refusal}
-use Rattle.clp_commands.specs.declared.refusal.Refusal.TheVariants.{Usage, BadPattern, OpenFault, ReadFault, LineTooLong, TooManyLines, SinkFault, OutOfMemory}
+use Rattle.clp_commands.specs.declared.refusal.Refusal.TheVariants.{Usage, BadPattern, OpenFault, ReadFault, LineTooLong, TooManyLines, DiskFault, SinkFault, NotEmpty, OutOfMemory}
 
 -- The texts of the messages one after the other, where the first message has this number and `tells` says which text a message of a number has.
 abbrev pub Prints : (ℕ → List ℕ → List ℕ → Type 0) → ℕ → List (List ℕ) → List ℕ → Type 0
@@ -66,17 +66,29 @@ pub record IsLong (bytes : List ℕ) (number : ℕ) : Type 0 where
 abbrev pub PrintsSome : (ℕ → List ℕ → List ℕ → Type 0) → List ℕ → List ℕ → Type 0
 PrintsSome tells bytes text = (count : ℕ) × PrintsFirst tells bytes count text
 
+-- the text is that of some first lines of the bytes, each of which has its newline
+pub record PrintsLines (tells : ℕ → List ℕ → List ℕ → Type 0) (bytes text : List ℕ) : Type 0 where
+  pub lines : List (List ℕ)
+  pub rest : List ℕ
+  pub are : All IsLine lines
+  pub begins : bytes ≡ joined lines ++ rest
+  pub few : length lines ≤ most_messages
+  pub short : AreShort lines
+  pub prints : Prints tells 1 lines text
+
 -- The text that the printing of a log's bytes comes to when it ends with this answer, where no refusal is `None`.
 abbrev pub ComesTo : (ℕ → List ℕ → List ℕ → Type 0) → Option Refusal → List ℕ → List ℕ → Type 0
 ComesTo tells None bytes text = PrintsAll tells bytes text
 ComesTo tells (Some OpenFault) bytes text = text ≡ []
-ComesTo tells (Some ReadFault) bytes text = PrintsSome tells bytes text
-ComesTo tells (Some (LineTooLong line)) bytes text = IsLong bytes line × PrintsFirst tells bytes (line - 1) text
+ComesTo tells (Some ReadFault) bytes text = PrintsLines tells bytes text
+ComesTo tells (Some (LineTooLong line)) bytes text = (line ≤ most_messages) × IsLong bytes line × PrintsFirst tells bytes (line - 1) text
 ComesTo tells (Some TooManyLines) bytes text = HasMore bytes most_messages × PrintsFirst tells bytes most_messages text
 ComesTo tells (Some SinkFault) bytes text = PrintsSome tells bytes text
 ComesTo tells (Some OutOfMemory) bytes text = PrintsSome tells bytes text
 ComesTo tells (Some Usage) bytes text = ⊥
 ComesTo tells (Some (BadPattern at)) bytes text = ⊥
+ComesTo tells (Some DiskFault) bytes text = ⊥
+ComesTo tells (Some (NotEmpty len)) bytes text = ⊥
 
 -- whether all of the text goes out that the printing comes to, or only a front of it
 abbrev pub is_whole : Option Refusal → Bool
@@ -144,6 +156,8 @@ IsReadingRefusal OutOfMemory = Unit {0}
 IsReadingRefusal OpenFault = ⊥
 IsReadingRefusal Usage = ⊥
 IsReadingRefusal (BadPattern at) = ⊥
+IsReadingRefusal DiskFault = ⊥
+IsReadingRefusal (NotEmpty len) = ⊥
 
 -- what can end the printing of a log
 abbrev pub IsLogRefusal : Refusal → Type 0

@@ -4,7 +4,7 @@ use Rattle.std.specs.Fmt.{decimal}
 use Rattle.log_seams.specs.Outside.{Rose}
 use Rattle.clp_commands.specs.Output.{Grew}
 use Rattle.clp_commands.specs.declared.refusal.Refusal.{Refusal}
-use Rattle.clp_commands.specs.declared.refusal.Refusal.TheVariants.{Usage, BadPattern, OpenFault, ReadFault, LineTooLong, TooManyLines, SinkFault, OutOfMemory}
+use Rattle.clp_commands.specs.declared.refusal.Refusal.TheVariants.{Usage, BadPattern, OpenFault, ReadFault, LineTooLong, TooManyLines, DiskFault, SinkFault, NotEmpty, OutOfMemory}
 
 -- the status that the program ends with
 abbrev pub status_of : Refusal → ℕ
@@ -14,7 +14,9 @@ status_of OpenFault = 4
 status_of ReadFault = 4
 status_of (LineTooLong line) = 4
 status_of TooManyLines = 4
+status_of DiskFault = 5
 status_of SinkFault = 7
+status_of (NotEmpty len) = 8
 status_of OutOfMemory = 9
 
 -- a text with a newline
@@ -29,7 +31,9 @@ line_of name OpenFault = codes "clpa: " ++ (name ++ line (codes ": cannot open")
 line_of name ReadFault = codes "clpa: " ++ (name ++ line (codes ": read failed"))
 line_of name (LineTooLong n) = codes "clpa: " ++ (name ++ (codes ": line " ++ (decimal n ++ line (codes " is too long"))))
 line_of name TooManyLines = codes "clpa: " ++ (name ++ line (codes ": too many lines"))
+line_of name DiskFault = line (codes "clpa: archive: disk failed")
 line_of name SinkFault = line (codes "clpa: output failed")
+line_of name (NotEmpty len) = codes "clpa: archive: not empty, " ++ (decimal len ++ line (codes " bytes"))
 line_of name OutOfMemory = line (codes "clpa: out of memory")
 
 -- The error output took this text and no more, unless its count of faults rose.

@@ -1,7 +1,10 @@
 -- What the words of the command line ask for. The first word is the command.
 use Rattle.std.specs.Prelude.{◌≡◌, ◌≢◌, ℕ, List, [], ◌∷◌, codes}
 use Rattle.clp_commands.specs.declared.words.Command.{Command}
-use Rattle.clp_commands.specs.declared.words.Command.TheVariants.{Show, Scan}
+use Rattle.clp_commands.specs.declared.words.Command.TheVariants.{Show, Scan, Create}
+use Rattle.archive_limits.specs.Limits.{AsksLimits}
+use Rattle.record_format.specs.Header.{IsHeader}
+use Rattle.record_format.specs.declared.header.Header.{Header}
 
 -- a word that is no option: it does not begin with `-`
 abbrev pub IsPlain : List ℕ → Type 0
@@ -19,12 +22,26 @@ pub record AsksScan (words : List (List ℕ)) (pattern file : List ℕ) : Type 0
   pub plain : IsPlain pattern
   pub plain_file : IsPlain file
 
+-- `create [--types N] [--words N] [--bytes N]`, where the options ask for this header
+pub record AsksCreate (words : List (List ℕ)) (header : Header) : Type 0 where
+  pub options : List (List ℕ)
+  pub are : words ≡ codes "create" ∷ options
+  pub limits : AsksLimits options header
+
 -- the words ask for this command
 abbrev pub Asks : List (List ℕ) → Command → Type 0
 Asks words (Show file) = AsksShow words file.now
 Asks words (Scan pattern file) = AsksScan words pattern.now file.now
+Asks words (Create header) = AsksCreate words header
+
+-- a header that a command has keeps to the ranges of headers
+abbrev pub HasHeader : Command → Type 0
+HasHeader (Show file) = Unit {0}
+HasHeader (Scan pattern file) = Unit {0}
+HasHeader (Create header) = IsHeader header
 
 -- the words ask for no command
 pub record IsUsage (words : List (List ℕ)) : Type 0 where
   pub no_show : (file : List ℕ) → ¬ AsksShow words file
   pub no_scan : (pattern file : List ℕ) → ¬ AsksScan words pattern file
+  pub no_create : (header : Header) → ¬ AsksCreate words header

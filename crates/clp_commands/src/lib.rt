@@ -4,6 +4,9 @@
 //! refusal its cause.
 #![tactic(auto)]
 
+mod create;
+#[cfg(test)]
+mod create_tests;
 mod log;
 mod output;
 mod refusal;

@@ -28,9 +28,15 @@ pub enum Refusal {
     /// A line begins after message 4,294,967,294.
     #[error("too many lines")]
     TooManyLines,
+    /// A call on the archive's disk failed: its count of faults rose.
+    #[error("disk failed")]
+    DiskFault,
     /// The output cannot be written: its count of faults rose.
     #[error("output failed")]
     SinkFault,
+    /// An archive is to be made, and its disk already has `len` bytes.
+    #[error("not empty, {len} bytes")]
+    NotEmpty { len: u64 },
     /// There was no memory.
     #[error("out of memory")]
     OutOfMemory,
@@ -48,7 +54,9 @@ impl Refusal {
             | Refusal::ReadFault
             | Refusal::LineTooLong { .. }
             | Refusal::TooManyLines => 4,
+            Refusal::DiskFault => 5,
             Refusal::SinkFault => 7,
+            Refusal::NotEmpty { .. } => 8,
             Refusal::OutOfMemory => 9,
         }
     }
@@ -89,7 +97,12 @@ pub(crate) fn report<K: Sink>(err: &mut K, name: &str, refusal: Refusal)
             say(err, &[b"clpa: ", name, b": line ", line, b" is too long\n"])
         }
         Refusal::TooManyLines => say(err, &[b"clpa: ", name, b": too many lines\n"]),
+        Refusal::DiskFault => say(err, &[b"clpa: archive: disk failed\n"]),
         Refusal::SinkFault => say(err, &[b"clpa: output failed\n"]),
+        Refusal::NotEmpty { len } => {
+            let len = number.format(len).as_bytes();
+            say(err, &[b"clpa: archive: not empty, ", len, b" bytes\n"])
+        }
         Refusal::OutOfMemory => say(err, &[b"clpa: out of memory\n"]),
     }
 }

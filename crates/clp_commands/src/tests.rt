@@ -1,14 +1,39 @@
+//! The commands over logs, a disk and outputs in memory.
 use crate::run;
-use log_seams::{MemFile, MemShelf, MemSink, Text};
+use log_seams::{MemDisk, MemFile, MemShelf, MemSink, Text};
 use std::alloc::{AllocError, Global};
 use std::test::Fail;
 
 /// What a call answered and wrote.
 #[derive(Drop)]
-struct Outcome {
-    status: u8,
-    out: Vec<u8>,
-    err: Vec<u8>,
+pub(crate) struct Outcome {
+    pub(crate) status: u8,
+    pub(crate) out: Vec<u8>,
+    pub(crate) err: Vec<u8>,
+}
+
+/// How many bytes the two outputs take.
+#[derive(Clone, Copy)]
+pub(crate) struct Rooms {
+    pub(crate) out: usize,
+    pub(crate) err: usize,
+}
+
+/// Outputs that take all that the tests print.
+pub(crate) const AMPLE: Rooms = Rooms {
+    out: 1 << 22,
+    err: 4096,
+};
+
+/// A disk with these bytes, whose calls of these numbers fail.
+pub(crate) fn disk(alloc: Global, bytes: &[u8], fails: &[u64]) -> Result<MemDisk, AllocError> {
+    MemDisk::new(
+        alloc,
+        Text::new(bytes.to_vec(alloc)?),
+        400,
+        40,
+        fails.to_vec(alloc)?,
+    )
 }
 
 /// A shelf with one log, whose reads fail at the calls of these numbers.
@@ -22,20 +47,31 @@ fn shelf(alloc: Global, name: &str, bytes: &[u8], fails: &[u64]) -> Result<MemSh
     Ok(MemShelf::new(alloc, files, Vec::new(alloc)))
 }
 
-/// Calls `run` with these words, over the shelf and an output with so much room.
-fn call(
+/// Calls `run` with these words, over the shelf, the archive's disk and outputs with so much room.
+pub(crate) fn call(
     alloc: Global,
     words: &[&str],
     shelf: &mut MemShelf,
-    room: usize,
+    archive: &mut MemDisk,
+    rooms: Rooms,
 ) -> Result<Outcome, AllocError> {
     let mut list = Vec::new(alloc);
     for word in words {
         list.push(String::from_str(alloc, word)?)?;
     }
-    let mut out = MemSink::new(alloc, room, Vec::new(alloc))?;
-    let mut err = MemSink::new(alloc, 4096, Vec::new(alloc))?;
-    let status = run(alloc, list.as_slice(), shelf, &mut out, &mut err);
+    let mut second = disk(alloc, &[], &[])?;
+    let mut out = MemSink::new(alloc, rooms.out, Vec::new(alloc))?;
+    let mut err = MemSink::new(alloc, rooms.err, Vec::new(alloc))?;
+    let status = run(
+        &(),
+        alloc,
+        list.as_slice(),
+        shelf,
+        archive,
+        &mut second,
+        &mut out,
+        &mut err,
+    );
     Ok(Outcome {
         status,
         out: out.bytes().to_vec(alloc)?,
@@ -45,7 +81,8 @@ fn call(
 
 /// Calls `run` with these words, over a shelf with one log.
 fn over(alloc: Global, words: &[&str], name: &str, bytes: &[u8]) -> Result<Outcome, AllocError> {
-    call(alloc, words, &mut shelf(alloc, name, bytes, &[])?, 1 << 22)
+    let mut logs = shelf(alloc, name, bytes, &[])?;
+    call(alloc, words, &mut logs, &mut disk(alloc, &[], &[])?, AMPLE)
 }
 
 #[test]
@@ -118,7 +155,7 @@ fn scan_prints_what_matches(rt: HostRuntime) -> Result<(), Fail> {
 fn refusals_have_their_lines(rt: HostRuntime) -> Result<(), Fail> {
     let alloc = rt.alloc();
     let usage: &[u8] = b"clpa: usage: clpa ARCHIVE COMMAND [OPTION]... [WORD]...\n";
-    let rows: [(&[&str], u8, &[u8]); 10] = [
+    let rows: [(&[&str], u8, &[u8]); 13] = [
         (&[], 2, usage),
         (&["show"], 2, usage),
         (&["show", "a.log", "b.log"], 2, usage),
@@ -126,6 +163,9 @@ fn refusals_have_their_lines(rt: HostRuntime) -> Result<(), Fail> {
         (&["Show", "a.log"], 2, usage),
         (&["scan", "a.log"], 2, usage),
         (&["scan", "-x", "a.log"], 2, usage),
+        (&["create", "a.log"], 2, usage),
+        (&["create", "--types", "0"], 2, usage),
+        (&["create", "--bytes=33", "--bytes=33"], 2, usage),
         (&["show", "gone.log"], 4, b"clpa: gone.log: cannot open\n"),
         (
             &["scan", "ab\\", "a.log"],
@@ -150,24 +190,69 @@ fn refusals_have_their_lines(rt: HostRuntime) -> Result<(), Fail> {
 #[test]
 fn a_read_that_fails_ends_the_log(rt: HostRuntime) -> Result<(), Fail> {
     let alloc = rt.alloc();
+    let mut archive = disk(alloc, &[], &[])?;
     for (fails, want) in [
         ([0u64], b"".as_slice()),
         ([1], b"a\n".as_slice()),
         ([2], b"a\nb\n".as_slice()),
     ] {
         let mut logs = shelf(alloc, "n.log", b"a\nb", &fails)?;
-        let outcome = call(alloc, &["show", "n.log"], &mut logs, 100)?;
+        let outcome = call(alloc, &["show", "n.log"], &mut logs, &mut archive, AMPLE)?;
         let failed = want.len() < 4;
         assert_eq!(rt; outcome.status, if failed { 4 } else { 0 });
         assert_eq!(rt; outcome.out.as_slice(), want);
-        assert_eq!(rt; outcome.err.is_empty(), !failed);
+        let line: &[u8] = if failed {
+            b"clpa: n.log: read failed\n"
+        } else {
+            b""
+        };
+        assert_eq!(rt; outcome.err.as_slice(), line);
     }
-    let mut logs = shelf(alloc, "n.log", b"a", &[0])?;
-    let outcome = call(alloc, &["scan", "a", "n.log"], &mut logs, 100)?;
+    Ok(())
+}
+
+#[test]
+fn an_opening_that_fails_is_told(rt: HostRuntime) -> Result<(), Fail> {
+    let alloc = rt.alloc();
+    let mut files = Vec::new(alloc);
+    files.push(MemFile {
+        name: String::from_str(alloc, "n.log")?,
+        bytes: Text::new(b"a\n".to_vec(alloc)?),
+        read_fails: Vec::new(alloc),
+    })?;
+    let mut logs = MemShelf::new(alloc, files, vec![in alloc; 0; 1]?);
+    let mut archive = disk(alloc, &[], &[])?;
+    let words = ["scan", "a", "n.log"];
+    let outcome = call(alloc, &words, &mut logs, &mut archive, AMPLE)?;
+    assert_eq!(rt; outcome.status, 4);
     assert_eq!(rt;
         outcome.err.as_slice(),
-        b"clpa: n.log: read failed\n".as_slice()
+        b"clpa: n.log: cannot open\n".as_slice()
     );
+    let outcome = call(alloc, &words, &mut logs, &mut archive, AMPLE)?;
+    assert_eq!(rt; outcome.status, 0);
+    assert_eq!(rt; outcome.out.as_slice(), b"n.log:1:a\n".as_slice());
+    Ok(())
+}
+
+#[test]
+fn a_failing_error_output_changes_nothing_else(rt: HostRuntime) -> Result<(), Fail> {
+    let alloc = rt.alloc();
+    let rooms = Rooms { out: 99, err: 0 };
+    let rows: [(&[&str], u8, &[u8]); 4] = [
+        (&["show"], 2, b""),
+        (&["scan", "\\", "n.log"], 3, b""),
+        (&["show", "gone.log"], 4, b""),
+        (&["show", "n.log"], 0, b"{w:7x}\n"),
+    ];
+    for (words, status, want) in rows {
+        let mut logs = shelf(alloc, "n.log", b"7x\n", &[])?;
+        let mut archive = disk(alloc, &[], &[])?;
+        let outcome = call(alloc, words, &mut logs, &mut archive, rooms)?;
+        assert_eq!(rt; outcome.status, status);
+        assert_eq!(rt; outcome.out.as_slice(), want);
+        assert!(rt; outcome.err.is_empty());
+    }
     Ok(())
 }
 
@@ -175,12 +260,27 @@ fn a_read_that_fails_ends_the_log(rt: HostRuntime) -> Result<(), Fail> {
 fn an_output_that_fails_has_a_front(rt: HostRuntime) -> Result<(), Fail> {
     let alloc = rt.alloc();
     let log: &[u8] = b"12534\n12 34\na12*34\n";
-    let whole: &[u8] = b"a.log:1:12534\na.log:2:12 34\na.log:3:a12*34\n";
-    for room in [0, 3, 20] {
+    let rows: [(&[&str], usize, &[u8]); 4] = [
+        (
+            &["scan", "12*34", "a.log"],
+            0,
+            b"a.log:1:12534\na.log:2:12 34\n",
+        ),
+        (
+            &["scan", "12*34", "a.log"],
+            20,
+            b"a.log:1:12534\na.log:2:12 34\n",
+        ),
+        (&["show", "a.log"], 0, b"{i:12534="),
+        (&["show", "a.log"], 3, b"{i:12534="),
+    ];
+    for (words, room, front) in rows {
         let mut logs = shelf(alloc, "a.log", log, &[])?;
-        let outcome = call(alloc, &["scan", "12*34", "a.log"], &mut logs, room)?;
+        let mut archive = disk(alloc, &[], &[])?;
+        let rooms = Rooms { out: room, err: 99 };
+        let outcome = call(alloc, words, &mut logs, &mut archive, rooms)?;
         assert_eq!(rt; outcome.status, 7);
-        assert!(rt; whole.starts_with(outcome.out.as_slice()));
+        assert!(rt; front.starts_with(outcome.out.as_slice()));
         assert_eq!(rt; outcome.err.as_slice(), b"clpa: output failed\n".as_slice());
     }
     Ok(())
@@ -195,7 +295,8 @@ fn a_line_has_a_limit(rt: HostRuntime) -> Result<(), Fail> {
     }
     let outcome = over(alloc, &["show", "n.log"], "n.log", log.as_slice())?;
     assert_eq!(rt; outcome.status, 0);
-    assert_eq!(rt; outcome.out.len(), 2 + 1_048_576 + 1);
+    assert!(rt; outcome.out.starts_with(log.as_slice()));
+    assert_eq!(rt; outcome.out.len(), log.len() + 1);
     log.push(b'x')?;
     let outcome = over(alloc, &["show", "n.log"], "n.log", log.as_slice())?;
     assert_eq!(rt; outcome.status, 4);

@@ -1,37 +1,54 @@
 //! The top call.
 ghost use Rattle.std.specs.Prelude.{◌≡◌, ℕ, List, map, string_bytes, IfOk, IfErr};
+ghost use Rattle.record_format.specs.declared.header.Header.{Header};
 ghost use Rattle.wild_match.specs.Reading.{IsLoneBackslash, search_pattern};
 ghost use Rattle.clp_commands.specs.Answers.{Answers, AnswersLog, IsPatternRefusal, RefusesPattern, around, error_line, exit_status};
+ghost use Rattle.clp_commands.specs.Created.{disk_around};
 ghost use Rattle.clp_commands.specs.Printing.{answer_of};
 ghost use Rattle.clp_commands.specs.Refusal.{Says};
 ghost use Rattle.clp_commands.specs.Scanned.{Finds};
+ghost use Rattle.clp_commands.specs.Words.{AsksCreate};
 
+use crate::create::create_archive;
 use crate::log::print_log;
 use crate::refusal::{Refusal, report};
 use crate::scan::Scan;
 use crate::show::Show;
 use crate::tell::Tell;
 use crate::words::{Command, read_words};
-use log_seams::{Shelf, Sink};
+use log_seams::{Disk, Shelf, Sink};
 use std::alloc::Global;
 use wild_match::{Matcher, PatternRefusal, read_pattern};
 
 /// Does what the words ask for, and answers the status that the program ends with.
 ///
 /// `show FILE` prints each message of a log with its variables in braces. `scan PATTERN FILE` prints
-/// those that the pattern matches, each as `FILE:NUMBER:TEXT`. A refusal has its line on `err`.
-pub fn run<H: Shelf, K: Sink>(
+/// those that the pattern matches, each as `FILE:NUMBER:TEXT`. `create` with its options makes an
+/// archive with no file in it. A refusal has its line on `err`.
+///
+/// `disk` is the archive's. `rt` starts the threads of the commands that work with several, and
+/// `second` is the disk beside the archive's for those that write a new one; no command here needs
+/// either yet.
+pub fn run<R, H: Shelf, D: Disk + Send, K: Sink>(
+    rt: &R,
     alloc: Global,
     words: &[String],
     shelf: &mut H,
+    disk: &mut D,
+    second: &mut D,
     out: &mut K,
     err: &mut K,
 ) -> u8
+where
+    H::Src: Send,
     ensures answers { Answers (map string_bytes words.now)
         (around H.content H.open_faults H.read_faults K.written K.faults
         shelf.old shelf.new out.old out.new err.old err.new)
+        (disk_around D.seen D.faults disk.old disk.new) (D.images disk.old) (D.images disk.new)
         result }
     ensures logs { (name : List ℕ) → H.content shelf.new name ≡ H.content shelf.old name }
+    ensures untouched { ((header : Header) → ¬ AsksCreate (map string_bytes words.now) header) → disk.new ≡ disk.old }
+    ensures second { second.new ≡ second.old }
 {
     let Some(command) = read_words(words) else {
         report(err, "", Refusal::Usage);
@@ -40,6 +57,10 @@ pub fn run<H: Shelf, K: Sink>(
     match command {
         Command::Show { file } => print_and_report(alloc, &Show { alloc }, shelf, file, out, err),
         Command::Scan { pattern, file } => scan(alloc, pattern, file, shelf, out, err),
+        Command::Create { header } => {
+            let outcome = create_archive(disk, &header);
+            answer(outcome, "", err)
+        }
     }
 }
 

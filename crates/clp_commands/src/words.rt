@@ -1,6 +1,11 @@
 //! What the words of the command line ask for.
 ghost use Rattle.std.specs.Prelude.{◌≡◌, ◌↔◌, ℕ, List, map, string_bytes, IfSome, IfNone, IsTrue};
-ghost use Rattle.clp_commands.specs.Words.{Asks, IsUsage, IsPlain};
+ghost use Rattle.clp_commands.specs.Words.{Asks, AsksCreate, AsksScan, AsksShow, HasHeader, IsPlain};
+ghost use Rattle.record_format.specs.Header.{IsHeader};
+ghost use Rattle.record_format.specs.declared.header.Header.{Header};
+
+use archive_limits::read_limits;
+use record_format::Header;
 
 /// A command with its words.
 #[derive(Clone, Copy, Debug)]
@@ -9,6 +14,8 @@ pub(crate) enum Command<'a> {
     Show { file: &'a str },
     /// `scan PATTERN FILE`
     Scan { pattern: &'a str, file: &'a str },
+    /// `create [--types N] [--words N] [--bytes N]`, as the header of the archive
+    Create { header: Header },
 }
 
 /// Whether a word is no option, since it does not begin with `-`.
@@ -21,13 +28,34 @@ fn is_plain(word: &str) -> bool
     }
 }
 
+/// Reads the words of `create`. `None` comes exactly where they are not of its form.
+fn read_create(words: &[String]) -> Option<Header>
+    ensures header { IfSome result IsHeader }
+    ensures asked { IfSome result (AsksCreate (map string_bytes words.now)) }
+    ensures all { (h : Header) → AsksCreate (map string_bytes words.now) h → result ≡ Some h }
+    ensures none { IfNone result ((h : Header) → ¬ AsksCreate (map string_bytes words.now) h) }
+{
+    match words {
+        [command, options @ ..] if command.as_str() == "create" => read_limits(options),
+        _ => None,
+    }
+}
+
 /// Reads the words. `None` comes exactly where they are not of the form of a command.
 ///
-/// The first word is the command, and the others follow it. None of those begins with `-`.
+/// The first word is the command. The options of `create` follow it, or the words of `show` and
+/// `scan`, none of which begins with `-`.
 pub(crate) fn read_words(words: &[String]) -> Option<Command<'_>>
     ensures some { IfSome result (Asks (map string_bytes words.now)) }
-    ensures none { IfNone result (IsUsage (map string_bytes words.now)) }
+    ensures header { IfSome result HasHeader }
+    ensures create { (h : Header) → AsksCreate (map string_bytes words.now) h → result ≡ Some (Command.Create h) }
+    ensures no_show { IfNone result ((file : List ℕ) → ¬ AsksShow (map string_bytes words.now) file) }
+    ensures no_scan { IfNone result ((pattern file : List ℕ) → ¬ AsksScan (map string_bytes words.now) pattern file) }
+    ensures no_create { IfNone result ((h : Header) → ¬ AsksCreate (map string_bytes words.now) h) }
 {
+    if let Some(header) = read_create(words) {
+        return Some(Command::Create { header });
+    }
     match words {
         [command, file] if command.as_str() == "show" && is_plain(file.as_str()) => {
             Some(Command::Show {

@@ -2,36 +2,73 @@
 //! commands run over, and the status that the process ends with.
 #![tactic(auto)]
 
+mod disk_file;
+#[cfg(test)]
+mod disk_tests;
 mod log_file;
 mod stream;
 
 use clp_commands::run;
+use disk_file::DiskFile;
 use log_file::LogFiles;
-use std::alloc::AllocFailed;
+use log_seams::Sink;
+use std::alloc::AllocError;
 use std::env;
 use std::process::ExitCode;
 use stream::Stream;
 
-/// The words of the command: those after the program's name and the archive's path.
+/// What the words of the command line behind the program's name give.
+#[derive(Drop)]
+struct CommandLine {
+    /// The path of the archive, which is the first word.
+    archive: String,
+    /// The path of the second archive: that of the first with `.new` behind it.
+    second: String,
+    /// The words of the command, which are all others.
+    words: Vec<String>,
+}
+
+/// Reads the words of the command line.
 ///
 /// Words that cannot be read, as those that are not UTF-8, give an empty list, which is no command.
-fn command_words(rt: &HostRuntime) -> Result<Vec<String>, AllocFailed<String>> {
+fn command_line(rt: &HostRuntime) -> Result<CommandLine, AllocError> {
+    let mut archive = String::new(rt.alloc());
     let mut words = Vec::new(rt.alloc());
-    if let Ok(args) = env::args(rt) {
-        for word in args.skip(2) {
+    if let Ok(mut args) = env::args(rt) {
+        if let Some(path) = args.nth(1) {
+            archive = path;
+        }
+        for word in args {
             words.push(word)?;
         }
     }
-    Ok(words)
+    let second = format!(in rt.alloc(); "{archive}.new")?;
+    Ok(CommandLine {
+        archive,
+        second,
+        words,
+    })
 }
 
 fn main(rt: HostRuntime) -> ExitCode {
     let mut out = Stream::output(rt.stdout());
     let mut err = Stream::errors(rt.stderr());
-    let Ok(words) = command_words(&rt) else {
+    let Ok(line) = command_line(&rt) else {
+        let _ = err.write(b"clpa: out of memory\n");
         return ExitCode::from(9);
     };
     let mut logs = LogFiles::new(&rt);
-    let status = run(rt.alloc(), words.as_slice(), &mut logs, &mut out, &mut err);
+    let mut archive = DiskFile::new(&rt, line.archive.as_str());
+    let mut second = DiskFile::new(&rt, line.second.as_str());
+    let status = run(
+        &rt,
+        rt.alloc(),
+        line.words.as_slice(),
+        &mut logs,
+        &mut archive,
+        &mut second,
+        &mut out,
+        &mut err,
+    );
     ExitCode::from(status)
 }

@@ -20,3 +20,9 @@ returns-in-SinkFault g c = Says-same _ _ _ _ _ (line_of c.args.name.now c.args.r
 
 pub returns-in-OutOfMemory : goal.returns-in-OutOfMemory
 returns-in-OutOfMemory g c = Says-same _ _ _ _ _ (line_of c.args.name.now c.args.refusal) (rw c.in-OutOfMemory.is refl) c.say-in-OutOfMemory.ensures
+
+pub returns-in-DiskFault : goal.returns-in-DiskFault
+returns-in-DiskFault g c = Says-same _ _ _ _ _ (line_of c.args.name.now c.args.refusal) (rw c.in-DiskFault.is refl) c.say-in-DiskFault.ensures
+
+pub returns-in-NotEmpty : goal.returns-in-NotEmpty
+returns-in-NotEmpty g c = Says-same _ _ _ _ _ (line_of c.args.name.now c.args.refusal) (rw (c.in-NotEmpty.is, c.as_bytes-len.ensures.value, c.format-in-NotEmpty.ensures.text) refl) c.say-in-NotEmpty.ensures

@@ -1,0 +1,45 @@
+-- What `create` leaves of the archive's disk.
+use Rattle.std.specs.Prelude.{◌≡◌, ◌<◌, ℕ, List, [], ◌∷◌, ◌++◌, length, Option, Some, None, IfSome}
+use Rattle.log_seams.specs.Disk.{NoMore, Only}
+use Rattle.log_seams.specs.Outside.{Rose}
+use Rattle.record_format.specs.Header.{header_bytes}
+use Rattle.record_format.specs.declared.header.Header.{Header}
+use Rattle.disk_journal.specs.Place.{Reads}
+use Rattle.clp_commands.specs.declared.refusal.Refusal.{Refusal}
+use Rattle.clp_commands.specs.declared.refusal.Refusal.TheVariants.{Usage, BadPattern, OpenFault, ReadFault, LineTooLong, TooManyLines, DiskFault, SinkFault, NotEmpty, OutOfMemory}
+
+-- What a disk reads, where it tells that, and how often it has failed, before a call and after it.
+pub record DiskAround : Type 0 where
+  pub reads : Option (List ℕ) × Option (List ℕ)
+  pub faults : ℕ × ℕ
+
+abbrev pub disk_around : {D : Type 0} → (D → Option (List ℕ)) → (D → ℕ) → D → D → DiskAround
+disk_around seen faults disk disk_after = record { reads = (seen disk, seen disk_after); faults = (faults disk, faults disk_after) }
+
+-- The disk had no bytes. It has the header and a closed gate now, and a crash leaves these bytes and no others.
+pub record MakesEmpty (header : Header) (disk : DiskAround) (after : List ℕ → Type 0) : Type 0 where
+  pub none : Reads [] disk.reads.0
+  pub made : Reads (header_bytes header ++ 0 ∷ []) disk.reads.1
+  pub settled : Only disk.reads.1 after
+
+-- The disk had so many bytes, and keeps them. A crash leaves what it would have left before.
+pub record HasBytes (len : ℕ) (disk : DiskAround) (before after : List ℕ → Type 0) : Type 0 where
+  pub some : 0 < len
+  pub long : IfSome disk.reads.0 (λ bytes. len ≡ length bytes)
+  pub kept : disk.reads.1 ≡ disk.reads.0
+  pub no_more : NoMore before after
+  pub no_fewer : NoMore after before
+
+-- What the making of an archive with this header leaves, by its answer. It takes no memory.
+abbrev pub CreateLeaves : Option Refusal → Header → DiskAround → (List ℕ → Type 0) → (List ℕ → Type 0) → Type 0
+CreateLeaves None header disk before after = MakesEmpty header disk after
+CreateLeaves (Some (NotEmpty len)) header disk before after = HasBytes len disk before after
+CreateLeaves (Some DiskFault) header disk before after = Rose disk.faults.0 disk.faults.1
+CreateLeaves (Some Usage) header disk before after = ⊥
+CreateLeaves (Some (BadPattern at)) header disk before after = ⊥
+CreateLeaves (Some OpenFault) header disk before after = ⊥
+CreateLeaves (Some ReadFault) header disk before after = ⊥
+CreateLeaves (Some (LineTooLong line)) header disk before after = ⊥
+CreateLeaves (Some TooManyLines) header disk before after = ⊥
+CreateLeaves (Some SinkFault) header disk before after = ⊥
+CreateLeaves (Some OutOfMemory) header disk before after = ⊥
