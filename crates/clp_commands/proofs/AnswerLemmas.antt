@@ -1,7 +1,9 @@
 -- What a call answers, from what it did.
 use Rattle.std.proofs.Common.{◌≡◌, refl, sym, ◌∙◌, subst, ℕ, List, [], ◌∷◌, codes, Some, inl, inr, Result, Ok, Err, arith}
 use Rattle.std.specs.Prelude.{IfErr}
-use Rattle.wild_match.specs.Reading.{IsLoneBackslash, search_pattern}
+use Rattle.wild_match.specs.Reading.{IsLoneBackslash, IsSearchPattern}
+use Rattle.wild_match.specs.declared.pattern.Item.{Item}
+use Rattle.wild_match.proofs.Spelling.{IsSearchPattern-unique, one-lone-backslash}
 use Rattle.record_format.specs.declared.header.Header.{Header}
 use Rattle.clp_commands.specs.Created.{DiskAround}
 use Rattle.clp_commands.specs.Words.{AsksCreate, AsksScan, AsksShow}
@@ -36,13 +38,9 @@ AnswersLog-from tells seen name status outcome is printed opens nothing reads si
   said = said;
 }
 
--- no two places of a lone backslash
-same_place : (text : List ℕ) (a b : ℕ) → IsLoneBackslash text a → IsLoneBackslash text b → a ≡ b
-same_place text a b p q = omega (arith, p.1, q.1)
-
 -- a pattern that was refused, and has a lone backslash
 pub RefusesPattern-from : (seen : Around) (name : List ℕ) (status : ℕ) (text : List ℕ) (at : ℕ) (refusal : Refusal) → IsPatternRefusal text refusal → IsLoneBackslash text at → status ≡ exit_status (Some refusal) → TookNothing seen.out → SaysIn seen (error_line name (Some refusal)) → RefusesPattern seen status at
-RefusesPattern-from seen name status text at (BadPattern place) is lone s nothing said = inl (record { status_is = s; nothing = nothing; said = subst (λ n. SaysIn seen (error_line name (Some (BadPattern n)))) (same_place text place at is lone) said })
+RefusesPattern-from seen name status text at (BadPattern place) is lone s nothing said = inl (record { status_is = s; nothing = nothing; said = subst (λ n. SaysIn seen (error_line name (Some (BadPattern n)))) (one-lone-backslash text place at is lone) said })
 RefusesPattern-from seen name status text at OutOfMemory is lone s nothing said = inr (record { status_is = s; nothing = nothing; said = said })
 RefusesPattern-from seen name status text at Usage is lone s nothing said = absurd is
 RefusesPattern-from seen name status text at OpenFault is lone s nothing said = absurd is
@@ -72,13 +70,17 @@ AnswersLog-refused tells seen name status text DiskFault is none s nothing said 
 AnswersLog-refused tells seen name status text SinkFault is none s nothing said = absurd is
 AnswersLog-refused tells seen name status text (NotEmpty len) is none s nothing said = absurd is
 
+-- the pattern of a text is one
+pub AnswersLog-pattern : (file text : List ℕ) (a b : List Item) (seen : Around) (status : ℕ) → IsSearchPattern text a → IsSearchPattern text b → AnswersLog (Finds file a) seen file status → AnswersLog (Finds file b) seen file status
+AnswersLog-pattern file text a b seen status is_a is_b answers = subst (λ x. AnswersLog (Finds file x) seen file status) (IsSearchPattern-unique text a b is_a is_b) answers
+
 -- words that ask to scan ask for nothing else
-pub Answers-scan : (words : List (List ℕ)) (seen : Around) (disk : DiskAround) (before after : List ℕ → Type 0) (status : ℕ) (pattern file : List ℕ) → AsksScan words pattern file → ((at : ℕ) → IsLoneBackslash pattern at → RefusesPattern seen status at) → (((at : ℕ) → IsLoneBackslash pattern at → ⊥) → AnswersLog (Finds file (search_pattern pattern)) seen file status) → Answers words seen disk before after status
+pub Answers-scan : (words : List (List ℕ)) (seen : Around) (disk : DiskAround) (before after : List ℕ → Type 0) (status : ℕ) (pattern file : List ℕ) → AsksScan words pattern file → ((at : ℕ) → IsLoneBackslash pattern at → RefusesPattern seen status at) → ((items : List Item) → IsSearchPattern pattern items → AnswersLog (Finds file items) seen file status) → Answers words seen disk before after status
 Answers-scan words seen disk before after status pattern file asks lone good = record {
   usage = λ u. absurd (u.no_scan pattern file asks);
   show = λ f a. absurd (no_show f a.are);
   lone_backslash = λ p f at a l. lone at (subst (λ x. IsLoneBackslash x at) (same_pattern p f a.are) l);
-  scan = λ p f a none. subst (λ x. AnswersLog (Finds f (search_pattern x)) seen f status) (sym (same_pattern p f a.are)) (subst (λ x. AnswersLog (Finds x (search_pattern pattern)) seen x status) (sym (same_file p f a.are)) (good (subst (λ x. (at : ℕ) → IsLoneBackslash x at → ⊥) (same_pattern p f a.are) none)));
+  scan = λ p f items a is. subst (λ x. AnswersLog (Finds x items) seen x status) (sym (same_file p f a.are)) (good items (subst (λ x. IsSearchPattern x items) (same_pattern p f a.are) is));
   create = λ h a. absurd (no_create h a.options a.are);
 }
   where
@@ -100,7 +102,7 @@ Answers-show words seen disk before after status file asks answers = record {
   usage = λ u. absurd (u.no_show file asks);
   show = λ f a. subst (λ x. AnswersLog (λ _ message text. Shows message text) seen x status) (sym (same_file f a.are)) answers;
   lone_backslash = λ p f at a l. absurd (no_scan p f a.are);
-  scan = λ p f a none. absurd (no_scan p f a.are);
+  scan = λ p f items a _. absurd (no_scan p f a.are);
   create = λ h a. absurd (no_create a.options a.are);
 }
   where
@@ -119,7 +121,7 @@ Answers-create words seen disk before after status header asks one answers = rec
   usage = λ u. absurd (u.no_create header asks);
   show = λ f a. absurd (no_show f a.are);
   lone_backslash = λ p f at a l. absurd (no_scan p f a.are);
-  scan = λ p f a none. absurd (no_scan p f a.are);
+  scan = λ p f items a _. absurd (no_scan p f a.are);
   create = λ h a. subst (λ x. AnswersCreate x seen disk before after status) (sym (one h a)) answers;
 }
   where
@@ -135,6 +137,6 @@ Answers-usage words seen disk before after status no_show no_scan no_create refu
   usage = λ _. refuses;
   show = λ f a. absurd (no_show f a);
   lone_backslash = λ p f at a _. absurd (no_scan p f a);
-  scan = λ p f a _. absurd (no_scan p f a);
+  scan = λ p f items a _. absurd (no_scan p f a);
   create = λ h a. absurd (no_create h a);
 }

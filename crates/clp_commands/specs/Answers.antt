@@ -1,7 +1,8 @@
 -- What a call of the program answers, by what its words ask for.
 use Rattle.std.specs.Prelude.{◌≡◌, ◌⊎◌, ℕ, List, [], Option, Some, None}
 use Rattle.log_seams.specs.Outside.{Rose}
-use Rattle.wild_match.specs.Reading.{search_pattern, IsLoneBackslash}
+use Rattle.wild_match.specs.Reading.{IsSearchPattern, IsLoneBackslash}
+use Rattle.wild_match.specs.declared.pattern.Item.{Item}
 use Rattle.record_format.specs.declared.header.Header.{Header}
 use Rattle.clp_commands.specs.Created.{CreateLeaves, DiskAround}
 use Rattle.clp_commands.specs.Printing.{Printed}
@@ -101,7 +102,7 @@ pub record Answers (words : List (List ℕ)) (seen : Around) (disk : DiskAround)
   pub usage : IsUsage words → Refuses seen status Usage
   pub show : (file : List ℕ) → AsksShow words file → AnswersLog (λ _ message text. Shows message text) seen file status
   pub lone_backslash : (pattern file : List ℕ) (at : ℕ) → AsksScan words pattern file → IsLoneBackslash pattern at → RefusesPattern seen status at
-  pub scan : (pattern file : List ℕ) → AsksScan words pattern file → ((at : ℕ) → ¬ IsLoneBackslash pattern at) → AnswersLog (Finds file (search_pattern pattern)) seen file status
+  pub scan : (pattern file : List ℕ) (items : List Item) → AsksScan words pattern file → IsSearchPattern pattern items → AnswersLog (Finds file items) seen file status
   pub create : (header : Header) → AsksCreate words header → AnswersCreate header seen disk before after status
 
 -- A pattern is refused with the place of its lone backslash, or for want of memory.

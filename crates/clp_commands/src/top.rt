@@ -1,7 +1,8 @@
 //! The top call.
 ghost use Rattle.std.specs.Prelude.{◌≡◌, ℕ, List, map, string_bytes, IfOk, IfErr};
 ghost use Rattle.record_format.specs.declared.header.Header.{Header};
-ghost use Rattle.wild_match.specs.Reading.{IsLoneBackslash, search_pattern};
+ghost use Rattle.wild_match.specs.Reading.{IsLoneBackslash, IsSearchPattern};
+ghost use Rattle.wild_match.specs.declared.pattern.Item.{Item};
 ghost use Rattle.clp_commands.specs.Answers.{Answers, AnswersLog, IsPatternRefusal, RefusesPattern, around, error_line, exit_status};
 ghost use Rattle.clp_commands.specs.Created.{disk_around};
 ghost use Rattle.clp_commands.specs.Printing.{answer_of};
@@ -78,8 +79,8 @@ fn scan<H: Shelf, K: Sink>(
         (around H.content H.open_faults H.read_faults K.written K.faults
         shelf.old shelf.new out.old out.new err.old err.new)
         result at }
-    ensures good { ((at : ℕ) → ¬ IsLoneBackslash pattern.now at)
-        → AnswersLog (Finds file.now (search_pattern pattern.now))
+    ensures good { (items : List Item) → IsSearchPattern pattern.now items
+        → AnswersLog (Finds file.now items)
         (around H.content H.open_faults H.read_faults K.written K.faults
         shelf.old shelf.new out.old out.new err.old err.new)
         file.now result }
@@ -133,8 +134,7 @@ fn answer<K: Sink>(outcome: Result<(), Refusal>, name: &str, err: &mut K) -> u8
 
 /// The pattern of a text, made ready for many messages.
 fn read_matcher(alloc: Global, text: &str) -> Result<Matcher, Refusal>
-    ensures items { IfOk result (λ m. m.items ≡ search_pattern text.now) }
-    ensures good { IfOk result (λ _. (at : ℕ) → ¬ IsLoneBackslash text.now at) }
+    ensures items { IfOk result (λ m. IsSearchPattern text.now m.items) }
     ensures refused { IfErr result (IsPatternRefusal text.now) }
 {
     let pattern = match read_pattern(alloc, text.as_bytes()) {

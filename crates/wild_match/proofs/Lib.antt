@@ -1,6 +1,8 @@
 pub mod Literal
 pub mod Matching
 pub mod Occurring
+pub mod Reading
 pub mod Searching
 pub mod Spelling
 pub mod Stepping
+pub mod Testing

@@ -1,31 +1,27 @@
 -- What the text of a pattern spells.
-use Rattle.std.specs.Prelude.{◌≡◌, ℕ, ◌+◌, Bool, true, false, ◌==◌, List, [], ◌∷◌, ◌++◌, length, if◌then◌else◌}
+use Rattle.std.specs.Prelude.{◌≡◌, ◌≢◌, ℕ, List, [], ◌∷◌, ◌++◌, ◌⊎◌, length}
 use Rattle.wild_match.specs.declared.pattern.Item.{Item}
 use Rattle.wild_match.specs.declared.pattern.Item.TheVariants.{Byte, One, Many}
 
--- what a byte spells that no `\` escapes: `*` is 42 and `?` is 63
-abbrev pub item_of : ℕ → Item
-item_of b = if b == 42 then Many else (if b == 63 then One else Byte b)
+-- a byte that stands for itself: no `*`, `?` or `\`
+abbrev pub IsPlain : ℕ → Type 0
+IsPlain b = (b ≢ 42) × (b ≢ 63) × (b ≢ 92)
 
--- the items of a text, where `escaped` says that a `\`, which is 92, escapes its first byte
-abbrev pub items_from : Bool → List ℕ → List Item
-items_from escaped [] = []
-items_from true (b ∷ text) = Byte b ∷ items_from false text
-items_from false (b ∷ text) = if b == 92 then items_from true text else item_of b ∷ items_from false text
+-- the text spells an item and then has the rest: `*` spells Many, `?` One, a `\` the byte behind it, and a plain byte itself
+abbrev pub SpellsFirst : List ℕ → Item → List ℕ → Type 0
+SpellsFirst text Many rest = text ≡ 42 ∷ rest
+SpellsFirst text One rest = text ≡ 63 ∷ rest
+SpellsFirst text (Byte b) rest = (text ≡ 92 ∷ b ∷ rest) ⊎ ((text ≡ b ∷ rest) × IsPlain b)
 
--- whether the text ends in a `\` that escapes nothing
-abbrev pub ends_open : Bool → List ℕ → Bool
-ends_open escaped [] = escaped
-ends_open true (b ∷ text) = ends_open false text
-ends_open false (b ∷ text) = ends_open (b == 92) text
+-- the text spells the items, one after the other, and nothing else
+abbrev pub Spells : List ℕ → List Item → Type 0
+Spells text [] = text ≡ []
+Spells text (item ∷ items) = (rest : List ℕ) × SpellsFirst text item rest × Spells rest items
 
-abbrev pub items_of : List ℕ → List Item
-items_of = items_from false
+-- the text is searched for anywhere in a message: its pattern is Many, the items that it spells, and Many
+abbrev pub IsSearchPattern : List ℕ → List Item → Type 0
+IsSearchPattern text pattern = (items : List Item) × Spells text items × (pattern ≡ Many ∷ items ++ Many ∷ [])
 
--- the text is searched for anywhere in a message
-abbrev pub search_pattern : List ℕ → List Item
-search_pattern text = Many ∷ items_of text ++ Many ∷ []
-
--- a `\` that escapes nothing stands at the end, at this place
+-- a `\` that escapes nothing ends the text, at this place: what stands before it spells some items
 abbrev pub IsLoneBackslash : List ℕ → ℕ → Type 0
-IsLoneBackslash text at = (ends_open false text ≡ true) × (at + 1 ≡ length text)
+IsLoneBackslash text at = (front : List ℕ) × (items : List Item) × Spells front items × (text ≡ front ++ 92 ∷ []) × (at ≡ length front)

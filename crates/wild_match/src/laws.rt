@@ -1,18 +1,24 @@
 //! Laws of the definitions that the contracts cite. Each function does nothing; its contract says
 //! what holds of all patterns and all texts.
-ghost use Rattle.wild_match.specs.Laws.{TestIsMatch, ItemsAreSpelled, LoneBackslashIsLeft};
+ghost use Rattle.wild_match.specs.Laws.{TestIsMatch, OneSpelling, OneLoneBackslash, SpelledOrLone, NeverBoth};
 
 /// The test `is_match` is true of exactly the messages that a pattern matches.
 pub fn test_is_match()
     ensures { TestIsMatch }
 {}
 
-/// The items that are read from a text are those that it spells.
-pub fn items_are_spelled()
-    ensures { ItemsAreSpelled }
+/// A text spells one list of items at most.
+pub fn one_spelling()
+    ensures { OneSpelling }
 {}
 
-/// A `\` is left over exactly where it ends a text whose front spells some items.
-pub fn lone_backslash_is_left()
-    ensures { LoneBackslashIsLeft }
+/// A text has a lone backslash at one place at most.
+pub fn one_lone_backslash()
+    ensures { OneLoneBackslash }
+{}
+
+/// Each text spells some items or has a lone backslash, and none does both.
+pub fn spelled_or_lone()
+    ensures either { SpelledOrLone }
+    ensures never_both { NeverBoth }
 {}

@@ -1,6 +1,7 @@
 //! The text of a pattern.
-ghost use Rattle.std.specs.Prelude.{◌≡◌, ◌↔◌, ◌+◌, ℕ, IfOk, Err};
-ghost use Rattle.wild_match.specs.Reading.{IsLoneBackslash, search_pattern, item_of};
+ghost use Rattle.std.specs.Prelude.{◌≡◌, ◌≢◌, ◌⊎◌, ℕ, List, [], ◌∷◌, IfOk, Ok, Err};
+ghost use Rattle.wild_match.specs.Reading.{IsLoneBackslash, IsSearchPattern, Spells};
+ghost use Rattle.wild_match.specs.declared.pattern.Item.{Item};
 ghost use Rattle.wild_match.specs.declared.read.PatternRefusal.TheVariants.{BadPattern, OutOfMemory};
 
 use crate::pattern::{Item, Pattern};
@@ -36,7 +37,8 @@ impl<T: Drop> From<AllocFailed<T>> for PatternRefusal {
 
 /// What a byte spells where no `\` escapes it.
 fn item_of(byte: u8) -> Item
-    ensures { result ≡ item_of byte }
+    requires { byte ≢ 92 }
+    ensures { Spells (byte ∷ []) (result ∷ []) }
 {
     match byte {
         b'*' => Item::Many,
@@ -54,9 +56,12 @@ fn item_of(byte: u8) -> Item
 /// [`PatternRefusal::BadPattern`] exactly where the text ends in a `\` that escapes nothing, or
 /// [`PatternRefusal::OutOfMemory`].
 pub fn read_pattern(alloc: Global, text: &[u8]) -> Result<Pattern, PatternRefusal>
-    ensures items { IfOk result (λ pattern. pattern ≡ search_pattern text.now) }
-    ensures good { IfOk result (λ _. (at : ℕ) → ¬ IsLoneBackslash text.now at) }
+    ensures items { IfOk result (IsSearchPattern text.now) }
+    ensures good { (pattern : List Item) → IsSearchPattern text.now pattern
+        → (result ≡ Ok pattern) ⊎ (result ≡ Err OutOfMemory) }
     ensures bad { (at : ℕ) → result ≡ Err (BadPattern at) → IsLoneBackslash text.now at }
+    ensures lone { (at : ℕ) → IsLoneBackslash text.now at
+        → (result ≡ Err (BadPattern at)) ⊎ (result ≡ Err OutOfMemory) }
 {
     let mut items = Vec::from_slice(alloc, &[Item::Many])?;
     let mut escaped = false;
