@@ -1,4 +1,5 @@
--- The moment that a day and a time of that day name, and the numbers that write them.
+-- The moment that a day and a time of that day name, and the numbers that write them. Each time of a day has an hour
+-- below 24, a minute and a second below 60 and a millisecond below 1000, and each day is one of the calendar.
 use Rattle.std.specs.Prelude.{ℕ, ◌+◌, ◌-◌, ◌*◌, List, [], ◌∷◌, ℤ, pos, ◌+ℤ◌, ◌*ℤ◌, unsigned_abs}
 use Rattle.jiff_core.specs.Date.{epoch_day}
 use Rattle.time_patterns.specs.declared.civil_time.CivilTime.{CivilTime}
