@@ -1,5 +1,5 @@
 //! A file as a disk. It tells no content, and counts one fault for each call that failed.
-ghost use Rattle.std.specs.Prelude.{◌≡◌, ◌≢◌, ◌≤◌, ℕ, List, length, None, Ok, Some, IfOk, IfErr, OnOk, OnErr, is_ok, false, IsTrue, ◌↔◌, ◌⊎◌};
+ghost use Rattle.std.specs.Prelude.{◌≡◌, ◌≢◌, ◌≤◌, ℕ, List, length, None, Ok, Err, Some, IfOk, IfErr, OnOk, OnErr, is_ok, IsTrue, ◌↔◌, ◌⊎◌};
 ghost use Rattle.std.specs.IoError.{error_kind};
 ghost use Rattle.log_seams.specs.Outside.{Counts};
 
@@ -18,7 +18,7 @@ const MOST_BYTES: u64 = (1 << 63) - 1;
 fn if_there(opened: io::Result<File>) -> io::Result<Option<File>>
     ensures opened { IfOk opened (λ file. result ≡ Ok (Some file)) }
     ensures absent { IfErr opened (λ e. error_kind e ≡ ErrorKind.NotFound → result ≡ Ok None) }
-    ensures failed { IfErr opened (λ e. error_kind e ≢ ErrorKind.NotFound → is_ok result ≡ false) }
+    ensures failed { IfErr opened (λ e. error_kind e ≢ ErrorKind.NotFound → result ≡ Err e) }
 {
     match opened {
         Ok(file) => Ok(Some(file)),
@@ -32,7 +32,7 @@ fn if_there(opened: io::Result<File>) -> io::Result<Option<File>>
 fn unless_interrupted(answer: io::Result<usize>) -> io::Result<Option<usize>>
     ensures count { IfOk answer (λ n. result ≡ Ok (Some n)) }
     ensures again { IfErr answer (λ e. error_kind e ≡ ErrorKind.Interrupted → result ≡ Ok None) }
-    ensures failed { IfErr answer (λ e. error_kind e ≢ ErrorKind.Interrupted → is_ok result ≡ false) }
+    ensures failed { IfErr answer (λ e. error_kind e ≢ ErrorKind.Interrupted → result ≡ Err e) }
 {
     match answer {
         Ok(count) => Ok(Some(count)),
@@ -179,7 +179,8 @@ fn counted<T>(faults: &mut u64, answer: io::Result<T>) -> Result<T, Failed>
 /// The bytes of the file at a path.
 ///
 /// A path at which nothing stands is a disk without bytes, which can be read and synced; the first
-/// write makes the file. A file that can be read alone fails at each write.
+/// write makes the file, and fails where another process made it meanwhile or a link leads nowhere.
+/// A file that can only be read fails at each write.
 #[derive(Drop)]
 pub(crate) struct DiskFile<'p, R> {
     file: LazyFile<'p, R>,
@@ -188,7 +189,9 @@ pub(crate) struct DiskFile<'p, R> {
 
 impl<'p, R> DiskFile<'p, R> {
     /// A disk whose file was not looked for yet.
-    pub(crate) fn new(rt: &'p R, path: &'p str) -> Self {
+    pub(crate) fn new(rt: &'p R, path: &'p str) -> Self
+        ensures { result.faults ≡ 0 }
+    {
         DiskFile {
             file: LazyFile {
                 rt,
