@@ -1,20 +1,38 @@
 -- The text that a message is shown as, from one variable to the next.
-use Rattle.std.proofs.Common.{◌≡◌, refl, sym, ◌∙◌, ap, ap₂, subst, ℕ, suc, ◌+◌, ◌-◌, ◌<◌, ◌≤◌, List, [], ◌∷◌, ◌++◌, length, map, take, drop, get_or, arith}
+use Rattle.std.proofs.Common.{◌≡◌, refl, sym, ◌∙◌, ap, ap₂, subst, ℕ, zero, suc, ◌+◌, ◌-◌, ◌<◌, ◌≤◌, List, [], ◌∷◌, ◌++◌, length, map, take, drop, get_or, arith}
 use Rattle.std.specs.List.{slice_range}
 use Rattle.std.proofs.lemmas.List.{append-nil, append_assoc, drop-drop, length-drop, length-append, drop_all, take_rest}
 use Rattle.std.proofs.Math.Seq.{take-append_seam, drop-append_seam, drop-cons}
 use Rattle.std.proofs.lemmas.Result.{on_ok_weaker}
-use Rattle.std.specs.Prelude.{Result, OnOk}
+use Rattle.std.specs.Prelude.{Result, OnOk, true, codes, nat_eq}
 use Rattle.logtype_text.specs.declared.symbols.Kind.{Kind}
 use Rattle.logtype_text.specs.declared.spans.Span.{Span}
-use Rattle.logtype_text.specs.Parts.{Part, Constant, Variable, AreParts, joined, places_of}
+use Rattle.logtype_text.specs.Parts.{Part, Constant, Variable, AreCodes, AreParts, joined, places_of}
 use Rattle.var_codec.specs.Codes.{Codes}
 use Rattle.var_codec.specs.declared.Coded.{Coded}
-use Rattle.clp_commands.specs.Shown.{marked, Shows, ShowsParts}
+use Rattle.std.proofs.lemmas.Bool.{agree_below_at, eqb-true}
+use Rattle.clp_commands.specs.Shown.{hexadecimal_digit, marked, Shows, ShowsParts}
 
 -- the variable is shown as its coding says
-pub Shown-as : {E : Type 0} (r : Result Unit E) (new old text : List ℕ) (coded : Coded) (shown : List ℕ) → Codes text coded → shown ≡ marked text coded → OnOk r (new ≡ old ++ shown) → OnOk r ((c : Coded) × Codes text c × (new ≡ old ++ marked text c))
-Shown-as r new old text coded shown codes is on = on_ok_weaker {Q = (c : Coded) × Codes text c × (new ≡ old ++ marked text c)} r (λ e. (coded, codes, e ∙ ap (λ t. old ++ t) is)) on
+pub Shown-as : {E : Type 0} (r : Result Unit E) (new old shown wanted : List ℕ) → shown ≡ wanted → OnOk r (new ≡ old ++ shown) → OnOk r (new ≡ old ++ wanted)
+Shown-as r new old shown wanted is on = on_ok_weaker {Q = new ≡ old ++ wanted} r (λ e. e ∙ ap (λ t. old ++ t) is) on
+
+-- a variable's code is that of its text
+pub code_at : (message : List ℕ) (spans : List Span) (codes : List Coded) (i : ℕ) (none : Span) (no_code : Coded) → AreCodes message spans codes → i < length spans → Codes (slice_range message (get_or spans i none).start (get_or spans i none).end) (get_or codes i no_code)
+code_at message [] [] i none no_code are less = absurd (omega (arith, less))
+code_at message [] (c ∷ codes) i none no_code are less = absurd are
+code_at message (s ∷ spans) [] i none no_code are less = absurd are
+code_at message (s ∷ spans) (c ∷ codes) zero none no_code are less = are.0
+code_at message (s ∷ spans) (c ∷ codes) (suc i) none no_code are less = code_at message spans codes i none no_code are.1 (omega (arith, less))
+
+-- and so where the lists are read from elsewhere
+pub code_in : (message : List ℕ) (spans lent : List Span) (codes lent' : List Coded) (i : ℕ) (none : Span) (no_code : Coded) → lent ≡ spans → lent' ≡ codes → AreCodes message spans codes → i < length lent → Codes (slice_range message (get_or lent i none).start (get_or lent i none).end) (get_or lent' i no_code)
+code_in message spans lent codes lent' i none no_code same same' are less =
+    code_at message lent lent' i none no_code (subst (λ l. AreCodes message l lent') (sym same) (subst (λ l. AreCodes message spans l) (sym same') are)) less
+
+-- the table of digits is held against the definition at each of the 16 places, by computing
+pub digit_at : (d : ℕ) → d < 16 → get_or (codes "0123456789ABCDEF") d 0 ≡ hexadecimal_digit d
+digit_at d less = eqb-true _ _ (agree_below_at (λ d. nat_eq (get_or (codes "0123456789ABCDEF") d 0) (hexadecimal_digit d)) (λ _. true) 16 d refl less)
 
 -- constants are shown as themselves
 pub ShowsParts-constants : (bytes : List ℕ) (parts : List Part) (shown : List ℕ) → ShowsParts parts shown → ShowsParts (map Constant bytes ++ parts) (bytes ++ shown)

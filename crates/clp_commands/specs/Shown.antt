@@ -15,9 +15,13 @@ abbrev pub hexadecimal : ℕ → ℕ → List ℕ
 hexadecimal zero n = []
 hexadecimal (suc places) n = hexadecimal_digit (n / 16 ^ places % 16) ∷ hexadecimal places n
 
+-- a word of 64 bits behind its variable's text: `=`, 16 digits, and `}`
+abbrev pub word_end : ℕ → List ℕ
+word_end word = 61 ∷ (hexadecimal 16 word ++ (125 ∷ []))
+
 -- a variable with the word of 64 bits that it is coded as
 abbrev pub with_word : List ℕ → List ℕ → ℕ → List ℕ
-with_word mark text word = mark ++ (text ++ (61 ∷ (hexadecimal 16 word ++ (125 ∷ []))))
+with_word mark text word = mark ++ (text ++ word_end word)
 
 -- a variable in braces
 abbrev pub marked : List ℕ → Coded → List ℕ

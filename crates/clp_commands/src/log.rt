@@ -33,6 +33,7 @@ fn refusal_of(cut: Cut) -> Refusal
 /// Gathers the text of one message, and sends what was gathered once it is enough for a piece.
 fn print_message<K: Sink, T: Tell>(
     teller: &T,
+    kept: &mut T::Kept,
     number: u64,
     message: &[u8],
     out: &mut K,
@@ -50,7 +51,7 @@ fn print_message<K: Sink, T: Tell>(
     ensures kind { IfErr result IsReadingRefusal }
     ensures later { K.faults out.old ≤ K.faults out.new }
 {
-    if teller.tell(gathered, number, message).is_err() {
+    if teller.tell(kept, gathered, number, message).is_err() {
         return Err(Refusal::OutOfMemory);
     }
     match flush_piece(out, gathered) {
@@ -77,12 +78,16 @@ fn print_messages<S: Source, K: Sink, T: Tell>(
     ensures kind { IfErr result IsReadingRefusal }
     ensures out_later { K.faults out.old ≤ K.faults out.new }
 {
+    let mut kept = teller.kept();
     let mut number = 0;
     loop {
         match cutter.advance() {
             Ok(Some(_)) => {
                 number += 1;
-                if let Err(refusal) = print_message(teller, number, cutter.line(), out, gathered) {
+                let message = cutter.line();
+                if let Err(refusal) = print_message(
+                    teller, &mut kept, number, message, out, gathered,
+                ) {
                     return Err(refusal);
                 }
             }

@@ -36,7 +36,17 @@ fn push_found(
 impl Tell for Scan<'_> {
     ghost tells = { λ s. Finds s.name.now s.matcher.now.items };
 
-    fn tell(&self, gathered: &mut Vec<u8>, number: u64, message: &[u8]) -> Result<(), AllocError> {
+    type Kept = ();
+
+    fn kept(&self) {}
+
+    fn tell(
+        &self,
+        _kept: &mut (),
+        gathered: &mut Vec<u8>,
+        number: u64,
+        message: &[u8],
+    ) -> Result<(), AllocError> {
         if self.matcher.matches(message) {
             push_found(gathered, self.name, number, message)
         } else {

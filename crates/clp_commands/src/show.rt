@@ -1,28 +1,33 @@
 //! How `show` prints a message.
 ghost use Rattle.std.specs.Prelude.{◌≡◌, ◌++◌, ◌∷◌, [], ◌%◌, ◌≤◌, ℕ, List, OnOk, length, slice_range};
-ghost use Rattle.clp_commands.specs.Shown.{Shows, hexadecimal_digit, hexadecimal, with_word, marked};
-ghost use Rattle.logtype_text.specs.Parts.{IsSplit};
+ghost use Rattle.clp_commands.specs.Shown.{Shows, hexadecimal_digit, hexadecimal, word_end, with_word, marked};
+ghost use Rattle.logtype_text.specs.Parts.{AreCodes, IsSplit};
 ghost use Rattle.var_codec.specs.Codes.{Codes};
-ghost use Rattle.var_codec.specs.declared.Coded.{Coded};
 
 use crate::tell::Tell;
-use logtype_text::{Span, Split, split};
+use logtype_text::{Span, Split};
 use std::alloc::{AllocError, Global};
-use var_codec::{Coded, encode};
+use var_codec::Coded;
+
+/// The hexadecimal digits.
+static DIGITS: [u8; 16] = *b"0123456789ABCDEF";
 
 /// The last hexadecimal digit of a number.
+#[inline]
 fn last_digit(number: u64) -> u8
     ensures { result ≡ hexadecimal_digit (number % 16) }
 {
-    let digit = (number % 16) as u8;
-    if digit < 10 { b'0' + digit } else { 55 + digit }
+    DIGITS[(number % 16) as usize]
 }
 
-/// A word of 64 bits as 16 hexadecimal digits in capitals.
-fn hexadecimal(word: u64) -> [u8; 16]
-    ensures { result ≡ hexadecimal 16 word }
+/// What stands behind the text of a variable with its word: `=`, the word as 16 hexadecimal digits in
+/// capitals, and `}`.
+#[inline]
+fn word_end(word: u64) -> [u8; 18]
+    ensures { result ≡ word_end word }
 {
     [
+        b'=',
         last_digit(word >> 60),
         last_digit(word >> 56),
         last_digit(word >> 52),
@@ -39,13 +44,15 @@ fn hexadecimal(word: u64) -> [u8; 16]
         last_digit(word >> 8),
         last_digit(word >> 4),
         last_digit(word),
+        b'}',
     ]
 }
 
 /// Appends a variable with its word.
+#[inline]
 fn push_with_word(
     gathered: &mut Vec<u8>,
-    mark: &[u8],
+    mark: &[u8; 3],
     text: &[u8],
     word: u64,
 ) -> Result<(), AllocError>
@@ -53,19 +60,16 @@ fn push_with_word(
 {
     gathered.extend_from_slice(mark)?;
     gathered.extend_from_slice(text)?;
-    gathered.push(b'=')?;
-    gathered.extend_from_slice(&hexadecimal(word))?;
-    gathered.push(b'}')?;
+    gathered.extend_from_slice(&word_end(word))?;
     Ok(())
 }
 
 /// Appends a variable in braces.
-fn push_variable(gathered: &mut Vec<u8>, text: &[u8]) -> Result<(), AllocError>
-    ensures { OnOk result
-        ((coded : Coded) × Codes text.now coded
-        × (gathered.new.items ≡ gathered.old.items ++ marked text.now coded)) }
+fn push_variable(gathered: &mut Vec<u8>, text: &[u8], coded: Coded) -> Result<(), AllocError>
+    requires { Codes text.now coded }
+    ensures { OnOk result (gathered.new.items ≡ gathered.old.items ++ marked text.now coded) }
 {
-    match encode(text) {
+    match coded {
         Coded::Whole(number) => push_with_word(gathered, b"{i:", text, number.cast_unsigned()),
         Coded::Decimal(word) => push_with_word(gathered, b"{d:", text, word),
         Coded::Word => {
@@ -78,34 +82,38 @@ fn push_variable(gathered: &mut Vec<u8>, text: &[u8]) -> Result<(), AllocError>
 }
 
 /// Appends the constant bytes from `at` on, and the variable that stands behind them.
+#[inline]
 fn push_next(
     gathered: &mut Vec<u8>,
     message: &[u8],
     at: usize,
     span: Span,
+    coded: Coded,
 ) -> Result<(), AllocError>
     requires order { at ≤ span.start }
     requires forward { span.start ≤ span.end }
     requires within { span.end ≤ length message.now }
+    requires code { Codes (slice_range message.now span.start span.end) coded }
     ensures { OnOk result
-        ((coded : Coded) × Codes (slice_range message.now span.start span.end) coded
-        × (gathered.new.items
+        (gathered.new.items
         ≡ (gathered.old.items ++ slice_range message.now at span.start)
-        ++ marked (slice_range message.now span.start span.end) coded)) }
+        ++ marked (slice_range message.now span.start span.end) coded) }
 {
     gathered.extend_from_slice(&message[at..span.start])?;
-    push_variable(gathered, &message[span.start..span.end])
+    push_variable(gathered, &message[span.start..span.end], coded)
 }
 
 /// Appends a message as `show` prints it, and a newline.
 fn push_message(gathered: &mut Vec<u8>, message: &[u8], split: &Split) -> Result<(), AllocError>
-    requires { IsSplit message.now split.now.symbols split.now.spans }
+    requires parts { IsSplit message.now split.now.symbols split.now.spans }
+    requires codes { AreCodes message.now split.now.spans split.now.codes }
     ensures { OnOk result
         ((text : List ℕ) × (gathered.new.items ≡ gathered.old.items ++ text) × Shows message.now text) }
 {
+    let codes = split.codes.as_slice();
     let mut at = 0;
-    for span in split.spans.as_slice() {
-        push_next(gathered, message, at, *span)?;
+    for (i, span) in split.spans.as_slice().iter().enumerate() {
+        push_next(gathered, message, at, *span, codes[i])?;
         at = span.end;
     }
     gathered.extend_from_slice(&message[at..])?;
@@ -123,8 +131,20 @@ pub(crate) struct Show {
 impl Tell for Show {
     ghost tells = { λ _ _ message text. Shows message text };
 
-    fn tell(&self, gathered: &mut Vec<u8>, _number: u64, message: &[u8]) -> Result<(), AllocError> {
-        let split = split(self.alloc, message)?;
-        push_message(gathered, message, &split)
+    type Kept = Split;
+
+    fn kept(&self) -> Split {
+        Split::new(self.alloc)
+    }
+
+    fn tell(
+        &self,
+        kept: &mut Split,
+        gathered: &mut Vec<u8>,
+        _number: u64,
+        message: &[u8],
+    ) -> Result<(), AllocError> {
+        kept.fill(self.alloc, message)?;
+        push_message(gathered, message, kept)
     }
 }

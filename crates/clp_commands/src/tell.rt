@@ -8,8 +8,20 @@ pub(crate) trait Tell {
     /// The message of a number, from 1, is printed as the text.
     ghost tells: { Self → ℕ → List ℕ → List ℕ → Type 0 };
 
+    /// Memory that is kept from message to message.
+    type Kept: Drop;
+
+    /// The memory before the first message. Takes none.
+    fn kept(&self) -> Self::Kept;
+
     /// Appends the text of a message.
-    fn tell(&self, gathered: &mut Vec<u8>, number: u64, message: &[u8]) -> Result<(), AllocError>
+    fn tell(
+        &self,
+        kept: &mut Self::Kept,
+        gathered: &mut Vec<u8>,
+        number: u64,
+        message: &[u8],
+    ) -> Result<(), AllocError>
         ensures { OnOk result
             ((text : List ℕ) × (gathered.new.items ≡ gathered.old.items ++ text)
             × tells self.now number message.now text) };

@@ -1,5 +1,5 @@
 -- The parts of the front of a body, and of one step more.
-use Rattle.std.proofs.Common.{◌≡◌, ℕ, ◌+◌, ◌-◌, ◌<◌, ◌≤◌, suc, List, [], ◌∷◌, ◌++◌, length, map, take, drop, refl, sym, ◌∙◌, ap, ap₂, subst, arith, inl, inr, length-append, length-drop, length-take-le}
+use Rattle.std.proofs.Common.{◌≡◌, ℕ, ◌+◌, ◌-◌, ◌≤◌, suc, List, [], ◌∷◌, ◌++◌, length, map, take, drop, refl, sym, ◌∙◌, ap, ap₂, subst, arith, inl, inr, length-append, length-drop, length-take-le}
 use Rattle.std.specs.Prelude.{slice_range}
 use Rattle.std.proofs.lemmas.Bool.{cases_lt}
 use Rattle.std.proofs.lemmas.List.{append-nil, map-append, take_all, take_at, drop_at, drop-drop}
@@ -7,11 +7,13 @@ use Rattle.std.proofs.lemmas.Grind.{flat_map-append}
 use Rattle.std.proofs.Math.Seq.{take-add}
 use Rattle.token_rules.specs.Tokens.{IsToken, IsVariableAt, OnlyDelimiters}
 use Rattle.token_rules.proofs.TokenLemmas.{tokens_are_apart}
+use Rattle.var_codec.specs.Codes.{Codes}
+use Rattle.var_codec.specs.declared.Coded.{Coded}
 use Rattle.logtype_text.specs.declared.symbols.Kind.{Kind}
 use Rattle.logtype_text.specs.declared.symbols.Symbol.{Symbol}
 use Rattle.logtype_text.specs.declared.symbols.Symbol.TheVariants.{Byte, Slot}
 use Rattle.logtype_text.specs.declared.spans.Span.{Span}
-use Rattle.logtype_text.specs.Parts.{Part, Constant, Variable, text_of_part, joined, HasKind, IsVariableToken, LiesInVariable, StandAt, AreParts, symbol_of, places_of, parts_of, slot_count, IsSplit}
+use Rattle.logtype_text.specs.Parts.{Part, Constant, Variable, text_of_part, joined, HasKind, IsVariableToken, IsFree, StandAt, AreParts, symbol_of, places_of, parts_of, slot_count, IsSplit, AreCodes}
 
 -- how many bytes the parts have
 abbrev pub size : List Part → ℕ
@@ -35,10 +37,6 @@ places-append at (Variable kind text ∷ xs) ys =
     let place : at + length text + size xs ≡ at + size (Variable kind text ∷ xs) = omega (arith, length-append text (joined xs)) in
     let span : Span = record { start = at; end = at + length text } in
     ap (λ l. span ∷ l) (places-append (at + length text) xs ys ∙ ap (λ n. places_of (at + length text) xs ++ places_of n ys) place)
-
--- no byte from the one place up to the other belongs to a variable
-abbrev pub IsFree : List ℕ → ℕ → ℕ → Type 0
-IsFree body from to = (k : ℕ) → from ≤ k → k < to → ¬ LiesInVariable body k
 
 pub free_join : (body : List ℕ) (from middle to : ℕ) → IsFree body from middle → IsFree body middle to → IsFree body from to
 free_join body from middle to front back k low high =
@@ -158,3 +156,15 @@ pub split_count : (body : List ℕ) (symbols : List Symbol) (spans : List Span) 
 split_count body symbols spans split =
     let parts = parts_of body symbols spans in
     sym (ap (λ l. length l) split.all_spans) ∙ length-places 0 parts ∙ ap slot_count split.all_symbols
+
+-- the code of one variable more
+pub codes_more : (body : List ℕ) (spans : List Span) (codes : List Coded) (span : Span) (coded : Coded) → AreCodes body spans codes → Codes (slice_range body span.start span.end) coded → AreCodes body (spans ++ span ∷ []) (codes ++ coded ∷ [])
+codes_more body [] [] span coded before here = (here, tt)
+codes_more body [] (c ∷ codes) span coded before here = absurd before
+codes_more body (s ∷ spans) [] span coded before here = absurd before
+codes_more body (s ∷ spans) (c ∷ codes) span coded before here = (before.0, codes_more body spans codes span coded before.1 here)
+
+-- the same of equal lists
+pub codes_same : (body : List ℕ) {spans spans' : List Span} {codes codes' : List Coded} → spans' ≡ spans → codes' ≡ codes → AreCodes body spans codes → AreCodes body spans' codes'
+codes_same body {spans} {spans'} {codes} {codes'} same same' before =
+    subst (λ l. AreCodes body l codes') (sym same) (subst (λ l. AreCodes body spans l) (sym same') before)

@@ -2,7 +2,7 @@
 -- The parts are pinned on the whole body at once: joined they are the body, each variable is a whole
 -- token that is a variable, and no byte of such a token is left as a constant.
 use Rattle.std.specs.Prelude.{◌≡◌, ℕ, ◌+◌, ◌<◌, ◌≤◌, List, [], ◌∷◌, length, map, slice_range}
-use Rattle.std.specs.List.{flat_map}
+use Rattle.std.specs.List.{AllZip, flat_map}
 use Rattle.token_rules.specs.Tokens.{IsToken, IsVariableAt}
 use Rattle.var_codec.specs.Codes.{Codes}
 use Rattle.var_codec.specs.declared.Coded.{Coded}
@@ -50,6 +50,10 @@ pub record LiesInVariable (body : List ℕ) (at : ℕ) : Type 0 where
   pub low : start ≤ at
   pub high : at < end
 
+-- no byte from the one place up to the other belongs to a variable
+abbrev pub IsFree : List ℕ → ℕ → ℕ → Type 0
+IsFree body from to = (k : ℕ) → from ≤ k → k < to → ¬ LiesInVariable body k
+
 -- The parts stand in the body from this place on: a variable is a token that is a variable, with the
 -- kind that its text is coded as, and a constant byte belongs to no such token.
 abbrev pub StandAt : List ℕ → ℕ → List Part → Type 0
@@ -94,3 +98,7 @@ pub record IsSplit (body : List ℕ) (symbols : List Symbol) (spans : List Span)
   pub parts : AreParts body (parts_of body symbols spans)
   pub all_symbols : map symbol_of (parts_of body symbols spans) ≡ symbols
   pub all_spans : places_of 0 (parts_of body symbols spans) ≡ spans
+
+-- these are, place by place, what the variables at these places of the body are coded as
+abbrev pub AreCodes : List ℕ → List Span → List Coded → Type 0
+AreCodes body spans codes = AllZip (λ span coded. Codes (slice_range body span.start span.end) coded) spans codes

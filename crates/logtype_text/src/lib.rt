@@ -2,8 +2,8 @@
 //! is stored as.
 //!
 //! The symbols of a body are its constant bytes and a slot for each variable, which holds the
-//! variable's kind; the spans say where in the body the variables stand. Two bodies have the same
-//! log type where their symbols are the same.
+//! variable's kind; the spans say where in the body the variables stand, and the codes as what words
+//! they are stored. Two bodies have the same log type where their symbols are the same.
 #![tactic(auto)]
 
 mod laws;
@@ -13,7 +13,7 @@ mod symbols;
 mod text;
 
 pub use laws::{one_list_of_parts, one_type_text};
-pub use spans::{Span, Spans, Split};
+pub use spans::{CodedList, Span, Spans, Split};
 pub use splitting::split;
 pub use symbols::{Kind, Symbol, Symbols};
 pub use text::{TextRefusal, from_text, text_ok, to_text};

@@ -1,8 +1,9 @@
-//! Where variables stand.
+//! Where variables stand, and what they are coded as.
 ghost use Rattle.std.specs.Prelude.{◌≡◌};
 
 use crate::Symbols;
 use std::marker::Model;
+use var_codec::Coded;
 
 /// The place of a variable in its body: the bytes from `start` up to `end`.
 #[derive(Clone, Copy, Debug, PartialEq, Eq)]
@@ -42,13 +43,56 @@ impl Spans {
     {
         self.spans.as_slice()
     }
+
+    // The list itself.
+    pub(crate) fn into_vec(self) -> Vec<Span> {
+        self.spans
+    }
 }
 
-/// A body's symbols, and the places of its variables.
+/// What a body's variables are coded as, in order. Contracts see the list.
+#[derive(Debug, Drop)]
+pub struct CodedList {
+    codes: Vec<Coded>,
+}
+
+impl Model for CodedList {
+    ghost use Rattle.std.specs.Prelude.{List};
+    ghost use Rattle.var_codec.specs.declared.Coded.{Coded};
+
+    ghost Value = { List Coded };
+
+    ghost view = { λ c. c.codes.items };
+}
+
+impl CodedList {
+    /// The list of these. Takes no memory.
+    pub fn new(codes: Vec<Coded>) -> CodedList
+        ensures { result ≡ codes.items }
+    {
+        CodedList { codes }
+    }
+
+    /// The codes in order, lent as a slice.
+    pub fn as_slice(&self) -> &[Coded]
+        ensures { result.now ≡ self.now }
+    {
+        self.codes.as_slice()
+    }
+
+    // The list itself.
+    pub(crate) fn into_vec(self) -> Vec<Coded> {
+        self.codes
+    }
+}
+
+/// A body's symbols, the places of its variables, and what they are coded as.
 #[derive(Debug, Drop)]
 pub struct Split {
     /// The constant bytes of the body, and a slot for each variable.
     pub symbols: Symbols,
     /// For each slot, in order, where in the body its variable stands.
     pub spans: Spans,
+    /// For each slot, in order, what its variable is coded as.
+    pub codes: CodedList,
 }

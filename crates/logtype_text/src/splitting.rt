@@ -1,14 +1,16 @@
 //! From a body to its symbols.
-ghost use Rattle.std.specs.Prelude.{◌≡◌, ◌+◌, ◌<◌, ◌≤◌, ◌++◌, All, IfOk, length, map, vec_capacity, vec_len};
+ghost use Rattle.std.specs.Prelude.{◌≡◌, ◌+◌, ◌<◌, ◌≤◌, ◌++◌, [], All, IfOk, IfSome, IsNone, OnOk, length, map, vec_capacity, vec_len};
 ghost use Rattle.logtype_text.specs.declared.symbols.Symbol.TheVariants.{Byte};
-ghost use Rattle.logtype_text.specs.Parts.{IsSplit, kind_of, slot_count};
+ghost use Rattle.logtype_text.specs.Parts.{AreCodes, IsFree, IsSplit, IsVariableToken, kind_of, slot_count};
+ghost use Rattle.token_rules.specs.Tokens.{IsOutside};
 
-use crate::{Kind, Span, Spans, Split, Symbol, Symbols};
+use crate::{CodedList, Kind, Span, Spans, Split, Symbol, Symbols};
 use std::alloc::{AllocError, Global};
+use std::mem;
 use token_rules::next_token;
 use var_codec::{Coded, encode};
 
-/// Splits a body into its symbols and the places of its variables.
+/// Splits a body into its symbols, the places of its variables, and what these are coded as.
 ///
 /// Each token that is a variable, by the rule of [`token_rules::is_var`], becomes one slot of the kind
 /// that [`var_codec::encode`] tells; every other byte of the body is a constant byte.
@@ -16,29 +18,95 @@ pub fn split(alloc: Global, body: &[u8]) -> Result<Split, AllocError>
     ensures parts { IfOk result (λ s. IsSplit body.now s.symbols s.spans) }
     ensures count { IfOk result (λ s. length s.spans ≡ slot_count s.symbols) }
     ensures ranges { IfOk result (λ s. All (λ p. (p.start < p.end) × (p.end ≤ length body.now)) s.spans) }
+    ensures codes { IfOk result (λ s. AreCodes body.now s.spans s.codes) }
 {
-    let mut symbols = Vec::with_capacity(alloc, body.len())?;
-    let mut spans = Vec::new(alloc);
-    let mut at = 0;
-    while let Some(token) = next_token(body, at) {
-        if token.variable {
-            push_bytes(&mut symbols, &body[at..token.start]);
-            let kind = kind_of(encode(&body[token.start..token.end]));
-            symbols.push_reserved(Symbol::Slot(kind));
-            spans.push(Span {
-                start: token.start,
-                end: token.end,
-            })?;
-        } else {
-            push_bytes(&mut symbols, &body[at..token.end]);
+    split_into(Split::new(alloc), body)
+}
+
+impl Split {
+    /// A split of nothing. Takes no memory.
+    pub fn new(alloc: Global) -> Split
+        ensures symbols { result.symbols ≡ [] }
+        ensures spans { result.spans ≡ [] }
+        ensures codes { result.codes ≡ [] }
+    {
+        Split {
+            symbols: Symbols::new(Vec::new(alloc)),
+            spans: Spans::new(Vec::new(alloc)),
+            codes: CodedList::new(Vec::new(alloc)),
         }
-        at = token.end;
+    }
+
+    /// Splits a body as [`split`] does, and uses the memory of the split before. After a want of memory
+    /// it is a split of nothing.
+    pub fn fill(&mut self, alloc: Global, body: &[u8]) -> Result<(), AllocError>
+        ensures parts { OnOk result (IsSplit body.now self.new.symbols self.new.spans) }
+        ensures count { OnOk result (length self.new.spans ≡ slot_count self.new.symbols) }
+        ensures ranges { OnOk result (All (λ p. (p.start < p.end) × (p.end ≤ length body.now)) self.new.spans) }
+        ensures codes { OnOk result (AreCodes body.now self.new.spans self.new.codes) }
+    {
+        let before = mem::replace(self, Split::new(alloc));
+        *self = split_into(before, body)?;
+        Ok(())
+    }
+}
+
+// Splits a body, in the memory of an earlier split.
+fn split_into(before: Split, body: &[u8]) -> Result<Split, AllocError>
+    ensures parts { IfOk result (λ s. IsSplit body.now s.symbols s.spans) }
+    ensures count { IfOk result (λ s. length s.spans ≡ slot_count s.symbols) }
+    ensures ranges { IfOk result (λ s. All (λ p. (p.start < p.end) × (p.end ≤ length body.now)) s.spans) }
+    ensures codes { IfOk result (λ s. AreCodes body.now s.spans s.codes) }
+{
+    let Split {
+        symbols,
+        spans,
+        codes,
+    } = before;
+    let mut symbols = symbols.into_vec();
+    let mut spans = spans.into_vec();
+    let mut codes = codes.into_vec();
+    symbols.clear();
+    spans.clear();
+    codes.clear();
+    symbols.reserve(body.len())?;
+    let mut at = 0;
+    while let Some(span) = next_variable(body, at) {
+        push_bytes(&mut symbols, &body[at..span.start]);
+        let coded = encode(&body[span.start..span.end]);
+        symbols.push_reserved(Symbol::Slot(kind_of(coded)));
+        spans.push(span)?;
+        codes.push(coded)?;
+        at = span.end;
     }
     push_bytes(&mut symbols, &body[at..]);
     Ok(Split {
         symbols: Symbols::new(symbols),
         spans: Spans::new(spans),
+        codes: CodedList::new(codes),
     })
+}
+
+// The first variable from a place on, which stands in no token; `None` where none is left.
+#[inline]
+fn next_variable(body: &[u8], from: usize) -> Option<Span>
+    requires in_range { from ≤ length body.now }
+    requires outside { IsOutside body.now from }
+    ensures first { IfSome result (λ span. (from ≤ span.start) × IsFree body.now from span.start) }
+    ensures token { IfSome result (λ span. IsVariableToken body.now span.start span.end) }
+    ensures none { IsNone result → IsFree body.now from (length body.now) }
+{
+    let mut at = from;
+    while let Some(token) = next_token(body, at) {
+        if token.variable {
+            return Some(Span {
+                start: token.start,
+                end: token.end,
+            });
+        }
+        at = token.end;
+    }
+    None
 }
 
 // The kind of variable that has such a word.

@@ -52,4 +52,9 @@ impl Symbols {
     {
         self.symbols.as_slice()
     }
+
+    // The list itself.
+    pub(crate) fn into_vec(self) -> Vec<Symbol> {
+        self.symbols
+    }
 }

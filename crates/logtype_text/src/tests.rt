@@ -1,7 +1,8 @@
 use crate::{
-    Kind, Span, Symbol, Symbols, TextRefusal, from_text, one_list_of_parts, one_type_text, split,
-    text_ok, to_text,
+    Kind, Span, Split, Symbol, Symbols, TextRefusal, from_text, one_list_of_parts, one_type_text,
+    split, text_ok, to_text,
 };
+use var_codec::Coded;
 
 // Bodies with the text of their log type.
 #[test]
@@ -64,12 +65,49 @@ fn places_of_variables(rt: HostRuntime) -> Result<(), TextRefusal> {
         Span { start: 21, end: 22 },
     ];
     assert_eq!(rt; parts.spans.as_slice(), spans.as_slice());
+    let codes = [Coded::Decimal(0x14F32), Coded::Word, Coded::Whole(7)];
+    assert_eq!(rt; parts.codes.as_slice(), codes.as_slice());
     let symbols = parts.symbols.as_slice();
     assert_eq!(rt; symbols.len(), 17);
     assert_eq!(rt; symbols.get(4), Some(&Symbol::Byte(b' ')));
     assert_eq!(rt; symbols.get(5), Some(&Symbol::Slot(Kind::Decimal)));
     assert_eq!(rt; symbols.get(13), Some(&Symbol::Slot(Kind::Word)));
     assert_eq!(rt; symbols.last(), Some(&Symbol::Slot(Kind::Whole)));
+    Ok(())
+}
+
+// One split that is filled again and again is that of the last body.
+#[test]
+fn one_split_of_many_bodies(rt: HostRuntime) -> Result<(), TextRefusal> {
+    let bodies: [&[u8]; 6] = [
+        b"took 0.335 s, id=ab, 7",
+        b"",
+        b"7 8 9 10 11 12 13 14 15",
+        b"no variable, and a longer body than those before it",
+        b"x=foo foo bad to",
+        b"-1",
+    ];
+    let mut split_of_all = Split::new(rt.alloc());
+    assert!(rt; split_of_all.symbols.as_slice().is_empty());
+    for body in bodies {
+        split_of_all.fill(rt.alloc(), body)?;
+        let alone = split(rt.alloc(), body)?;
+        assert_eq!(rt;
+            split_of_all.symbols.as_slice(),
+            alone.symbols.as_slice(),
+            "at {body:?}"
+        );
+        assert_eq!(rt;
+            split_of_all.spans.as_slice(),
+            alone.spans.as_slice(),
+            "at {body:?}"
+        );
+        assert_eq!(rt;
+            split_of_all.codes.as_slice(),
+            alone.codes.as_slice(),
+            "at {body:?}"
+        );
+    }
     Ok(())
 }
 

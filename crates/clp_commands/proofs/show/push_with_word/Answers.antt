@@ -2,4 +2,4 @@ use Rattle.std.proofs.lemmas.List.{append_assoc}
 use Rattle.clp_commands.proofs.show.push_with_word.Goals as goal
 
 pub returns : goal.returns
-returns c = rw (c.in_ok-push-2.ensures.items, c.in_ok-extend_from_slice-3.ensures.items, c.in_ok-push.ensures.items, c.in_ok-extend_from_slice-2.ensures.items, c.in_ok-extend_from_slice.ensures.items, c.hexadecimal.ensures) (simp append_assoc)
+returns c = rw (c.in_ok-extend_from_slice-3.ensures.items, c.in_ok-extend_from_slice-2.ensures.items, c.in_ok-extend_from_slice.ensures.items, c.word_end.ensures) (simp append_assoc)
