@@ -1,10 +1,10 @@
 //! A journal over a disk that is lent to it: opening it, walking along its records, and appending.
 ghost use Rattle.std.specs.Prelude.{◌≡◌, ◌≤◌, ◌<◌, ◌+◌, ◌-◌, ◌^◌, ℕ, IsTrue, IsFalse, IsNone, false, length, take, drop, IfOk, OnOk, OnErr, IfSome, IfNone, IsErrOf, is_none, is_some};
-ghost use Rattle.log_seams.specs.Disk.{Only, NoMore, LeavesOnly, ReadsOnly};
+ghost use Rattle.log_seams.specs.Disk.{Only, NoMore, LeavesOnly, ReadsOnly, with_range};
 ghost use Rattle.log_seams.specs.Outside.{Counts, Rose};
 ghost use Rattle.record_format.specs.Header.{IsHeader, header_bytes};
 ghost use Rattle.disk_journal.specs.Record.{IsFrame, saved_of};
-ghost use Rattle.disk_journal.specs.Place.{Walked, AtEnd, NoHeader, IsDamaged, Passed, BeforeOrAfter, Added};
+ghost use Rattle.disk_journal.specs.Place.{Walked, AtEnd, NoHeader, IsDamaged, ClosedAt, OpenAt, Passed, BeforeOrAfter, Added};
 
 use crate::synced::write_synced;
 use crate::walk::look;
@@ -136,21 +136,24 @@ impl<'d, D: Disk> Journal<'d, D> {
         self.disk.faults()
     }
 
-    /// Walks past the next record and tells where it stands; `None` exactly at the closed gate.
+    /// Walks past the next record and tells where it stands; `None` exactly at a closed gate.
     /// `Damaged` exactly where there is no gate, or an open one without a whole record behind it; the
     /// walk then stays where it was. Reads no byte of a payload. Takes no memory.
     pub fn next_place(&mut self) -> Result<Option<RecordPlace>, WalkRefusal>
-        requires walked { Walked (header_bytes self.old.header) self.old.place self.old.count (D.seen self.old.disk.now) }
-        requires settled { Only (D.seen self.old.disk.now) (D.images self.old.disk.now) }
         ensures name { self.new.disk.ghost_name ≡ self.old.disk.ghost_name }
         ensures header { self.new.header ≡ self.old.header }
-        ensures walked { Walked (header_bytes self.new.header) self.new.place self.new.count (D.seen self.new.disk.now) }
-        ensures settled { Only (D.seen self.new.disk.now) (D.images self.new.disk.now) }
+        ensures walked { Walked (header_bytes self.old.header) self.old.place self.old.count (D.seen self.old.disk.now)
+            → Walked (header_bytes self.new.header) self.new.place self.new.count (D.seen self.new.disk.now) }
+        ensures settled { Only (D.seen self.old.disk.now) (D.images self.old.disk.now) → Only (D.seen self.new.disk.now) (D.images self.new.disk.now) }
         ensures closed { IfOk result (λ next. self.new.closed ≡ is_none next) }
-        ensures at_end { IfOk result (λ next. IfNone next (AtEnd (header_bytes self.new.header) self.new.place self.new.count (D.seen self.new.disk.now) (D.images self.new.disk.now))) }
+        ensures gate { IfOk result (λ next. IfNone next (ClosedAt self.old.place (D.seen self.old.disk.now))) }
+        ensures at_end { Walked (header_bytes self.old.header) self.old.place self.old.count (D.seen self.old.disk.now) → Only (D.seen self.old.disk.now) (D.images self.old.disk.now)
+            → IfOk result (λ next. IfNone next (AtEnd (header_bytes self.new.header) self.new.place self.new.count (D.seen self.new.disk.now) (D.images self.new.disk.now))) }
         ensures stays { IfOk result (λ next. IfNone next ((self.new.place ≡ self.old.place) × (self.new.count ≡ self.old.count))) }
         ensures place { IfOk result (λ next. IfSome next (λ p. (p.at ≡ self.old.place) × (p.payload ≡ p.at + 10) × (self.new.place ≡ p.payload + p.length) × (self.new.count ≡ self.old.count + 1))) }
-        ensures passed { IfOk result (λ next. IfSome next (λ p. Passed (D.seen self.old.disk.now) self.old.count p.kind p.payload p.length)) }
+        ensures found { IfOk result (λ next. IfSome next (λ p. OpenAt self.old.place p.kind p.length (D.seen self.old.disk.now))) }
+        ensures passed { Walked (header_bytes self.old.header) self.old.place self.old.count (D.seen self.old.disk.now)
+            → IfOk result (λ next. IfSome next (λ p. Passed (D.seen self.old.disk.now) self.old.count p.kind p.payload p.length)) }
         ensures err { OnErr result ((self.new.place ≡ self.old.place) × (self.new.count ≡ self.old.count) × (self.new.closed ≡ self.old.closed)) }
         ensures damaged { (at : ℕ) → IsErrOf result (WalkRefusal.Damaged at) → (at ≡ self.old.place) × IsDamaged self.old.place (D.seen self.old.disk.now) }
         ensures fault { IsErrOf result WalkRefusal.DiskFault → Rose (D.faults self.old.disk.now) (D.faults self.new.disk.now) }
@@ -187,6 +190,12 @@ impl<'d, D: Disk> Journal<'d, D> {
         ensures size { IfOk result (λ text. length text ≡ len) }
         ensures text { IfOk result (λ text. IfSome (D.seen self.old.disk.now) (λ bytes. text ≡ take len (drop at bytes))) }
         ensures damaged { (place : ℕ) → IsErrOf result (LoadRefusal.Damaged place) → (place ≡ at) × IsNone (D.seen self.old.disk.now) }
+        ensures fewer { (place : ℕ) → IsErrOf result (LoadRefusal.Damaged place) → (n : ℕ) × (n < len) × (D.ranges self.new.disk.now ≡ with_range at n (D.ranges self.old.disk.now)) }
+        ensures walked { Walked (header_bytes self.old.header) self.old.place self.old.count (D.seen self.old.disk.now)
+            → Walked (header_bytes self.new.header) self.new.place self.new.count (D.seen self.new.disk.now) }
+        ensures settled { Only (D.seen self.old.disk.now) (D.images self.old.disk.now) → Only (D.seen self.new.disk.now) (D.images self.new.disk.now) }
+        ensures at_end { AtEnd (header_bytes self.old.header) self.old.place self.old.count (D.seen self.old.disk.now) (D.images self.old.disk.now)
+            → AtEnd (header_bytes self.new.header) self.new.place self.new.count (D.seen self.new.disk.now) (D.images self.new.disk.now) }
         ensures fault { IsErrOf result LoadRefusal.DiskFault → Rose (D.faults self.old.disk.now) (D.faults self.new.disk.now) }
         ensures counts { D.faults self.old.disk.now ≤ D.faults self.new.disk.now }
         ensures seen { D.seen self.new.disk.now ≡ D.seen self.old.disk.now }

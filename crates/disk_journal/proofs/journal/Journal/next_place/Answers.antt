@@ -8,30 +8,30 @@ pub invariant_of-self-in-None-clause-below : goal.invariant_of-self-in-None-clau
 invariant_of-self-in-None-clause-below g c = λ yes. rw c.in-None.is at c.in_ok-look.ensures.small
 
 pub returns-in-None-clause-at_end : goal.returns-in-None-clause-at_end
-returns-in-None-clause-at_end g c =
+returns-in-None-clause-at_end g c = λ walked settled.
     let told = g.D.Disk.seen c.args.self.now.disk.now in
     let closed = rw c.in-None.is at c.in_ok-look.ensures.closed in
-    let only = only_less told _ (g.D.Disk.images c.look.new.disk) c.requires.settled c.look.ensures.images in
-    let end = walk_ends (header_bytes c.args.self.now.header) c.args.self.now.place c.args.self.now.count told (g.D.Disk.images c.look.new.disk) c.requires.walked closed only in
+    let only = only_less told _ (g.D.Disk.images c.look.new.disk) settled c.look.ensures.images in
+    let end = walk_ends (header_bytes c.args.self.now.header) c.args.self.now.place c.args.self.now.count told (g.D.Disk.images c.look.new.disk) walked closed only in
     subst (λ (t : Option (List ℕ)). AtEnd (header_bytes c.args.self.now.header) c.args.self.now.place c.args.self.now.count t (g.D.Disk.images c.look.new.disk)) (sym c.look.ensures.seen) end
 
 pub returns-in-Some-clause-walked : goal.returns-in-Some-clause-walked
-returns-in-Some-clause-walked g c =
+returns-in-Some-clause-walked g c = λ walked.
     let told = g.D.Disk.seen c.args.self.now.disk.now in
     let next = c.in-Some.next in
     let opened = rw c.in-Some.is at c.in_ok-look.ensures.opened in
     let place = rw c.in-Some.is at c.in_ok-look.ensures.place in
     let payload : c.args.self.now.place + 10 ≡ next.payload = sym place.1 in
-    let on = walked_on (header_bytes c.args.self.now.header) c.args.self.now.place c.args.self.now.count next.kind next.length told c.requires.walked opened in
+    let on = walked_on (header_bytes c.args.self.now.header) c.args.self.now.place c.args.self.now.count next.kind next.length told walked opened in
     let there = subst (λ (k : ℕ). Walked (header_bytes c.args.self.now.header) (k + next.length) (c.args.self.now.count + 1) told) payload on in
     subst (λ (t : Option (List ℕ)). Walked (header_bytes c.args.self.now.header) (next.payload + next.length) (c.args.self.now.count + 1) t) (sym c.look.ensures.seen) there
 
 pub returns-in-Some-clause-passed : goal.returns-in-Some-clause-passed
-returns-in-Some-clause-passed g c =
+returns-in-Some-clause-passed g c = λ walked.
     let told = g.D.Disk.seen c.args.self.now.disk.now in
     let next = c.in-Some.next in
     let opened = rw c.in-Some.is at c.in_ok-look.ensures.opened in
     let place = rw c.in-Some.is at c.in_ok-look.ensures.place in
     let payload : c.args.self.now.place + 10 ≡ next.payload = sym place.1 in
     subst (λ (k : ℕ). Passed told c.args.self.now.count next.kind k next.length) payload
-    (passed (header_bytes c.args.self.now.header) c.args.self.now.place c.args.self.now.count next.kind next.length told c.requires.walked opened)
+    (passed (header_bytes c.args.self.now.header) c.args.self.now.place c.args.self.now.count next.kind next.length told walked opened)
