@@ -22,6 +22,9 @@ pub fn create<D: Disk>(disk: &mut D, header: &Header) -> Result<(), CreateRefusa
     ensures kept { (len : ℕ) → IsErrOf result (CreateRefusal.NotEmpty len) → D.seen disk.new ≡ D.seen disk.old }
     ensures images { (len : ℕ) → IsErrOf result (CreateRefusal.NotEmpty len) → NoMore (D.images disk.old) (D.images disk.new) }
     ensures no_fewer { (len : ℕ) → IsErrOf result (CreateRefusal.NotEmpty len) → NoMore (D.images disk.new) (D.images disk.old) }
+    ensures spared { IfSome (D.seen disk.old) (λ bytes. 0 < length bytes → D.seen disk.new ≡ D.seen disk.old) }
+    ensures spared_images { IfSome (D.seen disk.old) (λ bytes. 0 < length bytes → NoMore (D.images disk.old) (D.images disk.new)) }
+    ensures spared_no_fewer { IfSome (D.seen disk.old) (λ bytes. 0 < length bytes → NoMore (D.images disk.new) (D.images disk.old)) }
     ensures fault { IsErrOf result CreateRefusal.DiskFault → Rose (D.faults disk.old) (D.faults disk.new) }
     ensures counts { D.faults disk.old ≤ D.faults disk.new }
     ensures tells { is_some (D.seen disk.new) ≡ is_some (D.seen disk.old) }
