@@ -1,5 +1,5 @@
 //! Several records in a row.
-ghost use Rattle.std.specs.Prelude.{◌≡◌, ◌≤◌, ◌<◌, ◌+◌, ℕ, IsTrue, All, length, OnOk, OnErr, is_some, List};
+ghost use Rattle.std.specs.Prelude.{◌≡◌, ◌≤◌, ◌<◌, ◌+◌, ℕ, IsTrue, All, length, take, OnOk, OnErr, is_some, List};
 ghost use Rattle.log_seams.specs.Disk.{LeavesOnly};
 ghost use Rattle.log_seams.specs.Outside.{Counts};
 ghost use Rattle.record_format.specs.Header.{header_bytes};
@@ -27,6 +27,7 @@ pub fn append_each<'d, D: Disk>(journal: &mut Journal<'d, D>, texts: &[Text]) ->
     ensures added { OnOk result (AddedFirst (D.seen journal.old.disk.now) journal.old.count (saved_all texts.now) (length texts.now) (D.seen journal.new.disk.now) journal.new.count) }
     ensures count { OnOk result ((journal.new.count ≡ journal.old.count + length texts.now) × (journal.new.place ≡ journal.old.place + size_all texts.now)) }
     ensures stopped { OnErr result ((k : ℕ) × (k < length texts.now) × (journal.new.count ≡ journal.old.count + k)
+        × (journal.new.place ≡ journal.old.place + size_all (take k texts.now))
         × ((c : List ℕ) → D.images journal.new.disk.now c → UnderWay (header_bytes journal.old.header) (D.seen journal.old.disk.now) journal.old.count (saved_all texts.now) k c)) }
     ensures moments { LeavesOnly D.clock D.since journal.old.disk.now journal.new.disk.now
         (WithFirstTold (header_bytes journal.old.header) (D.seen journal.old.disk.now) journal.old.count (saved_all texts.now)) }

@@ -4,7 +4,7 @@ use Rattle.record_format.specs.Header.{header_bytes}
 use Rattle.record_format.specs.declared.header.Header.{Header}
 use Rattle.disk_journal.specs.Record.{saved_of}
 use Rattle.disk_journal.specs.Place.{BeforeOrAfter, Added, WithFirstTold}
-use Rattle.disk_journal.specs.Row.{saved_all}
+use Rattle.disk_journal.specs.Row.{saved_all, size_all}
 use Rattle.disk_journal.proofs.Ends.{step_image, step_added, under_way_first, image_none, added_none, size_more, size_within, saved_more, length-saved}
 use Rattle.disk_journal.proofs.row.append_each.Goals as goal
 
@@ -40,10 +40,12 @@ returns-in-Err-DiskFault-clause-stopped g c =
     let same : c.as_slice.result.now ≡ c.text-item.result = c.as_slice.ensures in
     let next : take (i + 1) new ≡ take i new ++ r ∷ [] =
     saved_more c.args.texts.now i c.text-item.result c.loop-text-test.true ∙ ap (λ (t : List ℕ). take i new ++ saved_of t ∷ []) (sym c.text-item.is) in
-    let count : c.append.new.self.count ≡ j.count + i = (c.in-Err-DiskFault.ensures.err).0 ∙ inv.count in (
+    let count : c.append.new.self.count ≡ j.count + i = (c.in-Err-DiskFault.ensures.err).0 ∙ inv.count in
+    let place : c.append.new.self.place ≡ j.place + size_all (take i c.args.texts.now) = (c.in-Err-DiskFault.ensures.err).1 ∙ inv.place in (
       i,
       c.loop-text-test.true,
       count,
+      place,
       λ f left.
           let since = g.met.D.Disk.counts_now c.append.new.self.disk.now (g.D.Disk.clock mid.disk.now) f c.append.ensures.moments.later left in
           let was = c.append.ensures.moments.each f since in
