@@ -1,11 +1,11 @@
--- What the two writes of an append leave, and several appends in a row.
+-- What the two writes of an append leave, and several appends one after the other.
 use Rattle.std.proofs.Common.{◌≡◌, inl, inr, ⊎_elim, ℕ, zero, suc, ◌+◌, ◌^◌, ◌<◌, ◌≤◌, List, [], ◌∷◌, ◌++◌, length, take, drop, get_or, Option, Some, None, refl, sym, ◌∙◌, ap, subst, arith, length-append}
 use Rattle.std.specs.Prelude.{option_map, is_some}
 use Rattle.std.proofs.lemmas.List.{append_assoc, append-nil, take_more, drop_more}
 use Rattle.log_seams.specs.Disk.{laid, Only}
 use Rattle.disk_journal.specs.Record.{Saved, body, frame_of, spelled, Stands, saved_of, IsFrame, records}
 use Rattle.disk_journal.specs.Place.{IsSettled, AtEnd, TornFrom, BeforeOrAfter, Added, WithFirstTold, AddedFirst, UnderWay}
-use Rattle.disk_journal.specs.Row.{saved_all, size_all}
+use Rattle.disk_journal.specs.Series.{saved_all, size_all}
 use Rattle.disk_journal.proofs.Spelling.{length-body, length-frame, spelled-push, laid_behind, laid_byte, stands_more, torn_behind, torn_gate, fit_push}
 use Rattle.disk_journal.proofs.Steps.{settled_by}
 

@@ -1,4 +1,4 @@
 pub mod Record
 pub mod Place
-pub mod Row
+pub mod Series
 pub mod Laws

@@ -77,6 +77,14 @@ Passed None count kind payload len = Unit {0}
 Passed (Some bytes) count kind payload len =
     (payload + len ≤ length bytes) × (records (count + 1) (drop 32 bytes) ≡ records count (drop 32 bytes) ++ (record { kind = kind; payload = take len (drop payload bytes) }) ∷ [])
 
+-- so many bytes from a place on are there
+abbrev pub HasRange : ℕ → ℕ → List ℕ → Type 0
+HasRange at n bytes = at + n ≤ length bytes
+
+-- a text of so many bytes
+abbrev pub HasSize : ℕ → List ℕ → Type 0
+HasSize n text = length text ≡ n
+
 -- c is the bytes after a write of n bytes there that a crash cuts short
 abbrev pub TornFrom : Option (List ℕ) → ℕ → ℕ → List ℕ → Type 0
 TornFrom None at n c = Unit {0}

@@ -4,7 +4,7 @@ ghost use Rattle.log_seams.specs.Disk.{Only, NoMore, LeavesOnly, ReadsOnly, with
 ghost use Rattle.log_seams.specs.Outside.{Counts, Rose};
 ghost use Rattle.record_format.specs.Header.{IsHeader, header_bytes};
 ghost use Rattle.disk_journal.specs.Record.{IsFrame, saved_of};
-ghost use Rattle.disk_journal.specs.Place.{Walked, AtEnd, NoHeader, IsDamaged, ClosedAt, OpenAt, Passed, BeforeOrAfter, Added};
+ghost use Rattle.disk_journal.specs.Place.{Walked, AtEnd, NoHeader, IsDamaged, ClosedAt, OpenAt, Passed, HasRange, HasSize, BeforeOrAfter, Added};
 
 use crate::synced::write_synced;
 use crate::walk::look;
@@ -177,20 +177,20 @@ impl<'d, D: Disk> Journal<'d, D> {
         }
     }
 
-    /// Loads `len` bytes from the place `at`, a range within a payload that was walked past. `Damaged`
+    /// Loads `length` bytes from the place `at`, a range within a payload that was walked past. `Damaged`
     /// where the disk gave fewer bytes, which one that tells its bytes does not. Reads no byte outside
     /// the range.
-    pub fn load(&mut self, alloc: Global, at: u64, len: u64) -> Result<Text, LoadRefusal>
-        requires { IfSome (D.seen self.old.disk.now) (λ bytes. at + len ≤ length bytes) }
+    pub fn load(&mut self, alloc: Global, at: u64, length: u64) -> Result<Text, LoadRefusal>
+        requires { IfSome (D.seen self.old.disk.now) (HasRange at length) }
         ensures name { self.new.disk.ghost_name ≡ self.old.disk.ghost_name }
         ensures header { self.new.header ≡ self.old.header }
         ensures place { self.new.place ≡ self.old.place }
         ensures count { self.new.count ≡ self.old.count }
         ensures closed { self.new.closed ≡ self.old.closed }
-        ensures size { IfOk result (λ text. length text ≡ len) }
-        ensures text { IfOk result (λ text. IfSome (D.seen self.old.disk.now) (λ bytes. text ≡ take len (drop at bytes))) }
+        ensures size { IfOk result (HasSize length) }
+        ensures text { IfOk result (λ text. IfSome (D.seen self.old.disk.now) (λ bytes. text ≡ take length (drop at bytes))) }
         ensures damaged { (place : ℕ) → IsErrOf result (LoadRefusal.Damaged place) → (place ≡ at) × IsNone (D.seen self.old.disk.now) }
-        ensures fewer { (place : ℕ) → IsErrOf result (LoadRefusal.Damaged place) → (n : ℕ) × (n < len) × (D.ranges self.new.disk.now ≡ with_range at n (D.ranges self.old.disk.now)) }
+        ensures fewer { (place : ℕ) → IsErrOf result (LoadRefusal.Damaged place) → (n : ℕ) × (n < length) × (D.ranges self.new.disk.now ≡ with_range at n (D.ranges self.old.disk.now)) }
         ensures walked { Walked (header_bytes self.old.header) self.old.place self.old.count (D.seen self.old.disk.now)
             → Walked (header_bytes self.new.header) self.new.place self.new.count (D.seen self.new.disk.now) }
         ensures settled { Only (D.seen self.old.disk.now) (D.images self.old.disk.now) → Only (D.seen self.new.disk.now) (D.images self.new.disk.now) }
@@ -202,9 +202,9 @@ impl<'d, D: Disk> Journal<'d, D> {
         ensures images { NoMore (D.images self.old.disk.now) (D.images self.new.disk.now) }
         ensures no_fewer { NoMore (D.images self.new.disk.now) (D.images self.old.disk.now) }
         ensures moments { LeavesOnly D.clock D.since self.old.disk.now self.new.disk.now (D.images self.old.disk.now) }
-        ensures ranges { ReadsOnly at len (D.ranges self.old.disk.now) (D.ranges self.new.disk.now) }
+        ensures ranges { ReadsOnly at length (D.ranges self.old.disk.now) (D.ranges self.new.disk.now) }
     {
-        let mut bytes = vec![in alloc; 0; len as usize]?;
+        let mut bytes = vec![in alloc; 0; length as usize]?;
         let count = self.disk.read(at, bytes.as_mut_slice())?;
         if count < bytes.len() {
             return Err(LoadRefusal::Damaged { at });

@@ -2,21 +2,21 @@
 //! the journal as it was, or with the new record.
 #![tactic(auto)]
 
-pub mod empty;
-pub mod journal;
-pub mod laws;
-pub mod record;
-pub mod refusals;
-pub mod row;
-pub mod synced;
-pub mod walk;
-
-pub use empty::create;
-pub use journal::{Journal, start};
-pub use record::frame;
-pub use refusals::{AppendRefusal, CreateRefusal, LoadRefusal, StartRefusal, WalkRefusal};
-pub use row::append_each;
-pub use walk::RecordPlace;
-
+mod creation;
+mod journal;
+mod laws;
+mod record;
+mod refusals;
+mod series;
+mod synced;
 #[cfg(test)]
 mod tests;
+mod walk;
+
+pub use creation::create;
+pub use journal::{Journal, start};
+pub use laws::{frames_one, stand_for_one};
+pub use record::frame;
+pub use refusals::{AppendRefusal, CreateRefusal, LoadRefusal, StartRefusal, WalkRefusal};
+pub use series::append_each;
+pub use walk::RecordPlace;

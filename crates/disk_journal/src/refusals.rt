@@ -64,7 +64,7 @@ pub enum AppendRefusal {
     #[error("the disk failed")]
     DiskFault,
     /// The journal ends at `end` and the record needs `need` bytes, which is more than its limit.
-    #[error("full: {end} and {need} bytes")]
+    #[error("full at {end}, {need} more needed")]
     ArchiveFull { end: u64, need: u64 },
 }
 

@@ -9,7 +9,7 @@ use log_seams::{Disk, Failed};
 /// Writes to a disk of which a crash leaves what is read, and syncs: after `Ok` a crash leaves what is
 /// read again, with the bytes written. At any moment a crash leaves the bytes as they were, but for
 /// the range, which may hold anything. Makes two calls on the disk.
-pub fn write_synced<D: Disk>(disk: &mut D, at: u64, bytes: &[u8]) -> Result<(), Failed>
+pub(crate) fn write_synced<D: Disk>(disk: &mut D, at: u64, bytes: &[u8]) -> Result<(), Failed>
     requires place { IfSome (D.seen disk.old) (λ old. at ≤ length old) }
     requires end { at + length bytes.now ≤ 2 ^ 62 }
     requires settled { Only (D.seen disk.old) (D.images disk.old) }

@@ -4,9 +4,9 @@ use Rattle.record_format.specs.Header.{header_bytes}
 use Rattle.record_format.specs.declared.header.Header.{Header}
 use Rattle.disk_journal.specs.Record.{saved_of}
 use Rattle.disk_journal.specs.Place.{BeforeOrAfter, Added, WithFirstTold}
-use Rattle.disk_journal.specs.Row.{saved_all, size_all}
+use Rattle.disk_journal.specs.Series.{saved_all, size_all}
 use Rattle.disk_journal.proofs.Ends.{step_image, step_added, under_way_first, image_none, added_none, size_more, size_within, saved_more, length-saved}
-use Rattle.disk_journal.proofs.row.append_each.Goals as goal
+use Rattle.disk_journal.proofs.series.append_each.Goals as goal
 
 pub loop-text-init : goal.loop-text-init
 loop-text-init g c =
@@ -69,7 +69,7 @@ returns-in-Err-DiskFault-clause-moments g c =
     let next : take (i + 1) new ≡ take i new ++ r ∷ [] =
     saved_more c.args.texts.now i c.text-item.result c.loop-text-test.true ∙ ap (λ (t : List ℕ). take i new ++ saved_of t ∷ []) (sym c.text-item.is) in
     let below : i < length new = omega (arith, length-saved c.args.texts.now, c.loop-text-test.true) in
-    joined g.D.Disk.clock g.D.Disk.since g.D.Disk.images g.met.D.Disk.wider j.disk.now mid.disk.now c.append.new.self.disk.now _ _ (WithFirstTold (header_bytes j.header) told j.count new)
+    joined g.D.Disk.clock g.D.Disk.since g.D.Disk.images g.met.D.Disk.wider j.disk.now mid.disk.now c.append.new.self.disk.now (WithFirstTold (header_bytes j.header) told j.count new) (BeforeOrAfter (header_bytes mid.header) (g.D.Disk.seen mid.disk.now) mid.count (saved_of c.as_slice.result.now)) (WithFirstTold (header_bytes j.header) told j.count new)
     inv.moments c.append.ensures.moments
     (λ f was. was)
     (λ f was.
@@ -117,7 +117,7 @@ loop-text-preserved g c =
       count = omega (arith, inv.count, ok0);
       place = omega (arith, inv.place, ok1, long, size_more c.args.texts.now i c.text-item.result c.loop-text-test.true);
       moments =
-          joined g.D.Disk.clock g.D.Disk.since g.D.Disk.images g.met.D.Disk.wider j.disk.now mid.disk.now c.append.new.self.disk.now _ _ (WithFirstTold (header_bytes j.header) told j.count new)
+          joined g.D.Disk.clock g.D.Disk.since g.D.Disk.images g.met.D.Disk.wider j.disk.now mid.disk.now c.append.new.self.disk.now (WithFirstTold (header_bytes j.header) told j.count new) (BeforeOrAfter (header_bytes mid.header) (g.D.Disk.seen mid.disk.now) mid.count (saved_of c.as_slice.result.now)) (WithFirstTold (header_bytes j.header) told j.count new)
           inv.moments c.append.ensures.moments
           (λ f was. was)
           (λ f was.

@@ -3,8 +3,8 @@ use Rattle.std.specs.Prelude.{IsTrue, is_some}
 use Rattle.log_seams.specs.Disk.{LeavesOnly}
 use Rattle.record_format.specs.Header.{header_bytes}
 use Rattle.disk_journal.specs.Place.{AtEnd, WithFirstTold, AddedFirst}
-use Rattle.disk_journal.specs.Row.{saved_all, size_all}
-use Rattle.disk_journal.proofs.row.append_each.Given as goal
+use Rattle.disk_journal.specs.Series.{saved_all, size_all}
+use Rattle.disk_journal.proofs.series.append_each.Given as goal
 
 abbrev pub invariant-loop-text : goal.invariant-loop-text
 invariant-loop-text g l = record {

@@ -1,11 +1,11 @@
-//! Several records in a row.
+//! Several records, appended one after the other.
 ghost use Rattle.std.specs.Prelude.{◌≡◌, ◌≤◌, ◌<◌, ◌+◌, ℕ, IsTrue, All, length, take, OnOk, OnErr, is_some, List};
 ghost use Rattle.log_seams.specs.Disk.{LeavesOnly};
 ghost use Rattle.log_seams.specs.Outside.{Counts};
 ghost use Rattle.record_format.specs.Header.{header_bytes};
 ghost use Rattle.disk_journal.specs.Record.{IsFrame};
 ghost use Rattle.disk_journal.specs.Place.{AtEnd, WithFirstTold, AddedFirst, UnderWay};
-ghost use Rattle.disk_journal.specs.Row.{saved_all, size_all};
+ghost use Rattle.disk_journal.specs.Series.{saved_all, size_all};
 
 use crate::{AppendRefusal, Journal};
 use log_seams::{Disk, Failed, Text};
