@@ -1,14 +1,15 @@
 //! A journal on a disk in memory: its bytes, its refusals, and every crash of a run.
-ghost use Rattle.std.specs.Prelude.{◌≡◌, ◌<◌, IsTrue};
-ghost use Rattle.log_seams.specs.Disk.{Only};
+ghost use Rattle.std.specs.Prelude.{◌<◌, ◌≤◌, IsTrue, IfOk};
 ghost use Rattle.record_format.specs.Header.{header_bytes};
+ghost use Rattle.log_seams.specs.MemDisk.{calls_of};
 ghost use Rattle.disk_journal.specs.Record.{IsFrame};
-ghost use Rattle.disk_journal.specs.Place.{AtEnd, Walked};
+ghost use Rattle.disk_journal.specs.Place.{AtEnd};
 
 use crate::{
-    AppendRefusal, CreateRefusal, Journal, RecordPlace, StartRefusal, WalkRefusal, create, frame,
+    AppendRefusal, CreateRefusal, Journal, RecordPlace, StartRefusal, WalkRefusal, append_each,
+    create, frame, frames_one, stand_for_one,
 };
-use log_seams::{Disk, MemDisk, Pending, Text};
+use log_seams::{Disk, Failed, MemDisk, Pending, Text};
 use record_format::Header;
 use std::alloc::{AllocError, Global};
 use std::test::Fail;
@@ -51,6 +52,31 @@ fn disk(alloc: Global, bytes: &[u8], fails: &[u64]) -> Result<MemDisk, AllocErro
     )
 }
 
+// The empty journal with three records appended: `first` of kind 1, twelve bytes of kind 2, and nothing
+// of kind 3.
+const THREE: [u8; 80] = [
+    0x43, 0x4C, 0x50, 0x41, 0x52, 0x43, 0x48, 0x0A, 0x01, 0x00, 0x00, 0x00, 0x00, 0x00, 0x00, 0x01,
+    0x00, 0x00, 0x00, 0x80, 0x00, 0x00, 0x00, 0x00, 0x00, 0x00, 0x00, 0x00, 0x00, 0x01, 0x00, 0x00,
+    0x01, 0x01, 0x05, 0x00, 0x00, 0x00, 0x00, 0x00, 0x00, 0x00, 0x66, 0x69, 0x72, 0x73, 0x74, 0x01,
+    0x02, 0x0C, 0x00, 0x00, 0x00, 0x00, 0x00, 0x00, 0x00, 0x01, 0x01, 0x01, 0x01, 0x01, 0x01, 0x01,
+    0x01, 0x01, 0x01, 0x01, 0x01, 0x01, 0x03, 0x00, 0x00, 0x00, 0x00, 0x00, 0x00, 0x00, 0x00, 0x00,
+];
+
+// The gates of these bytes.
+const GATES: [usize; 4] = [32, 47, 69, 79];
+
+// How many of the three records the bytes stand for: they begin with the header and these, and a
+// closed gate.
+fn records_in(bytes: &[u8]) -> Option<u64> {
+    for (count, gate) in GATES.iter().enumerate() {
+        let is_closed = bytes.get(*gate).is_some_and(|byte| *byte != 1);
+        if is_closed && bytes.get(..*gate) == THREE.get(..*gate) {
+            return Some(count as u64);
+        }
+    }
+    None
+}
+
 // Walks past the next records to the closed gate, and tells whether it came there.
 fn walk<D: Disk>(journal: &mut Journal<'_, D>) -> Result<bool, WalkRefusal> {
     for _ in 0..9u8 {
@@ -62,12 +88,22 @@ fn walk<D: Disk>(journal: &mut Journal<'_, D>) -> Result<bool, WalkRefusal> {
 }
 
 // How many records a disk's journal has.
-fn count_of(disk: &mut MemDisk) -> Result<u64, Fail> {
+fn count_of(disk: &mut MemDisk) -> Result<Option<u64>, Fail> {
     let mut journal = Journal::open_journal(disk)?;
-    if walk(&mut journal)? {
-        return Ok(journal.count());
-    }
-    Ok(u64::MAX)
+    let ended = walk(&mut journal)?;
+    Ok(ended.then_some(journal.count()))
+}
+
+// The journal of a disk without records, at its end.
+fn end_of<D: Disk>(disk: &mut D) -> Result<Journal<'_, D>, Fail>
+    ensures closed { IfOk result (λ j. IsTrue j.closed) }
+    ensures at_end { IfOk result (λ j. AtEnd (header_bytes j.header) j.place j.count (D.seen j.disk.now) (D.images j.disk.now)) }
+{
+    let mut journal = Journal::open_journal(disk)?;
+    let None = journal.next_place()? else {
+        return Err(Fail::from("a record"));
+    };
+    Ok(journal)
 }
 
 fn append_three<D: Disk>(
@@ -87,6 +123,24 @@ fn append_three<D: Disk>(
     journal.append(three)
 }
 
+fn append_both<D: Disk>(
+    journal: &mut Journal<'_, D>,
+    one: Text,
+    two: Text,
+) -> Result<Result<(), Failed>, Fail>
+    requires closed { IsTrue journal.old.closed }
+    requires at_end { AtEnd (header_bytes journal.old.header) journal.old.place journal.old.count (D.seen journal.old.disk.now) (D.images journal.old.disk.now) }
+    requires one { IsFrame one }
+    requires two { IsFrame two }
+    ensures { IsTrue journal.new.closed }
+{
+    let need = one.as_slice().len() as u64 + two.as_slice().len() as u64;
+    if journal.header().length_limit.saturating_sub(journal.end()) < need {
+        return Err(Fail::from("no room"));
+    }
+    Ok(append_each(journal, &[one, two]))
+}
+
 #[test]
 fn an_empty_journal_has_its_33_bytes(rt: HostRuntime) -> Result<(), Fail> {
     let alloc = rt.alloc();
@@ -102,6 +156,28 @@ fn an_empty_journal_has_its_33_bytes(rt: HostRuntime) -> Result<(), Fail> {
     Ok(())
 }
 
+#[test]
+fn each_call_of_the_disk_may_fail(rt: HostRuntime) -> Result<(), Fail> {
+    let alloc = rt.alloc();
+    for fault in 0..3 {
+        let mut new = disk(alloc, &[], &[fault])?;
+        assert_eq!(rt; create(&mut new, &HEADER), Err(CreateRefusal::DiskFault));
+    }
+    for fault in 0..2 {
+        let mut old = disk(alloc, &EMPTY, &[fault])?;
+        let refused = Journal::open_journal(&mut old).map(|j| j.count());
+        assert_eq!(rt; refused, Err(StartRefusal::DiskFault));
+    }
+    for fault in 2..4 {
+        let mut old = disk(alloc, &EMPTY, &[fault])?;
+        let mut journal = Journal::open_journal(&mut old)?;
+        assert_eq!(rt; journal.faults(), 0);
+        assert_eq!(rt; journal.next_place(), Err(WalkRefusal::DiskFault));
+        assert_eq!(rt; journal.faults(), 1);
+    }
+    Ok(())
+}
+
 fn place(at: u64, kind: u8, length: u64) -> RecordPlace
     requires { at < 200 }
 {
@@ -114,23 +190,49 @@ fn place(at: u64, kind: u8, length: u64) -> RecordPlace
 }
 
 #[test]
-fn a_walk_finds_the_gates_and_the_damage(rt: HostRuntime) -> Result<(), Fail> {
+fn a_walk_finds_the_gates_and_loads_a_payload(rt: HostRuntime) -> Result<(), Fail> {
     let alloc = rt.alloc();
-    let mut short = disk(alloc, &WORKED[..31], &[])?;
-    let refused = Journal::open_journal(&mut short).map(|j| j.count());
-    assert_eq!(rt; refused, Err(StartRefusal::Damaged { at: 0 }));
-    let mut cut = disk(alloc, &WORKED[..54], &[])?;
-    let mut journal = Journal::open_journal(&mut cut)?;
-    assert_eq!(rt; journal.next_place(), Err(WalkRefusal::Damaged { at: 32 }));
     let mut whole = disk(alloc, &WORKED, &[])?;
     let mut journal = Journal::open_journal(&mut whole)?;
-    assert_eq!(rt; journal.next_place(), Ok(Some(place(32, 1, 13))));
+    assert_eq!(rt; *journal.header(), HEADER);
+    let first = journal.next_place()?.ok_or("no record")?;
+    assert_eq!(rt; first, place(32, 1, 13));
     assert_eq!(rt; journal.next_place(), Ok(Some(place(55, 2, 13))));
     assert_eq!(rt; journal.next_place(), Ok(Some(place(78, 4, 66))));
     assert_eq!(rt; journal.next_place(), Ok(None));
     assert!(rt; journal.at_end());
     assert_eq!(rt; journal.end(), 155);
     assert_eq!(rt; journal.count(), 3);
+    let names = journal.load(alloc, first.payload, first.length)?;
+    let want = [1, 0, 0, 0, 5, 0, 0, 0, 0x61, 0x2E, 0x6C, 0x6F, 0x67];
+    assert_eq!(rt; names.as_slice(), want.as_slice());
+    Ok(())
+}
+
+#[test]
+fn a_cut_journal_is_damaged_where_it_breaks_off(rt: HostRuntime) -> Result<(), Fail> {
+    let alloc = rt.alloc();
+    let mut short = disk(alloc, &WORKED[..31], &[])?;
+    let refused = Journal::open_journal(&mut short).map(|j| j.count());
+    assert_eq!(rt; refused, Err(StartRefusal::Damaged { at: 0 }));
+    let cuts = [
+        (32, 0, 32),
+        (54, 0, 32),
+        (55, 1, 55),
+        (153, 2, 78),
+        (154, 3, 154),
+    ];
+    for (size, walked, at) in cuts {
+        let bytes = WORKED.get(..size).ok_or("too few")?;
+        let mut cut = disk(alloc, bytes, &[])?;
+        let mut journal = Journal::open_journal(&mut cut)?;
+        assert_eq!(rt;
+            walk(&mut journal),
+            Err(WalkRefusal::Damaged { at }),
+            "{size}"
+        );
+        assert_eq!(rt; journal.count(), walked, "{size}");
+    }
     Ok(())
 }
 
@@ -144,11 +246,9 @@ fn a_full_journal_calls_nothing(rt: HostRuntime) -> Result<(), Fail> {
     };
     create(&mut small, &header)?;
     let framed = frame(alloc, 1, &[9; 13])?;
-    let mut journal = Journal::open_journal(&mut small)?;
-    if let Ok(None) = journal.next_place() {
-        let full = AppendRefusal::ArchiveFull { end: 33, need: 23 };
-        assert_eq!(rt; journal.append(framed.as_slice()), Err(full));
-    }
+    let mut journal = end_of(&mut small)?;
+    let full = AppendRefusal::ArchiveFull { end: 33, need: 23 };
+    assert_eq!(rt; journal.append(framed.as_slice()), Err(full));
     // a length, a write and a sync; a sync and a read; a length and a read
     assert_eq!(rt; small.calls(), 7);
     assert_eq!(rt; small.bytes().len(), 33);
@@ -163,15 +263,50 @@ fn any_gate_but_1_is_closed_and_what_is_behind_it_stays(rt: HostRuntime) -> Resu
     bytes.extend_from_slice(&[7, 8, 8, 8, 8, 8, 8, 8, 8, 8, 8, 8, 8, 5, 6])?;
     let mut odd = disk(alloc, &bytes, &[])?;
     let framed = frame(alloc, 3, &[2])?;
-    let mut journal = Journal::open_journal(&mut odd)?;
-    if let Ok(None) = journal.next_place() {
-        assert_eq!(rt; journal.append(framed.as_slice()), Ok(()));
-    }
+    assert_eq!(rt;
+        framed.as_slice(),
+        [3, 1, 0, 0, 0, 0, 0, 0, 0, 2, 0].as_slice()
+    );
+    let mut journal = end_of(&mut odd)?;
+    assert_eq!(rt; journal.append(framed.as_slice()), Ok(()));
     bytes.truncate(32);
     bytes.extend_from_slice(&[1, 3, 1, 0, 0, 0, 0, 0, 0, 0, 2, 0, 8, 5, 6])?;
     assert_eq!(rt; odd.bytes(), bytes.as_slice());
-    assert_eq!(rt; count_of(&mut odd)?, 1);
+    assert_eq!(rt; count_of(&mut odd)?, Some(1));
+    frames_one();
+    stand_for_one();
     Ok(())
+}
+
+#[test]
+fn several_appends_stop_at_the_first_that_fails(rt: HostRuntime) -> Result<(), Fail> {
+    let alloc = rt.alloc();
+    for (fault, answer, kept, end) in [(12, Ok(()), 2, 70), (8, Err(Failed), 1, 48)] {
+        let one = frame(alloc, 1, b"first")?;
+        let two = frame(alloc, 2, &[1; 12])?;
+        let mut run = disk(alloc, &EMPTY, &[fault])?;
+        let mut journal = end_of(&mut run)?;
+        assert_eq!(rt; append_both(&mut journal, one, two)?, answer);
+        assert_eq!(rt; journal.count(), kept);
+        assert_eq!(rt; journal.end(), end);
+        assert_eq!(rt; records_in(run.bytes()), Some(kept));
+    }
+    Ok(())
+}
+
+// Appends three records to an empty journal: the answer, and how many are acknowledged.
+fn run_three(alloc: Global, disk: &mut MemDisk) -> Result<(Result<(), AppendRefusal>, u64), Fail> {
+    let one = frame(alloc, 1, b"first")?;
+    let two = frame(alloc, 2, &[1; 12])?;
+    let three = frame(alloc, 3, &[])?;
+    let mut journal = end_of(disk)?;
+    let answer = append_three(
+        &mut journal,
+        one.as_slice(),
+        two.as_slice(),
+        three.as_slice(),
+    );
+    Ok((answer, journal.count()))
 }
 
 const CRASHES: [Pending; 4] = [
@@ -181,37 +316,39 @@ const CRASHES: [Pending; 4] = [
     Pending::Ones,
 ];
 
+// Whether each crash after so many calls leaves the first of the three records, at least and at most so
+// many, and a walk finds as many.
+fn keeps(run: &MemDisk, after: usize, least: u64, most: u64) -> Result<bool, Fail>
+    requires { after ≤ calls_of run.now }
+{
+    for pending in CRASHES {
+        let mut image = run.stopped(after, pending)?;
+        let found = records_in(image.bytes()).ok_or("no journal")?;
+        if found < least || most < found || count_of(&mut image)? != Some(found) {
+            return Ok(false);
+        }
+    }
+    Ok(true)
+}
+
 #[test]
 fn every_crash_of_three_appends_leaves_a_journal(rt: HostRuntime) -> Result<(), Fail> {
     let alloc = rt.alloc();
-    let one = frame(alloc, 1, b"first")?;
-    let two = frame(alloc, 2, &[1; 12])?;
-    let three = frame(alloc, 3, &[])?;
-    // after four calls of the walk, each of the twelve of the appends fails, and then none
-    for fault in 4..17u64 {
+    // four calls of the opening and the walk, and four of each append
+    let mut run = disk(alloc, &EMPTY, &[])?;
+    assert_eq!(rt; run_three(alloc, &mut run)?, (Ok(()), 3));
+    assert_eq!(rt; run.calls(), 16);
+    assert_eq!(rt; run.bytes(), THREE.as_slice());
+    for after in 4..17 {
+        let done = (after as u64 - 4) / 4;
+        assert!(rt; keeps(&run, after, done, done + 1)?, "after {after}");
+    }
+    for fault in 4..16 {
         let mut run = disk(alloc, &EMPTY, &[fault])?;
-        let mut kept = 0;
-        let mut journal = Journal::open_journal(&mut run)?;
-        if let Ok(None) = journal.next_place() {
-            let _ = append_three(
-                &mut journal,
-                one.as_slice(),
-                two.as_slice(),
-                three.as_slice(),
-            );
-            kept = journal.count();
-        }
-        for after in 0..=run.calls() {
-            for pending in CRASHES {
-                let mut image = run.stopped(after, pending)?;
-                let found = count_of(&mut image)?;
-                assert!(rt; found <= 3, "{after} {pending:?}");
-                if after == run.calls() {
-                    assert!(rt; kept <= found, "{after} {pending:?}");
-                    assert!(rt; found <= kept + 1, "{after} {pending:?}");
-                }
-            }
-        }
+        let done = (fault - 4) / 4;
+        let refused = Err(AppendRefusal::DiskFault);
+        assert_eq!(rt; run_three(alloc, &mut run)?, (refused, done));
+        assert!(rt; keeps(&run, run.calls(), done, done + 1)?, "fault {fault}");
     }
     Ok(())
 }
