@@ -1,5 +1,5 @@
 //! Making an empty journal.
-ghost use Rattle.std.specs.Prelude.{◌≡◌, ◌≤◌, ◌<◌, ◌++◌, ◌∷◌, [], ℕ, Some, OnOk, IsErrOf, IfSome, is_some, option_map, length};
+ghost use Rattle.std.specs.Prelude.{◌≡◌, ◌≤◌, ◌<◌, ◌++◌, ◌∷◌, [], ℕ, OnOk, IsErrOf, IfSome, is_some, length};
 ghost use Rattle.log_seams.specs.Disk.{Only, NoMore, LeavesOnly};
 ghost use Rattle.log_seams.specs.Outside.{Rose};
 ghost use Rattle.record_format.specs.Header.{IsHeader, header_bytes};

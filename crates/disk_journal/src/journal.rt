@@ -1,7 +1,7 @@
 //! A journal over a disk that is lent to it: opening it, walking along its records, and appending.
 ghost use Rattle.std.specs.Prelude.{◌≡◌, ◌≤◌, ◌<◌, ◌+◌, ◌-◌, ◌^◌, ℕ, IsTrue, IsFalse, IsNone, false, length, take, drop, IfOk, OnOk, OnErr, IfSome, IfNone, IsErrOf, is_none, is_some};
 ghost use Rattle.log_seams.specs.Disk.{Only, NoMore, LeavesOnly, ReadsOnly, with_range};
-ghost use Rattle.log_seams.specs.Outside.{Counts, Rose};
+ghost use Rattle.log_seams.specs.Outside.{Rose};
 ghost use Rattle.record_format.specs.Header.{IsHeader, header_bytes};
 ghost use Rattle.disk_journal.specs.Record.{IsFrame, saved_of};
 ghost use Rattle.disk_journal.specs.Place.{Walked, AtEnd, NoHeader, IsDamaged, ClosedAt, OpenAt, Passed, HasRange, HasSize, BeforeOrAfter, Added};

@@ -1,5 +1,5 @@
 //! What stands at a gate.
-ghost use Rattle.std.specs.Prelude.{◌≡◌, ◌≢◌, ◌≤◌, ◌<◌, ◌+◌, ◌-◌, ◌^◌, ◌⊎◌, ℕ, IsTrue, IsFalse, length, drop, take, IfOk, IfSome, OnSome, IfNone, IsErrOf, slice_index, IsSome, is_some};
+ghost use Rattle.std.specs.Prelude.{◌≡◌, ◌≢◌, ◌≤◌, ◌<◌, ◌+◌, ◌-◌, ◌^◌, ◌⊎◌, ℕ, IsTrue, IsFalse, length, drop, IfOk, IfSome, IfNone, IsErrOf};
 ghost use Rattle.std.specs.Int.{w64, from_le_bytes, to_le_bytes};
 ghost use Rattle.log_seams.specs.Disk.{NoMore, LeavesOnly, ReadsOnly};
 ghost use Rattle.log_seams.specs.Outside.{Rose};
