@@ -37,7 +37,7 @@ module _ {V E F : Type 0} (entries : V → List E) (fixed : V → F) (may : ℕ 
   base_at first y = record { first = first; start = length (entries y); fixed = fixed y }
 
   pub starts : (first : ℕ) (y : V) → first < 4294967296
-      → Kept entries fixed may (base_at first y) (opening (0 ∷ 0 ∷ length (entries y) ∷ first ∷ []) (Some y ∷ []) (starting entries (base_at first y) y))
+      → Kept entries fixed may (base_at first y) (entries y) (opening (0 ∷ 0 ∷ length (entries y) ∷ first ∷ []) (Some y ∷ []) (starting entries (base_at first y) y))
   starts first y lt = let base : About F = base_at first y in let v : View E F = starting entries base y in let h : List (Mark E) = unmarked (entries y) in
       let len : length h ≡ length (entries y) = length-map (entries y) (λ (e : E). let r : Mark E = (e, None) in r) in
       let each : (P : View E F → Type 0) → P v → Each P (v ∷ []) = λ P p i w e. subst P (only_one v w i e).1 p in
@@ -49,6 +49,7 @@ module _ {V E F : Type 0} (entries : V → List E) (fixed : V → F) (may : ℕ 
         count = first;
         words = ap (λ (z : ℕ). 0 ∷ 0 ∷ z ∷ first ∷ []) (sym len);
         small = omega arith;
+        begins = prefix_self h;
         turns = record {
           turning = each (λ u. Turning 0 0 u.ticket u.inside) (record { between = λ t is. absurd (cc (is)); served = λ turn. absurd (cc (turn)) });
           apart = λ i j u w n e f cu cw. (only_one v u i e).0 ∙ sym (only_one v w j f).0;
@@ -82,9 +83,9 @@ module _ {V E F : Type 0} (entries : V → List E) (fixed : V → F) (may : ℕ 
       }
 
   pub starts_with : (first n : ℕ) (y z : V) (slots : List (Option V)) → first < 4294967296 → z ≡ y → n ≡ length (entries y) → slots ≡ Some y ∷ []
-      → Kept entries fixed may (base_at first z) (opening (0 ∷ 0 ∷ n ∷ first ∷ []) slots (starting entries (base_at first z) z))
+      → Kept entries fixed may (base_at first z) (entries z) (opening (0 ∷ 0 ∷ n ∷ first ∷ []) slots (starting entries (base_at first z) z))
   starts_with first n y z slots lt same len are =
-      let K : V → ℕ → List (Option V) → Type 0 = λ w k l. Kept entries fixed may (base_at first w) (opening (0 ∷ 0 ∷ k ∷ first ∷ []) l (starting entries (base_at first w) w)) in
+      let K : V → ℕ → List (Option V) → Type 0 = λ w k l. Kept entries fixed may (base_at first w) (entries w) (opening (0 ∷ 0 ∷ k ∷ first ∷ []) l (starting entries (base_at first w) w)) in
       subst (λ w. K w n slots) (sym same) (subst (λ l. K y n l) (sym are) (subst (λ k. K y k (Some y ∷ [])) (sym len) (starts first y lt)))
 
   abbrev AllEnded : M → ℕ → Type 0
@@ -97,9 +98,9 @@ module _ {V E F : Type 0} (entries : V → List E) (fixed : V → F) (may : ℕ 
   known_as None no_ = absurd (no_ refl)
   known_as (Some a) no_ = (a, refl)
 
-  pub closes : (base : About F) (id : ℕ) (m : M) (made : ℕ) (ws : List ℕ) (xs : List (Option V)) (x : Option V) → Final (Seen (Kept entries fixed may base) id m.0) ws xs → get_elem? xs 0 ≡ some x
+  pub closes : (base : About F) (begun : List E) (id : ℕ) (m : M) (made : ℕ) (ws : List ℕ) (xs : List (Option V)) (x : Option V) → Final (Seen (Kept entries fixed may base begun) id m.0) ws xs → get_elem? xs 0 ≡ some x
       → IsFree m → IsMaker m made → m.0.about ≢ None → AllEnded m made → (y : V) × (x ≡ Some y) × (entries y ≡ entries_seen m) × Agrees fixed m.0 y × AllOwned m
-  closes base id m made ws xs x last at free maker known ended =
+  closes base begun id m made ws xs x last at free maker known ended =
       let s = last.0 in let k = last.1.0 in let here = last.1.1 in let v : View E F = m.0 in let h : List (Mark E) = k.history in
       let sees = k.shown.seeing id v here in let knows = k.shown.knowing id v here in let owns = k.dealt.owning id v here in
       let about = known_as v.about known in let a : About F = about.0 in let same : a ≡ base = (knows.is a about.1).0 in

@@ -49,13 +49,13 @@ module _ {V E F : Type 0} (entries : V → List E) (fixed : V → F) (may : ℕ 
   -- m has the turn, m1 has published the list of y, m2 has y in the slot, and m' has gone
   module _ (m m1 m2 : M) (y : V) (published : m1 ≡ (publishes (entries y) m.0, m.1)) (filled : m2 ≡ (m1.0, (0, Some y) ∷ rest m1.1)) where
     seen_put : (more_ : List E) → entries y ≡ entries_seen m ++ more_ → m2.0.seen ≡ m.0.seen ++ marked m.0.number more_
-    seen_put more_ is = ap (λ (z : M). z.0.seen) filled ∙ (ap (λ (z : M). z.0.seen) published ∙ ap (λ (u : View E F). u.seen) (published_as entries fixed may (record { first = 0; start = 0; fixed = fixed y }) m.0 (entries y) more_ is))
+    seen_put more_ is = ap (λ (z : M). z.0.seen) filled ∙ (ap (λ (z : M). z.0.seen) published ∙ ap (λ (u : View E F). u.seen) (published_as m.0 (entries y) more_ is))
 
-    pub put_serves : (base : About F) (slots id : ℕ) (more_ : List E) → IsHeld m → entries y ≡ entries_seen m ++ more_ → m.0.about ≢ None → Agrees fixed m.0 y → slots ≡ 1
-        → Allows (Kept entries fixed may base) slots id m2 1 (λ n. (n + 1) % 2 ^ 64) (served (step slots 1 1 0 maybe.none) m2)
-    put_serves base slots id more_ held is known agrees one = let about : m2.0.about ≡ m.0.about = ap (λ (z : M). z.0.about) filled ∙ ap (λ (z : M). z.0.about) published in
-        subst (λ (k : ℕ). Allows (Kept entries fixed may base) k id m2 1 (λ n. (n + 1) % 2 ^ 64) (served (step k 1 1 0 maybe.none) m2)) (sym one)
-        (serves entries fixed may base id m2 y
+    pub put_serves : (base : About F) (opening : List E) (slots id : ℕ) (more_ : List E) → IsHeld m → entries y ≡ entries_seen m ++ more_ → m.0.about ≢ None → Agrees fixed m.0 y → slots ≡ 1
+        → Allows (Kept entries fixed may base opening) slots id m2 1 (λ n. (n + 1) % 2 ^ 64) (served (step slots 1 1 0 maybe.none) m2)
+    put_serves base opening slots id more_ held is known agrees one = let about : m2.0.about ≡ m.0.about = ap (λ (z : M). z.0.about) filled ∙ ap (λ (z : M). z.0.about) published in
+        subst (λ (k : ℕ). Allows (Kept entries fixed may base opening) k id m2 1 (λ n. (n + 1) % 2 ^ 64) (served (step k 1 1 0 maybe.none) m2)) (sym one)
+        (serves entries fixed may base opening id m2 y
         (ap (λ (z : M). z.0.inside) filled ∙ (ap (λ (z : M). z.0.inside) published ∙ held.0))
         (ap (λ (z : M). z.1) filled ∙ ap (λ (l : List (ℕ × Option V)). (0, Some y) ∷ rest l) (ap (λ (z : M). z.1) published ∙ held.1))
         (is ∙ (sym (entries_marked m.0.number m.0.seen more_) ∙ ap (λ (l : List (Mark E)). entries_of l) (sym (seen_put more_ is))))

@@ -10,15 +10,21 @@ use Rattle.atomic_table.specs.Table.{State, Me, Act, keeps, takes, gives, Valid,
 use Rattle.atomic_table.proofs.Lists.{set_here, set_again, exchanged}
 use Rattle.turn_lock.specs.declared.board.About.{About}
 use Rattle.turn_lock.specs.declared.board.View.{View}
-use Rattle.turn_lock.specs.Grown.{Mark, entries_of, Each, IsOut, Kept}
+use Rattle.turn_lock.specs.Grown.{Mark, entries_of, unmarked, Each, IsOut, Kept}
 use Rattle.turn_lock.specs.Plays.{marked, waits, enters, publishes, goes, learns, numbers, fresh, unnumbered, joined, spent, longer, entries_seen, Agrees, MayAdd, drew, looked, published, served, learned, numbered}
-use Rattle.turn_lock.proofs.Fronts.{prefix_self, prefix_length, longer_left, longer_right, longer_front, drop_front}
+use Rattle.turn_lock.proofs.Fronts.{prefix_self, prefix_trans, prefix_length, longer_left, longer_right, longer_front, drop_front}
 use Rattle.turn_lock.proofs.Seats.{index_lt, each_back, each_less, each_unjoin}
 use Rattle.turn_lock.proofs.Queue.{alone, turns_set, turns_draw, turns_serve, turns_split, turns_join, some_same}
 use Rattle.turn_lock.proofs.Sights.{shown_set, shown_grow, shown_split, shown_join, shown_learn}
 use Rattle.turn_lock.proofs.Deals.{stands_far, stands_front, at_marked, dealt_set, dealt_grow, dealt_number, dealt_split, dealt_join, dealt_learn, none_has}
 
-module _ {V E F : Type 0} (entries : V → List E) (fixed : V → F) (may : ℕ → E → Type 0) (base : About F) where
+module _ {E F : Type 0} where
+  -- what a seat publishes, where its entries go on with some more
+  pub published_as : (v : View E F) (es more_ : List E) → es ≡ entries_of v.seen ++ more_ → publishes es v ≡ record v { seen = v.seen ++ marked v.number more_ }
+  published_as v es more_ is = ap (λ (l : List E). record v { seen = v.seen ++ marked v.number l })
+      (ap (drop (length v.seen)) is ∙ drop_front v.seen (entries_of v.seen) more_ (length-map v.seen (λ (x : Mark E). x.0)))
+
+module _ {V E F : Type 0} (entries : V → List E) (fixed : V → F) (may : ℕ → E → Type 0) (base : About F) (opening : List E) where
   abbrev St : Type 0
   St = State (Option V) (View E F)
 
@@ -29,7 +35,7 @@ module _ {V E F : Type 0} (entries : V → List E) (fixed : V → F) (may : ℕ 
   Homes = List (maybe.Option (Option V))
 
   abbrev Rule : St → Type 0
-  Rule = Kept entries fixed may base
+  Rule = Kept entries fixed may base opening
 
   abbrev numerals : ℕ → ℕ → ℕ → ℕ → List ℕ
   numerals next serving len count = next ∷ serving ∷ len ∷ count ∷ []
@@ -43,6 +49,7 @@ module _ {V E F : Type 0} (entries : V → List E) (fixed : V → F) (may : ℕ 
     count = k.count;
     words = refl;
     small = k.small;
+    begins = k.begins;
     turns = k.turns;
     home = k.home;
     shown = k.shown;
@@ -68,6 +75,7 @@ module _ {V E F : Type 0} (entries : V → List E) (fixed : V → F) (may : ℕ 
           count = k.count;
           words = ap (λ (z : ℕ). numerals (z + 1) k.serving (length k.history) k.count) (sym hit);
           small = omega arith;
+          begins = k.begins;
           turns = turns_draw k.serving k.next s.views id me.0 k.turns at bare out;
           home = λ all. k.home (each_back IsOut s.views id me.0 w at (λ o. o) all);
           shown = shown_set base k.history s.views id me.0 k.shown at w (k.shown.seeing id me.0 at) (k.shown.knowing id me.0 at) (λ p. p);
@@ -104,6 +112,7 @@ module _ {V E F : Type 0} (entries : V → List E) (fixed : V → F) (may : ℕ 
           count = k.count;
           words = refl;
           small = k.small;
+          begins = k.begins;
           turns = turns_set k.serving k.next s.views id v k.turns at w refl (record { between = (k.turns.turning id v at).between; served = λ _. mine });
           home = λ all. absurd (cc (all id w (set_here s.views id w (index_lt s.views id v at))));
           shown = shown_set base h s.views id v k.shown at w (record { front = prefix_self h; other = sees.other; whole = λ _. refl })
@@ -139,10 +148,6 @@ module _ {V E F : Type 0} (entries : V → List E) (fixed : V → F) (may : ℕ 
       ))
       (λ miss. (me.0, keeps, tt, again s k id me.0 at, λ t is. ((λ hit. absurd (miss (hit ∙ some_same t ticket (sym is ∙ waits)))), λ _. refl))))
 
-  pub published_as : (v : View E F) (es more_ : List E) → es ≡ entries_of v.seen ++ more_ → publishes es v ≡ record v { seen = v.seen ++ marked v.number more_ }
-  published_as v es more_ is = ap (λ (l : List E). record v { seen = v.seen ++ marked v.number l })
-      (ap (drop (length v.seen)) is ∙ drop_front v.seen (entries_of v.seen) more_ (length-map v.seen (λ (x : Mark E). x.0)))
-
   some_number : (o : Option ℕ) → o ≢ None → (n : ℕ) × (o ≡ Some n)
   some_number None no_ = absurd (no_ refl)
   some_number (Some n) no_ = (n, refl)
@@ -176,6 +181,7 @@ module _ {V E F : Type 0} (entries : V → List E) (fixed : V → F) (may : ℕ 
           count = k.count;
           words = ap (λ (z : ℕ). numerals k.next k.serving z k.count) long;
           small = k.small;
+          begins = prefix_trans (unmarked opening) h (h ++ m) k.begins (m, refl);
           turns = turns_set k.serving k.next s.views id v k.turns at w refl (k.turns.turning id v at);
           home = λ all. absurd (cc (all id w (set_here s.views id w (index_lt s.views id v at)), turn));
           shown = shown_grow base h s.views id v k.shown at w m (alone k.serving k.next s.views id v k.turns at ((k.turns.turning id v at).served turn)) now sees.other refl whole;
@@ -206,6 +212,7 @@ module _ {V E F : Type 0} (entries : V → List E) (fixed : V → F) (may : ℕ 
           count = k.count;
           words = ap (λ (z : ℕ). numerals k.next z (length h) k.count) (mod-eq_of_lt (omega arith));
           small = small;
+          begins = k.begins;
           turns = turns_serve k.serving k.next s.views id v k.turns at turn;
           home = λ _. (
             y,
@@ -243,6 +250,7 @@ module _ {V E F : Type 0} (entries : V → List E) (fixed : V → F) (may : ℕ 
           count = k.count;
           words = refl;
           small = k.small;
+          begins = k.begins;
           turns = turns_set k.serving k.next s.views id v k.turns at w refl (k.turns.turning id v at);
           home = λ all. k.home (each_back IsOut s.views id v w at (λ o. o) all);
           shown = shown_learn base h s.views id v k.shown at out;
@@ -275,6 +283,7 @@ module _ {V E F : Type 0} (entries : V → List E) (fixed : V → F) (may : ℕ 
           count = k.count + 1;
           words = ap (λ (z : ℕ). numerals k.next k.serving (length h) z) (mod-eq_of_lt (omega arith));
           small = k.small;
+          begins = k.begins;
           turns = turns_set k.serving k.next s.views id v k.turns at w refl (k.turns.turning id v at);
           home = λ all. k.home (each_back IsOut s.views id v w at (λ o. o) all);
           shown = shown_set base h s.views id v k.shown at w (record { front = sees.front; other = sees.other; whole = sees.whole }) (record { is = knows.is }) (λ p. p);
@@ -296,6 +305,7 @@ module _ {V E F : Type 0} (entries : V → List E) (fixed : V → F) (may : ℕ 
         count = k.count;
         words = k.words;
         small = k.small;
+        begins = k.begins;
         turns = turns_split k.serving k.next s.views id v k.turns at left right refl (record { between = line.between; served = line.served }) refl
             (record { between = λ t is. absurd (cc (is)); served = λ turn. absurd (cc (turn)) });
         home = λ all. k.home (each_back IsOut s.views id v left at (λ o. o) (each_less IsOut (set s.views id left) right all));
@@ -320,6 +330,7 @@ module _ {V E F : Type 0} (entries : V → List E) (fixed : V → F) (may : ℕ 
         count = k.count;
         words = k.words;
         small = k.small;
+        begins = k.begins;
         turns = turns_join k.serving k.next s.views id v k.turns at other both w apart there refl (record { between = line.between; served = line.served }) bare;
         home = λ all. k.home (each_unjoin IsOut s.views id other v both w spent at there (λ o. o) out all);
         shown = shown_join base h s.views id v k.shown at other w apart there (k.shown.seeing other w there') also also';

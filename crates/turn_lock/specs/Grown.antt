@@ -124,13 +124,15 @@ module _ {E F : Type 0} where
 abbrev pub AtHome : {V E F : Type 0} → (V → List E) → (V → F) → About F → List (Mark E) → List (maybe.Option (Option V)) → Type 0
 AtHome {V} entries fixed base history homes = (y : V) × (get_elem? homes 0 ≡ some (some (Some y))) × (entries y ≡ entries_of history) × (fixed y ≡ base.fixed)
 
-pub record Kept {V E F : Type 0} (entries : V → List E) (fixed : V → F) (may : ℕ → E → Type 0) (base : About F) (s : State (Option V) (View E F)) : Type 0 where
+pub record Kept {V E F : Type 0} (entries : V → List E) (fixed : V → F) (may : ℕ → E → Type 0) (base : About F) (opening : List E) (s : State (Option V) (View E F)) : Type 0 where
   pub next : ℕ
   pub serving : ℕ
   pub history : List (Mark E)
   pub count : ℕ
   pub words : s.words ≡ next ∷ serving ∷ length history ∷ count ∷ []
   pub small : next < 18446744073709551616
+  -- the history begins with the opening, whose entries have no number
+  pub begins : IsPrefix (unmarked opening) history
   pub turns : Turns serving next s.views
   pub home : Each IsOut s.views → AtHome entries fixed base history s.homes
   pub shown : Shown base history s.views

@@ -55,7 +55,7 @@ pub struct Law<V> {
 impl<V: Grows> TableRule<Option<V>, View<V::Entry, V::Fixed>, Opening<V>> for Law<V> {
     ghost use Rattle.turn_lock.specs.Grown.{Kept, base_of, starting};
 
-    ghost holds = { λ key s. Kept V.entries V.fixed V.may_add (base_of V.entries V.fixed key) s };
+    ghost holds = { λ key s. Kept V.entries V.fixed V.may_add (base_of V.entries V.fixed key) (V.entries key.at.value) s };
 
     ghost first = { λ key. starting V.entries (base_of V.entries V.fixed key) key.at.value };
 }

@@ -6,5 +6,5 @@ pub swap-requires : goal.swap-requires
 swap-requires g c = (
   search rules,
   search rules,
-  publishes_step _ _ _ _ _ c.args.seat.now.id c.args.seat.now.me _ _ c.requires.turn.0 c.requires.turn.1 (c.count-count.ensures ∙ ap length (sym c.requires.told)) c.requires.adds,
+  publishes_step _ _ _ _ _ _ c.args.seat.now.id c.args.seat.now.me _ _ c.requires.turn.0 c.requires.turn.1 (c.count-count.ensures ∙ ap length (sym c.requires.told)) c.requires.adds,
 )

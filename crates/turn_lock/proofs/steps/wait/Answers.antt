@@ -7,7 +7,7 @@ pub load-found-requires : goal.load-found-requires
 load-found-requires g c = let same = c.loop.invariant.3 in (
   search rules,
   search rules,
-  looks _ _ _ _ _ c.loop.seat.id c.loop.seat.me c.args.ticket (ap (λ m. m.0.inside) same ∙ c.requires.line.1) (ap (λ m. m.0.ticket) same ∙ c.requires.line.0) (λ none. c.requires.line.3 (sym (ap (λ m. m.0.number) same) ∙ none)),
+  looks _ _ _ _ _ _ c.loop.seat.id c.loop.seat.me c.args.ticket (ap (λ m. m.0.inside) same ∙ c.requires.line.1) (ap (λ m. m.0.ticket) same ∙ c.requires.line.0) (λ none. c.requires.line.3 (sym (ap (λ m. m.0.number) same) ∙ none)),
 )
 
 pub returns-then-found-ticket-clause-came : goal.returns-then-found-ticket-clause-came

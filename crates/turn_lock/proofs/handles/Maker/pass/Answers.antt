@@ -8,14 +8,14 @@ pub fetch_add-number-requires : goal.fetch_add-number-requires
 fetch_add-number-requires g c = let m = c.args.self.now in (
   search rules,
   search rules,
-  numbers_step _ _ _ _ _ m.seat.id m.seat.me m.made m.free.1 m.maker.0 m.maker.2 c.requires.room,
+  numbers_step _ _ _ _ _ _ m.seat.id m.seat.me m.made m.free.1 m.maker.0 m.maker.2 c.requires.room,
 )
 
 pub split_seat-seat-requires : goal.split_seat-seat-requires
 split_seat-seat-requires g c = (
   search rules,
   search rules,
-  deals_step _ _ _ _ _ _ (ap (λ m. m.0.inside) c.fetch_add-number.ensures.2.0 ∙ c.args.self.now.free.1),
+  deals_step _ _ _ _ _ _ _ (ap (λ m. m.0.inside) c.fetch_add-number.ensures.2.0 ∙ c.args.self.now.free.1),
 )
 
 pub returns-clause-fresh : goal.returns-clause-fresh

@@ -6,7 +6,7 @@ pub fetch_add-requires : goal.fetch_add-requires
 fetch_add-requires g c = let m = c.args.pass.now in let add = c.requires.adds in (
   search rules,
   search rules,
-  put_serves g.V.Grows.entries g.V.Grows.fixed g.V.Grows.may_add m.seat.me c.publish.new.seat.me c.exchange-left.new.seat.me c.args.self.value c.publish.ensures.view c.exchange-left.ensures.3 _ _ _ add.0 c.requires.turn add.1 m.known c.requires.fixed m.same.1.1,
+  put_serves g.V.Grows.entries g.V.Grows.fixed g.V.Grows.may_add m.seat.me c.publish.new.seat.me c.exchange-left.new.seat.me c.args.self.value c.publish.ensures.view c.exchange-left.ensures.3 _ _ _ _ add.0 c.requires.turn add.1 m.known c.requires.fixed m.same.1.1,
 )
 
 pub returns-clause-seen : goal.returns-clause-seen
