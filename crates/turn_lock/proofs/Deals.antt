@@ -40,6 +40,10 @@ pub more_has : (g : Option ℕ) (ns : List ℕ) (n : ℕ) → (g ≡ Some n) ⊎
 more_has None ns n h = ⊎_elim (λ e. absurd (cc (e))) (λ p. p) h
 more_has (Some m) ns n h = ⊎_elim (λ e. inl (some_same m n e)) inr h
 
+-- a seat that joined nobody
+nothing : (n : ℕ) → (None ≡ Some n) ⊎ Has [] n → ⊥
+nothing n c = ⊎_elim (λ (e : None ≡ Some n). cc (e)) (λ (e : ⊥). e) c
+
 module _ {E F : Type 0} (may : ℕ → E → Type 0) (base : About F) (count : ℕ) (h : List (Mark E)) (views : List (View E F)) (id : ℕ) (v : View E F) (k : Dealt may base count h views) (at : get_elem? views id ≡ some v) where
   abbrev Own : View E F → Type 0
   Own u = Owns base.first count h u
@@ -74,6 +78,7 @@ module _ {E F : Type 0} (may : ℕ → E → Type 0) (base : About F) (count : �
               theirs = λ q is. stands_more h m q (length u.also) (old.theirs q is) (far i u ne e q (inr (inl is)));
               past = λ q is. stands_more h m q (length u.seen) (old.past q is) (far i u ne e q (inr (inr is)));
               making = old.making;
+              keeper = old.keeper;
               worker = old.worker;
             })
             (record {
@@ -83,6 +88,7 @@ module _ {E F : Type 0} (may : ℕ → E → Type 0) (base : About F) (count : �
               theirs = λ q is. absurd (cc (is, bare));
               past = λ q is. stands_all (h ++ m) s q sees;
               making = own.making;
+              keeper = own.keeper;
               worker = own.worker;
             });
         claims = apart_keep Claims views id v w k.claims at (λ _ c. c);
@@ -115,6 +121,7 @@ module _ {E F : Type 0} (may : ℕ → E → Type 0) (base : About F) (count : �
               theirs = old.theirs;
               past = old.past;
               making = λ q is. let there = old.making q is in let same : q ≡ m = omega arith in absurd (ne (k.makers i id u v q e at is (made ∙ ap (λ (z : ℕ). Some z) (sym same))));
+              keeper = old.keeper;
               worker = old.worker;
             })
             (record {
@@ -125,6 +132,7 @@ module _ {E F : Type 0} (may : ℕ → E → Type 0) (base : About F) (count : �
               theirs = own.theirs;
               past = own.past;
               making = λ q is. let same = some_same (m + 1) q (sym made' ∙ is) in omega arith;
+              keeper = λ _ _ none. cc (made', none);
               worker = λ turn. absurd (cc (turn, out));
             });
         claims = apart_set Claims views id v w k.claims at
@@ -156,6 +164,7 @@ module _ {E F : Type 0} (may : ℕ → E → Type 0) (base : About F) (count : �
               theirs = own.theirs;
               past = own.past;
               making = own.making;
+              keeper = own.keeper;
               worker = λ turn none. ⊎_elim (λ (t : (o ≡ None) × (p ≡ v.number)). own.worker turn (sym t.1 ∙ none)) (λ (t : (o ≡ v.number) × (p ≡ None) × (v.inside ≡ false)). absurd (cc (t.2, turn))) how;
             }))
             (record {
@@ -165,6 +174,7 @@ module _ {E F : Type 0} (may : ℕ → E → Type 0) (base : About F) (count : �
               theirs = λ n e. absurd (cc (e));
               past = λ n e. absurd e;
               making = λ m e. absurd (cc (e));
+              keeper = λ n c _. nothing n c;
               worker = λ turn. absurd (cc (turn));
             });
         claims = apart_split Claims views id v left right k.claims at from_left (λ n c. inl (from_o n (only n c)))
@@ -178,9 +188,9 @@ module _ {E F : Type 0} (may : ℕ → E → Type 0) (base : About F) (count : �
         plain = k.plain;
       }
 
-  pub dealt_join : (other : ℕ) (w : View E F) → (other ≡ id → ⊥) → get_elem? (set views id (joined v w)) other ≡ some w → v.gone ≡ None → w.gone ≡ None → w.ended ≡ []
+  pub dealt_join : (other : ℕ) (w : View E F) → (other ≡ id → ⊥) → get_elem? (set views id (joined v w)) other ≡ some w → v.gone ≡ None → w.gone ≡ None → w.ended ≡ [] → (w.number ≢ None → v.made ≢ None)
       → Dealt may base count h (set (set views id (joined v w)) other spent)
-  dealt_join other w apart there bare bare' empty = let both : View E F = joined v w in let own = k.owning id v at in
+  dealt_join other w apart there bare bare' empty kept = let both : View E F = joined v w in let own = k.owning id v at in
       let there' : get_elem? views other ≡ some w = sym (set_else views id other both apart) ∙ there in let theirs = k.owning other w there' in
       let ends : (n : ℕ) → Has w.ended n → ⊥ = λ n e. subst (λ (ns : List ℕ). Has ns n) empty e in record {
         low = k.low;
@@ -194,6 +204,7 @@ module _ {E F : Type 0} (may : ℕ → E → Type 0) (base : About F) (count : �
               theirs = theirs.mine;
               past = own.past;
               making = own.making;
+              keeper = λ n c. ⊎_elim (λ (e : w.number ≡ Some n). kept (λ none. cc (e, none))) (λ (e : Has v.ended n). own.keeper n (inr e)) c;
               worker = own.worker;
             })
             (record {
@@ -203,6 +214,7 @@ module _ {E F : Type 0} (may : ℕ → E → Type 0) (base : About F) (count : �
               theirs = λ n e. absurd (cc (e));
               past = λ n e. absurd e;
               making = λ m e. absurd (cc (e));
+              keeper = λ n c _. nothing n c;
               worker = λ turn. absurd (cc (turn));
             });
         claims = apart_join Claims views id other v both w spent k.claims at apart there
@@ -228,6 +240,7 @@ module _ {E F : Type 0} (may : ℕ → E → Type 0) (base : About F) (count : �
         theirs = λ n e. absurd (cc (e));
         past = λ n e. ⊎_elim (λ (f : v.gone ≡ Some n). stands_far h n (length v.also) (length s) (own.theirs n f) right) (λ (f : Has v.ended n). stands_far h n (length v.seen) (length s) (own.past n f) left) (has_more v.gone v.ended n e);
         making = own.making;
+        keeper = λ n c. own.keeper n (⊎_elim (λ (e : None ≡ Some n). absurd (cc (e))) (λ (e : Has (more v.gone v.ended) n). has_more v.gone v.ended n e) c);
         worker = λ turn. absurd (cc (turn, out));
       })
       back

@@ -72,6 +72,7 @@ module _ {V E F : Type 0} (entries : V → List E) (fixed : V → F) (may : ℕ 
             theirs = λ n is. absurd (cc (is));
             past = λ n is. absurd is;
             making = λ m is. let e = some_same 0 m is in omega arith;
+            keeper = λ n c none. cc (none);
             worker = λ turn. absurd (cc (turn));
           });
           claims = λ i j u w n e f cu cw. (only_one v u i e).0 ∙ sym (only_one v w j f).0;

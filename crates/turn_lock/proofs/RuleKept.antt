@@ -125,6 +125,7 @@ module _ {V E F : Type 0} (entries : V → List E) (fixed : V → F) (may : ℕ 
                 theirs = owns.theirs;
                 past = λ n is. stands_far h n (length v.seen) (length h) (owns.past n is) further;
                 making = owns.making;
+                keeper = owns.keeper;
                 worker = λ _. worker;
               })
               (λ _ c. c) (λ _ c. c) (λ _ c. c);
@@ -222,7 +223,7 @@ module _ {V E F : Type 0} (entries : V → List E) (fixed : V → F) (may : ℕ 
           );
           shown = shown_set base h s.views id v k.shown at w (record { front = sees.front; other = sees.other; whole = λ inside. absurd (cc (inside)) }) (record { is = knows.is }) (λ p. p);
           dealt = dealt_set may base k.count h s.views id v k.dealt at w
-              (record { bound = owns.bound; alone = owns.alone; mine = owns.mine; theirs = owns.theirs; past = owns.past; making = owns.making; worker = λ inside. absurd (cc (inside)) })
+              (record { bound = owns.bound; alone = owns.alone; mine = owns.mine; theirs = owns.theirs; past = owns.past; making = owns.making; keeper = owns.keeper; worker = λ inside. absurd (cc (inside)) })
               (λ _ c. c) (λ _ c. c) (λ _ c. c);
         },
         refl,
@@ -321,8 +322,8 @@ module _ {V E F : Type 0} (entries : V → List E) (fixed : V → F) (may : ℕ 
   pub copies_step : (id : ℕ) (v : View E F) → Splits Rule id v v (fresh None v)
   copies_step id v = splits_step id v None v.number (inl (refl, refl))
 
-  pub joins_step : (id other : ℕ) (v w : View E F) → w.ticket ≡ None → w.inside ≡ false → v.gone ≡ None → w.gone ≡ None → w.ended ≡ [] → v.also ≡ [] → w.also ≡ [] → Joins Rule id v other w (joined v w) spent
-  joins_step id other v w bare out gone gone' ended also also' s k at apart there = let h : List (Mark E) = k.history in let both : View E F = joined v w in
+  pub joins_step : (id other : ℕ) (v w : View E F) → w.ticket ≡ None → w.inside ≡ false → v.gone ≡ None → w.gone ≡ None → w.ended ≡ [] → v.also ≡ [] → w.also ≡ [] → (w.number ≢ None → v.made ≢ None) → Joins Rule id v other w (joined v w) spent
+  joins_step id other v w bare out gone gone' ended also also' kept s k at apart there = let h : List (Mark E) = k.history in let both : View E F = joined v w in
       let there' : get_elem? s.views other ≡ some w = sym (Rattle.atomic_table.proofs.Lists.set_else s.views id other both apart) ∙ there in let line = k.turns.turning id v at in record {
         next = k.next;
         serving = k.serving;
@@ -334,5 +335,5 @@ module _ {V E F : Type 0} (entries : V → List E) (fixed : V → F) (may : ℕ 
         turns = turns_join k.serving k.next s.views id v k.turns at other both w apart there refl (record { between = line.between; served = line.served }) bare;
         home = λ all. k.home (each_unjoin IsOut s.views id other v both w spent at there (λ o. o) out all);
         shown = shown_join base h s.views id v k.shown at other w apart there (k.shown.seeing other w there') also also';
-        dealt = dealt_join may base k.count h s.views id v k.dealt at other w apart there gone gone' ended;
+        dealt = dealt_join may base k.count h s.views id v k.dealt at other w apart there gone gone' ended kept;
       }

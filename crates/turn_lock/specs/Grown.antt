@@ -65,6 +65,8 @@ pub record Owning {E : Type 0} (first count : ℕ) (h : List (Mark E)) (number g
   pub theirs : (n : ℕ) → gone ≡ Some n → Stands h n (length also)
   pub past : (n : ℕ) → Has ended n → Stands h n (length seen)
   pub making : (m : ℕ) → made ≡ Some m → count ≡ first + m
+  -- only the maker has the numbers of passes that were joined
+  pub keeper : (n : ℕ) → (gone ≡ Some n) ⊎ Has ended n → made ≢ None
   pub worker : inside ≡ true → number ≢ None
 
 abbrev pub holders : Option ℕ → ℕ

@@ -93,6 +93,7 @@ pub(crate) fn join<V: Grows>(board: &Board<V>, seat: &mut Place<V>, other: Place
     requires mine { (seat.old.me.0.inside ≡ false) × (seat.old.me.0.gone ≡ None) × (seat.old.me.0.also ≡ []) }
     requires theirs { IsFree other.me }
     requires empty { (other.me.0.gone ≡ None) × (other.me.0.ended ≡ []) × (other.me.0.also ≡ []) }
+    requires kept { other.me.0.number ≢ None → seat.old.me.0.made ≢ None }
     ensures table { seat.new.table_id ≡ seat.old.table_id }
     ensures view { Learned (joined seat.old.me.0 other.me.0, seat.old.me.1) seat.new.me }
 {

@@ -9,7 +9,7 @@ join_seat-requires g c = let me = c.requires.mine in let free = c.requires.their
   search rules,
   free.2,
   search rules,
-  joins_step _ _ _ _ _ c.args.seat.now.id c.args.other.id c.args.seat.now.me.0 c.args.other.me.0 free.0 free.1 me.1 empty.0 empty.1 me.2 empty.2,
+  joins_step _ _ _ _ _ c.args.seat.now.id c.args.other.id c.args.seat.now.me.0 c.args.other.me.0 free.0 free.1 me.1 empty.0 empty.1 me.2 empty.2 c.requires.kept,
 )
 
 pub load-requires : goal.load-requires
