@@ -56,6 +56,10 @@ module _ {V E F : Type 0} where
   abbrev pub noted : Note V E F → List E
   noted n = entries_of n.seat.me.0.seen
 
+  -- what a note knows of its lock: the same as the pass that it is of
+  abbrev pub about_noted : Note V E F → Option (About F)
+  about_noted n = n.seat.me.0.about
+
   abbrev pub id_of : TurnLock V E F → TableId
   id_of l = l.table.shared.table_id
 

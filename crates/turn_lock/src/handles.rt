@@ -49,6 +49,7 @@ pub struct Note<'l, V: Grows> {
     ghost same: { (seat.table_id ≡ board.now.table_id) × IsTable board.now.table_id },
     ghost reader: { IsReader seat.me },
     ghost free: { IsFree seat.me },
+    ghost known: { seat.me.0.about ≢ None },
 }
 
 /// The value, in the hands of the pass that has the turn. End the turn by `put`.

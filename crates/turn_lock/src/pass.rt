@@ -1,7 +1,7 @@
 //! A pass between its turns.
 ghost use Rattle.std.specs.Prelude.{◌≡◌, ◌≢◌, ◌⊎◌};
 ghost use mathlib.Core.List.{IsPrefix};
-ghost use Rattle.turn_lock.specs.Words.{lock_of, number_of, seen, own_list, about, IsReady, HasTurn, IsStill, HasFixed, OthersMay, lock_noted, noted};
+ghost use Rattle.turn_lock.specs.Words.{lock_of, number_of, seen, own_list, about, IsReady, HasTurn, IsStill, HasFixed, OthersMay, lock_noted, noted, about_noted};
 
 use crate::grows::Grows;
 use crate::handles::{Note, Pass, Turn};
@@ -26,6 +26,7 @@ impl<'l, V: Grows> Pass<'l, V> {
         ensures turn { HasTurn self.old → HasTurn self.new }
         ensures lock { lock_noted result ≡ lock_of self.old }
         ensures noted { noted result ≡ seen self.old }
+        ensures about { about_noted result ≡ about self.old }
     {
         let board = self.board;
         let seat = board.split_seat::<Copied>(&mut self.seat);
