@@ -1,5 +1,5 @@
 -- The own list of a number, as the history grows.
-use Rattle.std.proofs.Common.{◌≡◌, ◌≢◌, ℕ, zero, suc, ◌+◌, Bool, true, false, cond, List, [], ◌∷◌, ◌++◌, length, sym, refl, ap, ◌∙◌, subst, arith, Option, Some, None, slice_get, append-nil, eq-eqb, ne_eqb}
+use Rattle.std.proofs.Common.{◌≡◌, ◌≢◌, ℕ, zero, suc, ◌+◌, Bool, true, false, cond, List, [], ◌∷◌, ◌++◌, length, sym, refl, ap, ◌∙◌, subst, arith, Option, Some, None, slice_get, append-nil, eq-eqb, eqb-true, ne_eqb}
 use mathlib.Core.Option.{some, some-injective, some-ne-none}
 use mathlib.Core.List.{IsPrefix}
 use lib.ListN.{get_elem?}
@@ -15,6 +15,10 @@ number_is (Some m) n e = eq-eqb m n (some_same m n e)
 pub number_not : (o : Option ℕ) (n : ℕ) → o ≢ Some n → is_number o n ≡ false
 number_not None n ne = refl
 number_not (Some m) n ne = ne_eqb m n (λ e. ne (ap (λ (k : ℕ). Some k) e))
+
+is_number_of : (o : Option ℕ) (n : ℕ) → is_number o n ≡ true → o ≡ Some n
+is_number_of None n e = absurd (cc (e))
+is_number_of (Some m) n e = ap (λ (k : ℕ). Some k) (eqb-true m n e)
 
 module _ {E : Type 0} where
   -- nothing in the list was added under the number
@@ -60,6 +64,38 @@ module _ {E : Type 0} where
       later : (b : Bool) → StandsIn (own_from n (k + 1) ys) (k + suc j) x.0 → StandsIn (cond b ((k, y.0) ∷ own_from n (k + 1) ys) (own_from n (k + 1) ys)) (k + suc j) x.0
       later true r = (suc r.0, r.1)
       later false r = r
+
+  pair_same : (p q : ℕ × E) → Some p ≡ Some q → p ≡ q
+  pair_same p q e = cc
+
+  -- what the own list of a number has was added under the number
+  pub own_only : (n k : ℕ) (xs : List (Mark E)) (j : ℕ) (e : E) → StandsIn (own_from n k xs) j e → (i : ℕ) × (x : Mark E) × (j ≡ k + i) × (get_elem? xs i ≡ some x) × (x.1 ≡ Some n) × (x.0 ≡ e)
+  own_only n k [] j e s = absurd (cc (s.1))
+  own_only n k (y ∷ ys) j e s = split (λ t. let r = own_only n (k + 1) ys j e t in let place = r.2 in (suc r.0, r.1, omega arith, r.3, r.4, r.5)) (is_number y.1 n) refl s.0 s.1
+    where
+      Found : Type 0
+      Found = (i : ℕ) × (x : Mark E) × (j ≡ k + i) × (get_elem? (y ∷ ys) i ≡ some x) × (x.1 ≡ Some n) × (x.0 ≡ e)
+
+      split : (StandsIn (own_from n (k + 1) ys) j e → Found) → (b : Bool) → is_number y.1 n ≡ b → (i : ℕ) → slice_get (cond b ((k, y.0) ∷ own_from n (k + 1) ys) (own_from n (k + 1) ys)) i ≡ Some (j, e) → Found
+      split later true is zero at = let same = pair_same (k, y.0) (j, e) at in let place : k ≡ j = ap (λ (z : ℕ × E). z.0) same in (0, y, omega arith, refl, is_number_of y.1 n is, ap (λ (z : ℕ × E). z.1) same)
+      split later true is (suc i) at = later (i, at)
+      split later false is i at = later (i, at)
+
+  -- an element of a list is one of its entries
+  entry_of : (xs : List (Mark E)) (i : ℕ) (x : Mark E) → get_elem? xs i ≡ some x → slice_get (entries_of xs) i ≡ Some x.0
+  entry_of [] i x at = absurd (some-ne-none x (sym at))
+  entry_of (y ∷ ys) zero x at = ap (λ (z : Mark E). Some z.0) (some-injective y x at)
+  entry_of (y ∷ ys) (suc i) x at = entry_of ys i x at
+
+  pub own_seen : (n : ℕ) (xs : List (Mark E)) (j : ℕ) (e : E) → StandsIn (own n xs) j e → slice_get (entries_of xs) j ≡ Some e
+  own_seen n xs j e s = let r = own_only n 0 xs j e s in let place = r.2 in
+      subst (λ (p : ℕ). slice_get (entries_of xs) p ≡ Some e) (omega arith) (entry_of xs r.0 r.1 r.3 ∙ ap (λ (z : E). Some z) r.5)
+
+  -- a place stands in the own list of one number
+  pub one_owner : (n m : ℕ) (xs : List (Mark E)) (j : ℕ) (d e : E) → StandsIn (own n xs) j d → StandsIn (own m xs) j e → n ≡ m
+  one_owner n m xs j d e s t = let a = own_only n 0 xs j d s in let b = own_only m 0 xs j e t in let here = a.2 in let there = b.2 in
+      let place : a.0 ≡ b.0 = omega arith in let same : a.1 ≡ b.1 = some-injective a.1 b.1 (sym a.3 ∙ (ap (λ (p : ℕ). get_elem? xs p) place ∙ b.3)) in
+      some_same n m (sym a.4 ∙ (ap (λ (z : Mark E). z.1) same ∙ b.4))
 
   -- an entry of a list of elements is of one of them
   pub entry_at : (xs : List (Mark E)) (j : ℕ) (e : E) → slice_get (entries_of xs) j ≡ Some e → (x : Mark E) × (get_elem? xs j ≡ some x) × (x.0 ≡ e)

@@ -20,5 +20,10 @@ module _ {E : Type 0} where
   places k [] = []
   places k (e ∷ es) = (k, e) ∷ places (k + 1) es
 
+  -- the own list has the entry at the place j of the history
   abbrev pub StandsIn : List (ℕ × E) → ℕ → E → Type 0
   StandsIn list j e = (i : ℕ) × (slice_get list i ≡ Some (j, e))
+
+  -- each place that the own list has is one of the entries', with its entry
+  abbrev pub IsPlacesOf : List (ℕ × E) → List E → Type 0
+  IsPlacesOf list es = (j : ℕ) (e : E) → StandsIn list j e → slice_get es j ≡ Some e

@@ -93,6 +93,10 @@ module _ {V E F : Type 0} {G : Ghosts V E F} where
   abbrev pub about_by : Maker V E F G → Option (About F)
   about_by m = m.seat.me.0.about
 
+  -- a place stands in the own list of one number at most
+  abbrev pub HasOneOwnerEach : Maker V E F G → Type 0
+  HasOneOwnerEach m = (n k j : ℕ) (d e : E) → StandsIn (own_by m n) j d → StandsIn (own_by m k) j e → n ≡ k
+
   -- the number comes after those of the passes that the maker made
   abbrev pub IsNext : Maker V E F G → ℕ → Type 0
   IsNext m n = (a : About F) → about_by m ≡ Some a → n ≡ a.first + made_by m

@@ -4,6 +4,7 @@
 mod board;
 mod grows;
 mod handles;
+mod laws;
 mod lock;
 mod maker;
 mod pass;
