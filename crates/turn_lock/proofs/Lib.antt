@@ -1,4 +1,5 @@
 pub mod Learning
+pub mod Distinct
 pub mod Ends
 pub mod Handed
 pub mod Owned

@@ -1,7 +1,8 @@
 //! A small book of numbers under the lock, and threads that share it.
-ghost use Rattle.std.specs.Prelude.{◌≡◌, ◌⊎◌, ℕ, ◌+◌, ◌<◌, ◌≤◌, List, [], ◌∷◌, ◌++◌, length, Some, IfSome, IfNone, slice_get};
+ghost use Rattle.std.specs.Prelude.{◌≡◌, ◌⊎◌, ℕ, ◌+◌, ◌<◌, ◌≤◌, ◌==◌, [], ◌∷◌, ◌++◌, length, position, Some, IfSome, slice_get};
 ghost use Rattle.std.specs.Thread.{IsSync};
 ghost use mathlib.Core.List.{IsPrefix};
+ghost use Rattle.turn_lock.specs.declared.board.About.{About};
 ghost use Rattle.turn_lock.specs.Words.{lock_of, number_of, seen, about, IsReady, IsStill, noted, lock_noted};
 
 use crate::{Grows, Pass, TurnLock};
@@ -10,11 +11,13 @@ use std::sync::Wait;
 use std::test::Fail;
 use std::thread::{Threads, join_mut};
 
-/// Distinct numbers, no more than the limit.
+/// Distinct numbers, no more than the limit. A pass adds none that is below its own number.
 #[derive(Drop)]
 struct Book {
-    texts: Vec<u64>,
+    numbers: Vec<u64>,
     limit: u64,
+    ghost distinct: { (i j n : ℕ) → slice_get numbers.items i ≡ Some n → slice_get numbers.items j ≡ Some n → i ≡ j },
+    ghost room: { length numbers.items ≤ limit },
 }
 
 impl Grows for Book {
@@ -22,55 +25,85 @@ impl Grows for Book {
 
     type Fixed = u64;
 
-    ghost entries = { λ b. b.texts.items };
+    ghost entries = { λ b. b.numbers.items };
 
-    ghost may_add = { λ _ _. Unit {0} };
+    ghost may_add = { λ n entry. n ≤ entry };
 
     ghost fixed = { λ b. b.limit };
 
     fn count(&self) -> u64 {
-        self.texts.len() as u64
+        self.numbers.len() as u64
     }
 }
 
 impl Book {
     fn new(alloc: Global, limit: u64) -> Book
-        ensures { (result.texts.items ≡ []) × (result.limit ≡ limit) }
+        ensures { (result.numbers.items ≡ []) × (result.limit ≡ limit) }
     {
         Book {
-            texts: Vec::new(alloc),
+            numbers: Vec::new(alloc),
             limit,
         }
     }
 
-    /// The number of the text, which is added last where it is new. None where the book is full.
-    fn intern(&mut self, text: u64) -> Option<u64>
-        ensures limit { self.new.limit ≡ self.old.limit }
-        ensures grown { (rest : List ℕ) × (self.new.texts.items ≡ self.old.texts.items ++ rest) }
-        ensures named { IfSome result (λ k. slice_get self.new.texts.items k ≡ Some text) }
+    /// The place of the number.
+    fn place_of(&self, number: u64) -> Option<usize>
+        ensures first { result ≡ position (λ n. n == number) self.now.numbers.items }
+        ensures named { IfSome result (λ k. slice_get self.now.numbers.items k ≡ Some number) }
     {
-        let known = self.texts.iter().position(|x: &u64| *x == text);
-        if let Some(k) = known {
-            return Some(k as u64);
+        self.numbers.iter().position(|x: &u64| *x == number)
+    }
+
+    /// The place of the number, which is added last where it is new. None where the book is full.
+    fn intern(&mut self, number: u64) -> Option<u64>
+        ensures limit { self.new.limit ≡ self.old.limit }
+        ensures grown { (self.new.numbers.items ≡ self.old.numbers.items) ⊎ (self.new.numbers.items ≡ self.old.numbers.items ++ number ∷ []) }
+        ensures named { IfSome result (λ k. slice_get self.new.numbers.items k ≡ Some number) }
+    {
+        if let Some(place) = self.place_of(number) {
+            return Some(place as u64);
         }
-        let next = self.texts.len() as u64;
-        if next >= self.limit || self.texts.push(text).is_err() {
+        let next = self.numbers.len() as u64;
+        if next >= self.limit || self.numbers.push(number).is_err() {
             return None;
         }
         Some(next)
     }
+
+    /// The number at a place.
+    fn at(&self, place: u64) -> u64
+        requires { place < length self.now.numbers.items }
+        ensures { slice_get self.now.numbers.items place ≡ Some result }
+    {
+        self.numbers[place as usize]
+    }
 }
 
-fn intern<R: Wait>(pass: &mut Pass<'_, Book>, rt: &R, text: u64) -> Option<u64>
+fn added<R: Wait>(pass: &mut Pass<'_, Book>, rt: &R, number: u64) -> Option<u64>
+    requires ready { IsReady pass.old }
+    requires fair { number_of pass.old ≤ number }
+    ensures still { IsStill pass.old pass.new × IsReady pass.new }
+    ensures seen { IsPrefix (seen pass.old) (seen pass.new) }
+    ensures named { IfSome result (λ k. slice_get (seen pass.new) k ≡ Some number) }
+{
+    let mut turn = pass.take(rt);
+    let answer = turn.value.intern(number);
+    turn.put(pass);
+    answer
+}
+
+/// The place of the number in the shared book. None where the book is full, or the pass may not add
+/// the number.
+fn intern<R: Wait>(pass: &mut Pass<'_, Book>, rt: &R, number: u64) -> Option<u64>
     requires { IsReady pass.old }
     ensures still { IsStill pass.old pass.new × IsReady pass.new }
     ensures seen { IsPrefix (seen pass.old) (seen pass.new) }
-    ensures named { IfSome result (λ k. slice_get (seen pass.new) k ≡ Some text) }
+    ensures named { IfSome result (λ k. slice_get (seen pass.new) k ≡ Some number) }
 {
-    let mut turn = pass.take(rt);
-    let answer = turn.value.intern(text);
-    turn.put(pass);
-    answer
+    if number < pass.number() {
+        return None;
+    }
+    added(pass, rt, number)
 }
 
 fn three<R: Wait>(
@@ -124,30 +157,32 @@ fn two_threads_share_one_book(rt: HostRuntime) -> Result<(), Fail> {
     maker.join(one);
     maker.join(two);
     let book = lock.close(maker);
-    assert_eq!(rt; book.texts.len(), 3);
-    for (text, number) in [500, 600, 700].iter().zip(&mine) {
-        let number = number.expect(&rt, "there is room") as usize;
-        assert!(rt; number < 3);
-        assert_eq!(rt; book.texts[number], *text);
+    assert_eq!(rt; book.numbers.len(), 3);
+    for (number, place) in [500, 600, 700].iter().zip(&mine) {
+        let place = place.expect(&rt, "there is room") as usize;
+        assert!(rt; place < 3);
+        assert_eq!(rt; book.numbers[place], *number);
     }
-    for (text, number) in [700, 500, 600].iter().zip(&theirs) {
-        let number = number.expect(&rt, "there is room") as usize;
-        assert!(rt; number < 3);
-        assert_eq!(rt; book.texts[number], *text);
+    for (number, place) in [700, 500, 600].iter().zip(&theirs) {
+        let place = place.expect(&rt, "there is room") as usize;
+        assert!(rt; place < 3);
+        assert_eq!(rt; book.numbers[place], *number);
     }
     Ok(())
 }
 
-/// The text at a place that the pass has seen.
-fn text_at<R: Wait>(pass: &mut Pass<'_, Book>, rt: &R, place: u64) -> u64
+/// The number at a place that the pass has seen. Past the opening it is not below the lock's first
+/// number, since no pass adds one that is below its own.
+fn number_at<R: Wait>(pass: &mut Pass<'_, Book>, rt: &R, place: u64) -> u64
     requires ready { IsReady pass.old }
     requires known { place < length (seen pass.old) }
     ensures still { IsStill pass.old pass.new × IsReady pass.new }
+    ensures fair { (a : About ℕ) → about pass.old ≡ Some a → a.start ≤ place → a.first ≤ result }
 {
     let turn = pass.take(rt);
-    let text = turn.value.texts[place as usize];
+    let number = turn.value.at(place);
     turn.put(pass);
-    text
+    number
 }
 
 #[test]
@@ -162,22 +197,23 @@ fn a_note_shows_what_another_pass_saw(rt: HostRuntime) -> Result<(), Fail> {
         panic!(rt; "there is room");
     };
     let full = intern(&mut writer, &rt, 78);
-    assert_eq!(rt; full, None);
+    let unfair = intern(&mut writer, &rt, 9);
+    assert_eq!(rt; (full, unfair), (None, None));
     let note = writer.note();
     reader.join(note);
-    let text = text_at(&mut reader, &rt, place);
+    let number = number_at(&mut reader, &rt, place);
     assert_eq!(rt;
-        (writer.number(), reader.number(), place, text),
+        (writer.number(), reader.number(), place, number),
         (10, 11, 0, 77)
     );
     maker.join(writer);
     maker.join(reader);
     let book = lock.close(maker);
-    assert_eq!(rt; book.texts.as_slice(), [77].as_slice());
+    assert_eq!(rt; book.numbers.as_slice(), [77].as_slice());
     Ok(())
 }
 
-/// One turn for each of the texts from this one on.
+/// One turn for each of the numbers from this one on.
 fn turns<R: Wait>(pass: &mut Pass<'_, Book>, rt: &R, from: u64, count: u64)
     requires { (from + count < 18446744073709551616) × IsReady pass.old }
     ensures { IsStill pass.old pass.new × IsReady pass.new }
@@ -251,9 +287,9 @@ fn four_threads_take_a_hundred_turns_each(rt: HostRuntime) -> Result<(), Fail> {
     maker.join(c);
     maker.join(d);
     let book = lock.close(maker);
-    assert_eq!(rt; book.texts.len(), 400);
-    for text in [0, 99, 1000, 1099, 2000, 2099, 3000, 3099] {
-        assert!(rt; book.texts.contains(&text));
+    assert_eq!(rt; book.numbers.len(), 400);
+    for number in [0, 99, 1000, 1099, 2000, 2099, 3000, 3099] {
+        assert!(rt; book.numbers.contains(&number));
     }
     Ok(())
 }
