@@ -1,5 +1,6 @@
-//! The table under the lock: its words, its one slot, and what each seat at it knows.
-//! Word 0 is the ticket that is drawn next, word 1 the ticket that is served, word 2 the count of entries, word 3 the number that the next pass gets.
+//! The table under the lock: its words, its one slot, and what each seat at it knows. Word 0 is the
+//! ticket that is drawn next, word 1 the ticket that is served, word 2 the count of entries, word 3
+//! the number that the next pass gets.
 use crate::grows::Grows;
 use atomic_table::{Seat, Shared, TableRule};
 use std::collections::LinkedList;
@@ -14,14 +15,16 @@ pub(crate) const LENGTH: usize = 2;
 
 pub(crate) const NUMBERS: usize = 3;
 
-/// What every pass and note knows of its lock: the number of the first pass, the count of entries at the opening, and the fixed part. No value of it is made.
+/// What every pass and note knows of its lock: the number of the first pass, the count of entries
+/// at the opening, and the fixed part. No value of it is made.
 pub struct About<F> {
     pub first: u64,
     pub start: u64,
     pub fixed: F,
 }
 
-/// What a seat at the table knows. Each entry stands with the number of the pass that added it. No value of it is made.
+/// What a seat at the table knows. Each entry stands with the number of the pass that added it. No
+/// value of it is made.
 pub struct View<E, F> {
     pub ticket: Option<u64>,
     /// The seat has the turn.

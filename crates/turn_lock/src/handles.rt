@@ -7,7 +7,7 @@ use crate::grows::Grows;
 use atomic_table::Table;
 use std::alloc::Global;
 
-/// A lock over a value whose entries only grow. Passes take turns with the value, in the order in which they asked.
+/// A lock over a value whose entries only grow. Passes take turns with the value.
 #[derive(Drop)]
 pub struct TurnLock<V: Grows> {
     pub(crate) table: Table<Option<V>, View<V::Entry, V::Fixed>, Opening<V>, Law<V>, Global>,
@@ -41,7 +41,7 @@ pub struct Pass<'l, V: Grows> {
     ghost known: { seat.me.0.about ≢ None },
 }
 
-/// What a pass had seen, for another pass to learn.
+/// What a pass had seen, for another pass to learn. It knows of the lock what its pass knows.
 #[derive(Drop)]
 pub struct Note<'l, V: Grows> {
     pub(crate) board: &'l Board<V>,
@@ -52,7 +52,8 @@ pub struct Note<'l, V: Grows> {
     ghost known: { seat.me.0.about ≢ None },
 }
 
-/// The value, in the hands of the pass that has the turn. End the turn by `put`.
+/// The value, in the hands of the pass that has the turn. End the turn by `put`: a turn is not
+/// dropped silently, and a pass whose turn is not put is ready for no other.
 pub struct Turn<V> {
     pub value: V,
 }

@@ -7,8 +7,8 @@ use crate::grows::Grows;
 use crate::handles::{Maker, Pass};
 
 impl<V: Grows> Maker<V> {
-    /// Each place has one owner. Two numbers whose own lists have the same place are one number, and what
-    /// an own list has at a place is the entry that the maker has seen there.
+    /// Each place has one owner: two numbers whose own lists have the same place are one number.
+    /// What an own list has at a place is the entry that the maker has seen there.
     pub fn one_owner(&self)
         ensures owner { HasOneOwnerEach self.now }
         ensures places { (n : ℕ) → IsPlacesOf (own_by self.now n) (seen_by self.now) }

@@ -1,4 +1,5 @@
-//! A lock over a value whose entries only grow. Its turns come in the order of the tickets, and each pass knows which entries it has seen and which it added.
+//! A lock over a value whose entries only grow. Passes take turns with the value, and each knows
+//! which entries it has seen and which it added.
 #![tactic(auto)]
 
 mod board;

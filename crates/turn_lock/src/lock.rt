@@ -10,7 +10,8 @@ use std::alloc::{AllocFailed, Global};
 use std::snapshot::Snapshot;
 
 impl<V: Grows> TurnLock<V> {
-    /// A lock over the value, and the maker of its passes, which are numbered from `first` on. It is refused for want of memory alone.
+    /// A lock over the value, and the maker of its passes, which are numbered from `first` on. It
+    /// is refused for want of memory alone.
     pub fn new(
         alloc: Global,
         value: V,
@@ -47,7 +48,8 @@ impl<V: Grows> TurnLock<V> {
         }
     }
 
-    /// Ends the lock, once its maker joined every pass that it made. The value has every entry, and each that a pass added is in that pass's own list, which the maker knows.
+    /// Ends the lock, once its maker joined every pass that it made. The value has every entry, and
+    /// each that a pass added is in that pass's own list, which the maker knows.
     pub fn close(self, maker: Maker<V>) -> V
         requires lock { lock_by maker ≡ id_of self }
         requires ended { HasJoinedAll maker }

@@ -18,7 +18,8 @@ impl<V: Grows> Maker<V> {
         self.made
     }
 
-    /// A pass of the lock that the maker came with. Passes are numbered from the lock's first number on, up to 2^32 of them.
+    /// A pass of the lock that the maker came with. Passes are numbered from the lock's first
+    /// number on, up to 2^32 of them.
     pub fn pass<'l>(&mut self, lock: &'l TurnLock<V>) -> Pass<'l, V>
         requires lock { lock_by self.old ≡ id_of lock.now }
         requires room { made_by self.old < 4294967296 }
@@ -44,7 +45,8 @@ impl<V: Grows> Maker<V> {
         }
     }
 
-    /// Ends a pass of the same lock, between two turns. The maker keeps its number and what it added.
+    /// Ends a pass of the same lock, between two turns. The maker keeps its number and what it
+    /// added.
     pub fn join(&mut self, pass: Pass<'_, V>)
         requires lock { lock_of pass ≡ lock_by self.old }
         requires ready { IsReady pass }

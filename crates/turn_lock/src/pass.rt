@@ -17,7 +17,7 @@ impl<'l, V: Grows> Pass<'l, V> {
         self.number
     }
 
-    /// A copy of what the pass has seen.
+    /// A copy of what the pass has seen, and of what it knows of the lock.
     pub fn note(&mut self) -> Note<'l, V>
         ensures still { IsStill self.old self.new }
         ensures seen { seen self.new ≡ seen self.old }
@@ -33,7 +33,8 @@ impl<'l, V: Grows> Pass<'l, V> {
         Note { board, seat }
     }
 
-    /// Learns a note of the same lock, between two turns. One of the two lists begins the other, and the pass has then seen the longer.
+    /// Learns a note of the same lock, between two turns. One of the two lists begins the other,
+    /// and the pass has then seen the longer.
     pub fn join(&mut self, note: Note<'_, V>)
         requires lock { lock_noted note ≡ lock_of self.old }
         requires ready { IsReady self.old }
@@ -48,8 +49,9 @@ impl<'l, V: Grows> Pass<'l, V> {
         join(self.board, &mut self.seat, seat);
     }
 
-    /// Waits for a turn, and takes the value. The pass has then seen all of the value's entries, and the turn ends by `Turn::put`.
-    /// A pass that took the lock's last ticket, of 2^64 - 1, waits for good.
+    /// Waits for a turn, and takes the value. The pass has then seen all of the value's entries,
+    /// and the turn ends by `Turn::put`. Once 2^64 - 1 tickets of the lock were drawn, it waits for
+    /// good.
     pub fn take<R: Wait>(&mut self, rt: &R) -> Turn<V>
         requires ready { IsReady self.old }
         ensures still { IsStill self.old self.new }

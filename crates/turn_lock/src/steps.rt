@@ -18,7 +18,7 @@ const YIELDS: u64 = 2_000;
 /// The longest sleep between two looks, in microseconds.
 const NAP: u64 = 50;
 
-/// Draws the next ticket. After the last one it waits for ever.
+/// Draws the next ticket. Once 2^64 - 1 tickets were drawn, it waits for good.
 pub(crate) fn draw<V: Grows, R: Wait>(board: &Board<V>, rt: &R, seat: &mut Place<V>) -> u64
     requires table { (seat.old.table_id ≡ board.now.table_id) × IsTable board.now.table_id }
     requires free { IsFree seat.old.me }
@@ -37,7 +37,8 @@ pub(crate) fn draw<V: Grows, R: Wait>(board: &Board<V>, rt: &R, seat: &mut Place
     unreachable!()
 }
 
-/// Lets time pass between two looks at the ticket that is served, which was `found` last. So many turns come before the thread's own.
+/// Lets time pass between two looks at the ticket that is served, which was `found` last. `before`
+/// turns come before the thread's own.
 fn pause<V: Grows, R: Wait>(board: &Board<V>, rt: &R, round: u64, found: u64, before: u64)
     requires { IsTable board.now.table_id }
 {

@@ -10,7 +10,8 @@ use crate::steps::publish;
 use std::marker::Brand;
 
 impl<V: Grows> Turn<V> {
-    /// Gives the value back and ends the turn of the pass that took it. The list has to begin with what it held at the take; the pass may add the rest, and owns it from then on.
+    /// Gives the value back and ends the turn of the pass that took it. The list has to begin with
+    /// what it held at the take; the pass may add the rest, and owns it from then on.
     pub fn put(self, pass: &mut Pass<'_, V>)
         requires turn { HasTurn pass.old }
         requires adds { Adds V.may_add pass.old (V.entries self.value) }
