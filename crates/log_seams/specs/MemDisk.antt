@@ -27,7 +27,7 @@ events_of m = events m.calls.items m.log.items
 
 -- the next call fails by its number: it is past the last, or stands in the list
 abbrev pub fails_next : MemDisk → Bool
-fails_next m = nat_le m.most (length m.calls.items) || list_any (λ n. nat_eq n (length m.calls.items)) m.fails.items
+fails_next m = nat_le m.call_limit (length m.calls.items) || list_any (λ n. nat_eq n (length m.calls.items)) m.fails.items
 
 -- a write of n bytes there would take the disk or the recorded bytes past the room
 abbrev pub lacks_room : MemDisk → ℕ → ℕ → Bool
@@ -41,7 +41,7 @@ events_until after m = events (take after m.calls.items) m.log.items
 pub record SameBut (old new : MemDisk) : Type 0 where
   pub first : first_of new ≡ first_of old
   pub room : new.room ≡ old.room
-  pub most : new.most ≡ old.most
+  pub call_limit : new.call_limit ≡ old.call_limit
   pub fails : new.fails.items ≡ old.fails.items
 
 -- the images that a crash now may leave, and those that a crash since a moment may have left

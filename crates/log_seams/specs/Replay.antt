@@ -93,17 +93,31 @@ held Ones at bytes old = laid at (replicate (length bytes) 1) old
 abbrev pub torn_by : Pending → ℕ → List ℕ → List ℕ → List ℕ
 torn_by pending at bytes old = if nat_le at (length old) then held pending at bytes old else old
 
--- what a crash after one event more leaves, of what was read before it and of what a crash before it left
-abbrev pub held_after : Pending → Event → List ℕ → List ℕ → List ℕ
-held_after pending (wrote done at bytes) kept torn = torn_by pending at bytes torn
-held_after pending (read at n) kept torn = torn
-held_after pending synced kept torn = kept
-held_after pending other kept torn = torn
+-- the events up to the last sync that succeeded
+abbrev pub settled_of : List Event → List Event
+settled_of [] = []
+settled_of (wrote done at bytes ∷ older) = settled_of older
+settled_of (read at n ∷ older) = settled_of older
+settled_of (synced ∷ older) = synced ∷ older
+settled_of (other ∷ older) = settled_of older
 
--- what a crash leaves after the events, where each write since the last sync that succeeded is held so
+-- the writes since then with their places, also those that failed, the newest first
+abbrev pub pending_of : List Event → List (ℕ × List ℕ)
+pending_of [] = []
+pending_of (wrote done at bytes ∷ older) = (at, bytes) ∷ pending_of older
+pending_of (read at n ∷ older) = pending_of older
+pending_of (synced ∷ older) = []
+pending_of (other ∷ older) = pending_of older
+
+-- each of the writes laid over the bytes as it is held, the oldest first
+abbrev pub all_torn_by : Pending → List (ℕ × List ℕ) → List ℕ → List ℕ
+all_torn_by pending [] old = old
+all_torn_by pending (w ∷ older) old = torn_by pending w.0 w.1 (all_torn_by pending older old)
+
+-- what a crash leaves after the events: what was read at the last sync that succeeded, or the first bytes where none did,
+-- with each write since then held so
 abbrev pub left_by : Pending → List ℕ → List Event → List ℕ
-left_by pending first [] = first
-left_by pending first (e ∷ older) = held_after pending e (content first older) (left_by pending first older)
+left_by pending first events = all_torn_by pending (pending_of events) (content first (settled_of events))
 
 -- the laws of a disk
 pub reads_as : (first : List ℕ) (events : List Event) → IsImage first events (content first events)

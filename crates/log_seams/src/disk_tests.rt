@@ -79,3 +79,15 @@ fn calls_fail_by_the_list_past_the_room_and_past_the_last(rt: HostRuntime) -> Re
     assert_eq!(rt; disk.calls(), 5);
     Ok(())
 }
+
+#[test]
+fn a_disk_may_begin_longer_than_its_room(rt: HostRuntime) -> Result<(), Fail> {
+    let alloc = rt.alloc();
+    let mut disk = disk(alloc, &[3; 9], 9, &[])?;
+    assert_eq!(rt; disk.bytes().len(), 9);
+    assert_eq!(rt; disk.write(8, &[4]), Err(Failed));
+    assert_eq!(rt; disk.bytes().len(), 9);
+    assert_eq!(rt; disk.write(7, &[4]), Ok(()));
+    assert_eq!(rt; disk.bytes(), [3, 3, 3, 3, 3, 3, 3, 4, 3].as_slice());
+    Ok(())
+}

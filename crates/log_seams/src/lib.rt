@@ -2,20 +2,19 @@
 //! plain lists that the store's crates hand to each other.
 #![tactic(auto)]
 
-pub mod calls;
-pub mod disk;
-pub mod lists;
-pub mod mem_disk;
-pub mod mem_shelf;
-pub mod mem_sink;
-pub mod mem_source;
-pub mod refusals;
-pub mod shelf;
-pub mod sink;
-pub mod source;
+mod calls;
+mod disk;
+mod lists;
+mod mem_disk;
+mod mem_shelf;
+mod mem_sink;
+mod mem_source;
+mod refusals;
+mod shelf;
+mod sink;
+mod source;
 mod tally;
 
-pub use calls::Calls;
 pub use disk::Disk;
 pub use lists::{Text, TextList};
 pub use mem_disk::{MemDisk, Pending};

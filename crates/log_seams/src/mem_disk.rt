@@ -1,9 +1,9 @@
 //! A disk in memory, for tests and for whole runs without a file. It records its calls with the bytes
 //! of each write, fails at the calls that its list names, and tells what a crash may leave.
-ghost use Rattle.std.specs.Prelude.{◌≡◌, ◌≤◌, length, Some, max, IfOk, ◌+◌, OnOk, IsOk, vec_capacity, ◌<◌, ◌^◌};
+ghost use Rattle.std.specs.Prelude.{◌≡◌, ◌≤◌, ◌∷◌, ℕ, List, length, Some, max, IfOk, ◌+◌, OnOk, IsOk, vec_capacity, ◌<◌, ◌^◌};
 ghost use Rattle.log_seams.specs.Disk.{laid, Gave};
 ghost use Rattle.log_seams.specs.Outside.{Rose};
-ghost use Rattle.log_seams.specs.Replay.{logged, total, events, event_of, content, reads_of, IsImage, IsSince, torn_by, after_event, held_after, left_by, reads_now, counts_now, only_now, wider};
+ghost use Rattle.log_seams.specs.Replay.{logged, total, events, event_of, content, reads_of, IsImage, IsSince, Event, torn_by, after_event, left_by, reads_now, counts_now, only_now, wider};
 
 use crate::{Disk, Failed, Text};
 use std::alloc::{AllocError, Global};
@@ -44,14 +44,14 @@ pub struct MemDisk {
     log: Vec<u8>,
     fails: Vec<u64>,
     room: usize,
-    most: usize,
+    call_limit: usize,
     faults: u64,
     ghost whole: { total calls.items ≡ length log.items },
     ghost same: { bytes.items ≡ content first (events calls.items log.items) },
     ghost room_bytes: { room ≤ vec_capacity bytes },
     ghost room_log: { room ≤ vec_capacity log },
-    ghost room_calls: { most ≤ vec_capacity calls },
-    ghost recorded: { length calls.items ≤ most },
+    ghost room_calls: { call_limit ≤ vec_capacity calls },
+    ghost recorded: { length calls.items ≤ call_limit },
 }
 
 // Writes over what stands at a place, and past the end.
@@ -98,7 +98,7 @@ fn tear(
     }
 }
 
-// Does one call again, whose bytes stand at the front of the log: on what is read, and on what a
+// Does one call more, whose bytes stand at the front of the log: on what is read, and on what a
 // crash leaves.
 fn redo(
     alloc: Global,
@@ -110,7 +110,8 @@ fn redo(
 ) -> Result<(), AllocError>
     requires { logged call ≤ length log.now }
     ensures kept { OnOk result (kept.new.items ≡ after_event (event_of call log.now) kept.old.items) }
-    ensures torn { OnOk result (torn.new.items ≡ held_after pending (event_of call log.now) kept.old.items torn.old.items) }
+    ensures torn { OnOk result ((first : List ℕ) (older : List Event) → kept.old.items ≡ content first older → torn.old.items ≡ left_by pending first older
+        → torn.new.items ≡ left_by pending first (event_of call log.now ∷ older)) }
 {
     match call {
         Call::Wrote { at, count, done } => {
@@ -164,27 +165,27 @@ impl MemDisk {
     ghost use Rattle.log_seams.specs.Replay.{IsQuiet, wrote};
     ghost use Rattle.log_seams.specs.MemDisk.{first_of, bytes_of, calls_of, events_of, events_until, fails_next, lacks_room, SameBut, Rests};
 
-    /// A disk that begins with these bytes. `room` bounds its length and also the sum of the bytes that
-    /// it records; it fails at the calls whose numbers, from 0, stand in `fails`, at each write past the
-    /// room, and at each call from the number `calls` on, which it does not record. All its room is
-    /// taken here.
+    /// A disk that begins with these bytes, which may be more than `room`. It fails at each write that
+    /// would end past `room` or take the sum of the bytes that it records past it, at the calls whose
+    /// numbers, from 0, stand in `fails`, and at each call from the number `call_limit` on, which it
+    /// does not record. All its room is taken here.
     pub fn new(
         alloc: Global,
         bytes: Text,
         room: usize,
-        calls: usize,
+        call_limit: usize,
         fails: Vec<u64>,
     ) -> Result<MemDisk, AllocError>
         ensures bytes { IfOk result (λ m. bytes_of m ≡ bytes) }
         ensures first { IfOk result (λ m. first_of m ≡ bytes) }
         ensures events { IfOk result (λ m. events_of m ≡ []) }
         ensures calls { IfOk result (λ m. calls_of m ≡ 0) }
-        ensures room { IfOk result (λ m. (m.room ≡ room) × (m.most ≡ calls) × (m.fails.items ≡ fails.items)) }
+        ensures room { IfOk result (λ m. (m.room ≡ room) × (m.call_limit ≡ call_limit) × (m.fails.items ≡ fails.items)) }
         ensures faults { IfOk result (λ m. m.faults ≡ 0) }
     {
         let mut content = Vec::with_capacity(alloc, room.max(bytes.as_slice().len()))?;
         content.extend_from_slice(bytes.as_slice())?;
-        let recorded = Vec::with_capacity(alloc, calls)?;
+        let recorded = Vec::with_capacity(alloc, call_limit)?;
         let log = Vec::with_capacity(alloc, room)?;
         Ok(MemDisk {
             alloc,
@@ -194,7 +195,7 @@ impl MemDisk {
             log,
             fails,
             room,
-            most: calls,
+            call_limit,
             faults: 0,
         })
     }
@@ -216,7 +217,7 @@ impl MemDisk {
     /// The disk as a crash after the first `after` of its recorded calls may leave it: what was written
     /// up to the last of their syncs that succeeded stands, and each range written since then, also by
     /// a write that failed, holds what `pending` says, in the order of the writes. A write that begins
-    /// past the end that the crash left is lost. The new disk has the same room and count of calls,
+    /// past the end that the crash left is lost. The new disk has the same room and limit of calls,
     /// and no call of it fails by a list.
     pub fn stopped(&self, after: usize, pending: Pending) -> Result<MemDisk, AllocError>
         requires { after ≤ calls_of self.now }
@@ -225,7 +226,7 @@ impl MemDisk {
         ensures first { IfOk result (λ m. first_of m ≡ bytes_of m) }
         ensures events { IfOk result (λ m. events_of m ≡ []) }
         ensures calls { IfOk result (λ m. calls_of m ≡ 0) }
-        ensures room { IfOk result (λ m. (m.room ≡ self.now.room) × (m.most ≡ self.now.most) × (m.fails.items ≡ [])) }
+        ensures room { IfOk result (λ m. (m.room ≡ self.now.room) × (m.call_limit ≡ self.now.call_limit) × (m.fails.items ≡ [])) }
         ensures faults { IfOk result (λ m. m.faults ≡ 0) }
     {
         let left = left_by(
@@ -239,7 +240,7 @@ impl MemDisk {
             self.alloc,
             Text::new(left),
             self.room,
-            self.most,
+            self.call_limit,
             Vec::new(self.alloc),
         )
     }
@@ -248,7 +249,7 @@ impl MemDisk {
     fn fails_next(&self) -> bool
         ensures { result ≡ fails_next self.now }
     {
-        self.calls.len() >= self.most || self.fails.contains(&(self.calls.len() as u64))
+        self.calls.len() >= self.call_limit || self.fails.contains(&(self.calls.len() as u64))
     }
 
     // Whether a write there would go past the room.
@@ -262,7 +263,7 @@ impl MemDisk {
     // Records a call that changed no byte.
     fn note(&mut self, call: Call)
         requires quiet { IsQuiet call }
-        requires room { calls_of self.old < self.old.most }
+        requires room { calls_of self.old < self.old.call_limit }
         ensures events { events_of self.new ≡ event_of call [] ∷ events_of self.old }
         ensures same { SameBut self.old self.new }
         ensures bytes { bytes_of self.new ≡ bytes_of self.old }
@@ -276,7 +277,7 @@ impl MemDisk {
     fn lay(&mut self, at: u64, bytes: &[u8])
         requires place { at ≤ length (bytes_of self.old) }
         requires within { lacks_room self.old at (length bytes.now) ≡ false }
-        requires room { calls_of self.old < self.old.most }
+        requires room { calls_of self.old < self.old.call_limit }
         ensures events { events_of self.new ≡ wrote true at bytes.now ∷ events_of self.old }
         ensures same { SameBut self.old self.new }
         ensures bytes { bytes_of self.new ≡ laid at bytes.now (bytes_of self.old) }
@@ -296,7 +297,7 @@ impl MemDisk {
     // Records a write that failed.
     fn lose(&mut self, at: u64, bytes: &[u8])
         requires within { lacks_room self.old at (length bytes.now) ≡ false }
-        requires room { calls_of self.old < self.old.most }
+        requires room { calls_of self.old < self.old.call_limit }
         ensures events { events_of self.new ≡ wrote false at bytes.now ∷ events_of self.old }
         ensures same { SameBut self.old self.new }
         ensures bytes { bytes_of self.new ≡ bytes_of self.old }
@@ -315,13 +316,13 @@ impl MemDisk {
     // Counts a fault, and records the call where it is not past the last.
     fn fail(&mut self) -> Failed
         ensures rests { Rests self.old self.new }
-        ensures calls { calls_of self.new ≡ min self.old.most (calls_of self.old + 1) }
+        ensures calls { calls_of self.new ≡ min self.old.call_limit (calls_of self.old + 1) }
         ensures faults { self.new.faults ≡ min (self.old.faults + 1) (2 ^ 64 - 1) }
         ensures later { self.old.faults ≤ self.new.faults }
         ensures rose { Rose self.old.faults self.new.faults }
     {
         self.faults = self.faults.saturating_add(1);
-        if self.calls.len() < self.most {
+        if self.calls.len() < self.call_limit {
             self.note(Call::Other);
             return Failed;
         }
@@ -358,7 +359,7 @@ impl Disk for MemDisk {
         ensures succeeds { is_ok result ≡ not (fails_next self.old) }
         ensures steady { OnOk result (self.new.faults ≡ self.old.faults) }
         ensures same { SameBut self.old self.new }
-        ensures calls { calls_of self.new ≡ min self.old.most (calls_of self.old + 1) }
+        ensures calls { calls_of self.new ≡ min self.old.call_limit (calls_of self.old + 1) }
     {
         if self.fails_next() {
             return Err(self.fail());
@@ -380,7 +381,7 @@ impl Disk for MemDisk {
         ensures succeeds { is_ok result ≡ not (fails_next self.old) }
         ensures steady { OnOk result (self.new.faults ≡ self.old.faults) }
         ensures same { SameBut self.old self.new }
-        ensures calls { calls_of self.new ≡ min self.old.most (calls_of self.old + 1) }
+        ensures calls { calls_of self.new ≡ min self.old.call_limit (calls_of self.old + 1) }
     {
         if self.fails_next() {
             return Err(self.fail());
@@ -403,9 +404,9 @@ impl Disk for MemDisk {
         ensures succeeds { is_ok result ≡ not (lacks_room self.old at (length bytes.now) || fails_next self.old) }
         ensures steady { OnOk result (self.new.faults ≡ self.old.faults) }
         ensures same { SameBut self.old self.new }
-        ensures calls { calls_of self.new ≡ min self.old.most (calls_of self.old + 1) }
+        ensures calls { calls_of self.new ≡ min self.old.call_limit (calls_of self.old + 1) }
     {
-        if self.lacks_room(at, bytes.len()) || self.calls.len() >= self.most {
+        if self.lacks_room(at, bytes.len()) || self.calls.len() >= self.call_limit {
             return Err(self.fail());
         }
         if self.fails_next() {
@@ -427,7 +428,7 @@ impl Disk for MemDisk {
         ensures succeeds { is_ok result ≡ not (fails_next self.old) }
         ensures steady { OnOk result (self.new.faults ≡ self.old.faults) }
         ensures same { SameBut self.old self.new }
-        ensures calls { calls_of self.new ≡ min self.old.most (calls_of self.old + 1) }
+        ensures calls { calls_of self.new ≡ min self.old.call_limit (calls_of self.old + 1) }
     {
         if self.fails_next() {
             return Err(self.fail());

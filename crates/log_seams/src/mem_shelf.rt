@@ -4,8 +4,9 @@ ghost use Rattle.std.specs.Str.{bytes_eq};
 ghost use Rattle.log_seams.specs.Shelf.{file_of};
 ghost use Rattle.log_seams.specs.Outside.{Adds, Counts, Rose, Takes};
 
+use crate::calls::Calls;
 use crate::tally::Tally;
-use crate::{Calls, Failed, MemSource, OpenRefused, Shelf, Source, Text};
+use crate::{Failed, MemSource, OpenRefused, Shelf, Source, Text};
 use std::alloc::{AllocError, Global};
 use std::marker::Model;
 use std::mem;

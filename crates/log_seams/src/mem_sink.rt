@@ -2,7 +2,8 @@
 ghost use Rattle.std.specs.Prelude.{◌≡◌, ◌+◌, ◌-◌, ◌^◌, ◌<◌, ◌≤◌, ◌↔◌, ◌⊎◌, ◌++◌, [], min, length, take, option_map, IfOk, IsOk, IsErr, OnErr, Contains};
 ghost use Rattle.log_seams.specs.Outside.{Counts};
 
-use crate::{Calls, Failed, Sink};
+use crate::calls::Calls;
+use crate::{Failed, Sink};
 use std::alloc::{AllocError, Global};
 use std::marker::Model;
 

@@ -2,7 +2,8 @@
 ghost use Rattle.std.specs.Prelude.{◌≡◌, ◌+◌, ◌-◌, ◌^◌, ◌<◌, ◌≤◌, ◌↔◌, min, length, drop, is_err, IfOk, IsOk, IsErr, OnErr, Contains, if◌then◌else◌};
 ghost use Rattle.log_seams.specs.Outside.{Counts, Takes};
 
-use crate::{Calls, Failed, Source, Text};
+use crate::calls::Calls;
+use crate::{Failed, Source, Text};
 use std::marker::Model;
 
 /// A log in memory whose reads with certain numbers fail. It tells its bytes.

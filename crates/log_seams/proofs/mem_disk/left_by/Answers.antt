@@ -1,6 +1,6 @@
-use Rattle.std.proofs.Common.{rules, ◌≡◌, ◌≤◌, ◌+◌, ◌-◌, length, List, ℕ, get_or, take, drop, false, ap, sym, ◌∙◌, arith}
+use Rattle.std.proofs.Common.{rules, ◌≡◌, ◌≤◌, ◌+◌, ◌-◌, length, List, ℕ, ◌∷◌, get_or, take, drop, false, ap, sym, ◌∙◌, arith}
 use Rattle.std.proofs.lemmas.List.{take_rest, length-drop}
-use Rattle.log_seams.specs.Replay.{Event, total, events, event_of, content, after_event, held_after, left_by}
+use Rattle.log_seams.specs.Replay.{Event, total, events, event_of, content, after_event, left_by}
 use Rattle.log_seams.specs.declared.mem_disk.Call.TheVariants.{Wrote}
 use Rattle.log_seams.proofs.Events.{total_within, total_more, events_next}
 use Rattle.log_seams.proofs.mem_disk.left_by.Goals as goal
@@ -48,9 +48,7 @@ loop-call-preserved c =
           ∙ ap (λ (l : List ℕ). after_event here l) c.loop-call.invariant.kept
           ∙ sym (ap (λ (l : List Event). content c.args.first.now l) next);
       torn =
-          c.in_ok-redo.ensures.torn
-          ∙ ap (λ (e : Event). held_after c.args.pending e c.loop-call.kept.items c.loop-call.torn.items) same
-          ∙ ap (λ (l : List ℕ). held_after c.args.pending here l c.loop-call.torn.items) c.loop-call.invariant.kept
-          ∙ ap (λ (l : List ℕ). held_after c.args.pending here (content c.args.first.now before) l) c.loop-call.invariant.torn
+          c.in_ok-redo.ensures.torn c.args.first.now before c.loop-call.invariant.kept c.loop-call.invariant.torn
+          ∙ ap (λ (e : Event). left_by c.args.pending c.args.first.now (e ∷ before)) same
           ∙ sym (ap (λ (l : List Event). left_by c.args.pending c.args.first.now l) next);
     }
