@@ -172,6 +172,7 @@ impl Shelf for MemShelf {
         ensures opens { (n : List ℕ) → shelf_open_faults self.old n ≤ shelf_open_faults self.new n }
         ensures others { (n : List ℕ) → n ≢ name.now → IsSome (file_of self.old.files n)
             → shelf_open_faults self.new n ≡ shelf_open_faults self.old n }
+        ensures steady { OnOk result ((n : List ℕ) → shelf_open_faults self.new n ≡ shelf_open_faults self.old n) }
         ensures reads { (n : List ℕ) → shelf_read_faults self.new n ≡ shelf_read_faults self.old n }
         ensures cause { IsErrOf result OpenRefused.Failed
             → Rose (shelf_open_faults self.old name.now) (shelf_open_faults self.new name.now) }
