@@ -5,4 +5,3 @@ pub mod Reading
 pub mod Searching
 pub mod Spelling
 pub mod Stepping
-pub mod Testing

@@ -1,5 +1,5 @@
 -- One item further, for the loops over items.
-use Rattle.std.proofs.Common.{◌≡◌, ◌≢◌, ℕ, ◌+◌, ◌≤◌, ◌<◌, List, [], ◌∷◌, ◌++◌, length, take, drop, map, get_or, set, refl, sym, ap, subst}
+use Rattle.std.proofs.Common.{◌≡◌, ◌≢◌, ℕ, zero, suc, ◌+◌, ◌≤◌, ◌<◌, List, [], ◌∷◌, ◌++◌, length, take, drop, map, get_or, set, refl, sym, ap, subst, arith}
 use Rattle.std.proofs.lemmas.List.{drop_more, take_more, take_more_set, map-append, length-take-le}
 use Rattle.wild_match.specs.declared.pattern.Item.{Item}
 use Rattle.wild_match.specs.declared.pattern.Item.TheVariants.{Byte, One, Many}
@@ -17,6 +17,14 @@ fixed_push (Many ∷ p) x f n = f
 -- one more item that is not Many
 pub fixed_more : (p : List Item) (i : ℕ) (d : Item) → i < length p → get_or p i d ≢ Many → IsFixed (take i p) → IsFixed (take (i + 1) p)
 fixed_more p i d lt n f = rw (take_more p i d lt) (fixed_push (take i p) (get_or p i d) f n)
+
+-- items before the first Many
+pub fixed_before : (p : List Item) (n : ℕ) (d : Item) → n ≤ length p → ((k : ℕ) → k < n → get_or p k d ≢ Many) → IsFixed (take n p)
+fixed_before p zero d le before = tt
+fixed_before p (suc n) d le before =
+    let e : n + 1 ≡ suc n = omega arith in
+    let rest = fixed_before p n d (omega arith) (λ k lt. before k (omega arith)) in
+    subst (λ k. IsFixed (take k p)) e (fixed_more p n d (omega arith) (before n (omega arith)) rest)
 
 -- where the items from a place on fit the bytes from there on decides
 abbrev pub FitsFrom : List Item → List ℕ → ℕ → Type 0

@@ -1,12 +1,7 @@
 -- What holds of the definitions.
-use Rattle.std.specs.Prelude.{◌≡◌, ◌↔◌, ℕ, List, ◌⊎◌, IsTrue}
+use Rattle.std.specs.Prelude.{◌≡◌, ℕ, List, ◌⊎◌}
 use Rattle.wild_match.specs.declared.pattern.Item.{Item}
-use Rattle.wild_match.specs.Matches.{Match, is_match}
 use Rattle.wild_match.specs.Reading.{Spells, IsLoneBackslash}
-
--- the test is the relation
-abbrev pub TestIsMatch : Type 0
-TestIsMatch = (items : List Item) (bytes : List ℕ) → IsTrue (is_match items bytes) ↔ Match items bytes
 
 -- a text spells one list of items at most
 abbrev pub OneSpelling : Type 0

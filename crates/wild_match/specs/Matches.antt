@@ -1,5 +1,5 @@
 -- Which bytes a pattern matches.
-use Rattle.std.specs.Prelude.{◌≡◌, ℕ, ◌≤◌, Bool, true, false, ◌||◌, ◌&&◌, ◌==◌, List, [], ◌∷◌, ◌++◌, ◌⊎◌, length, drop}
+use Rattle.std.specs.Prelude.{◌≡◌, ℕ, ◌≤◌, List, [], ◌∷◌, ◌++◌, ◌⊎◌, length, drop}
 use Rattle.wild_match.specs.declared.pattern.Item.{Item}
 use Rattle.wild_match.specs.declared.pattern.Item.TheVariants.{Byte, One, Many}
 
@@ -17,23 +17,6 @@ Match (Byte c ∷ items) (b ∷ bytes) = (b ≡ c) × Match items bytes
 Match (One ∷ items) [] = ⊥
 Match (One ∷ items) (b ∷ bytes) = Match items bytes
 Match (Many ∷ items) bytes = OfSomeRest (λ rest. Match items rest) bytes
-
--- the same as a test, for a filter
-abbrev pub some_rest : (List ℕ → Bool) → List ℕ → Bool
-some_rest test [] = test []
-some_rest test (b ∷ bytes) = test (b ∷ bytes) || some_rest test bytes
-
-abbrev pub is_empty : List ℕ → Bool
-is_empty [] = true
-is_empty (b ∷ bytes) = false
-
-abbrev pub is_match : List Item → List ℕ → Bool
-is_match [] bytes = is_empty bytes
-is_match (Byte c ∷ items) [] = false
-is_match (Byte c ∷ items) (b ∷ bytes) = (b == c) && is_match items bytes
-is_match (One ∷ items) [] = false
-is_match (One ∷ items) (b ∷ bytes) = is_match items bytes
-is_match (Many ∷ items) bytes = some_rest (λ rest. is_match items rest) bytes
 
 -- no item is Many
 abbrev pub IsFixed : List Item → Type 0

@@ -14,13 +14,10 @@ pub(crate) fn fixed_len(items: &[Item]) -> usize
     ensures fixed { IsFixed (take result items.now) }
     ensures many { result < length items.now → drop result items.now ≡ Many ∷ drop (result + 1) items.now }
 {
-    for i in 0..items.len() {
-        match items[i] {
-            Item::Many => return i,
-            _ => {}
-        }
-    }
-    items.len()
+    items
+        .iter()
+        .position(|item| *item == Item::Many)
+        .unwrap_or(items.len())
 }
 
 /// Whether the bytes begin with as many that the items match; never with an [`Item::Many`] there.

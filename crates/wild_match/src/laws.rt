@@ -1,11 +1,6 @@
 //! Laws of the definitions that the contracts cite. Each function does nothing; its contract says
 //! what holds of all patterns and all texts.
-ghost use Rattle.wild_match.specs.Laws.{TestIsMatch, OneSpelling, OneLoneBackslash, SpelledOrLone, NeverBoth};
-
-/// The test `is_match` is true of exactly the messages that a pattern matches.
-pub fn test_is_match()
-    ensures { TestIsMatch }
-{}
+ghost use Rattle.wild_match.specs.Laws.{OneSpelling, OneLoneBackslash, SpelledOrLone, NeverBoth};
 
 /// A text spells one list of items at most.
 pub fn one_spelling()

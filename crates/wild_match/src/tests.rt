@@ -1,6 +1,6 @@
 ghost use Rattle.std.specs.Prelude.{◌<◌};
 
-use crate::laws::{one_lone_backslash, one_spelling, spelled_or_lone, test_is_match};
+use crate::laws::{one_lone_backslash, one_spelling, spelled_or_lone};
 use crate::{Item, Matcher, Pattern, PatternRefusal, matches, read_pattern};
 use std::alloc::{AllocError, Global};
 use std::test::Fail;
@@ -295,7 +295,6 @@ fn needles(rt: HostRuntime) -> Result<(), Fail> {
     let matcher = Matcher::new(alloc, &pattern)?;
     assert_eq!(rt; matcher.needle(), b"".as_slice());
     assert_eq!(rt; matcher.next_needle(b"ab", 1), Some(1));
-    test_is_match();
     one_spelling();
     one_lone_backslash();
     spelled_or_lone();
