@@ -41,7 +41,7 @@ fn header_of_a_new_archive(rt: HostRuntime) -> Result<(), Fail> {
 #[test]
 fn fields_out_of_range(rt: HostRuntime) {
     // A field's first byte, the bytes put there, and whether they make a header still.
-    let cases: [(usize, [u8; 4], bool); 16] = [
+    let cases: [(usize, [u8; 4], bool); 18] = [
         (0, [0x43, 0x4C, 0x50, 0x42], false),
         (4, [0x52, 0x43, 0x48, 0x0D], false),
         (8, [0, 0, 0, 0], false),
@@ -52,6 +52,8 @@ fn fields_out_of_range(rt: HostRuntime) {
         (12, [0, 0, 0, 0x80], true),
         (12, [1, 0, 0, 0x80], false),
         (16, [0, 0, 0, 0], false),
+        (16, [1, 0, 0, 0], true),
+        (16, [0, 0, 0, 0x80], true),
         (16, [1, 0, 0, 0x80], false),
         (20, [1, 0, 0, 0], false),
         (20, [0, 0, 0, 1], false),
@@ -99,7 +101,7 @@ fn texts_both_ways(rt: HostRuntime) -> Result<(), Fail> {
 }
 
 #[test]
-fn cuts_and_extra_bytes(rt: HostRuntime) {
+fn cuts(rt: HostRuntime) {
     for end in 0..FILES.len() {
         assert!(rt;
             is_refused(&read_files(rt.alloc(), &FILES[..end])),
@@ -113,30 +115,53 @@ fn cuts_and_extra_bytes(rt: HostRuntime) {
             "words cut at {end}"
         );
     }
-    let one_more = [1, 0, 0, 0, 1, 0, 0, 0, b'a', 0];
-    assert!(rt;
-        is_refused(&read_files(rt.alloc(), &one_more)),
-        "a byte after the last name"
-    );
-    let count_too_high = [2, 0, 0, 0, 5, 0, 0, 0, b'a', b'.', b'l', b'o', b'g'];
-    assert!(rt;
-        is_refused(&read_files(rt.alloc(), &count_too_high)),
-        "a name too few"
-    );
-    let count_too_low = [0, 0, 0, 0, 5, 0, 0, 0, b'a', b'.', b'l', b'o', b'g'];
-    assert!(rt;
-        is_refused(&read_files(rt.alloc(), &count_too_low)),
-        "a name too many"
-    );
-    let huge = [
-        0xFF, 0xFF, 0xFF, 0xFF, 1, 0, 0, 0, b'a', 0, 0, 0, 0, 0, 0, 0, 0, 0, 0, 0,
+}
+
+#[test]
+fn names_by_one_off(rt: HostRuntime) {
+    let payloads: [&[u8]; 5] = [
+        // a byte after the last name
+        b"\x01\0\0\0\x01\0\0\0a\0",
+        // the count one too high, and one too low
+        b"\x02\0\0\0\x05\0\0\0a.log",
+        b"\0\0\0\0\x05\0\0\0a.log",
+        // the length of the name one too high
+        b"\x01\0\0\0\x06\0\0\0a.log",
+        // more names than bytes
+        b"\xff\xff\xff\xff\x01\0\0\0a\0\0\0\0\0\0\0\0\0\0\0",
     ];
+    for payload in payloads {
+        assert!(rt; is_refused(&read_files(rt.alloc(), payload)), "{payload:?}");
+    }
+    assert!(rt; read_files(rt.alloc(), b"\0\0\0\0").is_ok(), "no names");
+}
+
+#[test]
+fn texts_by_one_off(rt: HostRuntime) {
+    let payloads: [&[u8]; 7] = [
+        // a byte after the last text
+        b"\0\0\0\0\x01\0\0\0\x01\0\0\0a\0",
+        // the count one too high, and one too low
+        b"\0\0\0\0\x02\0\0\0\x01\0\0\0a",
+        b"\0\0\0\0\x02\0\0\0\x05\0\0\0abcde",
+        b"\0\0\0\0\0\0\0\0\x01\0\0\0a",
+        // the length of a text one too high
+        b"\0\0\0\0\x01\0\0\0\x02\0\0\0a",
+        b"\x02\x01\0\0\x02\0\0\0\x03\0\0\0x1\0\0\0\0",
+        // more texts than bytes
+        b"\0\0\0\0\xff\xff\xff\xff\x01\0\0\0a",
+    ];
+    for payload in payloads {
+        let read = read_texts(rt.alloc(), payload);
+        assert!(rt;
+            matches!(read, Err(FormatRefusal::Malformed)),
+            "{payload:?}"
+        );
+    }
     assert!(rt;
-        is_refused(&read_files(rt.alloc(), &huge)),
-        "more names than bytes"
+        read_texts(rt.alloc(), b"\0\0\0\0\0\0\0\0").is_ok(),
+        "no texts"
     );
-    let none = [0, 0, 0, 0];
-    assert!(rt; read_files(rt.alloc(), &none).is_ok(), "no names");
 }
 
 #[test]
