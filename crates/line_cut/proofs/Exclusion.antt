@@ -3,7 +3,7 @@ use Rattle.std.proofs.Common.{◌≡◌, ◌≢◌, ◌<◌, ◌≤◌, ◌+◌,
 use Rattle.std.proofs.lemmas.List.{get_or-take, get_or_at, length-append, length-take, take-append-le}
 use Rattle.log_messages.specs.Messages.{IsLine}
 use Rattle.line_cut.specs.Cutting.{Parts}
-use Rattle.line_cut.specs.Exclusion.{BeginsTooLong}
+use Rattle.line_cut.specs.Length.{BeginsTooLong}
 
 -- the newline behind a line within the limit stands in the front that is said to be free of newlines
 newline_within : (line rest before : List ℕ) (max : ℕ) → before ≡ line ++ 10 ∷ rest → length line ≤ max → BeginsTooLong max before → ⊥

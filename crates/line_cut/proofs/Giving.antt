@@ -12,10 +12,10 @@ use Rattle.line_cut.specs.declared.cut.Cut.{Cut}
 use Rattle.line_cut.specs.declared.cut.Progress.{Progress}
 use Rattle.line_cut.specs.declared.cut.Progress.TheVariants.{Open, Ended, Refused}
 use Rattle.line_cut.specs.declared.look.Looked.{Looked}
-use Rattle.line_cut.specs.declared.look.Looked.TheVariants.{Line, Last, End, No}
+use Rattle.line_cut.specs.declared.look.Looked.TheVariants.{Line, Last, End, Refused as LookRefused}
 
 -- a cutter that looked was open
-pub was_open : (p : Progress) (r : Looked) → (p ≡ Ended → r ≡ End) → ((e : Cut) → p ≡ Refused e → r ≡ No e) → r ≢ End → ((e : Cut) → r ≢ No e) → p ≡ Open
+pub was_open : (p : Progress) (r : Looked) → (p ≡ Ended → r ≡ End) → ((e : Cut) → p ≡ Refused e → r ≡ LookRefused e) → r ≢ End → ((e : Cut) → r ≢ LookRefused e) → p ≡ Open
 was_open Open r f h n m = refl
 was_open Ended r f h n m = absurd (n (f refl))
 was_open (Refused e) r f h n m = absurd (m e (h e refl))

@@ -1,7 +1,8 @@
 -- What a cutter is to its callers, and what its answers mean.
-use Rattle.std.specs.Prelude.{◌≡◌, ◌≢◌, ◌+◌, ◌<◌, ◌≤◌, ℕ, Bool, true, false, List, [], ◌∷◌, ◌++◌, length, take, Option, option_map, IfSome, if◌then◌else◌}
+use Rattle.std.specs.Prelude.{◌≡◌, ◌≢◌, ◌+◌, ◌<◌, ◌≤◌, ℕ, Bool, true, false, List, [], ◌∷◌, ◌++◌, length, Option, option_map, IfSome, if◌then◌else◌}
 use Rattle.log_seams.specs.Outside.{Rose}
 use Rattle.log_messages.specs.Messages.{IsLine, Messages}
+use Rattle.line_cut.specs.Length.{BeginsTooLong}
 use Rattle.line_cut.specs.Window.{bytes_left}
 use Rattle.line_cut.specs.declared.cut.Cut.{Cut}
 use Rattle.line_cut.specs.declared.cut.Cut.TheVariants.{ReadFault, LineTooLong, TooManyLines, OutOfMemory}
@@ -66,7 +67,7 @@ abbrev pub HasCause : {S : Type 0} → (S → ℕ) → CutterState S → CutterS
 HasCause faults old new ReadFault =
     Rose (faults old.source) (faults new.source) × IsLine new.pending × (length new.pending ≤ old.max_line)
 HasCause faults old new (LineTooLong line) =
-    (line ≡ old.given + 1) × (old.given < old.max_lines) × (old.max_line < length new.pending) × IsLine (take (old.max_line + 1) new.pending)
+    (line ≡ old.given + 1) × (old.given < old.max_lines) × BeginsTooLong old.max_line new.pending
 HasCause faults old new TooManyLines = (old.given ≡ old.max_lines) × (0 < length new.pending)
 HasCause faults old new OutOfMemory = Unit {0}
 

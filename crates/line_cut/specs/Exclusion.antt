@@ -1,11 +1,7 @@
 -- Which answers of a cutter exclude each other.
-use Rattle.std.specs.Prelude.{◌≡◌, ◌≢◌, ◌+◌, ◌<◌, ◌≤◌, ℕ, Bool, false, List, [], ◌++◌, length, take, Option, Some}
-use Rattle.log_messages.specs.Messages.{IsLine}
+use Rattle.std.specs.Prelude.{◌≡◌, ◌≢◌, ◌≤◌, ℕ, Bool, false, List, [], ◌++◌, length, Option, Some}
 use Rattle.line_cut.specs.Cutting.{Parts}
-
--- the line that the bytes begin with has more bytes without its newline than the limit
-abbrev pub BeginsTooLong : ℕ → List ℕ → Type 0
-BeginsTooLong max bytes = (max < length bytes) × IsLine (take (max + 1) bytes)
+use Rattle.line_cut.specs.Length.{BeginsTooLong}
 
 -- where the next line is too long no line within the limit is given
 abbrev pub LongLineIsNotGiven : Type 0

@@ -26,7 +26,7 @@ pub enum Cut {
 pub enum Progress {
     /// Its next line was not looked for.
     Open,
-    /// The last line was given.
+    /// The end was met.
     Ended,
     /// It refused, and answers the same from then on.
     Refused(Cut),

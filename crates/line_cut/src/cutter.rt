@@ -96,7 +96,7 @@ impl<S: Source> Cutter<S> {
         ensures line { self.new.line ≡ [] }
         ensures after_end { self.old.progress ≡ Progress.Ended → (result ≡ Looked.End) × (self.new ≡ without_line self.old) }
         ensures after_refusal { (e : Cut) → self.old.progress ≡ Progress.Refused e
-            → (result ≡ Looked.No e) × (self.new ≡ without_line self.old) }
+            → (result ≡ Looked.Refused e) × (self.new ≡ without_line self.old) }
         ensures sees { self.old.progress ≡ Progress.Open
             → Sees (record { given = self.old.given; max_line = self.old.max_line; max_lines = self.old.max_lines })
             self.new.pending (S.left self.new.source)
@@ -121,7 +121,7 @@ impl<S: Source> Cutter<S> {
                 self.max_lines,
             ),
             Progress::Ended => Looked::End,
-            Progress::Refused(cut) => Looked::No(cut),
+            Progress::Refused(cut) => Looked::Refused(cut),
         }
     }
 
@@ -139,6 +139,7 @@ impl<S: Source> Cutter<S> {
         ensures max_line { self.new.max_line ≡ self.old.max_line }
         ensures max_lines { self.new.max_lines ≡ self.old.max_lines }
     {
+        // behind `look_ahead` this skips nothing; here it is what puts the line at the window's front
         self.window.skip(self.step);
         self.line = len;
         self.step = len + more;
@@ -181,7 +182,7 @@ impl<S: Source> Cutter<S> {
                 self.progress = Progress::Ended;
                 Ok(None)
             }
-            Looked::No(cut) => {
+            Looked::Refused(cut) => {
                 self.progress = Progress::Refused(cut);
                 Err(cut)
             }
@@ -237,7 +238,7 @@ impl<S: Source> Cutter<S> {
                 self.progress = Progress::Ended;
                 Ok(None)
             }
-            Looked::No(cut) => {
+            Looked::Refused(cut) => {
                 self.progress = Progress::Refused(cut);
                 Err(cut)
             }

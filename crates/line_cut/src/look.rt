@@ -18,8 +18,8 @@ pub(crate) enum Looked {
     Last { len: usize },
     /// The end of the input.
     End,
-    /// Nothing that is given.
-    No(Cut),
+    /// A refusal, and nothing that is given.
+    Refused(Cut),
 }
 
 /// Whether the window holds a byte, after a read where it holds none.
@@ -58,9 +58,9 @@ pub(crate) fn look<S: Source>(
 {
     if given == max_lines {
         return match any_left(source, window) {
-            Ok(true) => Looked::No(Cut::TooManyLines),
+            Ok(true) => Looked::Refused(Cut::TooManyLines),
             Ok(false) => Looked::End,
-            Err(Failed) => Looked::No(Cut::ReadFault),
+            Err(Failed) => Looked::Refused(Cut::ReadFault),
         };
     }
     match find_end(source, window, max_line) {
@@ -69,7 +69,7 @@ pub(crate) fn look<S: Source>(
             0 => Looked::End,
             len => Looked::Last { len },
         },
-        Ok(LineEnd::TooLong) => Looked::No(Cut::LineTooLong { line: given + 1 }),
-        Err(Failed) => Looked::No(Cut::ReadFault),
+        Ok(LineEnd::TooLong) => Looked::Refused(Cut::LineTooLong { line: given + 1 }),
+        Err(Failed) => Looked::Refused(Cut::ReadFault),
     }
 }

@@ -64,96 +64,98 @@ fn compare<R: Abort, S: Source>(
     compare_end(rt, cutter, end);
 }
 
+// Inputs with limits, and what is cut.
+const ROWS: &[Row<'static>] = &[
+    Row {
+        bytes: b"",
+        max_line: 9,
+        max_lines: 9,
+        lines: &[],
+        end: Ok(()),
+    },
+    Row {
+        bytes: b"",
+        max_line: 9,
+        max_lines: 0,
+        lines: &[],
+        end: Ok(()),
+    },
+    Row {
+        bytes: b"a",
+        max_line: 9,
+        max_lines: 9,
+        lines: &[(b"a", false)],
+        end: Ok(()),
+    },
+    Row {
+        bytes: b"a\n",
+        max_line: 9,
+        max_lines: 9,
+        lines: &[(b"a", true)],
+        end: Ok(()),
+    },
+    Row {
+        bytes: b"\n",
+        max_line: 9,
+        max_lines: 9,
+        lines: &[(b"", true)],
+        end: Ok(()),
+    },
+    Row {
+        bytes: b"\n\nx\r\n\xff",
+        max_line: 9,
+        max_lines: 9,
+        lines: &[(b"", true), (b"", true), (b"x\r", true), (b"\xff", false)],
+        end: Ok(()),
+    },
+    Row {
+        bytes: b"a\nb\nc",
+        max_line: 9,
+        max_lines: 2,
+        lines: &[(b"a", true), (b"b", true)],
+        end: Err(Cut::TooManyLines),
+    },
+    Row {
+        bytes: b"a\nb\n",
+        max_line: 9,
+        max_lines: 2,
+        lines: &[(b"a", true), (b"b", true)],
+        end: Ok(()),
+    },
+    Row {
+        bytes: b"a\nbcd\nefgh\ni\n",
+        max_line: 3,
+        max_lines: 9,
+        lines: &[(b"a", true), (b"bcd", true)],
+        end: Err(Cut::LineTooLong { line: 3 }),
+    },
+    Row {
+        bytes: b"a\nbcde",
+        max_line: 3,
+        max_lines: 1,
+        lines: &[(b"a", true)],
+        end: Err(Cut::TooManyLines),
+    },
+    Row {
+        bytes: b"abcd",
+        max_line: 3,
+        max_lines: 1,
+        lines: &[],
+        end: Err(Cut::LineTooLong { line: 1 }),
+    },
+    Row {
+        bytes: b"abc",
+        max_line: 3,
+        max_lines: 1,
+        lines: &[(b"abc", false)],
+        end: Ok(()),
+    },
+];
+
 #[test]
 fn lines_and_limits(rt: HostRuntime) -> Result<(), Fail> {
     let alloc = rt.alloc();
-    let rows = [
-        Row {
-            bytes: b"",
-            max_line: 9,
-            max_lines: 9,
-            lines: &[],
-            end: Ok(()),
-        },
-        Row {
-            bytes: b"",
-            max_line: 9,
-            max_lines: 0,
-            lines: &[],
-            end: Ok(()),
-        },
-        Row {
-            bytes: b"a",
-            max_line: 9,
-            max_lines: 9,
-            lines: &[(b"a", false)],
-            end: Ok(()),
-        },
-        Row {
-            bytes: b"a\n",
-            max_line: 9,
-            max_lines: 9,
-            lines: &[(b"a", true)],
-            end: Ok(()),
-        },
-        Row {
-            bytes: b"\n",
-            max_line: 9,
-            max_lines: 9,
-            lines: &[(b"", true)],
-            end: Ok(()),
-        },
-        Row {
-            bytes: b"\n\nx\r\n\xff",
-            max_line: 9,
-            max_lines: 9,
-            lines: &[(b"", true), (b"", true), (b"x\r", true), (b"\xff", false)],
-            end: Ok(()),
-        },
-        Row {
-            bytes: b"a\nb\nc",
-            max_line: 9,
-            max_lines: 2,
-            lines: &[(b"a", true), (b"b", true)],
-            end: Err(Cut::TooManyLines),
-        },
-        Row {
-            bytes: b"a\nb\n",
-            max_line: 9,
-            max_lines: 2,
-            lines: &[(b"a", true), (b"b", true)],
-            end: Ok(()),
-        },
-        Row {
-            bytes: b"a\nbcd\nefgh\ni\n",
-            max_line: 3,
-            max_lines: 9,
-            lines: &[(b"a", true), (b"bcd", true)],
-            end: Err(Cut::LineTooLong { line: 3 }),
-        },
-        Row {
-            bytes: b"a\nbcde",
-            max_line: 3,
-            max_lines: 1,
-            lines: &[(b"a", true)],
-            end: Err(Cut::TooManyLines),
-        },
-        Row {
-            bytes: b"abcd",
-            max_line: 3,
-            max_lines: 1,
-            lines: &[],
-            end: Err(Cut::LineTooLong { line: 1 }),
-        },
-        Row {
-            bytes: b"abc",
-            max_line: 3,
-            max_lines: 1,
-            lines: &[(b"abc", false)],
-            end: Ok(()),
-        },
-    ];
-    for row in &rows {
+    for row in ROWS {
         if row.max_line < 1 || row.max_line > 1_048_576 {
             continue;
         }
