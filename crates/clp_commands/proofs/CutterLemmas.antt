@@ -109,9 +109,9 @@ Stage-refused tells left faults bytes c d (LineTooLong line) text size count is_
     long b t =
         let cause = r.cause is_open in
         let front = pending_front d.pending t.rest (left d.source) (r.left_same ∙ t.is) in
-        let more : most_bytes < length t.rest = omega (arith, cause.2, size, ap length front.1, length-append d.pending front.0) in
-        let short : most_bytes + 1 ≤ length d.pending = omega (arith, cause.2, size) in
-        let is : IsLine (take (most_bytes + 1) t.rest) = subst (λ x. IsLine (take (most_bytes + 1) x)) (sym front.1) (subst IsLine (sym (take-append-le (most_bytes + 1) d.pending front.0 short)) (subst (λ n. IsLine (take (n + 1) d.pending)) size cause.3)) in
+        let more : most_bytes < length t.rest = omega (arith, cause.2.0, size, ap length front.1, length-append d.pending front.0) in
+        let short : most_bytes + 1 ≤ length d.pending = omega (arith, cause.2.0, size) in
+        let is : IsLine (take (most_bytes + 1) t.rest) = subst (λ x. IsLine (take (most_bytes + 1) x)) (sym front.1) (subst IsLine (sym (take-append-le (most_bytes + 1) d.pending front.0 short)) (subst (λ n. IsLine (take (n + 1) d.pending)) size cause.2.1)) in
         (omega (arith, cause.0, cause.1, count), subst (λ n. IsLong b n) (sym cause.0) (Reads-long tells b t.rest c.given text t.reads more is), subst (λ n. PrintsFirst tells b n text) (omega (arith, cause.0)) (Reads-first tells b t.rest c.given text t.reads))
 Stage-refused tells left faults bytes c d TooManyLines text size count is_open (inl s) r = if_some bytes many s.1
   where
