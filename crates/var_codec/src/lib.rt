@@ -1,7 +1,8 @@
 //! Variables as 64-bit words: which text has which word, and back.
 //!
 //! A variable is a whole number, a decimal or a word of a dictionary. The texts of the first two have
-//! words of their own and are not stored; each has exactly one word, and a word has exactly one text.
+//! words of their own and are not stored: each text has exactly one word, and no two whole numbers, and
+//! no two decimals, share one.
 #![tactic(auto)]
 
 mod laws;

@@ -25,6 +25,8 @@ const VARIABLES: &[(&str, Coded)] = &[
     ("0.000000000000000", Coded::Decimal(0x0000_0000_0000_00FE)),
     ("000000000000000.0", Coded::Decimal(0x0000_0000_0000_00F0)),
     ("-123456789012345.6", Coded::Decimal(0x8462_D53C_8ABA_C0F0)),
+    ("be", Coded::Word),
+    ("foo", Coded::Word),
     ("", Coded::Word),
     ("-", Coded::Word),
     (".", Coded::Word),
