@@ -1,4 +1,4 @@
-use Rattle.std.proofs.Common.{ap, ◌∙◌, ◌++◌, ◌≡◌, ◌≤◌, [], ◌∷◌, sym, subst, append-nil, ⊎_elim, arith}
+use Rattle.std.proofs.Common.{ap, ◌∙◌, ◌++◌, ◌≤◌, [], ◌∷◌, sym, subst, append-nil, ⊎_elim, arith}
 use Rattle.turn_lock.specs.Words.{number_of}
 use Rattle.turn_lock.proofs.Distinct.{all_one}
 use Rattle.turn_lock.proofs.tests.added.Goals as goal
