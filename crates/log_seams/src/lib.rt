@@ -16,7 +16,7 @@ mod source;
 mod tally;
 
 pub use disk::Disk;
-pub use lists::{Text, TextList};
+pub use lists::{NumberList, Text, TextList, WordList};
 pub use mem_disk::{MemDisk, Pending};
 pub use mem_shelf::{MemFile, MemShelf, ShelfSource};
 pub use mem_sink::MemSink;

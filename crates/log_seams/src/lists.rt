@@ -62,3 +62,64 @@ impl TextList {
         self.texts.as_slice()
     }
 }
+
+/// A list of the 64-bit words that variables are stored as. Contracts see a list of numbers.
+#[derive(Debug, Drop)]
+pub struct WordList {
+    words: Vec<u64>,
+}
+
+impl Model for WordList {
+    ghost use Rattle.std.specs.Prelude.{List, ℕ};
+
+    ghost Value = { List ℕ };
+
+    ghost view = { λ l. l.words.items };
+}
+
+impl WordList {
+    /// The list of these words. Takes no memory.
+    pub fn new(words: Vec<u64>) -> WordList
+        ensures { result ≡ words.items }
+    {
+        WordList { words }
+    }
+
+    /// The words in order, lent as a slice.
+    pub fn as_slice(&self) -> &[u64]
+        ensures { result.now ≡ self.now }
+    {
+        self.words.as_slice()
+    }
+}
+
+/// A list of numbers of 32 bits, such as those that a dictionary gives to its texts. Contracts see a
+/// list of numbers.
+#[derive(Debug, Drop)]
+pub struct NumberList {
+    numbers: Vec<u32>,
+}
+
+impl Model for NumberList {
+    ghost use Rattle.std.specs.Prelude.{List, ℕ};
+
+    ghost Value = { List ℕ };
+
+    ghost view = { λ l. l.numbers.items };
+}
+
+impl NumberList {
+    /// The list of these numbers. Takes no memory.
+    pub fn new(numbers: Vec<u32>) -> NumberList
+        ensures { result ≡ numbers.items }
+    {
+        NumberList { numbers }
+    }
+
+    /// The numbers in order, lent as a slice.
+    pub fn as_slice(&self) -> &[u32]
+        ensures { result.now ≡ self.now }
+    {
+        self.numbers.as_slice()
+    }
+}
