@@ -5,3 +5,4 @@ pub mod Reading
 pub mod Searching
 pub mod Spelling
 pub mod Stepping
+mod WidenLemmas

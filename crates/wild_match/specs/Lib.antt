@@ -3,3 +3,4 @@ pub mod Matches
 pub mod Reading
 pub mod Runs
 pub mod Whole
+pub mod Widened

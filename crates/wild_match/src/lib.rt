@@ -13,8 +13,10 @@ mod read;
 mod runs;
 #[cfg(test)]
 mod tests;
+mod widening;
 
 pub use fixed::matches;
 pub use matcher::Matcher;
 pub use pattern::{Item, Pattern};
 pub use read::{PatternRefusal, read_pattern};
+pub use widening::widen;

@@ -1,7 +1,7 @@
 ghost use Rattle.std.specs.Prelude.{◌<◌};
 
 use crate::laws::{one_lone_backslash, one_spelling, spelled_or_lone};
-use crate::{Item, Matcher, Pattern, PatternRefusal, matches, read_pattern};
+use crate::{Item, Matcher, Pattern, PatternRefusal, matches, read_pattern, widen};
 use std::alloc::{AllocError, Global};
 use std::test::Fail;
 
@@ -148,10 +148,15 @@ fn answer_to(alloc: Global, text: &[u8], message: &[u8]) -> Result<String, Alloc
         Err(PatternRefusal::OutOfMemory) => return Err(AllocError),
     };
     let matcher = Matcher::new(alloc, &pattern)?;
-    match (matches(&pattern, message), matcher.matches(message)) {
-        (true, true) => String::from_str(alloc, "1"),
-        (false, false) => String::from_str(alloc, "0"),
-        _ => String::from_str(alloc, "both"),
+    let wide = widen(alloc, &pattern)?;
+    match (
+        matches(&pattern, message),
+        matcher.matches(message),
+        matches(&wide, message),
+    ) {
+        (true, true, true) => String::from_str(alloc, "1"),
+        (false, false, _) => String::from_str(alloc, "0"),
+        _ => String::from_str(alloc, "they differ"),
     }
 }
 
