@@ -2,7 +2,7 @@ ghost use Rattle.std.specs.Prelude.{◌<◌};
 
 use crate::{
     Failed, MemFile, MemShelf, MemSink, MemSource, OpenRefused, PlainSource, Shelf, Sink, Source,
-    Text, TextList,
+    Text,
 };
 use std::alloc::{AllocError, Global};
 use std::test::Fail;
@@ -13,20 +13,6 @@ fn text(alloc: Global, bytes: &[u8]) -> Result<Text, AllocError> {
 
 fn numbers(alloc: Global, list: &[u64]) -> Result<Vec<u64>, AllocError> {
     list.to_vec(alloc)
-}
-
-#[test]
-fn lists_lend_what_they_were_made_of(rt: HostRuntime) -> Result<(), Fail> {
-    let alloc = rt.alloc();
-    let mut texts = Vec::new(alloc);
-    texts.push(text(alloc, b"one")?)?;
-    texts.push(text(alloc, b"")?)?;
-    let list = TextList::new(texts);
-    assert_eq!(rt; list.as_slice().len(), 2);
-    for (got, want) in list.as_slice().iter().zip([b"one".as_slice(), b""]) {
-        assert_eq!(rt; got.as_slice(), want);
-    }
-    Ok(())
 }
 
 // Reads once with a buffer of so many bytes, and gives what came.
