@@ -1,5 +1,4 @@
-use Rattle.std.proofs.Common.{rules, ◌≡◌, ◌≢◌, ◌≤◌, ◌<◌, ℕ, arith, length, get_or}
-use Rattle.std.proofs.lemmas.Grind.{common_steps}
+use Rattle.std.proofs.Common.{rules, ◌≢◌, ◌≤◌, ◌<◌, ℕ, length, get_or}
 use Rattle.wild_match.specs.declared.pattern.Item.TheVariants.{Byte, Many}
 use Rattle.wild_match.proofs.Stepping.{fixed_before}
 use Rattle.wild_match.proofs.fixed.fixed_len.Goals as goal
