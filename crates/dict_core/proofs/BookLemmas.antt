@@ -1,0 +1,73 @@
+-- What a book keeps: look-ups are exact, and one text more.
+use Rattle.std.proofs.Common.{◌≡◌, ◌≢◌, ◌⊎◌, ⊎_elim, inl, inr, ℕ, zero, suc, nat_eq, unwrap_or, Option, None, ◌+◌, ◌<◌, ◌≤◌, ◌==◌, if◌then◌else◌, List, [], ◌∷◌, ◌++◌, length, map, refl, sym, ap, subst, ◌∙◌, arith, Some, slice_get, slice_index}
+use Rattle.std.specs.Option.{IfNone}
+use Rattle.std.proofs.lemmas.List.{length_push, length-map, get_or-map, map_push}
+use Rattle.std.proofs.lemmas.Option.{slice_get_within, get_or_from_slice_get, same_Some, none-some}
+use Rattle.dict_core.specs.Books.{AreDistinct, IsNew}
+use Rattle.std.specs.Map.{lookup}
+use Rattle.indexmap.specs.IndexMap.{IndexMap, IsUnchanged}
+use Rattle.dict_core.specs.Chains.{place_at, IsChained, InChain, IsBook}
+use Rattle.dict_core.proofs.ChainLemmas.{latest_low, in_chain, chained_more}
+
+-- there is a link for each text
+pub book_long : {hash : List ℕ → ℕ} {texts : List (List ℕ)} {befores : List ℕ} {newest : ℕ → ℕ} {limit : ℕ} → IsBook hash texts befores newest limit → length befores ≡ length texts
+book_long {hash} {texts} b = b.chained.long ∙ length-map texts hash
+
+-- a link leads back
+pub book_back : {hash : List ℕ → ℕ} {texts : List (List ℕ)} {befores : List ℕ} {newest : ℕ → ℕ} {limit : ℕ} → IsBook hash texts befores newest limit →
+    (j : ℕ) → j < length befores → slice_index befores j ≤ j
+book_back {hash} {texts} b j l =
+    let hashes = map hash texts in
+    omega (arith, b.chained.befores_are j (omega (arith, l, b.chained.long)), latest_low hashes (slice_index hashes j) j)
+
+-- the newest text is one of the texts
+pub book_newest : {hash : List ℕ → ℕ} {texts : List (List ℕ)} {befores : List ℕ} {newest : ℕ → ℕ} {limit : ℕ} → IsBook hash texts befores newest limit →
+    (h : ℕ) → newest h ≤ length befores
+book_newest {hash} {texts} b h =
+    let hashes = map hash texts in omega (arith, b.chained.newest_are h, latest_low hashes h (length hashes), b.chained.long)
+
+-- a text that is not in the chain of its hash is new
+pub book_new : {hash : List ℕ → ℕ} {texts : List (List ℕ)} {befores : List ℕ} {newest : ℕ → ℕ} {limit : ℕ} → IsBook hash texts befores newest limit →
+    (text : List ℕ) (place : ℕ) → place ≡ newest (hash text) → ((k : ℕ) → InChain befores place (suc k) → slice_get texts k ≢ Some text) → IsNew texts text
+book_new {hash} {texts} {befores} b text place is absent k found =
+    let hashes = map hash texts in
+    let below : k < length texts = slice_get_within texts k text found in
+    let hashed : slice_index hashes k ≡ hash text = get_or-map hash texts k text 0 below ∙ ap hash (get_or_from_slice_get texts k text text found) in
+    let chain = in_chain hashes (hash text) k (length hashes) b.chained.befores_are (omega arith) (omega (arith, below, length-map texts hash)) hashed in
+    absent k (subst (λ p. InChain befores p (suc k)) (sym (is ∙ b.chained.newest_are (hash text))) chain) found
+
+-- an element of a list with one more at the end is that one or an old one
+last_or_old : (texts : List (List ℕ)) (text found : List ℕ) (k : ℕ) → slice_get (texts ++ text ∷ []) k ≡ Some found → ((k ≡ length texts) × (found ≡ text)) ⊎ (slice_get texts k ≡ Some found)
+last_or_old [] text found zero h = inl (refl, sym (same_Some text found h))
+last_or_old [] text found (suc k) h = absurd (none-some found h)
+last_or_old (t ∷ texts) text found zero h = inr h
+last_or_old (t ∷ texts) text found (suc k) h = ⊎_elim (λ l. inl (ap suc l.0, l.1)) (λ r. inr r) (last_or_old texts text found k h)
+
+-- a new text keeps the texts distinct
+pub distinct_more : (texts : List (List ℕ)) (text : List ℕ) → AreDistinct texts → IsNew texts text → AreDistinct (texts ++ text ∷ [])
+distinct_more texts text apart new i j found at_i at_j = ⊎_elim
+    (λ a. ⊎_elim (λ b. a.0 ∙ sym b.0) (λ old. absurd (new j (old ∙ ap (λ t. Some t) a.1))) (last_or_old texts text found j at_j))
+    (λ old. ⊎_elim (λ b. absurd (new i (old ∙ ap (λ t. Some t) b.1))) (λ older. apart i j found old older) (last_or_old texts text found j at_j))
+    (last_or_old texts text found i at_i)
+
+-- one text more
+pub book_more : {hash : List ℕ → ℕ} {texts : List (List ℕ)} {befores : List ℕ} {newest : ℕ → ℕ} {limit : ℕ} → IsBook hash texts befores newest limit →
+    (text : List ℕ) (h : ℕ) (befores' : List ℕ) (newest' : ℕ → ℕ) → h ≡ hash text → IsNew texts text → length texts < limit →
+    ((g : ℕ) → newest' g ≡ (if g == h then length befores + 1 else newest g)) → befores' ≡ befores ++ newest h ∷ [] → IsBook hash (texts ++ text ∷ []) befores' newest' limit
+book_more {hash} {texts} {befores} {newest} {limit} b text h befores' newest' is new room updates linked = record {
+  chained = subst (λ bs. IsChained (map hash (texts ++ text ∷ [])) bs newest') (sym linked)
+      (subst (λ hs. IsChained hs (befores ++ newest h ∷ []) newest') (ap (λ g. map hash texts ++ g ∷ []) is ∙ sym (map_push hash texts text)) (chained_more h b.chained updates));
+  distinct = distinct_more texts text b.distinct new;
+  within = omega (arith, room, length_push texts text);
+  most = b.most;
+}
+
+-- where the chain of its hash does not have a text, it is new
+pub book_unfound : {hash : List ℕ → ℕ} {texts : List (List ℕ)} {befores : List ℕ} {newest : ℕ → ℕ} {limit : ℕ} → IsBook hash texts befores newest limit →
+    (text : List ℕ) (h place : ℕ) (found : Option ℕ) → h ≡ hash text → place ≡ newest h → IfNone found ((k : ℕ) → InChain befores place (suc k) → slice_get texts k ≢ Some text) → IfNone found (IsNew texts text)
+book_unfound {newest = newest} b text h place None hashed is absent = book_new b text place (is ∙ ap newest hashed) absent
+book_unfound b text h place (Some n) hashed is absent = absent
+
+-- a map that has the same entries has the same places
+pub same_places : {S : Type 0} (old new : IndexMap ℕ ℕ S) → IsUnchanged old new → (h : ℕ) → place_at new h ≡ place_at old h
+same_places old new unchanged h = ap (λ es. unwrap_or (lookup (nat_eq h) es) 0) unchanged

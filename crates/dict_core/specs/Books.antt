@@ -1,0 +1,23 @@
+-- What a book is: distinct texts with a limit, and what it is to name a text.
+use Rattle.std.specs.Prelude.{◌≡◌, ◌≢◌, ◌⊎◌, ℕ, ◌<◌, List, [], ◌∷◌, ◌++◌, length, slice_get, Some}
+
+-- the texts of a book, each at its number, and how many there may be
+pub record BookState : Type 0 where
+  pub texts : List (List ℕ)
+  pub limit : ℕ
+
+-- no text stands at two numbers
+abbrev pub AreDistinct : List (List ℕ) → Type 0
+AreDistinct texts =
+    (i j : ℕ) (text : List ℕ) → slice_get texts i ≡ Some text → slice_get texts j ≡ Some text → i ≡ j
+
+-- the text stands at no number
+abbrev pub IsNew : List (List ℕ) → List ℕ → Type 0
+IsNew texts text = (i : ℕ) → slice_get texts i ≢ Some text
+
+-- the text had this number, and the book stays; or it was new and below the limit, and is added last
+abbrev pub Names : BookState → BookState → List ℕ → ℕ → Type 0
+Names old new text number =
+    ((slice_get old.texts number ≡ Some text) × (new ≡ old))
+    ⊎ (IsNew old.texts text × (length old.texts < old.limit) × (number ≡ length old.texts)
+    × (new.texts ≡ old.texts ++ text ∷ []) × (new.limit ≡ old.limit))

@@ -1,0 +1,4 @@
+pub mod Books
+pub mod Buffer
+pub mod Chains
+pub mod Fair

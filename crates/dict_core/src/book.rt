@@ -1,0 +1,118 @@
+//! Distinct texts, each with a number.
+ghost use Rattle.std.specs.Prelude.{◌≡◌, ℕ, ◌<◌, ◌≤◌, [], drop, length, slice_get, Some, IfSome, IfNone, IfOk, OnErr, IsErrOf};
+ghost use Rattle.dict_core.specs.Books.{AreDistinct, IsNew, Names};
+ghost use Rattle.dict_core.specs.declared.refusals.BookRefusal.TheVariants.{Full};
+
+use crate::chains::find;
+use crate::index::Index;
+use crate::refusals::BookRefusal;
+use crate::texts::{MAX_TEXTS, Texts};
+use log_seams::TextList;
+use std::alloc::{AllocError, Global};
+use std::hash::{FoldHasher, Hasher};
+use std::marker::Model;
+
+/// A list of distinct texts with a limit.
+///
+/// A text's number is its place in the list, from 0. Contracts see the texts and the limit.
+#[derive(Drop)]
+pub struct Book {
+    alloc: Global,
+    texts: Texts,
+    index: Index,
+    limit: u32,
+}
+
+impl Model for Book {
+    ghost use Rattle.dict_core.specs.Books.{BookState};
+    ghost use Rattle.dict_core.specs.Chains.{IsBook, hash_by, place_at};
+
+    ghost Value = { BookState };
+
+    ghost view = { λ b. record { texts = b.texts; limit = b.limit } };
+
+    ghost invariant = { λ b. IsBook (hash_by ⟦<FoldHasher as Hasher>⟧.write ⟦<FoldHasher as Hasher>⟧.finish b.index.hasher) b.texts b.index.befores.items (place_at b.index.newest) b.limit };
+}
+
+impl Book {
+    /// A book without texts. Takes no memory.
+    pub fn new(alloc: Global, limit: u32) -> Book
+        requires least { 1 ≤ limit }
+        requires most { limit ≤ MAX_TEXTS }
+        ensures texts { result.texts ≡ [] }
+        ensures limit { result.limit ≡ limit }
+    {
+        Book {
+            alloc,
+            texts: Texts::new(alloc),
+            index: Index::new(alloc),
+            limit,
+        }
+    }
+
+    /// The count of texts.
+    pub fn len(&self) -> u32
+        ensures count { result ≡ length self.now.texts }
+        ensures limit { length self.now.texts ≤ self.now.limit }
+        ensures distinct { AreDistinct self.now.texts }
+    {
+        let _limit = self.limit;
+        self.texts.len()
+    }
+
+    /// The number of a text, or `None` where it is not in the book. Takes no memory.
+    pub fn number_of(&self, text: &[u8]) -> Option<u32>
+        ensures some { IfSome result (λ n. slice_get self.now.texts n ≡ Some text.now) }
+        ensures none { IfNone result (IsNew self.now.texts text.now) }
+    {
+        let newest = self.index.newest(self.index.hash(text));
+        find(&self.texts, self.index.befores.as_slice(), newest, text)
+    }
+
+    /// The text at a number, or `None` where there are fewer texts. Takes no memory.
+    pub fn text_of(&self, number: u32) -> Option<&[u8]>
+        ensures some { IfSome result (λ text. slice_get self.now.texts number ≡ Some text.now) }
+        ensures none { IfNone result (length self.now.texts ≤ number) }
+    {
+        self.texts.text_of(number)
+    }
+
+    /// The number of a text, which is added last where it is new. A refusal changes nothing.
+    ///
+    /// # Errors
+    ///
+    /// [`BookRefusal::Full`] exactly where the text is new and the limit is reached, or
+    /// [`BookRefusal::OutOfMemory`].
+    pub fn intern(&mut self, text: &[u8]) -> Result<u32, BookRefusal>
+        ensures ok { IfOk result (λ n. Names self.old self.new text.now n) }
+        ensures err { OnErr result (self.new ≡ self.old) }
+
+        // It is full exactly where the text is new and the limit is reached.
+        ensures full { (count : ℕ) → IsErrOf result (Full count)
+            → IsNew self.old.texts text.now × (count ≡ self.old.limit) × (length self.old.texts ≡ self.old.limit) }
+        ensures at_limit { IsNew self.old.texts text.now → length self.old.texts ≡ self.old.limit
+            → IsErrOf result (Full self.old.limit) }
+    {
+        let hash = self.index.hash(text);
+        let newest = self.index.newest(hash);
+        if let Some(number) = find(&self.texts, self.index.befores.as_slice(), newest, text) {
+            return Ok(number);
+        }
+        let count = self.texts.len();
+        if count >= self.limit {
+            return Err(BookRefusal::Full { count });
+        }
+        self.index.make_room()?;
+        self.texts.push(text)?;
+        self.index.link(hash, newest);
+        Ok(count)
+    }
+
+    /// The texts from this number on.
+    pub fn copy_from(&self, number: u32) -> Result<TextList, AllocError>
+        requires { number ≤ length self.now.texts }
+        ensures { IfOk result (λ texts. texts ≡ drop number self.now.texts) }
+    {
+        self.texts.copy_from(self.alloc, number)
+    }
+}
