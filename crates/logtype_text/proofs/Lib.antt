@@ -1,3 +1,4 @@
 pub mod OneList
+pub mod EncodedLemmas
 pub mod PartsLemmas
 pub mod TextLemmas

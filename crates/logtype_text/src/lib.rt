@@ -6,17 +6,25 @@
 //! they are stored. Two bodies have the same log type where their symbols are the same.
 #![tactic(auto)]
 
+mod encoding;
 mod laws;
 mod spans;
 mod splitting;
 mod symbols;
 mod text;
 
+pub use encoding::encode_body;
 pub use laws::{one_list_of_parts, one_type_text};
 pub use spans::{CodedList, Span, Spans, Split};
 pub use splitting::split;
 pub use symbols::{Kind, Symbol, Symbols};
 pub use text::{TextRefusal, from_text, text_ok, to_text};
+
+/// The most bytes that the text of a log type may have: each byte of the longest body with a `\`.
+pub const MAX_TYPE_LEN: usize = 2 * MAX_WORD_LEN;
+
+/// The most bytes that a word of a dictionary may have: those of the longest message.
+pub const MAX_WORD_LEN: usize = 1_048_576;
 
 #[cfg(test)]
 mod tests;

@@ -89,7 +89,7 @@ fn split_into(before: Split, body: &[u8]) -> Result<Split, AllocError>
 
 // The first variable from a place on, which stands in no token; `None` where none is left.
 #[inline]
-fn next_variable(body: &[u8], from: usize) -> Option<Span>
+pub(crate) fn next_variable(body: &[u8], from: usize) -> Option<Span>
     requires in_range { from ≤ length body.now }
     requires outside { IsOutside body.now from }
     ensures first { IfSome result (λ span. (from ≤ span.start) × IsFree body.now from span.start) }
@@ -111,7 +111,7 @@ fn next_variable(body: &[u8], from: usize) -> Option<Span>
 
 // The kind of variable that has such a word.
 #[inline]
-fn kind_of(coded: Coded) -> Kind
+pub(crate) fn kind_of(coded: Coded) -> Kind
     ensures { result ≡ kind_of coded }
 {
     match coded {

@@ -9,7 +9,7 @@ use std::alloc::{AllocError, AllocFailed, Global};
 use thiserror::Error;
 
 // Stands before a constant byte that is a placeholder's or is this byte.
-const ESCAPE: u8 = b'\\';
+pub(crate) const ESCAPE: u8 = b'\\';
 
 const WHOLE: u8 = 0x11;
 
@@ -62,7 +62,7 @@ pub fn to_text(alloc: Global, symbols: &Symbols) -> Result<Text, AllocError>
 
 // The byte that stands for a variable of this kind.
 #[inline]
-fn placeholder(kind: Kind) -> u8
+pub(crate) fn placeholder(kind: Kind) -> u8
     ensures { result ≡ placeholder kind }
 {
     match kind {
@@ -74,7 +74,7 @@ fn placeholder(kind: Kind) -> u8
 
 // Whether a constant byte needs the escape.
 #[inline]
-fn needs_escape(byte: u8) -> bool
+pub(crate) fn needs_escape(byte: u8) -> bool
     ensures { result ≡ is_escaped byte }
 {
     (WHOLE <= byte && byte <= DECIMAL) || byte == ESCAPE
