@@ -1,3 +1,4 @@
+pub mod CutLemmas
 pub mod OneList
 pub mod EncodedLemmas
 pub mod PartsLemmas

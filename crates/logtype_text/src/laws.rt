@@ -1,5 +1,6 @@
 //! Laws of parts and of the texts of log types. The functions do nothing: what they promise holds of
 //! every body and text.
+ghost use Rattle.logtype_text.specs.Cut.{PartsAreCut};
 ghost use Rattle.logtype_text.specs.Laws.{EachVariableIsAPart, GoodIsTypeText, OneListOfParts, OneListOfSymbols, SameTypeText};
 
 use var_codec::one_word;
@@ -12,6 +13,12 @@ pub fn one_list_of_parts()
 {
     one_word();
 }
+
+/// Parts are those of a body exactly where they join to it and are cut token by token from the left:
+/// what has to be decided of parts whose body is nowhere to be read.
+pub fn parts_are_cut()
+    ensures { PartsAreCut }
+{}
 
 /// Two lists of symbols have the same text exactly where they are the same: what a log type's text
 /// leaves aside is the texts of the variables. A text is good exactly where it is that of some symbols.

@@ -14,7 +14,7 @@ mod symbols;
 mod text;
 
 pub use encoding::encode_body;
-pub use laws::{one_list_of_parts, one_type_text};
+pub use laws::{one_list_of_parts, one_type_text, parts_are_cut};
 pub use spans::{CodedList, Span, Spans, Split};
 pub use splitting::split;
 pub use symbols::{Kind, Symbol, Symbols};
