@@ -258,3 +258,20 @@ good_is_type_text text = (
   λ good. elim (read_on [] text text refl) [ inl spelled ↦ spelled | inr lone ↦ absurd (good lone.0 lone.1) ],
   type_text_is_good text,
 )
+
+-- a symbol has a byte
+pub symbol_longer : (s : Symbol) (rest : List ℕ) → length rest < length (text_of_symbol s ++ rest)
+symbol_longer s rest = elim (forms s) [
+  | inl p ↦ let e : text_of_symbol s ++ rest ≡ p.byte ∷ rest = ap (λ l. l ++ rest) p.text in omega (arith, ap length e)
+  | inr p ↦ let e : text_of_symbol s ++ rest ≡ 0x5C ∷ p.byte ∷ rest = ap (λ l. l ++ rest) p.text in omega (arith, ap length e)
+]
+
+-- what stands behind the first symbol of a text is a text
+pub rest_spelled : (s : Symbol) (text rest : List ℕ) → text ≡ text_of_symbol s ++ rest → IsTypeText text → IsTypeText rest
+rest_spelled s text rest cut ([], spells) = absurd (some_byte s rest (sym (spells ∙ cut)))
+rest_spelled s text rest cut (t ∷ symbols, spells) = (symbols, (first_same t s (type_text symbols) rest (spells ∙ cut)).1)
+
+-- a text without a first symbol is empty
+pub nothing_left : (text : List ℕ) → ((s : Symbol) (rest : List ℕ) → text ≢ text_of_symbol s ++ rest) → IsTypeText text → text ≡ []
+nothing_left text none ([], spells) = sym spells
+nothing_left text none (s ∷ symbols, spells) = absurd (none s (type_text symbols) (sym spells))

@@ -1,5 +1,6 @@
 //! The text that a log type is stored as.
-ghost use Rattle.std.specs.Prelude.{◌≡◌, ◌≢◌, ◌<◌, [], ◌∷◌, ◌↔◌, IfOk, IsErrOf, IsTrue, MatchOption, ◌++◌, length};
+ghost use Rattle.std.specs.Prelude.{◌≡◌, ◌≢◌, ℕ, ◌<◌, ◌≤◌, List, [], ◌∷◌, ◌↔◌, All, IfOk, IfNone, IfSome, IsErrOf, IsTrue, MatchOption, ◌++◌, false, length, slice_index, take, true};
+ghost use Rattle.logtype_text.specs.declared.symbols.Symbol.{Symbol};
 ghost use Rattle.logtype_text.specs.declared.text.TextRefusal.TheVariants.{OutOfMemory};
 ghost use Rattle.logtype_text.specs.TypeText.{IsGood, IsLoneAt, IsTypeText, is_escaped, placeholder, text_of_symbol, type_text};
 
@@ -118,28 +119,40 @@ pub fn from_text(alloc: Global, text: &[u8]) -> Result<Symbols, TextRefusal>
     }
     let mut symbols = Vec::with_capacity(alloc, text.len())?;
     let mut rest = text;
-    while !rest.is_empty() {
-        let (symbol, after) = first_symbol(rest);
+    while let Some((symbol, after)) = first_symbol(rest) {
         symbols.push_reserved(symbol);
         rest = after;
     }
     Ok(Symbols::new(symbols))
 }
 
-// The first symbol of a text, and the text of the others.
+/// The first symbol of a text, and the text of the others; `None` where the text is empty or begins
+/// with a `\` that stands before no byte that needs it. Takes no memory.
 #[inline]
-fn first_symbol(text: &[u8]) -> (Symbol, &[u8])
-    requires not_empty { 0 < length text.now }
-    requires spelled { IsTypeText text.now }
-    ensures first { text.now ≡ text_of_symbol result.0 ++ result.1.now }
-    ensures others { IsTypeText result.1.now }
+pub fn first_symbol(text: &[u8]) -> Option<(Symbol, &[u8])>
+    ensures some { IfSome result (λ r. text.now ≡ text_of_symbol r.0 ++ r.1.now) }
+    ensures none { IfNone result ((symbol : Symbol) (rest : List ℕ) → text.now ≢ text_of_symbol symbol ++ rest) }
 {
-    let byte = text[0];
-    if byte == ESCAPE {
-        (Symbol::Byte(text[1]), &text[2..])
-    } else {
-        (plain_symbol(byte), &text[1..])
+    match text {
+        [ESCAPE, byte, rest @ ..] if needs_escape(*byte) => Some((Symbol::Byte(*byte), rest)),
+        [ESCAPE, ..] | [] => None,
+        [byte, rest @ ..] => Some((plain_symbol(*byte), rest)),
     }
+}
+
+/// How many bytes at the front of a text are constants that stand there as they are: none of them is
+/// a placeholder or a `\`. Takes no memory.
+#[inline]
+pub fn plain_front(text: &[u8]) -> usize
+    ensures within { result ≤ length text.now }
+    ensures plain { All (λ b. is_escaped b ≡ false) (take result text.now) }
+    ensures most { result < length text.now → is_escaped (slice_index text.now result) ≡ true }
+{
+    let mut end = 0;
+    while end < text.len() && !needs_escape(text[end]) {
+        end += 1;
+    }
+    end
 }
 
 // The symbol of a byte that has no escape before it and is none.
