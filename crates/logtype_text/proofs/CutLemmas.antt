@@ -1,13 +1,13 @@
 -- Parts are those of a body exactly where they join to it and are cut by the rule of tokens.
-use Rattle.std.proofs.Common.{◌≡◌, ℕ, ◌+◌, ◌-◌, ◌<◌, ◌≤◌, ◌⊎◌, zero, suc, true, List, [], ◌∷◌, ◌++◌, length, take, drop, get_or, refl, sym, ◌∙◌, ap, ap₂, subst, arith, inl, inr, add-one, length-append, length-drop}
-use Rattle.std.specs.Prelude.{Option, None, Some, slice_get, slice_index, slice_range}
-use Rattle.std.proofs.lemmas.Bool.{cases_Bool, both_ways}
+use Rattle.std.proofs.Common.{◌≡◌, ℕ, ◌+◌, ◌-◌, ◌<◌, ◌≤◌, ◌⊎◌, zero, suc, true, List, [], ◌∷◌, ◌++◌, length, take, drop, refl, sym, ◌∙◌, ap, ap₂, subst, arith, inl, inr, add-one, length-append, length-drop}
+use Rattle.std.specs.Prelude.{Option, None, Some, slice_index, slice_range}
+use Rattle.std.proofs.lemmas.Bool.{cases_Bool}
 use Rattle.std.proofs.lemmas.List.{take_at, drop_at, drop-drop, get_or-drop, get_or_append_left, get_or-append_right}
 use Rattle.std.proofs.lemmas.Option.{slice_get-get_or}
 use Rattle.token_rules.specs.Tokens.{IsDelimiter, IsToken, IsVariable, IsVariableAt, byte_before, is_token_byte}
 use Rattle.token_rules.proofs.TokenLemmas.{no_delimiter}
 use Rattle.logtype_text.specs.declared.symbols.Kind.{Kind}
-use Rattle.logtype_text.specs.Parts.{Part, Constant, Variable, joined, HasKind, IsVariableToken, IsFree, StandAt}
+use Rattle.logtype_text.specs.Parts.{Part, Constant, Variable, joined, IsFree, StandAt}
 use Rattle.logtype_text.specs.Cut.{IsTokenText, Breaks, plains, Cut, ended, delimiter, plain, held, PartsAreCut}
 use Rattle.logtype_text.proofs.PartsLemmas.{size, stand-append, constants, joined-constants, constants_stand, constant_token_free}
 
@@ -53,14 +53,14 @@ token_here body at prev token rest joins opens text ends =
         not_empty = omega arith;
         in_range = omega arith;
         unbroken = λ k low high.
-          let place : at + (k - at) ≡ k = omega arith in
-          let unbroken = text.unbroken (k - at) (omega arith) in
-          subst (λ n. ¬ IsDelimiter (slice_index body n)) place (subst (λ b. ¬ IsDelimiter b) (bytes (k - at) (omega arith)) unbroken);
+            let place : at + (k - at) ≡ k = omega arith in
+            let unbroken = text.unbroken (k - at) (omega arith) in
+            subst (λ n. ¬ IsDelimiter (slice_index body n)) place (subst (λ b. ¬ IsDelimiter b) (bytes (k - at) (omega arith)) unbroken);
         left = opens.left;
         right = λ more.
-          let next : slice_index rest 0 ≡ slice_index body (at + length token) =
-          sym (get_or-append_right token rest (length token) (length token) 0 refl (omega arith) ∙ ap (λ n. slice_index rest n) (let e : length token - length token ≡ 0 = omega arith in e)) ∙ ap (λ l. slice_index l (length token)) joins ∙ byte_of body at (length token) in
-          subst IsDelimiter next (ends (omega arith));
+            let next : slice_index rest 0 ≡ slice_index body (at + length token) =
+            sym (get_or-append_right token rest (length token) (length token) 0 refl (omega arith) ∙ ap (λ n. slice_index rest n) (let e : length token - length token ≡ 0 = omega arith in e)) ∙ ap (λ l. slice_index l (length token)) joins ∙ byte_of body at (length token) in
+            subst IsDelimiter next (ends (omega arith));
       };
       text = ap₂ (λ n l. take n l) span (sym joins) ∙ take_at token rest (length token) refl;
     }
@@ -121,8 +121,7 @@ cut_stands : {prev : Option ℕ} {parts : List Part} → Cut prev parts → (bod
 cut_stands ended body at joins begins = tt
 cut_stands (delimiter {prev} {parts} b is rest) body at joins begins =
     let here = first_byte body at b (joined parts) joins in
-    let inside = inside_first body at b (joined parts) joins in
-    (
+    let inside = inside_first body at b (joined parts) joins in (
       delimiter_free body at b here is at (omega arith) (omega arith),
       cut_stands rest body (at + 1) (tail_joins body at b (joined parts) joins) (inr (opens_after body at b inside here is)),
     )
@@ -211,8 +210,8 @@ held_text : (body : List ℕ) (at : ℕ) (text : List ℕ) (rest : List ℕ) →
 held_text body at text rest joins token = record {
   some = let not_empty = token.not_empty in omega arith;
   unbroken = λ k low.
-    let byte : slice_index text k ≡ slice_index body (at + k) = sym (get_or_append_left text rest 0 k low) ∙ ap (λ l. slice_index l k) joins ∙ byte_of body at k in
-    subst (λ b. ¬ IsDelimiter b) (sym byte) (token.unbroken (at + k) (omega arith) (omega arith));
+      let byte : slice_index text k ≡ slice_index body (at + k) = sym (get_or_append_left text rest 0 k low) ∙ ap (λ l. slice_index l k) joins ∙ byte_of body at k in
+      subst (λ b. ¬ IsDelimiter b) (sym byte) (token.unbroken (at + k) (omega arith) (omega arith));
 }
 
 stands_cut : (n : ℕ) (body : List ℕ) (at : ℕ) (prev : Option ℕ) (parts : List Part) → length parts ≤ n → joined parts ≡ drop at body → Begins body at prev parts → StandAt body at parts → Cut prev parts

@@ -1,20 +1,17 @@
 -- What is stored of the front of a body, and of one step more.
-use Rattle.std.proofs.Common.{◌≡◌, ℕ, ◌+◌, ◌-◌, ◌<◌, ◌≤◌, Bool, false, cond, List, [], ◌∷◌, ◌++◌, length, get_or, map, take, drop, refl, sym, ◌∙◌, ap, ap₂, subst, arith, append_assoc, length-append, length-drop, length-take-le}
+use Rattle.std.proofs.Common.{◌≡◌, ℕ, ◌+◌, ◌-◌, ◌<◌, ◌≤◌, false, cond, List, [], ◌∷◌, ◌++◌, length, map, take, refl, sym, ◌∙◌, ap, ap₂, subst, arith, length-take-le}
 use Rattle.std.specs.Prelude.{slice_range, All}
 use Rattle.std.proofs.lemmas.List.{append-nil, map-append, take_all}
 use Rattle.std.proofs.lemmas.List.Elements.{All-nil, All-push, All-head, All-tail}
 use Rattle.std.proofs.lemmas.Grind.{flat_map-append}
 use Rattle.std.proofs.Math.Seq.{take-add}
-use Rattle.token_rules.specs.Tokens.{IsToken}
 use Rattle.var_codec.specs.Codes.{Codes}
 use Rattle.var_codec.specs.declared.Coded.{Coded}
 use Rattle.var_codec.specs.declared.Coded.TheVariants.{Whole as WholeWord, Decimal as DecimalWord, Word as DictionaryWord}
-use Rattle.logtype_text.specs.declared.symbols.Kind.{Kind}
 use Rattle.logtype_text.specs.declared.symbols.Kind.TheVariants.{Whole, Word, Decimal}
-use Rattle.logtype_text.specs.declared.symbols.Symbol.{Symbol}
-use Rattle.logtype_text.specs.declared.symbols.Symbol.TheVariants.{Byte, Slot}
+use Rattle.logtype_text.specs.declared.symbols.Symbol.TheVariants.{Byte}
 use Rattle.logtype_text.specs.declared.spans.Span.{Span}
-use Rattle.logtype_text.specs.Parts.{Part, Constant, Variable, text_of_part, joined, kind_of, HasKind, IsVariableToken, IsFree, StandAt, AreParts, symbol_of}
+use Rattle.logtype_text.specs.Parts.{Part, Constant, Variable, text_of_part, joined, kind_of, HasKind, IsVariableToken, IsFree, StandAt, symbol_of}
 use Rattle.logtype_text.specs.TypeText.{is_escaped, placeholder, text_of_symbol, type_text}
 use Rattle.logtype_text.specs.Encoded.{AreCoded, AreWithin, IsEncoded, texts_at, word_texts}
 use Rattle.logtype_text.specs.Steps.{word_place}
@@ -64,7 +61,12 @@ pub record SoFar (body : List ℕ) (at : ℕ) (text : List ℕ) (codes : List Co
 
 pub nothing_stored : (body : List ℕ) → SoFar body 0 [] [] []
 nothing_stored body = record {
-  parts = []; joins = refl; stand = tt; typed = refl; coded = tt; words_are = refl;
+  parts = [];
+  joins = refl;
+  stand = tt;
+  typed = refl;
+  coded = tt;
+  words_are = refl;
   within = All-nil (λ (s : Span). (s.start < s.end) × (s.end ≤ length body));
 }
 

@@ -29,15 +29,15 @@ plains (b ∷ bytes) parts = Constant b ∷ plains bytes parts
 pub data Cut : Option ℕ → List Part → Type 0 where
   ended : {prev : Option ℕ} → Cut prev []
   delimiter :
-    {prev : Option ℕ} {parts : List Part} (b : ℕ) → IsDelimiter b → Cut (Some b) parts
-    → Cut prev (Constant b ∷ parts)
+      {prev : Option ℕ} {parts : List Part} (b : ℕ) → IsDelimiter b → Cut (Some b) parts
+      → Cut prev (Constant b ∷ parts)
   plain :
-    {prev : Option ℕ} {parts : List Part} (token : List ℕ) → IsTokenText token → Breaks parts
-    → ¬ IsVariable prev token → Cut None parts → Cut prev (plains token parts)
+      {prev : Option ℕ} {parts : List Part} (token : List ℕ) → IsTokenText token → Breaks parts
+      → ¬ IsVariable prev token → Cut None parts → Cut prev (plains token parts)
   held :
-    {prev : Option ℕ} {parts : List Part} (kind : Kind) (token : List ℕ) → IsTokenText token
-    → Breaks parts → IsVariable prev token → HasKind token kind → Cut None parts
-    → Cut prev (Variable kind token ∷ parts)
+      {prev : Option ℕ} {parts : List Part} (kind : Kind) (token : List ℕ) → IsTokenText token
+      → Breaks parts → IsVariable prev token → HasKind token kind → Cut None parts
+      → Cut prev (Variable kind token ∷ parts)
 
 -- parts are those of a body exactly where they join to it and are cut by the rule of tokens
 abbrev pub PartsAreCut : Type 0

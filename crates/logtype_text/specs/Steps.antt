@@ -1,5 +1,5 @@
 -- What a step on the way through a body adds.
-use Rattle.std.specs.Prelude.{ℕ, List, [], ◌∷◌}
+use Rattle.std.specs.Prelude.{List, [], ◌∷◌}
 use Rattle.var_codec.specs.declared.Coded.{Coded}
 use Rattle.var_codec.specs.declared.Coded.TheVariants.{Whole, Decimal, Word}
 use Rattle.logtype_text.specs.declared.spans.Span.{Span}

@@ -33,7 +33,13 @@ pub fn encode_body(
     let mut at = 0;
     while let Some(span) = next_variable(body, at) {
         push_constants(text, &body[at..span.start], plain)?;
-        push_variable(text, codes, words, span, encode(&body[span.start..span.end]))?;
+        push_variable(
+            text,
+            codes,
+            words,
+            span,
+            encode(&body[span.start..span.end]),
+        )?;
         at = span.end;
     }
     push_constants(text, &body[at..], plain)?;

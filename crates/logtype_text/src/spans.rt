@@ -1,8 +1,7 @@
 //! Where variables stand, and what they are coded as.
-ghost use Rattle.std.specs.Prelude.{◌≡◌};
 
 use crate::Symbols;
-use std::marker::Model;
+use plain_list::ListOf;
 use var_codec::Coded;
 
 /// The place of a variable in its body: the bytes from `start` up to `end`.
@@ -15,76 +14,10 @@ pub struct Span {
 }
 
 /// The places of a body's variables, in order. Contracts see the list.
-#[derive(Debug, Drop)]
-pub struct Spans {
-    spans: Vec<Span>,
-}
-
-impl Model for Spans {
-    ghost use Rattle.std.specs.Prelude.{List};
-    ghost use Rattle.logtype_text.specs.declared.spans.Span.{Span};
-
-    ghost Value = { List Span };
-
-    ghost view = { λ s. s.spans.items };
-}
-
-impl Spans {
-    /// The list of these places. Takes no memory.
-    pub fn new(spans: Vec<Span>) -> Spans
-        ensures { result ≡ spans.items }
-    {
-        Spans { spans }
-    }
-
-    /// The places in order, lent as a slice.
-    pub fn as_slice(&self) -> &[Span]
-        ensures { result.now ≡ self.now }
-    {
-        self.spans.as_slice()
-    }
-
-    // The list itself.
-    pub(crate) fn into_vec(self) -> Vec<Span> {
-        self.spans
-    }
-}
+pub type Spans = ListOf<Span>;
 
 /// What a body's variables are coded as, in order. Contracts see the list.
-#[derive(Debug, Drop)]
-pub struct CodedList {
-    codes: Vec<Coded>,
-}
-
-impl Model for CodedList {
-    ghost use Rattle.std.specs.Prelude.{List};
-    ghost use Rattle.var_codec.specs.declared.Coded.{Coded};
-
-    ghost Value = { List Coded };
-
-    ghost view = { λ c. c.codes.items };
-}
-
-impl CodedList {
-    /// The list of these. Takes no memory.
-    pub fn new(codes: Vec<Coded>) -> CodedList
-        ensures { result ≡ codes.items }
-    {
-        CodedList { codes }
-    }
-
-    /// The codes in order, lent as a slice.
-    pub fn as_slice(&self) -> &[Coded]
-        ensures { result.now ≡ self.now }
-    {
-        self.codes.as_slice()
-    }
-
-    // The list itself.
-    pub(crate) fn into_vec(self) -> Vec<Coded> {
-        self.codes
-    }
-}
+pub type CodedList = ListOf<Coded>;
 
 /// A body's symbols, the places of its variables, and what they are coded as.
 #[derive(Debug, Drop)]

@@ -1,6 +1,6 @@
 use crate::{
-    Kind, Span, Split, Symbol, Symbols, TextRefusal, from_text, one_list_of_parts, one_type_text,
-    split, text_ok, to_text,
+    Kind, Span, Split, Symbol, Symbols, TextRefusal, encode_body, first_symbol, from_text,
+    one_list_of_parts, one_type_text, parts_are_cut, plain_front, split, text_ok, to_text,
 };
 use var_codec::Coded;
 
@@ -43,6 +43,9 @@ fn log_types_of_bodies(rt: HostRuntime) -> Result<(), TextRefusal> {
             b"\x11/\x11/\x11 \x11:\x11:\x11 DEBUG: \xE2\x82\xAC\x11 failed: done: Task by",
         ),
     ];
+    let mut stored = Vec::new(rt.alloc());
+    let mut codes = Vec::new(rt.alloc());
+    let mut words = Vec::new(rt.alloc());
     for (body, want) in rows {
         let parts = split(rt.alloc(), body)?;
         let text = to_text(rt.alloc(), &parts.symbols)?;
@@ -50,9 +53,13 @@ fn log_types_of_bodies(rt: HostRuntime) -> Result<(), TextRefusal> {
         assert!(rt; text_ok(text.as_slice()));
         let again = from_text(rt.alloc(), text.as_slice())?;
         assert_eq!(rt; again.as_slice(), parts.symbols.as_slice(), "at {body:?}");
+        encode_body(body, &mut stored, &mut codes, &mut words)?;
+        assert_eq!(rt; stored.as_slice(), want, "at {body:?}");
+        assert_eq!(rt; codes.as_slice(), parts.codes.as_slice(), "at {body:?}");
     }
     one_list_of_parts();
     one_type_text();
+    parts_are_cut();
     Ok(())
 }
 
@@ -67,6 +74,11 @@ fn places_of_variables(rt: HostRuntime) -> Result<(), TextRefusal> {
     assert_eq!(rt; parts.spans.as_slice(), spans.as_slice());
     let codes = [Coded::Decimal(0x14F32), Coded::Word, Coded::Whole(7)];
     assert_eq!(rt; parts.codes.as_slice(), codes.as_slice());
+    let mut text = Vec::new(rt.alloc());
+    let mut coded = Vec::new(rt.alloc());
+    let mut words = Vec::new(rt.alloc());
+    encode_body(b"took 0.335 s, id=ab, 7", &mut text, &mut coded, &mut words)?;
+    assert_eq!(rt; words.as_slice(), [Span { start: 17, end: 19 }].as_slice());
     let symbols = parts.symbols.as_slice();
     assert_eq!(rt; symbols.len(), 17);
     assert_eq!(rt; symbols.get(4), Some(&Symbol::Byte(b' ')));
@@ -124,6 +136,9 @@ fn texts_that_are_not_good(rt: HostRuntime) -> Result<(), TextRefusal> {
     ];
     for (text, at) in rows {
         assert!(rt; !text_ok(text), "at {text:?}");
+        let front = plain_front(text);
+        assert!(rt; front <= at, "at {text:?}");
+        assert_eq!(rt; first_symbol(text).is_none(), at == 0, "at {text:?}");
         let refusal = from_text(rt.alloc(), text).err();
         assert_eq!(rt; refusal, Some(TextRefusal::BadText { at }), "at {text:?}");
     }

@@ -1,7 +1,4 @@
-use Rattle.std.proofs.Common.{◌≡◌, ◌<◌, ◌≤◌, ◌+◌, ◌-◌, false, length, refl, arith}
-use Rattle.std.specs.Prelude.{All, IsTrue}
-use Rattle.std.proofs.lemmas.List.Elements.{All-drop, All-take}
-use Rattle.logtype_text.specs.TypeText.{is_escaped}
+use Rattle.std.proofs.Common.{length, refl, arith}
 use Rattle.logtype_text.proofs.EncodedLemmas.{constants_stored, variable_stored, stored_whole}
 use Rattle.logtype_text.proofs.encoding.encode_body.Goals as goal
 

@@ -1,7 +1,5 @@
-use Rattle.std.proofs.Common.{◌-◌, ◌≤◌, ◌≡◌, false, length}
-use Rattle.std.specs.Prelude.{All, IsTrue}
+use Rattle.std.proofs.Common.{◌-◌, ◌≤◌, length}
 use Rattle.token_rules.specs.Tokens.{IsOutside}
-use Rattle.logtype_text.specs.TypeText.{is_escaped}
 use Rattle.logtype_text.proofs.EncodedLemmas.{SoFar}
 use Rattle.logtype_text.proofs.encoding.encode_body.Given as goal
 

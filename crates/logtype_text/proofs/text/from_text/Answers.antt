@@ -1,4 +1,4 @@
-use Rattle.std.proofs.Common.{◌≡◌, ◌<◌, ◌∙◌, ◌++◌, [], length, sym, ap, subst, arith, append_assoc}
+use Rattle.std.proofs.Common.{◌≡◌, ◌∙◌, ◌++◌, length, sym, ap, subst, arith, append_assoc}
 use Rattle.std.specs.Prelude.{Err}
 use Rattle.std.proofs.lemmas.List.{append-nil}
 use Rattle.std.proofs.lemmas.Result.{err_from_is_err_and}
@@ -30,9 +30,9 @@ loop-symbol-preserved c =
     record {
       spelled = rest_spelled symbol c.loop-symbol.rest.now rest front so_far.spelled;
       read = ap (λ l. type_text l ++ rest) c.push_reserved.ensures.items
-        ∙ ap (λ l. l ++ rest) (type_text_push symbols symbol)
-        ∙ append_assoc (type_text symbols) (text_of_symbol symbol) rest
-        ∙ ap (λ l. type_text symbols ++ l) (sym front) ∙ so_far.read;
+          ∙ ap (λ l. l ++ rest) (type_text_push symbols symbol)
+          ∙ append_assoc (type_text symbols) (text_of_symbol symbol) rest
+          ∙ ap (λ l. type_text symbols ++ l) (sym front) ∙ so_far.read;
       room = let longer = symbol_longer symbol rest in omega (arith, ap length front, c.push_reserved.ensures.len, c.push_reserved.ensures.capacity, so_far.room);
     }
 

@@ -1,6 +1,5 @@
 use Rattle.std.proofs.Common.{◌≡◌, false, sym, ◌∙◌, arith}
 use Rattle.std.proofs.lemmas.List.Elements.{All-more}
-use Rattle.std.proofs.lemmas.Bool.{not-true}
 use Rattle.logtype_text.specs.TypeText.{is_escaped}
 use Rattle.logtype_text.proofs.text.plain_front.Goals as goal
 
