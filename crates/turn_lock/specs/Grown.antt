@@ -10,13 +10,7 @@ use Rattle.atomic_table.specs.Table.{State}
 use Rattle.turn_lock.specs.declared.board.About.{About}
 use Rattle.turn_lock.specs.declared.board.View.{View}
 use Rattle.turn_lock.specs.declared.board.Opening.{Opening}
-
--- an entry, and the number of the pass that added it; the entries of the opening have no number
-abbrev pub Mark : Type 0 → Type 0
-Mark E = E × Option ℕ
-
-abbrev pub entries_of : {E : Type 0} → List (Mark E) → List E
-entries_of h = map (λ x. x.0) h
+use Rattle.turn_lock.specs.History.{Mark, entries_of, unmarked, Has}
 
 -- each seat's view has it
 abbrev pub Each : {X : Type 0} → (X → Type 0) → List X → Type 0
@@ -29,10 +23,6 @@ Someone {X} P views = (i : ℕ) × (v : X) × (get_elem? views i ≡ some v) × 
 -- a number is claimed by one seat at most
 abbrev pub Apart : {X : Type 0} → (X → ℕ → Type 0) → List X → Type 0
 Apart {X} C views = (i j : ℕ) (v w : X) (n : ℕ) → get_elem? views i ≡ some v → get_elem? views j ≡ some w → C v n → C w n → i ≡ j
-
-abbrev pub Has : List ℕ → ℕ → Type 0
-Has [] n = ⊥
-Has (x ∷ xs) n = (x ≡ n) ⊎ Has xs n
 
 -- what was added under the number n stands among the first k
 abbrev pub Stands : {E : Type 0} → List (Mark E) → ℕ → ℕ → Type 0
@@ -72,9 +62,6 @@ pub record Owning {E : Type 0} (first count : ℕ) (h : List (Mark E)) (number g
 abbrev pub holders : Option ℕ → ℕ
 holders None = 0
 holders (Some t) = 1
-
-abbrev pub unmarked : {E : Type 0} → List E → List (Mark E)
-unmarked es = map (λ e. (e, None)) es
 
 module _ {E F : Type 0} where
   abbrev pub Waits : View E F → ℕ → Type 0
@@ -148,3 +135,7 @@ module _ {V E F : Type 0} (entries : V → List E) where
   -- the view of the maker's seat at the start
   abbrev pub starting : About F → V → View E F
   starting base y = record { ticket = None; inside = false; seen = unmarked (entries y); also = []; number = None; gone = None; ended = []; made = Some 0; about = Some base }
+
+  -- the rule of a lock that was told this when it was made
+  abbrev pub KeepsRule : (V → F) → (ℕ → E → Type 0) → Opening V → State (Option V) (View E F) → Type 0
+  KeepsRule fixed may key s = Kept entries fixed may (base_of fixed key) (entries key.at.value) s

@@ -1,4 +1,5 @@
 pub mod Grown
-pub mod Own
-pub mod Plays
+pub mod History
+pub mod Seats
+pub mod StepPlays
 pub mod Words

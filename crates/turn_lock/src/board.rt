@@ -17,7 +17,7 @@ pub(crate) const NUMBERS: usize = 3;
 
 /// What every pass and note knows of its lock: the number of the first pass, the count of entries
 /// at the opening, and the fixed part. No value of it is made.
-pub struct About<F> {
+pub(crate) struct About<F> {
     pub first: u64,
     pub start: u64,
     pub fixed: F,
@@ -25,7 +25,7 @@ pub struct About<F> {
 
 /// What a seat at the table knows. Each entry stands with the number of the pass that added it. No
 /// value of it is made.
-pub struct View<E, F> {
+pub(crate) struct View<E, F> {
     pub ticket: Option<u64>,
     /// The seat has the turn.
     pub inside: bool,
@@ -45,20 +45,20 @@ pub struct View<E, F> {
 
 /// What the table is told when it is made: the first number, and the value.
 #[derive(Drop)]
-pub struct Opening<V> {
+pub(crate) struct Opening<V> {
     pub first: u64,
     pub at: Snapshot<V>,
 }
 
 /// The rule of the table.
-pub struct Law<V> {
+pub(crate) struct Law<V> {
     of: PhantomData<V>,
 }
 
 impl<V: Grows> TableRule<Option<V>, View<V::Entry, V::Fixed>, Opening<V>> for Law<V> {
-    ghost use Rattle.turn_lock.specs.Grown.{Kept, base_of, starting};
+    ghost use Rattle.turn_lock.specs.Grown.{KeepsRule, base_of, starting};
 
-    ghost holds = { λ key s. Kept V.entries V.fixed V.may_add (base_of V.entries V.fixed key) (V.entries key.at.value) s };
+    ghost holds = { λ key s. KeepsRule V.entries V.fixed V.may_add key s };
 
     ghost first = { λ key. starting V.entries (base_of V.entries V.fixed key) key.at.value };
 }

@@ -4,10 +4,9 @@
 
 mod board;
 mod grows;
-mod handles;
-mod laws;
 mod lock;
 mod maker;
+mod note;
 mod pass;
 mod plays;
 mod steps;
@@ -15,6 +14,9 @@ mod steps;
 mod tests;
 mod turn;
 
-pub use board::{About, View};
 pub use grows::Grows;
-pub use handles::{LockRefused, Maker, Note, Pass, Turn, TurnLock};
+pub use lock::{LockRefused, TurnLock};
+pub use maker::Maker;
+pub use note::Note;
+pub use pass::Pass;
+pub use turn::Turn;

@@ -1,15 +1,31 @@
-//! The beginning and the end of a lock.
-ghost use Rattle.std.specs.Prelude.{◌≡◌, ◌<◌, [], length, Some, IfOk, IfErr};
-ghost use Rattle.turn_lock.specs.Words.{id_of, lock_by, made_by, seen_by, ended_by, about_by, HasFixed, HasJoinedAll, IsAllOwned};
+//! The lock, its beginning and its end.
+ghost use Rattle.turn_lock.specs.Seats.{IsTable};
 
-use crate::board::Opening;
+use crate::board::{Law, Opening, View};
 use crate::grows::Grows;
-use crate::handles::{LockRefused, Maker, TurnLock};
+use crate::maker::Maker;
 use atomic_table::{Refused, Table};
 use std::alloc::{AllocFailed, Global};
 use std::snapshot::Snapshot;
 
+/// A lock over a value whose entries only grow. Passes take turns with the value.
+#[derive(Drop)]
+pub struct TurnLock<V: Grows> {
+    pub(crate) table: Table<Option<V>, View<V::Entry, V::Fixed>, Opening<V>, Law<V>, Global>,
+    ghost sizes: { IsTable table.shared.table_id },
+}
+
+/// There was no memory for a lock. The value comes back.
+#[derive(Drop)]
+pub struct LockRefused<V> {
+    pub value: V,
+}
+
 impl<V: Grows> TurnLock<V> {
+    ghost use Rattle.std.specs.Prelude.{◌≡◌, ◌<◌, IfOk, IfErr};
+    ghost use Rattle.turn_lock.specs.Words.{id_of, lock_by, seen_by, about_by, IsOpening};
+    ghost use Rattle.turn_lock.specs.Words.{HasFixed, HasJoinedAll, IsAllOwned};
+
     /// A lock over the value, and the maker of its passes, which are numbered from `first` on. It
     /// is refused for want of memory alone.
     pub fn new(
@@ -19,9 +35,7 @@ impl<V: Grows> TurnLock<V> {
     ) -> Result<(TurnLock<V>, Maker<V>), LockRefused<V>>
         requires { first < 4294967296 }
         ensures lock { IfOk result (λ r. lock_by r.1 ≡ id_of r.0) }
-        ensures seen { IfOk result (λ r. seen_by r.1 ≡ V.entries value) }
-        ensures made { IfOk result (λ r. (made_by r.1 ≡ 0) × (ended_by r.1 ≡ [])) }
-        ensures about { IfOk result (λ r. about_by r.1 ≡ Some (record { first = first; start = length (V.entries value); fixed = V.fixed value })) }
+        ensures maker { IfOk result (λ r. IsOpening r.1 first (V.entries value) (V.fixed value)) }
         ensures err { IfErr result (λ r. r.value ≡ value) }
     {
         let about = Opening {

@@ -1,16 +1,31 @@
-//! The making of passes, and their end.
-ghost use Rattle.std.specs.Prelude.{◌≡◌, ◌⊎◌, ℕ, ◌+◌, ◌<◌, [], ◌∷◌};
-ghost use mathlib.Core.List.{IsPrefix};
-ghost use Rattle.turn_lock.specs.Grown.{Has};
-ghost use Rattle.turn_lock.specs.Words.{lock_of, number_of, seen, own_list, about, IsReady, id_of, lock_by, made_by, seen_by, ended_by, own_by, about_by, IsNext};
+//! The maker of a lock's passes.
+ghost use Rattle.std.specs.Prelude.{◌≢◌, None};
+ghost use Rattle.turn_lock.specs.Seats.{IsFree, IsMaker};
 
-use crate::board::NUMBERS;
+use crate::board::{NUMBERS, Place};
 use crate::grows::Grows;
-use crate::handles::{Maker, Pass, TurnLock};
+use crate::lock::TurnLock;
+use crate::pass::Pass;
 use crate::plays::{Deal, Number};
 use crate::steps::join;
 
+/// It makes the passes of one lock, and takes them back.
+#[derive(Drop)]
+pub struct Maker<V: Grows> {
+    pub(crate) seat: Place<V>,
+    pub(crate) made: u64,
+    ghost free: { IsFree seat.me },
+    ghost maker: { IsMaker seat.me made },
+    ghost known: { seat.me.0.about ≢ None },
+}
+
 impl<V: Grows> Maker<V> {
+    ghost use Rattle.std.specs.Prelude.{◌≡◌, ℕ, ◌+◌, ◌<◌, ◌∷◌};
+    ghost use Rattle.turn_lock.specs.History.{Has, HasLearned, IsPlacesOf};
+    ghost use Rattle.turn_lock.specs.Words.{lock_of, number_of, seen, own_list, IsReady, id_of};
+    ghost use Rattle.turn_lock.specs.Words.{lock_by, made_by, seen_by, ended_by, own_by, about_by};
+    ghost use Rattle.turn_lock.specs.Words.{IsStillBy, IsFreshOf, HasOneOwnerEach};
+
     /// How many passes it made.
     pub fn made(&self) -> u64
         ensures { result ≡ made_by self.now }
@@ -23,16 +38,9 @@ impl<V: Grows> Maker<V> {
     pub fn pass<'l>(&mut self, lock: &'l TurnLock<V>) -> Pass<'l, V>
         requires lock { lock_by self.old ≡ id_of lock.now }
         requires room { made_by self.old < 4294967296 }
-        ensures lock { lock_by self.new ≡ lock_by self.old }
-        ensures about { about_by self.new ≡ about_by self.old }
-        ensures ended { ended_by self.new ≡ ended_by self.old }
-        ensures seen { seen_by self.new ≡ seen_by self.old }
-        ensures own { (n : ℕ) → own_by self.new n ≡ own_by self.old n }
+        ensures still { IsStillBy self.old self.new }
         ensures made { made_by self.new ≡ made_by self.old + 1 }
-        ensures pass { (lock_of result ≡ lock_by self.old) × (about result ≡ about_by self.old) × IsReady result }
-        ensures number { IsNext self.old (number_of result) }
-        ensures shown { seen result ≡ seen_by self.old }
-        ensures fresh { own_list result ≡ [] }
+        ensures pass { IsFreshOf self.old result }
     {
         let board = &lock.table.shared;
         let number = board.fetch_add::<Number>(&mut self.seat, NUMBERS, 1);
@@ -50,14 +58,16 @@ impl<V: Grows> Maker<V> {
     pub fn join(&mut self, pass: Pass<'_, V>)
         requires lock { lock_of pass ≡ lock_by self.old }
         requires ready { IsReady pass }
+
+        // what stays
         ensures lock { lock_by self.new ≡ lock_by self.old }
         ensures about { about_by self.new ≡ about_by self.old }
         ensures made { made_by self.new ≡ made_by self.old }
-        ensures ended { ended_by self.new ≡ number_of pass.entry ∷ ended_by self.old }
-        ensures seen { IsPrefix (seen_by self.old) (seen_by self.new) }
-        ensures learned { IsPrefix (seen pass.entry) (seen_by self.new) }
-        ensures longer { (seen_by self.new ≡ seen_by self.old) ⊎ (seen_by self.new ≡ seen pass.entry) }
         ensures own { (n : ℕ) → Has (ended_by self.old) n → own_by self.new n ≡ own_by self.old n }
+
+        // what the maker has of the pass
+        ensures ended { ended_by self.new ≡ number_of pass.entry ∷ ended_by self.old }
+        ensures learned { HasLearned (seen_by self.old) (seen pass.entry) (seen_by self.new) }
         ensures taken { own_by self.new (number_of pass.entry) ≡ own_list pass.entry }
     {
         let Pass {
@@ -67,4 +77,12 @@ impl<V: Grows> Maker<V> {
         } = pass;
         join(board, &mut self.seat, seat);
     }
+
+    /// A law, as the contract of a call that does nothing. Each place has one owner: two numbers
+    /// whose own lists have the same place are one number. What an own list has at a place is the
+    /// entry that the maker has seen there.
+    pub fn one_owner(&self)
+        ensures owner { HasOneOwnerEach self.now }
+        ensures places { (n : ℕ) → IsPlacesOf (own_by self.now n) (seen_by self.now) }
+    {}
 }

@@ -1,18 +1,21 @@
 //! What each step on the table tells.
 ghost use Rattle.std.specs.Prelude.{ℕ, List, [], None};
-ghost use Rattle.turn_lock.specs.Plays.{drew, looked, published, served, learned, numbered, unnumbered, fresh, joined, spent};
+ghost use Rattle.turn_lock.specs.StepPlays.{drew, looked, published, served, learned, numbered};
+ghost use Rattle.turn_lock.specs.StepPlays.{unnumbered, fresh, joined, spent};
 
 use crate::board::View;
 use crate::grows::Grows;
 use atomic_table::{Join, Play, Split};
 use std::marker::{Brand, PhantomData};
 
+/// A ticket is drawn, or the draw was lost to another seat.
 pub(crate) struct Draw;
 
 impl<V: Grows> Play<Option<V>, View<V::Entry, V::Fixed>> for Draw {
     ghost then = { drew };
 }
 
+/// A look at the ticket that is served, by a seat in line. The turn begins where it is its own.
 pub(crate) struct Look<V> {
     of: PhantomData<V>,
 }
@@ -30,6 +33,7 @@ impl<E> Tells<E> for Brand {
     ghost told = { [] };
 }
 
+/// The length of the history becomes that of the value's list.
 pub(crate) struct Publish<V, J> {
     of: PhantomData<(V, J)>,
 }
@@ -38,18 +42,21 @@ impl<V: Grows, J: Tells<V::Entry>> Play<Option<V>, View<V::Entry, V::Fixed>> for
     ghost then = { published J.told };
 }
 
+/// The turn ends, and the next ticket is served.
 pub(crate) struct Serve;
 
 impl<V: Grows> Play<Option<V>, View<V::Entry, V::Fixed>> for Serve {
     ghost then = { served };
 }
 
+/// A look by a seat that took in another's list: which of the two begins the other.
 pub(crate) struct Learn;
 
 impl<V: Grows> Play<Option<V>, View<V::Entry, V::Fixed>> for Learn {
     ghost then = { learned };
 }
 
+/// The maker gets the number of its next pass.
 pub(crate) struct Number;
 
 impl<V: Grows> Play<Option<V>, View<V::Entry, V::Fixed>> for Number {
@@ -74,6 +81,7 @@ impl<E, F> Split<View<E, F>> for Copied {
     ghost right = { λ v. fresh None v };
 }
 
+/// A seat takes in another, and keeps both lists until it looks.
 pub(crate) struct Both;
 
 impl<E, F> Join<View<E, F>> for Both {

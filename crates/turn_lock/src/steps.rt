@@ -1,6 +1,8 @@
 //! The lock's atomic steps, each through a seat at the table.
-ghost use Rattle.std.specs.Prelude.{◌≡◌, ◌≢◌, ◌⊎◌, ℕ, ◌+◌, ◌<◌, true, false, [], ◌∷◌, Some, None};
-ghost use Rattle.turn_lock.specs.Plays.{IsTable, IsFree, IsInLine, IsMaker, IsReader, Came, Learned, MayAdd, waits, publishes, goes, numbers, joined};
+ghost use Rattle.std.specs.Prelude.{◌≡◌, true, [], None};
+ghost use Rattle.turn_lock.specs.Seats.{IsTable, SitsAt, IsFree, IsInLine, LearnsFrom};
+ghost use Rattle.turn_lock.specs.StepPlays.{Came, Learned, MayAdd, TakesIn};
+ghost use Rattle.turn_lock.specs.StepPlays.{waits, publishes, joined};
 
 use crate::board::{Board, LENGTH, NUMBERS, Place, SERVING, TICKET};
 use crate::grows::Grows;
@@ -8,6 +10,10 @@ use crate::plays::{Both, Draw, Learn, Look, Number, Publish, Tells};
 use std::sync::Wait;
 use std::time::Duration;
 use std::{hint, thread};
+
+// The three limits of a wait are free to tune: no clause speaks of them. A turn is mostly short, so
+// the next in line spins before it yields. Nobody wakes a thread that sleeps: it looks again when
+// its nap is over, so that giving a turn back costs no system call.
 
 /// Rounds in which the next in line stays on the processor.
 const SPINS: u64 = 200;
@@ -20,7 +26,7 @@ const NAP: u64 = 50;
 
 /// Draws the next ticket. Once 2^64 - 1 tickets were drawn, it waits for good.
 pub(crate) fn draw<V: Grows, R: Wait>(board: &Board<V>, rt: &R, seat: &mut Place<V>) -> u64
-    requires table { (seat.old.table_id ≡ board.now.table_id) × IsTable board.now.table_id }
+    requires table { SitsAt board.now.table_id seat.old.table_id }
     requires free { IsFree seat.old.me }
     ensures table { seat.new.table_id ≡ seat.old.table_id }
     ensures view { seat.new.me ≡ (waits seat.old.me.0 result, []) }
@@ -54,7 +60,7 @@ fn pause<V: Grows, R: Wait>(board: &Board<V>, rt: &R, round: u64, found: u64, be
 
 /// Waits until the ticket is served, and takes the value's slot.
 pub(crate) fn wait<V: Grows, R: Wait>(board: &Board<V>, rt: &R, seat: &mut Place<V>, ticket: u64)
-    requires table { (seat.old.table_id ≡ board.now.table_id) × IsTable board.now.table_id }
+    requires table { SitsAt board.now.table_id seat.old.table_id }
     requires line { IsInLine seat.old.me ticket }
     ensures table { seat.new.table_id ≡ seat.old.table_id }
     ensures came { Came V.entries V.fixed V.may_add seat.old.me seat.new.me }
@@ -77,7 +83,7 @@ pub(crate) fn publish<V: Grows, J: Tells<V::Entry>>(
     seat: &mut Place<V>,
     value: &V,
 )
-    requires table { (seat.old.table_id ≡ board.now.table_id) × IsTable board.now.table_id }
+    requires table { SitsAt board.now.table_id seat.old.table_id }
     requires told { J.told ≡ V.entries value.now }
     requires turn { (seat.old.me.0.inside ≡ true) × (seat.old.me.0.gone ≡ None) }
     requires adds { MayAdd V.may_add J.told seat.old.me.0 }
@@ -90,13 +96,13 @@ pub(crate) fn publish<V: Grows, J: Tells<V::Entry>>(
 
 /// Takes in another seat, and looks at what both have seen.
 pub(crate) fn join<V: Grows>(board: &Board<V>, seat: &mut Place<V>, other: Place<V>)
-    requires table { (seat.old.table_id ≡ board.now.table_id) × (other.table_id ≡ board.now.table_id) × IsTable board.now.table_id }
-    requires mine { (seat.old.me.0.inside ≡ false) × (seat.old.me.0.gone ≡ None) × (seat.old.me.0.also ≡ []) }
-    requires theirs { IsFree other.me }
-    requires empty { (other.me.0.gone ≡ None) × (other.me.0.ended ≡ []) × (other.me.0.also ≡ []) }
-    requires kept { other.me.0.number ≢ None → seat.old.me.0.made ≢ None }
+    requires table { SitsAt board.now.table_id seat.old.table_id }
+    requires other { other.table_id ≡ board.now.table_id }
+    requires free { IsFree other.me }
+    requires takes { TakesIn seat.old.me.0 other.me.0 }
     ensures table { seat.new.table_id ≡ seat.old.table_id }
     ensures view { Learned (joined seat.old.me.0 other.me.0, seat.old.me.1) seat.new.me }
+    ensures learned { LearnsFrom seat.old.me other.me seat.new.me }
 {
     board.join_seat::<Both>(seat, other);
     board.load::<Learn>(seat, SERVING);

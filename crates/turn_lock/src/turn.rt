@@ -1,15 +1,22 @@
-//! The end of a turn.
-ghost use Rattle.std.specs.Prelude.{◌≡◌};
-ghost use Rattle.turn_lock.specs.Words.{seen, about, IsReady, HasTurn, IsStill, HasFixed, Adds, OwnsMore};
-
+//! A turn, and its end.
 use crate::board::SERVING;
 use crate::grows::Grows;
-use crate::handles::{Pass, Turn};
+use crate::pass::Pass;
 use crate::plays::Serve;
 use crate::steps::publish;
 use std::marker::Brand;
 
+/// The value, in the hands of the pass that has the turn. End the turn by `put`: a turn is not
+/// dropped silently, and a pass whose turn is not put is ready for no other.
+pub struct Turn<V> {
+    pub value: V,
+}
+
 impl<V: Grows> Turn<V> {
+    ghost use Rattle.std.specs.Prelude.{◌≡◌};
+    ghost use Rattle.turn_lock.specs.Words.{seen, about, IsReady, HasTurn, IsStill};
+    ghost use Rattle.turn_lock.specs.Words.{HasFixed, Adds, OwnsMore};
+
     /// Gives the value back and ends the turn of the pass that took it. The list has to begin with
     /// what it held at the take; the pass may add the rest, and owns it from then on.
     pub fn put(self, pass: &mut Pass<'_, V>)

@@ -1,5 +1,5 @@
 use Rattle.std.proofs.Common.{rules, ap, ◌∙◌}
-use Rattle.turn_lock.proofs.RuleKept.{draws}
+use Rattle.turn_lock.proofs.RuleKeptLemmas.{draws}
 use Rattle.turn_lock.proofs.steps.draw.Goals as goal
 
 pub compare_exchange-found-requires : goal.compare_exchange-found-requires

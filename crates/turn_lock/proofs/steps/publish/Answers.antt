@@ -1,5 +1,5 @@
 use Rattle.std.proofs.Common.{rules, ap, ◌∙◌, sym, length}
-use Rattle.turn_lock.proofs.RuleKept.{publishes_step}
+use Rattle.turn_lock.proofs.RuleKeptLemmas.{publishes_step}
 use Rattle.turn_lock.proofs.steps.publish.Goals as goal
 
 pub swap-requires : goal.swap-requires

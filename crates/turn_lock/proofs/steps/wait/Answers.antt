@@ -1,6 +1,6 @@
 use Rattle.std.proofs.Common.{rules, ap, ◌∙◌, sym, subst}
-use Rattle.turn_lock.specs.Plays.{Came}
-use Rattle.turn_lock.proofs.RuleKept.{looks}
+use Rattle.turn_lock.specs.StepPlays.{Came}
+use Rattle.turn_lock.proofs.RuleKeptLemmas.{looks}
 use Rattle.turn_lock.proofs.steps.wait.Goals as goal
 
 pub load-found-requires : goal.load-found-requires

@@ -1,8 +1,5 @@
-use Rattle.std.proofs.Common.{◌∙◌, ap, sym, append-nil, [], slice_get, arith}
+use Rattle.std.proofs.Common.{◌∙◌, ap, sym, slice_get, arith}
 use Rattle.turn_lock.proofs.tests.number_at.Goals as goal
-
-pub put-requires-clause-adds : goal.put-requires-clause-adds
-put-requires-clause-adds g c = ([], c.take-turn.ensures.entries ∙ sym (append-nil _), λ k d lt. absurd (omega arith))
 
 pub returns-clause-fair : goal.returns-clause-fair
 returns-clause-fair g c = λ a is le. let other = c.take-turn.ensures.others a c.args.place c.at-number.result is le (ap (λ l. slice_get l c.args.place) (sym c.take-turn.ensures.entries) ∙ c.at-number.ensures) in

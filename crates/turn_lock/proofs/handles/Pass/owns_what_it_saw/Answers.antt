@@ -1,5 +1,0 @@
-use Rattle.turn_lock.proofs.Owned.{own_seen}
-use Rattle.turn_lock.proofs.handles.Pass.owns_what_it_saw.Goals as goal
-
-pub returns : goal.returns
-returns g c = let p = c.args.self.now in record { places = λ j e s. own_seen p.number p.seat.me.0.seen j e s }

@@ -1,4 +1,0 @@
-use Rattle.turn_lock.proofs.handles.Turn.put.Given as goal
-
-abbrev pub ghosts-publish : goal.ghosts-publish
-ghosts-publish g a = record { told = g.V.Grows.entries a.value.now }
