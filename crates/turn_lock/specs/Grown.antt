@@ -1,7 +1,7 @@
 -- The rule of a lock, over plain data.
 -- The words are the ticket that is drawn next, the ticket that is served, the length of the history, and the number that the next pass gets. The one slot has the value, or nothing while a seat has its turn.
 -- The history is the one list of entries that the value had since the lock was made. It only grows, and each element that a pass added has the number of that pass.
-use Rattle.std.specs.Prelude.{◌≡◌, ◌≢◌, ◌⊎◌, ℕ, ◌+◌, ◌<◌, ◌≤◌, Bool, true, false, List, [], ◌∷◌, map, length, Option, Some, None}
+use Rattle.std.specs.Prelude.{◌≡◌, ◌≢◌, ◌⊎◌, ℕ, ◌+◌, ◌<◌, ◌≤◌, Bool, true, false, List, [], ◌∷◌, length, Option, Some, None}
 use mathlib.Core.Option.{some}
 use mathlib.Core.Option as maybe
 use mathlib.Core.List.{IsPrefix}
