@@ -1,2 +1,4 @@
 pub mod Row
 pub mod Range
+pub mod Columns
+pub mod Places

@@ -5,8 +5,13 @@
 //! of its own.
 #![tactic(auto)]
 
+mod arrays;
+mod columns;
 mod range;
 mod row;
+mod sums;
 
+pub use arrays::Arrays;
+pub use columns::Columns;
 pub use range::Range;
 pub use row::{Row, RowList, RowRef};
