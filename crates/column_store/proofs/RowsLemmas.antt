@@ -1,10 +1,10 @@
 -- The rows of columns: their count, their fields and their words.
-use Rattle.std.proofs.Common.{◌≡◌, ◌<◌, ◌≤◌, ℕ, zero, suc, ◌+◌, ◌-◌, ◌*◌, ℤ, pos, List, [], ◌∷◌, ◌++◌, length, map, take, drop, set, get_or, slice_range, All, ◌^◌, subst, refl, sym, ap, ◌∙◌, arith, Option, Some, slice_get, inl, inr}
-use Rattle.std.specs.List.{range_with_len, flat_map, sum_by, sum}
+use Rattle.std.proofs.Common.{◌≡◌, ◌<◌, ◌≤◌, ℕ, zero, suc, ◌+◌, ◌-◌, ℤ, pos, List, [], ◌∷◌, ◌++◌, length, map, take, drop, set, get_or, slice_range, All, ◌^◌, subst, refl, sym, ap, ◌∙◌, arith, Some, slice_get, inl, inr}
+use Rattle.std.specs.List.{range_with_len, flat_map, sum}
 use Rattle.std.proofs.Math.Seq.{take-add}
-use Rattle.std.proofs.lemmas.List.{ext_get_or, get_or-drop, drop-set-lt, drop-drop, length-map, length-take, length-drop, get_or-map, get_or_read, get_or_push, get_or_append_left, map_push, take_more, take_all, take_at, drop_at, drop-append-le, take-append-le, append-nil, length_push, length-append}
+use Rattle.std.proofs.lemmas.List.{ext_get_or, get_or-drop, drop-set-lt, drop-drop, length-map, length-take, length-drop, get_or-map, get_or_read, get_or_push, get_or_append_left, take_more, take_all, take_at, drop_at, drop-append-le, take-append-le, append-nil, length_push, length-append}
 use Rattle.std.proofs.lemmas.List.FromFn.{length-map-range_with_len, get_or-map-range_with_len, map-range_with_len_more}
-use Rattle.std.proofs.lemmas.List.Concat.{flat_map-append, flat_map-cons, length-flat_map}
+use Rattle.std.proofs.lemmas.List.Concat.{flat_map-append, length-flat_map}
 use Rattle.std.proofs.lemmas.List.Sums.{sum_by_more, sum_by-cons, sum_by-take-le, sum-map}
 use Rattle.std.specs.Int.{w64}
 use Rattle.std.specs.Int.RustNames.{FitsSigned}
@@ -337,3 +337,26 @@ arrays_of_ends ps ms ts es ws bytes are a is_ps is_ms is_ts is_ws long counts = 
       omega (arith, length-take (get_or es k 0 - start_of es k) (drop (start_of es k) ws), length-drop (start_of es k) ws, are.within k lt, are.rise k lt, counts k (omega (arith, are.as_ends)))));
   words = is_ws ∙ words_are ps ms ts es ws bytes are;
 }
+
+-- ---- no arrays are those of two lists of rows
+
+abbrev head_of : {X : Type 0} → X → List X → X
+head_of d [] = d
+head_of d (x ∷ xs) = x
+
+pub one_list : (rows others : List Row) → map (λ r. r.pattern) rows ≡ map (λ r. r.pattern) others → map (λ r. r.moment) rows ≡ map (λ r. r.moment) others
+    → map (λ r. r.log_type) rows ≡ map (λ r. r.log_type) others → map (λ r. length r.words) rows ≡ map (λ r. length r.words) others
+    → flat_map (λ r. r.words) rows ≡ flat_map (λ r. r.words) others → rows ≡ others
+one_list [] [] ps ms ts cs ws = refl
+one_list [] (q ∷ qs) ps ms ts cs ws = absurd (omega (arith, ap (λ (l : List ℕ). length l) ps, length-map qs (λ (r : Row). r.pattern)))
+one_list (r ∷ rs) [] ps ms ts cs ws = absurd (omega (arith, ap (λ (l : List ℕ). length l) ps, length-map rs (λ (r : Row). r.pattern)))
+one_list (r ∷ rs) (q ∷ qs) ps ms ts cs ws =
+    let count : length r.words ≡ length q.words = ap (head_of 0) cs in
+    let front : take (length r.words) (r.words ++ flat_map (λ r. r.words) rs) ≡ take (length r.words) (q.words ++ flat_map (λ r. r.words) qs) = ap (take (length r.words)) ws in
+    let back : drop (length r.words) (r.words ++ flat_map (λ r. r.words) rs) ≡ drop (length r.words) (q.words ++ flat_map (λ r. r.words) qs) = ap (drop (length r.words)) ws in
+    let words : r.words ≡ q.words = sym (take_at r.words (flat_map (λ r. r.words) rs) (length r.words) refl) ∙ front ∙ take_at q.words (flat_map (λ r. r.words) qs) (length r.words) (sym count) in
+    let rest : flat_map (λ r. r.words) rs ≡ flat_map (λ r. r.words) qs =
+    sym (drop_at r.words (flat_map (λ r. r.words) rs) (length r.words) refl) ∙ back ∙ drop_at q.words (flat_map (λ r. r.words) qs) (length r.words) (sym count) in
+    let first : r ≡ q = same_row (ap (head_of 0) ps) (ap (head_of (pos 0)) ms) (ap (head_of 0) ts) words in
+    let others : rs ≡ qs = one_list rs qs (ap (drop 1) ps) (ap (drop 1) ms) (ap (drop 1) ts) (ap (drop 1) cs) rest in
+    ap (λ (x : Row). x ∷ rs) first ∙ ap (λ (l : List Row). q ∷ l) others

@@ -22,6 +22,10 @@ pub record AreArraysOf (rows : List Row) (arrays : Arrays) : Type 0 where
   pub counts : arrays.counts.items ≡ map (λ r. length r.words) rows
   pub words : arrays.words.items ≡ flat_map (λ r. r.words) rows
 
+-- no arrays are those of two lists of rows
+abbrev pub RowsAreUnique : Type 0
+RowsAreUnique = (rows others : List Row) (arrays : Arrays) → AreArraysOf rows arrays → AreArraysOf others arrays → rows ≡ others
+
 -- a segment is cut behind these rows: there are as many as the limit, or 1,048,576 variables, or
 -- 16,777,216 bytes of messages
 abbrev pub IsFull : ColumnsState → ℕ → Type 0

@@ -7,11 +7,16 @@
 
 mod arrays;
 mod columns;
+mod laws;
 mod range;
 mod row;
 mod sums;
 
 pub use arrays::Arrays;
 pub use columns::Columns;
+pub use laws::one_list_of_rows;
 pub use range::Range;
 pub use row::{Row, RowList, RowRef};
+
+#[cfg(test)]
+mod tests;

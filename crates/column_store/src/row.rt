@@ -4,7 +4,7 @@ ghost use Rattle.std.specs.Prelude.{◌≡◌};
 ghost use Rattle.column_store.specs.Row.{row_of};
 
 use log_seams::WordList;
-use std::marker::Model;
+use plain_list::ListOf;
 
 /// A message as numbers. A message without stamp has the pattern 0 and the moment 0.
 #[derive(Debug, Drop)]
@@ -47,32 +47,4 @@ impl Row {
 }
 
 /// A list of rows. Contracts see a list of the rows' fields.
-#[derive(Debug, Drop)]
-pub struct RowList {
-    rows: Vec<Row>,
-}
-
-impl Model for RowList {
-    ghost use Rattle.std.specs.Prelude.{List};
-    ghost use Rattle.column_store.specs.declared.row.Row.{Row};
-
-    ghost Value = { List Row };
-
-    ghost view = { λ l. l.rows.items };
-}
-
-impl RowList {
-    /// The list of these rows. Takes no memory.
-    pub fn new(rows: Vec<Row>) -> RowList
-        ensures { result ≡ rows.items }
-    {
-        RowList { rows }
-    }
-
-    /// The rows in order, lent as a slice.
-    pub fn as_slice(&self) -> &[Row]
-        ensures { result.now ≡ self.now }
-    {
-        self.rows.as_slice()
-    }
-}
+pub type RowList = ListOf<Row>;

@@ -1,4 +1,4 @@
-use Rattle.std.proofs.Common.{rules, ℕ, ℤ, ◌<◌, get_or, pos, below_more, arith}
+use Rattle.std.proofs.Common.{rules, pos, below_more, arith}
 use Rattle.std.specs.Int.{w64}
 use Rattle.std.specs.Int.RustNames.{FitsSigned}
 use Rattle.std.proofs.lemmas.List.Elements.{All-from_get_or}

@@ -1,4 +1,4 @@
-use Rattle.std.proofs.Common.{◌≡◌, ◌≢◌, ◌+◌, ◌≤◌, ◌<◌, ℕ, get_or, set, take, drop, sum, length, sym, ap, ◌∙◌, arith, rules, below_more, get_or-set_same, get_or-set_other, length-set}
+use Rattle.std.proofs.Common.{◌≡◌, ◌≢◌, ◌+◌, ◌<◌, get_or, set, take, sum, length, arith, below_more, get_or-set_same, get_or-set_other, length-set}
 use Rattle.std.proofs.lemmas.List.Sums.{sum_by_more, sum_by_more_le}
 use Rattle.column_store.proofs.RowsLemmas.{same_at, kept_after}
 use Rattle.column_store.proofs.sums.counts_to_ends.Goals as goal

@@ -1,4 +1,4 @@
-use Rattle.std.proofs.Common.{◌≡◌, ◌<◌, ◌+◌, ℕ, get_or, take, sum, length, sym, ap, ◌∙◌, arith, rules}
+use Rattle.std.proofs.Common.{◌≡◌, length, arith, rules}
 use Rattle.column_store.proofs.RowsLemmas.{lengths_of, columns_from_counts, arrays_of_counts}
 use Rattle.column_store.proofs.columns.Columns.from_arrays.Goals as goal
 

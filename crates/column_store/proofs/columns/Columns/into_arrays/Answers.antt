@@ -1,4 +1,4 @@
-use Rattle.std.proofs.Common.{◌≡◌, refl, ap, subst, rules}
+use Rattle.std.proofs.Common.{refl, subst}
 use Rattle.column_store.specs.declared.arrays.Arrays.{Arrays}
 use Rattle.column_store.specs.Columns.{ColumnsState, AreArraysOf}
 use Rattle.column_store.proofs.RowsLemmas.{arrays_of_ends}

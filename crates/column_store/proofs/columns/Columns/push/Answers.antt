@@ -1,5 +1,4 @@
-use Rattle.std.proofs.Common.{◌≡◌, ◌++◌, ◌∷◌, [], ◌<◌, ◌+◌, ap, ◌∙◌, rules, vec_len, length, sym, arith, List, ℕ}
-use Rattle.column_store.specs.declared.row.Row.{Row}
+use Rattle.std.proofs.Common.{◌≡◌, ◌++◌, ◌∷◌, [], ◌+◌, ap, ◌∙◌, rules, length, sym, arith}
 use Rattle.column_store.specs.Row.{variable_count, row_of}
 use Rattle.column_store.specs.Columns.{ColumnsState}
 use Rattle.column_store.proofs.RowsLemmas.{length-rows_of, variables_are, rows_now, columns_now}

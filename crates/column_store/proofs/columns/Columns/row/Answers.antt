@@ -1,4 +1,4 @@
-use Rattle.std.proofs.Common.{◌≡◌, ◌<◌, ap, ◌∙◌, rules, length, sym, arith, get_or, vec_len, slice_range, slice_get, Some}
+use Rattle.std.proofs.Common.{◌≡◌, ◌<◌, ap, ◌∙◌, rules, length, sym, arith, get_or, vec_len, slice_get}
 use Rattle.std.proofs.lemmas.Int.{to_z-of_z}
 use Rattle.std.proofs.lemmas.List.{get_or_read}
 use Rattle.std.specs.Int.{w64, cast_signed, cast_unsigned}

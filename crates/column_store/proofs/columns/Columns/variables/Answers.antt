@@ -1,4 +1,4 @@
-use Rattle.std.proofs.Common.{◌≡◌, ap, ◌∙◌, rules, vec_len, length, arith, ◌<◌}
+use Rattle.std.proofs.Common.{◌≡◌, ap, ◌∙◌, rules, length}
 use Rattle.column_store.specs.Row.{variable_count}
 use Rattle.column_store.specs.Columns.{ColumnsState}
 use Rattle.column_store.proofs.RowsLemmas.{variables_are}
