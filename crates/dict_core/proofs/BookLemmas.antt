@@ -1,13 +1,13 @@
 -- What a book keeps: look-ups are exact, and one text more.
-use Rattle.std.proofs.Common.{◌≡◌, ◌≢◌, ◌⊎◌, ⊎_elim, inl, inr, ℕ, zero, suc, nat_eq, unwrap_or, Option, None, ◌+◌, ◌<◌, ◌≤◌, ◌==◌, if◌then◌else◌, List, [], ◌∷◌, ◌++◌, length, map, refl, sym, ap, subst, ◌∙◌, arith, Some, slice_get, slice_index}
+use Rattle.std.proofs.Common.{◌≡◌, ◌≢◌, ◌⊎◌, ⊎_elim, inl, inr, ℕ, zero, suc, nat_eq, unwrap_or, Option, None, ◌+◌, ◌<◌, ◌≤◌, ◌==◌, if◌then◌else◌, List, [], ◌∷◌, ◌++◌, length, map, take, ◌-◌, refl, sym, ap, subst, ◌∙◌, arith, Some, slice_get, slice_index}
 use Rattle.std.specs.Option.{IfNone}
-use Rattle.std.proofs.lemmas.List.{length_push, length-map, get_or-map, map_push}
+use Rattle.std.proofs.lemmas.List.{length_push, length-map, get_or-map, map_push, take-map, length-take}
 use Rattle.std.proofs.lemmas.Option.{slice_get_within, get_or_from_slice_get, same_Some, none-some}
 use Rattle.dict_core.specs.Books.{AreDistinct, IsNew}
 use Rattle.std.specs.Map.{lookup}
 use Rattle.indexmap.specs.IndexMap.{IndexMap, IsUnchanged}
-use Rattle.dict_core.specs.Chains.{place_at, IsChained, InChain, IsBook}
-use Rattle.dict_core.proofs.ChainLemmas.{latest_low, in_chain, chained_more}
+use Rattle.dict_core.specs.Chains.{latest, place_at, IsChained, InChain, IsBook}
+use Rattle.dict_core.proofs.ChainLemmas.{latest_low, in_chain, chained_more, latest_last, chained_less}
 
 -- there is a link for each text
 pub book_long : {hash : List ℕ → ℕ} {texts : List (List ℕ)} {befores : List ℕ} {newest : ℕ → ℕ} {limit : ℕ} → IsBook hash texts befores newest limit → length befores ≡ length texts
@@ -71,3 +71,42 @@ book_unfound b text h place (Some n) hashed is absent = absent
 -- a map that has the same entries has the same places
 pub same_places : {S : Type 0} (old new : IndexMap ℕ ℕ S) → IsUnchanged old new → (h : ℕ) → place_at new h ≡ place_at old h
 same_places old new unchanged h = ap (λ es. unwrap_or (lookup (nat_eq h) es) 0) unchanged
+
+-- what stands among the first texts stands there
+pub taken : (texts : List (List ℕ)) (text : List ℕ) (n k : ℕ) → slice_get (take n texts) k ≡ Some text → slice_get texts k ≡ Some text
+taken texts text zero k h = absurd (none-some text h)
+taken [] text (suc n) k h = absurd (none-some text h)
+taken (t ∷ texts) text (suc n) zero h = h
+taken (t ∷ texts) text (suc n) (suc k) h = taken texts text n k h
+
+-- the last text is the newest with its hash
+pub book_last : {hash : List ℕ → ℕ} {texts : List (List ℕ)} {befores : List ℕ} {newest : ℕ → ℕ} {limit : ℕ} → IsBook hash texts befores newest limit →
+    (n : ℕ) (text : List ℕ) → length texts ≡ suc n → slice_get texts n ≡ Some text → slice_index (map hash texts) n ≡ hash text
+book_last {hash} {texts} b n text count found =
+    get_or-map hash texts n text 0 (omega (arith, count)) ∙ ap hash (get_or_from_slice_get texts n text text found)
+
+pub book_place : {hash : List ℕ → ℕ} {texts : List (List ℕ)} {befores : List ℕ} {newest : ℕ → ℕ} {limit : ℕ} → IsBook hash texts befores newest limit →
+    (n : ℕ) (text : List ℕ) → length texts ≡ suc n → slice_get texts n ≡ Some text → newest (hash text) ≡ length befores
+book_place {hash} {texts} {befores} {newest} b n text count found =
+    let hashes = map hash texts in
+    let long : length hashes ≡ suc n = length-map texts hash ∙ count in
+    ap newest (sym (book_last b n text count found)) ∙ b.chained.newest_are (slice_index hashes n) ∙ ap (latest hashes (slice_index hashes n)) long ∙ latest_last hashes n
+    ∙ sym long ∙ sym b.chained.long
+
+-- one text less
+pub book_less : {hash : List ℕ → ℕ} {texts : List (List ℕ)} {befores : List ℕ} {newest : ℕ → ℕ} {limit : ℕ} → IsBook hash texts befores newest limit →
+    (n : ℕ) (text : List ℕ) (h : ℕ) (befores' : List ℕ) (newest' : ℕ → ℕ) → length texts ≡ suc n → slice_get texts n ≡ Some text → h ≡ hash text →
+    ((g : ℕ) → newest' g ≡ (if g == h then slice_index befores (length befores - 1) else newest g)) → befores' ≡ take (length befores - 1) befores → IsBook hash (take n texts) befores' newest' limit
+book_less {hash} {texts} {befores} {newest} {limit} b n text h befores' newest' count found is updates linked =
+    let hashes = map hash texts in
+    let last : length befores - 1 ≡ n = omega (arith, book_long b, count) in
+    let same : h ≡ slice_index hashes n = is ∙ sym (book_last b n text count found) in
+    let news : (g : ℕ) → newest' g ≡ (if g == slice_index hashes n then slice_index befores n else newest g) = λ g. updates g ∙ (λ i. if g == same i then slice_index befores (last i) else newest g) in
+    let chained = chained_less n b.chained (length-map texts hash ∙ count) news in
+    record {
+      chained = subst (λ bs. IsChained (map hash (take n texts)) bs newest') (sym (linked ∙ ap (λ m. take m befores) last))
+          (subst (λ hs. IsChained hs (take n befores) newest') (take-map hash n texts) chained);
+      distinct = λ i j t at_i at_j. b.distinct i j t (taken texts t n i at_i) (taken texts t n j at_j);
+      within = omega (arith, b.within, length-take n texts);
+      most = b.most;
+    }

@@ -1,6 +1,6 @@
 -- Texts in one buffer: where each lies, and one text more.
-use Rattle.std.proofs.Common.{◌≡◌, ℕ, zero, suc, ◌+◌, ◌-◌, ◌<◌, ◌≤◌, List, [], ◌∷◌, ◌++◌, length, get_or, take, drop, refl, sym, ap, ◌∙◌, arith, Some, slice_get, slice_index, slice_range}
-use Rattle.std.proofs.lemmas.List.{take-append-le, drop-append-le, drop_at, take_all, take_more, length-drop, get_or-drop}
+use Rattle.std.proofs.Common.{◌≡◌, ℕ, zero, suc, ◌+◌, ◌-◌, ◌<◌, ◌≤◌, List, [], ◌∷◌, ◌++◌, length, get_or, take, drop, refl, sym, ap, subst, ◌∙◌, arith, Some, slice_get, slice_index, slice_range}
+use Rattle.std.proofs.lemmas.List.{take-append-le, drop-append-le, drop_at, take_all, take_more, take-take, drop-take, length-drop, get_or-drop, get_or-take}
 use Rattle.std.proofs.lemmas.Option.{slice_get_within, get_or_from_slice_get}
 use Rattle.dict_core.specs.Buffer.{texts_from, Rise, start_from}
 
@@ -66,3 +66,41 @@ copied texts done from next text low found so_far =
     let last : get_or rest (next - from) text ≡ text = get_or-drop from texts (next - from) text ∙ ap (λ k. get_or texts k text) same ∙ get_or_from_slice_get texts next text text found in
     let count : next - from + 1 ≡ next + 1 - from = omega (arith, low) in
     (λ i. so_far i ++ sym last i ∷ []) ∙ sym more ∙ ap (λ k. take k rest) count
+
+-- where the text behind the first begins
+pub start_next : (start end : ℕ) (ends : List ℕ) (n : ℕ) → start_from start (end ∷ ends) (suc n) ≡ start_from end ends n
+start_next start end ends zero = refl
+start_next start end ends (suc n) = refl
+
+-- the first ends rise to where the next text begins
+pub rise_less : (start : ℕ) (ends : List ℕ) (last n : ℕ) → Rise start ends last → n ≤ length ends → Rise start (take n ends) (start_from start ends n)
+rise_less start ends last zero h l = refl
+rise_less start [] last (suc n) h l = absurd (omega (arith, l))
+rise_less start (end ∷ ends) last (suc n) h l =
+    (h.0, subst (Rise end (take n ends)) (sym (start_next start end ends n)) (rise_less end ends last n h.1 (omega (arith, l))))
+
+-- and that is not past the last
+pub start_last : (start : ℕ) (ends : List ℕ) (last n : ℕ) → Rise start ends last → n ≤ length ends → start_from start ends n ≤ last
+start_last start ends last zero h l = rise_last start ends last h
+start_last start ends last (suc n) h l = rise_end start ends last n h (omega (arith, l))
+
+pub start_take : (start : ℕ) (ends : List ℕ) (n : ℕ) → start_from start (take n ends) n ≡ start_from start ends n
+start_take start ends zero = refl
+start_take start ends (suc n) = get_or-take (suc n) ends n 0 (omega arith)
+
+-- a part that ends before the cut
+range_kept : (bytes : List ℕ) (cut start end : ℕ) → start ≤ end → end ≤ cut → slice_range (take cut bytes) start end ≡ slice_range bytes start end
+range_kept bytes cut start end h l =
+    let whole : start + (cut - start) ≡ cut = omega (arith, h, l) in
+    let tail : drop start (take cut bytes) ≡ take (cut - start) (drop start bytes) = ap (λ n. drop start (take n bytes)) (sym whole) ∙ drop-take start (cut - start) bytes in
+    ap (take (end - start)) tail ∙ take-take (end - start) (cut - start) (drop start bytes) (omega (arith, h, l))
+
+-- the first texts lie in the first bytes
+pub texts_less : (bytes : List ℕ) (cut start : ℕ) (ends : List ℕ) (n : ℕ) → Rise start ends (length bytes) → n ≤ length ends → start_from start ends n ≤ cut →
+    texts_from (take cut bytes) start (take n ends) ≡ take n (texts_from bytes start ends)
+texts_less bytes cut start ends zero h l e = refl
+texts_less bytes cut start [] (suc n) h l e = absurd (omega (arith, l))
+texts_less bytes cut start (end ∷ ends) (suc n) h l e =
+    let low : start_from end ends n ≤ cut = omega (arith, e, start_next start end ends n) in
+    let begins = rise_last end (take n ends) (start_from end ends n) (rise_less end ends (length bytes) n h.1 (omega (arith, l))) in
+    (λ i. range_kept bytes cut start end h.0 (omega (arith, begins, low)) i ∷ texts_less bytes cut end ends n h.1 (omega (arith, l)) low i)

@@ -1,7 +1,7 @@
 -- Chains of texts with one hash: each text is in the chain of its hash, and one text more.
-use Rattle.std.proofs.Common.{◌≡◌, ⊎_elim, ℕ, zero, suc, ◌+◌, ◌<◌, ◌≤◌, ◌==◌, if◌then◌else◌, List, [], ◌∷◌, ◌++◌, length, refl, sym, ap, subst, ◌∙◌, arith, rules, slice_index}
-use Rattle.std.proofs.lemmas.Bool.{cases_eq, cond_both, eqb-true, eqb-false}
-use Rattle.std.proofs.lemmas.List.{length_push, get_or_append_left, get_or_push}
+use Rattle.std.proofs.Common.{◌≡◌, ⊎_elim, ℕ, zero, suc, ◌+◌, ◌<◌, ◌≤◌, ◌==◌, if◌then◌else◌, List, [], ◌∷◌, ◌++◌, length, take, drop, refl, sym, ap, subst, ◌∙◌, arith, rules, slice_index}
+use Rattle.std.proofs.lemmas.Bool.{cases_eq, cond_both, cond-true, cond-false, eqb-true, eqb-false, eq-eqb, ne_eqb}
+use Rattle.std.proofs.lemmas.List.{length_push, get_or_append_left, get_or_push, get_or-take, length-take-le, take-append-drop}
 use Rattle.dict_core.specs.Chains.{latest, IsChained, InChain, here, there}
 
 -- a place is at most the count of texts that were looked at
@@ -68,3 +68,35 @@ chained_more {hashes} {befores} {newest} {newest'} h c updates = record { long =
         ∙ sym (latest_stays hashes (h ∷ []) (slice_index hashes j) j (omega (arith, low)))
         ∙ ap (λ g. latest (hashes ++ h ∷ []) g j) (sym (get_or_append_left hashes (h ∷ []) 0 j low)))
         (cases_eq j (length hashes))
+
+-- the place among the first n texts needs those alone
+pub latest_take : (hashes : List ℕ) (h n m : ℕ) → m ≤ n → n ≤ length hashes → latest (take n hashes) h m ≡ latest hashes h m
+latest_take hashes h n m low l =
+    sym (latest_stays (take n hashes) (drop n hashes) h m (omega (arith, low, length-take-le n hashes l))) ∙ ap (λ hs. latest hs h m) (take-append-drop n hashes)
+
+-- the last text is the newest with its hash
+pub latest_last : (hashes : List ℕ) (n : ℕ) → latest hashes (slice_index hashes n) (suc n) ≡ suc n
+latest_last hashes n = cond-true (slice_index hashes n == slice_index hashes n) (suc n) (latest hashes (slice_index hashes n) n) (eq-eqb (slice_index hashes n) (slice_index hashes n) refl)
+
+-- one text less
+pub chained_less : {hashes befores : List ℕ} {newest newest' : ℕ → ℕ} (n : ℕ) → IsChained hashes befores newest → length hashes ≡ suc n →
+    ((g : ℕ) → newest' g ≡ (if g == slice_index hashes n then slice_index befores n else newest g)) → IsChained (take n hashes) (take n befores) newest'
+chained_less {hashes} {befores} {newest} {newest'} n c count updates = record { long = long; newest_are = newest_are; befores_are = befores_are }
+  where
+    long : length (take n befores) ≡ length (take n hashes)
+    long = length-take-le n befores (omega (arith, c.long, count)) ∙ sym (length-take-le n hashes (omega (arith, count)))
+
+    newest_are : (g : ℕ) → newest' g ≡ latest (take n hashes) g (length (take n hashes))
+    newest_are g =
+        let old : latest hashes g n ≡ latest (take n hashes) g (length (take n hashes)) =
+        sym (latest_take hashes g n n (omega arith) (omega (arith, count))) ∙ ap (latest (take n hashes) g) (sym (length-take-le n hashes (omega (arith, count)))) in
+        updates g ∙ cond_both (g == slice_index hashes n) (slice_index befores n) (newest g) (λ place. place ≡ latest hashes g n)
+        (λ same. c.befores_are n (omega (arith, count)) ∙ ap (λ h. latest hashes h n) (sym (eqb-true g (slice_index hashes n) same)))
+        (λ differs. c.newest_are g ∙ ap (latest hashes g) count
+        ∙ cond-false (slice_index hashes n == g) (suc n) (latest hashes g n) (ne_eqb (slice_index hashes n) g (λ e. eqb-false g (slice_index hashes n) differs (sym e)))) ∙ old
+
+    befores_are : (j : ℕ) → j < length (take n hashes) → slice_index (take n befores) j ≡ latest (take n hashes) (slice_index (take n hashes) j) j
+    befores_are j l =
+        let low : j < n = omega (arith, l, length-take-le n hashes (omega (arith, count))) in
+        get_or-take n befores j 0 low ∙ c.befores_are j (omega (arith, low, count)) ∙ ap (λ h. latest hashes h j) (sym (get_or-take n hashes j 0 low))
+        ∙ sym (latest_take hashes (slice_index (take n hashes) j) n j (omega (arith, low)) (omega (arith, count)))

@@ -1,3 +1,4 @@
 pub mod BookLemmas
 pub mod BufferLemmas
 pub mod ChainLemmas
+pub mod SearchLemmas

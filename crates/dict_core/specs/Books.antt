@@ -15,6 +15,14 @@ AreDistinct texts =
 abbrev pub IsNew : List (List ℕ) → List ℕ → Type 0
 IsNew texts text = (i : ℕ) → slice_get texts i ≢ Some text
 
+-- the text at the number stands at a lower one too
+pub record StandsTwice (texts : List (List ℕ)) (number : ℕ) : Type 0 where
+  pub lower : ℕ
+  pub text : List ℕ
+  pub low : lower < number
+  pub here : slice_get texts number ≡ Some text
+  pub there : slice_get texts lower ≡ Some text
+
 -- the text had this number, and the book stays; or it was new and below the limit, and is added last
 abbrev pub Names : BookState → BookState → List ℕ → ℕ → Type 0
 Names old new text number =

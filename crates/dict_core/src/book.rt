@@ -1,11 +1,12 @@
 //! Distinct texts, each with a number.
-ghost use Rattle.std.specs.Prelude.{◌≡◌, ℕ, ◌<◌, ◌≤◌, [], drop, length, slice_get, Some, IfSome, IfNone, IfOk, OnErr, IsErrOf};
-ghost use Rattle.dict_core.specs.Books.{AreDistinct, IsNew, Names};
+ghost use Rattle.std.specs.Prelude.{◌≡◌, ℕ, ◌-◌, ◌<◌, ◌≤◌, [], take, drop, length, slice_get, Some, IfSome, IfNone, IfOk, OnOk, OnErr, IsErrOf};
+ghost use Rattle.dict_core.specs.Books.{AreDistinct, IsNew, Names, StandsTwice};
 ghost use Rattle.dict_core.specs.declared.refusals.BookRefusal.TheVariants.{Full};
+ghost use Rattle.dict_core.specs.declared.refusals.IndexRefusal.TheVariants.{Repeated};
 
 use crate::chains::find;
 use crate::index::Index;
-use crate::refusals::BookRefusal;
+use crate::refusals::{BookRefusal, IndexRefusal};
 use crate::texts::{MAX_TEXTS, Texts};
 use log_seams::TextList;
 use std::alloc::{AllocError, Global};
@@ -19,7 +20,7 @@ use std::marker::Model;
 pub struct Book {
     alloc: Global,
     texts: Texts,
-    index: Index,
+    index: Index<FoldHasher>,
     limit: u32,
 }
 
@@ -45,9 +46,33 @@ impl Book {
         Book {
             alloc,
             texts: Texts::new(alloc),
-            index: Index::new(alloc),
+            index: Index::new(alloc, FoldHasher::default()),
             limit,
         }
+    }
+
+    /// A book of these texts, with an index that is made in one pass over them.
+    ///
+    /// # Errors
+    ///
+    /// [`IndexRefusal::Repeated`] where a text stands among them twice, or
+    /// [`IndexRefusal::OutOfMemory`].
+    pub fn from_texts(alloc: Global, texts: Texts, limit: u32) -> Result<Book, IndexRefusal>
+        requires least { 1 ≤ limit }
+        requires most { limit ≤ MAX_TEXTS }
+        requires within { length texts ≤ limit }
+        ensures ok { IfOk result (λ book. (book.texts ≡ texts) × (book.limit ≡ limit)) }
+        ensures distinct { OnOk result (AreDistinct texts) }
+        ensures repeated { (number : ℕ) → IsErrOf result (Repeated number) → StandsTwice texts number }
+    {
+        let mut index = Index::new(alloc, FoldHasher::default());
+        index.link_all(&texts)?;
+        Ok(Book {
+            alloc,
+            texts,
+            index,
+            limit,
+        })
     }
 
     /// The count of texts.
@@ -102,10 +127,32 @@ impl Book {
         if count >= self.limit {
             return Err(BookRefusal::Full { count });
         }
-        self.index.make_room()?;
+        self.index.make_room(1)?;
         self.texts.push(text)?;
         self.index.link(hash, newest);
         Ok(count)
+    }
+
+    /// Takes the last text away. Takes no memory.
+    fn pop(&mut self)
+        requires { 0 < length self.old.texts }
+        ensures texts { self.new.texts ≡ take (length self.old.texts - 1) self.old.texts }
+        ensures limit { self.new.limit ≡ self.old.limit }
+    {
+        let last = self.texts.len() - 1;
+        let hash = self.index.hash(self.texts.at(last));
+        self.index.unlink(hash);
+        self.texts.pop();
+    }
+
+    /// Keeps the first texts, as many as this, and takes those behind them away. Takes no memory.
+    pub fn truncate(&mut self, count: u32)
+        ensures texts { self.new.texts ≡ take count self.old.texts }
+        ensures limit { self.new.limit ≡ self.old.limit }
+    {
+        while self.len() > count {
+            self.pop();
+        }
     }
 
     /// The texts from this number on.

@@ -10,9 +10,12 @@ mod chains;
 mod grows;
 mod index;
 mod refusals;
+mod search;
+#[cfg(test)]
+mod tests;
 mod texts;
 
 pub use book::Book;
 pub use grows::{MAX_TYPE_LEN, MAX_WORD_LEN, WORDS_FIRST};
-pub use refusals::BookRefusal;
+pub use refusals::{BookRefusal, IndexRefusal};
 pub use texts::{MAX_TEXTS, Texts};

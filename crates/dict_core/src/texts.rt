@@ -1,7 +1,9 @@
 //! Texts in one buffer, without an index.
-ghost use Rattle.std.specs.Prelude.{◌≡◌, ◌<◌, ◌≤◌, [], ◌∷◌, ◌++◌, drop, length, slice_get, slice_index, Some, IfSome, IfNone, IfOk, OnOk, OnErr};
+ghost use Rattle.std.specs.Prelude.{◌≡◌, ◌≢◌, ℕ, ◌-◌, ◌<◌, ◌≤◌, [], ◌∷◌, ◌++◌, take, drop, length, slice_get, slice_index, Some, IfSome, IfNone, IfOk, OnOk, OnErr};
+ghost use Rattle.dict_core.specs.Books.{IsNew};
 ghost use Rattle.dict_core.specs.Buffer.{start_at, text_at, Rise};
 
+use crate::search::first;
 use log_seams::{Text, TextList};
 use std::alloc::{AllocError, Global};
 use std::marker::Model;
@@ -10,7 +12,7 @@ use std::marker::Model;
 pub const MAX_TEXTS: u32 = 2_147_483_648;
 
 /// The place in the buffer where a text begins.
-fn start_of(ends: &[usize], number: usize) -> usize
+pub(crate) fn start_of(ends: &[usize], number: usize) -> usize
     requires { number ≤ length ends.now }
     ensures { result ≡ start_at ends.now number }
 {
@@ -72,6 +74,16 @@ impl Texts {
         Ok(())
     }
 
+    /// Takes the last text away. Takes no memory.
+    pub(crate) fn pop(&mut self)
+        requires { 0 < length self.old }
+        ensures { self.new ≡ take (length self.old - 1) self.old }
+    {
+        self.ends.truncate(self.ends.len() - 1);
+        self.bytes
+            .truncate(start_of(self.ends.as_slice(), self.ends.len()));
+    }
+
     /// The count of texts.
     pub fn len(&self) -> u32
         ensures count { result ≡ length self.now }
@@ -97,6 +109,17 @@ impl Texts {
             return None;
         }
         Some(self.at(number))
+    }
+
+    /// The number of the first text with these bytes, or `None` where there is none. It is found by
+    /// one pass over the buffer, and takes no memory.
+    pub fn number_of(&self, text: &[u8]) -> Option<u32>
+        ensures some { IfSome result (λ n. slice_get self.now n ≡ Some text.now) }
+        ensures first { IfSome result (λ n. (k : ℕ) → k < n → slice_get self.now k ≢ Some text.now) }
+        ensures none { IfNone result (IsNew self.now text.now) }
+    {
+        let number = first(self.bytes.as_slice(), self.ends.as_slice(), text)?;
+        Some(number as u32)
     }
 
     /// The texts from this number on.
