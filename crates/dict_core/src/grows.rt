@@ -3,12 +3,6 @@ use crate::book::Book;
 use log_seams::Text;
 use turn_lock::Grows;
 
-/// The most bytes that the text of a log type may have.
-pub const MAX_TYPE_LEN: usize = 2_097_152;
-
-/// The most bytes that a Word may have.
-pub const MAX_WORD_LEN: usize = 1_048_576;
-
 /// The number of the first pass over the book of Words. A pass with a lower number adds log types,
 /// one with a higher number adds Words, and the pass with this number adds nothing.
 pub const WORDS_FIRST: u64 = 4_294_967_295;

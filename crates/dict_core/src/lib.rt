@@ -16,6 +16,6 @@ mod tests;
 mod texts;
 
 pub use book::Book;
-pub use grows::{MAX_TYPE_LEN, MAX_WORD_LEN, WORDS_FIRST};
+pub use grows::WORDS_FIRST;
 pub use refusals::{BookRefusal, IndexRefusal};
 pub use texts::{MAX_TEXTS, Texts};
