@@ -8,8 +8,8 @@ use Rattle.std.proofs.Math.Decide.{dec_le}
 use Rattle.std.proofs.Math.Nat.{lt_of_not-le}
 use Rattle.std.proofs.lemmas.List.Elements.{All-nil, All-push}
 use Rattle.log_messages.specs.Messages.{IsLine, joined, Messages}
-use Rattle.log_messages.proofs.Steps.{Begins, begins, Begins-line, Messages-ended, Messages-open, Messages-after}
-use Rattle.log_messages.proofs.Exists.{HasMessages, messages_exist}
+use Rattle.log_messages.proofs.StepLemmas.{Begins, begins, Begins-line, Messages-ended, Messages-open, Messages-after}
+use Rattle.log_messages.proofs.ExistenceLemmas.{HasMessages, messages_exist}
 use Rattle.clp_commands.specs.Printing.{Prints, PrintsAll, PrintsFirst, PrintsLines, PrintsSome, HasMore, IsLong, AreShort, most_bytes, most_messages}
 use Rattle.clp_commands.proofs.PrintingLemmas.{Prints-more}
 

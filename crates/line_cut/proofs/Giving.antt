@@ -4,7 +4,7 @@ use Rattle.std.specs.Prelude.{IfSome, option_map, slice_get}
 use Rattle.std.proofs.Math.Seq.{take-length}
 use Rattle.std.proofs.lemmas.List.{append_assoc, append-nil, length-take, length-drop}
 use Rattle.log_messages.specs.Messages.{IsLine, Messages}
-use Rattle.log_messages.proofs.Laws.{messages_line, messages_open}
+use Rattle.log_messages.proofs.LawLemmas.{messages_line, messages_open}
 use Rattle.line_cut.specs.Cutting.{CutterState, Gave, Parts, IsFirstMessage, left_of}
 use Rattle.line_cut.specs.Looking.{Sees}
 use Rattle.line_cut.specs.Window.{bytes_left}

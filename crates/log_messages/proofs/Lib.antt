@@ -1,3 +1,5 @@
-pub mod Exists
-pub mod Laws
-pub mod Steps
+pub mod ExistenceLemmas
+pub mod GroupLawLemmas
+pub mod GroupLemmas
+pub mod LawLemmas
+pub mod StepLemmas

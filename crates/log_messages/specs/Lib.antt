@@ -1,2 +1,4 @@
+pub mod GroupLaws
+pub mod Groups
 pub mod Laws
 pub mod Messages

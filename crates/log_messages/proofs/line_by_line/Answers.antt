@@ -1,4 +1,4 @@
-use Rattle.log_messages.proofs.Laws.{messages_empty, messages_line, messages_open}
+use Rattle.log_messages.proofs.LawLemmas.{messages_empty, messages_line, messages_open}
 use Rattle.log_messages.proofs.line_by_line.Goals as goal
 
 pub returns : goal.returns

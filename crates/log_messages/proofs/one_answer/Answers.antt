@@ -1,5 +1,5 @@
-use Rattle.log_messages.proofs.Exists.{messages_exist}
-use Rattle.log_messages.proofs.Laws.{messages_agree, messages_join}
+use Rattle.log_messages.proofs.ExistenceLemmas.{messages_exist}
+use Rattle.log_messages.proofs.LawLemmas.{messages_agree, messages_join}
 use Rattle.log_messages.proofs.one_answer.Goals as goal
 
 pub returns : goal.returns

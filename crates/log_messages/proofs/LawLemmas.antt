@@ -5,7 +5,7 @@ use Rattle.std.proofs.lemmas.List.{append_assoc}
 use Rattle.std.proofs.lemmas.List.Elements.{All-nil, All-head, All-tail, All-push}
 use Rattle.log_messages.specs.Messages.{IsLine, joined, EndsOpen, Messages}
 use Rattle.log_messages.specs.Laws.{file_text}
-use Rattle.log_messages.proofs.Steps.{joined-append, begins, Begins-line, Messages-ended, Messages-open, Messages-after}
+use Rattle.log_messages.proofs.StepLemmas.{joined-append, begins, Begins-line, Messages-ended, Messages-open, Messages-after}
 
 -- no bytes have no messages, and these are ended
 pub messages_empty : Messages [] [] true

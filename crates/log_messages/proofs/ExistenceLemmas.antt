@@ -4,7 +4,7 @@ use Rattle.std.proofs.Math.Logic.{dite}
 use Rattle.std.proofs.Math.Decide.{ℕ_discrete}
 use Rattle.std.proofs.lemmas.List.Elements.{All-nil, All-cons, All-head, All-tail}
 use Rattle.log_messages.specs.Messages.{IsLine, joined, Messages}
-use Rattle.log_messages.proofs.Steps.{Messages-after}
+use Rattle.log_messages.proofs.StepLemmas.{Messages-after}
 
 -- some messages fit the bytes
 pub record HasMessages (bytes : List ℕ) : Type 0 where
