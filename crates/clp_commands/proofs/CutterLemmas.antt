@@ -3,7 +3,7 @@ use Rattle.std.proofs.Common.{◌≡◌, refl, sym, ◌∙◌, ap, subst, ℕ, �
 use Rattle.std.specs.Prelude.{IfSome}
 use Rattle.std.proofs.lemmas.List.{length-append, take-append-le}
 use Rattle.log_messages.specs.Messages.{IsLine}
-use Rattle.line_cut.specs.Window.{bytes_left}
+use Rattle.line_cut.specs.Length.{bytes_left}
 use Rattle.line_cut.specs.Cutting.{CutterState, Gave, CameToEnd, RefusedBy, left_of}
 use Rattle.line_cut.specs.declared.cut.Cut.{Cut}
 use Rattle.line_cut.specs.declared.cut.Cut.TheVariants.{ReadFault, LineTooLong, TooManyLines, OutOfMemory}

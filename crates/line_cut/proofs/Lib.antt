@@ -1,4 +1,4 @@
-pub mod Exclusion
-pub mod Finding
-pub mod Giving
-pub mod Windows
+pub mod ExclusionLemmas
+pub mod FindingLemmas
+pub mod GivingLemmas
+pub mod WindowLemmas

@@ -1,5 +1,5 @@
 pub mod Cutting
 pub mod Exclusion
 pub mod Length
-pub mod Looking
-pub mod Window
+pub mod StepsLooking
+pub mod StepsWindow

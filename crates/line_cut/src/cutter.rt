@@ -1,22 +1,21 @@
 //! The lines of a source, one at a time.
-ghost use Rattle.std.specs.Prelude.{◌≡◌, ◌+◌, ◌<◌, ◌≤◌, ◌≢◌, [], length, take, drop, IfOk, IfErr, IfSome, IfNone, OnErr, IsErrOf};
-ghost use Rattle.log_messages.specs.Messages.{IsLine};
+ghost use Rattle.std.specs.Prelude.{◌≡◌, ◌≢◌, ◌+◌, ◌<◌, ◌≤◌, [], length, take, drop, IfOk, IfErr, IfSome, IfNone, IsErrOf};
 ghost use Rattle.log_seams.specs.Outside.{Rose};
-ghost use Rattle.line_cut.specs.Cutting.{CameToEnd, Gave, RefusedBy, left_of, without_line};
-ghost use Rattle.line_cut.specs.Looking.{Sees};
+ghost use Rattle.line_cut.specs.Cutting.{CameToEnd, Gave, IsNew, RefusedBy, Repeats, Stays, left_of, without_line};
+ghost use Rattle.line_cut.specs.StepsLooking.{Sees, at_line, newline_len};
 ghost use Rattle.line_cut.specs.declared.look.Looked.{Looked};
 ghost use Rattle.line_cut.specs.declared.cut.Cut.{Cut};
 ghost use Rattle.line_cut.specs.declared.cut.Progress.{Progress};
 
 use crate::cut::{Cut, CutterRefused, Mark, Piece, Progress};
 use crate::look::{Looked, look};
-use crate::window::Window;
+use crate::window::{READ_SIZE, Window};
 use log_seams::{Source, Text};
 use std::alloc::{AllocError, Global};
 use std::marker::Model;
 
-/// How much room a cutter has beside that for the longest line.
-const SPARE: usize = 262_144;
+/// The most bytes that a line may have without its newline.
+pub const MAX_LINE_LEN: usize = 1_048_576;
 
 /// Gives the lines of a source in order, and after them the end or a refusal.
 #[derive(Drop)]
@@ -24,7 +23,9 @@ pub struct Cutter<S> {
     alloc: Global,
     source: S,
     window: Window,
+    /// How many bytes at the front of the window are the line that was given last.
     line: usize,
+    /// How many bytes they are with its newline.
     step: usize,
     given: u64,
     max_line: usize,
@@ -35,6 +36,7 @@ pub struct Cutter<S> {
 impl<S> Model for Cutter<S> {
     ghost use Rattle.std.specs.Prelude.{◌+◌, ◌<◌, ◌≤◌, drop, length, take};
     ghost use Rattle.line_cut.specs.Cutting.{CutterState};
+    ghost use Rattle.line_cut.specs.declared.cutter.TheConstants.{MAX_LINE_LEN};
 
     ghost Value = { CutterState S };
 
@@ -45,16 +47,30 @@ impl<S> Model for Cutter<S> {
       given = c.given;
       max_line = c.max_line;
       max_lines = c.max_lines;
+      room = c.window.size;
       progress = c.progress;
     } };
 
     ghost invariant = { λ c. (c.line ≤ c.step) × (c.step ≤ length c.window.held) × (c.max_line < c.window.size)
-        × (c.max_line ≤ 1048576) × (c.given ≤ c.max_lines) };
+        × (c.max_line ≤ MAX_LINE_LEN) × (c.given ≤ c.max_lines) };
+}
+
+/// Lets go of the line at the front of the window, which is `step` bytes with its newline.
+fn let_go(window: &mut Window, line: &mut usize, step: &mut usize)
+    requires { step.old ≤ length window.old.held }
+    ensures held { window.new.held ≡ drop step.old window.old.held }
+    ensures size { window.new.size ≡ window.old.size }
+    ensures line { line.new ≡ 0 }
+    ensures step { step.new ≡ 0 }
+{
+    window.consume(*step);
+    *line = 0;
+    *step = 0;
 }
 
 impl<S: Source> Cutter<S> {
     /// A cutter that gives the lines of a source, at most `max_lines` of them, each of at most
-    /// `max_line` bytes without its newline. `max_line` is from 1 to 1,048,576.
+    /// `max_line` bytes without its newline. `max_line` is from 1 to `MAX_LINE_LEN`.
     ///
     /// It takes all the memory that `advance` needs. Where there is none the source is handed
     /// back.
@@ -65,17 +81,12 @@ impl<S: Source> Cutter<S> {
         max_lines: u64,
     ) -> Result<Cutter<S>, CutterRefused<S>>
         requires least { 1 ≤ max_line }
-        requires most { max_line ≤ 1048576 }
-        ensures source { IfOk result (λ c. c.source ≡ source) }
-        ensures pending { IfOk result (λ c. c.pending ≡ []) }
-        ensures line { IfOk result (λ c. c.line ≡ []) }
-        ensures given { IfOk result (λ c. c.given ≡ 0) }
-        ensures max_line { IfOk result (λ c. c.max_line ≡ max_line) }
-        ensures max_lines { IfOk result (λ c. c.max_lines ≡ max_lines) }
-        ensures progress { IfOk result (λ c. c.progress ≡ Progress.Open) }
+        requires most { max_line ≤ MAX_LINE_LEN }
+        ensures fresh { IfOk result (IsNew source max_line max_lines) }
         ensures refused { IfErr result (λ r. r.source ≡ source) }
     {
-        let Ok(window) = Window::new(alloc, max_line + SPARE) else {
+        // room for the longest line, and behind its front for one read
+        let Ok(window) = Window::new(alloc, max_line + READ_SIZE) else {
             return Err(CutterRefused { source });
         };
         Ok(Cutter {
@@ -101,17 +112,14 @@ impl<S: Source> Cutter<S> {
             → Sees (record { given = self.old.given; max_line = self.old.max_line; max_lines = self.old.max_lines })
             self.new.pending (S.left self.new.source)
             (Rose (S.faults self.old.source) (S.faults self.new.source)) result }
+
+        // what stays
         ensures left { left_of S.left self.new ≡ left_of S.left self.old }
         ensures given { self.new.given ≡ self.old.given }
-        ensures max_line { self.new.max_line ≡ self.old.max_line }
-        ensures max_lines { self.new.max_lines ≡ self.old.max_lines }
         ensures progress { self.new.progress ≡ self.old.progress }
-        ensures name { S.name self.new.source ≡ S.name self.old.source }
-        ensures later { S.faults self.old.source ≤ S.faults self.new.source }
+        ensures stays { Stays S.name S.faults self.old self.new }
     {
-        self.window.skip(self.step);
-        self.line = 0;
-        self.step = 0;
+        let_go(&mut self.window, &mut self.line, &mut self.step);
         match self.progress {
             Progress::Open => look(
                 &mut self.source,
@@ -125,26 +133,23 @@ impl<S: Source> Cutter<S> {
         }
     }
 
-    /// Comes to the line of the next `len` bytes, behind which `more` bytes are not given.
-    fn come_to(&mut self, len: usize, more: usize, progress: Progress)
-        requires within { len + more ≤ length self.old.pending }
+    /// Comes to the line of the next `len` bytes, and whether a newline follows it.
+    fn come_to(&mut self, len: usize, ended: bool)
+        requires within { len + newline_len ended ≤ length self.old.pending }
         requires fits { len ≤ self.old.max_line }
-        requires one { more ≤ 1 }
         requires room { self.old.given < self.old.max_lines }
-        ensures line { self.new.line ≡ take len self.old.pending }
-        ensures pending { self.new.pending ≡ drop (len + more) self.old.pending }
-        ensures given { self.new.given ≡ self.old.given + 1 }
-        ensures progress { self.new.progress ≡ progress }
-        ensures source { self.new.source ≡ self.old.source }
-        ensures max_line { self.new.max_line ≡ self.old.max_line }
-        ensures max_lines { self.new.max_lines ≡ self.old.max_lines }
+        ensures { self.new ≡ at_line len ended self.old }
     {
         // behind `look_ahead` this skips nothing; here it is what puts the line at the window's front
-        self.window.skip(self.step);
+        self.window.consume(self.step);
         self.line = len;
-        self.step = len + more;
+        self.step = len + usize::from(ended);
         self.given += 1;
-        self.progress = progress;
+        self.progress = if ended {
+            Progress::Open
+        } else {
+            Progress::Ended
+        };
     }
 
     /// Goes on to the next line, whose bytes `line` then lends.
@@ -152,31 +157,25 @@ impl<S: Source> Cutter<S> {
     /// `Ok(None)` is the end of the input; it comes after the last line, and from then on. A line
     /// that is too long is refused once more bytes of it were taken than the limit, and a line
     /// after `max_lines` of them at its first byte. Where a read failed the bytes that were
-    /// taken and not given hold no newline. After an error the same error comes from then on,
-    /// and nothing is read.
+    /// taken and not given hold no newline, and behind `max_lines` lines there are none. After an
+    /// error the same error comes from then on, and nothing is read.
     pub fn advance(&mut self) -> Result<Option<Mark>, Cut>
+        // by the answer
         ensures line { IfOk result (λ o. IfSome o (λ m. Gave S.left m.ended self.new.line self.old self.new)) }
         ensures at_end { IfOk result (λ o. IfNone o (CameToEnd S.left self.old self.new)) }
+        ensures again { Repeats self.old.progress self.old self.new result }
+
+        // causes
         ensures refused { IfErr result (RefusedBy S.left S.faults self.old self.new) }
         ensures memory { IsErrOf result Cut.OutOfMemory → self.old.progress ≢ Progress.Open }
-        ensures no_line { IfOk result (λ o. IfNone o (self.new.line ≡ [])) }
-        ensures err_no_line { OnErr result (self.new.line ≡ []) }
-        ensures after_end { self.old.progress ≡ Progress.Ended → (result ≡ Ok None) × (self.new ≡ without_line self.old) }
-        ensures after_refusal { (e : Cut) → self.old.progress ≡ Progress.Refused e
-            → (result ≡ Err e) × (self.new ≡ without_line self.old) }
-        ensures max_line { self.new.max_line ≡ self.old.max_line }
-        ensures max_lines { self.new.max_lines ≡ self.old.max_lines }
-        ensures name { S.name self.new.source ≡ S.name self.old.source }
-        ensures later { S.faults self.old.source ≤ S.faults self.new.source }
+
+        // what stays
+        ensures stays { Stays S.name S.faults self.old self.new }
     {
         match self.look_ahead() {
-            Looked::Line { len } => {
-                self.come_to(len, 1, Progress::Open);
-                Ok(Some(Mark { ended: true }))
-            }
-            Looked::Last { len } => {
-                self.come_to(len, 0, Progress::Ended);
-                Ok(Some(Mark { ended: false }))
+            Looked::Line { len, ended } => {
+                self.come_to(len, ended);
+                Ok(Some(Mark { ended }))
             }
             Looked::End => {
                 self.progress = Progress::Ended;
@@ -203,36 +202,26 @@ impl<S: Source> Cutter<S> {
     /// It takes memory for the copy alone. Where there is none the line is not given, and the
     /// same error comes from then on.
     pub fn next(&mut self) -> Result<Option<Piece>, Cut>
+        // by the answer
         ensures piece { IfOk result (λ o. IfSome o (λ p. Gave S.left p.ended p.line self.old self.new)) }
-        ensures at_end { IfOk result (λ o. IfNone o (CameToEnd S.left self.old self.new)) }
-        ensures refused { IfErr result (RefusedBy S.left S.faults self.old self.new) }
         ensures line { IfOk result (λ o. IfSome o (λ p. self.new.line ≡ p.line)) }
-        ensures no_line { IfOk result (λ o. IfNone o (self.new.line ≡ [])) }
-        ensures err_no_line { OnErr result (self.new.line ≡ []) }
-        ensures after_end { self.old.progress ≡ Progress.Ended → (result ≡ Ok None) × (self.new ≡ without_line self.old) }
-        ensures after_refusal { (e : Cut) → self.old.progress ≡ Progress.Refused e
-            → (result ≡ Err e) × (self.new ≡ without_line self.old) }
-        ensures max_line { self.new.max_line ≡ self.old.max_line }
-        ensures max_lines { self.new.max_lines ≡ self.old.max_lines }
-        ensures name { S.name self.new.source ≡ S.name self.old.source }
-        ensures later { S.faults self.old.source ≤ S.faults self.new.source }
+        ensures at_end { IfOk result (λ o. IfNone o (CameToEnd S.left self.old self.new)) }
+        ensures again { Repeats self.old.progress self.old self.new result }
+
+        // causes
+        ensures refused { IfErr result (RefusedBy S.left S.faults self.old self.new) }
+
+        // what stays
+        ensures stays { Stays S.name S.faults self.old self.new }
     {
         match self.look_ahead() {
-            Looked::Line { len } => {
+            Looked::Line { len, ended } => {
                 let Ok(line) = self.copy_ahead(len) else {
                     self.progress = Progress::Refused(Cut::OutOfMemory);
                     return Err(Cut::OutOfMemory);
                 };
-                self.come_to(len, 1, Progress::Open);
-                Ok(Some(Piece { line, ended: true }))
-            }
-            Looked::Last { len } => {
-                let Ok(line) = self.copy_ahead(len) else {
-                    self.progress = Progress::Refused(Cut::OutOfMemory);
-                    return Err(Cut::OutOfMemory);
-                };
-                self.come_to(len, 0, Progress::Ended);
-                Ok(Some(Piece { line, ended: false }))
+                self.come_to(len, ended);
+                Ok(Some(Piece { line, ended }))
             }
             Looked::End => {
                 self.progress = Progress::Ended;

@@ -9,7 +9,7 @@ mod look;
 mod window;
 
 pub use cut::{Cut, CutterRefused, Mark, Piece, Progress};
-pub use cutter::Cutter;
+pub use cutter::{Cutter, MAX_LINE_LEN};
 
 #[cfg(test)]
 mod tests;

@@ -1,10 +1,11 @@
-use crate::{Cut, Cutter, Mark};
+use crate::{Cut, Cutter, MAX_LINE_LEN, Mark};
 use log_seams::{Failed, MemSource, PlainSource, Source, Text};
 use std::alloc::{AllocError, Global};
 use std::process::Abort;
 use std::test::Fail;
 
-// The lines that are expected, each with whether a newline followed it, and then the end or an error.
+// The lines that are expected, each with whether a newline followed it, and then the end or an
+// error.
 #[derive(Drop)]
 struct Row<'a> {
     bytes: &'a [u8],
@@ -44,7 +45,8 @@ fn compare_end<R: Abort, S: Source>(rt: &R, cutter: &mut Cutter<S>, end: Result<
     assert!(rt; cutter.line().is_empty());
 }
 
-// Takes all that a cutter gives, by `next` and by `advance` in turn, and asks twice more behind the end.
+// Takes all that a cutter gives, by `next` and by `advance` in turn, and asks twice more behind the
+// end.
 fn compare<R: Abort, S: Source>(
     rt: &R,
     cutter: &mut Cutter<S>,
@@ -156,7 +158,7 @@ const ROWS: &[Row<'static>] = &[
 fn lines_and_limits(rt: HostRuntime) -> Result<(), Fail> {
     let alloc = rt.alloc();
     for row in ROWS {
-        if row.max_line < 1 || row.max_line > 1_048_576 {
+        if row.max_line < 1 || row.max_line > MAX_LINE_LEN {
             continue;
         }
         let source = PlainSource::new(text(alloc, row.bytes)?);
@@ -193,24 +195,30 @@ fn the_whole_lines_before_a_fault(rt: HostRuntime) -> Result<(), Fail> {
     let one: [(&[u8], bool); 1] = [(b"ab", true)];
     let two: [(&[u8], bool); 2] = [(b"ab", true), (b"cd", true)];
     let all: [(&[u8], bool); 3] = [(b"ab", true), (b"cd", true), (b"e", false)];
-    // the number of the read that fails, from 0: each read gives one of the bytes, and the one behind them the end
-    let rows: [(u64, &[(&[u8], bool)], Result<(), Cut>); 9] = [
-        (0, &[], Err(Cut::ReadFault)),
-        (1, &[], Err(Cut::ReadFault)),
-        (2, &[], Err(Cut::ReadFault)),
-        (3, &one, Err(Cut::ReadFault)),
-        (4, &one, Err(Cut::ReadFault)),
-        (5, &one, Err(Cut::ReadFault)),
-        (6, &two, Err(Cut::ReadFault)),
-        (7, &two, Err(Cut::ReadFault)),
-        (8, &all, Ok(())),
+    // the number of the read that fails, from 0, and the limit of lines: each read gives one of the
+    // bytes, and the one behind them the end
+    let rows: [(u64, u64, &[(&[u8], bool)], Result<(), Cut>); 12] = [
+        (0, 4, &[], Err(Cut::ReadFault)),
+        (1, 4, &[], Err(Cut::ReadFault)),
+        (2, 4, &[], Err(Cut::ReadFault)),
+        (3, 4, &one, Err(Cut::ReadFault)),
+        (4, 4, &one, Err(Cut::ReadFault)),
+        (6, 4, &two, Err(Cut::ReadFault)),
+        (7, 4, &two, Err(Cut::ReadFault)),
+        (8, 4, &all, Ok(())),
+        // behind the last line that is allowed: the read for its first byte fails, or the one behind it would
+        (3, 1, &one, Err(Cut::ReadFault)),
+        (4, 1, &one, Err(Cut::TooManyLines)),
+        (6, 2, &two, Err(Cut::ReadFault)),
+        (7, 2, &two, Err(Cut::TooManyLines)),
     ];
-    for (fails, lines, end) in rows {
+    for (fails, max_lines, lines, end) in rows {
         let log = MemSource::new(text(alloc, b"ab\ncd\ne")?, [fails].to_vec(alloc)?);
-        let made = Cutter::new(alloc, OneByte { log }, 4, 4);
+        let made = Cutter::new(alloc, OneByte { log }, 4, max_lines);
         let mut cutter = made.map_err(|_| "no memory")?;
         compare(&rt, &mut cutter, lines, end);
-        assert_eq!(rt; cutter.into_source().log.faults(), u64::from(end.is_err()));
+        let failed = u64::from(end == Err(Cut::ReadFault));
+        assert_eq!(rt; cutter.into_source().log.faults(), failed);
     }
     Ok(())
 }
@@ -218,14 +226,14 @@ fn the_whole_lines_before_a_fault(rt: HostRuntime) -> Result<(), Fail> {
 #[test]
 fn lines_up_to_the_greatest_limit(rt: HostRuntime) -> Result<(), Fail> {
     let alloc = rt.alloc();
-    let longest = vec![in alloc; b'x'; 1_048_576]?;
+    let longest = vec![in alloc; b'x'; MAX_LINE_LEN]?;
     for more in [0, 1] {
         let mut bytes = b"a\n".to_vec(alloc)?;
         bytes.extend_from_slice(&longest)?;
         bytes.extend_from_slice(&vec![in alloc; b'x'; more]?)?;
         bytes.push(b'\n')?;
         let source = MemSource::new(Text::new(bytes), Vec::new(alloc));
-        let made = Cutter::new(alloc, source, 1_048_576, 4_294_967_294);
+        let made = Cutter::new(alloc, source, MAX_LINE_LEN, 4_294_967_294);
         let mut cutter = made.map_err(|_| "no memory")?;
         let lines: [(&[u8], bool); 2] = [(b"a", true), (&longest, true)];
         if more == 0 {

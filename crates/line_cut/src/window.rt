@@ -1,26 +1,29 @@
 //! The bytes that were read and not yet given.
 ghost use Rattle.std.specs.Prelude.{◌≡◌, ◌+◌, ◌-◌, ◌<◌, ◌≤◌, [], IfOk, IfSome, OnErr, length, take, drop, vec_len};
 ghost use Rattle.log_seams.specs.Outside.{Counts, Takes};
-ghost use Rattle.line_cut.specs.Window.{bytes_left};
+ghost use Rattle.line_cut.specs.Length.{bytes_left};
 
 use log_seams::{Failed, Source};
 use std::alloc::{AllocError, Global};
 use std::marker::Model;
 
-/// The most bytes that are asked for in one read.
-const READ_SIZE: usize = 262_144;
+/// The most bytes that are asked for in one read. Free to tune.
+pub(crate) const READ_SIZE: usize = 262_144;
 
 /// A buffer of fixed size, with the bytes that it holds.
 #[derive(Drop)]
 pub(crate) struct Window {
+    /// All of its room, written or not.
     buffer: Vec<u8>,
+    /// The offset of the first byte that is held.
     start: usize,
+    /// The offset behind the last byte that is held.
     end: usize,
 }
 
 impl Model for Window {
     ghost use Rattle.std.specs.Prelude.{◌-◌, ◌≤◌, take, drop, vec_len};
-    ghost use Rattle.line_cut.specs.Window.{WindowState};
+    ghost use Rattle.line_cut.specs.StepsWindow.{WindowState};
 
     ghost Value = { WindowState };
 
@@ -79,7 +82,7 @@ impl Window {
     }
 
     /// Lets go of the first `count` bytes.
-    pub(crate) fn skip(&mut self, count: usize)
+    pub(crate) fn consume(&mut self, count: usize)
         requires { count ≤ length self.old.held }
         ensures held { self.new.held ≡ drop count self.old.held }
         ensures size { self.new.size ≡ self.old.size }
@@ -87,18 +90,23 @@ impl Window {
         self.start += count;
     }
 
-    /// Reads once, behind the bytes that it holds.
-    pub(crate) fn fill<S: Source>(&mut self, source: &mut S) -> Result<usize, Failed>
+    /// Reads once, behind the bytes that it holds, and answers how many more it holds.
+    pub(crate) fn fill_buf<S: Source>(&mut self, source: &mut S) -> Result<usize, Failed>
         requires { length self.old.held < self.old.size }
-        ensures grown { IfOk result (λ n. length self.new.held ≡ length self.old.held + n) }
+
+        // what stays
         ensures front { take (length self.old.held) self.new.held ≡ self.old.held }
         ensures left { bytes_left self.new.held (S.left source.new) ≡ bytes_left self.old.held (S.left source.old) }
-        ensures at_end { IfOk result (λ n. n ≡ 0 → IfSome (S.left source.new) (λ rest. rest ≡ [])) }
-        ensures untaken { OnErr result (self.new.held ≡ self.old.held) }
         ensures size { self.new.size ≡ self.old.size }
         ensures name { S.name source.new ≡ S.name source.old }
+
+        // by the answer
+        ensures grown { IfOk result (λ n. length self.new.held ≡ length self.old.held + n) }
+        ensures at_end { IfOk result (λ n. n ≡ 0 → IfSome (S.left source.new) (λ rest. rest ≡ [])) }
+        ensures untaken { OnErr result (self.new.held ≡ self.old.held) }
         ensures cause { Counts (S.faults source.old) (S.faults source.new) result }
     {
+        // what is held moves to the front, so that the whole rest of the buffer is free for one read
         if self.start > 0 {
             move_to_front(&mut self.buffer, self.start, self.end);
             self.end -= self.start;

@@ -1,11 +1,12 @@
 use Rattle.std.proofs.Common.{rules}
+use Rattle.line_cut.proofs.GivingLemmas.{not_ended}
 use Rattle.clp_commands.proofs.CutterLemmas.{IsPrinting-more, IsPrinting-stopped, IsPrinting-refused, IsPrinting-open}
 use Rattle.clp_commands.proofs.log.print_messages.Goals as goal
 
 pub loop-number-preserved : goal.loop-number-preserved
 loop-number-preserved g c =
     let gave = rw c.in-Ok-Some.field-0-is at c.in-Ok-Some.ensures.line in (
-      IsPrinting-more _ _ _ _ _ _ _ _ _ _ _ _ c.loop-number.invariant.0 gave c.advance.ensures.max_line c.advance.ensures.max_lines (rw (← c.line-message.ensures) c.in_default.ensures.ok),
+      IsPrinting-more _ _ _ _ _ _ _ _ _ _ _ _ c.loop-number.invariant.0 gave c.advance.ensures.stays.max_line c.advance.ensures.stays.max_lines (rw (← c.line-message.ensures) c.in_default.ensures.ok),
       search rules,
       search rules,
       search rules,
@@ -18,5 +19,5 @@ returns-in-Err-print_message-clause-reaches g c =
 
 pub returns-in-Err-clause-reaches : goal.returns-in-Err-clause-reaches
 returns-in-Err-clause-reaches g c =
-    let is = IsPrinting-open _ _ _ _ _ _ _ _ c.loop-number.invariant.0 (λ e. absurd (cc ((c.advance.ensures.after_end e).0, c.in-Err.is))) in
+    let is = IsPrinting-open _ _ _ _ _ _ _ _ c.loop-number.invariant.0 (not_ended _ _ _ c.advance.result c.in-Err.cut c.advance.ensures.again c.in-Err.is) in
     rw c.refusal_of.ensures.value (IsPrinting-refused _ _ g.S.Source.faults _ _ _ _ _ _ _ _ is c.loop-number.invariant.0 c.in-Err.ensures.refused)

@@ -1,4 +1,4 @@
-use Rattle.line_cut.proofs.Exclusion.{long_not_given, nothing_not_given, stays_long}
+use Rattle.line_cut.proofs.ExclusionLemmas.{long_not_given, nothing_not_given, stays_long}
 use Rattle.line_cut.proofs.laws.answers_exclude.Goals as goal
 
 pub returns : goal.returns

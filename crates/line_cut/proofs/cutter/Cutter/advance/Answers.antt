@@ -1,35 +1,17 @@
+use Rattle.std.proofs.Common.{ap}
 use Rattle.log_seams.specs.Outside.{Rose}
-use Rattle.line_cut.proofs.Giving.{gave_last, gave_line, was_open}
+use Rattle.line_cut.proofs.GivingLemmas.{gave, was_open}
 use Rattle.line_cut.proofs.cutter.Cutter.advance.Goals as goal
 
 pub returns-in-Line-clause-line : goal.returns-in-Line-clause-line
 returns-in-Line-clause-line g c =
     let old = c.args.self.now in let mid = c.look_ahead.new.self in let new = c.come_to.new.self in
     let opened = was_open old.progress c.look_ahead.result (λ e. (c.look_ahead.ensures.after_end e).0) (λ e h. (c.look_ahead.ensures.after_refusal e h).0) (λ n. cc (c.in-Line.is, n)) (λ e n. cc (c.in-Line.is, n)) in
-    gave_line g.S.Source.left (Rose (g.S.Source.faults old.source) (g.S.Source.faults mid.source)) new.line c.in-Line.len old mid new (c.in-Line.ensures.sees opened)
+    gave g.S.Source.left (Rose (g.S.Source.faults old.source) (g.S.Source.faults mid.source)) new.line c.in-Line.len c.in-Line.ended old mid new (c.in-Line.ensures.sees opened)
     (record {
       was_open = opened;
       left_same = c.look_ahead.ensures.left;
       given_same = c.look_ahead.ensures.given;
-      is = c.come_to.ensures.line;
-      pending = c.come_to.ensures.pending;
-      source = c.come_to.ensures.source;
-      given = c.come_to.ensures.given;
+      is = ap (λ s. s.line) c.come_to.ensures;
+      at = c.come_to.ensures;
     })
-    c.come_to.ensures.progress
-
-pub returns-in-Last-clause-line : goal.returns-in-Last-clause-line
-returns-in-Last-clause-line g c =
-    let old = c.args.self.now in let mid = c.look_ahead.new.self in let new = c.come_to-in-Last.new.self in
-    let opened = was_open old.progress c.look_ahead.result (λ e. (c.look_ahead.ensures.after_end e).0) (λ e h. (c.look_ahead.ensures.after_refusal e h).0) (λ n. cc (c.in-Last.is, n)) (λ e n. cc (c.in-Last.is, n)) in
-    gave_last g.S.Source.left (Rose (g.S.Source.faults old.source) (g.S.Source.faults mid.source)) new.line c.in-Last.len old mid new (c.in-Last.ensures.sees opened)
-    (record {
-      was_open = opened;
-      left_same = c.look_ahead.ensures.left;
-      given_same = c.look_ahead.ensures.given;
-      is = c.come_to-in-Last.ensures.line;
-      pending = c.come_to-in-Last.ensures.pending;
-      source = c.come_to-in-Last.ensures.source;
-      given = c.come_to-in-Last.ensures.given;
-    })
-    c.come_to-in-Last.ensures.progress

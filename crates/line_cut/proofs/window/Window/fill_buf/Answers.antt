@@ -1,7 +1,7 @@
 use Rattle.std.proofs.Common.{◌∙◌, ◌≡◌, ◌≤◌, ◌-◌, ap, arith, take, drop}
-use Rattle.line_cut.proofs.Windows.{left-fill}
-use Rattle.line_cut.proofs.window.Window.fill.Goals as goal
-use Rattle.line_cut.proofs.window.Window.fill.Goals.{then-self-gt0, else-self-gt0}
+use Rattle.line_cut.proofs.WindowLemmas.{left-fill}
+use Rattle.line_cut.proofs.window.Window.fill_buf.Goals as goal
+use Rattle.line_cut.proofs.window.Window.fill_buf.Goals.{then-self-gt0, else-self-gt0}
 
 pub returns-clause-left : goal.returns-clause-left
 returns-clause-left g c =

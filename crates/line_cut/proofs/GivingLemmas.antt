@@ -1,18 +1,18 @@
 -- A line that was looked at and then given.
-use Rattle.std.proofs.Common.{◌≡◌, ◌≢◌, ◌+◌, refl, sym, ◌∙◌, ap, subst, arith, ℕ, zero, suc, true, false, List, [], ◌∷◌, ◌++◌, Option, None, Some, length, take, drop}
+use Rattle.std.proofs.Common.{◌≡◌, ◌≢◌, ◌+◌, refl, sym, ◌∙◌, ap, subst, arith, ℕ, zero, suc, Bool, true, false, List, [], ◌∷◌, ◌++◌, Option, None, Some, Result, Err, length, take, drop}
 use Rattle.std.specs.Prelude.{IfSome, option_map, slice_get}
 use Rattle.std.proofs.Math.Seq.{take-length}
-use Rattle.std.proofs.lemmas.List.{append_assoc, append-nil, length-take, length-drop}
+use Rattle.std.proofs.lemmas.List.{append_assoc, append-nil, length-take, length-drop, nil_from_length}
 use Rattle.log_messages.specs.Messages.{IsLine, Messages}
 use Rattle.log_messages.proofs.LawLemmas.{messages_line, messages_open}
-use Rattle.line_cut.specs.Cutting.{CutterState, Gave, Parts, IsFirstMessage, left_of}
-use Rattle.line_cut.specs.Looking.{Sees}
-use Rattle.line_cut.specs.Window.{bytes_left}
+use Rattle.line_cut.specs.Cutting.{CutterState, Gave, Parts, IsFirstMessage, Repeats, left_of}
+use Rattle.line_cut.specs.StepsLooking.{Sees, at_line}
+use Rattle.line_cut.specs.Length.{bytes_left}
 use Rattle.line_cut.specs.declared.cut.Cut.{Cut}
 use Rattle.line_cut.specs.declared.cut.Progress.{Progress}
 use Rattle.line_cut.specs.declared.cut.Progress.TheVariants.{Open, Ended, Refused}
 use Rattle.line_cut.specs.declared.look.Looked.{Looked}
-use Rattle.line_cut.specs.declared.look.Looked.TheVariants.{Line, Last, End, Refused as LookRefused}
+use Rattle.line_cut.specs.declared.look.Looked.TheVariants.{Line, End, Refused as LookRefused}
 
 -- a cutter that looked was open
 pub was_open : (p : Progress) (r : Looked) → (p ≡ Ended → r ≡ End) → ((e : Cut) → p ≡ Refused e → r ≡ LookRefused e) → r ≢ End → ((e : Cut) → r ≢ LookRefused e) → p ≡ Open
@@ -20,9 +20,11 @@ was_open Open r f h n m = refl
 was_open Ended r f h n m = absurd (n (f refl))
 was_open (Refused e) r f h n m = absurd (m e (h e refl))
 
-length_zero : (xs : List ℕ) → length xs ≡ 0 → xs ≡ []
-length_zero [] e = refl
-length_zero (x ∷ xs) e = absurd (omega arith)
+-- an error does not come behind the end
+pub not_ended : {S A : Type 0} (p : Progress) (old new : CutterState S) (r : Result (Option A) Cut) (e : Cut) → Repeats p old new r → r ≡ Err e → p ≢ Ended
+not_ended Open old new r e h is ended = cc
+not_ended Ended old new r e h is ended = cc (h.0, is)
+not_ended (Refused f) old new r e h is ended = cc
 
 -- a list around an element
 around : (p : List ℕ) (len b : ℕ) → slice_get p len ≡ Some b → p ≡ take len p ++ b ∷ drop (len + 1) p
@@ -62,53 +64,49 @@ message_last line (Some before) (Some after) is some e =
     let whole : before ≡ line = cc in subst (λ b. Messages b (line ∷ []) false) (sym whole) (messages_open line is some)
 
 -- what a look and the step behind it leave
-pub record Steps {S : Type 0} (left : S → Option (List ℕ)) (line : List ℕ) (len more : ℕ) (old mid new : CutterState S) : Type 0 where
+pub record Steps {S : Type 0} (left : S → Option (List ℕ)) (line : List ℕ) (len : ℕ) (ended : Bool) (old mid new : CutterState S) : Type 0 where
   pub was_open : old.progress ≡ Open
   pub left_same : left_of left mid ≡ left_of left old
   pub given_same : mid.given ≡ old.given
   pub is : line ≡ take len mid.pending
-  pub pending : new.pending ≡ drop (len + more) mid.pending
-  pub source : new.source ≡ mid.source
-  pub given : new.given ≡ mid.given + 1
+  pub at : new ≡ at_line len ended mid
 
-pub gave_line : {S : Type 0} (left : S → Option (List ℕ)) (rose : Type 0) (line : List ℕ) (len : ℕ) (old mid new : CutterState S)
-    → Sees (record { given = old.given; max_line = old.max_line; max_lines = old.max_lines }) mid.pending (left mid.source) rose (Line len)
-    → Steps left line len 1 old mid new → new.progress ≡ Open → Gave left true line old new
-gave_line left rose line len old mid new sees steps progress =
+pub gave : {S : Type 0} (left : S → Option (List ℕ)) (rose : Type 0) (line : List ℕ) (len : ℕ) (ended : Bool) (old mid new : CutterState S)
+    → Sees (record { given = old.given; max_line = old.max_line; max_lines = old.max_lines }) mid.pending (left mid.source) rose (Line len ended)
+    → Steps left line len ended old mid new → Gave left ended line old new
+gave left rose line len true old mid new sees steps =
+    let pending = ap (λ c. c.pending) steps.at in let source = ap (λ c. c.source) steps.at in
     let parts : Parts true line (left_of left old) (left_of left new) =
-    sym steps.left_same ∙ parts_line mid.pending new.pending line len (left mid.source) (left new.source) steps.is steps.pending sees.3 (ap left steps.source) in
+    sym steps.left_same ∙ parts_line mid.pending new.pending line len (left mid.source) (left new.source) steps.is pending sees.3 (ap left source) in
     let is_line : IsLine line = subst IsLine (sym steps.is) sees.2 in
     record {
       was_open = steps.was_open;
-      progress = progress;
+      progress = ap (λ c. c.progress) steps.at;
       within = sees.0;
-      given = steps.given ∙ ap (λ n. n + 1) steps.given_same;
+      given = ap (λ c. c.given) steps.at ∙ ap (λ n. n + 1) steps.given_same;
       is_line = is_line;
       not_empty = λ e. cc;
       fits = omega (arith, ap length steps.is, length-take len mid.pending, sees.1);
       parts = parts;
       message = message_line line (left_of left old) (left_of left new) is_line parts;
     }
-
-pub gave_last : {S : Type 0} (left : S → Option (List ℕ)) (rose : Type 0) (line : List ℕ) (len : ℕ) (old mid new : CutterState S)
-    → Sees (record { given = old.given; max_line = old.max_line; max_lines = old.max_lines }) mid.pending (left mid.source) rose (Last len)
-    → Steps left line len 0 old mid new → new.progress ≡ Ended → Gave left false line old new
-gave_last left rose line len old mid new sees steps progress =
-    let whole : line ≡ mid.pending = steps.is ∙ (ap (λ n. take n mid.pending) sees.2 ∙ take-length mid.pending) in
-    let none : new.pending ≡ [] = length_zero new.pending (omega (arith, ap length steps.pending, length-drop (len + 0) mid.pending, sees.2)) in
+gave left rose line len false old mid new sees steps =
+    let pending = ap (λ c. c.pending) steps.at in let source = ap (λ c. c.source) steps.at in
+    let whole : line ≡ mid.pending = steps.is ∙ (ap (λ n. take n mid.pending) sees.3.0 ∙ take-length mid.pending) in
+    let none : new.pending ≡ [] = nil_from_length new.pending (omega (arith, ap length pending, length-drop (len + 0) mid.pending, sees.3.0)) in
     let parts : Parts false line (left_of left old) (left_of left new) =
     subst (λ o. Parts false line o (left_of left new)) steps.left_same
-    (parts_last mid.pending new.pending line (left mid.source) (left new.source) whole none sees.5 (ap left steps.source)) in
-    let is_line : IsLine line = subst IsLine (sym whole) sees.4 in
-    let some : line ≢ [] = λ e. absurd (omega (arith, ap length e, ap length whole, sees.2, sees.3)) in
+    (parts_last mid.pending new.pending line (left mid.source) (left new.source) whole none sees.3.2 (ap left source)) in
+    let is_line : IsLine line = subst IsLine (sym steps.is) sees.2 in
+    let some : line ≢ [] = λ e. absurd (omega (arith, ap length e, ap length whole, sees.3.0, sees.3.1)) in
     record {
       was_open = steps.was_open;
-      progress = progress;
+      progress = ap (λ c. c.progress) steps.at;
       within = sees.0;
-      given = steps.given ∙ ap (λ n. n + 1) steps.given_same;
+      given = ap (λ c. c.given) steps.at ∙ ap (λ n. n + 1) steps.given_same;
       is_line = is_line;
       not_empty = λ _. some;
-      fits = omega (arith, ap length whole, sees.1, sees.2);
+      fits = omega (arith, ap length steps.is, length-take len mid.pending, sees.1);
       parts = parts;
       message = message_last line (left_of left old) (left_of left new) is_line some parts;
     }

@@ -4,7 +4,7 @@ use Rattle.std.proofs.Math.Seq.{take-add}
 use Rattle.std.proofs.lemmas.List.{append_assoc, drop-drop, take-append-drop}
 use Rattle.std.proofs.lemmas.Slice.{between_is}
 use Rattle.log_seams.specs.Outside.{Takes}
-use Rattle.line_cut.specs.Window.{bytes_left}
+use Rattle.line_cut.specs.Length.{bytes_left}
 
 -- the part from i to j, where the front up to j is the same
 same_part : (old new : List ℕ) (i j : ℕ) → take j new ≡ take j old → take (j - i) (drop i new) ≡ take (j - i) (drop i old)

@@ -5,7 +5,7 @@ use Rattle.std.proofs.Math.Logic.{⊎_elim}
 use Rattle.std.proofs.Math.Seq.{take-length}
 use Rattle.std.proofs.lemmas.Bool.{eq-eqb, eqb-true}
 use Rattle.std.proofs.lemmas.Bool.Decides.{leb_tells}
-use Rattle.std.proofs.lemmas.List.{get_or-take, get_or-drop, get_or_default, length-take, length-drop}
+use Rattle.std.proofs.lemmas.List.{get_or-take, get_or-drop, get_or_default, length-take, length-drop, drop-take}
 use Rattle.std.proofs.lemmas.List.Elements.{All-take}
 use Rattle.std.proofs.lemmas.Option.{slice_get-get_or}
 use Rattle.std.proofs.lemmas.Slice.{between_to_end}
@@ -79,3 +79,13 @@ pub same_held : (held new : List ℕ) (n : ℕ) → length new ≡ length held +
 same_held held new n grown zero first =
     let size : length new ≡ length held = omega arith in
     sym (take-length new) ∙ (ap (λ k. take k new) size ∙ first)
+
+-- what stands ahead: `hay` is how the code has the bytes held
+pub ahead_is : (hay held : List ℕ) (from : ℕ) → hay ≡ held → slice_range hay from (length hay) ≡ drop from held
+ahead_is hay held from same = between_to_end hay from (length hay) (omega arith) ∙ ap (drop from) same
+
+-- a longer list with the same front has the same front behind its first bytes
+pub front_ahead : (old new : List ℕ) (from : ℕ) → from ≤ length old → take (length old) new ≡ old → take (length (drop from old)) (drop from new) ≡ drop from old
+front_ahead old new from within front =
+    let size : from + length (drop from old) ≡ length old = omega (arith, length-drop from old, within) in
+    sym (drop-take from (length (drop from old)) new) ∙ (ap (λ n. drop from (take n new)) size ∙ ap (drop from) front)

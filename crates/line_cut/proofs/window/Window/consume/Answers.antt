@@ -1,6 +1,6 @@
 use Rattle.std.proofs.Common.{◌∙◌, ap, drop}
-use Rattle.line_cut.proofs.Windows.{held-skip}
-use Rattle.line_cut.proofs.window.Window.skip.Goals as goal
+use Rattle.line_cut.proofs.WindowLemmas.{held-skip}
+use Rattle.line_cut.proofs.window.Window.consume.Goals as goal
 
 pub returns-clause-held : goal.returns-clause-held
 returns-clause-held c =
