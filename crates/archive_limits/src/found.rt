@@ -16,7 +16,7 @@ struct Found {
 }
 
 impl Found {
-    ghost use Rattle.archive_limits.specs.Found.{with_limit, Lacks, header_of};
+    ghost use Rattle.archive_limits.specs.StepsFound.{with_limit, Lacks, header_of};
 
     /// Takes a limit in, and tells whether it is the first of its kind.
     fn insert(&mut self, limit: Limit) -> bool

@@ -23,7 +23,8 @@ impl Limit {
         ensures range { IfSome result IsInRange }
         ensures name { IfSome result (λ limit. name.now ≡ name_of limit) }
         ensures number { IfSome result (λ limit. number.now ≡ decimal (number_of limit)) }
-        ensures all { (limit : Limit) → IsInRange limit → name.now ≡ name_of limit → number.now ≡ decimal (number_of limit) → result ≡ Some limit }
+        ensures all { (limit : Limit) → IsInRange limit → name.now ≡ name_of limit
+            → number.now ≡ decimal (number_of limit) → result ≡ Some limit }
     {
         let number = read_number(number)?;
         match name {

@@ -1,7 +1,7 @@
 use Rattle.std.proofs.Common.{Some, map, string_bytes, sym, ap, subst, ◌∙◌}
 use Rattle.std.proofs.lemmas.Bool.{iff_false}
 use Rattle.archive_limits.specs.Limits.{AsksLimits}
-use Rattle.archive_limits.proofs.Reading.{Read, step, twice, stuck, asked, only_asked, some_left, none_left}
+use Rattle.archive_limits.proofs.ReadingLemmas.{Read, step, twice, stuck, asked, only_asked, some_left, none_left}
 use Rattle.archive_limits.proofs.found.read_limits.Goals as goal
 
 pub returns-in_err-limit-clause-all : goal.returns-in_err-limit-clause-all

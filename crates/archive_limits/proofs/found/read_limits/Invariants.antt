@@ -1,5 +1,5 @@
 use Rattle.std.proofs.Common.{length, map, string_bytes}
-use Rattle.archive_limits.proofs.Reading.{Read}
+use Rattle.archive_limits.proofs.ReadingLemmas.{Read}
 use Rattle.archive_limits.proofs.found.read_limits.Given as goal
 
 abbrev pub invariant-loop-rest : goal.invariant-loop-rest

@@ -3,7 +3,7 @@ use Rattle.std.specs.Result.{OkIff}
 use Rattle.std.specs.Int.{FitsUnsignedBits}
 use Rattle.std.proofs.lemmas.Int.{to_z-of_z}
 use Rattle.var_codec.specs.declared.Coded.TheVariants.{Whole, Decimal, Word}
-use Rattle.archive_limits.proofs.Numbers.{coded_is, unsigned_is}
+use Rattle.archive_limits.proofs.NumberLemmas.{coded_is, unsigned_is}
 use Rattle.archive_limits.proofs.limit.read_number.Goals as goal
 
 pub returns-in-Whole-clause-all : goal.returns-in-Whole-clause-all

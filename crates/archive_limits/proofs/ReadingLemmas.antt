@@ -10,7 +10,7 @@ use Rattle.archive_limits.specs.declared.limit.Limit.{Limit}
 use Rattle.archive_limits.specs.declared.limit.Limit.TheVariants.{Types, Words, Bytes}
 use Rattle.archive_limits.specs.declared.found.Found.{Found}
 use Rattle.archive_limits.specs.Limits.{Begin, IsInRange, Spell, IsChosen, AsksLimits, types_of, words_of, bytes_of}
-use Rattle.archive_limits.specs.Found.{with_limit, Lacks, header_of}
+use Rattle.archive_limits.specs.StepsFound.{with_limit, Lacks, header_of}
 
 -- the limits begin with those that are done, and the rest spells the others
 pub record Continues (done : List Limit) (rest : List (List ℕ)) (limits : List Limit) : Type 0 where
