@@ -2,6 +2,7 @@
 use Rattle.std.specs.Prelude.{◌≡◌, ℕ, zero, suc, ◌<◌, ◌≤◌, ◌==◌, if◌then◌else◌, nat_eq, unwrap_or, List, map, length, slice_index}
 use Rattle.indexmap.specs.IndexMap.{IndexMap, get}
 use Rattle.dict_core.specs.Books.{AreDistinct}
+use Rattle.dict_core.specs.declared.texts.TheConstants.{MAX_TEXTS}
 
 -- the hash of a text, by a copy of a hasher that was fed nothing
 abbrev pub hash_by : {H : Type 0} → (H → List ℕ → H) → (H → ℕ) → H → List ℕ → ℕ
@@ -10,6 +11,10 @@ hash_by write finish hasher text = finish (write hasher text)
 -- the place that a map has at a hash, 0 where it has none
 abbrev pub place_at : {S : Type 0} → IndexMap ℕ ℕ S → ℕ → ℕ
 place_at m h = unwrap_or (get nat_eq m h) 0
+
+-- the second map has the place at the hash, and at each other hash what the first has
+abbrev pub Puts : {S : Type 0} → IndexMap ℕ ℕ S → IndexMap ℕ ℕ S → ℕ → ℕ → Type 0
+Puts old new hash place = (h : ℕ) → place_at new h ≡ (if h == hash then place else place_at old h)
 
 -- the place of the last of the first `count` texts that has the hash h; a place is a number plus one, and 0 is none
 abbrev pub latest : List ℕ → ℕ → ℕ → ℕ
@@ -32,4 +37,4 @@ pub record IsBook (hash : List ℕ → ℕ) (texts : List (List ℕ)) (befores :
   pub chained : IsChained (map hash texts) befores newest
   pub distinct : AreDistinct texts
   pub within : length texts ≤ limit
-  pub most : limit ≤ 2147483648
+  pub most : limit ≤ MAX_TEXTS

@@ -32,7 +32,9 @@ impl Model for Book {
 
     ghost view = { λ b. record { texts = b.texts; limit = b.limit } };
 
-    ghost invariant = { λ b. IsBook (hash_by ⟦<FoldHasher as Hasher>⟧.write ⟦<FoldHasher as Hasher>⟧.finish b.index.hasher) b.texts b.index.befores.items (place_at b.index.newest) b.limit };
+    ghost invariant = { λ b.
+        let hash = hash_by ⟦<FoldHasher as Hasher>⟧.write ⟦<FoldHasher as Hasher>⟧.finish b.index.hasher in
+        IsBook hash b.texts b.index.befores.items (place_at b.index.newest) b.limit };
 }
 
 impl Book {
@@ -114,7 +116,8 @@ impl Book {
 
         // It is full exactly where the text is new and the limit is reached.
         ensures full { (count : ℕ) → IsErrOf result (Full count)
-            → IsNew self.old.texts text.now × (count ≡ self.old.limit) × (length self.old.texts ≡ self.old.limit) }
+            → IsNew self.old.texts text.now × (count ≡ self.old.limit)
+            × (length self.old.texts ≡ self.old.limit) }
         ensures at_limit { IsNew self.old.texts text.now → length self.old.texts ≡ self.old.limit
             → IsErrOf result (Full self.old.limit) }
     {

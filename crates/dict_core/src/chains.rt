@@ -12,7 +12,8 @@ pub(crate) fn find(texts: &Texts, befores: &[u32], newest: u32, text: &[u8]) -> 
     requires linked { length befores.now ≤ length texts.now }
     ensures low { IfSome result (λ n. n < length befores.now) }
     ensures some { IfSome result (λ n. slice_get texts.now n ≡ Some text.now) }
-    ensures none { IfNone result ((k : ℕ) → InChain befores.now newest (suc k) → slice_get texts.now k ≢ Some text.now) }
+    ensures none { IfNone result ((k : ℕ) → InChain befores.now newest (suc k)
+        → slice_get texts.now k ≢ Some text.now) }
 {
     let mut place = newest;
     while place > 0 {

@@ -1,8 +1,8 @@
 //! The index of a book: from a text's hash to the texts that have it.
-ghost use Rattle.std.specs.Prelude.{◌≡◌, ℕ, ◌+◌, ◌-◌, ◌<◌, ◌≤◌, ◌==◌, if◌then◌else◌, [], ◌∷◌, ◌++◌, length, take, map, nat_eq, slice_index, vec_len, vec_capacity, OnOk, IsErrOf};
+ghost use Rattle.std.specs.Prelude.{◌≡◌, ℕ, ◌+◌, ◌-◌, ◌<◌, ◌≤◌, [], ◌∷◌, ◌++◌, length, take, map, nat_eq, slice_index, vec_len, vec_capacity, OnOk, IsErrOf};
 ghost use Rattle.indexmap.specs.IndexMap.{spare, IsUnchanged};
 ghost use Rattle.dict_core.specs.Books.{AreDistinct, StandsTwice};
-ghost use Rattle.dict_core.specs.Chains.{hash_by, place_at, IsChained};
+ghost use Rattle.dict_core.specs.Chains.{hash_by, place_at, Puts, IsChained};
 ghost use Rattle.dict_core.specs.declared.refusals.IndexRefusal.TheVariants.{Repeated};
 
 use crate::chains::find;
@@ -62,7 +62,8 @@ impl<H: Hasher + Copy> Index<H> {
         ensures newest { IsUnchanged self.old.newest self.new.newest }
         ensures befores { self.new.befores.items ≡ self.old.befores.items }
         ensures map { OnOk result (more ≤ spare self.new.newest) }
-        ensures room { OnOk result (vec_len self.new.befores + more ≤ vec_capacity self.new.befores) }
+        ensures room { OnOk result
+            (vec_len self.new.befores + more ≤ vec_capacity self.new.befores) }
     {
         self.newest.reserve(more)?;
         self.befores.reserve(more)
@@ -74,7 +75,7 @@ impl<H: Hasher + Copy> Index<H> {
         requires room { vec_len self.old.befores < vec_capacity self.old.befores }
         requires few { length self.old.befores.items < 4294967295 }
         ensures hasher { self.new.hasher ≡ self.old.hasher }
-        ensures newest { (h : ℕ) → place_at self.new.newest h ≡ (if h == hash then length self.old.befores.items + 1 else place_at self.old.newest h) }
+        ensures newest { Puts self.old.newest self.new.newest hash (length self.old.befores.items + 1) }
         ensures befores { self.new.befores.items ≡ self.old.befores.items ++ before ∷ [] }
         ensures spare { spare self.old.newest ≤ spare self.new.newest + 1 }
         ensures capacity { vec_capacity self.new.befores ≡ vec_capacity self.old.befores }
@@ -92,8 +93,10 @@ impl<H: Hasher + Copy> Index<H> {
         requires some { 0 < length self.old.befores.items }
         requires last { place_at self.old.newest hash ≡ length self.old.befores.items }
         ensures hasher { self.new.hasher ≡ self.old.hasher }
-        ensures newest { (h : ℕ) → place_at self.new.newest h ≡ (if h == hash then slice_index self.old.befores.items (length self.old.befores.items - 1) else place_at self.old.newest h) }
-        ensures befores { self.new.befores.items ≡ take (length self.old.befores.items - 1) self.old.befores.items }
+        ensures newest { let befores = self.old.befores.items in
+            Puts self.old.newest self.new.newest hash (slice_index befores (length befores - 1)) }
+        ensures befores { let befores = self.old.befores.items in
+            self.new.befores.items ≡ take (length befores - 1) befores }
     {
         let Some(before) = self.befores.pop() else {
             unreachable!()
@@ -108,7 +111,8 @@ impl<H: Hasher + Copy> Index<H> {
         requires newest { self.old.newest.entries ≡ [] }
         requires befores { self.old.befores.items ≡ [] }
         ensures hasher { self.new.hasher ≡ self.old.hasher }
-        ensures chained { OnOk result (IsChained (map (hash_by H.write H.finish self.old.hasher) texts.now) self.new.befores.items (place_at self.new.newest)) }
+        ensures chained { let hash = hash_by H.write H.finish self.old.hasher in
+            OnOk result (IsChained (map hash texts.now) self.new.befores.items (place_at self.new.newest)) }
         ensures distinct { OnOk result (AreDistinct texts.now) }
         ensures repeated { (n : ℕ) → IsErrOf result (Repeated n) → StandsTwice texts.now n }
     {

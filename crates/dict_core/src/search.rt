@@ -11,7 +11,8 @@ use memchr::memmem::Finder;
 /// It looks one text further, then two, four and so on, before it halves what lies between: most
 /// often the text stands near.
 fn holder(ends: &[usize], next: usize, at: usize) -> usize
-    requires rise { (j k : ℕ) → j ≤ k → k < length ends.now → slice_index ends.now j ≤ slice_index ends.now k }
+    requires rise { (j k : ℕ) → j ≤ k → k < length ends.now
+        → slice_index ends.now j ≤ slice_index ends.now k }
     requires some { next < length ends.now }
     requires within { at < slice_index ends.now (length ends.now - 1) }
     ensures low { next ≤ result }
@@ -31,7 +32,8 @@ fn holder(ends: &[usize], next: usize, at: usize) -> usize
 
 /// The number of the first text without bytes.
 fn first_empty(ends: &[usize]) -> Option<usize>
-    ensures { IsFirst (λ k. start_at ends.now k ≡ slice_index ends.now k) 0 (length ends.now) result }
+    ensures { let ends = ends.now in
+        IsFirst (λ k. start_at ends k ≡ slice_index ends k) 0 (length ends) result }
 {
     let mut start = 0;
     for (number, end) in ends.iter().enumerate() {
@@ -49,7 +51,8 @@ fn first_empty(ends: &[usize]) -> Option<usize>
 fn first_match(bytes: &[u8], ends: &[usize], finder: &Finder<'_>) -> Option<usize>
     requires rise { Rise 0 ends.now (length bytes.now) }
     requires some { 0 < length finder.now }
-    ensures { IsFirst (λ k. text_at bytes.now ends.now k ≡ finder.now) 0 (length ends.now) result }
+    ensures { let ends = ends.now in
+        IsFirst (λ k. text_at bytes.now ends k ≡ finder.now) 0 (length ends) result }
 {
     let len = finder.needle().len();
     let mut next = 0;
@@ -70,7 +73,8 @@ fn first_match(bytes: &[u8], ends: &[usize], finder: &Finder<'_>) -> Option<usiz
 /// The number of the first text with these bytes.
 pub(crate) fn first(bytes: &[u8], ends: &[usize], text: &[u8]) -> Option<usize>
     requires { Rise 0 ends.now (length bytes.now) }
-    ensures { IsFirst (λ n. slice_get (texts_from bytes.now 0 ends.now) n ≡ Some text.now) 0 (length ends.now) result }
+    ensures { let texts = texts_from bytes.now 0 ends.now in
+        IsFirst (λ n. slice_get texts n ≡ Some text.now) 0 (length ends.now) result }
 {
     if text.is_empty() {
         first_empty(ends)

@@ -45,10 +45,11 @@ impl Model for Texts {
     ghost Value = { List (List ℕ) };
 
     ghost use Rattle.dict_core.specs.Buffer.{texts_from, Rise};
+    ghost use Rattle.dict_core.specs.declared.texts.TheConstants.{MAX_TEXTS};
 
     ghost view = { λ t. texts_from t.bytes.items 0 t.ends.items };
 
-    ghost invariant = { λ t. Rise 0 t.ends.items (length t.bytes.items) × (length t.ends.items ≤ 2147483648) };
+    ghost invariant = { λ t. Rise 0 t.ends.items (length t.bytes.items) × (length t.ends.items ≤ MAX_TEXTS) };
 }
 
 impl Texts {
@@ -115,7 +116,8 @@ impl Texts {
     /// one pass over the buffer, and takes no memory.
     pub fn number_of(&self, text: &[u8]) -> Option<u32>
         ensures some { IfSome result (λ n. slice_get self.now n ≡ Some text.now) }
-        ensures first { IfSome result (λ n. (k : ℕ) → k < n → slice_get self.now k ≢ Some text.now) }
+        ensures first { IfSome result
+            (λ n. (k : ℕ) → k < n → slice_get self.now k ≢ Some text.now) }
         ensures none { IfNone result (IsNew self.now text.now) }
     {
         let number = first(self.bytes.as_slice(), self.ends.as_slice(), text)?;
