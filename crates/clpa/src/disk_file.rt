@@ -1,124 +1,87 @@
 //! A file as a disk. It tells no content, and counts one fault for each call that failed.
-ghost use Rattle.std.specs.Prelude.{◌≡◌, ◌≢◌, ◌≤◌, ℕ, List, length, None, Ok, Err, Some, IfOk, IfErr, OnOk, OnErr, is_ok, IsTrue, ◌↔◌, ◌⊎◌};
-ghost use Rattle.std.specs.IoError.{error_kind};
-ghost use Rattle.log_seams.specs.Outside.{Counts};
+ghost use Rattle.std.specs.Prelude.{◌≡◌, ◌≤◌, ◌<◌, ◌+◌, ◌^◌, length, None, IfOk, IfSome, OnOk, option_map};
+ghost use Rattle.log_seams.specs.Disk.{Gave, laid};
 
+use crate::faults::counted;
+use crate::place::{OffsetFile, Place};
 use log_seams::{Disk, Failed};
-use std::fs::{File, OpenOptions};
 use std::io::{self, ErrorKind};
-use std::os::fd::AsRawFd;
-use std::os::unix::fs::FileExt;
-use std::path::Path;
-use std::rt::Files;
 
-/// The count of bytes that no file can pass, since the system's places are of 63 bits.
+/// The count of bytes that no file can pass, since the system's offsets are of 63 bits.
 const MOST_BYTES: u64 = (1 << 63) - 1;
 
-/// A file that is not there is `None`; each other error stays.
-fn if_there(opened: io::Result<File>) -> io::Result<Option<File>>
-    ensures opened { IfOk opened (λ file. result ≡ Ok (Some file)) }
-    ensures absent { IfErr opened (λ e. error_kind e ≡ ErrorKind.NotFound → result ≡ Ok None) }
-    ensures failed { IfErr opened (λ e. error_kind e ≢ ErrorKind.NotFound → result ≡ Err e) }
+/// Reads from an offset into the front of the buffer, until it is full or the file ends. Answers how
+/// many bytes it read. A read that was interrupted is made again.
+pub(crate) fn read_full<F: OffsetFile>(
+    file: &mut F,
+    offset: u64,
+    buf: &mut [u8],
+) -> io::Result<usize>
+    ensures within { IfOk result (λ n. n ≤ length buf.old) }
+    ensures told { IfOk result (λ n. Gave (F.content file.old) offset n buf.old buf.new) }
+    ensures content { F.content file.new ≡ F.content file.old }
 {
-    match opened {
-        Ok(file) => Ok(Some(file)),
-        Err(error) if error.kind() == ErrorKind::NotFound => Ok(None),
-        Err(error) => Err(error),
-    }
-}
-
-/// A count that a signal interrupted is `None`, after which the call is to be made again; each other
-/// error stays.
-fn unless_interrupted(answer: io::Result<usize>) -> io::Result<Option<usize>>
-    ensures count { IfOk answer (λ n. result ≡ Ok (Some n)) }
-    ensures again { IfErr answer (λ e. error_kind e ≡ ErrorKind.Interrupted → result ≡ Ok None) }
-    ensures failed { IfErr answer (λ e. error_kind e ≢ ErrorKind.Interrupted → result ≡ Err e) }
-{
-    match answer {
-        Ok(count) => Ok(Some(count)),
-        Err(error) if error.kind() == ErrorKind::Interrupted => Ok(None),
-        Err(error) => Err(error),
-    }
-}
-
-/// Whether a file that cannot be opened for writing may still be opened for reading.
-fn refuses_writing(error: io::Error) -> bool
-    ensures { IsTrue result ↔ ((error_kind error ≡ ErrorKind.PermissionDenied) ⊎ (error_kind error ≡ ErrorKind.ReadOnlyFilesystem)) }
-{
-    let kind = error.kind();
-    kind == ErrorKind::PermissionDenied || kind == ErrorKind::ReadOnlyFilesystem
-}
-
-/// Opens a file for reading and writing, or for reading alone where that is all that it allows.
-fn open_if_there<R: Files<File = File>>(rt: &R, path: &str) -> io::Result<Option<File>> {
-    match OpenOptions::new().read(true).write(true).open(rt, path) {
-        Err(error) if refuses_writing(error) => if_there(File::open(rt, path)),
-        opened => if_there(opened),
-    }
-}
-
-/// A file whose number is none of the three of the standard streams: what is meant for a stream that
-/// was closed must not land in the file.
-fn above_streams(file: File) -> io::Result<File> {
-    if file.as_raw_fd() > 2 {
-        return Ok(file);
-    }
-    file.try_clone()
-}
-
-/// Reads from a place into the front of the buffer, until it is full or the file ends. Answers how
-/// many bytes it read.
-pub(crate) fn read_full<F: FileExt>(file: &F, at: u64, buf: &mut [u8]) -> io::Result<usize>
-    ensures { IfOk result (λ n. n ≤ length buf.old) }
-{
-    let wanted = buf.len().min(MOST_BYTES.saturating_sub(at) as usize);
+    let wanted = buf.len().min(MOST_BYTES.saturating_sub(offset) as usize);
     let mut filled = 0;
     for _ in 0..u64::MAX {
         if filled >= wanted {
             return Ok(filled);
         }
-        match unless_interrupted(file.read_at(&mut buf[filled..wanted], at + filled as u64))? {
-            Some(0) => return Ok(filled),
-            Some(count) => filled += count,
-            None => {}
+        let at = offset + filled as u64;
+        match file.read_some(&mut buf[filled..wanted], at) {
+            Ok(0) => return Ok(filled),
+            Ok(count) => filled += count,
+            Err(error) if error.kind() == ErrorKind::Interrupted => {}
+            Err(error) => return Err(error),
         }
     }
     Err(ErrorKind::TimedOut.into())
 }
 
-/// The folder that holds the file.
-fn folder_of(path: &str) -> Path<'_> {
-    match Path::new(path).parent() {
-        Some(folder) if !folder.as_str().is_empty() => folder,
-        _ => Path::new("."),
+/// Writes all of `bytes` at an offset. A write that was interrupted is made again.
+pub(crate) fn write_full<F: OffsetFile>(file: &mut F, offset: u64, bytes: &[u8]) -> io::Result<()>
+    requires { offset + length bytes.now ≤ 2 ^ 62 }
+    ensures { IfSome (F.content file.old) (λ old. offset ≤ length old) → OnOk result
+        (F.content file.new ≡ option_map (laid offset bytes.now) (F.content file.old)) }
+{
+    let mut done = 0;
+    for _ in 0..u64::MAX {
+        if done >= bytes.len() {
+            return Ok(());
+        }
+        let at = offset + done as u64;
+        match file.write_some(&bytes[done..], at) {
+            Ok(0) => return Err(ErrorKind::WriteZero.into()),
+            Ok(count) => done += count,
+            Err(error) if error.kind() == ErrorKind::Interrupted => {}
+            Err(error) => return Err(error),
+        }
     }
+    Err(ErrorKind::TimedOut.into())
 }
 
 /// A file that is opened at the first call that finds it, and made at the first write where nothing
-/// stands at its path.
+/// stands at its place.
 #[derive(Drop)]
-struct LazyFile<'p, R> {
-    rt: &'p R,
-    path: &'p str,
-    file: Option<File>,
+struct LazyFile<P, F> {
+    place: P,
+    file: Option<F>,
     folder_synced: bool,
 }
 
-impl<R: Files<File = File>> LazyFile<'_, R> {
+impl<P: Place> LazyFile<P, P::File> {
     /// Opens the file, where it is there and not open yet.
     fn find(&mut self) -> io::Result<()> {
         if self.file.is_none() {
-            if let Some(file) = open_if_there(self.rt, self.path)? {
-                self.file = Some(above_streams(file)?);
-            }
+            self.file = self.place.open()?;
         }
         Ok(())
     }
 
     fn len(&mut self) -> io::Result<u64> {
         self.find()?;
-        match &self.file {
-            Some(file) => Ok(file.metadata()?.len()),
+        match &mut self.file {
+            Some(file) => file.len(),
             None => Ok(0),
         }
     }
@@ -127,19 +90,21 @@ impl<R: Files<File = File>> LazyFile<'_, R> {
         ensures { IfOk result (λ n. n ≤ length buf.old) }
     {
         self.find()?;
-        match &self.file {
+        match &mut self.file {
             Some(file) => read_full(file, at, buf),
             None => Ok(0),
         }
     }
 
-    fn write(&mut self, at: u64, bytes: &[u8]) -> io::Result<()> {
+    fn write(&mut self, at: u64, bytes: &[u8]) -> io::Result<()>
+        requires { at + length bytes.now ≤ 2 ^ 62 }
+    {
         self.find()?;
-        let file = match self.file.take() {
+        let mut file = match self.file.take() {
             Some(file) => file,
-            None => above_streams(File::create_new(self.rt, self.path)?)?,
+            None => self.place.make()?,
         };
-        let written = file.write_all_at(bytes, at);
+        let written = write_full(&mut file, at, bytes);
         self.file = Some(file);
         written
     }
@@ -148,54 +113,37 @@ impl<R: Files<File = File>> LazyFile<'_, R> {
     /// as its bytes.
     fn sync(&mut self) -> io::Result<()> {
         self.find()?;
-        let Some(file) = &self.file else {
+        let Some(file) = &mut self.file else {
             return Ok(());
         };
-        file.sync_all()?;
+        file.sync()?;
         if !self.folder_synced {
-            File::open(self.rt, folder_of(self.path))?.sync_all()?;
+            self.place.sync_folder()?;
             self.folder_synced = true;
         }
         Ok(())
     }
 }
 
-/// Turns the answer of a call into that of the disk. A call that failed is one fault more.
-fn counted<T>(faults: &mut u64, answer: io::Result<T>) -> Result<T, Failed>
-    ensures ok { IfOk answer (λ value. result ≡ Ok value) }
-    ensures failed { is_ok result ≡ is_ok answer }
-    ensures steady { OnOk answer (faults.new ≡ faults.old) }
-    ensures cause { Counts faults.old faults.new result }
-{
-    match answer {
-        Ok(value) => Ok(value),
-        Err(_) => {
-            *faults = faults.saturating_add(1);
-            Err(Failed)
-        }
-    }
-}
-
-/// The bytes of the file at a path.
+/// The bytes of the file at a place.
 ///
-/// A path at which nothing stands is a disk without bytes, which can be read and synced; the first
+/// A place at which nothing stands is a disk without bytes, which can be read and synced; the first
 /// write makes the file, and fails where another process made it meanwhile or a link leads nowhere.
 /// A file that can only be read fails at each write.
 #[derive(Drop)]
-pub(crate) struct DiskFile<'p, R> {
-    file: LazyFile<'p, R>,
+pub(crate) struct DiskFile<P, F> {
+    file: LazyFile<P, F>,
     faults: u64,
 }
 
-impl<'p, R> DiskFile<'p, R> {
+impl<P, F> DiskFile<P, F> {
     /// A disk whose file was not looked for yet.
-    pub(crate) fn new(rt: &'p R, path: &'p str) -> Self
+    pub(crate) fn new(place: P) -> Self
         ensures { result.faults ≡ 0 }
     {
         DiskFile {
             file: LazyFile {
-                rt,
-                path,
+                place,
                 file: None,
                 folder_synced: false,
             },
@@ -204,7 +152,7 @@ impl<'p, R> DiskFile<'p, R> {
     }
 }
 
-impl<R: Files<File = File>> Disk for DiskFile<'_, R> {
+impl<P: Place> Disk for DiskFile<P, P::File> {
     ghost seen = { λ _. None };
 
     ghost images = { λ _ _. Unit {0} };

@@ -5,17 +5,24 @@
 mod disk_file;
 #[cfg(test)]
 mod disk_tests;
+#[cfg(test)]
+mod edge_tests;
+mod faults;
+#[cfg(test)]
+mod halting;
 mod log_file;
+mod place;
 mod stream;
 
 use clp_commands::run;
 use disk_file::DiskFile;
 use log_file::LogFiles;
 use log_seams::Sink;
+use place::FilePath;
 use std::alloc::AllocError;
 use std::env;
 use std::process::ExitCode;
-use stream::Stream;
+use stream::{Standard, Stream};
 
 /// What the words of the command line behind the program's name give.
 #[derive(Drop)]
@@ -51,15 +58,21 @@ fn command_line(rt: &HostRuntime) -> Result<CommandLine, AllocError> {
 }
 
 fn main(rt: HostRuntime) -> ExitCode {
-    let mut out = Stream::output(rt.stdout());
-    let mut err = Stream::errors(rt.stderr());
+    let mut out = Stream::new(Standard::Output(rt.stdout()));
+    let mut err = Stream::new(Standard::Errors(rt.stderr()));
     let Ok(line) = command_line(&rt) else {
         let _ = err.write(b"clpa: out of memory\n");
         return ExitCode::from(9);
     };
     let mut logs = LogFiles::new(&rt);
-    let mut archive = DiskFile::new(&rt, line.archive.as_str());
-    let mut second = DiskFile::new(&rt, line.second.as_str());
+    let mut archive = DiskFile::new(FilePath {
+        rt: &rt,
+        path: line.archive.as_str(),
+    });
+    let mut second = DiskFile::new(FilePath {
+        rt: &rt,
+        path: line.second.as_str(),
+    });
     let status = run(
         &rt,
         rt.alloc(),

@@ -1,6 +1,11 @@
 use Rattle.std.proofs.Common.{◌≡◌, ◌≤◌, length}
+use Rattle.std.specs.Prelude.{IfSome}
+use Rattle.clpa.proofs.OffsetLemmas.{Filled}
 use Rattle.clpa.proofs.disk_file.read_full.Given as goal
 
--- what was filled is no more than was wanted, and the buffer keeps its length
+-- what was filled is no more than was wanted and holds the bytes at the offset, and the buffer keeps its length
 abbrev pub invariant-loop : goal.invariant-loop
-invariant-loop g l = (l.filled ≤ l.wanted) × (length l.buf ≡ length l.initial.buf)
+invariant-loop g l =
+    (l.filled ≤ l.wanted) × (length l.buf ≡ length l.initial.buf)
+    × (g.F.OffsetFile.content l.file ≡ g.F.OffsetFile.content l.fn.file)
+    × IfSome (g.F.OffsetFile.content l.fn.file) (λ bytes. Filled bytes l.offset l.filled l.buf)

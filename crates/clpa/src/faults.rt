@@ -1,0 +1,22 @@
+//! What the answers of the system's calls are to the store.
+ghost use Rattle.std.specs.Prelude.{◌≡◌, Ok, IfOk, OnOk, is_ok};
+ghost use Rattle.log_seams.specs.Outside.{Counts};
+
+use log_seams::Failed;
+use std::io;
+
+/// Turns the answer of a call into that of the store's traits. A call that failed is one fault more.
+pub(crate) fn counted<T>(faults: &mut u64, answer: io::Result<T>) -> Result<T, Failed>
+    ensures ok { IfOk answer (λ value. result ≡ Ok value) }
+    ensures failed { is_ok result ≡ is_ok answer }
+    ensures steady { OnOk answer (faults.new ≡ faults.old) }
+    ensures cause { Counts faults.old faults.new result }
+{
+    match answer {
+        Ok(value) => Ok(value),
+        Err(_) => {
+            *faults = faults.saturating_add(1);
+            Err(Failed)
+        }
+    }
+}

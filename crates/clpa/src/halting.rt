@@ -1,0 +1,146 @@
+//! A file, a log and a stream for the tests, whose calls are interrupted and give or take a part of
+//! what they are asked for.
+ghost use Rattle.std.specs.Prelude.{◌≤◌, None, length, IfOk};
+
+use crate::log_file::Input;
+use crate::place::{OffsetFile, Place};
+use crate::stream::Output;
+use std::alloc::Global;
+use std::cell::Cell;
+use std::io::{self, ErrorKind};
+
+/// Bytes of which the first call of each three is interrupted, the second gives or takes one, and the
+/// third as many as there is room for. The call of one number fails.
+#[derive(Drop)]
+pub(crate) struct Halting<'t> {
+    pub(crate) bytes: Vec<u8>,
+    /// How many bytes of it were read.
+    pub(crate) done: usize,
+    pub(crate) calls: u64,
+    pub(crate) fails: u64,
+    /// What was called, one digit a call: 2 for a sync of the file.
+    pub(crate) trace: &'t Cell<u64>,
+}
+
+/// Adds a digit to what was called.
+fn note(trace: &Cell<u64>, digit: u64) {
+    trace.set(trace.get().wrapping_mul(10).wrapping_add(digit));
+}
+
+impl<'t> Halting<'t> {
+    /// A file with these bytes.
+    pub(crate) fn new(bytes: Vec<u8>, fails: u64, trace: &'t Cell<u64>) -> Halting<'t> {
+        Halting {
+            bytes,
+            done: 0,
+            calls: 0,
+            fails,
+            trace,
+        }
+    }
+
+    /// How many of so many bytes the next call gives or takes.
+    fn share(&mut self, most: usize) -> io::Result<usize>
+        ensures { IfOk result (λ n. n ≤ most) }
+    {
+        let call = self.calls;
+        self.calls = call.wrapping_add(1);
+        if call == self.fails {
+            return Err(ErrorKind::Other.into());
+        }
+        match call % 3 {
+            0 => Err(ErrorKind::Interrupted.into()),
+            1 => Ok(most.min(1)),
+            _ => Ok(most),
+        }
+    }
+
+    /// Copies bytes from an offset on to the front of the buffer.
+    fn give(&mut self, buf: &mut [u8], offset: usize) -> io::Result<usize>
+        ensures { IfOk result (λ n. n ≤ length buf.old) }
+    {
+        let count = self.share(buf.len())?;
+        let Some(there) = self.bytes.as_slice().get(offset..) else {
+            return Ok(0);
+        };
+        let count = count.min(there.len());
+        buf[..count].copy_from_slice(&there[..count]);
+        Ok(count)
+    }
+}
+
+impl Input for Halting<'_> {
+    ghost left = { λ _. None };
+
+    fn read_some(&mut self, buf: &mut [u8]) -> io::Result<usize> {
+        let count = self.give(buf, self.done)?;
+        self.done = self.done.saturating_add(count);
+        Ok(count)
+    }
+}
+
+impl Output for Halting<'_> {
+    ghost taken = { λ _. None };
+
+    fn write_some(&mut self, bytes: &[u8]) -> io::Result<usize> {
+        let count = self.share(bytes.len())?;
+        self.bytes.extend_from_slice(&bytes[..count])?;
+        Ok(count)
+    }
+}
+
+impl OffsetFile for Halting<'_> {
+    ghost content = { λ _. None };
+
+    fn len(&mut self) -> io::Result<u64> {
+        Ok(self.bytes.len() as u64)
+    }
+
+    fn read_some(&mut self, buf: &mut [u8], offset: u64) -> io::Result<usize> {
+        self.give(buf, offset as usize)
+    }
+
+    fn write_some(&mut self, bytes: &[u8], offset: u64) -> io::Result<usize> {
+        let count = self.share(bytes.len())?;
+        self.bytes.truncate(offset as usize);
+        self.bytes.extend_from_slice(&bytes[..count])?;
+        Ok(count)
+    }
+
+    fn sync(&mut self) -> io::Result<()> {
+        note(self.trace, 2);
+        Ok(())
+    }
+
+    ghost bounded = { λ _. tt };
+}
+
+/// A place at which nothing stands, and whose folder fails at its first sync.
+#[derive(Drop)]
+pub(crate) struct EmptyPlace<'t> {
+    pub(crate) alloc: Global,
+    pub(crate) folder_fails: bool,
+    /// What was called, one digit a call: 1 for making the file, 3 for a sync of the folder.
+    pub(crate) trace: &'t Cell<u64>,
+}
+
+impl<'t> Place for EmptyPlace<'t> {
+    type File = Halting<'t>;
+
+    fn open(&self) -> io::Result<Option<Halting<'t>>> {
+        Ok(None)
+    }
+
+    fn make(&self) -> io::Result<Halting<'t>> {
+        note(self.trace, 1);
+        Ok(Halting::new(Vec::new(self.alloc), u64::MAX, self.trace))
+    }
+
+    fn sync_folder(&self) -> io::Result<()> {
+        note(self.trace, 3);
+        if self.folder_fails {
+            return Err(ErrorKind::Other.into());
+        }
+        Ok(())
+    }
+}
