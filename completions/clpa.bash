@@ -5,11 +5,12 @@ _clpa() {
     COMPREPLY=()
     case $COMP_CWORD:$command in
         1:*) compopt -o default ;;
-        2:*) mapfile -t COMPREPLY < <(compgen -W 'show scan create' -- "$word") ;;
+        2:*) mapfile -t COMPREPLY < <(compgen -W 'create scan show' -- "$word") ;;
         3:show | 4:scan) compopt -o default ;;
         *:create)
-            [[ $word != -* ]] || compopt -o nospace
-            mapfile -t COMPREPLY < <(compgen -W '--types= --words= --bytes=' -- "$word") ;;
+            mapfile -t COMPREPLY < <(compgen -W '--bytes= --types= --words=' -- "$word")
+            compopt -o nospace
+            ;;
     esac
 }
 
