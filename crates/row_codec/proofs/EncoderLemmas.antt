@@ -1,0 +1,246 @@
+-- What an encoder read and named is the row of its message.
+use Rattle.std.proofs.Common.{◌≡◌, ℕ, ◌+◌, ◌-◌, ◌*◌, ◌<◌, ◌≤◌, zero, suc, Bool, true, false, cond, List, [], ◌∷◌, ◌++◌, length, map, take, drop, get_or, refl, sym, ◌∙◌, ap, ap₂, subst, arith, inl, inr, length-append, length-drop, length-take-le, take-append-drop}
+use Rattle.std.specs.Prelude.{ℤ, Option, None, Some, All, IfNone, IfSome, nat_le, slice_get, slice_range}
+use Rattle.std.proofs.lemmas.List.{take_rest}
+use Rattle.std.specs.List.{AllZip, Contains}
+use Rattle.std.proofs.lemmas.Bool.{cases_Bool, cases_eq}
+use Rattle.std.proofs.lemmas.Bool.Decides.{nat_tests}
+use Rattle.std.proofs.lemmas.List.Elements.{All-map, All-weaker}
+use Rattle.std.proofs.lemmas.Option.{get_or_from_slice_get, slice_get_within}
+use Rattle.var_codec.specs.Codes.{Codes}
+use Rattle.var_codec.specs.declared.Coded.{Coded}
+use Rattle.var_codec.specs.declared.Coded.TheVariants.{Whole as WholeWord, Decimal as DecimalWord, Word as DictionaryWord}
+use Rattle.logtype_text.specs.declared.symbols.Kind.{Kind}
+use Rattle.logtype_text.specs.declared.symbols.Kind.TheVariants.{Whole, Word, Decimal}
+use Rattle.logtype_text.specs.declared.symbols.Symbol.{Symbol}
+use Rattle.logtype_text.specs.declared.symbols.Symbol.TheVariants.{Byte, Slot}
+use Rattle.logtype_text.specs.declared.spans.Span.{Span}
+use Rattle.logtype_text.specs.declared.TheConstants.{MAX_TYPE_LEN, MAX_WORD_LEN}
+use Rattle.logtype_text.specs.Parts.{Part, Constant, Variable, AreParts, StandAt, joined, kind_of, symbol_of}
+use Rattle.logtype_text.specs.TypeText.{IsGood, is_escaped, text_of_symbol, type_text}
+use Rattle.logtype_text.specs.Encoded.{AreCoded, AreWithin, IsEncoded, texts_at, word_texts}
+use Rattle.logtype_text.specs.Fair.{IsFairType, IsFairWord}
+use Rattle.logtype_text.specs.Laws.{GoodIsTypeText}
+use Rattle.logtype_text.proofs.PartsLemmas.{length-range}
+use Rattle.time_patterns.specs.Stamps.{Fits, HasStamp, IsStamp, IsStampOf}
+use Rattle.time_patterns.specs.Forms.{forms}
+use Rattle.time_patterns.specs.declared.stamps.Stamp.{Stamp}
+use Rattle.column_store.specs.declared.row.Row.{Row}
+use Rattle.row_codec.specs.Means.{EachWord, HasWord, HasStampText, IsCanonical, Means}
+use Rattle.row_codec.specs.declared.namer.Which.{Which}
+use Rattle.row_codec.specs.declared.namer.Which.TheVariants.{Types, Words}
+use Rattle.row_codec.specs.Messages.{IsCutInto, IsTypeOf, IsWordOf}
+use Rattle.row_codec.specs.Naming.{AreNumbers, HasGrown, Known, MeetsLimit, MetLimit}
+use Rattle.row_codec.specs.Numbers.{kinds_from, word_numbers}
+use Rattle.row_codec.specs.Steps.{front_of, words_of}
+use Rattle.row_codec.proofs.StampLemmas.{fits_front, has_stamp, stamp_front}
+
+-- the words that were made are those of the parts
+pub words_are : (words : List (List ℕ)) (parts : List Part) (codes : List Coded) (numbers : List ℕ) → AreCoded parts codes → AreNumbers words numbers (word_texts parts) → EachWord (HasWord words) parts (words_of codes numbers)
+words_are words [] [] numbers coded named = tt
+words_are words [] (c ∷ codes) numbers coded named = absurd coded
+words_are words (Constant b ∷ parts) codes numbers coded named = words_are words parts codes numbers coded named
+words_are words (Variable kind text ∷ parts) [] numbers coded named = absurd coded
+words_are words (Variable Whole text ∷ parts) (WholeWord n ∷ codes) numbers coded named = ((n, coded.0, refl), words_are words parts codes numbers coded.2 named)
+words_are words (Variable Whole text ∷ parts) (DecimalWord w ∷ codes) numbers coded named = absurd (cc (coded.1))
+words_are words (Variable Whole text ∷ parts) (DictionaryWord ∷ codes) numbers coded named = absurd (cc (coded.1))
+words_are words (Variable Decimal text ∷ parts) (WholeWord n ∷ codes) numbers coded named = absurd (cc (coded.1))
+words_are words (Variable Decimal text ∷ parts) (DecimalWord w ∷ codes) numbers coded named = (coded.0, words_are words parts codes numbers coded.2 named)
+words_are words (Variable Decimal text ∷ parts) (DictionaryWord ∷ codes) numbers coded named = absurd (cc (coded.1))
+words_are words (Variable Word text ∷ parts) (WholeWord n ∷ codes) numbers coded named = absurd (cc (coded.1))
+words_are words (Variable Word text ∷ parts) (DecimalWord w ∷ codes) numbers coded named = absurd (cc (coded.1))
+words_are words (Variable Word text ∷ parts) (DictionaryWord ∷ codes) [] coded named = absurd named
+words_are words (Variable Word text ∷ parts) (DictionaryWord ∷ codes) (n ∷ numbers) coded named = ((coded.0, named.0), words_are words parts codes numbers coded.2 named.1)
+
+-- the kinds of slots, from the left
+abbrev pub slots : List Part → List Kind
+slots [] = []
+slots (Constant b ∷ parts) = slots parts
+slots (Variable kind text ∷ parts) = kind ∷ slots parts
+
+-- a constant byte's text has no slot
+kinds_byte : (b : ℕ) (e : Bool) (rest : List ℕ) → is_escaped b ≡ e → kinds_from false (cond e (0x5C ∷ b ∷ []) (b ∷ []) ++ rest) ≡ kinds_from false rest
+kinds_byte b true rest is = refl
+kinds_byte b false rest is = grind (arith, nat_tests)
+
+pub kinds_are : (parts : List Part) → kinds_from false (type_text (map symbol_of parts)) ≡ slots parts
+kinds_are [] = refl
+kinds_are (Constant b ∷ parts) = kinds_byte b (is_escaped b) (type_text (map symbol_of parts)) refl ∙ kinds_are parts
+kinds_are (Variable Whole text ∷ parts) = ap (λ l. Whole ∷ l) (kinds_are parts)
+kinds_are (Variable Word text ∷ parts) = ap (λ l. Word ∷ l) (kinds_are parts)
+kinds_are (Variable Decimal text ∷ parts) = ap (λ l. Decimal ∷ l) (kinds_are parts)
+
+-- the dictionary numbers among the words are those that were given
+pub numbers_are : (words : List (List ℕ)) (parts : List Part) (codes : List Coded) (numbers : List ℕ) → AreCoded parts codes → AreNumbers words numbers (word_texts parts) → word_numbers (slots parts) (words_of codes numbers) ≡ numbers
+numbers_are words [] [] [] coded named = refl
+numbers_are words [] [] (n ∷ numbers) coded named = absurd named
+numbers_are words [] (c ∷ codes) numbers coded named = absurd coded
+numbers_are words (Constant b ∷ parts) codes numbers coded named = numbers_are words parts codes numbers coded named
+numbers_are words (Variable kind text ∷ parts) [] numbers coded named = absurd coded
+numbers_are words (Variable Whole text ∷ parts) (WholeWord n ∷ codes) numbers coded named = numbers_are words parts codes numbers coded.2 named
+numbers_are words (Variable Whole text ∷ parts) (DecimalWord w ∷ codes) numbers coded named = absurd (cc (coded.1))
+numbers_are words (Variable Whole text ∷ parts) (DictionaryWord ∷ codes) numbers coded named = absurd (cc (coded.1))
+numbers_are words (Variable Decimal text ∷ parts) (WholeWord n ∷ codes) numbers coded named = absurd (cc (coded.1))
+numbers_are words (Variable Decimal text ∷ parts) (DecimalWord w ∷ codes) numbers coded named = numbers_are words parts codes numbers coded.2 named
+numbers_are words (Variable Decimal text ∷ parts) (DictionaryWord ∷ codes) numbers coded named = absurd (cc (coded.1))
+numbers_are words (Variable Word text ∷ parts) (WholeWord n ∷ codes) numbers coded named = absurd (cc (coded.1))
+numbers_are words (Variable Word text ∷ parts) (DecimalWord w ∷ codes) numbers coded named = absurd (cc (coded.1))
+numbers_are words (Variable Word text ∷ parts) (DictionaryWord ∷ codes) [] coded named = absurd named
+numbers_are words (Variable Word text ∷ parts) (DictionaryWord ∷ codes) (n ∷ numbers) coded named = ap (λ l. n ∷ l) (numbers_are words parts codes numbers coded.2 named.1)
+
+-- a log type's text has at most twice as many bytes as the body
+symbol_short : (b : ℕ) (e : Bool) → length (cond e (0x5C ∷ b ∷ []) (b ∷ [])) ≤ 2
+symbol_short b true = omega arith
+symbol_short b false = omega arith
+
+text_short : (body : List ℕ) (at : ℕ) (parts : List Part) → StandAt body at parts → length (type_text (map symbol_of parts)) ≤ 2 * length (joined parts)
+text_short body at [] stand = omega arith
+text_short body at (Constant b ∷ parts) stand =
+    let rest = text_short body (at + 1) parts stand.1 in
+    let here = symbol_short b (is_escaped b) in
+    omega (arith, length-append (text_of_symbol (Byte b)) (type_text (map symbol_of parts)))
+text_short body at (Variable kind text ∷ parts) stand =
+    let rest = text_short body (at + length text) parts stand.2 in
+    let some = stand.0.token.not_empty in
+    omega (arith, length-append text (joined parts))
+
+pub fair_type : GoodIsTypeText → (body text : List ℕ) (codes : List Coded) (places : List Span) → IsEncoded body text codes places → length body ≤ MAX_WORD_LEN → IsFairType text
+fair_type good body text codes places is short = record {
+  good = (good text).1 (map symbol_of is.parts, sym is.typed);
+  short = omega (arith, text_short body 0 is.parts is.are.stand, ap length is.typed, ap length is.are.joins);
+}
+
+pub fair_words : (body : List ℕ) (places : List Span) → AreWithin body places → length body ≤ MAX_WORD_LEN → All IsFairWord (texts_at body places)
+fair_words body places within short =
+    All-map IsFairWord (λ (s : Span). slice_range body s.start s.end) places
+    (All-weaker (λ (s : Span). (s.start < s.end) × (s.end ≤ length body)) (λ (s : Span). IsFairWord (slice_range body s.start s.end))
+    (λ s inside. let long = length-range body s.start s.end inside.1 in record { some = omega (arith, inside.0, inside.1); short = omega (arith, inside.0, inside.1) }) places within)
+
+-- a message and the parts of its body behind the stamp
+pub record HasParts (version : ℕ) (line : List ℕ) (pattern : ℕ) (moment : ℤ) (n : ℕ) (parts : List Part) : Type 0 where
+  pub stamped : HasStamp version line pattern moment n
+  pub are : AreParts (drop n line) parts
+
+abbrev pub cut_into : (version : ℕ) (line : List ℕ) (pattern : ℕ) (moment : ℤ) (n : ℕ) (parts : List Part) → HasParts version line pattern moment n parts → IsCutInto version line parts
+cut_into version line pattern moment n parts has =
+    let front = stamp_front version line pattern moment n has.stamped in
+    let long : length (take n line) ≡ n = length-take-le n line front.1 in
+    record {
+      stamp = take n line;
+      pattern = pattern;
+      moment = moment;
+      stamped = subst (λ m. HasStamp version line pattern moment m) (sym long) has.stamped;
+      is = sym (ap (λ l. take n line ++ l) has.are.joins ∙ take-append-drop n line);
+      body = subst (λ l. AreParts l parts) (sym has.are.joins) has.are;
+    }
+
+pub canonical : (version : ℕ) (line : List ℕ) (row : Row) (n : ℕ) (parts : List Part) (types words : List (List ℕ))
+    → HasParts version line row.pattern row.moment n parts
+    → slice_get types row.log_type ≡ Some (type_text (map symbol_of parts)) → EachWord (HasWord words) parts row.words
+    → IsCanonical version row types words line
+canonical version line row n parts types words has typed coded =
+    let front = stamp_front version line row.pattern row.moment n has.stamped in
+    let cut = cut_into version line row.pattern row.moment n parts has in
+    record {
+      means = record { stamp = take n line; parts = parts; typed = typed; coded = coded; stamped = front.0; is = cut.is };
+      body = cut.body;
+      stamp = cut.stamped;
+    }
+
+-- the dictionary numbers of the row that was made
+pub row_numbers : (types : List (List ℕ)) (log_type : ℕ) (parts : List Part) (words : List (List ℕ)) (codes : List Coded) (numbers : List ℕ) → slice_get types log_type ≡ Some (type_text (map symbol_of parts)) → AreCoded parts codes → AreNumbers words numbers (word_texts parts) → word_numbers (kinds_from false (get_or types log_type [])) (words_of codes numbers) ≡ numbers
+row_numbers types log_type parts words codes numbers typed coded named =
+    ap (λ t. word_numbers (kinds_from false t) (words_of codes numbers)) (get_or_from_slice_get types log_type (type_text (map symbol_of parts)) [] typed)
+    ∙ ap (λ k. word_numbers k (words_of codes numbers)) (kinds_are parts) ∙ numbers_are words parts codes numbers coded named
+
+-- what the namer added are texts of the message
+pub types_grown : (version : ℕ) (line : List ℕ) (pattern : ℕ) (moment : ℤ) (n : ℕ) (parts : List Part) (text : List ℕ) (old new : Known)
+    → HasParts version line pattern moment n parts → text ≡ type_text (map symbol_of parts) → HasGrown (λ t. t ≡ text) old new
+    → HasGrown (IsTypeOf version line) old new
+types_grown version line pattern moment n parts text old new has typed grown = record {
+  limit = grown.limit;
+  front = grown.front;
+  more = grown.more;
+  added = grown.added;
+  allowed = All-weaker (λ (t : List ℕ). t ≡ text) (IsTypeOf version line) (λ t same. (parts, cut_into version line pattern moment n parts has, same ∙ typed)) grown.more grown.allowed;
+}
+
+pub words_grown : (version : ℕ) (line : List ℕ) (pattern : ℕ) (moment : ℤ) (n : ℕ) (parts : List Part) (texts : List (List ℕ)) (old new : Known)
+    → HasParts version line pattern moment n parts → texts ≡ word_texts parts → HasGrown (Contains texts) old new
+    → HasGrown (IsWordOf version line) old new
+words_grown version line pattern moment n parts texts old new has same grown = record {
+  limit = grown.limit;
+  front = grown.front;
+  more = grown.more;
+  added = grown.added;
+  allowed = All-weaker (Contains texts) (IsWordOf version line) (λ t held. (parts, cut_into version line pattern moment n parts has, subst (λ l. Contains l t) same held)) grown.more grown.allowed;
+}
+
+-- a dictionary is full
+pub types_full : (version : ℕ) (line : List ℕ) (pattern : ℕ) (moment : ℤ) (n : ℕ) (parts : List Part) (text : List ℕ) (book : Which) (count : ℕ) (types before words : Known)
+    → HasParts version line pattern moment n parts → text ≡ type_text (map symbol_of parts) → book ≡ Types → MetLimit types (text ∷ []) count → words ≡ before
+    → MeetsLimit version line book count types before words
+types_full version line pattern moment n parts text book count types before words has typed is met same =
+    subst (λ b. MeetsLimit version line b count types before words) (sym is)
+    (parts, cut_into version line pattern moment n parts has, subst (λ t. MetLimit types (t ∷ []) count) typed met, same)
+
+pub words_full : (version : ℕ) (line : List ℕ) (pattern : ℕ) (moment : ℤ) (n : ℕ) (parts : List Part) (text : List ℕ) (texts : List (List ℕ)) (book : Which) (count number : ℕ) (types before words : Known)
+    → HasParts version line pattern moment n parts → text ≡ type_text (map symbol_of parts) → texts ≡ word_texts parts → book ≡ Words
+    → slice_get types.texts number ≡ Some text → MetLimit words texts count
+    → MeetsLimit version line book count types before words
+words_full version line pattern moment n parts text texts book count number types before words has typed same is named met =
+    subst (λ b. MeetsLimit version line b count types before words) (sym is)
+    (parts, cut_into version line pattern moment n parts has, (number, named ∙ ap (λ (t : List ℕ). Some t) typed), subst (λ l. MetLimit words l count) same met)
+
+-- the types that are known once the words were named too
+pub types_stay : (version : ℕ) (line : List ℕ) (pattern : ℕ) (moment : ℤ) (n : ℕ) (parts : List Part) (text : List ℕ) (old mid new : Known)
+    → HasParts version line pattern moment n parts → text ≡ type_text (map symbol_of parts) → HasGrown (λ t. t ≡ text) old mid → new ≡ mid
+    → HasGrown (IsTypeOf version line) old new
+types_stay version line pattern moment n parts text old mid new has typed grown same =
+    subst (λ k. HasGrown (IsTypeOf version line) old k) (sym same) (types_grown version line pattern moment n parts text old mid has typed grown)
+
+-- the words that are known after both
+pub words_came : (version : ℕ) (line : List ℕ) (pattern : ℕ) (moment : ℤ) (n : ℕ) (parts : List Part) (texts : List (List ℕ)) (old mid new : Known)
+    → HasParts version line pattern moment n parts → texts ≡ word_texts parts → HasGrown (Contains texts) mid new → mid ≡ old
+    → HasGrown (IsWordOf version line) old new
+words_came version line pattern moment n parts texts old mid new has same grown before =
+    subst (λ k. HasGrown (IsWordOf version line) k new) before (words_grown version line pattern moment n parts texts mid new has same grown)
+
+-- the texts at places that the code passes on
+pub lent_texts : (line : List ℕ) (n : ℕ) (places lent : List Span) (texts : List (List ℕ)) → lent ≡ places → texts_at (drop n line) places ≡ texts → texts_at (take (length line - n) (drop n line)) lent ≡ texts
+lent_texts line n places lent texts same are =
+    ap (λ l. texts_at l lent) (take_rest line n) ∙ ap (λ l. texts_at (drop n line) l) same ∙ are
+
+-- the patterns below version 3
+below_three : (version : ℕ) → version < 3 → nat_le 3 version ≡ false
+below_three zero low = refl
+below_three (suc zero) low = refl
+below_three (suc (suc zero)) low = refl
+below_three (suc (suc (suc n))) low = absurd (omega arith)
+
+pattern_between : (line : List ℕ) (k : ℕ) (moment : ℤ) (n : ℕ) → Fits line k moment n → (1 ≤ k) × (k ≤ 10)
+pattern_between line k moment n fits =
+    let is = fits.1.1 in
+    let low = is.0 in
+    let within = slice_get_within forms (k - 1) fits.1.0 is.1 in
+    (low, omega (arith, within))
+
+stamp_below : (version : ℕ) (line : List ℕ) (k : ℕ) (moment : ℤ) (n : ℕ) → nat_le 3 version ≡ false → IsStamp line k moment n → IsStampOf version line k moment n
+stamp_below version line k moment n low is =
+    let between = pattern_between line k moment n is.fits in
+    record {
+      pattern = (subst (λ b. cond b 11 1 ≤ k) (sym low) between.0, subst (λ b. k ≤ cond b 26 10) (sym low) between.1);
+      fits = is.fits;
+      least = λ j m l _ before. is.least j m l before;
+    }
+
+-- the front of a line
+pub front_is : (version : ℕ) (line : List ℕ) (o : Option Stamp) → version < 3
+    → IfSome o (λ s. IsStamp line s.pattern s.moment s.len) → IfNone o ((k : ℕ) (moment : ℤ) (n : ℕ) → ¬ Fits line k moment n)
+    → HasStamp version line (front_of o).pattern (front_of o).moment (front_of o).len
+front_is version line None low some none = (λ k moment n _. none k moment n, refl, refl)
+front_is version line (Some s) low some none = has_stamp version line s.pattern s.moment s.len (stamp_below version line s.pattern s.moment s.len (below_three version low) some)
+
+pub front_inside : (line : List ℕ) (o : Option Stamp) → IfSome o (λ s. IsStamp line s.pattern s.moment s.len) → (front_of o).len ≤ length line
+front_inside line None some = omega arith
+front_inside line (Some s) some = (fits_front line s.pattern s.moment s.len some.fits).1

@@ -1,0 +1,26 @@
+-- Stamps as rows keep them.
+use Rattle.std.proofs.Common.{◌≡◌, ℕ, ◌-◌, ◌<◌, ◌≤◌, zero, suc, true, false, Bool, cond, List, [], ◌∷◌, ◌++◌, length, take, drop, refl, sym, ◌∙◌, ap, subst, arith, inl, inr, length-append}
+use Rattle.std.specs.Prelude.{ℤ, pos, nat_le}
+use Rattle.std.proofs.lemmas.Bool.{cases_Bool}
+use Rattle.std.proofs.lemmas.List.{take_at}
+use Rattle.time_patterns.specs.Stamps.{Fits, HasNoStamp, HasStamp, IsPatternOf, IsStampOf, Prints, first_pattern}
+use Rattle.row_codec.specs.Means.{HasStampText}
+
+-- a pattern of a version is not 0
+no_pattern : (micro : Bool) → cond micro 11 1 ≤ 0 → ⊥
+no_pattern true low = omega arith
+no_pattern false low = omega arith
+
+pub has_stamp : (version : ℕ) (line : List ℕ) (k : ℕ) (moment : ℤ) (n : ℕ) → IsStampOf version line k moment n → HasStamp version line k moment n
+has_stamp version line zero moment n is = absurd (no_pattern (nat_le 3 version) is.pattern.0)
+has_stamp version line (suc k) moment n is = is
+
+-- what fits a line stands at its front
+pub fits_front : (line : List ℕ) (k : ℕ) (moment : ℤ) (n : ℕ) → Fits line k moment n → Prints k moment (take n line) × (n ≤ length line)
+fits_front line k moment n (text, prints, (rest, cut, ends, long)) =
+    let front : take n line ≡ text = ap (λ l. take n l) cut ∙ take_at text rest n long in
+    (subst (λ t. Prints k moment t) (sym front) prints, omega (arith, ap length cut, length-append text rest))
+
+pub stamp_front : (version : ℕ) (line : List ℕ) (k : ℕ) (moment : ℤ) (n : ℕ) → HasStamp version line k moment n → HasStampText k moment (take n line) × (n ≤ length line)
+stamp_front version line zero moment n has = ((has.1, ap (λ m. take m line) has.2), omega (arith, has.2))
+stamp_front version line (suc k) moment n has = fits_front line (suc k) moment n has.fits

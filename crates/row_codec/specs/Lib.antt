@@ -1,0 +1,6 @@
+pub mod Encoding
+pub mod Means
+pub mod Messages
+pub mod Naming
+pub mod Numbers
+pub mod Steps

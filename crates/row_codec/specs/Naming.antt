@@ -1,0 +1,60 @@
+-- What is known of a dictionary, and how naming texts changes it.
+use Rattle.std.specs.Prelude.{◌≡◌, ◌≢◌, ℕ, ◌<◌, List, [], ◌∷◌, ◌++◌, length, map, Some, slice_get, All}
+use Rattle.std.specs.List.{AllZip}
+use mathlib.Core.List.{IsPrefix}
+use Rattle.logtype_text.specs.Parts.{Part, symbol_of}
+use Rattle.logtype_text.specs.TypeText.{type_text}
+use Rattle.logtype_text.specs.Encoded.{word_texts}
+use Rattle.row_codec.specs.declared.namer.Which.{Which}
+use Rattle.row_codec.specs.declared.namer.Which.TheVariants.{Types, Words}
+use Rattle.row_codec.specs.Messages.{IsCutInto}
+
+-- no text has two numbers
+abbrev pub AreDistinct : List (List ℕ) → Type 0
+AreDistinct texts =
+    (i j : ℕ) (text : List ℕ) → slice_get texts i ≡ Some text → slice_get texts j ≡ Some text → i ≡ j
+
+-- the text has no number
+abbrev pub IsNew : List (List ℕ) → List ℕ → Type 0
+IsNew texts text = (i : ℕ) → slice_get texts i ≢ Some text
+
+-- these are the numbers of the texts, in order
+abbrev pub AreNumbers : List (List ℕ) → List ℕ → List (List ℕ) → Type 0
+AreNumbers known numbers texts = AllZip (λ number text. slice_get known number ≡ Some text) numbers texts
+
+-- what a namer knows of one dictionary: texts by their numbers, those that it added itself, and how
+-- many there may be
+pub record Known : Type 0 where
+  pub texts : List (List ℕ)
+  pub added : List (List ℕ)
+  pub limit : ℕ
+
+-- more is known: what was known keeps its numbers, and all that the namer itself added is such a text
+pub record HasGrown (P : List ℕ → Type 0) (old new : Known) : Type 0 where
+  pub limit : new.limit ≡ old.limit
+  pub front : IsPrefix old.texts new.texts
+  pub more : List (List ℕ)
+  pub added : new.added ≡ old.added ++ more
+  pub allowed : All P more
+
+-- Naming these texts in order came to one that has no number, while as many are known as there may
+-- be. Those before it have numbers.
+pub record MetLimit (known : Known) (texts : List (List ℕ)) (count : ℕ) : Type 0 where
+  pub at : ℕ
+  pub text : List ℕ
+  pub here : slice_get texts at ≡ Some text
+  pub new : IsNew known.texts text
+  pub before : (k : ℕ) (t : List ℕ) → k < at → slice_get texts k ≡ Some t → (number : ℕ) × (slice_get known.texts number ≡ Some t)
+  pub all : count ≡ length known.texts
+  pub most : count ≡ known.limit
+
+-- Naming the texts of a message, the log type first and then the words from left to right, met a
+-- limit: that of the types, where no word was named, or that of the words, where the log type was.
+abbrev pub MeetsLimit : ℕ → List ℕ → Which → ℕ → Known → Known → Known → Type 0
+MeetsLimit version message Types count types words_before words =
+    (parts : List Part) × IsCutInto version message parts
+    × MetLimit types (type_text (map symbol_of parts) ∷ []) count × (words ≡ words_before)
+MeetsLimit version message Words count types words_before words =
+    (parts : List Part) × IsCutInto version message parts
+    × ((number : ℕ) × (slice_get types.texts number ≡ Some (type_text (map symbol_of parts))))
+    × MetLimit words (word_texts parts) count

@@ -1,0 +1,19 @@
+//! Messages as rows, and back to the same bytes.
+//!
+//! A message is a stamp, or none, and a body. A row has the stamp's pattern and moment, the number of
+//! the body's log type and a word for each of its variables. What is stored of a message is its row:
+//! the texts that it names stand in two dictionaries, that of log types and that of words.
+#![tactic(auto)]
+
+mod encoder;
+mod namer;
+mod names;
+
+pub use encoder::Encoder;
+pub use namer::{NameRefusal, Namer, Which};
+pub use names::Names;
+
+use logtype_text::MAX_WORD_LEN;
+
+/// The most bytes that a message may have.
+pub const MAX_MESSAGE_LEN: usize = MAX_WORD_LEN;
