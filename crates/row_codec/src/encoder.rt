@@ -15,7 +15,6 @@ use column_store::RowRef;
 use logtype_text::{Span, encode_body};
 use std::alloc::{AllocError, Global};
 use time_patterns::{Stamp, read_stamp};
-
 use var_codec::Coded;
 
 // The front of a message as a row keeps it: 0 in each field where there is no stamp.
@@ -52,11 +51,13 @@ fn front_of(stamp: Option<Stamp>) -> Front
     ensures { result ≡ front_of stamp }
 {
     match stamp {
-        Some(Stamp {
-            pattern,
-            moment,
-            len,
-        }) => Front {
+        Some(
+            Stamp {
+                pattern,
+                moment,
+                len,
+            },
+        ) => Front {
             pattern,
             moment,
             len: usize::from(len),
@@ -93,7 +94,12 @@ impl Encoder {
         ensures { (version : ℕ) → version < 3 → OnOk result (HasRead self.new version line.now) }
     {
         self.front = front_of(read_stamp(line));
-        encode_body(&line[self.front.len..], &mut self.text, &mut self.codes, &mut self.places)?;
+        encode_body(
+            &line[self.front.len..],
+            &mut self.text,
+            &mut self.codes,
+            &mut self.places,
+        )?;
         Ok(())
     }
 
@@ -116,10 +122,14 @@ impl Encoder {
         // A full dictionary.
         ensures full { (book : _) (count : ℕ) → IsErrOf result (NameRefusal.Full book count)
             → MeetsLimit (N.version namer.old) line.now book count
-                (N.types namer.new) (N.words namer.old) (N.words namer.new) }
+            (N.types namer.new) (N.words namer.old) (N.words namer.new) }
     {
         self.log_type = namer.name_type(self.text.as_slice())?;
-        namer.name_spans(&line[self.front.len..], self.places.as_slice(), &mut self.used)?;
+        namer.name_spans(
+            &line[self.front.len..],
+            self.places.as_slice(),
+            &mut self.used,
+        )?;
         put_words(self.codes.as_slice(), self.used.as_slice(), &mut self.words)?;
         Ok(())
     }

@@ -10,10 +10,12 @@ mod namer;
 mod names;
 
 pub use encoder::Encoder;
+use logtype_text::MAX_WORD_LEN;
 pub use namer::{NameRefusal, Namer, Which};
 pub use names::Names;
 
-use logtype_text::MAX_WORD_LEN;
-
 /// The most bytes that a message may have.
 pub const MAX_MESSAGE_LEN: usize = MAX_WORD_LEN;
+
+#[cfg(test)]
+mod tests;
