@@ -1,6 +1,6 @@
 -- What `create` leaves of the archive's disk.
 use Rattle.std.specs.Prelude.{◌≡◌, ◌<◌, ℕ, List, [], ◌∷◌, ◌++◌, length, Option, Some, None, IfSome}
-use Rattle.log_seams.specs.Disk.{NoMore, Only}
+use Rattle.log_seams.specs.Disk.{DiskState, NoMore, Only}
 use Rattle.log_seams.specs.Outside.{Rose}
 use Rattle.record_format.specs.Header.{header_bytes}
 use Rattle.record_format.specs.declared.header.Header.{Header}
@@ -13,8 +13,8 @@ pub record DiskAround : Type 0 where
   pub reads : Option (List ℕ) × Option (List ℕ)
   pub faults : ℕ × ℕ
 
-abbrev pub disk_around : {D : Type 0} → (D → Option (List ℕ)) → (D → ℕ) → D → D → DiskAround
-disk_around seen faults disk disk_after = record { reads = (seen disk, seen disk_after); faults = (faults disk, faults disk_after) }
+abbrev pub disk_around : DiskState → DiskState → DiskAround
+disk_around disk disk_after = record { reads = (disk.seen, disk_after.seen); faults = (disk.faults, disk_after.faults) }
 
 -- The disk had no bytes. It has the header and a closed gate now, and a crash leaves these bytes and no others.
 pub record MakesEmpty (header : Header) (disk : DiskAround) (after : List ℕ → Type 0) : Type 0 where

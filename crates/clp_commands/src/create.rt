@@ -13,8 +13,8 @@ use record_format::Header;
 /// `NotEmpty` comes exactly where the disk has bytes, and leaves them as they are.
 pub(crate) fn create_archive<D: Disk>(disk: &mut D, header: &Header) -> Result<(), Refusal>
     requires { IsHeader header.now }
-    ensures { CreateLeaves (answer_of result) header.now (disk_around D.seen D.faults disk.old disk.new)
-        (D.images disk.old) (D.images disk.new) }
+    ensures { CreateLeaves (answer_of result) header.now (disk_around (D.state disk.old) (D.state disk.new))
+        (D.state disk.old).images (D.state disk.new).images }
 {
     match create(disk, header) {
         Ok(()) => Ok(()),

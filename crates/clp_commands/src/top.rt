@@ -45,7 +45,7 @@ where
     ensures answers { Answers (map string_bytes words.now)
         (around H.content H.open_faults H.read_faults K.written K.faults
         shelf.old shelf.new out.old out.new err.old err.new)
-        (disk_around D.seen D.faults disk.old disk.new) (D.images disk.old) (D.images disk.new)
+        (disk_around (D.state disk.old) (D.state disk.new)) (D.state disk.old).images (D.state disk.new).images
         result }
     ensures logs { (name : List ℕ) → H.content shelf.new name ≡ H.content shelf.old name }
     ensures untouched { ((header : Header) → ¬ AsksCreate (map string_bytes words.now) header) → disk.new ≡ disk.old }

@@ -153,17 +153,14 @@ impl<P, F> DiskFile<P, F> {
 }
 
 impl<P: Place> Disk for DiskFile<P, P::File> {
-    ghost seen = { λ _. None };
-
-    ghost images = { λ _ _. Unit {0} };
-
-    ghost clock = { λ _. 0 };
-
-    ghost since = { λ _ _ _. Unit {0} };
-
-    ghost ranges = { λ _. None };
-
-    ghost faults = { λ d. d.faults };
+    ghost state = { λ d. record {
+      seen = None;
+      images = λ _. Unit {0};
+      clock = 0;
+      since = λ _ _. Unit {0};
+      ranges = None;
+      faults = d.faults;
+    } };
 
     fn len(&mut self) -> Result<u64, Failed> {
         counted(&mut self.faults, self.file.len())
@@ -185,11 +182,10 @@ impl<P: Place> Disk for DiskFile<P, P::File> {
         self.faults
     }
 
-    ghost counts_now = { λ _ _ _ _ _. tt };
-
-    ghost only_now = { λ _ _ _. tt };
-
-    ghost wider = { λ _ _ _ _ _ _. tt };
-
-    ghost reads_as = { λ _. tt };
+    ghost lawful = { λ _. record {
+      reads_as = tt;
+      counts_now = λ _ _ _ _. tt;
+      only_now = λ _ _. tt;
+      wider = λ _ _ _ _ _. tt;
+    } };
 }

@@ -100,6 +100,8 @@ impl<R: Files<File = File>> Shelf for LogFiles<'_, R> {
 
     ghost content = { λ _ _. None };
 
+    ghost unread = { λ _ _. None };
+
     ghost open_faults = { λ s _. s.open_faults };
 
     ghost read_faults = { λ s _. s.read_faults };

@@ -15,16 +15,16 @@ use Rattle.disk_journal.proofs.Spelling.{length-body, spelled-push, records-spel
 pub short_header : (told : Option (List ℕ)) (n : ℕ) (old new : List ℕ) → Gave told 0 n old new → length old ≡ 32 → n < 32 → ((h : Header) → length (header_bytes h) ≡ 32) → NoHeader told
 short_header None n old new gave size short long = tt
 short_header (Some bytes) n old new gave size short long =
-    λ h legal same. let count = gave.0 in absurd (omega (arith, ap (λ (l : List ℕ). length l) same, long h, length-take 32 bytes))
+    λ h legal same. let count = gave.all in absurd (omega (arith, ap (λ (l : List ℕ). length l) same, long h, length-take 32 bytes))
 
 -- the walk begins behind the header that was read
 pub walk_begins : (told : Option (List ℕ)) (n : ℕ) (old new : List ℕ) (h : Header) → Gave told 0 n old new → length old ≡ 32 → length new ≡ 32 → 32 ≤ n → new ≡ header_bytes h → Walked (header_bytes h) 32 0 told
 walk_begins None n old new h gave size long enough same = tt
 walk_begins (Some bytes) n old new h gave size long enough same =
-    let count = gave.0 in
+    let count = gave.all in
     let all : n ≡ 32 = omega arith in
     let front : header_bytes h ≡ take 32 bytes =
-    sym same ∙ sym (take_all 32 new (omega arith)) ∙ subst (λ (k : ℕ). take k new ≡ take k (drop 0 bytes)) all gave.1 in
+    sym same ∙ sym (take_all 32 new (omega arith)) ∙ subst (λ (k : ℕ). take k new ≡ take k (drop 0 bytes)) all gave.these in
     let size_head : length (header_bytes h) ≡ 32 = sym (ap (λ (l : List ℕ). length l) same) ∙ long in
     record {
       header = size_head;
@@ -88,25 +88,25 @@ module _ (bytes old front : List ℕ) (at n : ℕ) (gave : Gave (Some bytes) at 
       ap (λ (k : ℕ). get_or bytes k 0) (sym at_zero)
       ∙ sym (get_or-drop at bytes 0 0)
       ∙ sym (get_or-take n (drop at bytes) 0 0 some)
-      ∙ ap (λ (l : List ℕ). get_or l 0 0) (sym gave.1)
+      ∙ ap (λ (l : List ℕ). get_or l 0 0) (sym gave.these)
       ∙ get_or-take n front 0 0 some
 
   there : 0 < n → at < length bytes
-  there some = let count = gave.0 in omega arith
+  there some = let count = gave.all in omega arith
 
   pub closed_there : 0 < n → get_or front 0 0 ≢ 1 → HasClosedGate at bytes
   closed_there some shut = record { there = there some; shut = λ one. shut (sym (first_byte some) ∙ one) }
 
   -- all ten were read
   whole_front : n ≡ 10 → length front ≡ 10 → front ≡ take 10 (drop at bytes)
-  whole_front all size = sym (take_all 10 front (omega arith)) ∙ subst (λ (k : ℕ). take k front ≡ take k (drop at bytes)) all gave.1
+  whole_front all size = sym (take_all 10 front (omega arith)) ∙ subst (λ (k : ℕ). take k front ≡ take k (drop at bytes)) all gave.these
 
   length_there : n ≡ 10 → length front ≡ 10 → payload_len (drop at bytes) ≡ from_le_bytes w64 (drop 2 front)
   length_there all size =
       ap (λ (l : List ℕ). from_le_bytes w64 l) (sym (drop-take 2 8 (drop at bytes)) ∙ ap (λ (l : List ℕ). drop 2 l) (sym (whole_front all size)))
 
   pub damaged_short : 0 < n → get_or front 0 0 ≡ 1 → n ≢ 10 → IsDamaged at (Some bytes)
-  damaged_short some opened few = let count = gave.0 in inr (first_byte some ∙ opened, omega arith)
+  damaged_short some opened few = let count = gave.all in inr (first_byte some ∙ opened, omega arith)
 
   pub damaged_long : 0 < n → get_or front 0 0 ≡ 1 → n ≡ 10 → length front ≡ 10 → length bytes < at + (10 + from_le_bytes w64 (drop 2 front)) → IsDamaged at (Some bytes)
   damaged_long some opened all size past = inr (first_byte some ∙ opened, omega (arith, length_there all size))
@@ -147,7 +147,7 @@ nothing_there (Some bytes) at len told_len past = inl (omega arith)
 
 pub nothing_read : (told : Option (List ℕ)) (at len n : ℕ) (old front : List ℕ) → IfSome told (λ bytes. len ≡ length bytes) → at < len → Gave told at n old front → length old ≡ 10 → n ≡ 0 → IsDamaged at told
 nothing_read None at len n old front told_len before gave ten none = tt
-nothing_read (Some bytes) at len n old front told_len before gave ten none = let count = gave.0 in absurd (omega arith)
+nothing_read (Some bytes) at len n old front told_len before gave ten none = let count = gave.all in absurd (omega arith)
 
 pub closed_read : (told : Option (List ℕ)) (at n : ℕ) (old front : List ℕ) → Gave told at n old front → length old ≡ 10 → n ≢ 0 → get_or front 0 0 ≢ 1 → ClosedAt at told
 closed_read None at n old front gave ten some shut = tt

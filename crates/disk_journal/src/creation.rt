@@ -15,21 +15,21 @@ use record_format::{Header, write_header};
 /// leaves may be no journal.
 pub fn create<D: Disk>(disk: &mut D, header: &Header) -> Result<(), CreateRefusal>
     requires { IsHeader header.now }
-    ensures made { OnOk result (Reads (header_bytes header.now ++ 0 ∷ []) (D.seen disk.new)) }
-    ensures settled { OnOk result (Only (D.seen disk.new) (D.images disk.new)) }
-    ensures empty { OnOk result (Reads [] (D.seen disk.old)) }
-    ensures not_empty { (len : ℕ) → IsErrOf result (CreateRefusal.NotEmpty len) → (0 < len) × IfSome (D.seen disk.old) (λ bytes. len ≡ length bytes) }
-    ensures kept { (len : ℕ) → IsErrOf result (CreateRefusal.NotEmpty len) → D.seen disk.new ≡ D.seen disk.old }
-    ensures images { (len : ℕ) → IsErrOf result (CreateRefusal.NotEmpty len) → NoMore (D.images disk.old) (D.images disk.new) }
-    ensures no_fewer { (len : ℕ) → IsErrOf result (CreateRefusal.NotEmpty len) → NoMore (D.images disk.new) (D.images disk.old) }
-    ensures spared { IfSome (D.seen disk.old) (λ bytes. 0 < length bytes → D.seen disk.new ≡ D.seen disk.old) }
-    ensures spared_images { IfSome (D.seen disk.old) (λ bytes. 0 < length bytes → NoMore (D.images disk.old) (D.images disk.new)) }
-    ensures spared_no_fewer { IfSome (D.seen disk.old) (λ bytes. 0 < length bytes → NoMore (D.images disk.new) (D.images disk.old)) }
-    ensures fault { IsErrOf result CreateRefusal.DiskFault → Rose (D.faults disk.old) (D.faults disk.new) }
-    ensures counts { D.faults disk.old ≤ D.faults disk.new }
-    ensures tells { is_some (D.seen disk.new) ≡ is_some (D.seen disk.old) }
-    ensures moments { LeavesOnly D.clock D.since disk.old disk.new (λ c. Unit {0}) }
-    ensures ranges { D.ranges disk.new ≡ D.ranges disk.old }
+    ensures made { OnOk result (Reads (header_bytes header.now ++ 0 ∷ []) (D.state disk.new).seen) }
+    ensures settled { OnOk result (Only (D.state disk.new).seen (D.state disk.new).images) }
+    ensures empty { OnOk result (Reads [] (D.state disk.old).seen) }
+    ensures not_empty { (len : ℕ) → IsErrOf result (CreateRefusal.NotEmpty len) → (0 < len) × IfSome (D.state disk.old).seen (λ bytes. len ≡ length bytes) }
+    ensures kept { (len : ℕ) → IsErrOf result (CreateRefusal.NotEmpty len) → (D.state disk.new).seen ≡ (D.state disk.old).seen }
+    ensures images { (len : ℕ) → IsErrOf result (CreateRefusal.NotEmpty len) → NoMore (D.state disk.old).images (D.state disk.new).images }
+    ensures no_fewer { (len : ℕ) → IsErrOf result (CreateRefusal.NotEmpty len) → NoMore (D.state disk.new).images (D.state disk.old).images }
+    ensures spared { IfSome (D.state disk.old).seen (λ bytes. 0 < length bytes → (D.state disk.new).seen ≡ (D.state disk.old).seen) }
+    ensures spared_images { IfSome (D.state disk.old).seen (λ bytes. 0 < length bytes → NoMore (D.state disk.old).images (D.state disk.new).images) }
+    ensures spared_no_fewer { IfSome (D.state disk.old).seen (λ bytes. 0 < length bytes → NoMore (D.state disk.new).images (D.state disk.old).images) }
+    ensures fault { IsErrOf result CreateRefusal.DiskFault → Rose (D.state disk.old).faults (D.state disk.new).faults }
+    ensures counts { (D.state disk.old).faults ≤ (D.state disk.new).faults }
+    ensures tells { is_some (D.state disk.new).seen ≡ is_some (D.state disk.old).seen }
+    ensures moments { LeavesOnly (D.state disk.old) (D.state disk.new) (λ c. Unit {0}) }
+    ensures ranges { (D.state disk.new).ranges ≡ (D.state disk.old).ranges }
 {
     let len = disk.len()?;
     if len > 0 {

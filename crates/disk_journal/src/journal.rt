@@ -40,15 +40,15 @@ pub struct Journal<'d, D: Disk> {
 /// header. Reads these bytes alone. Takes no memory.
 pub fn start<D: Disk>(disk: &mut D) -> Result<Header, StartRefusal>
     ensures header { IfOk result (λ h. IsHeader h) }
-    ensures walked { IfOk result (λ h. Walked (header_bytes h) 32 0 (D.seen disk.new)) }
-    ensures settled { OnOk result (Only (D.seen disk.new) (D.images disk.new)) }
-    ensures damaged { (at : ℕ) → IsErrOf result (StartRefusal.Damaged at) → (at ≡ 0) × NoHeader (D.seen disk.old) }
-    ensures fault { IsErrOf result StartRefusal.DiskFault → Rose (D.faults disk.old) (D.faults disk.new) }
-    ensures counts { D.faults disk.old ≤ D.faults disk.new }
-    ensures seen { D.seen disk.new ≡ D.seen disk.old }
-    ensures images { NoMore (D.images disk.old) (D.images disk.new) }
-    ensures moments { LeavesOnly D.clock D.since disk.old disk.new (D.images disk.old) }
-    ensures ranges { ReadsOnly 0 32 (D.ranges disk.old) (D.ranges disk.new) }
+    ensures walked { IfOk result (λ h. Walked (header_bytes h) 32 0 (D.state disk.new).seen) }
+    ensures settled { OnOk result (Only (D.state disk.new).seen (D.state disk.new).images) }
+    ensures damaged { (at : ℕ) → IsErrOf result (StartRefusal.Damaged at) → (at ≡ 0) × NoHeader (D.state disk.old).seen }
+    ensures fault { IsErrOf result StartRefusal.DiskFault → Rose (D.state disk.old).faults (D.state disk.new).faults }
+    ensures counts { (D.state disk.old).faults ≤ (D.state disk.new).faults }
+    ensures seen { (D.state disk.new).seen ≡ (D.state disk.old).seen }
+    ensures images { NoMore (D.state disk.old).images (D.state disk.new).images }
+    ensures moments { LeavesOnly (D.state disk.old) (D.state disk.new) (D.state disk.old).images }
+    ensures ranges { ReadsOnly 0 32 (D.state disk.old) (D.state disk.new) }
 {
     disk.sync()?;
     let mut bytes = [0; 32];
@@ -88,13 +88,13 @@ impl<'d, D: Disk> Journal<'d, D> {
         ensures name { IfOk result (λ j. j.disk.ghost_name ≡ disk.entry.ghost_name) }
         ensures header { IfOk result (λ j. IsHeader j.header) }
         ensures place { IfOk result (λ j. (j.place ≡ 32) × (j.count ≡ 0) × (j.closed ≡ false)) }
-        ensures walked { IfOk result (λ j. Walked (header_bytes j.header) 32 0 (D.seen j.disk.now)) }
-        ensures settled { IfOk result (λ j. Only (D.seen j.disk.now) (D.images j.disk.now)) }
-        ensures damaged { (at : ℕ) → IsErrOf result (StartRefusal.Damaged at) → (at ≡ 0) × NoHeader (D.seen disk.old) }
-        ensures seen { IfOk result (λ j. D.seen j.disk.now ≡ D.seen disk.old) }
-        ensures moments { IfOk result (λ j. LeavesOnly D.clock D.since disk.old j.disk.now (D.images disk.old)) }
-        ensures ranges { IfOk result (λ j. ReadsOnly 0 32 (D.ranges disk.old) (D.ranges j.disk.now)) }
-        ensures counts { IfOk result (λ j. D.faults disk.old ≤ D.faults j.disk.now) }
+        ensures walked { IfOk result (λ j. Walked (header_bytes j.header) 32 0 (D.state j.disk.now).seen) }
+        ensures settled { IfOk result (λ j. Only (D.state j.disk.now).seen (D.state j.disk.now).images) }
+        ensures damaged { (at : ℕ) → IsErrOf result (StartRefusal.Damaged at) → (at ≡ 0) × NoHeader (D.state disk.old).seen }
+        ensures seen { IfOk result (λ j. (D.state j.disk.now).seen ≡ (D.state disk.old).seen) }
+        ensures moments { IfOk result (λ j. LeavesOnly (D.state disk.old) (D.state j.disk.now) (D.state disk.old).images) }
+        ensures ranges { IfOk result (λ j. ReadsOnly 0 32 (D.state disk.old) (D.state j.disk.now)) }
+        ensures counts { IfOk result (λ j. (D.state disk.old).faults ≤ (D.state j.disk.now).faults) }
     {
         let header = start(disk)?;
         Ok(Journal::begin(disk, header))
@@ -131,7 +131,7 @@ impl<'d, D: Disk> Journal<'d, D> {
 
     /// The disk's count of faults now.
     pub fn faults(&self) -> u64
-        ensures { result ≡ D.faults self.now.disk.now }
+        ensures { result ≡ (D.state self.now.disk.now).faults }
     {
         self.disk.faults()
     }
@@ -142,26 +142,26 @@ impl<'d, D: Disk> Journal<'d, D> {
     pub fn next_place(&mut self) -> Result<Option<RecordPlace>, WalkRefusal>
         ensures name { self.new.disk.ghost_name ≡ self.old.disk.ghost_name }
         ensures header { self.new.header ≡ self.old.header }
-        ensures walked { Walked (header_bytes self.old.header) self.old.place self.old.count (D.seen self.old.disk.now)
-            → Walked (header_bytes self.new.header) self.new.place self.new.count (D.seen self.new.disk.now) }
-        ensures settled { Only (D.seen self.old.disk.now) (D.images self.old.disk.now) → Only (D.seen self.new.disk.now) (D.images self.new.disk.now) }
+        ensures walked { Walked (header_bytes self.old.header) self.old.place self.old.count (D.state self.old.disk.now).seen
+            → Walked (header_bytes self.new.header) self.new.place self.new.count (D.state self.new.disk.now).seen }
+        ensures settled { Only (D.state self.old.disk.now).seen (D.state self.old.disk.now).images → Only (D.state self.new.disk.now).seen (D.state self.new.disk.now).images }
         ensures closed { IfOk result (λ next. self.new.closed ≡ is_none next) }
-        ensures gate { IfOk result (λ next. IfNone next (ClosedAt self.old.place (D.seen self.old.disk.now))) }
-        ensures at_end { Walked (header_bytes self.old.header) self.old.place self.old.count (D.seen self.old.disk.now) → Only (D.seen self.old.disk.now) (D.images self.old.disk.now)
-            → IfOk result (λ next. IfNone next (AtEnd (header_bytes self.new.header) self.new.place self.new.count (D.seen self.new.disk.now) (D.images self.new.disk.now))) }
+        ensures gate { IfOk result (λ next. IfNone next (ClosedAt self.old.place (D.state self.old.disk.now).seen)) }
+        ensures at_end { Walked (header_bytes self.old.header) self.old.place self.old.count (D.state self.old.disk.now).seen → Only (D.state self.old.disk.now).seen (D.state self.old.disk.now).images
+            → IfOk result (λ next. IfNone next (AtEnd (header_bytes self.new.header) self.new.place self.new.count (D.state self.new.disk.now).seen (D.state self.new.disk.now).images)) }
         ensures stays { IfOk result (λ next. IfNone next ((self.new.place ≡ self.old.place) × (self.new.count ≡ self.old.count))) }
         ensures place { IfOk result (λ next. IfSome next (λ p. (p.at ≡ self.old.place) × (p.payload ≡ p.at + 10) × (self.new.place ≡ p.payload + p.length) × (self.new.count ≡ self.old.count + 1))) }
-        ensures found { IfOk result (λ next. IfSome next (λ p. OpenAt self.old.place p.kind p.length (D.seen self.old.disk.now))) }
-        ensures passed { Walked (header_bytes self.old.header) self.old.place self.old.count (D.seen self.old.disk.now)
-            → IfOk result (λ next. IfSome next (λ p. Passed (D.seen self.old.disk.now) self.old.count p.kind p.payload p.length)) }
+        ensures found { IfOk result (λ next. IfSome next (λ p. OpenAt self.old.place p.kind p.length (D.state self.old.disk.now).seen)) }
+        ensures passed { Walked (header_bytes self.old.header) self.old.place self.old.count (D.state self.old.disk.now).seen
+            → IfOk result (λ next. IfSome next (λ p. Passed (D.state self.old.disk.now).seen self.old.count p.kind p.payload p.length)) }
         ensures err { OnErr result ((self.new.place ≡ self.old.place) × (self.new.count ≡ self.old.count) × (self.new.closed ≡ self.old.closed)) }
-        ensures damaged { (at : ℕ) → IsErrOf result (WalkRefusal.Damaged at) → (at ≡ self.old.place) × IsDamaged self.old.place (D.seen self.old.disk.now) }
-        ensures fault { IsErrOf result WalkRefusal.DiskFault → Rose (D.faults self.old.disk.now) (D.faults self.new.disk.now) }
-        ensures counts { D.faults self.old.disk.now ≤ D.faults self.new.disk.now }
-        ensures seen { D.seen self.new.disk.now ≡ D.seen self.old.disk.now }
-        ensures images { NoMore (D.images self.old.disk.now) (D.images self.new.disk.now) }
-        ensures moments { LeavesOnly D.clock D.since self.old.disk.now self.new.disk.now (D.images self.old.disk.now) }
-        ensures ranges { ReadsOnly self.old.place 10 (D.ranges self.old.disk.now) (D.ranges self.new.disk.now) }
+        ensures damaged { (at : ℕ) → IsErrOf result (WalkRefusal.Damaged at) → (at ≡ self.old.place) × IsDamaged self.old.place (D.state self.old.disk.now).seen }
+        ensures fault { IsErrOf result WalkRefusal.DiskFault → Rose (D.state self.old.disk.now).faults (D.state self.new.disk.now).faults }
+        ensures counts { (D.state self.old.disk.now).faults ≤ (D.state self.new.disk.now).faults }
+        ensures seen { (D.state self.new.disk.now).seen ≡ (D.state self.old.disk.now).seen }
+        ensures images { NoMore (D.state self.old.disk.now).images (D.state self.new.disk.now).images }
+        ensures moments { LeavesOnly (D.state self.old.disk.now) (D.state self.new.disk.now) (D.state self.old.disk.now).images }
+        ensures ranges { ReadsOnly self.old.place 10 (D.state self.old.disk.now) (D.state self.new.disk.now) }
     {
         match look(self.disk, self.place)? {
             None => {
@@ -181,28 +181,28 @@ impl<'d, D: Disk> Journal<'d, D> {
     /// where the disk gave fewer bytes, which one that tells its bytes does not. Reads no byte outside
     /// the range.
     pub fn load(&mut self, alloc: Global, at: u64, length: u64) -> Result<Text, LoadRefusal>
-        requires { IfSome (D.seen self.old.disk.now) (HasRange at length) }
+        requires { IfSome (D.state self.old.disk.now).seen (HasRange at length) }
         ensures name { self.new.disk.ghost_name ≡ self.old.disk.ghost_name }
         ensures header { self.new.header ≡ self.old.header }
         ensures place { self.new.place ≡ self.old.place }
         ensures count { self.new.count ≡ self.old.count }
         ensures closed { self.new.closed ≡ self.old.closed }
         ensures size { IfOk result (HasSize length) }
-        ensures text { IfOk result (λ text. IfSome (D.seen self.old.disk.now) (λ bytes. text ≡ take length (drop at bytes))) }
-        ensures damaged { (place : ℕ) → IsErrOf result (LoadRefusal.Damaged place) → (place ≡ at) × IsNone (D.seen self.old.disk.now) }
-        ensures fewer { (place : ℕ) → IsErrOf result (LoadRefusal.Damaged place) → (n : ℕ) × (n < length) × (D.ranges self.new.disk.now ≡ with_range at n (D.ranges self.old.disk.now)) }
-        ensures walked { Walked (header_bytes self.old.header) self.old.place self.old.count (D.seen self.old.disk.now)
-            → Walked (header_bytes self.new.header) self.new.place self.new.count (D.seen self.new.disk.now) }
-        ensures settled { Only (D.seen self.old.disk.now) (D.images self.old.disk.now) → Only (D.seen self.new.disk.now) (D.images self.new.disk.now) }
-        ensures at_end { AtEnd (header_bytes self.old.header) self.old.place self.old.count (D.seen self.old.disk.now) (D.images self.old.disk.now)
-            → AtEnd (header_bytes self.new.header) self.new.place self.new.count (D.seen self.new.disk.now) (D.images self.new.disk.now) }
-        ensures fault { IsErrOf result LoadRefusal.DiskFault → Rose (D.faults self.old.disk.now) (D.faults self.new.disk.now) }
-        ensures counts { D.faults self.old.disk.now ≤ D.faults self.new.disk.now }
-        ensures seen { D.seen self.new.disk.now ≡ D.seen self.old.disk.now }
-        ensures images { NoMore (D.images self.old.disk.now) (D.images self.new.disk.now) }
-        ensures no_fewer { NoMore (D.images self.new.disk.now) (D.images self.old.disk.now) }
-        ensures moments { LeavesOnly D.clock D.since self.old.disk.now self.new.disk.now (D.images self.old.disk.now) }
-        ensures ranges { ReadsOnly at length (D.ranges self.old.disk.now) (D.ranges self.new.disk.now) }
+        ensures text { IfOk result (λ text. IfSome (D.state self.old.disk.now).seen (λ bytes. text ≡ take length (drop at bytes))) }
+        ensures damaged { (place : ℕ) → IsErrOf result (LoadRefusal.Damaged place) → (place ≡ at) × IsNone (D.state self.old.disk.now).seen }
+        ensures fewer { (place : ℕ) → IsErrOf result (LoadRefusal.Damaged place) → (n : ℕ) × (n < length) × ((D.state self.new.disk.now).ranges ≡ with_range at n (D.state self.old.disk.now).ranges) }
+        ensures walked { Walked (header_bytes self.old.header) self.old.place self.old.count (D.state self.old.disk.now).seen
+            → Walked (header_bytes self.new.header) self.new.place self.new.count (D.state self.new.disk.now).seen }
+        ensures settled { Only (D.state self.old.disk.now).seen (D.state self.old.disk.now).images → Only (D.state self.new.disk.now).seen (D.state self.new.disk.now).images }
+        ensures at_end { AtEnd (header_bytes self.old.header) self.old.place self.old.count (D.state self.old.disk.now).seen (D.state self.old.disk.now).images
+            → AtEnd (header_bytes self.new.header) self.new.place self.new.count (D.state self.new.disk.now).seen (D.state self.new.disk.now).images }
+        ensures fault { IsErrOf result LoadRefusal.DiskFault → Rose (D.state self.old.disk.now).faults (D.state self.new.disk.now).faults }
+        ensures counts { (D.state self.old.disk.now).faults ≤ (D.state self.new.disk.now).faults }
+        ensures seen { (D.state self.new.disk.now).seen ≡ (D.state self.old.disk.now).seen }
+        ensures images { NoMore (D.state self.old.disk.now).images (D.state self.new.disk.now).images }
+        ensures no_fewer { NoMore (D.state self.new.disk.now).images (D.state self.old.disk.now).images }
+        ensures moments { LeavesOnly (D.state self.old.disk.now) (D.state self.new.disk.now) (D.state self.old.disk.now).images }
+        ensures ranges { ReadsOnly at length (D.state self.old.disk.now) (D.state self.new.disk.now) }
     {
         let mut bytes = vec![in alloc; 0; length as usize]?;
         let count = self.disk.read(at, bytes.as_mut_slice())?;
@@ -220,24 +220,25 @@ impl<'d, D: Disk> Journal<'d, D> {
     /// before it, and a sync. Takes no memory.
     pub fn append(&mut self, framed: &[u8]) -> Result<(), AppendRefusal>
         requires closed { IsTrue self.old.closed }
-        requires at_end { AtEnd (header_bytes self.old.header) self.old.place self.old.count (D.seen self.old.disk.now) (D.images self.old.disk.now) }
+        requires at_end { AtEnd (header_bytes self.old.header) self.old.place self.old.count (D.state self.old.disk.now).seen (D.state self.old.disk.now).images }
         requires framed { IsFrame framed.now }
         ensures name { self.new.disk.ghost_name ≡ self.old.disk.ghost_name }
         ensures header { self.new.header ≡ self.old.header }
         ensures closed { IsTrue self.new.closed }
-        ensures at_end { OnOk result (AtEnd (header_bytes self.new.header) self.new.place self.new.count (D.seen self.new.disk.now) (D.images self.new.disk.now)) }
-        ensures added { OnOk result (Added (D.seen self.old.disk.now) self.old.count (saved_of framed.now) (D.seen self.new.disk.now) self.new.count) }
+        ensures at_end { OnOk result (AtEnd (header_bytes self.new.header) self.new.place self.new.count (D.state self.new.disk.now).seen (D.state self.new.disk.now).images) }
+        ensures added { OnOk result (Added (D.state self.old.disk.now).seen self.old.count (saved_of framed.now) (D.state self.new.disk.now).seen self.new.count) }
         ensures ok { OnOk result ((self.new.count ≡ self.old.count + 1) × (self.new.place ≡ self.old.place + length framed.now)) }
         ensures err { OnErr result ((self.new.count ≡ self.old.count) × (self.new.place ≡ self.old.place)) }
-        ensures moments { LeavesOnly D.clock D.since self.old.disk.now self.new.disk.now
-            (BeforeOrAfter (header_bytes self.old.header) (D.seen self.old.disk.now) self.old.count (saved_of framed.now)) }
+        ensures moments { LeavesOnly (D.state self.old.disk.now) (D.state self.new.disk.now)
+            (BeforeOrAfter (header_bytes self.old.header) (D.state self.old.disk.now).seen self.old.count (saved_of framed.now)) }
         ensures full { (e n : ℕ) → IsErrOf result (AppendRefusal.ArchiveFull e n) → (e ≡ self.old.place + 1) × (n ≡ length framed.now)
             × (self.old.header.length_limit < e + n) × (self.new.disk ≡ self.old.disk) }
         ensures exactly { self.old.header.length_limit < self.old.place + 1 + length framed.now → IsErrOf result (AppendRefusal.ArchiveFull (self.old.place + 1) (length framed.now)) }
-        ensures fault { IsErrOf result AppendRefusal.DiskFault → Rose (D.faults self.old.disk.now) (D.faults self.new.disk.now) }
-        ensures counts { D.faults self.old.disk.now ≤ D.faults self.new.disk.now }
-        ensures tells { is_some (D.seen self.new.disk.now) ≡ is_some (D.seen self.old.disk.now) }
-        ensures ranges { D.ranges self.new.disk.now ≡ D.ranges self.old.disk.now }
+        ensures fault { IsErrOf result AppendRefusal.DiskFault → Rose (D.state self.old.disk.now).faults (D.state self.new.disk.now).faults }
+        ensures counts { (D.state self.old.disk.now).faults ≤ (D.state self.new.disk.now).faults }
+        ensures steady { OnOk result ((D.state self.new.disk.now).faults ≡ (D.state self.old.disk.now).faults) }
+        ensures tells { is_some (D.state self.new.disk.now).seen ≡ is_some (D.state self.old.disk.now).seen }
+        ensures ranges { (D.state self.new.disk.now).ranges ≡ (D.state self.old.disk.now).ranges }
     {
         let end = self.place + 1;
         let need = framed.len() as u64;

@@ -17,23 +17,23 @@ use log_seams::{Disk, Failed, Text};
 /// Takes no memory.
 pub fn append_each<'d, D: Disk>(journal: &mut Journal<'d, D>, texts: &[Text]) -> Result<(), Failed>
     requires closed { IsTrue journal.old.closed }
-    requires at_end { AtEnd (header_bytes journal.old.header) journal.old.place journal.old.count (D.seen journal.old.disk.now) (D.images journal.old.disk.now) }
+    requires at_end { AtEnd (header_bytes journal.old.header) journal.old.place journal.old.count (D.state journal.old.disk.now).seen (D.state journal.old.disk.now).images }
     requires framed { All IsFrame texts.now }
     requires room { journal.old.place + 1 + size_all texts.now ≤ journal.old.header.length_limit }
     ensures name { journal.new.disk.ghost_name ≡ journal.old.disk.ghost_name }
     ensures header { journal.new.header ≡ journal.old.header }
     ensures closed { IsTrue journal.new.closed }
-    ensures at_end { OnOk result (AtEnd (header_bytes journal.new.header) journal.new.place journal.new.count (D.seen journal.new.disk.now) (D.images journal.new.disk.now)) }
-    ensures added { OnOk result (AddedFirst (D.seen journal.old.disk.now) journal.old.count (saved_all texts.now) (length texts.now) (D.seen journal.new.disk.now) journal.new.count) }
+    ensures at_end { OnOk result (AtEnd (header_bytes journal.new.header) journal.new.place journal.new.count (D.state journal.new.disk.now).seen (D.state journal.new.disk.now).images) }
+    ensures added { OnOk result (AddedFirst (D.state journal.old.disk.now).seen journal.old.count (saved_all texts.now) (length texts.now) (D.state journal.new.disk.now).seen journal.new.count) }
     ensures count { OnOk result ((journal.new.count ≡ journal.old.count + length texts.now) × (journal.new.place ≡ journal.old.place + size_all texts.now)) }
     ensures stopped { OnErr result ((k : ℕ) × (k < length texts.now) × (journal.new.count ≡ journal.old.count + k)
         × (journal.new.place ≡ journal.old.place + size_all (take k texts.now))
-        × ((c : List ℕ) → D.images journal.new.disk.now c → UnderWay (header_bytes journal.old.header) (D.seen journal.old.disk.now) journal.old.count (saved_all texts.now) k c)) }
-    ensures moments { LeavesOnly D.clock D.since journal.old.disk.now journal.new.disk.now
-        (WithFirstTold (header_bytes journal.old.header) (D.seen journal.old.disk.now) journal.old.count (saved_all texts.now)) }
-    ensures tells { is_some (D.seen journal.new.disk.now) ≡ is_some (D.seen journal.old.disk.now) }
-    ensures ranges { D.ranges journal.new.disk.now ≡ D.ranges journal.old.disk.now }
-    ensures cause { Counts (D.faults journal.old.disk.now) (D.faults journal.new.disk.now) result }
+        × ((c : List ℕ) → (D.state journal.new.disk.now).images c → UnderWay (header_bytes journal.old.header) (D.state journal.old.disk.now).seen journal.old.count (saved_all texts.now) k c)) }
+    ensures moments { LeavesOnly (D.state journal.old.disk.now) (D.state journal.new.disk.now)
+        (WithFirstTold (header_bytes journal.old.header) (D.state journal.old.disk.now).seen journal.old.count (saved_all texts.now)) }
+    ensures tells { is_some (D.state journal.new.disk.now).seen ≡ is_some (D.state journal.old.disk.now).seen }
+    ensures ranges { (D.state journal.new.disk.now).ranges ≡ (D.state journal.old.disk.now).ranges }
+    ensures cause { Counts (D.state journal.old.disk.now).faults (D.state journal.new.disk.now).faults result }
 {
     for text in texts {
         match journal.append(text.as_slice()) {

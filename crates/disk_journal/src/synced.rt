@@ -10,15 +10,15 @@ use log_seams::{Disk, Failed};
 /// read again, with the bytes written. At any moment a crash leaves the bytes as they were, but for
 /// the range, which may hold anything. Makes two calls on the disk.
 pub(crate) fn write_synced<D: Disk>(disk: &mut D, at: u64, bytes: &[u8]) -> Result<(), Failed>
-    requires place { IfSome (D.seen disk.old) (λ old. at ≤ length old) }
+    requires place { IfSome (D.state disk.old).seen (λ old. at ≤ length old) }
     requires end { at + length bytes.now ≤ 2 ^ 62 }
-    requires settled { Only (D.seen disk.old) (D.images disk.old) }
-    ensures written { OnOk result (D.seen disk.new ≡ option_map (laid at bytes.now) (D.seen disk.old)) }
-    ensures tells { is_some (D.seen disk.new) ≡ is_some (D.seen disk.old) }
-    ensures settled { OnOk result (Only (D.seen disk.new) (D.images disk.new)) }
-    ensures moments { LeavesOnly D.clock D.since disk.old disk.new (TornFrom (D.seen disk.old) at (length bytes.now)) }
-    ensures ranges { D.ranges disk.new ≡ D.ranges disk.old }
-    ensures cause { Counts (D.faults disk.old) (D.faults disk.new) result }
+    requires settled { Only (D.state disk.old).seen (D.state disk.old).images }
+    ensures written { OnOk result ((D.state disk.new).seen ≡ option_map (laid at bytes.now) (D.state disk.old).seen) }
+    ensures tells { is_some (D.state disk.new).seen ≡ is_some (D.state disk.old).seen }
+    ensures settled { OnOk result (Only (D.state disk.new).seen (D.state disk.new).images) }
+    ensures moments { LeavesOnly (D.state disk.old) (D.state disk.new) (TornFrom (D.state disk.old).seen at (length bytes.now)) }
+    ensures ranges { (D.state disk.new).ranges ≡ (D.state disk.old).ranges }
+    ensures cause { Counts (D.state disk.old).faults (D.state disk.new).faults result }
 {
     disk.write(at, bytes)?;
     disk.sync()

@@ -97,7 +97,7 @@ fn count_of(disk: &mut MemDisk) -> Result<Option<u64>, Fail> {
 // The journal of a disk without records, at its end.
 fn end_of<D: Disk>(disk: &mut D) -> Result<Journal<'_, D>, Fail>
     ensures closed { IfOk result (λ j. IsTrue j.closed) }
-    ensures at_end { IfOk result (λ j. AtEnd (header_bytes j.header) j.place j.count (D.seen j.disk.now) (D.images j.disk.now)) }
+    ensures at_end { IfOk result (λ j. AtEnd (header_bytes j.header) j.place j.count (D.state j.disk.now).seen (D.state j.disk.now).images) }
 {
     let mut journal = Journal::open_journal(disk)?;
     let None = journal.next_place()? else {
@@ -113,7 +113,7 @@ fn append_three<D: Disk>(
     three: &[u8],
 ) -> Result<(), AppendRefusal>
     requires closed { IsTrue journal.old.closed }
-    requires at_end { AtEnd (header_bytes journal.old.header) journal.old.place journal.old.count (D.seen journal.old.disk.now) (D.images journal.old.disk.now) }
+    requires at_end { AtEnd (header_bytes journal.old.header) journal.old.place journal.old.count (D.state journal.old.disk.now).seen (D.state journal.old.disk.now).images }
     requires one { IsFrame one.now }
     requires two { IsFrame two.now }
     requires three { IsFrame three.now }
@@ -129,7 +129,7 @@ fn append_both<D: Disk>(
     two: Text,
 ) -> Result<Result<(), Failed>, Fail>
     requires closed { IsTrue journal.old.closed }
-    requires at_end { AtEnd (header_bytes journal.old.header) journal.old.place journal.old.count (D.seen journal.old.disk.now) (D.images journal.old.disk.now) }
+    requires at_end { AtEnd (header_bytes journal.old.header) journal.old.place journal.old.count (D.state journal.old.disk.now).seen (D.state journal.old.disk.now).images }
     requires one { IsFrame one }
     requires two { IsFrame two }
     ensures { IsTrue journal.new.closed }

@@ -44,17 +44,17 @@ fn length_in(front: &[u8; 10]) -> u64
 /// `Damaged` exactly where there is no gate, or an open one without a whole record behind it. Reads no
 /// byte of a payload. Takes no memory.
 pub(crate) fn look<D: Disk>(disk: &mut D, at: u64) -> Result<Option<RecordPlace>, WalkRefusal>
-    ensures closed { IfOk result (λ next. IfNone next (ClosedAt at (D.seen disk.old))) }
+    ensures closed { IfOk result (λ next. IfNone next (ClosedAt at (D.state disk.old).seen)) }
     ensures small { IfOk result (λ next. IfNone next (at < 2 ^ 64 - 1)) }
-    ensures opened { IfOk result (λ next. IfSome next (λ p. OpenAt at p.kind p.length (D.seen disk.old))) }
+    ensures opened { IfOk result (λ next. IfSome next (λ p. OpenAt at p.kind p.length (D.state disk.old).seen)) }
     ensures place { IfOk result (λ next. IfSome next (λ p. (p.at ≡ at) × (p.payload ≡ at + 10) × (p.payload + p.length < 2 ^ 64))) }
-    ensures damaged { (gate : ℕ) → IsErrOf result (WalkRefusal.Damaged gate) → (gate ≡ at) × IsDamaged at (D.seen disk.old) }
-    ensures fault { IsErrOf result WalkRefusal.DiskFault → Rose (D.faults disk.old) (D.faults disk.new) }
-    ensures counts { D.faults disk.old ≤ D.faults disk.new }
-    ensures seen { D.seen disk.new ≡ D.seen disk.old }
-    ensures images { NoMore (D.images disk.old) (D.images disk.new) }
-    ensures moments { LeavesOnly D.clock D.since disk.old disk.new (D.images disk.old) }
-    ensures ranges { ReadsOnly at 10 (D.ranges disk.old) (D.ranges disk.new) }
+    ensures damaged { (gate : ℕ) → IsErrOf result (WalkRefusal.Damaged gate) → (gate ≡ at) × IsDamaged at (D.state disk.old).seen }
+    ensures fault { IsErrOf result WalkRefusal.DiskFault → Rose (D.state disk.old).faults (D.state disk.new).faults }
+    ensures counts { (D.state disk.old).faults ≤ (D.state disk.new).faults }
+    ensures seen { (D.state disk.new).seen ≡ (D.state disk.old).seen }
+    ensures images { NoMore (D.state disk.old).images (D.state disk.new).images }
+    ensures moments { LeavesOnly (D.state disk.old) (D.state disk.new) (D.state disk.old).images }
+    ensures ranges { ReadsOnly at 10 (D.state disk.old) (D.state disk.new) }
 {
     let len = disk.len()?;
     if len <= at {

@@ -1,1 +1,3 @@
-pub mod Events
+pub mod EventLemmas
+pub mod MomentLemmas
+pub mod ShelfLemmas

@@ -1,9 +1,8 @@
-pub mod Entries
-pub mod Memory
 pub mod Outside
-pub mod Shelf
-pub mod Tally
 pub mod Disk
-pub mod Moments
+pub mod Memory
 pub mod Replay
 pub mod MemDisk
+pub mod MemShelf
+pub mod StepsReplay
+pub mod StepsClosed

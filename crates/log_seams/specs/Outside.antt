@@ -1,14 +1,22 @@
--- What the calls of a source, a sink and a shelf leave, and what their counts of faults say.
-use Rattle.std.specs.Prelude.{◌≡◌, ◌<◌, ◌≤◌, ◌⊎◌, ℕ, ◌+◌, ◌-◌, ◌^◌, List, [], length, take, drop, Option, None, Some, Result, OnErr}
+-- What the counts of faults say, and what a read of a source takes.
+use Rattle.std.specs.Prelude.{◌≡◌, ◌≢◌, ◌<◌, ◌≤◌, ◌⊎◌, ℕ, ◌+◌, ◌-◌, ◌^◌, List, [], length, take, drop, Option, None, Some, Result, OnOk, OnErr, IsErrOf}
 
 -- A count of faults never falls. It rose where it is larger, or stands at the last value of u64.
 abbrev pub Rose : ℕ → ℕ → Type 0
 Rose before now = (before < now) ⊎ (2 ^ 64 - 1 ≤ now)
 
--- what a call's answer says of the count of faults: it did not fall, and at an error it rose
+-- what a call's answer says of the count of faults: it did not fall, Ok leaves it as it was, and at an error it rose
 pub record Counts {T E : Type 0} (before now : ℕ) (result : Result T E) : Type 0 where
   pub later : before ≤ now
+  pub steady : OnOk result (now ≡ before)
   pub failed : OnErr result (Rose before now)
+
+-- the same of a call that also refuses for causes that are no faults, which leave the count as it was
+pub record CountsOf {T E : Type 0} (fault : E) (before now : ℕ) (result : Result T E) : Type 0 where
+  pub later : before ≤ now
+  pub steady : OnOk result (now ≡ before)
+  pub failed : IsErrOf result fault → Rose before now
+  pub spared : (e : E) → IsErrOf result e → e ≢ fault → now ≡ before
 
 -- a count that grew by so much, unless it stands at the last value of u64
 abbrev pub Adds : ℕ → ℕ → ℕ → Type 0

@@ -1,7 +1,6 @@
 -- The calls that a disk in memory keeps, as events with the newest first, and what follows from them:
 -- its bytes, the images that a crash may leave, and the ranges read.
-use Rattle.std.specs.Prelude.{◌≡◌, ◌⊎◌, ℕ, ◌+◌, ◌/◌, ◌≤◌, Bool, nat_le, if◌then◌else◌, List, [], ◌∷◌, ◌++◌, length, take, drop, replicate, refl}
-use Rattle.std.proofs.Common.{inl, inr, arith, sym, subst}
+use Rattle.std.specs.Prelude.{◌≡◌, ◌⊎◌, ℕ, ◌+◌, ◌/◌, ◌≤◌, Bool, nat_le, if◌then◌else◌, List, [], ◌∷◌, ◌++◌, length, take, drop, replicate}
 use Rattle.log_seams.specs.Disk.{laid, Torn}
 use Rattle.log_seams.specs.declared.mem_disk.Call.{Call}
 use Rattle.log_seams.specs.declared.mem_disk.Call.TheVariants.{Wrote, Read, Synced, Other}
@@ -22,17 +21,6 @@ logged (Read at count) = 0
 logged Synced = 0
 logged Other = 0
 
--- a call that is no write
-abbrev pub IsQuiet : Call → Type 0
-IsQuiet (Wrote at count done) = ⊥
-IsQuiet (Read at count) = Unit {0}
-IsQuiet Synced = Unit {0}
-IsQuiet Other = Unit {0}
-
-abbrev pub total : List Call → ℕ
-total [] = 0
-total (c ∷ calls) = logged c + total calls
-
 -- a call, whose bytes stand at the front of the log
 abbrev pub event_of : Call → List ℕ → Event
 event_of (Wrote at count done) log = wrote done at (take count log)
@@ -40,14 +28,16 @@ event_of (Read at count) log = read at count
 event_of Synced log = synced
 event_of Other log = other
 
+-- the events so far, and then those of the calls, whose bytes stand one behind the other in the log
 abbrev pub events_after : List Event → List Call → List ℕ → List Event
 events_after older [] log = older
 events_after older (c ∷ calls) log = events_after (event_of c log ∷ older) calls (drop (logged c) log)
 
--- the events of the calls, whose bytes stand one behind the other in the log
+-- the events of the calls from the first on
 abbrev pub events : List Call → List ℕ → List Event
 events calls log = events_after [] calls log
 
+-- the bytes after an event
 abbrev pub after_event : Event → List ℕ → List ℕ
 after_event (wrote done at bytes) old = if done then laid at bytes old else old
 after_event (read at n) old = old
@@ -118,29 +108,3 @@ all_torn_by pending (w ∷ older) old = torn_by pending w.0 w.1 (all_torn_by pen
 -- with each write since then held so
 abbrev pub left_by : Pending → List ℕ → List Event → List ℕ
 left_by pending first events = all_torn_by pending (pending_of events) (content first (settled_of events))
-
--- the laws of a disk
-pub reads_as : (first : List ℕ) (events : List Event) → IsImage first events (content first events)
-reads_as first [] = refl
-reads_as first (wrote done at bytes ∷ older) = inl refl
-reads_as first (read at n ∷ older) = reads_as first older
-reads_as first (synced ∷ older) = refl
-reads_as first (other ∷ older) = reads_as first older
-
-pub counts_now : (first : List ℕ) (events : List Event) (t : ℕ) (c : List ℕ) → IsImage first events c → IsSince first events t c
-counts_now first [] t c now = now
-counts_now first (e ∷ older) t c now = inl now
-
-pub only_now : (first : List ℕ) (events : List Event) (c : List ℕ) → IsSince first events (length events) c → IsImage first events c
-only_now first [] c left = left
-only_now first (e ∷ older) c (inl now) = now
-only_now first (e ∷ older) c (inr was) = let late = was.0 in absurd (omega arith)
-
-pub wider : (first : List ℕ) (events : List Event) (s t : ℕ) (c : List ℕ) → s ≤ t → IsSince first events t c → IsSince first events s c
-wider first [] s t c le left = left
-wider first (e ∷ older) s t c le (inl now) = inl now
-wider first (e ∷ older) s t c le (inr was) = let late = was.0 in inr (omega arith, wider first older s t c le was.1)
-
--- what is read at a place of the content is an image of it too
-pub reads_now : (first : List ℕ) (events : List Event) (bytes : List ℕ) → bytes ≡ content first events → IsImage first events bytes
-reads_now first events bytes same = subst (IsImage first events) (sym same) (reads_as first events)

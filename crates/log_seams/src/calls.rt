@@ -1,5 +1,6 @@
 //! Which call of a memory form comes next, and whether it is one of those that fail.
-ghost use Rattle.std.specs.Prelude.{◌≡◌, ◌+◌, ◌-◌, ◌^◌, ◌↔◌, min, Contains, IsTrue};
+ghost use Rattle.std.specs.Prelude.{◌≡◌, ◌↔◌, Contains, IsTrue};
+ghost use Rattle.log_seams.specs.Memory.{CalledOnce};
 
 use std::marker::Model;
 
@@ -32,8 +33,7 @@ impl Calls {
     /// Counts a call, and answers whether it fails.
     pub fn next_fails(&mut self) -> bool
         ensures listed { IsTrue result ↔ Contains self.old.fails self.old.made }
-        ensures made { self.new.made ≡ min (self.old.made + 1) (2 ^ 64 - 1) }
-        ensures fails { self.new.fails ≡ self.old.fails }
+        ensures called { CalledOnce self.old self.new }
     {
         let number = self.made;
         self.made = number.saturating_add(1);

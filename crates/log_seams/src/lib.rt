@@ -3,6 +3,7 @@
 #![tactic(auto)]
 
 mod calls;
+mod closed_logs;
 mod disk;
 mod lists;
 mod mem_disk;
@@ -13,7 +14,6 @@ mod refusals;
 mod shelf;
 mod sink;
 mod source;
-mod tally;
 
 pub use disk::Disk;
 pub use lists::{NumberList, Text, TextList, WordList};

@@ -3,7 +3,8 @@
 ghost use Rattle.std.specs.Prelude.{◌≡◌, ◌≤◌, ◌∷◌, ℕ, List, length, Some, max, IfOk, ◌+◌, OnOk, IsOk, vec_capacity, ◌<◌, ◌^◌};
 ghost use Rattle.log_seams.specs.Disk.{laid, Gave};
 ghost use Rattle.log_seams.specs.Outside.{Rose};
-ghost use Rattle.log_seams.specs.Replay.{logged, total, events, event_of, content, reads_of, IsImage, IsSince, Event, torn_by, after_event, left_by, reads_now, counts_now, only_now, wider};
+ghost use Rattle.log_seams.specs.Replay.{wrote, logged, events, event_of, content, IsImage, Event, torn_by, after_event, left_by};
+ghost use Rattle.log_seams.specs.StepsReplay.{total, reads_now, counts_now, only_now, wider};
 
 use crate::{Disk, Failed, Text};
 use std::alloc::{AllocError, Global};
@@ -66,6 +67,18 @@ fn overwrite(file: &mut Vec<u8>, at: usize, bytes: &[u8]) -> Result<(), AllocErr
     file.extend_from_slice(&bytes[over..])
 }
 
+// What a write leaves, done or failed.
+fn apply(file: &mut Vec<u8>, at: usize, bytes: &[u8], done: bool) -> Result<(), AllocError>
+    ensures written { OnOk result (file.new.items ≡ after_event (wrote done at bytes.now) file.old.items) }
+    ensures room { max (length file.old.items) (at + length bytes.now) ≤ vec_capacity file.old → IsOk result }
+    ensures capacity { vec_capacity file.old ≤ vec_capacity file.new }
+{
+    if !done {
+        return Ok(());
+    }
+    overwrite(file, at, bytes)
+}
+
 // Copies what stands at a place into the front of the buffer.
 fn copy_from(bytes: &[u8], at: u64, buf: &mut [u8]) -> usize
     ensures told { Gave (Some bytes.now) at result buf.old buf.new }
@@ -116,10 +129,7 @@ fn redo(
     match call {
         Call::Wrote { at, count, done } => {
             tear(alloc, torn, at as usize, &log[..count], pending)?;
-            if done {
-                overwrite(kept, at as usize, &log[..count])?;
-            }
-            Ok(())
+            apply(kept, at as usize, &log[..count], done)
         }
         Call::Synced => {
             torn.clear();
@@ -161,9 +171,10 @@ fn left_by(
 }
 
 impl MemDisk {
-    ghost use Rattle.std.specs.Prelude.{[], ◌∷◌, ◌||◌, is_ok, IsTrue, not, false, true, min, ◌-◌};
-    ghost use Rattle.log_seams.specs.Replay.{IsQuiet, wrote};
-    ghost use Rattle.log_seams.specs.MemDisk.{first_of, bytes_of, calls_of, events_of, events_until, fails_next, lacks_room, SameBut, Rests};
+    ghost use Rattle.std.specs.Prelude.{[], ◌∷◌, ◌||◌, is_ok, IsTrue, not, false, min, ◌-◌};
+    ghost use Rattle.log_seams.specs.StepsReplay.{IsQuiet};
+    ghost use Rattle.log_seams.specs.Disk.{Rests};
+    ghost use Rattle.log_seams.specs.MemDisk.{first_of, bytes_of, calls_of, events_of, events_until, disk_state, fails_next, lacks_room, SameBut, Recorded, IsNewDisk};
 
     /// A disk that begins with these bytes, which may be more than `room`. It fails at each write that
     /// would end past `room` or take the sum of the bytes that it records past it, at the calls whose
@@ -176,12 +187,7 @@ impl MemDisk {
         call_limit: usize,
         fails: Vec<u64>,
     ) -> Result<MemDisk, AllocError>
-        ensures bytes { IfOk result (λ m. bytes_of m ≡ bytes) }
-        ensures first { IfOk result (λ m. first_of m ≡ bytes) }
-        ensures events { IfOk result (λ m. events_of m ≡ []) }
-        ensures calls { IfOk result (λ m. calls_of m ≡ 0) }
-        ensures room { IfOk result (λ m. (m.room ≡ room) × (m.call_limit ≡ call_limit) × (m.fails.items ≡ fails.items)) }
-        ensures faults { IfOk result (λ m. m.faults ≡ 0) }
+        ensures { IfOk result (IsNewDisk bytes room call_limit fails.items) }
     {
         let mut content = Vec::with_capacity(alloc, room.max(bytes.as_slice().len()))?;
         content.extend_from_slice(bytes.as_slice())?;
@@ -221,13 +227,9 @@ impl MemDisk {
     /// and no call of it fails by a list.
     pub fn stopped(&self, after: usize, pending: Pending) -> Result<MemDisk, AllocError>
         requires { after ≤ calls_of self.now }
-        ensures bytes { IfOk result (λ m. bytes_of m ≡ left_by pending (first_of self.now) (events_until after self.now)) }
+        ensures left { IfOk result (IsNewDisk (left_by pending (first_of self.now) (events_until after self.now))
+            self.now.room self.now.call_limit []) }
         ensures image { IfOk result (λ m. IsImage (first_of self.now) (events_until after self.now) (bytes_of m)) }
-        ensures first { IfOk result (λ m. first_of m ≡ bytes_of m) }
-        ensures events { IfOk result (λ m. events_of m ≡ []) }
-        ensures calls { IfOk result (λ m. calls_of m ≡ 0) }
-        ensures room { IfOk result (λ m. (m.room ≡ self.now.room) × (m.call_limit ≡ self.now.call_limit) × (m.fails.items ≡ [])) }
-        ensures faults { IfOk result (λ m. m.faults ≡ 0) }
     {
         let left = left_by(
             self.alloc,
@@ -265,61 +267,36 @@ impl MemDisk {
         requires quiet { IsQuiet call }
         requires room { calls_of self.old < self.old.call_limit }
         ensures events { events_of self.new ≡ event_of call [] ∷ events_of self.old }
-        ensures same { SameBut self.old self.new }
         ensures bytes { bytes_of self.new ≡ bytes_of self.old }
-        ensures calls { calls_of self.new ≡ calls_of self.old + 1 }
+        ensures recorded { Recorded self.old self.new }
         ensures faults { self.new.faults ≡ self.old.faults }
     {
         self.calls.push_reserved(call);
     }
 
-    // Writes, and records it.
-    fn lay(&mut self, at: u64, bytes: &[u8])
+    // Records a write, which is done or has failed.
+    fn put(&mut self, at: u64, bytes: &[u8], done: bool)
         requires place { at ≤ length (bytes_of self.old) }
         requires within { lacks_room self.old at (length bytes.now) ≡ false }
         requires room { calls_of self.old < self.old.call_limit }
-        ensures events { events_of self.new ≡ wrote true at bytes.now ∷ events_of self.old }
-        ensures same { SameBut self.old self.new }
-        ensures bytes { bytes_of self.new ≡ laid at bytes.now (bytes_of self.old) }
-        ensures calls { calls_of self.new ≡ calls_of self.old + 1 }
+        ensures events { events_of self.new ≡ wrote done at bytes.now ∷ events_of self.old }
+        ensures bytes { bytes_of self.new ≡ after_event (wrote done at bytes.now) (bytes_of self.old) }
+        ensures recorded { Recorded self.old self.new }
         ensures faults { self.new.faults ≡ self.old.faults }
     {
         let count = bytes.len();
-        overwrite(&mut self.bytes, at as usize, bytes).unwrap();
+        apply(&mut self.bytes, at as usize, bytes, done).unwrap();
         self.log.extend_from_slice(bytes).unwrap();
-        self.calls.push_reserved(Call::Wrote {
-            at,
-            count,
-            done: true,
-        });
-    }
-
-    // Records a write that failed.
-    fn lose(&mut self, at: u64, bytes: &[u8])
-        requires within { lacks_room self.old at (length bytes.now) ≡ false }
-        requires room { calls_of self.old < self.old.call_limit }
-        ensures events { events_of self.new ≡ wrote false at bytes.now ∷ events_of self.old }
-        ensures same { SameBut self.old self.new }
-        ensures bytes { bytes_of self.new ≡ bytes_of self.old }
-        ensures calls { calls_of self.new ≡ calls_of self.old + 1 }
-        ensures faults { self.new.faults ≡ self.old.faults }
-    {
-        let count = bytes.len();
-        self.log.extend_from_slice(bytes).unwrap();
-        self.calls.push_reserved(Call::Wrote {
-            at,
-            count,
-            done: false,
-        });
+        self.calls.push_reserved(Call::Wrote { at, count, done });
     }
 
     // Counts a fault, and records the call where it is not past the last.
     fn fail(&mut self) -> Failed
-        ensures rests { Rests self.old self.new }
-        ensures calls { calls_of self.new ≡ min self.old.call_limit (calls_of self.old + 1) }
+        ensures rests { Rests (disk_state self.old) (disk_state self.new) }
+        ensures ranges { (disk_state self.new).ranges ≡ (disk_state self.old).ranges }
+        ensures recorded { Recorded self.old self.new }
         ensures faults { self.new.faults ≡ min (self.old.faults + 1) (2 ^ 64 - 1) }
-        ensures later { self.old.faults ≤ self.new.faults }
-        ensures rose { Rose self.old.faults self.new.faults }
+        ensures rose { (self.old.faults ≤ self.new.faults) × Rose self.old.faults self.new.faults }
     {
         self.faults = self.faults.saturating_add(1);
         if self.calls.len() < self.call_limit {
@@ -331,35 +308,16 @@ impl MemDisk {
 }
 
 impl Disk for MemDisk {
-    ghost use Rattle.std.specs.Prelude.{min, not, ◌||◌, is_ok, is_some, OnErr, IfSome, option_map};
-    ghost use Rattle.log_seams.specs.Disk.{Torn, Follows, NoMore, Only, with_range};
-    ghost use Rattle.log_seams.specs.Outside.{Counts};
-    ghost use Rattle.log_seams.specs.MemDisk.{images_of, clock_of, since_of, bytes_of, calls_of, events_of, told_of, ranges_of, GoesOn, SameBut, fails_next, lacks_room};
+    ghost use Rattle.std.specs.Prelude.{not, ◌||◌, is_ok, OnErr, IfSome};
+    ghost use Rattle.log_seams.specs.Disk.{HasLength, HasRead, HasWritten, HasSynced};
+    ghost use Rattle.log_seams.specs.MemDisk.{disk_state, bytes_of, events_of, Recorded, fails_next, lacks_room};
 
-    ghost seen = { told_of };
-
-    ghost images = { images_of };
-
-    ghost clock = { clock_of };
-
-    ghost since = { since_of };
-
-    ghost ranges = { ranges_of };
-
-    ghost faults = { λ m. m.faults };
+    ghost state = { disk_state };
 
     fn len(&mut self) -> Result<u64, Failed>
-        ensures told { IfOk result (λ n. IfSome (told_of self.old) (λ bytes. n ≡ length bytes)) }
-        ensures seen { told_of self.new ≡ told_of self.old }
-        ensures images { NoMore (images_of self.old) (images_of self.new) }
-        ensures no_fewer { NoMore (images_of self.new) (images_of self.old) }
-        ensures time { GoesOn self.old self.new }
-        ensures ranges { ranges_of self.new ≡ ranges_of self.old }
-        ensures cause { Counts self.old.faults self.new.faults result }
+        ensures call { HasLength result (disk_state self.old) (disk_state self.new) }
         ensures succeeds { is_ok result ≡ not (fails_next self.old) }
-        ensures steady { OnOk result (self.new.faults ≡ self.old.faults) }
-        ensures same { SameBut self.old self.new }
-        ensures calls { calls_of self.new ≡ min self.old.call_limit (calls_of self.old + 1) }
+        ensures recorded { Recorded self.old self.new }
     {
         if self.fails_next() {
             return Err(self.fail());
@@ -369,19 +327,9 @@ impl Disk for MemDisk {
     }
 
     fn read(&mut self, at: u64, buf: &mut [u8]) -> Result<usize, Failed>
-        ensures within { IfOk result (λ n. n ≤ length buf.old) }
-        ensures told { IfOk result (λ n. Gave (told_of self.old) at n buf.old buf.new) }
-        ensures seen { told_of self.new ≡ told_of self.old }
-        ensures images { NoMore (images_of self.old) (images_of self.new) }
-        ensures no_fewer { NoMore (images_of self.new) (images_of self.old) }
-        ensures time { GoesOn self.old self.new }
-        ensures range { IfOk result (λ n. ranges_of self.new ≡ with_range at n (ranges_of self.old)) }
-        ensures no_range { OnErr result (ranges_of self.new ≡ ranges_of self.old) }
-        ensures cause { Counts self.old.faults self.new.faults result }
+        ensures call { HasRead at buf.old buf.new result (disk_state self.old) (disk_state self.new) }
         ensures succeeds { is_ok result ≡ not (fails_next self.old) }
-        ensures steady { OnOk result (self.new.faults ≡ self.old.faults) }
-        ensures same { SameBut self.old self.new }
-        ensures calls { calls_of self.new ≡ min self.old.call_limit (calls_of self.old + 1) }
+        ensures recorded { Recorded self.old self.new }
     {
         if self.fails_next() {
             return Err(self.fail());
@@ -392,43 +340,29 @@ impl Disk for MemDisk {
     }
 
     fn write(&mut self, at: u64, bytes: &[u8]) -> Result<(), Failed>
-        requires place { IfSome (told_of self.old) (λ old. at ≤ length old) }
+        requires place { IfSome (disk_state self.old).seen (λ old. at ≤ length old) }
         requires end { at + length bytes.now ≤ 2 ^ 62 }
-        ensures written { OnOk result (told_of self.new ≡ option_map (laid at bytes.now) (told_of self.old)) }
-        ensures tells { is_some (told_of self.new) ≡ is_some (told_of self.old) }
-        ensures kept { OnErr result (told_of self.new ≡ told_of self.old) }
-        ensures images { Follows (Torn at (length bytes.now)) (images_of self.old) (images_of self.new) }
-        ensures time { GoesOn self.old self.new }
-        ensures ranges { ranges_of self.new ≡ ranges_of self.old }
-        ensures cause { Counts self.old.faults self.new.faults result }
+        ensures call { HasWritten at bytes.now result (disk_state self.old) (disk_state self.new) }
+        ensures kept { OnErr result (bytes_of self.new ≡ bytes_of self.old) }
         ensures succeeds { is_ok result ≡ not (lacks_room self.old at (length bytes.now) || fails_next self.old) }
-        ensures steady { OnOk result (self.new.faults ≡ self.old.faults) }
-        ensures same { SameBut self.old self.new }
-        ensures calls { calls_of self.new ≡ min self.old.call_limit (calls_of self.old + 1) }
+        ensures recorded { Recorded self.old self.new }
     {
         if self.lacks_room(at, bytes.len()) || self.calls.len() >= self.call_limit {
             return Err(self.fail());
         }
         if self.fails_next() {
-            self.lose(at, bytes);
+            self.put(at, bytes, false);
             self.faults = self.faults.saturating_add(1);
             return Err(Failed);
         }
-        self.lay(at, bytes);
+        self.put(at, bytes, true);
         Ok(())
     }
 
     fn sync(&mut self) -> Result<(), Failed>
-        ensures durable { OnOk result (Only (told_of self.new) (images_of self.new)) }
-        ensures seen { told_of self.new ≡ told_of self.old }
-        ensures images { NoMore (images_of self.old) (images_of self.new) }
-        ensures time { GoesOn self.old self.new }
-        ensures ranges { ranges_of self.new ≡ ranges_of self.old }
-        ensures cause { Counts self.old.faults self.new.faults result }
+        ensures call { HasSynced result (disk_state self.old) (disk_state self.new) }
         ensures succeeds { is_ok result ≡ not (fails_next self.old) }
-        ensures steady { OnOk result (self.new.faults ≡ self.old.faults) }
-        ensures same { SameBut self.old self.new }
-        ensures calls { calls_of self.new ≡ min self.old.call_limit (calls_of self.old + 1) }
+        ensures recorded { Recorded self.old self.new }
     {
         if self.fails_next() {
             return Err(self.fail());
@@ -441,11 +375,10 @@ impl Disk for MemDisk {
         self.faults
     }
 
-    ghost counts_now = { λ m t c le now. counts_now m.first (events_of m) t c now };
-
-    ghost only_now = { λ m c left. only_now m.first (events_of m) c left };
-
-    ghost wider = { λ m s t c le left. wider m.first (events_of m) s t c le left };
-
-    ghost reads_as = { λ m. reads_now m.first (events_of m) (bytes_of m) m.same };
+    ghost lawful = { λ m. record {
+      reads_as = reads_now m.first (events_of m) (bytes_of m) m.same;
+      counts_now = λ t c le now. counts_now m.first (events_of m) t c now;
+      only_now = λ c left. only_now m.first (events_of m) c left;
+      wider = λ s t c le left. wider m.first (events_of m) s t c le left;
+    } };
 }

@@ -1,11 +1,12 @@
 //! Logs in memory that are opened by name.
-ghost use Rattle.std.specs.Prelude.{◌≡◌, ◌≢◌, ◌+◌, ◌-◌, ◌^◌, ◌<◌, ◌≤◌, ◌↔◌, ◌⊎◌, List, ℕ, ◌∷◌, min, length, IfOk, IfSome, IsOk, IsSome, IsNone, IsErr, IsErrOf, OnErr, OnOk, Contains, option_copied, if◌then◌else◌};
+ghost use Rattle.std.specs.Prelude.{◌≡◌, ◌≢◌, ◌+◌, ◌-◌, ◌^◌, ◌<◌, ◌≤◌, ◌↔◌, ◌⊎◌, List, ℕ, ◌∷◌, min, length, IfOk, IfSome, IsOk, IsSome, IsNone, IsErr, IsErrOf, OnErr, OnOk, ◌++◌, [], Contains, option_copied, if◌then◌else◌};
 ghost use Rattle.std.specs.Str.{bytes_eq};
-ghost use Rattle.log_seams.specs.Shelf.{file_of};
+ghost use Rattle.log_seams.specs.MemShelf.{file_of};
+ghost use Rattle.log_seams.specs.Memory.{CalledOnce};
 ghost use Rattle.log_seams.specs.Outside.{Adds, Counts, Rose, Takes};
 
 use crate::calls::Calls;
-use crate::tally::Tally;
+use crate::closed_logs::ClosedLogs;
 use crate::{Failed, MemSource, OpenRefused, Shelf, Source, Text};
 use std::alloc::{AllocError, Global};
 use std::marker::Model;
@@ -25,7 +26,7 @@ pub struct MemFile {
 pub struct ShelfSource {
     log: MemSource,
     name: Text,
-    place: Box<Tally>,
+    place: Box<ClosedLogs>,
 }
 
 impl Model for ShelfSource {
@@ -47,16 +48,17 @@ impl Source for ShelfSource {
 
     fn read(&mut self, buf: &mut [u8]) -> Result<usize, Failed>
         requires { 0 < length buf.old }
+        // As of every source.
         ensures within { IfOk result (λ n. n ≤ length buf.old) }
         ensures taken { IfOk result (λ n. Takes n buf.new (Some self.old.log.left) (Some self.new.log.left)) }
-        ensures full { IfOk result (λ n. n ≡ min (length buf.old) (length self.old.log.left)) }
         ensures untaken { OnErr result (self.new.log.left ≡ self.old.log.left) }
         ensures name { self.new.name ≡ self.old.name }
         ensures cause { Counts self.old.log.faults self.new.log.faults result }
+
+        // As of a log in memory.
         ensures listed { IsErr result ↔ Contains self.old.log.calls.fails self.old.log.calls.made }
-        ensures made { self.new.log.calls.made ≡ min (self.old.log.calls.made + 1) (2 ^ 64 - 1) }
-        ensures fails { self.new.log.calls.fails ≡ self.old.log.calls.fails }
-        ensures faults { IsOk result → self.new.log.faults ≡ self.old.log.faults }
+        ensures full { IfOk result (λ n. n ≡ min (length buf.old) (length self.old.log.left)) }
+        ensures calls { CalledOnce self.old.log.calls self.new.log.calls }
     {
         self.log.read(buf)
     }
@@ -70,12 +72,12 @@ pub struct MemShelf {
     files: Vec<MemFile>,
     calls: Calls,
     absent: u64,
-    refused: Tally,
-    closed: Tally,
+    refused: Vec<Text>,
+    closed: ClosedLogs,
 }
 
 impl Model for MemShelf {
-    ghost use Rattle.log_seams.specs.Shelf.{ShelfState};
+    ghost use Rattle.log_seams.specs.MemShelf.{ShelfState};
 
     ghost Value = { ShelfState };
 
@@ -83,13 +85,13 @@ impl Model for MemShelf {
       files = s.files.items;
       calls = s.calls;
       absent = s.absent;
-      refused = s.refused;
+      refused = s.refused.items;
       closed = s.closed;
     } };
 }
 
 impl MemShelf {
-    ghost use Rattle.log_seams.specs.Shelf.{shelf_open_faults, shelf_read_faults};
+    ghost use Rattle.log_seams.specs.MemShelf.{shelf_open_faults, shelf_read_faults};
 
     /// The shelf of these files, whose openings with a number in `fails` will fail. The first
     /// opening has the number 0.
@@ -107,8 +109,8 @@ impl MemShelf {
             files,
             calls: Calls::new(fails),
             absent: 0,
-            refused: Tally::new(),
-            closed: Tally::new(),
+            refused: Vec::new(alloc),
+            closed: ClosedLogs::new(),
         }
     }
 }
@@ -133,55 +135,59 @@ fn opened(alloc: Global, file: &MemFile, name: &str) -> Result<ShelfSource, Allo
     Ok(ShelfSource {
         log: MemSource::new(bytes, fails),
         name: Text::new(name.as_bytes().to_vec(alloc)?),
-        place: Box::new(alloc, Tally::new())?,
+        place: Box::new(alloc, ClosedLogs::new())?,
     })
 }
 
-/// The tally with one more of this name.
-fn one_more(alloc: Global, tally: &mut Tally, name: &str) -> Result<(), AllocError>
-    ensures ok { OnOk result (tally.new ≡ (name.now, 1) ∷ tally.old) }
-    ensures err { OnErr result (tally.new ≡ tally.old) }
+/// Adds a name to those that were refused.
+fn refuse(alloc: Global, refused: &mut Vec<Text>, name: &str) -> Result<(), AllocError>
+    ensures ok { OnOk result (refused.new.items ≡ refused.old.items ++ name.now ∷ []) }
+    ensures err { OnErr result (refused.new.items ≡ refused.old.items) }
 {
     let name = Text::new(name.as_bytes().to_vec(alloc)?);
-    let place = Box::new(alloc, Tally::new())?;
-    let older = mem::replace(tally, Tally::new());
-    *tally = older.with(place, name, 1);
-    Ok(())
+    Ok(refused.push(name)?)
 }
 
 impl Shelf for MemShelf {
-    ghost use Rattle.log_seams.specs.Shelf.{shelf_content, shelf_open_faults, shelf_read_faults};
+    ghost use Rattle.log_seams.specs.MemShelf.{shelf_content, shelf_unread, shelf_open_faults, shelf_read_faults};
     ghost use Rattle.log_seams.specs.declared.refusals.OpenRefused.{OpenRefused};
 
     type Src = ShelfSource;
 
     ghost content = { shelf_content };
 
+    ghost unread = { shelf_unread };
+
     ghost open_faults = { shelf_open_faults };
 
     ghost read_faults = { shelf_read_faults };
 
     fn open_log(&mut self, name: &str) -> Result<ShelfSource, OpenRefused>
+        // What stays.
         ensures files { self.new.files ≡ self.old.files }
-        ensures content { (n : List ℕ) → shelf_content self.new n ≡ shelf_content self.old n }
+        ensures closed { self.new.closed ≡ self.old.closed }
+        ensures calls { CalledOnce self.old.calls self.new.calls }
+
+        // The opened log.
         ensures left { IfOk result (λ s. Some s.log.left ≡ shelf_content self.old name.now) }
         ensures named { IfOk result (λ s. s.name ≡ name.now) }
-        ensures fresh { IfOk result (λ s. s.log.faults ≡ 0) }
-        ensures made { IfOk result (λ s. s.log.calls.made ≡ 0) }
-        ensures fails { IfOk result (λ s. IfSome (file_of self.old.files name.now) (λ f. s.log.calls.fails ≡ f.read_fails.items)) }
+        ensures fresh { IfOk result (λ s. (s.log.faults ≡ 0) × (s.log.calls.made ≡ 0)) }
+        ensures fails { IfOk result (λ s. IfSome (file_of self.old.files name.now)
+            (λ f. s.log.calls.fails ≡ f.read_fails.items)) }
+
+        // The counts in opening.
         ensures opens { (n : List ℕ) → shelf_open_faults self.old n ≤ shelf_open_faults self.new n }
         ensures others { (n : List ℕ) → n ≢ name.now → IsSome (file_of self.old.files n)
             → shelf_open_faults self.new n ≡ shelf_open_faults self.old n }
         ensures steady { OnOk result ((n : List ℕ) → shelf_open_faults self.new n ≡ shelf_open_faults self.old n) }
-        ensures reads { (n : List ℕ) → shelf_read_faults self.new n ≡ shelf_read_faults self.old n }
         ensures cause { IsErrOf result OpenRefused.Failed
             → Rose (shelf_open_faults self.old name.now) (shelf_open_faults self.new name.now) }
+
+        // Which openings fail.
         ensures absent { IsNone (file_of self.old.files name.now) → IsErrOf result OpenRefused.Failed }
         ensures listed { Contains self.old.calls.fails self.old.calls.made → IsErr result }
         ensures only { IsErrOf result OpenRefused.Failed
             → IsNone (file_of self.old.files name.now) ⊎ Contains self.old.calls.fails self.old.calls.made }
-        ensures calls { self.new.calls.made ≡ min (self.old.calls.made + 1) (2 ^ 64 - 1) }
-        ensures list { self.new.calls.fails ≡ self.old.calls.fails }
     {
         let listed = self.calls.next_fails();
         let Some(file) = find_file(self.files.as_slice(), name) else {
@@ -189,7 +195,7 @@ impl Shelf for MemShelf {
             return Err(OpenRefused::Failed);
         };
         if listed {
-            one_more(self.alloc, &mut self.refused, name)?;
+            refuse(self.alloc, &mut self.refused, name)?;
             return Err(OpenRefused::Failed);
         }
         Ok(opened(self.alloc, file, name)?)
@@ -197,16 +203,12 @@ impl Shelf for MemShelf {
 
     fn close_log(&mut self, src: ShelfSource)
         ensures files { self.new.files ≡ self.old.files }
-        ensures content { (n : List ℕ) → shelf_content self.new n ≡ shelf_content self.old n }
-        ensures opens { (n : List ℕ) → shelf_open_faults self.new n ≡ shelf_open_faults self.old n }
-        ensures reads { (n : List ℕ) → shelf_read_faults self.old n ≤ shelf_read_faults self.new n }
-        ensures adds { (n : List ℕ) → src.name ≡ n
-            → shelf_read_faults self.new n ≡ shelf_read_faults self.old n + src.log.faults }
-        ensures others { (n : List ℕ) → src.name ≢ n → shelf_read_faults self.new n ≡ shelf_read_faults self.old n }
         ensures calls { self.new.calls ≡ self.old.calls }
+        ensures opens { (self.new.absent ≡ self.old.absent) × (self.new.refused ≡ self.old.refused) }
+        ensures closed { self.new.closed ≡ (record { name = src.name; left = src.log.left; faults = src.log.faults }) ∷ self.old.closed }
     {
         let ShelfSource { log, name, place } = src;
-        let older = mem::replace(&mut self.closed, Tally::new());
-        self.closed = older.with(place, name, log.faults());
+        let older = mem::replace(&mut self.closed, ClosedLogs::new());
+        self.closed = older.with(place, name, log);
     }
 }

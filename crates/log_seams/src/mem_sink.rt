@@ -1,5 +1,6 @@
 //! A sink in memory.
 ghost use Rattle.std.specs.Prelude.{◌≡◌, ◌+◌, ◌-◌, ◌^◌, ◌<◌, ◌≤◌, ◌↔◌, ◌⊎◌, ◌++◌, [], min, length, take, option_map, IfOk, IsOk, IsErr, OnErr, Contains};
+ghost use Rattle.log_seams.specs.Memory.{CalledOnce};
 ghost use Rattle.log_seams.specs.Outside.{Counts};
 
 use crate::calls::Calls;
@@ -64,18 +65,19 @@ impl Sink for MemSink {
     /// Writes all of `bytes`, or fails where its number is listed or they go past the room.
     fn write(&mut self, bytes: &[u8]) -> Result<usize, Failed>
         requires { 0 < length bytes.now }
+        // As of every sink.
         ensures some { IfOk result (λ n. 0 < n) }
         ensures within { IfOk result (λ n. n ≤ length bytes.now) }
         ensures appended { IfOk result (λ n. Some self.new.written ≡ option_map (λ w. w ++ take n bytes.now) (Some self.old.written)) }
-        ensures all { IfOk result (λ n. n ≡ length bytes.now) }
         ensures unwritten { OnErr result (self.new.written ≡ self.old.written) }
         ensures cause { Counts self.old.faults self.new.faults result }
+
+        // Of this one.
         ensures listed { IsErr result ↔ (Contains self.old.calls.fails self.old.calls.made
             ⊎ (self.old.room < length self.old.written + length bytes.now)) }
+        ensures all { IfOk result (λ n. n ≡ length bytes.now) }
         ensures room { self.new.room ≡ self.old.room }
-        ensures made { self.new.calls.made ≡ min (self.old.calls.made + 1) (2 ^ 64 - 1) }
-        ensures fails { self.new.calls.fails ≡ self.old.calls.fails }
-        ensures faults { IsOk result → self.new.faults ≡ self.old.faults }
+        ensures calls { CalledOnce self.old.calls self.new.calls }
     {
         let listed = self.calls.next_fails();
         if listed || self.room - self.bytes.len() < bytes.len() {

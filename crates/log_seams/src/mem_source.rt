@@ -1,5 +1,6 @@
 //! Logs in memory.
 ghost use Rattle.std.specs.Prelude.{◌≡◌, ◌+◌, ◌-◌, ◌^◌, ◌<◌, ◌≤◌, ◌↔◌, min, length, drop, is_err, IfOk, IsOk, IsErr, OnErr, Contains, if◌then◌else◌};
+ghost use Rattle.log_seams.specs.Memory.{CalledOnce};
 ghost use Rattle.log_seams.specs.Outside.{Counts, Takes};
 
 use crate::calls::Calls;
@@ -49,6 +50,14 @@ impl MemSource {
     {
         self.faults
     }
+
+    /// The bytes of the log, how many of them were read, and how often reading has failed.
+    pub(crate) fn into_parts(self) -> (Text, usize, u64)
+        ensures left { self.left ≡ drop result.1 result.0 }
+        ensures faults { result.2 ≡ self.faults }
+    {
+        (self.bytes, self.at, self.faults)
+    }
 }
 
 impl Source for MemSource {
@@ -62,15 +71,16 @@ impl Source for MemSource {
 
     fn read(&mut self, buf: &mut [u8]) -> Result<usize, Failed>
         requires { 0 < length buf.old }
+        // As of every source.
         ensures within { IfOk result (λ n. n ≤ length buf.old) }
         ensures taken { IfOk result (λ n. Takes n buf.new (Some self.old.left) (Some self.new.left)) }
-        ensures full { IfOk result (λ n. n ≡ min (length buf.old) (length self.old.left)) }
         ensures untaken { OnErr result (self.new.left ≡ self.old.left) }
         ensures cause { Counts self.old.faults self.new.faults result }
+
+        // Of this one.
         ensures listed { IsErr result ↔ Contains self.old.calls.fails self.old.calls.made }
-        ensures made { self.new.calls.made ≡ min (self.old.calls.made + 1) (2 ^ 64 - 1) }
-        ensures fails { self.new.calls.fails ≡ self.old.calls.fails }
-        ensures faults { IsOk result → self.new.faults ≡ self.old.faults }
+        ensures full { IfOk result (λ n. n ≡ min (length buf.old) (length self.old.left)) }
+        ensures calls { CalledOnce self.old.calls self.new.calls }
     {
         if self.calls.next_fails() {
             self.faults = self.faults.saturating_add(1);

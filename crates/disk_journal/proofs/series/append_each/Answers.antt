@@ -1,5 +1,5 @@
 use Rattle.std.proofs.Common.{◌≡◌, ◌<◌, ◌+◌, List, [], ◌∷◌, ◌++◌, ℕ, length, take, get_or, arith, refl, sym, ◌∙◌, ap, subst}
-use Rattle.log_seams.specs.Moments.{started, joined}
+use Rattle.log_seams.proofs.MomentLemmas.{started, joined}
 use Rattle.record_format.specs.Header.{header_bytes}
 use Rattle.record_format.specs.declared.header.Header.{Header}
 use Rattle.disk_journal.specs.Record.{saved_of}
@@ -11,7 +11,7 @@ use Rattle.disk_journal.proofs.series.append_each.Goals as goal
 pub loop-text-init : goal.loop-text-init
 loop-text-init g c =
     let j = c.args.journal.now in
-    let told = g.D.Disk.seen j.disk.now in
+    let told = (g.D.Disk.state j.disk.now).seen in
     let new = saved_all c.args.texts.now in
     record {
       name = refl;
@@ -21,11 +21,11 @@ loop-text-init g c =
       added = added_none told j.count new;
       count = omega arith;
       place = omega arith;
-      moments = started g.D.Disk.clock g.D.Disk.since g.D.Disk.images g.met.D.Disk.only_now j.disk.now (WithFirstTold (header_bytes j.header) told j.count new)
-          (λ f left. image_none (header_bytes j.header) j.place j.count told (g.D.Disk.images j.disk.now) new f c.requires.at_end left);
+      moments = started (g.D.Disk.state j.disk.now) (WithFirstTold (header_bytes j.header) told j.count new) (g.met.D.Disk.lawful j.disk.now)
+          (λ f left. image_none (header_bytes j.header) j.place j.count told (g.D.Disk.state j.disk.now).images new f c.requires.at_end left);
       tells = refl;
       ranges = refl;
-      counts = omega arith;
+      counts = refl;
     }
 
 pub returns-in-Err-DiskFault-clause-stopped : goal.returns-in-Err-DiskFault-clause-stopped
@@ -34,7 +34,7 @@ returns-in-Err-DiskFault-clause-stopped g c =
     let mid = c.loop-text.journal in
     let i = c.loop-text.text-index in
     let inv = c.loop-text.invariant in
-    let told = g.D.Disk.seen j.disk.now in
+    let told = (g.D.Disk.state j.disk.now).seen in
     let new = saved_all c.args.texts.now in
     let r = saved_of c.text-item.result in
     let same : c.as_slice.result.now ≡ c.text-item.result = c.as_slice.ensures in
@@ -47,12 +47,12 @@ returns-in-Err-DiskFault-clause-stopped g c =
       count,
       place,
       λ f left.
-          let since = g.met.D.Disk.counts_now c.append.new.self.disk.now (g.D.Disk.clock mid.disk.now) f c.append.ensures.moments.later left in
+          let since = (g.met.D.Disk.lawful c.append.new.self.disk.now).counts_now (g.D.Disk.state mid.disk.now).clock f c.append.ensures.moments.later left in
           let was = c.append.ensures.moments.each f since in
-          let known : BeforeOrAfter (header_bytes j.header) (g.D.Disk.seen mid.disk.now) mid.count r f =
-          subst (λ (t : List ℕ). BeforeOrAfter (header_bytes j.header) (g.D.Disk.seen mid.disk.now) mid.count (saved_of t) f) same
-          (subst (λ (h : Header). BeforeOrAfter (header_bytes h) (g.D.Disk.seen mid.disk.now) mid.count (saved_of c.as_slice.result.now) f) inv.header was) in
-          step_image (header_bytes j.header) told (g.D.Disk.seen mid.disk.now) j.count mid.count i new r inv.tells inv.added next f known,
+          let known : BeforeOrAfter (header_bytes j.header) (g.D.Disk.state mid.disk.now).seen mid.count r f =
+          subst (λ (t : List ℕ). BeforeOrAfter (header_bytes j.header) (g.D.Disk.state mid.disk.now).seen mid.count (saved_of t) f) same
+          (subst (λ (h : Header). BeforeOrAfter (header_bytes h) (g.D.Disk.state mid.disk.now).seen mid.count (saved_of c.as_slice.result.now) f) inv.header was) in
+          step_image (header_bytes j.header) told (g.D.Disk.state mid.disk.now).seen j.count mid.count i new r inv.tells inv.added next f known,
     )
 
 -- one append more, in the terms of the whole
@@ -62,21 +62,21 @@ returns-in-Err-DiskFault-clause-moments g c =
     let mid = c.loop-text.journal in
     let i = c.loop-text.text-index in
     let inv = c.loop-text.invariant in
-    let told = g.D.Disk.seen j.disk.now in
+    let told = (g.D.Disk.state j.disk.now).seen in
     let new = saved_all c.args.texts.now in
     let r = saved_of c.text-item.result in
     let same : c.as_slice.result.now ≡ c.text-item.result = c.as_slice.ensures in
     let next : take (i + 1) new ≡ take i new ++ r ∷ [] =
     saved_more c.args.texts.now i c.text-item.result c.loop-text-test.true ∙ ap (λ (t : List ℕ). take i new ++ saved_of t ∷ []) (sym c.text-item.is) in
     let below : i < length new = omega (arith, length-saved c.args.texts.now, c.loop-text-test.true) in
-    joined g.D.Disk.clock g.D.Disk.since g.D.Disk.images g.met.D.Disk.wider j.disk.now mid.disk.now c.append.new.self.disk.now (WithFirstTold (header_bytes j.header) told j.count new) (BeforeOrAfter (header_bytes mid.header) (g.D.Disk.seen mid.disk.now) mid.count (saved_of c.as_slice.result.now)) (WithFirstTold (header_bytes j.header) told j.count new)
+    joined (g.D.Disk.state j.disk.now) (g.D.Disk.state mid.disk.now) (g.D.Disk.state c.append.new.self.disk.now) (WithFirstTold (header_bytes j.header) told j.count new) (BeforeOrAfter (header_bytes mid.header) (g.D.Disk.state mid.disk.now).seen mid.count (saved_of c.as_slice.result.now)) (WithFirstTold (header_bytes j.header) told j.count new) (g.met.D.Disk.lawful c.append.new.self.disk.now)
     inv.moments c.append.ensures.moments
     (λ f was. was)
     (λ f was.
-    let known : BeforeOrAfter (header_bytes j.header) (g.D.Disk.seen mid.disk.now) mid.count r f =
-    subst (λ (t : List ℕ). BeforeOrAfter (header_bytes j.header) (g.D.Disk.seen mid.disk.now) mid.count (saved_of t) f) same
-    (subst (λ (h : Header). BeforeOrAfter (header_bytes h) (g.D.Disk.seen mid.disk.now) mid.count (saved_of c.as_slice.result.now) f) inv.header was) in
-    under_way_first (header_bytes j.header) told j.count i new f below (step_image (header_bytes j.header) told (g.D.Disk.seen mid.disk.now) j.count mid.count i new r inv.tells inv.added next f known))
+    let known : BeforeOrAfter (header_bytes j.header) (g.D.Disk.state mid.disk.now).seen mid.count r f =
+    subst (λ (t : List ℕ). BeforeOrAfter (header_bytes j.header) (g.D.Disk.state mid.disk.now).seen mid.count (saved_of t) f) same
+    (subst (λ (h : Header). BeforeOrAfter (header_bytes h) (g.D.Disk.state mid.disk.now).seen mid.count (saved_of c.as_slice.result.now) f) inv.header was) in
+    under_way_first (header_bytes j.header) told j.count i new f below (step_image (header_bytes j.header) told (g.D.Disk.state mid.disk.now).seen j.count mid.count i new r inv.tells inv.added next f known))
 
 pub unreachable-requires : goal.unreachable-requires
 unreachable-requires g c =
@@ -95,7 +95,7 @@ loop-text-preserved g c =
     let mid = c.loop-text.journal in
     let i = c.loop-text.text-index in
     let inv = c.loop-text.invariant in
-    let told = g.D.Disk.seen j.disk.now in
+    let told = (g.D.Disk.state j.disk.now).seen in
     let new = saved_all c.args.texts.now in
     let r = saved_of c.text-item.result in
     let same : c.as_slice.result.now ≡ c.text-item.result = c.as_slice.ensures in
@@ -106,26 +106,26 @@ loop-text-preserved g c =
     let ok0 = ok.0 in
     let ok1 = ok.1 in
     let below : i < length new = omega (arith, length-saved c.args.texts.now, c.loop-text-test.true) in
-    let one : Added (g.D.Disk.seen mid.disk.now) mid.count r (g.D.Disk.seen c.append.new.self.disk.now) c.append.new.self.count =
-    subst (λ (t : List ℕ). Added (g.D.Disk.seen mid.disk.now) mid.count (saved_of t) (g.D.Disk.seen c.append.new.self.disk.now) c.append.new.self.count) same c.in-Ok.ensures.added in
+    let one : Added (g.D.Disk.state mid.disk.now).seen mid.count r (g.D.Disk.state c.append.new.self.disk.now).seen c.append.new.self.count =
+    subst (λ (t : List ℕ). Added (g.D.Disk.state mid.disk.now).seen mid.count (saved_of t) (g.D.Disk.state c.append.new.self.disk.now).seen c.append.new.self.count) same c.in-Ok.ensures.added in
     record {
       name = c.append.ensures.name ∙ inv.name;
       header = c.append.ensures.header ∙ inv.header;
       closed = c.append.ensures.closed;
       at_end = c.in-Ok.ensures.at_end;
-      added = step_added (header_bytes j.header) told (g.D.Disk.seen mid.disk.now) j.count mid.count i new r inv.tells inv.added next (g.D.Disk.seen c.append.new.self.disk.now) c.append.new.self.count one;
+      added = step_added (header_bytes j.header) told (g.D.Disk.state mid.disk.now).seen j.count mid.count i new r inv.tells inv.added next (g.D.Disk.state c.append.new.self.disk.now).seen c.append.new.self.count one;
       count = omega (arith, inv.count, ok0);
       place = omega (arith, inv.place, ok1, long, size_more c.args.texts.now i c.text-item.result c.loop-text-test.true);
       moments =
-          joined g.D.Disk.clock g.D.Disk.since g.D.Disk.images g.met.D.Disk.wider j.disk.now mid.disk.now c.append.new.self.disk.now (WithFirstTold (header_bytes j.header) told j.count new) (BeforeOrAfter (header_bytes mid.header) (g.D.Disk.seen mid.disk.now) mid.count (saved_of c.as_slice.result.now)) (WithFirstTold (header_bytes j.header) told j.count new)
+          joined (g.D.Disk.state j.disk.now) (g.D.Disk.state mid.disk.now) (g.D.Disk.state c.append.new.self.disk.now) (WithFirstTold (header_bytes j.header) told j.count new) (BeforeOrAfter (header_bytes mid.header) (g.D.Disk.state mid.disk.now).seen mid.count (saved_of c.as_slice.result.now)) (WithFirstTold (header_bytes j.header) told j.count new) (g.met.D.Disk.lawful c.append.new.self.disk.now)
           inv.moments c.append.ensures.moments
           (λ f was. was)
           (λ f was.
-          let known : BeforeOrAfter (header_bytes j.header) (g.D.Disk.seen mid.disk.now) mid.count r f =
-          subst (λ (t : List ℕ). BeforeOrAfter (header_bytes j.header) (g.D.Disk.seen mid.disk.now) mid.count (saved_of t) f) same
-          (subst (λ (h : Header). BeforeOrAfter (header_bytes h) (g.D.Disk.seen mid.disk.now) mid.count (saved_of c.as_slice.result.now) f) inv.header was) in
-          under_way_first (header_bytes j.header) told j.count i new f below (step_image (header_bytes j.header) told (g.D.Disk.seen mid.disk.now) j.count mid.count i new r inv.tells inv.added next f known));
+          let known : BeforeOrAfter (header_bytes j.header) (g.D.Disk.state mid.disk.now).seen mid.count r f =
+          subst (λ (t : List ℕ). BeforeOrAfter (header_bytes j.header) (g.D.Disk.state mid.disk.now).seen mid.count (saved_of t) f) same
+          (subst (λ (h : Header). BeforeOrAfter (header_bytes h) (g.D.Disk.state mid.disk.now).seen mid.count (saved_of c.as_slice.result.now) f) inv.header was) in
+          under_way_first (header_bytes j.header) told j.count i new f below (step_image (header_bytes j.header) told (g.D.Disk.state mid.disk.now).seen j.count mid.count i new r inv.tells inv.added next f known));
       tells = c.append.ensures.tells ∙ inv.tells;
       ranges = c.append.ensures.ranges ∙ inv.ranges;
-      counts = omega (arith, inv.counts, c.append.ensures.counts);
+      counts = c.in-Ok.ensures.steady ∙ inv.counts;
     }

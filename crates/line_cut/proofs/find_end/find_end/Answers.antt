@@ -65,5 +65,5 @@ reads-preserved g c =
       left = c.in_ok-fill_buf.ensures.left ∙ c.reads.invariant.left;
       size = c.in_ok-fill_buf.ensures.size ∙ c.reads.invariant.size;
       name = c.in_ok-fill_buf.ensures.name ∙ c.reads.invariant.name;
-      faults = omega (arith, c.in_ok-fill_buf.ensures.cause.later, c.reads.invariant.faults);
+      faults = c.in_ok-fill_buf.ensures.cause.steady ∙ c.reads.invariant.faults;
     }

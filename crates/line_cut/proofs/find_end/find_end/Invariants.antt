@@ -13,7 +13,7 @@ invariant-reads g l = record {
   left : bytes_left l.window.held (g.S.Source.left l.source) ≡ bytes_left l.initial.window.held (g.S.Source.left l.initial.source);
   size : l.window.size ≡ l.initial.window.size;
   name : g.S.Source.name l.source ≡ g.S.Source.name l.initial.source;
-  faults : g.S.Source.faults l.initial.source ≤ g.S.Source.faults l.source;
+  faults : g.S.Source.faults l.source ≡ g.S.Source.faults l.initial.source;
 }
 
 abbrev pub decreases-reads : goal.decreases-reads

@@ -1,8 +1,9 @@
 use Rattle.std.proofs.Common.{rules, ◌≡◌, ◌≤◌, ◌+◌, ◌-◌, length, List, ℕ, ◌∷◌, get_or, take, drop, false, ap, sym, ◌∙◌, arith}
 use Rattle.std.proofs.lemmas.List.{take_rest, length-drop}
-use Rattle.log_seams.specs.Replay.{Event, total, events, event_of, content, after_event, left_by}
+use Rattle.log_seams.specs.Replay.{Event, events, event_of, content, after_event, left_by}
+use Rattle.log_seams.specs.StepsReplay.{total}
 use Rattle.log_seams.specs.declared.mem_disk.Call.TheVariants.{Wrote}
-use Rattle.log_seams.proofs.Events.{total_within, total_more, events_next}
+use Rattle.log_seams.proofs.EventLemmas.{total_within, total_more, events_next}
 use Rattle.log_seams.proofs.mem_disk.left_by.Goals as goal
 
 pub slice_bounds-redo-count : goal.slice_bounds-redo-count

@@ -1,5 +1,6 @@
 use Rattle.std.proofs.Common.{◌≡◌, ◌≤◌, length, take}
-use Rattle.log_seams.specs.Replay.{total, events, content, left_by}
+use Rattle.log_seams.specs.Replay.{events, content, left_by}
+use Rattle.log_seams.specs.StepsReplay.{total}
 use Rattle.log_seams.proofs.mem_disk.left_by.Given as goal
 
 abbrev pub invariant-loop-call : goal.invariant-loop-call

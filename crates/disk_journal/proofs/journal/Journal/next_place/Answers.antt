@@ -9,15 +9,15 @@ invariant_of-self-in-None-clause-below g c = λ yes. rw c.in-None.is at c.in_ok-
 
 pub returns-in-None-clause-at_end : goal.returns-in-None-clause-at_end
 returns-in-None-clause-at_end g c = λ walked settled.
-    let told = g.D.Disk.seen c.args.self.now.disk.now in
+    let told = (g.D.Disk.state c.args.self.now.disk.now).seen in
     let closed = rw c.in-None.is at c.in_ok-look.ensures.closed in
-    let only = only_less told _ (g.D.Disk.images c.look.new.disk) settled c.look.ensures.images in
-    let end = walk_ends (header_bytes c.args.self.now.header) c.args.self.now.place c.args.self.now.count told (g.D.Disk.images c.look.new.disk) walked closed only in
-    subst (λ (t : Option (List ℕ)). AtEnd (header_bytes c.args.self.now.header) c.args.self.now.place c.args.self.now.count t (g.D.Disk.images c.look.new.disk)) (sym c.look.ensures.seen) end
+    let only = only_less told _ (g.D.Disk.state c.look.new.disk).images settled c.look.ensures.images in
+    let end = walk_ends (header_bytes c.args.self.now.header) c.args.self.now.place c.args.self.now.count told (g.D.Disk.state c.look.new.disk).images walked closed only in
+    subst (λ (t : Option (List ℕ)). AtEnd (header_bytes c.args.self.now.header) c.args.self.now.place c.args.self.now.count t (g.D.Disk.state c.look.new.disk).images) (sym c.look.ensures.seen) end
 
 pub returns-in-Some-clause-walked : goal.returns-in-Some-clause-walked
 returns-in-Some-clause-walked g c = λ walked.
-    let told = g.D.Disk.seen c.args.self.now.disk.now in
+    let told = (g.D.Disk.state c.args.self.now.disk.now).seen in
     let next = c.in-Some.next in
     let opened = rw c.in-Some.is at c.in_ok-look.ensures.opened in
     let place = rw c.in-Some.is at c.in_ok-look.ensures.place in
@@ -28,7 +28,7 @@ returns-in-Some-clause-walked g c = λ walked.
 
 pub returns-in-Some-clause-passed : goal.returns-in-Some-clause-passed
 returns-in-Some-clause-passed g c = λ walked.
-    let told = g.D.Disk.seen c.args.self.now.disk.now in
+    let told = (g.D.Disk.state c.args.self.now.disk.now).seen in
     let next = c.in-Some.next in
     let opened = rw c.in-Some.is at c.in_ok-look.ensures.opened in
     let place = rw c.in-Some.is at c.in_ok-look.ensures.place in

@@ -1,7 +1,8 @@
 use Rattle.std.proofs.Common.{◌∙◌, sym, ap, List}
-use Rattle.log_seams.specs.Replay.{events, total, content}
+use Rattle.log_seams.specs.Replay.{events, content}
+use Rattle.log_seams.specs.StepsReplay.{total}
 use Rattle.log_seams.specs.declared.mem_disk.Call.{Call}
-use Rattle.log_seams.proofs.Events.{noted_events, noted_total, noted_content}
+use Rattle.log_seams.proofs.EventLemmas.{noted_events, noted_total, noted_content}
 use Rattle.log_seams.proofs.mem_disk.MemDisk.note.Goals as goal
 
 pub invariant_of-self-clause-whole : goal.invariant_of-self-clause-whole

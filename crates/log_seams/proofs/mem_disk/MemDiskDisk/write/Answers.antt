@@ -1,15 +1,36 @@
-use Rattle.std.proofs.Common.{◌≤◌, length, ap, arith, true, false, List, ℕ}
-use Rattle.log_seams.specs.Replay.{content}
+use Rattle.std.proofs.Common.{◌≤◌, length, ap, arith, rules, refl, true, false, List, ℕ, Some}
+use Rattle.log_seams.specs.Replay.{Event, wrote, content, reads_of}
 use Rattle.log_seams.specs.MemDisk.{events_of}
-use Rattle.log_seams.proofs.Events.{wrote_follows}
+use Rattle.log_seams.proofs.EventLemmas.{wrote_follows, elapses}
 use Rattle.log_seams.proofs.mem_disk.MemDiskDisk.write.Goals as goal
 
-pub returns-then-fails_next-clause-images : goal.returns-then-fails_next-clause-images
-returns-then-fails_next-clause-images c =
+-- a write that failed
+pub returns-then-fails_next-clause-call : goal.returns-then-fails_next-clause-call
+returns-then-fails_next-clause-call c =
     let place : c.args.at ≤ length (content c.args.self.now.first (events_of c.args.self.now)) = omega (arith, ap (λ (l : List ℕ). length l) c.args.self.now.same, c.requires.place) in
-    wrote_follows _ _ _ _ false c.args.at c.args.bytes.now c.lose.ensures.same.first c.lose.ensures.events place
+    let same = c.put.ensures.recorded.same.first in
+    let is = c.put.ensures.events in
+    let time = elapses c.args.self.now c.put.new.self (wrote false c.args.at c.args.bytes.now) same is in
+    record {
+      written = tt;
+      tells = refl;
+      images = wrote_follows _ _ _ _ false c.args.at c.args.bytes.now same is place;
+      time = record { later = time.later; nothing_else = time.nothing_else; keeps = time.keeps };
+      ranges = ap (λ (l : List Event). Some (reads_of l)) is;
+      counts = search (rules, arith);
+    }
 
-pub returns-clause-images : goal.returns-clause-images
-returns-clause-images c =
+-- one that was done
+pub returns-clause-call : goal.returns-clause-call
+returns-clause-call c =
     let place : c.args.at ≤ length (content c.args.self.now.first (events_of c.args.self.now)) = omega (arith, ap (λ (l : List ℕ). length l) c.args.self.now.same, c.requires.place) in
-    wrote_follows _ _ _ _ true c.args.at c.args.bytes.now c.lay.ensures.same.first c.lay.ensures.events place
+    let same = c.put-2.ensures.recorded.same.first in
+    let is = c.put-2.ensures.events in
+    record {
+      written = ap (λ (l : List ℕ). Some l) c.put-2.ensures.bytes;
+      tells = refl;
+      images = wrote_follows _ _ _ _ true c.args.at c.args.bytes.now same is place;
+      time = elapses c.args.self.now c.put-2.new.self (wrote true c.args.at c.args.bytes.now) same is;
+      ranges = ap (λ (l : List Event). Some (reads_of l)) is;
+      counts = search rules;
+    }

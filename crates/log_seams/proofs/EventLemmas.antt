@@ -3,7 +3,10 @@ use Rattle.std.proofs.Common.{◌≡◌, ◌⊎◌, inl, inr, ⊎_elim, ℕ, zer
 use Rattle.std.proofs.lemmas.List.{take-append-le, drop-append-le, drop-drop, take_at, drop_at, length-take-le, append_assoc, take_all, drop_more, take_more, length-replicate}
 use Rattle.std.proofs.lemmas.Bool.Decides.{nat_tests}
 use Rattle.log_seams.specs.Disk.{laid, Torn, Follows, NoMore, Elapses}
-use Rattle.log_seams.specs.Replay.{Event, wrote, read, synced, other, logged, total, event_of, events_after, events, after_event, content, IsImage, IsSince, reads_as, IsQuiet, held, torn_by, left_by}
+use Rattle.log_seams.specs.Replay.{Event, wrote, read, synced, other, logged, event_of, events_after, events, after_event, content, IsImage, IsSince, held, torn_by, left_by}
+use Rattle.log_seams.specs.StepsReplay.{total, reads_as, IsQuiet}
+use Rattle.log_seams.specs.MemDisk.{first_of, events_of, disk_state}
+use Rattle.log_seams.specs.declared.mem_disk.MemDisk.{MemDisk}
 use Rattle.log_seams.specs.declared.mem_disk.Call.{Call}
 use Rattle.log_seams.specs.declared.mem_disk.Call.TheVariants.{Wrote, Read, Synced, Other}
 use Rattle.log_seams.specs.declared.mem_disk.Pending.{Pending}
@@ -87,17 +90,21 @@ synced_only first begun older newer same is =
     after_one (λ f l. (c : List ℕ) → IsImage f l c → c ≡ content first older) first begun older newer synced same is (λ c left. left)
 
 -- time goes on by one event
-pub elapses : (first begun : List ℕ) (older newer : List Event) (e : Event) → begun ≡ first → newer ≡ e ∷ older
-    → Elapses (length older) (length newer) (IsSince first older) (IsSince begun newer) (IsImage begun newer)
-elapses first begun older newer e same is =
-    after_one (λ f l. Elapses (length older) (length l) (IsSince first older) (IsSince f l) (IsImage f l)) first begun older newer e same is record {
-      later = omega arith;
-      nothing_else = λ t c le left. ⊎_elim (λ now. inr now) (λ was. inl was.1) left;
-      keeps = λ t c le was. inr (le, was);
-    }
+abbrev GoesOn : List ℕ → List Event → List ℕ → List Event → Type 0
+GoesOn first older begun newer =
+    (length older ≤ length newer)
+    × ((t : ℕ) (c : List ℕ) → t ≤ length older → IsSince begun newer t c → IsSince first older t c ⊎ IsImage begun newer c)
+    × ((t : ℕ) (c : List ℕ) → t ≤ length older → IsSince first older t c → IsSince begun newer t c)
 
-pub elapses_same : (first : List ℕ) (older : List Event) → Elapses (length older) (length older) (IsSince first older) (IsSince first older) (IsImage first older)
-elapses_same first older = record { later = omega arith; nothing_else = λ t c le left. inl left; keeps = λ t c le was. was }
+goes_on : (first begun : List ℕ) (older newer : List Event) (e : Event) → begun ≡ first → newer ≡ e ∷ older → GoesOn first older begun newer
+goes_on first begun older newer e same is =
+    after_one (λ f l. GoesOn first older f l) first begun older newer e same is
+    (omega arith, λ t c le left. ⊎_elim (λ now. inr now) (λ was. inl was.1) left, λ t c le was. inr (le, was))
+
+pub elapses : (old new : MemDisk) (e : Event) → first_of new ≡ first_of old → events_of new ≡ e ∷ events_of old → Elapses (disk_state old) (disk_state new)
+elapses old new e same is =
+    let time = goes_on (first_of old) (first_of new) (events_of old) (events_of new) e same is in
+    record { later = time.0; nothing_else = time.1; keeps = time.2 }
 
 -- a call that is no write is one event more, and the bytes stay
 quiet_event : (call : Call) (log : List ℕ) → IsQuiet call → event_of call log ≡ event_of call []
