@@ -1,0 +1,6 @@
+//! Dictionaries that threads share.
+#![tactic(auto)]
+
+mod shared;
+
+pub use shared::{SharedBook, intern, unsaved};
