@@ -1,1 +1,3 @@
+pub mod CacheLemmas
+pub mod NamingLemmas
 pub mod SharedLemmas

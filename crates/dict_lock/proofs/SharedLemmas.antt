@@ -36,7 +36,7 @@ pub names_at : (old new : BookState) (text : List ℕ) (n : ℕ) → Names old n
 names_at old new text n names = ⊎_elim
     (λ (known : (slice_get old.texts n ≡ Some text) × (new ≡ old)). ap (λ (b : BookState). slice_get b.texts n) known.1 ∙ known.0)
     (λ (added : IsNew old.texts text × (length old.texts < old.limit) × (n ≡ length old.texts) × (new.texts ≡ old.texts ++ text ∷ []) × (new.limit ≡ old.limit)).
-        ap (λ l. slice_get l n) added.3 ∙ (ap (slice_get (old.texts ++ text ∷ [])) added.2 ∙ slice_get-last old.texts text)) names
+    ap (λ l. slice_get l n) added.3 ∙ (ap (slice_get (old.texts ++ text ∷ [])) added.2 ∙ slice_get-last old.texts text)) names
 
 module _ (old new : BookState) (text : List ℕ) where
   -- the book goes on what it was, whatever the answer
@@ -62,7 +62,7 @@ module _ (old new : BookState) (text : List ℕ) where
     answer_own (Ok n) names = ⊎_elim
         (λ (known : (slice_get old.texts n ≡ Some text) × (new ≡ old)). inl (owns_none known.1))
         (λ (added : IsNew old.texts text × (length old.texts < old.limit) × (n ≡ length old.texts) × (new.texts ≡ old.texts ++ text ∷ []) × (new.limit ≡ old.limit)).
-            inr (owns (text ∷ []) (added.3 ∙ ap (λ l. l ++ text ∷ []) taken) ∙ ap (λ (k : ℕ). had ++ (k, text) ∷ []) (sym (added.2 ∙ ap length taken)))) names
+        inr (owns (text ∷ []) (added.3 ∙ ap (λ l. l ++ text ∷ []) taken) ∙ ap (λ (k : ℕ). had ++ (k, text) ∷ []) (sym (added.2 ∙ ap length taken)))) names
     answer_own (Err e) names = tt
 
     pub answer_refused : (r : Result ℕ BookRefusal) → OnErr r (new ≡ old) → OnErr r (has ≡ had)

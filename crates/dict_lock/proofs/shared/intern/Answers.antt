@@ -29,10 +29,11 @@ pub returns-clause-full : goal.returns-clause-full
 returns-clause-full g c = λ count.
     let p = c.args.pass.now in let q = c.put.new.pass in let r = c.intern-answer.ensures in
     let limit : (a : About ℕ) → about p ≡ Some a → c.take-turn.result.value.limit ≡ a.fixed = c.take-turn.ensures.fixed in
-    let about_is : about q ≡ about p = c.put.ensures.still.about_is ∙ c.take-turn.ensures.still.about_is in
-    ((λ is. let f = answer_full c.take-turn.result.value c.intern-answer.new.self c.args.text.now (seen c.take-turn.new.self) (seen q) (own_list c.take-turn.new.self) (own_list q)
-            c.take-turn.ensures.entries c.put.ensures.seen c.put.ensures.own c.intern-answer.result count r.err r.full is in
-        (f.0, record { all = f.1; limit = λ a knows. f.2 ∙ limit a (sym about_is ∙ knows) })),
-    (λ all. let a = some_about (about p) p.known in
-        full_answer c.take-turn.result.value c.intern-answer.new.self c.args.text.now (seen c.take-turn.new.self) (seen q) (own_list c.take-turn.new.self) (own_list q)
-            c.take-turn.ensures.entries c.put.ensures.seen c.put.ensures.own c.intern-answer.result count r.ok r.err r.at_limit all.0 all.1.all (all.1.limit a.0 (about_is ∙ a.1) ∙ sym (limit a.0 a.1))))
+    let about_is : about q ≡ about p = c.put.ensures.still.about_is ∙ c.take-turn.ensures.still.about_is in (
+      (λ is. let f = answer_full c.take-turn.result.value c.intern-answer.new.self c.args.text.now (seen c.take-turn.new.self) (seen q) (own_list c.take-turn.new.self) (own_list q)
+          c.take-turn.ensures.entries c.put.ensures.seen c.put.ensures.own c.intern-answer.result count r.err r.full is in
+          (f.0, record { all = f.1; limit = λ a knows. f.2 ∙ limit a (sym about_is ∙ knows) })),
+      (λ all. let a = some_about (about p) p.known in
+          full_answer c.take-turn.result.value c.intern-answer.new.self c.args.text.now (seen c.take-turn.new.self) (seen q) (own_list c.take-turn.new.self) (own_list q)
+          c.take-turn.ensures.entries c.put.ensures.seen c.put.ensures.own c.intern-answer.result count r.ok r.err r.at_limit all.0 all.1.all (all.1.limit a.0 (about_is ∙ a.1) ∙ sym (limit a.0 a.1))),
+    )

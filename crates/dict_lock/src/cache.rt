@@ -1,0 +1,66 @@
+//! Texts with the numbers that they were given.
+ghost use Rattle.std.specs.Prelude.{◌≡◌, ℕ, [], IfSome, IfNone, OnOk};
+ghost use Rattle.dict_core.specs.Books.{IsNew};
+ghost use Rattle.dict_lock.specs.Cache.{Remembers, Keeps, StaysSeen};
+
+use dict_core::{Book, MAX_TEXTS};
+use std::alloc::{AllocError, Global};
+use std::marker::Model;
+
+/// Texts that were named, each with its number in the shared book.
+#[derive(Drop)]
+pub(crate) struct Cache {
+    /// The texts, in the order in which they came.
+    known: Book,
+    /// The number of each of them in the shared book.
+    numbers: Vec<u32>,
+}
+
+impl Model for Cache {
+    ghost use Rattle.std.specs.Prelude.{◌≡◌, length};
+    ghost use Rattle.dict_lock.specs.Cache.{CacheState};
+
+    ghost Value = { CacheState };
+
+    ghost view = { λ c. record { texts = c.known.texts; numbers = c.numbers.items } };
+
+    ghost invariant = { λ c. length c.numbers.items ≡ length c.known.texts };
+}
+
+impl Cache {
+    /// A cache that holds nothing. Takes no memory.
+    pub(crate) fn new(alloc: Global) -> Cache
+        ensures { result.texts ≡ [] }
+    {
+        Cache {
+            known: Book::new(alloc, MAX_TEXTS),
+            numbers: Vec::new(alloc),
+        }
+    }
+
+    /// The number of a text, or `None` where the cache does not hold it. Takes no memory.
+    pub(crate) fn number_of(&self, text: &[u8]) -> Option<u32>
+        ensures some { IfSome result (λ n. Remembers self.now text.now n) }
+        ensures none { IfNone result (IsNew self.now.texts text.now) }
+    {
+        let place = self.known.number_of(text)?;
+        Some(self.numbers[place as usize])
+    }
+
+    /// Holds a text with its number from now on. A text that it holds keeps its number.
+    pub(crate) fn keep(&mut self, text: &[u8], number: u32) -> Result<(), AllocError>
+        ensures kept { Keeps self.old self.new }
+        ensures held { OnOk result ((n : ℕ) × Remembers self.new text.now n) }
+        ensures seen { StaysSeen self.old self.new text.now number }
+    {
+        self.numbers.reserve(1)?;
+        // A cache is never full: it has no more texts than the shared book.
+        let Ok(place) = self.known.intern(text) else {
+            return Err(AllocError);
+        };
+        if place as usize == self.numbers.len() {
+            self.numbers.push_reserved(number);
+        }
+        Ok(())
+    }
+}
