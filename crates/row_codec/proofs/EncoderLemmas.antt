@@ -1,23 +1,20 @@
 -- What an encoder read and named is the row of its message.
-use Rattle.std.proofs.Common.{◌≡◌, ℕ, ◌+◌, ◌-◌, ◌*◌, ◌<◌, ◌≤◌, zero, suc, Bool, true, false, cond, List, [], ◌∷◌, ◌++◌, length, map, take, drop, get_or, refl, sym, ◌∙◌, ap, ap₂, subst, arith, inl, inr, length-append, length-drop, length-take-le, take-append-drop}
+use Rattle.std.proofs.Common.{◌≡◌, ℕ, ◌+◌, ◌-◌, ◌*◌, ◌<◌, ◌≤◌, zero, suc, Bool, true, false, cond, List, [], ◌∷◌, ◌++◌, length, map, take, drop, get_or, refl, sym, ◌∙◌, ap, subst, arith, length-append, length-take-le, take-append-drop}
 use Rattle.std.specs.Prelude.{ℤ, Option, None, Some, All, IfNone, IfSome, nat_le, slice_get, slice_range}
 use Rattle.std.proofs.lemmas.List.{take_rest}
-use Rattle.std.specs.List.{AllZip, Contains}
-use Rattle.std.proofs.lemmas.Bool.{cases_Bool, cases_eq}
+use Rattle.std.specs.List.{Contains}
 use Rattle.std.proofs.lemmas.Bool.Decides.{nat_tests}
 use Rattle.std.proofs.lemmas.List.Elements.{All-map, All-weaker}
 use Rattle.std.proofs.lemmas.Option.{get_or_from_slice_get, slice_get_within}
-use Rattle.var_codec.specs.Codes.{Codes}
 use Rattle.var_codec.specs.declared.Coded.{Coded}
 use Rattle.var_codec.specs.declared.Coded.TheVariants.{Whole as WholeWord, Decimal as DecimalWord, Word as DictionaryWord}
 use Rattle.logtype_text.specs.declared.symbols.Kind.{Kind}
 use Rattle.logtype_text.specs.declared.symbols.Kind.TheVariants.{Whole, Word, Decimal}
-use Rattle.logtype_text.specs.declared.symbols.Symbol.{Symbol}
-use Rattle.logtype_text.specs.declared.symbols.Symbol.TheVariants.{Byte, Slot}
+use Rattle.logtype_text.specs.declared.symbols.Symbol.TheVariants.{Byte}
 use Rattle.logtype_text.specs.declared.spans.Span.{Span}
-use Rattle.logtype_text.specs.declared.TheConstants.{MAX_TYPE_LEN, MAX_WORD_LEN}
-use Rattle.logtype_text.specs.Parts.{Part, Constant, Variable, AreParts, StandAt, joined, kind_of, symbol_of}
-use Rattle.logtype_text.specs.TypeText.{IsGood, is_escaped, text_of_symbol, type_text}
+use Rattle.logtype_text.specs.declared.TheConstants.{MAX_WORD_LEN}
+use Rattle.logtype_text.specs.Parts.{Part, Constant, Variable, AreParts, StandAt, joined, symbol_of}
+use Rattle.logtype_text.specs.TypeText.{is_escaped, text_of_symbol, type_text}
 use Rattle.logtype_text.specs.Encoded.{AreCoded, AreWithin, IsEncoded, texts_at, word_texts}
 use Rattle.logtype_text.specs.Fair.{IsFairType, IsFairWord}
 use Rattle.logtype_text.specs.Laws.{GoodIsTypeText}
@@ -26,7 +23,7 @@ use Rattle.time_patterns.specs.Stamps.{Fits, HasStamp, IsStamp, IsStampOf}
 use Rattle.time_patterns.specs.Forms.{forms}
 use Rattle.time_patterns.specs.declared.stamps.Stamp.{Stamp}
 use Rattle.column_store.specs.declared.row.Row.{Row}
-use Rattle.row_codec.specs.Means.{EachWord, HasWord, HasStampText, IsCanonical, Means}
+use Rattle.row_codec.specs.Means.{EachWord, HasWord, IsCanonical}
 use Rattle.row_codec.specs.declared.namer.Which.{Which}
 use Rattle.row_codec.specs.declared.namer.Which.TheVariants.{Types, Words}
 use Rattle.row_codec.specs.Messages.{IsCutInto, IsTypeOf, IsWordOf}

@@ -1,9 +1,8 @@
 -- Stamps as rows keep them.
-use Rattle.std.proofs.Common.{◌≡◌, ℕ, ◌-◌, ◌<◌, ◌≤◌, zero, suc, true, false, Bool, cond, List, [], ◌∷◌, ◌++◌, length, take, drop, refl, sym, ◌∙◌, ap, subst, arith, inl, inr, length-append}
-use Rattle.std.specs.Prelude.{ℤ, pos, nat_le}
-use Rattle.std.proofs.lemmas.Bool.{cases_Bool}
+use Rattle.std.proofs.Common.{◌≡◌, ℕ, ◌≤◌, zero, suc, true, false, Bool, cond, List, length, take, sym, ◌∙◌, ap, subst, arith, length-append}
+use Rattle.std.specs.Prelude.{ℤ, nat_le}
 use Rattle.std.proofs.lemmas.List.{take_at}
-use Rattle.time_patterns.specs.Stamps.{Fits, HasNoStamp, HasStamp, IsPatternOf, IsStampOf, Prints, first_pattern}
+use Rattle.time_patterns.specs.Stamps.{Fits, HasStamp, IsStampOf, Prints}
 use Rattle.row_codec.specs.Means.{HasStampText}
 
 -- a pattern of a version is not 0
