@@ -1,0 +1,4 @@
+pub mod Cutting
+pub mod Laws
+pub mod Pieces
+pub mod Readings
