@@ -1,74 +1,57 @@
 -- What a call answers, from what it did.
-use Rattle.std.proofs.Common.{◌≡◌, refl, sym, ◌∙◌, subst, ℕ, List, [], ◌∷◌, codes, Some, inl, inr, Result, Ok, Err, arith}
-use Rattle.std.specs.Prelude.{IfErr}
+use Rattle.std.proofs.Common.{◌≡◌, refl, sym, ◌∙◌, subst, ℕ, List, [], ◌∷◌, codes, Option, Some, inl, inr, Result, Ok, Err, option_map}
 use Rattle.wild_match.specs.Reading.{IsLoneBackslash, IsSearchPattern}
 use Rattle.wild_match.specs.declared.pattern.Item.{Item}
+use Rattle.wild_match.specs.declared.read.PatternRefusal.{PatternRefusal}
+use Rattle.wild_match.specs.declared.read.PatternRefusal.TheVariants.{BadPattern as ReadBadPattern, OutOfMemory as ReadOutOfMemory}
 use Rattle.wild_match.proofs.Spelling.{IsSearchPattern-unique, one-lone-backslash}
 use Rattle.record_format.specs.declared.header.Header.{Header}
 use Rattle.clp_commands.specs.Created.{DiskAround}
+use Rattle.clp_commands.specs.Outcome.{answer_of, of_log, of_pattern}
+use Rattle.clp_commands.specs.Refusal.{status_of, line_of}
 use Rattle.clp_commands.specs.Words.{AsksCreate, AsksScan, AsksShow}
 use Rattle.clp_commands.specs.Shown.{Shows}
 use Rattle.clp_commands.specs.Scanned.{Finds}
-use Rattle.clp_commands.specs.Answers.{Answers, AnswersCreate, Around, AnswersLog, Refuses, RefusesPattern, RoseIn, TookNothing, SaysIn, IsPatternRefusal, HasCause, exit_status, error_line}
-use Rattle.clp_commands.specs.Printing.{Printed, IsLogRefusal, answer_of}
+use Rattle.clp_commands.specs.Answers.{Answers, AnswersCreate, Around, AnswersLog, EndsWith, Refuses, RefusesPattern, RoseIn, TookNothing, SaysIn, IsPatternRefusal, HasCause, exit_status, error_line}
+use Rattle.clp_commands.specs.Printing.{Printed}
+use Rattle.clp_commands.specs.declared.outcome.LogRefusal.{LogRefusal}
+use Rattle.clp_commands.specs.declared.outcome.LogRefusal.TheVariants.{OpenFault, ReadFault, LineTooLong, TooManyLines, SinkFault, OutOfMemory as LogOutOfMemory}
 use Rattle.clp_commands.specs.declared.refusal.Refusal.{Refusal}
-use Rattle.clp_commands.specs.declared.refusal.Refusal.TheVariants.{Usage, BadPattern, OpenFault, ReadFault, LineTooLong, TooManyLines, DiskFault, SinkFault, NotEmpty, OutOfMemory}
+use Rattle.clp_commands.specs.declared.refusal.Refusal.TheVariants.{Usage, BadPattern}
 use Rattle.clp_commands.proofs.PrintedLemmas.{Printed-no_memory}
 
 -- the cause of an outcome
-cause_of : (seen : Around) (name : List ℕ) (outcome : Result Unit Refusal) → (outcome ≡ Err OpenFault → RoseIn (seen.opens name)) → (outcome ≡ Err OpenFault → TookNothing seen.out) → (outcome ≡ Err ReadFault → RoseIn (seen.reads name)) → (outcome ≡ Err SinkFault → RoseIn seen.out_faults) → IfErr outcome IsLogRefusal → HasCause seen name (answer_of outcome)
-cause_of seen name (Ok u) opens nothing reads sinks kind = tt
-cause_of seen name (Err OpenFault) opens nothing reads sinks kind = (opens refl, nothing refl)
-cause_of seen name (Err ReadFault) opens nothing reads sinks kind = reads refl
-cause_of seen name (Err (LineTooLong line)) opens nothing reads sinks kind = tt
-cause_of seen name (Err TooManyLines) opens nothing reads sinks kind = tt
-cause_of seen name (Err SinkFault) opens nothing reads sinks kind = sinks refl
-cause_of seen name (Err OutOfMemory) opens nothing reads sinks kind = tt
-cause_of seen name (Err Usage) opens nothing reads sinks kind = absurd kind
-cause_of seen name (Err (BadPattern at)) opens nothing reads sinks kind = absurd kind
-cause_of seen name (Err DiskFault) opens nothing reads sinks kind = absurd kind
-cause_of seen name (Err (NotEmpty len)) opens nothing reads sinks kind = absurd kind
+cause_of : (seen : Around) (name : List ℕ) (outcome : Result Unit LogRefusal) → (outcome ≡ Err OpenFault → RoseIn (seen.opens name)) → (outcome ≡ Err OpenFault → TookNothing seen.out) → (outcome ≡ Err ReadFault → RoseIn (seen.reads name)) → (outcome ≡ Err SinkFault → RoseIn seen.out_faults) → HasCause seen name (answer_of outcome)
+cause_of seen name (Ok u) opens nothing reads sinks = tt
+cause_of seen name (Err OpenFault) opens nothing reads sinks = (opens refl, nothing refl)
+cause_of seen name (Err ReadFault) opens nothing reads sinks = reads refl
+cause_of seen name (Err (LineTooLong line)) opens nothing reads sinks = tt
+cause_of seen name (Err TooManyLines) opens nothing reads sinks = tt
+cause_of seen name (Err SinkFault) opens nothing reads sinks = sinks refl
+cause_of seen name (Err LogOutOfMemory) opens nothing reads sinks = tt
 
-pub AnswersLog-from : (tells : ℕ → List ℕ → List ℕ → Type 0) (seen : Around) (name : List ℕ) (status : ℕ) (outcome : Result Unit Refusal) → status ≡ exit_status (answer_of outcome) → Printed tells (answer_of outcome) (seen.content name) seen.out.0 seen.out.1 → (outcome ≡ Err OpenFault → RoseIn (seen.opens name)) → (outcome ≡ Err OpenFault → TookNothing seen.out) → (outcome ≡ Err ReadFault → RoseIn (seen.reads name)) → (outcome ≡ Err SinkFault → RoseIn seen.out_faults) → IfErr outcome IsLogRefusal → SaysIn seen (error_line name (answer_of outcome)) → AnswersLog tells seen name status
-AnswersLog-from tells seen name status outcome is printed opens nothing reads sinks kind said = record {
+pub AnswersLog-from : (tells : ℕ → List ℕ → List ℕ → Type 0) (seen : Around) (name : List ℕ) (status : ℕ) (outcome : Result Unit LogRefusal) (refusal : Option Refusal) → refusal ≡ option_map of_log (answer_of outcome) → status ≡ exit_status refusal → SaysIn seen (error_line name refusal) → Printed tells (answer_of outcome) (seen.content name) seen.out.0 seen.out.1 → (outcome ≡ Err OpenFault → RoseIn (seen.opens name)) → (outcome ≡ Err OpenFault → TookNothing seen.out) → (outcome ≡ Err ReadFault → RoseIn (seen.reads name)) → (outcome ≡ Err SinkFault → RoseIn seen.out_faults) → AnswersLog tells seen name status
+AnswersLog-from tells seen name status outcome refusal is status_is said printed opens nothing reads sinks = record {
   answer = answer_of outcome;
-  status_is = is;
+  ends = subst (EndsWith seen name status) is (record { status_is = status_is; said = said });
   printed = printed;
-  cause = cause_of seen name outcome opens nothing reads sinks kind;
-  said = said;
+  cause = cause_of seen name outcome opens nothing reads sinks;
 }
 
 -- a pattern that was refused, and has a lone backslash
-pub RefusesPattern-from : (seen : Around) (name : List ℕ) (status : ℕ) (text : List ℕ) (at : ℕ) (refusal : Refusal) → IsPatternRefusal text refusal → IsLoneBackslash text at → status ≡ exit_status (Some refusal) → TookNothing seen.out → SaysIn seen (error_line name (Some refusal)) → RefusesPattern seen status at
-RefusesPattern-from seen name status text at (BadPattern place) is lone s nothing said = inl (record { status_is = s; nothing = nothing; said = subst (λ n. SaysIn seen (error_line name (Some (BadPattern n)))) (one-lone-backslash text place at is lone) said })
-RefusesPattern-from seen name status text at OutOfMemory is lone s nothing said = inr (record { status_is = s; nothing = nothing; said = said })
-RefusesPattern-from seen name status text at Usage is lone s nothing said = absurd is
-RefusesPattern-from seen name status text at OpenFault is lone s nothing said = absurd is
-RefusesPattern-from seen name status text at ReadFault is lone s nothing said = absurd is
-RefusesPattern-from seen name status text at (LineTooLong line) is lone s nothing said = absurd is
-RefusesPattern-from seen name status text at TooManyLines is lone s nothing said = absurd is
-RefusesPattern-from seen name status text at DiskFault is lone s nothing said = absurd is
-RefusesPattern-from seen name status text at SinkFault is lone s nothing said = absurd is
-RefusesPattern-from seen name status text at (NotEmpty len) is lone s nothing said = absurd is
+pub RefusesPattern-from : (seen : Around) (name : List ℕ) (status : ℕ) (text : List ℕ) (at : ℕ) (refusal : PatternRefusal) → IsPatternRefusal text refusal → IsLoneBackslash text at → status ≡ status_of (of_pattern refusal) → SaysIn seen (line_of name (of_pattern refusal)) → TookNothing seen.out → RefusesPattern seen status at
+RefusesPattern-from seen name status text at (ReadBadPattern place) is lone s said nothing = inl (record { ends = record { status_is = s; said = subst (λ n. SaysIn seen (line_of name (BadPattern n))) (one-lone-backslash text place at is lone) said }; nothing = nothing })
+RefusesPattern-from seen name status text at ReadOutOfMemory is lone s said nothing = inr (record { ends = record { status_is = s; said = said }; nothing = nothing })
 
 -- a pattern that was refused, and has none
-pub AnswersLog-refused : (tells : ℕ → List ℕ → List ℕ → Type 0) (seen : Around) (name : List ℕ) (status : ℕ) (text : List ℕ) (refusal : Refusal) → IsPatternRefusal text refusal → ((at : ℕ) → IsLoneBackslash text at → ⊥) → status ≡ exit_status (Some refusal) → TookNothing seen.out → SaysIn seen (error_line name (Some refusal)) → AnswersLog tells seen name status
-AnswersLog-refused tells seen name status text (BadPattern place) is none s nothing said = absurd (none place is)
-AnswersLog-refused tells seen name status text OutOfMemory is none s nothing said = record {
-  answer = Some OutOfMemory;
-  status_is = s;
-  printed = subst (λ o. Printed tells (Some OutOfMemory) (seen.content name) seen.out.0 o) (sym nothing) (Printed-no_memory tells (seen.content name) seen.out.0);
+pub AnswersLog-refused : (tells : ℕ → List ℕ → List ℕ → Type 0) (seen : Around) (name : List ℕ) (status : ℕ) (text : List ℕ) (refusal : PatternRefusal) → IsPatternRefusal text refusal → ((at : ℕ) → IsLoneBackslash text at → ⊥) → status ≡ status_of (of_pattern refusal) → SaysIn seen (line_of name (of_pattern refusal)) → TookNothing seen.out → AnswersLog tells seen name status
+AnswersLog-refused tells seen name status text (ReadBadPattern place) is none s said nothing = absurd (none place is)
+AnswersLog-refused tells seen name status text ReadOutOfMemory is none s said nothing = record {
+  answer = Some LogOutOfMemory;
+  ends = record { status_is = s; said = said };
+  printed = subst (λ o. Printed tells (Some LogOutOfMemory) (seen.content name) seen.out.0 o) (sym nothing) (Printed-no_memory tells (seen.content name) seen.out.0);
   cause = tt;
-  said = said;
 }
-AnswersLog-refused tells seen name status text Usage is none s nothing said = absurd is
-AnswersLog-refused tells seen name status text OpenFault is none s nothing said = absurd is
-AnswersLog-refused tells seen name status text ReadFault is none s nothing said = absurd is
-AnswersLog-refused tells seen name status text (LineTooLong line) is none s nothing said = absurd is
-AnswersLog-refused tells seen name status text TooManyLines is none s nothing said = absurd is
-AnswersLog-refused tells seen name status text DiskFault is none s nothing said = absurd is
-AnswersLog-refused tells seen name status text SinkFault is none s nothing said = absurd is
-AnswersLog-refused tells seen name status text (NotEmpty len) is none s nothing said = absurd is
 
 -- the pattern of a text is one
 pub AnswersLog-pattern : (file text : List ℕ) (a b : List Item) (seen : Around) (status : ℕ) → IsSearchPattern text a → IsSearchPattern text b → AnswersLog (Finds file a) seen file status → AnswersLog (Finds file b) seen file status

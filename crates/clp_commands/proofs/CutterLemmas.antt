@@ -9,8 +9,8 @@ use Rattle.line_cut.specs.declared.cut.Cut.{Cut}
 use Rattle.line_cut.specs.declared.cut.Cut.TheVariants.{ReadFault, LineTooLong, TooManyLines, OutOfMemory}
 use Rattle.line_cut.specs.declared.cut.Progress.TheVariants.{Open, Ended}
 use Rattle.clp_commands.specs.Printing.{PrintsAll, PrintsFirst, PrintsSome, ComesTo, IsLong, HasMore, most_bytes, most_messages, refusal_of, Reaches, IsFresh, TellsNext, FailsAfter}
-use Rattle.clp_commands.specs.declared.refusal.Refusal.{Refusal}
-use Rattle.clp_commands.specs.declared.refusal.Refusal.TheVariants.{SinkFault, OutOfMemory as RefusalOutOfMemory}
+use Rattle.clp_commands.specs.declared.outcome.LogRefusal.{LogRefusal}
+use Rattle.clp_commands.specs.declared.outcome.LogRefusal.TheVariants.{SinkFault, OutOfMemory as RefusalOutOfMemory}
 use Rattle.clp_commands.specs.Output.{GrewByFront, Gathers}
 use Rattle.clp_commands.proofs.OutputLemmas.{Gathers-nothing, Gathers-more, Gathers-moves, Gathers-front, Gathers-kept}
 use Rattle.clp_commands.proofs.ReadingLemmas.{Reads, Reads-nothing, Reads-line, Reads-last, Reads-end, Reads-first, Reads-lines, Reads-long, Reads-more, PrintsAll-some}
@@ -193,7 +193,7 @@ IsPrinting-refused tells left faults bytes start now gathered c d number cut is_
 }
 
 -- a message was not printed
-pub IsPrinting-stopped : {S : Type 0} (tells : ℕ → List ℕ → List ℕ → Type 0) (left : S → Option (List ℕ)) (bytes start now new : Option (List ℕ)) (gathered rest message : List ℕ) (c d : CutterState S) (number : ℕ) (ended : Bool) (refusal : Refusal) → IsPrinting tells left bytes start now gathered c number → Gave left ended d.line c d → message ≡ d.line → (refusal ≡ SinkFault) ⊎ (refusal ≡ RefusalOutOfMemory) → (refusal ≡ SinkFault → FailsAfter tells (number + 1) message now new gathered) → (refusal ≡ RefusalOutOfMemory → new ≡ now) → Reaches tells (Some refusal) bytes start new rest
+pub IsPrinting-stopped : {S : Type 0} (tells : ℕ → List ℕ → List ℕ → Type 0) (left : S → Option (List ℕ)) (bytes start now new : Option (List ℕ)) (gathered rest message : List ℕ) (c d : CutterState S) (number : ℕ) (ended : Bool) (refusal : LogRefusal) → IsPrinting tells left bytes start now gathered c number → Gave left ended d.line c d → message ≡ d.line → (refusal ≡ SinkFault) ⊎ (refusal ≡ RefusalOutOfMemory) → (refusal ≡ SinkFault → FailsAfter tells (number + 1) message now new gathered) → (refusal ≡ RefusalOutOfMemory → new ≡ now) → Reaches tells (Some refusal) bytes start new rest
 IsPrinting-stopped tells left bytes start now new gathered rest message c d number ended refusal p g is (inl e) failed memory = subst (λ r. Reaches tells (Some r) bytes start new rest) (sym e) (IsPrinting-failed tells left bytes start now new gathered rest c d number ended p g (subst (λ m. FailsAfter tells (number + 1) m now new gathered) is (failed e)))
 IsPrinting-stopped tells left bytes start now new gathered rest message c d number ended refusal p g is (inr e) failed memory = subst (λ r. Reaches tells (Some r) bytes start new rest) (sym e) (IsPrinting-no_memory tells left bytes start now new gathered rest c number p (memory e))
 

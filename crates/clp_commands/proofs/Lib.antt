@@ -1,4 +1,5 @@
 pub mod AnswerLemmas
+pub mod CreatedLemmas
 pub mod CutterLemmas
 pub mod OutputLemmas
 pub mod PrintedLemmas

@@ -3,8 +3,8 @@ use Rattle.std.proofs.Common.{◌≡◌, refl, sym, subst, ℕ, ◌-◌, List, [
 use Rattle.std.specs.Prelude.{IfSome}
 use Rattle.clp_commands.specs.Output.{Grew, GrewByFront}
 use Rattle.clp_commands.specs.Printing.{ComesTo, Printed, PrintsSome, Reaches, Took, is_whole, most_messages}
-use Rattle.clp_commands.specs.declared.refusal.Refusal.{Refusal}
-use Rattle.clp_commands.specs.declared.refusal.Refusal.TheVariants.{Usage, BadPattern, OpenFault, ReadFault, LineTooLong, TooManyLines, DiskFault, SinkFault, NotEmpty, OutOfMemory}
+use Rattle.clp_commands.specs.declared.outcome.LogRefusal.{LogRefusal}
+use Rattle.clp_commands.specs.declared.outcome.LogRefusal.TheVariants.{OpenFault, ReadFault, LineTooLong, TooManyLines, SinkFault, OutOfMemory}
 use Rattle.clp_commands.proofs.OutputLemmas.{Grew-nothing, Gathers-all, Gathers-front}
 use Rattle.clp_commands.proofs.ReadingLemmas.{PrintsAll-some, PrintsLines-some, Reads-first, Reads-nothing}
 
@@ -13,7 +13,7 @@ pub PrintsSome-nothing : (tells : ℕ → List ℕ → List ℕ → Type 0) (byt
 PrintsSome-nothing tells bytes = (0, Reads-first tells bytes bytes 0 [] (Reads-nothing tells bytes))
 
 -- whatever ended it, the text is that of some first messages
-pub ComesTo-some : (tells : ℕ → List ℕ → List ℕ → Type 0) (answer : Option Refusal) (bytes text : List ℕ) → ComesTo tells answer bytes text → PrintsSome tells bytes text
+pub ComesTo-some : (tells : ℕ → List ℕ → List ℕ → Type 0) (answer : Option LogRefusal) (bytes text : List ℕ) → ComesTo tells answer bytes text → PrintsSome tells bytes text
 ComesTo-some tells None bytes text c = PrintsAll-some tells bytes text c
 ComesTo-some tells (Some OpenFault) bytes text c = subst (λ t. PrintsSome tells bytes t) (sym c) (PrintsSome-nothing tells bytes)
 ComesTo-some tells (Some ReadFault) bytes text c = PrintsLines-some tells bytes text c
@@ -21,18 +21,14 @@ ComesTo-some tells (Some (LineTooLong line)) bytes text c = (line - 1, c.2)
 ComesTo-some tells (Some TooManyLines) bytes text c = (most_messages, c.1)
 ComesTo-some tells (Some SinkFault) bytes text c = c
 ComesTo-some tells (Some OutOfMemory) bytes text c = c
-ComesTo-some tells (Some Usage) bytes text c = absurd c
-ComesTo-some tells (Some (BadPattern at)) bytes text c = absurd c
-ComesTo-some tells (Some DiskFault) bytes text c = absurd c
-ComesTo-some tells (Some (NotEmpty len)) bytes text c = absurd c
 
 -- what is said of told bytes
-some_of : (tells : ℕ → List ℕ → List ℕ → Type 0) (answer : Option Refusal) (bytes : Option (List ℕ)) (text : List ℕ) → IfSome bytes (λ b. ComesTo tells answer b text) → IfSome bytes (λ b. PrintsSome tells b text)
+some_of : (tells : ℕ → List ℕ → List ℕ → Type 0) (answer : Option LogRefusal) (bytes : Option (List ℕ)) (text : List ℕ) → IfSome bytes (λ b. ComesTo tells answer b text) → IfSome bytes (λ b. PrintsSome tells b text)
 some_of tells answer None text c = tt
 some_of tells answer (Some b) text c = ComesTo-some tells answer b text c
 
 -- all of it went out
-pub Printed-flushed : (tells : ℕ → List ℕ → List ℕ → Type 0) (answer : Option Refusal) (bytes start now new : Option (List ℕ)) (gathered : List ℕ) → Reaches tells answer bytes start now gathered → is_whole answer ≡ true → Grew now new gathered → Printed tells answer bytes start new
+pub Printed-flushed : (tells : ℕ → List ℕ → List ℕ → Type 0) (answer : Option LogRefusal) (bytes start now new : Option (List ℕ)) (gathered : List ℕ) → Reaches tells answer bytes start now gathered → is_whole answer ≡ true → Grew now new gathered → Printed tells answer bytes start new
 Printed-flushed tells answer bytes start now new gathered r whole grew = record {
   text = r.text;
   comes_to = r.comes_to;
@@ -40,7 +36,7 @@ Printed-flushed tells answer bytes start now new gathered r whole grew = record 
 }
 
 -- the sink failed at the end
-pub Printed-failed : (tells : ℕ → List ℕ → List ℕ → Type 0) (answer : Option Refusal) (bytes start now new : Option (List ℕ)) (gathered : List ℕ) → Reaches tells answer bytes start now gathered → is_whole answer ≡ true → GrewByFront now new gathered → Printed tells (Some SinkFault) bytes start new
+pub Printed-failed : (tells : ℕ → List ℕ → List ℕ → Type 0) (answer : Option LogRefusal) (bytes start now new : Option (List ℕ)) (gathered : List ℕ) → Reaches tells answer bytes start now gathered → is_whole answer ≡ true → GrewByFront now new gathered → Printed tells (Some SinkFault) bytes start new
 Printed-failed tells answer bytes start now new gathered r whole grew = record {
   text = r.text;
   comes_to = some_of tells answer bytes r.text r.comes_to;
@@ -48,7 +44,7 @@ Printed-failed tells answer bytes start now new gathered r whole grew = record {
 }
 
 -- it ended early
-pub Printed-stopped : (tells : ℕ → List ℕ → List ℕ → Type 0) (answer : Option Refusal) (bytes start now : Option (List ℕ)) (gathered : List ℕ) → Reaches tells answer bytes start now gathered → is_whole answer ≡ false → Printed tells answer bytes start now
+pub Printed-stopped : (tells : ℕ → List ℕ → List ℕ → Type 0) (answer : Option LogRefusal) (bytes start now : Option (List ℕ)) (gathered : List ℕ) → Reaches tells answer bytes start now gathered → is_whole answer ≡ false → Printed tells answer bytes start now
 Printed-stopped tells answer bytes start now gathered r part = record {
   text = r.text;
   comes_to = r.comes_to;

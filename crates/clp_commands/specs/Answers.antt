@@ -1,17 +1,23 @@
 -- What a call of the program answers, by what its words ask for.
-use Rattle.std.specs.Prelude.{◌≡◌, ◌⊎◌, ℕ, List, [], Option, Some, None}
+use Rattle.std.specs.Prelude.{◌≡◌, ◌⊎◌, ℕ, List, [], Option, Some, None, option_map}
 use Rattle.log_seams.specs.Outside.{Rose}
 use Rattle.wild_match.specs.Reading.{IsSearchPattern, IsLoneBackslash}
 use Rattle.wild_match.specs.declared.pattern.Item.{Item}
+use Rattle.wild_match.specs.declared.read.PatternRefusal.{PatternRefusal}
+use Rattle.wild_match.specs.declared.read.PatternRefusal.TheVariants.{BadPattern as ReadBadPattern, OutOfMemory as ReadOutOfMemory}
 use Rattle.record_format.specs.declared.header.Header.{Header}
+use Rattle.disk_journal.specs.declared.refusals.CreateRefusal.{CreateRefusal}
 use Rattle.clp_commands.specs.Created.{CreateLeaves, DiskAround}
+use Rattle.clp_commands.specs.Outcome.{of_log, of_create}
 use Rattle.clp_commands.specs.Printing.{Printed}
 use Rattle.clp_commands.specs.Refusal.{Says, status_of, line_of}
 use Rattle.clp_commands.specs.Scanned.{Finds}
 use Rattle.clp_commands.specs.Shown.{Shows}
 use Rattle.clp_commands.specs.Words.{AsksShow, AsksScan, AsksCreate, IsUsage}
+use Rattle.clp_commands.specs.declared.outcome.LogRefusal.{LogRefusal}
+use Rattle.clp_commands.specs.declared.outcome.LogRefusal.TheVariants.{OpenFault, ReadFault, LineTooLong, TooManyLines, SinkFault, OutOfMemory as LogOutOfMemory}
 use Rattle.clp_commands.specs.declared.refusal.Refusal.{Refusal}
-use Rattle.clp_commands.specs.declared.refusal.Refusal.TheVariants.{Usage, BadPattern, OpenFault, ReadFault, LineTooLong, TooManyLines, DiskFault, SinkFault, NotEmpty, OutOfMemory}
+use Rattle.clp_commands.specs.declared.refusal.Refusal.TheVariants.{Usage, BadPattern, OutOfMemory}
 
 -- What the outside tells around a call: the bytes of each log, what the two outputs took before it and have taken after it, and the counts of faults before and after it.
 pub record Around : Type 0 where
@@ -57,33 +63,32 @@ abbrev pub error_line : List ℕ → Option Refusal → List ℕ
 error_line name None = []
 error_line name (Some refusal) = line_of name refusal
 
+-- The call ended with this answer: with its status, and with its line on the error output.
+pub record EndsWith (seen : Around) (name : List ℕ) (status : ℕ) (answer : Option Refusal) : Type 0 where
+  pub status_is : status ≡ exit_status answer
+  pub said : SaysIn seen (error_line name answer)
+
 -- What an answer of the printing of a log rests on, beside what was printed. Want of memory is free.
-abbrev pub HasCause : Around → List ℕ → Option Refusal → Type 0
+abbrev pub HasCause : Around → List ℕ → Option LogRefusal → Type 0
 HasCause seen name None = Unit {0}
 HasCause seen name (Some OpenFault) = RoseIn (seen.opens name) × TookNothing seen.out
 HasCause seen name (Some ReadFault) = RoseIn (seen.reads name)
 HasCause seen name (Some (LineTooLong line)) = Unit {0}
 HasCause seen name (Some TooManyLines) = Unit {0}
 HasCause seen name (Some SinkFault) = RoseIn seen.out_faults
-HasCause seen name (Some OutOfMemory) = Unit {0}
-HasCause seen name (Some Usage) = ⊥
-HasCause seen name (Some (BadPattern at)) = ⊥
-HasCause seen name (Some DiskFault) = ⊥
-HasCause seen name (Some (NotEmpty len)) = ⊥
+HasCause seen name (Some LogOutOfMemory) = Unit {0}
 
 -- The log of this name was printed, or the printing was refused with a cause.
 pub record AnswersLog (tells : ℕ → List ℕ → List ℕ → Type 0) (seen : Around) (name : List ℕ) (status : ℕ) : Type 0 where
-  pub answer : Option Refusal
-  pub status_is : status ≡ exit_status answer
+  pub answer : Option LogRefusal
+  pub ends : EndsWith seen name status (option_map of_log answer)
   pub printed : Printed tells answer (seen.content name) seen.out.0 seen.out.1
   pub cause : HasCause seen name answer
-  pub said : SaysIn seen (error_line name answer)
 
 -- The call was refused before anything was printed.
 pub record Refuses (seen : Around) (status : ℕ) (refusal : Refusal) : Type 0 where
-  pub status_is : status ≡ status_of refusal
+  pub ends : EndsWith seen [] status (Some refusal)
   pub nothing : TookNothing seen.out
-  pub said : SaysIn seen (line_of [] refusal)
 
 -- A pattern with a lone backslash at this place is refused, or there is no memory to read it.
 abbrev pub RefusesPattern : Around → ℕ → ℕ → Type 0
@@ -91,11 +96,10 @@ RefusesPattern seen status at = Refuses seen status (BadPattern at) ⊎ Refuses 
 
 -- An archive was made, or the making was refused with a cause. Nothing was printed. `before` and `after` are what a crash leaves of the disk.
 pub record AnswersCreate (header : Header) (seen : Around) (disk : DiskAround) (before after : List ℕ → Type 0) (status : ℕ) : Type 0 where
-  pub answer : Option Refusal
-  pub status_is : status ≡ exit_status answer
+  pub answer : Option CreateRefusal
+  pub ends : EndsWith seen [] status (option_map of_create answer)
   pub leaves : CreateLeaves answer header disk before after
   pub nothing : TookNothing seen.out
-  pub said : SaysIn seen (error_line [] answer)
 
 -- What the program answers: words that are no command, a pattern that ends in a lone backslash, and the commands.
 pub record Answers (words : List (List ℕ)) (seen : Around) (disk : DiskAround) (before after : List ℕ → Type 0) (status : ℕ) : Type 0 where
@@ -106,7 +110,6 @@ pub record Answers (words : List (List ℕ)) (seen : Around) (disk : DiskAround)
   pub create : (header : Header) → AsksCreate words header → AnswersCreate header seen disk before after status
 
 -- A pattern is refused with the place of its lone backslash, or for want of memory.
-abbrev pub IsPatternRefusal : List ℕ → Refusal → Type 0
-IsPatternRefusal text (BadPattern at) = IsLoneBackslash text at
-IsPatternRefusal text OutOfMemory = Unit {0}
-IsPatternRefusal text _ = ⊥
+abbrev pub IsPatternRefusal : List ℕ → PatternRefusal → Type 0
+IsPatternRefusal text (ReadBadPattern at) = IsLoneBackslash text at
+IsPatternRefusal text ReadOutOfMemory = Unit {0}

@@ -5,8 +5,8 @@ use Rattle.log_seams.specs.Outside.{Rose}
 use Rattle.record_format.specs.Header.{header_bytes}
 use Rattle.record_format.specs.declared.header.Header.{Header}
 use Rattle.disk_journal.specs.Place.{Reads}
-use Rattle.clp_commands.specs.declared.refusal.Refusal.{Refusal}
-use Rattle.clp_commands.specs.declared.refusal.Refusal.TheVariants.{Usage, BadPattern, OpenFault, ReadFault, LineTooLong, TooManyLines, DiskFault, SinkFault, NotEmpty, OutOfMemory}
+use Rattle.disk_journal.specs.declared.refusals.CreateRefusal.{CreateRefusal}
+use Rattle.disk_journal.specs.declared.refusals.CreateRefusal.TheVariants.{DiskFault, NotEmpty}
 
 -- What a disk reads, where it tells that, and how often it has failed, before a call and after it.
 pub record DiskAround : Type 0 where
@@ -31,15 +31,7 @@ pub record HasBytes (len : ℕ) (disk : DiskAround) (before after : List ℕ →
   pub no_fewer : NoMore after before
 
 -- What the making of an archive with this header leaves, by its answer. It takes no memory.
-abbrev pub CreateLeaves : Option Refusal → Header → DiskAround → (List ℕ → Type 0) → (List ℕ → Type 0) → Type 0
+abbrev pub CreateLeaves : Option CreateRefusal → Header → DiskAround → (List ℕ → Type 0) → (List ℕ → Type 0) → Type 0
 CreateLeaves None header disk before after = MakesEmpty header disk after
 CreateLeaves (Some (NotEmpty len)) header disk before after = HasBytes len disk before after
 CreateLeaves (Some DiskFault) header disk before after = Rose disk.faults.0 disk.faults.1
-CreateLeaves (Some Usage) header disk before after = ⊥
-CreateLeaves (Some (BadPattern at)) header disk before after = ⊥
-CreateLeaves (Some OpenFault) header disk before after = ⊥
-CreateLeaves (Some ReadFault) header disk before after = ⊥
-CreateLeaves (Some (LineTooLong line)) header disk before after = ⊥
-CreateLeaves (Some TooManyLines) header disk before after = ⊥
-CreateLeaves (Some SinkFault) header disk before after = ⊥
-CreateLeaves (Some OutOfMemory) header disk before after = ⊥

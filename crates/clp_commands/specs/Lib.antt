@@ -1,5 +1,6 @@
 pub mod Answers
 pub mod Created
+pub mod Outcome
 pub mod Output
 pub mod Printing
 pub mod Refusal

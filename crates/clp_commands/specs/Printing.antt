@@ -1,13 +1,13 @@
 -- What is printed of the messages of a log.
-use Rattle.std.specs.Prelude.{◌≡◌, ◌<◌, ◌≤◌, ◌+◌, ◌-◌, ℕ, List, [], ◌∷◌, ◌++◌, Bool, true, false, Option, Some, None, Result, Ok, Err, IfSome, All, length, take, slice_get}
+use Rattle.std.specs.Prelude.{◌≡◌, ◌<◌, ◌≤◌, ◌+◌, ◌-◌, ℕ, List, [], ◌∷◌, ◌++◌, Bool, true, false, Option, Some, None, IfSome, All, length, take, slice_get}
 use Rattle.log_messages.specs.Messages.{IsLine, Messages, joined}
 use Rattle.clp_commands.specs.Output.{Grew, GrewByFront, Moves, Gathers}
 use Rattle.line_cut.specs.Cutting.{CutterState}
 use Rattle.line_cut.specs.declared.cut.Cut.{Cut}
 use Rattle.line_cut.specs.declared.cut.Cut.TheVariants.{ReadFault as CutReadFault, LineTooLong as CutLineTooLong, TooManyLines as CutTooManyLines, OutOfMemory as CutOutOfMemory}
 use Rattle.line_cut.specs.declared.cut.Progress.TheVariants.{Open}
-use Rattle.clp_commands.specs.declared.refusal.Refusal.{Refusal}
-use Rattle.clp_commands.specs.declared.refusal.Refusal.TheVariants.{Usage, BadPattern, OpenFault, ReadFault, LineTooLong, TooManyLines, DiskFault, SinkFault, NotEmpty, OutOfMemory}
+use Rattle.clp_commands.specs.declared.outcome.LogRefusal.{LogRefusal}
+use Rattle.clp_commands.specs.declared.outcome.LogRefusal.TheVariants.{OpenFault, ReadFault, LineTooLong, TooManyLines, SinkFault, OutOfMemory}
 
 -- The texts of the messages one after the other, where the first message has this number and `tells` says which text a message of a number has.
 abbrev pub Prints : (ℕ → List ℕ → List ℕ → Type 0) → ℕ → List (List ℕ) → List ℕ → Type 0
@@ -77,7 +77,7 @@ pub record PrintsLines (tells : ℕ → List ℕ → List ℕ → Type 0) (bytes
   pub prints : Prints tells 1 lines text
 
 -- The text that the printing of a log's bytes comes to when it ends with this answer, where no refusal is `None`.
-abbrev pub ComesTo : (ℕ → List ℕ → List ℕ → Type 0) → Option Refusal → List ℕ → List ℕ → Type 0
+abbrev pub ComesTo : (ℕ → List ℕ → List ℕ → Type 0) → Option LogRefusal → List ℕ → List ℕ → Type 0
 ComesTo tells None bytes text = PrintsAll tells bytes text
 ComesTo tells (Some OpenFault) bytes text = text ≡ []
 ComesTo tells (Some ReadFault) bytes text = PrintsLines tells bytes text
@@ -85,13 +85,9 @@ ComesTo tells (Some (LineTooLong line)) bytes text = (line ≤ most_messages) ×
 ComesTo tells (Some TooManyLines) bytes text = HasMore bytes most_messages × PrintsFirst tells bytes most_messages text
 ComesTo tells (Some SinkFault) bytes text = PrintsSome tells bytes text
 ComesTo tells (Some OutOfMemory) bytes text = PrintsSome tells bytes text
-ComesTo tells (Some Usage) bytes text = ⊥
-ComesTo tells (Some (BadPattern at)) bytes text = ⊥
-ComesTo tells (Some DiskFault) bytes text = ⊥
-ComesTo tells (Some (NotEmpty len)) bytes text = ⊥
 
 -- whether all of the text goes out that the printing comes to, or only a front of it
-abbrev pub is_whole : Option Refusal → Bool
+abbrev pub is_whole : Option LogRefusal → Bool
 is_whole (Some SinkFault) = false
 is_whole (Some OutOfMemory) = false
 is_whole _ = true
@@ -102,25 +98,20 @@ Took true old new text = Grew old new text
 Took false old new text = GrewByFront old new text
 
 -- What the printing of a log has printed when it ends with this answer: where the log's bytes are told, it is the text of its messages, of those before the fault, or a front of such a text.
-pub record Printed (tells : ℕ → List ℕ → List ℕ → Type 0) (answer : Option Refusal) (bytes old new : Option (List ℕ)) : Type 0 where
+pub record Printed (tells : ℕ → List ℕ → List ℕ → Type 0) (answer : Option LogRefusal) (bytes old new : Option (List ℕ)) : Type 0 where
   pub text : List ℕ
   pub comes_to : IfSome bytes (λ b. ComesTo tells answer b text)
   pub took : Took (is_whole answer) old new text
 
 -- What the printing has come to when it ends with this answer: what has to go out is still gathered in part, unless it ends with a sink that failed or without memory.
-pub record Reaches (tells : ℕ → List ℕ → List ℕ → Type 0) (answer : Option Refusal) (bytes start now : Option (List ℕ)) (gathered : List ℕ) : Type 0 where
+pub record Reaches (tells : ℕ → List ℕ → List ℕ → Type 0) (answer : Option LogRefusal) (bytes start now : Option (List ℕ)) (gathered : List ℕ) : Type 0 where
   pub text : List ℕ
   pub comes_to : IfSome bytes (λ b. ComesTo tells answer b text)
   pub kept : is_whole answer ≡ true → Gathers start now gathered text
   pub front : is_whole answer ≡ false → GrewByFront start now text
 
--- the answer of a call that may refuse
-abbrev pub answer_of : Result Unit Refusal → Option Refusal
-answer_of (Ok _) = None
-answer_of (Err refusal) = Some refusal
-
 -- the refusal for a cutter's
-abbrev pub refusal_of : Cut → Refusal
+abbrev pub refusal_of : Cut → LogRefusal
 refusal_of CutReadFault = ReadFault
 refusal_of (CutLineTooLong line) = LineTooLong line
 refusal_of CutTooManyLines = TooManyLines
@@ -145,21 +136,3 @@ pub record FailsAfter (tells : ℕ → List ℕ → List ℕ → Type 0) (number
   pub text : List ℕ
   pub told : tells number message text
   pub grew : GrewByFront old new (gathered ++ text)
-
--- what can end the printing of a log that is open
-abbrev pub IsReadingRefusal : Refusal → Type 0
-IsReadingRefusal ReadFault = Unit {0}
-IsReadingRefusal (LineTooLong line) = Unit {0}
-IsReadingRefusal TooManyLines = Unit {0}
-IsReadingRefusal SinkFault = Unit {0}
-IsReadingRefusal OutOfMemory = Unit {0}
-IsReadingRefusal OpenFault = ⊥
-IsReadingRefusal Usage = ⊥
-IsReadingRefusal (BadPattern at) = ⊥
-IsReadingRefusal DiskFault = ⊥
-IsReadingRefusal (NotEmpty len) = ⊥
-
--- what can end the printing of a log
-abbrev pub IsLogRefusal : Refusal → Type 0
-IsLogRefusal OpenFault = Unit {0}
-IsLogRefusal refusal = IsReadingRefusal refusal

@@ -1,9 +1,8 @@
 //! Making an archive.
 ghost use Rattle.record_format.specs.Header.{IsHeader};
 ghost use Rattle.clp_commands.specs.Created.{CreateLeaves, disk_around};
-ghost use Rattle.clp_commands.specs.Printing.{answer_of};
+ghost use Rattle.clp_commands.specs.Outcome.{answer_of};
 
-use crate::refusal::Refusal;
 use disk_journal::{CreateRefusal, create};
 use log_seams::Disk;
 use record_format::Header;
@@ -11,14 +10,10 @@ use record_format::Header;
 /// Makes an archive with no file in it: 33 bytes, which a crash leaves whole. Takes no memory.
 ///
 /// `NotEmpty` comes exactly where the disk has bytes, and leaves them as they are.
-pub(crate) fn create_archive<D: Disk>(disk: &mut D, header: &Header) -> Result<(), Refusal>
+pub(crate) fn create_archive<D: Disk>(disk: &mut D, header: &Header) -> Result<(), CreateRefusal>
     requires { IsHeader header.now }
     ensures { CreateLeaves (answer_of result) header.now (disk_around (D.state disk.old) (D.state disk.new))
         (D.state disk.old).images (D.state disk.new).images }
 {
-    match create(disk, header) {
-        Ok(()) => Ok(()),
-        Err(CreateRefusal::DiskFault) => Err(Refusal::DiskFault),
-        Err(CreateRefusal::NotEmpty { len }) => Err(Refusal::NotEmpty { len }),
-    }
+    create(disk, header)
 }

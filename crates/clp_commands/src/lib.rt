@@ -8,6 +8,7 @@ mod create;
 #[cfg(test)]
 mod create_tests;
 mod log;
+mod outcome;
 mod output;
 mod refusal;
 mod scan;

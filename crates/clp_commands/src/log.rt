@@ -1,11 +1,12 @@
 //! The messages of a log on their way from the log to the output.
-ghost use Rattle.std.specs.Prelude.{◌≡◌, ◌≤◌, ◌⊎◌, ℕ, List, [], OnOk, IfErr, IsErrOf};
+ghost use Rattle.std.specs.Prelude.{◌≡◌, ◌≢◌, ◌≤◌, ◌⊎◌, ℕ, List, [], OnOk, IfErr, IsErrOf};
 ghost use Rattle.log_seams.specs.Outside.{Rose};
-ghost use Rattle.clp_commands.specs.Printing.{Reaches, Printed, IsFresh, IsLogRefusal, IsReadingRefusal, TellsNext, FailsAfter, answer_of, is_whole, refusal_of};
-ghost use Rattle.clp_commands.specs.declared.refusal.Refusal.TheVariants.{OpenFault, ReadFault, SinkFault, OutOfMemory};
+ghost use Rattle.clp_commands.specs.Outcome.{answer_of};
+ghost use Rattle.clp_commands.specs.Printing.{Reaches, Printed, IsFresh, TellsNext, FailsAfter, is_whole, refusal_of};
+ghost use Rattle.clp_commands.specs.declared.outcome.LogRefusal.TheVariants.{OpenFault, ReadFault, SinkFault, OutOfMemory};
 
+use crate::outcome::LogRefusal;
 use crate::output::{flush, flush_piece};
-use crate::refusal::Refusal;
 use crate::tell::Tell;
 use line_cut::{Cut, Cutter, CutterRefused};
 use log_seams::{OpenRefused, Shelf, Sink, Source};
@@ -18,15 +19,15 @@ const MOST_BYTES: usize = 1_048_576;
 const MOST_MESSAGES: u64 = 4_294_967_294;
 
 /// The refusal for a cutter's.
-fn refusal_of(cut: Cut) -> Refusal
+fn refusal_of(cut: Cut) -> LogRefusal
     ensures value { result ≡ refusal_of cut }
-    ensures kind { IsReadingRefusal result }
+    ensures open { result ≢ OpenFault }
 {
     match cut {
-        Cut::ReadFault => Refusal::ReadFault,
-        Cut::LineTooLong { line } => Refusal::LineTooLong { line },
-        Cut::TooManyLines => Refusal::TooManyLines,
-        Cut::OutOfMemory => Refusal::OutOfMemory,
+        Cut::ReadFault => LogRefusal::ReadFault,
+        Cut::LineTooLong { line } => LogRefusal::LineTooLong { line },
+        Cut::TooManyLines => LogRefusal::TooManyLines,
+        Cut::OutOfMemory => LogRefusal::OutOfMemory,
     }
 }
 
@@ -38,7 +39,7 @@ fn print_message<K: Sink, T: Tell>(
     message: &[u8],
     out: &mut K,
     gathered: &mut Vec<u8>,
-) -> Result<(), Refusal>
+) -> Result<(), LogRefusal>
     ensures ok { OnOk result
         (TellsNext (T.tells teller.now) number message.now (K.written out.old) (K.written out.new)
         gathered.old.items gathered.new.items) }
@@ -48,15 +49,14 @@ fn print_message<K: Sink, T: Tell>(
     ensures cause { IsErrOf result SinkFault → Rose (K.faults out.old) (K.faults out.new) }
     ensures memory { IsErrOf result OutOfMemory → K.written out.new ≡ K.written out.old }
     ensures only { IfErr result (λ refusal. (refusal ≡ SinkFault) ⊎ (refusal ≡ OutOfMemory)) }
-    ensures kind { IfErr result IsReadingRefusal }
     ensures later { K.faults out.old ≤ K.faults out.new }
 {
     if teller.tell(kept, gathered, number, message).is_err() {
-        return Err(Refusal::OutOfMemory);
+        return Err(LogRefusal::OutOfMemory);
     }
     match flush_piece(out, gathered) {
         Ok(()) => Ok(()),
-        Err(_) => Err(Refusal::SinkFault),
+        Err(_) => Err(LogRefusal::SinkFault),
     }
 }
 
@@ -66,7 +66,7 @@ fn print_messages<S: Source, K: Sink, T: Tell>(
     teller: &T,
     out: &mut K,
     gathered: &mut Vec<u8>,
-) -> Result<(), Refusal>
+) -> Result<(), LogRefusal>
     requires fresh { IsFresh cutter.old }
     requires nothing { gathered.old.items ≡ [] }
     ensures reaches { Reaches (T.tells teller.now) (answer_of result) (S.left cutter.old.source)
@@ -75,7 +75,7 @@ fn print_messages<S: Source, K: Sink, T: Tell>(
     ensures sink { IsErrOf result SinkFault → Rose (K.faults out.old) (K.faults out.new) }
     ensures name { S.name cutter.new.source ≡ S.name cutter.old.source }
     ensures later { S.faults cutter.old.source ≤ S.faults cutter.new.source }
-    ensures kind { IfErr result IsReadingRefusal }
+    ensures open { ¬ IsErrOf result OpenFault }
     ensures out_later { K.faults out.old ≤ K.faults out.new }
 {
     let mut kept = teller.kept();
@@ -98,10 +98,13 @@ fn print_messages<S: Source, K: Sink, T: Tell>(
 }
 
 /// Whether all of the text that the printing came to goes out.
-fn goes_out(outcome: &Result<(), Refusal>) -> bool
+fn goes_out(outcome: &Result<(), LogRefusal>) -> bool
     ensures { result ≡ is_whole (answer_of outcome.now) }
 {
-    !matches!(outcome, Err(Refusal::SinkFault | Refusal::OutOfMemory))
+    !matches!(
+        outcome,
+        Err(LogRefusal::SinkFault | LogRefusal::OutOfMemory)
+    )
 }
 
 /// Prints the messages of an open log, and sends all that was gathered unless the output failed or
@@ -111,13 +114,13 @@ fn print_source<S: Source, K: Sink, T: Tell>(
     cutter: &mut Cutter<S>,
     teller: &T,
     out: &mut K,
-) -> Result<(), Refusal>
+) -> Result<(), LogRefusal>
     requires fresh { IsFresh cutter.old }
     ensures printed { Printed (T.tells teller.now) (answer_of result) (S.left cutter.old.source) (K.written out.old)
         (K.written out.new) }
     ensures read { IsErrOf result ReadFault → Rose (S.faults cutter.old.source) (S.faults cutter.new.source) }
     ensures sink { IsErrOf result SinkFault → Rose (K.faults out.old) (K.faults out.new) }
-    ensures kind { IfErr result IsReadingRefusal }
+    ensures open { ¬ IsErrOf result OpenFault }
     ensures name { S.name cutter.new.source ≡ S.name cutter.old.source }
     ensures later { S.faults cutter.old.source ≤ S.faults cutter.new.source }
 {
@@ -128,7 +131,7 @@ fn print_source<S: Source, K: Sink, T: Tell>(
     }
     match flush(out, &mut gathered) {
         Ok(()) => outcome,
-        Err(_) => Err(Refusal::SinkFault),
+        Err(_) => Err(LogRefusal::SinkFault),
     }
 }
 
@@ -139,20 +142,19 @@ pub(crate) fn print_log<H: Shelf, K: Sink, T: Tell>(
     shelf: &mut H,
     name: &str,
     out: &mut K,
-) -> Result<(), Refusal>
+) -> Result<(), LogRefusal>
     ensures printed { Printed (T.tells teller.now) (answer_of result) (H.content shelf.old name.now)
         (K.written out.old) (K.written out.new) }
     ensures open { IsErrOf result OpenFault → Rose (H.open_faults shelf.old name.now) (H.open_faults shelf.new name.now) }
     ensures untouched { IsErrOf result OpenFault → K.written out.new ≡ K.written out.old }
     ensures read { IsErrOf result ReadFault → Rose (H.read_faults shelf.old name.now) (H.read_faults shelf.new name.now) }
     ensures sink { IsErrOf result SinkFault → Rose (K.faults out.old) (K.faults out.new) }
-    ensures kind { IfErr result IsLogRefusal }
     ensures logs { (n : List ℕ) → H.content shelf.new n ≡ H.content shelf.old n }
 {
     let source = match shelf.open_log(name) {
         Ok(source) => source,
-        Err(OpenRefused::Failed) => return Err(Refusal::OpenFault),
-        Err(OpenRefused::OutOfMemory) => return Err(Refusal::OutOfMemory),
+        Err(OpenRefused::Failed) => return Err(LogRefusal::OpenFault),
+        Err(OpenRefused::OutOfMemory) => return Err(LogRefusal::OutOfMemory),
     };
     match Cutter::new(alloc, source, MOST_BYTES, MOST_MESSAGES) {
         Ok(mut cutter) => {
@@ -162,7 +164,7 @@ pub(crate) fn print_log<H: Shelf, K: Sink, T: Tell>(
         }
         Err(CutterRefused { source }) => {
             shelf.close_log(source);
-            Err(Refusal::OutOfMemory)
+            Err(LogRefusal::OutOfMemory)
         }
     }
 }

@@ -5,13 +5,13 @@ ghost use Rattle.wild_match.specs.Reading.{IsLoneBackslash, IsSearchPattern};
 ghost use Rattle.wild_match.specs.declared.pattern.Item.{Item};
 ghost use Rattle.clp_commands.specs.Answers.{Answers, AnswersLog, IsPatternRefusal, RefusesPattern, around, error_line, exit_status};
 ghost use Rattle.clp_commands.specs.Created.{disk_around};
-ghost use Rattle.clp_commands.specs.Printing.{answer_of};
 ghost use Rattle.clp_commands.specs.Refusal.{Says};
 ghost use Rattle.clp_commands.specs.Scanned.{Finds};
 ghost use Rattle.clp_commands.specs.Words.{AsksCreate};
 
 use crate::create::create_archive;
 use crate::log::print_log;
+use crate::outcome::{refusal_of_create, refusal_of_log, refusal_of_pattern};
 use crate::refusal::{Refusal, report};
 use crate::scan::Scan;
 use crate::show::Show;
@@ -52,15 +52,14 @@ where
     ensures second { second.new ≡ second.old }
 {
     let Some(command) = read_words(words) else {
-        report(err, "", Refusal::Usage);
-        return Refusal::Usage.status();
+        return report(err, "", Refusal::Usage);
     };
     match command {
         Command::Show { file } => print_and_report(alloc, &Show { alloc }, shelf, file, out, err),
         Command::Scan { pattern, file } => scan(alloc, pattern, file, shelf, out, err),
         Command::Create { header } => {
             let outcome = create_archive(disk, &header);
-            answer(outcome, "", err)
+            answer(refusal_of_create(outcome), "", err)
         }
     }
 }
@@ -94,7 +93,7 @@ fn scan<H: Shelf, K: Sink>(
             };
             print_and_report(alloc, &scan, shelf, file, out, err)
         }
-        Err(refusal) => answer(Err(refusal), file, err),
+        Err(refusal) => report(err, file, refusal_of_pattern(refusal)),
     }
 }
 
@@ -114,36 +113,29 @@ fn print_and_report<H: Shelf, K: Sink, T: Tell>(
     ensures logs { (n : List ℕ) → H.content shelf.new n ≡ H.content shelf.old n }
 {
     let outcome = print_log(alloc, teller, shelf, name, out);
-    answer(outcome, name, err)
+    answer(refusal_of_log(outcome), name, err)
 }
 
-/// The status for an outcome, whose line goes to `err`.
-fn answer<K: Sink>(outcome: Result<(), Refusal>, name: &str, err: &mut K) -> u8
-    ensures status { result ≡ exit_status (answer_of outcome) }
+/// The status for an answer, whose line goes to `err`.
+fn answer<K: Sink>(refusal: Option<Refusal>, name: &str, err: &mut K) -> u8
+    ensures status { result ≡ exit_status refusal }
     ensures said { Says (K.written err.old) (K.written err.new) (K.faults err.old) (K.faults err.new)
-        (error_line name.now (answer_of outcome)) }
+        (error_line name.now refusal) }
 {
-    match outcome {
-        Ok(()) => 0,
-        Err(refusal) => {
-            report(err, name, refusal);
-            refusal.status()
-        }
+    match refusal {
+        None => 0,
+        Some(refusal) => report(err, name, refusal),
     }
 }
 
 /// The pattern of a text, made ready for many messages.
-fn read_matcher(alloc: Global, text: &str) -> Result<Matcher, Refusal>
+fn read_matcher(alloc: Global, text: &str) -> Result<Matcher, PatternRefusal>
     ensures items { IfOk result (λ m. IsSearchPattern text.now m.items) }
     ensures refused { IfErr result (IsPatternRefusal text.now) }
 {
-    let pattern = match read_pattern(alloc, text.as_bytes()) {
-        Ok(pattern) => pattern,
-        Err(PatternRefusal::BadPattern { at }) => return Err(Refusal::BadPattern { at }),
-        Err(PatternRefusal::OutOfMemory) => return Err(Refusal::OutOfMemory),
-    };
+    let pattern = read_pattern(alloc, text.as_bytes())?;
     match Matcher::new(alloc, &pattern) {
         Ok(matcher) => Ok(matcher),
-        Err(_) => Err(Refusal::OutOfMemory),
+        Err(_) => Err(PatternRefusal::OutOfMemory),
     }
 }

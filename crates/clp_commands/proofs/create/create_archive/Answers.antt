@@ -1,14 +1,7 @@
-use Rattle.std.proofs.Common.{rules}
+use Rattle.clp_commands.proofs.CreatedLemmas.{CreateLeaves-from}
 use Rattle.clp_commands.proofs.create.create_archive.Goals as goal
 
-pub returns-in-Err-NotEmpty : goal.returns-in-Err-NotEmpty
-returns-in-Err-NotEmpty g c =
-    let len = c.in-Err-NotEmpty.len in
-    let refused = rw c.in-Err-NotEmpty.field-0-is at c.in-Err-NotEmpty.ensures in
-    record {
-      some = (refused.not_empty len (search rules)).0;
-      long = (refused.not_empty len (search rules)).1;
-      kept = refused.kept len (search rules);
-      no_more = refused.images len (search rules);
-      no_fewer = refused.no_fewer len (search rules);
-    }
+pub returns : goal.returns
+returns g c =
+    let e = c.create.ensures in
+    CreateLeaves-from c.create.result _ _ _ _ e.made e.settled e.empty e.not_empty e.kept e.images e.no_fewer e.fault

@@ -1,0 +1,34 @@
+-- How the commands of each kind end, and which refusal that is.
+use Rattle.std.specs.Prelude.{Option, Some, None, Result, Ok, Err}
+use Rattle.disk_journal.specs.declared.refusals.CreateRefusal.{CreateRefusal}
+use Rattle.disk_journal.specs.declared.refusals.CreateRefusal.TheVariants.{DiskFault as CreateDiskFault, NotEmpty as CreateNotEmpty}
+use Rattle.wild_match.specs.declared.read.PatternRefusal.{PatternRefusal}
+use Rattle.wild_match.specs.declared.read.PatternRefusal.TheVariants.{BadPattern as ReadBadPattern, OutOfMemory as ReadOutOfMemory}
+use Rattle.clp_commands.specs.declared.outcome.LogRefusal.{LogRefusal}
+use Rattle.clp_commands.specs.declared.outcome.LogRefusal.TheVariants.{OpenFault as LogOpenFault, ReadFault as LogReadFault, LineTooLong as LogLineTooLong, TooManyLines as LogTooManyLines, SinkFault as LogSinkFault, OutOfMemory as LogOutOfMemory}
+use Rattle.clp_commands.specs.declared.refusal.Refusal.{Refusal}
+use Rattle.clp_commands.specs.declared.refusal.Refusal.TheVariants.{BadPattern, OpenFault, ReadFault, LineTooLong, TooManyLines, DiskFault, SinkFault, NotEmpty, OutOfMemory}
+
+-- the answer of a call that may refuse, where no refusal is `None`
+abbrev pub answer_of : {E : Type 0} → Result Unit E → Option E
+answer_of (Ok _) = None
+answer_of (Err refusal) = Some refusal
+
+-- of a command that prints a log
+abbrev pub of_log : LogRefusal → Refusal
+of_log LogOpenFault = OpenFault
+of_log LogReadFault = ReadFault
+of_log (LogLineTooLong line) = LineTooLong line
+of_log LogTooManyLines = TooManyLines
+of_log LogSinkFault = SinkFault
+of_log LogOutOfMemory = OutOfMemory
+
+-- of the making of an archive
+abbrev pub of_create : CreateRefusal → Refusal
+of_create CreateDiskFault = DiskFault
+of_create (CreateNotEmpty len) = NotEmpty len
+
+-- of a pattern
+abbrev pub of_pattern : PatternRefusal → Refusal
+of_pattern (ReadBadPattern at) = BadPattern at
+of_pattern ReadOutOfMemory = OutOfMemory
