@@ -1,9 +1,8 @@
 -- What a cache holds after a text more.
 use Rattle.std.proofs.Common.{◌≡◌, ◌≢◌, ◌⊎◌, ⊎_elim, inl, inr, ℕ, zero, suc, ◌<◌, List, [], ◌∷◌, ◌++◌, length, refl, sym, ap, subst, ◌∙◌, arith, Some, slice_get}
 use Rattle.std.proofs.lemmas.Option.{slice_get_within, none-some}
-use Rattle.std.proofs.lemmas.List.{length_push}
 use Rattle.dict_core.specs.Books.{BookState, IsNew, Names}
-use Rattle.dict_lock.specs.Cache.{CacheState, Remembers, Keeps, IsSeen, StaysSeen}
+use Rattle.dict_lock.specs.Cache.{CacheState, Remembers, Keeps, StaysSeen}
 use Rattle.dict_lock.proofs.SharedLemmas.{slice_get-last}
 
 pub slice_get-front : {A : Type 0} (xs ys : List A) (k : ℕ) (x : A) → slice_get xs k ≡ Some x → slice_get (xs ++ ys) k ≡ Some x

@@ -1,22 +1,22 @@
 -- How a naming goes on by one text.
-use Rattle.std.proofs.Common.{◌≡◌, ◌≢◌, ◌⊎◌, ⊎_elim, inl, inr, ℕ, zero, suc, ◌+◌, ◌<◌, ◌≤◌, Bool, true, false, List, [], ◌∷◌, ◌++◌, length, refl, sym, ap, subst, ◌∙◌, arith, append-nil, append_assoc, Some, None, All, slice_get, slice_set, slice_index, slice_index_or}
+use Rattle.std.proofs.Common.{◌≡◌, ◌≢◌, ◌⊎◌, ⊎_elim, inl, inr, ℕ, zero, suc, ◌+◌, ◌<◌, ◌≤◌, Bool, true, false, List, [], ◌∷◌, ◌++◌, length, refl, sym, ap, subst, ◌∙◌, arith, append-nil, append_assoc, Some, All, slice_get, slice_set, slice_index, slice_index_or}
 use Rattle.std.specs.Prelude.{MatchBool, Result, Ok, Err, OnOk}
 use Rattle.std.specs.Result.{is_err}
 use mathlib.Core.List.{IsPrefix}
 use Rattle.turn_lock.specs.Words.{seen, own_list, IsReady}
 use Rattle.dict_core.specs.declared.refusals.BookRefusal.{BookRefusal}
 use Rattle.dict_lock.specs.Shared.{BookPass}
-use Rattle.std.specs.List.{Contains, AllZip}
+use Rattle.std.specs.List.{Contains}
 use Rattle.std.proofs.lemmas.Option.{slice_get_within, none-some, get_or_from_slice_get}
 use Rattle.std.proofs.lemmas.List.Elements.{All-push}
 use mathlib.Core.Logic.{dite}
 use native.Mathlib.Decide.{ℕ_discrete}
 use Rattle.dict_core.specs.Books.{BookState, IsNew, Names}
-use Rattle.dict_lock.specs.Cache.{CacheState, Remembers, HoldsAll, HoldsFront, Keeps, IsSeen, StaysSeen}
+use Rattle.dict_lock.specs.Cache.{CacheState, Remembers, HoldsAll, HoldsFront, Keeps, IsSeen}
 use Rattle.dict_lock.specs.Naming.{AreNumbers, NamesMore}
-use Rattle.dict_lock.specs.StepsOfNaming.{IsMarked, AreHeld, FoundAll, NamesFront, AddsAmong}
+use Rattle.dict_lock.specs.StepsOfNaming.{AreHeld, FoundAll, NamesFront, AddsAmong}
 use Rattle.dict_lock.specs.declared.naming.TheConstants.{UNKNOWN}
-use Rattle.dict_lock.proofs.SharedLemmas.{names_rest, names_limit, names_at}
+use Rattle.dict_lock.proofs.SharedLemmas.{names_rest, names_at}
 use Rattle.dict_lock.proofs.CacheLemmas.{slice_get-front, slice_get-push, slice_get-some}
 
 abbrev Texts : Type 0

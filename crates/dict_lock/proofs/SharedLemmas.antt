@@ -1,6 +1,6 @@
 -- One turn with a book, over the lists of texts that a pass saw: `before` at the take, and the book's texts at the put.
-use Rattle.std.proofs.Common.{◌≡◌, ◌≢◌, ◌⊎◌, ⊎_elim, inl, inr, ℕ, zero, suc, ◌+◌, ◌<◌, ◌≤◌, List, [], ◌∷◌, ◌++◌, length, refl, sym, ap, subst, ◌∙◌, arith, append-nil, append_assoc, Option, Some, None, slice_get}
-use Rattle.std.specs.Prelude.{Result, Ok, Err, IfOk, OnErr, IsErrOf, OnOk}
+use Rattle.std.proofs.Common.{◌≡◌, ◌≢◌, ◌⊎◌, ⊎_elim, inl, inr, ℕ, ◌<◌, List, [], ◌∷◌, ◌++◌, length, refl, sym, ap, subst, ◌∙◌, append-nil, append_assoc, Option, Some, None, slice_get}
+use Rattle.std.specs.Prelude.{Result, Ok, Err, IfOk, OnErr, IsErrOf}
 use mathlib.Core.List.{IsPrefix}
 use Rattle.turn_lock.specs.History.{places}
 use Rattle.dict_core.specs.Books.{BookState, IsNew, Names}

@@ -1,5 +1,5 @@
 -- How far a naming has come, for its proof alone.
-use Rattle.std.specs.Prelude.{◌≡◌, ◌≢◌, ℕ, ◌<◌, ◌≤◌, List, ◌++◌, length, Some, slice_get, All}
+use Rattle.std.specs.Prelude.{◌≡◌, ◌≢◌, ℕ, ◌≤◌, List, ◌++◌, length, Some, slice_get, All}
 use Rattle.std.specs.List.{Contains}
 use Rattle.dict_core.specs.Books.{BookState, IsNew}
 use Rattle.turn_lock.specs.Words.{seen}

@@ -1,4 +1,4 @@
-use Rattle.std.proofs.Common.{rules, ◌≡◌, ◌<◌, ◌∙◌, ℕ, arith}
+use Rattle.std.proofs.Common.{rules, ◌<◌, ◌∙◌, arith}
 use Rattle.std.proofs.lemmas.List.{length-set}
 use Rattle.std.proofs.lemmas.Option.{slice_get_within}
 use Rattle.dict_lock.proofs.NamingLemmas.{adds_more, named_more, marked_more}

@@ -1,8 +1,8 @@
-use Rattle.std.proofs.Common.{◌≡◌, ℕ, List, ap, sym, subst, ◌∙◌, length}
+use Rattle.std.proofs.Common.{ℕ, List, sym, subst, length}
 use Rattle.turn_lock.specs.Words.{seen}
 use Rattle.dict_lock.specs.Cache.{HoldsFront}
 use Rattle.dict_lock.specs.StepsOfNaming.{NamesFront}
-use Rattle.dict_lock.proofs.NamingLemmas.{prefix_at, seen_on, ok_numbers, ok_held, not_err}
+use Rattle.dict_lock.proofs.NamingLemmas.{seen_on, ok_numbers, ok_held, not_err}
 use Rattle.dict_lock.proofs.naming.name_in_turn.Goals as goal
 
 pub name_marked-named-requires-clause-marked : goal.name_marked-named-requires-clause-marked

@@ -1,6 +1,5 @@
-use Rattle.std.proofs.Common.{rules, ◌≡◌, ◌++◌, ℕ, ap, sym, subst, ◌∙◌, length, Some, slice_get, All}
-use Rattle.turn_lock.specs.declared.board.About.{About}
-use Rattle.turn_lock.specs.Words.{seen, number_of, about}
+use Rattle.std.proofs.Common.{rules, ◌++◌, ℕ, ap, sym, subst, ◌∙◌, length, slice_get, All}
+use Rattle.turn_lock.specs.Words.{seen, number_of}
 use Rattle.dict_core.specs.Fair.{IsFair}
 use Rattle.dict_core.specs.Books.{IsNew}
 use Rattle.dict_lock.proofs.SharedLemmas.{prefix_more}

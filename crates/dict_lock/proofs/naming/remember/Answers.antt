@@ -1,4 +1,4 @@
-use Rattle.std.proofs.Common.{rules, ◌≡◌, ◌<◌, ℕ, List, length, arith, Some, slice_get, slice_index}
+use Rattle.std.proofs.Common.{rules, ◌≡◌, Some, slice_get, slice_index}
 use Rattle.std.proofs.lemmas.Option.{slice_get-get_or}
 use Rattle.dict_lock.proofs.NamingLemmas.{front_more, front_keeps}
 use Rattle.dict_lock.proofs.naming.remember.Goals as goal

@@ -1,7 +1,6 @@
-use Rattle.std.proofs.Common.{rules, sym, ap, ◌∙◌, ◌≡◌, ℕ, Some, Option, None}
+use Rattle.std.proofs.Common.{rules, sym, ◌∙◌, ◌≡◌, ℕ, Some}
 use Rattle.turn_lock.specs.declared.board.About.{About}
 use Rattle.turn_lock.specs.Words.{seen, own_list, about}
-use Rattle.dict_lock.specs.Shared.{BookPass}
 use Rattle.dict_lock.proofs.SharedLemmas.{answer_goes_on, answer_named, answer_own, answer_refused, answer_full, full_answer, some_about}
 use Rattle.dict_lock.proofs.shared.intern.Goals as goal
 

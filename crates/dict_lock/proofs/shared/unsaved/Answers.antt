@@ -1,5 +1,4 @@
 use Rattle.std.proofs.Common.{sym, ◌∙◌, [], append-nil}
-use Rattle.turn_lock.specs.Words.{seen, own_list}
 use Rattle.dict_lock.proofs.shared.unsaved.Goals as goal
 
 pub returns-clause-own : goal.returns-clause-own

@@ -1,7 +1,7 @@
-use Rattle.std.proofs.Common.{◌≡◌, ◌≢◌, ◌++◌, ◌∷◌, [], ℕ, List, length, ap, sym, subst, ◌∙◌, arith, Some}
+use Rattle.std.proofs.Common.{◌++◌, ◌∷◌, [], ℕ, List, length, ap, subst, ◌∙◌, arith}
 use Rattle.std.proofs.lemmas.List.{length_push}
 use Rattle.dict_core.specs.Books.{BookState}
-use Rattle.dict_lock.specs.Cache.{CacheState, Remembers, Keeps, StaysSeen}
+use Rattle.dict_lock.specs.Cache.{CacheState, Keeps, StaysSeen}
 use Rattle.dict_lock.proofs.CacheLemmas.{same_stays, held_at, more_keeps, more_holds, more_seen, named_last, named_before}
 use Rattle.dict_lock.proofs.cache.Cache.keep.Goals as goal
 

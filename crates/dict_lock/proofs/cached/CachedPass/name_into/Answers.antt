@@ -1,4 +1,3 @@
-use Rattle.std.proofs.Common.{ℕ}
 use Rattle.dict_lock.proofs.NamingLemmas.{names_nothing, all_numbers}
 use Rattle.dict_lock.proofs.cached.CachedPass.name_into.Goals as goal
 
