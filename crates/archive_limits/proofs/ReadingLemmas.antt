@@ -79,9 +79,9 @@ holds_more done found (Bytes n) holds lacks = record {
 }
 
 header_more : (found : Found) (limit : Limit) → IsHeader (header_of found) → IsInRange limit → IsHeader (header_of (with_limit found limit))
-header_more found (Types n) is range = record { version = refl; least_types = range.0; most_types = range.1; least_words = is.least_words; most_words = is.most_words; least_length = is.least_length; most_length = is.most_length }
-header_more found (Words n) is range = record { version = refl; least_types = is.least_types; most_types = is.most_types; least_words = range.0; most_words = range.1; least_length = is.least_length; most_length = is.most_length }
-header_more found (Bytes n) is range = record { version = refl; least_types = is.least_types; most_types = is.most_types; least_words = is.least_words; most_words = is.most_words; least_length = range.0; most_length = range.1 }
+header_more found (Types n) is range = record { least_version = is.least_version; most_version = is.most_version; least_types = range.0; most_types = range.1; least_words = is.least_words; most_words = is.most_words; least_length = is.least_length; most_length = is.most_length }
+header_more found (Words n) is range = record { least_version = is.least_version; most_version = is.most_version; least_types = is.least_types; most_types = is.most_types; least_words = range.0; most_words = range.1; least_length = is.least_length; most_length = is.most_length }
+header_more found (Bytes n) is range = record { least_version = is.least_version; most_version = is.most_version; least_types = is.least_types; most_types = is.most_types; least_words = is.least_words; most_words = is.most_words; least_length = range.0; most_length = range.1 }
 
 -- the words begin with this limit and with no other
 abbrev pub BeginsOnly : List (List ℕ) → Limit → List (List ℕ) → Type 0

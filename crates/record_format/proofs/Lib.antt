@@ -1,3 +1,3 @@
-pub mod Numbers
-pub mod Headers
-pub mod Lists
+pub mod NumberLemmas
+pub mod HeaderLemmas
+pub mod ListLemmas

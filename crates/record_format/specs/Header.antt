@@ -1,7 +1,8 @@
--- The 32 bytes of a header.
+-- The bytes of a header.
 use Rattle.std.specs.Prelude.{◌≡◌, ◌≤◌, ℕ, List, [], ◌∷◌, ◌++◌, drop, take}
 use Rattle.byteorder.specs.Endian.{little_bytes, little_number}
 use Rattle.record_format.specs.declared.header.Header.{Header}
+use Rattle.record_format.specs.declared.header.TheConstants.{LAST_VERSION, MAX_TYPES, MAX_WORDS, MIN_ARCHIVE_LEN, MAX_ARCHIVE_LEN}
 
 -- C L P A R C H and a line end
 abbrev pub mark : List ℕ
@@ -15,13 +16,14 @@ header_bytes h =
 
 -- the numbers that a header may have
 pub record IsHeader (h : Header) : Type 0 where
-  pub version : h.version ≡ 1
+  pub least_version : 1 ≤ h.version
+  pub most_version : h.version ≤ LAST_VERSION
   pub least_types : 1 ≤ h.types_limit
-  pub most_types : h.types_limit ≤ 2147483648
+  pub most_types : h.types_limit ≤ MAX_TYPES
   pub least_words : 1 ≤ h.words_limit
-  pub most_words : h.words_limit ≤ 2147483648
-  pub least_length : 33 ≤ h.length_limit
-  pub most_length : h.length_limit ≤ 1099511627776
+  pub most_words : h.words_limit ≤ MAX_WORDS
+  pub least_length : MIN_ARCHIVE_LEN ≤ h.length_limit
+  pub most_length : h.length_limit ≤ MAX_ARCHIVE_LEN
 
 -- the numbers that stand at a header's places
 abbrev pub header_in : List ℕ → Header

@@ -24,7 +24,8 @@ pub fn write_files(alloc: Global, names: &TextList) -> Result<Text, AllocError>
 pub fn read_files(alloc: Global, payload: &[u8]) -> Result<TextList, FormatRefusal>
     ensures fits { IfOk result (λ names. AreTexts names) }
     ensures spelled { IfOk result (λ names. payload.now ≡ files_payload names) }
-    ensures malformed { IsErrOf result FormatRefusal.Malformed → (names : List (List ℕ)) → AreTexts names → payload.now ≢ files_payload names }
+    ensures malformed { IsErrOf result FormatRefusal.Malformed
+        → (names : List (List ℕ)) → AreTexts names → payload.now ≢ files_payload names }
 {
     list_of(alloc, payload)
 }

@@ -12,8 +12,12 @@ mod refusal;
 mod texts;
 
 pub use files::{read_files, write_files};
-pub use header::{Header, read_header, write_header};
+pub use header::{
+    HEADER_LEN, Header, LAST_VERSION, MAX_ARCHIVE_LEN, MAX_TYPES, MAX_WORDS, MIN_ARCHIVE_LEN,
+    read_header, write_header,
+};
 pub use laws::{files_are_unique, headers_are_unique, texts_are_unique};
+pub use list::room_for;
 pub use refusal::FormatRefusal;
 pub use texts::{Texts, read_texts, write_texts};
 

@@ -43,7 +43,8 @@ fn text_at(bytes: &[u8]) -> Option<(&[u8], &[u8])>
     Some(rest.split_at(len as usize))
 }
 
-/// How many bytes the list takes, or the greatest number where they are more than can be.
+/// How many bytes a list of these texts takes in a record, or the greatest number where they are more
+/// than can be.
 pub fn room_for(texts: &[Text]) -> usize
     ensures { result ≡ min (length (list_bytes texts.now)) usize.MAX }
 {
@@ -72,7 +73,8 @@ pub fn put_list(out: &mut Vec<u8>, texts: &[Text]) -> Result<(), AllocError>
 pub fn list_of(alloc: Global, bytes: &[u8]) -> Result<TextList, FormatRefusal>
     ensures fits { IfOk result (λ texts. AreTexts texts) }
     ensures spelled { IfOk result (λ texts. bytes.now ≡ list_bytes texts) }
-    ensures malformed { IsErrOf result FormatRefusal.Malformed → (texts : List (List ℕ)) → AreTexts texts → bytes.now ≢ list_bytes texts }
+    ensures malformed { IsErrOf result FormatRefusal.Malformed
+        → (texts : List (List ℕ)) → AreTexts texts → bytes.now ≢ list_bytes texts }
 {
     let Some((count, mut rest)) = number_at(bytes) else {
         return Err(FormatRefusal::Malformed);

@@ -41,11 +41,13 @@ fn header_of_a_new_archive(rt: HostRuntime) -> Result<(), Fail> {
 #[test]
 fn fields_out_of_range(rt: HostRuntime) {
     // A field's first byte, the bytes put there, and whether they make a header still.
-    let cases: [(usize, [u8; 4], bool); 18] = [
+    let cases: [(usize, [u8; 4], bool); 20] = [
         (0, [0x43, 0x4C, 0x50, 0x42], false),
         (4, [0x52, 0x43, 0x48, 0x0D], false),
         (8, [0, 0, 0, 0], false),
-        (8, [2, 0, 0, 0], false),
+        (8, [2, 0, 0, 0], true),
+        (8, [3, 0, 0, 0], true),
+        (8, [4, 0, 0, 0], false),
         (8, [1, 0, 0, 1], false),
         (12, [0, 0, 0, 0], false),
         (12, [1, 0, 0, 0], true),

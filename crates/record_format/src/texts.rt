@@ -37,7 +37,9 @@ pub fn read_texts(alloc: Global, payload: &[u8]) -> Result<Texts, FormatRefusal>
     ensures first { IfOk result (λ read. read.first < 2 ^ 32) }
     ensures fits { IfOk result (λ read. AreTexts read.texts) }
     ensures spelled { IfOk result (λ read. payload.now ≡ texts_payload read.first read.texts) }
-    ensures malformed { IsErrOf result FormatRefusal.Malformed → (first : ℕ) (texts : List (List ℕ)) → first < 2 ^ 32 → AreTexts texts → payload.now ≢ texts_payload first texts }
+    ensures malformed { IsErrOf result FormatRefusal.Malformed
+        → (first : ℕ) (texts : List (List ℕ))
+        → first < 2 ^ 32 → AreTexts texts → payload.now ≢ texts_payload first texts }
 {
     let Some((first, rest)) = number_at(payload) else {
         return Err(FormatRefusal::Malformed);

@@ -1,7 +1,7 @@
 use Rattle.std.proofs.Common.{◌≡◌, drop, ◌∙◌, rules, arith}
 use Rattle.byteorder.specs.Endian.{little_number}
 use Rattle.byteorder.specs.Numbers.{little_from-take}
-use Rattle.record_format.proofs.Headers.{same_header}
+use Rattle.record_format.proofs.HeaderLemmas.{same_header}
 use Rattle.record_format.proofs.header.numbers_in.Goals as goal
 
 pub returns : goal.returns

@@ -1,6 +1,6 @@
 use Rattle.std.proofs.Common.{◌≡◌, subst, sym, ap, ◌∙◌, rules}
 use Rattle.record_format.specs.Header.{IsHeader, IsLaidOut, header_bytes, header_in}
-use Rattle.record_format.proofs.Headers.{laid_out, header_in-header_bytes, header_bytes-header_in}
+use Rattle.record_format.proofs.HeaderLemmas.{laid_out, header_in-header_bytes, header_bytes-header_in}
 use Rattle.record_format.proofs.header.read_header.Goals as goal
 
 pub returns-then-not-is_laid_out-clause-none : goal.returns-then-not-is_laid_out-clause-none

@@ -1,5 +1,5 @@
 use Rattle.std.proofs.Common.{◌≡◌, ◌++◌, ◌∷◌, [], refl, arith, rules}
-use Rattle.record_format.proofs.Lists.{no_count, too_many, no_text, left_over, read_more}
+use Rattle.record_format.proofs.ListLemmas.{no_count, too_many, no_text, left_over, read_more}
 use Rattle.record_format.proofs.list.list_of.Goals as goal
 
 pub returns-in_default-clause-malformed : goal.returns-in_default-clause-malformed

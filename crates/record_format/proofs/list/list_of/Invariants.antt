@@ -1,5 +1,5 @@
 use Rattle.std.proofs.Common.{◌≡◌, vec_len, vec_capacity}
-use Rattle.record_format.proofs.Lists.{IsReadTo}
+use Rattle.record_format.proofs.ListLemmas.{IsReadTo}
 use Rattle.record_format.proofs.list.list_of.Given as goal
 
 abbrev pub invariant-loop : goal.invariant-loop

@@ -1,7 +1,7 @@
 use Rattle.std.proofs.Common.{◌≡◌, ◌∙◌, ap, arith}
 use Rattle.byteorder.specs.Endian.{little_number}
 use Rattle.byteorder.specs.Numbers.{little_from-take}
-use Rattle.record_format.proofs.Lists.{four_bytes_in_front}
+use Rattle.record_format.proofs.ListLemmas.{four_bytes_in_front}
 use Rattle.record_format.proofs.list.number_at.Goals as goal
 
 pub returns-clause-some : goal.returns-clause-some

@@ -2,7 +2,7 @@ use Rattle.std.proofs.Common.{◌≡◌, ℕ, List, length, get_or, take, ap, �
 use Rattle.std.specs.List.{flat_map}
 use Rattle.std.proofs.lemmas.List.{take_all}
 use Rattle.record_format.specs.Lists.{text_bytes}
-use Rattle.record_format.proofs.Lists.{length-list_bytes, length-texts_more}
+use Rattle.record_format.proofs.ListLemmas.{length-list_bytes, length-texts_more}
 use Rattle.record_format.proofs.list.room_for.Goals as goal
 
 pub loop-text-preserved : goal.loop-text-preserved

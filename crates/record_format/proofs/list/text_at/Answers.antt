@@ -1,5 +1,5 @@
 use Rattle.std.proofs.Common.{refl, arith}
-use Rattle.record_format.proofs.Lists.{no_text_short, no_text_long}
+use Rattle.record_format.proofs.ListLemmas.{no_text_short, no_text_long}
 use Rattle.record_format.proofs.list.text_at.Goals as goal
 
 pub returns-in_err-len-clause-none : goal.returns-in_err-len-clause-none

@@ -1,6 +1,6 @@
 use Rattle.std.proofs.Common.{refl}
 use Rattle.std.proofs.lemmas.Result.{err_from_is_err_and}
-use Rattle.record_format.proofs.Lists.{no_first, not_behind_first}
+use Rattle.record_format.proofs.ListLemmas.{no_first, not_behind_first}
 use Rattle.record_format.proofs.texts.read_texts.Goals as goal
 
 pub returns-in_default-clause-malformed : goal.returns-in_default-clause-malformed

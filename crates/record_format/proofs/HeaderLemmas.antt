@@ -5,7 +5,7 @@ use Rattle.byteorder.specs.Endian.{little_bytes, little_number}
 use Rattle.byteorder.specs.Numbers.{little_number-reads_back}
 use Rattle.record_format.specs.declared.header.Header.{Header}
 use Rattle.record_format.specs.Header.{IsHeader, IsLaidOut, mark, header_bytes, header_in}
-use Rattle.record_format.proofs.Numbers.{IsBytes, number_at_place}
+use Rattle.record_format.proofs.NumberLemmas.{IsBytes, number_at_place}
 
 abbrev pub header : ℕ → ℕ → ℕ → ℕ → Header
 header v t m k = record { version = v; types_limit = t; words_limit = m; length_limit = k }
@@ -27,7 +27,7 @@ pub header_in-header_bytes : (h : Header) → IsHeader h → header_in (header_b
 unfolding header_bytes
 header_in-header_bytes h is =
     let tail : List ℕ = little_bytes 4 0 ++ little_bytes 8 h.length_limit in
-    let version : (header_in (header_bytes h)).version ≡ h.version = little_number-reads_back 4 h.version (little_bytes 4 h.types_limit ++ little_bytes 4 h.words_limit ++ tail) (omega (arith, is.version)) in
+    let version : (header_in (header_bytes h)).version ≡ h.version = little_number-reads_back 4 h.version (little_bytes 4 h.types_limit ++ little_bytes 4 h.words_limit ++ tail) (omega (arith, is.most_version)) in
     let types : (header_in (header_bytes h)).types_limit ≡ h.types_limit = little_number-reads_back 4 h.types_limit (little_bytes 4 h.words_limit ++ tail) (omega (arith, is.most_types)) in
     let words : (header_in (header_bytes h)).words_limit ≡ h.words_limit = little_number-reads_back 4 h.words_limit tail (omega (arith, is.most_words)) in
     let limit : (header_in (header_bytes h)).length_limit ≡ h.length_limit = little_number-reads_back 8 h.length_limit [] (omega (arith, is.most_length)) in

@@ -8,7 +8,7 @@ use Rattle.std.proofs.lemmas.Grind.{flat_map-append}
 use Rattle.byteorder.specs.Endian.{little_number}
 use Rattle.byteorder.specs.Numbers.{little_number-reads_back, length-bytes_low_first}
 use Rattle.record_format.specs.Lists.{four_bytes, text_bytes, list_bytes, texts_payload, AreTexts}
-use Rattle.record_format.proofs.Numbers.{IsBytes, number_in_front}
+use Rattle.record_format.proofs.NumberLemmas.{IsBytes, number_in_front}
 
 -- ---- numbers
 
