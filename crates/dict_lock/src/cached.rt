@@ -71,7 +71,8 @@ impl<'l> CachedPass<'l> {
     pub fn join(&mut self, note: Note<'_, Book>)
         requires { lock_noted note ≡ lock_of (pass_in self.old) }
         ensures pass { GoesOn (pass_in self.old) (pass_in self.new) }
-        ensures learned { HasLearned (seen (pass_in self.old)) (noted note.entry) (seen (pass_in self.new)) }
+        ensures learned { HasLearned (seen (pass_in self.old)) (noted note.entry)
+            (seen (pass_in self.new)) }
         ensures own { own_list (pass_in self.new) ≡ own_list (pass_in self.old) }
         ensures cache { cache_of self.new ≡ cache_of self.old }
     {
@@ -106,8 +107,8 @@ impl<'l> CachedPass<'l> {
         // whatever the answer
         ensures pass { NamesMore (pass_in self.old) (pass_in self.new) (T.texts texts.now) }
         ensures cache { Keeps (cache_of self.old) (cache_of self.new) }
-        ensures turns { TakesOneTurn (HoldsAll (cache_of self.old) (T.texts texts.now)) (IsOk result)
-            turns.old turns.new }
+        ensures turns { TakesOneTurn (HoldsAll (cache_of self.old) (T.texts texts.now))
+            (IsOk result) turns.old turns.new }
 
         // by the answer
         ensures named { OnOk result (AreNumbers (seen (pass_in self.new)) numbers.new.items
@@ -136,11 +137,12 @@ impl<'l> CachedPass<'l> {
         // whatever the answer
         ensures pass { NamesMore (pass_in self.old) (pass_in self.new) (T.texts texts.now) }
         ensures cache { Keeps (cache_of self.old) (cache_of self.new) }
-        ensures turns { TakesOneTurn (HoldsAll (cache_of self.old) (T.texts texts.now)) (IsOk result)
-            turns.old turns.new }
+        ensures turns { TakesOneTurn (HoldsAll (cache_of self.old) (T.texts texts.now))
+            (IsOk result) turns.old turns.new }
 
         // by the answer
-        ensures named { IfOk result (λ ns. AreNumbers (seen (pass_in self.new)) ns (T.texts texts.now)) }
+        ensures named { IfOk result (λ ns. AreNumbers (seen (pass_in self.new)) ns
+            (T.texts texts.now)) }
         ensures held { OnOk result (HoldsAll (cache_of self.new) (T.texts texts.now)) }
         ensures full { (count : ℕ) → IsErrOf result (Full count)
             → MeetsLimit (pass_in self.new) (cache_of self.new) (T.texts texts.now) count }

@@ -10,3 +10,6 @@ mod texts;
 pub use cached::CachedPass;
 pub use shared::{SharedBook, intern, unsaved};
 pub use texts::{LineSpans, TextSlice};
+
+#[cfg(test)]
+mod tests;

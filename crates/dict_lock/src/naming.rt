@@ -48,7 +48,8 @@ fn name_one(book: &mut Book, known: u32, text: &[u8]) -> Result<u32, BookRefusal
     ensures ok { IfOk result (λ n. Names book.old book.new text.now n) }
     ensures err { OnErr result (book.new ≡ book.old) }
     ensures full { (count : ℕ) → IsErrOf result (Full count)
-        → IsNew book.old.texts text.now × (count ≡ book.old.limit) × (length book.old.texts ≡ book.old.limit) }
+        → IsNew book.old.texts text.now × (count ≡ book.old.limit)
+        × (length book.old.texts ≡ book.old.limit) }
 {
     if known != UNKNOWN {
         return Ok(known);
@@ -63,7 +64,8 @@ fn name_each<T: TextSlice>(
     texts: &T,
     numbers: &mut Vec<u32>,
 ) -> Result<(), BookRefusal>
-    requires { IsMarked (λ text n. slice_get book.old.texts n ≡ Some text) numbers.old.items (T.texts texts.now) }
+    requires { IsMarked (λ text n. slice_get book.old.texts n ≡ Some text) numbers.old.items
+        (T.texts texts.now) }
     ensures added { AddsAmong book.old book.new (T.texts texts.now) }
     ensures named { NamesFront book.new.texts numbers.new.items (T.texts texts.now) }
     ensures ok { OnOk result (length numbers.new.items ≡ length (T.texts texts.now)) }
@@ -92,7 +94,8 @@ fn name_marked<T: TextSlice, R: Wait, L: Ledger>(
 ) -> Result<(), BookRefusal>
     requires ready { IsReady pass.old }
     requires fair { All (IsFair (number_of pass.old)) (T.texts texts.now) }
-    requires marked { IsMarked (λ text n. slice_get (seen pass.old) n ≡ Some text) numbers.old.items (T.texts texts.now) }
+    requires marked { IsMarked (λ text n. slice_get (seen pass.old) n ≡ Some text) numbers.old.items
+        (T.texts texts.now) }
     ensures pass { NamesMore pass.old pass.new (T.texts texts.now) }
     ensures turns { turns.new ≡ turns.old + 1 }
     ensures named { NamesFront (seen pass.new) numbers.new.items (T.texts texts.now) }
