@@ -1,7 +1,7 @@
 //! A journal over a disk that is lent to it: opening it, walking along its records, and appending.
 ghost use Rattle.std.specs.Prelude.{◌≡◌, ◌≤◌, ◌<◌, ◌+◌, ◌-◌, ◌^◌, ℕ, IsTrue, IsFalse, IsNone, false, length, take, drop, IfOk, OnOk, OnErr, IfSome, IfNone, IsErrOf, is_none, is_some};
-ghost use Rattle.log_seams.specs.Disk.{Only, NoMore, LeavesOnly, ReadsOnly, with_range};
-ghost use Rattle.log_seams.specs.Outside.{Rose};
+ghost use Rattle.log_seams.specs.Disk.{Only, KeepsBytes, LeavesOnly, ReadsOnly, Rests, with_range};
+ghost use Rattle.log_seams.specs.Outside.{CountsOf};
 ghost use Rattle.record_format.specs.Header.{IsHeader, header_bytes};
 ghost use Rattle.disk_journal.specs.Record.{IsFrame, saved_of};
 ghost use Rattle.disk_journal.specs.Place.{Walked, AtEnd, NoHeader, IsDamaged, ClosedAt, OpenAt, Passed, HasRange, HasSize, BeforeOrAfter, Added};
@@ -43,11 +43,8 @@ pub fn start<D: Disk>(disk: &mut D) -> Result<Header, StartRefusal>
     ensures walked { IfOk result (λ h. Walked (header_bytes h) 32 0 (D.state disk.new).seen) }
     ensures settled { OnOk result (Only (D.state disk.new).seen (D.state disk.new).images) }
     ensures damaged { (at : ℕ) → IsErrOf result (StartRefusal.Damaged at) → (at ≡ 0) × NoHeader (D.state disk.old).seen }
-    ensures fault { IsErrOf result StartRefusal.DiskFault → Rose (D.state disk.old).faults (D.state disk.new).faults }
-    ensures counts { (D.state disk.old).faults ≤ (D.state disk.new).faults }
-    ensures seen { (D.state disk.new).seen ≡ (D.state disk.old).seen }
-    ensures images { NoMore (D.state disk.old).images (D.state disk.new).images }
-    ensures moments { LeavesOnly (D.state disk.old) (D.state disk.new) (D.state disk.old).images }
+    ensures keeps { KeepsBytes (D.state disk.old) (D.state disk.new) }
+    ensures counts { CountsOf StartRefusal.DiskFault (D.state disk.old).faults (D.state disk.new).faults result }
     ensures ranges { ReadsOnly 0 32 (D.state disk.old) (D.state disk.new) }
 {
     disk.sync()?;
@@ -91,10 +88,9 @@ impl<'d, D: Disk> Journal<'d, D> {
         ensures walked { IfOk result (λ j. Walked (header_bytes j.header) 32 0 (D.state j.disk.now).seen) }
         ensures settled { IfOk result (λ j. Only (D.state j.disk.now).seen (D.state j.disk.now).images) }
         ensures damaged { (at : ℕ) → IsErrOf result (StartRefusal.Damaged at) → (at ≡ 0) × NoHeader (D.state disk.old).seen }
-        ensures seen { IfOk result (λ j. (D.state j.disk.now).seen ≡ (D.state disk.old).seen) }
-        ensures moments { IfOk result (λ j. LeavesOnly (D.state disk.old) (D.state j.disk.now) (D.state disk.old).images) }
+        ensures keeps { IfOk result (λ j. KeepsBytes (D.state disk.old) (D.state j.disk.now)) }
         ensures ranges { IfOk result (λ j. ReadsOnly 0 32 (D.state disk.old) (D.state j.disk.now)) }
-        ensures counts { IfOk result (λ j. (D.state disk.old).faults ≤ (D.state j.disk.now).faults) }
+        ensures counts { IfOk result (λ j. (D.state j.disk.now).faults ≡ (D.state disk.old).faults) }
     {
         let header = start(disk)?;
         Ok(Journal::begin(disk, header))
@@ -144,7 +140,6 @@ impl<'d, D: Disk> Journal<'d, D> {
         ensures header { self.new.header ≡ self.old.header }
         ensures walked { Walked (header_bytes self.old.header) self.old.place self.old.count (D.state self.old.disk.now).seen
             → Walked (header_bytes self.new.header) self.new.place self.new.count (D.state self.new.disk.now).seen }
-        ensures settled { Only (D.state self.old.disk.now).seen (D.state self.old.disk.now).images → Only (D.state self.new.disk.now).seen (D.state self.new.disk.now).images }
         ensures closed { IfOk result (λ next. self.new.closed ≡ is_none next) }
         ensures gate { IfOk result (λ next. IfNone next (ClosedAt self.old.place (D.state self.old.disk.now).seen)) }
         ensures at_end { Walked (header_bytes self.old.header) self.old.place self.old.count (D.state self.old.disk.now).seen → Only (D.state self.old.disk.now).seen (D.state self.old.disk.now).images
@@ -156,11 +151,8 @@ impl<'d, D: Disk> Journal<'d, D> {
             → IfOk result (λ next. IfSome next (λ p. Passed (D.state self.old.disk.now).seen self.old.count p.kind p.payload p.length)) }
         ensures err { OnErr result ((self.new.place ≡ self.old.place) × (self.new.count ≡ self.old.count) × (self.new.closed ≡ self.old.closed)) }
         ensures damaged { (at : ℕ) → IsErrOf result (WalkRefusal.Damaged at) → (at ≡ self.old.place) × IsDamaged self.old.place (D.state self.old.disk.now).seen }
-        ensures fault { IsErrOf result WalkRefusal.DiskFault → Rose (D.state self.old.disk.now).faults (D.state self.new.disk.now).faults }
-        ensures counts { (D.state self.old.disk.now).faults ≤ (D.state self.new.disk.now).faults }
-        ensures seen { (D.state self.new.disk.now).seen ≡ (D.state self.old.disk.now).seen }
-        ensures images { NoMore (D.state self.old.disk.now).images (D.state self.new.disk.now).images }
-        ensures moments { LeavesOnly (D.state self.old.disk.now) (D.state self.new.disk.now) (D.state self.old.disk.now).images }
+        ensures rests { Rests (D.state self.old.disk.now) (D.state self.new.disk.now) }
+        ensures counts { CountsOf WalkRefusal.DiskFault (D.state self.old.disk.now).faults (D.state self.new.disk.now).faults result }
         ensures ranges { ReadsOnly self.old.place 10 (D.state self.old.disk.now) (D.state self.new.disk.now) }
     {
         match look(self.disk, self.place)? {
@@ -191,17 +183,9 @@ impl<'d, D: Disk> Journal<'d, D> {
         ensures text { IfOk result (λ text. IfSome (D.state self.old.disk.now).seen (λ bytes. text ≡ take length (drop at bytes))) }
         ensures damaged { (place : ℕ) → IsErrOf result (LoadRefusal.Damaged place) → (place ≡ at) × IsNone (D.state self.old.disk.now).seen }
         ensures fewer { (place : ℕ) → IsErrOf result (LoadRefusal.Damaged place) → (n : ℕ) × (n < length) × ((D.state self.new.disk.now).ranges ≡ with_range at n (D.state self.old.disk.now).ranges) }
-        ensures walked { Walked (header_bytes self.old.header) self.old.place self.old.count (D.state self.old.disk.now).seen
-            → Walked (header_bytes self.new.header) self.new.place self.new.count (D.state self.new.disk.now).seen }
-        ensures settled { Only (D.state self.old.disk.now).seen (D.state self.old.disk.now).images → Only (D.state self.new.disk.now).seen (D.state self.new.disk.now).images }
-        ensures at_end { AtEnd (header_bytes self.old.header) self.old.place self.old.count (D.state self.old.disk.now).seen (D.state self.old.disk.now).images
-            → AtEnd (header_bytes self.new.header) self.new.place self.new.count (D.state self.new.disk.now).seen (D.state self.new.disk.now).images }
-        ensures fault { IsErrOf result LoadRefusal.DiskFault → Rose (D.state self.old.disk.now).faults (D.state self.new.disk.now).faults }
-        ensures counts { (D.state self.old.disk.now).faults ≤ (D.state self.new.disk.now).faults }
-        ensures seen { (D.state self.new.disk.now).seen ≡ (D.state self.old.disk.now).seen }
-        ensures images { NoMore (D.state self.old.disk.now).images (D.state self.new.disk.now).images }
-        ensures no_fewer { NoMore (D.state self.new.disk.now).images (D.state self.old.disk.now).images }
-        ensures moments { LeavesOnly (D.state self.old.disk.now) (D.state self.new.disk.now) (D.state self.old.disk.now).images }
+        ensures whole { OnOk result ((D.state self.new.disk.now).ranges ≡ with_range at length (D.state self.old.disk.now).ranges) }
+        ensures rests { Rests (D.state self.old.disk.now) (D.state self.new.disk.now) }
+        ensures counts { CountsOf LoadRefusal.DiskFault (D.state self.old.disk.now).faults (D.state self.new.disk.now).faults result }
         ensures ranges { ReadsOnly at length (D.state self.old.disk.now) (D.state self.new.disk.now) }
     {
         let mut bytes = vec![in alloc; 0; length as usize]?;
@@ -234,9 +218,7 @@ impl<'d, D: Disk> Journal<'d, D> {
         ensures full { (e n : ℕ) → IsErrOf result (AppendRefusal.ArchiveFull e n) → (e ≡ self.old.place + 1) × (n ≡ length framed.now)
             × (self.old.header.length_limit < e + n) × (self.new.disk ≡ self.old.disk) }
         ensures exactly { self.old.header.length_limit < self.old.place + 1 + length framed.now → IsErrOf result (AppendRefusal.ArchiveFull (self.old.place + 1) (length framed.now)) }
-        ensures fault { IsErrOf result AppendRefusal.DiskFault → Rose (D.state self.old.disk.now).faults (D.state self.new.disk.now).faults }
-        ensures counts { (D.state self.old.disk.now).faults ≤ (D.state self.new.disk.now).faults }
-        ensures steady { OnOk result ((D.state self.new.disk.now).faults ≡ (D.state self.old.disk.now).faults) }
+        ensures counts { CountsOf AppendRefusal.DiskFault (D.state self.old.disk.now).faults (D.state self.new.disk.now).faults result }
         ensures tells { is_some (D.state self.new.disk.now).seen ≡ is_some (D.state self.old.disk.now).seen }
         ensures ranges { (D.state self.new.disk.now).ranges ≡ (D.state self.old.disk.now).ranges }
     {

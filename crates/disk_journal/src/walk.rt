@@ -1,8 +1,8 @@
 //! What stands at a gate.
 ghost use Rattle.std.specs.Prelude.{◌≡◌, ◌≢◌, ◌≤◌, ◌<◌, ◌+◌, ◌-◌, ◌^◌, ◌⊎◌, ℕ, IsTrue, IsFalse, length, drop, IfOk, IfSome, IfNone, IsErrOf};
 ghost use Rattle.std.specs.Int.{w64, from_le_bytes, to_le_bytes};
-ghost use Rattle.log_seams.specs.Disk.{NoMore, LeavesOnly, ReadsOnly};
-ghost use Rattle.log_seams.specs.Outside.{Rose};
+ghost use Rattle.log_seams.specs.Disk.{Rests, ReadsOnly};
+ghost use Rattle.log_seams.specs.Outside.{CountsOf};
 ghost use Rattle.disk_journal.specs.Place.{IsDamaged, ClosedAt, OpenAt};
 
 use crate::WalkRefusal;
@@ -48,12 +48,10 @@ pub(crate) fn look<D: Disk>(disk: &mut D, at: u64) -> Result<Option<RecordPlace>
     ensures small { IfOk result (λ next. IfNone next (at < 2 ^ 64 - 1)) }
     ensures opened { IfOk result (λ next. IfSome next (λ p. OpenAt at p.kind p.length (D.state disk.old).seen)) }
     ensures place { IfOk result (λ next. IfSome next (λ p. (p.at ≡ at) × (p.payload ≡ at + 10) × (p.payload + p.length < 2 ^ 64))) }
-    ensures damaged { (gate : ℕ) → IsErrOf result (WalkRefusal.Damaged gate) → (gate ≡ at) × IsDamaged at (D.state disk.old).seen }
-    ensures fault { IsErrOf result WalkRefusal.DiskFault → Rose (D.state disk.old).faults (D.state disk.new).faults }
-    ensures counts { (D.state disk.old).faults ≤ (D.state disk.new).faults }
-    ensures seen { (D.state disk.new).seen ≡ (D.state disk.old).seen }
-    ensures images { NoMore (D.state disk.old).images (D.state disk.new).images }
-    ensures moments { LeavesOnly (D.state disk.old) (D.state disk.new) (D.state disk.old).images }
+    ensures damaged { (gate : ℕ) → IsErrOf result (WalkRefusal.Damaged gate)
+        → (gate ≡ at) × IsDamaged at (D.state disk.old).seen }
+    ensures rests { Rests (D.state disk.old) (D.state disk.new) }
+    ensures counts { CountsOf WalkRefusal.DiskFault (D.state disk.old).faults (D.state disk.new).faults result }
     ensures ranges { ReadsOnly at 10 (D.state disk.old) (D.state disk.new) }
 {
     let len = disk.len()?;

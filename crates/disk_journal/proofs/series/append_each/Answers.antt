@@ -127,5 +127,5 @@ loop-text-preserved g c =
           under_way_first (header_bytes j.header) told j.count i new f below (step_image (header_bytes j.header) told (g.D.Disk.state mid.disk.now).seen j.count mid.count i new r inv.tells inv.added next f known));
       tells = c.append.ensures.tells ∙ inv.tells;
       ranges = c.append.ensures.ranges ∙ inv.ranges;
-      counts = c.in-Ok.ensures.steady ∙ inv.counts;
+      counts = c.in-Ok.ensures.counts.steady ∙ inv.counts;
     }

@@ -1,4 +1,4 @@
-use Rattle.std.proofs.Common.{◌≡◌, ◌≤◌, ◌+◌, take}
+use Rattle.std.proofs.Common.{◌≡◌, ◌+◌, take}
 use Rattle.std.specs.Prelude.{IsTrue, is_some}
 use Rattle.log_seams.specs.Disk.{LeavesOnly}
 use Rattle.record_format.specs.Header.{header_bytes}

@@ -1,6 +1,6 @@
 use Rattle.std.proofs.Common.{◌≡◌, List, ℕ, Option, length, get_or, rules, refl, sym, subst}
 use Rattle.std.specs.Prelude.{IfSome}
-use Rattle.log_seams.proofs.MomentLemmas.{rests_on, rests_leave}
+use Rattle.log_seams.proofs.MomentLemmas.{rests_on}
 use Rattle.disk_journal.specs.Place.{OpenAt}
 use Rattle.disk_journal.proofs.Steps.{record_read}
 use Rattle.disk_journal.proofs.walk.look.Goals as goal
@@ -16,10 +16,8 @@ returns-clause-opened g c =
     c.length_in-length.ensures.spells c.length_in-length.ensures.fits whole.1 in
     subst (λ (t : Option (List ℕ)). OpenAt c.args.at (get_or front 1 0) c.length_in-length.result t) c.len.ensures.rests.seen there
 
-pub returns-clause-moments : goal.returns-clause-moments
-returns-clause-moments g c =
-    rests_leave _ _ (g.met.D.Disk.lawful c.args.disk.now) (g.met.D.Disk.lawful c.read.new.self) (rests_on _ _ _ c.len.ensures.rests c.read.ensures.rests)
+pub returns-clause-rests : goal.returns-clause-rests
+returns-clause-rests g c = rests_on _ _ _ c.len.ensures.rests c.read.ensures.rests
 
-pub returns-then-not-is_whole-clause-moments : goal.returns-then-not-is_whole-clause-moments
-returns-then-not-is_whole-clause-moments g c =
-    rests_leave _ _ (g.met.D.Disk.lawful c.args.disk.now) (g.met.D.Disk.lawful c.read.new.self) (rests_on _ _ _ c.len.ensures.rests c.read.ensures.rests)
+pub returns-then-not-is_whole-clause-rests : goal.returns-then-not-is_whole-clause-rests
+returns-then-not-is_whole-clause-rests g c = rests_on _ _ _ c.len.ensures.rests c.read.ensures.rests

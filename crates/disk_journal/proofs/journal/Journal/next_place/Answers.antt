@@ -11,9 +11,9 @@ pub returns-in-None-clause-at_end : goal.returns-in-None-clause-at_end
 returns-in-None-clause-at_end g c = λ walked settled.
     let told = (g.D.Disk.state c.args.self.now.disk.now).seen in
     let closed = rw c.in-None.is at c.in_ok-look.ensures.closed in
-    let only = only_less told _ (g.D.Disk.state c.look.new.disk).images settled c.look.ensures.images in
+    let only = only_less told _ (g.D.Disk.state c.look.new.disk).images settled c.look.ensures.rests.no_more in
     let end = walk_ends (header_bytes c.args.self.now.header) c.args.self.now.place c.args.self.now.count told (g.D.Disk.state c.look.new.disk).images walked closed only in
-    subst (λ (t : Option (List ℕ)). AtEnd (header_bytes c.args.self.now.header) c.args.self.now.place c.args.self.now.count t (g.D.Disk.state c.look.new.disk).images) (sym c.look.ensures.seen) end
+    subst (λ (t : Option (List ℕ)). AtEnd (header_bytes c.args.self.now.header) c.args.self.now.place c.args.self.now.count t (g.D.Disk.state c.look.new.disk).images) (sym c.look.ensures.rests.seen) end
 
 pub returns-in-Some-clause-walked : goal.returns-in-Some-clause-walked
 returns-in-Some-clause-walked g c = λ walked.
@@ -24,7 +24,7 @@ returns-in-Some-clause-walked g c = λ walked.
     let payload : c.args.self.now.place + 10 ≡ next.payload = sym place.1 in
     let on = walked_on (header_bytes c.args.self.now.header) c.args.self.now.place c.args.self.now.count next.kind next.length told walked opened in
     let there = subst (λ (k : ℕ). Walked (header_bytes c.args.self.now.header) (k + next.length) (c.args.self.now.count + 1) told) payload on in
-    subst (λ (t : Option (List ℕ)). Walked (header_bytes c.args.self.now.header) (next.payload + next.length) (c.args.self.now.count + 1) t) (sym c.look.ensures.seen) there
+    subst (λ (t : Option (List ℕ)). Walked (header_bytes c.args.self.now.header) (next.payload + next.length) (c.args.self.now.count + 1) t) (sym c.look.ensures.rests.seen) there
 
 pub returns-in-Some-clause-passed : goal.returns-in-Some-clause-passed
 returns-in-Some-clause-passed g c = λ walked.
