@@ -13,7 +13,7 @@ use Rattle.clp_commands.specs.declared.outcome.LogRefusal.{LogRefusal}
 use Rattle.clp_commands.specs.declared.outcome.LogRefusal.TheVariants.{SinkFault, OutOfMemory as RefusalOutOfMemory}
 use Rattle.clp_commands.specs.Output.{GrewByFront, Gathers}
 use Rattle.clp_commands.proofs.OutputLemmas.{Gathers-nothing, Gathers-more, Gathers-moves, Gathers-front, Gathers-kept}
-use Rattle.clp_commands.proofs.ReadingLemmas.{Reads, Reads-nothing, Reads-line, Reads-last, Reads-end, Reads-first, Reads-lines, Reads-long, Reads-more, PrintsAll-some}
+use Rattle.clp_commands.proofs.ReadingLemmas.{Reads, Reads-nothing, Reads-line, Reads-last, Reads-end, Reads-first, Reads-before, Reads-long, Reads-more, PrintsAll-some}
 
 -- The bytes that are left, up to which lines were printed.
 pub record ReadsTo (tells : ℕ → List ℕ → List ℕ → Type 0) (left : Option (List ℕ)) (given : ℕ) (text bytes : List ℕ) : Type 0 where
@@ -83,13 +83,14 @@ Stage-end tells left bytes c d text (inl s) e = if_some bytes (λ b r. Reads-end
     empty (Some x) rest is none = let same : x ≡ rest = cc in sym same ∙ none
 
 -- the bytes that a cutter took are a front of what is left
-pending_front : (pending rest : List ℕ) (source : Option (List ℕ)) → bytes_left pending source ≡ Some rest → (behind : List ℕ) × (rest ≡ pending ++ behind)
+pending_front : (pending rest : List ℕ) (source : Option (List ℕ)) → bytes_left pending source ≡ Some rest → (behind : List ℕ) × (rest ≡ pending ++ behind) × (source ≡ Some behind)
 pending_front pending rest None e = absurd cc
-pending_front pending rest (Some behind) e = (behind, cc)
+pending_front pending rest (Some behind) e = (behind, cc, refl)
 
 -- a refusal
-pub Stage-refused : {S : Type 0} (tells : ℕ → List ℕ → List ℕ → Type 0) (left : S → Option (List ℕ)) (faults : S → ℕ) (bytes : Option (List ℕ)) (c d : CutterState S) (cut : Cut) (text : List ℕ) → c.max_line ≡ most_bytes → c.max_lines ≡ most_messages → c.progress ≡ Open → Stage tells left bytes c text → RefusedBy left faults c d cut → IfSome bytes (λ b. ComesTo tells (Some (refusal_of cut)) b text)
-Stage-refused tells left faults bytes c d ReadFault text size count is_open (inl s) r = if_some bytes (λ b t. Reads-lines tells b t.rest c.given text t.reads) s.1
+pub Stage-refused : {S : Type 0} (tells : ℕ → List ℕ → List ℕ → Type 0) (left : S → Option (List ℕ)) (faults : S → ℕ) (bytes : Option (List ℕ)) (c d : CutterState S) (cut : Cut) (text : List ℕ) → c.max_line ≡ most_bytes → c.max_lines ≡ most_messages → c.progress ≡ Open → Stage tells left bytes c text → RefusedBy left faults c d cut → IfSome bytes (λ b. ComesTo tells (Some (refusal_of cut)) b (left d.source) text)
+Stage-refused tells left faults bytes c d ReadFault text size count is_open (inl s) r =
+    if_some bytes (λ b t. let front = pending_front d.pending t.rest (left d.source) (r.left_same ∙ t.is) in (front.0, front.2, Reads-before tells b t.rest d.pending front.0 c.given text t.reads (r.cause is_open).no_newline front.1)) s.1
 Stage-refused tells left faults bytes c d ReadFault text size count is_open (inr s) r = absurd (differ (sym is_open ∙ s.0))
   where
     differ : Open ≡ Ended → ⊥
@@ -105,7 +106,7 @@ Stage-refused tells left faults bytes c d TooManyLines text size count is_open (
     differ e = cc
 Stage-refused tells left faults bytes c d (LineTooLong line) text size count is_open (inl s) r = if_some bytes long s.1
   where
-    long : (b : List ℕ) → ReadsTo tells (left_of left c) c.given text b → ComesTo tells (Some (refusal_of (LineTooLong line))) b text
+    long : (b : List ℕ) → ReadsTo tells (left_of left c) c.given text b → ComesTo tells (Some (refusal_of (LineTooLong line))) b (left d.source) text
     long b t =
         let cause = r.cause is_open in
         let front = pending_front d.pending t.rest (left d.source) (r.left_same ∙ t.is) in
@@ -115,7 +116,7 @@ Stage-refused tells left faults bytes c d (LineTooLong line) text size count is_
         (omega (arith, cause.0, cause.1, count), subst (λ n. IsLong b n) (sym cause.0) (Reads-long tells b t.rest c.given text t.reads more is), subst (λ n. PrintsFirst tells b n text) (omega (arith, cause.0)) (Reads-first tells b t.rest c.given text t.reads))
 Stage-refused tells left faults bytes c d TooManyLines text size count is_open (inl s) r = if_some bytes many s.1
   where
-    many : (b : List ℕ) → ReadsTo tells (left_of left c) c.given text b → ComesTo tells (Some (refusal_of TooManyLines)) b text
+    many : (b : List ℕ) → ReadsTo tells (left_of left c) c.given text b → ComesTo tells (Some (refusal_of TooManyLines)) b (left d.source) text
     many b t =
         let cause = r.cause is_open in
         let front = pending_front d.pending t.rest (left d.source) (r.left_same ∙ t.is) in
@@ -157,8 +158,8 @@ IsPrinting-more tells left bytes start now new gathered rest c d number ended p 
 }
 
 -- the sink failed
-pub IsPrinting-failed : {S : Type 0} (tells : ℕ → List ℕ → List ℕ → Type 0) (left : S → Option (List ℕ)) (bytes start now new : Option (List ℕ)) (gathered rest : List ℕ) (c d : CutterState S) (number : ℕ) (ended : Bool) → IsPrinting tells left bytes start now gathered c number → Gave left ended d.line c d → FailsAfter tells (number + 1) d.line now new gathered → Reaches tells (Some SinkFault) bytes start new rest
-IsPrinting-failed tells left bytes start now new gathered rest c d number ended p g t = record {
+pub IsPrinting-failed : {S : Type 0} (tells : ℕ → List ℕ → List ℕ → Type 0) (left : S → Option (List ℕ)) (bytes unread start now new : Option (List ℕ)) (gathered rest : List ℕ) (c d : CutterState S) (number : ℕ) (ended : Bool) → IsPrinting tells left bytes start now gathered c number → Gave left ended d.line c d → FailsAfter tells (number + 1) d.line now new gathered → Reaches tells (Some SinkFault) bytes unread start new rest
+IsPrinting-failed tells left bytes unread start now new gathered rest c d number ended p g t = record {
   text = p.text ++ t.text;
   comes_to = Stage-some tells left bytes d (p.text ++ t.text) (Stage-gave tells left bytes c d ended d.line p.text t.text p.size p.count p.stage g (subst (λ n. tells (n + 1) d.line t.text) p.counted t.told));
   kept = λ e. absurd cc;
@@ -166,8 +167,8 @@ IsPrinting-failed tells left bytes start now new gathered rest c d number ended 
 }
 
 -- there was no memory for the text of a message
-pub IsPrinting-no_memory : {S : Type 0} (tells : ℕ → List ℕ → List ℕ → Type 0) (left : S → Option (List ℕ)) (bytes start now new : Option (List ℕ)) (gathered rest : List ℕ) (c : CutterState S) (number : ℕ) → IsPrinting tells left bytes start now gathered c number → new ≡ now → Reaches tells (Some RefusalOutOfMemory) bytes start new rest
-IsPrinting-no_memory tells left bytes start now new gathered rest c number p same = record {
+pub IsPrinting-no_memory : {S : Type 0} (tells : ℕ → List ℕ → List ℕ → Type 0) (left : S → Option (List ℕ)) (bytes unread start now new : Option (List ℕ)) (gathered rest : List ℕ) (c : CutterState S) (number : ℕ) → IsPrinting tells left bytes start now gathered c number → new ≡ now → Reaches tells (Some RefusalOutOfMemory) bytes unread start new rest
+IsPrinting-no_memory tells left bytes unread start now new gathered rest c number p same = record {
   text = p.text;
   comes_to = Stage-some tells left bytes c p.text p.stage;
   kept = λ e. absurd cc;
@@ -175,8 +176,8 @@ IsPrinting-no_memory tells left bytes start now new gathered rest c number p sam
 }
 
 -- the cutter came to the end
-pub IsPrinting-end : {S : Type 0} (tells : ℕ → List ℕ → List ℕ → Type 0) (left : S → Option (List ℕ)) (bytes start now : Option (List ℕ)) (gathered : List ℕ) (c d : CutterState S) (number : ℕ) → IsPrinting tells left bytes start now gathered c number → CameToEnd left c d → Reaches tells None bytes start now gathered
-IsPrinting-end tells left bytes start now gathered c d number p e = record {
+pub IsPrinting-end : {S : Type 0} (tells : ℕ → List ℕ → List ℕ → Type 0) (left : S → Option (List ℕ)) (bytes unread start now : Option (List ℕ)) (gathered : List ℕ) (c d : CutterState S) (number : ℕ) → IsPrinting tells left bytes start now gathered c number → CameToEnd left c d → Reaches tells None bytes unread start now gathered
+IsPrinting-end tells left bytes unread start now gathered c d number p e = record {
   text = p.text;
   comes_to = Stage-end tells left bytes c d p.text p.stage e;
   kept = λ _. p.gathers;
@@ -184,7 +185,7 @@ IsPrinting-end tells left bytes start now gathered c d number p e = record {
 }
 
 -- the cutter refused
-pub IsPrinting-refused : {S : Type 0} (tells : ℕ → List ℕ → List ℕ → Type 0) (left : S → Option (List ℕ)) (faults : S → ℕ) (bytes start now : Option (List ℕ)) (gathered : List ℕ) (c d : CutterState S) (number : ℕ) (cut : Cut) → c.progress ≡ Open → IsPrinting tells left bytes start now gathered c number → RefusedBy left faults c d cut → Reaches tells (Some (refusal_of cut)) bytes start now gathered
+pub IsPrinting-refused : {S : Type 0} (tells : ℕ → List ℕ → List ℕ → Type 0) (left : S → Option (List ℕ)) (faults : S → ℕ) (bytes start now : Option (List ℕ)) (gathered : List ℕ) (c d : CutterState S) (number : ℕ) (cut : Cut) → c.progress ≡ Open → IsPrinting tells left bytes start now gathered c number → RefusedBy left faults c d cut → Reaches tells (Some (refusal_of cut)) bytes (left d.source) start now gathered
 IsPrinting-refused tells left faults bytes start now gathered c d number cut is_open p r = record {
   text = p.text;
   comes_to = Stage-refused tells left faults bytes c d cut p.text p.size p.count is_open p.stage r;
@@ -193,9 +194,9 @@ IsPrinting-refused tells left faults bytes start now gathered c d number cut is_
 }
 
 -- a message was not printed
-pub IsPrinting-stopped : {S : Type 0} (tells : ℕ → List ℕ → List ℕ → Type 0) (left : S → Option (List ℕ)) (bytes start now new : Option (List ℕ)) (gathered rest message : List ℕ) (c d : CutterState S) (number : ℕ) (ended : Bool) (refusal : LogRefusal) → IsPrinting tells left bytes start now gathered c number → Gave left ended d.line c d → message ≡ d.line → (refusal ≡ SinkFault) ⊎ (refusal ≡ RefusalOutOfMemory) → (refusal ≡ SinkFault → FailsAfter tells (number + 1) message now new gathered) → (refusal ≡ RefusalOutOfMemory → new ≡ now) → Reaches tells (Some refusal) bytes start new rest
-IsPrinting-stopped tells left bytes start now new gathered rest message c d number ended refusal p g is (inl e) failed memory = subst (λ r. Reaches tells (Some r) bytes start new rest) (sym e) (IsPrinting-failed tells left bytes start now new gathered rest c d number ended p g (subst (λ m. FailsAfter tells (number + 1) m now new gathered) is (failed e)))
-IsPrinting-stopped tells left bytes start now new gathered rest message c d number ended refusal p g is (inr e) failed memory = subst (λ r. Reaches tells (Some r) bytes start new rest) (sym e) (IsPrinting-no_memory tells left bytes start now new gathered rest c number p (memory e))
+pub IsPrinting-stopped : {S : Type 0} (tells : ℕ → List ℕ → List ℕ → Type 0) (left : S → Option (List ℕ)) (bytes unread start now new : Option (List ℕ)) (gathered rest message : List ℕ) (c d : CutterState S) (number : ℕ) (ended : Bool) (refusal : LogRefusal) → IsPrinting tells left bytes start now gathered c number → Gave left ended d.line c d → message ≡ d.line → (refusal ≡ SinkFault) ⊎ (refusal ≡ RefusalOutOfMemory) → (refusal ≡ SinkFault → FailsAfter tells (number + 1) message now new gathered) → (refusal ≡ RefusalOutOfMemory → new ≡ now) → Reaches tells (Some refusal) bytes unread start new rest
+IsPrinting-stopped tells left bytes unread start now new gathered rest message c d number ended refusal p g is (inl e) failed memory = subst (λ r. Reaches tells (Some r) bytes unread start new rest) (sym e) (IsPrinting-failed tells left bytes unread start now new gathered rest c d number ended p g (subst (λ m. FailsAfter tells (number + 1) m now new gathered) is (failed e)))
+IsPrinting-stopped tells left bytes unread start now new gathered rest message c d number ended refusal p g is (inr e) failed memory = subst (λ r. Reaches tells (Some r) bytes unread start new rest) (sym e) (IsPrinting-no_memory tells left bytes unread start now new gathered rest c number p (memory e))
 
 -- the cutter was open where it refused
 pub IsPrinting-open : {S : Type 0} (tells : ℕ → List ℕ → List ℕ → Type 0) (left : S → Option (List ℕ)) (bytes start now : Option (List ℕ)) (gathered : List ℕ) (c : CutterState S) (number : ℕ) → IsPrinting tells left bytes start now gathered c number → (c.progress ≡ Ended → ⊥) → c.progress ≡ Open

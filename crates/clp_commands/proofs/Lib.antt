@@ -1,6 +1,7 @@
 pub mod AnswerLemmas
 pub mod CreatedLemmas
 pub mod CutterLemmas
+pub mod GoingLemmas
 pub mod OutputLemmas
 pub mod PrintedLemmas
 pub mod PrintingLemmas

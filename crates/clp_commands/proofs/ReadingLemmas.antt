@@ -10,7 +10,7 @@ use Rattle.std.proofs.lemmas.List.Elements.{All-nil, All-push}
 use Rattle.log_messages.specs.Messages.{IsLine, joined, Messages}
 use Rattle.log_messages.proofs.StepLemmas.{Begins, begins, Begins-line, Messages-ended, Messages-open, Messages-after}
 use Rattle.log_messages.proofs.ExistenceLemmas.{HasMessages, messages_exist}
-use Rattle.clp_commands.specs.Printing.{Prints, PrintsAll, PrintsFirst, PrintsLines, PrintsSome, HasMore, IsLong, AreShort, most_bytes, most_messages}
+use Rattle.clp_commands.specs.Printing.{Prints, PrintsAll, PrintsFirst, PrintsBefore, PrintsSome, HasMore, IsLong, AreShort, most_bytes, most_messages}
 use Rattle.clp_commands.proofs.PrintingLemmas.{Prints-more}
 
 -- Whole lines were printed, and these bytes are left.
@@ -76,21 +76,23 @@ Reads-first tells bytes left given text r = record {
     front : take given (r.lines ++ rest.messages) ≡ r.lines
     front = ap (λ n. take n (r.lines ++ rest.messages)) (sym r.count) ∙ take-append_seam r.lines rest.messages
 
-pub Reads-lines : (tells : ℕ → List ℕ → List ℕ → Type 0) (bytes left : List ℕ) (given : ℕ) (text : List ℕ) → Reads tells bytes left given text → PrintsLines tells bytes text
-Reads-lines tells bytes left given text r = record {
+-- a read failed behind a line that was begun
+pub Reads-before : (tells : ℕ → List ℕ → List ℕ → Type 0) (bytes left begun unread : List ℕ) (given : ℕ) (text : List ℕ) → Reads tells bytes left given text → IsLine begun → left ≡ begun ++ unread → PrintsBefore tells bytes unread text
+Reads-before tells bytes left begun unread given text r is e = record {
   lines = r.lines;
-  rest = left;
+  begun = begun;
   are = r.begin.lines_are;
-  begins = r.begin.splits;
+  no_newline = is;
+  begins = r.begin.splits ∙ ap (λ l. joined r.lines ++ l) e;
   few = omega (arith, r.count, r.few);
   short = r.short;
   prints = r.prints;
 }
 
-pub PrintsLines-some : (tells : ℕ → List ℕ → List ℕ → Type 0) (bytes text : List ℕ) → PrintsLines tells bytes text → PrintsSome tells bytes text
-PrintsLines-some tells bytes text p = (
+pub PrintsBefore-some : (tells : ℕ → List ℕ → List ℕ → Type 0) (bytes unread text : List ℕ) → PrintsBefore tells bytes unread text → PrintsSome tells bytes text
+PrintsBefore-some tells bytes unread text p = (
   length p.lines,
-  Reads-first tells bytes p.rest (length p.lines) text (record {
+  Reads-first tells bytes (p.begun ++ unread) (length p.lines) text (record {
     lines = p.lines;
     begin = record { lines_are = p.are; splits = p.begins };
     count = refl;

@@ -1,5 +1,6 @@
 -- What a call of the program answers, by what its words ask for.
-use Rattle.std.specs.Prelude.{◌≡◌, ◌⊎◌, ℕ, List, [], Option, Some, None, option_map}
+use Rattle.std.specs.Prelude.{◌≡◌, ◌≢◌, ◌⊎◌, ℕ, List, [], Option, Some, None, option_map}
+use Rattle.log_seams.specs.Disk.{DiskState}
 use Rattle.log_seams.specs.Outside.{Rose}
 use Rattle.wild_match.specs.Reading.{IsSearchPattern, IsLoneBackslash}
 use Rattle.wild_match.specs.declared.pattern.Item.{Item}
@@ -7,7 +8,8 @@ use Rattle.wild_match.specs.declared.read.PatternRefusal.{PatternRefusal}
 use Rattle.wild_match.specs.declared.read.PatternRefusal.TheVariants.{BadPattern as ReadBadPattern, OutOfMemory as ReadOutOfMemory}
 use Rattle.record_format.specs.declared.header.Header.{Header}
 use Rattle.disk_journal.specs.declared.refusals.CreateRefusal.{CreateRefusal}
-use Rattle.clp_commands.specs.Created.{CreateLeaves, DiskAround}
+use Rattle.clp_commands.specs.Around.{Around}
+use Rattle.clp_commands.specs.Created.{CreateLeaves}
 use Rattle.clp_commands.specs.Outcome.{of_log, of_create}
 use Rattle.clp_commands.specs.Printing.{Printed}
 use Rattle.clp_commands.specs.Refusal.{Says, status_of, line_of}
@@ -19,28 +21,6 @@ use Rattle.clp_commands.specs.declared.outcome.LogRefusal.TheVariants.{OpenFault
 use Rattle.clp_commands.specs.declared.refusal.Refusal.{Refusal}
 use Rattle.clp_commands.specs.declared.refusal.Refusal.TheVariants.{Usage, BadPattern, OutOfMemory}
 
--- What the outside tells around a call: the bytes of each log, what the two outputs took before it and have taken after it, and the counts of faults before and after it.
-pub record Around : Type 0 where
-  pub content : List ℕ → Option (List ℕ)
-  pub opens : List ℕ → ℕ × ℕ
-  pub reads : List ℕ → ℕ × ℕ
-  pub out : Option (List ℕ) × Option (List ℕ)
-  pub out_faults : ℕ × ℕ
-  pub err : Option (List ℕ) × Option (List ℕ)
-  pub err_faults : ℕ × ℕ
-
--- what a shelf and two sinks tell around a call
-abbrev pub around : {H K : Type 0} → (H → List ℕ → Option (List ℕ)) → (H → List ℕ → ℕ) → (H → List ℕ → ℕ) → (K → Option (List ℕ)) → (K → ℕ) → H → H → K → K → K → K → Around
-around content open_faults read_faults written faults shelf shelf_after out out_after err err_after = record {
-  content = content shelf;
-  opens = λ name. (open_faults shelf name, open_faults shelf_after name);
-  reads = λ name. (read_faults shelf name, read_faults shelf_after name);
-  out = (written out, written out_after);
-  out_faults = (faults out, faults out_after);
-  err = (written err, written err_after);
-  err_faults = (faults err, faults err_after);
-}
-
 -- the count of faults rose during the call
 abbrev pub RoseIn : ℕ × ℕ → Type 0
 RoseIn counts = Rose counts.0 counts.1
@@ -48,6 +28,10 @@ RoseIn counts = Rose counts.0 counts.1
 -- the output took nothing
 abbrev pub TookNothing : Option (List ℕ) × Option (List ℕ) → Type 0
 TookNothing texts = texts.1 ≡ texts.0
+
+-- no write to the output failed
+abbrev pub Stayed : ℕ × ℕ → Type 0
+Stayed counts = counts.1 ≡ counts.0
 
 -- the error output took this text and no more, unless its count of faults rose
 abbrev pub SaysIn : Around → List ℕ → Type 0
@@ -78,36 +62,39 @@ HasCause seen name (Some TooManyLines) = Unit {0}
 HasCause seen name (Some SinkFault) = RoseIn seen.out_faults
 HasCause seen name (Some LogOutOfMemory) = Unit {0}
 
--- The log of this name was printed, or the printing was refused with a cause.
+-- The log of this name was printed, or the printing was refused with a cause. A write to the output that failed ends the call.
 pub record AnswersLog (tells : ℕ → List ℕ → List ℕ → Type 0) (seen : Around) (name : List ℕ) (status : ℕ) : Type 0 where
   pub answer : Option LogRefusal
   pub ends : EndsWith seen name status (option_map of_log answer)
-  pub printed : Printed tells answer (seen.content name) seen.out.0 seen.out.1
+  pub printed : Printed tells answer (seen.content name) (seen.unread name) seen.out.0 seen.out.1
   pub cause : HasCause seen name answer
+  pub sink : answer ≢ Some SinkFault → Stayed seen.out_faults
 
 -- The call was refused before anything was printed.
 pub record Refuses (seen : Around) (status : ℕ) (refusal : Refusal) : Type 0 where
   pub ends : EndsWith seen [] status (Some refusal)
   pub nothing : TookNothing seen.out
+  pub sink : Stayed seen.out_faults
 
 -- A pattern with a lone backslash at this place is refused, or there is no memory to read it.
 abbrev pub RefusesPattern : Around → ℕ → ℕ → Type 0
 RefusesPattern seen status at = Refuses seen status (BadPattern at) ⊎ Refuses seen status OutOfMemory
 
--- An archive was made, or the making was refused with a cause. Nothing was printed. `before` and `after` are what a crash leaves of the disk.
-pub record AnswersCreate (header : Header) (seen : Around) (disk : DiskAround) (before after : List ℕ → Type 0) (status : ℕ) : Type 0 where
+-- An archive was made, or the making was refused with a cause. Nothing was printed.
+pub record AnswersCreate (header : Header) (seen : Around) (old new : DiskState) (status : ℕ) : Type 0 where
   pub answer : Option CreateRefusal
   pub ends : EndsWith seen [] status (option_map of_create answer)
-  pub leaves : CreateLeaves answer header disk before after
+  pub leaves : CreateLeaves answer header old new
   pub nothing : TookNothing seen.out
+  pub sink : Stayed seen.out_faults
 
 -- What the program answers: words that are no command, a pattern that ends in a lone backslash, and the commands.
-pub record Answers (words : List (List ℕ)) (seen : Around) (disk : DiskAround) (before after : List ℕ → Type 0) (status : ℕ) : Type 0 where
+pub record Answers (words : List (List ℕ)) (seen : Around) (old new : DiskState) (status : ℕ) : Type 0 where
   pub usage : IsUsage words → Refuses seen status Usage
   pub show : (file : List ℕ) → AsksShow words file → AnswersLog (λ _ message text. Shows message text) seen file status
   pub lone_backslash : (pattern file : List ℕ) (at : ℕ) → AsksScan words pattern file → IsLoneBackslash pattern at → RefusesPattern seen status at
   pub scan : (pattern file : List ℕ) (items : List Item) → AsksScan words pattern file → IsSearchPattern pattern items → AnswersLog (Finds file items) seen file status
-  pub create : (header : Header) → AsksCreate words header → AnswersCreate header seen disk before after status
+  pub create : (header : Header) → AsksCreate words header → AnswersCreate header seen old new status
 
 -- A pattern is refused with the place of its lone backslash, or for want of memory.
 abbrev pub IsPatternRefusal : List ℕ → PatternRefusal → Type 0

@@ -1,5 +1,7 @@
 pub mod Answers
+pub mod Around
 pub mod Created
+pub mod Going
 pub mod Outcome
 pub mod Output
 pub mod Printing

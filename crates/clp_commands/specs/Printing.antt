@@ -66,25 +66,27 @@ pub record IsLong (bytes : List ℕ) (number : ℕ) : Type 0 where
 abbrev pub PrintsSome : (ℕ → List ℕ → List ℕ → Type 0) → List ℕ → List ℕ → Type 0
 PrintsSome tells bytes text = (count : ℕ) × PrintsFirst tells bytes count text
 
--- the text is that of some first lines of the bytes, each of which has its newline
-pub record PrintsLines (tells : ℕ → List ℕ → List ℕ → Type 0) (bytes text : List ℕ) : Type 0 where
+-- the text is that of the lines that ended with a newline in the bytes before these, which were not read
+pub record PrintsBefore (tells : ℕ → List ℕ → List ℕ → Type 0) (bytes unread text : List ℕ) : Type 0 where
   pub lines : List (List ℕ)
-  pub rest : List ℕ
+  pub begun : List ℕ
   pub are : All IsLine lines
-  pub begins : bytes ≡ joined lines ++ rest
+  pub no_newline : IsLine begun
+  pub begins : bytes ≡ joined lines ++ (begun ++ unread)
   pub few : length lines ≤ most_messages
   pub short : AreShort lines
   pub prints : Prints tells 1 lines text
 
--- The text that the printing of a log's bytes comes to when it ends with this answer, where no refusal is `None`.
-abbrev pub ComesTo : (ℕ → List ℕ → List ℕ → Type 0) → Option LogRefusal → List ℕ → List ℕ → Type 0
-ComesTo tells None bytes text = PrintsAll tells bytes text
-ComesTo tells (Some OpenFault) bytes text = text ≡ []
-ComesTo tells (Some ReadFault) bytes text = PrintsLines tells bytes text
-ComesTo tells (Some (LineTooLong line)) bytes text = (line ≤ most_messages) × IsLong bytes line × PrintsFirst tells bytes (line - 1) text
-ComesTo tells (Some TooManyLines) bytes text = HasMore bytes most_messages × PrintsFirst tells bytes most_messages text
-ComesTo tells (Some SinkFault) bytes text = PrintsSome tells bytes text
-ComesTo tells (Some OutOfMemory) bytes text = PrintsSome tells bytes text
+-- The text that the printing of a log's bytes comes to when it ends with this answer, where no refusal is `None`, and
+-- these bytes of the log are left that were not read.
+abbrev pub ComesTo : (ℕ → List ℕ → List ℕ → Type 0) → Option LogRefusal → List ℕ → Option (List ℕ) → List ℕ → Type 0
+ComesTo tells None bytes unread text = PrintsAll tells bytes text
+ComesTo tells (Some OpenFault) bytes unread text = text ≡ []
+ComesTo tells (Some ReadFault) bytes unread text = (rest : List ℕ) × (unread ≡ Some rest) × PrintsBefore tells bytes rest text
+ComesTo tells (Some (LineTooLong line)) bytes unread text = (line ≤ most_messages) × IsLong bytes line × PrintsFirst tells bytes (line - 1) text
+ComesTo tells (Some TooManyLines) bytes unread text = HasMore bytes most_messages × PrintsFirst tells bytes most_messages text
+ComesTo tells (Some SinkFault) bytes unread text = PrintsSome tells bytes text
+ComesTo tells (Some OutOfMemory) bytes unread text = PrintsSome tells bytes text
 
 -- whether all of the text goes out that the printing comes to, or only a front of it
 abbrev pub is_whole : Option LogRefusal → Bool
@@ -98,15 +100,15 @@ Took true old new text = Grew old new text
 Took false old new text = GrewByFront old new text
 
 -- What the printing of a log has printed when it ends with this answer: where the log's bytes are told, it is the text of its messages, of those before the fault, or a front of such a text.
-pub record Printed (tells : ℕ → List ℕ → List ℕ → Type 0) (answer : Option LogRefusal) (bytes old new : Option (List ℕ)) : Type 0 where
+pub record Printed (tells : ℕ → List ℕ → List ℕ → Type 0) (answer : Option LogRefusal) (bytes unread old new : Option (List ℕ)) : Type 0 where
   pub text : List ℕ
-  pub comes_to : IfSome bytes (λ b. ComesTo tells answer b text)
+  pub comes_to : IfSome bytes (λ b. ComesTo tells answer b unread text)
   pub took : Took (is_whole answer) old new text
 
 -- What the printing has come to when it ends with this answer: what has to go out is still gathered in part, unless it ends with a sink that failed or without memory.
-pub record Reaches (tells : ℕ → List ℕ → List ℕ → Type 0) (answer : Option LogRefusal) (bytes start now : Option (List ℕ)) (gathered : List ℕ) : Type 0 where
+pub record Reaches (tells : ℕ → List ℕ → List ℕ → Type 0) (answer : Option LogRefusal) (bytes unread start now : Option (List ℕ)) (gathered : List ℕ) : Type 0 where
   pub text : List ℕ
-  pub comes_to : IfSome bytes (λ b. ComesTo tells answer b text)
+  pub comes_to : IfSome bytes (λ b. ComesTo tells answer b unread text)
   pub kept : is_whole answer ≡ true → Gathers start now gathered text
   pub front : is_whole answer ≡ false → GrewByFront start now text
 

@@ -1,6 +1,7 @@
 //! Making an archive.
 ghost use Rattle.record_format.specs.Header.{IsHeader};
-ghost use Rattle.clp_commands.specs.Created.{CreateLeaves, disk_around};
+ghost use Rattle.clp_commands.specs.Created.{CreateLeaves};
+ghost use Rattle.clp_commands.specs.Going.{DiskGoesOn};
 ghost use Rattle.clp_commands.specs.Outcome.{answer_of};
 
 use disk_journal::{CreateRefusal, create};
@@ -12,8 +13,8 @@ use record_format::Header;
 /// `NotEmpty` comes exactly where the disk has bytes, and leaves them as they are.
 pub(crate) fn create_archive<D: Disk>(disk: &mut D, header: &Header) -> Result<(), CreateRefusal>
     requires { IsHeader header.now }
-    ensures { CreateLeaves (answer_of result) header.now (disk_around (D.state disk.old) (D.state disk.new))
-        (D.state disk.old).images (D.state disk.new).images }
+    ensures leaves { CreateLeaves (answer_of result) header.now (D.state disk.old) (D.state disk.new) }
+    ensures goes_on { DiskGoesOn (D.state disk.old) (D.state disk.new) }
 {
     create(disk, header)
 }

@@ -63,7 +63,12 @@ fn a_disk_with_bytes_is_left_alone(rt: HostRuntime) -> Result<(), Fail> {
         bytes.push(7)?;
     }
     let line = b"clpa: archive: not empty, 155 bytes\n";
-    let rows: [(Rooms, &[u8]); 2] = [(AMPLE, line), (Rooms { out: 0, err: 0 }, b"")];
+    let no_room = Rooms {
+        out: 0,
+        err: 0,
+        out_fails: 0,
+    };
+    let rows: [(Rooms, &[u8]); 2] = [(AMPLE, line), (no_room, b"")];
     for (rooms, want) in rows {
         let mut archive = disk(alloc, bytes.as_slice(), &[])?;
         let outcome = over(alloc, &["create"], &mut archive, rooms)?;

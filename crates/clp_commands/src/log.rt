@@ -1,6 +1,6 @@
 //! The messages of a log on their way from the log to the output.
 ghost use Rattle.std.specs.Prelude.{◌≡◌, ◌≢◌, ◌≤◌, ◌⊎◌, ℕ, List, [], OnOk, IfErr, IsErrOf};
-ghost use Rattle.log_seams.specs.Outside.{Rose};
+ghost use Rattle.log_seams.specs.Outside.{CountsOf, Rose};
 ghost use Rattle.clp_commands.specs.Outcome.{answer_of};
 ghost use Rattle.clp_commands.specs.Printing.{Reaches, Printed, IsFresh, TellsNext, FailsAfter, is_whole, refusal_of};
 ghost use Rattle.clp_commands.specs.declared.outcome.LogRefusal.TheVariants.{OpenFault, ReadFault, SinkFault, OutOfMemory};
@@ -46,10 +46,9 @@ fn print_message<K: Sink, T: Tell>(
     ensures failed { IsErrOf result SinkFault
         → FailsAfter (T.tells teller.now) number message.now (K.written out.old) (K.written out.new)
         gathered.old.items }
-    ensures cause { IsErrOf result SinkFault → Rose (K.faults out.old) (K.faults out.new) }
     ensures memory { IsErrOf result OutOfMemory → K.written out.new ≡ K.written out.old }
     ensures only { IfErr result (λ refusal. (refusal ≡ SinkFault) ⊎ (refusal ≡ OutOfMemory)) }
-    ensures later { K.faults out.old ≤ K.faults out.new }
+    ensures sink { CountsOf SinkFault (K.faults out.old) (K.faults out.new) result }
 {
     if teller.tell(kept, gathered, number, message).is_err() {
         return Err(LogRefusal::OutOfMemory);
@@ -69,14 +68,19 @@ fn print_messages<S: Source, K: Sink, T: Tell>(
 ) -> Result<(), LogRefusal>
     requires fresh { IsFresh cutter.old }
     requires nothing { gathered.old.items ≡ [] }
+    // by the answer
     ensures reaches { Reaches (T.tells teller.now) (answer_of result) (S.left cutter.old.source)
-        (K.written out.old) (K.written out.new) gathered.new.items }
-    ensures read { IsErrOf result ReadFault → Rose (S.faults cutter.old.source) (S.faults cutter.new.source) }
-    ensures sink { IsErrOf result SinkFault → Rose (K.faults out.old) (K.faults out.new) }
+        (S.left cutter.new.source) (K.written out.old) (K.written out.new) gathered.new.items }
+    ensures open { ¬ IsErrOf result OpenFault }
+
+    // causes
+    ensures read { IsErrOf result ReadFault
+        → Rose (S.faults cutter.old.source) (S.faults cutter.new.source) }
+    ensures sink { CountsOf SinkFault (K.faults out.old) (K.faults out.new) result }
+
+    // what stays
     ensures name { S.name cutter.new.source ≡ S.name cutter.old.source }
     ensures later { S.faults cutter.old.source ≤ S.faults cutter.new.source }
-    ensures open { ¬ IsErrOf result OpenFault }
-    ensures out_later { K.faults out.old ≤ K.faults out.new }
 {
     let mut kept = teller.kept();
     let mut number = 0;
@@ -116,11 +120,17 @@ fn print_source<S: Source, K: Sink, T: Tell>(
     out: &mut K,
 ) -> Result<(), LogRefusal>
     requires fresh { IsFresh cutter.old }
-    ensures printed { Printed (T.tells teller.now) (answer_of result) (S.left cutter.old.source) (K.written out.old)
-        (K.written out.new) }
-    ensures read { IsErrOf result ReadFault → Rose (S.faults cutter.old.source) (S.faults cutter.new.source) }
-    ensures sink { IsErrOf result SinkFault → Rose (K.faults out.old) (K.faults out.new) }
+    // by the answer
+    ensures printed { Printed (T.tells teller.now) (answer_of result) (S.left cutter.old.source)
+        (S.left cutter.new.source) (K.written out.old) (K.written out.new) }
     ensures open { ¬ IsErrOf result OpenFault }
+
+    // causes
+    ensures read { IsErrOf result ReadFault
+        → Rose (S.faults cutter.old.source) (S.faults cutter.new.source) }
+    ensures sink { CountsOf SinkFault (K.faults out.old) (K.faults out.new) result }
+
+    // what stays
     ensures name { S.name cutter.new.source ≡ S.name cutter.old.source }
     ensures later { S.faults cutter.old.source ≤ S.faults cutter.new.source }
 {
@@ -143,13 +153,22 @@ pub(crate) fn print_log<H: Shelf, K: Sink, T: Tell>(
     name: &str,
     out: &mut K,
 ) -> Result<(), LogRefusal>
+    // by the answer
     ensures printed { Printed (T.tells teller.now) (answer_of result) (H.content shelf.old name.now)
-        (K.written out.old) (K.written out.new) }
-    ensures open { IsErrOf result OpenFault → Rose (H.open_faults shelf.old name.now) (H.open_faults shelf.new name.now) }
+        (H.unread shelf.new name.now) (K.written out.old) (K.written out.new) }
     ensures untouched { IsErrOf result OpenFault → K.written out.new ≡ K.written out.old }
-    ensures read { IsErrOf result ReadFault → Rose (H.read_faults shelf.old name.now) (H.read_faults shelf.new name.now) }
-    ensures sink { IsErrOf result SinkFault → Rose (K.faults out.old) (K.faults out.new) }
+
+    // causes
+    ensures open { IsErrOf result OpenFault
+        → Rose (H.open_faults shelf.old name.now) (H.open_faults shelf.new name.now) }
+    ensures read { IsErrOf result ReadFault
+        → Rose (H.read_faults shelf.old name.now) (H.read_faults shelf.new name.now) }
+    ensures sink { CountsOf SinkFault (K.faults out.old) (K.faults out.new) result }
+
+    // what stays
     ensures logs { (n : List ℕ) → H.content shelf.new n ≡ H.content shelf.old n }
+    ensures opens { (n : List ℕ) → H.open_faults shelf.old n ≤ H.open_faults shelf.new n }
+    ensures reads { (n : List ℕ) → H.read_faults shelf.old n ≤ H.read_faults shelf.new n }
 {
     let source = match shelf.open_log(name) {
         Ok(source) => source,

@@ -1,5 +1,5 @@
 //! Why a command was refused, and what each refusal ends the program with.
-ghost use Rattle.std.specs.Prelude.{◌≡◌, ◌++◌, List, ℕ};
+ghost use Rattle.std.specs.Prelude.{◌≡◌, ◌≤◌, ◌++◌, List, ℕ};
 ghost use Rattle.std.specs.List.{flat_map};
 ghost use Rattle.clp_commands.specs.Refusal.{Says, line_of, status_of};
 
@@ -33,8 +33,9 @@ pub enum Refusal {
 
 /// Writes the pieces one after the other, until one fails. Takes no memory.
 fn say<K: Sink>(err: &mut K, pieces: &[&[u8]])
-    ensures { Says (K.written err.old) (K.written err.new) (K.faults err.old) (K.faults err.new)
+    ensures said { Says (K.written err.old) (K.written err.new) (K.faults err.old) (K.faults err.new)
         (flat_map (λ p. p.now) pieces.now) }
+    ensures later { K.faults err.old ≤ K.faults err.new }
 {
     for piece in pieces {
         if write_all(err, piece).is_err() {
@@ -49,6 +50,7 @@ pub(crate) fn report<K: Sink>(err: &mut K, name: &str, refusal: Refusal) -> u8
     ensures status { result ≡ status_of refusal }
     ensures said { Says (K.written err.old) (K.written err.new) (K.faults err.old) (K.faults err.new)
         (line_of name.now refusal) }
+    ensures later { K.faults err.old ≤ K.faults err.new }
 {
     let name = name.as_bytes();
     let mut number = itoa::Buffer::new();

@@ -12,17 +12,19 @@ pub(crate) struct Outcome {
     pub(crate) err: Vec<u8>,
 }
 
-/// How many bytes the two outputs take.
+/// How many bytes the two outputs take, and the write to the first that fails.
 #[derive(Clone, Copy)]
 pub(crate) struct Rooms {
     pub(crate) out: usize,
     pub(crate) err: usize,
+    pub(crate) out_fails: u64,
 }
 
 /// Outputs that take all that the tests print.
 pub(crate) const AMPLE: Rooms = Rooms {
     out: 1 << 22,
     err: 4096,
+    out_fails: u64::MAX,
 };
 
 /// A disk with these bytes, whose calls of these numbers fail.
@@ -60,7 +62,8 @@ pub(crate) fn call(
         list.push(String::from_str(alloc, word)?)?;
     }
     let mut second = disk(alloc, &[], &[])?;
-    let mut out = MemSink::new(alloc, rooms.out, Vec::new(alloc))?;
+    let out_fails = vec![in alloc; rooms.out_fails; 1]?;
+    let mut out = MemSink::new(alloc, rooms.out, out_fails)?;
     let mut err = MemSink::new(alloc, rooms.err, Vec::new(alloc))?;
     let status = run(
         &(),
@@ -238,7 +241,11 @@ fn an_opening_that_fails_is_told(rt: HostRuntime) -> Result<(), Fail> {
 #[test]
 fn a_failing_error_output_changes_nothing_else(rt: HostRuntime) -> Result<(), Fail> {
     let alloc = rt.alloc();
-    let rooms = Rooms { out: 99, err: 0 };
+    let rooms = Rooms {
+        out: 99,
+        err: 0,
+        out_fails: u64::MAX,
+    };
     let rows: [(&[&str], u8, &[u8]); 4] = [
         (&["show"], 2, b""),
         (&["scan", "\\", "n.log"], 3, b""),
@@ -277,7 +284,11 @@ fn an_output_that_fails_has_a_front(rt: HostRuntime) -> Result<(), Fail> {
     for (words, room, front) in rows {
         let mut logs = shelf(alloc, "a.log", log, &[])?;
         let mut archive = disk(alloc, &[], &[])?;
-        let rooms = Rooms { out: room, err: 99 };
+        let rooms = Rooms {
+            out: room,
+            err: 99,
+            out_fails: u64::MAX,
+        };
         let outcome = call(alloc, words, &mut logs, &mut archive, rooms)?;
         assert_eq!(rt; outcome.status, 7);
         assert!(rt; front.starts_with(outcome.out.as_slice()));
@@ -308,17 +319,54 @@ fn a_line_has_a_limit(rt: HostRuntime) -> Result<(), Fail> {
     Ok(())
 }
 
+// Each piece is sent once, and a write that fails ends the call, whichever it is.
 #[test]
 fn output_goes_out_in_pieces(rt: HostRuntime) -> Result<(), Fail> {
     let alloc = rt.alloc();
     let mut log = Vec::new(alloc);
     let mut want = Vec::new(alloc);
-    for _ in 0..20_000 {
+    for _ in 0..5000 {
         log.extend_from_slice(b"task_7 took 3\n")?;
         want.extend_from_slice(b"{w:task_7} took {i:3=0000000000000003}\n")?;
     }
-    let outcome = over(alloc, &["show", "n.log"], "n.log", log.as_slice())?;
-    assert_eq!(rt; outcome.status, 0);
-    assert!(rt; outcome.out.as_slice() == want.as_slice());
+    // pieces end at the first message's end behind 65,536 bytes, of 39 bytes a message
+    for (out_fails, len) in [(0, 0), (1, 65_559), (2, 131_118), (3, 195_000)] {
+        let mut logs = shelf(alloc, "n.log", log.as_slice(), &[])?;
+        let mut archive = disk(alloc, &[], &[])?;
+        let rooms = Rooms {
+            out: 1 << 22,
+            err: 99,
+            out_fails,
+        };
+        let outcome = call(alloc, &["show", "n.log"], &mut logs, &mut archive, rooms)?;
+        assert_eq!(rt; outcome.status, if len == 195_000 { 0 } else { 7 });
+        assert_eq!(rt; outcome.out.len(), len);
+        assert!(rt; want.starts_with(outcome.out.as_slice()));
+        let line: &[u8] = if len == 195_000 {
+            b""
+        } else {
+            b"clpa: output failed\n"
+        };
+        assert_eq!(rt; outcome.err.as_slice(), line);
+    }
+    Ok(())
+}
+
+// What is printed is the text of the lines that ended in the bytes taken, in reads of 262,144 bytes.
+#[test]
+fn a_read_that_fails_later_ends_the_log(rt: HostRuntime) -> Result<(), Fail> {
+    let alloc = rt.alloc();
+    let mut log = Vec::new(alloc);
+    for _ in 0..50_000 {
+        log.extend_from_slice(b"a b c d e\n")?;
+    }
+    for (fail, len) in [(0u64, 0), (1, 262_140), (2, 500_000), (3, 500_000)] {
+        let mut logs = shelf(alloc, "n.log", log.as_slice(), &[fail])?;
+        let mut archive = disk(alloc, &[], &[])?;
+        let outcome = call(alloc, &["show", "n.log"], &mut logs, &mut archive, AMPLE)?;
+        assert_eq!(rt; outcome.status, if fail < 3 { 4 } else { 0 });
+        assert_eq!(rt; outcome.out.len(), len);
+        assert!(rt; log.starts_with(outcome.out.as_slice()));
+    }
     Ok(())
 }

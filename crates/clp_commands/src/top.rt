@@ -1,10 +1,11 @@
 //! The top call.
-ghost use Rattle.std.specs.Prelude.{◌≡◌, ℕ, List, map, string_bytes, IfOk, IfErr};
+ghost use Rattle.std.specs.Prelude.{◌≡◌, ◌≤◌, ℕ, List, map, string_bytes, IfOk, IfErr};
 ghost use Rattle.record_format.specs.declared.header.Header.{Header};
 ghost use Rattle.wild_match.specs.Reading.{IsLoneBackslash, IsSearchPattern};
 ghost use Rattle.wild_match.specs.declared.pattern.Item.{Item};
-ghost use Rattle.clp_commands.specs.Answers.{Answers, AnswersLog, IsPatternRefusal, RefusesPattern, around, error_line, exit_status};
-ghost use Rattle.clp_commands.specs.Created.{disk_around};
+ghost use Rattle.clp_commands.specs.Answers.{Answers, AnswersLog, IsPatternRefusal, RefusesPattern, error_line, exit_status};
+ghost use Rattle.clp_commands.specs.Around.{around};
+ghost use Rattle.clp_commands.specs.Going.{DiskGoesOn, OutsideGoesOn};
 ghost use Rattle.clp_commands.specs.Refusal.{Says};
 ghost use Rattle.clp_commands.specs.Scanned.{Finds};
 ghost use Rattle.clp_commands.specs.Words.{AsksCreate};
@@ -42,13 +43,22 @@ pub fn run<R, H: Shelf, D: Disk + Send, K: Sink>(
 ) -> u8
 where
     H::Src: Send,
+    // by the words
     ensures answers { Answers (map string_bytes words.now)
-        (around H.content H.open_faults H.read_faults K.written K.faults
+        (around H.content H.unread H.open_faults H.read_faults K.written K.faults
         shelf.old shelf.new out.old out.new err.old err.new)
-        (disk_around (D.state disk.old) (D.state disk.new)) (D.state disk.old).images (D.state disk.new).images
-        result }
+        (D.state disk.old) (D.state disk.new) result }
+
+    // whatever they ask for
+    ensures outside { OutsideGoesOn
+        (around H.content H.unread H.open_faults H.read_faults K.written K.faults
+        shelf.old shelf.new out.old out.new err.old err.new) }
+    ensures goes_on { DiskGoesOn (D.state disk.old) (D.state disk.new) }
+
+    // what stays
     ensures logs { (name : List ℕ) → H.content shelf.new name ≡ H.content shelf.old name }
-    ensures untouched { ((header : Header) → ¬ AsksCreate (map string_bytes words.now) header) → disk.new ≡ disk.old }
+    ensures untouched { ((header : Header) → ¬ AsksCreate (map string_bytes words.now) header)
+        → disk.new ≡ disk.old }
     ensures second { second.new ≡ second.old }
 {
     let Some(command) = read_words(words) else {
@@ -75,14 +85,17 @@ fn scan<H: Shelf, K: Sink>(
 ) -> u8
     ensures lone { (at : ℕ) → IsLoneBackslash pattern.now at
         → RefusesPattern
-        (around H.content H.open_faults H.read_faults K.written K.faults
+        (around H.content H.unread H.open_faults H.read_faults K.written K.faults
         shelf.old shelf.new out.old out.new err.old err.new)
         result at }
     ensures good { (items : List Item) → IsSearchPattern pattern.now items
         → AnswersLog (Finds file.now items)
-        (around H.content H.open_faults H.read_faults K.written K.faults
+        (around H.content H.unread H.open_faults H.read_faults K.written K.faults
         shelf.old shelf.new out.old out.new err.old err.new)
         file.now result }
+    ensures outside { OutsideGoesOn
+        (around H.content H.unread H.open_faults H.read_faults K.written K.faults
+        shelf.old shelf.new out.old out.new err.old err.new) }
     ensures logs { (n : List ℕ) → H.content shelf.new n ≡ H.content shelf.old n }
 {
     match read_matcher(alloc, pattern) {
@@ -107,9 +120,12 @@ fn print_and_report<H: Shelf, K: Sink, T: Tell>(
     err: &mut K,
 ) -> u8
     ensures answers { AnswersLog (T.tells teller.now)
-        (around H.content H.open_faults H.read_faults K.written K.faults
+        (around H.content H.unread H.open_faults H.read_faults K.written K.faults
         shelf.old shelf.new out.old out.new err.old err.new)
         name.now result }
+    ensures outside { OutsideGoesOn
+        (around H.content H.unread H.open_faults H.read_faults K.written K.faults
+        shelf.old shelf.new out.old out.new err.old err.new) }
     ensures logs { (n : List ℕ) → H.content shelf.new n ≡ H.content shelf.old n }
 {
     let outcome = print_log(alloc, teller, shelf, name, out);
@@ -121,6 +137,7 @@ fn answer<K: Sink>(refusal: Option<Refusal>, name: &str, err: &mut K) -> u8
     ensures status { result ≡ exit_status refusal }
     ensures said { Says (K.written err.old) (K.written err.new) (K.faults err.old) (K.faults err.new)
         (error_line name.now refusal) }
+    ensures later { K.faults err.old ≤ K.faults err.new }
 {
     match refusal {
         None => 0,

@@ -15,7 +15,7 @@ loop-number-preserved g c =
 pub returns-in-Err-print_message-clause-reaches : goal.returns-in-Err-print_message-clause-reaches
 returns-in-Err-print_message-clause-reaches g c =
     let gave = rw c.in-Ok-Some.field-0-is at c.in-Ok-Some.ensures.line in
-    IsPrinting-stopped _ _ _ _ _ _ _ _ _ _ _ _ _ c.in-Err-print_message.refusal c.loop-number.invariant.0 gave c.line-message.ensures c.in-Err-print_message.ensures.only (λ e. c.in-Err-print_message.ensures.failed (search rules)) (λ e. c.in-Err-print_message.ensures.memory (search rules))
+    IsPrinting-stopped _ _ _ _ _ _ _ _ _ _ _ _ _ _ c.in-Err-print_message.refusal c.loop-number.invariant.0 gave c.line-message.ensures c.in-Err-print_message.ensures.only (λ e. c.in-Err-print_message.ensures.failed (search rules)) (λ e. c.in-Err-print_message.ensures.memory (search rules))
 
 pub returns-in-Err-clause-reaches : goal.returns-in-Err-clause-reaches
 returns-in-Err-clause-reaches g c =

@@ -4,25 +4,25 @@ use Rattle.clp_commands.proofs.RefusalLemmas.{Says-same}
 use Rattle.clp_commands.proofs.refusal.report.Goals as goal
 
 pub returns-in-BadPattern-clause-said : goal.returns-in-BadPattern-clause-said
-returns-in-BadPattern-clause-said g c = Says-same _ _ _ _ _ (line_of c.args.name.now c.args.refusal) (rw (c.in-BadPattern.is, c.as_bytes-at.ensures.value, c.format.ensures.text) refl) c.say-in-BadPattern.ensures
+returns-in-BadPattern-clause-said g c = Says-same _ _ _ _ _ (line_of c.args.name.now c.args.refusal) (rw (c.in-BadPattern.is, c.as_bytes-at.ensures.value, c.format.ensures.text) refl) c.say-in-BadPattern.ensures.said
 
 pub returns-in-OpenFault-clause-said : goal.returns-in-OpenFault-clause-said
-returns-in-OpenFault-clause-said g c = Says-same _ _ _ _ _ (line_of c.args.name.now c.args.refusal) (rw (c.in-OpenFault.is, c.as_bytes-name.ensures.value) refl) c.say-in-OpenFault.ensures
+returns-in-OpenFault-clause-said g c = Says-same _ _ _ _ _ (line_of c.args.name.now c.args.refusal) (rw (c.in-OpenFault.is, c.as_bytes-name.ensures.value) refl) c.say-in-OpenFault.ensures.said
 
 pub returns-in-ReadFault-clause-said : goal.returns-in-ReadFault-clause-said
-returns-in-ReadFault-clause-said g c = Says-same _ _ _ _ _ (line_of c.args.name.now c.args.refusal) (rw (c.in-ReadFault.is, c.as_bytes-name.ensures.value) refl) c.say-in-ReadFault.ensures
+returns-in-ReadFault-clause-said g c = Says-same _ _ _ _ _ (line_of c.args.name.now c.args.refusal) (rw (c.in-ReadFault.is, c.as_bytes-name.ensures.value) refl) c.say-in-ReadFault.ensures.said
 
 pub returns-in-TooManyLines-clause-said : goal.returns-in-TooManyLines-clause-said
-returns-in-TooManyLines-clause-said g c = Says-same _ _ _ _ _ (line_of c.args.name.now c.args.refusal) (rw (c.in-TooManyLines.is, c.as_bytes-name.ensures.value) refl) c.say-in-TooManyLines.ensures
+returns-in-TooManyLines-clause-said g c = Says-same _ _ _ _ _ (line_of c.args.name.now c.args.refusal) (rw (c.in-TooManyLines.is, c.as_bytes-name.ensures.value) refl) c.say-in-TooManyLines.ensures.said
 
 pub returns-in-SinkFault-clause-said : goal.returns-in-SinkFault-clause-said
-returns-in-SinkFault-clause-said g c = Says-same _ _ _ _ _ (line_of c.args.name.now c.args.refusal) (rw c.in-SinkFault.is refl) c.say-in-SinkFault.ensures
+returns-in-SinkFault-clause-said g c = Says-same _ _ _ _ _ (line_of c.args.name.now c.args.refusal) (rw c.in-SinkFault.is refl) c.say-in-SinkFault.ensures.said
 
 pub returns-in-OutOfMemory-clause-said : goal.returns-in-OutOfMemory-clause-said
-returns-in-OutOfMemory-clause-said g c = Says-same _ _ _ _ _ (line_of c.args.name.now c.args.refusal) (rw c.in-OutOfMemory.is refl) c.say-in-OutOfMemory.ensures
+returns-in-OutOfMemory-clause-said g c = Says-same _ _ _ _ _ (line_of c.args.name.now c.args.refusal) (rw c.in-OutOfMemory.is refl) c.say-in-OutOfMemory.ensures.said
 
 pub returns-in-DiskFault-clause-said : goal.returns-in-DiskFault-clause-said
-returns-in-DiskFault-clause-said g c = Says-same _ _ _ _ _ (line_of c.args.name.now c.args.refusal) (rw c.in-DiskFault.is refl) c.say-in-DiskFault.ensures
+returns-in-DiskFault-clause-said g c = Says-same _ _ _ _ _ (line_of c.args.name.now c.args.refusal) (rw c.in-DiskFault.is refl) c.say-in-DiskFault.ensures.said
 
 pub returns-in-NotEmpty-clause-said : goal.returns-in-NotEmpty-clause-said
-returns-in-NotEmpty-clause-said g c = Says-same _ _ _ _ _ (line_of c.args.name.now c.args.refusal) (rw (c.in-NotEmpty.is, c.as_bytes-len.ensures.value, c.format-in-NotEmpty.ensures.text) refl) c.say-in-NotEmpty.ensures
+returns-in-NotEmpty-clause-said g c = Says-same _ _ _ _ _ (line_of c.args.name.now c.args.refusal) (rw (c.in-NotEmpty.is, c.as_bytes-len.ensures.value, c.format-in-NotEmpty.ensures.text) refl) c.say-in-NotEmpty.ensures.said

@@ -4,18 +4,18 @@ use Rattle.clp_commands.proofs.AnswerLemmas.{Answers-create, Answers-scan, Answe
 use Rattle.clp_commands.proofs.top.run.Goals as goal
 
 pub returns-in-Show-clause-answers : goal.returns-in-Show-clause-answers
-returns-in-Show-clause-answers g c = Answers-show _ _ _ _ _ _ c.in-Show.file.now (rw (c.in-Show.is) at (rw c.in-Some.command-is at c.in-Some.ensures.some)) c.print_and_report.ensures.answers
+returns-in-Show-clause-answers g c = Answers-show _ _ _ _ _ c.in-Show.file.now (rw (c.in-Show.is) at (rw c.in-Some.command-is at c.in-Some.ensures.some)) c.print_and_report.ensures.answers
 
 pub returns-in-Scan-clause-answers : goal.returns-in-Scan-clause-answers
-returns-in-Scan-clause-answers g c = Answers-scan _ _ _ _ _ _ c.in-Scan.pattern.now c.in-Scan.file.now (rw (c.in-Scan.is) at (rw c.in-Some.command-is at c.in-Some.ensures.some)) c.scan.ensures.lone c.scan.ensures.good
+returns-in-Scan-clause-answers g c = Answers-scan _ _ _ _ _ c.in-Scan.pattern.now c.in-Scan.file.now (rw (c.in-Scan.is) at (rw c.in-Some.command-is at c.in-Some.ensures.some)) c.scan.ensures.lone c.scan.ensures.good
 
 pub returns-in-Create-clause-answers : goal.returns-in-Create-clause-answers
 returns-in-Create-clause-answers g c =
-    Answers-create _ _ _ _ _ _ c.in-Create.header (rw (c.in-Create.is) at (rw c.in-Some.command-is at c.in-Some.ensures.some))
+    Answers-create _ _ _ _ _ c.in-Create.header (rw (c.in-Create.is) at (rw c.in-Some.command-is at c.in-Some.ensures.some))
     (λ h asks. let e = c.in-Some.ensures.create h asks in cc (e, c.in-Create.is, c.in-Some.command-is))
-    (record { answer = answer_of c.create_archive-outcome.result; ends = rw (← c.refusal_of_create.ensures) (record { status_is = c.answer.ensures.status; said = c.answer.ensures.said }); leaves = c.create_archive-outcome.ensures; nothing = refl })
+    (record { answer = answer_of c.create_archive-outcome.result; ends = rw (← c.refusal_of_create.ensures) (record { status_is = c.answer.ensures.status; said = c.answer.ensures.said }); leaves = c.create_archive-outcome.ensures.leaves; nothing = refl; sink = refl })
 
 pub returns-in_default-clause-answers : goal.returns-in_default-clause-answers
 returns-in_default-clause-answers g c =
     let refused = c.in_default.ensures in
-    Answers-usage _ _ _ _ _ _ refused.no_show refused.no_scan refused.no_create (search rules)
+    Answers-usage _ _ _ _ _ refused.no_show refused.no_scan refused.no_create (search rules)
