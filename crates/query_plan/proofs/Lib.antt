@@ -6,3 +6,4 @@ mod ExactLemmas
 mod WideLemmas
 mod PartsLemmas
 mod PlanLemmas
+mod NeededLemmas

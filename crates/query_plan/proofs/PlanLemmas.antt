@@ -61,7 +61,7 @@ thin_inside n (Gap ∷ ps) = refl
 thin_inside n (Mark d ∷ ps) = refl
 thin_inside n (Word t ∷ ps) = refl
 
-open_after : (d : ℕ) (ps : List Piece) → is_open (After d) ps ≡ is_open (After 0) ps
+pub open_after : (d : ℕ) (ps : List Piece) → is_open (After d) ps ≡ is_open (After 0) ps
 open_after d [] = refl
 open_after d (Gap ∷ ps) = refl
 open_after d (Mark c ∷ ps) = refl

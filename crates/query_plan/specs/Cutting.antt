@@ -1,8 +1,8 @@
 -- What the loops over a pattern and its pieces keep.
-use Rattle.std.specs.Prelude.{ℕ, List, [], ◌∷◌, ◌++◌, Bool, true, false}
+use Rattle.std.specs.Prelude.{ℕ, List, [], ◌∷◌, ◌++◌, Bool, true, false, if◌then◌else◌}
 use Rattle.query_plan.specs.declared.pieces.Piece.{Piece}
 use Rattle.query_plan.specs.declared.pieces.Piece.TheVariants.{Gap, Mark, Word}
-use Rattle.query_plan.specs.Pieces.{Side, Free, After, is_open, begun}
+use Rattle.query_plan.specs.Pieces.{Side, Free, After, is_open, begun, is_needed}
 
 -- the pieces with a token behind them, where it has bytes
 abbrev pub ended : List Piece → List ℕ → List Piece
@@ -44,3 +44,9 @@ trimmed true (Gap ∷ ps) = ps
 trimmed true (Mark d ∷ ps) = Mark d ∷ ps
 trimmed true (Word t ∷ ps) = Word t ∷ ps
 trimmed false ps = ps
+
+-- a piece that is a needed word
+abbrev pub needed_first : Bool → Piece → List Piece → List (List ℕ)
+needed_first after Gap ps = []
+needed_first after (Mark d) ps = []
+needed_first after (Word t) ps = if is_needed (side after) ps t then t ∷ [] else []

@@ -1,8 +1,10 @@
 //! A plan: what a search has to know of its pattern.
 ghost use Rattle.std.specs.Prelude.{◌≡◌, IfOk};
-ghost use Rattle.query_plan.specs.Pieces.{flat, wide_pieces};
+ghost use Rattle.query_plan.specs.Pieces.{flat, wide_pieces, Free, open_count, needed_of};
 
+use crate::needed::{needed_words, open_count};
 use crate::pieces::{Piece, cut, items_of, plan_pieces};
+use log_seams::TextList;
 use std::alloc::{AllocError, Global};
 use std::marker::Model;
 use wild_match::Pattern;
@@ -15,18 +17,21 @@ use wild_match::Pattern;
 pub struct Plan {
     pieces: Vec<Piece>,
     wide: Pattern,
+    open_tokens: usize,
+    needed: TextList,
 }
 
 impl Model for Plan {
     ghost use Rattle.std.specs.Prelude.{List, ◌≡◌};
     ghost use Rattle.query_plan.specs.declared.pieces.Piece.{Piece};
-    ghost use Rattle.query_plan.specs.Pieces.{flat};
+    ghost use Rattle.query_plan.specs.Pieces.{flat, Free, open_count, needed_of};
 
     ghost Value = { List Piece };
 
     ghost view = { λ p. p.pieces.items };
 
-    ghost invariant = { λ p. p.wide ≡ flat p.pieces.items };
+    ghost invariant = { λ p. (p.wide ≡ flat p.pieces.items)
+        × (p.open_tokens ≡ open_count Free p.pieces.items) × (p.needed ≡ needed_of Free p.pieces.items) };
 }
 
 impl Plan {
@@ -37,7 +42,14 @@ impl Plan {
         let cut = cut(alloc, pattern.as_slice())?;
         let pieces = plan_pieces(alloc, cut.as_slice())?;
         let wide = Pattern::new(items_of(alloc, pieces.as_slice())?);
-        Ok(Plan { pieces, wide })
+        let open_tokens = open_count(pieces.as_slice());
+        let needed = TextList::new(needed_words(alloc, pieces.as_slice())?);
+        Ok(Plan {
+            pieces,
+            wide,
+            open_tokens,
+            needed,
+        })
     }
 
     /// The pattern that the search is planned over: each `?` is `*`, each open token after the first
@@ -53,5 +65,20 @@ impl Plan {
         ensures { result.now ≡ self.now }
     {
         self.pieces.as_slice()
+    }
+
+    /// How many open tokens it has.
+    pub fn open_tokens(&self) -> usize
+        ensures { result ≡ open_count Free self.now }
+    {
+        self.open_tokens
+    }
+
+    /// Its needed words, from left to right: the closed tokens with a byte that stands in no stamp's
+    /// token.
+    pub fn needed(&self) -> &TextList
+        ensures { result.now ≡ needed_of Free self.now }
+    {
+        &self.needed
     }
 }
