@@ -1,5 +1,5 @@
 -- What the making of an archive leaves, from what the call on the journal says by its answer.
-use Rattle.std.proofs.Common.{◌≡◌, refl, ◌<◌, ℕ, List, [], ◌∷◌, ◌++◌, length, Result, Ok, Err}
+use Rattle.std.proofs.Common.{◌≡◌, refl, ◌<◌, ℕ, [], ◌∷◌, ◌++◌, length, Result, Ok, Err}
 use Rattle.std.specs.Prelude.{IfSome, OnOk, IsErrOf}
 use Rattle.log_seams.specs.Disk.{DiskState, NoMore, Only}
 use Rattle.log_seams.specs.Outside.{Rose}

@@ -1,5 +1,5 @@
 -- What `create` leaves of the archive's disk.
-use Rattle.std.specs.Prelude.{◌≡◌, ◌<◌, ℕ, List, [], ◌∷◌, ◌++◌, length, Option, Some, None, IfSome}
+use Rattle.std.specs.Prelude.{◌≡◌, ◌<◌, ℕ, [], ◌∷◌, ◌++◌, length, Option, Some, None, IfSome}
 use Rattle.log_seams.specs.Disk.{DiskState, NoMore, Only}
 use Rattle.log_seams.specs.Outside.{Rose}
 use Rattle.record_format.specs.Header.{header_bytes}
