@@ -5,9 +5,11 @@ ghost use Rattle.archive_limits.specs.Limits.{Begin, IsInRange, name_of, number_
 
 use var_codec::{Coded, encode};
 
-/// A limit that an option sets.
+/// A limit, or the version of the format, that an option sets.
 #[derive(Clone, Copy, Debug)]
 pub(crate) enum Limit {
+    /// The version of the archive's format: 1 to 3.
+    Format(u32),
     /// How many log types the archive may hold: 1 to 2,147,483,648.
     Types(u32),
     /// How many dictionary words the archive may hold: 1 to 2,147,483,648.
@@ -28,6 +30,7 @@ impl Limit {
     {
         let number = read_number(number)?;
         match name {
+            "--format" if (1..=3).contains(&number) => Some(Limit::Format(number as u32)),
             "--types" if (1..=2_147_483_648).contains(&number) => Some(Limit::Types(number as u32)),
             "--words" if (1..=2_147_483_648).contains(&number) => Some(Limit::Words(number as u32)),
             "--bytes" if (33..=1_099_511_627_776).contains(&number) => Some(Limit::Bytes(number)),

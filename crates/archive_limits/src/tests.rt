@@ -3,7 +3,7 @@ use record_format::Header;
 use std::alloc::{AllocError, Global};
 use std::test::Fail;
 
-/// Options, and the limits of types, words and bytes that they ask for.
+/// Options, and the limits of types, words and bytes that they ask for, with version 1.
 const ASKED: &[(&[&str], u32, u32, u64)] = &[
     (&[], 16_777_216, 2_147_483_648, 1_099_511_627_776),
     (&["--types=5"], 5, 2_147_483_648, 1_099_511_627_776),
@@ -34,12 +34,26 @@ const ASKED: &[(&[&str], u32, u32, u64)] = &[
     ),
 ];
 
+/// Options, and the version that they ask for, with the limits of no other option.
+const FORMATS: &[(&[&str], u32)] = &[
+    (&["--format=1"], 1),
+    (&["--format", "2"], 2),
+    (&["--format=3"], 3),
+    (&["--words=2147483648", "--format", "3"], 3),
+];
+
 /// Words that are no options of `create`.
 const REFUSED: &[&[&str]] = &[
     &["--types=5", "--types=5"],
     &["--types=5", "--types", "6"],
     &["--words=5", "--bytes=50", "--words=5"],
     &["--bytes", "50", "--bytes=51"],
+    &["--format=2", "--types=5", "--format=2"],
+    &["--format=0"],
+    &["--format=4"],
+    &["--format", "02"],
+    &["--format"],
+    &["--format=4294967297"],
     &["--types=0"],
     &["--types=2147483649"],
     &["--words", "0"],
@@ -98,6 +112,16 @@ fn options_set_their_limits(rt: HostRuntime) -> Result<(), Fail> {
             length_limit,
         };
         assert_eq!(rt; read(rt.alloc(), words)?, Some(header), "{words:?}");
+    }
+    Ok(())
+}
+
+#[test]
+fn a_format_sets_the_version(rt: HostRuntime) -> Result<(), Fail> {
+    for &(words, version) in FORMATS {
+        let header = read(rt.alloc(), words)?.ok_or("no header")?;
+        assert_eq!(rt; header.version, version, "{words:?}");
+        assert_eq!(rt; header.types_limit, 16_777_216, "{words:?}");
     }
     Ok(())
 }
