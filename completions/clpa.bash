@@ -8,7 +8,7 @@ _clpa() {
         2:*) mapfile -t COMPREPLY < <(compgen -W 'create scan show' -- "$word") ;;
         3:show | 4:scan) compopt -o default ;;
         *:create)
-            mapfile -t COMPREPLY < <(compgen -W '--bytes= --types= --words=' -- "$word")
+            mapfile -t COMPREPLY < <(compgen -W '--bytes= --format= --types= --words=' -- "$word")
             compopt -o nospace
             ;;
     esac

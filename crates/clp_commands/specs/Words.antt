@@ -22,7 +22,7 @@ pub record AsksScan (words : List (List ℕ)) (pattern file : List ℕ) : Type 0
   pub plain : IsPlain pattern
   pub plain_file : IsPlain file
 
--- `create [--types N] [--words N] [--bytes N]`, where the options ask for this header
+-- `create [--format V] [--types N] [--words N] [--bytes N]`, where the options ask for this header
 pub record AsksCreate (words : List (List ℕ)) (header : Header) : Type 0 where
   pub options : List (List ℕ)
   pub are : words ≡ codes "create" ∷ options

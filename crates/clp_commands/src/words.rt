@@ -14,7 +14,7 @@ pub(crate) enum Command<'a> {
     Show { file: &'a str },
     /// `scan PATTERN FILE`
     Scan { pattern: &'a str, file: &'a str },
-    /// `create [--types N] [--words N] [--bytes N]`, as the header of the archive
+    /// `create [--format V] [--types N] [--words N] [--bytes N]`, as the header of the archive
     Create { header: Header },
 }
 
