@@ -155,3 +155,98 @@ fn a_full_book_refuses_new_texts_alone(rt: HostRuntime) -> Result<(), Fail> {
     assert_eq!(rt; texts.as_slice()[0].as_slice(), b"b".as_slice());
     Ok(())
 }
+
+/// Whether a pass of this number may add each of the texts.
+fn are_fair(number: u64, texts: &TextList) -> bool
+    ensures { IsTrue result → All (IsFair number) texts.now }
+{
+    for text in texts.as_slice() {
+        if !is_fair(number, text.as_slice()) {
+            return false;
+        }
+    }
+    true
+}
+
+/// The texts of one byte each.
+fn letters(alloc: Global, letters: &[u8]) -> Option<TextList> {
+    let mut texts = Vec::new(alloc);
+    for letter in letters {
+        texts
+            .push(Text::new(Vec::from_slice(alloc, &[*letter]).ok()?))
+            .ok()?;
+    }
+    Some(TextList::new(texts))
+}
+
+/// The texts that another pass sees behind the first, once it has learned a note of the pass that
+/// named it.
+fn noted<R: Wait, L: Ledger>(rt: &R, alloc: Global, blank: Blank) -> Option<TextList>
+    requires { OpensFor blank L.name L.parts }
+{
+    let mut turns: Steps<L> = Steps::new(blank);
+    let (lock, mut maker) = SharedBook::new(alloc, Book::new(alloc, 2), 0).ok()?;
+    let mut one = maker.pass(&lock);
+    let mut two = maker.pass(&lock);
+    if !is_fair(one.number(), b"a") {
+        return None;
+    }
+    let number = intern(&mut one, rt, b"a", &mut turns).ok()?;
+    if number != 0 {
+        return None;
+    }
+    let note = one.note();
+    two.join(note);
+    unsaved(&mut two, rt, 1, &mut turns).ok()
+}
+
+#[test]
+fn a_joined_note_is_seen(rt: HostRuntime) -> Result<(), Fail> {
+    let Some(texts) = noted::<_, Brand>(&rt, rt.alloc(), Blank::new(1)) else {
+        panic!(rt; "another answer");
+    };
+    assert_eq!(rt; texts.len(), 0);
+    Ok(())
+}
+
+/// Whether the numbers are these.
+fn are(numbers: Result<NumberList, BookRefusal>, want: &[u32]) -> bool {
+    match numbers {
+        Ok(numbers) => numbers.as_slice() == want,
+        Err(_) => false,
+    }
+}
+
+/// A pass with a cache over a book with the limit 2: whether it names what it should, and how many
+/// turns it took.
+fn cached<R: Wait, L: Ledger>(rt: &R, alloc: Global, blank: Blank) -> Option<bool>
+    requires { OpensFor blank L.name L.parts }
+{
+    let mut turns: Steps<L> = Steps::new(blank);
+    let (lock, mut maker) = SharedBook::new(alloc, Book::new(alloc, 2), 0).ok()?;
+    let pass = maker.pass(&lock);
+    let number = pass.number();
+    let first = letters(alloc, b"aba")?;
+    let second = letters(alloc, b"b")?;
+    let third = letters(alloc, b"ac")?;
+    if !are_fair(number, &first) || !are_fair(number, &second) || !are_fair(number, &third) {
+        return None;
+    }
+    let mut pass = CachedPass::new(alloc, pass);
+    let named = are(pass.name_all(rt, &first, &mut turns), &[0, 1, 0]);
+    let known = are(pass.name_all(rt, &second, &mut turns), &[1]);
+    let refused = match pass.name_all(rt, &third, &mut turns) {
+        Err(BookRefusal::Full { count }) => count == 2,
+        _ => false,
+    };
+    Some(named && known && refused && pass.knows(b"a") == Some(0) && pass.knows(b"c").is_none())
+}
+
+#[test]
+fn known_texts_are_numbered_by_the_cache(rt: HostRuntime) -> Result<(), Fail> {
+    assert_eq!(rt;
+        cached::<_, Brand>(&rt, rt.alloc(), Blank::new(1)),
+        Some(true)
+    );
+    Ok(())
+}
