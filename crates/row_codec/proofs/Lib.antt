@@ -1,2 +1,3 @@
 pub mod EncoderLemmas
+pub mod MeansLemmas
 pub mod StampLemmas

@@ -6,10 +6,12 @@
 #![tactic(auto)]
 
 mod encoder;
+mod laws;
 mod namer;
 mod names;
 
 pub use encoder::Encoder;
+pub use laws::{canonical_stays, means_one};
 use logtype_text::MAX_WORD_LEN;
 pub use namer::{NameRefusal, Namer, Which};
 pub use names::Names;
