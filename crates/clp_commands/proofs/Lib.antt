@@ -1,5 +1,4 @@
 pub mod AnswerLemmas
-pub mod CreatedLemmas
 pub mod CutterLemmas
 pub mod GoingLemmas
 pub mod OutputLemmas

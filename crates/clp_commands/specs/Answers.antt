@@ -1,5 +1,5 @@
 -- What a call of the program answers, by what its words ask for.
-use Rattle.std.specs.Prelude.{◌≡◌, ◌≢◌, ◌⊎◌, ℕ, List, [], Option, Some, None, option_map}
+use Rattle.std.specs.Prelude.{◌≡◌, ◌≢◌, ◌⊎◌, ℕ, List, [], Option, Some, None, option_map, Result}
 use Rattle.log_seams.specs.Disk.{DiskState}
 use Rattle.log_seams.specs.Outside.{Rose}
 use Rattle.wild_match.specs.Reading.{IsSearchPattern, IsLoneBackslash}
@@ -7,10 +7,10 @@ use Rattle.wild_match.specs.declared.pattern.Item.{Item}
 use Rattle.wild_match.specs.declared.read.PatternRefusal.{PatternRefusal}
 use Rattle.wild_match.specs.declared.read.PatternRefusal.TheVariants.{BadPattern as ReadBadPattern, OutOfMemory as ReadOutOfMemory}
 use Rattle.record_format.specs.declared.header.Header.{Header}
+use Rattle.disk_journal.specs.Created.{CreateLeaves}
 use Rattle.disk_journal.specs.declared.refusals.CreateRefusal.{CreateRefusal}
 use Rattle.clp_commands.specs.Around.{Around}
-use Rattle.clp_commands.specs.Created.{CreateLeaves}
-use Rattle.clp_commands.specs.Outcome.{of_log, of_create}
+use Rattle.clp_commands.specs.Outcome.{answer_of, of_log, of_create}
 use Rattle.clp_commands.specs.Printing.{Printed}
 use Rattle.clp_commands.specs.Refusal.{Says, status_of, line_of}
 use Rattle.clp_commands.specs.Scanned.{Finds}
@@ -82,8 +82,8 @@ RefusesPattern seen status at = Refuses seen status (BadPattern at) ⊎ Refuses 
 
 -- An archive was made, or the making was refused with a cause. Nothing was printed.
 pub record AnswersCreate (header : Header) (seen : Around) (old new : DiskState) (status : ℕ) : Type 0 where
-  pub answer : Option CreateRefusal
-  pub ends : EndsWith seen [] status (option_map of_create answer)
+  pub answer : Result Unit CreateRefusal
+  pub ends : EndsWith seen [] status (option_map of_create (answer_of answer))
   pub leaves : CreateLeaves answer header old new
   pub nothing : TookNothing seen.out
   pub sink : Stayed seen.out_faults

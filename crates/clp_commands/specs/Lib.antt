@@ -1,6 +1,5 @@
 pub mod Answers
 pub mod Around
-pub mod Created
 pub mod Going
 pub mod Outcome
 pub mod Output

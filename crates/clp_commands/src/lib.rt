@@ -4,7 +4,6 @@
 //! refusal its cause.
 #![tactic(auto)]
 
-mod create;
 #[cfg(test)]
 mod create_tests;
 mod log;

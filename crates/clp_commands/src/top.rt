@@ -10,7 +10,6 @@ ghost use Rattle.clp_commands.specs.Refusal.{Says};
 ghost use Rattle.clp_commands.specs.Scanned.{Finds};
 ghost use Rattle.clp_commands.specs.Words.{AsksCreate};
 
-use crate::create::create_archive;
 use crate::log::print_log;
 use crate::outcome::{refusal_of_create, refusal_of_log, refusal_of_pattern};
 use crate::refusal::{Refusal, report};
@@ -18,6 +17,7 @@ use crate::scan::Scan;
 use crate::show::Show;
 use crate::tell::Tell;
 use crate::words::{Command, read_words};
+use disk_journal::create;
 use log_seams::{Disk, Shelf, Sink};
 use std::alloc::Global;
 use wild_match::{Matcher, PatternRefusal, read_pattern};
@@ -68,7 +68,7 @@ where
         Command::Show { file } => print_and_report(alloc, &Show { alloc }, shelf, file, out, err),
         Command::Scan { pattern, file } => scan(alloc, pattern, file, shelf, out, err),
         Command::Create { header } => {
-            let outcome = create_archive(disk, &header);
+            let outcome = create(disk, &header);
             answer(refusal_of_create(outcome), "", err)
         }
     }

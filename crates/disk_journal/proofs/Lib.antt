@@ -1,3 +1,5 @@
-pub mod Spelling
-pub mod Steps
-pub mod Ends
+pub mod SpellingLemmas
+pub mod WalkLemmas
+pub mod AppendLemmas
+pub mod JournalLemmas
+pub mod SeriesLemmas

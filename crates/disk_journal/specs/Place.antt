@@ -37,11 +37,6 @@ abbrev pub AtEnd : List ℕ → ℕ → ℕ → Option (List ℕ) → (List ℕ 
 AtEnd head place count None images = Unit {0}
 AtEnd head place count (Some bytes) images = IsSettled head place count images bytes
 
--- where the bytes are told, they are these
-abbrev pub Reads : List ℕ → Option (List ℕ) → Type 0
-Reads bytes None = Unit {0}
-Reads bytes (Some told) = told ≡ bytes
-
 -- the first 32 bytes are no header
 abbrev pub NoHeader : Option (List ℕ) → Type 0
 NoHeader None = Unit {0}
@@ -81,10 +76,6 @@ Passed (Some bytes) count kind payload len =
 abbrev pub HasRange : ℕ → ℕ → List ℕ → Type 0
 HasRange at n bytes = at + n ≤ length bytes
 
--- a text of so many bytes
-abbrev pub HasSize : ℕ → List ℕ → Type 0
-HasSize n text = length text ≡ n
-
 -- c is the bytes after a write of n bytes there that a crash cuts short
 abbrev pub TornFrom : Option (List ℕ) → ℕ → ℕ → List ℕ → Type 0
 TornFrom None at n c = Unit {0}
@@ -95,19 +86,15 @@ abbrev pub BeforeOrAfter : List ℕ → Option (List ℕ) → ℕ → Saved → 
 BeforeOrAfter head None count r c = Unit {0}
 BeforeOrAfter head (Some bytes) count r c = WithOrWithout head (records count (drop 32 bytes)) r c
 
--- the records are those of before, and r behind them
-abbrev pub Added : Option (List ℕ) → ℕ → Saved → Option (List ℕ) → ℕ → Type 0
-Added None count r now more = Unit {0}
-Added (Some bytes) count r now more = entries now more ≡ records count (drop 32 bytes) ++ r ∷ []
+-- the records are those of before, and the new ones behind them
+abbrev pub Added : Option (List ℕ) → ℕ → List Saved → Option (List ℕ) → ℕ → Type 0
+Added None count new now more = Unit {0}
+Added (Some bytes) count new now more = entries now more ≡ records count (drop 32 bytes) ++ new
 
--- the same of several records: c stands for those of before, and the first k of the new ones
+-- c stands for the records that are told, and the first k of the new ones, for some k
 abbrev pub WithFirstTold : List ℕ → Option (List ℕ) → ℕ → List Saved → List ℕ → Type 0
 WithFirstTold head None count new c = Unit {0}
 WithFirstTold head (Some bytes) count new c = WithFirst head (records count (drop 32 bytes)) new c
-
-abbrev pub AddedFirst : Option (List ℕ) → ℕ → List Saved → ℕ → Option (List ℕ) → ℕ → Type 0
-AddedFirst None count new k now more = Unit {0}
-AddedFirst (Some bytes) count new k now more = entries now more ≡ records count (drop 32 bytes) ++ take k new
 
 -- k of the new ones are there, and the next may be
 abbrev pub UnderWay : List ℕ → Option (List ℕ) → ℕ → List Saved → ℕ → List ℕ → Type 0

@@ -1,9 +1,9 @@
 //! Making an empty journal.
-ghost use Rattle.std.specs.Prelude.{◌≡◌, ◌≤◌, ◌<◌, ◌++◌, ◌∷◌, [], ℕ, OnOk, IsErrOf, IfSome, is_some, length};
-ghost use Rattle.log_seams.specs.Disk.{Only, NoMore, LeavesOnly};
-ghost use Rattle.log_seams.specs.Outside.{Rose};
-ghost use Rattle.record_format.specs.Header.{IsHeader, header_bytes};
-ghost use Rattle.disk_journal.specs.Place.{Reads};
+ghost use Rattle.std.specs.Prelude.{◌≡◌, is_some};
+ghost use Rattle.log_seams.specs.Disk.{LeavesOnly};
+ghost use Rattle.log_seams.specs.Outside.{CountsOf};
+ghost use Rattle.record_format.specs.Header.{IsHeader};
+ghost use Rattle.disk_journal.specs.Created.{CreateLeaves, SparesBytes};
 
 use crate::CreateRefusal;
 use log_seams::Disk;
@@ -15,21 +15,17 @@ use record_format::{Header, write_header};
 /// leaves may be no journal.
 pub fn create<D: Disk>(disk: &mut D, header: &Header) -> Result<(), CreateRefusal>
     requires { IsHeader header.now }
-    ensures made { OnOk result (Reads (header_bytes header.now ++ 0 ∷ []) (D.state disk.new).seen) }
-    ensures settled { OnOk result (Only (D.state disk.new).seen (D.state disk.new).images) }
-    ensures empty { OnOk result (Reads [] (D.state disk.old).seen) }
-    ensures not_empty { (len : ℕ) → IsErrOf result (CreateRefusal.NotEmpty len) → (0 < len) × IfSome (D.state disk.old).seen (λ bytes. len ≡ length bytes) }
-    ensures kept { (len : ℕ) → IsErrOf result (CreateRefusal.NotEmpty len) → (D.state disk.new).seen ≡ (D.state disk.old).seen }
-    ensures images { (len : ℕ) → IsErrOf result (CreateRefusal.NotEmpty len) → NoMore (D.state disk.old).images (D.state disk.new).images }
-    ensures no_fewer { (len : ℕ) → IsErrOf result (CreateRefusal.NotEmpty len) → NoMore (D.state disk.new).images (D.state disk.old).images }
-    ensures spared { IfSome (D.state disk.old).seen (λ bytes. 0 < length bytes → (D.state disk.new).seen ≡ (D.state disk.old).seen) }
-    ensures spared_images { IfSome (D.state disk.old).seen (λ bytes. 0 < length bytes → NoMore (D.state disk.old).images (D.state disk.new).images) }
-    ensures spared_no_fewer { IfSome (D.state disk.old).seen (λ bytes. 0 < length bytes → NoMore (D.state disk.new).images (D.state disk.old).images) }
-    ensures fault { IsErrOf result CreateRefusal.DiskFault → Rose (D.state disk.old).faults (D.state disk.new).faults }
-    ensures counts { (D.state disk.old).faults ≤ (D.state disk.new).faults }
+
+    // what stays
+    ensures spared { SparesBytes (D.state disk.old) (D.state disk.new) }
     ensures tells { is_some (D.state disk.new).seen ≡ is_some (D.state disk.old).seen }
-    ensures moments { LeavesOnly (D.state disk.old) (D.state disk.new) (λ c. Unit {0}) }
+    ensures moments { LeavesOnly (D.state disk.old) (D.state disk.new) (λ _. Unit {0}) }
     ensures ranges { (D.state disk.new).ranges ≡ (D.state disk.old).ranges }
+
+    // by the answer, and causes
+    ensures leaves { CreateLeaves result header.now (D.state disk.old) (D.state disk.new) }
+    ensures counts { CountsOf CreateRefusal.DiskFault
+        (D.state disk.old).faults (D.state disk.new).faults result }
 {
     let len = disk.len()?;
     if len > 0 {

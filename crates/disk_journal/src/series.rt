@@ -1,10 +1,10 @@
 //! Several records, appended one after the other.
-ghost use Rattle.std.specs.Prelude.{◌≡◌, ◌≤◌, ◌<◌, ◌+◌, ℕ, IsTrue, All, length, take, OnOk, OnErr, is_some, List};
-ghost use Rattle.log_seams.specs.Disk.{LeavesOnly};
+ghost use Rattle.std.specs.Prelude.{◌≤◌, ◌+◌, All, OnOk, OnErr};
 ghost use Rattle.log_seams.specs.Outside.{Counts};
-ghost use Rattle.record_format.specs.Header.{header_bytes};
 ghost use Rattle.disk_journal.specs.Record.{IsFrame};
-ghost use Rattle.disk_journal.specs.Place.{AtEnd, WithFirstTold, AddedFirst, UnderWay};
+ghost use Rattle.disk_journal.specs.State.{IsAtEnd};
+ghost use Rattle.disk_journal.specs.Journal.{state_of};
+ghost use Rattle.disk_journal.specs.Calls.{GoesOn, HasAdded, HasStopped, LeavesFirst};
 ghost use Rattle.disk_journal.specs.Series.{saved_all, size_all};
 
 use crate::{AppendRefusal, Journal};
@@ -16,24 +16,23 @@ use log_seams::{Disk, Failed, Text};
 /// acknowledged are counted, and a crash leaves the journal with these, or with these and the next.
 /// Takes no memory.
 pub fn append_each<'d, D: Disk>(journal: &mut Journal<'d, D>, texts: &[Text]) -> Result<(), Failed>
-    requires closed { IsTrue journal.old.closed }
-    requires at_end { AtEnd (header_bytes journal.old.header) journal.old.place journal.old.count (D.state journal.old.disk.now).seen (D.state journal.old.disk.now).images }
+    requires at_end { IsAtEnd (state_of journal.old) }
     requires framed { All IsFrame texts.now }
     requires room { journal.old.place + 1 + size_all texts.now ≤ journal.old.header.length_limit }
-    ensures name { journal.new.disk.ghost_name ≡ journal.old.disk.ghost_name }
-    ensures header { journal.new.header ≡ journal.old.header }
-    ensures closed { IsTrue journal.new.closed }
-    ensures at_end { OnOk result (AtEnd (header_bytes journal.new.header) journal.new.place journal.new.count (D.state journal.new.disk.now).seen (D.state journal.new.disk.now).images) }
-    ensures added { OnOk result (AddedFirst (D.state journal.old.disk.now).seen journal.old.count (saved_all texts.now) (length texts.now) (D.state journal.new.disk.now).seen journal.new.count) }
-    ensures count { OnOk result ((journal.new.count ≡ journal.old.count + length texts.now) × (journal.new.place ≡ journal.old.place + size_all texts.now)) }
-    ensures stopped { OnErr result ((k : ℕ) × (k < length texts.now) × (journal.new.count ≡ journal.old.count + k)
-        × (journal.new.place ≡ journal.old.place + size_all (take k texts.now))
-        × ((c : List ℕ) → (D.state journal.new.disk.now).images c → UnderWay (header_bytes journal.old.header) (D.state journal.old.disk.now).seen journal.old.count (saved_all texts.now) k c)) }
-    ensures moments { LeavesOnly (D.state journal.old.disk.now) (D.state journal.new.disk.now)
-        (WithFirstTold (header_bytes journal.old.header) (D.state journal.old.disk.now).seen journal.old.count (saved_all texts.now)) }
-    ensures tells { is_some (D.state journal.new.disk.now).seen ≡ is_some (D.state journal.old.disk.now).seen }
-    ensures ranges { (D.state journal.new.disk.now).ranges ≡ (D.state journal.old.disk.now).ranges }
-    ensures cause { Counts (D.state journal.old.disk.now).faults (D.state journal.new.disk.now).faults result }
+
+    // what stays
+    ensures goes_on { GoesOn (state_of journal.old) (state_of journal.new) }
+    ensures moments { LeavesFirst (saved_all texts.now) (state_of journal.old) (state_of journal.new) }
+
+    // by the answer
+    ensures added { OnOk result (HasAdded (saved_all texts.now) (size_all texts.now)
+        (state_of journal.old) (state_of journal.new)) }
+    ensures stopped { OnErr result
+        (HasStopped texts.now (state_of journal.old) (state_of journal.new)) }
+
+    // causes
+    ensures cause { Counts
+        (D.state journal.old.disk.now).faults (D.state journal.new.disk.now).faults result }
 {
     for text in texts {
         match journal.append(text.as_slice()) {

@@ -1,9 +1,9 @@
 //! A journal on a disk in memory: its bytes, its refusals, and every crash of a run.
 ghost use Rattle.std.specs.Prelude.{◌<◌, ◌≤◌, IsTrue, IfOk};
-ghost use Rattle.record_format.specs.Header.{header_bytes};
 ghost use Rattle.log_seams.specs.MemDisk.{calls_of};
 ghost use Rattle.disk_journal.specs.Record.{IsFrame};
-ghost use Rattle.disk_journal.specs.Place.{AtEnd};
+ghost use Rattle.disk_journal.specs.State.{IsAtEnd};
+ghost use Rattle.disk_journal.specs.Journal.{state_of};
 
 use crate::{
     AppendRefusal, CreateRefusal, Journal, RecordPlace, StartRefusal, WalkRefusal, append_each,
@@ -96,8 +96,7 @@ fn count_of(disk: &mut MemDisk) -> Result<Option<u64>, Fail> {
 
 // The journal of a disk without records, at its end.
 fn end_of<D: Disk>(disk: &mut D) -> Result<Journal<'_, D>, Fail>
-    ensures closed { IfOk result (λ j. IsTrue j.closed) }
-    ensures at_end { IfOk result (λ j. AtEnd (header_bytes j.header) j.place j.count (D.state j.disk.now).seen (D.state j.disk.now).images) }
+    ensures { IfOk result (λ j. IsAtEnd (state_of j)) }
 {
     let mut journal = Journal::open_journal(disk)?;
     let None = journal.next_place()? else {
@@ -112,8 +111,7 @@ fn append_three<D: Disk>(
     two: &[u8],
     three: &[u8],
 ) -> Result<(), AppendRefusal>
-    requires closed { IsTrue journal.old.closed }
-    requires at_end { AtEnd (header_bytes journal.old.header) journal.old.place journal.old.count (D.state journal.old.disk.now).seen (D.state journal.old.disk.now).images }
+    requires at_end { IsAtEnd (state_of journal.old) }
     requires one { IsFrame one.now }
     requires two { IsFrame two.now }
     requires three { IsFrame three.now }
@@ -128,8 +126,7 @@ fn append_both<D: Disk>(
     one: Text,
     two: Text,
 ) -> Result<Result<(), Failed>, Fail>
-    requires closed { IsTrue journal.old.closed }
-    requires at_end { AtEnd (header_bytes journal.old.header) journal.old.place journal.old.count (D.state journal.old.disk.now).seen (D.state journal.old.disk.now).images }
+    requires at_end { IsAtEnd (state_of journal.old) }
     requires one { IsFrame one }
     requires two { IsFrame two }
     ensures { IsTrue journal.new.closed }

@@ -1,5 +1,4 @@
 use Rattle.std.proofs.Common.{refl, rules}
-use Rattle.clp_commands.specs.Outcome.{answer_of}
 use Rattle.clp_commands.proofs.AnswerLemmas.{Answers-create, Answers-scan, Answers-show, Answers-usage}
 use Rattle.clp_commands.proofs.top.run.Goals as goal
 
@@ -13,7 +12,7 @@ pub returns-in-Create-clause-answers : goal.returns-in-Create-clause-answers
 returns-in-Create-clause-answers g c =
     Answers-create _ _ _ _ _ c.in-Create.header (rw (c.in-Create.is) at (rw c.in-Some.command-is at c.in-Some.ensures.some))
     (λ h asks. let e = c.in-Some.ensures.create h asks in cc (e, c.in-Create.is, c.in-Some.command-is))
-    (record { answer = answer_of c.create_archive-outcome.result; ends = rw (← c.refusal_of_create.ensures) (record { status_is = c.answer.ensures.status; said = c.answer.ensures.said }); leaves = c.create_archive-outcome.ensures.leaves; nothing = refl; sink = refl })
+    (record { answer = c.create-outcome.result; ends = rw (← c.refusal_of_create.ensures) (record { status_is = c.answer.ensures.status; said = c.answer.ensures.said }); leaves = c.create-outcome.ensures.leaves; nothing = refl; sink = refl })
 
 pub returns-in_default-clause-answers : goal.returns-in_default-clause-answers
 returns-in_default-clause-answers g c =

@@ -1,4 +1,4 @@
-use Rattle.disk_journal.proofs.Spelling.{saved_of-frame}
+use Rattle.disk_journal.proofs.SpellingLemmas.{saved_of-frame}
 use Rattle.disk_journal.proofs.laws.frames_one.Goals as goal
 
 pub returns : goal.returns

@@ -1,4 +1,4 @@
-use Rattle.disk_journal.proofs.Spelling.{stands_one}
+use Rattle.disk_journal.proofs.SpellingLemmas.{stands_one}
 use Rattle.disk_journal.proofs.laws.stand_for_one.Goals as goal
 
 pub returns : goal.returns

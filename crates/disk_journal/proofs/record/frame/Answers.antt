@@ -1,6 +1,6 @@
 use Rattle.std.proofs.Common.{◌≡◌, ◌∷◌, [], ◌++◌, length, rules}
 use Rattle.std.specs.Int.{w64, to_le_bytes}
-use Rattle.disk_journal.proofs.Spelling.{framed}
+use Rattle.disk_journal.proofs.SpellingLemmas.{framed}
 use Rattle.disk_journal.proofs.record.frame.Goals as goal
 
 pub returns-clause-framed : goal.returns-clause-framed

@@ -2,7 +2,7 @@ use Rattle.std.proofs.Common.{◌≡◌, List, ℕ, Option, length, get_or, rule
 use Rattle.std.specs.Prelude.{IfSome}
 use Rattle.log_seams.proofs.MomentLemmas.{rests_on}
 use Rattle.disk_journal.specs.Place.{OpenAt}
-use Rattle.disk_journal.proofs.Steps.{record_read}
+use Rattle.disk_journal.proofs.WalkLemmas.{record_read}
 use Rattle.disk_journal.proofs.walk.look.Goals as goal
 
 pub returns-clause-opened : goal.returns-clause-opened

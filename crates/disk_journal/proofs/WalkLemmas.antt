@@ -9,7 +9,7 @@ use Rattle.record_format.specs.Header.{header_bytes}
 use Rattle.record_format.specs.declared.header.Header.{Header}
 use Rattle.disk_journal.specs.Record.{Saved, body, spelled, Stands, payload_len, records, Fits, AllFit}
 use Rattle.disk_journal.specs.Place.{HasWalked, Walked, IsSettled, AtEnd, NoHeader, IsDamaged, HasClosedGate, ClosedAt, HasRecord, OpenAt, Passed}
-use Rattle.disk_journal.proofs.Spelling.{length-body, spelled-push, records-spelled, fit_push}
+use Rattle.disk_journal.proofs.SpellingLemmas.{length-body, spelled-push, records-spelled, fit_push}
 
 -- fewer bytes than a header has were read, so the disk has none
 pub short_header : (told : Option (List ℕ)) (n : ℕ) (old new : List ℕ) → Gave told 0 n old new → length old ≡ 32 → n < 32 → ((h : Header) → length (header_bytes h) ≡ 32) → NoHeader told
