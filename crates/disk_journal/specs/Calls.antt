@@ -2,10 +2,12 @@
 use Rattle.std.specs.Prelude.{◌≡◌, ◌<◌, ℕ, ◌+◌, List, length, take, drop, option_map, is_some, IsTrue, IsNone, IfSome, true, false}
 use Rattle.log_seams.specs.Disk.{DiskState, KeepsBytes, LeavesOnly, ReadsOnly, Rests, with_range}
 use Rattle.record_format.specs.Header.{header_bytes}
+use Rattle.record_format.specs.declared.header.TheConstants.{HEADER_LEN}
 use Rattle.disk_journal.specs.Record.{Saved}
 use Rattle.disk_journal.specs.Place.{ClosedAt, OpenAt, IsDamaged, NoHeader, Added, BeforeOrAfter, WithFirstTold, UnderWay}
 use Rattle.disk_journal.specs.Series.{saved_all, size_all}
 use Rattle.disk_journal.specs.State.{JournalState, IsAtFirst, IsAtEnd, BeginsWith}
+use Rattle.disk_journal.specs.declared.record.TheConstants.{FRONT_LEN}
 use Rattle.disk_journal.specs.declared.walk.RecordPlace.{RecordPlace}
 
 -- the same journal, whose disk was only read: at most n bytes, from one place on
@@ -24,7 +26,7 @@ pub record StaysAt (old new : JournalState) : Type 0 where
 -- The walk has passed a record, which stands whole behind the open gate that the walk had come to.
 pub record HasPassed (p : RecordPlace) (old new : JournalState) : Type 0 where
   pub at : p.at ≡ old.place
-  pub payload : p.payload ≡ p.at + 10
+  pub payload : p.payload ≡ p.at + FRONT_LEN
   pub found : OpenAt old.place p.kind p.length old.disk.seen
   pub place : new.place ≡ p.payload + p.length
   pub count : new.count ≡ old.count + 1
@@ -103,10 +105,10 @@ pub record HasOpened (old : DiskState) (j : JournalState) : Type 0 where
   pub first : IsAtFirst j
   pub begins : BeginsWith j.header j.disk
   pub keeps : KeepsBytes old j.disk
-  pub ranges : ReadsOnly 0 32 old j.disk
+  pub ranges : ReadsOnly 0 HEADER_LEN old j.disk
   pub faults : j.disk.faults ≡ old.faults
 
--- the first 32 bytes are no header, as the refusal's place 0 says
+-- the disk begins with no header, as the refusal's place 0 says
 pub record HasNoHeader (at : ℕ) (d : DiskState) : Type 0 where
   pub first : at ≡ 0
   pub damaged : NoHeader d.seen

@@ -4,13 +4,14 @@ use Rattle.log_seams.specs.Disk.{DiskState, IsSynced, Reads, Rests}
 use Rattle.log_seams.specs.Outside.{Rose}
 use Rattle.record_format.specs.Header.{header_bytes}
 use Rattle.record_format.specs.declared.header.Header.{Header}
+use Rattle.disk_journal.specs.declared.record.TheConstants.{CLOSED_GATE}
 use Rattle.disk_journal.specs.declared.refusals.CreateRefusal.{CreateRefusal}
 use Rattle.disk_journal.specs.declared.refusals.CreateRefusal.TheVariants.{DiskFault, NotEmpty}
 
 -- The disk had no bytes. It has the header and a closed gate now, and a crash leaves these bytes and no others.
 pub record MakesEmpty (header : Header) (old new : DiskState) : Type 0 where
   pub none : Reads [] old
-  pub made : Reads (header_bytes header ++ 0 ∷ []) new
+  pub made : Reads (header_bytes header ++ CLOSED_GATE ∷ []) new
   pub synced : IsSynced new
 
 -- The disk had so many bytes, and keeps them. A crash leaves what it would have left before.

@@ -3,6 +3,7 @@ use Rattle.std.specs.Prelude.{◌≡◌, ℕ, Bool, false, IsTrue}
 use Rattle.log_seams.specs.Disk.{DiskState, IsSynced}
 use Rattle.record_format.specs.Header.{IsHeader, header_bytes}
 use Rattle.record_format.specs.declared.header.Header.{Header}
+use Rattle.record_format.specs.declared.header.TheConstants.{HEADER_LEN}
 use Rattle.disk_journal.specs.Place.{Walked, AtEnd}
 
 -- the name and the state of the disk that is lent to it; the header that the disk begins with; the place of the gate that a
@@ -21,7 +22,7 @@ IsWalked j = Walked (header_bytes j.header) j.place j.count j.disk.seen
 
 -- the walk has not begun
 pub record IsAtFirst (j : JournalState) : Type 0 where
-  pub place : j.place ≡ 32
+  pub place : j.place ≡ HEADER_LEN
   pub count : j.count ≡ 0
   pub closed : j.closed ≡ false
 
@@ -33,5 +34,5 @@ pub record IsAtEnd (j : JournalState) : Type 0 where
 -- the disk begins with this header, and a crash leaves what is read
 pub record BeginsWith (h : Header) (d : DiskState) : Type 0 where
   pub legal : IsHeader h
-  pub walked : Walked (header_bytes h) 32 0 d.seen
+  pub walked : Walked (header_bytes h) HEADER_LEN 0 d.seen
   pub synced : IsSynced d

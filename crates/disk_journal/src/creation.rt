@@ -5,9 +5,9 @@ ghost use Rattle.log_seams.specs.Outside.{CountsOf};
 ghost use Rattle.record_format.specs.Header.{IsHeader};
 ghost use Rattle.disk_journal.specs.Created.{CreateLeaves, SparesBytes};
 
-use crate::CreateRefusal;
+use crate::{CLOSED_GATE, CreateRefusal};
 use log_seams::Disk;
-use record_format::{Header, write_header};
+use record_format::{HEADER_LEN, Header, write_header};
 
 /// Makes the empty journal: the header and a closed gate, 33 bytes, and syncs. After `Ok` a crash
 /// leaves these bytes and no others. `NotEmpty` exactly where the disk's length is above 0; the bytes
@@ -31,8 +31,8 @@ pub fn create<D: Disk>(disk: &mut D, header: &Header) -> Result<(), CreateRefusa
     if len > 0 {
         return Err(CreateRefusal::NotEmpty { len });
     }
-    let mut bytes = [0; 33];
-    bytes[..32].copy_from_slice(&write_header(header));
+    let mut bytes = [CLOSED_GATE; HEADER_LEN + 1];
+    bytes[..HEADER_LEN].copy_from_slice(&write_header(header));
     disk.write(0, &bytes)?;
     disk.sync()?;
     Ok(())

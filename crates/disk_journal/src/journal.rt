@@ -10,15 +10,17 @@ ghost use Rattle.disk_journal.specs.Calls.{OnlyReads, StaysAt, HasPassed, HasEnd
 
 use crate::synced::write_synced;
 use crate::walk::look;
-use crate::{AppendRefusal, LoadRefusal, RecordPlace, StartRefusal, WalkRefusal};
+use crate::{
+    AppendRefusal, FRONT_LEN, LoadRefusal, OPEN_GATE, RecordPlace, StartRefusal, WalkRefusal,
+};
 use log_seams::{Disk, Text};
-use record_format::{Header, read_header};
+use record_format::{HEADER_LEN, Header, read_header};
 use std::alloc::Global;
 
 /// A journal over a disk, at one place of a walk along its records.
 ///
-/// Its disk has a header of 32 bytes, then for each record an open gate (the byte 1) and the record,
-/// then a closed gate (any other byte), and then anything. A record is its kind in one byte, the
+/// Its disk has a header of [`HEADER_LEN`] bytes, then for each record an open gate (the byte
+/// [`OPEN_GATE`]) and the record, then a closed gate (any other byte), and then anything. A record is its kind in one byte, the
 /// length of its payload in eight bytes with the lowest first, and its payload.
 #[derive(Drop)]
 pub struct Journal<'d, D: Disk> {
@@ -43,7 +45,7 @@ pub struct Journal<'d, D: Disk> {
 pub fn start<D: Disk>(disk: &mut D) -> Result<Header, StartRefusal>
     // what stays
     ensures keeps { KeepsBytes (D.state disk.old) (D.state disk.new) }
-    ensures ranges { ReadsOnly 0 32 (D.state disk.old) (D.state disk.new) }
+    ensures ranges { ReadsOnly 0 HEADER_LEN (D.state disk.old) (D.state disk.new) }
 
     // by the answer
     ensures begins { IfOk result (λ h. BeginsWith h (D.state disk.new)) }
@@ -55,9 +57,9 @@ pub fn start<D: Disk>(disk: &mut D) -> Result<Header, StartRefusal>
         (D.state disk.old).faults (D.state disk.new).faults result }
 {
     disk.sync()?;
-    let mut bytes = [0; 32];
+    let mut bytes = [0; HEADER_LEN];
     let count = disk.read(0, &mut bytes)?;
-    if count < 32 {
+    if count < HEADER_LEN {
         return Err(StartRefusal::Damaged { at: 0 });
     }
     match read_header(&bytes) {
@@ -81,7 +83,7 @@ impl<'d, D: Disk> Journal<'d, D> {
         Journal {
             disk,
             header,
-            place: 32,
+            place: HEADER_LEN as u64,
             count: 0,
             closed: false,
         }
@@ -142,7 +144,7 @@ impl<'d, D: Disk> Journal<'d, D> {
     /// walk then stays where it was. Reads no byte of a payload. Takes no memory.
     pub fn next_place(&mut self) -> Result<Option<RecordPlace>, WalkRefusal>
         // what stays
-        ensures reads { OnlyReads self.old.place 10
+        ensures reads { OnlyReads self.old.place FRONT_LEN
             (state_of self.old) (state_of self.new) }
 
         // by the answer
@@ -238,7 +240,7 @@ impl<'d, D: Disk> Journal<'d, D> {
             return Err(AppendRefusal::ArchiveFull { end, need });
         }
         write_synced(self.disk, end, framed)?;
-        write_synced(self.disk, self.place, &[1])?;
+        write_synced(self.disk, self.place, &[OPEN_GATE])?;
         self.place += need;
         self.count += 1;
         Ok(())

@@ -16,7 +16,7 @@ mod walk;
 pub use creation::create;
 pub use journal::{Journal, start};
 pub use laws::{frames_one, stand_for_one};
-pub use record::frame;
+pub use record::{CLOSED_GATE, FRONT_LEN, OPEN_GATE, frame};
 pub use refusals::{AppendRefusal, CreateRefusal, LoadRefusal, StartRefusal, WalkRefusal};
 pub use series::append_each;
 pub use walk::RecordPlace;

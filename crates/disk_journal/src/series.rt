@@ -22,7 +22,8 @@ pub fn append_each<'d, D: Disk>(journal: &mut Journal<'d, D>, texts: &[Text]) ->
 
     // what stays
     ensures goes_on { GoesOn (state_of journal.old) (state_of journal.new) }
-    ensures moments { LeavesFirst (saved_all texts.now) (state_of journal.old) (state_of journal.new) }
+    ensures moments { LeavesFirst (saved_all texts.now)
+        (state_of journal.old) (state_of journal.new) }
 
     // by the answer
     ensures added { OnOk result (HasAdded (saved_all texts.now) (size_all texts.now)

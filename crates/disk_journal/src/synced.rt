@@ -1,6 +1,6 @@
 //! Writes that a crash cannot undo once they are done.
 ghost use Rattle.std.specs.Prelude.{◌≡◌, ◌+◌, ◌^◌, ◌≤◌, length, is_some, option_map, OnOk, IfSome};
-ghost use Rattle.log_seams.specs.Disk.{laid, Only, LeavesOnly};
+ghost use Rattle.log_seams.specs.Disk.{laid, IsSynced, LeavesOnly};
 ghost use Rattle.log_seams.specs.Outside.{Counts};
 ghost use Rattle.disk_journal.specs.Place.{TornFrom};
 
@@ -12,12 +12,20 @@ use log_seams::{Disk, Failed};
 pub(crate) fn write_synced<D: Disk>(disk: &mut D, at: u64, bytes: &[u8]) -> Result<(), Failed>
     requires place { IfSome (D.state disk.old).seen (λ old. at ≤ length old) }
     requires end { at + length bytes.now ≤ 2 ^ 62 }
-    requires settled { Only (D.state disk.old).seen (D.state disk.old).images }
-    ensures written { OnOk result ((D.state disk.new).seen ≡ option_map (laid at bytes.now) (D.state disk.old).seen) }
+    requires synced { IsSynced (D.state disk.old) }
+
+    // what stays
     ensures tells { is_some (D.state disk.new).seen ≡ is_some (D.state disk.old).seen }
-    ensures settled { OnOk result (Only (D.state disk.new).seen (D.state disk.new).images) }
-    ensures moments { LeavesOnly (D.state disk.old) (D.state disk.new) (TornFrom (D.state disk.old).seen at (length bytes.now)) }
     ensures ranges { (D.state disk.new).ranges ≡ (D.state disk.old).ranges }
+    ensures moments { LeavesOnly (D.state disk.old) (D.state disk.new)
+        (TornFrom (D.state disk.old).seen at (length bytes.now)) }
+
+    // by the answer
+    ensures written { OnOk result
+        ((D.state disk.new).seen ≡ option_map (laid at bytes.now) (D.state disk.old).seen) }
+    ensures synced { OnOk result (IsSynced (D.state disk.new)) }
+
+    // causes
     ensures cause { Counts (D.state disk.old).faults (D.state disk.new).faults result }
 {
     disk.write(at, bytes)?;

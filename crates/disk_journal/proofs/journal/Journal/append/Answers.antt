@@ -21,4 +21,4 @@ pub returns-clause-added : goal.returns-clause-added
 returns-clause-added g c =
     let short : length c.args.framed.now < 2 ^ 64 = search rules in
     record_added (state_of c.args.self.now) _ (g.D.Disk.state c.write_synced-2.new.disk) (g.D.Disk.state c.write_synced.new.disk).seen c.args.framed.now short
-    c.requires.at_end c.requires.framed c.in_ok-write_synced.ensures.written c.in_ok-write_synced-2.ensures.written c.in_ok-write_synced-2.ensures.settled
+    c.requires.at_end c.requires.framed c.in_ok-write_synced.ensures.written c.in_ok-write_synced-2.ensures.written c.in_ok-write_synced-2.ensures.synced
