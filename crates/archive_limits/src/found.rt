@@ -59,7 +59,8 @@ impl Found {
 pub fn read_limits(options: &[String]) -> Option<Header>
     ensures header { IfSome result IsHeader }
     ensures asked { IfSome result (λ h. AsksLimits (map string_bytes options.now) h) }
-    ensures all { (h : Header) → AsksLimits (map string_bytes options.now) h → result ≡ Some h }
+    ensures all { (h : Header) → AsksLimits (map string_bytes options.now) h
+        → result ≡ Some h }
 {
     let mut found = Found::default();
     let mut rest = options;

@@ -7,6 +7,8 @@ use Rattle.line_cut.specs.declared.cut.Cut.{Cut}
 use Rattle.line_cut.specs.declared.cut.Cut.TheVariants.{ReadFault as CutReadFault, LineTooLong as CutLineTooLong, TooManyLines as CutTooManyLines, OutOfMemory as CutOutOfMemory}
 use Rattle.line_cut.specs.declared.cut.Progress.TheVariants.{Open}
 use Rattle.clp_commands.specs.declared.outcome.LogRefusal.{LogRefusal}
+use Rattle.line_cut.specs.declared.cutter.TheConstants.{MAX_LINE_LEN}
+use Rattle.clp_commands.specs.declared.log.TheConstants.{MOST_MESSAGES}
 use Rattle.clp_commands.specs.declared.outcome.LogRefusal.TheVariants.{OpenFault, ReadFault, LineTooLong, TooManyLines, SinkFault, OutOfMemory}
 
 -- The texts of the messages one after the other, where the first message has this number and `tells` says which text a message of a number has.
@@ -16,10 +18,10 @@ Prints tells number (message ∷ messages) text = (first : List ℕ) × (rest : 
 
 -- what one line may have, and one log
 abbrev pub most_bytes : ℕ
-most_bytes = 1048576
+most_bytes = MAX_LINE_LEN
 
 abbrev pub most_messages : ℕ
-most_messages = 4294967294
+most_messages = MOST_MESSAGES
 
 -- no message of these is too long
 abbrev pub AreShort : List (List ℕ) → Type 0

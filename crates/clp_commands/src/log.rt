@@ -8,12 +8,9 @@ ghost use Rattle.clp_commands.specs.declared.outcome.LogRefusal.TheVariants.{Ope
 use crate::outcome::LogRefusal;
 use crate::output::{flush, flush_piece};
 use crate::tell::Tell;
-use line_cut::{Cut, Cutter, CutterRefused};
+use line_cut::{Cut, Cutter, CutterRefused, MAX_LINE_LEN};
 use log_seams::{OpenRefused, Shelf, Sink, Source};
 use std::alloc::Global;
-
-/// The most bytes of a line, without its newline.
-const MOST_BYTES: usize = 1_048_576;
 
 /// The most messages of a log.
 const MOST_MESSAGES: u64 = 4_294_967_294;
@@ -44,10 +41,11 @@ fn print_message<K: Sink, T: Tell>(
         (TellsNext (T.tells teller.now) number message.now (K.written out.old) (K.written out.new)
         gathered.old.items gathered.new.items) }
     ensures failed { IsErrOf result SinkFault
-        → FailsAfter (T.tells teller.now) number message.now (K.written out.old) (K.written out.new)
-        gathered.old.items }
+        → FailsAfter (T.tells teller.now) number message.now
+        (K.written out.old) (K.written out.new) gathered.old.items }
     ensures memory { IsErrOf result OutOfMemory → K.written out.new ≡ K.written out.old }
-    ensures only { IfErr result (λ refusal. (refusal ≡ SinkFault) ⊎ (refusal ≡ OutOfMemory)) }
+    ensures only { IfErr result
+        (λ refusal. (refusal ≡ SinkFault) ⊎ (refusal ≡ OutOfMemory)) }
     ensures sink { CountsOf SinkFault (K.faults out.old) (K.faults out.new) result }
 {
     if teller.tell(kept, gathered, number, message).is_err() {
@@ -175,7 +173,7 @@ pub(crate) fn print_log<H: Shelf, K: Sink, T: Tell>(
         Err(OpenRefused::Failed) => return Err(LogRefusal::OpenFault),
         Err(OpenRefused::OutOfMemory) => return Err(LogRefusal::OutOfMemory),
     };
-    match Cutter::new(alloc, source, MOST_BYTES, MOST_MESSAGES) {
+    match Cutter::new(alloc, source, MAX_LINE_LEN, MOST_MESSAGES) {
         Ok(mut cutter) => {
             let outcome = print_source(alloc, &mut cutter, teller, out);
             shelf.close_log(cutter.into_source());

@@ -28,7 +28,8 @@ pub(crate) fn write_all<K: Sink>(out: &mut K, bytes: &[u8]) -> Result<(), Failed
 pub(crate) fn flush<K: Sink>(out: &mut K, gathered: &mut Vec<u8>) -> Result<(), Failed>
     ensures ok { OnOk result (Grew (K.written out.old) (K.written out.new) gathered.old.items) }
     ensures empty { OnOk result (gathered.new.items ≡ []) }
-    ensures err { OnErr result (GrewByFront (K.written out.old) (K.written out.new) gathered.old.items) }
+    ensures err { OnErr result
+        (GrewByFront (K.written out.old) (K.written out.new) gathered.old.items) }
     ensures cause { Counts (K.faults out.old) (K.faults out.new) result }
 {
     write_all(out, gathered.as_slice())?;
@@ -40,7 +41,8 @@ pub(crate) fn flush<K: Sink>(out: &mut K, gathered: &mut Vec<u8>) -> Result<(), 
 pub(crate) fn flush_piece<K: Sink>(out: &mut K, gathered: &mut Vec<u8>) -> Result<(), Failed>
     ensures ok { OnOk result
         (Moves (K.written out.old) (K.written out.new) gathered.old.items gathered.new.items) }
-    ensures err { OnErr result (GrewByFront (K.written out.old) (K.written out.new) gathered.old.items) }
+    ensures err { OnErr result
+        (GrewByFront (K.written out.old) (K.written out.new) gathered.old.items) }
     ensures cause { Counts (K.faults out.old) (K.faults out.new) result }
 {
     if gathered.len() < PIECE {

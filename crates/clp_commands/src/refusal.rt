@@ -33,7 +33,8 @@ pub enum Refusal {
 
 /// Writes the pieces one after the other, until one fails. Takes no memory.
 fn say<K: Sink>(err: &mut K, pieces: &[&[u8]])
-    ensures said { Says (K.written err.old) (K.written err.new) (K.faults err.old) (K.faults err.new)
+    ensures said { Says
+        (K.written err.old) (K.written err.new) (K.faults err.old) (K.faults err.new)
         (flat_map (λ p. p.now) pieces.now) }
     ensures later { K.faults err.old ≤ K.faults err.new }
 {
@@ -48,7 +49,8 @@ fn say<K: Sink>(err: &mut K, pieces: &[&[u8]])
 /// program ends with. Here alone a refusal has its line and its status. Takes no memory.
 pub(crate) fn report<K: Sink>(err: &mut K, name: &str, refusal: Refusal) -> u8
     ensures status { result ≡ status_of refusal }
-    ensures said { Says (K.written err.old) (K.written err.new) (K.faults err.old) (K.faults err.new)
+    ensures said { Says
+        (K.written err.old) (K.written err.new) (K.faults err.old) (K.faults err.new)
         (line_of name.now refusal) }
     ensures later { K.faults err.old ≤ K.faults err.new }
 {

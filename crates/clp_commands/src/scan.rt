@@ -22,7 +22,8 @@ fn push_found(
     number: u64,
     message: &[u8],
 ) -> Result<(), AllocError>
-    ensures { OnOk result (gathered.new.items ≡ gathered.old.items ++ found_line name.now number message.now) }
+    ensures { OnOk result
+        (gathered.new.items ≡ gathered.old.items ++ found_line name.now number message.now) }
 {
     gathered.extend_from_slice(name.as_bytes())?;
     gathered.push(b':')?;

@@ -56,7 +56,8 @@ fn push_with_word(
     text: &[u8],
     word: u64,
 ) -> Result<(), AllocError>
-    ensures { OnOk result (gathered.new.items ≡ gathered.old.items ++ with_word mark.now text.now word) }
+    ensures { OnOk result
+        (gathered.new.items ≡ gathered.old.items ++ with_word mark.now text.now word) }
 {
     gathered.extend_from_slice(mark)?;
     gathered.extend_from_slice(text)?;
@@ -108,7 +109,8 @@ fn push_message(gathered: &mut Vec<u8>, message: &[u8], split: &Split) -> Result
     requires parts { IsSplit message.now split.now.symbols split.now.spans }
     requires codes { AreCodes message.now split.now.spans split.now.codes }
     ensures { OnOk result
-        ((text : List ℕ) × (gathered.new.items ≡ gathered.old.items ++ text) × Shows message.now text) }
+        ((text : List ℕ) × (gathered.new.items ≡ gathered.old.items ++ text)
+        × Shows message.now text) }
 {
     let codes = split.codes.as_slice();
     let mut at = 0;

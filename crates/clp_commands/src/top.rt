@@ -135,7 +135,8 @@ fn print_and_report<H: Shelf, K: Sink, T: Tell>(
 /// The status for an answer, whose line goes to `err`.
 fn answer<K: Sink>(refusal: Option<Refusal>, name: &str, err: &mut K) -> u8
     ensures status { result ≡ exit_status refusal }
-    ensures said { Says (K.written err.old) (K.written err.new) (K.faults err.old) (K.faults err.new)
+    ensures said { Says
+        (K.written err.old) (K.written err.new) (K.faults err.old) (K.faults err.new)
         (error_line name.now refusal) }
     ensures later { K.faults err.old ≤ K.faults err.new }
 {

@@ -48,10 +48,14 @@ fn read_create(words: &[String]) -> Option<Header>
 pub(crate) fn read_words(words: &[String]) -> Option<Command<'_>>
     ensures some { IfSome result (Asks (map string_bytes words.now)) }
     ensures header { IfSome result HasHeader }
-    ensures create { (h : Header) → AsksCreate (map string_bytes words.now) h → result ≡ Some (Command.Create h) }
-    ensures no_show { IfNone result ((file : List ℕ) → ¬ AsksShow (map string_bytes words.now) file) }
-    ensures no_scan { IfNone result ((pattern file : List ℕ) → ¬ AsksScan (map string_bytes words.now) pattern file) }
-    ensures no_create { IfNone result ((h : Header) → ¬ AsksCreate (map string_bytes words.now) h) }
+    ensures create { (h : Header) → AsksCreate (map string_bytes words.now) h
+        → result ≡ Some (Command.Create h) }
+    ensures no_show { IfNone result
+        ((file : List ℕ) → ¬ AsksShow (map string_bytes words.now) file) }
+    ensures no_scan { IfNone result
+        ((pattern file : List ℕ) → ¬ AsksScan (map string_bytes words.now) pattern file) }
+    ensures no_create { IfNone result
+        ((h : Header) → ¬ AsksCreate (map string_bytes words.now) h) }
 {
     if let Some(header) = read_create(words) {
         return Some(Command::Create { header });

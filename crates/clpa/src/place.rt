@@ -83,7 +83,8 @@ pub(crate) trait Place {
 /// A file that is not there is `None`; each other error stays.
 fn if_there(opened: io::Result<File>) -> io::Result<Option<File>>
     ensures opened { IfOk opened (λ file. result ≡ Ok (Some file)) }
-    ensures absent { IfErr opened (λ e. error_kind e ≡ ErrorKind.NotFound → result ≡ Ok None) }
+    ensures absent { IfErr opened
+        (λ e. error_kind e ≡ ErrorKind.NotFound → result ≡ Ok None) }
     ensures failed { IfErr opened (λ e. error_kind e ≢ ErrorKind.NotFound → result ≡ Err e) }
 {
     match opened {

@@ -20,7 +20,8 @@ pub fn start_at(ends: &[u32], place: usize) -> usize
 pub fn counts_to_ends(counts: Vec<u32>) -> Option<(Vec<u32>, u32)>
     ensures total { IfSome result (λ x. x.1 ≡ sum counts.items) }
     ensures length { IfSome result (λ x. length x.0.items ≡ length counts.items) }
-    ensures ends { IfSome result (λ x. (k : ℕ) → k < length counts.items → slice_index x.0.items k ≡ sum (take (k + 1) counts.items)) }
+    ensures ends { IfSome result (λ x. (k : ℕ) → k < length counts.items
+        → slice_index x.0.items k ≡ sum (take (k + 1) counts.items)) }
     ensures none { IsNone result → 2 ^ 32 ≤ sum counts.items }
 {
     let mut ends = counts;
@@ -34,9 +35,11 @@ pub fn counts_to_ends(counts: Vec<u32>) -> Option<(Vec<u32>, u32)>
 
 /// How far each end is from the one before it. The array is written over in place.
 pub fn ends_to_counts(ends: Vec<u32>) -> Vec<u32>
-    requires { (k : ℕ) → k < length ends.items → start_of ends.items k ≤ slice_index ends.items k }
+    requires { (k : ℕ) → k < length ends.items
+        → start_of ends.items k ≤ slice_index ends.items k }
     ensures length { length result.items ≡ length ends.items }
-    ensures counts { (k : ℕ) → k < length ends.items → slice_index result.items k ≡ slice_index ends.items k - start_of ends.items k }
+    ensures counts { (k : ℕ) → k < length ends.items
+        → slice_index result.items k ≡ slice_index ends.items k - start_of ends.items k }
 {
     let mut counts = ends;
     let mut start = 0;
