@@ -49,25 +49,26 @@ digits-injective (suc n) x y p q e =
     let front = digits-injective n (x / 10) (y / 10) (omega arith) (omega arith) split.0 in
     omega arith
 
--- a list of seven numbers is these
-pub seven : (xs : List ℕ) → length xs ≡ 7 → xs ≡ get_or xs 0 0 ∷ get_or xs 1 0 ∷ get_or xs 2 0 ∷ get_or xs 3 0 ∷ get_or xs 4 0 ∷ get_or xs 5 0 ∷ get_or xs 6 0 ∷ []
-seven (a ∷ b ∷ c ∷ d ∷ e ∷ f ∷ g ∷ []) l = refl
-seven [] l = absurd (omega arith)
-seven (a ∷ []) l = absurd (omega arith)
-seven (a ∷ b ∷ []) l = absurd (omega arith)
-seven (a ∷ b ∷ c ∷ []) l = absurd (omega arith)
-seven (a ∷ b ∷ c ∷ d ∷ []) l = absurd (omega arith)
-seven (a ∷ b ∷ c ∷ d ∷ e ∷ []) l = absurd (omega arith)
-seven (a ∷ b ∷ c ∷ d ∷ e ∷ f ∷ []) l = absurd (omega arith)
-seven (a ∷ b ∷ c ∷ d ∷ e ∷ f ∷ g ∷ h ∷ xs) l = absurd (omega arith)
+-- a list of six numbers is these
+pub six : (xs : List ℕ) → length xs ≡ 6 → xs ≡ get_or xs 0 0 ∷ get_or xs 1 0 ∷ get_or xs 2 0 ∷ get_or xs 3 0 ∷ get_or xs 4 0 ∷ get_or xs 5 0 ∷ []
+six (a ∷ b ∷ c ∷ d ∷ e ∷ f ∷ []) l = refl
+six [] l = absurd (omega arith)
+six (a ∷ []) l = absurd (omega arith)
+six (a ∷ b ∷ []) l = absurd (omega arith)
+six (a ∷ b ∷ c ∷ []) l = absurd (omega arith)
+six (a ∷ b ∷ c ∷ d ∷ []) l = absurd (omega arith)
+six (a ∷ b ∷ c ∷ d ∷ e ∷ []) l = absurd (omega arith)
+six (a ∷ b ∷ c ∷ d ∷ e ∷ f ∷ g ∷ xs) l = absurd (omega arith)
 
--- four digits at most
-pub few_digits : (n : ℕ) → n < 4 → 10 ^ n ≤ 1000
+-- six digits at most
+pub few_digits : (n : ℕ) → n < 6 → 10 ^ n ≤ 100000
 few_digits zero h = omega arith
 few_digits (suc zero) h = omega arith
 few_digits (suc (suc zero)) h = omega arith
 few_digits (suc (suc (suc zero))) h = omega arith
-few_digits (suc (suc (suc (suc n)))) h = absurd (omega arith)
+few_digits (suc (suc (suc (suc zero)))) h = omega arith
+few_digits (suc (suc (suc (suc (suc zero))))) h = omega arith
+few_digits (suc (suc (suc (suc (suc (suc n)))))) h = absurd (omega arith)
 
 -- the last digit goes to its place
 pub put_digit : (n number p q left : ℕ) (out : List ℕ) → p ≡ q + 1 → q < length out → digits n number ≡ digits p left ++ drop p out → digits n number ≡ digits q (left / 10) ++ drop q (set out q (48 + left % 10))

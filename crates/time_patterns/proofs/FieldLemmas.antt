@@ -3,7 +3,7 @@ use Rattle.std.proofs.Common.{◌≡◌, ℕ, zero, suc, ◌+◌, ◌^◌, ◌<�
 use Rattle.std.proofs.lemmas.List.{append-nil, append_cancel_left, length-append, drop-drop}
 use Rattle.time_patterns.specs.declared.field.Field.{Field}
 use Rattle.time_patterns.specs.Digits.{digits, byte_text, field_text, fields_text, AreWithin}
-use Rattle.time_patterns.specs.Tables.{counts_of}
+use Rattle.time_patterns.specs.Steps.{counts_of}
 use Rattle.time_patterns.proofs.DigitLemmas.{append_split, length-digits, digits-injective}
 
 -- a field's text is equally long at each number

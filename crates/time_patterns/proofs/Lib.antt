@@ -1,8 +1,9 @@
 pub mod CivilLemmas
 pub mod DigitLemmas
 pub mod FieldLemmas
-pub mod FormLemmas
-pub mod FrontLemmas
 pub mod LawLemmas
 pub mod PlaceLemmas
+pub mod ShapeLemmas
 pub mod StampLemmas
+pub mod TailLemmas
+pub mod VersionLemmas

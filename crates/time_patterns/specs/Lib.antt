@@ -4,4 +4,3 @@ pub mod Forms
 pub mod Laws
 pub mod Stamps
 pub mod Steps
-pub mod Tables

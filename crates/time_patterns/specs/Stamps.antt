@@ -1,7 +1,8 @@
 -- Time stamps: which text stands for which moment, and which stamp a line has.
 use Rattle.std.specs.Prelude.{◌≡◌, ℕ, zero, suc, ◌<◌, ◌≤◌, nat_le, if◌then◌else◌, List, [], ◌∷◌, ◌++◌, length, ℤ, pos}
 use Rattle.token_rules.specs.Tokens.{IsDelimiter}
-use Rattle.time_patterns.specs.Forms.{Form, IsForm, PrintsForm}
+use Rattle.time_patterns.specs.declared.form.Form.{Form}
+use Rattle.time_patterns.specs.Forms.{IsForm, PrintsForm}
 
 -- the text is that of pattern k for the moment
 abbrev pub Prints : ℕ → ℤ → List ℕ → Type 0
@@ -23,11 +24,6 @@ BeginsWith line text n = (rest : List ℕ) × (line ≡ text ++ rest) × EndsSta
 -- pattern k fits the line: it begins with the text of n bytes that the pattern prints for the moment
 abbrev pub Fits : List ℕ → ℕ → ℤ → ℕ → Type 0
 Fits line k moment n = (text : List ℕ) × Prints k moment text × BeginsWith line text n
-
--- the stamp of a line: of the patterns that fit it the least
-pub record IsStamp (line : List ℕ) (k : ℕ) (moment : ℤ) (n : ℕ) : Type 0 where
-  pub fits : Fits line k moment n
-  pub least : (j : ℕ) (m : ℤ) (l : ℕ) → j < k → ¬ Fits line j m l
 
 -- the patterns of an archive's version: 1 to 10, and 11 to 26 from version 3 on
 abbrev pub first_pattern : ℕ → ℕ

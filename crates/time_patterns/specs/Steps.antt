@@ -1,24 +1,65 @@
--- What is known when the first patterns have been looked at.
-use Rattle.std.specs.Prelude.{◌≡◌, ℕ, ◌≤◌, ◌⊎◌, List, Option, Some, None, ℤ, take}
-use Rattle.time_patterns.specs.declared.civil_time.CivilTime.{CivilTime}
-use Rattle.time_patterns.specs.declared.stamps.Stamp.{Stamp}
-use Rattle.time_patterns.specs.Forms.{Form, IsForm, IsTimeOf, text_of}
-use Rattle.time_patterns.specs.Stamps.{Fits, IsStamp}
+-- What is known on the way to a stamp.
+use Rattle.std.specs.Prelude.{◌≡◌, ℕ, ◌+◌, ◌/◌, ◌%◌, ◌<◌, ◌≤◌, ◌⊎◌, List, ◌++◌, map, Option, Some, None, ℤ}
+use Rattle.time_patterns.specs.declared.field.Field.{Field}
+use Rattle.time_patterns.specs.declared.form.Form.{Form}
+use Rattle.time_patterns.specs.declared.shape.Shape.{Shape}
+use Rattle.time_patterns.specs.Forms.{IsForm, tail_text}
+use Rattle.time_patterns.specs.Stamps.{EndsStamp, Fits}
 
--- a stamp's first byte: `[` or a digit
-abbrev pub CanBegin : ℕ → Type 0
-CanBegin b = (b ≡ 91) ⊎ ((48 ≤ b) × (b ≤ 57))
+-- the counts of digits of fields
+abbrev pub counts_of : List Field → List ℕ
+counts_of fields = map (λ (f : Field). f.digits) fields
 
--- the patterns up to the kth were tried on the line: it has this stamp, or none of them fits
-abbrev pub Tried : List ℕ → ℕ → Option Stamp → Type 0
-Tried line k None = (j : ℕ) (moment : ℤ) (n : ℕ) → j ≤ k → ¬ Fits line j moment n
-Tried line k (Some s) = IsStamp line s.pattern s.moment s.len
+-- the digits of a fraction
+abbrev pub digits_of : Option Field → ℕ
+digits_of None = 0
+digits_of (Some f) = f.digits
 
--- the pattern is up to the kth, and the time is one of its form
-abbrev pub ShowsUpTo : ℕ → ℕ → CivilTime → Type 0
-ShowsUpTo k pattern t = (pattern ≤ k) × (form : Form) × IsForm pattern form × IsTimeOf form t
+-- The fraction has the digits that the unit asks for, and the unit is a whole number of ticks.
+abbrev pub HasUnit : ℕ → ℕ → Type 0
+HasUnit digits unit =
+    ((digits ≡ 0) × (unit ≡ 1_000_000)) ⊎ (((digits ≡ 3) × (unit ≡ 1000)) ⊎ ((digits ≡ 6) × (unit ≡ 1)))
 
--- where the pattern is up to the kth, the first n bytes are its text for the time
-abbrev pub PrintedUpTo : ℕ → ℕ → CivilTime → List ℕ → ℕ → Type 0
-PrintedUpTo k pattern t out n =
-    pattern ≤ k → (form : Form) → IsForm pattern form → take n out ≡ text_of form t
+abbrev pub HasTick : ℕ → ℕ → Type 0
+HasTick tick unit = (tick ≡ 1) ⊎ ((tick ≡ 1000) × (unit % 1000 ≡ 0))
+
+pub record IsSound (form : Form) : Type 0 where
+  pub unit : HasUnit (digits_of form.fraction) form.unit
+  pub tick : HasTick form.tick form.unit
+
+-- the text is a tail of the form, with so many microseconds, and the rest, which ends a stamp
+pub record IsTail (form : Form) (text : List ℕ) (microsecond : ℕ) (rest : List ℕ) : Type 0 where
+  pub is : text ≡ tail_text form (microsecond / form.unit) ++ rest
+  pub whole : microsecond % form.unit ≡ 0
+  pub small : microsecond < 1_000_000
+  pub ends : EndsStamp rest
+
+abbrev pub LacksTail : Form → List ℕ → Type 0
+LacksTail form text = (x : ℕ) (rest : List ℕ) → text ≡ tail_text form x ++ rest → ¬ EndsStamp rest
+
+-- no pattern from the first to before the end has that shape and a tail there
+abbrev pub LackTails : Shape → ℕ → ℕ → List ℕ → Type 0
+LackTails shape first end text =
+    (k : ℕ) (form : Form) → first ≤ k → k < end → IsForm k form → form.shape ≡ shape → LacksTail form text
+
+-- pattern k is the first that does
+pub record IsFirstTail (shape : Shape) (first end : ℕ) (text : List ℕ) (k tick microsecond : ℕ) (rest : List ℕ) : Type 0 where
+  pub form : Form
+  pub is : IsForm k form
+  pub same : form.shape ≡ shape
+  pub tick_is : tick ≡ form.tick
+  pub from : first ≤ k
+  pub to : k < end
+  pub tail : IsTail form text microsecond rest
+  pub least : LackTails shape first k text
+
+-- no pattern from the first to before the end fits the line
+abbrev pub NoneFits : ℕ → ℕ → List ℕ → Type 0
+NoneFits first end line = (k : ℕ) (moment : ℤ) (n : ℕ) → first ≤ k → k < end → ¬ Fits line k moment n
+
+-- pattern k is the first that does
+pub record IsFirstFit (first end : ℕ) (line : List ℕ) (k : ℕ) (moment : ℤ) (n : ℕ) : Type 0 where
+  pub from : first ≤ k
+  pub to : k < end
+  pub fits : Fits line k moment n
+  pub least : NoneFits first k line

@@ -1,10 +1,10 @@
-//! A day of the calendar with a time of that day, and the moment that they name.
-ghost use Rattle.std.specs.Prelude.{◌≡◌, ◌≢◌, ◌<◌, ◌≤◌, pos, ◌≤ℤ◌, IfSome, IfNone};
+//! A day of the calendar with a time of that day, and the microseconds that count to it.
+ghost use Rattle.std.specs.Prelude.{◌≡◌, ◌≢◌, ◌%◌, ◌<◌, ◌≤◌, ◌⊎◌, pos, ◌*ℤ◌, ◌≤ℤ◌, IfSome, IfNone};
 
 use jiff_core::civil::Date;
 
-// The milliseconds of a day.
-const DAY: i64 = 86_400_000;
+// The microseconds of a day.
+const DAY: i64 = 86_400_000_000;
 
 /// A day of the proleptic Gregorian calendar, and a time of that day.
 #[derive(Clone, Copy, Debug)]
@@ -13,33 +13,31 @@ pub struct CivilTime {
     pub hour: u8,
     pub minute: u8,
     pub second: u8,
-    pub millisecond: u16,
+    pub microsecond: u32,
     pub ghost hour_in: { hour < 24 },
     pub ghost minute_in: { minute < 60 },
     pub ghost second_in: { second < 60 },
-    pub ghost millisecond_in: { millisecond < 1000 },
+    pub ghost microsecond_in: { microsecond < 1_000_000 },
 }
 
 impl CivilTime {
     ghost use Rattle.time_patterns.specs.declared.civil_time.CivilTime.{CivilTime};
-    ghost use Rattle.time_patterns.specs.CivilTime.{moment_of, numbers_of};
+    ghost use Rattle.time_patterns.specs.CivilTime.{micros_of, numbers_of};
 
     /// The time with these numbers: the years after `first_year`, the month, the day, the hour,
-    /// the minute, the second and the millisecond. `None` where the calendar lacks the day or a
-    /// day lacks the time.
-    pub fn new(first_year: u16, numbers: [u16; 7]) -> Option<CivilTime>
+    /// the minute and the second. `None` where the calendar lacks the day or a day lacks the time.
+    #[inline(always)]
+    pub fn new(first_year: u16, numbers: [u32; 6]) -> Option<CivilTime>
         requires { first_year ≤ 9999 }
         ensures some { IfSome result (λ c. (pos first_year ≤ℤ c.date.year) × (numbers_of first_year c ≡ numbers)) }
         ensures none { IfNone result ((c : CivilTime) → pos first_year ≤ℤ c.date.year → numbers_of first_year c ≢ numbers) }
     {
-        let [years, month, day, hour, minute, second, millisecond] = numbers;
-        if years > 9999 || month > 12 || day > 31 {
+        let [years, month, day, hour, minute, second] = numbers;
+        if years > 9999 || month > 12 || day > 31 || hour > 23 || minute > 59 || second > 59 {
             return None;
         }
-        if hour > 23 || minute > 59 || second > 59 || millisecond > 999 {
-            return None;
-        }
-        let Ok(date) = Date::new((first_year + years) as i16, month as i8, day as i8) else {
+        let year = u32::from(first_year) + years;
+        let Ok(date) = Date::new(year as i16, month as i8, day as i8) else {
             return None;
         };
         Some(CivilTime {
@@ -47,51 +45,84 @@ impl CivilTime {
             hour: hour as u8,
             minute: minute as u8,
             second: second as u8,
-            millisecond,
+            microsecond: 0,
         })
     }
 
-    /// The milliseconds from 1970-01-01T00:00:00 to this time, negative before it.
-    pub fn moment(self) -> i64
-        ensures { result ≡ moment_of self }
+    /// The same second with other microseconds behind it.
+    #[inline(always)]
+    pub fn at_microsecond(self, microsecond: u32) -> CivilTime
+        requires { microsecond < 1_000_000 }
+        ensures date { result.date ≡ self.date }
+        ensures hour { result.hour ≡ self.hour }
+        ensures minute { result.minute ≡ self.minute }
+        ensures second { result.second ≡ self.second }
+        ensures microsecond { result.microsecond ≡ microsecond }
+    {
+        CivilTime {
+            date: self.date,
+            hour: self.hour,
+            minute: self.minute,
+            second: self.second,
+            microsecond,
+        }
+    }
+
+    /// The microseconds from 1970-01-01T00:00:00 to this time, negative before it.
+    pub fn micros(self) -> i64
+        ensures { result ≡ micros_of self }
     {
         let minutes = u32::from(self.hour) * 60 + u32::from(self.minute);
-        let clock = (minutes * 60 + u32::from(self.second)) * 1000 + u32::from(self.millisecond);
-        i64::from(self.date.to_unix_epoch_day()) * DAY + i64::from(clock)
+        let seconds = minutes * 60 + u32::from(self.second);
+        let clock = i64::from(seconds) * 1_000_000 + i64::from(self.microsecond);
+        i64::from(self.date.to_unix_epoch_day()) * DAY + clock
+    }
+
+    /// The count of ticks from 1970-01-01T00:00:00 to this time, where a tick is 1 or 1000
+    /// microseconds.
+    #[inline(always)]
+    pub fn moment(self, tick: u32) -> i64
+        requires { (tick ≡ 1) ⊎ ((tick ≡ 1000) × (self.microsecond % 1000 ≡ 0)) }
+        ensures { micros_of self ≡ result *ℤ pos tick }
+    {
+        if tick == 1 {
+            self.micros()
+        } else {
+            self.micros().div_euclid(1000)
+        }
     }
 
     /// The numbers of the time, as [`CivilTime::new`] takes them.
-    pub fn numbers(self, first_year: u16) -> [u16; 7]
+    pub fn numbers(self, first_year: u16) -> [u32; 6]
         requires after { pos first_year ≤ℤ self.date.year }
         ensures { result ≡ numbers_of first_year self }
     {
         [
-            self.date.year as u16 - first_year,
-            u16::from(self.date.month),
-            u16::from(self.date.day),
-            u16::from(self.hour),
-            u16::from(self.minute),
-            u16::from(self.second),
-            self.millisecond,
+            u32::from(self.date.year as u16 - first_year),
+            self.date.month as u32,
+            self.date.day as u32,
+            u32::from(self.hour),
+            u32::from(self.minute),
+            u32::from(self.second),
         ]
     }
 
-    /// The time of that moment, where the calendar reaches it.
-    pub fn at(moment: i64) -> Option<CivilTime>
-        ensures some { IfSome result (λ c. moment_of c ≡ moment) }
-        ensures none { IfNone result ((c : CivilTime) → moment_of c ≢ moment) }
+    /// The time so many microseconds after 1970-01-01T00:00:00, where the calendar reaches it.
+    pub fn at(micros: i64) -> Option<CivilTime>
+        ensures some { IfSome result (λ c. micros_of c ≡ micros) }
+        ensures none { IfNone result ((c : CivilTime) → micros_of c ≢ micros) }
     {
-        let Ok(date) = Date::from_unix_epoch_day(moment.div_euclid(DAY)) else {
+        let Ok(date) = Date::from_unix_epoch_day(micros.div_euclid(DAY)) else {
             return None;
         };
-        let clock = moment.rem_euclid(DAY) as u32;
-        let seconds = clock / 1000;
+        let clock = micros.rem_euclid(DAY) as u64;
+        let seconds = clock / 1_000_000;
         Some(CivilTime {
             date,
             hour: (seconds / 3600) as u8,
             minute: (seconds / 60 % 60) as u8,
             second: (seconds % 60) as u8,
-            millisecond: (clock % 1000) as u16,
+            microsecond: (clock % 1_000_000) as u32,
         })
     }
 }

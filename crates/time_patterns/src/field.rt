@@ -15,8 +15,8 @@ impl Field {
     /// Reads the byte and the number at the front of the text, and gives what is left of it.
     /// `None` where they do not stand there.
     #[inline(always)]
-    pub fn read<'a>(&self, text: &'a [u8]) -> Option<(u16, &'a [u8])>
-        requires { self.now.digits ≤ 4 }
+    pub fn read<'a>(&self, text: &'a [u8]) -> Option<(u32, &'a [u8])>
+        requires { self.now.digits ≤ 6 }
         ensures some { IfSome result (λ r. (text.now ≡ field_text self.now r.0 ++ r.1.now) × (r.0 < 10 ^ self.now.digits)) }
         ensures none { IfNone result ((x : ℕ) (rest : List ℕ) → text.now ≢ field_text self.now x ++ rest) }
     {
@@ -26,7 +26,7 @@ impl Field {
     }
 
     /// Writes the byte and the number at the place, and gives the place behind them.
-    pub fn write(&self, number: u16, out: &mut [u8], at: usize) -> usize
+    pub fn write(&self, number: u32, out: &mut [u8], at: usize) -> usize
         requires { at + length (field_text self.now number) ≤ length out.old }
         ensures text { take result out.new ≡ take at out.old ++ field_text self.now number }
         ensures rest { drop result out.new ≡ drop result out.old }
@@ -71,8 +71,8 @@ pub fn write_byte(byte: Option<u8>, out: &mut [u8], at: usize) -> usize
 
 // The number whose digits these bytes are.
 #[inline(always)]
-fn read_digits(text: &[u8]) -> Option<u16>
-    requires { length text.now ≤ 4 }
+fn read_digits(text: &[u8]) -> Option<u32>
+    requires { length text.now ≤ 6 }
     ensures some { IfSome result (λ x. (text.now ≡ digits (length text.now) x) × (x < 10 ^ length text.now)) }
     ensures none { IfNone result ((x : ℕ) → text.now ≢ digits (length text.now) x) }
 {
@@ -81,13 +81,13 @@ fn read_digits(text: &[u8]) -> Option<u16>
         if !byte.is_ascii_digit() {
             return None;
         }
-        number = number * 10 + u16::from(*byte - b'0');
+        number = number * 10 + u32::from(*byte - b'0');
     }
     Some(number)
 }
 
 // Fills the bytes with the last digits of the number.
-fn write_digits(out: &mut [u8], number: u16)
+fn write_digits(out: &mut [u8], number: u32)
     ensures { out.new ≡ digits (length out.old) number }
 {
     let mut left = number;

@@ -1,6 +1,6 @@
 //! What is true of all patterns, moments and lines: each law is the contract of a function that
 //! does nothing.
-ghost use Rattle.time_patterns.specs.Laws.{OneMoment, OneStamp, OneText, ReadsBack, ShortTexts};
+ghost use Rattle.time_patterns.specs.Laws.{AlikeVersions, FrontTells, OneMoment, OneStampOf, OneText, ReadsBack, ShortTexts};
 
 /// No two moments share a text of one pattern.
 pub fn text_tells_moment()
@@ -12,19 +12,29 @@ pub fn moment_tells_text()
     ensures { OneText }
 {}
 
-/// A line has one stamp at most.
+/// A message has one stamp at most in an archive's version.
 pub fn line_has_one_stamp()
-    ensures { OneStamp }
+    ensures { OneStampOf }
 {}
 
 /// What is printed reads back as its pattern and moment wherever a delimiter or the end follows,
-/// unless a lower pattern fits there too.
+/// unless a lower pattern of the version fits there too.
 pub fn printed_text_reads_back()
     ensures { ReadsBack }
 {}
 
-/// A stamp's text has 17 to 25 bytes: digits, `-`, `.`, `T`, `Z`, `:`, `,`, `/`, `[`, `]` and
+/// A stamp's text has 17 to 28 bytes: digits, `-`, `.`, `T`, `Z`, `:`, `,`, `/`, `[`, `]` and
 /// spaces.
 pub fn stamp_texts_are_short()
     ensures { ShortTexts }
+{}
+
+/// The stamp of a message is that of its first 32 bytes.
+pub fn front_tells_stamp()
+    ensures { FrontTells }
+{}
+
+/// Versions 1 and 2 have the same stamps.
+pub fn versions_are_alike()
+    ensures { AlikeVersions }
 {}

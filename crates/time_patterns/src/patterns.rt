@@ -1,157 +1,84 @@
-//! The tables of the ten patterns.
+//! The forms of the patterns.
+ghost use Rattle.std.specs.Prelude.{IfSome, IfNone};
+ghost use Rattle.time_patterns.specs.declared.form.Form.{Form};
+ghost use Rattle.time_patterns.specs.Forms.{IsForm};
+
 use crate::field::Field;
-use crate::fields::Fields;
+use crate::form::Form;
+use crate::shape::Shape;
 
-// A year of four digits at the front.
-const YEAR: Field = Field {
-    before: None,
-    digits: 4,
-};
-
-// Two digits after a byte.
-const DASH: Field = Field {
-    before: Some(b'-'),
-    digits: 2,
-};
-
-const SLASH: Field = Field {
-    before: Some(b'/'),
-    digits: 2,
-};
-
-const SPACE: Field = Field {
-    before: Some(b' '),
-    digits: 2,
-};
-
-const LETTER_T: Field = Field {
-    before: Some(b'T'),
-    digits: 2,
-};
-
-const COLON: Field = Field {
-    before: Some(b':'),
-    digits: 2,
-};
-
-// The millisecond after a byte.
-const COMMA: Field = Field {
+// Milliseconds and microseconds after a byte.
+const MILLIS_COMMA: Option<Field> = Some(Field {
     before: Some(b','),
     digits: 3,
-};
+});
 
-const POINT: Field = Field {
+const MILLIS_POINT: Option<Field> = Some(Field {
     before: Some(b'.'),
     digits: 3,
-};
+});
 
-/// `YYYY-MM-DD HH:MM:SS,mmm`.
-pub const ONE: Fields<7> = Fields {
-    first_year: 0,
-    last_year: 9999,
-    unit: 1,
-    fields: [YEAR, DASH, DASH, SPACE, COLON, COLON, COMMA],
-    close: None,
-};
+const MICROS_COMMA: Option<Field> = Some(Field {
+    before: Some(b','),
+    digits: 6,
+});
 
-/// `YYYY-MM-DD HH:MM:SS.mmm`.
-pub const TWO: Fields<7> = Fields {
-    first_year: 0,
-    last_year: 9999,
-    unit: 1,
-    fields: [YEAR, DASH, DASH, SPACE, COLON, COLON, POINT],
-    close: None,
-};
+const MICROS_POINT: Option<Field> = Some(Field {
+    before: Some(b'.'),
+    digits: 6,
+});
 
-/// `YYYY-MM-DDTHH:MM:SS.mmmZ`.
-pub const THREE: Fields<7> = Fields {
-    first_year: 0,
-    last_year: 9999,
-    unit: 1,
-    fields: [YEAR, DASH, DASH, LETTER_T, COLON, COLON, POINT],
-    close: Some(b'Z'),
-};
+// A form: its tick and its unit in microseconds, its shape, its fraction and its last byte.
+macro_rules! form {
+    ($tick:literal, $unit:literal, $shape:ident, $fraction:expr, $close:expr) => {
+        Form {
+            shape: Shape::$shape,
+            fraction: $fraction,
+            close: $close,
+            unit: $unit,
+            tick: $tick,
+        }
+    };
+}
 
-/// `YYYY-MM-DDTHH:MM:SS.mmm`.
-pub const FOUR: Fields<7> = Fields {
-    first_year: 0,
-    last_year: 9999,
-    unit: 1,
-    fields: [YEAR, DASH, DASH, LETTER_T, COLON, COLON, POINT],
-    close: None,
-};
+/// The forms of the patterns in order, the first of pattern 1. The patterns 1 to 10 count
+/// milliseconds, 11 to 26 microseconds.
+pub static FORMS: [Form; 26] = [
+    form!(1000, 1000, Dashed, MILLIS_COMMA, None),
+    form!(1000, 1000, Dashed, MILLIS_POINT, None),
+    form!(1000, 1000, Lettered, MILLIS_POINT, Some(b'Z')),
+    form!(1000, 1000, Lettered, MILLIS_POINT, None),
+    form!(1000, 1000, Bracketed, MILLIS_COMMA, Some(b']')),
+    form!(1000, 1_000_000, Lettered, None, Some(b'Z')),
+    form!(1000, 1_000_000, Lettered, None, None),
+    form!(1000, 1_000_000, Dashed, None, None),
+    form!(1000, 1_000_000, Slashed, None, None),
+    form!(1000, 1_000_000, Short, None, None),
+    form!(1, 1, Dashed, MICROS_COMMA, None),
+    form!(1, 1, Dashed, MICROS_POINT, None),
+    form!(1, 1, Lettered, MICROS_POINT, Some(b'Z')),
+    form!(1, 1, Lettered, MICROS_POINT, None),
+    form!(1, 1, Bracketed, MICROS_COMMA, Some(b']')),
+    form!(1, 1, Slashed, MICROS_POINT, None),
+    form!(1, 1000, Dashed, MILLIS_COMMA, None),
+    form!(1, 1000, Dashed, MILLIS_POINT, None),
+    form!(1, 1000, Lettered, MILLIS_POINT, Some(b'Z')),
+    form!(1, 1000, Lettered, MILLIS_POINT, None),
+    form!(1, 1000, Bracketed, MILLIS_COMMA, Some(b']')),
+    form!(1, 1_000_000, Lettered, None, Some(b'Z')),
+    form!(1, 1_000_000, Lettered, None, None),
+    form!(1, 1_000_000, Dashed, None, None),
+    form!(1, 1_000_000, Slashed, None, None),
+    form!(1, 1_000_000, Short, None, None),
+];
 
-/// `[YYYY-MM-DD HH:MM:SS,mmm]`.
-pub const FIVE: Fields<7> = Fields {
-    first_year: 0,
-    last_year: 9999,
-    unit: 1,
-    fields: [
-        Field {
-            before: Some(b'['),
-            digits: 4,
-        },
-        DASH,
-        DASH,
-        SPACE,
-        COLON,
-        COLON,
-        COMMA,
-    ],
-    close: Some(b']'),
-};
-
-/// `YYYY-MM-DDTHH:MM:SSZ`.
-pub const SIX: Fields<6> = Fields {
-    first_year: 0,
-    last_year: 9999,
-    unit: 1000,
-    fields: [YEAR, DASH, DASH, LETTER_T, COLON, COLON],
-    close: Some(b'Z'),
-};
-
-/// `YYYY-MM-DDTHH:MM:SS`.
-pub const SEVEN: Fields<6> = Fields {
-    first_year: 0,
-    last_year: 9999,
-    unit: 1000,
-    fields: [YEAR, DASH, DASH, LETTER_T, COLON, COLON],
-    close: None,
-};
-
-/// `YYYY-MM-DD HH:MM:SS`.
-pub const EIGHT: Fields<6> = Fields {
-    first_year: 0,
-    last_year: 9999,
-    unit: 1000,
-    fields: [YEAR, DASH, DASH, SPACE, COLON, COLON],
-    close: None,
-};
-
-/// `YYYY/MM/DD HH:MM:SS`.
-pub const NINE: Fields<6> = Fields {
-    first_year: 0,
-    last_year: 9999,
-    unit: 1000,
-    fields: [YEAR, SLASH, SLASH, SPACE, COLON, COLON],
-    close: None,
-};
-
-/// `YY/MM/DD HH:MM:SS`, of the years 2000 to 2099.
-pub const TEN: Fields<6> = Fields {
-    first_year: 2000,
-    last_year: 2099,
-    unit: 1000,
-    fields: [
-        Field {
-            before: None,
-            digits: 2,
-        },
-        SLASH,
-        SLASH,
-        SPACE,
-        COLON,
-        COLON,
-    ],
-    close: None,
-};
+/// The form of the pattern, if the number is one of a pattern.
+pub fn form_of(pattern: u8) -> Option<Form>
+    ensures some { IfSome result (λ f. IsForm pattern f) }
+    ensures none { IfNone result ((form : Form) → ¬ IsForm pattern form) }
+{
+    if pattern == 0 || pattern > 26 {
+        return None;
+    }
+    Some(FORMS[usize::from(pattern) - 1])
+}

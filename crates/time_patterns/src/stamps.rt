@@ -1,163 +1,108 @@
-//! The stamps of lines: read, tested and printed by the tables of all patterns.
-ghost use Rattle.std.specs.Prelude.{◌≡◌, ℕ, ℤ, ◌-◌, ◌≤◌, ◌↔◌, take, drop, IsTrue, IfSome, IfNone, slice_index};
-ghost use Rattle.time_patterns.specs.Forms.{IsForm};
-ghost use Rattle.time_patterns.specs.Stamps.{Fits, IsPrintable, IsStamp, Prints};
-ghost use Rattle.time_patterns.specs.Steps.{CanBegin, PrintedUpTo, ShowsUpTo, Tried};
-ghost use Rattle.time_patterns.specs.Tables.{form_of};
+//! The stamps of lines: read, tested and printed.
+ghost use Rattle.std.specs.Prelude.{◌≡◌, ◌≤◌, ◌↔◌, take, IsTrue, IfSome, IfNone};
+ghost use Rattle.time_patterns.specs.declared.form.Form.{Form};
+ghost use Rattle.time_patterns.specs.Stamps.{HasNoStamp, IsPrintable, IsStampOf, Prints};
+ghost use Rattle.time_patterns.specs.Steps.{IsFirstFit, IsFirstTail, IsSound, IsTail, LacksTail, LackTails, NoneFits};
 
 use crate::civil_time::CivilTime;
-use crate::fields::Fields;
-use crate::patterns;
+use crate::form::Form;
+use crate::patterns::{FORMS, form_of};
+use crate::shape::Shape;
 
 /// The time stamp at the front of a line.
 #[derive(Clone, Copy, Debug, PartialEq, Eq)]
 pub struct Stamp {
     /// The number of its pattern, from 1 on.
     pub pattern: u8,
-    /// The milliseconds from 1970-01-01T00:00:00, read without zone; negative before it.
+    /// The milliseconds, or from pattern 11 on the microseconds, from 1970-01-01T00:00:00, read
+    /// without zone; negative before it.
     pub moment: i64,
     /// The count of its bytes.
     pub len: u8,
 }
 
-// Runs the block for each pattern, from the first on, with its number and its table.
-macro_rules! each_pattern {
-    ($number:ident, $table:ident => $body:block) => {
-        each_pattern!(@ $number, $table => $body;
-            1 ONE, 2 TWO, 3 THREE, 4 FOUR, 5 FIVE, 6 SIX, 7 SEVEN, 8 EIGHT, 9 NINE, 10 TEN);
-    };
-    (@ $number:ident, $table:ident => $body:block; $($k:literal $name:ident),*) => {
-        $({
-            let $number: u8 = $k;
-            let $table = &patterns::$name;
-            $body
-        })*
-    };
+// What stands behind the seconds of a stamp, by the pattern that it is of.
+#[derive(Clone, Copy, Debug)]
+struct Tail<'a> {
+    pattern: u8,
+    tick: u32,
+    microsecond: u32,
+    rest: &'a [u8],
 }
 
-// The stamp that was found, or else that of the pattern, if it fits.
+// The microseconds and the rest of the text, where the form has the shape and its tail stands
+// there.
 #[inline(always)]
-fn read_next<const N: usize>(
-    found: Option<Stamp>,
-    pattern: u8,
-    table: &Fields<N>,
-    line: &[u8],
-) -> Option<Stamp>
-    requires count { N ≤ 7 }
-    requires form { IsForm pattern (form_of table.now) }
-    requires tried { Tried line.now (pattern - 1) found }
-    ensures { Tried line.now pattern result }
+fn read_form<'a>(form: &Form, shape: Shape, text: &'a [u8]) -> Option<(u32, &'a [u8])>
+    requires { IsSound form.now }
+    ensures some { IfSome result (λ r. (form.now.shape ≡ shape) × IsTail form.now text.now r.0 r.1.now) }
+    ensures none { IfNone result (form.now.shape ≡ shape → LacksTail form.now text.now) }
 {
-    if let Some(stamp) = found {
-        return Some(stamp);
+    if form.shape != shape {
+        return None;
     }
-    let (moment, len) = table.read(line)?;
+    form.read_tail(text)
+}
+
+// The tail of the first of the patterns from `first` to before `end` that have the shape and whose
+// tail stands at the front of the text.
+#[inline(always)]
+fn find_tail(shape: Shape, first: u8, end: u8, text: &[u8]) -> Option<Tail<'_>>
+    requires { (1 ≤ first) × (end ≤ 27) }
+    ensures some { IfSome result (λ r. IsFirstTail shape first end text.now r.pattern r.tick r.microsecond r.rest.now) }
+    ensures none { IfNone result (LackTails shape first end text.now) }
+{
+    for pattern in first..end {
+        let form = &FORMS[usize::from(pattern) - 1];
+        if let Some((microsecond, rest)) = read_form(form, shape, text) {
+            return Some(Tail {
+                pattern,
+                tick: form.tick,
+                microsecond,
+                rest,
+            });
+        }
+    }
+    None
+}
+
+// The stamp of the line by the patterns from `first` to before `end`. The day and the time of day
+// are read once.
+#[inline(always)]
+fn read(line: &[u8], first: u8, end: u8) -> Option<Stamp>
+    requires { (1 ≤ first) × (end ≤ 27) }
+    ensures some { IfSome result (λ s. IsFirstFit first end line.now s.pattern s.moment s.len) }
+    ensures none { IfNone result (NoneFits first end line.now) }
+{
+    let shape = Shape::of(line)?;
+    let (numbers, behind) = shape.read(line)?;
+    let time = CivilTime::new(shape.first_year(), numbers)?;
+    let tail = find_tail(shape, first, end, behind)?;
+    let time = time.at_microsecond(tail.microsecond);
     Some(Stamp {
-        pattern,
-        moment,
-        len,
+        pattern: tail.pattern,
+        moment: time.moment(tail.tick),
+        len: (line.len() - tail.rest.len()) as u8,
     })
 }
 
-// Whether the pattern is the one with this number and prints the time, where `shown` tells
-// whether it is one before it that does.
-fn shows_next<const N: usize>(
-    shown: bool,
-    number: u8,
-    table: &Fields<N>,
-    pattern: u8,
-    time: CivilTime,
-) -> bool
-    requires count { N ≤ 7 }
-    requires form { IsForm number (form_of table.now) }
-    requires shown { IsTrue shown ↔ ShowsUpTo (number - 1) pattern time }
-    ensures { IsTrue result ↔ ShowsUpTo number pattern time }
-{
-    shown || pattern == number && table.shows(time)
-}
-
-// Prints the time where the pattern is the one with this number, and gives the length of the
-// text; `len` is that of a pattern before it.
-fn print_next<const N: usize>(
-    len: usize,
-    number: u8,
-    table: &Fields<N>,
-    pattern: u8,
-    time: CivilTime,
-    out: &mut [u8; 32],
-) -> usize
-    requires count { N ≤ 7 }
-    requires form { IsForm number (form_of table.now) }
-    requires shown { ShowsUpTo 10 pattern time }
-    requires printed { PrintedUpTo (number - 1) pattern time out.old len }
-    requires end { len ≤ 32 }
-    ensures printed { PrintedUpTo number pattern time out.new result }
-    ensures end { result ≤ 32 }
-{
-    if pattern == number {
-        table.print(time, out)
-    } else {
-        len
-    }
-}
-
-// Whether the line begins with a byte with which some pattern's text begins: a digit or `[`.
-#[inline]
-fn may_begin(line: &[u8]) -> bool
-    ensures { IsTrue result ↔ CanBegin (slice_index line.now 0) }
-{
-    match line {
-        [first, ..] => *first == b'[' || first.is_ascii_digit(),
-        [] => false,
-    }
-}
-
-// The stamp of the line, by trying every pattern.
-fn read_any(line: &[u8]) -> Option<Stamp>
-    ensures some { IfSome result (λ s. IsStamp line.now s.pattern s.moment s.len) }
-    ensures none { IfNone result ((k : ℕ) (moment : ℤ) (n : ℕ) → ¬ Fits line.now k moment n) }
-{
-    let mut found = None;
-    each_pattern!(pattern, table => {
-        found = read_next(found, pattern, table, line);
-    });
-    found
-}
-
-/// The time stamp with which the line begins: that of the first pattern of which a text stands
-/// there, with a delimiter or the line's end behind it. `None` exactly where no pattern fits.
+/// The time stamp with which the line begins, where moments count milliseconds: that of the first
+/// of the patterns 1 to 10 of which a text stands there, with a delimiter or the line's end behind
+/// it. `None` exactly where none of them fits.
 pub fn read_stamp(line: &[u8]) -> Option<Stamp>
-    ensures some { IfSome result (λ s. IsStamp line.now s.pattern s.moment s.len) }
-    ensures none { IfNone result ((k : ℕ) (moment : ℤ) (n : ℕ) → ¬ Fits line.now k moment n) }
+    ensures some { IfSome result (λ s. IsStampOf 1 line.now s.pattern s.moment s.len) }
+    ensures none { IfNone result (HasNoStamp 1 line.now) }
 {
-    if !may_begin(line) {
-        return None;
-    }
-    read_any(line)
+    read(line, 1, 11)
 }
 
-// Whether the time is one of the pattern's.
-fn shows(pattern: u8, time: CivilTime) -> bool
-    ensures { IsTrue result ↔ ShowsUpTo 10 pattern time }
+/// The time stamp with which the line begins, where moments count microseconds: that of the first
+/// of the patterns 11 to 26 that fits. `None` exactly where none of them does.
+pub fn read_micro(line: &[u8]) -> Option<Stamp>
+    ensures some { IfSome result (λ s. IsStampOf 3 line.now s.pattern s.moment s.len) }
+    ensures none { IfNone result (HasNoStamp 3 line.now) }
 {
-    let mut shown = false;
-    each_pattern!(number, table => {
-        shown = shows_next(shown, number, table, pattern, time);
-    });
-    shown
-}
-
-// Prints a time of the pattern's to the front of `out`, and gives the length of its text.
-fn print(pattern: u8, time: CivilTime, out: &mut [u8; 32]) -> usize
-    requires { ShowsUpTo 10 pattern time }
-    ensures printed { PrintedUpTo 10 pattern time out.new result }
-    ensures end { result ≤ 32 }
-{
-    let mut len = 0;
-    each_pattern!(number, table => {
-        len = print_next(len, number, table, pattern, time, out);
-    });
-    len
+    read(line, 11, 27)
 }
 
 /// Whether the pattern prints the moment: its number is one of the patterns', the moment lies in
@@ -165,21 +110,27 @@ fn print(pattern: u8, time: CivilTime, out: &mut [u8; 32]) -> usize
 pub fn stamp_ok(pattern: u8, moment: i64) -> bool
     ensures { IsTrue result ↔ IsPrintable pattern moment }
 {
-    match CivilTime::at(moment) {
-        Some(time) => shows(pattern, time),
+    let Some(form) = form_of(pattern) else {
+        return false;
+    };
+    match form.time(moment) {
+        Some(time) => form.shows(time),
         None => false,
     }
 }
 
 /// Prints the moment by the pattern to the front of `out`, and gives the length of the text: 17 to
-/// 25 bytes. What stands behind it is left open. [`stamp_ok`] is the test of the condition.
+/// 28 bytes. What stands behind it is left open. [`stamp_ok`] is the test of the condition.
 pub fn print_stamp(pattern: u8, moment: i64, out: &mut [u8; 32]) -> usize
     requires { IsPrintable pattern moment }
     ensures text { Prints pattern moment (take result out.new) }
     ensures end { result ≤ 32 }
 {
-    match CivilTime::at(moment) {
-        Some(time) => print(pattern, time, out),
+    let Some(form) = form_of(pattern) else {
+        unreachable!();
+    };
+    match form.time(moment) {
+        Some(time) => form.print(time, out),
         None => unreachable!(),
     }
 }

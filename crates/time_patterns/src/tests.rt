@@ -1,10 +1,13 @@
 //! Worked stamps, and vectors that were computed apart from this crate.
-use super::{print_stamp, read_stamp, stamp_ok};
+use super::{Stamp, print_stamp, read_micro, read_stamp, stamp_ok};
 use std::process::Abort;
 
-// The line has this stamp, or none, and the stamp prints back to the line's front.
-fn assert_read(rt: &impl Abort, line: &[u8], want: Option<(u8, i64, u8)>) {
-    let got = read_stamp(line).map(|stamp| (stamp.pattern, stamp.moment, stamp.len));
+// A stamp's pattern, moment and length.
+type Numbers = (u8, i64, u8);
+
+// The stamp that was read is this, or none, and prints back to the line's front.
+fn assert_stamp(rt: &impl Abort, line: &[u8], read: Option<Stamp>, want: Option<Numbers>) {
+    let got = read.map(|stamp| (stamp.pattern, stamp.moment, stamp.len));
     assert_eq!(rt; got, want);
     if let Some((pattern, moment, len)) = got {
         assert!(rt; stamp_ok(pattern, moment));
@@ -15,9 +18,14 @@ fn assert_read(rt: &impl Abort, line: &[u8], want: Option<(u8, i64, u8)>) {
     }
 }
 
+// The line has this stamp where moments count milliseconds, or none.
+fn assert_read(rt: &impl Abort, line: &[u8], want: Option<Numbers>) {
+    assert_stamp(rt, line, read_stamp(line), want);
+}
+
 #[test]
 fn worked_stamps_are_read(rt: HostRuntime) {
-    let rows: [(&[u8], Option<(u8, i64, u8)>); 10] = [
+    let rows: [(&[u8], Option<Numbers>); 10] = [
         (b"[2015-03-23 05:38:41,123] x", Some((5, 1427089121123, 25))),
         (b"0000-01-01 00:00:00.000", Some((2, -62167219200000, 23))),
         (b"00/02/29 00:00:00", Some((10, 951782400000, 17))),
@@ -38,6 +46,78 @@ fn worked_stamps_are_read(rt: HostRuntime) {
 }
 
 #[test]
+fn microseconds_are_read(rt: HostRuntime) {
+    let rows: [(&[u8], Option<Numbers>, Option<Numbers>); 14] = [
+        (
+            b"2023-11-14 22:13:20,123456 x",
+            Some((11, 1700000000123456, 26)),
+            Some((8, 1700000000000, 19)),
+        ),
+        (
+            b"2023-11-14 22:13:20,123 x",
+            Some((17, 1700000000123000, 23)),
+            Some((1, 1700000000123, 23)),
+        ),
+        (
+            b"2023-11-14 22:13:20.123456 x",
+            Some((12, 1700000000123456, 26)),
+            None,
+        ),
+        (
+            b"2023-11-14T22:13:20.000001Z",
+            Some((13, 1700000000000001, 27)),
+            None,
+        ),
+        (
+            b"2023-11-14T22:13:20.999999 x",
+            Some((14, 1700000000999999, 26)),
+            None,
+        ),
+        (
+            b"[2023-11-14 22:13:20,500000]: x",
+            Some((15, 1700000000500000, 28)),
+            None,
+        ),
+        (
+            b"2023/11/14 22:13:20.500000 x",
+            Some((16, 1700000000500000, 26)),
+            None,
+        ),
+        (b"2023-11-14T22:13:20.5000000 x", None, None),
+        (
+            b"2023-11-14 22:13:20,12345 x",
+            Some((24, 1700000000000000, 19)),
+            Some((8, 1700000000000, 19)),
+        ),
+        (
+            b"2023/11/14 22:13:20 x",
+            Some((25, 1700000000000000, 19)),
+            Some((9, 1700000000000, 19)),
+        ),
+        (
+            b"99/12/31 23:59:59",
+            Some((26, 4102444799000000, 17)),
+            Some((10, 4102444799000, 17)),
+        ),
+        (
+            b"0000-01-01T00:00:00.000000",
+            Some((14, -62167219200000000, 26)),
+            None,
+        ),
+        (
+            b"9999-12-31 23:59:59,999999",
+            Some((11, 253402300799999999, 26)),
+            Some((8, 253402300799000, 19)),
+        ),
+        (b"24/02/30 22:13:20", None, None),
+    ];
+    for (line, micro, milli) in rows {
+        assert_stamp(&rt, line, read_micro(line), micro);
+        assert_read(&rt, line, milli);
+    }
+}
+
+#[test]
 fn moments_are_tested(rt: HostRuntime) {
     let rows = [
         (8, 1, false),
@@ -51,7 +131,19 @@ fn moments_are_tested(rt: HostRuntime) {
         (5, 253402300799999, true),
         (5, 253402300800000, false),
         (0, 0, false),
-        (11, 0, false),
+        (11, 0, true),
+        (26, 946684800000000, true),
+        (26, 946684799000000, false),
+        (16, -62167219200000000, true),
+        (12, 253402300799999999, true),
+        (12, 253402300800000000, false),
+        (17, 1000, true),
+        (17, 1, false),
+        (23, 1000000, true),
+        (23, 1000, false),
+        (27, 0, false),
+        (255, 0, false),
+        (11, i64::MAX, false),
         (1, i64::MAX, false),
         (1, i64::MIN, false),
     ];
@@ -61,7 +153,7 @@ fn moments_are_tested(rt: HostRuntime) {
 }
 
 // Lines, and their stamps as pattern, moment and length.
-const VECTORS: &[(&[u8], Option<(u8, i64, u8)>)] = &[
+const VECTORS: &[(&[u8], Option<Numbers>)] = &[
     (
         b"2023-11-14T22:13:20.980Z:a\x13a\\b\x13\x800.5\x80",
         Some((3, 1700000000980, 24)),

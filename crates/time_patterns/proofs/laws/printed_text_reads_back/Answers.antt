@@ -1,4 +1,4 @@
-use Rattle.time_patterns.proofs.LawLemmas.{reads_back}
+use Rattle.time_patterns.proofs.VersionLemmas.{reads_back}
 use Rattle.time_patterns.proofs.laws.printed_text_reads_back.Goals as goal
 
 pub returns : goal.returns

@@ -1,15 +1,22 @@
-use Rattle.std.proofs.Common.{◌≡◌, ◌∙◌, to_z-of_z}
-use Rattle.time_patterns.specs.CivilTime.{moment_of}
+use Rattle.std.proofs.Common.{◌≡◌, ◌∙◌, ◌*ℤ◌, pos, refl, to_z-of_z}
+use Rattle.time_patterns.specs.CivilTime.{micros_of}
+use Rattle.time_patterns.proofs.PlaceLemmas.{IsForm_sound}
 use Rattle.time_patterns.proofs.StampLemmas.{printable}
 use Rattle.time_patterns.proofs.stamps.print_stamp.Goals as goal
 
-pub print-requires : goal.print-requires
-print-requires c =
-    let same : moment_of c.in-Some.time ≡ c.args.moment = c.in-Some.ensures.some ∙ to_z-of_z c.ranges.moment in
-    (printable c.args.pattern c.args.moment c.in-Some.time same).1 c.requires
+pub time-requires : goal.time-requires
+time-requires c = IsForm_sound c.args.pattern c.in-Some.form c.in-Some.ensures.some
+
+pub print-requires-clause-sound : goal.print-requires-clause-sound
+print-requires-clause-sound c = IsForm_sound c.args.pattern c.in-Some.form c.in-Some.ensures.some
+
+pub print-requires-clause-shown : goal.print-requires-clause-shown
+print-requires-clause-shown c =
+    let e = rw (to_z-of_z c.ranges.moment) at c.in-Some-time.ensures.some in
+    (printable c.args.pattern c.in-Some.form c.in-Some.ensures.some c.args.moment c.in-Some-time.time e).1 c.requires
 
 pub returns-clause-text : goal.returns-clause-text
 returns-clause-text c =
-    let same : moment_of c.in-Some.time ≡ c.args.moment = c.in-Some.ensures.some ∙ to_z-of_z c.ranges.moment in
-    let shown = (printable c.args.pattern c.args.moment c.in-Some.time same).1 c.requires in
-    (shown.1, shown.2, (c.in-Some.time, same, shown.3, c.print.ensures.printed shown.0 shown.1 shown.2))
+    let e = rw (to_z-of_z c.ranges.moment) at c.in-Some-time.ensures.some in
+    let shown = (printable c.args.pattern c.in-Some.form c.in-Some.ensures.some c.args.moment c.in-Some-time.time e).1 c.requires in
+    (c.in-Some.form, c.in-Some.ensures.some, (c.in-Some-time.time, e, shown, c.print.ensures.text))

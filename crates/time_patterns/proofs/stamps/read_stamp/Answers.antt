@@ -1,6 +1,8 @@
-use Rattle.time_patterns.proofs.FrontLemmas.{Fits-first}
+use Rattle.time_patterns.proofs.StampLemmas.{stamp_of, no_stamp}
 use Rattle.time_patterns.proofs.stamps.read_stamp.Goals as goal
 
-pub returns-then-not-may_begin-clause-none : goal.returns-then-not-may_begin-clause-none
-returns-then-not-may_begin-clause-none c = λ k m n fits.
-    let told = c.may_begin.ensures.1 (Fits-first c.args.line.now k m n fits) in cc
+pub returns-clause-some : goal.returns-clause-some
+returns-clause-some c = stamp_of 1 c.args.line.now c.read.result c.read.ensures.some
+
+pub returns-clause-none : goal.returns-clause-none
+returns-clause-none c = no_stamp 1 c.args.line.now c.read.result c.read.ensures.none

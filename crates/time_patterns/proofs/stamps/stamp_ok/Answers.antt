@@ -1,11 +1,17 @@
-use Rattle.std.proofs.Common.{◌≡◌, ◌∙◌, to_z-of_z}
-use Rattle.time_patterns.specs.CivilTime.{moment_of}
+use Rattle.std.proofs.Common.{◌≡◌, ◌∙◌, ◌*ℤ◌, pos, refl, to_z-of_z}
+use Rattle.time_patterns.specs.CivilTime.{micros_of}
+use Rattle.time_patterns.proofs.PlaceLemmas.{IsForm_sound}
 use Rattle.time_patterns.proofs.StampLemmas.{printable}
 use Rattle.time_patterns.proofs.stamps.stamp_ok.Goals as goal
 
-pub returns-in-Some : goal.returns-in-Some
-returns-in-Some c =
-    let same : moment_of c.in-Some.time ≡ c.args.moment = c.in-Some.ensures.some ∙ to_z-of_z c.ranges.moment in
-    let shown = c.shows.ensures in
-    let prints = printable c.args.pattern c.args.moment c.in-Some.time same in
-    (λ h. prints.0 (shown.0 h), λ h. shown.1 (prints.1 h))
+pub time-requires : goal.time-requires
+time-requires c = IsForm_sound c.args.pattern c.in-Some.form c.in-Some.ensures.some
+
+pub shows-requires : goal.shows-requires
+shows-requires c = IsForm_sound c.args.pattern c.in-Some.form c.in-Some.ensures.some
+
+pub returns-in-Some-time : goal.returns-in-Some-time
+returns-in-Some-time c =
+    let e = rw (to_z-of_z c.ranges.moment) at c.in-Some-time.ensures.some in
+    let prints = printable c.args.pattern c.in-Some.form c.in-Some.ensures.some c.args.moment c.in-Some-time.time e in
+    (λ h. prints.0 (c.shows.ensures.0 h), λ h. c.shows.ensures.1 (prints.1 h))
