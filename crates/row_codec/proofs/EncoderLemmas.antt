@@ -1,11 +1,11 @@
 -- What an encoder read and named is the row of its message.
-use Rattle.std.proofs.Common.{◌≡◌, ℕ, ◌+◌, ◌-◌, ◌*◌, ◌<◌, ◌≤◌, zero, suc, Bool, true, false, cond, List, [], ◌∷◌, ◌++◌, length, map, take, drop, get_or, refl, sym, ◌∙◌, ap, subst, arith, length-append, length-take-le, take-append-drop}
-use Rattle.std.specs.Prelude.{ℤ, Option, None, Some, All, IfNone, IfSome, nat_le, slice_get, slice_range}
+use Rattle.std.proofs.Common.{◌≡◌, ℕ, ◌+◌, ◌-◌, ◌*◌, ◌<◌, ◌≤◌, Bool, true, false, cond, List, [], ◌∷◌, ◌++◌, length, map, take, drop, get_or, refl, sym, ◌∙◌, ap, subst, arith, length-append, length-take-le, take-append-drop}
+use Rattle.std.specs.Prelude.{ℤ, pos, Option, None, Some, All, IfNone, IfSome, ◌↔◌, slice_get, slice_range}
 use Rattle.std.proofs.lemmas.List.{take_rest}
 use Rattle.std.specs.List.{Contains}
 use Rattle.std.proofs.lemmas.Bool.Decides.{nat_tests}
 use Rattle.std.proofs.lemmas.List.Elements.{All-map, All-weaker}
-use Rattle.std.proofs.lemmas.Option.{get_or_from_slice_get, slice_get_within}
+use Rattle.std.proofs.lemmas.Option.{get_or_from_slice_get}
 use Rattle.var_codec.specs.declared.Coded.{Coded}
 use Rattle.var_codec.specs.declared.Coded.TheVariants.{Whole as WholeWord, Decimal as DecimalWord, Word as DictionaryWord}
 use Rattle.logtype_text.specs.declared.symbols.Kind.{Kind}
@@ -19,8 +19,8 @@ use Rattle.logtype_text.specs.Encoded.{AreCoded, AreWithin, IsEncoded, texts_at,
 use Rattle.logtype_text.specs.Fair.{IsFairType, IsFairWord}
 use Rattle.logtype_text.specs.Laws.{GoodIsTypeText}
 use Rattle.logtype_text.proofs.PartsLemmas.{length-range}
-use Rattle.time_patterns.specs.Stamps.{Fits, HasStamp, IsStamp, IsStampOf}
-use Rattle.time_patterns.specs.Forms.{forms}
+use Rattle.time_patterns.specs.Stamps.{HasNoStamp, HasStamp, IsStampOf}
+use Rattle.time_patterns.proofs.VersionLemmas.{alike_versions}
 use Rattle.time_patterns.specs.declared.stamps.Stamp.{Stamp}
 use Rattle.column_store.specs.declared.row.Row.{Row}
 use Rattle.row_codec.specs.Means.{EachWord, HasWord, IsCanonical}
@@ -208,36 +208,20 @@ pub lent_texts : (line : List ℕ) (n : ℕ) (places lent : List Span) (texts : 
 lent_texts line n places lent texts same are =
     ap (λ l. texts_at l lent) (take_rest line n) ∙ ap (λ l. texts_at (drop n line) l) same ∙ are
 
--- the patterns below version 3
-below_three : (version : ℕ) → version < 3 → nat_le 3 version ≡ false
-below_three zero low = refl
-below_three (suc zero) low = refl
-below_three (suc (suc zero)) low = refl
-below_three (suc (suc (suc n))) low = absurd (omega arith)
-
-pattern_between : (line : List ℕ) (k : ℕ) (moment : ℤ) (n : ℕ) → Fits line k moment n → (1 ≤ k) × (k ≤ 10)
-pattern_between line k moment n fits =
-    let is = fits.1.1 in
-    let low = is.0 in
-    let within = slice_get_within forms (k - 1) fits.1.0 is.1 in
-    (low, omega (arith, within))
-
-stamp_below : (version : ℕ) (line : List ℕ) (k : ℕ) (moment : ℤ) (n : ℕ) → nat_le 3 version ≡ false → IsStamp line k moment n → IsStampOf version line k moment n
-stamp_below version line k moment n low is =
-    let between = pattern_between line k moment n is.fits in
-    record {
-      pattern = (subst (λ b. cond b 11 1 ≤ k) (sym low) between.0, subst (λ b. k ≤ cond b 26 10) (sym low) between.1);
-      fits = is.fits;
-      least = λ j m l _ before. is.least j m l before;
-    }
-
--- the front of a line
-pub front_is : (version : ℕ) (line : List ℕ) (o : Option Stamp) → version < 3
-    → IfSome o (λ s. IsStamp line s.pattern s.moment s.len) → IfNone o ((k : ℕ) (moment : ℤ) (n : ℕ) → ¬ Fits line k moment n)
+-- The front of a line, in each version whose stamps are those of the version that was read by.
+pub front_like : (like version : ℕ) (line : List ℕ) (o : Option Stamp) → (like < 3 ↔ version < 3)
+    → IfSome o (λ s. IsStampOf like line s.pattern s.moment s.len) → IfNone o (HasNoStamp like line)
     → HasStamp version line (front_of o).pattern (front_of o).moment (front_of o).len
-front_is version line None low some none = (λ k moment n _. none k moment n, refl, refl)
-front_is version line (Some s) low some none = has_stamp version line s.pattern s.moment s.len (stamp_below version line s.pattern s.moment s.len (below_three version low) some)
+front_like like version line None same some none = alike_versions like version line 0 (pos 0) 0 same (none, refl, refl)
+front_like like version line (Some s) same some none = alike_versions like version line s.pattern s.moment s.len same (has_stamp like line s.pattern s.moment s.len some)
 
-pub front_inside : (line : List ℕ) (o : Option Stamp) → IfSome o (λ s. IsStamp line s.pattern s.moment s.len) → (front_of o).len ≤ length line
+-- the front of a line below version 3
+pub front_is : (version : ℕ) (line : List ℕ) (o : Option Stamp) → version < 3
+    → IfSome o (λ s. IsStampOf 1 line s.pattern s.moment s.len) → IfNone o (HasNoStamp 1 line)
+    → HasStamp version line (front_of o).pattern (front_of o).moment (front_of o).len
+front_is version line o low some none =
+    let one : 1 < 3 = omega arith in front_like 1 version line o (λ _. low, λ _. one) some none
+
+pub front_inside : (line : List ℕ) (o : Option Stamp) → IfSome o (λ s. IsStampOf 1 line s.pattern s.moment s.len) → (front_of o).len ≤ length line
 front_inside line None some = omega arith
 front_inside line (Some s) some = (fits_front line s.pattern s.moment s.len some.fits).1
