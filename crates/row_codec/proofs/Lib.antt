@@ -1,3 +1,4 @@
+pub mod BodyLemmas
 pub mod EncoderLemmas
 pub mod MeansLemmas
 pub mod StampLemmas

@@ -74,7 +74,7 @@ meaning_is_spelling row types words message means = record {
 }
 
 -- a word of a row has one text
-one_writing : (words : List (List ℕ)) (kind : Kind) (s t : List ℕ) (word : ℕ) → IsWritten words kind s word → IsWritten words kind t word → s ≡ t
+pub one_writing : (words : List (List ℕ)) (kind : Kind) (s t : List ℕ) (word : ℕ) → IsWritten words kind s word → IsWritten words kind t word → s ≡ t
 one_writing words Whole s t word (n, a, n_is) (m, b, m_is) =
     let same : n ≡ m = sym (to_z-of_z w64 n a.fits) ∙ ap (cast_signed w64) (sym n_is ∙ m_is) ∙ to_z-of_z w64 m b.fits in
     a.prints ∙ ap signed_decimal same ∙ sym b.prints

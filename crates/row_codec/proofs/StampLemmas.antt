@@ -1,9 +1,10 @@
 -- Stamps as rows keep them.
-use Rattle.std.proofs.Common.{◌≡◌, ℕ, ◌≤◌, zero, suc, true, false, Bool, cond, List, length, take, sym, ◌∙◌, ap, subst, arith, length-append}
-use Rattle.std.specs.Prelude.{ℤ, nat_le}
+use Rattle.std.proofs.Common.{◌≡◌, ℕ, ◌≤◌, zero, suc, true, false, Bool, cond, List, length, take, refl, sym, ◌∙◌, ap, subst, arith, length-append}
+use Rattle.std.specs.Prelude.{◌≢◌, ◌↔◌, ℤ, nat_le}
 use Rattle.std.proofs.lemmas.List.{take_at}
-use Rattle.time_patterns.specs.Stamps.{Fits, HasStamp, IsStampOf, Prints}
+use Rattle.time_patterns.specs.Stamps.{Fits, HasStamp, IsPrintable, IsStampOf, Prints}
 use Rattle.row_codec.specs.Means.{HasStampText}
+use Rattle.row_codec.specs.StepsBody.{HasStampWriting}
 
 -- a pattern of a version is not 0
 no_pattern : (micro : Bool) → cond micro 11 1 ≤ 0 → ⊥
@@ -23,3 +24,12 @@ fits_front line k moment n (text, prints, (rest, cut, ends, long)) =
 pub stamp_front : (version : ℕ) (line : List ℕ) (k : ℕ) (moment : ℤ) (n : ℕ) → HasStamp version line k moment n → HasStampText k moment (take n line) × (n ≤ length line)
 stamp_front version line zero moment n has = ((has.1, ap (λ m. take m line) has.2), omega (arith, has.2))
 stamp_front version line (suc k) moment n has = fits_front line (suc k) moment n has.fits
+
+-- where there is a stamp, its pattern prints the moment
+pub stamp_writing : (k : ℕ) (moment : ℤ) → k ≢ 0 → HasStampWriting k moment ↔ IsPrintable k moment
+stamp_writing zero moment some = absurd (some refl)
+stamp_writing (suc k) moment some = (λ has. has, λ has. has)
+
+pub stamp_printed : (k : ℕ) (moment : ℤ) (text : List ℕ) → k ≢ 0 → Prints k moment text → HasStampText k moment text
+stamp_printed zero moment text some prints = absurd (some refl)
+stamp_printed (suc k) moment text some prints = prints

@@ -5,3 +5,4 @@ pub mod Messages
 pub mod Naming
 pub mod Numbers
 pub mod Steps
+pub mod StepsBody

@@ -6,11 +6,15 @@
 #![tactic(auto)]
 
 mod encoder;
+mod expanding;
+mod fitting;
 mod laws;
 mod namer;
 mod names;
 
 pub use encoder::Encoder;
+pub use expanding::{expand, expand_onto};
+pub use fitting::row_fits;
 pub use laws::{canonical_stays, means_one};
 use logtype_text::MAX_WORD_LEN;
 pub use namer::{NameRefusal, Namer, Which};

@@ -1,0 +1,185 @@
+//! From a row back to its message.
+ghost use Rattle.std.specs.Prelude.{◌≡◌, ◌+◌, ◌≤◌, ◌++◌, ℕ, List, length, IfOk, OnErr, OnOk};
+ghost use mathlib.Core.List.{IsPrefix};
+ghost use Rattle.column_store.specs.Row.{row_of};
+ghost use Rattle.logtype_text.specs.TypeText.{text_of_symbol};
+ghost use Rattle.row_codec.specs.Means.{HasSpelling, HasStampText, IsSpelling, IsWritten, Means};
+ghost use Rattle.row_codec.specs.StepsBody.{HasBody, HasStampWriting, HasWriting, IsBody, Puts};
+
+use crate::Names;
+use crate::fitting::dictionary_word;
+use column_store::RowRef;
+use log_seams::Text;
+use logtype_text::{Kind, Symbol, first_symbol, plain_front};
+use std::alloc::{AllocError, Global};
+use std::sync::ledger::Ledger;
+use step_count::Steps;
+use time_patterns::print_stamp;
+use var_codec::{decimal_text, whole_text};
+
+/// Appends what a row is written as, and counts one step. Where the row means a message, this is the
+/// message. Without memory nothing is appended.
+pub fn expand_onto<N: Names, L: Ledger>(
+    row: RowRef<'_>,
+    names: &N,
+    out: &mut Vec<u8>,
+    steps: &mut Steps<L>,
+) -> Result<(), AllocError>
+    requires { HasSpelling (row_of row) (N.types names.now) (N.words names.now) }
+    ensures counted { steps.new ≡ steps.old + 1 }
+    ensures written { OnOk result ((text : List ℕ) × IsSpelling (row_of row.entry) (N.types names.now) (N.words names.now) text
+        × (out.new.items ≡ out.old.items ++ text)) }
+    ensures kept { OnErr result (out.new.items ≡ out.old.items) }
+{
+    steps.tick();
+    let len = out.len();
+    match put_row(row, names, out) {
+        Ok(()) => Ok(()),
+        Err(error) => {
+            out.truncate(len);
+            Err(error)
+        }
+    }
+}
+
+/// What a row is written as, and counts one step. Where the row means a message, this is the message.
+pub fn expand<N: Names, L: Ledger>(
+    alloc: Global,
+    row: RowRef<'_>,
+    names: &N,
+    steps: &mut Steps<L>,
+) -> Result<Text, AllocError>
+    requires { HasSpelling (row_of row) (N.types names.now) (N.words names.now) }
+    ensures counted { steps.new ≡ steps.old + 1 }
+    ensures written { IfOk result (IsSpelling (row_of row.entry) (N.types names.now) (N.words names.now)) }
+    ensures means { (message : List ℕ) → Means (row_of row.entry) (N.types names.now) (N.words names.now) message
+        → IfOk result (λ text. text ≡ message) }
+{
+    let mut text = Vec::new(alloc);
+    expand_onto(row, names, &mut text, steps)?;
+    Ok(Text::new(text))
+}
+
+// Appends what a row is written as; without memory, a part of it.
+fn put_row<N: Names>(row: RowRef<'_>, names: &N, out: &mut Vec<u8>) -> Result<(), AllocError>
+    requires { HasSpelling (row_of row) (N.types names.now) (N.words names.now) }
+    ensures written { OnOk result ((text : List ℕ) × IsSpelling (row_of row.entry) (N.types names.now) (N.words names.now) text
+        × (out.new.items ≡ out.old.items ++ text)) }
+    ensures front { IsPrefix out.old.items out.new.items }
+{
+    put_stamp(row.pattern, row.moment, out)?;
+    let Some(text) = names.type_text(row.log_type) else {
+        unreachable!();
+    };
+    put_body(text, row.words, names, out)
+}
+
+// Appends the text of a stamp, which is empty without one.
+fn put_stamp(pattern: u8, moment: i64, out: &mut Vec<u8>) -> Result<(), AllocError>
+    requires { HasStampWriting pattern moment }
+    ensures written { OnOk result ((text : List ℕ) × HasStampText pattern moment text
+        × (out.new.items ≡ out.old.items ++ text)) }
+    ensures front { IsPrefix out.old.items out.new.items }
+{
+    if pattern == 0 {
+        return Ok(());
+    }
+    let mut text = [0; 32];
+    let len = print_stamp(pattern, moment, &mut text);
+    put_bytes(out, &text[..len])
+}
+
+// Appends what the text of a log type is written as with these words in its slots.
+fn put_body<N: Names>(
+    text: &[u8],
+    words: &[u64],
+    names: &N,
+    out: &mut Vec<u8>,
+) -> Result<(), AllocError>
+    requires { HasBody (N.words names.now) text.now words.now }
+    ensures written { OnOk result ((body : List ℕ) × IsBody (N.words names.now) text.now words.now body
+        × (out.new.items ≡ out.old.items ++ body)) }
+    ensures front { IsPrefix out.old.items out.new.items }
+{
+    let mut rest = put_plain(text, out)?;
+    let mut left = words;
+    while let Some((symbol, after)) = first_symbol(rest) {
+        left = put_symbol(symbol, left, names, out)?;
+        rest = put_plain(after, out)?;
+    }
+    Ok(())
+}
+
+// Appends what a symbol is written as with the first of these words, and gives the words behind it.
+#[inline]
+fn put_symbol<'a, N: Names>(
+    symbol: Symbol,
+    words: &'a [u64],
+    names: &N,
+    out: &mut Vec<u8>,
+) -> Result<&'a [u64], AllocError>
+    requires { (after : List ℕ) × HasBody (N.words names.now) (text_of_symbol symbol ++ after) words.now }
+    ensures put { IfOk result (λ left. (after : List ℕ) → Puts (N.words names.now)
+        (text_of_symbol symbol ++ after) words.now after left.now out.old.items out.new.items) }
+    ensures front { IsPrefix out.old.items out.new.items }
+{
+    match symbol {
+        Symbol::Byte(byte) => {
+            put_bytes(out, &[byte])?;
+            Ok(words)
+        }
+        Symbol::Slot(kind) => {
+            let [word, left @ ..] = words else {
+                unreachable!();
+            };
+            put_word(kind, *word, names, out)?;
+            Ok(left)
+        }
+    }
+}
+
+// Appends the constants at the front of a text that stand there as they are, and gives what follows.
+#[inline]
+fn put_plain<'a>(text: &'a [u8], out: &mut Vec<u8>) -> Result<&'a [u8], AllocError>
+    ensures put { IfOk result (λ rest. (words : List (List ℕ)) (row : List ℕ)
+        → Puts words text.now row rest.now row out.old.items out.new.items) }
+    ensures shorter { IfOk result (λ rest. length rest.now ≤ length text.now) }
+    ensures front { IsPrefix out.old.items out.new.items }
+{
+    let (plain, rest) = text.split_at(plain_front(text));
+    put_bytes(out, plain)?;
+    Ok(rest)
+}
+
+// Appends the text of a variable of this kind with this word.
+fn put_word<N: Names>(kind: Kind, word: u64, names: &N, out: &mut Vec<u8>) -> Result<(), AllocError>
+    requires { HasWriting (N.words names.now) kind word }
+    ensures written { OnOk result ((text : List ℕ) × IsWritten (N.words names.now) kind text word
+        × (out.new.items ≡ out.old.items ++ text)) }
+    ensures front { IsPrefix out.old.items out.new.items }
+{
+    let mut digits = [0; 20];
+    match kind {
+        Kind::Whole => {
+            let len = whole_text(word.cast_signed(), &mut digits);
+            put_bytes(out, &digits[..len])
+        }
+        Kind::Decimal => {
+            let len = decimal_text(word, &mut digits);
+            put_bytes(out, &digits[..len])
+        }
+        Kind::Word => match dictionary_word(word, names) {
+            Some(text) => put_bytes(out, text),
+            None => unreachable!(),
+        },
+    }
+}
+
+// Appends bytes.
+#[inline]
+fn put_bytes(out: &mut Vec<u8>, bytes: &[u8]) -> Result<(), AllocError>
+    ensures put { OnOk result (out.new.items ≡ out.old.items ++ bytes.now) }
+    ensures front { IsPrefix out.old.items out.new.items }
+{
+    out.extend_from_slice(bytes)
+}
