@@ -1,4 +1,5 @@
 pub mod BodyLemmas
+pub mod CutTextLemmas
 pub mod EncoderLemmas
 pub mod MeansLemmas
 pub mod StampLemmas

@@ -6,3 +6,4 @@ pub mod Naming
 pub mod Numbers
 pub mod Steps
 pub mod StepsBody
+pub mod StepsCut

@@ -5,6 +5,7 @@
 //! the texts that it names stand in two dictionaries, that of log types and that of words.
 #![tactic(auto)]
 
+mod cutting;
 mod encoder;
 mod expanding;
 mod fitting;
