@@ -3,6 +3,8 @@ mod SoundLemmas
 mod CompleteLemmas
 mod CutLemmas
 mod ExactLemmas
+mod LetterLemmas
+mod ReadsLemmas
 mod WideLemmas
 mod PartsLemmas
 mod PlanLemmas

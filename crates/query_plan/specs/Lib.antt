@@ -1,4 +1,5 @@
 pub mod Cutting
 pub mod Laws
+pub mod Letters
 pub mod Pieces
 pub mod Readings

@@ -2,13 +2,17 @@
 #![tactic(auto)]
 
 mod laws;
+mod letters;
 mod needed;
 mod pieces;
 mod planning;
+mod symbols;
 
 pub use laws::{readings_are_exact, wide_is_wider};
+pub use letters::{Letters, matches_letters};
 pub use pieces::{MAX_OPEN_TOKENS, Piece};
 pub use planning::Plan;
+pub use symbols::{VarSymbol, VarSymbols};
 
 #[cfg(test)]
 mod tests;

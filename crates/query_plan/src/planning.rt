@@ -1,9 +1,17 @@
 //! A plan: what a search has to know of its pattern.
-ghost use Rattle.std.specs.Prelude.{◌≡◌, IfOk};
+ghost use Rattle.std.specs.Prelude.{◌≡◌, ◌↔◌, ◌++◌, ℕ, List, IfOk, IsTrue};
+ghost use Rattle.logtype_text.specs.Parts.{AreParts, joined};
+ghost use Rattle.wild_match.specs.Matches.{Match};
+ghost use Rattle.query_plan.specs.Letters.{parts};
+ghost use Rattle.query_plan.specs.Laws.{IsWidened};
 ghost use Rattle.query_plan.specs.Pieces.{flat, wide_pieces, Free, open_count, needed_of};
+ghost use Rattle.query_plan.specs.Readings.{IsBodyBehind, SomeReads};
 
+use crate::laws::readings_are_exact;
+use crate::letters::matches_letters;
 use crate::needed::{needed_words, open_count};
 use crate::pieces::{Piece, cut, items_of, plan_pieces};
+use crate::symbols::{SymbolLetters, VarSymbols};
 use log_seams::TextList;
 use std::alloc::{AllocError, Global};
 use std::marker::Model;
@@ -80,5 +88,22 @@ impl Plan {
         ensures { result.now ≡ needed_of Free self.now }
     {
         &self.needed
+    }
+    /// Whether some reading of some tail behind the stamp accepts the symbols of the body, which is
+    /// whether the widened pattern matches the stamp and the body behind it.
+    ///
+    /// Takes no memory. The stamp is read first, so that a match may begin or lie in it.
+    pub fn reads(&self, stamp: &[u8], symbols: &VarSymbols) -> bool
+        ensures matched { IsTrue result ↔ Match (flat self.now) (stamp.now ++ joined (parts symbols.now)) }
+        ensures read { (body : List ℕ) → IsWidened (flat self.now) → IsBodyBehind stamp.now body
+            → AreParts body (parts symbols.now)
+            → IsTrue result ↔ SomeReads (flat self.now) stamp.now (parts symbols.now) }
+    {
+        readings_are_exact();
+        let text = SymbolLetters {
+            head: stamp,
+            symbols: symbols.as_slice(),
+        };
+        matches_letters(self.wide.as_slice(), text)
     }
 }
