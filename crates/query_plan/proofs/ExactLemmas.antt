@@ -41,7 +41,7 @@ BeginsOutside (Byte c ∷ q) = IsDelimiter c
 BeginsOutside (One ∷ q) = Unit {0}
 BeginsOutside (Many ∷ q) = Unit {0}
 
-begins_outside : (p : List Item) → IsWidened p → (s : List ℕ) (q : List Item) → Rest p s q → BeginsBody s q → BeginsOutside q
+pub begins_outside : (p : List Item) → IsWidened p → (s : List ℕ) (q : List Item) → Rest p s q → BeginsBody s q → BeginsOutside q
 begins_outside (Many ∷ p) w [] q now b = tt
 begins_outside [] w [] q r b = absurd w
 begins_outside (Byte _ ∷ p) w [] q r b = absurd w
@@ -58,13 +58,13 @@ front_outside (Mark d ∷ ps) c b = refl
 front_outside (Word [] ∷ ps) c b = absurd c.0
 front_outside (Word (x ∷ t) ∷ ps) c b = absurd (clash x c.0.0 b)
 
-smooth_one : (q : List Item) → IsSmooth q → NoOne q
+pub smooth_one : (q : List Item) → IsSmooth q → NoOne q
 smooth_one [] s = tt
 smooth_one (Byte b ∷ q) s = smooth_one q s.1
 smooth_one (One ∷ q) s = s
 smooth_one (Many ∷ q) s = smooth_one q s
 
-widened_smooth : (p : List Item) → IsWidened p → IsSmooth p
+pub widened_smooth : (p : List Item) → IsWidened p → IsSmooth p
 widened_smooth [] w = absurd w
 widened_smooth (Byte b ∷ p) w = absurd w
 widened_smooth (One ∷ p) w = absurd w
@@ -80,7 +80,7 @@ accepted p s body parts w symbols r =
     let at_body : Steps r.tail body = subst (λ x. Steps r.tail x) (symbols_text symbols) n in
     stepped (rest_match body r.is_tail.0 at_body)
 
-begins_body : (s body : List ℕ) (q : List Item) → IsBodyBehind s body → Steps q body → BeginsBody s q
+pub begins_body : (s body : List ℕ) (q : List Item) → IsBodyBehind s body → Steps q body → BeginsBody s q
 begins_body [] body q b m = tt
 begins_body (a ∷ s) body [] b m = tt
 begins_body (a ∷ s) [] (Byte c ∷ q) b m = elim m [ ]

@@ -9,3 +9,8 @@ mod WideLemmas
 mod PartsLemmas
 mod PlanLemmas
 mod NeededLemmas
+mod BonesLemmas
+mod SufficeLemmas
+mod NeedsLemmas
+mod BringLemmas
+mod TailLemmas

@@ -40,7 +40,7 @@ count_step n after p ps o e k o_is e_is k_is =
     ∙ more_past (opens after p ps) n (open_count (side (is_mark p)) ps)
     ∙ ap (λ x. n + x) (sym (count_first after p ps))
 
-needed_inside : (ps : List Piece) → needed_of Inside ps ≡ needed_of Free ps
+pub needed_inside : (ps : List Piece) → needed_of Inside ps ≡ needed_of Free ps
 needed_inside [] = refl
 needed_inside (Gap ∷ ps) = refl
 needed_inside (Mark d ∷ ps) = refl

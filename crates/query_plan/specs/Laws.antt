@@ -1,8 +1,11 @@
 -- What holds of readings and of the pattern that a search is planned over.
-use Rattle.std.specs.Prelude.{◌↔◌, ℕ, ◌≤◌, List, [], ◌∷◌, ◌++◌}
-use Rattle.logtype_text.specs.Parts.{Part, AreParts}
+use Rattle.std.specs.Prelude.{◌↔◌, ◌≢◌, ℕ, ◌≤◌, List, [], ◌∷◌, ◌++◌, IsTrue}
+use Rattle.std.specs.List.{All, AllZip}
+use Rattle.time_patterns.specs.Laws.{is_stamp_byte}
+use Rattle.logtype_text.specs.Parts.{Part, AreParts, joined}
 use Rattle.query_plan.specs.declared.pieces.TheConstants.{MAX_OPEN_TOKENS}
-use Rattle.query_plan.specs.Pieces.{wide, open_tokens}
+use Rattle.query_plan.specs.Needs.{skeleton_of, constants, marked, needed_variables_of, Brings}
+use Rattle.query_plan.specs.Pieces.{Free, wide, wide_pieces, open_tokens, needed_of}
 use Rattle.query_plan.specs.Readings.{SomeReads, IsBodyBehind}
 use Rattle.wild_match.specs.Matches.{Match}
 use Rattle.wild_match.specs.declared.pattern.Item.{Item}
@@ -66,3 +69,32 @@ WideIsExact = (p : List Item) (s : List ℕ) → NoOne p → open_tokens p ≤ M
 -- it begins with any bytes, has no `?`, and no byte comes last, so its readings are exact
 abbrev pub WideIsWidened : Type 0
 WideIsWidened = (p : List Item) → IsSearched p → IsWidened (wide p)
+
+-- no item is this byte
+abbrev pub HasNot : ℕ → List Item → Type 0
+HasNot m [] = Unit {0}
+HasNot m (Byte b ∷ q) = (b ≢ m) × HasNot m q
+HasNot m (One ∷ q) = HasNot m q
+HasNot m (Many ∷ q) = HasNot m q
+
+-- A message that the pattern which a search is planned over matches has constant bytes that the skeleton
+-- matches.
+abbrev pub SkeletonIsNeeded : Type 0
+SkeletonIsNeeded =
+    (p : List Item) (s body : List ℕ) (parts : List Part) → IsSearched p → All (λ b. IsTrue (is_stamp_byte b)) s
+    → IsBodyBehind s body → AreParts body parts → Match (wide p) (s ++ body) → Match (skeleton_of (wide_pieces p)) (constants parts)
+
+-- Where the pattern matches the constant bytes with a byte of no item for each variable, it matches each
+-- message with these constant bytes.
+abbrev pub ConstantsSuffice : Type 0
+ConstantsSuffice =
+    (m : ℕ) (p : List Item) (s : List ℕ) (parts : List Part) → NoOne p → HasNot m p
+    → Match (Many ∷ p) (marked m parts) → Match (Many ∷ p) (s ++ joined parts)
+
+-- A message that the pattern which a search is planned over matches brings each needed word: as a
+-- variable, where it is one, and among its constant bytes otherwise.
+abbrev pub NeededWordsAreBrought : Type 0
+NeededWordsAreBrought =
+    (p : List Item) (s body : List ℕ) (parts : List Part) → IsSearched p → All (λ b. IsTrue (is_stamp_byte b)) s
+    → IsBodyBehind s body → AreParts body parts → Match (wide p) (s ++ body)
+    → AllZip (λ t v. Brings parts t v) (needed_of Free (wide_pieces p)) (needed_variables_of Free (wide_pieces p))

@@ -3,3 +3,4 @@ pub mod Laws
 pub mod Letters
 pub mod Pieces
 pub mod Readings
+pub mod Needs

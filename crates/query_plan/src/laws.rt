@@ -1,6 +1,6 @@
 //! Laws of readings and of the pattern that a search is planned over. The functions do nothing: what
 //! they promise holds of every pattern and every message.
-ghost use Rattle.query_plan.specs.Laws.{ReadingsAreExact, WideIsExact, WideIsWidened, WideIsWider};
+ghost use Rattle.query_plan.specs.Laws.{ConstantsSuffice, NeededWordsAreBrought, ReadingsAreExact, SkeletonIsNeeded, WideIsExact, WideIsWidened, WideIsWider};
 
 use logtype_text::parts_are_cut;
 
@@ -18,4 +18,20 @@ pub fn wide_is_wider()
     ensures wider { WideIsWider }
     ensures exact { WideIsExact }
     ensures widened { WideIsWidened }
+{}
+
+/// What a message must bring for the pattern that a search is planned over: each needed word, as a
+/// variable or as constant bytes, and constant bytes that the skeleton matches.
+pub fn needs_are_brought()
+    ensures words { NeededWordsAreBrought }
+    ensures skeleton { SkeletonIsNeeded }
+{
+    parts_are_cut();
+}
+
+/// Where a pattern behind an [`Item::Many`](wild_match::Item::Many) matches the constant bytes, with a
+/// byte that it does not have in place of each variable, it matches every message with these constant
+/// bytes, so that no message of their log type has to be tried.
+pub fn constants_suffice()
+    ensures { ConstantsSuffice }
 {}

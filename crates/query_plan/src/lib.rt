@@ -6,9 +6,10 @@ mod letters;
 mod needed;
 mod pieces;
 mod planning;
+mod skeleton;
 mod symbols;
 
-pub use laws::{readings_are_exact, wide_is_wider};
+pub use laws::{constants_suffice, needs_are_brought, readings_are_exact, wide_is_wider};
 pub use letters::{Letters, matches_letters};
 pub use pieces::{MAX_OPEN_TOKENS, Piece};
 pub use planning::Plan;

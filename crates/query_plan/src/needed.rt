@@ -1,12 +1,14 @@
 //! What a plan says of its tokens: how many are open, and which words a message has to bring.
-ghost use Rattle.std.specs.Prelude.{◌≡◌, ◌++◌, ◌<◌, ◌^◌, not, IfOk, OnOk};
+ghost use Rattle.std.specs.Prelude.{◌≡◌, ◌++◌, ◌∷◌, ◌<◌, ◌^◌, not, IfOk, OnOk};
 ghost use Rattle.std.specs.List.{list_any};
-ghost use Rattle.query_plan.specs.Pieces.{Free, more, open_count, needed_of, is_stamp_token_byte};
-ghost use Rattle.query_plan.specs.Cutting.{needed_first};
+ghost use Rattle.query_plan.specs.Pieces.{Free, IsCut, more, open_count, needed_of, is_stamp_token_byte};
+ghost use Rattle.query_plan.specs.Cutting.{needed_first, variable_first};
+ghost use Rattle.query_plan.specs.Needs.{needed_variables_of};
 
-use crate::pieces::{Piece, is_mark, opens};
+use crate::pieces::{Piece, delimiter, is_mark, opens};
 use log_seams::Text;
 use std::alloc::{AllocError, Global};
+use token_rules::is_var;
 
 /// One more, where there is an open token.
 fn more(opened: bool, count: usize) -> usize
@@ -79,4 +81,41 @@ pub(crate) fn needed_words(alloc: Global, pieces: &[Piece]) -> Result<Vec<Text>,
         rest = behind;
     }
     Ok(words)
+}
+
+/// Appends whether a piece is a variable, where it is a needed word. A closed token has a delimiter of
+/// the pattern before it, so this is known.
+fn push_variable(
+    flags: &mut Vec<bool>,
+    before: Option<u8>,
+    piece: &Piece,
+    behind: &[Piece],
+) -> Result<(), AllocError>
+    requires { IsCut (piece.now ∷ behind.now) }
+    ensures { OnOk result (flags.new.items
+        ≡ flags.old.items ++ variable_first before piece.now behind.now) }
+{
+    let opened = opens(before.is_some(), piece, behind);
+    if let Piece::Word(text) = piece {
+        if !opened && has_own_byte(text.as_slice()) {
+            flags.push(is_var(before, text.as_slice()))?;
+        }
+    }
+    Ok(())
+}
+
+/// For each needed word, from left to right, whether it is a variable.
+pub(crate) fn needed_variables(alloc: Global, pieces: &[Piece]) -> Result<Vec<bool>, AllocError>
+    requires { IsCut pieces.now }
+    ensures { IfOk result (λ flags. flags.items ≡ needed_variables_of Free pieces.now) }
+{
+    let mut flags = Vec::new(alloc);
+    let mut rest = pieces;
+    let mut before = None;
+    while let Some((first, behind)) = rest.split_first() {
+        push_variable(&mut flags, before, first, behind)?;
+        before = delimiter(first);
+        rest = behind;
+    }
+    Ok(flags)
 }

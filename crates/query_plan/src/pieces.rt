@@ -3,7 +3,7 @@ ghost use Rattle.std.specs.Prelude.{◌≡◌, ◌++◌, [], ◌∷◌, ◌||◌
 ghost use Rattle.token_rules.specs.Tokens.{is_token_byte};
 ghost use Rattle.query_plan.specs.declared.pieces.Piece.{Piece};
 ghost use Rattle.query_plan.specs.Pieces.{pieces, put, EndsWord, thin, less, merge, flat, bytes, Free};
-ghost use Rattle.query_plan.specs.Cutting.{ended, fronted, opens, kept, is_mark, trimmed};
+ghost use Rattle.query_plan.specs.Cutting.{delimiter_of, ended, fronted, opens, kept, is_mark, trimmed};
 
 use log_seams::Text;
 use std::alloc::{AllocError, Global};
@@ -111,6 +111,16 @@ pub(crate) fn is_mark(piece: &Piece) -> bool
     }
 }
 
+/// The delimiter that a piece is.
+pub(crate) fn delimiter(piece: &Piece) -> Option<u8>
+    ensures { result ≡ delimiter_of piece.now }
+{
+    match piece {
+        Piece::Mark(byte) => Some(*byte),
+        Piece::Gap | Piece::Word(_) => None,
+    }
+}
+
 /// Whether a piece is an open token: a delimiter stands not on both of its sides.
 pub(crate) fn opens(after_mark: bool, piece: &Piece, behind: &[Piece]) -> bool
     ensures { result ≡ opens after_mark piece.now behind.now }
@@ -193,7 +203,7 @@ pub(crate) fn plan_pieces(alloc: Global, cut: &[Piece]) -> Result<Vec<Piece>, Al
 }
 
 /// Appends the bytes of a token as items.
-fn push_bytes(items: &mut Vec<Item>, token: &[u8]) -> Result<(), AllocError>
+pub(crate) fn push_bytes(items: &mut Vec<Item>, token: &[u8]) -> Result<(), AllocError>
     ensures { OnOk result (items.new.items ≡ items.old.items ++ bytes token.now []) }
 {
     for byte in token {

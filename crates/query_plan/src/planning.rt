@@ -4,13 +4,15 @@ ghost use Rattle.logtype_text.specs.Parts.{AreParts, joined};
 ghost use Rattle.wild_match.specs.Matches.{Match};
 ghost use Rattle.query_plan.specs.Letters.{parts};
 ghost use Rattle.query_plan.specs.Laws.{IsWidened};
-ghost use Rattle.query_plan.specs.Pieces.{flat, wide_pieces, Free, open_count, needed_of};
+ghost use Rattle.query_plan.specs.Needs.{needed_variables_of, skeleton_of};
+ghost use Rattle.query_plan.specs.Pieces.{flat, wide_pieces, Free, IsCut, open_count, needed_of};
 ghost use Rattle.query_plan.specs.Readings.{IsBodyBehind, SomeReads};
 
 use crate::laws::readings_are_exact;
 use crate::letters::matches_letters;
-use crate::needed::{needed_words, open_count};
+use crate::needed::{needed_variables, needed_words, open_count};
 use crate::pieces::{Piece, cut, items_of, plan_pieces};
+use crate::skeleton::skeleton_of;
 use crate::symbols::{SymbolLetters, VarSymbols};
 use log_seams::TextList;
 use std::alloc::{AllocError, Global};
@@ -27,18 +29,23 @@ pub struct Plan {
     wide: Pattern,
     open_tokens: usize,
     needed: TextList,
+    needed_variables: Vec<bool>,
+    skeleton: Pattern,
 }
 
 impl Model for Plan {
     ghost use Rattle.std.specs.Prelude.{List, ◌≡◌};
     ghost use Rattle.query_plan.specs.declared.pieces.Piece.{Piece};
-    ghost use Rattle.query_plan.specs.Pieces.{flat, Free, open_count, needed_of};
+    ghost use Rattle.query_plan.specs.Needs.{needed_variables_of, skeleton_of};
+    ghost use Rattle.query_plan.specs.Pieces.{flat, Free, IsCut, open_count, needed_of};
 
     ghost Value = { List Piece };
 
     ghost view = { λ p. p.pieces.items };
 
-    ghost invariant = { λ p. (p.wide ≡ flat p.pieces.items)
+    ghost invariant = { λ p. IsCut p.pieces.items × (p.wide ≡ flat p.pieces.items)
+        × (p.skeleton ≡ skeleton_of p.pieces.items)
+        × (p.needed_variables.items ≡ needed_variables_of Free p.pieces.items)
         × (p.open_tokens ≡ open_count Free p.pieces.items) × (p.needed ≡ needed_of Free p.pieces.items) };
 }
 
@@ -52,11 +59,15 @@ impl Plan {
         let wide = Pattern::new(items_of(alloc, pieces.as_slice())?);
         let open_tokens = open_count(pieces.as_slice());
         let needed = TextList::new(needed_words(alloc, pieces.as_slice())?);
+        let needed_variables = needed_variables(alloc, pieces.as_slice())?;
+        let skeleton = Pattern::new(skeleton_of(alloc, pieces.as_slice())?);
         Ok(Plan {
             pieces,
             wide,
             open_tokens,
             needed,
+            needed_variables,
+            skeleton,
         })
     }
 
@@ -68,9 +79,10 @@ impl Plan {
         &self.wide
     }
 
-    /// Its pieces, in order.
+    /// Its pieces, in order. They are as long as they can be.
     pub fn pieces(&self) -> &[Piece]
-        ensures { result.now ≡ self.now }
+        ensures pieces { result.now ≡ self.now }
+        ensures cut { IsCut result.now }
     {
         self.pieces.as_slice()
     }
@@ -89,6 +101,22 @@ impl Plan {
     {
         &self.needed
     }
+    /// For each needed word, in their order, whether it is a variable: it is then looked for among the
+    /// variables of a message, and among the constant bytes of its log type otherwise.
+    pub fn needed_variables(&self) -> &[bool]
+        ensures { result.now ≡ needed_variables_of Free self.now }
+    {
+        self.needed_variables.as_slice()
+    }
+
+    /// The skeleton: it matches the constant bytes of each message that the widened pattern matches,
+    /// so one test of a log type's constant bytes can leave out all messages of that type.
+    pub fn skeleton(&self) -> &Pattern
+        ensures { result.now ≡ skeleton_of self.now }
+    {
+        &self.skeleton
+    }
+
     /// Whether some reading of some tail behind the stamp accepts the symbols of the body, which is
     /// whether the widened pattern matches the stamp and the body behind it.
     ///

@@ -1,0 +1,96 @@
+//! What a log type must have so that a message of it can match.
+ghost use Rattle.std.specs.Prelude.{◌≡◌, ◌++◌, ◌∷◌, ◌||◌, IfOk, OnOk, not};
+ghost use Rattle.std.specs.List.{list_any};
+ghost use Rattle.time_patterns.specs.Laws.{is_stamp_byte};
+ghost use Rattle.query_plan.specs.Cutting.{bones_first};
+ghost use Rattle.query_plan.specs.Pieces.{IsCut};
+ghost use Rattle.query_plan.specs.Needs.{back_part, leaves_stamp, skeleton_of};
+
+use crate::pieces::{Piece, delimiter, opens, push_bytes};
+use std::alloc::{AllocError, Global};
+use token_rules::is_var;
+use wild_match::Item;
+
+/// Whether a byte can stand in a stamp.
+fn is_stamp_byte(byte: u8) -> bool
+    ensures { result ≡ is_stamp_byte byte }
+{
+    matches!(byte,
+        b'0'..=b'9' | b'-' | b'.' | b'T' | b'Z' | b':' | b',' | b'/' | b'[' | b']' | b' ')
+}
+
+/// Whether a token has a byte that no stamp has.
+fn has_other_byte(token: &[u8]) -> bool
+    ensures { result ≡ list_any (λ b. not (is_stamp_byte b)) token.now }
+{
+    token.iter().any(|byte| !is_stamp_byte(*byte))
+}
+
+/// Whether a piece has a byte that no stamp has.
+fn leaves_stamp(piece: &Piece) -> bool
+    ensures { result ≡ leaves_stamp piece.now }
+{
+    match piece {
+        Piece::Gap => false,
+        Piece::Mark(byte) => !is_stamp_byte(*byte),
+        Piece::Word(text) => has_other_byte(text.as_slice()),
+    }
+}
+
+/// The pieces from the first one on that can lie in no stamp.
+fn back_part(pieces: &[Piece]) -> &[Piece]
+    ensures { result.now ≡ back_part pieces.now }
+{
+    let mut rest = pieces;
+    while let Some((first, behind)) = rest.split_first() {
+        if leaves_stamp(first) {
+            break;
+        }
+        rest = behind;
+    }
+    rest
+}
+
+/// Appends what a piece says of the constant bytes.
+fn push_bones(
+    items: &mut Vec<Item>,
+    before: Option<u8>,
+    piece: &Piece,
+    behind: &[Piece],
+) -> Result<(), AllocError>
+    requires { IsCut (piece.now ∷ behind.now) }
+    ensures { OnOk result (items.new.items
+        ≡ items.old.items ++ bones_first before piece.now behind.now) }
+{
+    let opened = opens(before.is_some(), piece, behind);
+    match piece {
+        Piece::Gap => items.push(Item::Many)?,
+        Piece::Mark(byte) => items.push(Item::Byte(*byte))?,
+        Piece::Word(text) => {
+            if opened {
+                items.push(Item::Many)?;
+            } else if !is_var(before, text.as_slice()) {
+                push_bytes(items, text.as_slice())?;
+            }
+        }
+    }
+    Ok(())
+}
+
+/// The skeleton of pieces: any bytes, and then what the pieces that can lie in no stamp say of the
+/// constant bytes of a body.
+pub(crate) fn skeleton_of(alloc: Global, pieces: &[Piece]) -> Result<Vec<Item>, AllocError>
+    requires { IsCut pieces.now }
+    ensures { IfOk result (λ items. items.items ≡ skeleton_of pieces.now) }
+{
+    let mut items = Vec::new(alloc);
+    items.push(Item::Many)?;
+    let mut rest = back_part(pieces);
+    let mut before = None;
+    while let Some((first, behind)) = rest.split_first() {
+        push_bones(&mut items, before, first, behind)?;
+        before = delimiter(first);
+        rest = behind;
+    }
+    Ok(items)
+}
