@@ -27,7 +27,7 @@ not_ended Ended old new r e h is ended = cc (h.0, is)
 not_ended (Refused f) old new r e h is ended = cc
 
 -- a list around an element
-around : (p : List ℕ) (len b : ℕ) → slice_get p len ≡ Some b → p ≡ take len p ++ b ∷ drop (len + 1) p
+pub around : (p : List ℕ) (len b : ℕ) → slice_get p len ≡ Some b → p ≡ take len p ++ b ∷ drop (len + 1) p
 around [] len b e = cc
 around (x ∷ p) zero b e = let h : x ≡ b = cc in ap (λ y. y ∷ p) h
 around (x ∷ p) (suc len) b e =

@@ -2,6 +2,7 @@
 use Rattle.std.specs.Prelude.{◌≡◌, ◌+◌, ◌<◌, ◌≤◌, ℕ, Bool, true, false, List, [], length, take, drop, slice_get, Option, Some, IfSome, if◌then◌else◌}
 use Rattle.log_messages.specs.Messages.{IsLine}
 use Rattle.line_cut.specs.Length.{BeginsTooLong}
+use Rattle.line_cut.specs.Standing.{EndsAt}
 use Rattle.line_cut.specs.Cutting.{CutterState}
 use Rattle.line_cut.specs.declared.cut.Cut.TheVariants.{ReadFault, LineTooLong, TooManyLines, OutOfMemory}
 use Rattle.line_cut.specs.declared.cut.Progress.TheVariants.{Open, Ended}
@@ -21,11 +22,6 @@ pub record Limits : Type 0 where
   pub given : ℕ
   pub max_line : ℕ
   pub max_lines : ℕ
-
--- behind so many bytes stands a newline, or the input ends there and they are some
-abbrev pub EndsAt : Bool → ℕ → List ℕ → Option (List ℕ) → Type 0
-EndsAt true len held left = slice_get held len ≡ Some 10
-EndsAt false len held left = (len ≡ length held) × (0 < len) × IfSome left (λ rest. rest ≡ [])
 
 -- with limits to the length of a line and to the number of lines, of which some were given; `rose` says that a read failed
 abbrev pub Sees : Limits → List ℕ → Option (List ℕ) → Type 0 → Looked → Type 0

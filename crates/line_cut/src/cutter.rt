@@ -9,7 +9,7 @@ ghost use Rattle.line_cut.specs.declared.cut.Progress.{Progress};
 
 use crate::cut::{Cut, CutterRefused, Mark, Piece, Progress};
 use crate::look::{Looked, look};
-use crate::window::{READ_SIZE, Window};
+use crate::window::{READ_SIZE, Window, let_go};
 use log_seams::{Source, Text};
 use std::alloc::{AllocError, Global};
 use std::marker::Model;
@@ -53,19 +53,6 @@ impl<S> Model for Cutter<S> {
 
     ghost invariant = { λ c. (c.line ≤ c.step) × (c.step ≤ length c.window.held) × (c.max_line < c.window.size)
         × (c.max_line ≤ MAX_LINE_LEN) × (c.given ≤ c.max_lines) };
-}
-
-/// Lets go of the line at the front of the window, which is `step` bytes with its newline.
-fn let_go(window: &mut Window, line: &mut usize, step: &mut usize)
-    requires { step.old ≤ length window.old.held }
-    ensures held { window.new.held ≡ drop step.old window.old.held }
-    ensures size { window.new.size ≡ window.old.size }
-    ensures line { line.new ≡ 0 }
-    ensures step { step.new ≡ 0 }
-{
-    window.consume(*step);
-    *line = 0;
-    *step = 0;
 }
 
 impl<S: Source> Cutter<S> {

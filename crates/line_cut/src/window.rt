@@ -117,3 +117,16 @@ impl Window {
         Ok(count)
     }
 }
+
+/// Lets go of the line or message at the front of the window, which is `step` bytes with its newline.
+pub(crate) fn let_go(window: &mut Window, line: &mut usize, step: &mut usize)
+    requires { step.old ≤ length window.old.held }
+    ensures held { window.new.held ≡ drop step.old window.old.held }
+    ensures size { window.new.size ≡ window.old.size }
+    ensures line { line.new ≡ 0 }
+    ensures step { step.new ≡ 0 }
+{
+    window.consume(*step);
+    *line = 0;
+    *step = 0;
+}
