@@ -12,14 +12,19 @@ use Rattle.line_cut.specs.Cutting.{Parts, left_of}
 use Rattle.line_cut.specs.Joining.{GaveMessage, IsFirstOfGroups, IsOneGroup, JoinerState, JoinerStays, stamped_by}
 use Rattle.line_cut.specs.StepsJoining.{IsInFront, at_message}
 use Rattle.line_cut.specs.StepsLooking.{newline_len}
-use Rattle.line_cut.specs.declared.cut.Progress.TheVariants.{Open}
+use Rattle.line_cut.specs.declared.cut.Cut.{Cut}
+use Rattle.line_cut.specs.declared.cut.Progress.{Progress}
+use Rattle.line_cut.specs.declared.cut.Progress.TheVariants.{Open, Ended, Refused}
+use Rattle.line_cut.specs.declared.message.Seen.{Seen}
+use Rattle.line_cut.specs.declared.message.Seen.TheVariants.{Message, End, Refused as SeenRefused}
 use Rattle.line_cut.specs.declared.join.Joined.{Joined}
 use Rattle.line_cut.proofs.GivingLemmas.{parts_last, parts_line}
 
--- the test and the limit stay, so what is in front is the same message
-pub in_front_same : (test test' : List ℕ → Bool) (limit limit' : ℕ) (held : List ℕ) (left : Option (List ℕ)) (j : Joined) → test' ≡ test → limit' ≡ limit → IsInFront (Passes test) limit held left j → IsInFront (Passes test') limit' held left j
-in_front_same test test' limit limit' held left j same_test same_limit m =
-    subst (λ t. IsInFront (Passes t) limit' held left j) (sym same_test) (subst (λ n. IsInFront (Passes test) n held left j) (sym same_limit) m)
+-- a joiner that looked was open
+pub was_joining : (p : Progress) (r : Seen) → (p ≡ Ended → r ≡ End) → ((e : Cut) → p ≡ Refused e → r ≡ SeenRefused e) → r ≢ End → ((e : Cut) → r ≢ SeenRefused e) → p ≡ Open
+was_joining Open r f h n m = refl
+was_joining Ended r f h n m = absurd (n (f refl))
+was_joining (Refused e) r f h n m = absurd (m e (h e refl))
 
 -- so the text is the first message of what was left
 first_more : (stamped : List ℕ → Type 0) (limit : ℕ) (group : Group) (text np : List ℕ) (nl before : Option (List ℕ)) → text_of group ≡ text → All IsLine (lines_of group) → IsGroup stamped limit group → IfSome nl (λ rest. IsFollowed stamped limit group (np ++ rest)) → Parts true text before (bytes_left np nl) → IfSome before (λ b. IfSome (bytes_left np nl) (IsFirstOfGroups stamped limit true text b))
