@@ -1,6 +1,6 @@
 //! The lines of a source, one at a time.
 ghost use Rattle.std.specs.Prelude.{◌≡◌, ◌≢◌, ◌+◌, ◌<◌, ◌≤◌, [], length, take, drop, IfOk, IfErr, IfSome, IfNone, IsErrOf};
-ghost use Rattle.log_seams.specs.Outside.{Rose};
+ghost use Rattle.log_seams.specs.Outside.{CountsOf, Rose};
 ghost use Rattle.line_cut.specs.Cutting.{CameToEnd, Gave, IsNew, RefusedBy, Repeats, Stays, left_of, without_line};
 ghost use Rattle.line_cut.specs.StepsLooking.{Sees, at_line, newline_len};
 ghost use Rattle.line_cut.specs.declared.look.Looked.{Looked};
@@ -99,6 +99,7 @@ impl<S: Source> Cutter<S> {
             → Sees (record { given = self.old.given; max_line = self.old.max_line; max_lines = self.old.max_lines })
             self.new.pending (S.left self.new.source)
             (Rose (S.faults self.old.source) (S.faults self.new.source)) result }
+        ensures steady { result ≢ Looked.Refused Cut.ReadFault → S.faults self.new.source ≡ S.faults self.old.source }
 
         // what stays
         ensures left { left_of S.left self.new ≡ left_of S.left self.old }
@@ -155,6 +156,8 @@ impl<S: Source> Cutter<S> {
         // causes
         ensures refused { IfErr result (RefusedBy S.left S.faults self.old self.new) }
         ensures memory { IsErrOf result Cut.OutOfMemory → self.old.progress ≢ Progress.Open }
+        ensures counts { self.old.progress ≡ Progress.Open
+            → CountsOf Cut.ReadFault (S.faults self.old.source) (S.faults self.new.source) result }
 
         // what stays
         ensures stays { Stays S.name S.faults self.old self.new }
@@ -197,6 +200,8 @@ impl<S: Source> Cutter<S> {
 
         // causes
         ensures refused { IfErr result (RefusedBy S.left S.faults self.old self.new) }
+        ensures counts { self.old.progress ≡ Progress.Open
+            → CountsOf Cut.ReadFault (S.faults self.old.source) (S.faults self.new.source) result }
 
         // what stays
         ensures stays { Stays S.name S.faults self.old self.new }

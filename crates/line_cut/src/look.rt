@@ -1,8 +1,10 @@
 //! What comes next in a window.
-ghost use Rattle.std.specs.Prelude.{◌≡◌, ◌<◌, ◌≤◌, [], length, IfOk, IfSome, IsTrue, IsFalse, OnErr};
+ghost use Rattle.std.specs.Prelude.{◌≡◌, ◌≢◌, ◌<◌, ◌≤◌, [], length, IfOk, IfSome, IsTrue, IsFalse, OnErr};
 ghost use Rattle.log_seams.specs.Outside.{Counts, Rose};
 ghost use Rattle.line_cut.specs.Length.{bytes_left};
 ghost use Rattle.line_cut.specs.StepsLooking.{Sees};
+ghost use Rattle.line_cut.specs.declared.cut.Cut.{Cut};
+ghost use Rattle.line_cut.specs.declared.look.Looked.{Looked};
 
 use crate::cut::Cut;
 use crate::find_end::{LineEnd, find_end};
@@ -54,6 +56,7 @@ pub(crate) fn look<S: Source>(
     requires count { given ≤ max_lines }
     ensures sees { Sees (record { given = given; max_line = max_line; max_lines = max_lines }) window.new.held
         (S.left source.new) (Rose (S.faults source.old) (S.faults source.new)) result }
+    ensures steady { result ≢ Looked.Refused Cut.ReadFault → S.faults source.new ≡ S.faults source.old }
 
     // what stays
     ensures left { bytes_left window.new.held (S.left source.new) ≡ bytes_left window.old.held (S.left source.old) }
