@@ -20,4 +20,6 @@ pub use heads::Heads;
 pub use joiner::Joiner;
 
 #[cfg(test)]
+mod joiner_tests;
+#[cfg(test)]
 mod tests;

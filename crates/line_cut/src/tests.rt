@@ -15,7 +15,7 @@ struct Row<'a> {
     end: Result<(), Cut>,
 }
 
-fn text(alloc: Global, bytes: &[u8]) -> Result<Text, AllocError> {
+pub(crate) fn text(alloc: Global, bytes: &[u8]) -> Result<Text, AllocError> {
     Ok(Text::new(bytes.to_vec(alloc)?))
 }
 
@@ -171,8 +171,8 @@ fn lines_and_limits(rt: HostRuntime) -> Result<(), Fail> {
 
 // A source that gives one byte a read.
 #[derive(Drop)]
-struct OneByte {
-    log: MemSource,
+pub(crate) struct OneByte {
+    pub(crate) log: MemSource,
 }
 
 impl Source for OneByte {
