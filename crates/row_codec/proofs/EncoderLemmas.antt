@@ -1,8 +1,9 @@
 -- What an encoder read and named is the row of its message.
-use Rattle.std.proofs.Common.{◌≡◌, ℕ, ◌+◌, ◌-◌, ◌*◌, ◌<◌, ◌≤◌, Bool, true, false, cond, List, [], ◌∷◌, ◌++◌, length, map, take, drop, get_or, refl, sym, ◌∙◌, ap, subst, arith, length-append, length-take-le, take-append-drop}
-use Rattle.std.specs.Prelude.{ℤ, pos, Option, None, Some, All, IfNone, IfSome, ◌↔◌, slice_get, slice_range}
+use Rattle.std.proofs.Common.{◌≡◌, ℕ, ◌+◌, ◌-◌, ◌*◌, ◌<◌, ◌≤◌, Bool, true, false, cond, List, [], ◌∷◌, ◌++◌, length, map, take, drop, get_or, refl, sym, ◌∙◌, ap, subst, arith, inl, inr, length-append, length-take-le, take-append-drop}
+use Rattle.std.specs.Prelude.{ℤ, pos, Option, None, Some, All, IfNone, IfSome, IsTrue, ◌↔◌, slice_get, slice_range}
 use Rattle.std.proofs.lemmas.List.{take_rest}
 use Rattle.std.specs.List.{Contains}
+use Rattle.std.proofs.lemmas.Bool.{both_ways, cases_lt}
 use Rattle.std.proofs.lemmas.Bool.Decides.{nat_tests}
 use Rattle.std.proofs.lemmas.List.Elements.{All-map, All-weaker}
 use Rattle.std.proofs.lemmas.Option.{get_or_from_slice_get}
@@ -208,6 +209,9 @@ pub lent_texts : (line : List ℕ) (n : ℕ) (places lent : List Span) (texts : 
 lent_texts line n places lent texts same are =
     ap (λ l. texts_at l lent) (take_rest line n) ∙ ap (λ l. texts_at (drop n line) l) same ∙ are
 
+below_three : (version : ℕ) → ¬ (3 ≤ version) → version < 3
+below_three version not = elim (cases_lt version 3) [ inl low ↦ low | inr high ↦ absurd (not high) ]
+
 -- The front of a line, in each version whose stamps are those of the version that was read by.
 pub front_like : (like version : ℕ) (line : List ℕ) (o : Option Stamp) → (like < 3 ↔ version < 3)
     → IfSome o (λ s. IsStampOf like line s.pattern s.moment s.len) → IfNone o (HasNoStamp like line)
@@ -215,13 +219,22 @@ pub front_like : (like version : ℕ) (line : List ℕ) (o : Option Stamp) → (
 front_like like version line None same some none = alike_versions like version line 0 (pos 0) 0 same (none, refl, refl)
 front_like like version line (Some s) same some none = alike_versions like version line s.pattern s.moment s.len same (has_stamp like line s.pattern s.moment s.len some)
 
--- the front of a line below version 3
-pub front_is : (version : ℕ) (line : List ℕ) (o : Option Stamp) → version < 3
+-- the front of a line, by whether moments count microseconds
+pub front_micro : (version : ℕ) (line : List ℕ) (micro : Bool) (o : Option Stamp) → micro ≡ true → (IsTrue micro ↔ (3 ≤ version))
+    → IfSome o (λ s. IsStampOf 3 line s.pattern s.moment s.len) → IfNone o (HasNoStamp 3 line)
+    → HasStamp version line (front_of o).pattern (front_of o).moment (front_of o).len
+front_micro version line micro o is tells some none =
+    let high = tells.0 is in
+    front_like 3 version line o (λ low. absurd (omega arith), λ low. absurd (omega arith)) some none
+
+pub front_milli : (version : ℕ) (line : List ℕ) (micro : Bool) (o : Option Stamp) → micro ≡ false → (IsTrue micro ↔ (3 ≤ version))
     → IfSome o (λ s. IsStampOf 1 line s.pattern s.moment s.len) → IfNone o (HasNoStamp 1 line)
     → HasStamp version line (front_of o).pattern (front_of o).moment (front_of o).len
-front_is version line o low some none =
-    let one : 1 < 3 = omega arith in front_like 1 version line o (λ _. low, λ _. one) some none
+front_milli version line micro o not tells some none =
+    let low : version < 3 = below_three version (λ high. let is : micro ≡ true = tells.1 high in both_ways micro not is) in
+    let one : 1 < 3 = omega arith in
+    front_like 1 version line o (λ _. low, λ _. one) some none
 
-pub front_inside : (line : List ℕ) (o : Option Stamp) → IfSome o (λ s. IsStampOf 1 line s.pattern s.moment s.len) → (front_of o).len ≤ length line
-front_inside line None some = omega arith
-front_inside line (Some s) some = (fits_front line s.pattern s.moment s.len some.fits).1
+pub front_inside : (like : ℕ) (line : List ℕ) (o : Option Stamp) → IfSome o (λ s. IsStampOf like line s.pattern s.moment s.len) → (front_of o).len ≤ length line
+front_inside like line None some = omega arith
+front_inside like line (Some s) some = (fits_front line s.pattern s.moment s.len some.fits).1

@@ -1,5 +1,7 @@
 pub mod BodyLemmas
+pub mod CanonicalLemmas
 pub mod CutTextLemmas
 pub mod EncoderLemmas
 pub mod MeansLemmas
+pub mod OpeningLemmas
 pub mod StampLemmas

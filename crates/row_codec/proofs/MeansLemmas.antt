@@ -81,7 +81,7 @@ one_writing words Whole s t word (n, a, n_is) (m, b, m_is) =
 one_writing words Decimal s t word a b = same_text s t word a b
 one_writing words Word s t word a b = let same : Some s ≡ Some t = sym a ∙ b in cc
 
-bytes_same : (words : List (List ℕ)) (a b : List Part) (row : List ℕ) → map symbol_of a ≡ map symbol_of b → EachWord (IsWritten words) a row → EachWord (IsWritten words) b row → joined a ≡ joined b
+pub bytes_same : (words : List (List ℕ)) (a b : List Part) (row : List ℕ) → map symbol_of a ≡ map symbol_of b → EachWord (IsWritten words) a row → EachWord (IsWritten words) b row → joined a ≡ joined b
 bytes_same words [] [] row same mine theirs = refl
 bytes_same words [] (Constant c ∷ b) row same mine theirs = absurd (cc)
 bytes_same words [] (Variable kind text ∷ b) row same mine theirs = absurd (cc)
@@ -100,7 +100,7 @@ bytes_same words (Variable kind text ∷ a) (Variable other more ∷ b) (w ∷ r
     let text_same : text ≡ more = one_writing words kind text more w mine.0 (subst (λ k. IsWritten words k more w) kinds theirs.0) in
     ap₂ (λ x l. x ++ l) text_same (bytes_same words a b row (cc) mine.1 theirs.1)
 
-stamps_same : (k : ℕ) (moment : ℤ) (s t : List ℕ) → HasStampText k moment s → HasStampText k moment t → s ≡ t
+pub stamps_same : (k : ℕ) (moment : ℤ) (s t : List ℕ) → HasStampText k moment s → HasStampText k moment t → s ≡ t
 stamps_same zero moment s t a b = a.1 ∙ sym b.1
 stamps_same (suc k) moment s t a b = one_stamp_text (suc k) moment s t a b
 

@@ -1,5 +1,5 @@
 -- Stamps as rows keep them.
-use Rattle.std.proofs.Common.{◌≡◌, ℕ, ◌≤◌, zero, suc, true, false, Bool, cond, List, length, take, refl, sym, ◌∙◌, ap, subst, arith, length-append}
+use Rattle.std.proofs.Common.{◌≡◌, ℕ, ◌≤◌, zero, suc, true, false, Bool, cond, List, [], length, take, refl, sym, ◌∙◌, ap, subst, arith, length-append}
 use Rattle.std.specs.Prelude.{◌≢◌, ◌↔◌, ℤ, nat_le}
 use Rattle.std.proofs.lemmas.List.{take_at}
 use Rattle.time_patterns.specs.Stamps.{Fits, HasStamp, IsPrintable, IsStampOf, Prints}
@@ -33,3 +33,7 @@ stamp_writing (suc k) moment some = (λ has. has, λ has. has)
 pub stamp_printed : (k : ℕ) (moment : ℤ) (text : List ℕ) → k ≢ 0 → Prints k moment text → HasStampText k moment text
 stamp_printed zero moment text some prints = absurd (some refl)
 stamp_printed (suc k) moment text some prints = prints
+
+pub stamp_none : (k : ℕ) (moment : ℤ) → k ≡ 0 → HasStampWriting k moment → HasStampText k moment []
+stamp_none zero moment none (text, stamped) = (stamped.0, refl)
+stamp_none (suc k) moment none has = absurd (omega arith)

@@ -7,3 +7,4 @@ pub mod Numbers
 pub mod Steps
 pub mod StepsBody
 pub mod StepsCut
+pub mod StepsOpening

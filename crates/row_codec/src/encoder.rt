@@ -1,8 +1,9 @@
 //! From a message to its row, in buffers that are filled again.
-ghost use Rattle.std.specs.Prelude.{◌≡◌, ℕ, ◌<◌, ◌≤◌, List, ◌∷◌, IsErrOf, OnOk, length};
+ghost use Rattle.std.specs.Prelude.{◌≡◌, ℕ, ◌≤◌, ◌↔◌, List, ◌∷◌, IsErrOf, IsTrue, OnOk, length};
 ghost use Rattle.var_codec.specs.declared.Coded.{Coded};
 ghost use Rattle.row_codec.specs.Steps.{front_of, words_of};
 ghost use Rattle.column_store.specs.Row.{row_of};
+ghost use Rattle.time_patterns.specs.Stamps.{HasStamp};
 ghost use Rattle.row_codec.specs.declared.TheConstants.{MAX_MESSAGE_LEN};
 ghost use Rattle.row_codec.specs.Encoding.{HasRead, row_held};
 ghost use Rattle.row_codec.specs.Means.{IsCanonical};
@@ -14,15 +15,15 @@ use crate::{NameRefusal, Namer};
 use column_store::RowRef;
 use logtype_text::{Span, encode_body};
 use std::alloc::{AllocError, Global};
-use time_patterns::{Stamp, read_stamp};
+use time_patterns::{Stamp, read_micro, read_stamp};
 use var_codec::Coded;
 
 // The front of a message as a row keeps it: 0 in each field where there is no stamp.
 #[derive(Clone, Copy)]
-struct Front {
-    pattern: u8,
-    moment: i64,
-    len: usize,
+pub(crate) struct Front {
+    pub(crate) pattern: u8,
+    pub(crate) moment: i64,
+    pub(crate) len: usize,
 }
 
 /// A message on its way to a row. It is filled again for each message, so that one costs no
@@ -70,6 +71,20 @@ fn front_of(stamp: Option<Stamp>) -> Front
     }
 }
 
+// The front of a message in the versions whose moments count microseconds, or in those whose moments
+// count milliseconds.
+#[inline]
+pub(crate) fn read_front(micro: bool, line: &[u8]) -> Front
+    ensures stamp { (version : ℕ) → (IsTrue micro ↔ (3 ≤ version))
+        → HasStamp version line.now result.pattern result.moment result.len }
+    ensures inside { result.len ≤ length line.now }
+{
+    if micro {
+        return front_of(read_micro(line));
+    }
+    front_of(read_stamp(line))
+}
+
 impl Encoder {
     /// An encoder that holds nothing. Takes no memory.
     pub fn new(alloc: Global) -> Encoder {
@@ -88,12 +103,12 @@ impl Encoder {
         }
     }
 
-    /// Reads a message of an archive of version 1 or 2: its stamp, and what is stored of its body.
-    /// After a want of memory the encoder holds nothing of use.
-    pub fn read(&mut self, line: &[u8]) -> Result<(), AllocError>
-        ensures { (version : ℕ) → version < 3 → OnOk result (HasRead self.new version line.now) }
+    /// Reads a message: its stamp, and what is stored of its body. `micro` tells whether the archive's
+    /// moments count microseconds. After a want of memory the encoder holds nothing of use.
+    pub fn read(&mut self, micro: bool, line: &[u8]) -> Result<(), AllocError>
+        ensures { (version : ℕ) → (IsTrue micro ↔ (3 ≤ version)) → OnOk result (HasRead self.new version line.now) }
     {
-        self.front = front_of(read_stamp(line));
+        self.front = read_front(micro, line);
         encode_body(
             &line[self.front.len..],
             &mut self.text,

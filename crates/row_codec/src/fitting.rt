@@ -29,7 +29,7 @@ pub fn row_fits<N: Names>(row: RowRef<'_>, names: &N) -> bool
 }
 
 // Whether the pattern prints the moment, or there is no stamp.
-fn stamp_fits(pattern: u8, moment: i64) -> bool
+pub(crate) fn stamp_fits(pattern: u8, moment: i64) -> bool
     ensures { IsTrue result ↔ HasStampWriting pattern moment }
 {
     if pattern == 0 {

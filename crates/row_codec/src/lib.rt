@@ -5,6 +5,7 @@
 //! the texts that it names stand in two dictionaries, that of log types and that of words.
 #![tactic(auto)]
 
+mod canonical;
 mod cutting;
 mod encoder;
 mod expanding;
@@ -12,7 +13,9 @@ mod fitting;
 mod laws;
 mod namer;
 mod names;
+mod opening;
 
+pub use canonical::row_ok;
 pub use encoder::Encoder;
 pub use expanding::{expand, expand_onto};
 pub use fitting::row_fits;

@@ -12,7 +12,7 @@ fn stamps_of_messages(rt: HostRuntime) -> Result<(), AllocError> {
     ];
     let mut encoder = Encoder::new(rt.alloc());
     for (line, pattern, moment) in rows {
-        encoder.read(line)?;
+        encoder.read(false, line)?;
         let row = encoder.row();
         assert_eq!(rt; (row.pattern, row.moment), (pattern, moment), "at {line:?}");
     }
