@@ -38,6 +38,9 @@ pub one_body : (words : List (List ℕ)) (text row a b : List ℕ) → IsBody wo
 one_body words text row a b mine theirs =
     mine.is ∙ bytes_same words mine.parts theirs.parts row (one_text (map symbol_of mine.parts) (map symbol_of theirs.parts) (sym mine.typed ∙ theirs.typed)) mine.written theirs.written ∙ sym theirs.is
 
+pub cut_body : (words : List (List ℕ)) (text row : List ℕ) → (cut : IsCutText words None text row) → IsBody words text row (joined cut.parts)
+cut_body words text row cut = record { parts = cut.parts; typed = cut.typed; written = cut.written; is = refl }
+
 pub cut_has_body : (words : List (List ℕ)) (text row : List ℕ) → IsCutText words None text row → HasBody words text row
 cut_has_body words text row cut = (joined cut.parts, record { parts = cut.parts; typed = cut.typed; written = cut.written; is = refl })
 
@@ -98,8 +101,8 @@ opening_tells version words text row pattern moment opened stamp body filled sho
     let found : HasStamp version (stamp ++ body) k m n = (front_tells version (stamp ++ body) k m n).0 (subst (λ l. HasStamp version l k m n) (taken ∙ ap (λ l. take 32 l) message) has) in
     let long = ap length stamps in (
       λ (a, b, c).
-        subst (λ x. HasStamp version (stamp ++ body) pattern moment x) (c ∙ long) (subst (λ x. HasStamp version (stamp ++ body) pattern x n) b (subst (λ x. HasStamp version (stamp ++ body) x m n) a found)),
+          subst (λ x. HasStamp version (stamp ++ body) pattern moment x) (c ∙ long) (subst (λ x. HasStamp version (stamp ++ body) pattern x n) b (subst (λ x. HasStamp version (stamp ++ body) x m n) a found)),
       λ other.
-        let same = one_stamp_of version (stamp ++ body) k pattern m moment n (length stamp) found other in
-        (same.0, same.1, same.2 ∙ sym long),
+          let same = one_stamp_of version (stamp ++ body) k pattern m moment n (length stamp) found other in
+          (same.0, same.1, same.2 ∙ sym long),
     )

@@ -88,14 +88,14 @@ no_plain_delimiter prev b parts is front = front.text.unbroken 0 (omega arith) i
 pub cut_delimiter : (words : List (List ℕ)) (prev : Option ℕ) (text row : List ℕ) (b : ℕ) (after : List ℕ) → text ≡ text_of_symbol (Byte b) ++ after → IsDelimiter b → IsCutText words prev text row ↔ IsCutText words (Some b) after row
 cut_delimiter words prev text row b after cut is = (
   λ whole.
-    let starts = starts_byte b after whole.parts (sym cut ∙ whole.typed) in
-    let front : CutFront prev (Constant b ∷ starts.rest) = cut_front (subst (λ l. Cut prev l) starts.same whole.cut) in
-    record {
-      parts = starts.rest;
-      typed = starts.typed;
-      written = subst (λ l. EachWord (IsWritten words) l row) starts.same whole.written;
-      cut = elim front [ inl both ↦ both.1 | inr other ↦ absurd (no_plain_delimiter prev b starts.rest is other) ];
-    },
+      let starts = starts_byte b after whole.parts (sym cut ∙ whole.typed) in
+      let front : CutFront prev (Constant b ∷ starts.rest) = cut_front (subst (λ l. Cut prev l) starts.same whole.cut) in
+      record {
+        parts = starts.rest;
+        typed = starts.typed;
+        written = subst (λ l. EachWord (IsWritten words) l row) starts.same whole.written;
+        cut = elim front [ inl both ↦ both.1 | inr other ↦ absurd (no_plain_delimiter prev b starts.rest is other) ];
+      },
   λ rest. record {
     parts = Constant b ∷ rest.parts;
     typed = cut ∙ ap (λ l. text_of_symbol (Byte b) ++ l) rest.typed;
@@ -118,10 +118,10 @@ pub cut_variable : (words : List (List ℕ)) (prev : Option ℕ) (text row : Lis
     → TellsBreaks after true → IsHeldWord words prev kind word → IsCutText words prev text row ↔ IsCutText words None after left
 cut_variable words prev text row kind after word left cut row_is breaks held_word = (
   λ whole.
-    let starts = starts_slot kind after whole.parts (sym cut ∙ whole.typed) in
-    let front : CutFront prev (Variable kind starts.text ∷ starts.rest) = cut_front (subst (λ l. Cut prev l) starts.same whole.cut) in
-    let written : EachWord (IsWritten words) (Variable kind starts.text ∷ starts.rest) (word ∷ left) = subst (λ l. EachWord (IsWritten words) l (word ∷ left)) starts.same (subst (λ l. EachWord (IsWritten words) whole.parts l) row_is whole.written) in
-    record { parts = starts.rest; typed = starts.typed; written = written.1; cut = front.cut },
+      let starts = starts_slot kind after whole.parts (sym cut ∙ whole.typed) in
+      let front : CutFront prev (Variable kind starts.text ∷ starts.rest) = cut_front (subst (λ l. Cut prev l) starts.same whole.cut) in
+      let written : EachWord (IsWritten words) (Variable kind starts.text ∷ starts.rest) (word ∷ left) = subst (λ l. EachWord (IsWritten words) l (word ∷ left)) starts.same (subst (λ l. EachWord (IsWritten words) whole.parts l) row_is whole.written) in
+      record { parts = starts.rest; typed = starts.typed; written = written.1; cut = front.cut },
   λ rest. record {
     parts = Variable kind held_word.token ∷ rest.parts;
     typed = cut ∙ ap (λ l. text_of_symbol (Slot kind) ++ l) rest.typed;
@@ -264,8 +264,8 @@ unfolding Unbroken
 cut_constants words prev text row [] after some cut unbroken stops breaks constant = absurd (omega arith)
 cut_constants words prev text row (b ∷ bytes) after some cut unbroken stops breaks constant = (
   λ whole.
-    let apart = plain_whole words prev text row b bytes after cut unbroken stops whole in
-    record { parts = apart.parts; typed = apart.typed; written = apart.written; cut = apart.is.cut },
+      let apart = plain_whole words prev text row b bytes after cut unbroken stops whole in
+      record { parts = apart.parts; typed = apart.typed; written = apart.written; cut = apart.is.cut },
   λ rest. record {
     parts = plains (b ∷ bytes) rest.parts;
     typed = cut ∙ plain_typed (b ∷ bytes) after rest.parts rest.typed;
@@ -467,8 +467,8 @@ pub held_is : (words : List (List ℕ)) (prev : Option ℕ) (kind : Kind) (word 
 held_is words prev kind word text written has_kind = (
   λ is. record { token = text; written = written; text = is.text; variable = is.variable; has_kind = has_kind },
   λ has.
-    let same = one_writing words kind has.token text word has.written written in
-    record { text = subst IsTokenText same has.text; variable = subst (λ t. IsVariable prev t) same has.variable },
+      let same = one_writing words kind has.token text word has.written written in
+      record { text = subst IsTokenText same has.text; variable = subst (λ t. IsVariable prev t) same has.variable },
 )
 
 stuck : (text : List ℕ) → 0 < length text → ((symbol : Symbol) (rest : List ℕ) → text ≢ text_of_symbol symbol ++ rest) → (parts : List Part) → text ≡ type_text (map symbol_of parts) → ⊥
@@ -490,4 +490,3 @@ cut_end words prev rest left so_far end = (
   λ a. let whole = so_far.0 a in no_words words left whole.parts (sym end ∙ whole.typed) whole.written,
   λ none. so_far.1 (record { parts = []; typed = end; written = subst (λ l. EachWord (IsWritten words) [] l) (sym none) tt; cut = ended }),
 )
-

@@ -20,7 +20,7 @@ take_front (suc n) (x ∷ xs) ys = ap (λ l. x ∷ l) (take_front n xs ys)
 -- all bytes fit, or as many as there is room for
 pub fill_fits : (at : ℕ) (old bytes : List ℕ) → length old ≡ 32 → at ≤ 32 → length bytes ≤ 32 - at → take at old ++ bytes ≡ take 32 (take at old ++ bytes)
 fill_fits at old bytes long low room =
-    sym (take_all (take at old ++ bytes) 32 (omega (arith, length-append (take at old) bytes, length-take at old)))
+    sym (take_all 32 (take at old ++ bytes) (omega (arith, length-append (take at old) bytes, length-take at old)))
 
 pub fill_over : (at : ℕ) (old bytes : List ℕ) → length old ≡ 32 → at ≤ 32 → take at old ++ take (32 - at) bytes ≡ take 32 (take at old ++ bytes)
 fill_over at old bytes long low =
@@ -31,7 +31,7 @@ pub fills_self : (words : List (List ℕ)) (text row old : List ℕ) → length 
 fills_self words text row old few = record {
   whole = old;
   puts = record { bytes = []; appended = sym (append-nil old); leads = λ body is. (body, is, refl) };
-  held = sym (take_all old 32 few);
+  held = sym (take_all 32 old few);
 }
 
 pub fills_then : (words : List (List ℕ)) (text row rest left end last old mid new : List ℕ) → Fills words text row rest left old mid → Fills words rest left end last mid new → Fills words text row end last old new

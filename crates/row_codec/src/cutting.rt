@@ -73,7 +73,11 @@ fn past_variable<'a, N: Names>(
     ensures none { IfNone result (¬ IsCutAt (N.words names.now) at.entry) }
     ensures shorter { IfSome result (λ next. length next.rest.now < length at.entry.rest.now) }
 {
-    let Place { rest: _, words, prev } = at;
+    let Place {
+        rest: _,
+        words,
+        prev,
+    } = at;
     let [word, left @ ..] = words else {
         return None;
     };
@@ -143,13 +147,7 @@ fn past_token_byte(text: &[u8]) -> Option<&[u8]>
     ensures none { IfNone result (StopsText text.now) }
 {
     match first_symbol(text) {
-        Some((Symbol::Byte(byte), after)) => {
-            if is_delim(byte) {
-                None
-            } else {
-                Some(after)
-            }
-        }
+        Some((Symbol::Byte(byte), after)) => { if is_delim(byte) { None } else { Some(after) } }
         Some((Symbol::Slot(_), _)) => None,
         None => None,
     }

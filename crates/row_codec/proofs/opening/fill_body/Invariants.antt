@@ -8,6 +8,7 @@ invariant-loop-symbol g l = record {
   fills : Fills (g.N.Names.words l.names) l.fn.text l.fn.words l.rest l.left (take l.fn.at l.fn.out) (take l.end l.out);
   has : HasBody (g.N.Names.words l.names) l.rest l.left;
   within : l.end ≤ 32;
+  long : length l.out ≡ 32;
 }
 
 abbrev pub decreases-loop-symbol : goal.decreases-loop-symbol
