@@ -1,6 +1,5 @@
 -- A moment is that of one time.
 use Rattle.std.proofs.Common.{◌≡◌, ℕ, ◌+◌, ◌*◌, ◌<◌, ℤ, pos, ◌+ℤ◌, ◌*ℤ◌, refl, arith, FitsSigned, w64}
-use borrow.Author.Differences.{up, down}
 use Rattle.jiff_core.specs.Date.{epoch_day}
 use Rattle.jiff_core.proofs.DateLemmas.{epoch_day_injective, epoch_day_range, epoch_day_same}
 use Rattle.jiff_core.proofs.SignedLemmas.{fits_between, signed_arith}
@@ -9,7 +8,8 @@ use Rattle.time_patterns.specs.declared.form.Form.{Form}
 use Rattle.time_patterns.specs.CivilTime.{clock_of, micros_of, numbers_of}
 use Rattle.time_patterns.specs.Forms.{IsTimeOf}
 
-clock_small : (t : CivilTime) → clock_of t < 86_400_000_000
+-- a day's clock
+pub clock_small : (t : CivilTime) → clock_of t < 86_400_000_000
 clock_small t = omega (arith, t.hour_in, t.minute_in, t.second_in, t.microsecond_in)
 
 -- days and the microseconds of a day tell both

@@ -60,16 +60,6 @@ six (a ∷ b ∷ c ∷ d ∷ []) l = absurd (omega arith)
 six (a ∷ b ∷ c ∷ d ∷ e ∷ []) l = absurd (omega arith)
 six (a ∷ b ∷ c ∷ d ∷ e ∷ f ∷ g ∷ xs) l = absurd (omega arith)
 
--- six digits at most
-pub few_digits : (n : ℕ) → n < 6 → 10 ^ n ≤ 100000
-few_digits zero h = omega arith
-few_digits (suc zero) h = omega arith
-few_digits (suc (suc zero)) h = omega arith
-few_digits (suc (suc (suc zero))) h = omega arith
-few_digits (suc (suc (suc (suc zero)))) h = omega arith
-few_digits (suc (suc (suc (suc (suc zero))))) h = omega arith
-few_digits (suc (suc (suc (suc (suc (suc n)))))) h = absurd (omega arith)
-
 -- the last digit goes to its place
 pub put_digit : (n number p q left : ℕ) (out : List ℕ) → p ≡ q + 1 → q < length out → digits n number ≡ digits p left ++ drop p out → digits n number ≡ digits q (left / 10) ++ drop q (set out q (48 + left % 10))
 unfolding digits

@@ -1,4 +1,6 @@
+pub mod BoundLemmas
 pub mod CivilLemmas
+pub mod DayLemmas
 pub mod DigitLemmas
 pub mod FieldLemmas
 pub mod LawLemmas

@@ -1,11 +1,11 @@
 -- The laws of the stamps that messages have in a version.
-use Rattle.std.proofs.Common.{◌≡◌, ℕ, zero, suc, ◌+◌, ◌-◌, ◌<◌, ◌≤◌, ◌⊎◌, Bool, true, false, inl, inr, List, [], ◌∷◌, ◌++◌, length, take, drop, ℤ, pos, refl, sym, ap, ◌∙◌, subst, arith, append_assoc, take-append-drop}
+use Rattle.std.proofs.Common.{◌≡◌, ℕ, zero, suc, ◌-◌, ◌<◌, ◌≤◌, ◌⊎◌, true, false, inl, inr, List, [], ◌∷◌, ◌++◌, length, take, drop, ℤ, refl, sym, ap, ◌∙◌, subst, arith, append_assoc, take-append-drop}
 use Rattle.std.specs.Prelude.{◌↔◌, if◌then◌else◌, nat_le}
 use Rattle.std.proofs.lemmas.Bool.{cases_lt}
 use Rattle.std.proofs.lemmas.Bool.Decides.{nat_tests}
 use Rattle.std.proofs.lemmas.List.{length-append}
 use Rattle.time_patterns.specs.Laws.{OneStampOf, ReadsBack, FrontTells, AlikeVersions}
-use Rattle.time_patterns.specs.Stamps.{BeginsWith, EndsStamp, Fits, HasNoStamp, HasStamp, IsPatternOf, IsStampOf, Prints, first_pattern, last_pattern}
+use Rattle.time_patterns.specs.Stamps.{EndsStamp, Fits, HasStamp, IsPatternOf, IsStampOf, Prints}
 use Rattle.time_patterns.proofs.DigitLemmas.{append_split}
 use Rattle.time_patterns.proofs.LawLemmas.{one_moment, same_length, short_texts}
 

@@ -1,7 +1,7 @@
 -- What is true of all patterns, moments and lines.
-use Rattle.std.specs.Prelude.{◌≡◌, ℕ, ◌%◌, ◌<◌, ◌≤◌, ◌||◌, ◌==◌, ◌↔◌, Bool, IsTrue, List, ◌++◌, length, take, ℤ, All}
+use Rattle.std.specs.Prelude.{◌≡◌, ℕ, ◌%◌, ◌<◌, ◌≤◌, ◌||◌, ◌==◌, ◌↔◌, Bool, IsTrue, List, ◌++◌, length, take, ℤ, pos, neg_ℤ, ◌<ℤ◌, ◌≤ℤ◌, unsigned_abs, All}
 use Rattle.std.specs.Int.{is_in_range}
-use Rattle.time_patterns.specs.Stamps.{Prints, EndsStamp, Fits, HasStamp, IsPatternOf, IsStampOf}
+use Rattle.time_patterns.specs.Stamps.{Prints, EndsStamp, Fits, HasStamp, IsPatternOf, IsPrintable, IsStampOf}
 
 -- no two moments share a text of one pattern
 abbrev pub OneMoment : Type 0
@@ -47,3 +47,22 @@ abbrev pub AlikeVersions : Type 0
 AlikeVersions =
     (version other : ℕ) (line : List ℕ) (k : ℕ) (m : ℤ) (n : ℕ) → (version < 3 ↔ other < 3)
     → HasStamp version line k m n → HasStamp other line k m n
+
+-- pattern k prints the moments from the first to before the end that are whole numbers of the unit
+abbrev pub PrintsFrom : ℕ → ℤ → ℤ → ℕ → Type 0
+PrintsFrom k first end unit =
+    (m : ℤ) → IsPrintable k m ↔ ((first ≤ℤ m) × (m <ℤ end) × (unsigned_abs m % unit ≡ 0))
+
+-- The moments that patterns print, as numbers: from 0000-01-01 to before 10000-01-01, or, where the year has two
+-- digits, from 2000-01-01 to before 2100-01-01. No other numbers are patterns.
+pub record PrintedMoments : Type 0 where
+  pub patterns : (k : ℕ) (m : ℤ) → IsPrintable k m → (1 ≤ k) × (k ≤ 26)
+  -- moments in milliseconds
+  pub to_millisecond : (k : ℕ) → 1 ≤ k → k ≤ 5 → PrintsFrom k (neg_ℤ (pos 62_167_219_200_000)) (pos 253_402_300_800_000) 1
+  pub to_second : (k : ℕ) → 6 ≤ k → k ≤ 9 → PrintsFrom k (neg_ℤ (pos 62_167_219_200_000)) (pos 253_402_300_800_000) 1000
+  pub short_years : PrintsFrom 10 (pos 946_684_800_000) (pos 4_102_444_800_000) 1000
+  -- moments in microseconds
+  pub micro_to_microsecond : (k : ℕ) → 11 ≤ k → k ≤ 16 → PrintsFrom k (neg_ℤ (pos 62_167_219_200_000_000)) (pos 253_402_300_800_000_000) 1
+  pub micro_to_millisecond : (k : ℕ) → 17 ≤ k → k ≤ 21 → PrintsFrom k (neg_ℤ (pos 62_167_219_200_000_000)) (pos 253_402_300_800_000_000) 1000
+  pub micro_to_second : (k : ℕ) → 22 ≤ k → k ≤ 25 → PrintsFrom k (neg_ℤ (pos 62_167_219_200_000_000)) (pos 253_402_300_800_000_000) 1_000_000
+  pub micro_short_years : PrintsFrom 26 (pos 946_684_800_000_000) (pos 4_102_444_800_000_000) 1_000_000

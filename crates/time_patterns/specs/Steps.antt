@@ -1,5 +1,5 @@
 -- What is known on the way to a stamp.
-use Rattle.std.specs.Prelude.{◌≡◌, ℕ, ◌+◌, ◌/◌, ◌%◌, ◌<◌, ◌≤◌, ◌⊎◌, List, ◌++◌, map, Option, Some, None, ℤ}
+use Rattle.std.specs.Prelude.{◌≡◌, ℕ, ◌/◌, ◌%◌, ◌<◌, ◌≤◌, ◌⊎◌, List, ◌++◌, map, Option, Some, None, ℤ}
 use Rattle.time_patterns.specs.declared.field.Field.{Field}
 use Rattle.time_patterns.specs.declared.form.Form.{Form}
 use Rattle.time_patterns.specs.declared.shape.Shape.{Shape}

@@ -1,6 +1,6 @@
 //! What is true of all patterns, moments and lines: each law is the contract of a function that
 //! does nothing.
-ghost use Rattle.time_patterns.specs.Laws.{AlikeVersions, FrontTells, OneMoment, OneStampOf, OneText, ReadsBack, ShortTexts};
+ghost use Rattle.time_patterns.specs.Laws.{AlikeVersions, FrontTells, OneMoment, OneStampOf, OneText, PrintedMoments, ReadsBack, ShortTexts};
 
 /// No two moments share a text of one pattern.
 pub fn text_tells_moment()
@@ -37,4 +37,9 @@ pub fn front_tells_stamp()
 /// Versions 1 and 2 have the same stamps.
 pub fn versions_are_alike()
     ensures { AlikeVersions }
+{}
+
+/// A pattern prints the moments of its years that are whole numbers of its unit, and no others.
+pub fn patterns_print_whole_moments()
+    ensures { PrintedMoments }
 {}

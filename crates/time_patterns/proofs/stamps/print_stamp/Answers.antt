@@ -1,5 +1,4 @@
-use Rattle.std.proofs.Common.{◌≡◌, ◌∙◌, ◌*ℤ◌, pos, refl, to_z-of_z}
-use Rattle.time_patterns.specs.CivilTime.{micros_of}
+use Rattle.std.proofs.Common.{to_z-of_z}
 use Rattle.time_patterns.proofs.PlaceLemmas.{IsForm_sound}
 use Rattle.time_patterns.proofs.StampLemmas.{printable}
 use Rattle.time_patterns.proofs.stamps.print_stamp.Goals as goal

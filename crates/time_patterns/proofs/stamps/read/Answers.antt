@@ -1,4 +1,4 @@
-use Rattle.std.proofs.Common.{◌≡◌, ◌-◌, ◌≤ℤ◌, length, pos, subst, arith, rules, FitsSigned, w64, to_z-of_z}
+use Rattle.std.proofs.Common.{◌≡◌, ◌-◌, ◌≤ℤ◌, length, pos, arith, rules, FitsSigned, w64, to_z-of_z}
 use Rattle.time_patterns.specs.CivilTime.{numbers_of}
 use Rattle.time_patterns.specs.Forms.{first_year}
 use Rattle.time_patterns.proofs.PlaceLemmas.{IsForm_sound}

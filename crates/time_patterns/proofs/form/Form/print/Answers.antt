@@ -1,4 +1,4 @@
-use Rattle.std.proofs.Common.{◌≡◌, ◌/◌, ◌≤◌, length, arith, rules}
+use Rattle.std.proofs.Common.{◌≡◌, ◌/◌, length, arith, rules}
 use Rattle.std.proofs.lemmas.List.{length-append}
 use Rattle.time_patterns.specs.Digits.{byte_text}
 use Rattle.time_patterns.specs.Forms.{fraction_text}

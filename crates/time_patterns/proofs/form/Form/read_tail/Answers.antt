@@ -1,8 +1,7 @@
-use Rattle.std.proofs.Common.{◌≡◌, ◌∙◌, ◌++◌, sym, ap, arith, append_assoc}
+use Rattle.std.proofs.Common.{◌∙◌, sym}
 use Rattle.std.proofs.lemmas.List.{append_cancel_left}
 use Rattle.time_patterns.specs.Digits.{byte_text}
-use Rattle.time_patterns.specs.Forms.{fraction_text}
-use Rattle.time_patterns.proofs.TailLemmas.{behind_fraction, few_digits, units}
+use Rattle.time_patterns.proofs.TailLemmas.{behind_fraction}
 use Rattle.time_patterns.proofs.form.Form.read_tail.Goals as goal
 
 pub returns-in_err-rest-clause-none : goal.returns-in_err-rest-clause-none

@@ -1,4 +1,4 @@
-use Rattle.std.proofs.Common.{◌≡◌, ◌*ℤ◌, ◌∙◌, pos, rules, FitsSigned, w64, to_z, of_z, to_z-of_z}
+use Rattle.std.proofs.Common.{◌*ℤ◌, pos, rules, FitsSigned, w64, to_z-of_z}
 use Rattle.time_patterns.proofs.CivilLemmas.{micros_fit}
 use Rattle.time_patterns.proofs.form.Form.time.Goals as goal
 
