@@ -83,17 +83,6 @@ shape_len-bounds Bracketed = (lit≤ tt, lit≤ tt)
 shape_len-bounds Slashed = (lit≤ tt, lit≤ tt)
 shape_len-bounds Short = (lit≤ tt, lit≤ tt)
 
-short : (s : Shape) → AllByRecursion (λ (f : Field). f.digits ≤ 4) (fields_of s)
-short Dashed = (lit≤ tt, (lit≤ tt, (lit≤ tt, (lit≤ tt, (lit≤ tt, (lit≤ tt, tt))))))
-short Lettered = (lit≤ tt, (lit≤ tt, (lit≤ tt, (lit≤ tt, (lit≤ tt, (lit≤ tt, tt))))))
-short Bracketed = (lit≤ tt, (lit≤ tt, (lit≤ tt, (lit≤ tt, (lit≤ tt, (lit≤ tt, tt))))))
-short Slashed = (lit≤ tt, (lit≤ tt, (lit≤ tt, (lit≤ tt, (lit≤ tt, (lit≤ tt, tt))))))
-short Short = (lit≤ tt, (lit≤ tt, (lit≤ tt, (lit≤ tt, (lit≤ tt, (lit≤ tt, tt))))))
-
--- no field of a shape has more than four digits
-pub short_fields : (s : Shape) → All (λ (f : Field). f.digits ≤ 4) (fields_of s)
-short_fields s = All-from_recursion (λ (f : Field). f.digits ≤ 4) (fields_of s) (short s)
-
 -- the bytes that tell the shape
 abbrev IsDigit : ℕ → Type 0
 IsDigit b = (48 ≤ b) × (b ≤ 57)

@@ -201,9 +201,3 @@ printable k form is m t e = (
       let theirs = subst (λ (f : Form). (u : CivilTime) × (micros_of u ≡ m *ℤ pos f.tick) × IsTimeOf f u) (IsForm_same k printed.1.0 form printed.1.1 is) (printed.1.2.0, printed.1.2.1, printed.1.2.2) in
       IsTimeOf_same form t theirs.0 (micros_of-injective t theirs.0 (e ∙ sym theirs.1)) theirs.2,
 )
-
--- nor is there a text where no time has the moment
-pub unprintable : (k : ℕ) (form : Form) → IsForm k form → (m : ℤ) → ((t : CivilTime) → ¬ (micros_of t ≡ m *ℤ pos form.tick)) → ¬ IsPrintable k m
-unprintable k form is m none printed =
-    let theirs = subst (λ (f : Form). (u : CivilTime) × (micros_of u ≡ m *ℤ pos f.tick)) (IsForm_same k printed.1.0 form printed.1.1 is) (printed.1.2.0, printed.1.2.1) in
-    none theirs.0 theirs.1
