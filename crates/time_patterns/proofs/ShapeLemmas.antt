@@ -1,9 +1,7 @@
 -- The numbers of a shape: those of its times fit its fields, and how its texts begin.
 use Rattle.std.proofs.Common.{◌≡◌, ℕ, ◌+◌, ◌-◌, ◌%◌, ◌^◌, ◌<◌, ◌≤◌, List, [], ◌∷◌, ◌++◌, length, get_or, drop, Option, Some, ℤ, pos, negsuc, ◌≤ℤ◌, unsigned_abs, refl, arith, lit≤}
-use Rattle.std.specs.Prelude.{All, slice_index}
-use Rattle.std.specs.List.{AllByRecursion}
+use Rattle.std.specs.Prelude.{slice_index}
 use Rattle.std.proofs.lemmas.List.{length-append}
-use Rattle.std.proofs.lemmas.List.Elements.{All-from_recursion}
 use Rattle.jiff_core.proofs.CalendarLemmas.{days_in_month_bounds}
 use Rattle.jiff_core.proofs.SignedLemmas.{signed_arith}
 use Rattle.time_patterns.specs.declared.field.Field.{Field}

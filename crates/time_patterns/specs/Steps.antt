@@ -1,5 +1,5 @@
 -- What is known on the way to a stamp.
-use Rattle.std.specs.Prelude.{◌≡◌, ℕ, ◌/◌, ◌%◌, ◌<◌, ◌≤◌, ◌⊎◌, List, ◌++◌, map, Option, Some, None, ℤ}
+use Rattle.std.specs.Prelude.{◌≡◌, ℕ, ◌/◌, ◌%◌, ◌<◌, ◌≤◌, ◌⊎◌, List, ◌++◌, length, map, slice_index, Option, Some, None, ℤ}
 use Rattle.time_patterns.specs.declared.field.Field.{Field}
 use Rattle.time_patterns.specs.declared.form.Form.{Form}
 use Rattle.time_patterns.specs.declared.shape.Shape.{Shape}
@@ -14,6 +14,11 @@ counts_of fields = map (λ (f : Field). f.digits) fields
 abbrev pub digits_of : Option Field → ℕ
 digits_of None = 0
 digits_of (Some f) = f.digits
+
+-- as long as a stamp at least, and with `[` or a digit at the front
+abbrev pub MayBegin : List ℕ → Type 0
+MayBegin line =
+    (17 ≤ length line) × ((slice_index line 0 ≡ 91) ⊎ ((48 ≤ slice_index line 0) × (slice_index line 0 ≤ 57)))
 
 -- The fraction has the digits that the unit asks for, and the unit is a whole number of ticks.
 abbrev pub HasUnit : ℕ → ℕ → Type 0

@@ -2,7 +2,7 @@
 ghost use Rattle.std.specs.Prelude.{◌≡◌, ◌≢◌, ℕ, List, ◌+◌, ◌≤◌, ◌++◌, length, take, drop, All, Some, IfSome, IfNone};
 ghost use Rattle.time_patterns.specs.declared.field.Field.{Field};
 ghost use Rattle.time_patterns.specs.Digits.{AreWithin, fields_text};
-ghost use Rattle.time_patterns.specs.Steps.{counts_of};
+ghost use Rattle.time_patterns.specs.Steps.{counts_of, MayBegin};
 
 use crate::field::Field;
 
@@ -105,10 +105,12 @@ impl Shape {
         }
     }
 
-    /// The one shape that can stand at the front of the line; `None` where none can.
+    /// The one shape that may stand at the front of the line, by a few of its bytes; none where the
+    /// line is too short or does not begin with `[` or a digit.
     #[inline(always)]
     pub fn of(line: &[u8]) -> Option<Shape>
-        ensures { (s : Shape) (xs rest : List ℕ) → line.now ≡ fields_text (fields_of s) xs ++ rest → result ≡ Some s }
+        ensures may { IfSome result (λ _. MayBegin line.now) }
+        ensures only { (s : Shape) (xs rest : List ℕ) → line.now ≡ fields_text (fields_of s) xs ++ rest → result ≡ Some s }
     {
         if line.len() < SHORTEST {
             return None;

@@ -3,8 +3,8 @@ use Rattle.time_patterns.specs.declared.shape.Shape.TheVariants.{Dashed, Lettere
 use Rattle.time_patterns.proofs.ShapeLemmas.{by_front}
 use Rattle.time_patterns.proofs.shape.Shape.of.Goals as goal
 
-pub returns-then-line-lt-SHORTEST : goal.returns-then-line-lt-SHORTEST
-returns-then-line-lt-SHORTEST c =
+pub returns-then-line-lt-SHORTEST-clause-only : goal.returns-then-line-lt-SHORTEST-clause-only
+returns-then-line-lt-SHORTEST-clause-only c =
     by_front c.args.line.now None
     (λ f. absurd (omega (arith, f.0.long)))
     (λ f. absurd (omega (arith, f.0.long)))
@@ -12,8 +12,8 @@ returns-then-line-lt-SHORTEST c =
     (λ f. absurd (omega (arith, f.0.long)))
     (λ f. absurd (omega (arith, f.0.long)))
 
-pub returns-then-first-eq91 : goal.returns-then-first-eq91
-returns-then-first-eq91 c =
+pub returns-then-first-eq91-clause-only : goal.returns-then-first-eq91-clause-only
+returns-then-first-eq91-clause-only c =
     by_front c.args.line.now (Some Bracketed)
     (λ f. absurd (omega (arith, f.0.first)))
     (λ f. absurd (omega (arith, f.0.first)))
@@ -21,8 +21,8 @@ returns-then-first-eq91 c =
     (λ f. absurd (omega (arith, f.0.first)))
     (λ f. absurd (omega (arith, f.0.first)))
 
-pub returns-then-not-is_ascii_digit : goal.returns-then-not-is_ascii_digit
-returns-then-not-is_ascii_digit c =
+pub returns-then-not-is_ascii_digit-clause-only : goal.returns-then-not-is_ascii_digit-clause-only
+returns-then-not-is_ascii_digit-clause-only c =
     by_front c.args.line.now None
     (λ f. absurd (elim c.if-not-is_ascii_digit.ensures.cases [ inl low ↦ omega (arith, f.0.first) | inr high ↦ omega (arith, f.0.first) ]))
     (λ f. absurd (elim c.if-not-is_ascii_digit.ensures.cases [ inl low ↦ omega (arith, f.0.first) | inr high ↦ omega (arith, f.0.first) ]))
@@ -30,8 +30,8 @@ returns-then-not-is_ascii_digit c =
     (λ f. absurd (elim c.if-not-is_ascii_digit.ensures.cases [ inl low ↦ omega (arith, f.0.first) | inr high ↦ omega (arith, f.0.first) ]))
     (λ f. absurd (elim c.if-not-is_ascii_digit.ensures.cases [ inl low ↦ omega (arith, f.0.first) | inr high ↦ omega (arith, f.0.first) ]))
 
-pub returns-then-line-eq47 : goal.returns-then-line-eq47
-returns-then-line-eq47 c =
+pub returns-then-line-eq47-clause-only : goal.returns-then-line-eq47-clause-only
+returns-then-line-eq47-clause-only c =
     by_front c.args.line.now (Some Short)
     (λ f. absurd (omega (arith, f.1)))
     (λ f. absurd (omega (arith, f.1)))
@@ -39,8 +39,8 @@ returns-then-line-eq47 c =
     (λ f. absurd (omega (arith, f.1)))
     (λ f. refl)
 
-pub returns-then-line-eq47-2 : goal.returns-then-line-eq47-2
-returns-then-line-eq47-2 c =
+pub returns-then-line-eq47-2-clause-only : goal.returns-then-line-eq47-2-clause-only
+returns-then-line-eq47-2-clause-only c =
     by_front c.args.line.now (Some Slashed)
     (λ f. absurd (omega (arith, f.2)))
     (λ f. absurd (omega (arith, f.2)))
@@ -48,8 +48,8 @@ returns-then-line-eq47-2 c =
     (λ f. refl)
     (λ f. absurd (omega (arith, f.1)))
 
-pub returns-then-line-eq84 : goal.returns-then-line-eq84
-returns-then-line-eq84 c =
+pub returns-then-line-eq84-clause-only : goal.returns-then-line-eq84-clause-only
+returns-then-line-eq84-clause-only c =
     by_front c.args.line.now (Some Lettered)
     (λ f. absurd (omega (arith, f.3)))
     (λ f. refl)
@@ -57,8 +57,8 @@ returns-then-line-eq84 c =
     (λ f. absurd (omega (arith, f.2)))
     (λ f. absurd (omega (arith, f.1)))
 
-pub returns-else-line-eq84 : goal.returns-else-line-eq84
-returns-else-line-eq84 c =
+pub returns-else-line-eq84-clause-only : goal.returns-else-line-eq84-clause-only
+returns-else-line-eq84-clause-only c =
     by_front c.args.line.now (Some Dashed)
     (λ f. refl)
     (λ f. absurd (omega (arith, f.3)))
