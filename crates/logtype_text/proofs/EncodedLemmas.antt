@@ -8,6 +8,7 @@ use Rattle.std.proofs.Math.Seq.{take-add}
 use Rattle.var_codec.specs.Codes.{Codes}
 use Rattle.var_codec.specs.declared.Coded.{Coded}
 use Rattle.var_codec.specs.declared.Coded.TheVariants.{Whole as WholeWord, Decimal as DecimalWord, Word as DictionaryWord}
+use Rattle.token_rules.proofs.ClassLemmas.{length-slice_range}
 use Rattle.logtype_text.specs.declared.symbols.Kind.TheVariants.{Whole, Word, Decimal}
 use Rattle.logtype_text.specs.declared.symbols.Symbol.TheVariants.{Byte}
 use Rattle.logtype_text.specs.declared.spans.Span.{Span}
@@ -15,7 +16,7 @@ use Rattle.logtype_text.specs.Parts.{Part, Constant, Variable, text_of_part, joi
 use Rattle.logtype_text.specs.TypeText.{is_escaped, placeholder, text_of_symbol, type_text}
 use Rattle.logtype_text.specs.Encoded.{AreCoded, AreWithin, IsEncoded, texts_at, word_texts}
 use Rattle.logtype_text.specs.Steps.{word_place}
-use Rattle.logtype_text.proofs.PartsLemmas.{size, stand-append, constants, joined-constants, symbols-constants, constants_stand, length-range}
+use Rattle.logtype_text.proofs.PartsLemmas.{size, stand-append, constants, joined-constants, symbols-constants, constants_stand}
 
 -- bytes without escapes are their own text
 pub plain_text : (bytes : List ℕ) → All (λ b. is_escaped b ≡ false) bytes → type_text (map Byte bytes) ≡ bytes
@@ -93,7 +94,7 @@ stored_more body at to text codes words more codes' words' ordered inside before
 pub constants_stored : (body : List ℕ) (at to : ℕ) (text text' : List ℕ) (codes : List Coded) (words : List Span) → at ≤ to → to ≤ length body → SoFar body at text codes words → IsFree body at to → text' ≡ text ++ type_text (map Byte (slice_range body at to)) → SoFar body to text' codes words
 constants_stored body at to text text' codes words ordered inside before free is =
     let bytes = slice_range body at to in
-    let reach : at + length bytes ≡ to = omega (arith, length-range body at to inside) in
+    let reach : at + length bytes ≡ to = omega (arith, length-slice_range body at to inside) in
     let words_are : texts_at body (words ++ []) ≡ texts_at body words ++ word_texts (constants bytes) =
     ap (λ l. texts_at body l) (append-nil words) ∙ sym (append-nil (texts_at body words)) ∙ ap (λ l. texts_at body words ++ l) (sym (words-constants bytes)) in
     let within : AreWithin body (words ++ []) = subst (λ l. AreWithin body l) (sym (append-nil words)) before.within in
@@ -126,7 +127,7 @@ variable_stored body span text text' codes codes' words words' coded before toke
     let kind = kind_of coded in
     let inside = token.token.in_range in
     let not_empty = token.token.not_empty in
-    let reach : start + length bytes ≡ end = omega (arith, length-range body start end inside) in
+    let reach : start + length bytes ≡ end = omega (arith, length-slice_range body start end inside) in
     let has_kind : HasKind bytes kind = (coded, codes_are, refl) in
     let more = stored_more body start end text codes words (Variable kind bytes ∷ []) (coded ∷ []) (word_place coded span) (omega arith) inside before (append-nil bytes)
     (subst (λ n. IsVariableToken body start n) (sym reach) token, has_kind, tt) (codes_are, refl, tt) (new_words body words coded span) (new_within body words coded span not_empty inside before.within) in

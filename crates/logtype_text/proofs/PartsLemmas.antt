@@ -1,11 +1,12 @@
 -- The parts of the front of a body, and of one step more.
-use Rattle.std.proofs.Common.{◌≡◌, ℕ, ◌+◌, ◌-◌, ◌≤◌, suc, List, [], ◌∷◌, ◌++◌, length, map, take, drop, refl, sym, ◌∙◌, ap, ap₂, subst, arith, inl, inr, length-append, length-drop, length-take-le}
+use Rattle.std.proofs.Common.{◌≡◌, ℕ, ◌+◌, ◌-◌, ◌≤◌, suc, List, [], ◌∷◌, ◌++◌, length, map, take, drop, refl, sym, ◌∙◌, ap, ap₂, subst, arith, inl, inr, length-append, length-take-le}
 use Rattle.std.specs.Prelude.{slice_range}
 use Rattle.std.proofs.lemmas.Bool.{cases_lt}
 use Rattle.std.proofs.lemmas.List.{append-nil, map-append, take_all, take_at, drop_at, drop-drop}
 use Rattle.std.proofs.lemmas.Grind.{flat_map-append}
 use Rattle.std.proofs.Math.Seq.{take-add}
 use Rattle.token_rules.specs.Tokens.{IsToken, IsVariableAt, OnlyDelimiters}
+use Rattle.token_rules.proofs.ClassLemmas.{length-slice_range}
 use Rattle.token_rules.proofs.TokenLemmas.{tokens_are_apart}
 use Rattle.var_codec.specs.Codes.{Codes}
 use Rattle.var_codec.specs.declared.Coded.{Coded}
@@ -82,9 +83,6 @@ pub record Before (body : List ℕ) (at : ℕ) (symbols : List Symbol) (spans : 
 pub before_any : (body : List ℕ) → Before body 0 [] []
 before_any body = record { parts = []; joins = refl; stand = tt; symbols_are = refl; spans_are = refl }
 
-pub length-range : (body : List ℕ) (from to : ℕ) → to ≤ length body → length (slice_range body from to) ≡ to - from
-length-range body from to inside = length-take-le (to - from) (drop from body) (omega (arith, length-drop from body))
-
 -- some parts more
 before_more : (body : List ℕ) (at to : ℕ) (symbols : List Symbol) (spans : List Span) (more : List Part) → at ≤ to → to ≤ length body → Before body at symbols spans → joined more ≡ slice_range body at to → StandAt body at more → Before body to (symbols ++ map symbol_of more) (spans ++ places_of at more)
 before_more body at to symbols spans more ordered inside before joins stand =
@@ -103,7 +101,7 @@ before_more body at to symbols spans more ordered inside before joins stand =
 pub before_constants : (body : List ℕ) (at to : ℕ) (symbols : List Symbol) (spans : List Span) → at ≤ to → to ≤ length body → Before body at symbols spans → IsFree body at to → Before body to (symbols ++ map Byte (slice_range body at to)) spans
 before_constants body at to symbols spans ordered inside before free =
     let bytes = slice_range body at to in
-    let reach : at + length bytes ≡ to = omega (arith, length-range body at to inside) in
+    let reach : at + length bytes ≡ to = omega (arith, length-slice_range body at to inside) in
     let more = before_more body at to symbols spans (constants bytes) ordered inside before (joined-constants bytes) (constants_stand body at bytes (subst (λ n. IsFree body at n) (sym reach) free)) in
     subst (λ l. Before body to l spans) (ap (λ l. symbols ++ l) (symbols-constants bytes))
     (subst (λ l. Before body to (symbols ++ map symbol_of (constants bytes)) l) (ap (λ l. spans ++ l) (places-constants at bytes) ∙ append-nil spans) more)
@@ -114,7 +112,7 @@ before_variable body start end symbols spans kind before token has_kind =
     let text = slice_range body start end in
     let inside = token.token.in_range in
     let not_empty = token.token.not_empty in
-    let reach : start + length text ≡ end = omega (arith, length-range body start end inside) in
+    let reach : start + length text ≡ end = omega (arith, length-slice_range body start end inside) in
     let more = before_more body start end symbols spans (Variable kind text ∷ []) (omega arith) inside before (append-nil text) (subst (λ n. IsVariableToken body start n) (sym reach) token, has_kind, tt) in
     subst (λ (n : ℕ). Before body end (symbols ++ Slot kind ∷ []) (spans ++ record { start = start; end = n } ∷ [])) reach more
 

@@ -19,7 +19,7 @@ use Rattle.logtype_text.specs.TypeText.{is_escaped, text_of_symbol, type_text}
 use Rattle.logtype_text.specs.Encoded.{AreCoded, AreWithin, IsEncoded, texts_at, word_texts}
 use Rattle.logtype_text.specs.Fair.{IsFairType, IsFairWord}
 use Rattle.logtype_text.specs.Laws.{GoodIsTypeText}
-use Rattle.logtype_text.proofs.PartsLemmas.{length-range}
+use Rattle.token_rules.proofs.ClassLemmas.{length-slice_range}
 use Rattle.time_patterns.specs.Stamps.{HasNoStamp, HasStamp, IsStampOf}
 use Rattle.time_patterns.proofs.VersionLemmas.{alike_versions}
 use Rattle.time_patterns.specs.declared.stamps.Stamp.{Stamp}
@@ -112,7 +112,7 @@ pub fair_words : (body : List ℕ) (places : List Span) → AreWithin body place
 fair_words body places within short =
     All-map IsFairWord (λ (s : Span). slice_range body s.start s.end) places
     (All-weaker (λ (s : Span). (s.start < s.end) × (s.end ≤ length body)) (λ (s : Span). IsFairWord (slice_range body s.start s.end))
-    (λ s inside. let long = length-range body s.start s.end inside.1 in record { some = omega (arith, inside.0, inside.1); short = omega (arith, inside.0, inside.1) }) places within)
+    (λ s inside. let long = length-slice_range body s.start s.end inside.1 in record { some = omega (arith, inside.0, inside.1); short = omega (arith, inside.0, inside.1) }) places within)
 
 -- a message and the parts of its body behind the stamp
 pub record HasParts (version : ℕ) (line : List ℕ) (pattern : ℕ) (moment : ℤ) (n : ℕ) (parts : List Part) : Type 0 where

@@ -1,9 +1,10 @@
 use Rattle.std.proofs.Common.{◌<◌, ◌≤◌, ◌∷◌, [], ◌++◌, length, refl, sym, ◌∙◌, ap, subst, arith}
 use Rattle.std.specs.Prelude.{All}
 use Rattle.std.proofs.lemmas.List.Elements.{All-push}
+use Rattle.token_rules.proofs.ClassLemmas.{length-slice_range}
 use Rattle.logtype_text.specs.declared.symbols.Symbol.TheVariants.{Slot}
 use Rattle.logtype_text.specs.Parts.{HasKind, IsSplit}
-use Rattle.logtype_text.proofs.PartsLemmas.{before_constants, before_variable, before_same, codes_more, codes_same, length-range, split_at_end, split_count}
+use Rattle.logtype_text.proofs.PartsLemmas.{before_constants, before_variable, before_same, codes_more, codes_same, split_at_end, split_count}
 use Rattle.logtype_text.proofs.splitting.split_into.Goals as goal
 
 -- the bytes before a variable, and the variable
@@ -19,7 +20,7 @@ loop-span-preserved c =
     let kind = c.kind_of.result in
     let in_range = token.in_range in
     let not_empty = token.not_empty in
-    let counted = length-range body c.loop-span.at start (omega arith) in
+    let counted = length-slice_range body c.loop-span.at start (omega arith) in
     let bytes = before_constants body c.loop-span.at start c.loop-span.symbols.items c.loop-span.spans.items found.first.0 (omega arith) so_far.before found.first.1 in
     let kind_is : HasKind _ kind = (c.encode-coded.result, c.encode-coded.ensures, sym c.kind_of.ensures) in
     let all = before_variable body start end _ _ kind bytes found.token kind_is in
