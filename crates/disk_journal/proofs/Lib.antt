@@ -1,5 +1,5 @@
 pub mod SpellingLemmas
 pub mod WalkLemmas
-pub mod AppendLemmas
 pub mod JournalLemmas
+pub mod AppendLemmas
 pub mod SeriesLemmas

@@ -11,7 +11,7 @@ use Rattle.disk_journal.specs.Place.{AtEnd, BeforeOrAfter, Added, WithFirstTold,
 use Rattle.disk_journal.specs.Series.{saved_all, size_all}
 use Rattle.disk_journal.specs.State.{JournalState, IsAtEnd}
 use Rattle.disk_journal.specs.Calls.{GoesOn, StaysAt, HasAdded, HasStopped, LeavesBeforeOrAfter, LeavesFirst}
-use Rattle.disk_journal.proofs.JournalLemmas.{same_behind}
+use Rattle.disk_journal.proofs.AppendLemmas.{same_behind}
 
 -- the texts up to one, and that one
 pub size_split : (texts : List (List ℕ)) (i : ℕ) → size_all texts ≡ size_all (take i texts) + size_all (drop i texts)

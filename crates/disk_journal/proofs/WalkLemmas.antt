@@ -219,11 +219,6 @@ walk_ends head place count (Some bytes) images w closed only = record {
   only = only;
 }
 
--- what a crash leaves alone it still does where a crash leaves no more
-pub only_less : (told : Option (List ℕ)) (old new : List ℕ → Type 0) → Only told old → NoMore old new → Only told new
-only_less None old new only less = tt
-only_less (Some bytes) old new only less = λ c left. only c (less c left)
-
 -- a journal at its end stays there while the bytes stay and a crash leaves no more
 pub end_stays : (head : List ℕ) (place count : ℕ) (told : Option (List ℕ)) (old new : List ℕ → Type 0) → NoMore old new → AtEnd head place count told old → AtEnd head place count told new
 end_stays head place count None old new less end = tt
