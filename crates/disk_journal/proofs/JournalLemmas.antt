@@ -45,6 +45,9 @@ record_passed p old new past walked =
 pub walk_stays : (at n : ℕ) (old new : JournalState) → OnlyReads at n old new → StaysAt old new → IsWalked old → IsWalked new
 walk_stays at n old new reads stays walked = walked_as old new reads.header stays.place stays.count reads.rests.seen walked
 
+pub walk_at_gate : (at n : ℕ) (old new : JournalState) → OnlyReads at n old new → HasEnded old new → IsWalked old → IsWalked new
+walk_at_gate at n old new reads ended walked = walked_as old new reads.header ended.place ended.count reads.rests.seen walked
+
 pub end_rests : (at n : ℕ) (old new : JournalState) → OnlyReads at n old new → StaysAt old new → IsAtEnd old → IsAtEnd new
 end_rests at n old new reads stays end = record {
   closed = stays.closed ∙ end.closed;
