@@ -11,7 +11,7 @@ use Rattle.query_plan.specs.declared.pieces.Piece.{Piece}
 use Rattle.query_plan.specs.declared.pieces.Piece.TheVariants.{Gap, Mark, Word}
 use Rattle.query_plan.specs.Pieces.{Free, After, Inside, IsInner, IsSomeInner, IsCut, EndsWord, bytes, is_open, is_needed, is_stamp_token_byte, stays, thin, less, merge, one_gap, pieces, wide_pieces}
 use Rattle.query_plan.specs.Cutting.{side, side_of, delimiter_of, variable_first, bones_first}
-use Rattle.query_plan.specs.Needs.{needed_variables_of, leaves_stamp, back_part, bone, token_bones, bones, skeleton_of}
+use Rattle.query_plan.specs.Needs.{needed_variables_of, is_behind, back_part, bone, token_bones, bones, skeleton_of}
 use Rattle.query_plan.proofs.CompleteLemmas.{clash}
 use Rattle.query_plan.proofs.CutLemmas.{pieces_cut}
 use Rattle.query_plan.proofs.PlanLemmas.{open_after}
@@ -164,7 +164,7 @@ back_if false p ps c d = d
 
 pub back_cut : (ps : List Piece) → IsCut ps → IsCut (back_part ps)
 back_cut [] c = tt
-back_cut (p ∷ ps) c = back_if (leaves_stamp p) p ps c (back_cut ps (cut_behind p ps c))
+back_cut (p ∷ ps) c = back_if (is_behind p ps) p ps c (back_cut ps (cut_behind p ps c))
 
 pub skeleton_begins : (ps rest : List Piece) (items : List Item) → IsCut ps → rest ≡ back_part ps → items ≡ Many ∷ []
     → IsCut rest × (items ++ bones Free rest ≡ skeleton_of ps)

@@ -13,7 +13,7 @@ use Rattle.wild_match.specs.declared.pattern.Item.TheVariants.{Byte, Many}
 use Rattle.query_plan.specs.declared.pieces.Piece.{Piece}
 use Rattle.query_plan.specs.declared.pieces.Piece.TheVariants.{Gap, Mark, Word}
 use Rattle.query_plan.specs.Pieces.{Side, Free, After, Inside, IsInner, IsSomeInner, IsCut, bytes, flat, is_open, is_needed, is_stamp_token_byte, needed_of, wide, wide_pieces}
-use Rattle.query_plan.specs.Needs.{byte_of, needed_variables_of, leaves_stamp, back_part, bone, token_bones, bones, skeleton_of, constants, Brings}
+use Rattle.query_plan.specs.Needs.{byte_of, needed_variables_of, is_foreign, foreign_next, is_behind, back_part, bone, token_bones, bones, skeleton_of, constants, Brings}
 use Rattle.query_plan.specs.Readings.{Rest, now, same, past, stay, IsBodyBehind}
 use Rattle.query_plan.specs.Laws.{IsSearched}
 use Rattle.query_plan.proofs.MatchLemmas.{Steps, byte, drops, takes, steps, stepped, match_rest, many_more}
@@ -65,9 +65,9 @@ any_first true y is h = h
 any_first false y is h = absurd (false≢true is)
 
 -- a token that can lie in a stamp has no byte of its own
-no_other : (t : List ℕ) → IsStampText t → list_any (λ b. not (is_stamp_byte b)) t ≡ false
+no_other : (t : List ℕ) → IsStampText t → is_foreign t ≡ false
 no_other [] h = refl
-no_other (b ∷ t) h = any_first (is_stamp_byte b) (list_any (λ b. not (is_stamp_byte b)) t) h.0 (no_other t h.1)
+no_other (b ∷ t) h = any_first (is_stamp_byte b) (is_foreign t) h.0 (no_other t h.1)
 
 no_own : (t : List ℕ) → IsInner t → IsStampText t → list_any (λ b. not (is_stamp_token_byte b)) t ≡ false
 no_own [] i h = refl
@@ -80,12 +80,8 @@ and_none false y h = refl
 not_needed : (e : Side) (ps : List Piece) (t : List ℕ) → IsInner t → IsStampText t → is_needed e ps t ≡ false
 not_needed e ps t i h = and_none (not (is_open e ps)) (list_any (λ b. not (is_stamp_token_byte b)) t) (no_own t i h)
 
-back_skip : (p : Piece) (ps : List Piece) → leaves_stamp p ≡ false → back_part (p ∷ ps) ≡ back_part ps
+back_skip : (p : Piece) (ps : List Piece) → is_behind p ps ≡ false → back_part (p ∷ ps) ≡ back_part ps
 back_skip p ps is = ap (λ v. if v then p ∷ ps else back_part ps) is
-
-not_true : (x : Bool) → x ≡ true → not x ≡ false
-not_true true is = refl
-not_true false is = absurd (false≢true is)
 
 -- a skeleton of which a front is left out matches no less
 many_bytes : (t : List ℕ) (q : List Item) (cs : List ℕ) → ((u : List ℕ) → Steps q u → Steps (Many ∷ q) u) → Steps (bytes t q) cs → Steps (Many ∷ q) cs
@@ -115,10 +111,10 @@ back_bones e [] cs m = drops m
 back_bones e (Gap ∷ ps) cs m = many_onto (bones Free ps) (bones Free (back_part ps)) (λ u k. back_bones Free ps u k) cs m
 back_bones e (Mark d ∷ ps) [] m = elim m [ ]
 back_bones e (Mark d ∷ ps) (c ∷ cs) (byte m) =
-    pick (leaves_stamp (Mark d)) (Mark d) ps (c ∷ cs) (drops (byte m)) (takes (back_bones (After d) ps cs m))
+    pick (is_behind (Mark d) ps) (Mark d) ps (c ∷ cs) (drops (byte m)) (takes (back_bones (After d) ps cs m))
 back_bones e (Word t ∷ ps) cs m =
     let many = token_many (is_open e ps) (byte_of e) t (bones Inside ps) cs m in
-    pick (leaves_stamp (Word t)) (Word t) ps cs (drops many)
+    pick (is_behind (Word t) ps) (Word t) ps cs (drops many)
     (many_onto (bones Inside ps) (bones Free (back_part ps)) (λ u k. back_bones Inside ps u k) cs many)
 
 -- the pieces of what is left, with the same needs
@@ -158,14 +154,15 @@ some_inner (b ∷ t) i = i
 behind_gap : (e : Side) (ps : List Piece) (q : List Item) → TailAt Free ps q → TailAt e (Gap ∷ ps) q
 behind_gap e ps q k = record { tail = k.tail; is = k.is; cut = k.cut; words = k.words; flags = k.flags; bony = k.bony }
 
-behind_mark : (e : Side) (d : ℕ) (ps : List Piece) (q : List Item) → IsTrue (is_stamp_byte d) → TailAt (After d) ps q → TailAt e (Mark d ∷ ps) q
-behind_mark e d ps q stamp k = record {
+behind_mark : (e : Side) (d : ℕ) (ps : List Piece) (q : List Item) → IsTrue (is_stamp_byte d) → foreign_next ps ≡ false → TailAt (After d) ps q
+    → TailAt e (Mark d ∷ ps) q
+behind_mark e d ps q stamp next k = record {
   tail = k.tail;
   is = k.is;
   cut = k.cut;
   words = k.words;
   flags = k.flags;
-  bony = λ cs m. subst (λ x. Steps (Many ∷ bones Free x) cs) (sym (back_skip (Mark d) ps (not_true (is_stamp_byte d) stamp))) (k.bony cs m);
+  bony = λ cs m. subst (λ x. Steps (Many ∷ bones Free x) cs) (sym (back_skip (Mark d) ps (any_first (is_stamp_byte d) (foreign_next ps) stamp next))) (k.bony cs m);
 }
 
 behind_word : (e : Side) (t : List ℕ) (ps : List Piece) (q : List Item) → IsInner t → IsStampText t → TailAt Inside ps q → TailAt e (Word t ∷ ps) q
@@ -186,12 +183,18 @@ in_gap e ps q c out f [] h now = whole e (Gap ∷ ps) c out
 in_gap e ps q c out f (b ∷ s) h (past r) = behind_gap e ps q (f (b ∷ s) h r)
 in_gap e ps q c out f (b ∷ s) h (stay r) = in_gap e ps q c out f s h.1 r
 
+no_foreign : (ps : List Piece) → IsCut ps → (q : List Item) → BeginsOutside q → (s : List ℕ) → IsStampText s → Rest (flat ps) s q → foreign_next ps ≡ false
+no_foreign [] c q out s h r = refl
+no_foreign (Gap ∷ ps) c q out s h r = refl
+no_foreign (Mark d ∷ ps) c q out s h r = refl
+no_foreign (Word t ∷ ps) c q out s h r = no_other t (through (flat ps) q out t (some_inner t c.0) s h r).within
+
 tail_of : (ps : List Piece) → IsCut ps → (e : Side) (q : List Item) → BeginsOutside q → (s : List ℕ) → IsStampText s → Rest (flat ps) s q → TailAt e ps q
 tail_of [] c e q out [] h now = whole e [] c out
 tail_of [] c e q out (b ∷ s) h r = elim r [ ]
 tail_of (Gap ∷ ps) c e q out s h r = in_gap e ps q c out (λ u k n. tail_of ps c Free q out u k n) s h r
 tail_of (Mark d ∷ ps) c e q out [] h now = whole e (Mark d ∷ ps) c out
-tail_of (Mark d ∷ ps) c e q out (b ∷ s) h (same r) = behind_mark e d ps q h.0 (tail_of ps c.1 (After d) q out s h.1 r)
+tail_of (Mark d ∷ ps) c e q out (b ∷ s) h (same r) = behind_mark e d ps q h.0 (no_foreign ps c.1 q out s h.1 r) (tail_of ps c.1 (After d) q out s h.1 r)
 tail_of (Word t ∷ ps) c e q out s h r =
     let i = some_inner t c.0 in
     let k = through (flat ps) q out t i s h r in

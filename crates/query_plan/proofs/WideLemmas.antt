@@ -1,8 +1,9 @@
 -- The pattern that a search is planned over matches no less, and no more where nothing was left out.
-use Rattle.std.proofs.Common.{◌≡◌, ℕ, zero, suc, ◌+◌, List, [], ◌∷◌, refl, sym, ap, subst, ◌∙◌, arith}
+use Rattle.std.proofs.Common.{◌≡◌, ℕ, zero, suc, ◌+◌, List, [], ◌∷◌, ◌++◌, refl, sym, ap, subst, ◌∙◌, arith}
 use Rattle.std.specs.Prelude.{Bool, true, false}
 use Rattle.token_rules.specs.Tokens.{is_token_byte}
 use Rattle.wild_match.specs.Matches.{Match}
+use Rattle.wild_match.specs.Reading.{IsSearchPattern}
 use Rattle.wild_match.specs.declared.pattern.Item.{Item}
 use Rattle.wild_match.specs.declared.pattern.Item.TheVariants.{Byte, One, Many}
 use Rattle.query_plan.specs.declared.pieces.Piece.{Piece}
@@ -203,3 +204,14 @@ searched_is_widened [] s = absurd s
 searched_is_widened (Byte b ∷ q) s = absurd s
 searched_is_widened (One ∷ q) s = absurd s
 searched_is_widened (Many ∷ q) s = wide_is_widened q s
+
+ends_behind_items : (x : Item) (q : List Item) → EndsMany q → EndsMany (x ∷ q)
+ends_behind_items x [] e = absurd e
+ends_behind_items x (y ∷ q) e = e
+
+ends_many : (q : List Item) → EndsMany (q ++ Many ∷ [])
+ends_many [] = tt
+ends_many (x ∷ q) = ends_behind_items x (q ++ Many ∷ []) (ends_many q)
+
+pub is_searched : (text : List ℕ) (p : List Item) → IsSearchPattern text p → IsSearched p
+is_searched text p h = subst IsSearched (sym h.2) (ends_many (Many ∷ h.0))

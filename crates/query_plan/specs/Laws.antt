@@ -8,6 +8,7 @@ use Rattle.query_plan.specs.Needs.{skeleton_of, constants, marked, needed_variab
 use Rattle.query_plan.specs.Pieces.{Free, wide, wide_pieces, open_tokens, needed_of}
 use Rattle.query_plan.specs.Readings.{SomeReads, IsBodyBehind}
 use Rattle.wild_match.specs.Matches.{Match}
+use Rattle.wild_match.specs.Reading.{IsSearchPattern}
 use Rattle.wild_match.specs.declared.pattern.Item.{Item}
 use Rattle.wild_match.specs.declared.pattern.Item.TheVariants.{Byte, One, Many}
 
@@ -65,6 +66,10 @@ WideIsWider = (p : List Item) (s : List ℕ) → Match p s → Match (wide p) s
 -- and no other message, where the pattern has no `?` and at most four open tokens
 abbrev pub WideIsExact : Type 0
 WideIsExact = (p : List Item) (s : List ℕ) → NoOne p → open_tokens p ≤ MAX_OPEN_TOKENS → Match (wide p) s → Match p s
+
+-- what a search's text spells is such a pattern
+abbrev pub SearchesAreSearched : Type 0
+SearchesAreSearched = (text : List ℕ) (p : List Item) → IsSearchPattern text p → IsSearched p
 
 -- it begins with any bytes, has no `?`, and no byte comes last, so its readings are exact
 abbrev pub WideIsWidened : Type 0

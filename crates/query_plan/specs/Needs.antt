@@ -1,6 +1,6 @@
 -- What a message must bring for the pattern that a search is planned over: its needed words, and the
 -- skeleton, a pattern over the constant bytes of a body alone.
-use Rattle.std.specs.Prelude.{◌≡◌, ℕ, List, [], ◌∷◌, ◌++◌, ◌⊎◌, Bool, true, false, not, Option, Some, None, if◌then◌else◌}
+use Rattle.std.specs.Prelude.{◌≡◌, ℕ, List, [], ◌∷◌, ◌++◌, ◌⊎◌, Bool, true, false, not, ◌||◌, Option, Some, None, if◌then◌else◌}
 use Rattle.std.specs.List.{list_any}
 use Rattle.token_rules.specs.Tokens.{IsDelimiter, is_variable}
 use Rattle.time_patterns.specs.Laws.{is_stamp_byte}
@@ -26,16 +26,28 @@ needed_variables_of e (Mark d ∷ ps) = needed_variables_of (After d) ps
 needed_variables_of e (Word t ∷ ps) =
     if is_needed e ps t then is_variable (byte_of e) t ∷ needed_variables_of Inside ps else needed_variables_of Inside ps
 
--- a piece has a byte that no stamp has
-abbrev pub leaves_stamp : Piece → Bool
-leaves_stamp Gap = false
-leaves_stamp (Mark d) = not (is_stamp_byte d)
-leaves_stamp (Word t) = list_any (λ b. not (is_stamp_byte b)) t
+-- a text has a byte that no stamp has
+abbrev pub is_foreign : List ℕ → Bool
+is_foreign t = list_any (λ b. not (is_stamp_byte b)) t
+
+-- a token comes first that can lie in no stamp
+abbrev pub foreign_next : List Piece → Bool
+foreign_next [] = false
+foreign_next (Gap ∷ ps) = false
+foreign_next (Mark d ∷ ps) = false
+foreign_next (Word t ∷ ps) = is_foreign t
+
+-- A piece can lie in no stamp, since it has a byte that no stamp has, or is a delimiter before a token with
+-- one: a body does not begin within a line's token.
+abbrev pub is_behind : Piece → List Piece → Bool
+is_behind Gap ps = false
+is_behind (Mark d) ps = not (is_stamp_byte d) || foreign_next ps
+is_behind (Word t) ps = is_foreign t
 
 -- the pieces from the first one on that can lie in no stamp
 abbrev pub back_part : List Piece → List Piece
 back_part [] = []
-back_part (p ∷ ps) = if leaves_stamp p then p ∷ ps else back_part ps
+back_part (p ∷ ps) = if is_behind p ps then p ∷ ps else back_part ps
 
 -- a closed token among the constant bytes: none where it is a variable
 abbrev pub bone : Bool → List ℕ → List Item → List Item

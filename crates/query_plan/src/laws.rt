@@ -1,6 +1,6 @@
 //! Laws of readings and of the pattern that a search is planned over. The functions do nothing: what
 //! they promise holds of every pattern and every message.
-ghost use Rattle.query_plan.specs.Laws.{ConstantsSuffice, NeededWordsAreBrought, ReadingsAreExact, SkeletonIsNeeded, WideIsExact, WideIsWidened, WideIsWider};
+ghost use Rattle.query_plan.specs.Laws.{ConstantsSuffice, NeededWordsAreBrought, ReadingsAreExact, SearchesAreSearched, SkeletonIsNeeded, WideIsExact, WideIsWidened, WideIsWider};
 
 use logtype_text::parts_are_cut;
 
@@ -13,11 +13,13 @@ pub fn readings_are_exact()
 }
 
 /// The pattern that a search is planned over matches no less than the pattern, and no more where the
-/// pattern has no `?` and at most [`MAX_OPEN_TOKENS`](crate::MAX_OPEN_TOKENS) open tokens.
+/// pattern has no `?` and at most [`MAX_OPEN_TOKENS`](crate::MAX_OPEN_TOKENS) open tokens. Where the
+/// pattern is one that a text spells, any bytes come first and last, and the laws of readings hold of it.
 pub fn wide_is_wider()
     ensures wider { WideIsWider }
     ensures exact { WideIsExact }
     ensures widened { WideIsWidened }
+    ensures searched { SearchesAreSearched }
 {}
 
 /// What a message must bring for the pattern that a search is planned over: each needed word, as a

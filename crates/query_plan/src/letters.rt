@@ -65,7 +65,10 @@ fn advance<'a, T: Letters>(items: &'a [Item], start: T) -> Result<Left<'a, T>, b
     };
     let mut text = start;
     if *first == Item::Many {
-        return Ok(Left { items: behind, text });
+        return Ok(Left {
+            items: behind,
+            text,
+        });
     }
     let Some(letter) = text.letter() else {
         return Err(false);
@@ -80,8 +83,15 @@ fn advance<'a, T: Letters>(items: &'a [Item], start: T) -> Result<Left<'a, T>, b
         return Ok(passed);
     };
     match left.items.split_first() {
-        Some((_, rest)) => Ok(Left { items: rest, text: left.text }),
-        None => if is_over(left.text) { Err(true) } else { Ok(passed) },
+        Some((_, rest)) => Ok(Left {
+            items: rest,
+            text: left.text,
+        }),
+        None => if is_over(left.text) {
+            Err(true)
+        } else {
+            Ok(passed)
+        },
     }
 }
 

@@ -1,10 +1,9 @@
 //! What a log type must have so that a message of it can match.
-ghost use Rattle.std.specs.Prelude.{◌≡◌, ◌++◌, ◌∷◌, ◌||◌, IfOk, OnOk, not};
-ghost use Rattle.std.specs.List.{list_any};
+ghost use Rattle.std.specs.Prelude.{◌≡◌, ◌++◌, ◌∷◌, ◌||◌, IfOk, OnOk};
 ghost use Rattle.time_patterns.specs.Laws.{is_stamp_byte};
 ghost use Rattle.query_plan.specs.Cutting.{bones_first};
 ghost use Rattle.query_plan.specs.Pieces.{IsCut};
-ghost use Rattle.query_plan.specs.Needs.{back_part, leaves_stamp, skeleton_of};
+ghost use Rattle.query_plan.specs.Needs.{back_part, foreign_next, is_behind, is_foreign, skeleton_of};
 
 use crate::pieces::{Piece, delimiter, opens, push_bytes};
 use std::alloc::{AllocError, Global};
@@ -15,25 +14,38 @@ use wild_match::Item;
 fn is_stamp_byte(byte: u8) -> bool
     ensures { result ≡ is_stamp_byte byte }
 {
-    matches!(byte,
-        b'0'..=b'9' | b'-' | b'.' | b'T' | b'Z' | b':' | b',' | b'/' | b'[' | b']' | b' ')
+    matches!(
+        byte,
+        b'0'..=b'9' | b'-' | b'.' | b'T' | b'Z' | b':' | b',' | b'/' | b'[' | b']' | b' '
+    )
 }
 
-/// Whether a token has a byte that no stamp has.
-fn has_other_byte(token: &[u8]) -> bool
-    ensures { result ≡ list_any (λ b. not (is_stamp_byte b)) token.now }
+/// Whether a text has a byte that no stamp has.
+fn is_foreign(text: &[u8]) -> bool
+    ensures { result ≡ is_foreign text.now }
 {
-    token.iter().any(|byte| !is_stamp_byte(*byte))
+    text.iter().any(|byte| !is_stamp_byte(*byte))
 }
 
-/// Whether a piece has a byte that no stamp has.
-fn leaves_stamp(piece: &Piece) -> bool
-    ensures { result ≡ leaves_stamp piece.now }
+/// Whether a token comes first that can lie in no stamp.
+fn foreign_next(pieces: &[Piece]) -> bool
+    ensures { result ≡ foreign_next pieces.now }
+{
+    match pieces.split_first() {
+        Some((Piece::Word(text), _)) => is_foreign(text.as_slice()),
+        _ => false,
+    }
+}
+
+/// Whether a piece can lie in no stamp: it has a byte that no stamp has, or is a delimiter before a
+/// token with one.
+fn is_behind(piece: &Piece, behind: &[Piece]) -> bool
+    ensures { result ≡ is_behind piece.now behind.now }
 {
     match piece {
         Piece::Gap => false,
-        Piece::Mark(byte) => !is_stamp_byte(*byte),
-        Piece::Word(text) => has_other_byte(text.as_slice()),
+        Piece::Mark(byte) => !is_stamp_byte(*byte) || foreign_next(behind),
+        Piece::Word(text) => is_foreign(text.as_slice()),
     }
 }
 
@@ -43,7 +55,7 @@ fn back_part(pieces: &[Piece]) -> &[Piece]
 {
     let mut rest = pieces;
     while let Some((first, behind)) = rest.split_first() {
-        if leaves_stamp(first) {
+        if is_behind(first, behind) {
             break;
         }
         rest = behind;

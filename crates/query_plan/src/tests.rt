@@ -1,8 +1,57 @@
-use crate::{Piece, Plan, readings_are_exact, wide_is_wider};
-use log_seams::TextList;
+use crate::symbols::SymbolLetters;
+use crate::{
+    Piece, Plan, VarSymbol, VarSymbols, constants_suffice, matches_letters, needs_are_brought,
+    readings_are_exact, wide_is_wider,
+};
+use log_seams::{Text, TextList};
+use logtype_text::{Symbol, split};
 use std::alloc::{AllocError, Global};
 use std::test::Fail;
 use wild_match::{Item, matches, read_pattern};
+
+/// A pattern's text and a message, as hexadecimal digits, and 1 where the pattern matches it.
+const TABLE: &str = "\
+61622a2a615c61 2a6162ff3f2a6161 1\n\
+2a2a5c202a2a2a 5c202a3f3f 1\n\
+2a622a622a20 3fff5cff3f6262203f 1\n\
+5c3f2a2a2a61 ff2062ff3f2a615c 1\n\
+2a2a20202a 202061 1\n\
+2a202a612a 20612a3fff62ff 1\n\
+2a2a2a6161 2a61612a 1\n\
+5c2a2a2a 62ff622aff2a3f2a20 1\n\
+2a202a2a 202a 1\n\
+202a5c62 5c2062 1\n\
+2a2a5c62 5c625c62 1\n\
+2a5c3f2a ff3fffff2a623f 1\n\
+2a2a61 3f3f3fff61 1\n\
+2a5c3f 62ff3f 1\n\
+2a2a62 3f62206161ffffff2a 1\n\
+62612a 62612a 1\n\
+622a2a 62ff5c2a3fff203f 1\n\
+2a2a20 20202a3f 1\n\
+5c2a 612aff3f2a3f625c 1\n\
+612a ff625cff6120623f 1\n\
+20612a2a622a20 3f612062616162 0\n\
+6220202a5c3f20 5c5c3f622061 0\n\
+5c6120612a5c2a 2a61ffff20ff61ff 0\n\
+62612a2a2a2a62 - 0\n\
+2a61622a2a6120 61 0\n\
+2a5c3f2a2a2a2a - 0\n\
+612a2a622a2a62 20 0\n\
+2a5c5c5c5c202a 5c202a2020ff 0\n\
+5c2a2a62206161 62202aff2a 0\n\
+2a625c612a2a62 5c616261 0\n\
+20615c202a6161 3f206261626162 0\n\
+616120615c3f62 5c2aff3f3f2a613f2a 0\n\
+205c2a20625c20 - 0\n\
+615c61622a622a 5c62622a205c5c61 0\n\
+202a615c3f2a20 3f622a61 0\n\
+2a2a202a2a6161 203f202a 0\n\
+6162202a612a61 20202a612a2a 0\n\
+5c616161202a2a ff6262ff62ff 0\n\
+5c615c625c6262 6262205c3f20 0\n\
+625c202a626261 3f20 0\n\
+";
 
 /// The pieces as a text: `*` for a gap, a delimiter as it is, a token in `<` and `>`.
 fn shown(alloc: Global, pieces: &[Piece]) -> Result<Vec<u8>, AllocError> {
@@ -88,7 +137,187 @@ fn patterns_and_their_pieces(rt: HostRuntime) -> Result<(), Fail> {
         let ends = plan.wide().as_slice().last() == Some(&Item::Many);
         assert!(rt; ends, "{text:?}");
     }
+    Ok(())
+}
+
+/// The symbols of a body.
+fn symbols_of(alloc: Global, body: &[u8]) -> Result<VarSymbols, AllocError> {
+    let split = split(alloc, body)?;
+    let mut spans = split.spans.as_slice().iter();
+    let mut symbols = Vec::new(alloc);
+    for symbol in split.symbols.as_slice() {
+        match symbol {
+            Symbol::Byte(byte) => symbols.push(VarSymbol::Byte(*byte))?,
+            Symbol::Slot(kind) => {
+                let text = match spans.next() {
+                    Some(span) => body.get(span.start..span.end).unwrap_or(b""),
+                    None => b"",
+                };
+                let text = Text::new(Vec::from_slice(alloc, text)?);
+                symbols.push(VarSymbol::Var { kind: *kind, text })?;
+            }
+        }
+    }
+    Ok(VarSymbols::new(symbols))
+}
+
+#[test]
+fn what_readings_accept(rt: HostRuntime) -> Result<(), Fail> {
+    let alloc = rt.alloc();
+    // a pattern's text, a message's stamp and body, whether a reading accepts it
+    let rows: [(&[u8], &[u8], &[u8], bool); 15] = [
+        (b"oo1", b"", b"xfoo1y", true),
+        (b"12*34", b"", b"12534", true),
+        (b"12*34", b"", b"12 34", true),
+        (b"12*34", b"", b"a12*34", true),
+        (b"12\\*34", b"", b"a12*34", true),
+        (b"12\\*34", b"", b"12534", false),
+        (b"fo*", b"", b"x=foo", true),
+        (
+            b"41,123 INFO",
+            b"2015-03-23 05:38:41,123",
+            b" INFO boot",
+            true,
+        ),
+        (b"41,123 INFO", b"2015-03-23 05:38:41,123", b" WARN", false),
+        (
+            b"23*INFO*t",
+            b"2015-03-23 05:38:41,123",
+            b" INFO boot",
+            true,
+        ),
+        (b"38:4?,*", b"2015-03-23 05:38:41,123", b"", true),
+        (b"a*b*c*d*e", b"", b"a b c d x", true),
+        (b" task_9 ", b"", b"run task_1 done", false),
+        (b" task_1 ", b"", b"run task_1 done", true),
+        (b"", b"", b"", true),
+    ];
+    for (text, stamp, body, want) in rows {
+        let pattern = read_pattern(alloc, text).ok().ok_or("a pattern")?;
+        let plan = Plan::new(alloc, &pattern)?;
+        let symbols = symbols_of(alloc, body)?;
+        assert_eq!(rt; plan.reads(stamp, &symbols), want, "{text:?} at {body:?}");
+    }
     readings_are_exact();
     wide_is_wider();
+    Ok(())
+}
+
+fn digit(code: u8) -> u8
+    ensures { result < 16 }
+{
+    match code {
+        b'0'..=b'9' => code - b'0',
+        b'a'..=b'f' => code - b'a' + 10,
+        _ => 0,
+    }
+}
+
+fn bytes_of(alloc: Global, digits: &str) -> Result<Vec<u8>, AllocError> {
+    let mut bytes = Vec::new(alloc);
+    let (pairs, _) = digits.as_bytes().as_chunks::<2>();
+    for pair in pairs {
+        bytes.push(digit(pair[0]) * 16 + digit(pair[1]))?;
+    }
+    Ok(bytes)
+}
+
+#[test]
+fn answers_of_a_table(rt: HostRuntime) -> Result<(), Fail> {
+    let alloc = rt.alloc();
+    for row in TABLE.lines() {
+        let (text, rest) = row.split_once(' ').ok_or("a text")?;
+        let (message, want) = rest.split_once(' ').ok_or("a message")?;
+        let text = bytes_of(alloc, text)?;
+        let message = bytes_of(alloc, message)?;
+        let pattern = read_pattern(alloc, text.as_slice())
+            .ok()
+            .ok_or("a pattern")?;
+        let plan = Plan::new(alloc, &pattern)?;
+        let symbols = symbols_of(alloc, message.as_slice())?;
+        assert_eq!(rt; plan.reads(b"", &symbols), want == "1", "at {row}");
+    }
+    Ok(())
+}
+
+/// The items as a text: `*` for any bytes, a byte as it is.
+fn items_shown(alloc: Global, items: &[Item]) -> Result<Vec<u8>, AllocError> {
+    let mut out = Vec::new(alloc);
+    for item in items {
+        match item {
+            Item::Byte(byte) => out.push(*byte)?,
+            Item::One => out.push(b'?')?,
+            Item::Many => out.push(b'*')?,
+        }
+    }
+    Ok(out)
+}
+
+/// `v` for a variable, `c` for constant bytes.
+fn flags_shown(alloc: Global, flags: &[bool]) -> Result<Vec<u8>, AllocError> {
+    let mut out = Vec::new(alloc);
+    for flag in flags {
+        out.push(if *flag { b'v' } else { b'c' })?;
+    }
+    Ok(out)
+}
+
+#[test]
+fn what_a_message_must_bring(rt: HostRuntime) -> Result<(), Fail> {
+    let alloc = rt.alloc();
+    // a pattern's text, its needed words, which of them are variables, its skeleton
+    let rows: [(&[u8], &[u8], &[u8], &[u8]); 6] = [
+        (b" task_9 ", b"task_9 ", b"v", b"*  *"),
+        (b" INFO boot", b"INFO ", b"c", b"* INFO **"),
+        (b"41,123 INFO", b"", b"", b"* **"),
+        (
+            b"x=foo,bar=foo y ",
+            b"foo bar foo y ",
+            b"vcvc",
+            b"**=,bar= y *",
+        ),
+        (b"a 12 bad*b", b"", b"", b"**  ****"),
+        (b"", b"", b"", b"*"),
+    ];
+    for (text, words, flags, skeleton) in rows {
+        let pattern = read_pattern(alloc, text).ok().ok_or("a pattern")?;
+        let plan = Plan::new(alloc, &pattern)?;
+        let shown = spaced(alloc, plan.needed())?;
+        assert_eq!(rt; shown.as_slice(), words, "{text:?}");
+        let shown = flags_shown(alloc, plan.needed_variables())?;
+        assert_eq!(rt; shown.as_slice(), flags, "{text:?}");
+        let shown = items_shown(alloc, plan.skeleton().as_slice())?;
+        assert_eq!(rt; shown.as_slice(), skeleton, "{text:?}");
+    }
+    needs_are_brought();
+    constants_suffice();
+    Ok(())
+}
+
+#[test]
+fn letters_of_a_stamp_and_symbols(rt: HostRuntime) -> Result<(), Fail> {
+    let alloc = rt.alloc();
+    let symbols = symbols_of(alloc, b" x12 y")?;
+    let text = SymbolLetters {
+        head: b"22:13",
+        symbols: symbols.as_slice(),
+    };
+    let rows: [(&[Item], bool); 4] = [
+        (&[Item::Many, Item::Byte(b'3'), Item::One, Item::Many], true),
+        (
+            &[
+                Item::Many,
+                Item::Byte(b'2'),
+                Item::Byte(b' '),
+                Item::Byte(b'y'),
+            ],
+            true,
+        ),
+        (&[Item::Byte(b'2'), Item::Many, Item::Byte(b'1')], false),
+        (&[], false),
+    ];
+    for (items, want) in rows {
+        assert_eq!(rt; matches_letters(items, text), want, "{items:?}");
+    }
     Ok(())
 }

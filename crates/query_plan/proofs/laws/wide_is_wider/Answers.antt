@@ -1,6 +1,6 @@
 use Rattle.std.proofs.Common.{◌-◌, arith}
 use Rattle.query_plan.specs.Pieces.{open_tokens}
-use Rattle.query_plan.proofs.WideLemmas.{wide_is_wider, wide_is_exact, searched_is_widened}
+use Rattle.query_plan.proofs.WideLemmas.{wide_is_wider, wide_is_exact, searched_is_widened, is_searched}
 use Rattle.query_plan.proofs.laws.wide_is_wider.Goals as goal
 
 pub returns-clause-wider : goal.returns-clause-wider
@@ -11,3 +11,6 @@ returns-clause-exact c p s no_one few m = wide_is_exact p s (4 - open_tokens p) 
 
 pub returns-clause-widened : goal.returns-clause-widened
 returns-clause-widened c p is = searched_is_widened p is
+
+pub returns-clause-searched : goal.returns-clause-searched
+returns-clause-searched c text p is = is_searched text p is
