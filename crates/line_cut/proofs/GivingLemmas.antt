@@ -1,14 +1,16 @@
 -- A line that was looked at and then given.
-use Rattle.std.proofs.Common.{◌≡◌, ◌≢◌, ◌+◌, refl, sym, ◌∙◌, ap, subst, arith, ℕ, zero, suc, Bool, true, false, List, [], ◌∷◌, ◌++◌, Option, None, Some, Result, Err, length, take, drop}
+use Rattle.std.proofs.Common.{◌≡◌, ◌≢◌, ◌+◌, refl, sym, ◌∙◌, ap, subst, arith, ℕ, zero, suc, Bool, true, false, List, [], ◌∷◌, ◌++◌, Option, None, Some, Result, Ok, Err, OnOk, length, take, drop}
 use Rattle.std.specs.Prelude.{IfSome, option_map, slice_get}
 use Rattle.std.proofs.Math.Seq.{take-length}
 use Rattle.std.proofs.lemmas.List.{append_assoc, append-nil, length-take, length-drop, nil_from_length}
+use Rattle.log_seams.specs.Outside.{CountsOf}
 use Rattle.log_messages.specs.Messages.{IsLine, Messages}
 use Rattle.log_messages.proofs.LawLemmas.{messages_line, messages_open}
 use Rattle.line_cut.specs.Cutting.{CutterState, Gave, Parts, IsFirstMessage, Repeats, left_of}
 use Rattle.line_cut.specs.StepsLooking.{Sees, at_line}
 use Rattle.line_cut.specs.Length.{bytes_left}
 use Rattle.line_cut.specs.declared.cut.Cut.{Cut}
+use Rattle.line_cut.specs.declared.cut.Cut.TheVariants.{ReadFault}
 use Rattle.line_cut.specs.declared.cut.Progress.{Progress}
 use Rattle.line_cut.specs.declared.cut.Progress.TheVariants.{Open, Ended, Refused}
 use Rattle.line_cut.specs.declared.look.Looked.{Looked}
@@ -25,6 +27,16 @@ pub not_ended : {S A : Type 0} (p : Progress) (old new : CutterState S) (r : Res
 not_ended Open old new r e h is ended = cc
 not_ended Ended old new r e h is ended = cc (h.0, is)
 not_ended (Refused f) old new r e h is ended = cc
+
+-- where a cutter answers Ok the count of faults stands, whether it was open or not
+on_ok : {A E : Type 0} {X : Type 0} (r : Result A E) → X → OnOk r X
+on_ok (Ok a) x = x
+on_ok (Err e) x = tt
+
+pub steady_of : {S A : Type 0} (faults : S → ℕ) (p : Progress) (old new : CutterState S) (r : Result (Option A) Cut) → Repeats p old new r → (p ≡ Open → CountsOf ReadFault (faults old.source) (faults new.source) r) → OnOk r (faults new.source ≡ faults old.source)
+steady_of faults Open old new r again counts = (counts refl).steady
+steady_of faults Ended old new r again counts = on_ok r (ap (λ c. faults c.source) again.1)
+steady_of faults (Refused e) old new r again counts = on_ok r (ap (λ c. faults c.source) again.1)
 
 -- a list around an element
 pub around : (p : List ℕ) (len b : ℕ) → slice_get p len ≡ Some b → p ≡ take len p ++ b ∷ drop (len + 1) p

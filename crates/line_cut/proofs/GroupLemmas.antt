@@ -7,7 +7,10 @@ use Rattle.std.proofs.lemmas.List.{append_assoc, append-nil, get_or-take, get_or
 use Rattle.std.proofs.lemmas.List.Elements.{All-head, All-tail}
 use Rattle.std.proofs.lemmas.Option.{slice_get_within, get_or_from_slice_get, slice_get_read}
 use Rattle.log_messages.specs.Messages.{IsLine}
-use Rattle.log_messages.specs.Groups.{Group, text_of, BeginsBehind, IsFollowed, FirstLine}
+use Rattle.log_messages.specs.Groups.{Group, text_of, BeginsBehind, IsFollowed, FirstLine, GroupMessages}
+use Rattle.log_messages.specs.GroupLaws.{Passes}
+use Rattle.log_messages.proofs.GroupLawLemmas.{group_messages_empty, group_messages_first}
+use Rattle.line_cut.specs.Joining.{IsTornGroup}
 use Rattle.line_cut.specs.Length.{BeginsTooLong}
 use Rattle.line_cut.specs.Standing.{Stands}
 use Rattle.line_cut.specs.StepsJoining.{BeginsWhole, IsApart}
@@ -139,3 +142,15 @@ begins_whole limit held left len false s =
     more : (left : Option (List ℕ)) → take len held ≢ [] → Stands limit held left (Whole len false) → IfSome left (λ rest. FirstLine (held ++ rest) (take len held))
     more None some s = tt
     more (Some rest) some s = (s.1, inl (whole_last limit held rest len s, some))
+
+-- a torn group is one message before the front of a line
+pub torn_message : (test : List ℕ → Bool) (limit : ℕ) (bytes : List ℕ) (torn : IsTornGroup (Passes test) limit bytes) → (bytes ≡ (text_of torn.group ++ 10 ∷ []) ++ torn.part) × GroupMessages (Passes test) limit (text_of torn.group ++ 10 ∷ []) (text_of torn.group ∷ []) true × Passes test torn.group.first
+torn_message test limit bytes t = (
+  t.splits ∙ sym (append_assoc (text_of t.group) (10 ∷ []) t.part),
+  group_messages_first (Passes test) limit t.group [] [] true t.are_lines t.is_group (λ line f. absurd (first_none [] line refl f)) (group_messages_empty (Passes test) limit),
+  t.has_stamp,
+)
+
+-- a whole first line within the limit is not too long
+pub whole_not_long : (max : ℕ) (bytes line : List ℕ) → FirstLine bytes line → length line ≤ max → BeginsTooLong max bytes → ⊥
+whole_not_long max bytes line f fits long = absurd (omega (arith, fits, first_long max bytes line long f))

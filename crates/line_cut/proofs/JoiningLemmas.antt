@@ -1,5 +1,5 @@
 -- A group at the front of the bytes held that grows by a line.
-use Rattle.std.proofs.Common.{◌≡◌, ◌≢◌, ◌<◌, ◌≤◌, ◌+◌, ◌⊎◌, inl, inr, refl, sym, ◌∙◌, ap, subst, arith, ℕ, Bool, true, false, List, [], ◌∷◌, ◌++◌, All, Option, None, Some, length, take, drop}
+use Rattle.std.proofs.Common.{◌≡◌, ◌≢◌, ◌≤◌, ◌+◌, inl, inr, refl, sym, ◌∙◌, ap, subst, arith, ℕ, Bool, true, false, List, [], ◌∷◌, ◌++◌, All, Option, None, Some, length, take, drop}
 use Rattle.std.specs.Prelude.{IfSome, slice_get}
 use Rattle.std.proofs.lemmas.List.{append-nil, length-append, length-take, length-drop}
 use Rattle.std.proofs.lemmas.List.Elements.{All-nil, All-cons, All-push}
@@ -11,7 +11,6 @@ use Rattle.line_cut.specs.Joining.{IsTornGroup}
 use Rattle.line_cut.specs.Standing.{EndsAt, Stands}
 use Rattle.line_cut.specs.StepsJoining.{Growing, IsApart, IsFurther, IsInFront, Reaches}
 use Rattle.line_cut.specs.declared.join.Further.{Further}
-use Rattle.line_cut.specs.declared.join.Joined.{Joined}
 use Rattle.line_cut.specs.declared.next_line.NextLine.{NextLine}
 use Rattle.line_cut.specs.declared.next_line.NextLine.TheVariants.{Whole, Nothing, TooLong}
 use Rattle.line_cut.proofs.GivingLemmas.{around}
@@ -23,6 +22,10 @@ reaches max held left (Whole len true) s = omega (arith, slice_get_within held l
 reaches max held left (Whole len false) s = omega (arith, s.2.0)
 reaches max held left Nothing s = tt
 reaches max held left TooLong s = tt
+
+-- what a test said of a line: `hay` is how the code has the bytes held
+pub judged : (test : List ℕ → Bool) (held hay : List ℕ) (len : ℕ) (said is : Bool) → hay ≡ held → said ≡ test (take len hay) → said ≡ is → test (take len held) ≡ is
+judged test held hay len said is same by e = ap (λ h. test (take len h)) (sym same) ∙ (sym by ∙ e)
 
 -- a newline behind so many bytes
 pub behind_newline : (stamped : List ℕ → Type 0) (limit : ℕ) (held : List ℕ) (len lines : ℕ) → Growing stamped limit held len lines → len + 1 ≤ length held
@@ -183,6 +186,7 @@ in_front_alone stamped limit held left len ended is fits ends no_stamp = record 
   where
     some : EndsAt false len held left → take len held ≢ []
     some f e = absurd (omega (arith, ap length e, length-take len held, f.0, f.1))
+
     all : (left : Option (List ℕ)) → (¬ stamped (take len held)) → IfSome left (λ rest. IsFollowed stamped limit (record { first = take len held; later = [] }) (drop (len + 1) held ++ rest))
     all None never = tt
     all (Some rest) never = λ line f. inr (inl never)

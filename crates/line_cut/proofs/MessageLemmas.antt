@@ -1,22 +1,21 @@
 -- A message that was looked for and then given.
-use Rattle.std.proofs.Common.{◌≡◌, ◌≢◌, ◌<◌, ◌≤◌, ◌+◌, refl, sym, ◌∙◌, ap, subst, arith, ℕ, Bool, true, false, IsTrue, List, [], ◌∷◌, ◌++◌, All, Option, None, Some, length, take, drop}
-use Rattle.std.specs.Prelude.{IfSome, nat_lt}
+use Rattle.std.proofs.Common.{◌≡◌, ◌≢◌, ◌<◌, ◌+◌, refl, sym, ◌∙◌, ap, subst, arith, ℕ, Bool, true, false, List, [], ◌∷◌, ◌++◌, All, Option, None, Some, length, take, drop}
+use Rattle.std.specs.Prelude.{IfSome}
 use Rattle.std.proofs.Math.Seq.{take-length}
 use Rattle.std.proofs.lemmas.List.{length-take, length-drop, nil_from_length}
 use Rattle.log_messages.specs.Messages.{IsLine}
 use Rattle.log_messages.specs.Groups.{Group, lines_of, text_of, last_line, IsGroup, IsFollowed, GroupMessages}
-use Rattle.log_messages.specs.GroupLaws.{Passes}
 use Rattle.log_messages.proofs.GroupLawLemmas.{group_messages_first, group_messages_open}
 use Rattle.line_cut.specs.Length.{bytes_left}
 use Rattle.line_cut.specs.Cutting.{Parts, left_of}
-use Rattle.line_cut.specs.Joining.{GaveMessage, IsFirstOfGroups, IsOneGroup, JoinerState, JoinerStays, stamped_by}
+use Rattle.line_cut.specs.Joining.{GaveMessage, IsFirstOfGroups, JoinerState, stamped_by}
 use Rattle.line_cut.specs.StepsJoining.{IsInFront, at_message}
 use Rattle.line_cut.specs.StepsLooking.{newline_len}
 use Rattle.line_cut.specs.declared.cut.Cut.{Cut}
 use Rattle.line_cut.specs.declared.cut.Progress.{Progress}
 use Rattle.line_cut.specs.declared.cut.Progress.TheVariants.{Open, Ended, Refused}
 use Rattle.line_cut.specs.declared.message.Seen.{Seen}
-use Rattle.line_cut.specs.declared.message.Seen.TheVariants.{Message, End, Refused as SeenRefused}
+use Rattle.line_cut.specs.declared.message.Seen.TheVariants.{End, Refused as SeenRefused}
 use Rattle.line_cut.specs.declared.join.Joined.{Joined}
 use Rattle.line_cut.proofs.GivingLemmas.{parts_last, parts_line}
 
@@ -99,7 +98,7 @@ gave_message left test text j old mid new room m steps = record {
     last = m.last;
   };
   alone = λ none ended.
-    subst (λ t. IsLine t × (¬ stamped_by test old t)) (sym steps.is) (m.alone (sym (ap (λ s. s.behind) steps.at) ∙ none) ended);
+      subst (λ t. IsLine t × (¬ stamped_by test old t)) (sym steps.is) (m.alone (sym (ap (λ s. s.behind) steps.at) ∙ none) ended);
   parts = parts_of left (stamped_by test old) old.cutter.max_line text j old mid new m steps j.ended refl;
   message = message_of left (stamped_by test old) old.cutter.max_line text j old mid new m steps j.ended refl;
 }

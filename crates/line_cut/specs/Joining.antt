@@ -1,11 +1,11 @@
 -- What a joiner is to its callers, and what its answers mean: a joiner gives messages that are groups of lines.
-use Rattle.std.specs.Prelude.{◌≡◌, ◌≢◌, ◌⊎◌, ◌+◌, ◌<◌, ◌≤◌, ℕ, Bool, true, false, List, [], ◌∷◌, ◌++◌, All, length, Option, None, Result, Err, IfSome, if◌then◌else◌}
+use Rattle.std.specs.Prelude.{◌≡◌, ◌≢◌, ◌⊎◌, ◌+◌, ◌<◌, ◌≤◌, ℕ, Bool, true, false, List, [], ◌∷◌, ◌++◌, All, length, Option, None, IfSome, if◌then◌else◌}
 use Rattle.log_seams.specs.Outside.{Rose}
 use Rattle.log_messages.specs.Messages.{IsLine}
 use Rattle.log_messages.specs.Groups.{Group, lines_of, text_of, last_line, IsGroup, FirstLine, GroupMessages}
 use Rattle.log_messages.specs.GroupLaws.{Passes}
 use Rattle.line_cut.specs.Length.{BeginsTooLong}
-use Rattle.line_cut.specs.Cutting.{CutterState, CameToEnd, IsNew, Parts, Repeats, Stays, left_of}
+use Rattle.line_cut.specs.Cutting.{CutterState, CameToEnd, IsNew, Parts, Stays, left_of}
 use Rattle.line_cut.specs.declared.cut.Cut.{Cut}
 use Rattle.line_cut.specs.declared.cut.Cut.TheVariants.{ReadFault, LineTooLong, TooManyLines, OutOfMemory}
 use Rattle.line_cut.specs.declared.cut.Progress.TheVariants.{Open, Ended, Refused}
@@ -90,8 +90,8 @@ pub record IsTornGroup (stamped : List ℕ → Type 0) (limit : ℕ) (bytes : Li
 pub record IsJoinCutShort {S T : Type 0} (faults : S → ℕ) (test : T → List ℕ → Bool) (old new : JoinerState S T) : Type 0 where
   pub rose : Rose (faults old.cutter.source) (faults new.cutter.source)
   pub torn :
-    ((old.behind ≡ None) × IsLine new.cutter.pending × (length new.cutter.pending ≤ old.cutter.max_line))
-    ⊎ ((old.cutter.given < old.cutter.max_lines) × IsTornGroup (stamped_by test old) old.cutter.max_line new.cutter.pending)
+      ((old.behind ≡ None) × IsLine new.cutter.pending × (length new.cutter.pending ≤ old.cutter.max_line))
+      ⊎ ((old.cutter.given < old.cutter.max_lines) × IsTornGroup (stamped_by test old) old.cutter.max_line new.cutter.pending)
 
 -- As many messages as the limit were given, and a whole line within the limit begins another.
 pub record IsOneTooMany {S T : Type 0} (left : S → Option (List ℕ)) (old new : JoinerState S T) : Type 0 where

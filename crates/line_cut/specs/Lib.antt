@@ -1,5 +1,6 @@
 pub mod Cutting
 pub mod Exclusion
+pub mod JoinLaws
 pub mod Joining
 pub mod Length
 pub mod Standing

@@ -1,5 +1,5 @@
 -- What is found at the front of the bytes held, where lines are joined.
-use Rattle.std.specs.Prelude.{◌≡◌, ◌≢◌, ◌⊎◌, ◌+◌, ◌<◌, ◌≤◌, ℕ, Bool, true, false, List, [], ◌∷◌, ◌++◌, All, IsTrue, IsFalse, length, take, drop, slice_get, Option, None, Some, IfSome, if◌then◌else◌}
+use Rattle.std.specs.Prelude.{◌≡◌, ◌≢◌, ◌⊎◌, ◌+◌, ◌<◌, ◌≤◌, ℕ, Bool, true, false, List, [], ◌++◌, All, IsTrue, IsFalse, length, take, drop, slice_get, Option, None, Some, IfSome}
 use Rattle.log_messages.specs.Messages.{IsLine}
 use Rattle.log_messages.specs.Groups.{Group, lines_of, text_of, last_line, IsGroup, IsFollowed, FirstLine}
 use Rattle.line_cut.specs.Length.{BeginsTooLong}

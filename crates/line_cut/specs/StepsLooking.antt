@@ -1,5 +1,5 @@
 -- What is found at the front of the bytes held.
-use Rattle.std.specs.Prelude.{◌≡◌, ◌+◌, ◌<◌, ◌≤◌, ℕ, Bool, true, false, List, [], length, take, drop, slice_get, Option, Some, IfSome, if◌then◌else◌}
+use Rattle.std.specs.Prelude.{◌≡◌, ◌+◌, ◌<◌, ◌≤◌, ℕ, Bool, List, [], length, take, drop, slice_get, Option, Some, IfSome, if◌then◌else◌}
 use Rattle.log_messages.specs.Messages.{IsLine}
 use Rattle.line_cut.specs.Length.{BeginsTooLong}
 use Rattle.line_cut.specs.Standing.{EndsAt}

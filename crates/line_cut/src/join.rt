@@ -16,7 +16,7 @@ use crate::window::Window;
 use log_seams::{Failed, Source};
 
 /// A message at the front of a window.
-#[derive(Clone, Copy, Debug)]
+#[derive(Clone, Copy)]
 pub(crate) struct Joined {
     /// How many bytes it has, without its last newline.
     pub(crate) len: usize,
@@ -29,7 +29,7 @@ pub(crate) struct Joined {
 }
 
 /// A line that goes on in a group.
-#[derive(Clone, Copy, Debug)]
+#[derive(Clone, Copy)]
 pub(crate) struct Further {
     /// How many bytes it has.
     pub(crate) len: usize,
@@ -113,8 +113,8 @@ fn join_lines<S: Source, T: Heads>(
     }
 }
 
-/// The message that begins with the first `len` bytes of the window, which are a line. Behind a
-/// line that is no head each line begins another message, and nothing is looked at.
+/// The message that begins with the first `len` bytes of the window, which are a line. Behind one
+/// that does not begin a message by itself each line begins another, and nothing is looked at.
 pub(crate) fn message_from<S: Source, T: Heads>(
     source: &mut S,
     window: &mut Window,

@@ -127,9 +127,9 @@ impl<S: Source, T: Heads + Drop> Joiner<S, T> {
             → (result ≡ Seen.Refused e) × (self.new.cutter ≡ without_line self.old.cutter) }
         ensures finds { self.old.cutter.progress ≡ Progress.Open
             → Finds (stamped_by T.test self.old) (self.old.lines + 1) self.old.cutter.max_line
-                (nat_lt self.old.cutter.given self.old.cutter.max_lines) self.old.behind
-                self.new.cutter.pending (S.left self.new.cutter.source)
-                (Rose (S.faults self.old.cutter.source) (S.faults self.new.cutter.source)) result }
+            (nat_lt self.old.cutter.given self.old.cutter.max_lines) self.old.behind
+            self.new.cutter.pending (S.left self.new.cutter.source)
+            (Rose (S.faults self.old.cutter.source) (S.faults self.new.cutter.source)) result }
         ensures steady { result ≢ Seen.Refused Cut.ReadFault
             → S.faults self.new.cutter.source ≡ S.faults self.old.cutter.source }
 

@@ -48,11 +48,7 @@ fn compare_piece<R: Abort, S: Source>(
 }
 
 // The end, or the error, by `next` and by `advance`.
-fn compare_end<R: Abort, S: Source>(
-    rt: &R,
-    joiner: &mut Joiner<S, Stars>,
-    end: Result<(), Cut>,
-) {
+fn compare_end<R: Abort, S: Source>(rt: &R, joiner: &mut Joiner<S, Stars>, end: Result<(), Cut>) {
     match joiner.next() {
         Ok(Some(_)) => assert!(rt; false, "a message, and no end"),
         Ok(None) => assert!(rt; end.is_ok()),
@@ -257,12 +253,7 @@ fn messages_up_to_the_greatest_limit(rt: HostRuntime) -> Result<(), Fail> {
         if together {
             compare(&rt, &mut joiner, &[(&both, false)], Ok(()));
         } else {
-            compare(
-                &rt,
-                &mut joiner,
-                &[(&first, true), (second, false)],
-                Ok(()),
-            );
+            compare(&rt, &mut joiner, &[(&first, true), (second, false)], Ok(()));
         }
     }
     Ok(())

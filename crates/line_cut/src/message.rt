@@ -18,7 +18,7 @@ use crate::window::Window;
 use log_seams::{Failed, Source};
 
 /// What message comes next in a window.
-#[derive(Clone, Copy, Debug)]
+#[derive(Clone, Copy)]
 pub(crate) enum Seen {
     /// A message that can be given.
     Message(Joined),

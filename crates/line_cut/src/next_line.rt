@@ -10,7 +10,7 @@ use crate::window::Window;
 use log_seams::{Failed, Source};
 
 /// What stands behind some bytes of a window.
-#[derive(Clone, Copy, Debug)]
+#[derive(Clone, Copy)]
 pub(crate) enum NextLine {
     /// A line of so many bytes, and whether a newline follows it. Only the last can be without.
     Whole { len: usize, ended: bool },

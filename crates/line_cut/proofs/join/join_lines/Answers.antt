@@ -1,4 +1,4 @@
-use Rattle.std.proofs.Common.{◌≡◌, ◌≤◌, ◌+◌, ◌∙◌, arith, true, false, length, take, drop, Ok, Err, OnErr, rules, tests}
+use Rattle.std.proofs.Common.{◌+◌, arith, drop, Ok, Err, OnErr, rules, tests}
 use Rattle.log_messages.specs.GroupLaws.{Passes}
 use Rattle.line_cut.specs.Joining.{IsTornGroup}
 use Rattle.line_cut.proofs.JoiningLemmas.{behind_newline, growing_front, growing_more, in_front_apart, in_front_last, reaches, torn}
@@ -37,8 +37,8 @@ lines-preserved g c =
     let now = growing_front stamped c.args.max_line c.lines.window.held held c.lines.len c.lines.lines c.in_ok-next.ensures.more c.in_ok-next.ensures.front c.lines.invariant.growing in
     record {
       growing = growing_more stamped c.args.max_line held (g.S.Source.left c.next_line.new.source) c.lines.len c.lines.lines c.in_ok-next.next c.in-Some.more now c.in_ok-next.ensures.stands c.in-Some.ensures.goes (search (rules, tests));
-      left = c.in_ok-next.ensures.left ∙ c.lines.invariant.left;
-      size = c.in_ok-next.ensures.size ∙ c.lines.invariant.size;
-      name = c.in_ok-next.ensures.name ∙ c.lines.invariant.name;
-      faults = c.in_ok-next.ensures.cause.steady ∙ c.lines.invariant.faults;
+      left = search rules;
+      size = search rules;
+      name = search rules;
+      faults = search rules;
     }

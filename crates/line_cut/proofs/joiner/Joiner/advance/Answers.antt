@@ -1,4 +1,4 @@
-use Rattle.std.proofs.Common.{◌≡◌, ◌<◌, ap, arith, rules, tests}
+use Rattle.std.proofs.Common.{◌<◌, ap, rules, tests}
 use Rattle.line_cut.proofs.MessageLemmas.{gave_message, was_joining}
 use Rattle.line_cut.proofs.joiner.Joiner.advance.Goals as goal
 
