@@ -1,5 +1,5 @@
 -- What a call answers, from what it did.
-use Rattle.std.proofs.Common.{◌≡◌, ◌≢◌, refl, sym, ◌∙◌, ap, subst, ℕ, List, [], ◌∷◌, codes, Option, Some, inl, inr, Result, Ok, Err, option_map}
+use Rattle.std.proofs.Common.{◌≡◌, ◌≢◌, refl, sym, ◌∙◌, ap, subst, ℕ, List, [], ◌∷◌, codes, Option, None, Some, OnOk, inl, inr, Result, Ok, Err, option_map}
 use Rattle.wild_match.specs.Reading.{IsLoneBackslash, IsSearchPattern}
 use Rattle.wild_match.specs.declared.pattern.Item.{Item}
 use Rattle.wild_match.specs.declared.read.PatternRefusal.{PatternRefusal}
@@ -14,7 +14,7 @@ use Rattle.clp_commands.specs.Refusal.{status_of, line_of}
 use Rattle.clp_commands.specs.Words.{AsksCreate, AsksScan, AsksShow}
 use Rattle.clp_commands.specs.Shown.{Shows}
 use Rattle.clp_commands.specs.Scanned.{Finds}
-use Rattle.clp_commands.specs.Answers.{Answers, AnswersCreate, AnswersLog, Stayed, EndsWith, Refuses, RefusesPattern, RoseIn, TookNothing, SaysIn, IsPatternRefusal, HasCause, exit_status, error_line}
+use Rattle.clp_commands.specs.Answers.{Answers, AnswersCreate, AnswersLog, NoneAdded, Stayed, EndsWith, Refuses, RefusesPattern, RoseIn, TookNothing, SaysIn, IsPatternRefusal, HasCause, exit_status, error_line}
 use Rattle.clp_commands.specs.Printing.{Printed}
 use Rattle.clp_commands.specs.declared.outcome.LogRefusal.{LogRefusal}
 use Rattle.clp_commands.specs.declared.outcome.LogRefusal.TheVariants.{OpenFault, ReadFault, LineTooLong, TooManyLines, SinkFault, OutOfMemory as LogOutOfMemory}
@@ -37,12 +37,18 @@ stays : {counts : ℕ × ℕ} (outcome : Result Unit LogRefusal) → CountsOf Si
 stays (Ok u) counts other = counts.steady
 stays (Err refusal) counts other = counts.spared refusal refl (λ e. other (ap Some e))
 
-pub AnswersLog-from : (tells : ℕ → List ℕ → List ℕ → Type 0) (seen : Around) (name : List ℕ) (status : ℕ) (outcome : Result Unit LogRefusal) (refusal : Option Refusal) → refusal ≡ option_map of_log (answer_of outcome) → status ≡ exit_status refusal → SaysIn seen (error_line name refusal) → Printed tells (answer_of outcome) (seen.content name) (seen.unread name) seen.out.0 seen.out.1 → (outcome ≡ Err OpenFault → RoseIn (seen.opens name)) → (outcome ≡ Err OpenFault → TookNothing seen.out) → (outcome ≡ Err ReadFault → RoseIn (seen.reads name)) → CountsOf SinkFault seen.out_faults.0 seen.out_faults.1 outcome → AnswersLog tells seen name status
-AnswersLog-from tells seen name status outcome refusal is status_is said printed opens nothing reads sink = record {
+-- and the log's where the call is done
+none_added : (counts : ℕ × ℕ) (outcome : Result Unit LogRefusal) → OnOk outcome (NoneAdded counts) → answer_of outcome ≡ None → NoneAdded counts
+none_added counts (Ok u) none done = none
+none_added counts (Err refusal) none done = absurd cc
+
+pub AnswersLog-from : (tells : ℕ → List ℕ → List ℕ → Type 0) (seen : Around) (name : List ℕ) (status : ℕ) (outcome : Result Unit LogRefusal) (refusal : Option Refusal) → refusal ≡ option_map of_log (answer_of outcome) → status ≡ exit_status refusal → SaysIn seen (error_line name refusal) → Printed tells (answer_of outcome) (seen.content name) (seen.unread name) seen.out.0 seen.out.1 → (outcome ≡ Err OpenFault → RoseIn (seen.opens name)) → (outcome ≡ Err OpenFault → TookNothing seen.out) → (outcome ≡ Err ReadFault → RoseIn (seen.reads name)) → OnOk outcome (NoneAdded (seen.reads name)) → CountsOf SinkFault seen.out_faults.0 seen.out_faults.1 outcome → AnswersLog tells seen name status
+AnswersLog-from tells seen name status outcome refusal is status_is said printed opens nothing reads none sink = record {
   answer = answer_of outcome;
   ends = subst (EndsWith seen name status) is (record { status_is = status_is; said = said });
   printed = printed;
   cause = cause_of seen name outcome opens nothing reads sink.failed;
+  reads = none_added (seen.reads name) outcome none;
   sink = stays outcome sink;
 }
 
@@ -59,6 +65,7 @@ AnswersLog-refused tells seen name status text ReadOutOfMemory is none s said no
   ends = record { status_is = s; said = said };
   printed = subst (λ o. Printed tells (Some LogOutOfMemory) (seen.content name) (seen.unread name) seen.out.0 o) (sym nothing) (Printed-no_memory tells (seen.content name) (seen.unread name) seen.out.0);
   cause = tt;
+  reads = λ done. absurd cc;
   sink = λ _. sink;
 }
 

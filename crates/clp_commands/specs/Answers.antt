@@ -1,7 +1,7 @@
 -- What a call of the program answers, by what its words ask for.
 use Rattle.std.specs.Prelude.{◌≡◌, ◌≢◌, ◌⊎◌, ℕ, List, [], Option, Some, None, option_map, Result}
 use Rattle.log_seams.specs.Disk.{DiskState}
-use Rattle.log_seams.specs.Outside.{Rose}
+use Rattle.log_seams.specs.Outside.{Adds, Rose}
 use Rattle.wild_match.specs.Reading.{IsSearchPattern, IsLoneBackslash}
 use Rattle.wild_match.specs.declared.pattern.Item.{Item}
 use Rattle.wild_match.specs.declared.read.PatternRefusal.{PatternRefusal}
@@ -33,6 +33,10 @@ TookNothing texts = texts.1 ≡ texts.0
 abbrev pub Stayed : ℕ × ℕ → Type 0
 Stayed counts = counts.1 ≡ counts.0
 
+-- no read of the log failed: their count is as it was, unless it stands at the last value of u64
+abbrev pub NoneAdded : ℕ × ℕ → Type 0
+NoneAdded counts = Adds 0 counts.0 counts.1
+
 -- the error output took this text and no more, unless its count of faults rose
 abbrev pub SaysIn : Around → List ℕ → Type 0
 SaysIn seen text = Says seen.err.0 seen.err.1 seen.err_faults.0 seen.err_faults.1 text
@@ -62,12 +66,14 @@ HasCause seen name (Some TooManyLines) = Unit {0}
 HasCause seen name (Some SinkFault) = RoseIn seen.out_faults
 HasCause seen name (Some LogOutOfMemory) = Unit {0}
 
--- The log of this name was printed, or the printing was refused with a cause. A write to the output that failed ends the call.
+-- The log of this name was printed, and no read of it failed; or the printing was refused with a cause. A write to the
+-- output that failed ends the call.
 pub record AnswersLog (tells : ℕ → List ℕ → List ℕ → Type 0) (seen : Around) (name : List ℕ) (status : ℕ) : Type 0 where
   pub answer : Option LogRefusal
   pub ends : EndsWith seen name status (option_map of_log answer)
   pub printed : Printed tells answer (seen.content name) (seen.unread name) seen.out.0 seen.out.1
   pub cause : HasCause seen name answer
+  pub reads : answer ≡ None → NoneAdded (seen.reads name)
   pub sink : answer ≢ Some SinkFault → Stayed seen.out_faults
 
 -- The call was refused before anything was printed.

@@ -1,6 +1,6 @@
 //! The messages of a log on their way from the log to the output.
 ghost use Rattle.std.specs.Prelude.{◌≡◌, ◌≢◌, ◌≤◌, ◌⊎◌, ℕ, List, [], OnOk, IfErr, IsErrOf};
-ghost use Rattle.log_seams.specs.Outside.{CountsOf, Rose};
+ghost use Rattle.log_seams.specs.Outside.{Adds, CountsOf, Rose};
 ghost use Rattle.clp_commands.specs.Outcome.{answer_of};
 ghost use Rattle.clp_commands.specs.Printing.{Reaches, Printed, IsFresh, TellsNext, FailsAfter, is_whole, refusal_of};
 ghost use Rattle.clp_commands.specs.declared.outcome.LogRefusal.TheVariants.{OpenFault, ReadFault, SinkFault, OutOfMemory};
@@ -74,6 +74,7 @@ fn print_messages<S: Source, K: Sink, T: Tell>(
     // causes
     ensures read { IsErrOf result ReadFault
         → Rose (S.faults cutter.old.source) (S.faults cutter.new.source) }
+    ensures steady { OnOk result (S.faults cutter.new.source ≡ S.faults cutter.old.source) }
     ensures sink { CountsOf SinkFault (K.faults out.old) (K.faults out.new) result }
 
     // what stays
@@ -126,6 +127,7 @@ fn print_source<S: Source, K: Sink, T: Tell>(
     // causes
     ensures read { IsErrOf result ReadFault
         → Rose (S.faults cutter.old.source) (S.faults cutter.new.source) }
+    ensures steady { OnOk result (S.faults cutter.new.source ≡ S.faults cutter.old.source) }
     ensures sink { CountsOf SinkFault (K.faults out.old) (K.faults out.new) result }
 
     // what stays
@@ -161,6 +163,7 @@ pub(crate) fn print_log<H: Shelf, K: Sink, T: Tell>(
         → Rose (H.open_faults shelf.old name.now) (H.open_faults shelf.new name.now) }
     ensures read { IsErrOf result ReadFault
         → Rose (H.read_faults shelf.old name.now) (H.read_faults shelf.new name.now) }
+    ensures steady { OnOk result (Adds 0 (H.read_faults shelf.old name.now) (H.read_faults shelf.new name.now)) }
     ensures sink { CountsOf SinkFault (K.faults out.old) (K.faults out.new) result }
 
     // what stays

@@ -1,5 +1,5 @@
-use Rattle.std.proofs.Common.{rules}
-use Rattle.line_cut.proofs.GivingLemmas.{not_ended}
+use Rattle.std.proofs.Common.{◌∙◌, Ok, rules}
+use Rattle.line_cut.proofs.GivingLemmas.{not_ended, steady_of}
 use Rattle.clp_commands.proofs.CutterLemmas.{IsPrinting-more, IsPrinting-stopped, IsPrinting-refused, IsPrinting-open}
 use Rattle.clp_commands.proofs.log.print_messages.Goals as goal
 
@@ -8,7 +8,7 @@ loop-number-preserved g c =
     let gave = rw c.in-Ok-Some.field-0-is at c.in-Ok-Some.ensures.line in (
       IsPrinting-more _ _ _ _ _ _ _ _ _ _ _ _ c.loop-number.invariant.0 gave c.advance.ensures.stays.max_line c.advance.ensures.stays.max_lines (rw (← c.line-message.ensures) c.in_default.ensures.ok),
       search rules,
-      search rules,
+      (c.in-Ok-Some.ensures.counts gave.was_open).steady ∙ c.loop-number.invariant.2,
       search rules,
     )
 
@@ -21,3 +21,7 @@ pub returns-in-Err-clause-reaches : goal.returns-in-Err-clause-reaches
 returns-in-Err-clause-reaches g c =
     let is = IsPrinting-open _ _ _ _ _ _ _ _ c.loop-number.invariant.0 (not_ended _ _ _ c.advance.result c.in-Err.cut c.advance.ensures.again c.in-Err.is) in
     rw c.refusal_of.ensures.value (IsPrinting-refused _ _ g.S.Source.faults _ _ _ _ _ _ _ _ is c.loop-number.invariant.0 c.in-Err.ensures.refused)
+
+pub returns-in-Ok-None-clause-steady : goal.returns-in-Ok-None-clause-steady
+returns-in-Ok-None-clause-steady g c =
+    steady_of g.S.Source.faults c.loop-number.cutter.progress c.loop-number.cutter c.advance.new.self (Ok c.in-Ok-None.field-0) c.in-Ok-None.ensures.again c.in-Ok-None.ensures.counts ∙ c.loop-number.invariant.2
