@@ -10,7 +10,7 @@ pub returns-in_err-time-clause-none : goal.returns-in_err-time-clause-none
 returns-in_err-time-clause-none c =
     let read = c.in_ok-numbers.ensures.some in
     let front : Front c.in_ok-shape.shape c.args.line.now c.in_ok-numbers.numbers c.in_ok-numbers.behind.now = record {
-      only = c.in_ok-shape.ensures;
+      only = c.in_ok-shape.ensures.only;
       read = read.0;
       within = read.1;
       six = read.2;
@@ -23,7 +23,7 @@ pub returns-in_err-tail-clause-none : goal.returns-in_err-tail-clause-none
 returns-in_err-tail-clause-none c =
     let read = c.in_ok-numbers.ensures.some in
     let front : Front c.in_ok-shape.shape c.args.line.now c.in_ok-numbers.numbers c.in_ok-numbers.behind.now = record {
-      only = c.in_ok-shape.ensures;
+      only = c.in_ok-shape.ensures.only;
       read = read.0;
       within = read.1;
       six = read.2;
@@ -41,7 +41,7 @@ pub overflow_cast-result : goal.overflow_cast-result
 overflow_cast-result c =
     let read = c.in_ok-numbers.ensures.some in
     let front : Front c.in_ok-shape.shape c.args.line.now c.in_ok-numbers.numbers c.in_ok-numbers.behind.now = record {
-      only = c.in_ok-shape.ensures;
+      only = c.in_ok-shape.ensures.only;
       read = read.0;
       within = read.1;
       six = read.2;
@@ -55,7 +55,7 @@ pub returns-clause-some : goal.returns-clause-some
 returns-clause-some c =
     let read = c.in_ok-numbers.ensures.some in
     let front : Front c.in_ok-shape.shape c.args.line.now c.in_ok-numbers.numbers c.in_ok-numbers.behind.now = record {
-      only = c.in_ok-shape.ensures;
+      only = c.in_ok-shape.ensures.only;
       read = read.0;
       within = read.1;
       six = read.2;
