@@ -2,6 +2,10 @@
 use Rattle.std.proofs.Common.{◌≡◌, ℕ, ◌+◌, ◌≤◌, List, [], ◌∷◌, ◌++◌, length, map, take, refl, sym, ◌∙◌, ap, ap₂, subst, arith}
 use Rattle.std.specs.Prelude.{◌↔◌, ℤ, None, Some, IsTrue, Bool, slice_get}
 use Rattle.std.proofs.lemmas.Option.{slice_get_within}
+use Rattle.std.proofs.lemmas.List.{append_cancel_left}
+use Rattle.std.specs.Int.{cast_unsigned, w64}
+use Rattle.var_codec.specs.Laws.{OneWord}
+use Rattle.logtype_text.specs.Laws.{OneListOfParts}
 use Rattle.var_codec.specs.declared.Coded.TheVariants.{Whole as WholeWord, Decimal as DecimalWord, Word as DictionaryWord}
 use Rattle.logtype_text.specs.declared.symbols.Kind.{Kind}
 use Rattle.logtype_text.specs.declared.symbols.Kind.TheVariants.{Whole, Word, Decimal}
@@ -16,7 +20,9 @@ use Rattle.column_store.specs.declared.row.Row.{Row}
 use Rattle.row_codec.specs.Means.{EachWord, HasStampText, HasWord, IsCanonical, IsWritten, Means}
 use Rattle.row_codec.specs.StepsBody.{HasBody, HasStampWriting, IsBody}
 use Rattle.row_codec.specs.StepsCut.{IsCutText}
-use Rattle.row_codec.proofs.MeansLemmas.{bytes_same, stamps_same, words_written}
+use Rattle.row_codec.specs.Laws.{OneRow, RowsReturn}
+use Rattle.row_codec.specs.Naming.{AreDistinct}
+use Rattle.row_codec.proofs.MeansLemmas.{bytes_same, meaning_is_spelling, one_spelling, stamps_same, words_written}
 
 -- what is written as a variable of its kind is coded so
 word_coded : (words : List (List ℕ)) (kind : Kind) (text : List ℕ) (word : ℕ) → HasKind text kind → IsWritten words kind text word → HasWord words kind text word
@@ -106,3 +112,46 @@ opening_tells version words text row pattern moment opened stamp body filled sho
           let same = one_stamp_of version (stamp ++ body) k pattern m moment n (length stamp) found other in
           (same.0, same.1, same.2 ∙ sym long),
     )
+
+-- a variable has one word where no text has two numbers
+one_number : OneWord → (words : List (List ℕ)) → AreDistinct words → (kind : Kind) (text : List ℕ) (v w : ℕ) → HasWord words kind text v → HasWord words kind text w → v ≡ w
+one_number one words distinct Whole text v w (n, a, v_is) (m, b, w_is) =
+    let same : WholeWord n ≡ WholeWord m = one text (WholeWord n) (WholeWord m) a b in
+    let numbers : n ≡ m = cc in
+    v_is ∙ ap (cast_unsigned w64) numbers ∙ sym w_is
+one_number one words distinct Decimal text v w a b =
+    let same : DecimalWord v ≡ DecimalWord w = one text (DecimalWord v) (DecimalWord w) a b in cc
+one_number one words distinct Word text v w a b = distinct v w text a.1 b.1
+
+one_words : OneWord → (words : List (List ℕ)) → AreDistinct words → (parts : List Part) (a b : List ℕ) → EachWord (HasWord words) parts a → EachWord (HasWord words) parts b → a ≡ b
+one_words one words distinct [] [] [] mine theirs = refl
+one_words one words distinct [] (v ∷ a) b mine theirs = absurd mine
+one_words one words distinct [] [] (w ∷ b) mine theirs = absurd theirs
+one_words one words distinct (Constant c ∷ parts) a b mine theirs = one_words one words distinct parts a b mine theirs
+one_words one words distinct (Variable kind text ∷ parts) [] b mine theirs = absurd mine
+one_words one words distinct (Variable kind text ∷ parts) (v ∷ a) [] mine theirs = absurd theirs
+one_words one words distinct (Variable kind text ∷ parts) (v ∷ a) (w ∷ b) mine theirs =
+    ap₂ (λ x l. x ∷ l) (one_number one words distinct kind text v w mine.0 theirs.0) (one_words one words distinct parts a b mine.1 theirs.1)
+
+abbrev row_with : ℕ → ℤ → ℕ → List ℕ → Row
+row_with pattern moment log_type words = record { pattern = pattern; moment = moment; log_type = log_type; words = words }
+
+same_row : (a b : Row) → a.pattern ≡ b.pattern → a.moment ≡ b.moment → a.log_type ≡ b.log_type → a.words ≡ b.words → a ≡ b
+same_row a b patterns moments types words =
+    ap₂ (λ k m. row_with k m a.log_type a.words) patterns moments ∙ ap₂ (λ t l. row_with b.pattern b.moment t l) types words
+
+pub one_row : OneWord → OneListOfParts → OneRow
+one_row one_word one_list version a b types words message types_distinct words_distinct mine theirs =
+    let stamps = one_stamp_of version message a.pattern b.pattern a.moment b.moment (length mine.means.stamp) (length theirs.means.stamp) mine.stamp theirs.stamp in
+    let stamped : HasStampText b.pattern b.moment mine.means.stamp = subst (λ m. HasStampText b.pattern m mine.means.stamp) stamps.1 (subst (λ k. HasStampText k a.moment mine.means.stamp) stamps.0 mine.means.stamped) in
+    let texts = stamps_same b.pattern b.moment mine.means.stamp theirs.means.stamp stamped theirs.means.stamped in
+    let messages : theirs.means.stamp ++ joined mine.means.parts ≡ theirs.means.stamp ++ joined theirs.means.parts = ap (λ l. l ++ joined mine.means.parts) (sym texts) ∙ sym mine.means.is ∙ theirs.means.is in
+    let bodies = append_cancel_left theirs.means.stamp (joined mine.means.parts) (joined theirs.means.parts) messages in
+    let parts : mine.means.parts ≡ theirs.means.parts = one_list (joined theirs.means.parts) mine.means.parts theirs.means.parts (subst (λ l. AreParts l mine.means.parts) bodies mine.body) theirs.body in
+    let typed : slice_get types a.log_type ≡ Some (type_text (map symbol_of theirs.means.parts)) = mine.means.typed ∙ ap (λ l. Some (type_text (map symbol_of l))) parts in
+    same_row a b stamps.0 stamps.1 (types_distinct a.log_type b.log_type (type_text (map symbol_of theirs.means.parts)) typed theirs.means.typed)
+    (one_words one_word words words_distinct theirs.means.parts a.words b.words (subst (λ l. EachWord (HasWord words) l a.words) parts mine.means.coded) theirs.means.coded)
+
+pub rows_return : RowsReturn
+rows_return version row types words message text is spelling =
+    one_spelling row types words text message spelling (meaning_is_spelling row types words message is.means)

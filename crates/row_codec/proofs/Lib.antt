@@ -1,4 +1,5 @@
 pub mod BodyLemmas
+pub mod BooksLemmas
 pub mod CanonicalLemmas
 pub mod CutTextLemmas
 pub mod EncoderLemmas

@@ -6,5 +6,6 @@ pub mod Naming
 pub mod Numbers
 pub mod Steps
 pub mod StepsBody
+pub mod StepsBooks
 pub mod StepsCut
 pub mod StepsOpening

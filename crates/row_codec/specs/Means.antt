@@ -52,6 +52,10 @@ pub record IsSpelling (row : Row) (types words : List (List ℕ)) (message : Lis
 abbrev pub HasSpelling : Row → List (List ℕ) → List (List ℕ) → Type 0
 HasSpelling row types words = (message : List ℕ) × IsSpelling row types words message
 
+-- what the row is written as stands behind the old bytes
+abbrev pub IsAppended : Row → List (List ℕ) → List (List ℕ) → List ℕ → List ℕ → Type 0
+IsAppended row types words old new = (text : List ℕ) × IsSpelling row types words text × (new ≡ old ++ text)
+
 -- the row means the message
 pub record Means (row : Row) (types words : List (List ℕ)) (message : List ℕ) : Type 0 where
   pub stamp : List ℕ
@@ -67,6 +71,10 @@ pub record IsCanonical (version : ℕ) (row : Row) (types words : List (List ℕ
   pub means : Means row types words message
   pub body : AreParts (joined means.parts) means.parts
   pub stamp : HasStamp version message row.pattern row.moment (length means.stamp)
+
+-- the row is the encoding of some message
+abbrev pub IsEncoding : ℕ → Row → List (List ℕ) → List (List ℕ) → Type 0
+IsEncoding version row types words = (message : List ℕ) × IsCanonical version row types words message
 
 -- the rows are the encodings of the messages, in order
 abbrev pub AreCanonical : ℕ → List Row → List (List ℕ) → List (List ℕ) → List (List ℕ) → Type 0

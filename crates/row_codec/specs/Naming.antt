@@ -18,10 +18,6 @@ AreDistinct texts =
 abbrev pub IsNew : List (List ℕ) → List ℕ → Type 0
 IsNew texts text = (i : ℕ) → slice_get texts i ≢ Some text
 
--- no text has this number
-abbrev pub HasNoText : List (List ℕ) → ℕ → Type 0
-HasNoText texts number = (text : List ℕ) → slice_get texts number ≢ Some text
-
 -- these are the numbers of the texts, in order
 abbrev pub AreNumbers : List (List ℕ) → List ℕ → List (List ℕ) → Type 0
 AreNumbers known numbers texts = AllZip (λ number text. slice_get known number ≡ Some text) numbers texts

@@ -1,5 +1,5 @@
 -- What is written behind the stamp of a row, on the way through the text of its log type.
-use Rattle.std.specs.Prelude.{◌≡◌, ℕ, ℤ, List, ◌++◌, map}
+use Rattle.std.specs.Prelude.{◌≡◌, ◌≢◌, ℕ, ℤ, List, ◌++◌, map, Some, slice_get}
 use Rattle.logtype_text.specs.declared.symbols.Kind.{Kind}
 use Rattle.logtype_text.specs.declared.symbols.Symbol.{Symbol}
 use Rattle.logtype_text.specs.Parts.{Part, joined, symbol_of}
@@ -9,6 +9,10 @@ use Rattle.row_codec.specs.Means.{EachWord, HasStampText, IsWritten}
 -- a stamp with this pattern and moment can be written
 abbrev pub HasStampWriting : ℕ → ℤ → Type 0
 HasStampWriting pattern moment = (text : List ℕ) × HasStampText pattern moment text
+
+-- no text has this number
+abbrev pub HasNoText : List (List ℕ) → ℕ → Type 0
+HasNoText texts number = (text : List ℕ) → slice_get texts number ≢ Some text
 
 -- a variable of this kind with this word can be written
 abbrev pub HasWriting : List (List ℕ) → Kind → ℕ → Type 0

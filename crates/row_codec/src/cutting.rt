@@ -37,11 +37,12 @@ pub(crate) fn body_is_cut<N: Names>(text: &[u8], words: &[u64], names: &N) -> bo
     at.words.is_empty()
 }
 
-// The place behind a delimiter, a token of constants or a variable; `None` where what is there is not
-// cut by the rule of tokens.
+// The place behind a delimiter, a token of constants or a variable; `None` where what is there is
+// not cut by the rule of tokens.
 fn past_part<'a, N: Names>(at: Place<'a>, names: &N) -> Option<Place<'a>>
     requires { 0 < length at.rest.now }
-    ensures some { IfSome result (λ next. IsCutAt (N.words names.now) at.entry ↔ IsCutAt (N.words names.now) next) }
+    ensures some { IfSome result (λ next. IsCutAt (N.words names.now) at.entry
+        ↔ IsCutAt (N.words names.now) next) }
     ensures none { IfNone result (¬ IsCutAt (N.words names.now) at.entry) }
     ensures shorter { IfSome result (λ next. length next.rest.now < length at.entry.rest.now) }
 {
@@ -69,7 +70,8 @@ fn past_variable<'a, N: Names>(
     names: &N,
 ) -> Option<Place<'a>>
     requires { at.rest.now ≡ text_of_symbol (Symbol.Slot kind) ++ after.now }
-    ensures some { IfSome result (λ next. IsCutAt (N.words names.now) at.entry ↔ IsCutAt (N.words names.now) next) }
+    ensures some { IfSome result (λ next. IsCutAt (N.words names.now) at.entry
+        ↔ IsCutAt (N.words names.now) next) }
     ensures none { IfNone result (¬ IsCutAt (N.words names.now) at.entry) }
     ensures shorter { IfSome result (λ next. length next.rest.now < length at.entry.rest.now) }
 {
@@ -97,7 +99,8 @@ fn past_variable<'a, N: Names>(
 // The place behind a token of constants.
 fn past_constants(at: Place<'_>) -> Option<Place<'_>>
     requires { (after : List ℕ) × IsTokenByte at.rest.now after }
-    ensures some { (words : List (List ℕ)) → IfSome result (λ next. IsCutAt words at.entry ↔ IsCutAt words next) }
+    ensures some { (words : List (List ℕ))
+        → IfSome result (λ next. IsCutAt words at.entry ↔ IsCutAt words next) }
     ensures none { (words : List (List ℕ)) → IfNone result (¬ IsCutAt words at.entry) }
     ensures shorter { IfSome result (λ next. length next.rest.now < length at.entry.rest.now) }
 {

@@ -11,8 +11,9 @@ ghost use Rattle.row_codec.specs.Messages.{IsTypeOf, IsWordOf};
 ghost use Rattle.row_codec.specs.Naming.{HasGrown, MeetsLimit};
 ghost use Rattle.row_codec.specs.Numbers.{numbers_of_row};
 
-use crate::{NameRefusal, Namer};
-use column_store::RowRef;
+use crate::{Encoded, NameRefusal, Namer};
+use column_store::{Row, RowRef};
+use log_seams::{NumberList, WordList};
 use logtype_text::{Span, encode_body};
 use std::alloc::{AllocError, Global};
 use time_patterns::{Stamp, read_micro, read_stamp};
@@ -71,8 +72,8 @@ fn front_of(stamp: Option<Stamp>) -> Front
     }
 }
 
-// The front of a message in the versions whose moments count microseconds, or in those whose moments
-// count milliseconds.
+// The front of a message in the versions whose moments count microseconds, or in those whose
+// moments count milliseconds.
 #[inline]
 pub(crate) fn read_front(micro: bool, line: &[u8]) -> Front
     ensures stamp { (version : ℕ) → (IsTrue micro ↔ (3 ≤ version))
@@ -103,10 +104,11 @@ impl Encoder {
         }
     }
 
-    /// Reads a message: its stamp, and what is stored of its body. `micro` tells whether the archive's
-    /// moments count microseconds. After a want of memory the encoder holds nothing of use.
+    /// Reads a message: its stamp, and what is stored of its body. `micro` tells whether the
+    /// archive's moments count microseconds. After a want of memory the encoder holds nothing of use.
     pub fn read(&mut self, micro: bool, line: &[u8]) -> Result<(), AllocError>
-        ensures { (version : ℕ) → (IsTrue micro ↔ (3 ≤ version)) → OnOk result (HasRead self.new version line.now) }
+        ensures { (version : ℕ) → (IsTrue micro ↔ (3 ≤ version))
+            → OnOk result (HasRead self.new version line.now) }
     {
         self.front = read_front(micro, line);
         encode_body(
@@ -126,13 +128,16 @@ impl Encoder {
 
         // What stays, and what the namer has learned.
         ensures version { N.version namer.new ≡ N.version namer.old }
-        ensures types { HasGrown (IsTypeOf (N.version namer.old) line.now) (N.types namer.old) (N.types namer.new) }
-        ensures words { HasGrown (IsWordOf (N.version namer.old) line.now) (N.words namer.old) (N.words namer.new) }
+        ensures types { HasGrown (IsTypeOf (N.version namer.old) line.now)
+            (N.types namer.old) (N.types namer.new) }
+        ensures words { HasGrown (IsWordOf (N.version namer.old) line.now)
+            (N.words namer.old) (N.words namer.new) }
 
         // The row.
         ensures row { OnOk result (IsCanonical (N.version namer.old) (row_held self.new)
             (N.types namer.new).texts (N.words namer.new).texts line.now) }
-        ensures used { OnOk result (numbers_of_row (N.types namer.new).texts (row_held self.new) ≡ self.new.used.items) }
+        ensures used { OnOk result (numbers_of_row (N.types namer.new).texts (row_held self.new)
+            ≡ self.new.used.items) }
 
         // A full dictionary.
         ensures full { (book : _) (count : ℕ) → IsErrOf result (NameRefusal.Full book count)
@@ -167,6 +172,22 @@ impl Encoder {
     {
         self.used.as_slice()
     }
+
+    // The row of the message that was named last, and its numbers, with the memory of both.
+    pub(crate) fn into_encoded(self) -> Encoded
+        ensures row { result.row ≡ row_held self }
+        ensures used { result.used ≡ self.used.items }
+    {
+        Encoded {
+            row: Row {
+                pattern: self.front.pattern,
+                moment: self.front.moment,
+                log_type: self.log_type,
+                words: WordList::new(self.words),
+            },
+            used: NumberList::new(self.used),
+        }
+    }
 }
 
 // Writes the words of variables that are coded so; `used` has the numbers of those that go to a
@@ -188,7 +209,8 @@ fn put_words(codes: &[Coded], used: &[u32], words: &mut Vec<u64>) -> Result<(), 
 // The word of a variable, and the numbers that are left for those behind it.
 #[inline]
 fn next_word(coded: Coded, numbers: &[u32]) -> (u64, &[u32])
-    ensures { (codes : List Coded) → words_of (coded ∷ codes) numbers.now ≡ result.0 ∷ words_of codes result.1.now }
+    ensures { (codes : List Coded)
+        → words_of (coded ∷ codes) numbers.now ≡ result.0 ∷ words_of codes result.1.now }
 {
     match coded {
         Coded::Whole(number) => (number.cast_unsigned(), numbers),

@@ -3,7 +3,7 @@ ghost use Rattle.std.specs.Prelude.{◌≡◌, ◌+◌, ◌≤◌, ◌++◌, ℕ
 ghost use mathlib.Core.List.{IsPrefix};
 ghost use Rattle.column_store.specs.Row.{row_of};
 ghost use Rattle.logtype_text.specs.TypeText.{text_of_symbol};
-ghost use Rattle.row_codec.specs.Means.{HasSpelling, HasStampText, IsSpelling, IsWritten, Means};
+ghost use Rattle.row_codec.specs.Means.{HasSpelling, HasStampText, IsAppended, IsSpelling, IsWritten, Means};
 ghost use Rattle.row_codec.specs.StepsBody.{HasBody, HasStampWriting, HasWriting, IsBody, Puts};
 
 use crate::Names;
@@ -17,8 +17,8 @@ use step_count::Steps;
 use time_patterns::print_stamp;
 use var_codec::{decimal_text, whole_text};
 
-/// Appends what a row is written as, and counts one step. Where the row means a message, this is the
-/// message. Without memory nothing is appended.
+/// Appends what a row is written as, and counts one step. Where the row means a message, this is
+/// the message. Without memory nothing is appended.
 pub fn expand_onto<N: Names, L: Ledger>(
     row: RowRef<'_>,
     names: &N,
@@ -27,8 +27,8 @@ pub fn expand_onto<N: Names, L: Ledger>(
 ) -> Result<(), AllocError>
     requires { HasSpelling (row_of row) (N.types names.now) (N.words names.now) }
     ensures counted { steps.new ≡ steps.old + 1 }
-    ensures written { OnOk result ((text : List ℕ) × IsSpelling (row_of row.entry) (N.types names.now) (N.words names.now) text
-        × (out.new.items ≡ out.old.items ++ text)) }
+    ensures written { OnOk result (IsAppended (row_of row.entry) (N.types names.now)
+        (N.words names.now) out.old.items out.new.items) }
     ensures kept { OnErr result (out.new.items ≡ out.old.items) }
 {
     steps.tick();
@@ -42,7 +42,8 @@ pub fn expand_onto<N: Names, L: Ledger>(
     }
 }
 
-/// What a row is written as, and counts one step. Where the row means a message, this is the message.
+/// What a row is written as, and counts one step. Where the row means a message, this is the
+/// message.
 pub fn expand<N: Names, L: Ledger>(
     alloc: Global,
     row: RowRef<'_>,
@@ -51,8 +52,10 @@ pub fn expand<N: Names, L: Ledger>(
 ) -> Result<Text, AllocError>
     requires { HasSpelling (row_of row) (N.types names.now) (N.words names.now) }
     ensures counted { steps.new ≡ steps.old + 1 }
-    ensures written { IfOk result (IsSpelling (row_of row.entry) (N.types names.now) (N.words names.now)) }
-    ensures means { (message : List ℕ) → Means (row_of row.entry) (N.types names.now) (N.words names.now) message
+    ensures written { IfOk result (IsSpelling (row_of row.entry) (N.types names.now)
+        (N.words names.now)) }
+    ensures means { (message : List ℕ)
+        → Means (row_of row.entry) (N.types names.now) (N.words names.now) message
         → IfOk result (λ text. text ≡ message) }
 {
     let mut text = Vec::new(alloc);
@@ -63,8 +66,8 @@ pub fn expand<N: Names, L: Ledger>(
 // Appends what a row is written as; without memory, a part of it.
 fn put_row<N: Names>(row: RowRef<'_>, names: &N, out: &mut Vec<u8>) -> Result<(), AllocError>
     requires { HasSpelling (row_of row) (N.types names.now) (N.words names.now) }
-    ensures written { OnOk result ((text : List ℕ) × IsSpelling (row_of row.entry) (N.types names.now) (N.words names.now) text
-        × (out.new.items ≡ out.old.items ++ text)) }
+    ensures written { OnOk result (IsAppended (row_of row.entry) (N.types names.now)
+        (N.words names.now) out.old.items out.new.items) }
     ensures front { IsPrefix out.old.items out.new.items }
 {
     put_stamp(row.pattern, row.moment, out)?;
@@ -97,7 +100,8 @@ fn put_body<N: Names>(
     out: &mut Vec<u8>,
 ) -> Result<(), AllocError>
     requires { HasBody (N.words names.now) text.now words.now }
-    ensures written { OnOk result ((body : List ℕ) × IsBody (N.words names.now) text.now words.now body
+    ensures written { OnOk result ((body : List ℕ)
+        × IsBody (N.words names.now) text.now words.now body
         × (out.new.items ≡ out.old.items ++ body)) }
     ensures front { IsPrefix out.old.items out.new.items }
 {
@@ -118,7 +122,8 @@ fn put_symbol<'a, N: Names>(
     names: &N,
     out: &mut Vec<u8>,
 ) -> Result<&'a [u64], AllocError>
-    requires { (after : List ℕ) × HasBody (N.words names.now) (text_of_symbol symbol ++ after) words.now }
+    requires { (after : List ℕ)
+        × HasBody (N.words names.now) (text_of_symbol symbol ++ after) words.now }
     ensures put { IfOk result (λ left. (after : List ℕ) → Puts (N.words names.now)
         (text_of_symbol symbol ++ after) words.now after left.now out.old.items out.new.items) }
     ensures front { IsPrefix out.old.items out.new.items }
@@ -138,7 +143,8 @@ fn put_symbol<'a, N: Names>(
     }
 }
 
-// Appends the constants at the front of a text that stand there as they are, and gives what follows.
+// Appends the constants at the front of a text that stand there as they are, and gives what
+// follows.
 #[inline]
 fn put_plain<'a>(text: &'a [u8], out: &mut Vec<u8>) -> Result<&'a [u8], AllocError>
     ensures put { IfOk result (λ rest. (words : List (List ℕ)) (row : List ℕ)

@@ -3,8 +3,7 @@ ghost use Rattle.std.specs.Prelude.{◌≡◌, ◌≤◌, ◌↔◌, ◌++◌, �
 ghost use Rattle.column_store.specs.Row.{row_of};
 ghost use Rattle.logtype_text.specs.TypeText.{text_of_symbol};
 ghost use Rattle.row_codec.specs.Means.{HasSpelling};
-ghost use Rattle.row_codec.specs.Naming.{HasNoText};
-ghost use Rattle.row_codec.specs.StepsBody.{HasBody, HasStampWriting, HasWriting};
+ghost use Rattle.row_codec.specs.StepsBody.{HasBody, HasNoText, HasStampWriting, HasWriting};
 
 use crate::Names;
 use column_store::RowRef;
@@ -12,12 +11,13 @@ use logtype_text::{Kind, Symbol, first_symbol, plain_front};
 use time_patterns::stamp_ok;
 use var_codec::decimal_ok;
 
-/// Whether a row can be written: its pattern prints its moment, its numbers have texts, and its words
-/// fit the slots of its log type. Takes no memory.
+/// Whether a row can be written: its pattern prints its moment, its numbers have texts, and its
+/// words fit the slots of its log type. Takes no memory.
 ///
 /// This asks less than that the row is the encoding of what it is written as.
 pub fn row_fits<N: Names>(row: RowRef<'_>, names: &N) -> bool
-    ensures { IsTrue result ↔ HasSpelling (row_of row.entry) (N.types names.now) (N.words names.now) }
+    ensures { IsTrue result
+        ↔ HasSpelling (row_of row.entry) (N.types names.now) (N.words names.now) }
 {
     if !stamp_fits(row.pattern, row.moment) {
         return false;
@@ -64,8 +64,8 @@ fn past_plain(text: &[u8]) -> &[u8]
     &text[plain_front(text)..]
 }
 
-// The words behind that of a symbol, if it has one; `None` where it is a slot, and no word that fits
-// it is there.
+// The words behind that of a symbol, if it has one; `None` where it is a slot, and no word that
+// fits it is there.
 #[inline]
 fn past_word<'a, N: Names>(symbol: Symbol, words: &'a [u64], names: &N) -> Option<&'a [u64]>
     ensures some { IfSome result (λ left. (after : List ℕ)

@@ -1,5 +1,8 @@
 //! Laws of rows. The functions do nothing: what they promise holds of every row and message.
-ghost use Rattle.row_codec.specs.Laws.{CanonicalStays, MeaningIsSpelling, OneMeaning, OneSpelling};
+ghost use Rattle.row_codec.specs.Laws.{CanonicalStays, MeaningIsSpelling, OneMeaning, OneRow, OneSpelling, RowsReturn};
+
+use logtype_text::one_list_of_parts;
+use var_codec::one_word;
 
 /// A row that is the encoding of a message stays so when texts are added to the dictionaries.
 pub fn canonical_stays()
@@ -12,3 +15,13 @@ pub fn means_one()
     ensures spelling { OneSpelling }
     ensures spells { MeaningIsSpelling }
 {}
+
+/// A message has one row where no text of the dictionaries has two numbers; and what a row that is
+/// the encoding of a message is written as is that message.
+pub fn one_row()
+    ensures row { OneRow }
+    ensures returns { RowsReturn }
+{
+    one_word();
+    one_list_of_parts();
+}

@@ -5,12 +5,15 @@
 //! the texts that it names stand in two dictionaries, that of log types and that of words.
 #![tactic(auto)]
 
+#[cfg(test)]
+mod books;
 mod canonical;
 mod cutting;
 mod encoder;
 mod expanding;
 mod fitting;
 mod laws;
+mod message;
 mod namer;
 mod names;
 mod opening;
@@ -19,8 +22,9 @@ pub use canonical::row_ok;
 pub use encoder::Encoder;
 pub use expanding::{expand, expand_onto};
 pub use fitting::row_fits;
-pub use laws::{canonical_stays, means_one};
+pub use laws::{canonical_stays, means_one, one_row};
 use logtype_text::MAX_WORD_LEN;
+pub use message::{Encoded, encode_message};
 pub use namer::{NameRefusal, Namer, Which};
 pub use names::Names;
 

@@ -112,7 +112,8 @@ pub trait Namer {
 
         // What stays and what grows.
         ensures others { (version self.new ≡ version self.old) × (types self.new ≡ types self.old) }
-        ensures grown { HasGrown (Contains (texts_at line.now spans.now)) (words self.old) (words self.new) }
+        ensures grown { HasGrown (Contains (texts_at line.now spans.now))
+            (words self.old) (words self.new) }
 
         // The answers.
         ensures named { OnOk result (AreNumbers (words self.new).texts numbers.new.items

@@ -26,8 +26,8 @@ pub(crate) fn open_with_stamp(pattern: u8, moment: i64, out: &mut [u8; OPENING_L
     print_stamp(pattern, moment, out)
 }
 
-// Writes behind the first `at` bytes what the text of a log type is written as with these words in its
-// slots, as far as there is room.
+// Writes behind the first `at` bytes what the text of a log type is written as with these words in
+// its slots, as far as there is room.
 pub(crate) fn fill_body<N: Names>(
     text: &[u8],
     words: &[u64],
@@ -63,10 +63,12 @@ fn fill_symbol<'a, N: Names>(
     out: &mut [u8; OPENING_LEN],
     at: usize,
 ) -> (usize, &'a [u64])
-    requires body { (after : List ℕ) × HasBody (N.words names.now) (text_of_symbol symbol ++ after) words.now }
+    requires body { (after : List ℕ)
+        × HasBody (N.words names.now) (text_of_symbol symbol ++ after) words.now }
     requires at { at ≤ 32 }
     ensures within { result.0 ≤ 32 }
-    ensures filled { (after : List ℕ) → Fills (N.words names.now) (text_of_symbol symbol ++ after) words.now
+    ensures filled { (after : List ℕ)
+        → Fills (N.words names.now) (text_of_symbol symbol ++ after) words.now
         after result.1.now (take at out.old) (take result.0 out.new) }
 {
     match symbol {
