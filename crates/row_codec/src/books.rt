@@ -30,6 +30,11 @@ impl Books {
         }
     }
 
+    /// The number of a log type.
+    pub(crate) fn type_number(&self, text: &[u8]) -> Option<u32> {
+        self.types.number_of(text)
+    }
+
     /// How many log types and words there are.
     pub(crate) fn counts(&self) -> (u32, u32) {
         (self.types.len(), self.words.len())

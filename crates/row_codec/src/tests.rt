@@ -110,8 +110,8 @@ fn a_full_dictionary_of_words(rt: HostRuntime) -> Result<(), NameRefusal> {
         encode_message(rt.alloc(), b"x1-a y1 z", &mut books).err(),
         full
     );
-    assert_eq!(rt; books.type_text(0), Some(b"\x12 \x12 z".as_slice()));
-    assert_eq!(rt; books.word_text(0), Some(b"x1-a".as_slice()));
+    assert_eq!(rt; books.type_number(b"\x12 \x12 z"), Some(0));
+    assert_eq!(rt; books.word_number(b"x1-a"), Some(0));
     Ok(())
 }
 

@@ -1,5 +1,4 @@
-use Rattle.std.proofs.Common.{◌≡◌, ◌++◌, ℤ, w64, to_z, of_z, rules, length, sym, subst, refl}
-use Rattle.std.specs.Prelude.{None}
+use Rattle.std.proofs.Common.{◌≡◌, ◌++◌, w64, to_z, of_z, rules, length, subst}
 use Rattle.time_patterns.specs.Stamps.{HasStamp}
 use Rattle.column_store.specs.Row.{row_of}
 use Rattle.logtype_text.specs.Parts.{joined}

@@ -1,4 +1,4 @@
-use Rattle.std.proofs.Common.{◌≡◌, List, ℕ, length, sym, ◌∙◌, ap}
+use Rattle.std.proofs.Common.{List, ℕ, length, sym, ◌∙◌, ap}
 use Rattle.std.specs.Prelude.{◌==◌}
 use Rattle.row_codec.proofs.BodyLemmas.{none_left}
 use Rattle.row_codec.proofs.CutTextLemmas.{cut_end}

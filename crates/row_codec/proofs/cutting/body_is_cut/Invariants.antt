@@ -1,4 +1,4 @@
-use Rattle.std.proofs.Common.{◌≡◌, length}
+use Rattle.std.proofs.Common.{length}
 use Rattle.std.specs.Prelude.{◌↔◌, None}
 use Rattle.row_codec.specs.StepsCut.{IsCutAt, IsCutText}
 use Rattle.row_codec.proofs.cutting.body_is_cut.Given as goal

@@ -1,4 +1,4 @@
-use Rattle.std.proofs.Common.{◌≡◌, List, ℕ, refl, sym, subst, take, rules}
+use Rattle.std.proofs.Common.{refl, sym, subst, take, rules}
 use Rattle.std.specs.Prelude.{◌↔◌, IsTrue}
 use Rattle.row_codec.specs.Means.{IsWritten}
 use Rattle.row_codec.specs.StepsCut.{IsHeldWord}

@@ -1,4 +1,4 @@
-use Rattle.std.proofs.Common.{◌≡◌, ◌-◌, length, take, sym, ◌∙◌, subst}
+use Rattle.std.proofs.Common.{subst}
 use Rattle.row_codec.specs.StepsCut.{TellsBreaks}
 use Rattle.row_codec.proofs.CutTextLemmas.{TokenFacts, constants_break, constants_vary, cut_constants, token_facts, token_some}
 use Rattle.row_codec.proofs.cutting.past_constants.Goals as goal

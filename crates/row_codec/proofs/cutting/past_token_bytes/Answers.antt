@@ -1,4 +1,4 @@
-use Rattle.std.proofs.Common.{◌≡◌, arith}
+use Rattle.std.proofs.Common.{arith}
 use Rattle.row_codec.proofs.CutTextLemmas.{token_byte_shorter, token_bytes_more}
 use Rattle.row_codec.proofs.cutting.past_token_bytes.Goals as goal
 

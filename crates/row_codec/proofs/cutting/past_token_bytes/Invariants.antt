@@ -1,4 +1,4 @@
-use Rattle.std.proofs.Common.{◌≡◌, ◌≤◌, length}
+use Rattle.std.proofs.Common.{◌≤◌, length}
 use Rattle.row_codec.specs.StepsCut.{AreTokenBytes}
 use Rattle.row_codec.proofs.cutting.past_token_bytes.Given as goal
 

@@ -1,4 +1,4 @@
-use Rattle.std.proofs.Common.{◌≡◌, ◌-◌, length, get_or, take, drop, subst}
+use Rattle.std.proofs.Common.{◌-◌, length, get_or, take, drop, subst}
 use Rattle.row_codec.specs.StepsCut.{IsCutText, TellsBreaks}
 use Rattle.row_codec.proofs.BodyLemmas.{first_left, no_first}
 use Rattle.row_codec.proofs.CutTextLemmas.{cut_variable, variable_breaks, variable_held, variable_word}

@@ -1,4 +1,4 @@
-use Rattle.std.proofs.Common.{◌≡◌, ◌≤◌, length, sym, subst}
+use Rattle.std.proofs.Common.{◌≤◌, length, sym, subst}
 use Rattle.time_patterns.specs.Stamps.{HasStamp}
 use Rattle.row_codec.specs.declared.encoder.Front.{Front}
 use Rattle.row_codec.proofs.EncoderLemmas.{front_inside, front_micro, front_milli}

@@ -1,4 +1,4 @@
-use Rattle.std.proofs.Common.{◌≡◌, List, ℕ, ◌++◌, ◌∙◌, ap}
+use Rattle.std.proofs.Common.{List, ℕ, ◌++◌, ◌∙◌, ap}
 use Rattle.column_store.specs.Row.{row_of}
 use Rattle.row_codec.proofs.MeansLemmas.{meaning_is_spelling, one_spelling}
 use Rattle.row_codec.proofs.expanding.expand.Goals as goal

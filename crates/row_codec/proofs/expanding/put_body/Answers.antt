@@ -1,6 +1,3 @@
-use Rattle.std.proofs.Common.{◌≡◌, List, ℕ, length, ap, subst, arith}
-use Rattle.logtype_text.proofs.TextLemmas.{symbol_longer}
-use Rattle.row_codec.specs.StepsBody.{HasBody}
 use Rattle.row_codec.proofs.BodyLemmas.{puts_all, puts_has, puts_more}
 use Rattle.row_codec.proofs.expanding.put_body.Goals as goal
 

@@ -1,5 +1,4 @@
-use Rattle.std.proofs.Common.{◌≡◌, length}
-use mathlib.Core.List.{IsPrefix}
+use Rattle.std.proofs.Common.{length}
 use Rattle.row_codec.specs.StepsBody.{HasBody, Puts}
 use Rattle.row_codec.proofs.expanding.put_body.Given as goal
 

@@ -1,4 +1,4 @@
-use Rattle.std.proofs.Common.{◌≡◌, ℕ, List, ◌++◌, sym, ◌∙◌, ap₂, subst, take-append-drop}
+use Rattle.std.proofs.Common.{ℕ, List, ◌++◌, sym, ◌∙◌, ap₂, subst, take-append-drop}
 use Rattle.std.specs.Prelude.{All}
 use Rattle.row_codec.proofs.BodyLemmas.{IsPlain, puts_plain}
 use Rattle.row_codec.proofs.expanding.put_plain.Goals as goal

@@ -1,4 +1,4 @@
-use Rattle.std.proofs.Common.{◌≡◌, List, ℕ, w64, to_z, of_z, rules}
+use Rattle.std.proofs.Common.{◌≡◌, w64, to_z, of_z, rules}
 use Rattle.std.proofs.lemmas.Result.{on_ok_weaker}
 use Rattle.column_store.specs.Row.{row_of}
 use Rattle.row_codec.proofs.BodyLemmas.{spelled, spelling_body}

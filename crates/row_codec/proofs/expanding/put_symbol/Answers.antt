@@ -1,5 +1,5 @@
-use Rattle.std.proofs.Common.{◌≡◌, List, ℕ, ◌-◌, ◌++◌, length, get_or, take, drop, sym, ◌∙◌}
-use Rattle.row_codec.proofs.BodyLemmas.{byte_fits, first_left, slot_empty, slot_fits, slot_writing, symbol_puts_byte, symbol_puts_slot}
+use Rattle.std.proofs.Common.{◌-◌, length, get_or, take, drop}
+use Rattle.row_codec.proofs.BodyLemmas.{first_left, slot_empty, slot_writing, symbol_puts_byte, symbol_puts_slot}
 use Rattle.row_codec.proofs.expanding.put_symbol.Goals as goal
 
 pub unreachable-requires : goal.unreachable-requires

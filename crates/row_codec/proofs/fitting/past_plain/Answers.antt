@@ -1,4 +1,4 @@
-use Rattle.std.proofs.Common.{◌≡◌, List, ℕ, length, take, drop, sym, subst, take-append-drop}
+use Rattle.std.proofs.Common.{take, drop, sym, subst, take-append-drop}
 use Rattle.std.specs.Prelude.{◌↔◌}
 use Rattle.std.proofs.lemmas.List.{take_rest}
 use Rattle.row_codec.specs.StepsBody.{HasBody}

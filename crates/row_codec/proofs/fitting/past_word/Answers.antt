@@ -1,4 +1,4 @@
-use Rattle.std.proofs.Common.{◌≡◌, List, ℕ, ◌-◌, length, get_or, take, drop, sym, ◌∙◌}
+use Rattle.std.proofs.Common.{◌-◌, length, get_or, take, drop}
 use Rattle.row_codec.proofs.BodyLemmas.{byte_fits, first_left, slot_empty, slot_fits, slot_writing}
 use Rattle.row_codec.proofs.fitting.past_word.Goals as goal
 

@@ -1,4 +1,4 @@
-use Rattle.std.proofs.Common.{◌≡◌, ◌∙◌}
+use Rattle.std.proofs.Common.{◌∙◌}
 use Rattle.row_codec.proofs.OpeningLemmas.{fill_fits, fill_over}
 use Rattle.row_codec.proofs.opening.fill.Goals as goal
 

@@ -1,6 +1,5 @@
 use Rattle.std.proofs.Common.{◌≡◌, length, take, ◌∙◌, arith}
 use Rattle.std.proofs.lemmas.List.{length-take, length-take-le}
-use Rattle.row_codec.specs.StepsBody.{HasBody}
 use Rattle.row_codec.proofs.OpeningLemmas.{fills_all, fills_full, fills_has, fills_more, fills_self}
 use Rattle.row_codec.proofs.opening.fill_body.Goals as goal
 

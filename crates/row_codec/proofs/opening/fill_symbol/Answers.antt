@@ -1,4 +1,4 @@
-use Rattle.std.proofs.Common.{◌≡◌, List, ℕ, ◌-◌, length, get_or, take, drop}
+use Rattle.std.proofs.Common.{◌-◌, length, get_or, take, drop}
 use Rattle.row_codec.proofs.BodyLemmas.{first_left, slot_empty, slot_writing}
 use Rattle.row_codec.proofs.OpeningLemmas.{fills_byte, fills_slot}
 use Rattle.row_codec.proofs.opening.fill_symbol.Goals as goal
