@@ -198,11 +198,11 @@ by_one first end m unit P h =
 pub printed_moments : PrintedMoments
 printed_moments = record {
   patterns = λ k m printed. IsForm_bound k printed.1.0 printed.1.1;
-  to_millisecond = λ k low high m. by_thousand (neg_ℤ (pos 62_167_219_200_000)) (pos 253_402_300_800_000) m 1 (IsPrintable k m) (prints_range _ _ 1000 1000 0 5 k to_ms (omega arith) (omega arith) (omega arith) m) (inl refl);
-  to_second = λ k low high m. by_thousand (neg_ℤ (pos 62_167_219_200_000)) (pos 253_402_300_800_000) m 1000 (IsPrintable k m) (prints_range _ _ 1000 1_000_000 5 4 k to_s (omega arith) (omega arith) (omega arith) m) (inr refl);
+  milliseconds = λ k low high m. by_thousand (neg_ℤ (pos 62_167_219_200_000)) (pos 253_402_300_800_000) m 1 (IsPrintable k m) (prints_range _ _ 1000 1000 0 5 k to_ms (omega arith) (omega arith) (omega arith) m) (inl refl);
+  seconds = λ k low high m. by_thousand (neg_ℤ (pos 62_167_219_200_000)) (pos 253_402_300_800_000) m 1000 (IsPrintable k m) (prints_range _ _ 1000 1_000_000 5 4 k to_s (omega arith) (omega arith) (omega arith) m) (inr refl);
   short_years = λ m. by_thousand (pos 946_684_800_000) (pos 4_102_444_800_000) m 1000 (IsPrintable 10 m) (prints_range _ _ 1000 1_000_000 9 1 10 short_s (omega arith) (omega arith) (omega arith) m) (inr refl);
-  micro_to_microsecond = λ k low high m. by_one _ _ m 1 (IsPrintable k m) (prints_range _ _ 1 1 10 6 k micro_us (omega arith) (omega arith) (omega arith) m);
-  micro_to_millisecond = λ k low high m. by_one _ _ m 1000 (IsPrintable k m) (prints_range _ _ 1 1000 16 5 k micro_ms (omega arith) (omega arith) (omega arith) m);
-  micro_to_second = λ k low high m. by_one _ _ m 1_000_000 (IsPrintable k m) (prints_range _ _ 1 1_000_000 21 4 k micro_s (omega arith) (omega arith) (omega arith) m);
+  micro_microseconds = λ k low high m. by_one _ _ m 1 (IsPrintable k m) (prints_range _ _ 1 1 10 6 k micro_us (omega arith) (omega arith) (omega arith) m);
+  micro_milliseconds = λ k low high m. by_one _ _ m 1000 (IsPrintable k m) (prints_range _ _ 1 1000 16 5 k micro_ms (omega arith) (omega arith) (omega arith) m);
+  micro_seconds = λ k low high m. by_one _ _ m 1_000_000 (IsPrintable k m) (prints_range _ _ 1 1_000_000 21 4 k micro_s (omega arith) (omega arith) (omega arith) m);
   micro_short_years = λ m. by_one _ _ m 1_000_000 (IsPrintable 26 m) (prints_range _ _ 1 1_000_000 25 1 26 micro_short (omega arith) (omega arith) (omega arith) m);
 }

@@ -98,7 +98,7 @@ same_length k m l text other a b =
     let theirs = rw (IsForm_same k b.0 form b.1 a.1) at b.2 in
     ap length a.2.3 ∙ length-text_of form a.2.0 ∙ sym (length-text_of form theirs.0) ∙ sym (ap length theirs.3)
 
-abbrev IsByte : ℕ → Type 0
+abbrev pub IsByte : ℕ → Type 0
 IsByte b = IsTrue (is_stamp_byte b)
 
 and_split : (a b : Bool) → (a && b) ≡ true → (a ≡ true) × (b ≡ true)

@@ -4,10 +4,13 @@ use Rattle.std.specs.Prelude.{◌↔◌, if◌then◌else◌, nat_le}
 use Rattle.std.proofs.lemmas.Bool.{cases_lt}
 use Rattle.std.proofs.lemmas.Bool.Decides.{nat_tests}
 use Rattle.std.proofs.lemmas.List.{length-append}
-use Rattle.time_patterns.specs.Laws.{OneStampOf, ReadsBack, FrontTells, AlikeVersions}
+use Rattle.std.specs.List.{AllByRecursion}
+use Rattle.std.proofs.lemmas.List.Elements.{recursion_from_All}
+use Rattle.token_rules.specs.Tokens.{is_token_byte, IsDelimiter}
+use Rattle.time_patterns.specs.Laws.{OneStampOf, ReadsBack, FrontTells, FirstLineTells, AlikeVersions}
 use Rattle.time_patterns.specs.Stamps.{EndsStamp, Fits, HasStamp, IsPatternOf, IsStampOf, Prints}
 use Rattle.time_patterns.proofs.DigitLemmas.{append_split}
-use Rattle.time_patterns.proofs.LawLemmas.{one_moment, same_length, short_texts}
+use Rattle.time_patterns.proofs.LawLemmas.{IsByte, one_moment, same_length, short_texts}
 
 one_of : (version : ℕ) (line : List ℕ) (k j : ℕ) (m l : ℤ) (n o : ℕ) → IsStampOf version line k m n → IsStampOf version line j l o → (k ≡ j) × (m ≡ l) × (n ≡ o)
 one_of version line k j m l n o a b =
@@ -113,4 +116,50 @@ pub front_tells : FrontTells
 front_tells version line k m n = (
   has_stamp_alike version version (take 32 line) line (λ j h. h) (λ j h. h) (front_fits line) (fits_front line) k m n,
   has_stamp_alike version version line (take 32 line) (λ j h. h) (λ j h. h) (fits_front line) (front_fits line) k m n,
+)
+
+-- a text without a newline that stands before one stands before the first
+front_of_text : (text r line more : List ℕ) → AllByRecursion IsByte text → text ++ r ≡ line ++ 10 ∷ more → (rest : List ℕ) × (line ≡ text ++ rest) × (r ≡ rest ++ 10 ∷ more)
+front_of_text [] r line more all e = (line, refl, e)
+front_of_text (b ∷ text) r [] more all e =
+    let newline : b ≡ 10 = cc in
+    let bad : IsByte 10 = subst IsByte newline all.0 in
+    absurd (cc bad)
+front_of_text (b ∷ text) r (c ∷ line) more all e =
+    let tails : text ++ r ≡ line ++ 10 ∷ more = cc in
+    let first : b ≡ c = cc in
+    let found = front_of_text text r line more all.1 tails in
+    let whole : c ∷ line ≡ b ∷ (text ++ found.0) = cc (first, found.1) in
+    (found.0, whole, found.2)
+
+newline_delimits : IsDelimiter 10
+unfolding is_token_byte
+newline_delimits = refl
+
+ends_line : (rest more : List ℕ) → EndsStamp rest → EndsStamp (rest ++ 10 ∷ more)
+ends_line [] more ends = newline_delimits
+ends_line (b ∷ rest) more ends = ends
+
+ends_whole : (rest more : List ℕ) → EndsStamp (rest ++ 10 ∷ more) → EndsStamp rest
+ends_whole [] more ends = tt
+ends_whole (b ∷ rest) more ends = ends
+
+line_fits : (line more : List ℕ) (k : ℕ) (m : ℤ) (n : ℕ) → Fits line k m n → Fits (line ++ 10 ∷ more) k m n
+line_fits line more k m n fits =
+    let text = fits.0 in
+    let rest = fits.2.0 in
+    let whole : line ++ 10 ∷ more ≡ text ++ (rest ++ 10 ∷ more) = ap (λ l. l ++ 10 ∷ more) fits.2.1 ∙ append_assoc text rest (10 ∷ more) in
+    (text, fits.1, (rest ++ 10 ∷ more, whole, ends_line rest more fits.2.2, fits.2.3))
+
+fits_line : (line more : List ℕ) (k : ℕ) (m : ℤ) (n : ℕ) → Fits (line ++ 10 ∷ more) k m n → Fits line k m n
+fits_line line more k m n fits =
+    let text = fits.0 in
+    let bytes = recursion_from_All IsByte text (short_texts k m text fits.1).2 in
+    let found = front_of_text text fits.2.0 line more bytes (sym fits.2.1) in
+    (text, fits.1, (found.0, found.1, ends_whole found.0 more (subst EndsStamp found.2 fits.2.2), fits.2.3))
+
+pub first_line_tells : FirstLineTells
+first_line_tells version line more k m n = (
+  has_stamp_alike version version line (line ++ 10 ∷ more) (λ j h. h) (λ j h. h) (line_fits line more) (fits_line line more) k m n,
+  has_stamp_alike version version (line ++ 10 ∷ more) line (λ j h. h) (λ j h. h) (fits_line line more) (line_fits line more) k m n,
 )

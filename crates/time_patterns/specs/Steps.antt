@@ -1,9 +1,12 @@
 -- What is known on the way to a stamp.
-use Rattle.std.specs.Prelude.{◌≡◌, ℕ, ◌/◌, ◌%◌, ◌<◌, ◌≤◌, ◌⊎◌, List, ◌++◌, length, map, slice_index, Option, Some, None, ℤ}
+use Rattle.std.specs.Prelude.{◌≡◌, ◌≢◌, ℕ, ◌/◌, ◌%◌, ◌^◌, ◌<◌, ◌≤◌, ◌⊎◌, List, ◌++◌, length, map, slice_index, Option, Some, None, ℤ, pos, ◌≤ℤ◌}
 use Rattle.time_patterns.specs.declared.field.Field.{Field}
 use Rattle.time_patterns.specs.declared.form.Form.{Form}
 use Rattle.time_patterns.specs.declared.shape.Shape.{Shape}
-use Rattle.time_patterns.specs.Forms.{IsForm, tail_text}
+use Rattle.time_patterns.specs.declared.civil_time.CivilTime.{CivilTime}
+use Rattle.time_patterns.specs.CivilTime.{numbers_of}
+use Rattle.time_patterns.specs.Digits.{digits, field_text, fields_text, AreWithin}
+use Rattle.time_patterns.specs.Forms.{fields_of, fraction_text, IsForm, tail_text}
 use Rattle.time_patterns.specs.Stamps.{EndsStamp, Fits}
 
 -- the counts of digits of fields
@@ -14,6 +17,44 @@ counts_of fields = map (λ (f : Field). f.digits) fields
 abbrev pub digits_of : Option Field → ℕ
 digits_of None = 0
 digits_of (Some f) = f.digits
+
+-- the text is the field with a number that has no more than its digits, and the rest
+abbrev pub IsField : Field → List ℕ → ℕ → List ℕ → Type 0
+IsField field text x rest = (text ≡ field_text field x ++ rest) × (x < 10 ^ field.digits)
+
+abbrev pub LacksField : Field → List ℕ → Type 0
+LacksField field text = (x : ℕ) (rest : List ℕ) → text ≢ field_text field x ++ rest
+
+-- the whole text is the number
+abbrev pub IsNumber : List ℕ → ℕ → Type 0
+IsNumber text x = (text ≡ digits (length text) x) × (x < 10 ^ length text)
+
+-- the text is the fraction, if there is to be one, and the rest
+abbrev pub IsFraction : Option Field → List ℕ → ℕ → List ℕ → Type 0
+IsFraction fraction text x rest = (text ≡ fraction_text fraction x ++ rest) × (x < 10 ^ digits_of fraction)
+
+abbrev pub LacksFraction : Option Field → List ℕ → Type 0
+LacksFraction fraction text = (x : ℕ) (rest : List ℕ) → text ≢ fraction_text fraction x ++ rest
+
+-- the text is six fields with these numbers, and the rest
+abbrev pub AreFields : List Field → List ℕ → List ℕ → List ℕ → Type 0
+AreFields fields text numbers rest =
+    (text ≡ fields_text fields numbers ++ rest) × AreWithin (counts_of fields) numbers × (length numbers ≡ 6)
+
+abbrev pub LacksFields : List Field → List ℕ → Type 0
+LacksFields fields text = (numbers rest : List ℕ) → text ≢ fields_text fields numbers ++ rest
+
+-- no other shape's fields stand at the front of the line
+abbrev pub IsOnlyShape : List ℕ → Option Shape → Type 0
+IsOnlyShape line shape =
+    (s : Shape) (numbers rest : List ℕ) → line ≡ fields_text (fields_of s) numbers ++ rest → shape ≡ Some s
+
+-- the time is written with these numbers, the years from the first one on; no time is
+abbrev pub HasNumbers : ℕ → List ℕ → CivilTime → Type 0
+HasNumbers first numbers c = (pos first ≤ℤ c.date.year) × (numbers_of first c ≡ numbers)
+
+abbrev pub NoneHasNumbers : ℕ → List ℕ → Type 0
+NoneHasNumbers first numbers = (c : CivilTime) → pos first ≤ℤ c.date.year → numbers_of first c ≢ numbers
 
 -- as long as a stamp at least, and with `[` or a digit at the front
 abbrev pub MayBegin : List ℕ → Type 0

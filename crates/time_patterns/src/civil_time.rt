@@ -23,14 +23,15 @@ pub struct CivilTime {
 impl CivilTime {
     ghost use Rattle.time_patterns.specs.declared.civil_time.CivilTime.{CivilTime};
     ghost use Rattle.time_patterns.specs.CivilTime.{micros_of, numbers_of};
+    ghost use Rattle.time_patterns.specs.Steps.{HasNumbers, NoneHasNumbers};
 
     /// The time with these numbers: the years after `first_year`, the month, the day, the hour,
     /// the minute and the second. `None` where the calendar lacks the day or a day lacks the time.
     #[inline(always)]
     pub fn new(first_year: u16, numbers: [u32; 6]) -> Option<CivilTime>
         requires { first_year ≤ 9999 }
-        ensures some { IfSome result (λ c. (pos first_year ≤ℤ c.date.year) × (numbers_of first_year c ≡ numbers)) }
-        ensures none { IfNone result ((c : CivilTime) → pos first_year ≤ℤ c.date.year → numbers_of first_year c ≢ numbers) }
+        ensures some { IfSome result (HasNumbers first_year numbers) }
+        ensures none { IfNone result (NoneHasNumbers first_year numbers) }
     {
         let [years, month, day, hour, minute, second] = numbers;
         if years > 9999 || month > 12 || day > 31 || hour > 23 || minute > 59 || second > 59 {

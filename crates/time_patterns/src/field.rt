@@ -1,5 +1,6 @@
 //! One number of a stamp's text: read and written with all its digits.
 ghost use Rattle.time_patterns.specs.Digits.{digits, byte_text};
+ghost use Rattle.time_patterns.specs.Steps.{IsNumber};
 ghost use Rattle.std.specs.Prelude.{◌≡◌, ◌≢◌, ℕ, List, ◌+◌, ◌*◌, ◌^◌, ◌<◌, ◌≤◌, ◌++◌, length, take, drop, IfSome, IfNone};
 
 /// A number of a stamp's text: how many digits it has, and the byte that stands before it.
@@ -11,14 +12,15 @@ pub struct Field {
 
 impl Field {
     ghost use Rattle.time_patterns.specs.Digits.{field_text};
+    ghost use Rattle.time_patterns.specs.Steps.{IsField, LacksField};
 
     /// Reads the byte and the number at the front of the text, and gives what is left of it.
     /// `None` where they do not stand there.
     #[inline(always)]
     pub fn read<'a>(&self, text: &'a [u8]) -> Option<(u32, &'a [u8])>
         requires { self.now.digits ≤ 6 }
-        ensures some { IfSome result (λ r. (text.now ≡ field_text self.now r.0 ++ r.1.now) × (r.0 < 10 ^ self.now.digits)) }
-        ensures none { IfNone result ((x : ℕ) (rest : List ℕ) → text.now ≢ field_text self.now x ++ rest) }
+        ensures some { IfSome result (λ r. IsField self.now text.now r.0 r.1.now) }
+        ensures none { IfNone result (LacksField self.now text.now) }
     {
         let text = skip_byte(self.before, text)?;
         let (front, rest) = text.split_at_checked(usize::from(self.digits))?;
@@ -73,7 +75,7 @@ pub fn write_byte(byte: Option<u8>, out: &mut [u8], at: usize) -> usize
 #[inline(always)]
 fn read_digits(text: &[u8]) -> Option<u32>
     requires { length text.now ≤ 6 }
-    ensures some { IfSome result (λ x. (text.now ≡ digits (length text.now) x) × (x < 10 ^ length text.now)) }
+    ensures some { IfSome result (λ x. IsNumber text.now x) }
     ensures none { IfNone result ((x : ℕ) → text.now ≢ digits (length text.now) x) }
 {
     let mut number = 0;

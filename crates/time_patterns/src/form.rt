@@ -2,7 +2,7 @@
 ghost use Rattle.std.specs.Prelude.{◌≡◌, ◌≢◌, ℕ, ℤ, pos, ◌*ℤ◌, List, ◌+◌, ◌/◌, ◌%◌, ◌^◌, ◌<◌, ◌≤◌, ◌↔◌, ◌++◌, length, take, drop, IsTrue, IfSome, IfNone};
 ghost use Rattle.time_patterns.specs.Stamps.{EndsStamp};
 ghost use Rattle.time_patterns.specs.Forms.{fraction_text};
-ghost use Rattle.time_patterns.specs.Steps.{digits_of};
+ghost use Rattle.time_patterns.specs.Steps.{digits_of, IsFraction, LacksFraction};
 
 use crate::civil_time::CivilTime;
 use crate::field::{self, Field};
@@ -25,8 +25,8 @@ pub struct Form {
 #[inline(always)]
 fn read_fraction(fraction: Option<Field>, text: &[u8]) -> Option<(u32, &[u8])>
     requires { digits_of fraction ≤ 6 }
-    ensures some { IfSome result (λ r. (text.now ≡ fraction_text fraction r.0 ++ r.1.now) × (r.0 < 10 ^ digits_of fraction)) }
-    ensures none { IfNone result ((x : ℕ) (rest : List ℕ) → text.now ≢ fraction_text fraction x ++ rest) }
+    ensures some { IfSome result (λ r. IsFraction fraction text.now r.0 r.1.now) }
+    ensures none { IfNone result (LacksFraction fraction text.now) }
 {
     match fraction {
         Some(field) => field.read(text),

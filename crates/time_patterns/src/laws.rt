@@ -1,6 +1,6 @@
 //! What is true of all patterns, moments and lines: each law is the contract of a function that
 //! does nothing.
-ghost use Rattle.time_patterns.specs.Laws.{AlikeVersions, FrontTells, OneMoment, OneStampOf, OneText, PrintedMoments, ReadsBack, ShortTexts};
+ghost use Rattle.time_patterns.specs.Laws.{AlikeVersions, FirstLineTells, FrontTells, OneMoment, OneStampOf, OneText, PrintedMoments, ReadsBack, ShortTexts};
 
 /// No two moments share a text of one pattern.
 pub fn text_tells_moment()
@@ -32,6 +32,11 @@ pub fn stamp_texts_are_short()
 /// The stamp of a message is that of its first 32 bytes.
 pub fn front_tells_stamp()
     ensures { FrontTells }
+{}
+
+/// The stamp of a message is that of its first line.
+pub fn first_line_tells_stamp()
+    ensures { FirstLineTells }
 {}
 
 /// Versions 1 and 2 have the same stamps.

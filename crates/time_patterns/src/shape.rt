@@ -2,7 +2,7 @@
 ghost use Rattle.std.specs.Prelude.{◌≡◌, ◌≢◌, ℕ, List, ◌+◌, ◌≤◌, ◌++◌, length, take, drop, All, Some, IfSome, IfNone};
 ghost use Rattle.time_patterns.specs.declared.field.Field.{Field};
 ghost use Rattle.time_patterns.specs.Digits.{AreWithin, fields_text};
-ghost use Rattle.time_patterns.specs.Steps.{counts_of, MayBegin};
+ghost use Rattle.time_patterns.specs.Steps.{AreFields, IsOnlyShape, LacksFields, MayBegin};
 
 use crate::field::Field;
 
@@ -110,7 +110,7 @@ impl Shape {
     #[inline(always)]
     pub fn of(line: &[u8]) -> Option<Shape>
         ensures may { IfSome result (λ _. MayBegin line.now) }
-        ensures only { (s : Shape) (xs rest : List ℕ) → line.now ≡ fields_text (fields_of s) xs ++ rest → result ≡ Some s }
+        ensures only { IsOnlyShape line.now result }
     {
         if line.len() < SHORTEST {
             return None;
@@ -137,8 +137,8 @@ impl Shape {
     /// shape does not stand there.
     #[inline(always)]
     pub fn read<'a>(self, text: &'a [u8]) -> Option<([u32; 6], &'a [u8])>
-        ensures some { IfSome result (λ r. (text.now ≡ fields_text (fields_of self) r.0 ++ r.1.now) × AreWithin (counts_of (fields_of self)) r.0 × (length r.0 ≡ 6)) }
-        ensures none { IfNone result ((xs rest : List ℕ) → text.now ≢ fields_text (fields_of self) xs ++ rest) }
+        ensures some { IfSome result (λ r. AreFields (fields_of self) text.now r.0 r.1.now) }
+        ensures none { IfNone result (LacksFields (fields_of self) text.now) }
     {
         match self {
             Shape::Dashed => read_numbers(&Shape::Dashed.fields(), text),
@@ -154,8 +154,8 @@ impl Shape {
 #[inline(always)]
 fn read_numbers<'a>(fields: &[Field; 6], text: &'a [u8]) -> Option<([u32; 6], &'a [u8])>
     requires short { All (λ (f : Field). f.digits ≤ 4) fields.now }
-    ensures some { IfSome result (λ r. (text.now ≡ fields_text fields.now r.0 ++ r.1.now) × AreWithin (counts_of fields.now) r.0 × (length r.0 ≡ 6)) }
-    ensures none { IfNone result ((xs rest : List ℕ) → text.now ≢ fields_text fields.now xs ++ rest) }
+    ensures some { IfSome result (λ r. AreFields fields.now text.now r.0 r.1.now) }
+    ensures none { IfNone result (LacksFields fields.now text.now) }
 {
     let mut numbers = [0; 6];
     let mut rest = text;

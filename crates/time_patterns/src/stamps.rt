@@ -35,7 +35,8 @@ struct Tail<'a> {
 #[inline(always)]
 fn read_form<'a>(form: &Form, shape: Shape, text: &'a [u8]) -> Option<(u32, &'a [u8])>
     requires { IsSound form.now }
-    ensures some { IfSome result (λ r. (form.now.shape ≡ shape) × IsTail form.now text.now r.0 r.1.now) }
+    ensures some { IfSome result (λ r. (form.now.shape ≡ shape)
+        × IsTail form.now text.now r.0 r.1.now) }
     ensures none { IfNone result (form.now.shape ≡ shape → LacksTail form.now text.now) }
 {
     if form.shape != shape {
@@ -49,7 +50,8 @@ fn read_form<'a>(form: &Form, shape: Shape, text: &'a [u8]) -> Option<(u32, &'a 
 #[inline(always)]
 fn find_tail(shape: Shape, first: u8, end: u8, text: &[u8]) -> Option<Tail<'_>>
     requires { (1 ≤ first) × (end ≤ 27) }
-    ensures some { IfSome result (λ r. IsFirstTail shape first end text.now r.pattern r.tick r.microsecond r.rest.now) }
+    ensures some { IfSome result (λ r. IsFirstTail shape first end text.now
+        r.pattern r.tick r.microsecond r.rest.now) }
     ensures none { IfNone result (LackTails shape first end text.now) }
 {
     for pattern in first..end {
