@@ -3,7 +3,7 @@ use Rattle.std.proofs.Common.{◌≡◌, ◌≢◌, ◌↔◌, ◌≤◌, ◌<�
 use Rattle.wild_match.specs.Matches.{Match, OfSomeRest}
 use Rattle.wild_match.specs.declared.pattern.Item.{Item}
 use Rattle.wild_match.specs.declared.pattern.Item.TheVariants.{Byte, One, Many}
-use Rattle.query_plan.specs.Letters.{Front, here, byte, any, Stops, GoesOn}
+use Rattle.query_plan.specs.StepsOfMatching.{Front, here, byte, any, Stops, GoesOn}
 
 pub match_front : {p q : List Item} {s u : List ℕ} → Front p s q u → Match p s → Match q u
 match_front here m = m

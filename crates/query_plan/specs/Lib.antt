@@ -1,6 +1,7 @@
 pub mod Cutting
 pub mod Laws
-pub mod Letters
+pub mod Needs
 pub mod Pieces
 pub mod Readings
-pub mod Needs
+pub mod StepsOfMatching
+pub mod Symbols

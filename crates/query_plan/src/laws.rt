@@ -1,6 +1,8 @@
 //! Laws of readings and of the pattern that a search is planned over. The functions do nothing: what
 //! they promise holds of every pattern and every message.
-ghost use Rattle.query_plan.specs.Laws.{ConstantsSuffice, NeededWordsAreBrought, ReadingsAreExact, SearchesAreSearched, SkeletonIsNeeded, WideIsExact, WideIsWidened, WideIsWider};
+ghost use Rattle.query_plan.specs.Laws.{ConstantsSuffice, NeededWordsAreBrought, SkeletonIsNeeded};
+ghost use Rattle.query_plan.specs.Laws.{ReadingsAreExact, SearchesAreSearched, WideIsExact};
+ghost use Rattle.query_plan.specs.Laws.{WideIsWidened, WideIsWider};
 
 use logtype_text::parts_are_cut;
 

@@ -2,7 +2,7 @@
 ghost use Rattle.std.specs.Prelude.{◌≡◌, ◌↔◌, ℕ, List, [], ◌∷◌, IfOk, IfErr, IfSome, IfNone, IsTrue};
 ghost use Rattle.wild_match.specs.Matches.{Match};
 ghost use Rattle.wild_match.specs.declared.pattern.Item.TheVariants.{Many};
-ghost use Rattle.query_plan.specs.Letters.{Front, Stops, GoesOn};
+ghost use Rattle.query_plan.specs.StepsOfMatching.{Front, Stops, GoesOn};
 
 use wild_match::Item;
 

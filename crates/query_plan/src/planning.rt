@@ -2,7 +2,7 @@
 ghost use Rattle.std.specs.Prelude.{◌≡◌, ◌↔◌, ◌++◌, ℕ, List, IfOk, IsTrue};
 ghost use Rattle.logtype_text.specs.Parts.{AreParts, joined};
 ghost use Rattle.wild_match.specs.Matches.{Match};
-ghost use Rattle.query_plan.specs.Letters.{parts};
+ghost use Rattle.query_plan.specs.Symbols.{parts};
 ghost use Rattle.query_plan.specs.Laws.{IsWidened};
 ghost use Rattle.query_plan.specs.Needs.{needed_variables_of, skeleton_of};
 ghost use Rattle.query_plan.specs.Pieces.{flat, wide_pieces, Free, IsCut, open_count, needed_of};

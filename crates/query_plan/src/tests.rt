@@ -1,3 +1,5 @@
+ghost use Rattle.std.specs.Prelude.{◌<◌};
+
 use crate::symbols::SymbolLetters;
 use crate::{
     Piece, Plan, VarSymbol, VarSymbols, constants_suffice, matches_letters, needs_are_brought,

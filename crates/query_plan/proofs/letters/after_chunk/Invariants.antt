@@ -1,5 +1,5 @@
 use Rattle.std.proofs.Common.{length}
-use Rattle.query_plan.specs.Letters.{Front}
+use Rattle.query_plan.specs.StepsOfMatching.{Front}
 use Rattle.query_plan.proofs.letters.after_chunk.Given as goal
 
 -- what was passed over matched

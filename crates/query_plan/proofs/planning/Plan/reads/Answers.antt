@@ -1,7 +1,7 @@
 use Rattle.std.proofs.Common.{rules, ◌≡◌, ◌↔◌, ◌++◌, IsTrue}
 use Rattle.logtype_text.specs.Parts.{joined}
 use Rattle.wild_match.specs.Matches.{Match}
-use Rattle.query_plan.specs.Letters.{parts}
+use Rattle.query_plan.specs.Symbols.{parts}
 use Rattle.query_plan.specs.Pieces.{flat}
 use Rattle.query_plan.proofs.ReadsLemmas.{read_exactly}
 use Rattle.query_plan.proofs.planning.Plan.reads.Goals as goal

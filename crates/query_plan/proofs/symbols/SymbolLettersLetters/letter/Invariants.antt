@@ -1,6 +1,6 @@
 use Rattle.std.proofs.Common.{◌≡◌, ◌++◌, length}
 use Rattle.logtype_text.specs.Parts.{joined}
-use Rattle.query_plan.specs.Letters.{parts}
+use Rattle.query_plan.specs.Symbols.{parts}
 use Rattle.query_plan.proofs.symbols.SymbolLettersLetters.letter.Given as goal
 
 -- no byte is lost

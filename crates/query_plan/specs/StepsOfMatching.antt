@@ -1,11 +1,8 @@
--- Matching a text that is read from its front, a byte at a time.
-use Rattle.std.specs.Prelude.{◌↔◌, ℕ, ◌+◌, ◌<◌, List, [], ◌∷◌, length, map}
+-- What the loops of the matcher over letters keep.
+use Rattle.std.specs.Prelude.{◌↔◌, ℕ, ◌+◌, ◌<◌, List, [], ◌∷◌, length}
 use Rattle.wild_match.specs.Matches.{Match}
 use Rattle.wild_match.specs.declared.pattern.Item.{Item}
 use Rattle.wild_match.specs.declared.pattern.Item.TheVariants.{Byte, One, Many}
-use Rattle.logtype_text.specs.Parts.{Part, Constant, Variable}
-use Rattle.query_plan.specs.declared.symbols.VarSymbol.{VarSymbol}
-use Rattle.query_plan.specs.declared.symbols.VarSymbol.TheVariants.{Byte as Plain, Var}
 
 -- Items at the front of a pattern, none of them Many, match as many bytes at the front of a text: what
 -- is left of both.
@@ -25,11 +22,3 @@ Stops (Many ∷ q) = Unit {0}
 pub record GoesOn (p : List Item) (s : List ℕ) (q : List Item) (u : List ℕ) : Type 0 where
   pub decides : Match (Many ∷ p) s ↔ Match (Many ∷ q) u
   pub shorter : length q + length u < length p + length s
-
--- a symbol as a part of a body
-abbrev pub part_of : VarSymbol → Part
-part_of (Plain b) = Constant b
-part_of (Var kind text) = Variable kind text
-
-abbrev pub parts : List VarSymbol → List Part
-parts symbols = map part_of symbols
