@@ -3,14 +3,13 @@ use Rattle.std.proofs.Common.{◌≡◌, ◌<◌, ℕ, zero, suc, List, [], ◌�
 use Rattle.std.proofs.lemmas.List.{append_assoc}
 use Rattle.std.specs.Prelude.{Bool, true, false, not, ◌&&◌, Option, Some, None, slice_index, if◌then◌else◌}
 use Rattle.std.specs.List.{list_any}
-use Rattle.std.specs.Option.{is_some}
 use Rattle.token_rules.specs.Tokens.{IsDelimiter, is_variable}
 use Rattle.wild_match.specs.declared.pattern.Item.{Item}
 use Rattle.wild_match.specs.declared.pattern.Item.TheVariants.{Byte, Many}
 use Rattle.query_plan.specs.declared.pieces.Piece.{Piece}
 use Rattle.query_plan.specs.declared.pieces.Piece.TheVariants.{Gap, Mark, Word}
 use Rattle.query_plan.specs.Pieces.{Free, After, Inside, IsInner, IsSomeInner, IsCut, EndsWord, bytes, is_open, is_needed, is_stamp_token_byte, stays, thin, less, merge, one_gap, pieces, wide_pieces}
-use Rattle.query_plan.specs.Cutting.{side, side_of, delimiter_of, variable_first, bones_first}
+use Rattle.query_plan.specs.Cutting.{side_of, delimiter_of, variable_first, bones_first}
 use Rattle.query_plan.specs.Needs.{needed_variables_of, is_behind, back_part, bone, token_bones, bones, skeleton_of}
 use Rattle.query_plan.proofs.CompleteLemmas.{clash}
 use Rattle.query_plan.proofs.CutLemmas.{pieces_cut}

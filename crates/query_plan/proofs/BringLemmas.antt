@@ -9,16 +9,15 @@ use Rattle.logtype_text.specs.Parts.{Part, Constant, Variable}
 use Rattle.logtype_text.specs.Cut.{plains}
 use Rattle.wild_match.specs.Matches.{Match}
 use Rattle.wild_match.specs.declared.pattern.Item.{Item}
-use Rattle.wild_match.specs.declared.pattern.Item.TheVariants.{Byte, Many}
 use Rattle.query_plan.specs.declared.pieces.Piece.{Piece}
 use Rattle.query_plan.specs.declared.pieces.Piece.TheVariants.{Gap, Mark, Word}
 use Rattle.query_plan.specs.Pieces.{Side, Free, After, Inside, bytes, IsCut, is_needed, needed_of}
 use Rattle.query_plan.specs.Needs.{byte_of, needed_variables_of, Owns, Shows, Brings}
-use Rattle.query_plan.specs.Readings.{Term, Letter, Star, Held, letters, MayBe, Place, AtWord, AtGap, Goes, shut, last, wide, more, skip, word, lead, Reads, finish, star, mark, text, held, Accepts, nothing, letter, pass, eat, fill}
-use Rattle.query_plan.proofs.MatchLemmas.{Steps, ended, byte, steps}
+use Rattle.query_plan.specs.Readings.{Term, Star, MayBe, Place, AtWord, Goes, shut, last, wide, more, skip, word, lead, Reads, finish, star, mark, text, held, Accepts, letter, pass, eat, fill}
+use Rattle.query_plan.proofs.MatchLemmas.{Steps, byte, steps}
 use Rattle.query_plan.proofs.NeededLemmas.{needed_inside}
 use Rattle.query_plan.proofs.BonesLemmas.{variables_inside, cut_behind}
-use Rattle.query_plan.proofs.NeedsLemmas.{Behind, accepts_letters}
+use Rattle.query_plan.proofs.NeedsLemmas.{accepts_letters}
 
 -- the parts are the last ones of all
 pub record EndsAt (all parts : List Part) : Type 0 where

@@ -1,22 +1,17 @@
 -- What a reading that accepts says of the constant bytes and of the needed words.
-use Rattle.std.proofs.Common.{◌≡◌, ℕ, List, [], ◌∷◌, ◌++◌, refl, sym, ap, subst, ◌∙◌, inl, inr, ⊎_elim}
-use Rattle.std.proofs.lemmas.List.{append_assoc}
-use Rattle.std.specs.Prelude.{Bool, true, false, Option, Some, None, if◌then◌else◌}
-use Rattle.std.specs.List.{AllZip}
-use Rattle.token_rules.specs.Tokens.{IsDelimiter, is_variable}
+use Rattle.std.proofs.Common.{◌≡◌, ℕ, List, [], ◌∷◌, ◌++◌, refl, sym, ap, subst, ◌∙◌}
+use Rattle.std.specs.Prelude.{true, false}
 use Rattle.logtype_text.specs.Parts.{Part, Constant, Variable}
 use Rattle.logtype_text.specs.Cut.{plains}
-use Rattle.wild_match.specs.Matches.{Match}
 use Rattle.wild_match.specs.declared.pattern.Item.{Item}
-use Rattle.wild_match.specs.declared.pattern.Item.TheVariants.{Byte, One, Many}
+use Rattle.wild_match.specs.declared.pattern.Item.TheVariants.{Many}
 use Rattle.query_plan.specs.declared.pieces.Piece.{Piece}
 use Rattle.query_plan.specs.declared.pieces.Piece.TheVariants.{Gap, Mark, Word}
-use Rattle.query_plan.specs.Pieces.{Side, Free, After, Inside, bytes, IsCut, is_open, is_needed, needed_of}
-use Rattle.query_plan.specs.Needs.{byte_of, bone, token_bones, bones, constants, needed_variables_of, Owns, Shows, Brings}
-use Rattle.query_plan.specs.Readings.{Term, Letter, Star, Held, letters, MayBe, Place, AtWord, AtGap, Goes, shut, last, wide, more, skip, word, lead, Reads, finish, star, mark, text, held, Accepts, nothing, letter, pass, eat, fill}
-use Rattle.query_plan.proofs.MatchLemmas.{Steps, ended, byte, drops, takes, steps, many_more, bytes_match}
-use Rattle.query_plan.proofs.NeededLemmas.{needed_inside}
-use Rattle.query_plan.proofs.BonesLemmas.{variables_inside, bones_inside}
+use Rattle.query_plan.specs.Pieces.{Side, Free, After, Inside, is_open}
+use Rattle.query_plan.specs.Needs.{byte_of, bone, token_bones, bones, constants}
+use Rattle.query_plan.specs.Readings.{Term, Star, letters, MayBe, Place, AtWord, Goes, shut, last, wide, more, skip, word, Reads, finish, star, mark, text, held, Accepts, nothing, letter, pass, eat, fill}
+use Rattle.query_plan.proofs.MatchLemmas.{Steps, ended, byte, drops, takes, many_more, bytes_match}
+use Rattle.query_plan.proofs.BonesLemmas.{bones_inside}
 
 -- the parts behind the bytes of a token
 pub record Behind (t : List ℕ) (r : List Term) (parts : List Part) : Type 0 where

@@ -1,12 +1,12 @@
 -- Constant bytes that suffice for a match.
-use Rattle.std.proofs.Common.{◌≡◌, ◌≢◌, ℕ, List, [], ◌∷◌, ◌++◌, refl, sym}
+use Rattle.std.proofs.Common.{ℕ, List, [], ◌∷◌, ◌++◌, refl}
 use Rattle.logtype_text.specs.Parts.{Part, Constant, Variable, joined}
 use Rattle.wild_match.specs.Matches.{Match}
 use Rattle.wild_match.specs.declared.pattern.Item.{Item}
 use Rattle.wild_match.specs.declared.pattern.Item.TheVariants.{Byte, One, Many}
 use Rattle.query_plan.specs.Needs.{marked}
 use Rattle.query_plan.specs.Laws.{NoOne, HasNot}
-use Rattle.query_plan.proofs.MatchLemmas.{Steps, ended, byte, any, drops, takes, steps, stepped, many_more}
+use Rattle.query_plan.proofs.MatchLemmas.{Steps, byte, drops, takes, steps, stepped, many_more}
 
 many_suffice : (m : ℕ) (p : List Item) → ((parts : List Part) → Steps p (marked m parts) → Steps p (joined parts))
     → (parts : List Part) → Steps (Many ∷ p) (marked m parts) → Steps (Many ∷ p) (joined parts)

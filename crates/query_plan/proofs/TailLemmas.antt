@@ -9,20 +9,20 @@ use Rattle.time_patterns.specs.Laws.{is_stamp_byte}
 use Rattle.logtype_text.specs.Parts.{Part}
 use Rattle.wild_match.specs.Matches.{Match}
 use Rattle.wild_match.specs.declared.pattern.Item.{Item}
-use Rattle.wild_match.specs.declared.pattern.Item.TheVariants.{Byte, Many}
+use Rattle.wild_match.specs.declared.pattern.Item.TheVariants.{Many}
 use Rattle.query_plan.specs.declared.pieces.Piece.{Piece}
 use Rattle.query_plan.specs.declared.pieces.Piece.TheVariants.{Gap, Mark, Word}
 use Rattle.query_plan.specs.Pieces.{Side, Free, After, Inside, IsInner, IsSomeInner, IsCut, bytes, flat, is_open, is_needed, is_stamp_token_byte, needed_of, wide, wide_pieces}
 use Rattle.query_plan.specs.Needs.{byte_of, needed_variables_of, is_foreign, foreign_next, is_behind, back_part, bone, token_bones, bones, skeleton_of, constants, Brings}
 use Rattle.query_plan.specs.Readings.{Rest, now, same, past, stay, IsBodyBehind}
 use Rattle.query_plan.specs.Laws.{IsSearched}
-use Rattle.query_plan.proofs.MatchLemmas.{Steps, byte, drops, takes, steps, stepped, match_rest, many_more}
+use Rattle.query_plan.proofs.MatchLemmas.{Steps, byte, drops, takes, steps, stepped, match_rest}
 use Rattle.query_plan.proofs.WideLemmas.{searched_is_widened}
 use Rattle.query_plan.proofs.CompleteLemmas.{Symbols, complete, clash}
 use Rattle.query_plan.proofs.ExactLemmas.{BeginsOutside, begins_outside, begins_body}
 use Rattle.query_plan.proofs.BonesLemmas.{wide_cut}
 use Rattle.query_plan.proofs.NeedsLemmas.{read_bones}
-use Rattle.query_plan.proofs.BringLemmas.{EndsAt, read_brings}
+use Rattle.query_plan.proofs.BringLemmas.{read_brings}
 
 stamp_split : (r a b c d e f g h i j : Bool) → (r || a || b || c || d || e || f || g || h || i || j) ≡ true
     → ((r || a || b || c || d) ≡ true) ⊎ ((e ≡ true) ⊎ ((f ≡ true) ⊎ ((g ≡ true) ⊎ ((h ≡ true) ⊎ ((i ≡ true) ⊎ (j ≡ true))))))

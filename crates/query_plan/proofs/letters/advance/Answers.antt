@@ -1,6 +1,5 @@
-use Rattle.std.proofs.Common.{rules, ◌≡◌, ◌≢◌, ℕ, [], ◌∷◌}
-use Rattle.wild_match.specs.declared.pattern.Item.TheVariants.{Byte, Many}
-use Rattle.query_plan.specs.StepsOfMatching.{Front, here}
+use Rattle.std.proofs.Common.{rules}
+use Rattle.query_plan.specs.StepsOfMatching.{Front}
 use Rattle.query_plan.proofs.LetterLemmas.{all_over, many_behind, byte_front, any_front, chunk_found, found_over, found_before}
 use Rattle.query_plan.proofs.letters.advance.Goals as goal
 use Rattle.query_plan.proofs.letters.advance.Goals.{in-Byte+else-byte-letter, in_default-first}

@@ -1,6 +1,5 @@
-use Rattle.std.proofs.Common.{rules, ◌≡◌, ◌≢◌, ℕ, [], ◌∷◌}
-use Rattle.wild_match.specs.declared.pattern.Item.TheVariants.{Byte, Many}
-use Rattle.query_plan.specs.StepsOfMatching.{Front, here}
+use Rattle.std.proofs.Common.{rules}
+use Rattle.query_plan.specs.StepsOfMatching.{here}
 use Rattle.query_plan.proofs.LetterLemmas.{front_then, no_letter, other_letter, byte_front, any_front}
 use Rattle.query_plan.proofs.letters.after_chunk.Goals as goal
 

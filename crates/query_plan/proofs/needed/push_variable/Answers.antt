@@ -1,5 +1,4 @@
-use Rattle.std.proofs.Common.{rules, ◌≡◌, ◌∷◌}
-use Rattle.query_plan.specs.declared.pieces.Piece.TheVariants.{Word}
+use Rattle.std.proofs.Common.{rules}
 use Rattle.query_plan.proofs.BonesLemmas.{some_inner_at, word_inner}
 use Rattle.query_plan.proofs.needed.push_variable.Goals as goal
 

@@ -1,4 +1,4 @@
-use Rattle.std.proofs.Common.{rules, ◌≡◌, ◌↔◌, ◌++◌, IsTrue}
+use Rattle.std.proofs.Common.{rules, ◌↔◌, ◌++◌, IsTrue}
 use Rattle.logtype_text.specs.Parts.{joined}
 use Rattle.wild_match.specs.Matches.{Match}
 use Rattle.query_plan.specs.Symbols.{parts}
