@@ -99,7 +99,8 @@ impl<S: Source> Cutter<S> {
             → Sees (record { given = self.old.given; max_line = self.old.max_line; max_lines = self.old.max_lines })
             self.new.pending (S.left self.new.source)
             (Rose (S.faults self.old.source) (S.faults self.new.source)) result }
-        ensures steady { result ≢ Looked.Refused Cut.ReadFault → S.faults self.new.source ≡ S.faults self.old.source }
+        ensures steady { result ≢ Looked.Refused Cut.ReadFault
+            → S.faults self.new.source ≡ S.faults self.old.source }
 
         // what stays
         ensures left { left_of S.left self.new ≡ left_of S.left self.old }

@@ -49,8 +49,10 @@ fn further_line<T: Heads>(
     requires reaches { Reaches (length (drop from window.now.held)) next }
     requires from_in { from ≤ max_line + 1 }
     requires limit { max_line ≤ MAX_LINE_LEN }
-    ensures goes { IfSome result (IsFurther (Passes (T.test heads.now)) max_line window.now.held from next) }
-    ensures apart { IfNone result (IsApart (Passes (T.test heads.now)) max_line window.now.held from next) }
+    ensures goes { IfSome result
+        (IsFurther (Passes (T.test heads.now)) max_line window.now.held from next) }
+    ensures apart { IfNone result
+        (IsApart (Passes (T.test heads.now)) max_line window.now.held from next) }
 {
     let NextLine::Whole { len, ended } = next else {
         return None;
@@ -79,12 +81,14 @@ fn join_lines<S: Source, T: Heads>(
     requires limit { max_line ≤ MAX_LINE_LEN }
 
     // what stays
-    ensures left { bytes_left window.new.held (S.left source.new) ≡ bytes_left window.old.held (S.left source.old) }
+    ensures left { bytes_left window.new.held (S.left source.new)
+        ≡ bytes_left window.old.held (S.left source.old) }
     ensures size { window.new.size ≡ window.old.size }
     ensures name { S.name source.new ≡ S.name source.old }
 
     // by the answer
-    ensures joined { IfOk result (IsInFront (Passes (T.test heads.now)) max_line window.new.held (S.left source.new)) }
+    ensures joined { IfOk result
+        (IsInFront (Passes (T.test heads.now)) max_line window.new.held (S.left source.new)) }
     ensures torn { OnErr result (IsTornGroup (Passes (T.test heads.now)) max_line window.new.held) }
     ensures cause { Counts (S.faults source.old) (S.faults source.new) result }
 {
@@ -130,12 +134,14 @@ pub(crate) fn message_from<S: Source, T: Heads>(
     requires limit { max_line ≤ MAX_LINE_LEN }
 
     // what stays
-    ensures left { bytes_left window.new.held (S.left source.new) ≡ bytes_left window.old.held (S.left source.old) }
+    ensures left { bytes_left window.new.held (S.left source.new)
+        ≡ bytes_left window.old.held (S.left source.old) }
     ensures size { window.new.size ≡ window.old.size }
     ensures name { S.name source.new ≡ S.name source.old }
 
     // by the answer
-    ensures joined { IfOk result (IsInFront (Passes (T.test heads.now)) max_line window.new.held (S.left source.new)) }
+    ensures joined { IfOk result
+        (IsInFront (Passes (T.test heads.now)) max_line window.new.held (S.left source.new)) }
     ensures torn { OnErr result (IsTornGroup (Passes (T.test heads.now)) max_line window.new.held) }
     ensures cause { Counts (S.faults source.old) (S.faults source.new) result }
 {

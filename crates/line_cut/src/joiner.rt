@@ -72,8 +72,8 @@ impl<S: Source, T> Model for Joiner<S, T> {
       behind = c.behind;
     } };
 
-    ghost invariant = { λ c. (c.message ≤ c.step) × (c.step ≤ length c.window.held) × (c.max_line * 2 + 1 < c.window.size)
-        × (c.max_line ≤ MAX_LINE_LEN) × (c.given ≤ c.max_messages) × (c.max_messages ≤ MAX_MESSAGES)
+    ghost invariant = { λ c. (c.message ≤ c.step) × (c.step ≤ length c.window.held)
+        × (c.max_line * 2 + 1 < c.window.size) × (c.max_line ≤ MAX_LINE_LEN) × (c.given ≤ c.max_messages) × (c.max_messages ≤ MAX_MESSAGES)
         × (c.lines ≤ c.given * (MAX_LINE_LEN + 1))
         × IfSome c.behind (Stands c.max_line (drop c.step c.window.held) (S.left c.source)) };
 }
@@ -166,7 +166,7 @@ impl<S: Source, T: Heads + Drop> Joiner<S, T> {
         requires room { self.old.cutter.given < self.old.cutter.max_lines }
         ensures { self.new ≡ at_message joined self.old }
     {
-        // behind `look_ahead` this skips nothing; here it is what puts the message at the window's front
+        // behind `look_ahead` this skips nothing; here it puts the message at the window's front
         self.window.consume(self.step);
         self.message = joined.len;
         self.step = joined.len + usize::from(joined.ended);
@@ -199,7 +199,8 @@ impl<S: Source, T: Heads + Drop> Joiner<S, T> {
         ensures refused { IfErr result (RefusedToJoin S.left S.faults T.test self.old self.new) }
         ensures memory { IsErrOf result Cut.OutOfMemory → self.old.cutter.progress ≢ Progress.Open }
         ensures counts { self.old.cutter.progress ≡ Progress.Open
-            → CountsOf Cut.ReadFault (S.faults self.old.cutter.source) (S.faults self.new.cutter.source) result }
+            → CountsOf Cut.ReadFault (S.faults self.old.cutter.source)
+            (S.faults self.new.cutter.source) result }
 
         // what stays
         ensures stays { JoinerStays S.name S.faults self.old self.new }
@@ -246,7 +247,8 @@ impl<S: Source, T: Heads + Drop> Joiner<S, T> {
         // causes
         ensures refused { IfErr result (RefusedToJoin S.left S.faults T.test self.old self.new) }
         ensures counts { self.old.cutter.progress ≡ Progress.Open
-            → CountsOf Cut.ReadFault (S.faults self.old.cutter.source) (S.faults self.new.cutter.source) result }
+            → CountsOf Cut.ReadFault (S.faults self.old.cutter.source)
+            (S.faults self.new.cutter.source) result }
 
         // what stays
         ensures stays { JoinerStays S.name S.faults self.old self.new }

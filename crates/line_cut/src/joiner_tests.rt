@@ -127,7 +127,7 @@ const ROWS: &[Row<'static>] = &[
         messages: &[(b"*a", true), (b"*b", false)],
         end: Ok(()),
     },
-    // a message has no more bytes than a line may; behind one that was cut so each line stands alone
+    // a message has no more bytes than a line may; the lines behind it stand alone then
     Row {
         bytes: b"*a\nbc\nd\ne\n",
         max_line: 5,

@@ -56,7 +56,8 @@ pub(crate) fn look<S: Source>(
     requires count { given ≤ max_lines }
     ensures sees { Sees (record { given = given; max_line = max_line; max_lines = max_lines }) window.new.held
         (S.left source.new) (Rose (S.faults source.old) (S.faults source.new)) result }
-    ensures steady { result ≢ Looked.Refused Cut.ReadFault → S.faults source.new ≡ S.faults source.old }
+    ensures steady { result ≢ Looked.Refused Cut.ReadFault
+        → S.faults source.new ≡ S.faults source.old }
 
     // what stays
     ensures left { bytes_left window.new.held (S.left source.new) ≡ bytes_left window.old.held (S.left source.old) }

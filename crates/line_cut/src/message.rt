@@ -42,12 +42,15 @@ pub(crate) fn look_for_message<S: Source, T: Heads>(
     requires room { max_line * 2 + 1 < window.old.size }
     requires limit { max_line ≤ MAX_LINE_LEN }
     requires known { IfSome behind (Stands max_line window.old.held (S.left source.old)) }
-    ensures finds { Finds (Passes (T.test heads.now)) number max_line may_give behind window.new.held
-        (S.left source.new) (Rose (S.faults source.old) (S.faults source.new)) result }
-    ensures steady { result ≢ Seen.Refused Cut.ReadFault → S.faults source.new ≡ S.faults source.old }
+    ensures finds { Finds (Passes (T.test heads.now)) number max_line may_give behind
+        window.new.held (S.left source.new)
+        (Rose (S.faults source.old) (S.faults source.new)) result }
+    ensures steady { result ≢ Seen.Refused Cut.ReadFault
+        → S.faults source.new ≡ S.faults source.old }
 
     // what stays
-    ensures left { bytes_left window.new.held (S.left source.new) ≡ bytes_left window.old.held (S.left source.old) }
+    ensures left { bytes_left window.new.held (S.left source.new)
+        ≡ bytes_left window.old.held (S.left source.old) }
     ensures size { window.new.size ≡ window.old.size }
     ensures name { S.name source.new ≡ S.name source.old }
     ensures later { S.faults source.old ≤ S.faults source.new }

@@ -34,7 +34,8 @@ pub(crate) fn next_line<S: Source>(
     // what stays
     ensures front { take (length window.old.held) window.new.held ≡ window.old.held }
     ensures more { length window.old.held ≤ length window.new.held }
-    ensures left { bytes_left window.new.held (S.left source.new) ≡ bytes_left window.old.held (S.left source.old) }
+    ensures left { bytes_left window.new.held (S.left source.new)
+        ≡ bytes_left window.old.held (S.left source.old) }
     ensures size { window.new.size ≡ window.old.size }
     ensures name { S.name source.new ≡ S.name source.old }
 
@@ -66,7 +67,8 @@ pub(crate) fn first_line<S: Source>(
     requires known { IfSome behind (Stands max_line window.old.held (S.left source.old)) }
 
     // what stays
-    ensures left { bytes_left window.new.held (S.left source.new) ≡ bytes_left window.old.held (S.left source.old) }
+    ensures left { bytes_left window.new.held (S.left source.new)
+        ≡ bytes_left window.old.held (S.left source.old) }
     ensures size { window.new.size ≡ window.old.size }
     ensures name { S.name source.new ≡ S.name source.old }
 

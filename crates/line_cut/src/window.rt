@@ -118,7 +118,8 @@ impl Window {
     }
 }
 
-/// Lets go of the line or message at the front of the window, which is `step` bytes with its newline.
+/// Lets go of the line or message at the front of the window, which is `step` bytes with its
+/// newline.
 pub(crate) fn let_go(window: &mut Window, line: &mut usize, step: &mut usize)
     requires { step.old ≤ length window.old.held }
     ensures held { window.new.held ≡ drop step.old window.old.held }
