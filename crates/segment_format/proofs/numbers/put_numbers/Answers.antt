@@ -1,0 +1,22 @@
+use Rattle.std.proofs.Common.{◌≡◌, ◌≤◌, ◌*◌, ◌+◌, ◌-◌, ◌++◌, ℕ, List, length, take, drop, replicate, ap, sym, ◌∙◌, rules, arith}
+use Rattle.std.specs.List.{flat_map}
+use borrow.Rule.Slice.PartMut.{put_mid}
+use Rattle.record_format.specs.Lists.{four_bytes}
+use Rattle.segment_format.proofs.ColumnLemmas.{wrote_behind, room_made}
+use Rattle.segment_format.proofs.numbers.put_numbers.Goals as goal
+
+pub returns : goal.returns
+unfolding four_bytes
+returns c =
+    let old : List ℕ = c.args.out.now.items in
+    let d : List ℕ = c.deref_mut.result.now in
+    let w : List ℕ = c.write_u32_into.new.dst in
+    let s : ℕ = c.len-start.result in
+    let n : ℕ = c.resize.new.self.len in
+    let start : length old ≡ s = search rules in
+    let room : n ≡ s + 4 * length c.args.numbers.now = search rules in
+    let made : take s d ≡ old = search (rules, room_made) in
+    let long : length d ≡ n = search rules in
+    let wrote : length w ≡ n - s = search rules in
+    let behind : List ℕ = drop (length (put_mid s (length d - s) d w)) c.resize.new.self.items in
+    wrote_behind old d w behind s n made long (omega (arith, room)) wrote ∙ ap (λ (l : List ℕ). old ++ l) c.write_u32_into.ensures
