@@ -1,1 +1,4 @@
 pub mod ColumnLemmas
+pub mod FixedLemmas
+pub mod UniqueLemmas
+pub mod RowsLemmas

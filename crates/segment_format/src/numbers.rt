@@ -1,12 +1,37 @@
 //! Columns of numbers as bytes, the lowest byte of each number first.
 
-ghost use Rattle.std.specs.Prelude.{◌≡◌, ◌<◌, ◌^◌, ◌++◌, ◌*◌, ◌%◌, length, OnOk};
+ghost use Rattle.std.specs.Prelude.{◌≡◌, ◌<◌, ◌^◌, ◌++◌, ◌*◌, ◌%◌, length, All, OnOk};
+ghost use Rattle.std.specs.Int.{w64};
+ghost use Rattle.std.specs.Int.RustNames.{FitsSigned};
 ghost use Rattle.std.specs.List.{flat_map};
 ghost use Rattle.record_format.specs.Lists.{four_bytes};
 ghost use Rattle.segment_format.specs.Layout.{eight_bytes, moment_bytes};
 
 use byteorder::{ByteOrder, LittleEndian};
 use std::alloc::AllocError;
+
+/// Each number fits its type. It does nothing.
+fn numbers_fit(numbers: &[u32])
+    ensures { All (λ n. n < 2 ^ 32) numbers.now }
+{
+    let _ = numbers;
+}
+
+/// Each number fits its type. It does nothing.
+fn longs_fit(numbers: &[u64])
+    ensures { All (λ n. n < 2 ^ 64) numbers.now }
+{
+    let _ = numbers;
+}
+
+/// Each moment fits its type. It does nothing.
+fn moments_fit(moments: &[i64])
+    ensures { All (λ m. FitsSigned w64 m) moments.now }
+{
+    for moment in moments {
+        let _value = *moment;
+    }
+}
 
 /// Adds a number in four bytes.
 pub fn put_number(out: &mut Vec<u8>, number: u32) -> Result<(), AllocError>
@@ -70,9 +95,11 @@ pub fn fill_numbers(out: &mut Vec<u32>, bytes: &[u8]) -> Result<(), AllocError>
     requires { length bytes.now % 4 ≡ 0 }
     ensures spelled { OnOk result (bytes.now ≡ flat_map four_bytes out.new.items) }
     ensures length { OnOk result (length bytes.now ≡ 4 * length out.new.items) }
+    ensures fit { OnOk result (All (λ n. n < 2 ^ 32) out.new.items) }
 {
     out.resize(bytes.len() / 4, 0)?;
     LittleEndian::read_u32_into(bytes, &mut out[..]);
+    numbers_fit(out.as_slice());
     Ok(())
 }
 
@@ -81,9 +108,11 @@ pub fn fill_longs(out: &mut Vec<u64>, bytes: &[u8]) -> Result<(), AllocError>
     requires { length bytes.now % 8 ≡ 0 }
     ensures spelled { OnOk result (bytes.now ≡ flat_map eight_bytes out.new.items) }
     ensures length { OnOk result (length bytes.now ≡ 8 * length out.new.items) }
+    ensures fit { OnOk result (All (λ n. n < 2 ^ 64) out.new.items) }
 {
     out.resize(bytes.len() / 8, 0)?;
     LittleEndian::read_u64_into(bytes, &mut out[..]);
+    longs_fit(out.as_slice());
     Ok(())
 }
 
@@ -92,8 +121,10 @@ pub fn fill_moments(out: &mut Vec<i64>, bytes: &[u8]) -> Result<(), AllocError>
     requires { length bytes.now % 8 ≡ 0 }
     ensures spelled { OnOk result (bytes.now ≡ flat_map moment_bytes out.new.items) }
     ensures length { OnOk result (length bytes.now ≡ 8 * length out.new.items) }
+    ensures fit { OnOk result (All (λ m. FitsSigned w64 m) out.new.items) }
 {
     out.resize(bytes.len() / 8, 0)?;
     LittleEndian::read_i64_into(bytes, &mut out[..]);
+    moments_fit(out.as_slice());
     Ok(())
 }
