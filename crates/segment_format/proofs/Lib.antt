@@ -2,3 +2,4 @@ pub mod ColumnLemmas
 pub mod FixedLemmas
 pub mod UniqueLemmas
 pub mod RowsLemmas
+pub mod HeadLemmas

@@ -12,6 +12,6 @@ returns-else-rises-clause-malformed c = λ _ ns is e.
     let long : length numbers ≡ length ns = omega (arith, whole, c.in_ok-fill_numbers.ensures.length) in
     let same : numbers ≡ ns =
     column_once 4 four_bytes (λ n. n < 2 ^ 32) numbers_tell numbers ns c.in_ok-fill_numbers.ensures.fit is.fit long (sym c.in_ok-fill_numbers.ensures.spelled ∙ e) in
-    let rise : IsStrictlyIncreasing numbers = subst IsStrictlyIncreasing (sym same) is.rise in
+    let rise : IsStrictlyIncreasing c.as_slice.result.now = subst IsStrictlyIncreasing (sym (c.as_slice.ensures.value ∙ same)) is.rise in
     let yes = c.if-rises.ensures.no rise in
     absurd cc
