@@ -1,12 +1,14 @@
 -- The bytes of a segment: a head, and the columns of its rows.
-use Rattle.std.specs.Prelude.{◌≡◌, ◌<◌, ◌+◌, ◌*◌, ◌^◌, if◌then◌else◌, ℕ, ℤ, List, [], ◌∷◌, ◌++◌, Bool, length, map, All}
-use Rattle.std.specs.List.{flat_map}
+use Rattle.std.specs.Prelude.{◌≡◌, ◌<◌, ◌+◌, ◌*◌, ◌^◌, if◌then◌else◌, nat_lt, nat_eq, ℕ, ℤ, pos, List, [], ◌∷◌, ◌++◌, Bool, true, false, not, length, map, filter, All}
+use Rattle.std.specs.List.{flat_map, fold}
+use Rattle.std.specs.Ordering.{int_cmp, ord_min, ord_max}
 use Rattle.std.specs.List.Sorted.{IsStrictlyIncreasing}
 use Rattle.std.specs.Int.{w64, cast_unsigned}
 use Rattle.std.specs.Int.RustNames.{FitsSigned}
 use Rattle.byteorder.specs.Endian.{little_bytes}
 use Rattle.record_format.specs.Lists.{four_bytes}
 use Rattle.column_store.specs.declared.row.Row.{Row}
+use Rattle.column_store.specs.Row.{variable_count}
 use Rattle.segment_format.specs.declared.fixed.Fixed.{Fixed}
 use Rattle.segment_format.specs.declared.head.Head.{Head}
 
@@ -78,3 +80,44 @@ fields_bytes patterns moments types counts words =
 abbrev pub columns_bytes : List Row → List ℕ
 columns_bytes rows =
     fields_bytes (map (λ r. r.pattern) rows) (map (λ r. r.moment) rows) (map (λ r. r.log_type) rows) (map (λ r. length r.words) rows) (flat_map (λ r. r.words) rows)
+
+-- ---- a segment of rows
+
+-- a number among sorted ones, once
+abbrev pub added : ℕ → List ℕ → List ℕ
+added n [] = n ∷ []
+added n (m ∷ ms) = if nat_lt n m then n ∷ (m ∷ ms) else (if nat_eq n m then m ∷ ms else m ∷ added n ms)
+
+-- the numbers sorted upwards, each once
+abbrev pub sorted_set : List ℕ → List ℕ
+sorted_set [] = []
+sorted_set (n ∷ ns) = added n (sorted_set ns)
+
+-- the moments of the rows with a stamp
+abbrev pub stamped_moments : List Row → List ℤ
+stamped_moments rows = map (λ r. r.moment) (filter (λ r. not (nat_eq r.pattern 0)) rows)
+
+abbrev pub has_any : List ℤ → Bool
+has_any [] = false
+has_any (m ∷ ms) = true
+
+-- the least and the greatest of moments, 0 without any
+abbrev pub least_of : List ℤ → ℤ
+least_of [] = pos 0
+least_of (m ∷ ms) = fold (ord_min int_cmp) m ms
+
+abbrev pub greatest_of : List ℤ → ℤ
+greatest_of [] = pos 0
+greatest_of (m ∷ ms) = fold (ord_max int_cmp) m ms
+
+-- the head of rows whose dictionary words have these numbers
+abbrev pub head_of : ℕ → ℕ → Bool → Bool → List Row → List ℕ → Head
+head_of file first last ended rows words = record {
+  file = file; first = first; rows = length rows; last = last; ended = ended; stamped = has_any (stamped_moments rows);
+  least = least_of (stamped_moments rows); greatest = greatest_of (stamped_moments rows);
+  types = sorted_set (map (λ r. r.log_type) rows); words = words; variables = variable_count rows;
+}
+
+-- the one spelling of a segment
+abbrev pub segment_bytes : ℕ → ℕ → Bool → Bool → List Row → List ℕ → List ℕ
+segment_bytes file first last ended rows words = head_bytes (head_of file first last ended rows words) ++ columns_bytes rows

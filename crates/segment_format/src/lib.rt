@@ -7,8 +7,10 @@ mod columns;
 mod fixed;
 mod head;
 mod numbers;
+mod segment;
 
 pub use columns::read_columns;
 pub use fixed::{FIXED_LEN, head_len};
 pub use head::{Head, read_head};
 pub use record_format::FormatRefusal;
+pub use segment::write_segment;
