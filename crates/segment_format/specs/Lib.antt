@@ -1,3 +1,4 @@
 pub mod Layout
 pub mod Spelled
+pub mod Pages
 pub mod StepsColumns

@@ -3,14 +3,21 @@
 //! A segment is a head, which says what the rows of the segment hold, and the columns of its rows.
 #![tactic(auto)]
 
+mod ask;
 mod columns;
 mod fixed;
 mod head;
 mod numbers;
+mod pages;
 mod segment;
 
+pub use ask::PageAsk;
 pub use columns::read_columns;
 pub use fixed::{FIXED_LEN, head_len};
 pub use head::{Head, read_head};
+pub use pages::{PAGE_ROWS, PageReader, open_pages};
 pub use record_format::FormatRefusal;
 pub use segment::write_segment;
+
+#[cfg(test)]
+mod tests;
