@@ -10,7 +10,7 @@ use Rattle.segment_format.specs.Layout.{fixed_bytes, fixed_of, head_bytes, head_
 use Rattle.segment_format.proofs.FixedLemmas.{length-fixed_bytes}
 use Rattle.segment_format.proofs.UniqueLemmas.{same_parts, numbers_tell, length_column, column_once, fixed_once}
 
-length_numbers : (ns : List ℕ) → length (flat_map four_bytes ns) ≡ 4 * length ns
+pub length_numbers : (ns : List ℕ) → length (flat_map four_bytes ns) ≡ 4 * length ns
 length_numbers ns = length_column 4 four_bytes length-four_bytes ns
 
 pub length-head_bytes : (h : Head) → length (head_bytes h) ≡ head_length (fixed_of h)

@@ -5,3 +5,6 @@ pub mod RowsLemmas
 pub mod HeadLemmas
 pub mod SetLemmas
 pub mod SegmentLemmas
+pub mod PagesLemmas
+pub mod LawsLemmas
+pub mod PagesLawLemmas

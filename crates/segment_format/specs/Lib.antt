@@ -1,4 +1,5 @@
 pub mod Layout
 pub mod Spelled
 pub mod Pages
+pub mod Laws
 pub mod StepsColumns

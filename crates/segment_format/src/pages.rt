@@ -1,6 +1,6 @@
 //! The columns of a segment by pages, so that a search holds few rows at a time.
 
-ghost use Rattle.std.specs.Prelude.{◌≡◌, ◌<◌, ◌≤◌, ◌+◌, ◌*◌, ◌%◌, ◌^◌, ℕ, List, length, All, sum, IfSome, IsNone, IfOk, OnErr, IsErrOf};
+ghost use Rattle.std.specs.Prelude.{◌≡◌, ◌<◌, ◌≤◌, ◌+◌, ◌*◌, ◌%◌, ◌^◌, ℕ, List, length, All, sum, IsTrue, IfSome, IsNone, IfOk, OnErr, IsErrOf};
 ghost use Rattle.std.specs.List.{flat_map};
 ghost use Rattle.record_format.specs.Lists.{four_bytes};
 ghost use Rattle.column_store.specs.declared.row.Row.{Row};
@@ -20,6 +20,12 @@ use step_count::Steps;
 
 /// How many rows a page has. The last one of a segment has the rest.
 pub const PAGE_ROWS: u32 = 4_096;
+
+/// How many bytes a row takes in the columns before its count.
+const COUNTS_AT: usize = 13;
+
+/// How many bytes a row's count takes.
+const COUNT_LEN: usize = 4;
 
 /// The sum of the numbers of four bytes each.
 fn sum_in(bytes: &[u8]) -> u64
@@ -91,6 +97,22 @@ impl PageReader {
         PAGE_ROWS.min(self.rows - self.row)
     }
 
+    /// Whether the next page may have so many variables.
+    fn takes(&self, count: u64) -> bool
+        requires { self.now.row < self.now.rows }
+        ensures yes { IsTrue result → FitsPage self.now count }
+        ensures no { FitsPage self.now count → IsTrue result }
+        ensures small { IsTrue result → count < 2 ^ 32 }
+        ensures few { self.now.variables < 2 ^ 32 }
+    {
+        let left = u64::from(self.variables - self.variable);
+        if self.rows - self.row <= PAGE_ROWS {
+            count == left
+        } else {
+            count <= left
+        }
+    }
+
     /// The pieces of the next page, and none exactly after the last.
     pub fn ask(&self) -> Option<PageAsk>
         ensures some { IfSome result (λ a. a ≡ pieces self.now) }
@@ -111,6 +133,24 @@ impl PageReader {
         })
     }
 
+    /// How many variables the next page has, by its counts.
+    fn words_by(&self, counts: &[u8]) -> Option<u32>
+        requires left { self.now.row < self.now.rows }
+        requires counts { length counts.now ≡ 4 * page_rows self.now }
+        ensures some { IfSome result (λ n. (ns : List ℕ) × All (λ k. k < 2 ^ 32) ns
+            × (counts.now ≡ flat_map four_bytes ns) × FitsPage self.now (sum ns) × (n ≡ sum ns)) }
+        ensures none { IsNone result → (ns : List ℕ) → All (λ k. k < 2 ^ 32) ns
+            → counts.now ≡ flat_map four_bytes ns → FitsPage self.now (sum ns) → ⊥ }
+        ensures few { self.now.variables < 2 ^ 32 }
+    {
+        let count = sum_in(counts);
+        if self.takes(count) {
+            Some(count as u32)
+        } else {
+            None
+        }
+    }
+
     /// How many bytes the variables of the next page have, by its counts. None exactly where they are more
     /// than are left, or this is the last page and they are not all of them.
     pub fn variable_bytes(&self, counts: &[u8]) -> Option<u64>
@@ -121,13 +161,8 @@ impl PageReader {
         ensures none { IsNone result → (ns : List ℕ) → All (λ k. k < 2 ^ 32) ns
             → counts.now ≡ flat_map four_bytes ns → FitsPage self.now (sum ns) → ⊥ }
     {
-        let count = sum_in(counts);
-        let left = u64::from(self.variables - self.variable);
-        let last = self.rows - self.row <= PAGE_ROWS;
-        if count > left || (last && count != left) {
-            return None;
-        }
-        Some(WORD_LEN * count)
+        let words = self.words_by(counts)?;
+        Some(WORD_LEN * u64::from(words))
     }
 
     /// The rows of the next page, whose five pieces joined are these bytes. `Malformed` comes exactly where
@@ -169,17 +204,18 @@ impl PageReader {
         ensures malformed { IsErrOf result FormatRefusal.Malformed
             → (list : List Row) → IsPage self.now bytes.now list → ⊥ }
     {
-        let front = ROW_LEN as usize * rows as usize;
-        if bytes.len() < front {
+        let rows = rows as usize;
+        if bytes.len() < ROW_LEN as usize * rows {
             return Err(FormatRefusal::Malformed);
         }
-        let counts = &bytes[front - 4 * rows as usize..front];
-        let Some(words) = self.variable_bytes(counts) else {
+        let (_, behind) = bytes.split_at(COUNTS_AT * rows);
+        let (counts, words) = behind.split_at(COUNT_LEN * rows);
+        let Some(count) = self.words_by(counts) else {
             return Err(FormatRefusal::Malformed);
         };
-        if (bytes.len() - front) as u64 != words {
+        if words.len() as u64 != WORD_LEN * u64::from(count) {
             return Err(FormatRefusal::Malformed);
         }
-        Ok((words / WORD_LEN) as u32)
+        Ok(count)
     }
 }

@@ -165,3 +165,111 @@ fn changed_bytes(rt: HostRuntime) {
         assert_eq!(rt; sizes_of(alloc, &bytes).is_some(), stays, "{byte} at {at}");
     }
 }
+
+/// A reader of the pages of a head, for a caller that counts nothing.
+fn pages_of<L: Ledger>(head: &Head, payload: u64, blank: Blank) -> Option<PageReader>
+    requires blank { OpensFor blank L.name L.parts }
+    requires head { IsHead head.now }
+{
+    let mut steps: Steps<L> = Steps::new(blank);
+    open_pages(head, payload, &mut steps)
+}
+
+/// Adds so many bytes of a payload from a place on, where they stand there.
+fn add_piece(out: &mut Vec<u8>, payload: &[u8], at: u64, len: u64) -> Result<(), AllocError> {
+    let end = at.saturating_add(len) as usize;
+    out.extend_from_slice(payload.get(at as usize..end).unwrap_or(&[]))
+}
+
+/// The next page out of a payload, in the memory of columns, and none where it is refused or the last
+/// page was read.
+fn page_in(
+    alloc: Global,
+    pages: &mut PageReader,
+    columns: Columns,
+    payload: &[u8],
+) -> Result<Option<Columns>, AllocError> {
+    let Some(ask) = pages.ask() else {
+        return Ok(None);
+    };
+    let rows = u64::from(ask.rows);
+    let mut bytes = Vec::new(alloc);
+    add_piece(&mut bytes, payload, ask.counts, 4 * rows)?;
+    if bytes.len() as u64 != 4 * rows {
+        return Ok(None);
+    }
+    let Some(words) = pages.variable_bytes(bytes.as_slice()) else {
+        return Ok(None);
+    };
+    bytes.clear();
+    add_piece(&mut bytes, payload, ask.patterns, rows)?;
+    add_piece(&mut bytes, payload, ask.moments, 8 * rows)?;
+    add_piece(&mut bytes, payload, ask.types, 4 * rows)?;
+    add_piece(&mut bytes, payload, ask.counts, 4 * rows)?;
+    add_piece(&mut bytes, payload, ask.variables, words)?;
+    Ok(pages.fill_page(columns, bytes.as_slice()).ok())
+}
+
+#[test]
+fn places_of_pages(rt: HostRuntime) -> Result<(), Fail> {
+    let alloc = rt.alloc();
+    let columns = plain_rows(alloc, 5_000)?;
+    let words = NumberList::new(Vec::new(alloc));
+    let segment = write_segment(alloc, 0, 0, true, true, &columns, &words)?;
+    let payload = segment.as_slice();
+    let head = head_of(alloc, payload).ok_or("a head")?;
+    assert!(rt; pages_of::<Brand>(&head, 85_048, Blank::new(1)).is_none(), "a byte less");
+    let mut pages = pages_of::<Brand>(&head, 85_049, Blank::new(1)).ok_or("pages")?;
+    let first = page_in(alloc, &mut pages, columns, payload)?.ok_or("a page")?;
+    assert_eq!(rt; first.rows(), PAGE_ROWS);
+    let last = PageAsk {
+        rows: 904,
+        patterns: 4_145,
+        moments: 37_817,
+        types: 61_433,
+        counts: 81_433,
+        variables: 85_049,
+    };
+    assert_eq!(rt; pages.ask().ok_or("a second page")?, last);
+    let second = page_in(alloc, &mut pages, first, payload)?.ok_or("a page")?;
+    assert_eq!(rt; second.rows(), 904);
+    assert!(rt; pages.ask().is_none(), "two pages");
+    Ok(())
+}
+
+#[test]
+fn pages_with_words(rt: HostRuntime) -> Result<(), Fail> {
+    let alloc = rt.alloc();
+    let head = head_of(alloc, &TWO_ROWS).ok_or("a head")?;
+    let mut pages = pages_of::<Brand>(&head, 103, Blank::new(1)).ok_or("pages")?;
+    let page = page_in(alloc, &mut pages, Columns::new(alloc), &TWO_ROWS)?.ok_or("a page")?;
+    assert_eq!(rt; page.moments(), [-1_500, 0].as_slice());
+    assert_eq!(rt; page.words(), [7].as_slice());
+    // A count of the one page, and whether the page is read still.
+    for (at, byte, stays) in [(87, 1, true), (87, 0, false), (87, 2, false), (91, 1, false)] {
+        let mut bytes = TWO_ROWS;
+        assert!(rt; at < 103, "a byte at {at}");
+        bytes[at] = byte;
+        let mut pages = pages_of::<Brand>(&head, 103, Blank::new(1)).ok_or("pages")?;
+        let page = page_in(alloc, &mut pages, Columns::new(alloc), &bytes)?;
+        assert_eq!(rt; page.is_some(), stays, "{byte} at {at}");
+    }
+    Ok(())
+}
+
+#[test]
+fn one_page(rt: HostRuntime) -> Result<(), Fail> {
+    let alloc = rt.alloc();
+    let head = head_of(alloc, &ONE_ROW).ok_or("a head")?;
+    let mut pages = pages_of::<Brand>(&head, 66, Blank::new(1)).ok_or("pages")?;
+    if pages.ask().is_some() {
+        let page = pages.next_page(alloc, &ONE_ROW[49..]).ok().ok_or("a page")?;
+        assert_eq!(rt; page.rows(), 1);
+    }
+    assert!(rt; pages.ask().is_none(), "one page");
+    heads_are_unique();
+    columns_are_unique();
+    segments_read_back();
+    pages_are_the_columns();
+    Ok(())
+}
