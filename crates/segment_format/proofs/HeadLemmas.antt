@@ -15,8 +15,14 @@ length_numbers ns = length_column 4 four_bytes length-four_bytes ns
 
 pub length-head_bytes : (h : Head) → length (head_bytes h) ≡ head_length (fixed_of h)
 length-head_bytes h =
-    omega (arith, length-append (fixed_bytes (fixed_of h)) (flat_map four_bytes h.types ++ flat_map four_bytes h.words), length-fixed_bytes (fixed_of h),
-    length-append (flat_map four_bytes h.types) (flat_map four_bytes h.words), length_numbers h.types, length_numbers h.words)
+    omega (
+      arith,
+      length-append (fixed_bytes (fixed_of h)) (flat_map four_bytes h.types ++ flat_map four_bytes h.words),
+      length-fixed_bytes (fixed_of h),
+      length-append (flat_map four_bytes h.types) (flat_map four_bytes h.words),
+      length_numbers h.types,
+      length_numbers h.words,
+    )
 
 module _ (bytes : List ℕ) (h : Head) (e : bytes ≡ head_bytes h) where
   pub head_front : take 45 bytes ≡ fixed_bytes (fixed_of h)
@@ -42,8 +48,17 @@ module _ (bytes : List ℕ) (h : Head) (e : bytes ≡ head_bytes h) where
 -- what was read of the three parts is a head
 abbrev pub with_lists : Fixed → List ℕ → List ℕ → Head
 with_lists f types words = record {
-  file = f.file; first = f.first; rows = f.rows; last = f.last; ended = f.ended; stamped = f.stamped; least = f.least; greatest = f.greatest;
-  types = types; words = words; variables = f.variables;
+  file = f.file;
+  first = f.first;
+  rows = f.rows;
+  last = f.last;
+  ended = f.ended;
+  stamped = f.stamped;
+  least = f.least;
+  greatest = f.greatest;
+  types = types;
+  words = words;
+  variables = f.variables;
 }
 
 module _ (bytes : List ℕ) (f : Fixed) (types words : List ℕ) (front : take 45 bytes ≡ fixed_bytes f) (is_f : IsFixed f) (is_types : IsNumberSet types) (is_words : IsNumberSet words)

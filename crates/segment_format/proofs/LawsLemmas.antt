@@ -42,11 +42,19 @@ heads_once g h x y is_g is_h e =
     (sym (append_assoc fg (tg ++ wg) x) ∙ e ∙ append_assoc fh (th ++ wh) y) in
     let f : fixed_of g ≡ fixed_of h = fixed_once (fixed_of g) (fixed_of h) is_g.fixed is_h.fixed p1.0 in
     let p2 = same_list g.types h.types (wg ++ x) (wh ++ y) is_g.types is_h.types (ap (λ (k : Fixed). k.types) f) (sym (append_assoc tg wg x) ∙ p1.1 ∙ append_assoc th wh y) in
-    let p3 = same_list g.words h.words x y is_g.words is_h.words (ap (λ (k : Fixed). k.words) f) p2.1 in
-    (
+    let p3 = same_list g.words h.words x y is_g.words is_h.words (ap (λ (k : Fixed). k.words) f) p2.1 in (
       λ i. record {
-        file = (f i).file; first = (f i).first; rows = (f i).rows; last = (f i).last; ended = (f i).ended; stamped = (f i).stamped; least = (f i).least; greatest = (f i).greatest;
-        types = p2.0 i; words = p3.0 i; variables = (f i).variables;
+        file = (f i).file;
+        first = (f i).first;
+        rows = (f i).rows;
+        last = (f i).last;
+        ended = (f i).ended;
+        stamped = (f i).stamped;
+        least = (f i).least;
+        greatest = (f i).greatest;
+        types = p2.0 i;
+        words = p3.0 i;
+        variables = (f i).variables;
       },
       p3.1,
     )
@@ -90,7 +98,7 @@ types_are rows fit few =
     record {
       rise = rise_of 0 (sorted_set types) (up_sorted_set types);
       fit = λ k d lt. All-contains (λ n. n < 2 ^ 32) types (get_or (sorted_set types) k d) all
-        (from_sorted_set types (get_or (sorted_set types) k d) (Contains-get_or (sorted_set types) k d lt));
+          (from_sorted_set types (get_or (sorted_set types) k d) (Contains-get_or (sorted_set types) k d lt));
       count = omega (arith, length-sorted_set types, length-map rows (λ (r : Row). r.log_type), few);
     }
 
@@ -129,12 +137,17 @@ read_back file first last ended rows words fits_file fits_first fit few small is
     let h : Head = head_of file first last ended rows words in
     let is_types = types_are rows fit few in
     let stamped = stamped_fit rows fit in
-    let long = length-head_bytes h in
-    (
+    let long = length-head_bytes h in (
       record {
         fixed = record {
-          file = fits_file; first = fits_first; rows = few; least = least_fits (stamped_moments rows) stamped; greatest = greatest_fits (stamped_moments rows) stamped;
-          types = is_types.count; words = is_words.count; variables = small;
+          file = fits_file;
+          first = fits_first;
+          rows = few;
+          least = least_fits (stamped_moments rows) stamped;
+          greatest = greatest_fits (stamped_moments rows) stamped;
+          types = is_types.count;
+          words = is_words.count;
+          variables = small;
         };
         types = is_types;
         words = is_words;

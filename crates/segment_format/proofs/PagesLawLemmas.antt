@@ -34,8 +34,7 @@ split : (payload : List ℕ) (at next n m k : ℕ) (a b : List ℕ) → next ≡
 split payload at next n m k a b is_next is_k long whole =
     let d : List ℕ = drop at payload in
     let rest : drop n d ≡ drop next payload = drop-drop n at payload ∙ ap (λ (j : ℕ). drop j payload) (sym is_next) in
-    let both : take (n + m) d ≡ a ++ b = ap (λ (j : ℕ). take j d) (sym is_k) ∙ whole in
-    (
+    let both : take (n + m) d ≡ a ++ b = ap (λ (j : ℕ). take j d) (sym is_k) ∙ whole in (
       sym (take-take n (n + m) d (omega arith)) ∙ ap (take n) both ∙ take_at a b n long,
       ap (take m) (sym rest) ∙ sym (drop-take n m d) ∙ ap (drop n) both ∙ drop_at a b n long,
     )
@@ -125,13 +124,13 @@ with_page p payload page rest at is left =
     record {
       patterns = join payload (p.start + p.row) (p.start + (p.row + n)) n m k _ _ (omega arith) rows are.patterns left.patterns ∙ sym (map-append (λ (r : Row). r.pattern) page rest);
       moments = join payload (p.start + p.rows + 8 * p.row) (p.start + p.rows + 8 * (p.row + n)) (8 * n) (8 * m) (8 * k) _ _ (omega arith) (omega (arith, rows)) are.moments left.moments
-        ∙ sym (columns_both (λ r. r.moment) moment_bytes page rest);
+          ∙ sym (columns_both (λ r. r.moment) moment_bytes page rest);
       types = join payload (p.start + 9 * p.rows + 4 * p.row) (p.start + 9 * p.rows + 4 * (p.row + n)) (4 * n) (4 * m) (4 * k) _ _ (omega arith) (omega (arith, rows)) are.types left.types
-        ∙ sym (columns_both (λ r. r.log_type) four_bytes page rest);
+          ∙ sym (columns_both (λ r. r.log_type) four_bytes page rest);
       counts = join payload (p.start + 13 * p.rows + 4 * p.row) (p.start + 13 * p.rows + 4 * (p.row + n)) (4 * n) (4 * m) (4 * k) _ _ (omega arith) (omega (arith, rows)) are.counts left.counts
-        ∙ sym (columns_both (λ r. length r.words) four_bytes page rest);
+          ∙ sym (columns_both (λ r. length r.words) four_bytes page rest);
       words = join payload (p.start + 17 * p.rows + 8 * p.variable) (p.start + 17 * p.rows + 8 * (p.variable + v)) (8 * v) (8 * (p.variables - (p.variable + v))) (8 * (p.variables - p.variable)) _ _
-        (omega arith) (omega (arith, is.fits.most)) are.words left.words ∙ sym (words_both page rest);
+          (omega arith) (omega (arith, is.fits.most)) are.words left.words ∙ sym (words_both page rest);
       fit = All-append IsRow page rest is.columns.fit left.fit;
       count = omega (arith, length-append page rest, is.columns.count, left.count, rows);
       total = omega (arith, sum_by-append (λ r. length r.words) page rest, left.total, is.fits.most);
@@ -164,8 +163,7 @@ without_page p payload page rest at long all =
     let s4 = split payload (p.start + 13 * p.rows + 4 * p.row) (p.start + 13 * p.rows + 4 * (p.row + n)) (4 * n) (4 * m) (4 * k) _ _ (omega arith) (omega (arith, rows)) l4
     (all.counts ∙ columns_both (λ r. length r.words) four_bytes page rest) in
     let s5 = split payload (p.start + 17 * p.rows + 8 * p.variable) (p.start + 17 * p.rows + 8 * (p.variable + v)) (8 * v) (8 * (p.variables - (p.variable + v))) (8 * (p.variables - p.variable)) _ _
-    (omega arith) (omega (arith, most)) l5 (all.words ∙ words_both page rest) in
-    (
+    (omega arith) (omega (arith, most)) l5 (all.words ∙ words_both page rest) in (
       record {
         columns = record {
           fit = subst (All IsRow) (take_at page rest (length page) refl) (All-take IsRow (length page) (page ++ rest) all.fit);
@@ -176,7 +174,11 @@ without_page p payload page rest at long all =
         fits = record { most = most; last = last };
       },
       record {
-        patterns = s1.1; moments = s2.1; types = s3.1; counts = s4.1; words = s5.1;
+        patterns = s1.1;
+        moments = s2.1;
+        types = s3.1;
+        counts = s4.1;
+        words = s5.1;
         fit = subst (All IsRow) (drop_at page rest (length page) refl) (All-drop IsRow (length page) (page ++ rest) all.fit);
         count = count;
         total = omega (arith, both, all.total, most);
@@ -212,13 +214,13 @@ pages_of_rows zero p payload rows few at all = ([], omega (arith, few, all.count
 pages_of_rows (suc fuel) p payload rows few at all = elim (cases_lt p.row p.rows) [
   | inr le ↦ ([], le, nil_from_length rows (omega (arith, le, all.count)))
   | inl lt ↦
-    let page : List Row = take 4096 rows in
-    let rest : List Row = drop 4096 rows in
-    let parts : page ++ rest ≡ rows = take-append-drop 4096 rows in
-    let long : length page ≡ page_rows p = omega (arith, length-take 4096 rows, all.count) in
-    let one = without_page p payload page rest at long (subst (RestIs p payload) (sym parts) all) in
-    let others = pages_of_rows fuel (after p page) payload rest (omega (arith, few, length-drop 4096 rows, lt, all.count)) (within_after p payload page at one.0.fits) one.1 in
-    (page ∷ others.0, (lt, one.0, others.1), sym parts ∙ ap (λ (l : List Row). page ++ l) others.2 ∙ sym (flat_map-cons (λ (l : List Row). l) page others.0))
+      let page : List Row = take 4096 rows in
+      let rest : List Row = drop 4096 rows in
+      let parts : page ++ rest ≡ rows = take-append-drop 4096 rows in
+      let long : length page ≡ page_rows p = omega (arith, length-take 4096 rows, all.count) in
+      let one = without_page p payload page rest at long (subst (RestIs p payload) (sym parts) all) in
+      let others = pages_of_rows fuel (after p page) payload rest (omega (arith, few, length-drop 4096 rows, lt, all.count)) (within_after p payload page at one.0.fits) one.1 in
+      (page ∷ others.0, (lt, one.0, others.1), sym parts ∙ ap (λ (l : List Row). page ++ l) others.2 ∙ sym (flat_map-cons (λ (l : List Row). l) page others.0))
 ]
 
 -- ---- the whole payload
@@ -256,7 +258,10 @@ rest_of_rows h payload rows holds =
     let u3 = uncut payload (s + 9 * r + 4 * 0) (s + 13 * r + 4 * 0) (4 * n) b3 (b4 ++ b5) (omega arith) l3 u2.1 in
     let u4 = uncut payload (s + 13 * r + 4 * 0) (s + 17 * r + 8 * 0) (4 * n) b4 b5 (omega arith) l4 u3.1 in
     record {
-      patterns = u1.0; moments = u2.0; types = u3.0; counts = u4.0;
+      patterns = u1.0;
+      moments = u2.0;
+      types = u3.0;
+      counts = u4.0;
       words = ap (take (8 * (h.variables - 0))) u4.1 ∙ take_all (8 * (h.variables - 0)) b5 (omega (arith, l5, holds.behind.variables));
       fit = holds.behind.fit;
       count = count;
@@ -290,8 +295,8 @@ has_pages : (h : Head) (payload : List ℕ) (rows : List Row) → HoldsRows h pa
 has_pages h payload rows holds = record {
   length = omega (arith, ap (λ (l : List ℕ). length l) holds.behind.spelled, length-columns_bytes rows, holds.behind.count, holds.behind.variables, holds.front, length-drop (head_length (fixed_of h)) payload);
   none = λ e.
-    let empty : rows ≡ [] = nil_from_length rows (omega (arith, holds.behind.count, e)) in
-    omega (arith, holds.behind.variables, ap (λ (l : List Row). variable_count l) empty);
+      let empty : rows ≡ [] = nil_from_length rows (omega (arith, holds.behind.count, e)) in
+      omega (arith, holds.behind.variables, ap (λ (l : List Row). variable_count l) empty);
 }
 
 first_within : (h : Head) (payload : List ℕ) → HasPages h (length payload) → Within (first_page h) payload

@@ -41,8 +41,7 @@ pub numbers_in_are : (bytes : List ℕ) (n : ℕ) → IsBytes bytes → length b
 numbers_in_are bytes n fits long =
     let count : length (numbers_in n bytes) ≡ n = length-map-range_with_len (number_at bytes) 0 n in
     let at : (k d : ℕ) → k < length (numbers_in n bytes) → get_or (numbers_in n bytes) k d ≡ number_at bytes k =
-    λ k d lt. get_or-map-range_with_len (number_at bytes) 0 n k k d (omega (arith, lt, count)) (omega arith) in
-    (
+    λ k d lt. get_or-map-range_with_len (number_at bytes) 0 n k k d (omega (arith, lt, count)) (omega arith) in (
       λ k d lt. omega (arith, at k d lt, number_fits bytes k fits),
       numbers_spelled bytes (numbers_in n bytes) fits (omega (arith, long, count)) (λ k lt. at k 0 lt),
     )

@@ -84,9 +84,9 @@ fields_once ps ms ts cs ws rows count_ps count_ms count_ts count_cs count_ws fit
     record {
       as_patterns = p1.0;
       as_moments = column_once 8 moment_bytes (FitsSigned w64) moments_tell ms moments fit_ms
-        (All-map (FitsSigned w64) (λ (r : Row). r.moment) rows (All-weaker IsRow (λ r. FitsSigned w64 r.moment) (λ r is. is.moment) rows fit)) long_ms p2.0;
+          (All-map (FitsSigned w64) (λ (r : Row). r.moment) rows (All-weaker IsRow (λ r. FitsSigned w64 r.moment) (λ r is. is.moment) rows fit)) long_ms p2.0;
       as_types = column_once 4 four_bytes (λ n. n < 2 ^ 32) numbers_tell ts types fit_ts
-        (All-map (λ n. n < 2 ^ 32) (λ (r : Row). r.log_type) rows (All-weaker IsRow (λ r. r.log_type < 2 ^ 32) (λ r is. is.log_type) rows fit)) long_ts p3.0;
+          (All-map (λ n. n < 2 ^ 32) (λ (r : Row). r.log_type) rows (All-weaker IsRow (λ r. r.log_type < 2 ^ 32) (λ r is. is.log_type) rows fit)) long_ts p3.0;
       as_counts = column_once 4 four_bytes (λ n. n < 2 ^ 32) numbers_tell cs counts fit_cs (below_sum counts (omega (arith, total, small))) long_cs p4.0;
       as_words = column_once 8 eight_bytes (λ n. n < 2 ^ 64) longs_tell ws words fit_ws (words_fit rows fit) long_ws p4.1;
     }
@@ -113,7 +113,19 @@ length-columns_bytes rows =
     let b3 : List ℕ = flat_map four_bytes types in
     let b4 : List ℕ = flat_map four_bytes counts in
     let b5 : List ℕ = flat_map eight_bytes words in
-    omega (arith, length-append patterns (b2 ++ (b3 ++ (b4 ++ b5))), length-append b2 (b3 ++ (b4 ++ b5)), length-append b3 (b4 ++ b5), length-append b4 b5,
-    length_column 8 moment_bytes length-moment_bytes moments, length_column 4 four_bytes length-four_bytes types, length_column 4 four_bytes length-four_bytes counts,
-    length_column 8 eight_bytes length-eight_bytes words, length-map rows (λ (r : Row). r.pattern), length-map rows (λ (r : Row). r.moment),
-    length-map rows (λ (r : Row). r.log_type), length-map rows (λ (r : Row). length r.words), length-flat_map (λ r. r.words) rows)
+    omega (
+      arith,
+      length-append patterns (b2 ++ (b3 ++ (b4 ++ b5))),
+      length-append b2 (b3 ++ (b4 ++ b5)),
+      length-append b3 (b4 ++ b5),
+      length-append b4 b5,
+      length_column 8 moment_bytes length-moment_bytes moments,
+      length_column 4 four_bytes length-four_bytes types,
+      length_column 4 four_bytes length-four_bytes counts,
+      length_column 8 eight_bytes length-eight_bytes words,
+      length-map rows (λ (r : Row). r.pattern),
+      length-map rows (λ (r : Row). r.moment),
+      length-map rows (λ (r : Row). r.log_type),
+      length-map rows (λ (r : Row). length r.words),
+      length-flat_map (λ r. r.words) rows,
+    )

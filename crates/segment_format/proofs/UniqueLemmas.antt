@@ -116,8 +116,17 @@ stamped_told true true true = refl
 same_fixed : {f g : Fixed} → f.file ≡ g.file → f.first ≡ g.first → f.rows ≡ g.rows → f.last ≡ g.last → f.ended ≡ g.ended → f.stamped ≡ g.stamped → f.least ≡ g.least
     → f.greatest ≡ g.greatest → f.types ≡ g.types → f.words ≡ g.words → f.variables ≡ g.variables → f ≡ g
 same_fixed file first rows last ended stamped least greatest types words variables = λ i. record {
-  file = file i; first = first i; rows = rows i; last = last i; ended = ended i; stamped = stamped i; least = least i; greatest = greatest i;
-  types = types i; words = words i; variables = variables i;
+  file = file i;
+  first = first i;
+  rows = rows i;
+  last = last i;
+  ended = ended i;
+  stamped = stamped i;
+  least = least i;
+  greatest = greatest i;
+  types = types i;
+  words = words i;
+  variables = variables i;
 }
 
 pub fixed_once : (f g : Fixed) → IsFixed f → IsFixed g → fixed_bytes f ≡ fixed_bytes g → f ≡ g

@@ -34,8 +34,17 @@ fixed_bytes f =
 
 abbrev pub fixed_of : Head → Fixed
 fixed_of h = record {
-  file = h.file; first = h.first; rows = h.rows; last = h.last; ended = h.ended; stamped = h.stamped; least = h.least; greatest = h.greatest;
-  types = length h.types; words = length h.words; variables = h.variables;
+  file = h.file;
+  first = h.first;
+  rows = h.rows;
+  last = h.last;
+  ended = h.ended;
+  stamped = h.stamped;
+  least = h.least;
+  greatest = h.greatest;
+  types = length h.types;
+  words = length h.words;
+  variables = h.variables;
 }
 
 -- the one spelling of a head
@@ -113,9 +122,17 @@ greatest_of (m ∷ ms) = fold (ord_max int_cmp) m ms
 -- the head of rows whose dictionary words have these numbers
 abbrev pub head_of : ℕ → ℕ → Bool → Bool → List Row → List ℕ → Head
 head_of file first last ended rows words = record {
-  file = file; first = first; rows = length rows; last = last; ended = ended; stamped = has_any (stamped_moments rows);
-  least = least_of (stamped_moments rows); greatest = greatest_of (stamped_moments rows);
-  types = sorted_set (map (λ r. r.log_type) rows); words = words; variables = variable_count rows;
+  file = file;
+  first = first;
+  rows = length rows;
+  last = last;
+  ended = ended;
+  stamped = has_any (stamped_moments rows);
+  least = least_of (stamped_moments rows);
+  greatest = greatest_of (stamped_moments rows);
+  types = sorted_set (map (λ r. r.log_type) rows);
+  words = words;
+  variables = variable_count rows;
 }
 
 -- the one spelling of a segment

@@ -16,8 +16,11 @@ pub record Pages : Type 0 where
   pub row : ℕ
   pub variable : ℕ
 
+abbrev pub pages_at : ℕ → ℕ → ℕ → ℕ → ℕ → Pages
+pages_at start rows variables row variable = record { start = start; rows = rows; variables = variables; row = row; variable = variable }
+
 abbrev pub first_page : Head → Pages
-first_page h = record { start = head_length (fixed_of h); rows = h.rows; variables = h.variables; row = 0; variable = 0 }
+first_page h = pages_at (head_length (fixed_of h)) h.rows h.variables 0 0
 
 -- a payload of so many bytes has pages
 pub record HasPages (h : Head) (payload : ℕ) : Type 0 where

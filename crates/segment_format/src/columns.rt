@@ -20,8 +20,13 @@ pub const ROW_LEN: u64 = 17;
 /// How many bytes a word takes.
 pub const WORD_LEN: u64 = 8;
 
-/// The arrays of so many rows and so many words out of the bytes of their columns, in the memory of these arrays.
-fn fill_arrays(arrays: Arrays, rows: usize, count: usize, bytes: &[u8]) -> Result<Arrays, AllocError>
+/// The arrays of so many rows and words out of the bytes of their columns, in the memory of these.
+fn fill_arrays(
+    arrays: Arrays,
+    rows: usize,
+    count: usize,
+    bytes: &[u8],
+) -> Result<Arrays, AllocError>
     requires rows { rows < 2 ^ 32 }
     requires count { count < 2 ^ 32 }
     requires length { length bytes.now ≡ 17 * rows + 8 * count }
@@ -55,7 +60,12 @@ fn fill_arrays(arrays: Arrays, rows: usize, count: usize, bytes: &[u8]) -> Resul
 
 /// The columns that the bytes spell, in the memory of these arrays. `Malformed` comes exactly where they
 /// spell none with so many rows and words: where the rows' counts do not add up to the words.
-pub fn columns_in(arrays: Arrays, rows: u32, words: u32, bytes: &[u8]) -> Result<Columns, FormatRefusal>
+pub fn columns_in(
+    arrays: Arrays,
+    rows: u32,
+    words: u32,
+    bytes: &[u8],
+) -> Result<Columns, FormatRefusal>
     requires { length bytes.now ≡ 17 * rows + 8 * words }
     ensures spelled { IfOk result (λ c. AreColumnsIn bytes.now rows words c.rows) }
     ensures bytes { IfOk result (λ c. c.bytes ≡ 0) }

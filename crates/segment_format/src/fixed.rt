@@ -97,7 +97,8 @@ pub fn read_fixed(bytes: &[u8]) -> Option<Fixed>
 
 /// How many bytes the head has whose fixed part this is, and none exactly where it is no fixed part.
 pub fn head_len(fixed: &[u8; FIXED_LEN]) -> Option<u64>
-    ensures some { IfSome result (λ n. (f : _) × IsFixed f × (fixed.now ≡ fixed_bytes f) × (n ≡ head_length f)) }
+    ensures some { IfSome result (λ n. (f : _) × IsFixed f
+        × (fixed.now ≡ fixed_bytes f) × (n ≡ head_length f)) }
     ensures none { IsNone result → (f : _) → IsFixed f → fixed.now ≢ fixed_bytes f }
 {
     let fixed = read_fixed(fixed)?;

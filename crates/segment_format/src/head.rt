@@ -98,7 +98,8 @@ fn list_in(alloc: Global, bytes: &[u8]) -> Result<NumberList, FormatRefusal>
 pub fn read_head(alloc: Global, bytes: &[u8]) -> Result<Head, FormatRefusal>
     ensures is { IfOk result (λ h. IsHead h) }
     ensures spelled { IfOk result (λ h. bytes.now ≡ head_bytes h) }
-    ensures malformed { IsErrOf result FormatRefusal.Malformed → (h : _) → IsHead h → bytes.now ≢ head_bytes h }
+    ensures malformed { IsErrOf result FormatRefusal.Malformed
+        → (h : _) → IsHead h → bytes.now ≢ head_bytes h }
 {
     if bytes.len() < FIXED_LEN {
         return Err(FormatRefusal::Malformed);

@@ -31,7 +31,8 @@ const COUNT_LEN: usize = 4;
 fn sum_in(bytes: &[u8]) -> u64
     requires whole { length bytes.now % 4 ≡ 0 }
     requires few { length bytes.now ≤ 16384 }
-    ensures { (ns : List ℕ) × All (λ n. n < 2 ^ 32) ns × (bytes.now ≡ flat_map four_bytes ns) × (result ≡ sum ns) }
+    ensures { (ns : List ℕ) × All (λ n. n < 2 ^ 32) ns
+        × (bytes.now ≡ flat_map four_bytes ns) × (result ≡ sum ns) }
 {
     let mut total = 0;
     for place in 0..bytes.len() / 4 {
@@ -56,13 +57,13 @@ pub struct PageReader {
 }
 
 impl Model for PageReader {
-    ghost use Rattle.segment_format.specs.Pages.{Pages, ArePages};
+    ghost use Rattle.segment_format.specs.Pages.{Pages, pages_at, ArePages};
 
     ghost Value = { Pages };
 
-    ghost view = { λ p. record { start = p.start; rows = p.rows; variables = p.variables; row = p.row; variable = p.variable } };
+    ghost view = { λ p. pages_at p.start p.rows p.variables p.row p.variable };
 
-    ghost invariant = { λ p. ArePages (record { start = p.start; rows = p.rows; variables = p.variables; row = p.row; variable = p.variable }) };
+    ghost invariant = { λ p. ArePages (pages_at p.start p.rows p.variables p.row p.variable) };
 }
 
 /// A reader of the pages of a segment whose payload has so many bytes. None where they are not as many as
@@ -157,7 +158,8 @@ impl PageReader {
         requires left { self.now.row < self.now.rows }
         requires counts { length counts.now ≡ 4 * page_rows self.now }
         ensures some { IfSome result (λ n. (ns : List ℕ) × All (λ k. k < 2 ^ 32) ns
-            × (counts.now ≡ flat_map four_bytes ns) × FitsPage self.now (sum ns) × (n ≡ 8 * sum ns)) }
+            × (counts.now ≡ flat_map four_bytes ns) × FitsPage self.now (sum ns)
+            × (n ≡ 8 * sum ns)) }
         ensures none { IsNone result → (ns : List ℕ) → All (λ k. k < 2 ^ 32) ns
             → counts.now ≡ flat_map four_bytes ns → FitsPage self.now (sum ns) → ⊥ }
     {

@@ -110,7 +110,8 @@ pub fn write_segment(
 ) -> Result<Text, AllocError>
     requires rise { IsStrictlyIncreasing words.now }
     requires count { length words.now < 2 ^ 32 }
-    ensures { IfOk result (λ payload. payload ≡ segment_bytes file first last ended columns.now.rows words.now) }
+    ensures { IfOk result (λ payload. payload
+        ≡ segment_bytes file first last ended columns.now.rows words.now) }
 {
     let types = set_of(alloc, columns.types())?;
     let (stamped, least, greatest) = span_of(columns);

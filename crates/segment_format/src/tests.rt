@@ -13,17 +13,18 @@ use step_count::Steps;
 
 /// The one segment of an archive that took in the one line `a`.
 const ONE_ROW: [u8; 66] = [
-    0, 0, 0, 0, 0, 0, 0, 0, 0, 0, 0, 0, 1, 0, 0, 0, 3, 0, 0, 0, 0, 0, 0, 0, 0, 0, 0, 0, 0, 0, 0, 0, 0,
-    1, 0, 0, 0, 0, 0, 0, 0, 0, 0, 0, 0, 0, 0, 0, 0, 0, 0, 0, 0, 0, 0, 0, 0, 0, 0, 0, 0, 0, 0, 0, 0, 0,
+    0, 0, 0, 0, 0, 0, 0, 0, 0, 0, 0, 0, 1, 0, 0, 0, 3, 0, 0, 0, 0, 0, 0, 0, 0, 0, 0, 0, 0, 0, 0, 0,
+    0, 1, 0, 0, 0, 0, 0, 0, 0, 0, 0, 0, 0, 0, 0, 0, 0, 0, 0, 0, 0, 0, 0, 0, 0, 0, 0, 0, 0, 0, 0, 0,
+    0, 0,
 ];
 
 /// Rows 258 and 259 of file 1: one with pattern 8, moment -1500, log type 5 and the word 7, and one
 /// without stamp of log type 2 without words. The dictionary words are said to be 1 and 9.
 const TWO_ROWS: [u8; 103] = [
-    1, 0, 0, 0, 2, 1, 0, 0, 0, 0, 0, 0, 2, 0, 0, 0, 4, 0x24, 0xFA, 0xFF, 0xFF, 0xFF, 0xFF, 0xFF, 0xFF,
-    0x24, 0xFA, 0xFF, 0xFF, 0xFF, 0xFF, 0xFF, 0xFF, 2, 0, 0, 0, 2, 0, 0, 0, 1, 0, 0, 0, 2, 0, 0, 0, 5,
-    0, 0, 0, 1, 0, 0, 0, 9, 0, 0, 0, 8, 0, 0x24, 0xFA, 0xFF, 0xFF, 0xFF, 0xFF, 0xFF, 0xFF, 0, 0, 0, 0,
-    0, 0, 0, 0, 5, 0, 0, 0, 2, 0, 0, 0, 1, 0, 0, 0, 0, 0, 0, 0, 7, 0, 0, 0, 0, 0, 0, 0,
+    1, 0, 0, 0, 2, 1, 0, 0, 0, 0, 0, 0, 2, 0, 0, 0, 4, 0x24, 0xFA, 0xFF, 0xFF, 0xFF, 0xFF, 0xFF,
+    0xFF, 0x24, 0xFA, 0xFF, 0xFF, 0xFF, 0xFF, 0xFF, 0xFF, 2, 0, 0, 0, 2, 0, 0, 0, 1, 0, 0, 0, 2, 0,
+    0, 0, 5, 0, 0, 0, 1, 0, 0, 0, 9, 0, 0, 0, 8, 0, 0x24, 0xFA, 0xFF, 0xFF, 0xFF, 0xFF, 0xFF, 0xFF,
+    0, 0, 0, 0, 0, 0, 0, 0, 5, 0, 0, 0, 2, 0, 0, 0, 1, 0, 0, 0, 0, 0, 0, 0, 7, 0, 0, 0, 0, 0, 0, 0,
 ];
 
 /// Adds a row of few words to few rows.
@@ -92,7 +93,10 @@ fn one_row(rt: HostRuntime) -> Result<(), Fail> {
     let segment = write_segment(alloc, 0, 0, true, true, &columns, &words)?;
     assert_eq!(rt; segment.as_slice(), ONE_ROW.as_slice());
     let head = head_of(alloc, &ONE_ROW).ok_or("a head")?;
-    assert_eq!(rt; (head.rows, head.last, head.ended, head.stamped), (1, true, true, false));
+    assert_eq!(rt;
+        (head.rows, head.last, head.ended, head.stamped),
+        (1, true, true, false)
+    );
     assert_eq!(rt; head.types.as_slice(), [0].as_slice());
     assert_eq!(rt; sizes_of(alloc, &ONE_ROW).ok_or("rows")?, (1, 0));
     Ok(())
@@ -127,8 +131,14 @@ fn cuts_and_bytes_behind(rt: HostRuntime) -> Result<(), Fail> {
     }
     let mut longer = Vec::from_slice(alloc, &TWO_ROWS)?;
     longer.push(0)?;
-    assert!(rt; sizes_of(alloc, longer.as_slice()).is_none(), "a byte behind");
-    assert!(rt; read_head(alloc, longer.as_slice()).is_err(), "bytes behind a head");
+    assert!(rt;
+        sizes_of(alloc, longer.as_slice()).is_none(),
+        "a byte behind"
+    );
+    assert!(rt;
+        read_head(alloc, longer.as_slice()).is_err(),
+        "bytes behind a head"
+    );
     Ok(())
 }
 
@@ -218,7 +228,10 @@ fn places_of_pages(rt: HostRuntime) -> Result<(), Fail> {
     let segment = write_segment(alloc, 0, 0, true, true, &columns, &words)?;
     let payload = segment.as_slice();
     let head = head_of(alloc, payload).ok_or("a head")?;
-    assert!(rt; pages_of::<Brand>(&head, 85_048, Blank::new(1)).is_none(), "a byte less");
+    assert!(rt;
+        pages_of::<Brand>(&head, 85_048, Blank::new(1)).is_none(),
+        "a byte less"
+    );
     let mut pages = pages_of::<Brand>(&head, 85_049, Blank::new(1)).ok_or("pages")?;
     let first = page_in(alloc, &mut pages, columns, payload)?.ok_or("a page")?;
     assert_eq!(rt; first.rows(), PAGE_ROWS);
@@ -246,7 +259,12 @@ fn pages_with_words(rt: HostRuntime) -> Result<(), Fail> {
     assert_eq!(rt; page.moments(), [-1_500, 0].as_slice());
     assert_eq!(rt; page.words(), [7].as_slice());
     // A count of the one page, and whether the page is read still.
-    for (at, byte, stays) in [(87, 1, true), (87, 0, false), (87, 2, false), (91, 1, false)] {
+    for (at, byte, stays) in [
+        (87, 1, true),
+        (87, 0, false),
+        (87, 2, false),
+        (91, 1, false),
+    ] {
         let mut bytes = TWO_ROWS;
         assert!(rt; at < 103, "a byte at {at}");
         bytes[at] = byte;

@@ -24,12 +24,12 @@ returns c =
     let least : moment_bytes (to_z w64 (of_z w64 f.least)) ≡ moment_bytes f.least = ap moment_bytes (to_z-of_z {w = w64} {z = f.least} c.requires.least) in
     let greatest : moment_bytes (to_z w64 (of_z w64 f.greatest)) ≡ moment_bytes f.greatest = ap moment_bytes (to_z-of_z {w = w64} {z = f.greatest} c.requires.greatest) in
     on_ok_weaker c.put_number-5.result (λ e9.
-      let r8 = put_before o7 (four_bytes f.words) (four_bytes f.variables) c.in_ok-put_number-4.ensures e9 in
-      let r7 = put_before o6 (four_bytes f.types) _ c.in_ok-put_number-3.ensures r8 in
-      let r6 = put_before o5 (moment_bytes f.greatest) _ (c.in_ok-put_moment-2.ensures ∙ ap (λ (l : List ℕ). o5 ++ l) greatest) r7 in
-      let r5 = put_before o4 (moment_bytes f.least) _ (c.in_ok-put_moment.ensures ∙ ap (λ (l : List ℕ). o4 ++ l) least) r6 in
-      let r4 = put_before o3 (b ∷ []) _ e4 r5 in
-      let r3 = put_before o2 (four_bytes f.rows) _ c.in_ok-put_number-2.ensures r4 in
-      let r2 = put_before o1 (eight_bytes f.first) _ c.in_ok-put_long.ensures r3 in
-      put_before o (four_bytes f.file) _ c.in_ok-put_number.ensures r2)
+    let r8 = put_before o7 (four_bytes f.words) (four_bytes f.variables) c.in_ok-put_number-4.ensures e9 in
+    let r7 = put_before o6 (four_bytes f.types) _ c.in_ok-put_number-3.ensures r8 in
+    let r6 = put_before o5 (moment_bytes f.greatest) _ (c.in_ok-put_moment-2.ensures ∙ ap (λ (l : List ℕ). o5 ++ l) greatest) r7 in
+    let r5 = put_before o4 (moment_bytes f.least) _ (c.in_ok-put_moment.ensures ∙ ap (λ (l : List ℕ). o4 ++ l) least) r6 in
+    let r4 = put_before o3 (b ∷ []) _ e4 r5 in
+    let r3 = put_before o2 (four_bytes f.rows) _ c.in_ok-put_number-2.ensures r4 in
+    let r2 = put_before o1 (eight_bytes f.first) _ c.in_ok-put_long.ensures r3 in
+    put_before o (four_bytes f.file) _ c.in_ok-put_number.ensures r2)
     c.put_number-5.ensures

@@ -23,23 +23,23 @@ pub returns-in_err-list_in-clause-malformed : goal.returns-in_err-list_in-clause
 returns-in_err-list_in-clause-malformed c =
     let p = err_from_is_err_and c.from_residual.result c.from_residual.ensures.1 in
     λ was h is e.
-      let bytes : List ℕ = c.args.bytes.now in
-      let same = head_fixed bytes h e c.in-Some.fixed c.in-Some.ensures.fits is c.in-Some.ensures.spelled in
-      let n : ℕ = c.in-Some.fixed.types in
-      let rest : take (length bytes - 45) (drop 45 bytes) ≡ drop 45 bytes = take_rest bytes 45 in
-      c.list_in.ensures.malformed (cc (c.in_err-list_in.was, p.1, p.2)) h.types is.types
-      (c.split_at.ensures.front ∙ ap (take (4 * n)) rest ∙ head_types bytes h e n (ap (λ f. f.types) same))
+    let bytes : List ℕ = c.args.bytes.now in
+    let same = head_fixed bytes h e c.in-Some.fixed c.in-Some.ensures.fits is c.in-Some.ensures.spelled in
+    let n : ℕ = c.in-Some.fixed.types in
+    let rest : take (length bytes - 45) (drop 45 bytes) ≡ drop 45 bytes = take_rest bytes 45 in
+    c.list_in.ensures.malformed (cc (c.in_err-list_in.was, p.1, p.2)) h.types is.types
+    (c.split_at.ensures.front ∙ ap (take (4 * n)) rest ∙ head_types bytes h e n (ap (λ f. f.types) same))
 
 pub returns-in_err-list_in-2-clause-malformed : goal.returns-in_err-list_in-2-clause-malformed
 returns-in_err-list_in-2-clause-malformed c =
     let p = err_from_is_err_and c.from_residual-in_err-list_in-2.result c.from_residual-in_err-list_in-2.ensures.1 in
     λ was h is e.
-      let bytes : List ℕ = c.args.bytes.now in
-      let same = head_fixed bytes h e c.in-Some.fixed c.in-Some.ensures.fits is c.in-Some.ensures.spelled in
-      let n : ℕ = c.in-Some.fixed.types in
-      let rest : take (length bytes - 45) (drop 45 bytes) ≡ drop 45 bytes = take_rest bytes 45 in
-      c.list_in-2.ensures.malformed (cc (c.in_err-list_in-2.was, p.1, p.2)) h.words is.words
-      (c.split_at.ensures.back ∙ ap (drop (4 * n)) rest ∙ head_words bytes h e n (ap (λ f. f.types) same))
+    let bytes : List ℕ = c.args.bytes.now in
+    let same = head_fixed bytes h e c.in-Some.fixed c.in-Some.ensures.fits is c.in-Some.ensures.spelled in
+    let n : ℕ = c.in-Some.fixed.types in
+    let rest : take (length bytes - 45) (drop 45 bytes) ≡ drop 45 bytes = take_rest bytes 45 in
+    c.list_in-2.ensures.malformed (cc (c.in_err-list_in-2.was, p.1, p.2)) h.words is.words
+    (c.split_at.ensures.back ∙ ap (drop (4 * n)) rest ∙ head_words bytes h e n (ap (λ f. f.types) same))
 
 pub returns-clause-spelled : goal.returns-clause-spelled
 returns-clause-spelled c =

@@ -14,8 +14,7 @@ loop-place-preserved c =
     let bytes : List ℕ = c.args.bytes.now in
     let i = c.loop-place.place in
     let number : c.read_u32.result ≡ number_at bytes i =
-    c.read_u32.ensures ∙ little_from-take 0 4 (length bytes - 4 * i) (drop (4 * i) bytes) (omega (arith, c.loop-place-test.true, c.requires.whole)) in
-    (
+    c.read_u32.ensures ∙ little_from-take 0 4 (length bytes - 4 * i) (drop (4 * i) bytes) (omega (arith, c.loop-place-test.true, c.requires.whole)) in (
       omega (arith, c.loop-place.invariant.0, c.from-total.ensures, number, sum_more bytes i),
       omega (arith, c.loop-place.invariant.1, c.from-total.ensures, c.read_u32.type_inv),
     )

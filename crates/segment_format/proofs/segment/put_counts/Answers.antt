@@ -29,8 +29,7 @@ loop-end-preserved c =
     let at : end ≡ (0 + variable_count (take i rows)) + length (get_or rows i no_row).words = ap (λ (l : List ℕ). get_or l i 0) ends ∙ ends_at 0 rows i no_row lt in
     let more : variable_count (take (i + 1) rows) ≡ variable_count (take i rows) + length (get_or rows i no_row).words = sum_by_more (λ r. length r.words) rows i no_row lt in
     let n : end - c.loop-end.start ≡ length (get_or rows i no_row).words = omega (arith, at, c.loop-end.invariant.1) in
-    let put : c.put_number.new.out.items ≡ c.loop-end.out.items ++ four_bytes (end - c.loop-end.start) = c.in_ok-put_number.ensures in
-    (
+    let put : c.put_number.new.out.items ≡ c.loop-end.out.items ++ four_bytes (end - c.loop-end.start) = c.in_ok-put_number.ensures in (
       ends,
       omega (arith, at, more),
       put ∙ ap (λ (l : List ℕ). l ++ four_bytes (end - c.loop-end.start)) c.loop-end.invariant.2 ∙ count_put c.args.out.now.items rows i (end - c.loop-end.start) no_row lt n,

@@ -39,9 +39,10 @@ loop-place-preserved c =
     let least : c.lesser-least.result ≡ (if has_any ms then ord_min int_cmp (least_of ms) m else m) =
     c.lesser-least.ensures.is ∙ (λ j. if inv.3 j then ord_min int_cmp (inv.4 j) (moment j) else moment j) in
     let greatest : c.greater-greatest.result ≡ (if has_any ms then ord_max int_cmp (greatest_of ms) m else m) =
-    c.greater-greatest.ensures.is ∙ (λ j. if inv.3 j then ord_max int_cmp (inv.5 j) (moment j) else moment j) in
-    (
-      inv.0, inv.1, inv.2,
+    c.greater-greatest.ensures.is ∙ (λ j. if inv.3 j then ord_max int_cmp (inv.5 j) (moment j) else moment j) in (
+      inv.0,
+      inv.1,
+      inv.2,
       sym (ap has_any more ∙ any_push ms m),
       to_z-of_z {w = w64} {z = c.lesser-least.result} c.lesser-least.ensures.fits ∙ least ∙ sym (ap least_of more ∙ least_push ms m),
       to_z-of_z {w = w64} {z = c.greater-greatest.result} c.greater-greatest.ensures.fits ∙ greatest ∙ sym (ap greatest_of more ∙ greatest_push ms m),

@@ -72,9 +72,17 @@ put_columns-requires-clause-room c =
 pub returns : goal.returns
 returns c =
     let f : Fixed = record {
-      file = c.args.file; first = c.args.first; rows = c.rows.result; last = c.args.last; ended = c.args.ended; stamped = c.span_of-stamped.result.0;
-      least = to_z w64 (of_z w64 c.span_of-stamped.result.1); greatest = to_z w64 (of_z w64 c.span_of-stamped.result.2);
-      types = c.len.result; words = c.len-2.result; variables = c.variables.result;
+      file = c.args.file;
+      first = c.args.first;
+      rows = c.rows.result;
+      last = c.args.last;
+      ended = c.args.ended;
+      stamped = c.span_of-stamped.result.0;
+      least = to_z w64 (of_z w64 c.span_of-stamped.result.1);
+      greatest = to_z w64 (of_z w64 c.span_of-stamped.result.2);
+      types = c.len.result;
+      words = c.len-2.result;
+      variables = c.variables.result;
     } in
     let rows : List Row = c.args.columns.now.rows in
     let h : Head = head_of c.args.file c.args.first c.args.last c.args.ended rows c.args.words.now in
@@ -84,8 +92,17 @@ returns c =
     let greatest = to_z-of_z {w = w64} {z = c.span_of-stamped.result.2} c.span_of-stamped.ensures.fits_greatest ∙ c.span_of-stamped.ensures.greatest in
     let counted : c.len.result ≡ length h.types = len ∙ ap (λ (l : List ℕ). length l) types in
     let is : f ≡ fixed_of h = λ i. record {
-      file = c.args.file; first = c.args.first; rows = c.rows.ensures i; last = c.args.last; ended = c.args.ended; stamped = c.span_of-stamped.ensures.stamped i;
-      least = least i; greatest = greatest i; types = counted i; words = c.len-2.ensures i; variables = c.variables.ensures i;
+      file = c.args.file;
+      first = c.args.first;
+      rows = c.rows.ensures i;
+      last = c.args.last;
+      ended = c.args.ended;
+      stamped = c.span_of-stamped.ensures.stamped i;
+      least = least i;
+      greatest = greatest i;
+      types = counted i;
+      words = c.len-2.ensures i;
+      variables = c.variables.ensures i;
     } in
     c.new.ensures ∙ wrote_segment h f rows c.in_ok-out.out.items c.put_fixed.new.out.items c.put_numbers.new.out.items c.put_numbers-2.new.out.items c.put_columns.new.out.items
     c.as_slice.result.now c.as_slice-2.result.now c.in_ok-out.ensures.items c.in_ok-put_fixed.ensures c.in_ok-put_numbers.ensures c.in_ok-put_numbers-2.ensures c.in_ok-put_columns.ensures
