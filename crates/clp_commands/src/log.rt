@@ -163,7 +163,8 @@ pub(crate) fn print_log<H: Shelf, K: Sink, T: Tell>(
         → Rose (H.open_faults shelf.old name.now) (H.open_faults shelf.new name.now) }
     ensures read { IsErrOf result ReadFault
         → Rose (H.read_faults shelf.old name.now) (H.read_faults shelf.new name.now) }
-    ensures steady { OnOk result (Adds 0 (H.read_faults shelf.old name.now) (H.read_faults shelf.new name.now)) }
+    ensures steady { OnOk result
+        (Adds 0 (H.read_faults shelf.old name.now) (H.read_faults shelf.new name.now)) }
     ensures sink { CountsOf SinkFault (K.faults out.old) (K.faults out.new) result }
 
     // what stays
