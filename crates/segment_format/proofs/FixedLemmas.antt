@@ -1,13 +1,11 @@
 -- The fixed part of a head: what was read is spelled so, and no bytes spell two.
-use Rattle.std.proofs.Common.{◌≡◌, ◌<◌, ◌≤◌, ℕ, zero, suc, ◌+◌, ◌*◌, ◌^◌, ℤ, List, [], ◌∷◌, ◌++◌, Bool, true, false, length, take, drop, get_or, refl, sym, ap, ◌∙◌, append_assoc, arith, length-append}
+use Rattle.std.proofs.Common.{◌≡◌, ◌≤◌, ℕ, ◌+◌, ℤ, List, [], ◌∷◌, ◌++◌, length, take, drop, get_or, refl, sym, ap, ◌∙◌, append_assoc, arith}
 use Rattle.std.specs.Int.{w64, cast_signed, cast_unsigned}
-use Rattle.std.specs.Int.RustNames.{FitsSigned}
-use Rattle.std.proofs.lemmas.List.{take_at, drop_at, drop_more, drop-drop, length-drop}
+use Rattle.std.proofs.lemmas.List.{take_at, drop_more, drop-drop, length-drop}
 use Rattle.byteorder.specs.Endian.{little_bytes, little_number}
 use Rattle.byteorder.specs.Numbers.{length-bytes_low_first}
 use Rattle.record_format.specs.Lists.{four_bytes}
 use Rattle.record_format.proofs.NumberLemmas.{IsBytes, IsBytes-drop, number_at_place}
-use Rattle.record_format.proofs.ListLemmas.{length-four_bytes}
 use Rattle.segment_format.specs.declared.fixed.Fixed.{Fixed}
 use Rattle.segment_format.specs.Layout.{eight_bytes, moment_bytes, flags, fixed_bytes}
 use Rattle.segment_format.proofs.ColumnLemmas.{moment_in_front}

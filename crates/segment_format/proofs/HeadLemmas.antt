@@ -1,5 +1,5 @@
 -- Heads: their parts, and that no bytes spell two.
-use Rattle.std.proofs.Common.{◌≡◌, ◌<◌, ◌≤◌, ℕ, ◌+◌, ◌*◌, ◌^◌, List, [], ◌∷◌, ◌++◌, length, take, drop, refl, sym, ap, subst, ◌∙◌, append_assoc, arith, length-append}
+use Rattle.std.proofs.Common.{◌≡◌, ℕ, ◌*◌, List, ◌++◌, length, take, drop, sym, ap, subst, ◌∙◌, arith, length-append}
 use Rattle.std.specs.List.{flat_map}
 use Rattle.std.proofs.lemmas.List.{take_at, drop_at, take-append-drop, length-take, length-drop}
 use Rattle.record_format.specs.Lists.{four_bytes}
@@ -8,7 +8,7 @@ use Rattle.segment_format.specs.declared.fixed.Fixed.{Fixed}
 use Rattle.segment_format.specs.declared.head.Head.{Head}
 use Rattle.segment_format.specs.Layout.{fixed_bytes, fixed_of, head_bytes, head_length, IsFixed, IsHead, IsNumberSet}
 use Rattle.segment_format.proofs.FixedLemmas.{length-fixed_bytes}
-use Rattle.segment_format.proofs.UniqueLemmas.{same_parts, numbers_tell, length_column, column_once, fixed_once}
+use Rattle.segment_format.proofs.UniqueLemmas.{length_column, fixed_once}
 
 pub length_numbers : (ns : List ℕ) → length (flat_map four_bytes ns) ≡ 4 * length ns
 length_numbers ns = length_column 4 four_bytes length-four_bytes ns

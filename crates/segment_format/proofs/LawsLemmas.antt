@@ -1,23 +1,22 @@
 -- No bytes spell two heads or two lists of rows, and what is written is read back.
-use Rattle.std.proofs.Common.{◌≡◌, ◌<◌, ◌≤◌, ℕ, zero, suc, ◌+◌, ◌*◌, ◌^◌, ℤ, pos, List, [], ◌∷◌, ◌++◌, Bool, true, false, nat_lt, nat_eq, cond, if◌then◌else◌, not, length, map, filter, drop, get_or, sum, All, refl, sym, ap, subst, ◌∙◌, append_assoc, arith, length-append}
+use Rattle.std.proofs.Common.{◌≡◌, ◌<◌, ◌≤◌, ℕ, suc, ◌*◌, ◌^◌, ℤ, pos, List, [], ◌∷◌, ◌++◌, Bool, true, false, nat_lt, nat_eq, cond, if◌then◌else◌, not, length, map, filter, get_or, sum, All, refl, sym, ap, ◌∙◌, append_assoc, arith, length-append}
 use Rattle.std.specs.List.{flat_map, fold}
 use Rattle.std.specs.Int.{w64}
 use Rattle.std.specs.Int.RustNames.{FitsSigned}
 use Rattle.std.specs.Ordering.{int_cmp, ord_min, ord_max}
 use Rattle.std.proofs.lemmas.List.{length-map, drop_at}
 use Rattle.std.proofs.lemmas.List.Concat.{length-flat_map}
-use Rattle.std.proofs.lemmas.List.Elements.{All-nil, All-head, All-tail, All-map, All-weaker, All-filter, All-contains, Contains-get_or}
+use Rattle.std.proofs.lemmas.List.Elements.{All-head, All-tail, All-map, All-weaker, All-filter, All-contains, Contains-get_or}
 use Rattle.record_format.specs.Lists.{four_bytes}
-use Rattle.record_format.proofs.ListLemmas.{length-four_bytes}
 use Rattle.column_store.specs.declared.row.Row.{Row}
 use Rattle.column_store.specs.Row.{variable_count, IsRow}
 use Rattle.column_store.proofs.RowsLemmas.{one_list}
 use Rattle.segment_format.specs.declared.fixed.Fixed.{Fixed}
 use Rattle.segment_format.specs.declared.head.Head.{Head}
-use Rattle.segment_format.specs.Layout.{fixed_bytes, fixed_of, head_bytes, head_length, columns_bytes, segment_bytes, head_of, added, sorted_set, stamped_moments, least_of, greatest_of, IsFixed, IsHead, IsNumberSet}
-use Rattle.segment_format.specs.Spelled.{AreColumnsIn, HoldsRows}
+use Rattle.segment_format.specs.Layout.{fixed_bytes, fixed_of, head_bytes, head_length, columns_bytes, segment_bytes, head_of, added, sorted_set, stamped_moments, least_of, greatest_of, IsHead, IsNumberSet, IsSegment}
+use Rattle.segment_format.specs.Spelled.{HoldsRows}
 use Rattle.segment_format.proofs.FixedLemmas.{length-fixed_bytes}
-use Rattle.segment_format.proofs.UniqueLemmas.{same_parts, numbers_tell, length_column, column_once, fixed_once}
+use Rattle.segment_format.proofs.UniqueLemmas.{same_parts, numbers_tell, column_once, fixed_once}
 use Rattle.segment_format.proofs.RowsLemmas.{fields_once, words_fit, below_sum, length-columns_bytes}
 use Rattle.segment_format.proofs.HeadLemmas.{length_numbers, length-head_bytes}
 use Rattle.segment_format.proofs.SetLemmas.{rise_of, up_sorted_set, from_sorted_set}
@@ -156,4 +155,24 @@ read_back file first last ended rows words fits_file fits_first fit few small is
         front = omega (arith, long, length-append (head_bytes h) (columns_bytes rows));
         behind = record { fit = fit; count = refl; variables = refl; spelled = drop_at (head_bytes h) (columns_bytes rows) (head_length (fixed_of h)) long };
       },
+    )
+
+pub segments_once : (file first : ℕ) (last ended : Bool) (rows : List Row) (words : List ℕ) (file' first' : ℕ) (last' ended' : Bool) (rows' : List Row) (words' : List ℕ)
+    → IsSegment file first last ended rows words → IsSegment file' first' last' ended' rows' words'
+    → segment_bytes file first last ended rows words ≡ segment_bytes file' first' last' ended' rows' words'
+    → (file ≡ file') × (first ≡ first') × (last ≡ last') × (ended ≡ ended') × (rows ≡ rows') × (words ≡ words')
+segments_once file first last ended rows words file' first' last' ended' rows' words' is is' e =
+    let g : Head = head_of file first last ended rows words in
+    let h : Head = head_of file' first' last' ended' rows' words' in
+    let is_g : IsHead g = (read_back file first last ended rows words is.as_file is.as_first is.fit is.count is.variables is.set).0 in
+    let is_h : IsHead h = (read_back file' first' last' ended' rows' words' is'.as_file is'.as_first is'.fit is'.count is'.variables is'.set).0 in
+    let same = heads_once g h (columns_bytes rows) (columns_bytes rows') is_g is_h e in
+    let heads : g ≡ h = same.0 in
+    let count : length rows ≡ length rows' = ap (λ (x : Head). x.rows) heads in (
+      ap (λ (x : Head). x.file) heads,
+      ap (λ (x : Head). x.first) heads,
+      ap (λ (x : Head). x.last) heads,
+      ap (λ (x : Head). x.ended) heads,
+      rows_once rows rows' is.fit is'.fit count is.variables is'.variables same.1,
+      ap (λ (x : Head). x.words) heads,
     )

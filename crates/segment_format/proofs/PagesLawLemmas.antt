@@ -1,5 +1,5 @@
 -- A payload's pages one after the other are its columns.
-use Rattle.std.proofs.Common.{◌≡◌, ◌<◌, ◌≤◌, ◌⊎◌, ◌↔◌, ℕ, zero, suc, ◌+◌, ◌-◌, ◌*◌, ◌^◌, min, ℤ, List, [], ◌∷◌, ◌++◌, length, map, take, drop, All, refl, sym, ap, subst, ◌∙◌, append_assoc, inl, inr, arith, length-append}
+use Rattle.std.proofs.Common.{◌≡◌, ◌≤◌, ◌↔◌, ℕ, zero, suc, ◌+◌, ◌-◌, ◌*◌, ℤ, List, [], ◌∷◌, ◌++◌, length, map, take, drop, All, refl, sym, ap, subst, ◌∙◌, inl, inr, arith, length-append}
 use Rattle.std.specs.List.{flat_map}
 use Rattle.std.proofs.Math.Seq.{take-add}
 use Rattle.std.proofs.lemmas.List.{length-take, length-drop, length-map, take_at, drop_at, take-take, drop-take, drop-drop, take-append-drop, take_all, nil_from_length, map-append}
@@ -13,7 +13,7 @@ use Rattle.column_store.specs.declared.row.Row.{Row}
 use Rattle.column_store.specs.Row.{variable_count, IsRow}
 use Rattle.segment_format.specs.declared.head.Head.{Head}
 use Rattle.segment_format.specs.Layout.{eight_bytes, moment_bytes, fields_bytes, columns_bytes, head_length, fixed_of, IsHead}
-use Rattle.segment_format.specs.Spelled.{AreColumnsIn, HoldsRows}
+use Rattle.segment_format.specs.Spelled.{HoldsRows}
 use Rattle.segment_format.specs.Pages.{Pages, first_page, HasPages, page_rows, pieces, FitsPage, IsPage, after}
 use Rattle.segment_format.specs.Laws.{piece, page_bytes, HoldsPages}
 use Rattle.segment_format.proofs.FixedLemmas.{length-eight_bytes, length-moment_bytes}

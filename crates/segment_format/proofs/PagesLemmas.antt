@@ -1,20 +1,19 @@
 -- The counts of a page, and what its bytes must be.
-use Rattle.std.proofs.Common.{◌≡◌, ◌<◌, ◌≤◌, ℕ, zero, suc, ◌+◌, ◌-◌, ◌*◌, ◌^◌, List, [], ◌∷◌, ◌++◌, length, map, take, drop, get_or, sum, All, refl, sym, ap, ◌∙◌, arith, length-append}
+use Rattle.std.proofs.Common.{◌≡◌, ◌<◌, ℕ, ◌+◌, ◌*◌, ◌^◌, List, ◌++◌, length, map, take, drop, get_or, sum, All, sym, ap, ◌∙◌, arith}
 use Rattle.std.specs.List.{flat_map, range_with_len}
-use Rattle.std.proofs.lemmas.List.{length-drop, length-map, take_at, drop_at, drop-drop}
-use Rattle.std.proofs.lemmas.List.Concat.{length-flat_map}
+use Rattle.std.proofs.lemmas.List.{length-map, take_at, drop_at, drop-drop}
 use Rattle.std.proofs.lemmas.List.FromFn.{length-map-range_with_len, get_or-map-range_with_len, map-range_with_len_more}
 use Rattle.std.proofs.lemmas.List.Sums.{sum_by_push, sum-map}
-use Rattle.byteorder.specs.Endian.{little_number, IsRead}
+use Rattle.byteorder.specs.Endian.{little_number}
 use Rattle.byteorder.specs.Numbers.{little_from-lt}
 use Rattle.record_format.specs.Lists.{four_bytes}
 use Rattle.record_format.proofs.NumberLemmas.{IsBytes, IsBytes-drop}
 use Rattle.record_format.proofs.ListLemmas.{length-four_bytes}
 use Rattle.column_store.specs.declared.row.Row.{Row}
-use Rattle.column_store.specs.Row.{variable_count, IsRow}
-use Rattle.segment_format.specs.Layout.{eight_bytes, moment_bytes, fields_bytes, columns_bytes}
+use Rattle.column_store.specs.Row.{variable_count}
+use Rattle.segment_format.specs.Layout.{eight_bytes, moment_bytes, fields_bytes}
 use Rattle.segment_format.specs.Spelled.{AreColumnsIn}
-use Rattle.segment_format.specs.Pages.{Pages, page_rows, FitsPage, IsPage}
+use Rattle.segment_format.specs.Pages.{Pages, page_rows, IsPage}
 use Rattle.segment_format.proofs.ColumnLemmas.{numbers_spelled}
 use Rattle.segment_format.proofs.FixedLemmas.{length-moment_bytes}
 use Rattle.segment_format.proofs.UniqueLemmas.{numbers_tell, length_column, column_once}

@@ -1,5 +1,5 @@
 -- No bytes spell two columns of numbers, nor two fixed parts.
-use Rattle.std.proofs.Common.{◌≡◌, ◌<◌, ◌≤◌, ℕ, zero, suc, ◌+◌, ◌*◌, ◌%◌, ◌/◌, ◌^◌, ℤ, List, [], ◌∷◌, ◌++◌, Bool, true, false, eqb, length, take, drop, get_or, All, refl, sym, ap, ◌∙◌, append_assoc, append-nil, arith, length-append, to_z-of_z}
+use Rattle.std.proofs.Common.{◌≡◌, ◌<◌, ℕ, ◌+◌, ◌*◌, ◌%◌, ◌/◌, ◌^◌, ℤ, List, [], ◌∷◌, ◌++◌, Bool, true, false, eqb, length, take, drop, get_or, All, refl, sym, ap, ◌∙◌, arith, length-append, to_z-of_z}
 use Rattle.std.specs.List.{flat_map}
 use Rattle.std.specs.Int.{w64, cast_signed, cast_unsigned}
 use Rattle.std.specs.Int.RustNames.{FitsSigned}
@@ -13,7 +13,7 @@ use Rattle.record_format.specs.Lists.{four_bytes}
 use Rattle.record_format.proofs.ListLemmas.{length-four_bytes, same_number}
 use Rattle.segment_format.specs.declared.fixed.Fixed.{Fixed}
 use Rattle.segment_format.specs.Layout.{eight_bytes, moment_bytes, flags, fixed_bytes, IsFixed}
-use Rattle.segment_format.proofs.FixedLemmas.{length-eight_bytes, length-moment_bytes, length-fixed_bytes}
+use Rattle.segment_format.proofs.FixedLemmas.{length-eight_bytes, length-moment_bytes}
 
 -- ---- parts
 

@@ -1,11 +1,10 @@
 -- No bytes spell two segments, and a segment by pages has the rows that it has whole.
-use Rattle.std.specs.Prelude.{◌≡◌, ◌<◌, ◌≤◌, ◌+◌, ◌*◌, ◌^◌, ◌↔◌, ℕ, Bool, List, [], ◌∷◌, ◌++◌, length, take, drop, All}
+use Rattle.std.specs.Prelude.{◌≡◌, ◌<◌, ◌≤◌, ◌*◌, ◌^◌, ◌↔◌, ℕ, Bool, List, [], ◌∷◌, ◌++◌, length, take, drop, All}
 use Rattle.std.specs.List.{flat_map}
-use Rattle.std.specs.List.Sorted.{IsStrictlyIncreasing}
 use Rattle.column_store.specs.declared.row.Row.{Row}
 use Rattle.column_store.specs.Row.{variable_count, IsRow}
 use Rattle.segment_format.specs.declared.head.Head.{Head}
-use Rattle.segment_format.specs.Layout.{IsHead, IsNumberSet, head_bytes, head_of, columns_bytes, segment_bytes}
+use Rattle.segment_format.specs.Layout.{IsHead, IsNumberSet, IsSegment, head_bytes, head_of, columns_bytes, segment_bytes}
 use Rattle.segment_format.specs.Spelled.{HoldsRows}
 use Rattle.segment_format.specs.Pages.{Pages, first_page, HasPages, page_rows, pieces, IsPage, after}
 
@@ -24,6 +23,14 @@ abbrev pub SegmentsReadBack : Type 0
 SegmentsReadBack =
     (file first : ℕ) (last ended : Bool) (rows : List Row) (words : List ℕ) → file < 2 ^ 32 → first < 2 ^ 64 → All IsRow rows → length rows < 2 ^ 32 → variable_count rows < 2 ^ 32
     → IsNumberSet words → IsHead (head_of file first last ended rows words) × HoldsRows (head_of file first last ended rows words) (segment_bytes file first last ended rows words) rows
+
+-- no bytes are two segments
+abbrev pub SegmentsAreUnique : Type 0
+SegmentsAreUnique =
+    (file first : ℕ) (last ended : Bool) (rows : List Row) (words : List ℕ) (file' first' : ℕ) (last' ended' : Bool) (rows' : List Row) (words' : List ℕ)
+    → IsSegment file first last ended rows words → IsSegment file' first' last' ended' rows' words'
+    → segment_bytes file first last ended rows words ≡ segment_bytes file' first' last' ended' rows' words'
+    → (file ≡ file') × (first ≡ first') × (last ≡ last') × (ended ≡ ended') × (rows ≡ rows') × (words ≡ words')
 
 -- ---- pages
 

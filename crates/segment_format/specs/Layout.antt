@@ -8,7 +8,7 @@ use Rattle.std.specs.Int.RustNames.{FitsSigned}
 use Rattle.byteorder.specs.Endian.{little_bytes}
 use Rattle.record_format.specs.Lists.{four_bytes}
 use Rattle.column_store.specs.declared.row.Row.{Row}
-use Rattle.column_store.specs.Row.{variable_count}
+use Rattle.column_store.specs.Row.{variable_count, IsRow}
 use Rattle.segment_format.specs.declared.fixed.Fixed.{Fixed}
 use Rattle.segment_format.specs.declared.head.Head.{Head}
 
@@ -138,3 +138,13 @@ head_of file first last ended rows words = record {
 -- the one spelling of a segment
 abbrev pub segment_bytes : ℕ → ℕ → Bool → Bool → List Row → List ℕ → List ℕ
 segment_bytes file first last ended rows words = head_bytes (head_of file first last ended rows words) ++ columns_bytes rows
+
+-- rows and words that a segment can have, and numbers that fit their fields
+pub record IsSegment (file first : ℕ) (last ended : Bool) (rows : List Row) (words : List ℕ) : Type 0 where
+  pub as_file : file < 2 ^ 32
+  pub as_first : first < 2 ^ 64
+  pub fit : All IsRow rows
+  pub count : length rows < 2 ^ 32
+  pub variables : variable_count rows < 2 ^ 32
+  pub set : IsNumberSet words
+  pub only_last : ended ≡ true → last ≡ true

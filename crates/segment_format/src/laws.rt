@@ -1,6 +1,6 @@
 //! Laws on the spellings alone, each the contract of a function that does nothing.
 
-ghost use Rattle.segment_format.specs.Laws.{HeadsAreUnique, ColumnsAreUnique, SegmentsReadBack, PagesAreTheColumns};
+ghost use Rattle.segment_format.specs.Laws.{HeadsAreUnique, ColumnsAreUnique, SegmentsAreUnique, SegmentsReadBack, PagesAreTheColumns};
 
 /// No bytes begin with two heads.
 pub fn heads_are_unique()
@@ -10,6 +10,11 @@ pub fn heads_are_unique()
 /// No bytes are the columns of two lists of as many rows.
 pub fn columns_are_unique()
     ensures { ColumnsAreUnique }
+{}
+
+/// No bytes are two segments.
+pub fn segments_are_unique()
+    ensures { SegmentsAreUnique }
 {}
 
 /// What is written of rows is a head, and columns that hold the rows.

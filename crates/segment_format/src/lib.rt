@@ -16,7 +16,10 @@ pub use ask::PageAsk;
 pub use columns::read_columns;
 pub use fixed::{FIXED_LEN, head_len};
 pub use head::{Head, read_head};
-pub use laws::{columns_are_unique, heads_are_unique, pages_are_the_columns, segments_read_back};
+pub use laws::{
+    columns_are_unique, heads_are_unique, pages_are_the_columns, segments_are_unique,
+    segments_read_back,
+};
 pub use pages::{PAGE_ROWS, PageReader, open_pages};
 pub use record_format::FormatRefusal;
 pub use segment::write_segment;

@@ -287,6 +287,7 @@ fn one_page(rt: HostRuntime) -> Result<(), Fail> {
     assert!(rt; pages.ask().is_none(), "one page");
     heads_are_unique();
     columns_are_unique();
+    segments_are_unique();
     segments_read_back();
     pages_are_the_columns();
     Ok(())

@@ -1,4 +1,4 @@
-use Rattle.std.proofs.Common.{◌≡◌, ◌<◌, ◌^◌, refl, rules, arith}
+use Rattle.std.proofs.Common.{◌<◌, ◌^◌, refl, arith}
 use Rattle.segment_format.proofs.RowsLemmas.{columns_are, arrays_are}
 use Rattle.segment_format.proofs.columns.columns_in.Goals as goal
 

@@ -1,4 +1,4 @@
-use Rattle.std.proofs.Common.{◌≡◌, ◌*◌, ℕ, ℤ, List, length, refl, rules, arith}
+use Rattle.std.proofs.Common.{◌≡◌, ◌*◌, ℕ, ℤ, List, length, rules, arith}
 use Rattle.segment_format.proofs.RowsLemmas.{spelled_parts, filled_spelled}
 use Rattle.segment_format.proofs.columns.fill_arrays.Goals as goal
 

@@ -1,6 +1,5 @@
-use Rattle.std.proofs.Common.{◌≡◌, ◌-◌, ◌+◌, ◌*◌, ℕ, List, length, drop, ap, ◌∙◌, rules, arith}
+use Rattle.std.proofs.Common.{◌≡◌, ◌+◌, ◌*◌, ℕ, List, length, drop, ap, ◌∙◌, rules, arith}
 use Rattle.std.proofs.lemmas.List.{length-drop}
-use Rattle.column_store.specs.Row.{variable_count}
 use Rattle.segment_format.specs.Layout.{fixed_of, head_length, columns_bytes}
 use Rattle.segment_format.proofs.RowsLemmas.{length-columns_bytes}
 use Rattle.segment_format.proofs.columns.read_columns.Goals as goal

@@ -1,11 +1,11 @@
-use Rattle.std.proofs.Common.{◌≡◌, ◌-◌, ◌*◌, ℕ, List, length, take, drop, refl, sym, ap, ◌∙◌, to_z-of_z, rules, arith}
+use Rattle.std.proofs.Common.{◌≡◌, ◌-◌, ◌*◌, ℕ, List, length, take, drop, refl, sym, ap, ◌∙◌, to_z-of_z, arith}
 use Rattle.std.specs.List.{flat_map}
 use Rattle.std.specs.Int.{w64}
 use Rattle.std.proofs.lemmas.List.{take_rest}
 use Rattle.std.proofs.lemmas.Result.{err_from_is_err_and}
 use Rattle.record_format.specs.Lists.{four_bytes}
-use Rattle.segment_format.specs.Layout.{fixed_bytes, fixed_of, head_bytes, head_length}
-use Rattle.segment_format.proofs.HeadLemmas.{length-head_bytes, head_front, head_length_is, head_fixed, head_types, head_words, with_lists, read_spelled}
+use Rattle.segment_format.specs.Layout.{fixed_of, head_bytes, head_length}
+use Rattle.segment_format.proofs.HeadLemmas.{head_front, head_length_is, head_fixed, head_types, head_words, with_lists, read_spelled}
 use Rattle.segment_format.proofs.head.read_head.Goals as goal
 
 pub returns-then-bytes-lt-FIXED_LEN-clause-malformed : goal.returns-then-bytes-lt-FIXED_LEN-clause-malformed

@@ -1,5 +1,4 @@
-use Rattle.std.proofs.Common.{◌≡◌, ◌≤◌, ◌*◌, ◌+◌, ◌-◌, ◌++◌, ℕ, List, length, take, drop, replicate, ap, sym, ◌∙◌, rules, arith}
-use Rattle.std.specs.List.{flat_map}
+use Rattle.std.proofs.Common.{◌≡◌, ◌*◌, ◌+◌, ◌-◌, ◌++◌, ℕ, List, length, take, drop, ap, ◌∙◌, rules, arith}
 use borrow.Rule.Slice.PartMut.{put_mid}
 use Rattle.record_format.specs.Lists.{four_bytes}
 use Rattle.segment_format.proofs.ColumnLemmas.{wrote_behind, room_made}

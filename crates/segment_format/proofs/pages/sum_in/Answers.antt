@@ -1,8 +1,6 @@
-use Rattle.std.proofs.Common.{◌≡◌, ◌≤◌, ◌<◌, ◌-◌, ◌+◌, ◌*◌, ◌/◌, ◌^◌, ℕ, List, length, take, drop, sum, sym, ap, ◌∙◌, rules, arith}
-use Rattle.byteorder.specs.Endian.{little_number}
+use Rattle.std.proofs.Common.{◌≡◌, ◌-◌, ◌*◌, ℕ, List, length, drop, ◌∙◌, arith}
 use Rattle.byteorder.specs.Numbers.{little_from-take}
-use Rattle.record_format.proofs.NumberLemmas.{IsBytes}
-use Rattle.segment_format.proofs.PagesLemmas.{number_at, numbers_in, number_fits, sum_more, numbers_in_are}
+use Rattle.segment_format.proofs.PagesLemmas.{number_at, numbers_in, sum_more, numbers_in_are}
 use Rattle.segment_format.proofs.pages.sum_in.Goals as goal
 
 pub overflow_add-total : goal.overflow_add-total

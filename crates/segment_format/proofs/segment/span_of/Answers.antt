@@ -1,8 +1,8 @@
-use Rattle.std.proofs.Common.{◌≡◌, ◌<◌, ◌+◌, ◌++◌, ◌∷◌, [], ℕ, ℤ, pos, List, Bool, true, false, nat_eq, if◌then◌else◌, length, map, take, get_or, sym, ap, ◌∙◌, to_z, of_z, to_z-of_z, eq-eqb, ne_eqb, rules, arith}
+use Rattle.std.proofs.Common.{◌≡◌, ◌<◌, ◌+◌, ◌++◌, ◌∷◌, [], ℕ, ℤ, pos, List, true, false, nat_eq, if◌then◌else◌, length, take, get_or, sym, ap, ◌∙◌, to_z, of_z, to_z-of_z, eq-eqb, ne_eqb, arith}
 use Rattle.std.specs.Int.{w64}
 use Rattle.std.specs.Int.RustNames.{FitsSigned}
 use Rattle.std.specs.Ordering.{int_cmp, ord_min, ord_max}
-use Rattle.std.proofs.lemmas.List.{get_or-map, take_all}
+use Rattle.std.proofs.lemmas.List.{get_or-map}
 use Rattle.column_store.specs.declared.row.Row.{Row}
 use Rattle.segment_format.specs.Layout.{stamped_moments, has_any, least_of, greatest_of}
 use Rattle.segment_format.proofs.SegmentLemmas.{no_row, stamp_more, stamp_none, any_push, least_push, greatest_push}

@@ -1,7 +1,5 @@
 use Rattle.std.proofs.Common.{◌≡◌, map, take, length}
 use Rattle.segment_format.specs.Layout.{stamped_moments, has_any, least_of, greatest_of}
-use Rattle.std.specs.Int.{w64}
-use Rattle.std.specs.Int.RustNames.{FitsSigned}
 use Rattle.segment_format.proofs.segment.span_of.Given as goal
 
 abbrev pub invariant-loop-place : goal.invariant-loop-place

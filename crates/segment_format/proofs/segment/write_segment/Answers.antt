@@ -1,14 +1,9 @@
-use Rattle.std.proofs.Common.{◌≡◌, ◌<◌, ◌≤◌, ◌+◌, ◌*◌, ◌^◌, ◌++◌, [], ℕ, ℤ, List, length, map, sym, ap, ◌∙◌, to_z, of_z, to_z-of_z, rules, arith, length-append}
+use Rattle.std.proofs.Common.{◌≡◌, ◌<◌, ℕ, List, length, map, ap, ◌∙◌, to_z, of_z, to_z-of_z, rules, arith}
 use Rattle.std.specs.Int.{w64}
-use Rattle.std.specs.Int.RustNames.{FitsSigned}
-use Rattle.std.specs.List.{flat_map}
-use Rattle.record_format.specs.Lists.{four_bytes}
-use Rattle.record_format.proofs.ListLemmas.{length-four_bytes}
 use Rattle.column_store.specs.declared.row.Row.{Row}
 use Rattle.segment_format.specs.declared.fixed.Fixed.{Fixed}
 use Rattle.segment_format.specs.declared.head.Head.{Head}
-use Rattle.segment_format.specs.Layout.{head_of, fixed_of, fixed_bytes, sorted_set}
-use Rattle.segment_format.proofs.FixedLemmas.{length-fixed_bytes}
+use Rattle.segment_format.specs.Layout.{head_of, fixed_of, sorted_set}
 use Rattle.segment_format.proofs.SegmentLemmas.{fixed_grown, list_grown, wrote_segment, few_types}
 use Rattle.segment_format.proofs.segment.write_segment.Goals as goal
 

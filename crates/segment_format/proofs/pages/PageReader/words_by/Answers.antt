@@ -1,4 +1,4 @@
-use Rattle.std.proofs.Common.{◌≡◌, sym, subst, ◌∙◌, rules}
+use Rattle.std.proofs.Common.{sym, subst, ◌∙◌}
 use Rattle.segment_format.specs.Pages.{FitsPage}
 use Rattle.segment_format.proofs.PagesLemmas.{sums_same}
 use Rattle.segment_format.proofs.pages.PageReader.words_by.Goals as goal

@@ -1,10 +1,7 @@
 use Rattle.std.proofs.Common.{◌≡◌, ◌<◌, ◌+◌, ◌*◌, ◌^◌, ℕ, List, length, map, take, drop, sum, refl, sym, ap, subst, ◌∙◌, rules, arith}
-use Rattle.std.specs.List.{flat_map}
-use Rattle.record_format.specs.Lists.{four_bytes}
-use Rattle.column_store.specs.declared.row.Row.{Row}
 use Rattle.column_store.specs.Row.{variable_count}
 use Rattle.segment_format.specs.Spelled.{AreColumnsIn}
-use Rattle.segment_format.specs.Pages.{Pages, FitsPage, page_rows}
+use Rattle.segment_format.specs.Pages.{Pages, FitsPage}
 use Rattle.segment_format.proofs.PagesLemmas.{page_length, page_variables, counts_there, counts_fit, counts_sum}
 use Rattle.segment_format.proofs.pages.PageReader.words_in.Goals as goal
 
