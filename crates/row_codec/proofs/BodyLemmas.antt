@@ -20,7 +20,7 @@ use Rattle.logtype_text.proofs.TextLemmas.{first_same, some_byte}
 use Rattle.row_codec.proofs.MeansLemmas.{one_writing}
 use Rattle.column_store.specs.declared.row.Row.{Row}
 use Rattle.row_codec.specs.Means.{EachWord, HasSpelling, HasStampText, IsSpelling, IsWritten}
-use Rattle.row_codec.specs.StepsBody.{HasBody, HasNoText, HasStampWriting, HasWriting, IsBody, Leads, Puts}
+use Rattle.row_codec.specs.StepsBody.{HasBody, HasNoText, HasStampWriting, HasWriting, IsBody, Puts}
 
 no_parts : (words : List (List ℕ)) (parts : List Part) (row body : List ℕ) → [] ≡ type_text (map symbol_of parts) → EachWord (IsWritten words) parts row → body ≡ joined parts → (row ≡ []) × (body ≡ [])
 no_parts words [] [] body typed written is = (refl, is)

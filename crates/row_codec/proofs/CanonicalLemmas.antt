@@ -1,6 +1,6 @@
 -- When a row is the encoding of a message, and that a message has one.
 use Rattle.std.proofs.Common.{◌≡◌, ℕ, ◌+◌, ◌≤◌, List, [], ◌∷◌, ◌++◌, length, map, take, refl, sym, ◌∙◌, ap, ap₂, subst, arith}
-use Rattle.std.specs.Prelude.{◌↔◌, ℤ, None, Some, IsTrue, Bool, slice_get}
+use Rattle.std.specs.Prelude.{◌↔◌, ℤ, None, Some, slice_get}
 use Rattle.std.proofs.lemmas.Option.{slice_get_within}
 use Rattle.std.proofs.lemmas.List.{append_cancel_left}
 use Rattle.std.specs.Int.{cast_unsigned, w64}
@@ -11,13 +11,12 @@ use Rattle.logtype_text.specs.declared.symbols.Kind.{Kind}
 use Rattle.logtype_text.specs.declared.symbols.Kind.TheVariants.{Whole, Word, Decimal}
 use Rattle.logtype_text.specs.Parts.{Part, Constant, Variable, AreParts, HasKind, StandAt, joined, symbol_of}
 use Rattle.logtype_text.specs.TypeText.{type_text}
-use Rattle.logtype_text.specs.Cut.{Cut}
 use Rattle.logtype_text.proofs.CutLemmas.{parts_are_cut}
 use Rattle.logtype_text.proofs.TextLemmas.{one_text}
 use Rattle.time_patterns.specs.Stamps.{HasStamp}
 use Rattle.time_patterns.proofs.VersionLemmas.{front_tells, one_stamp_of}
 use Rattle.column_store.specs.declared.row.Row.{Row}
-use Rattle.row_codec.specs.Means.{EachWord, HasStampText, HasWord, IsCanonical, IsWritten, Means}
+use Rattle.row_codec.specs.Means.{EachWord, HasStampText, HasWord, IsCanonical, IsWritten}
 use Rattle.row_codec.specs.StepsBody.{HasBody, HasStampWriting, IsBody}
 use Rattle.row_codec.specs.StepsCut.{IsCutText}
 use Rattle.row_codec.specs.Laws.{OneRow, RowsReturn}

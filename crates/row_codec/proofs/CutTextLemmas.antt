@@ -1,6 +1,6 @@
 -- Parts that are cut by the rule of tokens, by the text of their log type.
-use Rattle.std.proofs.Common.{◌≡◌, ℕ, ◌-◌, ◌<◌, ◌≤◌, ◌⊎◌, zero, suc, Bool, true, false, cond, List, [], ◌∷◌, ◌++◌, length, get_or, take, drop, map, refl, sym, ◌∙◌, ap, ap₂, subst, arith, inl, inr, append_assoc, length-append}
-use Rattle.std.specs.Prelude.{◌≢◌, ◌↔◌, ◌==◌, ◌||◌, ◌&&◌, nat_le, Option, None, Some, IsTrue, slice_index}
+use Rattle.std.proofs.Common.{◌≡◌, ℕ, ◌-◌, ◌<◌, ◌⊎◌, zero, suc, Bool, true, false, cond, List, [], ◌∷◌, ◌++◌, length, take, map, refl, sym, ◌∙◌, ap, ap₂, subst, arith, inl, inr, append_assoc, length-append}
+use Rattle.std.specs.Prelude.{◌≢◌, ◌↔◌, ◌||◌, ◌&&◌, nat_le, Option, None, Some, slice_index}
 use Rattle.std.specs.List.{list_all, list_any}
 use Rattle.std.proofs.lemmas.List.{append-nil, take_at}
 use Rattle.std.proofs.lemmas.Bool.{cases_Bool, both_ways}
@@ -10,10 +10,10 @@ use Rattle.token_rules.proofs.TokenLemmas.{no_delimiter}
 use Rattle.logtype_text.specs.declared.symbols.Kind.{Kind}
 use Rattle.logtype_text.specs.declared.symbols.Symbol.{Symbol}
 use Rattle.logtype_text.specs.declared.symbols.Symbol.TheVariants.{Byte, Slot}
-use Rattle.logtype_text.specs.Parts.{Part, Constant, Variable, HasKind, StandAt, joined, symbol_of}
+use Rattle.logtype_text.specs.Parts.{Part, Constant, Variable, HasKind, symbol_of}
 use Rattle.logtype_text.specs.Cut.{IsTokenText, Breaks, plains, Cut, ended, delimiter, plain, held}
 use Rattle.logtype_text.specs.TypeText.{is_escaped, text_of_symbol, type_text}
-use Rattle.logtype_text.proofs.TextLemmas.{first_same, one_text, some_byte, symbol_longer}
+use Rattle.logtype_text.proofs.TextLemmas.{first_same, some_byte, symbol_longer}
 use Rattle.row_codec.specs.Means.{EachWord, IsWritten}
 use Rattle.row_codec.specs.StepsCut.{AreTokenBytes, IsCutText, IsHeldToken, IsHeldWord, IsTokenByte, Stops, StopsText, TellsBreaks}
 use Rattle.row_codec.proofs.MeansLemmas.{one_writing}

@@ -8,7 +8,7 @@ use Rattle.logtype_text.specs.declared.symbols.Symbol.{Symbol}
 use Rattle.logtype_text.specs.declared.symbols.Symbol.TheVariants.{Byte, Slot}
 use Rattle.logtype_text.specs.TypeText.{text_of_symbol}
 use Rattle.row_codec.specs.Means.{IsWritten}
-use Rattle.row_codec.specs.StepsBody.{HasBody, IsBody, Puts}
+use Rattle.row_codec.specs.StepsBody.{HasBody, IsBody}
 use Rattle.row_codec.specs.StepsOpening.{Fills}
 use Rattle.row_codec.proofs.BodyLemmas.{puts_all, puts_has, puts_then, symbol_puts_byte, symbol_puts_slot}
 

@@ -1,9 +1,8 @@
 -- What is written behind the stamp of a row, on the way through the text of its log type.
 use Rattle.std.specs.Prelude.{◌≡◌, ◌≢◌, ℕ, ℤ, List, ◌++◌, map, Some, slice_get}
 use Rattle.logtype_text.specs.declared.symbols.Kind.{Kind}
-use Rattle.logtype_text.specs.declared.symbols.Symbol.{Symbol}
 use Rattle.logtype_text.specs.Parts.{Part, joined, symbol_of}
-use Rattle.logtype_text.specs.TypeText.{text_of_symbol, type_text}
+use Rattle.logtype_text.specs.TypeText.{type_text}
 use Rattle.row_codec.specs.Means.{EachWord, HasStampText, IsWritten}
 
 -- a stamp with this pattern and moment can be written

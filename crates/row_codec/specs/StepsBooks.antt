@@ -1,5 +1,4 @@
 -- Two books as the dictionaries of an archive, in tests: the namer added all their texts itself.
-use Rattle.std.specs.Prelude.{List}
 use Rattle.dict_core.specs.Books.{BookState}
 use Rattle.row_codec.specs.Naming.{Known}
 

@@ -1,5 +1,5 @@
 -- Whether the parts of a row are cut by the rule of tokens, on the way through the text of its log type.
-use Rattle.std.specs.Prelude.{◌≡◌, ℕ, ◌<◌, ◌≤◌, ◌↔◌, Bool, true, Option, List, [], ◌∷◌, ◌++◌, length, map, slice_index}
+use Rattle.std.specs.Prelude.{◌≡◌, ℕ, ◌<◌, ◌↔◌, Bool, true, Option, List, [], ◌∷◌, ◌++◌, length, map, slice_index}
 use Rattle.token_rules.specs.Tokens.{IsDelimiter, IsVariable}
 use Rattle.logtype_text.specs.declared.symbols.Kind.{Kind}
 use Rattle.logtype_text.specs.declared.symbols.Symbol.TheVariants.{Byte}
