@@ -17,21 +17,18 @@ use step_count::Steps;
 use time_patterns::print_stamp;
 use var_codec::{decimal_text, whole_text};
 
-/// Appends what a row is written as, and counts one step. Where the row means a message, this is
-/// the message. Without memory nothing is appended.
-pub fn expand_onto<N: Names, L: Ledger>(
+/// Appends what a row is written as. Where the row means a message, this is the message. Without memory
+/// nothing is appended.
+pub fn write_onto<N: Names>(
     row: RowRef<'_>,
     names: &N,
     out: &mut Vec<u8>,
-    steps: &mut Steps<L>,
 ) -> Result<(), AllocError>
     requires { HasSpelling (row_of row) (N.types names.now) (N.words names.now) }
-    ensures counted { steps.new ≡ steps.old + 1 }
-    ensures written { OnOk result (IsAppended (row_of row.entry) (N.types names.now)
-        (N.words names.now) out.old.items out.new.items) }
+    ensures written { OnOk result ((text : List ℕ) × IsSpelling (row_of row.entry) (N.types names.now) (N.words names.now) text
+        × (out.new.items ≡ out.old.items ++ text)) }
     ensures kept { OnErr result (out.new.items ≡ out.old.items) }
 {
-    steps.tick();
     let len = out.len();
     match put_row(row, names, out) {
         Ok(()) => Ok(()),
@@ -40,6 +37,23 @@ pub fn expand_onto<N: Names, L: Ledger>(
             Err(error)
         }
     }
+}
+
+/// Appends what a row is written as, as [`write_onto`] does, and counts one step.
+pub fn expand_onto<N: Names, L: Ledger>(
+    row: RowRef<'_>,
+    names: &N,
+    out: &mut Vec<u8>,
+    steps: &mut Steps<L>,
+) -> Result<(), AllocError>
+    requires { HasSpelling (row_of row) (N.types names.now) (N.words names.now) }
+    ensures counted { steps.new ≡ steps.old + 1 }
+    ensures written { OnOk result ((text : List ℕ) × IsSpelling (row_of row.entry) (N.types names.now) (N.words names.now) text
+        × (out.new.items ≡ out.old.items ++ text)) }
+    ensures kept { OnErr result (out.new.items ≡ out.old.items) }
+{
+    steps.tick();
+    write_onto(row, names, out)
 }
 
 /// What a row is written as, and counts one step. Where the row means a message, this is the

@@ -1,0 +1,154 @@
+//! A judge over the entries of a journal.
+ghost use Rattle.std.specs.Prelude.{◌≡◌, [], ℕ, ◌+◌, ◌<◌, ◌≤◌, ◌↔◌, IsTrue, IsErrOf, OnErr, OnOk, length, min};
+ghost use Rattle.record_format.specs.Header.{IsHeader};
+ghost use Rattle.record_format.specs.Lists.{files_payload, texts_payload};
+ghost use Rattle.archive_core.specs.declared.refusal.JudgeRefusal.TheVariants.{Illegal};
+ghost use Rattle.archive_meaning.specs.declared.entry.JournalEntry.TheVariants.{Files, Types, Words};
+ghost use Rattle.archive_meaning.specs.Sums.{AddsNames, Admits, Sums};
+
+use crate::books::Books;
+use crate::refusal::JudgeRefusal;
+use crate::texts::add_texts;
+use archive_meaning::{FileSum, MAX_FILES, MAX_NAME_LEN, MAX_NAMES};
+use dict_core::Book;
+use log_seams::{Text, TextList};
+use row_codec::Which;
+use record_format::{Header, MIN_ARCHIVE_LEN, room_for};
+use std::alloc::Global;
+use std::marker::Model;
+
+// The bytes that a record takes beside its payload: its gate, its kind and its length.
+const FRAME_LEN: u64 = 10;
+
+const NO_MESSAGES: FileSum = FileSum {
+    messages: 0,
+    whole: false,
+    open_end: false,
+};
+
+/// What decides over the next entry of a journal. Contracts see the sums of the entries so far.
+#[derive(Drop)]
+pub struct Judge {
+    header: Header,
+    pub(crate) books: Books,
+    files: Vec<FileSum>,
+    end: u64,
+}
+
+impl Model for Judge {
+    ghost use Rattle.archive_core.specs.Judged.{IsJudge};
+    ghost use Rattle.archive_meaning.specs.Sums.{Sums};
+
+    ghost Value = { Sums };
+
+    ghost view = { λ j. record { header = j.header; types = j.books.types.texts;
+        words = j.books.words.texts; files = j.files.items; end = j.end } };
+
+    ghost invariant = { λ j. IsJudge j.header j.books.version j.books.types j.books.words j.files.items j.end };
+}
+
+// How many bytes the payload of a record of texts takes, or the greatest number where they are more.
+fn texts_len(texts: &[Text]) -> usize
+    ensures { (first : ℕ) → result ≡ min (length (texts_payload first texts.now)) usize.MAX }
+{
+    room_for(texts).saturating_add(4)
+}
+
+// Whether these names may follow so many others.
+fn names_fit(count: usize, names: &[Text]) -> bool
+    requires { count ≤ MAX_FILES }
+    ensures { IsTrue result ↔ AddsNames count names.now }
+{
+    !names.is_empty()
+        && names.len() <= MAX_NAMES
+        && count + names.len() <= MAX_FILES
+        && names.iter().all(|name| name.as_slice().len() <= MAX_NAME_LEN)
+}
+
+impl Judge {
+    /// A judge over no entries. Takes no memory.
+    pub fn new(alloc: Global, header: &Header) -> Judge
+        requires { IsHeader header.now }
+        ensures header { result.header ≡ header.now }
+        ensures types { result.types ≡ [] }
+        ensures words { result.words ≡ [] }
+        ensures files { result.files ≡ [] }
+        ensures end { result.end ≡ 33 }
+    {
+        Judge {
+            header: *header,
+            books: Books {
+                types: Book::new(alloc, header.types_limit),
+                words: Book::new(alloc, header.words_limit),
+                version: header.version,
+            },
+            files: Vec::new(alloc),
+            end: MIN_ARCHIVE_LEN,
+        }
+    }
+
+    // Whether a record with a payload of so many bytes keeps the archive within its limit of length.
+    fn has_room(&self, payload: usize) -> bool
+        ensures { IsTrue result ↔ (self.now.end + 10 + payload ≤ self.now.header.length_limit) }
+    {
+        let room = self.header.length_limit - self.end;
+        room >= FRAME_LEN && room - FRAME_LEN >= payload as u64
+    }
+
+    // Admits the names of further files.
+    fn admit_names(&mut self, names: &TextList) -> Result<(), JudgeRefusal>
+        ensures admitted { OnOk result (Admits self.old (Files names.now) self.new) }
+        ensures illegal { IsErrOf result Illegal → (more : Sums) → ¬ Admits self.old (Files names.now) more }
+        ensures err { OnErr result (self.new ≡ self.old) }
+    {
+        let names = names.as_slice();
+        let payload = room_for(names);
+        if !names_fit(self.files.len(), names) || !self.has_room(payload) {
+            return Err(JudgeRefusal::Illegal);
+        }
+        self.files
+            .resize(self.files.len() + names.len(), NO_MESSAGES)?;
+        self.end += FRAME_LEN + payload as u64;
+        Ok(())
+    }
+
+    // Whether the texts behind `count` others, numbered from `first` on, keep within the limit of length.
+    fn goes_on(&self, count: u32, first: u32, payload: usize, texts: &[Text]) -> bool
+        ensures { IsTrue result ↔ (first ≡ count) × (0 < length texts.now)
+            × (self.now.end + 10 + payload ≤ self.now.header.length_limit) }
+    {
+        first == count && !texts.is_empty() && self.has_room(payload)
+    }
+
+    // Admits texts of log types.
+    fn admit_types(&mut self, first: u32, texts: &TextList) -> Result<(), JudgeRefusal>
+        ensures admitted { OnOk result (Admits self.old (Types first texts.now) self.new) }
+        ensures illegal { IsErrOf result Illegal → (more : Sums) → ¬ Admits self.old (Types first texts.now) more }
+        ensures err { OnErr result (self.new ≡ self.old) }
+    {
+        let texts = texts.as_slice();
+        let payload = texts_len(texts);
+        if !self.goes_on(self.books.types.len(), first, payload, texts) {
+            return Err(JudgeRefusal::Illegal);
+        }
+        add_texts(&mut self.books.types, Which::Types, texts)?;
+        self.end += FRAME_LEN + payload as u64;
+        Ok(())
+    }
+
+    // Admits words of variables.
+    fn admit_words(&mut self, first: u32, texts: &TextList) -> Result<(), JudgeRefusal>
+        ensures admitted { OnOk result (Admits self.old (Words first texts.now) self.new) }
+        ensures illegal { IsErrOf result Illegal → (more : Sums) → ¬ Admits self.old (Words first texts.now) more }
+        ensures err { OnErr result (self.new ≡ self.old) }
+    {
+        let texts = texts.as_slice();
+        let payload = texts_len(texts);
+        if !self.goes_on(self.books.words.len(), first, payload, texts) {
+            return Err(JudgeRefusal::Illegal);
+        }
+        add_texts(&mut self.books.words, Which::Words, texts)?;
+        self.end += FRAME_LEN + payload as u64;
+        Ok(())
+    }
+}

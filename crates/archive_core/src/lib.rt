@@ -1,0 +1,18 @@
+//! Whether a journal is legal, entry by entry.
+//!
+//! A [`Judge`] keeps of the entries so far what decides over the next one: the texts of both
+//! dictionaries, and of each file how many messages it has and how it ends.
+#![tactic(auto)]
+
+mod books;
+
+mod judge;
+mod message;
+mod refusal;
+mod texts;
+
+pub use books::Books;
+
+pub use judge::Judge;
+pub use refusal::JudgeRefusal;
+

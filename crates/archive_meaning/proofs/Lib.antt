@@ -1,0 +1,9 @@
+pub mod SetLemmas
+pub mod BackLemmas
+pub mod RunLemmas
+pub mod SpellingLemmas
+pub mod FormLemmas
+pub mod LegalLemmas
+pub mod UniqueLemmas
+pub mod SumsLemmas
+pub mod JudgeLemmas
