@@ -1,2 +1,4 @@
 pub mod TextsLemmas
 pub mod MessageLemmas
+pub mod RowsLemmas
+pub mod SegmentLemmas

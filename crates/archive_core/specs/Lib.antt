@@ -1,2 +1,4 @@
 pub mod Texts
 pub mod Judged
+pub mod Rows
+pub mod Part

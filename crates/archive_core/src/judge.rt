@@ -3,11 +3,15 @@ ghost use Rattle.std.specs.Prelude.{◌≡◌, [], ℕ, ◌+◌, ◌<◌, ◌≤
 ghost use Rattle.record_format.specs.Header.{IsHeader};
 ghost use Rattle.record_format.specs.Lists.{files_payload, texts_payload};
 ghost use Rattle.archive_core.specs.declared.refusal.JudgeRefusal.TheVariants.{Illegal};
-ghost use Rattle.archive_meaning.specs.declared.entry.JournalEntry.TheVariants.{Files, Types, Words};
+ghost use Rattle.archive_meaning.specs.declared.entry.JournalEntry.TheVariants.{Files, Segment, Types, Words};
+ghost use Rattle.archive_meaning.specs.Spelled.{record_of};
+ghost use Rattle.archive_core.specs.Part.{segment_of};
 ghost use Rattle.archive_meaning.specs.Sums.{AddsNames, Admits, Sums};
 
 use crate::books::Books;
 use crate::refusal::JudgeRefusal;
+use crate::rows::{Rows, rows_say};
+use crate::segment::{Part, ends_well, may_follow};
 use crate::texts::add_texts;
 use archive_meaning::{FileSum, MAX_FILES, MAX_NAME_LEN, MAX_NAMES};
 use dict_core::Book;
@@ -148,6 +152,50 @@ impl Judge {
             return Err(JudgeRefusal::Illegal);
         }
         add_texts(&mut self.books.words, Which::Words, texts)?;
+        self.end += FRAME_LEN + payload as u64;
+        Ok(())
+    }
+
+    /// Admits a segment of these rows, whose record has a payload of so many bytes. A refusal changes
+    /// nothing.
+    ///
+    /// # Errors
+    ///
+    /// [`JudgeRefusal::Illegal`] exactly where the entries with it are not legal, or
+    /// [`JudgeRefusal::OutOfMemory`].
+    pub fn admit_segment<R: Rows>(
+        &mut self,
+        alloc: Global,
+        part: Part,
+        rows: &R,
+        payload: usize,
+    ) -> Result<(), JudgeRefusal>
+        requires { payload ≡ length (record_of self.old.types (Segment (segment_of part (R.rows rows.now)))).payload }
+        ensures admitted { OnOk result (Admits self.old (Segment (segment_of part (R.rows rows.now))) self.new) }
+        ensures illegal { IsErrOf result Illegal → (more : Sums)
+            → ¬ Admits self.old (Segment (segment_of part (R.rows rows.now))) more }
+        ensures err { OnErr result (self.new ≡ self.old) }
+    {
+        let file = part.file as usize;
+        if file >= self.files.len() || !self.has_room(payload) {
+            return Err(JudgeRefusal::Illegal);
+        }
+        let sum = self.files[file];
+        rows.fit();
+        if !may_follow(sum, part, rows) {
+            return Err(JudgeRefusal::Illegal);
+        }
+        let Some(open_end) = rows_say(alloc, &self.books, sum.open_end, rows)? else {
+            return Err(JudgeRefusal::Illegal);
+        };
+        if !ends_well(part, open_end) {
+            return Err(JudgeRefusal::Illegal);
+        }
+        self.files[file] = FileSum {
+            messages: sum.messages + rows.count() as u64,
+            whole: part.last,
+            open_end,
+        };
         self.end += FRAME_LEN + payload as u64;
         Ok(())
     }

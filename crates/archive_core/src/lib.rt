@@ -9,10 +9,14 @@ mod books;
 mod judge;
 mod message;
 mod refusal;
+mod rows;
+mod segment;
 mod texts;
 
 pub use books::Books;
 
 pub use judge::Judge;
 pub use refusal::JudgeRefusal;
+pub use rows::Rows;
+pub use segment::Part;
 

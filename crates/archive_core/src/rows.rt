@@ -1,13 +1,15 @@
 //! What the rows of a segment say of its messages.
 ghost use Rattle.std.specs.Prelude.{◌≡◌, ℕ, ◌<◌, ◌^◌, ◌↔◌, All, Bool, IfOk, IfNone, IfSome, IsFalse, IsTrue, List, Some, length, slice_get};
+ghost use Rattle.column_store.specs.declared.row.Row.{Row};
 ghost use Rattle.column_store.specs.Row.{IsRow, row_of, variable_count};
-ghost use Rattle.row_codec.specs.Means.{AreCanonical, IsCanonical};
-ghost use Rattle.row_codec.specs.Messages.{IsMessage};
+ghost use Rattle.row_codec.specs.Means.{IsCanonical};
+ghost use Rattle.archive_meaning.specs.Held.{ends_open};
+ghost use Rattle.archive_meaning.specs.Sums.{open_after};
 ghost use Rattle.archive_core.specs.Rows.{AreMessages, IsMessageOf};
 
 use crate::books::Books;
 use crate::message::is_message;
-use column_store::{Columns, Row, RowList, RowRef};
+use column_store::{Columns, RowRef};
 use row_codec::{row_ok, write_onto};
 use std::alloc::{AllocError, Global};
 
@@ -32,4 +34,94 @@ pub trait Rows {
     /// The numbers of each row fit their fields, for callers that have to show it. It does nothing.
     fn fit(&self)
         ensures { All IsRow (rows self.now) };
+}
+
+impl Rows for Columns {
+    ghost rows = { λ c. c.rows };
+
+    fn count(&self) -> usize {
+        self.rows() as usize
+    }
+
+    fn at(&self, place: usize) -> RowRef<'_> {
+        let _count = self.rows();
+        self.row(place as u32)
+    }
+
+    fn are_few(&self) -> bool {
+        let _few = self.variables();
+        true
+    }
+
+    fn fit(&self) {
+        self.rows_fit();
+    }
+}
+
+// Whether a row is the encoding of a message, which then stands in `message`.
+fn find_message(books: &Books, row: RowRef<'_>, message: &mut Vec<u8>) -> Result<bool, AllocError>
+    ensures yes { IfOk result (λ found. IsTrue found → IsCanonical books.now.version (row_of row.entry)
+        books.now.types.texts books.now.words.texts message.new.items) }
+    ensures none { IfOk result (λ found. IsFalse found → (m : List ℕ) → ¬ IsCanonical books.now.version (row_of row.entry)
+        books.now.types.texts books.now.words.texts m) }
+{
+    message.clear();
+    if !row_ok(row, books) {
+        return Ok(false);
+    }
+    write_onto(row, books, message)?;
+    Ok(true)
+}
+
+// Whether the bytes end without a newline and are not empty.
+fn is_open(bytes: &[u8]) -> bool
+    ensures { result ≡ ends_open bytes.now }
+{
+    match bytes {
+        [] => false,
+        [.., last] => *last != b'\n',
+    }
+}
+
+// Whether the row's message may be a last line without newline; nothing where the row is the encoding of no
+// message. The message is put together in `message`.
+fn row_says(books: &Books, row: RowRef<'_>, message: &mut Vec<u8>) -> Result<Option<bool>, AllocError>
+    ensures some { IfOk result (λ says. IfSome says (λ open_end. (m : List ℕ)
+        × IsMessageOf books.now.version books.now.types.texts books.now.words.texts (row_of row.entry) m
+        × (open_end ≡ ends_open m))) }
+    ensures none { IfOk result (λ says. IfNone says ((m : List ℕ)
+        → ¬ IsMessageOf books.now.version books.now.types.texts books.now.words.texts (row_of row.entry) m)) }
+{
+    if !find_message(books, row, message)? {
+        return Ok(None);
+    }
+    if !is_message(books.version, message.as_slice()) {
+        return Ok(None);
+    }
+    Ok(Some(is_open(message.as_slice())))
+}
+
+/// Whether the last of the rows' messages may be a last line without newline, where `before` tells it of
+/// the messages before them; nothing where some row is the encoding of no message.
+pub(crate) fn rows_say<R: Rows>(
+    alloc: Global,
+    books: &Books,
+    before: bool,
+    rows: &R,
+) -> Result<Option<bool>, AllocError>
+    ensures some { IfOk result (λ says. IfSome says (λ open_end. (messages : List (List ℕ))
+        × AreMessages books.now.version books.now.types.texts books.now.words.texts (R.rows rows.now) messages
+        × (open_end ≡ open_after before messages))) }
+    ensures none { IfOk result (λ says. IfNone says ((messages : List (List ℕ))
+        → ¬ AreMessages books.now.version books.now.types.texts books.now.words.texts (R.rows rows.now) messages)) }
+{
+    let mut message = Vec::new(alloc);
+    let mut open_end = before;
+    for place in 0..rows.count() {
+        match row_says(books, rows.at(place), &mut message)? {
+            Some(open) => open_end = open,
+            None => return Ok(None),
+        }
+    }
+    Ok(Some(open_end))
 }

@@ -20,7 +20,7 @@ runs_split h old more (e ∷ es) fs run =
     let rest : (mid : Held) × Run h run.0 es mid × Run h mid fs more = runs_split h run.0 more es fs run.2
     in (rest.0, (run.0, run.1, rest.1), rest.2)
 
-one_messages : (version : ℕ) (rows : List Row) (types words ms ns : List (List ℕ)) → AreCanonical version rows types words ms → AreCanonical version rows types words ns → ms ≡ ns
+pub one_messages : (version : ℕ) (rows : List Row) (types words ms ns : List (List ℕ)) → AreCanonical version rows types words ms → AreCanonical version rows types words ns → ms ≡ ns
 one_messages version [] types words [] [] a b = refl
 one_messages version [] types words [] (n ∷ ns) a b = absurd b
 one_messages version [] types words (m ∷ ms) ns a b = absurd a
