@@ -2,3 +2,4 @@ pub mod TextsLemmas
 pub mod MessageLemmas
 pub mod RowsLemmas
 pub mod SegmentLemmas
+pub mod NumbersLemmas

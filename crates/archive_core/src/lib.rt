@@ -8,6 +8,7 @@ mod books;
 
 mod judge;
 mod message;
+mod numbers;
 mod refusal;
 mod rows;
 mod segment;
@@ -17,6 +18,7 @@ pub use books::Books;
 
 pub use judge::Judge;
 pub use refusal::JudgeRefusal;
+pub use numbers::words_of;
 pub use rows::Rows;
 pub use segment::Part;
 

@@ -18,7 +18,7 @@ use log_seams::{NumberList, Text};
 use std::alloc::{AllocError, Global};
 
 /// The numbers sorted upwards, each once.
-fn set_of(alloc: Global, numbers: &[u32]) -> Result<Vec<u32>, AllocError>
+pub fn set_of(alloc: Global, numbers: &[u32]) -> Result<Vec<u32>, AllocError>
     ensures is { IfOk result (λ set. set.items ≡ sorted_set numbers.now) }
     ensures few { IfOk result (λ set. length set.items ≤ length numbers.now) }
 {
