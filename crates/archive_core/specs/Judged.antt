@@ -1,10 +1,10 @@
 -- What a judge keeps of its dictionaries and files.
-use Rattle.std.specs.Prelude.{◌≡◌, ℕ, ◌≤◌, List, length}
+use Rattle.std.specs.Prelude.{◌≡◌, ℕ, ◌≤◌, List, All, length}
 use Rattle.logtype_text.specs.Fair.{IsFairType, IsFairWord}
 use Rattle.record_format.specs.declared.header.Header.{Header}
 use Rattle.record_format.specs.Header.{IsHeader}
 use Rattle.dict_core.specs.Books.{BookState}
-use Rattle.archive_meaning.specs.declared.TheConstants.{MAX_FILES}
+use Rattle.archive_meaning.specs.declared.TheConstants.{MAX_FILES, MAX_MESSAGES}
 use Rattle.archive_meaning.specs.declared.sums.FileSum.{FileSum}
 use Rattle.archive_meaning.specs.Legal.{IsBook}
 
@@ -16,4 +16,5 @@ pub record IsJudge (header : Header) (version : ℕ) (types words : BookState) (
   pub types_book : IsBook IsFairType types.limit types.texts
   pub words_book : IsBook IsFairWord words.limit words.texts
   pub few_files : length files ≤ MAX_FILES
+  pub few_messages : All (λ (f : FileSum). f.messages ≤ MAX_MESSAGES) files
   pub short : end ≤ header.length_limit

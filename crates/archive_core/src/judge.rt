@@ -1,24 +1,28 @@
 //! A judge over the entries of a journal.
-ghost use Rattle.std.specs.Prelude.{◌≡◌, [], ℕ, ◌+◌, ◌<◌, ◌≤◌, ◌↔◌, IsTrue, IsErrOf, OnErr, OnOk, length, min};
+ghost use Rattle.std.specs.Prelude.{◌≡◌, [], ℕ, ◌+◌, ◌<◌, ◌≤◌, ◌↔◌, ◌^◌, All, IfNone, IfOk, IfSome, IsTrue, IsErrOf, OnErr, OnOk, length, min};
+ghost use Rattle.std.specs.List.{flat_map, sum_by};
+ghost use Rattle.column_store.specs.Row.{variable_count};
+ghost use Rattle.row_codec.specs.Numbers.{numbers_of_row};
 ghost use Rattle.record_format.specs.Header.{IsHeader};
 ghost use Rattle.record_format.specs.Lists.{files_payload, texts_payload};
 ghost use Rattle.archive_core.specs.declared.refusal.JudgeRefusal.TheVariants.{Illegal};
 ghost use Rattle.archive_meaning.specs.declared.entry.JournalEntry.TheVariants.{Files, Segment, Types, Words};
-ghost use Rattle.archive_meaning.specs.Spelled.{record_of};
+ghost use Rattle.archive_meaning.specs.Spelled.{record_of, words_named};
 ghost use Rattle.archive_core.specs.Part.{segment_of};
 ghost use Rattle.archive_meaning.specs.Sums.{AddsNames, Admits, Sums};
 
 use crate::books::Books;
+use crate::numbers::words_of;
 use crate::refusal::JudgeRefusal;
 use crate::rows::{Rows, rows_say};
 use crate::segment::{Part, ends_well, may_follow};
 use crate::texts::add_texts;
 use archive_meaning::{FileSum, MAX_FILES, MAX_NAME_LEN, MAX_NAMES};
 use dict_core::Book;
-use log_seams::{Text, TextList};
+use log_seams::{NumberList, Text, TextList};
 use row_codec::Which;
 use record_format::{Header, MIN_ARCHIVE_LEN, room_for};
-use std::alloc::Global;
+use std::alloc::{AllocError, Global};
 use std::marker::Model;
 
 // The bytes that a record takes beside its payload: its gate, its kind and its length.
@@ -34,7 +38,7 @@ const NO_MESSAGES: FileSum = FileSum {
 #[derive(Drop)]
 pub struct Judge {
     header: Header,
-    pub(crate) books: Books,
+    books: Books,
     files: Vec<FileSum>,
     end: u64,
 }
@@ -99,8 +103,13 @@ impl Judge {
         room >= FRAME_LEN && room - FRAME_LEN >= payload as u64
     }
 
-    // Admits the names of further files.
-    fn admit_names(&mut self, names: &TextList) -> Result<(), JudgeRefusal>
+    /// Admits the names of further files. A refusal changes nothing.
+    ///
+    /// # Errors
+    ///
+    /// [`JudgeRefusal::Illegal`] exactly where the entries with them are not legal, or
+    /// [`JudgeRefusal::OutOfMemory`].
+    pub fn admit_names(&mut self, names: &TextList) -> Result<(), JudgeRefusal>
         ensures admitted { OnOk result (Admits self.old (Files names.now) self.new) }
         ensures illegal { IsErrOf result Illegal → (more : Sums) → ¬ Admits self.old (Files names.now) more }
         ensures err { OnErr result (self.new ≡ self.old) }
@@ -124,8 +133,12 @@ impl Judge {
         first == count && !texts.is_empty() && self.has_room(payload)
     }
 
-    // Admits texts of log types.
-    fn admit_types(&mut self, first: u32, texts: &TextList) -> Result<(), JudgeRefusal>
+    /// Admits texts of log types, numbered from `first` on. A refusal changes nothing.
+    ///
+    /// # Errors
+    ///
+    /// As for names.
+    pub fn admit_types(&mut self, first: u32, texts: &TextList) -> Result<(), JudgeRefusal>
         ensures admitted { OnOk result (Admits self.old (Types first texts.now) self.new) }
         ensures illegal { IsErrOf result Illegal → (more : Sums) → ¬ Admits self.old (Types first texts.now) more }
         ensures err { OnErr result (self.new ≡ self.old) }
@@ -140,8 +153,12 @@ impl Judge {
         Ok(())
     }
 
-    // Admits words of variables.
-    fn admit_words(&mut self, first: u32, texts: &TextList) -> Result<(), JudgeRefusal>
+    /// Admits words of variables, numbered from `first` on. A refusal changes nothing.
+    ///
+    /// # Errors
+    ///
+    /// As for names.
+    pub fn admit_words(&mut self, first: u32, texts: &TextList) -> Result<(), JudgeRefusal>
         ensures admitted { OnOk result (Admits self.old (Words first texts.now) self.new) }
         ensures illegal { IsErrOf result Illegal → (more : Sums) → ¬ Admits self.old (Words first texts.now) more }
         ensures err { OnErr result (self.new ≡ self.old) }
@@ -198,5 +215,34 @@ impl Judge {
         };
         self.end += FRAME_LEN + payload as u64;
         Ok(())
+    }
+
+    /// The numbers of dictionary words that rows have by the texts so far, sorted, each once; `None` where
+    /// one has more than 32 bits.
+    pub fn words_of<R: Rows>(
+        &self,
+        alloc: Global,
+        rows: &R,
+    ) -> Result<Option<NumberList>, AllocError>
+        ensures some { IfOk result (λ found. IfSome found (λ numbers.
+            numbers ≡ words_named self.now.types (R.rows rows.now))) }
+        ensures few { IfOk result (λ found. IfSome found (λ numbers.
+            length numbers ≤ variable_count (R.rows rows.now))) }
+        ensures none { IfOk result (λ found. IfNone found (
+            ¬ All (λ n. n < 2 ^ 32) (flat_map (numbers_of_row self.now.types) (R.rows rows.now)))) }
+    {
+        words_of(alloc, &self.books, rows)
+    }
+
+    /// How many files have names, and how many messages all files have.
+    pub fn counts(&self) -> (u64, u64)
+        ensures files { result.0 ≡ length self.now.files }
+        ensures messages { result.1 ≡ sum_by (λ f. f.messages) self.now.files }
+    {
+        let mut messages = 0;
+        for sum in &self.files {
+            messages += sum.messages;
+        }
+        (self.files.len() as u64, messages)
     }
 }

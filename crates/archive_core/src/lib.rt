@@ -18,7 +18,6 @@ pub use books::Books;
 
 pub use judge::Judge;
 pub use refusal::JudgeRefusal;
-pub use numbers::words_of;
 pub use rows::Rows;
 pub use segment::Part;
 

@@ -109,7 +109,7 @@ fn push_all<R: Rows>(books: &Books, rows: &R, out: &mut Vec<u32>) -> Result<bool
 
 /// The numbers of dictionary words that the rows have, sorted, each once; `None` where one has more than
 /// 32 bits, as no row has that is the encoding of a message.
-pub fn words_of<R: Rows>(
+pub(crate) fn words_of<R: Rows>(
     alloc: Global,
     books: &Books,
     rows: &R,
