@@ -93,7 +93,7 @@ end_more h es e =
 
 -- ---- the sums and one entry more
 
-same_types : (sums : Sums) (es : List JournalEntry) → (are : AreSums sums es) → sums.types ≡ types_of es
+pub same_types : (sums : Sums) (es : List JournalEntry) → (are : AreSums sums es) → sums.types ≡ types_of es
 same_types sums es are = are.types ∙ run_types sums.header nothing_held are.held es are.run
 
 same_end : (sums : Sums) (es : List JournalEntry) (e : JournalEntry) → AreSums sums es → end_with sums e ≡ end_of sums.header (es ++ e ∷ [])

@@ -1,0 +1,8 @@
+//! Whether the bytes of a disk are a legal archive, and else where they are damaged first.
+#![tactic(auto)]
+
+mod checking;
+mod segment;
+mod take;
+
+pub use checking::{CheckRefusal, Summary, check};
