@@ -93,15 +93,14 @@ damage_here h place count sums bytes checked damaged = record {
   bad (gate ∷ rest) is (inl past) = absurd (omega (arith, past, size_is bytes (front_of h checked.es) (gate ∷ rest) is, checked.at))
   bad (gate ∷ rest) is (inr short) =
       let here : drop place bytes ≡ gate ∷ rest = behind bytes (front_of h checked.es) (gate ∷ rest) place is checked.at in
-      let one : gate ≡ 1 = sym (gate_is bytes (front_of h checked.es) rest gate place is checked.at) ∙ short.0 in
-      (
+      let one : gate ≡ 1 = sym (gate_is bytes (front_of h checked.es) rest gate place is checked.at) ∙ short.0 in (
         one,
         λ e more legal same.
-          let r : Saved = record_of (types_of checked.es) e in
-          let fits = (next_form h checked.es e checked.begins.header legal).1 in
-          let all : gate ∷ rest ≡ 1 ∷ body r ++ more = ap (λ g. g ∷ rest) one ∙ ap (λ (l : List ℕ). 1 ∷ l) same in
-          let long : payload_len (drop place bytes) ≡ length r.payload = ap payload_len (here ∙ all) ∙ payload_len-body r more fits in
-          omega (arith, short.1, long, size_is bytes (front_of h checked.es) (gate ∷ rest) is, ap length same, length-append (body r) more, length-body r, checked.at),
+            let r : Saved = record_of (types_of checked.es) e in
+            let fits = (next_form h checked.es e checked.begins.header legal).1 in
+            let all : gate ∷ rest ≡ 1 ∷ body r ++ more = ap (λ g. g ∷ rest) one ∙ ap (λ (l : List ℕ). 1 ∷ l) same in
+            let long : payload_len (drop place bytes) ≡ length r.payload = ap payload_len (here ∙ all) ∙ payload_len-body r more fits in
+            omega (arith, short.1, long, size_is bytes (front_of h checked.es) (gate ∷ rest) is, ap length same, length-append (body r) more, length-body r, checked.at),
       )
 
 -- ---- a record that was passed
@@ -123,15 +122,18 @@ module _ (h : Header) (place count kind len : ℕ) (sums : Sums) (bytes payload 
     es = checked.es;
     begins = checked.begins;
     gate = checked.at;
-    bad = subst (λ (l : List ℕ). IsBadBehind h checked.es l) (sym rest_is) (refl, λ e more legal same.
-      let mine : Saved = record { kind = kind; payload = payload } in
-      let theirs : Saved = record_of (types_of checked.es) e in
-      let form = next_form h checked.es e checked.begins.header legal in
-      let one : mine ≡ theirs = (one_body mine theirs (drop (place + 10 + len) bytes) more fits form.1 same).0 in
-      let here : IsLegal sums.header (checked.es ++ e ∷ []) = subst (λ k. IsLegal k (checked.es ++ e ∷ [])) (sym checked.same) legal in
-      let admits = legal_admitted sums checked.es e checked.sums_are here in
-      let types : sums.types ≡ types_of checked.es = same_types sums checked.es checked.sums_are in
-      none e admits.0 (subst (λ t. HasForm t e) (sym types) form.0) admits.1 (ap (λ t. record_of t e) types ∙ sym one));
+    bad = subst (λ (l : List ℕ). IsBadBehind h checked.es l) (sym rest_is) (
+      refl,
+      λ e more legal same.
+          let mine : Saved = record { kind = kind; payload = payload } in
+          let theirs : Saved = record_of (types_of checked.es) e in
+          let form = next_form h checked.es e checked.begins.header legal in
+          let one : mine ≡ theirs = (one_body mine theirs (drop (place + 10 + len) bytes) more fits form.1 same).0 in
+          let here : IsLegal sums.header (checked.es ++ e ∷ []) = subst (λ k. IsLegal k (checked.es ++ e ∷ [])) (sym checked.same) legal in
+          let admits = legal_admitted sums checked.es e checked.sums_are here in
+          let types : sums.types ≡ types_of checked.es = same_types sums checked.es checked.sums_are in
+          none e admits.0 (subst (λ t. HasForm t e) (sym types) form.0) admits.1 (ap (λ t. record_of t e) types ∙ sym one),
+    );
   }
 
   pub taken_here : (new : Sums) (place_after : ℕ) → place_after ≡ place + 10 + len → Takes sums kind payload new → HasChecked h place_after (count + 1) new bytes
@@ -143,10 +145,10 @@ module _ (h : Header) (place count kind len : ℕ) (sums : Sums) (bytes payload 
       let are : AreSums new (checked.es ++ e ∷ []) = admitted sums new checked.es e checked.sums_are takes.2 in
       let header : new.header ≡ h = same_header sums new e takes.2 ∙ checked.same in
       let front : front_of h (checked.es ++ e ∷ []) ≡ front_of h checked.es ++ 1 ∷ body mine =
-        front_joined h checked.es (e ∷ []) ∙ ap (λ (q : Saved). front_of h checked.es ++ (1 ∷ body q ++ [])) one ∙ ap (λ (l : List ℕ). front_of h checked.es ++ 1 ∷ l) (append-nil (body mine)) in
+      front_joined h checked.es (e ∷ []) ∙ ap (λ (q : Saved). front_of h checked.es ++ (1 ∷ body q ++ [])) one ∙ ap (λ (l : List ℕ). front_of h checked.es ++ 1 ∷ l) (append-nil (body mine)) in
       let spells : bytes ≡ front_of h (checked.es ++ e ∷ []) ++ drop (place + 10 + len) bytes =
-        checked.begins.spells ∙ ap (λ (l : List ℕ). front_of h checked.es ++ l) rest_is ∙ sym (append_assoc (front_of h checked.es) (1 ∷ body mine) (drop (place + 10 + len) bytes))
-        ∙ ap (λ (l : List ℕ). l ++ drop (place + 10 + len) bytes) (sym front) in
+      checked.begins.spells ∙ ap (λ (l : List ℕ). front_of h checked.es ++ l) rest_is ∙ sym (append_assoc (front_of h checked.es) (1 ∷ body mine) (drop (place + 10 + len) bytes))
+      ∙ ap (λ (l : List ℕ). l ++ drop (place + 10 + len) bytes) (sym front) in
       record {
         es = checked.es ++ e ∷ [];
         begins = record {
@@ -244,18 +246,18 @@ taken_told told now h after place count at from kind len place_after count_after
     subst (λ t. Checked after place_after count_after new t) (sym same_told)
     (subst (λ k. Checked k place_after count_after new told) (sym same_header)
     (subst (λ n. Checked h place_after n new told) (sym same_count) (by_told told checked found loaded))) where
-  by_told : (told : Option (List ℕ)) → Checked h place count sums told → OpenAt place kind len told → IfSome told (λ bytes. payload ≡ take len (drop from bytes)) → Checked h place_after (count + 1) new told
-  by_told None checked found loaded = tt
-  by_told (Some bytes) checked found loaded =
-      taken_here h place count kind len sums bytes payload checked found (loaded ∙ ap (λ k. take len (drop k bytes)) here) size new place_after (omega (arith, same_place, here)) takes
+      by_told : (told : Option (List ℕ)) → Checked h place count sums told → OpenAt place kind len told → IfSome told (λ bytes. payload ≡ take len (drop from bytes)) → Checked h place_after (count + 1) new told
+      by_told None checked found loaded = tt
+      by_told (Some bytes) checked found loaded =
+          taken_here h place count kind len sums bytes payload checked found (loaded ∙ ap (λ k. take len (drop k bytes)) here) size new place_after (omega (arith, same_place, here)) takes
 
 pub stood_told : (told now : Option (List ℕ)) (h : Header) (place count : ℕ) (sums : Sums) (summary : Summary) → now ≡ told → Checked h place count sums now → ClosedAt place now
     → summary.entries ≡ count → summary.files ≡ length sums.files → summary.messages ≡ sum_by (λ (f : FileSum). f.messages) sums.files → IfSome told (Stood summary)
 stood_told told now h place count sums summary same checked closed entries files messages =
     subst (λ t. IfSome t (Stood summary)) same (by_told now checked closed) where
-  by_told : (now : Option (List ℕ)) → Checked h place count sums now → ClosedAt place now → IfSome now (Stood summary)
-  by_told None checked closed = tt
-  by_told (Some bytes) checked closed = stood h place count sums bytes summary checked closed entries files messages
+      by_told : (now : Option (List ℕ)) → Checked h place count sums now → ClosedAt place now → IfSome now (Stood summary)
+      by_told None checked closed = tt
+      by_told (Some bytes) checked closed = stood h place count sums bytes summary checked closed entries files messages
 
 from_first : (told : Option (List ℕ)) (h : Header) (sums : Sums) → IsHeader h → Walked (header_bytes h) 32 0 told → sums.header ≡ h → sums.types ≡ [] → sums.words ≡ [] → sums.files ≡ []
     → sums.end ≡ 33 → Checked h 32 0 sums told

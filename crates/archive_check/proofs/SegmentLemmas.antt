@@ -40,14 +40,13 @@ parts_are payload front head found is_head is begins holds file first last ended
     let here : front ≡ head_bytes h = begins h (columns_bytes rows) back.0 spelled in
     let same : head ≡ h = (heads_once head h [] [] is_head back.0 (ap (λ (l : List ℕ). l ++ []) (sym is ∙ here))).0 in
     let mine : HoldsRows h payload found = subst (λ (k : Head). HoldsRows k payload found) same holds in
-    let theirs : HoldsRows h payload rows = subst (λ (l : List ℕ). HoldsRows h l rows) (sym spelled) back.1 in
-    (
+    let theirs : HoldsRows h payload rows = subst (λ (l : List ℕ). HoldsRows h l rows) (sym spelled) back.1 in (
       ap (λ (k : Head). k.file) same,
       ap (λ (k : Head). k.first) same,
       ap (λ (k : Head). k.last) same,
       ap (λ (k : Head). k.ended) same,
       rows_once found rows mine.behind.fit theirs.behind.fit (mine.behind.count ∙ sym theirs.behind.count)
-        (omega (arith, mine.behind.variables, fits.variables)) (omega (arith, fits.variables)) (sym mine.behind.spelled ∙ theirs.behind.spelled),
+          (omega (arith, mine.behind.variables, fits.variables)) (omega (arith, fits.variables)) (sym mine.behind.spelled ∙ theirs.behind.spelled),
     )
 
 -- a payload that begins with no head is that of no segment

@@ -125,8 +125,8 @@ no_segment old payload none (Segment s) more form admits same =
 -- where the payload has these parts, an entry that it is the record of is the segment with them
 pub only_segment : (old : Sums) (payload : List ℕ) (head : Head) (rows : List Row) → HasParts payload head rows
     → ((more : Sums) (words_are : payload ≡ segment_bytes head.file head.first head.last head.ended rows (words_named old.types rows))
-      → All (λ n. n < 2 ^ 32) (flat_map (numbers_of_row old.types) rows)
-      → Admits old (Segment (record { file = head.file; first = head.first; last = head.last; ended = head.ended; rows = rows })) more → ⊥)
+    → All (λ n. n < 2 ^ 32) (flat_map (numbers_of_row old.types) rows)
+    → Admits old (Segment (record { file = head.file; first = head.first; last = head.last; ended = head.ended; rows = rows })) more → ⊥)
     → TakesNone old 4 payload
 only_segment old payload head rows parts refused (Files names) more form admits same = apart 1 4 (kind_of _ _ same) (omega arith)
 only_segment old payload head rows parts refused (Types first texts) more form admits same = apart 2 4 (kind_of _ _ same) (omega arith)
@@ -135,7 +135,7 @@ only_segment old payload head rows parts refused (Segment s) more form admits sa
     let spelled : payload ≡ segment_bytes s.file s.first s.last s.ended s.rows (words_named old.types s.rows) = sym (payload_of _ _ same) in
     let are = parts s.file s.first s.last s.ended s.rows (words_named old.types s.rows) (segment_fits old.types s form) spelled in
     let one : s ≡ record { file = head.file; first = head.first; last = head.last; ended = head.ended; rows = rows } =
-      λ i. record { file = sym are.0 i; first = sym are.1 i; last = sym are.2 i; ended = sym are.3 i; rows = sym are.4 i } in
+    λ i. record { file = sym are.0 i; first = sym are.1 i; last = sym are.2 i; ended = sym are.3 i; rows = sym are.4 i } in
     let low : All (λ n. n < 2 ^ 32) (flat_map (numbers_of_row old.types) s.rows) = all_from_set (λ n. n < 2 ^ 32) (flat_map (numbers_of_row old.types) s.rows) form.words_fit in
     refused more
     (subst (λ (t : SegmentEntry). payload ≡ segment_bytes t.file t.first t.last t.ended t.rows (words_named old.types t.rows)) one spelled)

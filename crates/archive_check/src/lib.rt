@@ -6,3 +6,6 @@ mod segment;
 mod take;
 
 pub use checking::{CheckRefusal, Summary, check};
+
+#[cfg(test)]
+mod tests;

@@ -20,7 +20,7 @@ first_newline (b ∷ line) (c ∷ front) x y is same =
     let one : b ≡ c = cc (same) in
     let back : line ++ (10 ∷ x) ≡ front ++ (10 ∷ y) = cc (same) in
     elim (first_newline line front x y (All-tail (λ d. d ≢ 10) b line is) back) as (λ z. ((b ∷ line ≡ c ∷ front) × (x ≡ y)) ⊎ ((more : List ℕ) × ((c ∷ front ≡ (b ∷ line) ++ (10 ∷ more)) × (x ≡ more ++ (10 ∷ y))))) [
-        inl here ↦ inl (ap (λ l. b ∷ l) here.0 ∙ ap (λ d. d ∷ front) one, here.1)
+      | inl here ↦ inl (ap (λ l. b ∷ l) here.0 ∙ ap (λ d. d ∷ front) one, here.1)
       | inr past ↦ inr (past.0, (ap (λ d. d ∷ front) (sym one) ∙ ap (λ l. b ∷ l) past.1.0, past.1.1))
     ]
 
@@ -52,7 +52,7 @@ pub later_next : (version : ℕ) (front line back : List ℕ) → IsLine front �
     → HasLaterStamp version (front ++ (10 ∷ (line ++ back))) → IsStamped version line ⊎ HasLaterStamp version (line ++ back)
 later_next version front line back is_front is_line ends later =
     elim (first_newline front later.front (line ++ back) (later.line ++ later.back) is_front later.cut) as (λ z. IsStamped version line ⊎ HasLaterStamp version (line ++ back)) [
-        inl here ↦ inl (subst (λ l. IsStamped version l) (sym (one_line line later.line back later.back is_line later.is_line ends later.ends here.1)) later.stamped)
+      | inl here ↦ inl (subst (λ l. IsStamped version l) (sym (one_line line later.line back later.back is_line later.is_line ends later.ends here.1)) later.stamped)
       | inr past ↦ inr (record { front = past.0; line = later.line; back = later.back; cut = past.1.1; is_line = later.is_line; ends = later.ends; stamped = later.stamped })
     ]
 
@@ -80,24 +80,24 @@ drop_line version line [] is ends later = absurd (none_later version line is (su
 drop_line version line (b ∷ back) is ends later =
     let cut : line ++ (10 ∷ back) ≡ later.front ++ (10 ∷ (later.line ++ later.back)) = ap (λ c. line ++ (c ∷ back)) (sym ends) ∙ later.cut in
     elim (first_newline line later.front back (later.line ++ later.back) is cut) as (λ z. HasLaterStamp version (b ∷ back)) [
-        inl here ↦ record {
-          front = [];
-          line = later.line;
-          back = later.back;
-          cut = ap (λ c. c ∷ back) ends ∙ ap (λ l. 10 ∷ l) here.1;
-          is_line = later.is_line;
-          ends = later.ends;
-          stamped = later.stamped;
-        }
+      | inl here ↦ record {
+        front = [];
+        line = later.line;
+        back = later.back;
+        cut = ap (λ c. c ∷ back) ends ∙ ap (λ l. 10 ∷ l) here.1;
+        is_line = later.is_line;
+        ends = later.ends;
+        stamped = later.stamped;
+      }
       | inr past ↦ record {
-          front = 10 ∷ past.0;
-          line = later.line;
-          back = later.back;
-          cut = ap (λ c. c ∷ back) ends ∙ ap (λ l. 10 ∷ l) past.1.1;
-          is_line = later.is_line;
-          ends = later.ends;
-          stamped = later.stamped;
-        }
+        front = 10 ∷ past.0;
+        line = later.line;
+        back = later.back;
+        cut = ap (λ c. c ∷ back) ends ∙ ap (λ l. 10 ∷ l) past.1.1;
+        is_line = later.is_line;
+        ends = later.ends;
+        stamped = later.stamped;
+      }
     ]
 
 pub add_line : (version : ℕ) (line back : List ℕ) → HasLaterStamp version back → HasLaterStamp version (line ++ back)
@@ -114,7 +114,7 @@ add_line version line back later = record {
 -- behind a line without a stamp
 pub past_line : (version : ℕ) (line back : List ℕ) → IsLine line → EndsLine back → (IsStamped version line → ⊥) → HasLaterStamp version (10 ∷ (line ++ back)) → HasLaterStamp version back
 past_line version line back is ends plain later = elim (later_next version [] line back (λ k d lt. absurd (omega (arith, lt))) is ends later) as (λ z. HasLaterStamp version back) [
-    inl stamped ↦ absurd (plain stamped)
+  | inl stamped ↦ absurd (plain stamped)
   | inr behind ↦ drop_line version line back is ends behind
 ]
 
@@ -157,8 +157,7 @@ later_behind version [] after line behind b is ends cut is_line ends_behind plai
 later_behind version (c ∷ rest) after line behind b is ends cut is_line ends_behind plain =
     let newline : c ≡ 10 = ends in
     let same : rest ≡ line ++ behind = cc (is, cut) in
-    let both : 10 ∷ (line ++ behind) ≡ c ∷ rest = ap (λ d. d ∷ (line ++ behind)) (sym newline) ∙ ap (λ l. c ∷ l) (sym same) in
-    (
+    let both : 10 ∷ (line ++ behind) ≡ c ∷ rest = ap (λ d. d ∷ (line ++ behind)) (sym newline) ∙ ap (λ l. c ∷ l) (sym same) in (
       λ later. past_line version line behind is_line ends_behind plain (subst (λ l. HasLaterStamp version l) (sym both) later),
       λ later. subst (λ l. HasLaterStamp version l) both (behind_later version [] (line ++ behind) (add_line version line behind later)),
     )

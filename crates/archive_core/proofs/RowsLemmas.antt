@@ -39,8 +39,7 @@ pub rows_more : (version : ℕ) (types words : List (List ℕ)) (rows : List Row
     → (messages : List (List ℕ)) × AreMessages version types words (take (suc i) rows) messages × (next ≡ open_after before messages)
 rows_more version types words rows i r before open_end next at so_far here =
     let messages : List (List ℕ) = so_far.0 in
-    let m : List ℕ = here.0 in
-    (
+    let m : List ℕ = here.0 in (
       messages ++ m ∷ [],
       (
         subst (λ l. AreCanonical version l types words (messages ++ m ∷ [])) (sym (take_push rows i r at)) (canonical_push version types words (take i rows) messages r m so_far.1.0 here.1.0),

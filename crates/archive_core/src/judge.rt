@@ -20,8 +20,8 @@ use crate::texts::add_texts;
 use archive_meaning::{FileSum, MAX_FILES, MAX_NAME_LEN, MAX_NAMES};
 use dict_core::Book;
 use log_seams::{NumberList, Text, TextList};
-use row_codec::Which;
 use record_format::{Header, MIN_ARCHIVE_LEN, room_for};
+use row_codec::Which;
 use std::alloc::{AllocError, Global};
 use std::marker::Model;
 
@@ -49,8 +49,13 @@ impl Model for Judge {
 
     ghost Value = { Sums };
 
-    ghost view = { λ j. record { header = j.header; types = j.books.types.texts;
-        words = j.books.words.texts; files = j.files.items; end = j.end } };
+    ghost view = { λ j. record {
+      header = j.header;
+      types = j.books.types.texts;
+      words = j.books.words.texts;
+      files = j.files.items;
+      end = j.end;
+    } };
 
     ghost invariant = { λ j. IsJudge j.header j.books.version j.books.types j.books.words j.files.items j.end };
 }
@@ -70,7 +75,9 @@ fn names_fit(count: usize, names: &[Text]) -> bool
     !names.is_empty()
         && names.len() <= MAX_NAMES
         && count + names.len() <= MAX_FILES
-        && names.iter().all(|name| name.as_slice().len() <= MAX_NAME_LEN)
+        && names
+            .iter()
+            .all(|name| name.as_slice().len() <= MAX_NAME_LEN)
 }
 
 impl Judge {

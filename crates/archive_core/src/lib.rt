@@ -5,7 +5,6 @@
 #![tactic(auto)]
 
 mod books;
-
 mod judge;
 mod message;
 mod numbers;
@@ -15,9 +14,7 @@ mod segment;
 mod texts;
 
 pub use books::Books;
-
 pub use judge::Judge;
 pub use refusal::JudgeRefusal;
 pub use rows::Rows;
 pub use segment::Part;
-

@@ -85,7 +85,11 @@ fn is_open(bytes: &[u8]) -> bool
 
 // Whether the row's message may be a last line without newline; nothing where the row is the encoding of no
 // message. The message is put together in `message`.
-fn row_says(books: &Books, row: RowRef<'_>, message: &mut Vec<u8>) -> Result<Option<bool>, AllocError>
+fn row_says(
+    books: &Books,
+    row: RowRef<'_>,
+    message: &mut Vec<u8>,
+) -> Result<Option<bool>, AllocError>
     ensures some { IfOk result (λ says. IfSome says (λ open_end. (m : List ℕ)
         × IsMessageOf books.now.version books.now.types.texts books.now.words.texts (row_of row.entry) m
         × (open_end ≡ ends_open m))) }

@@ -65,7 +65,7 @@ rows_back (r ∷ rows) rest =
     let others : List ℕ = flat_map (λ (q : Row). q.words) rows ++ rest in
     ap (λ (l : List ℕ). rows_by (map (λ (q : Row). q.pattern) (r ∷ rows)) (map (λ (q : Row). q.moment) (r ∷ rows)) (map (λ (q : Row). q.log_type) (r ∷ rows)) (map (λ (q : Row). length q.words) (r ∷ rows)) l) apart
     ∙ ap₂ (λ (q : Row) (l : List ℕ). q ∷ rows_by (map (λ (q : Row). q.pattern) rows) (map (λ (q : Row). q.moment) rows) (map (λ (q : Row). q.log_type) rows) (map (λ (q : Row). length q.words) rows) l)
-      (same_row r _ _ _ _ refl refl refl (take_at r.words others (length r.words) refl)) (drop_at r.words others (length r.words) refl)
+    (same_row r _ _ _ _ refl refl refl (take_at r.words others (length r.words) refl)) (drop_at r.words others (length r.words) refl)
     ∙ ap (λ (l : List Row). r ∷ l) (rows_back rows rest)
 
 -- ---- lists of texts
@@ -175,10 +175,10 @@ module _ (f : Fixed) (x bytes : List ℕ) (is : bytes ≡ fixed_bytes f ++ x) wh
   to_types : (k : ℕ) → drop (4 + (8 + (4 + (1 + (8 + (8 + k)))))) whole ≡ drop k behind_greatest
   unfolding behind_rows behind_flags behind_least
   to_types k =
-    let one : 1 + (8 + (8 + k)) ≡ suc (8 + (8 + k)) = omega arith in
-    to_flags (1 + (8 + (8 + k))) ∙ ap (λ n. drop n behind_rows) one
-    ∙ past (moment_bytes f.least) behind_least 8 (8 + k) (length-moment_bytes f.least)
-    ∙ past (moment_bytes f.greatest) behind_greatest 8 k (length-moment_bytes f.greatest)
+      let one : 1 + (8 + (8 + k)) ≡ suc (8 + (8 + k)) = omega arith in
+      to_flags (1 + (8 + (8 + k))) ∙ ap (λ n. drop n behind_rows) one
+      ∙ past (moment_bytes f.least) behind_least 8 (8 + k) (length-moment_bytes f.least)
+      ∙ past (moment_bytes f.greatest) behind_greatest 8 k (length-moment_bytes f.greatest)
 
   file_at : f.file < 2 ^ 32 → little_number 4 bytes ≡ f.file
   unfolding whole
@@ -187,8 +187,8 @@ module _ (f : Fixed) (x bytes : List ℕ) (is : bytes ≡ fixed_bytes f ++ x) wh
   first_at : f.first < 2 ^ 64 → little_number 8 (drop 4 bytes) ≡ f.first
   unfolding whole behind_file
   first_at fit =
-    ap (λ (l : List ℕ). little_number 8 (drop 4 l)) is_whole
-    ∙ ap (little_number 8) (drop_at (four_bytes f.file) behind_file 4 (length-four_bytes f.file)) ∙ eight_back f.first behind_first fit
+      ap (λ (l : List ℕ). little_number 8 (drop 4 l)) is_whole
+      ∙ ap (little_number 8) (drop_at (four_bytes f.file) behind_file 4 (length-four_bytes f.file)) ∙ eight_back f.first behind_first fit
 
   rows_at : f.rows < 2 ^ 32 → little_number 4 (drop 12 bytes) ≡ f.rows
   unfolding behind_first
@@ -205,18 +205,18 @@ module _ (f : Fixed) (x bytes : List ℕ) (is : bytes ≡ fixed_bytes f ++ x) wh
   words_at : f.words < 2 ^ 32 → little_number 4 (drop 37 bytes) ≡ f.words
   unfolding behind_greatest behind_types
   words_at fit =
-    ap (λ (l : List ℕ). little_number 4 (drop 37 l)) is_whole
-    ∙ ap (little_number 4) (to_types 4 ∙ drop_at (four_bytes f.types) behind_types 4 (length-four_bytes f.types)) ∙ four_back f.words behind_words fit
+      ap (λ (l : List ℕ). little_number 4 (drop 37 l)) is_whole
+      ∙ ap (little_number 4) (to_types 4 ∙ drop_at (four_bytes f.types) behind_types 4 (length-four_bytes f.types)) ∙ four_back f.words behind_words fit
 
   variables_at : f.variables < 2 ^ 32 → little_number 4 (drop 41 bytes) ≡ f.variables
   unfolding behind_greatest behind_types behind_words
   variables_at fit =
-    ap (λ (l : List ℕ). little_number 4 (drop 41 l)) is_whole
-    ∙ ap (little_number 4) (
+      ap (λ (l : List ℕ). little_number 4 (drop 41 l)) is_whole
+      ∙ ap (little_number 4) (
       to_types 8 ∙ past (four_bytes f.types) behind_types 4 4 (length-four_bytes f.types)
       ∙ drop_at (four_bytes f.words) behind_words 4 (length-four_bytes f.words)
-    )
-    ∙ four_back f.variables x fit
+      )
+      ∙ four_back f.variables x fit
 
 -- ---- the rows of columns
 
@@ -270,27 +270,27 @@ columns_back rows fit few =
     let at_ts : drop (n + 8 * n) (ps ++ behind_ps) ≡ behind_ms = past ps behind_ps n (8 * n) many_ps ∙ drop_at (flat_map moment_bytes ms) behind_ms (8 * n) long_ms in
     let to_cs : n + 8 * n + 4 * n ≡ n + (8 * n + 4 * n) = omega arith in
     let at_cs : drop (n + 8 * n + 4 * n) (ps ++ behind_ps) ≡ behind_ts =
-      ap (λ k. drop k (ps ++ behind_ps)) to_cs ∙ past ps behind_ps n (8 * n + 4 * n) many_ps ∙ past (flat_map moment_bytes ms) behind_ms (8 * n) (4 * n) long_ms
-      ∙ drop_at (flat_map four_bytes ts) behind_ts (4 * n) long_ts in
+    ap (λ k. drop k (ps ++ behind_ps)) to_cs ∙ past ps behind_ps n (8 * n + 4 * n) many_ps ∙ past (flat_map moment_bytes ms) behind_ms (8 * n) (4 * n) long_ms
+    ∙ drop_at (flat_map four_bytes ts) behind_ts (4 * n) long_ts in
     let to_ws : n + 8 * n + 4 * n + 4 * n ≡ n + (8 * n + (4 * n + 4 * n)) = omega arith in
     let at_ws : drop (n + 8 * n + 4 * n + 4 * n) (ps ++ behind_ps) ≡ behind_cs =
-      ap (λ k. drop k (ps ++ behind_ps)) to_ws ∙ past ps behind_ps n (8 * n + (4 * n + 4 * n)) many_ps ∙ past (flat_map moment_bytes ms) behind_ms (8 * n) (4 * n + 4 * n) long_ms
-      ∙ past (flat_map four_bytes ts) behind_ts (4 * n) (4 * n) long_ts ∙ drop_at (flat_map four_bytes cs) behind_cs (4 * n) long_cs in
+    ap (λ k. drop k (ps ++ behind_ps)) to_ws ∙ past ps behind_ps n (8 * n + (4 * n + 4 * n)) many_ps ∙ past (flat_map moment_bytes ms) behind_ms (8 * n) (4 * n + 4 * n) long_ms
+    ∙ past (flat_map four_bytes ts) behind_ts (4 * n) (4 * n) long_ts ∙ drop_at (flat_map four_bytes cs) behind_cs (4 * n) long_cs in
     let fit_ms : All (FitsSigned w64) ms = All-map (FitsSigned w64) (λ (r : Row). r.moment) rows (λ k d lt. (fit k d lt).moment) in
     let fit_ts : All (λ t. t < 2 ^ 32) ts = All-map (λ t. t < 2 ^ 32) (λ (r : Row). r.log_type) rows (λ k d lt. (fit k d lt).log_type) in
     let fit_cs : All (λ t. t < 2 ^ 32) cs =
-      All-map (λ t. t < 2 ^ 32) (λ (r : Row). length r.words) rows (λ k d lt. omega (arith, get_or-le-sum_by (λ (r : Row). length r.words) rows k d lt, few)) in
+    All-map (λ t. t < 2 ^ 32) (λ (r : Row). length r.words) rows (λ k d lt. omega (arith, get_or-le-sum_by (λ (r : Row). length r.words) rows k d lt, few)) in
     let read_ms : map (cast_signed w64) (numbers_in 8 n (drop n (ps ++ behind_ps))) ≡ ms =
-      ap (map (cast_signed w64)) (column_at 8 moment_bytes (cast_unsigned w64) (FitsSigned w64) moment_back length-moment_bytes ms n _ behind_ms fit_ms many_ms at_ms) ∙ signed_back ms fit_ms in
+    ap (map (cast_signed w64)) (column_at 8 moment_bytes (cast_unsigned w64) (FitsSigned w64) moment_back length-moment_bytes ms n _ behind_ms fit_ms many_ms at_ms) ∙ signed_back ms fit_ms in
     let read_ts : numbers_in 4 n (drop (n + 8 * n) (ps ++ behind_ps)) ≡ ts =
-      column_at 4 four_bytes (λ t. t) (λ t. t < 2 ^ 32) four_back length-four_bytes ts n _ behind_ts fit_ts many_ts at_ts ∙ map_same ts in
+    column_at 4 four_bytes (λ t. t) (λ t. t < 2 ^ 32) four_back length-four_bytes ts n _ behind_ts fit_ts many_ts at_ts ∙ map_same ts in
     let read_cs : numbers_in 4 n (drop (n + 8 * n + 4 * n) (ps ++ behind_ps)) ≡ cs =
-      column_at 4 four_bytes (λ t. t) (λ t. t < 2 ^ 32) four_back length-four_bytes cs n _ behind_cs fit_cs many_cs at_cs ∙ map_same cs in
+    column_at 4 four_bytes (λ t. t) (λ t. t < 2 ^ 32) four_back length-four_bytes cs n _ behind_cs fit_cs many_cs at_cs ∙ map_same cs in
     let read_ws : numbers_in 8 (variable_count rows) (drop (n + 8 * n + 4 * n + 4 * n) (ps ++ behind_ps)) ≡ ws =
-      column_at 8 eight_bytes (λ t. t) (λ w. w < 2 ^ 64) eight_back length-eight_bytes ws (variable_count rows) _ [] (all_words rows fit)
-        (length-flat_map (λ (r : Row). r.words) rows) (at_ws ∙ sym (append-nil behind_cs)) ∙ map_same ws in
+    column_at 8 eight_bytes (λ t. t) (λ w. w < 2 ^ 64) eight_back length-eight_bytes ws (variable_count rows) _ [] (all_words rows fit)
+    (length-flat_map (λ (r : Row). r.words) rows) (at_ws ∙ sym (append-nil behind_cs)) ∙ map_same ws in
     ap₂ (λ (p : List ℕ) (m : List ℤ). rows_by p m (numbers_in 4 n (drop (n + 8 * n) (ps ++ behind_ps))) (numbers_in 4 n (drop (n + 8 * n + 4 * n) (ps ++ behind_ps)))
-      (numbers_in 8 (variable_count rows) (drop (n + 8 * n + 4 * n + 4 * n) (ps ++ behind_ps)))) (take_at ps behind_ps n many_ps) read_ms
+    (numbers_in 8 (variable_count rows) (drop (n + 8 * n + 4 * n + 4 * n) (ps ++ behind_ps)))) (take_at ps behind_ps n many_ps) read_ms
     ∙ ap₂ (λ (t c : List ℕ). rows_by ps ms t c (numbers_in 8 (variable_count rows) (drop (n + 8 * n + 4 * n + 4 * n) (ps ++ behind_ps)))) read_ts read_cs
     ∙ ap (λ (w : List ℕ). rows_by ps ms ts cs w) (read_ws ∙ sym (append-nil ws))
     ∙ rows_back rows []
@@ -318,21 +318,21 @@ segment_back file first last ended rows words fits =
     let types : little_number 4 (drop 33 bytes) ≡ length head.types = types_at f x bytes is few_types in
     let numbers : little_number 4 (drop 37 bytes) ≡ length words = words_at f x bytes is fits.few_words in
     let long : length lists ≡ 4 * (length head.types + length words) =
-      omega (
-        arith,
-        length-append (flat_map four_bytes head.types) (flat_map four_bytes head.words),
-        length_column 4 four_bytes length-four_bytes head.types,
-        length_column 4 four_bytes length-four_bytes head.words,
-      ) in
+    omega (
+      arith,
+      length-append (flat_map four_bytes head.types) (flat_map four_bytes head.words),
+      length_column 4 four_bytes length-four_bytes head.types,
+      length_column 4 four_bytes length-four_bytes head.words,
+    ) in
     let behind : drop (45 + 4 * (length head.types + length words)) bytes ≡ columns_bytes rows =
-      ap (drop (45 + 4 * (length head.types + length words))) is
-      ∙ past (fixed_bytes f) x 45 (4 * (length head.types + length words)) (length-fixed_bytes f)
-      ∙ drop_at lists (columns_bytes rows) (4 * (length head.types + length words)) long in
+    ap (drop (45 + 4 * (length head.types + length words))) is
+    ∙ past (fixed_bytes f) x 45 (4 * (length head.types + length words)) (length-fixed_bytes f)
+    ∙ drop_at lists (columns_bytes rows) (4 * (length head.types + length words)) long in
     let columns : drop (45 + 4 * (little_number 4 (drop 33 bytes) + little_number 4 (drop 37 bytes))) bytes ≡ columns_bytes rows =
-      ap₂ (λ (t w : ℕ). drop (45 + 4 * (t + w)) bytes) types numbers ∙ behind in
+    ap₂ (λ (t w : ℕ). drop (45 + 4 * (t + w)) bytes) types numbers ∙ behind in
     let counted : rows_in (little_number 4 (drop 12 bytes)) (little_number 4 (drop 41 bytes)) (columns_bytes rows) ≡ rows =
-      ap₂ (λ (n v : ℕ). rows_in n v (columns_bytes rows)) (rows_at f x bytes is fits.few_rows) (variables_at f x bytes is fits.few_variables)
-      ∙ columns_back rows fits.rows_fit fits.few_variables in
+    ap₂ (λ (n v : ℕ). rows_in n v (columns_bytes rows)) (rows_at f x bytes is fits.few_rows) (variables_at f x bytes is fits.few_variables)
+    ∙ columns_back rows fits.rows_fit fits.few_variables in
     same_segment file first last ended rows _ _ _ _ _
     (file_at f x bytes is fits.file_fits) (first_at f x bytes is fits.first_fits)
     (ap (λ n. n % 2 == 1) flag ∙ last_back f.last f.ended f.stamped) (ap (λ n. n / 2 % 2 == 1) flag ∙ ended_back f.last f.ended f.stamped)

@@ -168,8 +168,8 @@ sums_with held s messages within goes_on size =
     let p : Piece = piece_of s messages in
     sums_set 0 held.names held.pieces p s.file (omega arith) within
     ∙ ap (λ (x : FileSum). set (sums_from 0 held.names held.pieces) s.file x) (
-      own_sum p held.pieces goes_on
-      ∙ ap (λ n. record { messages = length (messages_of s.file held.pieces) + n; whole = s.last; open_end = open_after (last_is_open (messages_of s.file held.pieces)) messages }) (sym size)
+    own_sum p held.pieces goes_on
+    ∙ ap (λ n. record { messages = length (messages_of s.file held.pieces) + n; whole = s.last; open_end = open_after (last_is_open (messages_of s.file held.pieces)) messages }) (sym size)
     )
 
 pub admitted : AdmittedAreSums
@@ -199,7 +199,7 @@ admitted sums more es (Types first texts) are admits =
       header = are.header;
       held = mid;
       run = runs_go_on h nothing_held held mid es (Types first texts ∷ []) are.run
-        (mid, (subst (λ t. AddsTexts IsFairType h.types_limit t first texts) are.types admits.0.0, refl), refl);
+          (mid, (subst (λ t. AddsTexts IsFairType h.types_limit t first texts) are.types admits.0.0, refl), refl);
       named = named_more h nothing_held held es (Types first texts ∷ []) are.run are.named tt tt;
       types = ap (λ t. t ++ texts) are.types;
       words = are.words;
@@ -215,7 +215,7 @@ admitted sums more es (Words first texts) are admits =
       header = are.header;
       held = mid;
       run = runs_go_on h nothing_held held mid es (Words first texts ∷ []) are.run
-        (mid, (subst (λ t. AddsTexts IsFairWord h.words_limit t first texts) are.words admits.0.0, refl), refl);
+          (mid, (subst (λ t. AddsTexts IsFairWord h.words_limit t first texts) are.words admits.0.0, refl), refl);
       named = named_more h nothing_held held es (Words first texts ∷ []) are.run are.named tt tt;
       types = are.types;
       words = ap (λ t. t ++ texts) are.words;
@@ -241,8 +241,8 @@ admitted sums more es (Segment s) are admits =
       types = are.types;
       words = are.words;
       files =
-        ap₂ (λ (l : List FileSum) (x : FileSum). set l s.file (sum_with x s messages)) are.files sum
-        ∙ sym (sums_with held s messages within adds.goes_on (canonical_length h.version s.rows held.types held.words messages adds.canonical));
+          ap₂ (λ (l : List FileSum) (x : FileSum). set l s.file (sum_with x s messages)) are.files sum
+          ∙ sym (sums_with held s messages within adds.goes_on (canonical_length h.version s.rows held.types held.words messages adds.canonical));
       end = same_end sums es (Segment s) are;
       short = subst (λ (x : Sums). x.end ≤ h.length_limit) admits.0.1.2 admits.1;
     })

@@ -30,11 +30,13 @@ below old texts most all low k d lt =
 texts_form : (IsFair : List ℕ → Type 0) (limit most : ℕ) (old texts : List (List ℕ)) (first : ℕ) → AddsTexts IsFair limit old first texts
     → ((t : List ℕ) → IsFair t → length t ≤ most) → most < 2 ^ 32 → limit < 2 ^ 32 → (first < 2 ^ 32) × AreTexts texts
 texts_form IsFair limit most old texts first adds short low few =
-    let both : length (old ++ texts) ≡ length old + length texts = length-append old texts in
-    (omega (arith, adds.behind, adds.book.most, both, few), record {
-      count = omega (arith, adds.book.most, both, few);
-      lengths = below old texts most (λ k d lt. short _ (adds.book.fair k d lt)) low;
-    })
+    let both : length (old ++ texts) ≡ length old + length texts = length-append old texts in (
+      omega (arith, adds.behind, adds.book.most, both, few),
+      record {
+        count = omega (arith, adds.book.most, both, few);
+        lengths = below old texts most (λ k d lt. short _ (adds.book.fair k d lt)) low;
+      },
+    )
 
 segment_form : (h : Header) (held : Held) (s : SegmentEntry) (messages : List (List ℕ)) (count : ℕ) → AddsSegment h.version held s messages
     → length held.words < 2 ^ 32 → s.file < count → count ≤ MAX_FILES → IsSegment s.file s.first s.last s.ended s.rows (words_named held.types s.rows)
@@ -94,8 +96,7 @@ run_forms h held more (e ∷ es) count header few run named all short =
     let size : length (body (record_of held.types e) ++ rest) ≡ length (body (record_of held.types e)) + length rest = length-append (body (record_of held.types e)) rest in
     let less : length rest < 2 ^ 64 = omega (arith, short, size) in
     let back = run_forms h mid more es next.0 header (words_after h held mid e run.1 few) run.2 next.2 next.1
-      (subst (λ t. length (spelled (records_from t es)) < 2 ^ 64) (sym types) less) in
-    (
+    (subst (λ t. length (spelled (records_from t es)) < 2 ^ 64) (sym types) less) in (
       entry_form h held mid e es count header few run.1 named all,
       omega (arith, short, size, length-body (record_of held.types e)),
       subst (λ t. HaveForms t es) types back,

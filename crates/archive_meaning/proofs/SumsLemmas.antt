@@ -121,8 +121,7 @@ none_here : (count file : ℕ) (ps : List Piece) → AreBelow count ps → count
 none_here count file [] below past = (refl, refl)
 none_here count file (p ∷ ps) below past =
     let rest = none_here count file ps below.1 past in
-    let test : p.file == file ≡ false = ne_eqb p.file file (λ e. omega (arith, e, below.0, past)) in
-    (
+    let test : p.file == file ≡ false = ne_eqb p.file file (λ e. omega (arith, e, below.0, past)) in (
       ap₂ (λ b l. (if b then p.messages else []) ++ l) test rest.0,
       ap₂ (λ b c. (b && p.last) || c) test rest.1,
     )

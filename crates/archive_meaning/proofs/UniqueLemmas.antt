@@ -34,8 +34,8 @@ pub records_joined : (types : List (List ℕ)) (es fs : List JournalEntry) → r
 records_joined types [] fs = ap (λ t. records_from t fs) (sym (append-nil types))
 records_joined types (e ∷ es) fs =
     ap (λ (l : List Saved). record_of types e ∷ l) (
-      records_joined (types ++ types_in e) es fs
-      ∙ ap (λ t. records_from (types ++ types_in e) es ++ records_from t fs) (append_assoc types (types_in e) (types_of es))
+    records_joined (types ++ types_in e) es fs
+    ∙ ap (λ t. records_from (types ++ types_in e) es ++ records_from t fs) (append_assoc types (types_in e) (types_of es))
     )
 
 pub spelled_joined : (rs ss : List Saved) → spelled (rs ++ ss) ≡ spelled rs ++ spelled ss
@@ -73,8 +73,8 @@ legal_front h es fs legal =
 same_head : (g h : Header) (x y : List ℕ) → IsHeader g → IsHeader h → header_bytes g ++ x ≡ header_bytes h ++ y → g ≡ h
 same_head g h x y header_g header_h same =
     one_header g h header_g header_h (
-      sym (take_at (header_bytes g) x 32 (length-header_bytes g)) ∙ ap (λ (l : List ℕ). take 32 l) same
-      ∙ take_at (header_bytes h) y 32 (length-header_bytes h)
+    sym (take_at (header_bytes g) x 32 (length-header_bytes g)) ∙ ap (λ (l : List ℕ). take 32 l) same
+    ∙ take_at (header_bytes h) y 32 (length-header_bytes h)
     )
 
 pub one_beginning : (bytes : List ℕ) (g h : Header) (es fs : List JournalEntry) → Begins bytes g es → Begins bytes h fs
@@ -95,8 +95,8 @@ goes_on h es more e x y same =
     let next : List ℕ = spelled (records_from (types_of es ++ types_in e) more) in
     let here : List ℕ = 1 ∷ body (record_of (types_of es) e) in
     append_cancel_left (front_of h es) _ _ (
-      same ∙ ap (λ (l : List ℕ). l ++ y) (front_joined h es (e ∷ more)) ∙ append_assoc (front_of h es) (here ++ next) y
-      ∙ ap (λ (l : List ℕ). front_of h es ++ l) (append_assoc here next y)
+    same ∙ ap (λ (l : List ℕ). l ++ y) (front_joined h es (e ∷ more)) ∙ append_assoc (front_of h es) (here ++ next) y
+    ∙ ap (λ (l : List ℕ). front_of h es ++ l) (append_assoc here next y)
     )
 
 next_legal : (h : Header) (es more : List JournalEntry) (e : JournalEntry) → IsLegal h (es ++ e ∷ more) → IsLegal h (es ++ e ∷ [])
@@ -143,15 +143,15 @@ stood_long : (bytes : List ℕ) (g h : Header) (es fs : List JournalEntry) → S
 stood_long bytes g h es fs one two few =
     let both = one_beginning bytes g h es fs (stands_begins bytes g es one) two few in
     let end : both.1.0 ≡ [] = closed_stops bytes g es fs both.1.0 one.stands.gate one.stands.rest (begins_of bytes g es one) one.stands.closed
-      (subst (λ k. Begins bytes k fs) (sym both.0) two) both.1.1 in
+    (subst (λ k. Begins bytes k fs) (sym both.0) two) both.1.1 in
     (both.0, sym (both.1.1 ∙ ap (λ l. es ++ l) end ∙ append-nil es))
 
 pub one_journal : OneJournal
 one_journal bytes g h es fs one two = elim (cases_lt (length es) (length fs)) as (λ x. (g ≡ h) × (es ≡ fs)) [
-    inl less ↦ stood_long bytes g h es fs one (stands_begins bytes h fs two) (omega (arith, less))
+  | inl less ↦ stood_long bytes g h es fs one (stands_begins bytes h fs two) (omega (arith, less))
   | inr few ↦
-    let back : (h ≡ g) × (fs ≡ es) = stood_long bytes h g fs es two (stands_begins bytes g es one) few in
-    (sym back.0, sym back.1)
+      let back : (h ≡ g) × (fs ≡ es) = stood_long bytes h g fs es two (stands_begins bytes g es one) few in
+      (sym back.0, sym back.1)
 ]
 
 -- a journal that bytes begin with is not longer than one behind which they are bad
@@ -167,7 +167,7 @@ has_header bytes h es begins = record {
   h = h;
   header = begins.header;
   spells = ap (λ (l : List ℕ). take 32 l) (begins.spells ∙ append_assoc (header_bytes h) (spelled (records_of es)) begins.rest)
-    ∙ take_at (header_bytes h) _ 32 (length-header_bytes h);
+      ∙ take_at (header_bytes h) _ 32 (length-header_bytes h);
 }
 
 same_place : (g h : Header) (es fs : List JournalEntry) → g ≡ h → es ≡ fs → length (front_of g es) ≡ length (front_of h fs)
@@ -175,12 +175,12 @@ same_place g h es fs heads entries = ap (λ k. length (front_of k es)) heads ∙
 
 two_damages : (bytes : List ℕ) (a b : ℕ) → IsDamagedAt bytes a → IsDamagedAt bytes b → a ≡ b
 two_damages bytes a b one two = elim (cases_lt (length one.es) (length two.es)) as (λ x. a ≡ b) [
-    inl less ↦
-    let same = damage_long bytes one.h two.h one.es two.es one.begins one.bad two.begins (omega (arith, less)) in
-    one.gate ∙ same_place one.h two.h one.es two.es same.0 same.1 ∙ sym two.gate
+  | inl less ↦
+      let same = damage_long bytes one.h two.h one.es two.es one.begins one.bad two.begins (omega (arith, less)) in
+      one.gate ∙ same_place one.h two.h one.es two.es same.0 same.1 ∙ sym two.gate
   | inr few ↦
-    let same = damage_long bytes two.h one.h two.es one.es two.begins two.bad one.begins few in
-    one.gate ∙ sym (same_place two.h one.h two.es one.es same.0 same.1) ∙ sym two.gate
+      let same = damage_long bytes two.h one.h two.es one.es two.begins two.bad one.begins few in
+      one.gate ∙ sym (same_place two.h one.h two.es one.es same.0 same.1) ∙ sym two.gate
 ]
 
 pub one_damage : OneDamage
@@ -198,15 +198,15 @@ whole_or_bad : (bytes : List ℕ) (h : Header) (es : List JournalEntry) (at : �
 whole_or_bad bytes h es at stood bad =
     let begins = stands_begins bytes h es stood in
     let same : (bad.h ≡ h) × (bad.es ≡ es) = elim (cases_lt (length es) (length bad.es)) as (λ x. (bad.h ≡ h) × (bad.es ≡ es)) [
-        inl less ↦
-        let back : (h ≡ bad.h) × (es ≡ bad.es) = stood_long bytes h bad.h es bad.es stood bad.begins (omega (arith, less)) in
-        (sym back.0, sym back.1)
+      | inl less ↦
+          let back : (h ≡ bad.h) × (es ≡ bad.es) = stood_long bytes h bad.h es bad.es stood bad.begins (omega (arith, less)) in
+          (sym back.0, sym back.1)
       | inr few ↦ damage_long bytes bad.h h bad.es es bad.begins bad.bad begins few
     ] in
     let rest : bad.begins.rest ≡ stood.stands.gate ∷ stood.stands.rest =
     append_cancel_left (front_of h es) _ _ (
-      ap (λ l. l ++ bad.begins.rest) (sym (ap (λ k. front_of k bad.es) same.0 ∙ ap (λ l. front_of h l) same.1))
-      ∙ sym bad.begins.spells ∙ begins_of bytes h es stood
+    ap (λ l. l ++ bad.begins.rest) (sym (ap (λ k. front_of k bad.es) same.0 ∙ ap (λ l. front_of h l) same.1))
+    ∙ sym bad.begins.spells ∙ begins_of bytes h es stood
     ) in
     closed_bad bad.h bad.es bad.begins.rest stood.stands.gate stood.stands.rest rest stood.stands.closed bad.bad
 
@@ -220,11 +220,11 @@ longer_front h es rest = omega (arith, ap length (front_joined h es rest), lengt
 pub damage_is_behind : DamageIsBehind
 damage_is_behind bytes h es at begins (inl none) = absurd (none.1 (has_header bytes h es begins))
 damage_is_behind bytes h es at begins (inr bad) = elim (cases_lt (length es) (length bad.es)) as (λ x. length (front_of h es) ≤ at) [
-    inl less ↦
-    let both = one_beginning bytes h bad.h es bad.es begins bad.begins (omega (arith, less)) in
-    let place : length (front_of bad.h bad.es) ≡ length (front_of h (es ++ both.1.0)) = same_place bad.h h bad.es (es ++ both.1.0) (sym both.0) both.1.1 in
-    omega (arith, bad.gate, place, longer_front h es both.1.0)
+  | inl less ↦
+      let both = one_beginning bytes h bad.h es bad.es begins bad.begins (omega (arith, less)) in
+      let place : length (front_of bad.h bad.es) ≡ length (front_of h (es ++ both.1.0)) = same_place bad.h h bad.es (es ++ both.1.0) (sym both.0) both.1.1 in
+      omega (arith, bad.gate, place, longer_front h es both.1.0)
   | inr few ↦
-    let same = damage_long bytes bad.h h bad.es es bad.begins bad.bad begins few in
-    omega (arith, bad.gate, same_place bad.h h bad.es es same.0 same.1)
+      let same = damage_long bytes bad.h h bad.es es bad.begins bad.bad begins few in
+      omega (arith, bad.gate, same_place bad.h h bad.es es same.0 same.1)
 ]

@@ -47,7 +47,7 @@ segment_in bytes = record {
   last = slice_index bytes 16 % 2 == 1;
   ended = slice_index bytes 16 / 2 % 2 == 1;
   rows = rows_in (little_number 4 (drop 12 bytes)) (little_number 4 (drop 41 bytes))
-    (drop (45 + 4 * (little_number 4 (drop 33 bytes) + little_number 4 (drop 37 bytes))) bytes);
+      (drop (45 + 4 * (little_number 4 (drop 33 bytes) + little_number 4 (drop 37 bytes))) bytes);
 }
 
 abbrev pub entry_in : Saved → JournalEntry

@@ -36,9 +36,9 @@ returns-then-not-are_same-clause-illegal g c = λ is.
     let words : c.in-Some.words ≡ words_named types found.1.rows = at_some c.in_ok-words.field-0 _ c.in-Some.words c.in_ok-words.ensures.some c.in-Some.is in
     only_segment c.args.judge.now c.args.payload.now found.0 found.1.rows c.in-Ok.ensures.parts
     (λ more spelled low admits.
-      let same : c.as_slice.result.now ≡ c.args.payload.now =
-        c.as_slice.ensures ∙ c.in_ok-written.ensures ∙ ap (λ w. segment_bytes found.0.file found.0.first found.0.last found.0.ended found.1.rows w) words ∙ sym spelled in
-      cc (c.are_same.ensures.1 same, c.if-not-are_same.true))
+    let same : c.as_slice.result.now ≡ c.args.payload.now =
+    c.as_slice.ensures ∙ c.in_ok-written.ensures ∙ ap (λ w. segment_bytes found.0.file found.0.first found.0.last found.0.ended found.1.rows w) words ∙ sym spelled in
+    cc (c.are_same.ensures.1 same, c.if-not-are_same.true))
 
 pub returns-clause-taken : goal.returns-clause-taken
 returns-clause-taken g c =

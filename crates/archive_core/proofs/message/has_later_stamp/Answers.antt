@@ -13,7 +13,7 @@ returns-then-has_stamp c = λ version tells.
     let now = c.loop-after in
     let next = c.split_line-in-Some in
     let later = later_here version now.rest.now c.in-Some.after.now next.result.0.now next.result.1.now c.in-Some.field-0-0.now (search rules) now.invariant.ends next.ensures.parts next.ensures.line
-      next.ensures.ends ((c.has_stamp.ensures version tells).0 c.if-has_stamp.true) in
+    next.ensures.ends ((c.has_stamp.ensures version tells).0 c.if-has_stamp.true) in
     (λ yes. (now.invariant.same version tells).1 later, λ is. search rules)
 
 pub loop-after-preserved : goal.loop-after-preserved
@@ -23,10 +23,10 @@ loop-after-preserved c =
     record {
       ends = next.ensures.ends;
       same = λ version tells.
-        let step = later_behind version now.rest.now c.in-Some.after.now next.result.0.now next.result.1.now c.in-Some.field-0-0.now (search rules) now.invariant.ends next.ensures.parts
+          let step = later_behind version now.rest.now c.in-Some.after.now next.result.0.now next.result.1.now c.in-Some.field-0-0.now (search rules) now.invariant.ends next.ensures.parts
           next.ensures.line next.ensures.ends (λ stamped. absurd (cc ((c.has_stamp.ensures version tells).1 stamped, c.if-has_stamp.false))) in
-        let before = now.invariant.same version tells in
-        (λ later. step.0 (before.0 later), λ later. before.1 (step.1 later));
+          let before = now.invariant.same version tells in
+          (λ later. step.0 (before.0 later), λ later. before.1 (step.1 later));
     }
 
 pub returns : goal.returns

@@ -11,11 +11,13 @@ returns-then-not-has_stamp c = (
 pub returns : goal.returns
 returns c =
     let stamped = c.has_stamp.ensures c.args.version (from_three c.args.version) in
-    let later = c.has_later_stamp.ensures c.args.version (from_three c.args.version) in
-    (
-      λ yes. (search rules, record {
-        stamped = stamped.0 (search rules);
-        alone = λ is. absurd (not_both c.has_later_stamp.result (later.1 is) yes);
-      }),
+    let later = c.has_later_stamp.ensures c.args.version (from_three c.args.version) in (
+      λ yes. (
+        search rules,
+        record {
+          stamped = stamped.0 (search rules);
+          alone = λ is. absurd (not_both c.has_later_stamp.result (later.1 is) yes);
+        },
+      ),
       λ is. not_true c.has_later_stamp.result (λ yes. is.1.alone (later.0 yes)),
     )

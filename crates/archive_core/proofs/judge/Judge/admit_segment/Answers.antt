@@ -49,17 +49,17 @@ returns-clause-admitted g c =
     let sum : c.index-sum.result.now ≡ get_or inside.files.items file no_messages = other_default inside.files.items file c.index-sum.result.now no_messages (search rules) c.index-sum.ensures in
     let found = at_some c.in_ok-open_end.field-0 _ c.in-Some.open_end c.in_ok-open_end.ensures.some c.in-Some.is in
     let here = adds_rows inside.books.version c.index-sum.result.now types words c.args.part rows found.0 c.in-Some.open_end (c.may_follow.ensures.0 (search rules)) c.fit.ensures found.1 found.2
-      (c.ends_well.ensures.0 (search rules)) in
+    (c.ends_well.ensures.0 (search rules)) in
     let named = subst (λ v. AddsRows v c.index-sum.result.now types words segment found.0) c.self.invariant.same_version here in
     let adds = subst (λ (x : FileSum). AddsRows inside.header.version x types words segment found.0) sum named in
     let long : c.args.payload ≡ length (record_of types (Segment segment)).payload = subst (λ (s : Sums). c.args.payload ≡ length (record_of s.types (Segment segment)).payload) (sym c.self.view_is) c.requires in
     let end : inside.end + (10 + c.args.payload) ≡ end_with old (Segment segment) = omega (arith, long) in
     let now : FileSum = record { messages = c.index-sum.result.now.messages + c.count.result; whole = c.args.part.last; open_end = c.in-Some.open_end } in
     let placed : now ≡ sum_with (get_or inside.files.items file no_messages) segment found.0 =
-      same_sum c.index-sum.result.now c.args.part rows found.0 c.count.result c.in-Some.open_end c.count.ensures found.2 ∙ ap (λ (x : FileSum). sum_with x segment found.0) sum in
+    same_sum c.index-sum.result.now c.args.part rows found.0 c.count.result c.in-Some.open_end c.count.ensures found.2 ∙ ap (λ (x : FileSum). sum_with x segment found.0) sum in
     let files : set inside.files.items file now ≡ set inside.files.items file (sum_with (get_or inside.files.items file no_messages) segment found.0) = ap (λ (x : FileSum). set inside.files.items file x) placed in
     let new : Sums = record { header = inside.header; types = types; words = words; files = set inside.files.items file now; end = inside.end + (10 + c.args.payload) } in
     let same : new ≡ record old { files = set old.files file (sum_with (get_or old.files file no_messages) segment found.0); end = end_with old (Segment segment) } =
-      λ i. record { header = inside.header; types = types; words = words; files = files i; end = end i } in
+    λ i. record { header = inside.header; types = types; words = words; files = files i; end = end i } in
     let room : new.end ≤ old.header.length_limit = search rules in
     subst (λ (s : Sums). Admits s (Segment segment) new) c.self.view_is ((search rules, (found.0, adds, same)), room)
