@@ -1,24 +1,24 @@
 -- A check along the records of bytes that are told.
-use Rattle.std.proofs.Common.{◌≡◌, ◌≢◌, ◌⊎◌, inl, inr, ℕ, suc, ◌+◌, ◌^◌, ◌<◌, ◌≤◌, List, [], ◌∷◌, ◌++◌, Some, get_or, length, take, drop, refl, sym, ◌∙◌, ap, ap₂, subst, arith, length-append}
+use Rattle.std.proofs.Common.{◌≡◌, inl, inr, ℕ, suc, ◌+◌, ◌^◌, ◌<◌, List, [], ◌∷◌, ◌++◌, Some, get_or, length, take, drop, refl, sym, ◌∙◌, ap, subst, arith, length-append}
 use Rattle.std.specs.Prelude.{IfSome, IsNone, None, Option}
 use Rattle.std.specs.List.{sum_by}
-use Rattle.std.proofs.lemmas.List.{append-nil, append_assoc, append_cancel_left, drop_at}
+use Rattle.std.proofs.lemmas.List.{append-nil, append_assoc, drop_at}
 use Rattle.std.proofs.Math.Seq.{get_or-append_seam}
 use Rattle.std.proofs.lemmas.List.Sums.{sum_by-cons}
 use Rattle.record_format.specs.declared.header.Header.{Header}
 use Rattle.record_format.specs.Header.{IsHeader, header_bytes}
 use Rattle.record_format.proofs.HeaderLemmas.{length-header_bytes}
-use Rattle.disk_journal.specs.Record.{Saved, Fits, body, payload_len, spelled}
+use Rattle.disk_journal.specs.Record.{Saved, Fits, body, payload_len}
 use Rattle.disk_journal.specs.Place.{ClosedAt, HasClosedGate, HasRecord, HasWalked, IsDamaged, NoHeader, OpenAt, Walked}
 use Rattle.disk_journal.proofs.SpellingLemmas.{length-body, payload_len-body}
 use Rattle.archive_meaning.specs.declared.sums.FileSum.{FileSum}
 use Rattle.archive_meaning.specs.declared.entry.JournalEntry.{JournalEntry}
 use Rattle.archive_meaning.specs.declared.entry.JournalEntry.TheVariants.{Files, Types, Words, Segment}
-use Rattle.archive_meaning.specs.Held.{File, Held, Piece, content_of, files_from, is_ended, is_whole, messages_of, nothing_held}
-use Rattle.archive_meaning.specs.Spelled.{end_of, front_of, record_of, records_from, records_of, types_in, types_of}
-use Rattle.archive_meaning.specs.Stands.{Begins, IsBadBehind, IsDamagedAt, IsLegal, StandsFor}
+use Rattle.archive_meaning.specs.Held.{File, Held, Piece, files_from, is_ended, is_whole, messages_of, nothing_held}
+use Rattle.archive_meaning.specs.Spelled.{front_of, record_of, types_in, types_of}
+use Rattle.archive_meaning.specs.Stands.{IsBadBehind, IsDamagedAt, IsLegal, StandsFor}
 use Rattle.archive_meaning.specs.StepsForms.{HasForm, HaveForms}
-use Rattle.archive_meaning.specs.Sums.{AddsEntry, Admits, AreSums, Sums, sum_of, sums_from}
+use Rattle.archive_meaning.specs.Sums.{Admits, AreSums, Sums, sum_of, sums_from}
 use Rattle.archive_meaning.proofs.JudgeLemmas.{admitted, legal_admitted, same_types}
 use Rattle.archive_meaning.specs.Legal.{Run}
 use Rattle.archive_meaning.proofs.RunLemmas.{one_held}

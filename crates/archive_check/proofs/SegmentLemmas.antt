@@ -1,10 +1,10 @@
 -- What a segment's payload begins with, and whose rows it holds.
-use Rattle.std.proofs.Common.{◌≡◌, ◌≢◌, ℕ, ◌+◌, ◌<◌, ◌≤◌, Bool, List, [], ◌++◌, length, take, drop, refl, sym, ◌∙◌, ap, subst, arith, length-append}
-use Rattle.std.proofs.lemmas.List.{append-nil, append_assoc, take_at}
+use Rattle.std.proofs.Common.{◌≡◌, ◌≢◌, ℕ, ◌+◌, ◌≤◌, List, [], ◌++◌, length, take, sym, ◌∙◌, ap, subst, arith, length-append}
+use Rattle.std.proofs.lemmas.List.{append_assoc, take_at}
 use Rattle.column_store.specs.declared.row.Row.{Row}
 use Rattle.segment_format.specs.declared.fixed.Fixed.{Fixed}
 use Rattle.segment_format.specs.declared.head.Head.{Head}
-use Rattle.segment_format.specs.Layout.{IsFixed, IsHead, IsSegment, columns_bytes, fixed_bytes, fixed_of, head_bytes, head_length, head_of, segment_bytes}
+use Rattle.segment_format.specs.Layout.{IsFixed, IsHead, columns_bytes, fixed_bytes, fixed_of, head_bytes, head_length, head_of}
 use Rattle.segment_format.specs.Spelled.{HoldsRows}
 use Rattle.segment_format.proofs.FixedLemmas.{length-fixed_bytes}
 use Rattle.segment_format.proofs.HeadLemmas.{length-head_bytes}

@@ -1,5 +1,5 @@
 -- Which entries a record can be of, by its kind.
-use Rattle.std.proofs.Common.{◌≡◌, ◌≢◌, ℕ, ◌<◌, ◌^◌, Bool, List, All, get_or, refl, sym, ◌∙◌, ap, ap₂, subst, arith}
+use Rattle.std.proofs.Common.{◌≡◌, ◌≢◌, ℕ, ◌<◌, ◌^◌, List, All, get_or, sym, ◌∙◌, ap, subst, arith}
 use Rattle.std.specs.Prelude.{OnOk, Result}
 use Rattle.std.proofs.Common.{Err, Ok}
 use Rattle.std.specs.List.{flat_map}
@@ -10,12 +10,11 @@ use Rattle.record_format.proofs.ListLemmas.{one_list, one_texts}
 use Rattle.column_store.specs.declared.row.Row.{Row}
 use Rattle.row_codec.specs.Numbers.{numbers_of_row}
 use Rattle.segment_format.specs.declared.head.Head.{Head}
-use Rattle.segment_format.specs.Layout.{IsNumberSet, IsSegment, segment_bytes, sorted_set}
+use Rattle.segment_format.specs.Layout.{IsSegment, segment_bytes, sorted_set}
 use Rattle.segment_format.proofs.SetLemmas.{has_sorted_set, rise_of, up_sorted_set}
 use Rattle.archive_meaning.specs.declared.entry.SegmentEntry.{SegmentEntry}
-use Rattle.archive_meaning.specs.declared.entry.JournalEntry.{JournalEntry}
 use Rattle.archive_meaning.specs.declared.entry.JournalEntry.TheVariants.{Files, Types, Words, Segment}
-use Rattle.archive_meaning.specs.Spelled.{record_of, words_named}
+use Rattle.archive_meaning.specs.Spelled.{words_named}
 use Rattle.archive_meaning.specs.StepsForms.{HasForm}
 use Rattle.archive_meaning.specs.Sums.{Admits, Sums}
 use Rattle.archive_check.specs.Taken.{HasParts, SpellsNoSegment, Takes, TakesNone}

@@ -3,7 +3,6 @@ use Rattle.std.specs.Prelude.{◌≡◌, ℕ, List, length}
 use Rattle.std.specs.List.{sum_by}
 use Rattle.std.specs.Prelude.{Option, None, Some}
 use Rattle.record_format.specs.declared.header.Header.{Header}
-use Rattle.archive_meaning.specs.declared.sums.FileSum.{FileSum}
 use Rattle.archive_meaning.specs.declared.entry.JournalEntry.{JournalEntry}
 use Rattle.archive_meaning.specs.Held.{File, content_of}
 use Rattle.archive_meaning.specs.Spelled.{front_of}

@@ -1,6 +1,5 @@
 -- What a judge makes of a record.
 use Rattle.std.specs.Prelude.{◌≡◌, ◌≢◌, ℕ, Bool, List}
-use Rattle.disk_journal.specs.Record.{Saved}
 use Rattle.column_store.specs.declared.row.Row.{Row}
 use Rattle.segment_format.specs.declared.head.Head.{Head}
 use Rattle.segment_format.specs.Layout.{IsSegment, segment_bytes}

@@ -1,5 +1,5 @@
 -- When a segment may follow, from what was looked at one after the other.
-use Rattle.std.proofs.Common.{◌≡◌, ℕ, zero, suc, ◌+◌, ◌<◌, List, [], ◌∷◌, All, arith, get_or, length, refl, sym, ◌∙◌, ap}
+use Rattle.std.proofs.Common.{◌≡◌, ℕ, zero, suc, ◌+◌, ◌<◌, List, [], ◌∷◌, All, arith, get_or, length, sym, ◌∙◌, ap}
 use Rattle.std.specs.Prelude.{Bool, true, false}
 use Rattle.column_store.specs.declared.row.Row.{Row}
 use Rattle.column_store.specs.Row.{IsRow}

@@ -1,5 +1,5 @@
 -- The slots of a text and their words, one by one.
-use Rattle.std.specs.Prelude.{◌≡◌, ◌≤◌, ◌^◌, ℕ, Option, None, Some, List, [], ◌∷◌, ◌++◌}
+use Rattle.std.specs.Prelude.{◌≡◌, ◌≤◌, ◌^◌, ℕ, Option, None, Some, List, ◌∷◌, ◌++◌}
 use Rattle.logtype_text.specs.declared.symbols.Kind.{Kind}
 use Rattle.row_codec.specs.Numbers.{word_numbers}
 

@@ -1,5 +1,5 @@
 -- Which texts a dictionary may hold, by its kind.
-use Rattle.std.specs.Prelude.{◌≡◌, ℕ, List}
+use Rattle.std.specs.Prelude.{ℕ, List}
 use Rattle.logtype_text.specs.Fair.{IsFairType, IsFairWord}
 use Rattle.row_codec.specs.declared.namer.Which.{Which}
 use Rattle.row_codec.specs.declared.namer.Which.TheVariants.{Types, Words}

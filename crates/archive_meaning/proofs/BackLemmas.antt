@@ -1,5 +1,5 @@
 -- What is spelled reads back.
-use Rattle.std.proofs.Common.{◌≡◌, ℕ, zero, suc, ◌+◌, ◌*◌, ◌%◌, ◌/◌, ◌^◌, ◌<◌, ◌≤◌, ℤ, pos, List, [], ◌∷◌, ◌++◌, Bool, true, false, length, map, take, drop, get_or, All, refl, sym, ◌∙◌, ap, ap₂, subst, arith, length-append, to_z-of_z}
+use Rattle.std.proofs.Common.{◌≡◌, ℕ, suc, ◌+◌, ◌*◌, ◌%◌, ◌/◌, ◌^◌, ◌<◌, ℤ, List, [], ◌∷◌, ◌++◌, Bool, true, false, length, map, take, drop, All, refl, sym, ◌∙◌, ap, ap₂, subst, arith, length-append, to_z-of_z}
 use Rattle.std.specs.Prelude.{slice_index, ◌==◌}
 use Rattle.std.specs.List.{flat_map}
 use Rattle.std.specs.Int.{w64, cast_signed, cast_unsigned}
@@ -10,9 +10,9 @@ use Rattle.std.proofs.lemmas.List.Concat.{flat_map-cons, length-flat_map}
 use Rattle.std.proofs.lemmas.List.Sums.{get_or-le-sum_by}
 use Rattle.std.proofs.Math.Facts.{Fits-of_z}
 use Rattle.std.proofs.lemmas.List.Elements.{All-nil, All-append, All-head, All-map, All-tail}
-use Rattle.byteorder.specs.Endian.{little_bytes, little_number}
+use Rattle.byteorder.specs.Endian.{little_number}
 use Rattle.byteorder.specs.Numbers.{little_number-reads_back}
-use Rattle.record_format.specs.Lists.{AreTexts, four_bytes, text_bytes, list_bytes, files_payload, texts_payload}
+use Rattle.record_format.specs.Lists.{AreTexts, four_bytes, text_bytes, list_bytes, texts_payload}
 use Rattle.record_format.proofs.ListLemmas.{length-four_bytes}
 use Rattle.column_store.specs.declared.row.Row.{Row}
 use Rattle.column_store.specs.Row.{IsRow, variable_count}

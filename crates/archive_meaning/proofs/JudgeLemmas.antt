@@ -1,14 +1,12 @@
 -- The sums of a journal and one entry more.
-use Rattle.std.proofs.Common.{◌≡◌, ℕ, suc, ◌+◌, ◌<◌, ◌≤◌, List, [], ◌∷◌, ◌++◌, length, get_or, set, replicate, All, refl, sym, ◌∙◌, ap, ap₂, subst, arith, length-append}
-use Rattle.std.specs.Prelude.{Bool, true, false}
+use Rattle.std.proofs.Common.{◌≡◌, ℕ, suc, ◌+◌, ◌<◌, ◌≤◌, List, [], ◌∷◌, ◌++◌, length, get_or, set, replicate, refl, sym, ◌∙◌, ap, ap₂, subst, arith, length-append}
+use Rattle.std.specs.Prelude.{false}
 use Rattle.std.proofs.lemmas.List.{append-nil, append_assoc}
-use Rattle.std.proofs.lemmas.List.Elements.{length_all_zip}
-use Rattle.disk_journal.specs.Record.{Saved, body, spelled}
+use Rattle.disk_journal.specs.Record.{Saved, body}
 use Rattle.disk_journal.proofs.SpellingLemmas.{length-body}
 use Rattle.record_format.specs.declared.header.Header.{Header}
-use Rattle.record_format.specs.Header.{IsHeader}
 use Rattle.column_store.specs.declared.row.Row.{Row}
-use Rattle.row_codec.specs.Means.{AreCanonical, IsCanonical}
+use Rattle.row_codec.specs.Means.{AreCanonical}
 use Rattle.archive_meaning.specs.declared.entry.SegmentEntry.{SegmentEntry}
 use Rattle.archive_meaning.specs.declared.entry.JournalEntry.{JournalEntry}
 use Rattle.archive_meaning.specs.declared.entry.JournalEntry.TheVariants.{Files, Types, Words, Segment}
@@ -16,9 +14,9 @@ use Rattle.archive_meaning.specs.declared.sums.FileSum.{FileSum}
 use Rattle.archive_meaning.specs.Held.{Held, Piece, nothing_held, messages_of, is_whole, last_is_open}
 use Rattle.logtype_text.specs.Fair.{IsFairType, IsFairWord}
 use Rattle.archive_meaning.specs.Legal.{Accepts, AddsSegment, AddsTexts, AreNamed, Run, piece_of}
-use Rattle.archive_meaning.specs.Spelled.{end_of, front_of, record_of, records_from, types_in, types_of}
+use Rattle.archive_meaning.specs.Spelled.{end_of, front_of, record_of, types_in, types_of}
 use Rattle.archive_meaning.specs.Stands.{IsLegal}
-use Rattle.archive_meaning.specs.Sums.{AddsEntry, AddsNames, AddsRows, AdmittedAreSums, Admits, AreSums, LegalIsAdmitted, Sums, end_with, no_messages, open_after, sum_of, sum_with, sums_from}
+use Rattle.archive_meaning.specs.Sums.{AddsNames, AddsRows, AdmittedAreSums, AreSums, LegalIsAdmitted, Sums, end_with, no_messages, open_after, sum_of, sum_with, sums_from}
 use Rattle.archive_meaning.proofs.LegalLemmas.{types_after}
 use Rattle.archive_meaning.proofs.RunLemmas.{one_held, runs_go_on, runs_split}
 use Rattle.archive_meaning.proofs.SumsLemmas.{AreBelow, length-sums, open_joined, own_sum, sums_get, sums_named, sums_set}

@@ -1,10 +1,10 @@
 -- What the limits of a legal journal give: each entry has its form.
-use Rattle.std.proofs.Common.{◌≡◌, ℕ, suc, ◌+◌, ◌^◌, ◌<◌, ◌≤◌, List, [], ◌∷◌, ◌++◌, length, All, refl, sym, ◌∙◌, ap, subst, arith, length-append}
+use Rattle.std.proofs.Common.{◌≡◌, ℕ, ◌+◌, ◌^◌, ◌<◌, ◌≤◌, List, [], ◌∷◌, ◌++◌, length, All, refl, sym, ◌∙◌, ap, subst, arith, length-append}
 use Rattle.std.specs.List.{flat_map}
 use Rattle.std.proofs.lemmas.List.{append-nil, drop_at}
 use Rattle.std.proofs.lemmas.List.Elements.{All-drop}
 use Rattle.logtype_text.specs.Fair.{IsFairType, IsFairWord}
-use Rattle.disk_journal.specs.Record.{Saved, Fits, body, spelled}
+use Rattle.disk_journal.specs.Record.{body, spelled}
 use Rattle.disk_journal.proofs.SpellingLemmas.{length-body}
 use Rattle.record_format.specs.declared.header.Header.{Header}
 use Rattle.record_format.specs.Header.{IsHeader}

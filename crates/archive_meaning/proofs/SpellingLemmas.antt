@@ -1,13 +1,9 @@
 -- Which entry a record is of, and which records bytes begin with.
-use Rattle.std.proofs.Common.{◌≡◌, ◌≢◌, ℕ, suc, ◌+◌, ◌^◌, ◌<◌, ◌≤◌, List, [], ◌∷◌, ◌++◌, length, drop, refl, sym, ◌∙◌, ap, ap₂, subst, arith, length-append}
-use Rattle.std.proofs.lemmas.List.{append_assoc, append_cancel_left, drop_at}
+use Rattle.std.proofs.Common.{◌≡◌, ℕ, ◌≤◌, List, [], ◌∷◌, ◌++◌, length, drop, refl, sym, ◌∙◌, ap, ap₂, subst, arith}
+use Rattle.std.proofs.lemmas.List.{append_assoc, append_cancel_left}
 use Rattle.disk_journal.specs.Record.{Saved, Fits, body, first_of, spelled}
-use Rattle.disk_journal.proofs.SpellingLemmas.{first_of-body, length-body}
-use Rattle.record_format.specs.Lists.{AreTexts, files_payload, texts_payload}
-use Rattle.record_format.proofs.ListLemmas.{one_list, one_texts}
-use Rattle.archive_meaning.specs.declared.entry.SegmentEntry.{SegmentEntry}
+use Rattle.disk_journal.proofs.SpellingLemmas.{first_of-body}
 use Rattle.archive_meaning.specs.declared.entry.JournalEntry.{JournalEntry}
-use Rattle.archive_meaning.specs.declared.entry.JournalEntry.TheVariants.{Files, Types, Words, Segment}
 use Rattle.archive_meaning.specs.Back.{entry_in}
 use Rattle.archive_meaning.specs.Spelled.{record_of, records_from, types_in}
 use Rattle.archive_meaning.specs.StepsForms.{HasForm, HaveForms}

@@ -1,18 +1,17 @@
 -- Bytes begin with one row of legal journals, each the front of the next; they stand for one of them, or are damaged first at one place.
-use Rattle.std.proofs.Common.{◌≡◌, ◌≢◌, ◌⊎◌, inl, inr, ℕ, suc, ◌+◌, ◌^◌, ◌<◌, ◌≤◌, List, [], ◌∷◌, ◌++◌, length, take, drop, refl, sym, ◌∙◌, ap, subst, arith, length-append}
-use Rattle.std.proofs.lemmas.List.{append-nil, append_assoc, append_cancel_left, take_at, drop_at}
+use Rattle.std.proofs.Common.{◌≡◌, ◌≢◌, inl, inr, ℕ, ◌+◌, ◌≤◌, List, [], ◌∷◌, ◌++◌, length, take, drop, refl, sym, ◌∙◌, ap, subst, arith, length-append}
+use Rattle.std.proofs.lemmas.List.{append-nil, append_assoc, append_cancel_left, take_at}
 use Rattle.std.proofs.lemmas.Bool.{cases_lt}
 use Rattle.disk_journal.specs.Record.{Saved, body, spelled}
 use Rattle.record_format.specs.declared.header.Header.{Header}
 use Rattle.record_format.specs.Header.{IsHeader, header_bytes}
 use Rattle.record_format.proofs.HeaderLemmas.{length-header_bytes, one_header}
-use Rattle.archive_meaning.specs.declared.TheConstants.{MAX_FILES}
 use Rattle.archive_meaning.specs.declared.entry.JournalEntry.{JournalEntry}
 use Rattle.archive_meaning.specs.declared.entry.JournalEntry.TheVariants.{Files, Types, Words, Segment}
-use Rattle.archive_meaning.specs.Held.{Held, nothing_held}
-use Rattle.archive_meaning.specs.Legal.{AreNamed, Run}
-use Rattle.archive_meaning.specs.Spelled.{end_of, front_of, record_of, records_from, records_of, types_in, types_of}
-use Rattle.archive_meaning.specs.Stands.{Begins, HasHeader, IsBadBehind, IsDamagedAt, IsFirstDamage, IsLegal, StandsFor}
+use Rattle.archive_meaning.specs.Held.{nothing_held}
+use Rattle.archive_meaning.specs.Legal.{AreNamed}
+use Rattle.archive_meaning.specs.Spelled.{front_of, record_of, records_from, records_of, types_in, types_of}
+use Rattle.archive_meaning.specs.Stands.{Begins, HasHeader, IsBadBehind, IsDamagedAt, IsLegal, StandsFor}
 use Rattle.archive_meaning.specs.Laws.{DamageIsBehind, EntriesReadBack, JournalsAreWhole, OneDamage, OneJournal}
 use Rattle.archive_meaning.proofs.BackLemmas.{entries_back}
 use Rattle.archive_meaning.proofs.LegalLemmas.{run_forms}

@@ -1,5 +1,5 @@
 -- What the entries of a journal hold, and the content of an archive.
-use Rattle.std.specs.Prelude.{ℕ, ◌+◌, ◌==◌, ◌||◌, ◌&&◌, not, Bool, true, false, if◌then◌else◌, List, [], ◌∷◌, ◌++◌}
+use Rattle.std.specs.Prelude.{ℕ, ◌+◌, ◌==◌, ◌||◌, ◌&&◌, not, Bool, false, if◌then◌else◌, List, [], ◌∷◌, ◌++◌}
 
 -- The messages of a segment: of which file, whether it is that file's last segment, and whether a newline
 -- followed the last of them. One followed every message of a segment that is not the last.

@@ -1,8 +1,8 @@
 -- What holds of journals and of the bytes that stand for them.
-use Rattle.std.specs.Prelude.{◌≡◌, ◌⊎◌, ℕ, ◌≤◌, List, [], ◌∷◌, ◌++◌, length, map}
+use Rattle.std.specs.Prelude.{◌≡◌, ℕ, ◌≤◌, List, ◌++◌, length, map}
 use Rattle.record_format.specs.declared.header.Header.{Header}
 use Rattle.archive_meaning.specs.declared.entry.JournalEntry.{JournalEntry}
-use Rattle.archive_meaning.specs.Held.{Held, nothing_held}
+use Rattle.archive_meaning.specs.Held.{Held}
 use Rattle.archive_meaning.specs.Legal.{Run}
 use Rattle.record_format.specs.Header.{IsHeader}
 use Rattle.archive_meaning.specs.Back.{entry_in}

@@ -1,6 +1,5 @@
 -- When the entries of a journal make a legal archive: each one adds to what those before it hold.
-use Rattle.std.specs.Prelude.{◌≡◌, ◌≢◌, ℕ, ◌+◌, ◌^◌, ◌<◌, ◌≤◌, Bool, true, false, List, [], ◌∷◌, ◌++◌, length, All}
-use Rattle.std.specs.List.{AllZip}
+use Rattle.std.specs.Prelude.{◌≡◌, ℕ, ◌+◌, ◌^◌, ◌<◌, ◌≤◌, true, false, List, [], ◌∷◌, ◌++◌, length, All}
 use Rattle.logtype_text.specs.Fair.{IsFairType, IsFairWord}
 use Rattle.record_format.specs.declared.header.Header.{Header}
 use Rattle.column_store.specs.Row.{IsRow, variable_count}
@@ -11,7 +10,7 @@ use Rattle.archive_meaning.specs.declared.TheConstants.{MAX_NAMES, MAX_NAME_LEN,
 use Rattle.archive_meaning.specs.declared.entry.SegmentEntry.{SegmentEntry}
 use Rattle.archive_meaning.specs.declared.entry.JournalEntry.{JournalEntry}
 use Rattle.archive_meaning.specs.declared.entry.JournalEntry.TheVariants.{Files, Types, Words, Segment}
-use Rattle.archive_meaning.specs.Held.{Held, Piece, nothing_held, messages_of, is_whole, last_is_open}
+use Rattle.archive_meaning.specs.Held.{Held, Piece, messages_of, is_whole, last_is_open}
 
 -- the texts of a dictionary: distinct, each one fair, and not above the limit
 pub record IsBook (IsFair : List ℕ → Type 0) (limit : ℕ) (texts : List (List ℕ)) : Type 0 where

@@ -1,4 +1,4 @@
-use Rattle.std.proofs.Common.{rules, ◌≡◌, List, ℕ, Err, ◌∙◌, ap, arith, drop, subst, take}
+use Rattle.std.proofs.Common.{rules, ◌≡◌, Err, ◌∙◌, ap, arith, drop, subst, take}
 use Rattle.std.specs.Prelude.{IfSome}
 use Rattle.archive_core.proofs.RowsLemmas.{at_some}
 use Rattle.archive_check.specs.Checked.{DamagedAt}

@@ -1,4 +1,4 @@
-use Rattle.std.proofs.Common.{rules, ◌∙◌, ap}
+use Rattle.std.proofs.Common.{◌∙◌, ap}
 use Rattle.archive_check.proofs.CheckLemmas.{first_told, stood_told}
 use Rattle.archive_check.proofs.checking.check_with.Goals as goal
 

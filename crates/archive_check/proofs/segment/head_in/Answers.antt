@@ -1,6 +1,6 @@
-use Rattle.std.proofs.Common.{rules, ◌≡◌, ℕ, ◌≤◌, List, ◌++◌, length, take, ◌∙◌, ap, arith, refl, sym}
+use Rattle.std.proofs.Common.{rules, ◌≡◌, ℕ, List, length, take, ◌∙◌, ap, arith, refl, sym}
 use Rattle.std.proofs.lemmas.List.{take_at}
-use Rattle.segment_format.specs.Layout.{fixed_of, head_bytes}
+use Rattle.segment_format.specs.Layout.{head_bytes}
 use Rattle.archive_check.proofs.SegmentLemmas.{front_is, head_inside, no_fixed}
 use Rattle.archive_check.proofs.segment.head_in.Goals as goal
 

@@ -1,4 +1,3 @@
-use Rattle.std.proofs.Common.{rules}
 use Rattle.archive_check.proofs.TakeLemmas.{not_names, on_ok, took_names}
 use Rattle.archive_check.proofs.take.take_names.Goals as goal
 

@@ -1,4 +1,3 @@
-use Rattle.std.proofs.Common.{rules}
 use Rattle.archive_check.proofs.TakeLemmas.{not_types, on_ok, took_types}
 use Rattle.archive_check.proofs.take.take_types.Goals as goal
 

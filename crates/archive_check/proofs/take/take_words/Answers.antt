@@ -1,4 +1,3 @@
-use Rattle.std.proofs.Common.{rules}
 use Rattle.archive_check.proofs.TakeLemmas.{not_words, on_ok, took_words}
 use Rattle.archive_check.proofs.take.take_words.Goals as goal
 

@@ -1,4 +1,4 @@
-use Rattle.std.proofs.Common.{rules, true, false}
+use Rattle.std.proofs.Common.{rules}
 use Rattle.archive_core.proofs.MessageLemmas.{first_line, later_behind, later_here, nothing_later}
 use Rattle.archive_core.proofs.message.has_later_stamp.Goals as goal
 

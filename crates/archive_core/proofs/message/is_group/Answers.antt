@@ -1,4 +1,4 @@
-use Rattle.std.proofs.Common.{rules, arith}
+use Rattle.std.proofs.Common.{rules}
 use Rattle.archive_core.proofs.MessageLemmas.{from_three, not_both, not_true}
 use Rattle.archive_core.proofs.message.is_group.Goals as goal
 

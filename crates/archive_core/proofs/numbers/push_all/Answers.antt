@@ -1,4 +1,4 @@
-use Rattle.std.proofs.Common.{rules, ◌≡◌, ℕ, List, [], ◌++◌, ◌∙◌, All, ap, subst, sym, ◌^◌, ◌<◌}
+use Rattle.std.proofs.Common.{rules, ℕ, List, ◌++◌, ◌∙◌, All, ap, subst, sym, ◌^◌, ◌<◌}
 use Rattle.std.specs.Prelude.{false}
 use Rattle.column_store.specs.Row.{row_of}
 use Rattle.row_codec.specs.Numbers.{kinds_from, numbers_of_row, word_numbers}

@@ -1,4 +1,4 @@
-use Rattle.std.proofs.Common.{rules, ◌≡◌, ℕ, List, ◌++◌, ◌∷◌, ◌∙◌, ap, ◌+◌, drop, get_or}
+use Rattle.std.proofs.Common.{rules, ℕ, List, ◌++◌, ◌∙◌, ap, ◌+◌, drop, get_or}
 use Rattle.row_codec.specs.Numbers.{kinds_from, word_numbers}
 use Rattle.archive_core.proofs.NumbersLemmas.{kinds_here, wide_behind}
 use Rattle.archive_core.proofs.RowsLemmas.{at_none}

@@ -1,8 +1,7 @@
-use Rattle.std.proofs.Common.{rules, suc, ◌+◌, ◌≡◌, ℕ, List, take, arith, subst}
+use Rattle.std.proofs.Common.{suc, ◌+◌, ◌≡◌, ℕ, List, take, arith, subst}
 use Rattle.column_store.specs.Row.{row_of}
-use Rattle.archive_meaning.specs.Held.{ends_open}
 use Rattle.archive_meaning.specs.Sums.{open_after}
-use Rattle.archive_core.specs.Rows.{AreMessages, IsMessageOf}
+use Rattle.archive_core.specs.Rows.{AreMessages}
 use Rattle.archive_core.proofs.RowsLemmas.{at_none, at_some, row_of_rows, rows_more}
 use Rattle.archive_core.proofs.rows.rows_say.Goals as goal
 

@@ -1,4 +1,4 @@
-use Rattle.std.proofs.Common.{rules, subst, sym, length}
+use Rattle.std.proofs.Common.{rules, subst, sym}
 use Rattle.archive_core.specs.Texts.{FairOf}
 use Rattle.archive_meaning.specs.Legal.{IsBook}
 use Rattle.archive_core.proofs.TextsLemmas.{book_more, named_known, named_new, twice}

@@ -1,5 +1,4 @@
-use Rattle.std.proofs.Common.{rules, ◌≡◌, ℕ, ◌+◌, ◌≤◌, List, length, get_or, set, refl, ◌∙◌, ap, arith, subst, sym}
-use Rattle.column_store.specs.declared.row.Row.{Row}
+use Rattle.std.proofs.Common.{rules, ◌≡◌, ℕ, ◌+◌, ◌≤◌, List, length, get_or, set, ◌∙◌, ap, arith, subst, sym}
 use Rattle.archive_meaning.specs.declared.entry.SegmentEntry.{SegmentEntry}
 use Rattle.archive_meaning.specs.declared.entry.JournalEntry.TheVariants.{Segment}
 use Rattle.archive_meaning.specs.declared.sums.FileSum.{FileSum}

@@ -1,4 +1,4 @@
-use Rattle.std.proofs.Common.{rules, arith, ap, length, take, List}
+use Rattle.std.proofs.Common.{rules, arith, ap, take, List}
 use Rattle.std.specs.List.{sum_by}
 use Rattle.std.proofs.lemmas.List.Sums.{sum_by-le, sum_by_more_le}
 use Rattle.archive_meaning.specs.declared.sums.FileSum.{FileSum}
