@@ -1,0 +1,10 @@
+pub mod KeptLemmas
+pub mod FilesLemmas
+pub mod NextLemmas
+pub mod ReadLemmas
+pub mod WalkLemmas
+pub mod AsideLemmas
+pub mod HeadLemmas
+pub mod TakenLemmas
+pub mod StepLemmas
+pub mod OpenLemmas

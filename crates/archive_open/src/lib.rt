@@ -1,0 +1,24 @@
+//! Opening an archive for reading.
+//!
+//! What is opened are the texts of both dictionaries, the files, and for each segment its place and
+//! its head. The columns of segments are not read.
+#![tactic(auto)]
+
+mod archive;
+mod files;
+mod keeps;
+mod open;
+mod plain;
+mod refusal;
+mod segments;
+#[cfg(test)]
+mod tests;
+mod walk;
+
+pub use archive::Archive;
+pub use files::{FileEntry, FileList};
+pub use keeps::KeepsTexts;
+pub use open::open_archive;
+pub use plain::{PlainBook, PlainBooks};
+pub use refusal::ArchiveRefusal;
+pub use segments::{SegmentList, SegmentPlace};

@@ -1,0 +1,314 @@
+//! The walk along an archive's records, and what is kept of each.
+ghost use Rattle.std.specs.Prelude.{◌≡◌, ◌≢◌, ◌≤◌, ◌<◌, ◌+◌, ◌⊎◌, ◌∷◌, [], ◌++◌, ◌^◌, ℕ, List, length, map, IfOk, OnOk, IsTrue, IsFalse, IsErrOf, IsNone};
+ghost use Rattle.log_seams.specs.Outside.{CountsOf};
+ghost use Rattle.record_format.specs.Lists.{AreTexts, files_payload, texts_payload};
+ghost use Rattle.disk_journal.specs.Calls.{StaysAt};
+ghost use Rattle.disk_journal.specs.Journal.{state_of};
+ghost use Rattle.archive_open.specs.Kept.{MayHold, limit_of, texts_of, with_texts};
+ghost use Rattle.archive_open.specs.StepsBuilt.{built_of};
+ghost use Rattle.archive_open.specs.Shown.{RefusedAt, Spares};
+ghost use Rattle.archive_open.specs.StepsNext.{BuildsNext, BuildsTold, EndsWith, GoesOnTo, GoesWith, Looks, NoneNext, NoneTold, ReadsOf, StandsWhole, new_file};
+
+use crate::files::{FileEntry, add_files};
+use crate::keeps::KeepsTexts;
+use crate::refusal::ArchiveRefusal;
+use crate::segments::{SegmentPlace, add_segment, load_head};
+use disk_journal::{Journal, RecordPlace};
+use log_seams::{Disk, Text};
+use record_format::{FormatRefusal, read_files, read_texts};
+use row_codec::Which;
+use std::alloc::{AllocError, Global};
+
+// The kinds of records.
+const FILES: u8 = 1;
+
+const TYPES: u8 = 2;
+
+const WORDS: u8 = 3;
+
+const SEGMENT: u8 = 4;
+
+/// What was built of the records so far.
+#[derive(Drop)]
+pub(crate) struct Opening<K: KeepsTexts> {
+    /// The texts.
+    pub(crate) names: K,
+    /// The files.
+    pub(crate) files: Vec<FileEntry>,
+    /// The segments in the order of their records.
+    pub(crate) segments: Vec<SegmentPlace>,
+}
+
+// Keeps the names of further files, and tells whether the payload has such.
+fn keep_names(alloc: Global, files: &mut Vec<FileEntry>, payload: &[u8]) -> Result<bool, AllocError>
+    ensures kept { IfOk result (λ yes. IsTrue yes → (names : List (List ℕ)) × AreTexts names
+        × (payload.now ≡ files_payload names)
+        × (files.new.items ≡ files.old.items ++ map new_file names)) }
+    ensures refused { IfOk result (λ yes. IsFalse yes
+        → (names : List (List ℕ)) → AreTexts names → payload.now ≢ files_payload names) }
+{
+    match read_files(alloc, payload) {
+        Ok(names) => {
+            add_files(files, names)?;
+            Ok(true)
+        }
+        Err(FormatRefusal::Malformed) => Ok(false),
+        Err(FormatRefusal::OutOfMemory) => Err(AllocError),
+    }
+}
+
+// Adds the texts behind those of a dictionary, and tells whether it may have them.
+fn add_texts<K: KeepsTexts + Drop>(
+    names: &mut K,
+    kind: Which,
+    first: u32,
+    texts: &[Text],
+) -> Result<bool, AllocError>
+    ensures added { IfOk result (λ yes. IsTrue yes
+        → K.kept names.new ≡ with_texts kind texts.now (K.kept names.old)) }
+    ensures refused { IfOk result (λ yes. IsFalse yes
+        → first ≡ length (texts_of kind (K.kept names.old))
+        → ¬ MayHold (limit_of kind (K.kept names.old))
+        (texts_of kind (K.kept names.old) ++ texts.now)) }
+{
+    if first != names.count(kind) {
+        return Ok(false);
+    }
+    for text in texts {
+        if !names.add(kind, text.as_slice())? {
+            return Ok(false);
+        }
+    }
+    Ok(true)
+}
+
+// Keeps texts of a dictionary, and tells whether the payload has such, and the dictionary may have
+// them.
+fn keep_texts<K: KeepsTexts + Drop>(
+    alloc: Global,
+    names: &mut K,
+    kind: Which,
+    payload: &[u8],
+) -> Result<bool, AllocError>
+    ensures kept { IfOk result (λ yes. IsTrue yes
+        → (first : ℕ) × ((texts : List (List ℕ)) × (first < 2 ^ 32) × AreTexts texts
+        × (payload.now ≡ texts_payload first texts)
+        × (K.kept names.new ≡ with_texts kind texts (K.kept names.old)))) }
+    ensures refused { IfOk result (λ yes. IsFalse yes
+        → (first : ℕ) (texts : List (List ℕ)) → first < 2 ^ 32 → AreTexts texts
+        → payload.now ≡ texts_payload first texts
+        → first ≡ length (texts_of kind (K.kept names.old))
+        → ¬ MayHold (limit_of kind (K.kept names.old))
+        (texts_of kind (K.kept names.old) ++ texts)) }
+{
+    match read_texts(alloc, payload) {
+        Ok(read) => add_texts(names, kind, read.first, read.texts.as_slice()),
+        Err(FormatRefusal::Malformed) => Ok(false),
+        Err(FormatRefusal::OutOfMemory) => Err(AllocError),
+    }
+}
+
+// Keeps what a record that is no segment has, and tells whether it may follow.
+fn keep_listed<K: KeepsTexts + Drop>(
+    alloc: Global,
+    opening: &mut Opening<K>,
+    kind: u8,
+    payload: &[u8],
+) -> Result<bool, AllocError>
+    requires { kind ≢ SEGMENT }
+    ensures kept { IfOk result (λ yes. IsTrue yes → (at : ℕ)
+        → BuildsNext at kind payload.now
+        (built_of K.kept opening.old) (built_of K.kept opening.new)) }
+    ensures refused { IfOk result (λ yes. IsFalse yes → (at : ℕ)
+        → NoneNext at kind payload.now (built_of K.kept opening.old)) }
+{
+    match kind {
+        FILES => keep_names(alloc, &mut opening.files, payload),
+        TYPES => keep_texts(alloc, &mut opening.names, Which::Types, payload),
+        WORDS => keep_texts(alloc, &mut opening.names, Which::Words, payload),
+        _ => Ok(false),
+    }
+}
+
+// Keeps the place and the head of a segment, and tells whether it may follow.
+fn keep_segment<D: Disk, K: KeepsTexts + Drop>(
+    alloc: Global,
+    journal: &mut Journal<'_, D>,
+    opening: &mut Opening<K>,
+    place: RecordPlace,
+) -> Result<bool, ArchiveRefusal>
+    requires whole { StandsWhole place (D.state journal.old.disk.now).seen }
+    requires kind { place.kind ≡ SEGMENT }
+
+    // what stays
+    ensures looks { Looks (state_of journal.old) (state_of journal.new) }
+    ensures stays { StaysAt (state_of journal.old) (state_of journal.new) }
+    ensures ranges { ReadsOf place (D.state journal.old.disk.now).seen
+        (D.state journal.old.disk.now).ranges (D.state journal.new.disk.now).ranges }
+
+    // by the answer, and causes
+    ensures kept { IfOk result (λ yes. IsTrue yes
+        → BuildsTold place (D.state journal.old.disk.now).seen
+        (built_of K.kept opening.old) (built_of K.kept opening.new)) }
+    ensures refused { IfOk result (λ yes. IsFalse yes
+        → NoneTold place (D.state journal.old.disk.now).seen (built_of K.kept opening.old)) }
+    ensures damaged { (at : ℕ) → IsErrOf result (ArchiveRefusal.Damaged at)
+        → IsNone (D.state journal.old.disk.now).seen }
+    ensures counts { CountsOf ArchiveRefusal.DiskFault
+        (D.state journal.old.disk.now).faults (D.state journal.new.disk.now).faults result }
+{
+    let Some(head) = load_head(alloc, journal, place)? else {
+        return Ok(false);
+    };
+    let segment = SegmentPlace {
+        at: place.at,
+        payload: place.payload,
+        length: place.length,
+        head,
+    };
+    Ok(add_segment(&mut opening.files, &mut opening.segments, segment)?)
+}
+
+// Whether a record of this kind is no segment, and is of some entry.
+fn is_listed(kind: u8) -> bool
+    ensures { IsFalse result → kind ≢ SEGMENT → (kind < 1) ⊎ (4 < kind) }
+{
+    kind == FILES || kind == TYPES || kind == WORDS
+}
+
+// Keeps what a record that is no segment has, which is loaded, and tells whether it may follow.
+fn keep_loaded<D: Disk, K: KeepsTexts + Drop>(
+    alloc: Global,
+    journal: &mut Journal<'_, D>,
+    opening: &mut Opening<K>,
+    place: RecordPlace,
+) -> Result<bool, ArchiveRefusal>
+    requires whole { StandsWhole place (D.state journal.old.disk.now).seen }
+    requires kind { place.kind ≢ SEGMENT }
+
+    // what stays
+    ensures looks { Looks (state_of journal.old) (state_of journal.new) }
+    ensures stays { StaysAt (state_of journal.old) (state_of journal.new) }
+    ensures ranges { ReadsOf place (D.state journal.old.disk.now).seen
+        (D.state journal.old.disk.now).ranges (D.state journal.new.disk.now).ranges }
+
+    // by the answer, and causes
+    ensures kept { IfOk result (λ yes. IsTrue yes
+        → BuildsTold place (D.state journal.old.disk.now).seen
+        (built_of K.kept opening.old) (built_of K.kept opening.new)) }
+    ensures refused { IfOk result (λ yes. IsFalse yes
+        → NoneTold place (D.state journal.old.disk.now).seen (built_of K.kept opening.old)) }
+    ensures damaged { (at : ℕ) → IsErrOf result (ArchiveRefusal.Damaged at)
+        → IsNone (D.state journal.old.disk.now).seen }
+    ensures counts { CountsOf ArchiveRefusal.DiskFault
+        (D.state journal.old.disk.now).faults (D.state journal.new.disk.now).faults result }
+{
+    if !is_listed(place.kind) {
+        return Ok(false);
+    }
+    let payload = journal.load(alloc, place.payload, place.length)?;
+    Ok(keep_listed(alloc, opening, place.kind, payload.as_slice())?)
+}
+
+// Keeps what a record has, and tells whether it may follow.
+fn keep_record<D: Disk, K: KeepsTexts + Drop>(
+    alloc: Global,
+    journal: &mut Journal<'_, D>,
+    opening: &mut Opening<K>,
+    place: RecordPlace,
+) -> Result<bool, ArchiveRefusal>
+    requires { StandsWhole place (D.state journal.old.disk.now).seen }
+
+    // what stays
+    ensures looks { Looks (state_of journal.old) (state_of journal.new) }
+    ensures stays { StaysAt (state_of journal.old) (state_of journal.new) }
+    ensures ranges { ReadsOf place (D.state journal.old.disk.now).seen
+        (D.state journal.old.disk.now).ranges (D.state journal.new.disk.now).ranges }
+
+    // by the answer, and causes
+    ensures kept { IfOk result (λ yes. IsTrue yes
+        → BuildsTold place (D.state journal.old.disk.now).seen
+        (built_of K.kept opening.old) (built_of K.kept opening.new)) }
+    ensures refused { IfOk result (λ yes. IsFalse yes
+        → NoneTold place (D.state journal.old.disk.now).seen (built_of K.kept opening.old)) }
+    ensures damaged { (at : ℕ) → IsErrOf result (ArchiveRefusal.Damaged at)
+        → IsNone (D.state journal.old.disk.now).seen }
+    ensures counts { CountsOf ArchiveRefusal.DiskFault
+        (D.state journal.old.disk.now).faults (D.state journal.new.disk.now).faults result }
+{
+    if place.kind == SEGMENT {
+        keep_segment(alloc, journal, opening, place)
+    } else {
+        keep_loaded(alloc, journal, opening, place)
+    }
+}
+
+// Keeps what the next record has; false at the closed gate.
+fn keep_next<D: Disk, K: KeepsTexts + Drop>(
+    alloc: Global,
+    journal: &mut Journal<'_, D>,
+    opening: &mut Opening<K>,
+) -> Result<bool, ArchiveRefusal>
+    requires { GoesWith (built_of K.kept opening.old) (state_of journal.old) }
+
+    // what stays
+    ensures looks { Looks (state_of journal.old) (state_of journal.new) }
+    ensures ranges { Spares (D.state journal.old.disk.now).seen
+        (D.state journal.old.disk.now).ranges (D.state journal.new.disk.now).ranges }
+
+    // by the answer, and causes
+    ensures on { IfOk result (λ yes. IsTrue yes → GoesOnTo (state_of journal.old)
+        (built_of K.kept opening.new) (state_of journal.new)) }
+    ensures ended { IfOk result (λ yes. IsFalse yes
+        → EndsWith (built_of K.kept opening.new) (state_of journal.new)) }
+    ensures damaged { (at : ℕ) → IsErrOf result (ArchiveRefusal.Damaged at)
+        → RefusedAt at (D.state journal.old.disk.now).seen }
+    ensures counts { CountsOf ArchiveRefusal.DiskFault
+        (D.state journal.old.disk.now).faults (D.state journal.new.disk.now).faults result }
+{
+    let Some(place) = journal.next_place()? else {
+        return Ok(false);
+    };
+    if !keep_record(alloc, journal, opening, place)? {
+        return Err(ArchiveRefusal::Damaged { at: place.at });
+    }
+    Ok(true)
+}
+
+// The place of the gate that the walk has come to.
+fn gate_of<D: Disk>(journal: &Journal<'_, D>) -> u64
+    ensures { result ≡ journal.now.place }
+{
+    journal.place
+}
+
+/// Keeps what all records have, up to the closed gate.
+pub(crate) fn keep_all<D: Disk, K: KeepsTexts + Drop>(
+    alloc: Global,
+    journal: &mut Journal<'_, D>,
+    opening: &mut Opening<K>,
+) -> Result<(), ArchiveRefusal>
+    requires goes { GoesWith (built_of K.kept opening.old) (state_of journal.old) }
+    requires far { journal.old.count < journal.old.place }
+
+    // what stays
+    ensures looks { Looks (state_of journal.old) (state_of journal.new) }
+    ensures ranges { Spares (D.state journal.old.disk.now).seen
+        (D.state journal.old.disk.now).ranges (D.state journal.new.disk.now).ranges }
+
+    // by the answer, and causes
+    ensures ended { OnOk result
+        (EndsWith (built_of K.kept opening.new) (state_of journal.new)) }
+    ensures damaged { (at : ℕ) → IsErrOf result (ArchiveRefusal.Damaged at)
+        → RefusedAt at (D.state journal.old.disk.now).seen }
+    ensures counts { CountsOf ArchiveRefusal.DiskFault
+        (D.state journal.old.disk.now).faults (D.state journal.new.disk.now).faults result }
+{
+    for _ in 0..u64::MAX {
+        if !keep_next(alloc, journal, opening)? {
+            return Ok(());
+        }
+    }
+    let _above_the_count = gate_of(journal);
+    unreachable!()
+}

@@ -1,0 +1,13 @@
+pub mod NamerLemmas
+pub mod ToldLemmas
+pub mod KeptLemmas
+pub mod EachLemmas
+pub mod SealLemmas
+pub mod CollectLemmas
+pub mod NextLemmas
+pub mod CountLemmas
+pub mod FramedLemmas
+pub mod SegmentLemmas
+pub mod PlanLemmas
+pub mod PrepareLemmas
+pub mod OpenLemmas

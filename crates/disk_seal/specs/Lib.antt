@@ -1,0 +1,17 @@
+pub mod Known
+pub mod Told
+pub mod WordsIn
+pub mod View
+pub mod May
+pub mod Opening
+pub mod Adding
+pub mod Pieces
+pub mod Fixed
+pub mod Sealing
+pub mod Collected
+pub mod StepsFront
+pub mod Framed
+pub mod Registered
+pub mod Draft
+pub mod Planned
+pub mod Prepare

@@ -1,0 +1,80 @@
+//! Naming files.
+ghost use Rattle.std.specs.Prelude.{◌≡◌, ◌+◌, ◌≤◌, ℕ, [], ◌∷◌, IfOk, OnOk, OnErr, IsErrOf};
+ghost use Rattle.disk_journal.specs.State.{IsAtEnd};
+ghost use Rattle.disk_journal.specs.Journal.{state_of};
+ghost use Rattle.disk_journal.specs.Calls.{GoesOn, HasAdded, LeavesBeforeOrAfter, StaysAt};
+ghost use Rattle.archive_meaning.specs.Sums.{AddsNames};
+ghost use Rattle.disk_seal.specs.Registered.{files_record, files_size, IsFullFor};
+ghost use Rattle.disk_seal.specs.declared.files.RegisterRefusal.TheVariants.{OutOfMemory};
+
+use disk_journal::{AppendRefusal, Journal, frame};
+use log_seams::{Disk, TextList};
+use record_format::write_files;
+use std::alloc::{AllocError, Global};
+use thiserror::Error;
+
+/// The kind of a record of names of files.
+const KIND_FILES: u8 = 1;
+
+/// Why files got no numbers.
+#[derive(Clone, Copy, Debug, PartialEq, Eq, Error)]
+pub enum RegisterRefusal {
+    /// There was no memory.
+    #[error("out of memory")]
+    OutOfMemory,
+    /// The record does not fit the archive's limit of length: its end is `end`, and the record needs `need`
+    /// bytes.
+    #[error("full at {end}, which {need} bytes more do not fit")]
+    ArchiveFull { end: u64, need: u64 },
+    /// A call of the disk failed: its count of faults rose. Nothing more is to be appended to the journal.
+    #[error("the disk failed")]
+    DiskFault,
+}
+
+impl From<AllocError> for RegisterRefusal {
+    ghost from_gives = { λ _ e. e ≡ OutOfMemory };
+
+    fn from(_: AllocError) -> Self {
+        RegisterRefusal::OutOfMemory
+    }
+}
+
+/// Appends the names of further files to a journal at its end, and answers the number of the first of them,
+/// which is how many names the archive `held`. `ArchiveFull` exactly where the record goes past the limit
+/// of length.
+pub fn register<D: Disk>(
+    alloc: Global,
+    journal: &mut Journal<'_, D>,
+    held: u32,
+    names: &TextList,
+) -> Result<u32, RegisterRefusal>
+    requires at_end { IsAtEnd (state_of journal.old) }
+    requires names { AddsNames held names.now }
+
+    // what stays
+    ensures goes_on { GoesOn (state_of journal.old) (state_of journal.new) }
+    ensures moments { LeavesBeforeOrAfter (files_record names.now)
+        (state_of journal.old) (state_of journal.new) }
+
+    // by the answer
+    ensures number { IfOk result (λ first. first ≡ held) }
+    ensures added { OnOk result (HasAdded (files_record names.now ∷ []) (files_size names.now)
+        (state_of journal.old) (state_of journal.new)) }
+    ensures fits { OnOk result (journal.old.place + 1 + files_size names.now
+        ≤ journal.old.header.length_limit) }
+    ensures stays { OnErr result (StaysAt (state_of journal.old) (state_of journal.new)) }
+
+    // causes
+    ensures full { (end need : ℕ) → IsErrOf result (RegisterRefusal.ArchiveFull end need)
+        → IsFullFor names.now end need (state_of journal.old) }
+{
+    let payload = write_files(alloc, names)?;
+    let text = frame(alloc, KIND_FILES, payload.as_slice())?;
+    match journal.append(text.as_slice()) {
+        Ok(()) => Ok(held),
+        Err(AppendRefusal::ArchiveFull { end, need }) => {
+            Err(RegisterRefusal::ArchiveFull { end, need })
+        }
+        Err(AppendRefusal::DiskFault) => Err(RegisterRefusal::DiskFault),
+    }
+}

@@ -1,0 +1,34 @@
+//! Sealing: the segments of an archive, and the texts that they name, behind the keeper's lock.
+#![tactic(auto)]
+
+mod add;
+mod collect;
+mod draft;
+mod entry;
+mod faults;
+mod files;
+mod fixed;
+mod framing;
+mod namer;
+mod opened;
+mod pieces;
+mod plan;
+mod prepared;
+mod sealing;
+mod store;
+mod turns;
+
+pub use draft::Draft;
+pub use entry::StoreEntry;
+pub use faults::DiskFault;
+pub use files::{RegisterRefusal, register};
+pub use fixed::{LockId, StoreFixed};
+pub use namer::{LockNamer, Notes, Passes};
+pub use opened::Opened;
+pub use plan::PrepareRefusal;
+pub use prepared::{Prepared, Receipt, prepare};
+pub use store::{Keeper, Store, StorePasses};
+pub use turns::Turns;
+
+#[cfg(test)]
+mod tests;

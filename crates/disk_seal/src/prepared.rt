@@ -1,0 +1,147 @@
+//! Preparing a segment in a turn, and committing it.
+ghost use Rattle.std.specs.Prelude.{◌≡◌, ◌+◌, ◌≤◌, ℕ, length, IfOk, IfErr, OnErr, OnOk, IsErrOf};
+ghost use Rattle.turn_lock.specs.Words.{number_of, noted, IsReady};
+ghost use Rattle.disk_seal.specs.View.{state_by};
+ghost use Rattle.disk_seal.specs.Pieces.{added_by, size_of};
+ghost use Rattle.disk_seal.specs.Planned.{HasNumbers};
+ghost use Rattle.disk_seal.specs.declared.plan.PrepareRefusal.TheVariants.{ArchiveFull};
+ghost use Rattle.disk_seal.specs.Sealing.{told_as, HasGrown, HasGrownSome, MayPut, HasPutBack};
+ghost use Rattle.disk_seal.specs.Prepare.{AreNotesOf, BookNote, HasSeenOpening, IsFullAt, MayBeNext, HasGivenBack, IsFaultOf, IsPrepared};
+
+use crate::draft::Draft;
+use crate::faults::DiskFault;
+use crate::pieces::Piece;
+use crate::plan::PrepareRefusal;
+use crate::sealing::put_pieces;
+use crate::store::Store;
+use crate::turns::Turns;
+use dict_core::Book;
+use log_seams::Disk;
+use std::alloc::Global;
+use std::sync::Wait;
+use std::sync::ledger::Ledger;
+use turn_lock::{Note, Pass, Turn};
+
+/// A segment that the disk has, durably.
+#[derive(Clone, Copy, Debug, PartialEq, Eq)]
+pub struct Receipt {
+    /// The number of its file.
+    pub file: u32,
+    /// How many messages of the file stand before it.
+    pub first: u64,
+    /// How many rows it has.
+    pub rows: u32,
+    /// The archive's end behind it.
+    pub end: u64,
+}
+
+/// The records of a segment and of the texts before it, in the turn of the pass that prepared them.
+/// [`Prepared::commit`] ends the turn; it is not dropped silently.
+pub struct Prepared<'d, 'b, D: Disk> {
+    pub(crate) turn: Turn<Store<'d, 'b, D>>,
+    pub(crate) pieces: Vec<Piece>,
+    pub(crate) file: u32,
+    pub(crate) first: u64,
+    pub(crate) rows: u32,
+}
+
+impl<'d, 'b, D: Disk> Prepared<'d, 'b, D> {
+    /// Appends the records, and ends the turn of the pass that prepared them. At any moment a crash leaves
+    /// the journal of before with none, the first, .. or all of them, and after a receipt with all. After a
+    /// fault the store is stopped: each later commit answers the same and makes no call. Takes no memory.
+    pub fn commit(self, pass: &mut Pass<'_, Store<'d, 'b, D>>) -> Result<Receipt, DiskFault>
+        requires { MayPut D.state self.turn.value self.pieces.items pass.old }
+
+        // by the answer
+        ensures receipt { IfOk result (λ r. r ≡ record {
+          file = self.entry.file;
+          first = self.entry.first;
+          rows = self.entry.rows;
+          end = self.entry.turn.value.place + size_of self.entry.pieces.items + 1;
+        }) }
+        ensures added { OnOk result (HasGrown (told_as (state_by D.state self.entry.turn.value)
+            (added_by self.entry.pieces.items)) pass.old pass.new) }
+        ensures halted { OnErr result (HasGrownSome (added_by self.entry.pieces.items)
+            (state_by D.state self.entry.turn.value) pass.old pass.new) }
+        ensures fault { IfErr result (λ f. IsFaultOf D.state f pass.old) }
+
+        // images
+        ensures moments { HasPutBack D.state self.entry.turn.value
+            (added_by self.entry.pieces.items) pass.new }
+    {
+        let Prepared {
+            turn,
+            pieces,
+            file,
+            first,
+            rows,
+        } = self;
+        match put_pieces(turn, pass, pieces.as_slice()) {
+            Ok(end) => Ok(Receipt {
+                file,
+                first,
+                rows,
+                end,
+            }),
+            Err(fault) => Err(fault),
+        }
+    }
+}
+
+/// Takes a turn with the store and prepares a draft: learns the notes, takes a turn with each book, and
+/// frames the draft and all texts of both books that are not saved, also those that other threads named.
+///
+/// # Errors
+///
+/// [`PrepareRefusal::ArchiveFull`] where the records do not fit the limit of length, or
+/// [`PrepareRefusal::OutOfMemory`]. The turn is then given back, and nothing was appended.
+pub fn prepare<'d, 'b, D: Disk, R: Wait, A: Ledger, B: Ledger, C: Ledger>(
+    pass: &mut Pass<'_, Store<'d, 'b, D>>,
+    rt: &R,
+    alloc: Global,
+    draft: &Draft,
+    types: Note<'_, Book>,
+    words: Note<'_, Book>,
+    turns: &mut Turns<A, B, C>,
+) -> Result<Prepared<'d, 'b, D>, PrepareRefusal<'b>>
+    // the pass and the notes
+    requires ready { IsReady pass.old }
+    requires opening { HasSeenOpening pass.old }
+    requires notes { AreNotesOf pass.old types words }
+
+    // the draft
+    requires file { draft.now.file ≡ number_of pass.old }
+    requires numbers { HasNumbers draft.now }
+    requires next { MayBeNext D.state draft.now pass.old (noted types) (noted words) }
+
+    // by the answer
+    ensures prepared { IfOk result (λ r. IsPrepared D.state draft.now pass.old pass.new
+        r.turn.value r.pieces.items) }
+    ensures receipt { IfOk result (λ r. (r.file ≡ draft.now.file) × (r.first ≡ draft.now.first)
+        × (r.rows ≡ length draft.now.columns.rows)) }
+    ensures refused { OnErr result (HasGivenBack pass.old pass.new) }
+    ensures full { (end need : ℕ) (of_types of_words : BookNote)
+        → IsErrOf result (ArchiveFull end need of_types of_words)
+        → IsFullAt D.state draft.now end need of_types of_words
+        (noted types.entry) (noted words.entry) pass.old pass.new }
+
+    // turns
+    ensures turns { (turns.new.types ≡ turns.old.types + 1)
+        × (turns.new.words ≡ turns.old.words + 1) × (turns.new.store ≡ turns.old.store + 1) }
+{
+    let mut turn = pass.take(rt, &mut turns.store);
+    turn.value.facts();
+    match turn.value.plan(rt, alloc, draft, types, words, turns) {
+        Ok(pieces) => Ok(Prepared {
+            turn,
+            pieces,
+            file: draft.file,
+            first: draft.first,
+            rows: draft.columns.rows(),
+        }),
+        Err(refusal) => {
+            turn.put(pass);
+            Err(refusal)
+        }
+    }
+}

@@ -1,0 +1,5 @@
+mod RunLemmas
+mod RuleLemmas
+mod LetterLemmas
+mod BarrenLemmas
+mod VerdictLemmas

@@ -1,0 +1,17 @@
+use Rattle.std.proofs.Common.{rules, ◌≡◌, ◌∙◌, refl, sym, subst, IsTrue}
+use Rattle.std.specs.Prelude.{◌↔◌}
+use Rattle.std.specs.List.{Contains}
+use Rattle.subquery_filter.proofs.RuleLemmas.{missing_by, missing_new, not_found}
+use Rattle.subquery_filter.proofs.rules.is_missing.Goals as goal
+
+pub returns-in-Some : goal.returns-in-Some
+returns-in-Some g c = λ rise distinct.
+    let listed = c.args.listed.now in
+    let n = c.in-Some.number in
+    let tells = not_found listed n c.binary_search.result rise c.binary_search.ensures.position in
+    missing_by (g.N.Names.words c.args.names.now) listed c.args.text.now n c.is_err.result distinct (search rules) c.in-Some.ensures
+    (subst (λ b. IsTrue b ↔ (Contains listed n → ⊥)) (sym c.is_err.ensures.value) tells)
+
+pub returns-in-None : goal.returns-in-None
+returns-in-None g c = λ rise distinct.
+    (λ yes. missing_new (g.N.Names.words c.args.names.now) c.args.listed.now c.args.text.now (search rules) c.in-None.ensures, λ missing. refl)

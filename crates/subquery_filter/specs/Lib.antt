@@ -1,0 +1,5 @@
+pub mod Barren
+pub mod Laws
+pub mod Runs
+pub mod StepsLetters
+pub mod Verdicts

@@ -1,0 +1,26 @@
+//! Laws of barren segments and of verdicts. The functions do nothing.
+ghost use Rattle.subquery_filter.specs.Laws.{BarrenHasNoMatch};
+ghost use Rattle.subquery_filter.specs.Verdicts.{CertainAlwaysMatches, RejectedNeverMatches};
+
+use query_plan::{constants_suffice, needs_are_brought};
+use time_patterns::laws::stamp_texts_are_short;
+
+/// A barren segment has no message in the range that the pattern which a search is planned over
+/// matches, where its rows are encodings of their messages and its head is that of its rows.
+pub fn barren_has_no_match()
+    ensures { BarrenHasNoMatch }
+{
+    needs_are_brought();
+    stamp_texts_are_short();
+}
+
+/// The pattern that a search is planned over matches no message of a log type that is rejected, and
+/// each one of a log type that is certain.
+pub fn verdicts_hold()
+    ensures rejected { RejectedNeverMatches }
+    ensures certain { CertainAlwaysMatches }
+{
+    needs_are_brought();
+    constants_suffice();
+    stamp_texts_are_short();
+}

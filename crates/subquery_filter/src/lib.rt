@@ -1,0 +1,22 @@
+//! Which segments cannot match a search, and which rows do.
+//!
+//! Both are decided from what is stored, with no memory taken: a segment by its head, a row by its
+//! numbers and the texts that they name.
+#![tactic(auto)]
+
+mod accepting;
+#[cfg(test)]
+mod books;
+mod laws;
+mod letters;
+mod rules;
+mod runs;
+mod verdicts;
+
+pub use accepting::accepts;
+pub use laws::{barren_has_no_match, verdicts_hold};
+pub use rules::barren;
+pub use verdicts::{Verdict, verdict_of};
+
+#[cfg(test)]
+mod tests;

@@ -1,0 +1,220 @@
+use crate::books::Books;
+use crate::runs::holds_run;
+use crate::{Verdict, accepts, barren, verdict_of};
+use column_store::{Range, RowRef};
+use log_seams::NumberList;
+use query_plan::Plan;
+use row_codec::row_fits;
+use segment_format::Head;
+use std::alloc::{AllocError, Global};
+use std::test::Fail;
+use wild_match::read_pattern;
+
+/// The plan of a pattern's text.
+fn plan_of(alloc: Global, text: &[u8]) -> Result<Plan, Fail> {
+    let pattern = read_pattern(alloc, text).ok().ok_or("a pattern")?;
+    Ok(Plan::new(alloc, &pattern)?)
+}
+
+/// A `\` before another byte is no constant byte, and a constant `\` belongs to a token.
+#[test]
+fn runs_of_log_types(rt: HostRuntime) -> Result<(), Fail> {
+    let rows: [(&[u8], &[u8], bool); 10] = [
+        (b"run \x12 x", b"run", true),
+        (b"run \x12 x", b"x", true),
+        (b"runs \x12", b"run", false),
+        (b"rerun \x12", b"run", false),
+        (b"a\\\\b c", b"a\\b", true),
+        (b"a\\\\b c", b"a\\\\b", false),
+        (b"x\\\x12 y", b"x", true),
+        (b"x\x12 y", b"x", true),
+        (b"y \\", b"y", true),
+        (b"", b"x", false),
+    ];
+    for (text, word, want) in rows {
+        assert_eq!(rt; holds_run(text, word), want, "{text:?} {word:?}");
+    }
+    Ok(())
+}
+
+/// The head of a segment of one file.
+fn head_of(
+    alloc: Global,
+    rows: u32,
+    stamped: bool,
+    types: &[u32],
+    words: &[u32],
+) -> Result<Head, AllocError> {
+    Ok(Head {
+        file: 0,
+        first: 0,
+        rows,
+        last: false,
+        ended: false,
+        stamped,
+        least: 10,
+        greatest: 40,
+        types: NumberList::new(Vec::from_slice(alloc, types)?),
+        words: NumberList::new(Vec::from_slice(alloc, words)?),
+        variables: rows,
+    })
+}
+
+/// Three log types and three words.
+fn some_books(alloc: Global) -> Result<Books, Fail> {
+    let mut books = Books::new(alloc);
+    for text in [
+        b"run \x12 x".as_slice(),
+        b" INFO \x11 took \x13 s",
+        b"a\\\\b \x12",
+    ] {
+        books.add_type(text).ok().ok_or("a number")?;
+    }
+    for text in [b"task_1".as_slice(), b"task_2", b"xfoo1y"] {
+        books.add_word(text).ok().ok_or("a number")?;
+    }
+    Ok(books)
+}
+
+#[test]
+fn segments_without_a_needed_text(rt: HostRuntime) -> Result<(), Fail> {
+    let alloc = rt.alloc();
+    let books = some_books(alloc)?;
+    let range = Range {
+        from: None,
+        to: None,
+    };
+    // a pattern's text, how many rows, log types, words, whether the segment is barren
+    let rows: [(&[u8], u32, &[u32], &[u32], bool); 11] = [
+        (b" task_2 ", 1, &[0], &[1], false),
+        (b" task_2 ", 1, &[0], &[0, 2], true),
+        (b" task_9 ", 1, &[0], &[0, 1, 2], true),
+        (b"task_9", 1, &[0], &[0], false),
+        (b" 12 ", 1, &[0], &[0], false),
+        (b" took ", 1, &[0], &[], true),
+        (b" took ", 1, &[0, 1], &[], false),
+        (b" run  x ", 1, &[0], &[], false),
+        (b" a\\\\b ", 1, &[2], &[], false),
+        (b" \\*b ", 1, &[2], &[], true),
+        (b"", 0, &[0], &[], true),
+    ];
+    for (text, count, types, words, want) in rows {
+        let plan = plan_of(alloc, text)?;
+        let head = head_of(alloc, count, false, types, words)?;
+        assert_eq!(rt;
+            barren(&head, &plan, &range, &books),
+            want,
+            "{text:?} {words:?}"
+        );
+    }
+    Ok(())
+}
+
+/// Each bound is tested for itself.
+#[test]
+fn segments_outside_a_range(rt: HostRuntime) -> Result<(), Fail> {
+    let alloc = rt.alloc();
+    let books = some_books(alloc)?;
+    let plan = plan_of(alloc, b"x")?;
+    let rows = [
+        (true, None, None, false),
+        (false, None, None, false),
+        (false, Some(0), None, true),
+        (true, Some(40), None, false),
+        (true, Some(41), None, true),
+        (true, None, Some(10), false),
+        (true, None, Some(9), true),
+        (true, Some(30), Some(20), false),
+    ];
+    for (stamped, from, to, want) in rows {
+        let head = head_of(alloc, 1, stamped, &[0], &[])?;
+        let range = Range { from, to };
+        assert_eq!(rt;
+            barren(&head, &plan, &range, &books),
+            want,
+            "{from:?} {to:?}"
+        );
+    }
+    Ok(())
+}
+
+/// Whether a row that can be written is accepted.
+fn accepted(plan: &Plan, row: RowRef<'_>, books: &Books) -> Option<bool> {
+    if row_fits(row, books) {
+        Some(accepts(plan, row, books))
+    } else {
+        None
+    }
+}
+
+#[test]
+fn rows_that_match(rt: HostRuntime) -> Result<(), Fail> {
+    let alloc = rt.alloc();
+    let books = some_books(alloc)?;
+    // a pattern's text, a row's stamp, log type and words, whether it is accepted
+    let rows: [(&[u8], u8, i64, u32, &[u64], Option<bool>); 11] = [
+        (b" task_2 ", 0, 0, 0, &[1], Some(true)),
+        (b" task_2 ", 0, 0, 0, &[0], Some(false)),
+        (b"oo1", 0, 0, 0, &[2], Some(true)),
+        (b"o*y x", 0, 0, 0, &[2], Some(true)),
+        (
+            b"41,123] INFO",
+            5,
+            1427089121123,
+            1,
+            &[7, 0x14F32],
+            Some(true),
+        ),
+        (
+            b"-1 took 0.3",
+            5,
+            1427089121123,
+            1,
+            &[u64::MAX, 0x14F32],
+            Some(true),
+        ),
+        (
+            b"took 0.3 ",
+            5,
+            1427089121123,
+            1,
+            &[u64::MAX, 0x14F32],
+            Some(false),
+        ),
+        (b"a\\\\b t", 0, 0, 2, &[0], Some(true)),
+        (b"a\\\\\\\\b", 0, 0, 2, &[0], Some(false)),
+        (b"", 0, 0, 0, &[], None),
+        (b"", 0, 0, 3, &[], None),
+    ];
+    for (text, pattern, moment, log_type, words, want) in rows {
+        let plan = plan_of(alloc, text)?;
+        let row = RowRef {
+            pattern,
+            moment,
+            log_type,
+            words,
+        };
+        assert_eq!(rt; accepted(&plan, row, &books), want, "{text:?} {words:?}");
+    }
+    Ok(())
+}
+
+#[test]
+fn verdicts_of_log_types(rt: HostRuntime) -> Result<(), Fail> {
+    let alloc = rt.alloc();
+    let rows: [(&[u8], &[u8], Verdict); 8] = [
+        (b"", b"run \x12 x", Verdict::Certain),
+        (b" x", b"run \x12 x", Verdict::Certain),
+        (b"run * x", b"run \x12 x", Verdict::Certain),
+        (b" task_2 ", b"run \x12 x", Verdict::Tried),
+        (b"task", b"run \x12 x", Verdict::Tried),
+        (b" run ", b"run \x12 x", Verdict::Rejected),
+        (b" took ", b"run \x12 x", Verdict::Rejected),
+        (b"\n", b"run \x12 x", Verdict::Rejected),
+    ];
+    for (text, log_type, want) in rows {
+        let plan = plan_of(alloc, text)?;
+        assert_eq!(rt; verdict_of(&plan, log_type), want, "{text:?}");
+    }
+    Ok(())
+}
