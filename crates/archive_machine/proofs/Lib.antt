@@ -1,0 +1,4 @@
+pub mod HandLemmas
+pub mod KeptLemmas
+pub mod CodeLemmas
+pub mod LeadLemmas

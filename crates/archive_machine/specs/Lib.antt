@@ -1,0 +1,6 @@
+pub mod Machine
+pub mod Events
+pub mod Laws
+pub mod StepsHands
+pub mod StepsAdd
+pub mod StepsEven
