@@ -35,10 +35,10 @@ read_at (x ∷ xs) (suc i) d low = read_at xs i d (omega (arith, low))
 pub none_more : {A : Type 0} (P : A → Type 0) (xs : List A) (i : ℕ) (d : A) → ((k : ℕ) (x : A) → k < i → slice_get xs k ≡ Some x → P x) → i < length xs → P (get_or xs i d)
     → (k : ℕ) (x : A) → k < i + 1 → slice_get xs k ≡ Some x → P x
 none_more P xs i d before within here k x low at = elim (cases k i low) as (λ u. P x) [
-    inl less ↦ before k x less at
+  | inl less ↦ before k x less at
   | inr same ↦
-    let found : Some (get_or xs i d) ≡ Some x = sym (read_at xs i d within) ∙ ap (λ n. slice_get xs n) (sym same) ∙ at in
-    subst P (cc) here
+      let found : Some (get_or xs i d) ≡ Some x = sym (read_at xs i d within) ∙ ap (λ n. slice_get xs n) (sym same) ∙ at in
+      subst P (cc) here
 ] where
   cases : (k i : ℕ) → k < i + 1 → (k < i) ⊎ (k ≡ i)
   cases zero zero low = inr refl
@@ -215,9 +215,9 @@ no_row one version message OfTypes count types words_before words row meets is =
     let same : is.means.parts ≡ meets.0 = one_cut one version message row types.texts words.texts meets.0 is meets.1 in
     first (type_text (map symbol_of meets.0)) meets.2.at meets.2.text meets.2.here
     (λ text at_first. meets.2.new row.log_type (is.means.typed ∙ ap (λ l. Some (type_text (map symbol_of l))) same ∙ at_first)) where
-  first : (only : List ℕ) (at : ℕ) (text : List ℕ) → slice_get (only ∷ []) at ≡ Some text → ((t : List ℕ) → Some only ≡ Some text → ⊥) → ⊥
-  first only zero text here no_text = no_text text here
-  first only (suc at) text here no_text = absurd (cc (here))
+      first : (only : List ℕ) (at : ℕ) (text : List ℕ) → slice_get (only ∷ []) at ≡ Some text → ((t : List ℕ) → Some only ≡ Some text → ⊥) → ⊥
+      first only zero text here no_text = no_text text here
+      first only (suc at) text here no_text = absurd (cc (here))
 no_row one version message OfWords count types words_before words row meets is =
     let same : is.means.parts ≡ meets.0 = one_cut one version message row types.texts words.texts meets.0 is meets.1 in
     has_number words.texts meets.0 row.words meets.3.at meets.3.text (subst (λ l. EachWord (HasWord words.texts) l row.words) same is.means.coded) meets.3.here meets.3.new

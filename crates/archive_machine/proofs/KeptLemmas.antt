@@ -79,12 +79,11 @@ same_hands : (h : Header) (c d : Core) → IsPrefix c.types d.types → IsPrefix
     → ((worker : ℕ) → count_of worker d.journal ≡ count_of worker c.journal) → ((worker : ℕ) → is_closed worker d.journal ≡ is_closed worker c.journal)
     → ((worker : ℕ) → (messages : List (List ℕ)) × IsHand h c worker (rows_of worker c.hands) messages)
     → (worker : ℕ) → (messages : List (List ℕ)) × IsHand h d worker (rows_of worker d.hands) messages
-same_hands h c d types words hands count closed all worker =
-    (
-      (all worker).0,
-      subst (λ (l : List Hand). IsHand h d worker (rows_of worker l) (all worker).0) (sym hands)
+same_hands h c d types words hands count closed all worker = (
+  (all worker).0,
+  subst (λ (l : List Hand). IsHand h d worker (rows_of worker l) (all worker).0) (sym hands)
       (same_hand h c d worker (rows_of worker c.hands) (all worker).0 types words (count worker) (closed worker) (all worker).1),
-    )
+)
 
 -- ---- names
 
@@ -151,11 +150,11 @@ kept_types h c kept some =
       few_words = kept.few_words;
       held = more;
       run = runs_go_on h nothing_held kept.held more c.journal (e ∷ []) kept.run
-        (more, (saved_texts IsFairType h.types_limit c.saved_types c.types kept.held.types kept.types_book kept.held_types some, refl), refl);
+          (more, (saved_texts IsFairType h.types_limit c.saved_types c.types kept.held.types kept.types_book kept.held_types some, refl), refl);
       held_types = all_saved c.saved_types c.types kept.held.types kept.held_types;
       held_words = kept.held_words;
       hands = same_hands h c d (same_front c.types) (same_front c.words) refl
-        (λ w. count_same w c.journal e refl) (λ w. closed_same w c.journal e refl) kept.hands;
+          (λ w. count_same w c.journal e refl) (λ w. closed_same w c.journal e refl) kept.hands;
     }
 
 kept_words : (h : Header) (c : Core) → IsKept h c → c.saved_words < length c.words
@@ -172,11 +171,11 @@ kept_words h c kept some =
       few_words = omega arith;
       held = more;
       run = runs_go_on h nothing_held kept.held more c.journal (e ∷ []) kept.run
-        (more, (saved_texts IsFairWord h.words_limit c.saved_words c.words kept.held.words kept.words_book kept.held_words some, refl), refl);
+          (more, (saved_texts IsFairWord h.words_limit c.saved_words c.words kept.held.words kept.words_book kept.held_words some, refl), refl);
       held_types = kept.held_types;
       held_words = all_saved c.saved_words c.words kept.held.words kept.held_words;
       hands = same_hands h c d (same_front c.types) (same_front c.words) refl
-        (λ w. count_same w c.journal e refl) (λ w. closed_same w c.journal e refl) kept.hands;
+          (λ w. count_same w c.journal e refl) (λ w. closed_same w c.journal e refl) kept.hands;
     }
 
 -- ---- a message more
@@ -212,18 +211,19 @@ kept_row h c worker message row kept can = record {
 } where
   rows : List Row
   rows = rows_of worker c.hands ++ row ∷ []
+
   of : (other : ℕ) → (messages : List (List ℕ)) × IsHand h (with_row c worker row) other (rows_of other (with_rows worker rows c.hands)) messages
   of other = elim (cases_eq worker other) as (λ x. (messages : List (List ℕ)) × IsHand h (with_row c worker row) other (rows_of other (with_rows worker rows c.hands)) messages) [
-      inl same ↦
-      subst (λ w. (messages : List (List ℕ)) × IsHand h (with_row c worker row) w (rows_of w (with_rows worker rows c.hands)) messages) same (
-        (kept.hands worker).0 ++ message ∷ [],
-        subst (λ l. IsHand h (with_row c worker row) worker l ((kept.hands worker).0 ++ message ∷ [])) (sym (own_rows worker rows c.hands))
-        (more_in_hand h c worker message row (kept.hands worker).0 (kept.hands worker).1 can),
-      )
+    | inl same ↦
+        subst (λ w. (messages : List (List ℕ)) × IsHand h (with_row c worker row) w (rows_of w (with_rows worker rows c.hands)) messages) same (
+          (kept.hands worker).0 ++ message ∷ [],
+          subst (λ l. IsHand h (with_row c worker row) worker l ((kept.hands worker).0 ++ message ∷ [])) (sym (own_rows worker rows c.hands))
+              (more_in_hand h c worker message row (kept.hands worker).0 (kept.hands worker).1 can),
+        )
     | inr apart ↦ (
       (kept.hands other).0,
       subst (λ l. IsHand h (with_row c worker row) other l (kept.hands other).0) (sym (other_rows worker other rows c.hands apart))
-      (same_hand h c (with_row c worker row) other (rows_of other c.hands) (kept.hands other).0 (same_front c.types) (same_front c.words) refl refl (kept.hands other).1),
+          (same_hand h c (with_row c worker row) other (rows_of other c.hands) (kept.hands other).0 (same_front c.types) (same_front c.words) refl refl (kept.hands other).1),
     )
   ]
 
@@ -319,38 +319,47 @@ kept_sealed h c worker kept can = record {
 } where
   rows : List Row
   rows = rows_of worker c.hands
+
   s : SegmentEntry
   s = segment_at c worker
+
   messages : List (List ℕ)
   messages = (kept.hands worker).0
+
   hand : IsHand h c worker rows messages
   hand = (kept.hands worker).1
+
   more : Held
   more = record kept.held { pieces = kept.held.pieces ++ piece_of s messages ∷ [] }
+
   canonical : AreCanonical h.version rows kept.held.types kept.held.words messages
   canonical =
       subst (λ l. AreCanonical h.version rows l kept.held.words messages) (sym kept.held_types)
       (subst (λ l. AreCanonical h.version rows (take c.saved_types c.types) l messages) (sym kept.held_words)
       (all_below h.version rows c.types c.words c.saved_types c.saved_words messages hand.canonical can.saved))
+
   at : count_of worker c.journal ≡ length (messages_of worker kept.held.pieces)
   at = omega (arith, counts_held h nothing_held kept.held c.journal worker kept.run)
+
   goes_on : is_whole worker kept.held.pieces ≡ false
   goes_on = closed_held h nothing_held kept.held c.journal worker kept.run ∙ can.goes_on
+
   adds : AddsSegment h.version kept.held s messages
   adds = follows h.version kept.held worker (count_of worker c.journal) rows messages at goes_on hand.most hand.few hand.variables hand.fit canonical hand.each
+
   of : (other : ℕ) → (ms : List (List ℕ)) × IsHand h (sealed_core c worker) other (rows_of other (with_rows worker [] c.hands)) ms
   of other = elim (cases_eq worker other) as (λ x. (ms : List (List ℕ)) × IsHand h (sealed_core c worker) other (rows_of other (with_rows worker [] c.hands)) ms) [
-      inl same ↦
-      subst (λ w. (ms : List (List ℕ)) × IsHand h (sealed_core c worker) w (rows_of w (with_rows worker [] c.hands)) ms) same (
-        [],
-        subst (λ l. IsHand h (sealed_core c worker) worker l []) (sym (own_rows worker [] c.hands))
-        (nothing_in_hand h (sealed_core c worker) worker (omega (arith, count_sealed h c worker, hand.most))),
-      )
+    | inl same ↦
+        subst (λ w. (ms : List (List ℕ)) × IsHand h (sealed_core c worker) w (rows_of w (with_rows worker [] c.hands)) ms) same (
+          [],
+          subst (λ l. IsHand h (sealed_core c worker) worker l []) (sym (own_rows worker [] c.hands))
+              (nothing_in_hand h (sealed_core c worker) worker (omega (arith, count_sealed h c worker, hand.most))),
+        )
     | inr apart ↦ (
       (kept.hands other).0,
       subst (λ l. IsHand h (sealed_core c worker) other l (kept.hands other).0) (sym (other_rows worker other [] c.hands apart))
-      (same_hand h c (sealed_core c worker) other (rows_of other c.hands) (kept.hands other).0 (same_front c.types) (same_front c.words)
-        (count_other c worker other apart) (closed_other c worker other apart) (kept.hands other).1),
+          (same_hand h c (sealed_core c worker) other (rows_of other c.hands) (kept.hands other).0 (same_front c.types) (same_front c.words)
+          (count_other c worker other apart) (closed_other c worker other apart) (kept.hands other).1),
     )
   ]
 

@@ -82,7 +82,7 @@ at_seam (t ∷ texts) rest text = at_seam texts rest text
 may_name : (IsFair : List ℕ → Type 0) (limit : ℕ) (front rest : List (List ℕ)) (text : List ℕ) → IsBook IsFair limit (front ++ text ∷ rest) → CanName IsFair limit front text
 may_name IsFair limit front rest text book = record {
   fair = subst IsFair (get_or_from_slice_get (front ++ text ∷ rest) (length front) text text (at_seam front rest text))
-    (book.fair (length front) text (omega (arith, length-append front (text ∷ rest))));
+      (book.fair (length front) text (omega (arith, length-append front (text ∷ rest))));
   new = λ i at. twice IsFair limit front rest text i at book;
   room = omega (arith, book.most, length-append front (text ∷ rest));
 }
@@ -96,7 +96,7 @@ types_named h (t ∷ texts) c book =
       mid,
       inl (may_name IsFairType h.types_limit c.types texts t book, refl),
       subst (λ (l : List (List ℕ)). Runs h mid (namings OfTypes texts) (record c { types = l })) joined
-      (types_named h texts mid (subst (IsBook IsFairType h.types_limit) (sym joined) book)),
+          (types_named h texts mid (subst (IsBook IsFairType h.types_limit) (sym joined) book)),
     )
 
 words_named : (h : Header) (texts : List (List ℕ)) (c : Core) → IsBook IsFairWord h.words_limit (c.words ++ texts)
@@ -108,7 +108,7 @@ words_named h (t ∷ texts) c book =
       mid,
       inl (may_name IsFairWord h.words_limit c.words texts t book, refl),
       subst (λ (l : List (List ℕ)). Runs h mid (namings OfWords texts) (record c { words = l })) joined
-      (words_named h texts mid (subst (IsBook IsFairWord h.words_limit) (sym joined) book)),
+          (words_named h texts mid (subst (IsBook IsFairWord h.words_limit) (sym joined) book)),
     )
 
 -- the events of the entries led to a state with them behind the journal
@@ -224,15 +224,19 @@ messages_added h c worker (r ∷ rows) (m ∷ messages) can =
       hands = rest.hands;
       runs = (
         mid,
-        inl (r, record {
-          each = All-head (IsMessage h.version) m messages can.each;
-          canonical = can.canonical.0;
-          fits = All-head IsRow r rows can.fit;
-          rows = omega (arith, can.few);
-          goes_on = can.goes_on;
-          most = omega (arith, can.most);
-          variables = variables_front old rows r can.variables;
-        }, refl),
+        inl (
+          r,
+          record {
+            each = All-head (IsMessage h.version) m messages can.each;
+            canonical = can.canonical.0;
+            fits = All-head IsRow r rows can.fit;
+            rows = omega (arith, can.few);
+            goes_on = can.goes_on;
+            most = omega (arith, can.most);
+            variables = variables_front old rows r can.variables;
+          },
+          refl,
+        ),
         rest.runs,
       );
       own = rest.own ∙ joined;
@@ -245,7 +249,7 @@ row_saved : (version : ℕ) (row : Row) (types words : List (List ℕ)) (m : Lis
 row_saved version row types words m is = record {
   log_type = slice_get_within types row.log_type _ is.means.typed;
   words = subst (All (λ n. n < length words)) (flat_map-cons (numbers_of_row types) row [] ∙ append-nil (numbers_of_row types row))
-    (rows_numbers_low version (row ∷ []) types words (m ∷ []) (is, tt));
+      (rows_numbers_low version (row ∷ []) types words (m ∷ []) (is, tt));
 }
 
 rows_saved : (version : ℕ) (rows : List Row) (types words messages : List (List ℕ)) → AreCanonical version rows types words messages → All (IsSaved types (length types) (length words)) rows
@@ -394,8 +398,8 @@ segment_lead h held c s messages even adds_it =
         all_types = even.all_types;
         all_words = even.all_words;
         empty = λ other. elim (cases_eq file other) as (λ x. rows_of other done.hands ≡ []) [
-          inl same ↦ subst (λ w. rows_of w done.hands ≡ []) same done.own
-        | inr apart ↦ done.others other apart ∙ added.others other apart ∙ even.empty other
+          | inl same ↦ subst (λ w. rows_of w done.hands ≡ []) same done.own
+          | inr apart ↦ done.others other apart ∙ added.others other apart ∙ even.empty other
         ];
         counts = λ other. omega (
           arith,
@@ -407,9 +411,9 @@ segment_lead h held c s messages even adds_it =
           piece_count other s messages long,
         );
         ends = λ other.
-          closed_joined other c.journal (bare_parts s s.last s.rows)
-          ∙ ap₂ (λ a b. a || b) (even.ends other) (parts_closed other s s.last s.rows refl)
-          ∙ sym (whole_joined other held.pieces (piece_of s messages ∷ []));
+            closed_joined other c.journal (bare_parts s s.last s.rows)
+            ∙ ap₂ (λ a b. a || b) (even.ends other) (parts_closed other s s.last s.rows refl)
+            ∙ sym (whole_joined other held.pieces (piece_of s messages ∷ []));
       };
     }
 

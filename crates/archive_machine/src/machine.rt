@@ -45,16 +45,16 @@ fn push_text(alloc: Global, texts: TextList, text: &[u8]) -> Result<TextList, Al
 }
 
 // Names a log type.
-fn step_type(
-    alloc: Global,
-    header: &Header,
-    core: Core,
-    text: &[u8],
-) -> Result<Core, AllocError>
+fn step_type(alloc: Global, header: &Header, core: Core, text: &[u8]) -> Result<Core, AllocError>
     requires { length core.types ≤ header.now.types_limit }
     ensures { IfOk result (λ d. (worker : ℕ) → Steps header.now core (Name worker Types text.now) d) }
 {
-    if !can_name(Which::Types, header.types_limit, core.types.as_slice(), text) {
+    if !can_name(
+        Which::Types,
+        header.types_limit,
+        core.types.as_slice(),
+        text,
+    ) {
         return Ok(core);
     }
     let types = push_text(alloc, core.types, text)?;
@@ -62,16 +62,16 @@ fn step_type(
 }
 
 // Names a word.
-fn step_word(
-    alloc: Global,
-    header: &Header,
-    core: Core,
-    text: &[u8],
-) -> Result<Core, AllocError>
+fn step_word(alloc: Global, header: &Header, core: Core, text: &[u8]) -> Result<Core, AllocError>
     requires { length core.words ≤ header.now.words_limit }
     ensures { IfOk result (λ d. (worker : ℕ) → Steps header.now core (Name worker Words text.now) d) }
 {
-    if !can_name(Which::Words, header.words_limit, core.words.as_slice(), text) {
+    if !can_name(
+        Which::Words,
+        header.words_limit,
+        core.words.as_slice(),
+        text,
+    ) {
         return Ok(core);
     }
     let words = push_text(alloc, core.words, text)?;

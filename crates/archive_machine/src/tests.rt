@@ -50,7 +50,12 @@ fn told(entry: &JournalEntry) -> (u8, u64, usize, bool) {
         JournalEntry::Types { first, texts } => (2, u64::from(*first), texts.len(), false),
         JournalEntry::Words { first, texts } => (3, u64::from(*first), texts.len(), false),
         JournalEntry::Segment(segment) => {
-            (4, segment.first, segment.rows.len(), segment.last && segment.ended)
+            (
+                4,
+                segment.first,
+                segment.rows.len(),
+                segment.last && segment.ended,
+            )
         }
     }
 }
@@ -72,7 +77,12 @@ fn has_entries(core: &Core, entries: &[(u8, u64, usize, bool)]) -> bool {
 fn sealing_waits_for_texts(rt: HostRuntime) -> Result<(), AllocError> {
     let events = EventList::new(sealing(rt.alloc())?);
     let core = core_run(rt.alloc(), &HEADER, &events)?;
-    let entries = [(2, 0, 1, false), (3, 0, 1, false), (4, 0, 1, false), (4, 1, 0, true)];
+    let entries = [
+        (2, 0, 1, false),
+        (3, 0, 1, false),
+        (4, 0, 1, false),
+        (4, 1, 0, true),
+    ];
     assert!(rt; has_entries(&core, &entries));
     Ok(())
 }

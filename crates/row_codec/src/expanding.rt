@@ -19,11 +19,7 @@ use var_codec::{decimal_text, whole_text};
 
 /// Appends what a row is written as. Where the row means a message, this is the message. Without memory
 /// nothing is appended.
-pub fn write_onto<N: Names>(
-    row: RowRef<'_>,
-    names: &N,
-    out: &mut Vec<u8>,
-) -> Result<(), AllocError>
+pub fn write_onto<N: Names>(row: RowRef<'_>, names: &N, out: &mut Vec<u8>) -> Result<(), AllocError>
     requires { HasSpelling (row_of row) (N.types names.now) (N.words names.now) }
     ensures written { OnOk result ((text : List ℕ) × IsSpelling (row_of row.entry) (N.types names.now) (N.words names.now) text
         × (out.new.items ≡ out.old.items ++ text)) }

@@ -19,7 +19,7 @@ returns-in_err-number-clause-full c = λ book count is.
     let all = c.in_err-number.ensures.full book count (search (rules, is)) in (
       all.0,
       limit_met c.args.self.now.words.now c.loop-span.numbers.items (texts_at line spans) i count (omega (arith, low, texts_long line spans)) c.loop-span.invariant
-      (subst (λ t. IsNew c.args.self.now.words.now t) (sym (text_here line spans i nowhere low)) all.1) all.2,
+          (subst (λ t. IsNew c.args.self.now.words.now t) (sym (text_here line spans i nowhere low)) all.1) all.2,
     )
 
 pub loop-span-preserved : goal.loop-span-preserved
