@@ -50,7 +50,8 @@ pub enum CheckRefusal {
 fn of_start(refusal: StartRefusal) -> CheckRefusal
     ensures fault { result ≡ CheckRefusal.DiskFault → refusal ≡ StartRefusal.DiskFault }
     ensures other { refusal ≡ StartRefusal.DiskFault → result ≡ CheckRefusal.DiskFault }
-    ensures damaged { (at : ℕ) → result ≡ CheckRefusal.Damaged at → refusal ≡ StartRefusal.Damaged at }
+    ensures damaged { (at : ℕ) → result ≡ CheckRefusal.Damaged at
+        → refusal ≡ StartRefusal.Damaged at }
 {
     match refusal {
         StartRefusal::DiskFault => CheckRefusal::DiskFault,
@@ -62,7 +63,8 @@ fn of_start(refusal: StartRefusal) -> CheckRefusal
 fn of_walk(refusal: WalkRefusal) -> CheckRefusal
     ensures fault { result ≡ CheckRefusal.DiskFault → refusal ≡ WalkRefusal.DiskFault }
     ensures other { refusal ≡ WalkRefusal.DiskFault → result ≡ CheckRefusal.DiskFault }
-    ensures damaged { (at : ℕ) → result ≡ CheckRefusal.Damaged at → refusal ≡ WalkRefusal.Damaged at }
+    ensures damaged { (at : ℕ) → result ≡ CheckRefusal.Damaged at
+        → refusal ≡ WalkRefusal.Damaged at }
 {
     match refusal {
         WalkRefusal::DiskFault => CheckRefusal::DiskFault,
@@ -74,7 +76,8 @@ fn of_walk(refusal: WalkRefusal) -> CheckRefusal
 fn of_load(refusal: LoadRefusal) -> CheckRefusal
     ensures fault { result ≡ CheckRefusal.DiskFault → refusal ≡ LoadRefusal.DiskFault }
     ensures other { refusal ≡ LoadRefusal.DiskFault → result ≡ CheckRefusal.DiskFault }
-    ensures damaged { (at : ℕ) → result ≡ CheckRefusal.Damaged at → refusal ≡ LoadRefusal.Damaged at }
+    ensures damaged { (at : ℕ) → result ≡ CheckRefusal.Damaged at
+        → refusal ≡ LoadRefusal.Damaged at }
 {
     match refusal {
         LoadRefusal::DiskFault => CheckRefusal::DiskFault,
@@ -86,7 +89,8 @@ fn of_load(refusal: LoadRefusal) -> CheckRefusal
 // Why the check ends where the judge refused the record at this place.
 fn of_judge(refusal: JudgeRefusal, at: u64) -> CheckRefusal
     ensures none { result ≡ CheckRefusal.DiskFault → ⊥ }
-    ensures damaged { (place : ℕ) → result ≡ CheckRefusal.Damaged place → (place ≡ at) × (refusal ≡ JudgeRefusal.Illegal) }
+    ensures damaged { (place : ℕ) → result ≡ CheckRefusal.Damaged place → (place ≡ at)
+        × (refusal ≡ JudgeRefusal.Illegal) }
 {
     match refusal {
         JudgeRefusal::Illegal => CheckRefusal::Damaged { at },
@@ -101,16 +105,21 @@ fn check_next<D: Disk, L: Ledger>(
     alloc: Global,
     steps: &mut Steps<L>,
 ) -> Result<bool, CheckRefusal>
-    requires { Checked journal.old.header journal.old.place journal.old.count judge.old (D.state journal.old.disk.now).seen }
+    requires { Checked journal.old.header journal.old.place journal.old.count judge.old
+        (D.state journal.old.disk.now).seen }
 
     // what stays
     ensures name { journal.new.disk.ghost_name ≡ journal.old.disk.ghost_name }
     ensures rests { Rests (D.state journal.old.disk.now) (D.state journal.new.disk.now) }
 
     // by the answer
-    ensures checked { OnOk result (Checked journal.new.header journal.new.place journal.new.count judge.new (D.state journal.new.disk.now).seen) }
-    ensures ended { IfOk result (λ more. IsFalse more → ClosedAt journal.new.place (D.state journal.new.disk.now).seen) }
-    ensures further { IfOk result (λ more. IsTrue more → journal.old.place + 10 ≤ journal.new.place) }
+    ensures checked { OnOk result
+        (Checked journal.new.header journal.new.place journal.new.count judge.new
+        (D.state journal.new.disk.now).seen) }
+    ensures ended { IfOk result (λ more. IsFalse more
+        → ClosedAt journal.new.place (D.state journal.new.disk.now).seen) }
+    ensures further { IfOk result (λ more. IsTrue more
+        → journal.old.place + 10 ≤ journal.new.place) }
 
     // causes
     ensures damaged { (at : ℕ) → IsErrOf result (CheckRefusal.Damaged at)
@@ -150,14 +159,17 @@ fn check_all<D: Disk, L: Ledger>(
     alloc: Global,
     steps: &mut Steps<L>,
 ) -> Result<(), CheckRefusal>
-    requires { Checked journal.old.header journal.old.place journal.old.count judge.old (D.state journal.old.disk.now).seen }
+    requires { Checked journal.old.header journal.old.place journal.old.count judge.old
+        (D.state journal.old.disk.now).seen }
 
     // what stays
     ensures name { journal.new.disk.ghost_name ≡ journal.old.disk.ghost_name }
     ensures rests { Rests (D.state journal.old.disk.now) (D.state journal.new.disk.now) }
 
     // by the answer
-    ensures checked { OnOk result (Checked journal.new.header journal.new.place journal.new.count judge.new (D.state journal.new.disk.now).seen) }
+    ensures checked { OnOk result
+        (Checked journal.new.header journal.new.place journal.new.count judge.new
+        (D.state journal.new.disk.now).seen) }
     ensures ended { OnOk result (ClosedAt journal.new.place (D.state journal.new.disk.now).seen) }
 
     // causes
@@ -187,7 +199,8 @@ fn check_with<D: Disk, L: Ledger>(
     ensures stood { IfOk result (λ summary. IfSome (D.state disk.old).seen (Stood summary)) }
     ensures damaged { (at : ℕ) → IsErrOf result (CheckRefusal.Damaged at)
         → IfSome (D.state disk.old).seen (DamagedAt at) }
-    ensures counts { CountsOf CheckRefusal.DiskFault (D.state disk.old).faults (D.state disk.new).faults result }
+    ensures counts { CountsOf CheckRefusal.DiskFault (D.state disk.old).faults
+        (D.state disk.new).faults result }
 {
     let header = match start(disk) {
         Ok(header) => header,
@@ -223,7 +236,8 @@ pub fn check<D: Disk>(alloc: Global, disk: &mut D) -> Result<Summary, CheckRefus
     // causes
     ensures damaged { (at : ℕ) → IsErrOf result (CheckRefusal.Damaged at)
         → IfSome (D.state disk.old).seen (DamagedAt at) }
-    ensures counts { CountsOf CheckRefusal.DiskFault (D.state disk.old).faults (D.state disk.new).faults result }
+    ensures counts { CountsOf CheckRefusal.DiskFault (D.state disk.old).faults
+        (D.state disk.new).faults result }
 {
     check_with::<D, Brand>(alloc, disk, Blank::new(1))
 }

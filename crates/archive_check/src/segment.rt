@@ -14,7 +14,8 @@ use step_count::Steps;
 fn head_in(payload: &[u8]) -> Option<&[u8]>
     ensures some { IfSome result (λ front. (h : Head) (rest : List ℕ) → IsHead h
         → payload.now ≡ head_bytes h ++ rest → front.now ≡ head_bytes h) }
-    ensures none { IfNone result ((h : Head) (rest : List ℕ) → IsHead h → payload.now ≢ head_bytes h ++ rest) }
+    ensures none { IfNone result ((h : Head) (rest : List ℕ) → IsHead h
+        → payload.now ≢ head_bytes h ++ rest) }
 {
     if payload.len() < FIXED_LEN {
         return None;

@@ -57,7 +57,8 @@ impl Model for Judge {
       end = j.end;
     } };
 
-    ghost invariant = { λ j. IsJudge j.header j.books.version j.books.types j.books.words j.files.items j.end };
+    ghost invariant = { λ j. IsJudge j.header j.books.version j.books.types j.books.words
+        j.files.items j.end };
 }
 
 // How many bytes the payload of a record of texts takes, or the greatest number where they are more.
@@ -118,7 +119,8 @@ impl Judge {
     /// [`JudgeRefusal::OutOfMemory`].
     pub fn admit_names(&mut self, names: &TextList) -> Result<(), JudgeRefusal>
         ensures admitted { OnOk result (Admits self.old (Files names.now) self.new) }
-        ensures illegal { IsErrOf result Illegal → (more : Sums) → ¬ Admits self.old (Files names.now) more }
+        ensures illegal { IsErrOf result Illegal → (more : Sums)
+            → ¬ Admits self.old (Files names.now) more }
         ensures err { OnErr result (self.new ≡ self.old) }
     {
         let names = names.as_slice();
@@ -147,7 +149,8 @@ impl Judge {
     /// As for names.
     pub fn admit_types(&mut self, first: u32, texts: &TextList) -> Result<(), JudgeRefusal>
         ensures admitted { OnOk result (Admits self.old (Types first texts.now) self.new) }
-        ensures illegal { IsErrOf result Illegal → (more : Sums) → ¬ Admits self.old (Types first texts.now) more }
+        ensures illegal { IsErrOf result Illegal → (more : Sums)
+            → ¬ Admits self.old (Types first texts.now) more }
         ensures err { OnErr result (self.new ≡ self.old) }
     {
         let texts = texts.as_slice();
@@ -167,7 +170,8 @@ impl Judge {
     /// As for names.
     pub fn admit_words(&mut self, first: u32, texts: &TextList) -> Result<(), JudgeRefusal>
         ensures admitted { OnOk result (Admits self.old (Words first texts.now) self.new) }
-        ensures illegal { IsErrOf result Illegal → (more : Sums) → ¬ Admits self.old (Words first texts.now) more }
+        ensures illegal { IsErrOf result Illegal → (more : Sums)
+            → ¬ Admits self.old (Words first texts.now) more }
         ensures err { OnErr result (self.new ≡ self.old) }
     {
         let texts = texts.as_slice();
@@ -194,8 +198,10 @@ impl Judge {
         rows: &R,
         payload: usize,
     ) -> Result<(), JudgeRefusal>
-        requires { payload ≡ length (record_of self.old.types (Segment (segment_of part (R.rows rows.now)))).payload }
-        ensures admitted { OnOk result (Admits self.old (Segment (segment_of part (R.rows rows.now))) self.new) }
+        requires { payload ≡ length
+            (record_of self.old.types (Segment (segment_of part (R.rows rows.now)))).payload }
+        ensures admitted { OnOk result
+            (Admits self.old (Segment (segment_of part (R.rows rows.now))) self.new) }
         ensures illegal { IsErrOf result Illegal → (more : Sums)
             → ¬ Admits self.old (Segment (segment_of part (R.rows rows.now))) more }
         ensures err { OnErr result (self.new ≡ self.old) }

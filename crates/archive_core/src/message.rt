@@ -11,7 +11,8 @@ use time_patterns::{read_micro, read_stamp};
 // Whether a line begins with a stamp, where moments count microseconds or milliseconds.
 #[inline]
 fn has_stamp(micro: bool, line: &[u8]) -> bool
-    ensures { (version : ℕ) → (IsTrue micro ↔ (3 ≤ version)) → (IsTrue result ↔ IsStamped version line.now) }
+    ensures { (version : ℕ) → (IsTrue micro ↔ (3 ≤ version))
+        → (IsTrue result ↔ IsStamped version line.now) }
 {
     if micro {
         read_micro(line).is_some()
@@ -32,7 +33,8 @@ fn split_line(bytes: &[u8]) -> (&[u8], &[u8])
 
 // Whether a line behind a newline of the message has a stamp.
 fn has_later_stamp(micro: bool, message: &[u8]) -> bool
-    ensures { (version : ℕ) → (IsTrue micro ↔ (3 ≤ version)) → (IsTrue result ↔ HasLaterStamp version message.now) }
+    ensures { (version : ℕ) → (IsTrue micro ↔ (3 ≤ version))
+        → (IsTrue result ↔ HasLaterStamp version message.now) }
 {
     let (_, mut rest) = split_line(message);
     while let Some((_, after)) = rest.split_first() {

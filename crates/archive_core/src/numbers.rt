@@ -18,7 +18,8 @@ use std::alloc::{AllocError, Global};
 // byte; `escaped` tells that it is escaped itself.
 #[inline]
 fn read_kind(escaped: bool, byte: u8) -> (bool, Option<Kind>)
-    ensures { (text : List ℕ) → kinds_from escaped (byte ∷ text) ≡ with_kind result.1 (kinds_from result.0 text) }
+    ensures { (text : List ℕ)
+        → kinds_from escaped (byte ∷ text) ≡ with_kind result.1 (kinds_from result.0 text) }
 {
     if escaped {
         return (false, None);
@@ -40,7 +41,8 @@ fn take_word<'a>(
     words: &'a [u64],
     out: &mut Vec<u32>,
 ) -> Result<Option<&'a [u64]>, AllocError>
-    ensures taken { IfOk result (λ r. IfSome r (λ left. TakesWord kind words.now left.now out.old.items out.new.items)) }
+    ensures taken { IfOk result (λ r.
+        IfSome r (λ left. TakesWord kind words.now left.now out.old.items out.new.items)) }
     ensures wide { IfOk result (λ r. IfNone r (IsWide kind words.now)) }
 {
     let [word, left @ ..] = words else {
@@ -96,7 +98,8 @@ fn push_all<R: Rows>(books: &Books, rows: &R, out: &mut Vec<u32>) -> Result<bool
     ensures yes { IfOk result (λ fit. IsTrue fit
         → out.new.items ≡ flat_map (numbers_of_row books.now.types.texts) (R.rows rows.now)) }
     ensures none { IfOk result (λ fit. IsFalse fit
-        → ¬ All (λ n. n < 2 ^ 32) (flat_map (numbers_of_row books.now.types.texts) (R.rows rows.now))) }
+        → ¬ All (λ n. n < 2 ^ 32)
+        (flat_map (numbers_of_row books.now.types.texts) (R.rows rows.now))) }
 {
     for place in 0..rows.count() {
         let row = rows.at(place);
@@ -119,7 +122,8 @@ pub(crate) fn words_of<R: Rows>(
     ensures few { IfOk result (λ found. IfSome found (λ numbers.
         length numbers ≤ variable_count (R.rows rows.now))) }
     ensures none { IfOk result (λ found. IfNone found (
-        ¬ All (λ n. n < 2 ^ 32) (flat_map (numbers_of_row books.now.types.texts) (R.rows rows.now)))) }
+        ¬ All (λ n. n < 2 ^ 32)
+        (flat_map (numbers_of_row books.now.types.texts) (R.rows rows.now)))) }
 {
     let mut numbers = Vec::new(alloc);
     if !push_all(books, rows, &mut numbers)? {

@@ -60,9 +60,11 @@ impl Rows for Columns {
 
 // Whether a row is the encoding of a message, which then stands in `message`.
 fn find_message(books: &Books, row: RowRef<'_>, message: &mut Vec<u8>) -> Result<bool, AllocError>
-    ensures yes { IfOk result (λ found. IsTrue found → IsCanonical books.now.version (row_of row.entry)
+    ensures yes { IfOk result (λ found. IsTrue found
+        → IsCanonical books.now.version (row_of row.entry)
         books.now.types.texts books.now.words.texts message.new.items) }
-    ensures none { IfOk result (λ found. IsFalse found → (m : List ℕ) → ¬ IsCanonical books.now.version (row_of row.entry)
+    ensures none { IfOk result (λ found. IsFalse found → (m : List ℕ)
+        → ¬ IsCanonical books.now.version (row_of row.entry)
         books.now.types.texts books.now.words.texts m) }
 {
     message.clear();
@@ -91,10 +93,12 @@ fn row_says(
     message: &mut Vec<u8>,
 ) -> Result<Option<bool>, AllocError>
     ensures some { IfOk result (λ says. IfSome says (λ open_end. (m : List ℕ)
-        × IsMessageOf books.now.version books.now.types.texts books.now.words.texts (row_of row.entry) m
+        × IsMessageOf books.now.version books.now.types.texts books.now.words.texts
+        (row_of row.entry) m
         × (open_end ≡ ends_open m))) }
     ensures none { IfOk result (λ says. IfNone says ((m : List ℕ)
-        → ¬ IsMessageOf books.now.version books.now.types.texts books.now.words.texts (row_of row.entry) m)) }
+        → ¬ IsMessageOf books.now.version books.now.types.texts books.now.words.texts
+        (row_of row.entry) m)) }
 {
     if !find_message(books, row, message)? {
         return Ok(None);
@@ -114,10 +118,12 @@ pub(crate) fn rows_say<R: Rows>(
     rows: &R,
 ) -> Result<Option<bool>, AllocError>
     ensures some { IfOk result (λ says. IfSome says (λ open_end. (messages : List (List ℕ))
-        × AreMessages books.now.version books.now.types.texts books.now.words.texts (R.rows rows.now) messages
+        × AreMessages books.now.version books.now.types.texts books.now.words.texts
+        (R.rows rows.now) messages
         × (open_end ≡ open_after before messages))) }
     ensures none { IfOk result (λ says. IfNone says ((messages : List (List ℕ))
-        → ¬ AreMessages books.now.version books.now.types.texts books.now.words.texts (R.rows rows.now) messages)) }
+        → ¬ AreMessages books.now.version books.now.types.texts books.now.words.texts
+        (R.rows rows.now) messages)) }
 {
     let mut message = Vec::new(alloc);
     let mut open_end = before;

@@ -23,7 +23,8 @@ pub struct Part {
 fn is_marked_well(part: Part, count: usize) -> bool
     ensures some { IsTrue result → part.last ≡ false → 0 < count }
     ensures ended { IsTrue result → part.ended ≡ true → part.last ≡ true }
-    ensures marked { (part.last ≡ false → 0 < count) → (part.ended ≡ true → part.last ≡ true) → IsTrue result }
+    ensures marked { (part.last ≡ false → 0 < count) → (part.ended ≡ true → part.last ≡ true)
+        → IsTrue result }
 {
     if part.last {
         return true;
@@ -33,7 +34,9 @@ fn is_marked_well(part: Part, count: usize) -> bool
 
 // Whether so many messages may come behind those of a file.
 fn has_room(sum: FileSum, part: Part, count: usize) -> bool
-    ensures { IsTrue result ↔ ((part.first ≡ sum.messages) × (sum.whole ≡ false) × (part.first + count ≤ MAX_MESSAGES) × (count ≤ MAX_ROWS)) }
+    ensures { IsTrue result
+        ↔ ((part.first ≡ sum.messages) × (sum.whole ≡ false) × (part.first + count ≤ MAX_MESSAGES)
+        × (count ≤ MAX_ROWS)) }
 {
     part.first == sum.messages
         && !sum.whole

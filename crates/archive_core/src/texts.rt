@@ -42,7 +42,8 @@ fn add_one(book: &mut Book, kind: Which, text: &[u8]) -> Result<(), JudgeRefusal
     ensures ok { OnOk result (book.new.texts ≡ book.old.texts ++ text.now ∷ []) }
     ensures book { OnOk result (IsBook (FairOf kind) book.old.limit book.new.texts) }
     ensures illegal { IsErrOf result Illegal
-        → (rest : List (List ℕ)) → ¬ IsBook (FairOf kind) book.old.limit (book.old.texts ++ text.now ∷ rest) }
+        → (rest : List (List ℕ))
+        → ¬ IsBook (FairOf kind) book.old.limit (book.old.texts ++ text.now ∷ rest) }
     ensures err { OnErr result (book.new.texts ≡ book.old.texts) }
 {
     if !is_fair(kind, text) {

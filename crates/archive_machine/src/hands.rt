@@ -71,7 +71,8 @@ pub(crate) fn push_row(
     worker: u32,
     row: Row,
 ) -> Result<(), AllocError>
-    ensures { OnOk result (hands.new.items ≡ with_rows worker (rows_of worker hands.old.items ++ row ∷ []) hands.old.items) }
+    ensures { OnOk result (hands.new.items
+        ≡ with_rows worker (rows_of worker hands.old.items ++ row ∷ []) hands.old.items) }
 {
     let mut rows = take_rows(alloc, hands, worker)?.into_vec();
     rows.push(row)?;

@@ -17,7 +17,8 @@ use std::alloc::{AllocError, Global};
 /// The number of a text of a dictionary, if it is there.
 pub(crate) fn number_of(texts: &[Text], text: &[u8]) -> Option<u32>
     requires { length texts.now < 2 ^ 32 }
-    ensures { MatchOption result (IsNew texts.now text.now) (λ n. slice_get texts.now n ≡ Some text.now) }
+    ensures { MatchOption result (IsNew texts.now text.now) (λ n.
+        slice_get texts.now n ≡ Some text.now) }
 {
     for number in 0..texts.len() {
         if texts[number].as_slice() == text {
@@ -43,7 +44,8 @@ impl Lookup<'_> {
     fn word(&self, text: &[u8]) -> Result<u32, NameRefusal>
         ensures named { IfOk result (λ n. slice_get self.now.words.now n ≡ Some text.now) }
         ensures full { (book : _) (count : ℕ) → IsErrOf result (NameRefusal.Full book count)
-            → (book ≡ Words) × IsNew self.now.words.now text.now × (count ≡ length self.now.words.now) }
+            → (book ≡ Words) × IsNew self.now.words.now text.now
+            × (count ≡ length self.now.words.now) }
     {
         match number_of(self.words, text) {
             Some(number) => Ok(number),

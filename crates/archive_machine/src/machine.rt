@@ -47,7 +47,8 @@ fn push_text(alloc: Global, texts: TextList, text: &[u8]) -> Result<TextList, Al
 // Names a log type.
 fn step_type(alloc: Global, header: &Header, core: Core, text: &[u8]) -> Result<Core, AllocError>
     requires { length core.types ≤ header.now.types_limit }
-    ensures { IfOk result (λ d. (worker : ℕ) → Steps header.now core (Name worker Types text.now) d) }
+    ensures { IfOk result (λ d. (worker : ℕ)
+        → Steps header.now core (Name worker Types text.now) d) }
 {
     if !can_name(
         Which::Types,
@@ -64,7 +65,8 @@ fn step_type(alloc: Global, header: &Header, core: Core, text: &[u8]) -> Result<
 // Names a word.
 fn step_word(alloc: Global, header: &Header, core: Core, text: &[u8]) -> Result<Core, AllocError>
     requires { length core.words ≤ header.now.words_limit }
-    ensures { IfOk result (λ d. (worker : ℕ) → Steps header.now core (Name worker Words text.now) d) }
+    ensures { IfOk result (λ d. (worker : ℕ)
+        → Steps header.now core (Name worker Words text.now) d) }
 {
     if !can_name(
         Which::Words,
@@ -179,7 +181,8 @@ fn are_saved(
     rows: &[Row],
 ) -> Result<bool, AllocError>
     requires { saved_types ≤ length types.now }
-    ensures { IfOk result (λ yes. IsTrue yes ↔ All (IsSaved types.now saved_types saved_words) rows.now) }
+    ensures { IfOk result (λ yes. IsTrue yes
+        ↔ All (IsSaved types.now saved_types saved_words) rows.now) }
 {
     let mut numbers = Vec::new(alloc);
     for row in rows {
@@ -243,7 +246,8 @@ fn step_seal(alloc: Global, header: &Header, core: Core, worker: u32) -> Result<
 
 // Whether the worker may add a message more, whatever it is.
 fn has_room(core: &Core, worker: u32) -> bool
-    requires { count_of worker core.now.journal + length (rows_of worker core.now.hands) ≤ MAX_MESSAGES }
+    requires { count_of worker core.now.journal + length (rows_of worker core.now.hands)
+        ≤ MAX_MESSAGES }
     ensures { IsTrue result ↔ HasRoom core.now worker }
 {
     let count = count_in_hand(core.hands.as_slice(), worker);
@@ -296,7 +300,8 @@ fn row_to_add(
     message: &[u8],
 ) -> Result<Option<Row>, AllocError>
     requires { IsKept header.now core.now }
-    ensures some { IfOk result (λ found. IfSome found (CanAdd header.now core.now worker message.now)) }
+    ensures some { IfOk result (λ found.
+        IfSome found (CanAdd header.now core.now worker message.now)) }
     ensures none { IfOk result (λ found. IfNone found ((row : Row)
         → ¬ CanAdd header.now core.now worker message.now row)) }
 {
@@ -356,7 +361,8 @@ fn step_name(
     text: &[u8],
 ) -> Result<Core, AllocError>
     requires { IsKept header.now core }
-    ensures { IfOk result (λ d. (worker : ℕ) → Steps header.now core (Name worker book text.now) d) }
+    ensures { IfOk result (λ d. (worker : ℕ)
+        → Steps header.now core (Name worker book text.now) d) }
 {
     match book {
         Which::Types => step_type(alloc, header, core, text),
