@@ -15,6 +15,9 @@ mod texts;
 
 pub use books::Books;
 pub use judge::Judge;
+pub use message::is_message;
+pub use numbers::push_numbers;
 pub use refusal::JudgeRefusal;
 pub use rows::Rows;
 pub use segment::Part;
+pub use texts::is_fair;

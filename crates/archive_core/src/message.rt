@@ -71,7 +71,7 @@ fn is_group(version: u32, bytes: &[u8]) -> bool
 
 /// Whether the bytes are a message of an archive of this version: a line, or from version 2 on a line
 /// with a stamp and lines without one behind it.
-pub(crate) fn is_message(version: u32, bytes: &[u8]) -> bool
+pub fn is_message(version: u32, bytes: &[u8]) -> bool
     ensures { IsTrue result ↔ IsMessage version bytes.now }
 {
     if bytes.len() > MAX_MESSAGE_LEN {

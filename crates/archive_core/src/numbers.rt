@@ -58,9 +58,9 @@ fn take_word<'a>(
     Ok(Some(left))
 }
 
-// Adds the numbers of dictionary words that stand in the slots of a text, from left to right; false where
-// one has more than 32 bits.
-fn push_numbers(text: &[u8], words: &[u64], out: &mut Vec<u32>) -> Result<bool, AllocError>
+/// Adds the numbers of dictionary words that stand in the slots of a text, from left to right; false
+/// where one has more than 32 bits.
+pub fn push_numbers(text: &[u8], words: &[u64], out: &mut Vec<u32>) -> Result<bool, AllocError>
     ensures yes { IfOk result (λ fit. IsTrue fit
         → out.new.items ≡ out.old.items ++ word_numbers (kinds_from false text.now) words.now) }
     ensures none { IfOk result (λ fit. IsFalse fit

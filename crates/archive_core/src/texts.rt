@@ -25,8 +25,8 @@ fn is_fair_word(text: &[u8]) -> bool
     !text.is_empty() && text.len() <= MAX_WORD_LEN
 }
 
-// Whether the dictionary of this kind may hold the text.
-fn is_fair(kind: Which, text: &[u8]) -> bool
+/// Whether the dictionary of this kind may hold the text.
+pub fn is_fair(kind: Which, text: &[u8]) -> bool
     ensures { IsTrue result ↔ FairOf kind text.now }
 {
     match kind {
