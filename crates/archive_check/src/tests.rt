@@ -43,6 +43,15 @@ fn check_bytes(alloc: Global, bytes: &[u8]) -> Result<Result<Summary, CheckRefus
     Ok(check(alloc, &mut disk))
 }
 
+// The worked archive with another byte at this place.
+fn changed(place: usize, byte: u8) -> [u8; 155] {
+    let mut bytes = WORKED;
+    if place < bytes.len() {
+        bytes[place] = byte;
+    }
+    bytes
+}
+
 // The place of the gate that the first so many bytes lack, or whose record they cut.
 fn damage_of_cut(len: usize) -> u64 {
     match len {
@@ -78,9 +87,7 @@ fn each_cut_is_told_at_its_gate(rt: HostRuntime) -> Result<(), Fail> {
 #[test]
 fn each_changed_byte_is_told_at_its_gate(rt: HostRuntime) -> Result<(), Fail> {
     for (place, byte, at) in CHANGED {
-        let mut bytes = WORKED;
-        bytes[place] = byte;
-        let found = check_bytes(rt.alloc(), &bytes)?;
+        let found = check_bytes(rt.alloc(), &changed(place, byte))?;
         assert_eq!(rt; found, Err(CheckRefusal::Damaged { at }));
     }
     Ok(())
