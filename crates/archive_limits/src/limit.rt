@@ -42,7 +42,8 @@ impl Limit {
 /// The number below 2 ^ 63 that the text is the plain decimal print of.
 fn read_number(text: &str) -> Option<u64>
     ensures some { IfSome result (λ number. text.now ≡ decimal number) }
-    ensures all { (number : ℕ) → number < 2 ^ 63 → text.now ≡ decimal number → result ≡ Some number }
+    ensures all { (number : ℕ) → number < 2 ^ 63 → text.now ≡ decimal number
+        → result ≡ Some number }
 {
     match encode(text.as_bytes()) {
         Coded::Whole(number) => u64::try_from(number).ok(),
@@ -54,8 +55,10 @@ fn read_number(text: &str) -> Option<u64>
 /// begin with none.
 pub(crate) fn first_limit(words: &[String]) -> Option<(Limit, &[String])>
     ensures range { IfSome result (λ found. IsInRange found.0) }
-    ensures begins { IfSome result (λ found. Begin (map string_bytes words.now) found.0 (map string_bytes found.1.now)) }
-    ensures all { (limit : Limit) (rest : List (List ℕ)) → IsInRange limit → Begin (map string_bytes words.now) limit rest
+    ensures begins { IfSome result
+        (λ found. Begin (map string_bytes words.now) found.0 (map string_bytes found.1.now)) }
+    ensures all { (limit : Limit) (rest : List (List ℕ)) → IsInRange limit
+        → Begin (map string_bytes words.now) limit rest
         → IsSomeAnd result (λ found. (found.0 ≡ limit) × (map string_bytes found.1.now ≡ rest)) }
 {
     let [word, rest @ ..] = words else {

@@ -68,9 +68,13 @@ impl Model for Columns {
 
     ghost Value = { ColumnsState };
 
-    ghost view = { λ c. record { rows = rows_of c.patterns.items c.moments.items c.types.items c.ends.items c.words.items; bytes = c.bytes } };
+    ghost view = { λ c. record {
+      rows = rows_of c.patterns.items c.moments.items c.types.items c.ends.items c.words.items;
+      bytes = c.bytes;
+    } };
 
-    ghost invariant = { λ c. AreColumns c.patterns.items c.moments.items c.types.items c.ends.items c.words.items c.bytes };
+    ghost invariant = { λ c. AreColumns c.patterns.items c.moments.items c.types.items
+        c.ends.items c.words.items c.bytes };
 }
 
 impl Columns {

@@ -33,7 +33,8 @@ impl Model for Book {
     ghost view = { λ b. record { texts = b.texts; limit = b.limit } };
 
     ghost invariant = { λ b.
-        let hash = hash_by ⟦<FoldHasher as Hasher>⟧.write ⟦<FoldHasher as Hasher>⟧.finish b.index.hasher in
+        let hash = hash_by ⟦<FoldHasher as Hasher>⟧.write ⟦<FoldHasher as Hasher>⟧.finish
+        b.index.hasher in
         IsBook hash b.texts b.index.befores.items (place_at b.index.newest) b.limit };
 }
 
@@ -65,7 +66,8 @@ impl Book {
         requires within { length texts ≤ limit }
         ensures ok { IfOk result (λ book. (book.texts ≡ texts) × (book.limit ≡ limit)) }
         ensures distinct { OnOk result (AreDistinct texts) }
-        ensures repeated { (number : ℕ) → IsErrOf result (Repeated number) → StandsTwice texts number }
+        ensures repeated { (number : ℕ) → IsErrOf result (Repeated number)
+            → StandsTwice texts number }
     {
         let mut index = Index::new(alloc, FoldHasher::default());
         index.link_all(&texts)?;

@@ -75,7 +75,8 @@ impl<H: Hasher + Copy> Index<H> {
         requires room { vec_len self.old.befores < vec_capacity self.old.befores }
         requires few { length self.old.befores.items < 4294967295 }
         ensures hasher { self.new.hasher ≡ self.old.hasher }
-        ensures newest { Puts self.old.newest self.new.newest hash (length self.old.befores.items + 1) }
+        ensures newest { Puts self.old.newest self.new.newest hash
+            (length self.old.befores.items + 1) }
         ensures befores { self.new.befores.items ≡ self.old.befores.items ++ before ∷ [] }
         ensures spare { spare self.old.newest ≤ spare self.new.newest + 1 }
         ensures capacity { vec_capacity self.new.befores ≡ vec_capacity self.old.befores }
@@ -112,7 +113,8 @@ impl<H: Hasher + Copy> Index<H> {
         requires befores { self.old.befores.items ≡ [] }
         ensures hasher { self.new.hasher ≡ self.old.hasher }
         ensures chained { let hash = hash_by H.write H.finish self.old.hasher in
-            OnOk result (IsChained (map hash texts.now) self.new.befores.items (place_at self.new.newest)) }
+            OnOk result (IsChained (map hash texts.now) self.new.befores.items
+            (place_at self.new.newest)) }
         ensures distinct { OnOk result (AreDistinct texts.now) }
         ensures repeated { (n : ℕ) → IsErrOf result (Repeated n) → StandsTwice texts.now n }
     {

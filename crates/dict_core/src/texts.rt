@@ -49,7 +49,8 @@ impl Model for Texts {
 
     ghost view = { λ t. texts_from t.bytes.items 0 t.ends.items };
 
-    ghost invariant = { λ t. Rise 0 t.ends.items (length t.bytes.items) × (length t.ends.items ≤ MAX_TEXTS) };
+    ghost invariant = { λ t. Rise 0 t.ends.items (length t.bytes.items)
+        × (length t.ends.items ≤ MAX_TEXTS) };
 }
 
 impl Texts {

@@ -51,7 +51,8 @@ impl<S> Model for Cutter<S> {
       progress = c.progress;
     } };
 
-    ghost invariant = { λ c. (c.line ≤ c.step) × (c.step ≤ length c.window.held) × (c.max_line < c.window.size)
+    ghost invariant = { λ c. (c.line ≤ c.step) × (c.step ≤ length c.window.held)
+        × (c.max_line < c.window.size)
         × (c.max_line ≤ MAX_LINE_LEN) × (c.given ≤ c.max_lines) };
 }
 
@@ -92,11 +93,16 @@ impl<S: Source> Cutter<S> {
     /// Looks for the next line, and leaves it where it is. Lets go of the line before.
     fn look_ahead(&mut self) -> Looked
         ensures line { self.new.line ≡ [] }
-        ensures after_end { self.old.progress ≡ Progress.Ended → (result ≡ Looked.End) × (self.new ≡ without_line self.old) }
+        ensures after_end { self.old.progress ≡ Progress.Ended → (result ≡ Looked.End)
+            × (self.new ≡ without_line self.old) }
         ensures after_refusal { (e : Cut) → self.old.progress ≡ Progress.Refused e
             → (result ≡ Looked.Refused e) × (self.new ≡ without_line self.old) }
         ensures sees { self.old.progress ≡ Progress.Open
-            → Sees (record { given = self.old.given; max_line = self.old.max_line; max_lines = self.old.max_lines })
+            → Sees (record {
+              given = self.old.given;
+              max_line = self.old.max_line;
+              max_lines = self.old.max_lines;
+            })
             self.new.pending (S.left self.new.source)
             (Rose (S.faults self.old.source) (S.faults self.new.source)) result }
         ensures steady { result ≢ Looked.Refused Cut.ReadFault
@@ -150,7 +156,8 @@ impl<S: Source> Cutter<S> {
     /// error the same error comes from then on, and nothing is read.
     pub fn advance(&mut self) -> Result<Option<Mark>, Cut>
         // by the answer
-        ensures line { IfOk result (λ o. IfSome o (λ m. Gave S.left m.ended self.new.line self.old self.new)) }
+        ensures line { IfOk result
+            (λ o. IfSome o (λ m. Gave S.left m.ended self.new.line self.old self.new)) }
         ensures at_end { IfOk result (λ o. IfNone o (CameToEnd S.left self.old self.new)) }
         ensures again { Repeats self.old.progress self.old self.new result }
 
@@ -194,7 +201,8 @@ impl<S: Source> Cutter<S> {
     /// same error comes from then on.
     pub fn next(&mut self) -> Result<Option<Piece>, Cut>
         // by the answer
-        ensures piece { IfOk result (λ o. IfSome o (λ p. Gave S.left p.ended p.line self.old self.new)) }
+        ensures piece { IfOk result
+            (λ o. IfSome o (λ p. Gave S.left p.ended p.line self.old self.new)) }
         ensures line { IfOk result (λ o. IfSome o (λ p. self.new.line ≡ p.line)) }
         ensures at_end { IfOk result (λ o. IfNone o (CameToEnd S.left self.old self.new)) }
         ensures again { Repeats self.old.progress self.old self.new result }

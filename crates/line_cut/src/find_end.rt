@@ -34,7 +34,8 @@ pub(crate) fn find_end<S: Source>(
     // what stays
     ensures front { take (length window.old.held) window.new.held ≡ window.old.held }
     ensures more { length window.old.held ≤ length window.new.held }
-    ensures left { bytes_left window.new.held (S.left source.new) ≡ bytes_left window.old.held (S.left source.old) }
+    ensures left { bytes_left window.new.held (S.left source.new)
+        ≡ bytes_left window.old.held (S.left source.old) }
     ensures size { window.new.size ≡ window.old.size }
     ensures name { S.name source.new ≡ S.name source.old }
 

@@ -73,7 +73,8 @@ impl<S: Source, T> Model for Joiner<S, T> {
     } };
 
     ghost invariant = { λ c. (c.message ≤ c.step) × (c.step ≤ length c.window.held)
-        × (c.max_line * 2 + 1 < c.window.size) × (c.max_line ≤ MAX_LINE_LEN) × (c.given ≤ c.max_messages) × (c.max_messages ≤ MAX_MESSAGES)
+        × (c.max_line * 2 + 1 < c.window.size) × (c.max_line ≤ MAX_LINE_LEN)
+        × (c.given ≤ c.max_messages) × (c.max_messages ≤ MAX_MESSAGES)
         × (c.lines ≤ c.given * (MAX_LINE_LEN + 1))
         × IfSome c.behind (Stands c.max_line (drop c.step c.window.held) (S.left c.source)) };
 }

@@ -28,13 +28,16 @@ fn any_left<S: Source>(source: &mut S, window: &mut Window) -> Result<bool, Fail
     requires { 0 < window.old.size }
 
     // what stays
-    ensures left { bytes_left window.new.held (S.left source.new) ≡ bytes_left window.old.held (S.left source.old) }
+    ensures left { bytes_left window.new.held (S.left source.new)
+        ≡ bytes_left window.old.held (S.left source.old) }
     ensures size { window.new.size ≡ window.old.size }
     ensures name { S.name source.new ≡ S.name source.old }
 
     // by the answer
     ensures some { IfOk result (λ any. IsTrue any → 0 < length window.new.held) }
-    ensures none { IfOk result (λ any. IsFalse any → (window.new.held ≡ []) × IfSome (S.left source.new) (λ rest. rest ≡ [])) }
+    ensures none { IfOk result
+        (λ any. IsFalse any → (window.new.held ≡ [])
+        × IfSome (S.left source.new) (λ rest. rest ≡ [])) }
     ensures failed { OnErr result (window.new.held ≡ []) }
     ensures cause { Counts (S.faults source.old) (S.faults source.new) result }
 {
@@ -54,13 +57,15 @@ pub(crate) fn look<S: Source>(
 ) -> Looked
     requires size { max_line < window.old.size }
     requires count { given ≤ max_lines }
-    ensures sees { Sees (record { given = given; max_line = max_line; max_lines = max_lines }) window.new.held
+    ensures sees { Sees
+        (record { given = given; max_line = max_line; max_lines = max_lines }) window.new.held
         (S.left source.new) (Rose (S.faults source.old) (S.faults source.new)) result }
     ensures steady { result ≢ Looked.Refused Cut.ReadFault
         → S.faults source.new ≡ S.faults source.old }
 
     // what stays
-    ensures left { bytes_left window.new.held (S.left source.new) ≡ bytes_left window.old.held (S.left source.old) }
+    ensures left { bytes_left window.new.held (S.left source.new)
+        ≡ bytes_left window.old.held (S.left source.old) }
     ensures size { window.new.size ≡ window.old.size }
     ensures name { S.name source.new ≡ S.name source.old }
     ensures later { S.faults source.old ≤ S.faults source.new }

@@ -27,7 +27,10 @@ impl Model for Window {
 
     ghost Value = { WindowState };
 
-    ghost view = { λ w. record { held = take (w.end - w.start) (drop w.start w.buffer.items); size = vec_len w.buffer } };
+    ghost view = { λ w. record {
+      held = take (w.end - w.start) (drop w.start w.buffer.items);
+      size = vec_len w.buffer;
+    } };
 
     ghost invariant = { λ w. (w.start ≤ w.end) × (w.end ≤ vec_len w.buffer) };
 }
@@ -36,7 +39,8 @@ impl Model for Window {
 fn move_to_front(buffer: &mut Vec<u8>, start: usize, end: usize)
     requires order { start ≤ end }
     requires within { end ≤ vec_len buffer.old }
-    ensures front { take (end - start) buffer.new.items ≡ take (end - start) (drop start buffer.old.items) }
+    ensures front { take (end - start) buffer.new.items
+        ≡ take (end - start) (drop start buffer.old.items) }
     ensures len { vec_len buffer.new ≡ vec_len buffer.old }
 {
     buffer.copy_within(start..end, 0);
@@ -52,7 +56,8 @@ fn read_behind<S: Source>(
     ensures within { IfOk result (λ n. from + n ≤ vec_len buffer.old) }
     ensures front { take from buffer.new.items ≡ take from buffer.old.items }
     ensures len { vec_len buffer.new ≡ vec_len buffer.old }
-    ensures taken { IfOk result (λ n. Takes n (drop from buffer.new.items) (S.left source.old) (S.left source.new)) }
+    ensures taken { IfOk result
+        (λ n. Takes n (drop from buffer.new.items) (S.left source.old) (S.left source.new)) }
     ensures untaken { OnErr result (S.left source.new ≡ S.left source.old) }
     ensures name { S.name source.new ≡ S.name source.old }
     ensures cause { Counts (S.faults source.old) (S.faults source.new) result }
@@ -96,7 +101,8 @@ impl Window {
 
         // what stays
         ensures front { take (length self.old.held) self.new.held ≡ self.old.held }
-        ensures left { bytes_left self.new.held (S.left source.new) ≡ bytes_left self.old.held (S.left source.old) }
+        ensures left { bytes_left self.new.held (S.left source.new)
+            ≡ bytes_left self.old.held (S.left source.old) }
         ensures size { self.new.size ≡ self.old.size }
         ensures name { S.name source.new ≡ S.name source.old }
 

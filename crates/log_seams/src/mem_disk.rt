@@ -58,7 +58,8 @@ pub struct MemDisk {
 // Writes over what stands at a place, and past the end.
 fn overwrite(file: &mut Vec<u8>, at: usize, bytes: &[u8]) -> Result<(), AllocError>
     ensures written { OnOk result (file.new.items ≡ laid at bytes.now file.old.items) }
-    ensures room { max (length file.old.items) (at + length bytes.now) ≤ vec_capacity file.old → IsOk result }
+    ensures room { max (length file.old.items) (at + length bytes.now) ≤ vec_capacity file.old
+        → IsOk result }
     ensures capacity { vec_capacity file.old ≤ vec_capacity file.new }
 {
     let at = at.min(file.len());
@@ -69,8 +70,10 @@ fn overwrite(file: &mut Vec<u8>, at: usize, bytes: &[u8]) -> Result<(), AllocErr
 
 // What a write leaves, done or failed.
 fn apply(file: &mut Vec<u8>, at: usize, bytes: &[u8], done: bool) -> Result<(), AllocError>
-    ensures written { OnOk result (file.new.items ≡ after_event (wrote done at bytes.now) file.old.items) }
-    ensures room { max (length file.old.items) (at + length bytes.now) ≤ vec_capacity file.old → IsOk result }
+    ensures written { OnOk result
+        (file.new.items ≡ after_event (wrote done at bytes.now) file.old.items) }
+    ensures room { max (length file.old.items) (at + length bytes.now) ≤ vec_capacity file.old
+        → IsOk result }
     ensures capacity { vec_capacity file.old ≤ vec_capacity file.new }
 {
     if !done {
@@ -122,8 +125,11 @@ fn redo(
     pending: Pending,
 ) -> Result<(), AllocError>
     requires { logged call ≤ length log.now }
-    ensures kept { OnOk result (kept.new.items ≡ after_event (event_of call log.now) kept.old.items) }
-    ensures torn { OnOk result ((first : List ℕ) (older : List Event) → kept.old.items ≡ content first older → torn.old.items ≡ left_by pending first older
+    ensures kept { OnOk result
+        (kept.new.items ≡ after_event (event_of call log.now) kept.old.items) }
+    ensures torn { OnOk result
+        ((first : List ℕ) (older : List Event) → kept.old.items ≡ content first older
+        → torn.old.items ≡ left_by pending first older
         → torn.new.items ≡ left_by pending first (event_of call log.now ∷ older)) }
 {
     match call {
@@ -158,7 +164,8 @@ fn left_by(
     pending: Pending,
 ) -> Result<Vec<u8>, AllocError>
     requires { total calls.now ≤ length log.now }
-    ensures { IfOk result (λ torn. torn.items ≡ left_by pending first.now (events calls.now log.now)) }
+    ensures { IfOk result
+        (λ torn. torn.items ≡ left_by pending first.now (events calls.now log.now)) }
 {
     let mut kept = first.to_vec(alloc)?;
     let mut torn = first.to_vec(alloc)?;
@@ -227,9 +234,11 @@ impl MemDisk {
     /// and no call of it fails by a list.
     pub fn stopped(&self, after: usize, pending: Pending) -> Result<MemDisk, AllocError>
         requires { after ≤ calls_of self.now }
-        ensures left { IfOk result (IsNewDisk (left_by pending (first_of self.now) (events_until after self.now))
+        ensures left { IfOk result
+            (IsNewDisk (left_by pending (first_of self.now) (events_until after self.now))
             self.now.room self.now.call_limit []) }
-        ensures image { IfOk result (λ m. IsImage (first_of self.now) (events_until after self.now) (bytes_of m)) }
+        ensures image { IfOk result
+            (λ m. IsImage (first_of self.now) (events_until after self.now) (bytes_of m)) }
     {
         let left = left_by(
             self.alloc,
@@ -280,7 +289,8 @@ impl MemDisk {
         requires within { lacks_room self.old at (length bytes.now) ≡ false }
         requires room { calls_of self.old < self.old.call_limit }
         ensures events { events_of self.new ≡ wrote done at bytes.now ∷ events_of self.old }
-        ensures bytes { bytes_of self.new ≡ after_event (wrote done at bytes.now) (bytes_of self.old) }
+        ensures bytes { bytes_of self.new ≡ after_event (wrote done at bytes.now)
+            (bytes_of self.old) }
         ensures recorded { Recorded self.old self.new }
         ensures faults { self.new.faults ≡ self.old.faults }
     {
@@ -327,7 +337,8 @@ impl Disk for MemDisk {
     }
 
     fn read(&mut self, at: u64, buf: &mut [u8]) -> Result<usize, Failed>
-        ensures call { HasRead at buf.old buf.new result (disk_state self.old) (disk_state self.new) }
+        ensures call { HasRead at buf.old buf.new result (disk_state self.old)
+            (disk_state self.new) }
         ensures succeeds { is_ok result ≡ not (fails_next self.old) }
         ensures recorded { Recorded self.old self.new }
     {
@@ -344,7 +355,8 @@ impl Disk for MemDisk {
         requires end { at + length bytes.now ≤ 2 ^ 62 }
         ensures call { HasWritten at bytes.now result (disk_state self.old) (disk_state self.new) }
         ensures kept { OnErr result (bytes_of self.new ≡ bytes_of self.old) }
-        ensures succeeds { is_ok result ≡ not (lacks_room self.old at (length bytes.now) || fails_next self.old) }
+        ensures succeeds { is_ok result
+            ≡ not (lacks_room self.old at (length bytes.now) || fails_next self.old) }
         ensures recorded { Recorded self.old self.new }
     {
         if self.lacks_room(at, bytes.len()) || self.calls.len() >= self.call_limit {

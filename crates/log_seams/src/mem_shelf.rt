@@ -50,7 +50,8 @@ impl Source for ShelfSource {
         requires { 0 < length buf.old }
         // As of every source.
         ensures within { IfOk result (λ n. n ≤ length buf.old) }
-        ensures taken { IfOk result (λ n. Takes n buf.new (Some self.old.log.left) (Some self.new.log.left)) }
+        ensures taken { IfOk result
+            (λ n. Takes n buf.new (Some self.old.log.left) (Some self.new.log.left)) }
         ensures untaken { OnErr result (self.new.log.left ≡ self.old.log.left) }
         ensures name { self.new.name ≡ self.old.name }
         ensures cause { Counts self.old.log.faults self.new.log.faults result }
@@ -179,15 +180,18 @@ impl Shelf for MemShelf {
         ensures opens { (n : List ℕ) → shelf_open_faults self.old n ≤ shelf_open_faults self.new n }
         ensures others { (n : List ℕ) → n ≢ name.now → IsSome (file_of self.old.files n)
             → shelf_open_faults self.new n ≡ shelf_open_faults self.old n }
-        ensures steady { OnOk result ((n : List ℕ) → shelf_open_faults self.new n ≡ shelf_open_faults self.old n) }
+        ensures steady { OnOk result
+            ((n : List ℕ) → shelf_open_faults self.new n ≡ shelf_open_faults self.old n) }
         ensures cause { IsErrOf result OpenRefused.Failed
             → Rose (shelf_open_faults self.old name.now) (shelf_open_faults self.new name.now) }
 
         // Which openings fail.
-        ensures absent { IsNone (file_of self.old.files name.now) → IsErrOf result OpenRefused.Failed }
+        ensures absent { IsNone (file_of self.old.files name.now)
+            → IsErrOf result OpenRefused.Failed }
         ensures listed { Contains self.old.calls.fails self.old.calls.made → IsErr result }
         ensures only { IsErrOf result OpenRefused.Failed
-            → IsNone (file_of self.old.files name.now) ⊎ Contains self.old.calls.fails self.old.calls.made }
+            → IsNone (file_of self.old.files name.now)
+            ⊎ Contains self.old.calls.fails self.old.calls.made }
     {
         let listed = self.calls.next_fails();
         let Some(file) = find_file(self.files.as_slice(), name) else {
@@ -204,8 +208,13 @@ impl Shelf for MemShelf {
     fn close_log(&mut self, src: ShelfSource)
         ensures files { self.new.files ≡ self.old.files }
         ensures calls { self.new.calls ≡ self.old.calls }
-        ensures opens { (self.new.absent ≡ self.old.absent) × (self.new.refused ≡ self.old.refused) }
-        ensures closed { self.new.closed ≡ (record { name = src.name; left = src.log.left; faults = src.log.faults }) ∷ self.old.closed }
+        ensures opens { (self.new.absent ≡ self.old.absent)
+            × (self.new.refused ≡ self.old.refused) }
+        ensures closed { self.new.closed ≡ (record {
+          name = src.name;
+          left = src.log.left;
+          faults = src.log.faults;
+        }) ∷ self.old.closed }
     {
         let ShelfSource { log, name, place } = src;
         let older = mem::replace(&mut self.closed, ClosedLogs::new());

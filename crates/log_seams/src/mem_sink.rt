@@ -24,7 +24,12 @@ impl Model for MemSink {
 
     ghost Value = { SinkState };
 
-    ghost view = { λ s. record { written = s.bytes.items; room = s.room; calls = s.calls; faults = s.faults } };
+    ghost view = { λ s. record {
+      written = s.bytes.items;
+      room = s.room;
+      calls = s.calls;
+      faults = s.faults;
+    } };
 
     ghost invariant = { λ s. (vec_len s.bytes ≤ s.room) × (s.room ≤ vec_capacity s.bytes) };
 }
@@ -68,7 +73,9 @@ impl Sink for MemSink {
         // As of every sink.
         ensures some { IfOk result (λ n. 0 < n) }
         ensures within { IfOk result (λ n. n ≤ length bytes.now) }
-        ensures appended { IfOk result (λ n. Some self.new.written ≡ option_map (λ w. w ++ take n bytes.now) (Some self.old.written)) }
+        ensures appended { IfOk result
+            (λ n. Some self.new.written ≡ option_map (λ w. w ++ take n bytes.now)
+            (Some self.old.written)) }
         ensures unwritten { OnErr result (self.new.written ≡ self.old.written) }
         ensures cause { Counts self.old.faults self.new.faults result }
 

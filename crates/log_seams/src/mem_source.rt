@@ -73,7 +73,8 @@ impl Source for MemSource {
         requires { 0 < length buf.old }
         // As of every source.
         ensures within { IfOk result (λ n. n ≤ length buf.old) }
-        ensures taken { IfOk result (λ n. Takes n buf.new (Some self.old.left) (Some self.new.left)) }
+        ensures taken { IfOk result
+            (λ n. Takes n buf.new (Some self.old.left) (Some self.new.left)) }
         ensures untaken { OnErr result (self.new.left ≡ self.old.left) }
         ensures cause { Counts self.old.faults self.new.faults result }
 

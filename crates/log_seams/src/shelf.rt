@@ -39,7 +39,8 @@ pub trait Shelf {
 
         // The counts in opening.
         ensures opens { (n : List ℕ) → open_faults self.old n ≤ open_faults self.new n }
-        ensures steady { OnOk result ((n : List ℕ) → open_faults self.new n ≡ open_faults self.old n) }
+        ensures steady { OnOk result
+            ((n : List ℕ) → open_faults self.new n ≡ open_faults self.old n) }
         ensures cause { IsErrOf result OpenRefused.Failed
             → Rose (open_faults self.old name.now) (open_faults self.new name.now) };
 

@@ -19,7 +19,8 @@ pub trait Sink {
         requires { 0 < length bytes.now }
         ensures some { IfOk result (λ n. 0 < n) }
         ensures within { IfOk result (λ n. n ≤ length bytes.now) }
-        ensures appended { IfOk result (λ n. written self.new ≡ option_map (λ w. w ++ take n bytes.now) (written self.old)) }
+        ensures appended { IfOk result
+            (λ n. written self.new ≡ option_map (λ w. w ++ take n bytes.now) (written self.old)) }
         ensures unwritten { OnErr result (written self.new ≡ written self.old) }
         ensures cause { Counts (faults self.old) (faults self.new) result };
 }

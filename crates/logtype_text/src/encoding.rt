@@ -89,7 +89,8 @@ fn push_variable(
     span: Span,
     coded: Coded,
 ) -> Result<(), AllocError>
-    ensures text { OnOk result (text.new.items ≡ text.old.items ++ placeholder (kind_of coded) ∷ []) }
+    ensures text { OnOk result
+        (text.new.items ≡ text.old.items ++ placeholder (kind_of coded) ∷ []) }
     ensures codes { OnOk result (codes.new.items ≡ codes.old.items ++ coded ∷ []) }
     ensures words { OnOk result (words.new.items ≡ words.old.items ++ word_place coded span) }
 {

@@ -1,5 +1,5 @@
 //! From a body to its symbols.
-ghost use Rattle.std.specs.Prelude.{◌≡◌, ◌+◌, ◌<◌, ◌≤◌, ◌++◌, [], All, IfOk, IfSome, IsNone, OnOk, length, map, vec_capacity, vec_len};
+ghost use Rattle.std.specs.Prelude.{◌≡◌, ◌+◌, ◌<◌, ◌≤◌, ◌++◌, [], All, IfOk, IfSome, IsNone, OnErr, OnOk, length, map, vec_capacity, vec_len};
 ghost use Rattle.logtype_text.specs.declared.symbols.Symbol.TheVariants.{Byte};
 ghost use Rattle.logtype_text.specs.Parts.{AreCodes, IsFree, IsSplit, IsVariableToken, kind_of, slot_count};
 ghost use Rattle.token_rules.specs.Tokens.{IsOutside};
@@ -17,7 +17,8 @@ use var_codec::{Coded, encode};
 pub fn split(alloc: Global, body: &[u8]) -> Result<Split, AllocError>
     ensures parts { IfOk result (λ s. IsSplit body.now s.symbols s.spans) }
     ensures count { IfOk result (λ s. length s.spans ≡ slot_count s.symbols) }
-    ensures ranges { IfOk result (λ s. All (λ p. (p.start < p.end) × (p.end ≤ length body.now)) s.spans) }
+    ensures ranges { IfOk result
+        (λ s. All (λ p. (p.start < p.end) × (p.end ≤ length body.now)) s.spans) }
     ensures codes { IfOk result (λ s. AreCodes body.now s.spans s.codes) }
 {
     split_into(Split::new(alloc), body)
@@ -42,8 +43,11 @@ impl Split {
     pub fn fill(&mut self, alloc: Global, body: &[u8]) -> Result<(), AllocError>
         ensures parts { OnOk result (IsSplit body.now self.new.symbols self.new.spans) }
         ensures count { OnOk result (length self.new.spans ≡ slot_count self.new.symbols) }
-        ensures ranges { OnOk result (All (λ p. (p.start < p.end) × (p.end ≤ length body.now)) self.new.spans) }
+        ensures ranges { OnOk result
+            (All (λ p. (p.start < p.end) × (p.end ≤ length body.now)) self.new.spans) }
         ensures codes { OnOk result (AreCodes body.now self.new.spans self.new.codes) }
+        ensures emptied { OnErr result ((self.new.symbols ≡ []) × (self.new.spans ≡ [])
+            × (self.new.codes ≡ [])) }
     {
         let before = mem::replace(self, Split::new(alloc));
         *self = split_into(before, body)?;
@@ -55,7 +59,8 @@ impl Split {
 fn split_into(before: Split, body: &[u8]) -> Result<Split, AllocError>
     ensures parts { IfOk result (λ s. IsSplit body.now s.symbols s.spans) }
     ensures count { IfOk result (λ s. length s.spans ≡ slot_count s.symbols) }
-    ensures ranges { IfOk result (λ s. All (λ p. (p.start < p.end) × (p.end ≤ length body.now)) s.spans) }
+    ensures ranges { IfOk result
+        (λ s. All (λ p. (p.start < p.end) × (p.end ≤ length body.now)) s.spans) }
     ensures codes { IfOk result (λ s. AreCodes body.now s.spans s.codes) }
 {
     let Split {

@@ -131,7 +131,8 @@ pub fn from_text(alloc: Global, text: &[u8]) -> Result<Symbols, TextRefusal>
 #[inline]
 pub fn first_symbol(text: &[u8]) -> Option<(Symbol, &[u8])>
     ensures some { IfSome result (λ r. text.now ≡ text_of_symbol r.0 ++ r.1.now) }
-    ensures none { IfNone result ((symbol : Symbol) (rest : List ℕ) → text.now ≢ text_of_symbol symbol ++ rest) }
+    ensures none { IfNone result
+        ((symbol : Symbol) (rest : List ℕ) → text.now ≢ text_of_symbol symbol ++ rest) }
 {
     match text {
         [ESCAPE, byte, rest @ ..] if needs_escape(*byte) => Some((Symbol::Byte(*byte), rest)),

@@ -77,7 +77,8 @@ fn add_item(
     token: Vec<u8>,
     item: Item,
 ) -> Result<Vec<u8>, AllocError>
-    ensures { IfOk result (λ next. (rest : List Item) → out.new.items ++ fronted next.items (pieces rest)
+    ensures { IfOk result
+        (λ next. (rest : List Item) → out.new.items ++ fronted next.items (pieces rest)
         ≡ out.old.items ++ fronted token.items (pieces (item ∷ rest))) }
 {
     match item {

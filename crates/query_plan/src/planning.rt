@@ -46,7 +46,8 @@ impl Model for Plan {
     ghost invariant = { λ p. IsCut p.pieces.items × (p.wide ≡ flat p.pieces.items)
         × (p.skeleton ≡ skeleton_of p.pieces.items)
         × (p.needed_variables.items ≡ needed_variables_of Free p.pieces.items)
-        × (p.open_tokens ≡ open_count Free p.pieces.items) × (p.needed ≡ needed_of Free p.pieces.items) };
+        × (p.open_tokens ≡ open_count Free p.pieces.items)
+        × (p.needed ≡ needed_of Free p.pieces.items) };
 }
 
 impl Plan {
@@ -122,7 +123,8 @@ impl Plan {
     ///
     /// Takes no memory. The stamp is read first, so that a match may begin or lie in it.
     pub fn reads(&self, stamp: &[u8], symbols: &VarSymbols) -> bool
-        ensures matched { IsTrue result ↔ Match (flat self.now) (stamp.now ++ joined (parts symbols.now)) }
+        ensures matched { IsTrue result
+            ↔ Match (flat self.now) (stamp.now ++ joined (parts symbols.now)) }
         ensures read { (body : List ℕ) → IsWidened (flat self.now) → IsBodyBehind stamp.now body
             → AreParts body (parts symbols.now)
             → IsTrue result ↔ SomeReads (flat self.now) stamp.now (parts symbols.now) }

@@ -34,7 +34,8 @@ pub fn number_at(bytes: &[u8]) -> Option<(u32, &[u8])>
 fn text_at(bytes: &[u8]) -> Option<(&[u8], &[u8])>
     ensures fits { IfSome result (λ x. length x.0.now < 2 ^ 32) }
     ensures some { IfSome result (λ x. bytes.now ≡ text_bytes x.0.now ++ x.1.now) }
-    ensures none { IsNone result → (t rest : List ℕ) → length t < 2 ^ 32 → bytes.now ≢ text_bytes t ++ rest }
+    ensures none { IsNone result → (t rest : List ℕ) → length t < 2 ^ 32
+        → bytes.now ≢ text_bytes t ++ rest }
 {
     let (len, rest) = number_at(bytes)?;
     if rest.len() < len as usize {

@@ -21,7 +21,9 @@ use var_codec::{decimal_text, whole_text};
 /// nothing is appended.
 pub fn write_onto<N: Names>(row: RowRef<'_>, names: &N, out: &mut Vec<u8>) -> Result<(), AllocError>
     requires { HasSpelling (row_of row) (N.types names.now) (N.words names.now) }
-    ensures written { OnOk result ((text : List ℕ) × IsSpelling (row_of row.entry) (N.types names.now) (N.words names.now) text
+    ensures written { OnOk result
+        ((text : List ℕ)
+        × IsSpelling (row_of row.entry) (N.types names.now) (N.words names.now) text
         × (out.new.items ≡ out.old.items ++ text)) }
     ensures kept { OnErr result (out.new.items ≡ out.old.items) }
 {
@@ -44,7 +46,9 @@ pub fn expand_onto<N: Names, L: Ledger>(
 ) -> Result<(), AllocError>
     requires { HasSpelling (row_of row) (N.types names.now) (N.words names.now) }
     ensures counted { steps.new ≡ steps.old + 1 }
-    ensures written { OnOk result ((text : List ℕ) × IsSpelling (row_of row.entry) (N.types names.now) (N.words names.now) text
+    ensures written { OnOk result
+        ((text : List ℕ)
+        × IsSpelling (row_of row.entry) (N.types names.now) (N.words names.now) text
         × (out.new.items ≡ out.old.items ++ text)) }
     ensures kept { OnErr result (out.new.items ≡ out.old.items) }
 {

@@ -45,7 +45,8 @@ fn skip_delimiters(body: &[u8], from: usize) -> usize
 fn run_from(body: &[u8], start: usize) -> Run
     requires { start ≤ length body.now }
     ensures range { (start ≤ result.end) × (result.end ≤ length body.now) }
-    ensures unbroken { (k : _) → start ≤ k → k < result.end → IsTrue (is_token_byte (slice_index body.now k)) }
+    ensures unbroken { (k : _) → start ≤ k → k < result.end
+        → IsTrue (is_token_byte (slice_index body.now k)) }
     ensures stop { result.end < length body.now → IsDelimiter (slice_index body.now result.end) }
     ensures classes { HasClasses (slice_range body.now start result.end) result.any result.all }
 {
@@ -64,7 +65,8 @@ fn run_from(body: &[u8], start: usize) -> Run
 // Whether a token of this length and these classes is a variable.
 #[inline]
 fn tells_variable(any: u8, all: u8, length: usize, after_equals: bool) -> bool
-    ensures { result ≡ (meets any 2 || (after_equals && meets any 4) || (nat_le 2 length && meets all 8)) }
+    ensures { result
+        ≡ (meets any 2 || (after_equals && meets any 4) || (nat_le 2 length && meets all 8)) }
 {
     let has_digit = classes::meets(any, DIGIT);
     let has_letter = classes::meets(any, LETTER);
@@ -77,7 +79,8 @@ fn tells_variable(any: u8, all: u8, length: usize, after_equals: bool) -> bool
 /// are hexadecimal digits of either case.
 pub fn is_var(prev: Option<u8>, token: &[u8]) -> bool
     requires not_empty { 0 < length token.now }
-    requires no_delimiter { (k : _) → k < length token.now → ¬ IsDelimiter (slice_index token.now k) }
+    requires no_delimiter { (k : _) → k < length token.now
+        → ¬ IsDelimiter (slice_index token.now k) }
     ensures { IsTrue result ↔ IsVariable prev token.now }
 {
     let run = run_from(token, 0);
@@ -91,7 +94,8 @@ pub fn next_token(body: &[u8], from: usize) -> Option<Token>
     requires outside { IsOutside body.now from }
     ensures first { IfSome result (λ t. (from ≤ t.start) × OnlyDelimiters body.now from t.start) }
     ensures token { IfSome result (λ t. IsToken body.now t.start t.end) }
-    ensures variable { IfSome result (λ t. IsTrue t.variable ↔ IsVariableAt body.now t.start t.end) }
+    ensures variable { IfSome result
+        (λ t. IsTrue t.variable ↔ IsVariableAt body.now t.start t.end) }
     ensures none { IsNone result ↔ OnlyDelimiters body.now from (length body.now) }
 {
     let start = skip_delimiters(body, from);

@@ -12,7 +12,8 @@ use memchr::memmem::Finder;
 pub(crate) fn fixed_len(items: &[Item]) -> usize
     ensures within { result ≤ length items.now }
     ensures fixed { IsFixed (take result items.now) }
-    ensures many { result < length items.now → drop result items.now ≡ Many ∷ drop (result + 1) items.now }
+    ensures many { result < length items.now
+        → drop result items.now ≡ Many ∷ drop (result + 1) items.now }
 {
     items
         .iter()

@@ -31,7 +31,9 @@ impl Model for Piece {
 
     ghost view = { λ p. p.items.items };
 
-    ghost invariant = { λ p. IsFixed p.items.items × (p.skip + length p.finder ≤ length p.items.items) × RunAt p.items.items p.finder p.skip };
+    ghost invariant = { λ p. IsFixed p.items.items
+        × (p.skip + length p.finder ≤ length p.items.items)
+        × RunAt p.items.items p.finder p.skip };
 }
 
 impl Piece {
@@ -130,7 +132,8 @@ impl Model for Matcher {
 
     ghost view = { λ m. record { items = items_of_matcher m; needle = m.finder } };
 
-    ghost invariant = { λ m. IsFixed m.front.items × IsFixed m.behind.tail.items × IsLiteralRun (items_of_matcher m) m.finder × IsLongestRun (items_of_matcher m) m.finder };
+    ghost invariant = { λ m. IsFixed m.front.items × IsFixed m.behind.tail.items
+        × IsLiteralRun (items_of_matcher m) m.finder × IsLongestRun (items_of_matcher m) m.finder };
 }
 
 impl Matcher {
@@ -191,7 +194,8 @@ impl Matcher {
         ensures value { result.now ≡ self.now.needle }
         ensures run { IsLiteralRun self.now.items result.now }
         ensures longest { IsLongestRun self.now.items result.now }
-        ensures needed { (message : List ℕ) → Match self.now.items message → Occurs message result.now }
+        ensures needed { (message : List ℕ) → Match self.now.items message
+            → Occurs message result.now }
     {
         self.finder.needle()
     }

@@ -23,7 +23,8 @@ pub(crate) struct Literal {
 fn longest_run(items: &[Item]) -> Run
     ensures within { result.start + result.len ≤ length items.now }
     ensures literal { AreLiteral items.now result.start (result.start + result.len) }
-    ensures longest { (start len : ℕ) → start + len ≤ length items.now → AreLiteral items.now start (start + len) → len ≤ result.len }
+    ensures longest { (start len : ℕ) → start + len ≤ length items.now
+        → AreLiteral items.now start (start + len) → len ≤ result.len }
 {
     let mut start = 0;
     let mut best = Run { start: 0, len: 0 };
