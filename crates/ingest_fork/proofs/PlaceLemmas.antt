@@ -1,5 +1,7 @@
 -- What stands at a place of a list: joined lists, and a list with one element set.
-use Rattle.std.proofs.Common.{◌≡◌, ◌≢◌, ℕ, zero, suc, ◌+◌, ◌-◌, ◌<◌, ◌≤◌, List, [], ◌∷◌, ◌++◌, length, set, sym, refl, ap, ◌∙◌, subst, arith, Option, Some, None, slice_get}
+use Rattle.std.proofs.Common.{◌≡◌, ◌≢◌, ℕ, zero, suc, ◌+◌, ◌-◌, ◌<◌, ◌≤◌, List, [], ◌∷◌, ◌++◌, length, set, sym, refl, ap, ◌∙◌, subst, arith, Option, Some, None, slice_get, length-append}
+use mathlib.Core.List.{IsPrefix}
+use Rattle.turn_lock.proofs.FrontLemmas.{prefix_get, prefix_trans}
 
 module _ {X : Type 0} where
   pub at_left : (xs ys : List X) (i : ℕ) (x : X) → slice_get xs i ≡ Some x → slice_get (xs ++ ys) i ≡ Some x
@@ -36,3 +38,19 @@ module _ {X : Type 0} where
   cut_at [] i x at = absurd (cc (at))
   cut_at (y ∷ xs) zero x at = let same : y ≡ x = cc in ([], xs, ap (λ (z : X). z ∷ xs) same)
   cut_at (y ∷ xs) (suc i) x at = let r = cut_at xs i x at in (y ∷ r.0, r.1, ap (λ l. y ∷ l) r.2)
+
+  pub there_is : (xs : List X) (i : ℕ) → i < length xs → (x : X) × (slice_get xs i ≡ Some x)
+  there_is [] i lt = absurd (omega arith)
+  there_is (y ∷ xs) zero lt = (y, refl)
+  there_is (y ∷ xs) (suc i) lt = there_is xs i (omega arith)
+
+  -- the last element of a beginning
+  pub last_of : (all xs ys : List X) (x : X) → IsPrefix xs all → xs ≡ ys ++ x ∷ [] → slice_get all (length ys) ≡ Some x
+  last_of all xs ys x front is = let here : slice_get (ys ++ x ∷ []) (length ys) ≡ Some x = ap (λ (n : ℕ). slice_get (ys ++ x ∷ []) n) (let e : length ys ≡ length ys + 0 = omega arith in e) ∙ at_right ys (x ∷ []) 0 in
+      prefix_get xs all (length ys) x front (subst (λ l. slice_get l (length ys) ≡ Some x) (sym is) here)
+
+  pub before_last : (all xs ys : List X) (x : X) → IsPrefix xs all → xs ≡ ys ++ x ∷ [] → IsPrefix ys all
+  before_last all xs ys x front is = prefix_trans ys xs all (x ∷ [], sym is) front
+
+  pub one_longer : (xs ys : List X) (x : X) → xs ≡ ys ++ x ∷ [] → length xs ≡ length ys + 1
+  one_longer xs ys x is = ap length is ∙ length-append ys (x ∷ [])

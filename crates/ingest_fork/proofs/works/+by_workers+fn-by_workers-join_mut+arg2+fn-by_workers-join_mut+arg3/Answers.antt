@@ -1,6 +1,6 @@
 use Rattle.std.proofs.Common.{◌≡◌, ◌<◌, ◌≤◌, length, Some, refl, slice_get, arith, ◌∙◌, sym, rules}
 use Rattle.std.proofs.lemmas.Option.{slice_get-get_or}
-use Rattle.ingest_fork.specs.Works.{AllReady, AllFit}
+use Rattle.ingest_fork.specs.Works.{AllReady, AllFit, AllDone, AllWent}
 use Rattle.ingest_fork.proofs.WorkLemmas.{went_alone, went_halves, done_halves, ready_left, ready_right, fits_left, fits_right}
 use Rattle.ingest_fork.proofs.works.+by_workers+fn-by_workers-join_mut+arg2+fn-by_workers-join_mut+arg3.Goals as goal
 
@@ -21,10 +21,14 @@ join_mut-requires-after_bounds g t c κs within =
 pub returns-clause-went : goal.returns-clause-went
 returns-clause-went g t c =
     let workers = c.split_at_mut-these.ensures.value in let jobs = c.split_at_mut-front.ensures.value in
-    rw (workers, jobs) (went_halves g.W.Works.ready g.W.Works.went _ _ _ _ _ _ (search rules) (search rules))
+    let front : AllWent g.W.Works.ready g.W.Works.went c.split_at_mut-front.result.0.now c.split_at_mut-these.result.0.now c.these-1.given.0 = search rules in
+    let back : AllWent g.W.Works.ready g.W.Works.went c.split_at_mut-front.result.1.now c.split_at_mut-these.result.1.now c.others-1.given.0 = search rules in
+    rw (workers, jobs) (went_halves g.W.Works.ready g.W.Works.went _ _ _ _ _ _ front back)
 
 pub returns-clause-did : goal.returns-clause-did
 returns-clause-did g t c =
     let workers = c.split_at_mut-these.ensures.value in let jobs = c.split_at_mut-front.ensures.value in let keepers = c.split_at_mut-front_keepers.ensures.value in
     let same : length c.split_at_mut-front.result.0.now ≡ length c.split_at_mut-front_keepers.result.0.now = c.split_at_mut-front.ensures.front_len ∙ sym c.split_at_mut-front_keepers.ensures.front_len in
-    rw (workers, jobs, keepers) (done_halves g.W.Works.did _ _ _ _ _ _ _ _ _ _ same (search rules) (search rules))
+    let front : AllDone g.W.Works.did c.split_at_mut-these.result.0.now c.split_at_mut-front.result.0.now c.split_at_mut-front_keepers.result.0.now c.front-1.given.0 c.front_keepers-1.given.0 = search rules in
+    let back : AllDone g.W.Works.did c.split_at_mut-these.result.1.now c.split_at_mut-front.result.1.now c.split_at_mut-front_keepers.result.1.now c.back-1.given.0 c.back_keepers-1.given.0 = search rules in
+    rw (workers, jobs, keepers) (done_halves g.W.Works.did _ _ _ _ _ _ _ _ _ _ same front back)
