@@ -1,5 +1,5 @@
 -- Passes that are made one after the other, and joined one after the other from the last one on.
-use Rattle.std.proofs.Common.{◌≡◌, ◌⊎◌, ℕ, zero, suc, ◌+◌, ◌-◌, ◌<◌, ◌≤◌, List, [], ◌∷◌, ◌++◌, length, sym, refl, ap, ◌∙◌, subst, ⊎_elim, inl, inr, arith, Option, Some, None, slice_get, length-append}
+use Rattle.std.proofs.Common.{◌≡◌, ℕ, zero, suc, ◌+◌, ◌-◌, ◌<◌, ◌≤◌, List, [], ◌∷◌, ◌++◌, length, sym, refl, ap, ◌∙◌, subst, ⊎_elim, inl, inr, arith, Some, slice_get, length-append}
 use Rattle.std.proofs.lemmas.Option.{slice_get_within}
 use Rattle.std.proofs.lemmas.Bool.{cases_lt}
 use Rattle.turn_lock.specs.declared.grows.Grows.{Ghosts}
@@ -7,7 +7,7 @@ use Rattle.turn_lock.specs.declared.board.About.{About}
 use Rattle.turn_lock.specs.declared.maker.Maker.{Maker}
 use Rattle.turn_lock.specs.declared.pass.Pass.{Pass}
 use Rattle.turn_lock.specs.History.{Has, HasLearned}
-use Rattle.turn_lock.specs.Words.{lock_of, number_of, seen, own_list, IsReady, lock_by, made_by, seen_by, ended_by, own_by, about_by, IsStillBy, IsFreshOf, HasJoinedAll}
+use Rattle.turn_lock.specs.Words.{number_of, seen, own_list, lock_by, made_by, seen_by, ended_by, own_by, about_by, IsStill, IsStillBy, IsFreshOf, HasJoinedAll}
 use Rattle.turn_lock.proofs.FrontLemmas.{prefix_self, prefix_trans}
 use Rattle.ingest_fork.specs.Passes.{IsFresh, Fresh, AreStill, IsOneOf, HasEnded, Joined, OnlyThese}
 use Rattle.ingest_fork.proofs.PlaceLemmas.{in_left, in_right, there_is}
@@ -44,8 +44,8 @@ module _ {V E F : Type 0} {G : Ghosts V E F} where
     made = omega arith;
     counted = length-append ps (p ∷ []) ∙ ap (λ (n : ℕ). n + 1) count;
     each = λ n q at. ⊎_elim
-    (λ (lt : n < length ps). t.each n q (sym (in_left ps (p ∷ []) n lt) ∙ at))
-    (λ (le : length ps ≤ n). last n q le (sym (in_right ps (p ∷ []) n le) ∙ at)) (cases_lt n (length ps));
+        (λ (lt : n < length ps). t.each n q (sym (in_left ps (p ∷ []) n lt) ∙ at))
+        (λ (le : length ps ≤ n). last n q le (sym (in_right ps (p ∷ []) n le) ∙ at)) (cases_lt n (length ps));
   }
     where
       alone : (k : ℕ) (q : Pass V E F) → slice_get (p ∷ []) k ≡ Some q → (k ≡ 0) × (p ≡ q)
@@ -85,18 +85,18 @@ module _ {V E F : Type 0} {G : Ghosts V E F} where
     seen_on = prefix_trans (seen_by m) (seen_by m1) (seen_by m2) t.seen_on j.learned.mine_first;
     before = λ n has. let r = t.before n has in (more n (inr r.0), j.own n r.0 ∙ r.1);
     each = λ i q le at. ⊎_elim
-    (λ (lt : i < k + 1). let place : k ≡ i = omega arith in let same : p ≡ q = cc (here, at, place) in subst (λ (x : Pass V E F). HasEnded m2 x) same
-    (record { ended = more (number_of p) (inl refl); own_is = j.taken; seen_on = j.learned.theirs_first }))
-    (λ (past : k + 1 ≤ i). let r = t.each i q past at in record {
-      ended = more (number_of q) (inr r.ended);
-      own_is = j.own (number_of q) r.ended ∙ r.own_is;
-      seen_on = prefix_trans (seen q) (seen_by m1) (seen_by m2) r.seen_on j.learned.mine_first;
-    }) (cases_lt i (k + 1));
+        (λ (lt : i < k + 1). let place : k ≡ i = omega arith in let same : p ≡ q = cc (here, at, place) in subst (λ (x : Pass V E F). HasEnded m2 x) same
+        (record { ended = more (number_of p) (inl refl); own_is = j.taken; seen_on = j.learned.theirs_first }))
+        (λ (past : k + 1 ≤ i). let r = t.each i q past at in record {
+          ended = more (number_of q) (inr r.ended);
+          own_is = j.own (number_of q) r.ended ∙ r.own_is;
+          seen_on = prefix_trans (seen q) (seen_by m1) (seen_by m2) r.seen_on j.learned.mine_first;
+        }) (cases_lt i (k + 1));
     only = λ n has. ⊎_elim
-    (λ (is : number_of p ≡ n). inr (k, p, omega arith, here, is))
-    (λ (old : Has (ended_by m1) n). ⊎_elim (λ (first : Has (ended_by m) n). inl first)
-    (λ (one : IsOneOf ps (k + 1) n). let from = one.2 in inr (one.0, one.1, omega arith, one.3, one.4)) (t.only n old))
-    (subst (λ (l : List ℕ). Has l n) j.ended has);
+        (λ (is : number_of p ≡ n). inr (k, p, omega arith, here, is))
+        (λ (old : Has (ended_by m1) n). ⊎_elim (λ (first : Has (ended_by m) n). inl first)
+        (λ (one : IsOneOf ps (k + 1) n). let from = one.2 in inr (one.0, one.1, omega arith, one.3, one.4)) (t.only n old))
+        (subst (λ (l : List ℕ). Has l n) j.ended has);
   }
     where
       more : (n : ℕ) → Has (number_of p ∷ ended_by m1) n → Has (ended_by m2) n
@@ -115,3 +115,10 @@ module _ {V E F : Type 0} {G : Ghosts V E F} where
           let ended = (j.each i q.0 (omega arith) q.1).ended in
           let number : number_of q.0 ≡ n = (s.each i p.0 q.0 p.1 q.1).number ∙ ((f.each i p.0 p.1).number a was ∙ (let e : a.first + (made_by m + i) ≡ n = omega arith in e)) in
           subst (λ (x : ℕ). Has (ended_by end) x) number ended
+
+module _ {V E F : Type 0} where
+  pub still_same : (ps : List (Pass V E F)) → AreStill ps ps
+  still_same ps = record {
+    counted = refl;
+    each = λ i p q one two. let same : p ≡ q = cc (one, two) in subst (λ (x : Pass V E F). IsStill p x) same (record { lock = refl; number = refl; about_is = refl });
+  }

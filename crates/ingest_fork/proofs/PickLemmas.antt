@@ -1,15 +1,14 @@
 -- What is picked of a history's entries, and of an own list.
-use Rattle.std.proofs.Common.{◌≡◌, ◌≢◌, ℕ, zero, suc, ◌+◌, ◌-◌, ◌<◌, ◌≤◌, Bool, true, false, cond, List, [], ◌∷◌, ◌++◌, length, map, drop, sym, refl, ap, ◌∙◌, subst, ⊎_elim, inl, inr, arith, Option, Some, None, slice_get}
-use Rattle.std.specs.List.{filter_map, cons_option, All}
+use Rattle.std.proofs.Common.{◌≡◌, ◌≢◌, ℕ, zero, suc, ◌+◌, ◌-◌, ◌<◌, ◌≤◌, Bool, true, false, cond, List, [], ◌∷◌, drop, sym, refl, ap, ◌∙◌, subst, ⊎_elim, arith, Option, Some, None, slice_get}
+use Rattle.std.specs.List.{filter_map, cons_option}
 use Rattle.std.proofs.lemmas.Bool.{cases_lt}
-use Rattle.std.proofs.lemmas.List.Elements.{All-get_or}
 use Rattle.std.proofs.lemmas.Option.{slice_get_within, get_or_from_slice_get}
 use Rattle.turn_lock.specs.declared.grows.Grows.{Ghosts}
 use Rattle.turn_lock.specs.declared.board.About.{About}
 use Rattle.turn_lock.specs.declared.maker.Maker.{Maker}
 use Rattle.turn_lock.specs.declared.pass.Pass.{Pass}
-use Rattle.turn_lock.specs.History.{Mark, entries_of, is_number, own_from, own, Has, StandsIn}
-use Rattle.turn_lock.specs.Words.{number_of, own_list, seen_by, ended_by, own_by, about_by, IsAllOwned}
+use Rattle.turn_lock.specs.History.{Mark, entries_of, is_number, own_from, Has, StandsIn}
+use Rattle.turn_lock.specs.Words.{seen_by, ended_by, own_by, about_by, IsAllOwned}
 use Rattle.turn_lock.proofs.OwnLemmas.{own_only}
 use Rattle.ingest_fork.specs.Passes.{IsOneOf, Joined}
 use Rattle.ingest_fork.specs.Picked.{IsPast, entries_in, AddsAlone, AddedByOne, NoneAdded}

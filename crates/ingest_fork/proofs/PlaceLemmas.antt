@@ -1,5 +1,5 @@
 -- What stands at a place of a list: joined lists, and a list with one element set.
-use Rattle.std.proofs.Common.{◌≡◌, ◌≢◌, ℕ, zero, suc, ◌+◌, ◌-◌, ◌<◌, ◌≤◌, List, [], ◌∷◌, ◌++◌, length, set, sym, refl, ap, ◌∙◌, subst, arith, Option, Some, None, slice_get, length-append}
+use Rattle.std.proofs.Common.{◌≡◌, ◌≢◌, ℕ, zero, suc, ◌+◌, ◌-◌, ◌<◌, ◌≤◌, List, [], ◌∷◌, ◌++◌, length, set, sym, refl, ap, ◌∙◌, subst, arith, Some, slice_get, length-append}
 use mathlib.Core.List.{IsPrefix}
 use Rattle.turn_lock.proofs.FrontLemmas.{prefix_get, prefix_trans}
 

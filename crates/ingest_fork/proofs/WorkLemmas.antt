@@ -1,5 +1,5 @@
 -- Jobs that one worker does in turn, and jobs that two halves of the workers do.
-use Rattle.std.proofs.Common.{◌≡◌, ◌≢◌, ℕ, zero, suc, ◌+◌, ◌-◌, ◌<◌, ◌≤◌, List, [], ◌∷◌, ◌++◌, length, set, sym, refl, ap, ◌∙◌, subst, ⊎_elim, inl, inr, arith, Option, Some, None, slice_get, length-append, append_assoc, append-nil}
+use Rattle.std.proofs.Common.{◌≡◌, ◌≢◌, ℕ, zero, suc, ◌+◌, ◌-◌, ◌<◌, ◌≤◌, List, [], ◌∷◌, ◌++◌, length, set, sym, refl, ap, ◌∙◌, subst, ⊎_elim, arith, Some, slice_get, length-append, append_assoc, append-nil}
 use Rattle.std.proofs.lemmas.List.{length-set}
 use Rattle.std.proofs.lemmas.Option.{slice_get_within}
 use Rattle.std.proofs.lemmas.Bool.{cases_lt}
@@ -40,17 +40,17 @@ module _ {W J K : Type 0} (went : List J → W → W → Type 0) (did : W → J 
         keepers = length-set ks' i m ∙ t.keepers;
         went_on = goes_on js first w v t.went_on whole;
         done = λ n a b lt job_was keeper_was. ⊎_elim
-        (λ (below : n < i). let r = t.done n a b below job_was keeper_was in let ne : n ≢ i = omega arith in record {
-          place = r.place;
-          worker = r.worker;
-          job = r.job;
-          keeper = r.keeper;
-          worker_is = r.worker_is;
-          job_is = set_off js' i n l ne ∙ r.job_is;
-          keeper_is = set_off ks' i n m ne ∙ r.keeper_is;
-          did_it = r.did_it;
-        })
-        (λ (not_below : i ≤ n). let same : n ≡ i = omega arith in here n a b same job_was keeper_was was_job was_keeper) (cases_lt n i);
+            (λ (below : n < i). let r = t.done n a b below job_was keeper_was in let ne : n ≢ i = omega arith in record {
+              place = r.place;
+              worker = r.worker;
+              job = r.job;
+              keeper = r.keeper;
+              worker_is = r.worker_is;
+              job_is = set_off js' i n l ne ∙ r.job_is;
+              keeper_is = set_off ks' i n m ne ∙ r.keeper_is;
+              did_it = r.did_it;
+            })
+            (λ (not_below : i ≤ n). let same : n ≡ i = omega arith in here n a b same job_was keeper_was was_job was_keeper) (cases_lt n i);
         rest_jobs = λ n le. set_off js' i n l (omega arith) ∙ t.rest_jobs n (omega arith);
         rest_keepers = λ n le. set_off ks' i n m (omega arith) ∙ t.rest_keepers n (omega arith);
       }
@@ -108,10 +108,10 @@ module _ {W J K : Type 0} (did : W → J → K → J → K → Type 0) where
     jobs = length-append js' is' ∙ (ap (λ (n : ℕ). n + length is') front.jobs ∙ (ap (λ (n : ℕ). length js + n) back.jobs ∙ sym (length-append js is)));
     keepers = length-append ks' hs' ∙ (ap (λ (n : ℕ). n + length hs') front.keepers ∙ (ap (λ (n : ℕ). length ks + n) back.keepers ∙ sym (length-append ks hs)));
     each = λ i j k job keeper. ⊎_elim
-    (λ (lt : i < length js). done_left ws vs j k js' is' ks' hs' i (front.each i j k (sym (in_left js is i lt) ∙ job) (sym (in_left ks hs i (omega arith)) ∙ keeper)))
-    (λ (le : length js ≤ i). let at : ℕ = i - length js in let counts = front.jobs in let too = front.keepers in let in_jobs : i ≡ length js' + at = omega arith in let in_keepers : i ≡ length ks' + at = omega arith in
-    done_right ws vs j k js' is' ks' hs' i at in_jobs in_keepers (back.each at j k (sym (in_right js is i le) ∙ job)
-    (ap (λ (n : ℕ). slice_get hs (i - n)) same ∙ (sym (in_right ks hs i (omega arith)) ∙ keeper)))) (cases_lt i (length js));
+        (λ (lt : i < length js). done_left ws vs j k js' is' ks' hs' i (front.each i j k (sym (in_left js is i lt) ∙ job) (sym (in_left ks hs i (omega arith)) ∙ keeper)))
+        (λ (le : length js ≤ i). let at : ℕ = i - length js in let counts = front.jobs in let too = front.keepers in let in_jobs : i ≡ length js' + at = omega arith in let in_keepers : i ≡ length ks' + at = omega arith in
+        done_right ws vs j k js' is' ks' hs' i at in_jobs in_keepers (back.each at j k (sym (in_right js is i le) ∙ job)
+        (ap (λ (n : ℕ). slice_get hs (i - n)) same ∙ (sym (in_right ks hs i (omega arith)) ∙ keeper)))) (cases_lt i (length js));
   }
 
 module _ {W J : Type 0} (ready : W → Type 0) (went : List J → W → W → Type 0) where
@@ -143,9 +143,9 @@ module _ {W J : Type 0} (ready : W → Type 0) (went : List J → W → W → Ty
   went_halves ws vs ws' vs' js is front back = record {
     workers = length-append ws' vs' ∙ (ap (λ (n : ℕ). n + length vs') front.workers ∙ (ap (λ (n : ℕ). length ws + n) back.workers ∙ sym (length-append ws vs)));
     each = λ n w at. ⊎_elim
-    (λ (lt : n < length ws). went_left ws' vs' js is w n (front.each n w (sym (in_left ws vs n lt) ∙ at)))
-    (λ (le : length ws ≤ n). let counts = front.workers in let place : n ≡ length ws' + (n - length ws) = omega arith in
-    went_right ws' vs' js is w n (n - length ws) place (back.each (n - length ws) w (sym (in_right ws vs n le) ∙ at))) (cases_lt n (length ws));
+        (λ (lt : n < length ws). went_left ws' vs' js is w n (front.each n w (sym (in_left ws vs n lt) ∙ at)))
+        (λ (le : length ws ≤ n). let counts = front.workers in let place : n ≡ length ws' + (n - length ws) = omega arith in
+        went_right ws' vs' js is w n (n - length ws) place (back.each (n - length ws) w (sym (in_right ws vs n le) ∙ at))) (cases_lt n (length ws));
   }
 
   -- one worker did all the jobs

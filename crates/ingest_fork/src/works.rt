@@ -35,33 +35,20 @@ pub trait Works<J, K> {
     ghost rests: { (js : List J) (w : Self) → ready w → went js w w };
 
     // What it did goes together.
-    ghost goes_on: {
-        (js : List J) (a b c : Self) → went js a b → went js b c → went js a c
-    };
+    ghost goes_on: { (js : List J) (a b c : Self) → went js a b → went js b c → went js a c };
 
     // Who did nothing but a piece of the jobs did nothing but the jobs.
-    ghost wider: {
-        (xs js ys : List J) (a b : Self) → went js a b → went (xs ++ (js ++ ys)) a b
-    };
+    ghost wider: { (xs js ys : List J) (a b : Self) → went js a b → went (xs ++ (js ++ ys)) a b };
 
     // What it may do it may do later.
-    ghost fits_on: {
-        (js : List J) (a b : Self) (j : J) (k : K) → went js a b → fits a j k → fits b j k
-    };
+    ghost fits_on: { (js : List J) (a b : Self) (j : J) (k : K) → went js a b → fits a j k → fits b j k };
 
     // What it did later it did.
-    ghost did_on: {
-        (js : List J) (a b : Self) (j l : J) (k m : K) → went js a b → did b j k l m → did a j k l m
-    };
+    ghost did_on: { (js : List J) (a b : Self) (j l : J) (k m : K) → went js a b → did b j k l m → did a j k l m };
 }
 
 /// One worker does all the jobs, in their order.
-fn in_turn<J, K, W: Works<J, K>, R: Wait>(
-    rt: &R,
-    worker: &mut W,
-    jobs: &mut [J],
-    keepers: &mut [K],
-)
+fn in_turn<J, K, W: Works<J, K>, R: Wait>(rt: &R, worker: &mut W, jobs: &mut [J], keepers: &mut [K])
     requires same { length jobs.old ≡ length keepers.old }
     requires ready { W.ready worker.old }
     requires fits { AllFit W.fits (worker.old ∷ []) jobs.old keepers.old }

@@ -1,4 +1,4 @@
-use Rattle.std.proofs.Common.{◌∙◌, ◌≡◌, ◌+◌, length, sym, subst, arith}
+use Rattle.std.proofs.Common.{◌∙◌, ◌≡◌, ◌+◌, length, sym, subst}
 use Rattle.turn_lock.proofs.FrontLemmas.{prefix_self}
 use Rattle.ingest_fork.specs.Passes.{Joined}
 use Rattle.ingest_fork.proofs.PassLemmas.{joined_none, joined_more}
@@ -17,13 +17,15 @@ join-requires-clause-ready g c = let at = last_of _ _ _ _ c.loop-pass.invariant.
 
 pub loop-pass-preserved : goal.loop-pass-preserved
 loop-pass-preserved g c = let i = c.loop-pass.invariant in let is = c.in-Some.ensures.items in let at = last_of _ _ _ _ i.0 is in
-    let place : length c.loop-pass.passes.items ≡ length c.pop.new.self.items + 1 = one_longer _ _ _ is in
-    (before_last _ _ _ _ i.0 is, joined_more _ _ _ _ _ _ at (subst (λ n. Joined c.args.maker.now c.loop-pass.maker c.args.passes.items n) place i.1) (record {
-      lock = c.join.ensures.lock;
-      about_is = c.join.ensures.about;
-      made = c.join.ensures.made;
-      own = c.join.ensures.own;
-      ended = c.join.ensures.ended;
-      learned = c.join.ensures.learned;
-      taken = c.join.ensures.taken;
-    }))
+    let place : length c.loop-pass.passes.items ≡ length c.pop.new.self.items + 1 = one_longer _ _ _ is in (
+      before_last _ _ _ _ i.0 is,
+      joined_more _ _ _ _ _ _ at (subst (λ n. Joined c.args.maker.now c.loop-pass.maker c.args.passes.items n) place i.1) (record {
+        lock = c.join.ensures.lock;
+        about_is = c.join.ensures.about;
+        made = c.join.ensures.made;
+        own = c.join.ensures.own;
+        ended = c.join.ensures.ended;
+        learned = c.join.ensures.learned;
+        taken = c.join.ensures.taken;
+      }),
+    )

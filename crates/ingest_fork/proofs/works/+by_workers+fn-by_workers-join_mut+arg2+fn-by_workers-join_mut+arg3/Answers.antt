@@ -1,4 +1,4 @@
-use Rattle.std.proofs.Common.{◌≡◌, ◌<◌, ◌≤◌, length, Some, refl, slice_get, arith, ◌∙◌, sym, rules}
+use Rattle.std.proofs.Common.{◌≡◌, length, arith, ◌∙◌, sym, rules}
 use Rattle.std.proofs.lemmas.Option.{slice_get-get_or}
 use Rattle.ingest_fork.specs.Works.{AllReady, AllFit, AllDone, AllWent}
 use Rattle.ingest_fork.proofs.WorkLemmas.{went_alone, went_halves, done_halves, ready_left, ready_right, fits_left, fits_right}

@@ -1,6 +1,6 @@
-use Rattle.std.proofs.Common.{◌≡◌, ◌<◌, ◌≤◌, length, Some, refl, slice_get, get_or, arith, ◌∙◌, sym}
+use Rattle.std.proofs.Common.{refl, arith, ◌∙◌, sym}
 use Rattle.std.proofs.lemmas.Option.{slice_get-get_or}
-use Rattle.ingest_fork.proofs.WorkLemmas.{in_turn_init, in_turn_step, in_turn_end}
+use Rattle.ingest_fork.proofs.WorkLemmas.{in_turn_step, in_turn_end}
 use Rattle.ingest_fork.proofs.works.in_turn.Goals as goal
 
 pub work-requires-clause-fits : goal.work-requires-clause-fits
