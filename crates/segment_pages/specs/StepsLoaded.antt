@@ -25,7 +25,7 @@ pub record HasLoaded (p : Paged) (bytes text : List ℕ) : Type 0 where
   pub counts : List ℕ
   pub fit : All (λ k. k < 2 ^ 32) counts
   pub spelled : piece (pieces p.pages).counts (4 * page_rows p.pages) (drop p.at bytes) ≡ flat_map four_bytes counts
-  pub text : text ≡ page_bytes p.pages (sum counts) (drop p.at bytes)
+  pub pieces_are : text ≡ page_bytes p.pages (sum counts) (drop p.at bytes)
 
 abbrev pub LoadedTold : Option (List ℕ) → Paged → List ℕ → Type 0
 LoadedTold None p text = Unit {0}
