@@ -1,7 +1,7 @@
 -- Which rows the next page has, where the bytes of a disk hold rows.
-use Rattle.std.proofs.Common.{IfSome, ◌≡◌, ◌≤◌, ◌<◌, ◌+◌, ◌-◌, ◌*◌, ◌^◌, ◌×◌, ℕ, List, [], ◌∷◌, ◌++◌, length, take, drop, map, sum, All, Option, Some, None, refl, sym, ◌∙◌, ap, subst, arith, length-append}
+use Rattle.std.proofs.Common.{IfSome, ◌≡◌, ◌≤◌, ◌<◌, ◌+◌, ◌-◌, ◌*◌, ◌^◌, ℕ, List, [], ◌∷◌, ◌++◌, length, take, drop, map, sum, All, Option, Some, None, refl, sym, ◌∙◌, ap, subst, arith, length-append}
 use Rattle.std.specs.List.{flat_map}
-use Rattle.std.proofs.lemmas.List.{append_assoc, take_at, drop_at, take-append-le, drop-append-le, drop-drop, length-take, length-drop}
+use Rattle.std.proofs.lemmas.List.{append_assoc, take_at, drop_at, take-take, take-append-le, drop-append-le, drop-drop, length-take, length-drop}
 use Rattle.std.proofs.lemmas.List.Concat.{flat_map-cons}
 use Rattle.record_format.specs.Lists.{four_bytes}
 use Rattle.column_store.specs.declared.row.Row.{Row}
@@ -232,3 +232,27 @@ last_none p payload (page ∷ left) done holds = absurd (omega (arith, done, hol
 
 pub none_left : NoneAreLeft
 none_left p bytes rows done holds = holds.are ∙ ap (flat_map (λ (l : List Row). l)) (last_none p.pages holds.payload holds.left done holds.holds)
+
+-- ---- what is left in the buffer
+
+-- the front of a buffer that was written back, and grown since
+pub front_kept : (a r d new : List ℕ) (k most : ℕ) → length a ≡ k → k ≤ most → take (length (take most (a ++ r ++ d))) new ≡ take most (a ++ r ++ d) → take k new ≡ a
+front_kept a r d new k most long le kept =
+    let whole : take k (a ++ r ++ d) ≡ a = take-append-le k (a ++ r) d (omega (arith, long, length-append a r)) ∙ take_at a r k long in
+    let size : k ≤ length (take most (a ++ r ++ d)) = omega (arith, length-take most (a ++ r ++ d), length-append (a ++ r) d, length-append a r, long, le) in
+    sym (take-take k (length (take most (a ++ r ++ d))) new size) ∙ ap (take k) kept ∙ take-take k most (a ++ r ++ d) le ∙ whole
+
+-- two parts at the front of a buffer that was written back
+pub front_joined : (a w r d : List ℕ) (n most : ℕ) → n ≡ length a + length w → n ≤ most → take n (take most (a ++ (w ++ r) ++ d)) ≡ a ++ w
+front_joined a w r d n most is le =
+    let all : a ++ (w ++ r) ++ d ≡ (a ++ w) ++ (r ++ d) =
+    ap (λ (l : List ℕ). l ++ d) (sym (append_assoc a w r)) ∙ append_assoc (a ++ w) r d in
+    take-take n most (a ++ (w ++ r) ++ d) le ∙ ap (take n) all ∙ take_at (a ++ w) (r ++ d) n (length-append a w ∙ sym is)
+
+pub ask_told : (seen : Option (List ℕ)) (at : ℕ) (ask : PageAsk) (p : Pages) (text : List ℕ) → ask ≡ pieces p → FixedTold seen at ask text → FixedTold seen at (pieces p) text
+ask_told seen at ask p text is told = subst (λ a. FixedTold seen at a text) is told
+
+pub words_told : (seen seen1 : Option (List ℕ)) (w : List ℕ) (n m x y : ℕ) → seen1 ≡ seen → n ≡ m → x ≡ y → IfSome seen1 (λ bytes. w ≡ take n (drop x bytes)) → IfSome seen (λ bytes. w ≡ take m (drop y bytes))
+words_told seen seen1 w n m x y same few at told =
+    subst (λ s. IfSome s (λ bytes. w ≡ take m (drop y bytes))) same
+    (subst (λ k. IfSome seen1 (λ bytes. w ≡ take k (drop y bytes))) few (subst (λ k. IfSome seen1 (λ bytes. w ≡ take n (drop k bytes))) at told))

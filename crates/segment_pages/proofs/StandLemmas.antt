@@ -10,6 +10,7 @@ use Rattle.segment_format.specs.Spelled.{HoldsRows}
 use Rattle.segment_format.proofs.LawsLemmas.{read_back}
 use Rattle.segment_format.proofs.SetLemmas.{rise_of, up_sorted_set}
 use Rattle.disk_journal.specs.Record.{Saved, body, spelled}
+use Rattle.disk_journal.proofs.SpellingLemmas.{length-body}
 use Rattle.archive_meaning.specs.declared.entry.SegmentEntry.{SegmentEntry}
 use Rattle.archive_meaning.specs.declared.entry.JournalEntry.{JournalEntry}
 use Rattle.archive_meaning.specs.declared.entry.JournalEntry.TheVariants.{Files, Types, Words, Segment}
@@ -52,7 +53,7 @@ payload_stands bytes h es before after e stood is =
     let end : List ℕ = stood.stands.gate ∷ stood.stands.rest in
     let front : List ℕ = front_of h before in
     let whole : bytes ≡ (front ++ ((1 ∷ body r) ++ others)) ++ end =
-    stood.stands.spells ∙ sym (append_assoc _ _ end) ∙ ap (λ l. front_of h l ++ end) is ∙ ap (λ (l : List ℕ). l ++ end) (front_joined h before (e ∷ after)) in
+    stood.stands.spells ∙ ap (λ l. front_of h l ++ end) is ∙ ap (λ (l : List ℕ). l ++ end) (front_joined h before (e ∷ after)) in
     let cut : bytes ≡ (front ++ (1 ∷ r.kind ∷ to_le_bytes w64 (length r.payload))) ++ (r.payload ++ (others ++ end)) =
     whole ∙ append_assoc front ((1 ∷ body r) ++ others) end ∙ ap (λ (l : List ℕ). front ++ l) (append_assoc (1 ∷ body r) others end) ∙ framed r front (others ++ end) in
     record {
@@ -61,6 +62,17 @@ payload_stands bytes h es before after e stood is =
       spells = cut;
       place = length-append front (1 ∷ r.kind ∷ to_le_bytes w64 (length r.payload));
     }
+
+-- a record ends within the limit of length
+length_within : (bytes : List ℕ) (h : Header) (es before after : List JournalEntry) (e : JournalEntry) → StandsFor bytes h es → es ≡ before ++ e ∷ after
+    → length (front_of h before) + 10 + length (record_of (types_of before) e).payload ≤ h.length_limit
+length_within bytes h es before after e stood is =
+    let r : Saved = record_of (types_of before) e in
+    let others : List ℕ = spelled (records_from (types_of before ++ types_in e) after) in
+    let whole : length (front_of h es) ≡ length (front_of h before) + (length (body r) + 1 + length others) =
+    ap (λ l. length (front_of h l)) is ∙ ap length (front_joined h before (e ∷ after)) ∙ length-append (front_of h before) ((1 ∷ body r) ++ others)
+    ∙ ap (λ (k : ℕ). length (front_of h before) + k) (length-append (1 ∷ body r) others) ∙ omega arith in
+    omega (arith, whole, length-body r, stood.legal.short)
 
 pub segments_held : SegmentsAreHeld
 segments_held bytes h es before after s stood is =
@@ -73,6 +85,6 @@ segments_held bytes h es before after s stood is =
       payload = (record_of types (Segment s)).payload;
       stands = stands;
       sized = refl;
-      small = ?;
+      small = omega (arith, length_within bytes h es before after (Segment s) stood is, stood.header.most_length);
       holds = held.1;
     }
