@@ -5,16 +5,15 @@ use Rattle.std.proofs.lemmas.List.{append_assoc, take_at, drop_at, take-take, ta
 use Rattle.std.proofs.lemmas.List.Concat.{flat_map-cons}
 use Rattle.record_format.specs.Lists.{four_bytes}
 use Rattle.column_store.specs.declared.row.Row.{Row}
-use Rattle.column_store.specs.Row.{variable_count, IsRow}
+use Rattle.column_store.specs.Row.{variable_count}
 use Rattle.segment_format.specs.declared.head.Head.{Head}
 use Rattle.segment_format.specs.declared.ask.PageAsk.{PageAsk}
-use Rattle.segment_format.specs.Layout.{IsHead, fixed_of, head_length}
-use Rattle.segment_format.specs.Pages.{Pages, FitsPage, HasPages, IsPage, after, first_page, page_rows, pieces}
+use Rattle.segment_format.specs.Pages.{Pages, FitsPage, HasPages, IsPage, page_rows, pieces}
 use Rattle.segment_format.specs.Laws.{HoldsPages, page_bytes, piece}
 use Rattle.segment_format.proofs.LawsLemmas.{rows_once}
 use Rattle.segment_format.proofs.PagesLawLemmas.{pages_are_rows}
-use Rattle.segment_format.proofs.PagesLemmas.{counts_fit, counts_there, page_length, sums_same}
-use Rattle.segment_pages.specs.Paged.{AreNext, AreNextTold, HoldsLeft, HoldsNoneTold, HoldsSegment, Paged, StandsAt, columns_size, paged, paged_after, paged_first, payload_size}
+use Rattle.segment_format.proofs.PagesLemmas.{counts_fit, counts_there, sums_same}
+use Rattle.segment_pages.specs.Paged.{AreNext, AreNextTold, HoldsLeft, HoldsNoneTold, HoldsSegment, Paged, StandsAt, paged_after, paged_first, payload_size}
 use Rattle.segment_pages.specs.Laws.{NoneAreLeft}
 use Rattle.segment_pages.specs.StepsLoaded.{EndsBefore, FixedTold, HasLoaded, LoadedTold, fixed_bytes}
 

@@ -1,9 +1,9 @@
 -- What reading leaves, one read after the other.
-use Rattle.std.proofs.Common.{◌≡◌, ◌≤◌, ◌+◌, ◌-◌, ◌*◌, ◌<◌, ℕ, List, [], ◌∷◌, ◌++◌, take, drop, IfSome, Option, Some, None, option_map, All, refl, sym, ◌∙◌, ap, subst, arith}
+use Rattle.std.proofs.Common.{◌≡◌, ◌≤◌, ◌+◌, ◌*◌, ◌<◌, ℕ, List, [], ◌∷◌, ◌++◌, take, drop, IfSome, Option, Some, None, option_map, refl, sym, ◌∙◌, ap, subst, arith}
 use Rattle.std.specs.Prelude.{Result, Ok, Err, OnOk}
 use Rattle.std.proofs.lemmas.List.{append-nil, append_assoc, drop-drop}
 use Rattle.std.proofs.lemmas.List.Elements.{All-nil, All-cons, All-append, All-weaker}
-use Rattle.log_seams.specs.Disk.{DiskState, Rests, with_range}
+use Rattle.log_seams.specs.Disk.{DiskState, with_range}
 use Rattle.log_seams.proofs.MomentLemmas.{rests_on}
 use Rattle.segment_format.specs.declared.ask.PageAsk.{PageAsk}
 use Rattle.segment_format.specs.Pages.{pieces}

@@ -1,5 +1,5 @@
 -- The rows of a journal's segments stand in its bytes.
-use Rattle.std.proofs.Common.{◌≡◌, ◌≤◌, ◌<◌, ◌+◌, ◌*◌, ◌^◌, ℕ, List, [], ◌∷◌, ◌++◌, length, refl, sym, ◌∙◌, ap, subst, arith, length-append}
+use Rattle.std.proofs.Common.{◌≡◌, ◌≤◌, ◌+◌, ℕ, List, [], ◌∷◌, ◌++◌, length, refl, sym, ◌∙◌, ap, subst, arith, length-append}
 use Rattle.std.specs.Int.{w64, to_le_bytes}
 use Rattle.std.specs.List.{flat_map}
 use Rattle.std.proofs.lemmas.List.{append-nil, append_assoc}
@@ -13,12 +13,12 @@ use Rattle.disk_journal.specs.Record.{Saved, body, spelled}
 use Rattle.disk_journal.proofs.SpellingLemmas.{length-body}
 use Rattle.archive_meaning.specs.declared.entry.SegmentEntry.{SegmentEntry}
 use Rattle.archive_meaning.specs.declared.entry.JournalEntry.{JournalEntry}
-use Rattle.archive_meaning.specs.declared.entry.JournalEntry.TheVariants.{Files, Types, Words, Segment}
+use Rattle.archive_meaning.specs.declared.entry.JournalEntry.TheVariants.{Segment}
 use Rattle.archive_meaning.specs.Spelled.{front_of, record_of, records_from, types_in, types_of, words_named}
 use Rattle.archive_meaning.specs.Stands.{StandsFor}
 use Rattle.archive_meaning.specs.StepsForms.{HasForm, HaveForms}
 use Rattle.archive_meaning.proofs.UniqueLemmas.{front_joined, legal_forms}
-use Rattle.segment_pages.specs.Paged.{HoldsSegment, StandsAt}
+use Rattle.segment_pages.specs.Paged.{StandsAt}
 use Rattle.segment_pages.specs.Laws.{SegmentsAreHeld}
 
 -- each entry has its form behind the log types of those before it

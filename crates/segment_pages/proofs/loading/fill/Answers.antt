@@ -1,5 +1,5 @@
 use Rattle.std.proofs.Common.{length, rules}
-use Rattle.segment_pages.proofs.ReadLemmas.{none_within, one_within}
+use Rattle.segment_pages.proofs.ReadLemmas.{one_within}
 use Rattle.segment_pages.proofs.loading.fill.Goals as goal
 
 pub returns-then-count-buffer-clause-reads : goal.returns-then-count-buffer-clause-reads

@@ -1,4 +1,4 @@
-use Rattle.std.proofs.Common.{arith, rules, length}
+use Rattle.std.proofs.Common.{arith}
 use Rattle.segment_pages.proofs.ReadLemmas.{fixed_told, reads_on, reads_wider}
 use Rattle.segment_pages.proofs.loading.fill_fixed.Goals as goal
 

@@ -1,10 +1,10 @@
-use Rattle.std.proofs.Common.{◌≡◌, ◌≤◌, ◌+◌, ◌*◌, ℕ, List, length, drop, take, arith, rules, sym, ap, subst, ◌++◌, ◌∙◌, refl}
+use Rattle.std.proofs.Common.{◌≡◌, ◌≤◌, ◌+◌, ◌*◌, ℕ, List, length, drop, take, arith, rules, ap, subst, ◌++◌, ◌∙◌, refl}
 use Rattle.segment_pages.specs.StepsLoaded.{EndsBefore}
 use Rattle.std.proofs.lemmas.Result.{err_from_is_err_and}
 use Rattle.segment_format.specs.declared.ask.PageAsk.{PageAsk}
 use Rattle.segment_format.specs.Pages.{page_rows}
 use Rattle.segment_pages.specs.Paged.{paged, columns_size, payload_size}
-use Rattle.segment_pages.proofs.PageLemmas.{Goes, ask_told, counts_told, front_joined, front_kept, loaded_told, short_told, words_told}
+use Rattle.segment_pages.proofs.PageLemmas.{ask_told, counts_told, front_joined, front_kept, loaded_told, short_told, words_told}
 use Rattle.segment_pages.proofs.ReadLemmas.{columns_fixed, columns_words, reads_on, reads_wider}
 use Rattle.segment_pages.proofs.loading.load.Goals as goal
 

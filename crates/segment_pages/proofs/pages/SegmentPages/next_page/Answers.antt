@@ -1,8 +1,8 @@
-use Rattle.std.proofs.Common.{◌≡◌, List, ℕ, rules, sym, ap, subst, ◌∙◌, take}
+use Rattle.std.proofs.Common.{◌≡◌, rules, sym, ap, subst, ◌∙◌, take}
 use Rattle.std.proofs.lemmas.Result.{err_from_is_err_and}
 use Rattle.segment_format.specs.Pages.{IsPage}
 use Rattle.segment_pages.specs.Paged.{AreNextTold, HoldsNoneTold, paged}
-use Rattle.segment_pages.proofs.PageLemmas.{Goes, malformed_told, next_told}
+use Rattle.segment_pages.proofs.PageLemmas.{malformed_told, next_told}
 use Rattle.segment_pages.proofs.ReadLemmas.{format_damaged}
 use Rattle.segment_pages.proofs.pages.SegmentPages.next_page.Goals as goal
 

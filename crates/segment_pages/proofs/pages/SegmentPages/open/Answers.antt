@@ -1,5 +1,4 @@
-use Rattle.std.proofs.Common.{rules, sym}
-use Rattle.segment_pages.specs.Paged.{HoldsSegment}
+use Rattle.std.proofs.Common.{rules}
 use Rattle.segment_pages.proofs.PageLemmas.{first_holds, none_pages}
 use Rattle.segment_pages.proofs.pages.SegmentPages.open.Goals as goal
 
