@@ -1,0 +1,4 @@
+pub mod Reading
+pub mod StepsReading
+pub mod Versions
+pub mod VersionLaws
