@@ -1,0 +1,4 @@
+pub mod HeadLemmas
+pub mod GroupLemmas
+pub mod LineLemmas
+pub mod AnswerLemmas

@@ -1,7 +1,8 @@
 -- What the messages of a log are in an archive of each version.
-use Rattle.std.specs.Prelude.{◌≡◌, ◌⊎◌, ◌+◌, ◌<◌, ℕ, Bool, true, false, List, [], ◌∷◌, ◌++◌, ◌==◌, if◌then◌else◌}
+use Rattle.std.specs.Prelude.{◌≡◌, ◌⊎◌, ◌+◌, ◌<◌, ℕ, Bool, List, [], ◌∷◌, ◌++◌, ◌==◌, if◌then◌else◌}
 use Rattle.log_messages.specs.Groups.{GroupMessages}
 use Rattle.time_patterns.specs.Stamps.{IsStamped}
+use Rattle.line_cut.specs.Joining.{IsFirstOfGroups}
 use Rattle.line_cut.specs.declared.cutter.TheConstants.{MAX_LINE_LEN}
 
 -- from version 2 on a line with a stamp is the head of a message that may have more lines
@@ -21,10 +22,7 @@ AreWholeLines front bytes =
 -- The text is the first message of the bytes before, and the others are those of the bytes behind it; without its last
 -- newline it is the only one.
 abbrev pub IsFirstOf : ℕ → Bool → List ℕ → List ℕ → List ℕ → Type 0
-IsFirstOf version true text before after =
-    (messages : List (List ℕ)) (ended : Bool) → MessagesOf version after messages ended
-    → MessagesOf version before (text ∷ messages) ended
-IsFirstOf version false text before after = MessagesOf version before (text ∷ []) false
+IsFirstOf version ended text before after = IsFirstOfGroups (IsHead version) MAX_LINE_LEN ended text before after
 
 -- and it stays the first where only some whole lines of the bytes behind it are there
 abbrev pub IsFirstOfLines : ℕ → List ℕ → List ℕ → Type 0
@@ -33,6 +31,6 @@ IsFirstOfLines version text after =
     → MessagesOf version front messages ended → MessagesOf version (text ++ 10 ∷ front) (text ∷ messages) ended
 
 -- how many lines a message has
-unfoldable pub line_count : List ℕ → ℕ
+abbrev pub line_count : List ℕ → ℕ
 line_count [] = 1
 line_count (b ∷ bytes) = (if b == 10 then 1 else 0) + line_count bytes
