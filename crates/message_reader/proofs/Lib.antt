@@ -1,4 +1,6 @@
-pub mod HeadLemmas
-pub mod GroupLemmas
-pub mod LineLemmas
 pub mod AnswerLemmas
+pub mod GroupLemmas
+pub mod HeadLemmas
+pub mod LineLemmas
+pub mod StampedLemmas
+pub mod VersionLawLemmas

@@ -3,8 +3,10 @@
 #![tactic(auto)]
 
 mod heads;
+mod laws;
 mod reader;
 
+pub use laws::{one_answer, version_one_has_lines};
 pub use line_cut::{Cut, CutterRefused, MAX_LINE_LEN, Mark, Progress};
 pub use reader::{MAX_MESSAGES, MessageReader};
 
