@@ -3,4 +3,5 @@ pub mod GroupLemmas
 pub mod HeadLemmas
 pub mod LineLemmas
 pub mod StampedLemmas
+pub mod TakenLemmas
 pub mod VersionLawLemmas

@@ -6,7 +6,7 @@ mod heads;
 mod laws;
 mod reader;
 
-pub use laws::{one_answer, version_one_has_lines};
+pub use laws::{messages_follow, one_answer, version_one_has_lines};
 pub use line_cut::{Cut, CutterRefused, MAX_LINE_LEN, Mark, Progress};
 pub use reader::{MAX_MESSAGES, MessageReader};
 
