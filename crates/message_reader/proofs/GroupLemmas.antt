@@ -125,10 +125,13 @@ lines_are : (version : ℕ) (first : List ℕ) (later : List (List ℕ)) → 1 <
 lines_are version first [] above all is fits = record { short = fits; lines = inl (subst IsLine (sym (append-nil first)) (All-head IsLine first [] all)) }
 lines_are version first (line ∷ later) above all is fits = record {
   short = fits;
-  lines = inr (above, record {
-    stamped = (head_text version first (line ∷ later) (is [] line later refl).1).1;
-    alone = none_stamped version first (line ∷ later) (All-head IsLine first (line ∷ later) all) (All-tail IsLine first (line ∷ later) all) (λ before l behind e stamped. (is before l behind e).0 (above, stamped));
-  });
+  lines = inr (
+    above,
+    record {
+      stamped = (head_text version first (line ∷ later) (is [] line later refl).1).1;
+      alone = none_stamped version first (line ∷ later) (All-head IsLine first (line ∷ later) all) (All-tail IsLine first (line ∷ later) all) (λ before l behind e stamped. (is before l behind e).0 (above, stamped));
+    },
+  );
 }
 
 pub message_of_group : (version : ℕ) (group : Group) (text : List ℕ) → 1 < version → text_of group ≡ text → All IsLine (lines_of group) → IsGroup (IsHead version) MAX_LINE_LEN group → length text ≤ MAX_LINE_LEN → IsMessage version text

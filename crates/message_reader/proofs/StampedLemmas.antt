@@ -194,11 +194,16 @@ fits_in_or_not version line k = elim (both (first_pattern version ≤ k) (k ≤ 
 
 pub stamped_or_not : (version : ℕ) (line : List ℕ) → IsStamped version line ⊎ (IsStamped version line → ⊥)
 stamped_or_not version line = elim (least_below (FitsIn version line) (fits_in_or_not version line) 27) as (λ z. IsStamped version line ⊎ (IsStamped version line → ⊥)) [
-  | inl l ↦ inl (l.0, l.2.1.0, l.2.1.1.0, record {
-    pattern = l.2.0;
-    fits = l.2.1.1.1;
-    least = λ j m n is less fits. l.3 j less (is, (m, (n, fits)));
-  })
+  | inl l ↦ inl (
+    l.0,
+    l.2.1.0,
+    l.2.1.1.0,
+    record {
+      pattern = l.2.0;
+      fits = l.2.1.1.1;
+      least = λ j m n is less fits. l.3 j less (is, (m, (n, fits)));
+    },
+  )
   | inr none ↦ inr (λ s. none s.0 (omega (arith, (of_version version s.0 s.3.pattern).1)) (s.3.pattern, (s.1, (s.2, s.3.fits))))
 ]
 

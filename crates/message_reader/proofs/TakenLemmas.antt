@@ -158,8 +158,12 @@ short_group version bytes pending behind taken torn t =
       splits = ap (λ b. Some b) (parts ∙ sym (append_assoc whole torn.part behind));
       are_lines = joined_whole (taken ++ torn.text ∷ []) torn.part;
       no_newline = torn.no_newline;
-      messages = inr (torn.text, subst (λ b. MessagesOf version b (taken ++ torn.text ∷ []) true) is
-          (t.of_lines (torn.text ++ 10 ∷ []) (torn.text ∷ []) true (inr (torn.text, torn.part ++ behind, refl, after)) torn.is_message), torn.stamped);
+      messages = inr (
+        torn.text,
+        subst (λ b. MessagesOf version b (taken ++ torn.text ∷ []) true) is
+            (t.of_lines (torn.text ++ 10 ∷ []) (torn.text ∷ []) true (inr (torn.text, torn.part ++ behind, refl, after)) torn.is_message),
+        torn.stamped,
+      );
     }
 
 read_short : (version : ℕ) (bytes : Option (List ℕ)) (pending : List ℕ) (behind : Option (List ℕ)) (taken : List (List ℕ)) → (IsLine pending × LastIsNoHead version taken) ⊎ IsTornMessage version pending → ToldFirst version bytes taken (bytes_left pending behind) → IfSome bytes (λ b. IsReadShort version b taken behind)

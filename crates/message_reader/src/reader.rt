@@ -46,11 +46,7 @@ impl<S: Source> MessageReader<S> {
     /// at most `MAX_MESSAGES` of them, of lines within `MAX_LINE_LEN` bytes.
     ///
     /// It takes all the memory that it needs. Where there is none the source is handed back.
-    pub fn new(
-        alloc: Global,
-        version: u32,
-        source: S,
-    ) -> Result<MessageReader<S>, CutterRefused<S>>
+    pub fn new(alloc: Global, version: u32, source: S) -> Result<MessageReader<S>, CutterRefused<S>>
         requires first { 1 ≤ version }
         requires last { version ≤ 3 }
         ensures fresh { IfOk result (IsNewReader version source) }
@@ -62,13 +58,7 @@ impl<S: Source> MessageReader<S> {
             let stamps = Stamps {
                 micro: version == 3,
             };
-            Cuts::Groups(Joiner::new(
-                alloc,
-                source,
-                stamps,
-                MAX_LINE_LEN,
-                MAX_MESSAGES,
-            )?)
+            Cuts::Groups(Joiner::new(alloc, source, stamps, MAX_LINE_LEN, MAX_MESSAGES)?)
         };
         Ok(MessageReader { cuts })
     }
