@@ -1,5 +1,5 @@
 -- What the messages that a reader gave are of all the bytes of its source.
-use Rattle.std.specs.Prelude.{◌≡◌, ◌≢◌, ◌⊎◌, ◌+◌, ℕ, Bool, true, false, List, [], ◌∷◌, ◌++◌, length, Option, None, Some, IfSome, option_map}
+use Rattle.std.specs.Prelude.{◌≡◌, ◌⊎◌, ◌+◌, ℕ, Bool, true, false, List, [], ◌∷◌, ◌++◌, length, Option, None, Some, IfSome, option_map}
 use Rattle.log_messages.specs.Messages.{IsLine, joined}
 use Rattle.line_cut.specs.Length.{BeginsTooLong}
 use Rattle.line_cut.specs.declared.cut.Cut.{Cut}
