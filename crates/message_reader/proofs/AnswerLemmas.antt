@@ -1,19 +1,19 @@
 -- What a cutter and a joiner answer, as answers of a reader.
-use Rattle.std.proofs.Common.{◌≡◌, ◌≢◌, ◌⊎◌, inl, inr, ℕ, ◌+◌, ◌<◌, ◌≤◌, Bool, true, false, List, [], ◌∷◌, ◌++◌, length, Option, None, Some, Result, Ok, Err, refl, sym, ◌∙◌, ap, subst, arith}
+use Rattle.std.proofs.Common.{◌≡◌, ◌≢◌, ◌⊎◌, inl, inr, ℕ, ◌+◌, ◌<◌, ◌≤◌, Bool, true, false, List, [], ◌∷◌, length, Option, None, Some, Result, Ok, Err, refl, sym, ◌∙◌, ap, subst, arith}
 use Rattle.std.specs.Prelude.{IfSome, IfOk, IfErr, IsErrOf, is_some, if◌then◌else◌}
 use Rattle.std.proofs.lemmas.List.{length-append}
 use Rattle.log_messages.specs.Messages.{IsLine}
-use Rattle.log_messages.specs.Groups.{FirstLine, Group, IsFollowed}
-use Rattle.line_cut.specs.Cutting.{CutterState, Gave, HasCause, IsCutShort, RefusedBy}
+use Rattle.log_messages.specs.Groups.{FirstLine, IsFollowed}
+use Rattle.line_cut.specs.Cutting.{CutterState, Gave, HasCause, RefusedBy}
 use Rattle.line_cut.specs.Length.{BeginsTooLong}
-use Rattle.line_cut.specs.Joining.{GaveMessage, HasJoinCause, IsFirstOfGroups, IsJoinCutShort, IsOneGroup, IsOneTooMany, IsTornGroup, JoinerState, RefusedToJoin}
+use Rattle.line_cut.specs.Joining.{GaveMessage, HasJoinCause, IsFirstOfGroups, IsOneGroup, IsTornGroup, JoinerState, RefusedToJoin}
 use Rattle.line_cut.specs.declared.cut.Cut.{Cut}
 use Rattle.line_cut.specs.declared.cut.Cut.TheVariants.{ReadFault, LineTooLong, TooManyLines, OutOfMemory}
 use Rattle.line_cut.specs.declared.cut.Mark.{Mark}
 use Rattle.line_cut.specs.declared.cut.Progress.TheVariants.{Open}
 use Rattle.line_cut.specs.declared.cutter.TheConstants.{MAX_LINE_LEN}
-use Rattle.message_reader.specs.Versions.{IsFirstOf, IsFirstOfLines, IsHead, line_count}
-use Rattle.message_reader.specs.Reading.{HasReadCause, IsOneMore, IsTornMessage, ReadMessage, ReaderState, RefusedToRead, left_of}
+use Rattle.message_reader.specs.Versions.{IsFirstOfLines, IsHead}
+use Rattle.message_reader.specs.Reading.{HasReadCause, IsTornMessage, ReadMessage, ReaderState, RefusedToRead, left_of}
 use Rattle.message_reader.specs.StepsReading.{group_reader, HasLimits, line_reader, reader_of, version_of}
 use Rattle.message_reader.specs.declared.reader.TheConstants.{MAX_MESSAGES}
 use Rattle.message_reader.specs.declared.heads.Stamps.{Stamps}

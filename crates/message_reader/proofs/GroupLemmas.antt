@@ -1,18 +1,17 @@
 -- A group of lines as a message of its version.
-use Rattle.std.proofs.Common.{◌≡◌, ◌≢◌, ◌⊎◌, inl, inr, ℕ, zero, suc, ◌+◌, ◌<◌, ◌≤◌, Bool, true, false, List, [], ◌∷◌, ◌++◌, All, length, refl, sym, ◌∙◌, ap, subst, arith}
-use Rattle.std.specs.Prelude.{◌==◌, if◌then◌else◌, nat_le}
+use Rattle.std.proofs.Common.{◌≡◌, ◌≢◌, ◌⊎◌, inl, inr, ℕ, zero, suc, ◌+◌, ◌<◌, ◌≤◌, List, [], ◌∷◌, ◌++◌, All, length, refl, sym, ◌∙◌, ap, subst, arith}
+use Rattle.std.specs.Prelude.{if◌then◌else◌, nat_le}
 use Rattle.std.specs.List.{flat_map}
 use Rattle.std.proofs.lemmas.Bool.{ne_eqb}
-use Rattle.std.proofs.lemmas.List.{append-nil, append_assoc}
-use Rattle.std.proofs.lemmas.List.Elements.{All-nil, All-cons, All-head, All-tail}
+use Rattle.std.proofs.lemmas.List.{append-nil}
+use Rattle.std.proofs.lemmas.List.Elements.{All-head, All-tail}
 use Rattle.log_messages.specs.Messages.{IsLine}
-use Rattle.log_messages.specs.Groups.{Group, lines_of, text_of, last_line, GoesOn, IsGroup, IsFollowed, GroupMessages}
-use Rattle.log_messages.proofs.GroupLemmas.{IsGroup-alone}
+use Rattle.log_messages.specs.Groups.{Group, lines_of, text_of, IsGroup, IsFollowed}
 use Rattle.log_messages.proofs.GroupLawLemmas.{followed_by_lines, group_messages_first}
 use Rattle.time_patterns.specs.Stamps.{IsStamped}
 use Rattle.time_patterns.proofs.VersionLemmas.{first_line_tells}
-use Rattle.row_codec.specs.Messages.{EndsLine, HasLaterStamp, IsGroup as IsStampedGroup, IsMessage}
-use Rattle.line_cut.specs.Joining.{IsOneGroup, IsTornGroup}
+use Rattle.row_codec.specs.Messages.{EndsLine, HasLaterStamp, IsMessage}
+use Rattle.line_cut.specs.Joining.{IsTornGroup}
 use Rattle.line_cut.specs.declared.cutter.TheConstants.{MAX_LINE_LEN}
 use Rattle.line_cut.proofs.GroupLemmas.{first_none, torn_message}
 use Rattle.message_reader.specs.Versions.{AreWholeLines, IsFirstOfLines, IsHead, MessagesOf, line_count}

@@ -1,5 +1,5 @@
 -- Which lines begin a message, by what was read of them.
-use Rattle.std.proofs.Common.{◌≡◌, ℕ, zero, suc, ◌<◌, ◌≤◌, List, refl, arith}
+use Rattle.std.proofs.Common.{◌≡◌, ℕ, zero, suc, ◌<◌, ◌≤◌, List, arith}
 use Rattle.std.specs.Prelude.{Bool, true, false, IfSome, IfNone, IsTrue, Option, Some, None, is_some, nat_le, ◌↔◌, if◌then◌else◌}
 use Rattle.time_patterns.specs.declared.stamps.Stamp.{Stamp}
 use Rattle.time_patterns.specs.Stamps.{HasNoStamp, IsStampOf, IsStamped}

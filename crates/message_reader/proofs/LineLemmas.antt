@@ -1,10 +1,10 @@
 -- A line as a message of version 1.
-use Rattle.std.proofs.Common.{◌≡◌, ◌≢◌, inl, inr, ℕ, ◌<◌, Bool, true, false, List, [], ◌∷◌, ◌++◌, All, Option, None, Some, refl, sym, subst, ap, arith}
+use Rattle.std.proofs.Common.{◌≡◌, ◌≢◌, inl, inr, ℕ, Bool, true, false, List, [], ◌∷◌, ◌++◌, All, Option, None, Some, refl, sym, subst, arith}
 use Rattle.std.specs.Prelude.{IfSome}
 use Rattle.std.proofs.lemmas.List.{append-nil}
 use Rattle.std.proofs.lemmas.List.Elements.{All-nil, All-cons}
 use Rattle.log_messages.specs.Messages.{IsLine}
-use Rattle.log_messages.specs.Groups.{Group, lines_of, IsGroup, IsFollowed}
+use Rattle.log_messages.specs.Groups.{Group, lines_of, IsFollowed}
 use Rattle.log_messages.proofs.GroupLemmas.{IsGroup-alone}
 use Rattle.log_messages.proofs.GroupLawLemmas.{group_messages_first, group_messages_open}
 use Rattle.line_cut.specs.Cutting.{Parts}

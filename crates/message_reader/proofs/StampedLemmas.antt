@@ -1,13 +1,13 @@
 -- Whether a line has a stamp: of each pattern and moment there is one text at most, and the moments are finitely many.
-use Rattle.std.proofs.Common.{◌≡◌, ◌≢◌, ◌⊎◌, inl, inr, ℕ, zero, suc, ◌+◌, ◌%◌, ◌<◌, ◌≤◌, Bool, true, false, List, [], ◌∷◌, ◌++◌, length, ℤ, pos, negsuc, neg_ℤ, ◌≤ℤ◌, ◌<ℤ◌, unsigned_abs, refl, sym, subst, arith}
-use Rattle.std.specs.Prelude.{◌↔◌, IsFalse, T, nat_le, if◌then◌else◌}
+use Rattle.std.proofs.Common.{◌≡◌, ◌⊎◌, inl, inr, ℕ, zero, suc, ◌%◌, ◌<◌, ◌≤◌, Bool, true, false, List, [], ◌∷◌, ◌++◌, length, ℤ, pos, negsuc, neg_ℤ, ◌≤ℤ◌, ◌<ℤ◌, unsigned_abs, refl, sym, subst, arith}
+use Rattle.std.specs.Prelude.{IsFalse, T, nat_le, if◌then◌else◌}
 use Rattle.std.specs.Int.Signed.{le_z, lt_z}
 use Rattle.std.proofs.lemmas.Bool.{cases_lt}
 use Rattle.std.proofs.lemmas.Bool.Decides.{eqb_tells}
 use Rattle.jiff_core.proofs.SignedLemmas.{signed_arith}
-use Rattle.token_rules.specs.Tokens.{IsDelimiter, is_token_byte}
+use Rattle.token_rules.specs.Tokens.{is_token_byte}
 use Rattle.time_patterns.specs.Laws.{PrintsFrom, end_micro, end_milli, first_micro, first_milli}
-use Rattle.time_patterns.specs.Stamps.{EndsStamp, Fits, IsPatternOf, IsPrintable, IsStamped, Prints, first_pattern, last_pattern}
+use Rattle.time_patterns.specs.Stamps.{EndsStamp, Fits, IsPatternOf, IsPrintable, IsStamped, first_pattern, last_pattern}
 use Rattle.time_patterns.proofs.BoundLemmas.{printed_moments}
 use Rattle.time_patterns.proofs.LawLemmas.{one_text}
 use Rattle.message_reader.specs.Versions.{IsHead}

@@ -1,20 +1,18 @@
 -- What the messages that were given are of all the bytes.
-use Rattle.std.proofs.Common.{◌≡◌, ◌≢◌, ◌⊎◌, inl, inr, ℕ, ◌+◌, ◌<◌, ◌≤◌, Bool, true, false, List, [], ◌∷◌, ◌++◌, length, Option, None, Some, refl, sym, ◌∙◌, ap, subst, arith}
+use Rattle.std.proofs.Common.{◌≡◌, ◌⊎◌, inl, inr, ℕ, ◌+◌, ◌<◌, ◌≤◌, Bool, true, false, List, [], ◌∷◌, ◌++◌, length, Option, None, Some, refl, sym, ◌∙◌, ap, subst, arith}
 use Rattle.std.specs.Prelude.{IfSome}
 use Rattle.std.proofs.lemmas.List.{append-nil, append_assoc, length-append}
 use Rattle.log_messages.specs.Messages.{IsLine, joined}
 use Rattle.log_messages.proofs.StepLemmas.{joined-append}
 use Rattle.line_cut.specs.Cutting.{Parts}
 use Rattle.line_cut.specs.Length.{BeginsTooLong, bytes_left}
-use Rattle.line_cut.specs.declared.cut.Cut.{Cut}
 use Rattle.line_cut.specs.declared.cut.Cut.TheVariants.{ReadFault, LineTooLong, TooManyLines, OutOfMemory}
-use Rattle.line_cut.specs.declared.cut.Progress.TheVariants.{Open}
 use Rattle.line_cut.specs.declared.cutter.TheConstants.{MAX_LINE_LEN}
 use Rattle.message_reader.specs.declared.reader.TheConstants.{MAX_MESSAGES}
 use Rattle.line_cut.proofs.ExclusionLemmas.{stays_long}
-use Rattle.message_reader.specs.Reading.{IsCutOff, IsTornMessage, ReadMessage, ReadToEnd, ReaderStays, ReaderState, RefusedToRead, left_of}
+use Rattle.message_reader.specs.Reading.{IsTornMessage, ReaderState, left_of}
 use Rattle.message_reader.specs.Versions.{AreWholeLines, IsFirstOf, IsFirstOfLines, IsHead, MessagesOf, line_count}
-use Rattle.message_reader.specs.Taken.{AreFirst, GivenBefore, HasRead, IsReadShort, LastIsNoHead, ReadingBeforeRefusal, ReadingBegins, ReadingEnds, ReadingGoesOn, ReadingIsFront, ToldFirst, lines_count}
+use Rattle.message_reader.specs.Taken.{AreFirst, HasRead, IsReadShort, LastIsNoHead, ReadingBeforeRefusal, ReadingBegins, ReadingEnds, ReadingGoesOn, ReadingIsFront, ToldFirst, lines_count}
 use Rattle.message_reader.proofs.VersionLawLemmas.{messages_agree, messages_exist, messages_none}
 
 -- ---- whole lines

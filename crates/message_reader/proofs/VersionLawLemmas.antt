@@ -1,11 +1,10 @@
 -- The laws of the messages of a version.
 use Rattle.std.proofs.Common.{◌≡◌, inl, inr, ℕ, Bool, List, [], ◌∷◌, ◌++◌, All, map, refl, sym, ◌∙◌, ap, subst}
-use Rattle.std.specs.Prelude.{◌↔◌}
 use Rattle.std.specs.List.{flat_map}
 use Rattle.std.proofs.lemmas.List.{append-nil}
 use Rattle.std.proofs.lemmas.List.Elements.{All-nil, All-cons}
 use Rattle.log_messages.specs.Messages.{Messages}
-use Rattle.log_messages.specs.Groups.{AreApart, AreGroups, Group, GroupMessages, IsGroup, lines_of, text_of}
+use Rattle.log_messages.specs.Groups.{Group, IsGroup, lines_of, text_of}
 use Rattle.log_messages.proofs.GroupLemmas.{IsGroup-alone}
 use Rattle.log_messages.proofs.GroupLawLemmas.{group_messages_agree, group_messages_empty, group_messages_exist, group_messages_join}
 use Rattle.line_cut.specs.declared.cutter.TheConstants.{MAX_LINE_LEN}

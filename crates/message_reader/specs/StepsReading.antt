@@ -1,5 +1,5 @@
 -- A reader by what is inside of it.
-use Rattle.std.specs.Prelude.{◌≡◌, ◌≢◌, ℕ, Bool, List, Option, false, is_some, if◌then◌else◌}
+use Rattle.std.specs.Prelude.{◌≡◌, ◌≢◌, ℕ, false, is_some, if◌then◌else◌}
 use Rattle.line_cut.specs.Cutting.{CutterState}
 use Rattle.line_cut.specs.Joining.{JoinerState}
 use Rattle.line_cut.specs.declared.cut.Cut.TheVariants.{OutOfMemory}

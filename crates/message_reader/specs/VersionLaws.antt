@@ -1,10 +1,8 @@
 -- What follows from the definition of the messages of a version.
-use Rattle.std.specs.Prelude.{◌≡◌, ◌≢◌, ◌⊎◌, ◌↔◌, ◌<◌, ℕ, Bool, true, List, [], ◌++◌}
-use Rattle.log_messages.specs.Messages.{Messages, joined}
+use Rattle.std.specs.Prelude.{◌≡◌, ◌↔◌, ℕ, Bool, true, List, []}
+use Rattle.log_messages.specs.Messages.{Messages}
 use Rattle.log_messages.specs.Laws.{file_text}
-use Rattle.row_codec.specs.Messages.{IsMessage}
-use Rattle.std.specs.Prelude.{All}
-use Rattle.message_reader.specs.Versions.{IsHead, MessagesOf}
+use Rattle.message_reader.specs.Versions.{MessagesOf}
 
 -- in version 1 the messages are the lines
 abbrev pub LinesInVersionOne : Type 0

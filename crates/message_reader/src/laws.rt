@@ -19,8 +19,8 @@ pub fn version_one_has_lines()
     ensures { LinesInVersionOne }
 {}
 
-/// The messages that a reader gave are the first ones of the bytes of its source, and at the end all
-/// of them. What was given before each refusal is told by its cause.
+/// The messages that a reader gave are the first ones of the bytes of its source, and at the end
+/// all of them. What was given before each refusal is told by its cause.
 pub fn messages_follow<S: Source>()
     ensures begins { ReadingBegins S.left }
     ensures goes_on { ReadingGoesOn S.left S.name S.faults }

@@ -1,5 +1,5 @@
-//! The messages of a log as archives have them: its lines in version 1, and from version 2 on a line
-//! with a time stamp together with the lines behind it that have none.
+//! The messages of a log as archives have them: its lines in version 1, and from version 2 on a
+//! line with a time stamp together with the lines behind it that have none.
 #![tactic(auto)]
 
 mod heads;

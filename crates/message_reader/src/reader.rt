@@ -67,14 +67,15 @@ impl<S: Source> MessageReader<S> {
     ///
     /// `Ok(None)` is the end of the log; it comes after the last message, and from then on. A line
     /// that is too long is refused behind the messages before it, with its number among all lines,
-    /// and so is one message more than `MAX_MESSAGES`: in version 1 before the length of its line is
-    /// known, in the others once its first line was taken whole. Where a read failed, the messages
-    /// given are those of the lines that ended in the bytes taken, in the versions above 1 without
-    /// the last one where it has a stamp, since more lines might belong to it. After an error the
-    /// same error comes from then on, and nothing is read.
+    /// and so is one message more than `MAX_MESSAGES`: in version 1 before the length of its line
+    /// is known, in the others once its first line was taken whole. Where a read failed, the
+    /// messages given are those of the lines that ended in the bytes taken, in the versions above
+    /// 1 without the last one where it has a stamp, since more lines might belong to it. After an
+    /// error the same error comes from then on, and nothing is read.
     pub fn advance(&mut self) -> Result<Option<Mark>, Cut>
         // by the answer
-        ensures message { IfOk result (λ o. IfSome o (λ m. ReadMessage S.left m.ended self.old self.new)) }
+        ensures message { IfOk result (λ o. IfSome o (λ m.
+            ReadMessage S.left m.ended self.old self.new)) }
         ensures at_end { IfOk result (λ o. IfNone o (ReadToEnd S.left self.old self.new)) }
         ensures again { ReadsAgain self.old.progress self.old self.new result }
 
