@@ -1,5 +1,5 @@
 use Rattle.std.proofs.Common.{refl, rules}
-use Rattle.clp_commands.proofs.AnswerLemmas.{Answers-create, Answers-scan, Answers-show, Answers-usage}
+use Rattle.clp_commands.proofs.CommandLemmas.{Answers-check, Answers-create, Answers-files, Answers-scan, Answers-show, Answers-usage}
 use Rattle.clp_commands.proofs.top.run.Goals as goal
 
 pub returns-in-Show-clause-answers : goal.returns-in-Show-clause-answers
@@ -15,6 +15,4 @@ returns-in-Create-clause-answers g c =
     (record { answer = c.create-outcome.result; ends = rw (← c.refusal_of_create.ensures) (record { status_is = c.answer.ensures.status; said = c.answer.ensures.said }); leaves = c.create-outcome.ensures.leaves; nothing = refl; sink = refl })
 
 pub returns-in_default-clause-answers : goal.returns-in_default-clause-answers
-returns-in_default-clause-answers g c =
-    let refused = c.in_default.ensures in
-    Answers-usage _ _ _ _ _ refused.no_show refused.no_scan refused.no_create (search rules)
+returns-in_default-clause-answers g c = Answers-usage _ _ _ _ _ c.in_default.ensures.none (search rules)
