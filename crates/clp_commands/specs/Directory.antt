@@ -5,7 +5,7 @@ use Rattle.log_seams.specs.Disk.{DiskState}
 use Rattle.archive_open.specs.declared.files.FileEntry.{FileEntry}
 use Rattle.archive_open.specs.Shown.{RefusedAt, files_of}
 use Rattle.clp_commands.specs.Around.{Around}
-use Rattle.clp_commands.specs.Printing.{Took}
+use Rattle.sink_pieces.specs.Output.{Took}
 use Rattle.clp_commands.specs.Reading.{EndsReading, OverJournal}
 use Rattle.clp_commands.specs.declared.outcome.ReadRefusal.{ReadRefusal}
 use Rattle.clp_commands.specs.declared.outcome.ReadRefusal.TheVariants.{Damaged}
