@@ -1,2 +1,3 @@
-pub mod OrderLemmas
 pub mod LinesLemmas
+pub mod OrderLemmas
+pub mod PageLemmas

@@ -16,13 +16,14 @@ use crate::segment::{PageRoom, write_segment};
 use archive_open::{Archive, KeepsTexts, SegmentPlace};
 use column_store::Columns;
 use log_seams::{Disk, Sink};
+use row_codec::Names;
 use std::alloc::Global;
 use std::marker::Brand;
 use std::sync::ledger::{Blank, Ledger};
 use step_count::Steps;
 
 /// Writes the messages of those segments that are of the file of a number.
-fn write_segments<N: KeepsTexts, D: Disk, K: Sink, L: Ledger>(
+fn write_segments<N: Names, D: Disk, K: Sink, L: Ledger>(
     alloc: Global,
     number: u32,
     places: &[SegmentPlace],
@@ -37,16 +38,16 @@ fn write_segments<N: KeepsTexts, D: Disk, K: Sink, L: Ledger>(
 
     // by the answer
     ensures ok { OnOk result ((bytes : List ℕ) (messages : List (List ℕ)) → (D.state disk.old).seen ≡ Some bytes
-        → HoldAll (N.kept names.now) (filter (is_of number) places.now) bytes messages
+        → HoldAll (N.types names.now) (N.words names.now) (filter (is_of number) places.now) bytes messages
         → Adds (K.written out.old) (K.written out.new) lines.old lines.new messages) }
     ensures err { OnErr result ((bytes : List ℕ) (messages : List (List ℕ)) → (D.state disk.old).seen ≡ Some bytes
-        → HoldAll (N.kept names.now) (filter (is_of number) places.now) bytes messages
+        → HoldAll (N.types names.now) (N.words names.now) (filter (is_of number) places.now) bytes messages
         → AddsFront (K.written out.old) (K.written out.new) lines.old messages) }
 
     // causes
     ensures damaged { (at : ℕ) → IsErrOf result (DecodeRefusal.Damaged at) → (bytes : List ℕ)
         (messages : List (List ℕ)) → (D.state disk.old).seen ≡ Some bytes
-        → ¬ HoldAll (N.kept names.now) (filter (is_of number) places.now) bytes messages }
+        → ¬ HoldAll (N.types names.now) (N.words names.now) (filter (is_of number) places.now) bytes messages }
     ensures disk { CountsOf DecodeRefusal.DiskFault
         (D.state disk.old).faults (D.state disk.new).faults result }
     ensures sink { CountsOf DecodeRefusal.SinkFault (K.faults out.old) (K.faults out.new) result }

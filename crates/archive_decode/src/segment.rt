@@ -2,16 +2,15 @@
 ghost use Rattle.std.specs.Prelude.{◌≡◌, ℕ, List, Some, IsErrOf, OnErr, OnOk};
 ghost use Rattle.log_seams.specs.Disk.{Rests};
 ghost use Rattle.log_seams.specs.Outside.{CountsOf};
-ghost use Rattle.archive_open.specs.Kept.{Kept};
 ghost use Rattle.archive_decode.specs.StepsHeld.{AreMeant, HoldsMessages};
 ghost use Rattle.archive_decode.specs.StepsLines.{Adds, AddsFront};
 
 use crate::lines::Lines;
 use crate::refusal::{DecodeRefusal, of_page};
-use archive_open::{KeepsTexts, SegmentPlace};
+use archive_open::SegmentPlace;
 use column_store::Columns;
 use log_seams::{Disk, Sink};
-use row_codec::row_fits;
+use row_codec::{Names, row_fits};
 use segment_pages::SegmentPages;
 use std::alloc::Global;
 use std::mem;
@@ -26,7 +25,7 @@ pub(crate) struct PageRoom {
 }
 
 /// Writes the messages of a page, in a segment whose record's gate is at a place.
-fn write_page<N: KeepsTexts, K: Sink, L: Ledger>(
+fn write_page<N: Names, K: Sink, L: Ledger>(
     at: u64,
     columns: &Columns,
     names: &N,
@@ -35,15 +34,15 @@ fn write_page<N: KeepsTexts, K: Sink, L: Ledger>(
     steps: &mut Steps<L>,
 ) -> Result<(), DecodeRefusal>
     // by the answer
-    ensures ok { OnOk result ((messages : List (List ℕ)) → AreMeant (N.kept names.now) columns.now.rows messages
+    ensures ok { OnOk result ((messages : List (List ℕ)) → AreMeant (N.types names.now) (N.words names.now) columns.now.rows messages
         → Adds (K.written out.old) (K.written out.new) lines.old lines.new messages) }
     ensures err { OnErr result ((messages : List (List ℕ))
-        → AreMeant (N.kept names.now) columns.now.rows messages
+        → AreMeant (N.types names.now) (N.words names.now) columns.now.rows messages
         → AddsFront (K.written out.old) (K.written out.new) lines.old messages) }
 
     // causes
     ensures damaged { (place : ℕ) → IsErrOf result (DecodeRefusal.Damaged place) → (messages : List (List ℕ))
-        → ¬ AreMeant (N.kept names.now) columns.now.rows messages }
+        → ¬ AreMeant (N.types names.now) (N.words names.now) columns.now.rows messages }
     ensures disk { ¬ IsErrOf result DecodeRefusal.DiskFault }
     ensures sink { CountsOf DecodeRefusal.SinkFault (K.faults out.old) (K.faults out.new) result }
 {
@@ -58,7 +57,7 @@ fn write_page<N: KeepsTexts, K: Sink, L: Ledger>(
 }
 
 /// Writes the messages of a segment.
-pub(crate) fn write_segment<N: KeepsTexts, D: Disk, K: Sink, L: Ledger>(
+pub(crate) fn write_segment<N: Names, D: Disk, K: Sink, L: Ledger>(
     alloc: Global,
     place: &SegmentPlace,
     names: &N,
@@ -73,16 +72,16 @@ pub(crate) fn write_segment<N: KeepsTexts, D: Disk, K: Sink, L: Ledger>(
 
     // by the answer
     ensures ok { OnOk result ((bytes : List ℕ) (messages : List (List ℕ)) → (D.state disk.old).seen ≡ Some bytes
-        → HoldsMessages (N.kept names.now) place.now bytes messages
+        → HoldsMessages (N.types names.now) (N.words names.now) place.now bytes messages
         → Adds (K.written out.old) (K.written out.new) lines.old lines.new messages) }
     ensures err { OnErr result ((bytes : List ℕ) (messages : List (List ℕ)) → (D.state disk.old).seen ≡ Some bytes
-        → HoldsMessages (N.kept names.now) place.now bytes messages
+        → HoldsMessages (N.types names.now) (N.words names.now) place.now bytes messages
         → AddsFront (K.written out.old) (K.written out.new) lines.old messages) }
 
     // causes
     ensures damaged { (at : ℕ) → IsErrOf result (DecodeRefusal.Damaged at) → (bytes : List ℕ)
         (messages : List (List ℕ)) → (D.state disk.old).seen ≡ Some bytes
-        → ¬ HoldsMessages (N.kept names.now) place.now bytes messages }
+        → ¬ HoldsMessages (N.types names.now) (N.words names.now) place.now bytes messages }
     ensures disk { CountsOf DecodeRefusal.DiskFault
         (D.state disk.old).faults (D.state disk.new).faults result }
     ensures sink { CountsOf DecodeRefusal.SinkFault (K.faults out.old) (K.faults out.new) result }

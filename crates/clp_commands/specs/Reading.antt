@@ -1,5 +1,5 @@
 -- How a command ends that only reads an archive.
-use Rattle.std.specs.Prelude.{ℕ, List, Option, Some, None, option_map, Result}
+use Rattle.std.specs.Prelude.{ℕ, List, [], Option, Some, None, option_map, Result}
 use Rattle.log_seams.specs.Disk.{DiskState, KeepsBytes}
 use Rattle.log_seams.specs.Outside.{CountsOf}
 use Rattle.record_format.specs.declared.header.Header.{Header}
