@@ -1,0 +1,3 @@
+pub mod StepsLines
+pub mod StepsHeld
+pub mod Refused

@@ -1,0 +1,6 @@
+//! x
+#![tactic(auto)]
+
+pub mod lines;
+pub mod segment;
+pub mod refusal;
