@@ -1,3 +1,0 @@
-pub mod LinesLemmas
-pub mod OrderLemmas
-pub mod PageLemmas
