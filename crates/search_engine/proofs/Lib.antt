@@ -1,0 +1,2 @@
+pub mod SofarLemmas
+pub mod RowLemmas

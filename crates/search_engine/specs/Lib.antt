@@ -1,0 +1,6 @@
+pub mod Scan
+pub mod Sofar
+pub mod Held
+pub mod Refused
+pub mod Judged
+pub mod StepsPast

@@ -1,0 +1,9 @@
+//! Searching an archive: the lines of all messages that a pattern matches, in order.
+#![tactic(auto)]
+
+mod printing;
+mod query;
+mod refusal;
+mod tally;
+
+pub use refusal::SearchRefusal;
