@@ -1,2 +1,4 @@
 pub mod SofarLemmas
 pub mod RowLemmas
+pub mod OutputLemmas
+pub mod PageLemmas

@@ -14,6 +14,12 @@ pub record GrewByFront (old new : Option (List ℕ)) (text : List ℕ) : Type 0 
   pub splits : text ≡ front ++ rest
   pub grew : Grew old new front
 
+-- the sink took a front of what was gathered, and the rest is still gathered
+pub record Moves (old new : Option (List ℕ)) (gathered rest : List ℕ) : Type 0 where
+  pub front : List ℕ
+  pub splits : gathered ≡ front ++ rest
+  pub grew : Grew old new front
+
 -- what the sink has taken, what is gathered for it, the counts, and the ticks of expanded messages
 pub record Sofar : Type 0 where
   pub written : Option (List ℕ)

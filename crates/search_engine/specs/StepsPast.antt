@@ -1,7 +1,8 @@
 -- How far the loops of a search have come.
 use Rattle.std.specs.Prelude.{◌≡◌, ◌+◌, ℕ, List, ◌++◌, length, drop, Option, Some, None}
 use Rattle.column_store.specs.declared.row.Row.{Row}
-use Rattle.segment_pages.specs.Paged.{HoldsLeft, Paged}
+use Rattle.log_seams.specs.Disk.{DiskState}
+use Rattle.segment_pages.specs.Paged.{HoldsLeft, Paged, ReadsColumns}
 use Rattle.search_engine.specs.Held.{AreRowsOf, Named, OfLeft}
 use Rattle.search_engine.specs.Scan.{Asked, numbered}
 use Rattle.search_engine.specs.Sofar.{Passes, Sofar}
@@ -14,3 +15,27 @@ pub record PastRows (n : Named) (q : Asked) (name : List ℕ) (number : ℕ) (ro
   pub count : length gone ≡ place
   pub are : AreRowsOf n (drop place rows) left
   pub passes : (w : Option (List ℕ)) → Passes n.version q (numbered name number gone) (a w) (b w)
+
+-- past so many messages of a segment, with the later pages left, where the bytes of the disk are these
+pub record Past (bytes : List ℕ) (n : Named) (q : Asked) (name : List ℕ) (number : ℕ) (now : Paged) (count : ℕ) (messages : List (List ℕ)) (a b : Sofar) : Type 0 where
+  pub gone : List (List ℕ)
+  pub left : List (List ℕ)
+  pub rows : List Row
+  pub all : messages ≡ gone ++ left
+  pub counted : length gone ≡ count
+  pub holds : HoldsLeft now bytes rows
+  pub are : AreRowsOf n rows left
+  pub passes : Passes n.version q (numbered name number gone) a b
+
+abbrev pub PastTold : Option (List ℕ) → Paged → Named → Asked → List ℕ → ℕ → Paged → ℕ → Sofar → Sofar → Type 0
+PastTold None start n q name number now count a b = Unit {0}
+PastTold (Some bytes) start n q name number now count a b =
+    (rows : List Row) (messages : List (List ℕ)) → HoldsLeft start bytes rows → AreRowsOf n rows messages → Past bytes n q name number now count messages a b
+
+-- what a search of pages has done so far
+pub record PagesPast (seen : Option (List ℕ)) (old new : DiskState) (start now : Paged) (n : Named) (q : Asked) (name : List ℕ) (number at : ℕ) (a b : Sofar) : Type 0 where
+  pub reads : ReadsColumns start old new
+  pub faults : new.faults ≡ old.faults
+  pub place : at ≡ number + now.pages.row
+  pub same : (now.at ≡ start.at) × (now.pages.start ≡ start.pages.start) × (now.pages.rows ≡ start.pages.rows) × (now.pages.variables ≡ start.pages.variables)
+  pub past : PastTold seen start n q name number now now.pages.row a b

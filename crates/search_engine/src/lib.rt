@@ -1,6 +1,8 @@
 //! Searching an archive: the lines of all messages that a pattern matches, in order.
 #![tactic(auto)]
 
+mod output;
+mod paging;
 mod printing;
 mod query;
 mod refusal;
