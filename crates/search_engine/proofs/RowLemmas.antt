@@ -79,7 +79,7 @@ found version q p w g h a b t u is_found is_tried more matched expanded ticks = 
 in_range : (version : ℕ) (range : Range) (row : Row) (types words : List (List ℕ)) (message : List ℕ) → IsCanonical version row types words message → Holds range row.pattern row.moment → IsInRange version range message
 in_range version range row types words message is holds = (row.pattern, row.moment, length is.means.stamp, is.stamp, holds)
 
-of_range : (version : ℕ) (range : Range) (row : Row) (types words : List (List ℕ)) (message : List ℕ) → IsCanonical version row types words message → IsInRange version range message → Holds range row.pattern row.moment
+pub of_range : (version : ℕ) (range : Range) (row : Row) (types words : List (List ℕ)) (message : List ℕ) → IsCanonical version row types words message → IsInRange version range message → Holds range row.pattern row.moment
 of_range version range row types words message is inside =
     let same = one_stamp_of version message row.pattern inside.0 row.moment inside.1 (length is.means.stamp) inside.2 is.stamp inside.3 in
     subst (λ k. Holds range k row.moment) (sym same.0) (subst (λ m. Holds range inside.0 m) (sym same.1) inside.4)

@@ -44,7 +44,7 @@ HaveMessages bytes n files (p ∷ ps) all =
     (file : FileEntry) × (messages : List (List ℕ)) × (others : List Placed) × (slice_get files p.head.file ≡ Some file) × HasMessages bytes n p messages
     × HaveMessages bytes n files ps others × (all ≡ numbered file.name (p.head.first + 1) messages ++ others)
 
--- P holds of all messages of segments, where the bytes are told and hold them, and no word has two numbers
-abbrev pub OfSegments : Option (List ℕ) → Named → List FileEntry → List SegmentPlace → (List Placed → Type 0) → Type 0
+-- P holds of the bytes and of all messages of segments, where the bytes are told and hold them, and no word has two numbers
+abbrev pub OfSegments : Option (List ℕ) → Named → List FileEntry → List SegmentPlace → (List ℕ → List Placed → Type 0) → Type 0
 OfSegments None n files ps P = Unit {0}
-OfSegments (Some bytes) n files ps P = (all : List Placed) → AreDistinct n.words → HaveMessages bytes n files ps all → P all
+OfSegments (Some bytes) n files ps P = (all : List Placed) → AreDistinct n.words → HaveMessages bytes n files ps all → P bytes all

@@ -3,4 +3,5 @@ pub mod Sofar
 pub mod Held
 pub mod Refused
 pub mod Judged
+pub mod Opened
 pub mod StepsPast

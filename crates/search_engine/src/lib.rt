@@ -6,6 +6,7 @@ mod paging;
 mod printing;
 mod query;
 mod refusal;
+mod segments;
 mod tally;
 
 pub use refusal::SearchRefusal;
