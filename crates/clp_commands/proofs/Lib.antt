@@ -1,5 +1,6 @@
 pub mod AnswerLemmas
 pub mod CommandLemmas
+pub mod CompleteLemmas
 pub mod CutterLemmas
 pub mod DirectoryLemmas
 pub mod GoingLemmas
