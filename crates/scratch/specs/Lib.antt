@@ -1,3 +1,0 @@
-pub mod StepsLines
-pub mod StepsHeld
-pub mod Refused

@@ -1,6 +1,0 @@
-//! x
-#![tactic(auto)]
-
-pub mod lines;
-pub mod segment;
-pub mod refusal;
