@@ -42,10 +42,10 @@ pub record StandsAt (at : ℕ) (text bytes : List ℕ) : Type 0 where
 
 -- At a place in the bytes stands a payload of so many bytes, whose segment has this head and these rows.
 pub record HoldsSegment (at size : ℕ) (head : Head) (bytes : List ℕ) (rows : List Row) : Type 0 where
-  pub head : IsHead head
+  pub is_head : IsHead head
   pub payload : List ℕ
   pub stands : StandsAt at payload bytes
-  pub length : length payload ≡ size
+  pub sized : length payload ≡ size
   pub small : at + size < 2 ^ 64
   pub holds : HoldsRows head payload rows
 
@@ -53,7 +53,7 @@ pub record HoldsSegment (at size : ℕ) (head : Head) (bytes : List ℕ) (rows :
 pub record HoldsLeft (p : Paged) (bytes : List ℕ) (rows : List Row) : Type 0 where
   pub payload : List ℕ
   pub stands : StandsAt p.at payload bytes
-  pub length : length payload ≡ payload_size p.pages
+  pub sized : length payload ≡ payload_size p.pages
   pub left : List (List Row)
   pub holds : HoldsPages p.pages payload left
   pub are : rows ≡ flat_map (λ page. page) left

@@ -1,11 +1,11 @@
 -- What the buffer of a page holds before it is taken as columns.
-use Rattle.std.specs.Prelude.{◌≡◌, ◌<◌, ◌+◌, ◌*◌, ◌^◌, ℕ, List, ◌++◌, length, drop, sum, Option, Some, None, All}
+use Rattle.std.specs.Prelude.{◌≡◌, ◌<◌, ◌*◌, ◌^◌, ℕ, List, ◌++◌, length, drop, sum, Option, Some, None, All}
 use Rattle.std.specs.List.{flat_map}
 use Rattle.record_format.specs.Lists.{four_bytes}
 use Rattle.segment_format.specs.declared.ask.PageAsk.{PageAsk}
-use Rattle.segment_format.specs.Pages.{Pages, page_rows, pieces}
+use Rattle.segment_format.specs.Pages.{page_rows, pieces}
 use Rattle.segment_format.specs.Laws.{page_bytes, piece}
-use Rattle.segment_pages.specs.Paged.{Paged, payload_size}
+use Rattle.segment_pages.specs.Paged.{Paged}
 
 -- the four pieces of a page whose length the count of rows tells
 abbrev pub fixed_bytes : PageAsk → List ℕ → List ℕ
@@ -25,7 +25,7 @@ pub record HasLoaded (p : Paged) (bytes text : List ℕ) : Type 0 where
   pub counts : List ℕ
   pub fit : All (λ k. k < 2 ^ 32) counts
   pub spelled : piece (pieces p.pages).counts (4 * page_rows p.pages) (drop p.at bytes) ≡ flat_map four_bytes counts
-  pub text : text ≡ page_bytes p.pages (sum counts) (drop p.at bytes)
+  pub pieces_are : text ≡ page_bytes p.pages (sum counts) (drop p.at bytes)
 
 abbrev pub LoadedTold : Option (List ℕ) → Paged → List ℕ → Type 0
 LoadedTold None p text = Unit {0}

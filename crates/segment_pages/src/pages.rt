@@ -1,26 +1,19 @@
 //! A segment's pages on a disk.
-ghost use Rattle.std.specs.Prelude.{◌≡◌, ◌≤◌, ◌<◌, ◌+◌, ℕ, List, length, take, IfOk, OnErr, IfSome, IsNone, IsErrOf, IsTrue, IsFalse};
+ghost use Rattle.std.specs.Prelude.{◌≡◌, ◌≤◌, ◌<◌, ◌+◌, ℕ, List, length, IfOk, OnErr, IfSome, IsNone, IsErrOf, IsTrue, IsFalse};
 ghost use Rattle.log_seams.specs.Outside.{CountsOf};
 ghost use Rattle.column_store.specs.declared.row.Row.{Row};
-ghost use Rattle.segment_format.specs.Pages.{page_rows, pieces};
+ghost use Rattle.segment_format.specs.Pages.{page_rows};
 ghost use Rattle.segment_pages.specs.Paged.{AreNextTold, HoldsLeft, HoldsNoneTold, HoldsSegment, ReadsColumns, paged_after, paged_first};
-ghost use Rattle.segment_pages.specs.StepsLoaded.{LoadedTold};
 
 use crate::heads::is_head;
-use crate::loading::{fill, fill_fixed, grow};
+use crate::loading::load;
 use crate::refusal::PageRefusal;
 use column_store::Columns;
 use log_seams::Disk;
-use segment_format::{Head, PageAsk, PageReader, open_pages};
+use segment_format::{Head, PageReader, open_pages};
 use std::marker::Model;
 use std::sync::ledger::Ledger;
 use step_count::Steps;
-
-/// How many bytes a row takes in the columns, without its words.
-const ROW_LEN: usize = 17;
-
-/// How many bytes a row takes in the columns before its count.
-const COUNTS_AT: usize = 13;
 
 /// Reads the rows of a segment from a disk, a page at a time. It holds where it stands, and no rows.
 #[derive(Debug, Drop)]
@@ -39,7 +32,7 @@ impl Model for SegmentPages {
 
     ghost view = { λ p. paged p.at p.pages };
 
-    ghost invariant = { λ p. p.at + payload_size p.pages < 2 ^ 64 };
+    ghost invariant = { λ p. (p.at + payload_size p.pages < 2 ^ 64) × (p.pages.variables < 2 ^ 32) };
 }
 
 impl SegmentPages {
@@ -113,50 +106,9 @@ impl SegmentPages {
         let Some(ask) = self.pages.ask() else {
             unreachable!();
         };
-        let size = self.load(disk, &ask, buffer)?;
+        let size = load(disk, self.at, &self.pages, &ask, buffer)?;
         let (bytes, _) = buffer.as_slice().split_at(size);
         let page = self.pages.fill_page(columns, bytes)?;
         Ok(page)
-    }
-
-    /// Reads the pieces of the next page into the front of a buffer, and answers how many bytes they
-    /// have.
-    fn load<D: Disk>(
-        &self,
-        disk: &mut D,
-        ask: &PageAsk,
-        buffer: &mut Vec<u8>,
-    ) -> Result<usize, PageRefusal>
-        requires left { self.now.pages.row < self.now.pages.rows }
-        requires ask { ask.now ≡ pieces self.now.pages }
-
-        // what stays
-        ensures reads { ReadsColumns self.now (D.state disk.old) (D.state disk.new) }
-
-        // by the answer
-        ensures size { IfOk result (λ n. n ≤ length buffer.new.items) }
-        ensures loaded { IfOk result (λ n.
-            LoadedTold (D.state disk.old).seen self.now (take n buffer.new.items)) }
-
-        // causes
-        ensures damaged { IsErrOf result PageRefusal.Damaged
-            → HoldsNoneTold (D.state disk.old).seen self.now }
-        ensures counts { CountsOf PageRefusal.DiskFault
-            (D.state disk.old).faults (D.state disk.new).faults result }
-    {
-        let rows = ask.rows as usize;
-        let fixed = ROW_LEN * rows;
-        grow(buffer, fixed)?;
-        let (bytes, _) = buffer.as_mut_slice().split_at_mut(fixed);
-        fill_fixed(disk, self.at, ask, bytes)?;
-        let Some(more) = self.pages.variable_bytes(&bytes[COUNTS_AT * rows..]) else {
-            return Err(PageRefusal::Damaged);
-        };
-        let more = more as usize;
-        grow(buffer, fixed + more)?;
-        let (_, behind) = buffer.as_mut_slice().split_at_mut(fixed);
-        let (words, _) = behind.split_at_mut(more);
-        fill(disk, self.at + ask.variables, words)?;
-        Ok(fixed + more)
     }
 }
