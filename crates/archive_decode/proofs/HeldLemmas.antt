@@ -74,6 +74,10 @@ types_more es e = types_joined es (e ∷ []) ∙ ap (λ l. types_of es ++ l) (ap
 front_more : (h : Header) (es : List JournalEntry) (e : JournalEntry) → length (front_of h (es ++ e ∷ [])) ≡ length (front_of h es) + 10 + length (record_of (types_of es) e).payload
 front_more h es e = omega (arith, end_more h es e)
 
+-- a segment whose gate is at a place, behind entries with these log types
+abbrev place_in : ℕ → List (List ℕ) → SegmentEntry → SegmentPlace
+place_in at types s = record { at = at; payload = at + 10; length = length (record_of types (Segment s)).payload; head = head_in types s }
+
 -- ---- the messages
 
 rows_meant : (version : ℕ) (types words more_types more_words : List (List ℕ)) (rows : List Row) (messages : List (List ℕ)) → IsPrefix types more_types → IsPrefix words more_words → AreCanonical version rows types words messages → AreMeant more_types more_words rows messages
@@ -107,9 +111,9 @@ module _ (bytes : List ℕ) (h : Header) (all : List JournalEntry) (stood : Stan
       next : ℕ
       next = at + 10 + length (record_of types (Segment s)).payload
 
-      here : HoldsMessages more.types more.words (record { at = at; payload = at + 10; length = length (record_of types (Segment s)).payload; head = head_in types s }) bytes messages
-      here = subst (λ t. HoldsMessages more.types more.words (record { at = at; payload = at + 10; length = length (record_of t (Segment s)).payload; head = head_in t s }) bytes messages) (sym ts)
-          (subst (λ n. HoldsMessages more.types more.words (record { at = n; payload = n + 10; length = length (record_of (types_of before) (Segment s)).payload; head = head_in (types_of before) s }) bytes messages) (sym place)
+      here : HoldsMessages more.types more.words (place_in at types s) bytes messages
+      here = subst (λ t. HoldsMessages more.types more.words (place_in at t s) bytes messages) (sym ts)
+          (subst (λ n. HoldsMessages more.types more.words (place_in n (types_of before) s) bytes messages) (sym place)
           (record {
             rows = s.rows;
             holds = held bytes h all before after s stood is;
@@ -120,25 +124,25 @@ module _ (bytes : List ℕ) (h : Header) (all : List JournalEntry) (stood : Stan
       by_test true t = record {
         messages = messages ++ later.messages;
         are = later.are ∙ (ap (λ l. l ++ later.messages) (grown ∙ ap (λ b. messages_of number old.pieces ++ (if b then messages else [])) t) ∙ append_assoc (messages_of number old.pieces) messages later.messages);
-        hold = subst (λ b. HoldAll more.types more.words (cond b (_ ∷ places next (types ++ []) after) (places next (types ++ []) after)) bytes (messages ++ later.messages)) (sym t) (messages, later.messages, refl, here, later.hold);
+        hold = subst (λ b. HoldAll more.types more.words (cond b (place_in at types s ∷ places next (types ++ []) after) (places next (types ++ []) after)) bytes (messages ++ later.messages)) (sym t) (messages, later.messages, refl, here, later.hold);
       }
       by_test false t = record {
         messages = later.messages;
         are = later.are ∙ ap (λ l. l ++ later.messages) (grown ∙ (ap (λ b. messages_of number old.pieces ++ (if b then messages else [])) t ∙ append-nil (messages_of number old.pieces)));
-        hold = subst (λ b. HoldAll more.types more.words (cond b (_ ∷ places next (types ++ []) after) (places next (types ++ []) after)) bytes later.messages) (sym t) later.hold;
+        hold = subst (λ b. HoldAll more.types more.words (cond b (place_in at types s ∷ places next (types ++ []) after) (places next (types ++ []) after)) bytes later.messages) (sym t) later.hold;
       }
 
   held_from : (before es : List JournalEntry) (old more : Held) (at : ℕ) (types : List (List ℕ)) → all ≡ before ++ es → Run h old es more → at ≡ length (front_of h before) → types ≡ types_of before → AddsHeld at types es old more
   held_from before [] old more at types is run place ts = record { messages = []; are = ap (λ m. messages_of number m.pieces) run ∙ sym (append-nil (messages_of number old.pieces)); hold = refl }
   held_from before (e ∷ es) old more at types is run place ts =
-      by_entry e is run.1 (held_from (before ++ e ∷ []) es run.0 more (at + 10 + length (record_of types e).payload) (types ++ types_in e) (is ∙ sym (append_assoc before (e ∷ []) es)) run.2
+      by_entry e is run.1 (run_front h old more (e ∷ es) run) (run_words h old more (e ∷ es) run) (held_from (before ++ e ∷ []) es run.0 more (at + 10 + length (record_of types e).payload) (types ++ types_in e) (is ∙ sym (append_assoc before (e ∷ []) es)) run.2
       (ap₂ (λ n t. n + 10 + length (record_of t e).payload) place ts ∙ sym (front_more h before e)) (ap (λ t. t ++ types_in e) ts ∙ sym (types_more before e)))
     where
-      by_entry : (e : JournalEntry) → all ≡ before ++ e ∷ es → Accepts h old e run.0 → AddsHeld (at + 10 + length (record_of types e).payload) (types ++ types_in e) es run.0 more → AddsHeld at types (e ∷ es) old more
-      by_entry (Files names) is a later = record { messages = later.messages; are = later.are ∙ ap (λ m. messages_of number m.pieces ++ later.messages) a; hold = later.hold }
-      by_entry (Types first texts) is a later = record { messages = later.messages; are = later.are ∙ ap (λ m. messages_of number m.pieces ++ later.messages) a.1; hold = later.hold }
-      by_entry (Words first texts) is a later = record { messages = later.messages; are = later.are ∙ ap (λ m. messages_of number m.pieces ++ later.messages) a.1; hold = later.hold }
-      by_entry (Segment s) is a later = segment_held before es s a.0 old run.0 more at types is a.1 a.2 (run_front h old more (Segment s ∷ es) run) (run_words h old more (Segment s ∷ es) run) place ts later
+      by_entry : (e : JournalEntry) → all ≡ before ++ e ∷ es → Accepts h old e run.0 → IsPrefix old.types more.types → IsPrefix old.words more.words → AddsHeld (at + 10 + length (record_of types e).payload) (types ++ types_in e) es run.0 more → AddsHeld at types (e ∷ es) old more
+      by_entry (Files names) is a f g later = record { messages = later.messages; are = later.are ∙ ap (λ m. messages_of number m.pieces ++ later.messages) a; hold = later.hold }
+      by_entry (Types first texts) is a f g later = record { messages = later.messages; are = later.are ∙ ap (λ m. messages_of number m.pieces ++ later.messages) a.1; hold = later.hold }
+      by_entry (Words first texts) is a f g later = record { messages = later.messages; are = later.are ∙ ap (λ m. messages_of number m.pieces ++ later.messages) a.1; hold = later.hold }
+      by_entry (Segment s) is a f g later = segment_held before es s a.0 old run.0 more at types is a.1 a.2 f g place ts later
 
 -- ---- the order
 
@@ -147,6 +151,9 @@ record IsOrdered (number floor : ℕ) (whole : Bool) (places : List SegmentPlace
   pub least : AreAtLeast order_of (number * 2 ^ 64 + floor) places
   pub rise : Rise order_of places
   pub none : whole ≡ true → places ≡ []
+
+ordered_kept : (number : ℕ) (a b : List Piece) (places : List SegmentPlace) → a ≡ b → IsOrdered number (length (messages_of number a)) (is_whole number a) places → IsOrdered number (length (messages_of number b)) (is_whole number b) places
+ordered_kept number a b places e is = subst (λ ps. IsOrdered number (length (messages_of number ps)) (is_whole number ps) places) e is
 
 module _ (h : Header) (number : ℕ) where
   segment_ordered : (old mid : Held) (s : SegmentEntry) (messages : List (List ℕ)) (place : SegmentPlace) (later : List SegmentPlace)
@@ -194,10 +201,10 @@ module _ (h : Header) (number : ℕ) where
       by_entry : (e : JournalEntry) → Accepts h old e run.0
           → IsOrdered number (length (messages_of number run.0.pieces)) (is_whole number run.0.pieces) (filter (is_of number) (places_from (at + 10 + length (record_of types e).payload) (types ++ types_in e) es))
           → IsOrdered number (length (messages_of number old.pieces)) (is_whole number old.pieces) (filter (is_of number) (places_from at types (e ∷ es)))
-      by_entry (Files names) a later = subst (λ ps. IsOrdered number (length (messages_of number ps)) (is_whole number ps) _) (ap (λ m. m.pieces) a) later
-      by_entry (Types first texts) a later = subst (λ ps. IsOrdered number (length (messages_of number ps)) (is_whole number ps) _) (ap (λ m. m.pieces) a.1) later
-      by_entry (Words first texts) a later = subst (λ ps. IsOrdered number (length (messages_of number ps)) (is_whole number ps) _) (ap (λ m. m.pieces) a.1) later
-      by_entry (Segment s) a later = segment_ordered old run.0 s a.0 _ _ refl refl a.1 a.2 later (s.file == number) refl
+      by_entry (Files names) a later = ordered_kept number run.0.pieces old.pieces (filter (is_of number) (places_from (at + 10 + length (record_of types (Files names)).payload) (types ++ types_in (Files names)) es)) (ap (λ m. m.pieces) a) later
+      by_entry (Types first texts) a later = ordered_kept number run.0.pieces old.pieces (filter (is_of number) (places_from (at + 10 + length (record_of types (Types first texts)).payload) (types ++ types_in (Types first texts)) es)) (ap (λ m. m.pieces) a.1) later
+      by_entry (Words first texts) a later = ordered_kept number run.0.pieces old.pieces (filter (is_of number) (places_from (at + 10 + length (record_of types (Words first texts)).payload) (types ++ types_in (Words first texts)) es)) (ap (λ m. m.pieces) a.1) later
+      by_entry (Segment s) a later = segment_ordered old run.0 s a.0 (place_in at types s) (filter (is_of number) (places_from (at + 10 + length (record_of types (Segment s)).payload) (types ++ types_in (Segment s)) es)) refl refl a.1 a.2 later (s.file == number) refl
 
 -- ---- files
 

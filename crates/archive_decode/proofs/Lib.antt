@@ -1,3 +1,5 @@
+pub mod HeldLemmas
 pub mod LinesLemmas
 pub mod OrderLemmas
 pub mod PageLemmas
+pub mod SegmentLemmas

@@ -4,12 +4,12 @@
 //! page of rows at a time.
 #![tactic(auto)]
 
-mod decode;
+mod decoding;
 mod lines;
 mod refusal;
 mod segment;
 #[cfg(test)]
 mod tests;
 
-pub use decode::decode;
+pub use decoding::decode;
 pub use refusal::DecodeRefusal;

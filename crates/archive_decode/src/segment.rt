@@ -11,7 +11,7 @@ use archive_open::SegmentPlace;
 use column_store::Columns;
 use log_seams::{Disk, Sink};
 use row_codec::{Names, row_fits};
-use segment_pages::SegmentPages;
+use segment_pages::{SegmentPages, none_are_left};
 use std::alloc::Global;
 use std::mem;
 use std::sync::ledger::Ledger;
@@ -98,5 +98,6 @@ pub(crate) fn write_segment<N: Names, D: Disk, K: Sink, L: Ledger>(
         };
         write_page(place.at, &room.columns, names, lines, out, steps)?;
     }
+    none_are_left();
     Ok(())
 }
