@@ -1,13 +1,17 @@
 -- The messages of a segment, a page more at a time.
-use Rattle.std.proofs.Common.{◌≡◌, refl, sym, ap, subst, ◌∙◌, ℕ, ◌≤◌, List, [], ◌∷◌, ◌++◌, Option, None, Some, append_assoc}
+use Rattle.std.proofs.Common.{◌≡◌, refl, sym, ap, subst, ◌∙◌, ℕ, ◌≤◌, List, [], ◌∷◌, ◌++◌, Option, None, Some, append_assoc, Result, Err, inl, arith}
 use Rattle.std.proofs.lemmas.List.{append-nil}
+use Rattle.log_seams.specs.Disk.{DiskState, Rests}
 use Rattle.column_store.specs.declared.row.Row.{Row}
 use Rattle.row_codec.specs.Means.{Means}
 use Rattle.segment_format.specs.declared.head.Head.{Head}
 use Rattle.segment_pages.specs.Laws.{NoneAreLeft}
+use Rattle.segment_pages.specs.declared.refusal.PageRefusal.{PageRefusal}
 use Rattle.segment_pages.specs.Paged.{AreNextTold, HoldsLeft, HoldsNoneTold, HoldsSegment, Paged}
 use Rattle.archive_open.specs.declared.segments.SegmentPlace.{SegmentPlace}
 use Rattle.archive_decode.specs.declared.lines.Lines.{Lines}
+use Rattle.archive_decode.specs.declared.refusal.DecodeRefusal.{DecodeRefusal}
+use Rattle.archive_decode.specs.Refused.{from_page}
 use Rattle.archive_decode.specs.StepsHeld.{AreMeant, HoldsMessages}
 use Rattle.archive_decode.specs.StepsLines.{Adds, AddsFront}
 use Rattle.archive_decode.proofs.LinesLemmas.{adds-failed, adds-kept, adds-longer, adds-none, adds-then}
@@ -106,3 +110,14 @@ module _ (types words : List (List ℕ)) where
 
       all : AreMeant types words [] going.left → messages ≡ going.done
       all meant = going.are ∙ (ap (λ l. going.done ++ l) (nothing going.left meant) ∙ append-nil going.done)
+
+-- ---- where reading failed
+
+-- a disk that was not called
+pub rests_none : (d : DiskState) → Rests d d
+rests_none d = record { seen = refl; no_more = λ c left. left; no_fewer = λ c left. left; time = record { later = omega arith; nothing_else = λ t c le left. inl left; keeps = λ t c le left. left } }
+
+pub page_damaged : {T : Type 0} (place at : ℕ) (refusal : PageRefusal) (r : DecodeRefusal) (x : Result T DecodeRefusal) → r ≡ from_page place refusal → x ≡ Err r → x ≡ Err (DecodeRefusal.Damaged at) → refusal ≡ PageRefusal.Damaged
+page_damaged place at PageRefusal.DiskFault r x e is was = absurd cc
+page_damaged place at PageRefusal.Damaged r x e is was = refl
+page_damaged place at PageRefusal.OutOfMemory r x e is was = absurd cc
