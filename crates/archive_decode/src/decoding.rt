@@ -17,6 +17,7 @@ use archive_open::{Archive, KeepsTexts, SegmentPlace};
 use column_store::Columns;
 use log_seams::{Disk, Sink};
 use row_codec::Names;
+use segment_pages::segments_are_held;
 use std::alloc::Global;
 use std::marker::Brand;
 use std::sync::ledger::{Blank, Ledger};
@@ -85,6 +86,7 @@ fn decode_with<N: KeepsTexts + Drop, D: Disk, K: Sink, L: Ledger>(
         (D.state disk.old).faults (D.state disk.new).faults result }
     ensures sink { CountsOf DecodeRefusal.SinkFault (K.faults out.old) (K.faults out.new) result }
 {
+    segments_are_held();
     let mut steps: Steps<L> = Steps::new(blank);
     let mut lines = Lines::new(alloc);
     let file = &archive.files().as_slice()[number as usize];
