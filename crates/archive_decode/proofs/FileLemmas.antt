@@ -63,7 +63,7 @@ module _ (types words : List (List ℕ)) (number : ℕ) where
       → HoldAll types words (filter (is_of number) (drop i places)) bytes left → NextOf place (drop (i + 1) places) bytes left
   next_of places i place bytes left within is own hold =
       let split = subst (λ b. HoldAll types words (cond b (place ∷ filter (is_of number) (drop (i + 1) places)) (filter (is_of number) (drop (i + 1) places))) bytes left) own
-          (subst (λ l. HoldAll types words (filter (is_of number) l) bytes left) (dropped places i place within is) hold) in
+      (subst (λ l. HoldAll types words (filter (is_of number) l) bytes left) (dropped places i place within is) hold) in
       record { first = split.0; others = split.1; are = split.2; here = split.3; hold = split.4 }
 
   pub all_step : (places : List SegmentPlace) (i : ℕ) (place : SegmentPlace) (bytes : List ℕ) (old mid new : Option (List ℕ)) (lines some more : Lines) (messages : List (List ℕ))
@@ -111,7 +111,7 @@ file_decoded done (Some bytes) old new a number entry types words open_end law o
     let archive = opened h es stood in
     let held = stood.legal.held in
     let all = subst (λ l. HoldAll types l (filter (is_of number) a.segments) bytes (messages_of number held.pieces)) (sym w)
-        (subst (λ l. HoldAll l a.kept.words (filter (is_of number) a.segments) bytes (messages_of number held.pieces)) (sym t) (file_held bytes h es a number stood law archive)) in
+    (subst (λ l. HoldAll l a.kept.words (filter (is_of number) a.segments) bytes (messages_of number held.pieces)) (sym t) (file_held bytes h es a number stood law archive)) in
     let zero_more : 0 + number ≡ number = omega arith in
     let messages = file_messages 0 held.names held.pieces number file e ∙ ap (λ n. messages_of n held.pieces) zero_more in
     let own = is ∙ (ap (λ l. get_or l number entry) archive.files ∙ entry_of (content_of held) number file entry e) in
@@ -134,3 +134,7 @@ whole_sent old mid lines more messages none begun adds = adds old [] (lines-none
 
 pub front_sent : (open_end : Bool) (old new : Option (List ℕ)) (lines : Lines) (messages : List (List ℕ)) → lines.gathered.items ≡ [] → lines.begun ≡ false → AddsFront old new lines messages → GrewByFront old new (text_from open_end messages)
 front_sent open_end old new lines messages none begun front = subst (λ l. GrewByFront old new (text_from open_end l)) (append-nil messages) (lines-front open_end old new messages [] (front old [] (lines-none old lines none begun)))
+
+-- the same places
+pub held_in : (types words : List (List ℕ)) (number : ℕ) (places others : List SegmentPlace) (bytes : List ℕ) (messages : List (List ℕ)) → places ≡ others → HoldAll types words (filter (is_of number) others) bytes messages → HoldAll types words (filter (is_of number) places) bytes messages
+held_in types words number places others bytes messages e hold = subst (λ l. HoldAll types words (filter (is_of number) l) bytes messages) (sym e) hold

@@ -95,7 +95,7 @@ module _ (types words : List (List ℕ)) where
       let at = meant_at rows place row messages e all in
       let same = spelled_as row text at.message spelling at.means in
       let failed = adds-failed old mid new lines some at.before (at.message ∷ []) (at.before ++ at.message ∷ []) refl (so_far at.before at.meant)
-          (subst (λ m. AddsFront mid new some (m ∷ [])) same (lines-failed mid new some text front)) in
+      (subst (λ m. AddsFront mid new some (m ∷ [])) same (lines-failed mid new some text front)) in
       adds-longer old new lines (at.before ++ at.message ∷ []) at.after messages (at.are ∙ sym (append_assoc at.before (at.message ∷ []) at.after)) failed
 
   pub page_done : (rows : List Row) (place : ℕ) (old new : Option (List ℕ)) (lines more : Lines) → length rows ≤ place

@@ -1,5 +1,5 @@
 //! The bytes of a file.
-ghost use Rattle.std.specs.Prelude.{◌≡◌, ◌<◌, ℕ, List, Some, length, is_ok, IfSome, IsErrOf, OnErr, OnOk};
+ghost use Rattle.std.specs.Prelude.{◌≡◌, ◌<◌, ◌&&◌, not, ℕ, List, Some, length, is_ok, IfSome, IsErrOf, OnErr, OnOk};
 ghost use Rattle.std.specs.List.{filter};
 ghost use Rattle.log_seams.specs.Disk.{Rests};
 ghost use Rattle.log_seams.specs.Outside.{CountsOf};
@@ -13,7 +13,7 @@ ghost use Rattle.archive_decode.specs.StepsLines.{Adds, AddsFront};
 use crate::lines::Lines;
 use crate::refusal::DecodeRefusal;
 use crate::segment::{PageRoom, write_segment};
-use archive_open::{Archive, KeepsTexts, SegmentPlace};
+use archive_open::{Archive, FileEntry, KeepsTexts, SegmentPlace};
 use column_store::Columns;
 use log_seams::{Disk, Sink};
 use row_codec::Names;
@@ -22,6 +22,13 @@ use std::alloc::Global;
 use std::marker::Brand;
 use std::sync::ledger::{Blank, Ledger};
 use step_count::Steps;
+
+/// Whether the last line of a file had no newline. A part has one behind each message.
+fn ends_open(file: &FileEntry) -> bool
+    ensures { result ≡ (file.now.whole && not file.now.ended) }
+{
+    file.whole && !file.ended
+}
 
 /// Writes the messages of those segments that are of the file of a number.
 fn write_segments<N: Names, D: Disk, K: Sink, L: Ledger>(
@@ -58,9 +65,10 @@ fn write_segments<N: Names, D: Disk, K: Sink, L: Ledger>(
         columns: Columns::new(alloc),
     };
     for place in places {
-        if place.head.file == number {
-            write_segment(alloc, place, names, disk, &mut room, lines, out, steps)?;
+        if place.head.file != number {
+            continue;
         }
+        write_segment(alloc, place, names, disk, &mut room, lines, out, steps)?;
     }
     Ok(())
 }
@@ -90,7 +98,7 @@ fn decode_with<N: KeepsTexts + Drop, D: Disk, K: Sink, L: Ledger>(
     let mut steps: Steps<L> = Steps::new(blank);
     let mut lines = Lines::new(alloc);
     let file = &archive.files().as_slice()[number as usize];
-    let open_end = file.whole && !file.ended;
+    let open_end = ends_open(file);
     write_segments(
         alloc,
         number,

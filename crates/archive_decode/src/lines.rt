@@ -92,7 +92,11 @@ impl Lines {
     }
 
     /// Sends all that was gathered, with a newline behind the last message unless its end is open.
-    pub(crate) fn finish<K: Sink>(&mut self, open_end: bool, out: &mut K) -> Result<(), PrintRefusal>
+    pub(crate) fn finish<K: Sink>(
+        &mut self,
+        open_end: bool,
+        out: &mut K,
+    ) -> Result<(), PrintRefusal>
         // by the answer
         ensures ok { OnOk result ((start : Option (List ℕ)) (messages : List (List ℕ))
             → HasLines start (K.written out.old) self.old messages

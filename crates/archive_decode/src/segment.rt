@@ -86,8 +86,7 @@ pub(crate) fn write_segment<N: Names, D: Disk, K: Sink, L: Ledger>(
         (D.state disk.old).faults (D.state disk.new).faults result }
     ensures sink { CountsOf DecodeRefusal.SinkFault (K.faults out.old) (K.faults out.new) result }
 {
-    let Some(mut pages) = SegmentPages::open(place.payload, place.length, &place.head, steps)
-    else {
+    let Some(mut pages) = SegmentPages::open(place.payload, place.length, &place.head, steps) else {
         return Err(DecodeRefusal::Damaged { at: place.at });
     };
     while pages.has_next() {

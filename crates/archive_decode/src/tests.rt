@@ -28,16 +28,14 @@ fn with_flags(flags: u8) -> [u8; 155] {
     bytes
 }
 
-// The bytes of file 0, over a disk whose call of this number fails and a sink with so much room, and
-// how the decoding ended.
+// How the decoding of file 0 ended, and what a sink with so much room took.
 fn decoded(
     alloc: Global,
     bytes: &[u8],
-    fault: u64,
     room: usize,
 ) -> Result<(Result<(), DecodeRefusal>, Vec<u8>), AllocError> {
-    let fails = vec![in alloc; fault; 1]?;
-    let mut disk = MemDisk::new(alloc, Text::new(bytes.to_vec(alloc)?), 400, 40, fails)?;
+    let text = Text::new(bytes.to_vec(alloc)?);
+    let mut disk = MemDisk::new(alloc, text, 400, 40, Vec::new(alloc))?;
     let mut out = MemSink::new(alloc, room, Vec::new(alloc))?;
     let opened = open_archive::<MemDisk, PlainBooks>(alloc, &mut disk);
     let outcome = match opened {
@@ -52,9 +50,29 @@ fn a_file_comes_back(rt: HostRuntime) -> Result<(), Fail> {
     let alloc = rt.alloc();
     let rows: [(u8, &[u8]); 3] = [(3, b"a\n"), (1, b"a"), (0, b"a\n")];
     for (flags, want) in rows {
-        let (outcome, text) = decoded(alloc, &with_flags(flags), u64::MAX, 99)?;
+        let (outcome, text) = decoded(alloc, &with_flags(flags), 99)?;
         assert_eq!(rt; outcome, Ok(()));
         assert_eq!(rt; text.as_slice(), want);
     }
+    Ok(())
+}
+
+#[test]
+fn a_row_of_no_log_type_is_damage(rt: HostRuntime) -> Result<(), Fail> {
+    let alloc = rt.alloc();
+    let mut bytes = WORKED;
+    bytes[146] = 1;
+    let (outcome, text) = decoded(alloc, &bytes, 99)?;
+    assert_eq!(rt; outcome, Err(DecodeRefusal::Damaged { at: 78 }));
+    assert!(rt; text.is_empty());
+    Ok(())
+}
+
+#[test]
+fn a_sink_without_room_is_told(rt: HostRuntime) -> Result<(), Fail> {
+    let alloc = rt.alloc();
+    let (outcome, text) = decoded(alloc, &WORKED, 1)?;
+    assert_eq!(rt; outcome, Err(DecodeRefusal::SinkFault));
+    assert!(rt; b"a\n".starts_with(text.as_slice()));
     Ok(())
 }

@@ -41,8 +41,8 @@ loop-alloc-preserved g c = record {
 pub returns-in_err-write_page-clause-err : goal.returns-in_err-write_page-clause-err
 returns-in_err-write_page-clause-err g c =
     on_err c.from_residual.result (λ bytes messages told has.
-      going_failed _ _ _ c.loop-alloc.pages c.next_page.new.self c.in-Ok.columns.rows bytes _ _ _ c.args.lines.now c.loop-alloc.lines messages (c.loop-alloc.invariant.rests.seen ∙ told) c.in-Ok.ensures.page c.in_err-write_page.ensures.err
-      (c.loop-alloc.invariant.going bytes messages told has))
+    going_failed _ _ _ c.loop-alloc.pages c.next_page.new.self c.in-Ok.columns.rows bytes _ _ _ c.args.lines.now c.loop-alloc.lines messages (c.loop-alloc.invariant.rests.seen ∙ told) c.in-Ok.ensures.page c.in_err-write_page.ensures.err
+    (c.loop-alloc.invariant.going bytes messages told has))
 
 pub returns-in_err-write_page-clause-damaged : goal.returns-in_err-write_page-clause-damaged
 returns-in_err-write_page-clause-damaged g c = λ at is bytes messages told has.
