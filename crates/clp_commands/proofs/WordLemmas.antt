@@ -1,6 +1,8 @@
 -- Lists of words, by their first ones.
-use Rattle.std.proofs.Common.{◌≡◌, sym, ap, ap₂, subst, ◌∙◌, ◌<◌, ◌≤◌, ◌-◌, ℕ, List, [], ◌∷◌, length, map, take, drop, get_or, codes, arith}
-use Rattle.std.specs.Prelude.{Option, Some, None, IfSome, IfNone}
+use Rattle.std.proofs.Common.{◌≡◌, sym, ap, ap₂, subst, ◌∙◌, ◌<◌, ◌≤◌, ◌-◌, ℕ, List, [], ◌∷◌, length, map, take, drop, get_or, codes, arith, pos, rules, ◌^◌}
+use Rattle.std.specs.Prelude.{Option, Some, None, IfSome, IfNone, Result, Ok, Err}
+use Rattle.std.specs.Result.{OkIff, result_ok}
+use Rattle.std.specs.Int.{FitsUnsignedBits}
 use Rattle.std.proofs.lemmas.List.{take_all}
 use Rattle.record_format.specs.declared.header.Header.{Header}
 use Rattle.archive_limits.specs.Limits.{AsksLimits}
@@ -59,3 +61,8 @@ AsksCreate-none words None only = λ h asks. differ h (only h asks)
     differ : (h : Header) → None ≡ Some h → ⊥
     differ h e = cc
 AsksCreate-none words (Some header) only = tt
+
+-- a number below 2 ^ 32 stays itself
+pub small_is : {E : Type 0} (r : Result ℕ E) (n : ℕ) → n < 2 ^ 32 → OkIff r (FitsUnsignedBits 32 (pos n)) n → result_ok r ≡ Some n
+small_is (Ok x) n small is = ap Some is.1
+small_is (Err e) n small is = absurd (is (search rules))
