@@ -66,6 +66,7 @@ fn read_alone(words: &[String]) -> Option<Command<'_>>
 /// The number below 2 ^ 32 that the text is the plain decimal print of.
 fn read_number(text: &str) -> Option<u32>
     ensures some { IfSome result (λ number. text.now ≡ decimal number) }
+    ensures fits { IfSome result (λ number. number < 2 ^ 32) }
     ensures all { (number : ℕ) → number < 2 ^ 32 → text.now ≡ decimal number
         → result ≡ Some number }
 {

@@ -17,6 +17,7 @@ returns-in-Whole-clause-all c = λ n small prints.
 pub returns-in-Decimal : goal.returns-in-Decimal
 returns-in-Decimal c = record {
   some = search rules;
+  fits = search rules;
   all = λ n small prints.
       let same = coded_is c.as_bytes.result.now c.encode.result n c.encode.ensures (omega (arith, small)) (c.as_bytes.ensures.value ∙ prints) in
       elim c.in-Decimal.is [ inl other ↦ absurd (cc (other.1)) | inr other ↦ absurd (cc other) ];
