@@ -38,12 +38,10 @@ IsCompleteFile number seen old new answer =
 -- for want of the file exactly where there is none of that number.
 pub record AnswersDecode (number : ℕ) (seen : Around) (old new : DiskState) (status : ℕ) : Type 0 where
   pub answer : Result Unit FileRefusal
-
   -- how it ended
   pub ends : EndsWith seen [] status (option_map of_file (answer_of answer))
   pub keeps : KeepsBytes old new
   pub prints : PrintsFile answer number old.seen seen.out.0 seen.out.1
-
   -- causes
   pub damaged : (at : ℕ) → answer ≡ Err (Damaged at) → IfSome old.seen StandsForNone
   pub lacks : (told count : ℕ) → answer ≡ Err (NoSuchFile told count) → LacksFile number told count old.seen seen.out.0 seen.out.1

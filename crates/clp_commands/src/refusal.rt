@@ -109,7 +109,10 @@ pub(crate) fn report<K: Sink>(err: &mut K, name: &str, refusal: Refusal) -> u8
             say(err, &[b"clpa: archive: not empty, ", len, b" bytes\n"]);
             8
         }
-        Refusal::NoSuchFile { number: file, count } => {
+        Refusal::NoSuchFile {
+            number: file,
+            count,
+        } => {
             let mut digits = itoa::Buffer::new();
             let file = number.format(file).as_bytes();
             let count = digits.format(count).as_bytes();
