@@ -9,13 +9,15 @@ use Rattle.archive_open.specs.declared.files.FileEntry.{FileEntry}
 use Rattle.archive_open.specs.declared.segments.SegmentPlace.{SegmentPlace}
 use Rattle.archive_open.specs.Kept.{Kept}
 use Rattle.archive_open.specs.Shown.{IsArchiveOf, Opens, Shown, kept_of}
+use Rattle.column_store.specs.declared.range.Range.{Range}
+use Rattle.wild_match.specs.declared.pattern.Item.{Item}
 use Rattle.search_engine.specs.declared.report.Report.{Report}
 use Rattle.search_engine.specs.declared.tally.Tally.{Tally}
 use Rattle.search_engine.specs.Scan.{AreFound, AreTried, Asked, IsFound, IsTried, Picks, Placed, all_placed, lines_of}
 use Rattle.search_engine.specs.Sofar.{Grew, GrewByFront, Moves, Passes, Sofar, Stops, sofar}
 use Rattle.search_engine.specs.Held.{HaveMessages, Named, OfSegments, named}
 use Rattle.search_engine.specs.Opened.{AreOpened, IsBarrenFor, ReadsOpened, Searched, Stopped}
-use Rattle.search_engine.specs.Searched.{HasSearched, HasStopped, OfJournal, ReadsNoBarren, names_of}
+use Rattle.search_engine.specs.Searched.{HasSearched, HasStopped, OfJournal, ReadsNoBarren, asked, names_of}
 use Rattle.search_engine.proofs.SofarLemmas.{all_went, passes_moves, picks_once, stops_behind, stops_here, ticks_same}
 use Rattle.search_engine.proofs.OutputLemmas.{goes_moved}
 use Rattle.search_engine.proofs.HeldLemmas.{nothing_distinct, run_distinct}
@@ -44,16 +46,22 @@ named_so n a h held known is = λ i. record {
 
 -- ---- from segments to the journal
 
-pub of_journal : (seen : Option (List ℕ)) (a : Shown) (n : Named) (P : Named → List ℕ → List Placed → Type 0) (Q : Header → List JournalEntry → Held → Type 0) → Opens seen a → Knows n a.kept → OfSegments seen n a.files a.segments (P n)
-    → ((bytes : List ℕ) (h : Header) (es : List JournalEntry) (stood : StandsFor bytes h es) → IsArchiveOf a h es stood.legal.held → P (names_of h stood.legal.held) bytes (all_placed (content_of stood.legal.held)) → Q h es stood.legal.held)
+pub of_journal : (seen : Option (List ℕ)) (a : Shown) (n : Named) (files : List FileEntry) (ps : List SegmentPlace) (P : Named → List SegmentPlace → List ℕ → List Placed → Type 0) (Q : Header → List JournalEntry → Held → Type 0)
+    → files ≡ a.files → ps ≡ a.segments → Opens seen a → Knows n a.kept → OfSegments seen n files ps (P n ps)
+    → ((bytes : List ℕ) (h : Header) (es : List JournalEntry) (stood : StandsFor bytes h es) → IsArchiveOf a h es stood.legal.held → P (names_of h stood.legal.held) a.segments bytes (all_placed (content_of stood.legal.held)) → Q h es stood.legal.held)
     → OfJournal seen Q
-of_journal None a n P Q opens known has step = tt
-of_journal (Some bytes) a n P Q opens known has step = λ h es stood.
+of_journal None a n files ps P Q same_files same_ps opens known has step = tt
+of_journal (Some bytes) a n files ps P Q same_files same_ps opens known has step = λ h es stood.
     let is = opens h es stood in
     let held = stood.legal.held in
     let same : n ≡ names_of h held = named_so n a h held known is.kept in
-    let told = subst (λ m. OfSegments (Some bytes) m a.files a.segments (P m)) same has in
+    let told : OfSegments (Some bytes) (names_of h held) a.files a.segments (P (names_of h held) a.segments) =
+    subst (λ m. OfSegments (Some bytes) m a.files a.segments (P m a.segments)) same
+    (subst (λ l. OfSegments (Some bytes) n a.files l (P n l)) same_ps (subst (λ l. OfSegments (Some bytes) n l ps (P n ps)) same_files has)) in
     step bytes h es stood is (told (all_placed (content_of held)) (run_distinct h nothing_held held es nothing_distinct stood.legal.run) (shown_have bytes h es a stood is))
+
+pub asked_is : (q : Asked) (pattern : List Item) (range : Range) → q.pattern ≡ pattern → q.range ≡ range → q ≡ asked pattern range
+asked_is q pattern range one two = λ i. record { pattern = one i; range = two i }
 
 -- ---- what was done
 
