@@ -141,15 +141,15 @@ cut : (k m : ℕ) (ps : List SegmentPlace) → NeverFall file_no ps → AreAtLea
 cut k m [] fall least below = record { front = []; rest = []; whole = refl; own = refl; others = λ j lt. refl; fall = tt; least = tt; below = tt }
 cut k m (p ∷ ps) fall least below = elim (cases_lt k p.head.file) as (λ z. Cut k m (p ∷ ps)) [
   | inl lt ↦ record {
-        front = [];
-        rest = p ∷ ps;
-        whole = refl;
-        own = none_of k (p ∷ ps) (omega (arith, lt), least_lower file_no (k + 1) p.head.file ps (omega (arith, lt)) fall.0);
-        others = λ j above. refl;
-        fall = fall;
-        least = (omega (arith, lt), least_lower file_no (k + 1) p.head.file ps (omega (arith, lt)) fall.0);
-        below = below;
-      }
+    front = [];
+    rest = p ∷ ps;
+    whole = refl;
+    own = none_of k (p ∷ ps) (omega (arith, lt), least_lower file_no (k + 1) p.head.file ps (omega (arith, lt)) fall.0);
+    others = λ j above. refl;
+    fall = fall;
+    least = (omega (arith, lt), least_lower file_no (k + 1) p.head.file ps (omega (arith, lt)) fall.0);
+    below = below;
+  }
   | inr le ↦
       let same : p.head.file ≡ k = omega (arith, le, least.0) in
       let c = cut k m ps fall.1 (least_lower file_no k p.head.file ps (omega (arith, same)) fall.0) below.1 in
@@ -168,9 +168,15 @@ cut k m (p ∷ ps) fall least below = elim (cases_lt k p.head.file) as (λ z. Cu
 have_append : (bytes : List ℕ) (n : Named) (files : List FileEntry) (ps qs : List SegmentPlace) (all more : List Placed) → HaveMessages bytes n files ps all → HaveMessages bytes n files qs more
     → HaveMessages bytes n files (ps ++ qs) (all ++ more)
 have_append bytes n files [] qs all more one two = subst (λ l. HaveMessages bytes n files qs (l ++ more)) (sym one) two
-have_append bytes n files (p ∷ ps) qs all more one two =
-    (one.0, one.1, one.2 ++ more, one.3, one.4, have_append bytes n files ps qs one.2 more one.5 two,
-    ap (λ (l : List Placed). l ++ more) one.6 ∙ append_assoc (numbered one.0.name (p.head.first + 1) one.1) one.2 more)
+have_append bytes n files (p ∷ ps) qs all more one two = (
+  one.0,
+  one.1,
+  one.2 ++ more,
+  one.3,
+  one.4,
+  have_append bytes n files ps qs one.2 more one.5 two,
+  ap (λ (l : List Placed). l ++ more) one.6 ∙ append_assoc (numbered one.0.name (p.head.first + 1) one.1) one.2 more,
+)
 
 grouped : (bytes : List ℕ) (n : Named) (files : List FileEntry) (pieces : List Piece) (k : ℕ) (names : List (List ℕ)) (ps : List SegmentPlace) → NeverFall file_no ps → AreAtLeast file_no k ps → AreBelow (k + length names) ps
     → ((j : ℕ) (name : List ℕ) → slice_get names j ≡ Some name → HaveMessages bytes n files (filter (is_of (k + j)) ps) (numbered name 1 (messages_of (k + j) pieces)))

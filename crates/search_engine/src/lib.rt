@@ -14,3 +14,6 @@ mod tally;
 pub use refusal::SearchRefusal;
 pub use report::Report;
 pub use searching::search;
+
+#[cfg(test)]
+mod tests;
