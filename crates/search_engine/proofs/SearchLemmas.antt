@@ -115,3 +115,9 @@ last_stopped n q ps all a b w o0 o1 count searched front = record {
       let same = picks_once (λ x. ¬ IsBarrenFor n q x) ps opened searched.opened are searched.are_opened in
       omega (arith, searched.ticked, ap (λ (l : List SegmentPlace). length l) same);
 }
+
+-- ---- before a search
+
+-- a disk that was only read shows the same archive
+pub opens_later : (old new : Option (List ℕ)) (a : Shown) → new ≡ old → Opens old a → Opens new a
+opens_later old new a same opens = subst (λ s. Opens s a) (sym same) opens

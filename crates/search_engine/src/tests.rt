@@ -125,7 +125,7 @@ fn search_with<L: Ledger, M: Ledger>(
     })
 }
 
-fn outcome(
+fn searched(
     alloc: Global,
     bytes: &[u8],
     text: &[u8],
@@ -157,7 +157,7 @@ fn finds(
     printed: &[u8],
     counts: (u64, u64, u64, u64),
 ) -> Result<bool, AllocError> {
-    let outcome = outcome(alloc, bytes, text, range, 1_000)?;
+    let outcome = searched(alloc, bytes, text, range, 1_000)?;
     let Some(report) = outcome.report else {
         return Ok(false);
     };
@@ -242,15 +242,15 @@ fn columns_of_barren_segments_stay_unread(rt: HostRuntime) -> Result<(), Fail> {
     let second: &[u8] = b"a.log:2:run task_2 x\n";
     assert!(rt; finds(alloc, &ROWS, b" task_2 ", ALL, second, (1, 1, 1, 4))?);
     assert!(rt; finds(alloc, &ROWS, b" task_9 ", ALL, b"", (0, 0, 0, 4))?);
-    assert_eq!(rt; outcome(alloc, &ROWS, b" task_2 ", ALL, 1_000)?.calls, 5);
-    assert_eq!(rt; outcome(alloc, &ROWS, b" task_9 ", ALL, 1_000)?.calls, 0);
+    assert_eq!(rt; searched(alloc, &ROWS, b" task_2 ", ALL, 1_000)?.calls, 5);
+    assert_eq!(rt; searched(alloc, &ROWS, b" task_9 ", ALL, 1_000)?.calls, 0);
     Ok(())
 }
 
 #[test]
 fn an_output_that_fails_has_a_front(rt: HostRuntime) -> Result<(), Fail> {
     let alloc = rt.alloc();
-    let stopped = outcome(alloc, &NUMBERS, b"12*34", ALL, 20)?;
+    let stopped = searched(alloc, &NUMBERS, b"12*34", ALL, 20)?;
     assert!(rt; stopped.report.is_none());
     assert!(rt; b"a.log:1:12534\na.log:2:12 34\n".starts_with(stopped.printed.as_slice()));
     Ok(())
