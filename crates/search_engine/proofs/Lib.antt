@@ -4,3 +4,8 @@ pub mod OutputLemmas
 pub mod PageLemmas
 pub mod SegmentLemmas
 pub mod RunLemmas
+pub mod OrderLemmas
+pub mod HeldLemmas
+pub mod GroupLemmas
+pub mod AsideLemmas
+pub mod SearchLemmas

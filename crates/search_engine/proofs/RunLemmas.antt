@@ -174,8 +174,16 @@ run_stops (Some bytes) later n files q ps k p a b w e t u v count same lt is pas
           let s = picks_split (λ x. ¬ IsBarrenFor n q x) (take k ps) (p ∷ drop (k + 1) ps) opened (subst (λ l. AreOpened n q l opened) cut are) in
           let r = picks_split (λ x. ¬ IsBarrenFor n q x) (p ∷ []) (drop (k + 1) ps) s.b s.second in
           let one : s.a ≡ before.searched.opened = picks_once (λ x. ¬ IsBarrenFor n q x) (take k ps) s.a before.searched.opened s.first before.searched.are_opened in
-          omega (arith, step.most r.a r.first, before.searched.ticked, ap (λ (l : List SegmentPlace). length l) one, ap (λ (l : List SegmentPlace). length l) s.both, ap (λ (l : List SegmentPlace). length l) r.both,
-          length-append s.a s.b, length-append r.a r.b);
+          omega (
+            arith,
+            step.most r.a r.first,
+            before.searched.ticked,
+            ap (λ (l : List SegmentPlace). length l) one,
+            ap (λ (l : List SegmentPlace). length l) s.both,
+            ap (λ (l : List SegmentPlace). length l) r.both,
+            length-append s.a s.b,
+            length-append r.a r.b,
+          );
     }
 
 pub run_damaged : (seen later : Option (List ℕ)) (n : Named) (files : List FileEntry) (q : Asked) (ps : List SegmentPlace) (k : ℕ) (p : SegmentPlace) (a b : Sofar) (t u count : ℕ) → later ≡ seen → k < length ps

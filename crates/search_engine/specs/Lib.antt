@@ -4,4 +4,5 @@ pub mod Held
 pub mod Refused
 pub mod Judged
 pub mod Opened
+pub mod Searched
 pub mod StepsPast

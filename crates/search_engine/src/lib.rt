@@ -6,7 +6,14 @@ mod paging;
 mod printing;
 mod query;
 mod refusal;
+mod report;
+mod searching;
 mod segments;
 mod tally;
 
 pub use refusal::SearchRefusal;
+pub use report::Report;
+pub use searching::search;
+
+#[cfg(test)]
+mod tests;

@@ -64,11 +64,7 @@ fn are_same(items: &[Item], others: &[Item]) -> bool
 
 impl Query {
     /// Makes a search ready.
-    pub(crate) fn new(
-        alloc: Global,
-        pattern: &Pattern,
-        range: &Range,
-    ) -> Result<Query, AllocError>
+    pub(crate) fn new(alloc: Global, pattern: &Pattern, range: &Range) -> Result<Query, AllocError>
         ensures pattern { IfOk result (λ q. q.pattern ≡ pattern.now) }
         ensures range { IfOk result (λ q. q.range ≡ range.now) }
     {

@@ -19,7 +19,7 @@ returns-in_err-columns-clause-stopped g c =
 pub loop-pages-preserved : goal.loop-pages-preserved
 loop-pages-preserved g c = (
   pages_next _ (g.D.Disk.state c.loop-pages.disk) (g.D.Disk.state c.search_next.new.disk) c.args.pages c.loop-pages.pages c.search_next.new.pages _ c.args.query.now c.args.name.now c.args.number c.loop-pages.at _ _ _ _ _
-  c.loop-pages.invariant.0 c.search_next.ensures.reads (search rules) c.in_ok-columns.ensures.after c.in_ok-columns.ensures.count (search rules) c.in_ok-columns.ensures.done,
+      c.loop-pages.invariant.0 c.search_next.ensures.reads (search rules) c.in_ok-columns.ensures.after c.in_ok-columns.ensures.count (search rules) c.in_ok-columns.ensures.done,
   search rules,
 )
 

@@ -10,7 +10,7 @@ loop-segment-init g c = (run_first (g.D.Disk.state c.args.disk.now) _ c.args.fil
 pub loop-segment-preserved : goal.loop-segment-preserved
 loop-segment-preserved g c = (
   run_next _ (g.D.Disk.state c.loop-segment.disk) (g.D.Disk.state c.search_segment.new.disk) _ c.args.files.now c.args.query.now c.args.segments.now c.loop-segment.segment-index _ _ _ _ _ _ _ _ _ _ (search rules) c.segment-item.is (search rules) (search rules)
-  c.loop-segment.invariant.0 c.search_segment.ensures.rests (search rules) c.search_segment.ensures.reads c.in_ok-yes.ensures.done,
+      c.loop-segment.invariant.0 c.search_segment.ensures.rests (search rules) c.search_segment.ensures.reads c.in_ok-yes.ensures.done,
   search rules,
 )
 
