@@ -4,10 +4,12 @@ pub mod Counted
 pub mod Directory
 pub mod Ending
 pub mod Going
+pub mod Names
 pub mod Outcome
 pub mod Printing
 pub mod Reading
 pub mod Refusal
 pub mod Scanned
 pub mod Shown
+pub mod Taken
 pub mod Words

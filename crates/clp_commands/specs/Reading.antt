@@ -24,3 +24,9 @@ pub record EndsReading (seen : Around) (old new : DiskState) (status : ℕ) (ans
   pub keeps : KeepsBytes old new
   pub disk : CountsOf DiskFault old.faults new.faults answer
   pub sink : CountsOf SinkFault seen.out_faults.0 seen.out_faults.1 answer
+
+-- the bytes are an archive: they stand for a legal journal
+pub record IsArchive (bytes : List ℕ) : Type 0 where
+  pub h : Header
+  pub es : List JournalEntry
+  pub stands : StandsFor bytes h es

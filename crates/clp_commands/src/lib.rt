@@ -11,15 +11,19 @@ mod create_tests;
 mod directory_tests;
 mod files;
 mod log;
+mod names;
 mod outcome;
 mod refusal;
 mod scan;
 mod show;
+mod taken;
 mod tell;
+mod telling;
 #[cfg(test)]
 mod tests;
 mod top;
 mod words;
 
 pub use refusal::Refusal;
+pub use telling::Telling;
 pub use top::run;

@@ -29,3 +29,15 @@ returns-in-NotEmpty-clause-said g c = Says-same _ _ _ _ _ (line_of c.args.name.n
 
 pub returns-in-Damaged-clause-said : goal.returns-in-Damaged-clause-said
 returns-in-Damaged-clause-said g c = Says-same _ _ _ _ _ (line_of c.args.name.now c.args.refusal) (rw (c.in-Damaged.is, c.as_bytes-at-in-Damaged.ensures.value, c.format-in-Damaged.ensures.text) refl) c.say-in-Damaged.ensures.said
+
+pub returns-in-NameTooLong-clause-said : goal.returns-in-NameTooLong-clause-said
+returns-in-NameTooLong-clause-said g c = Says-same _ _ _ _ _ (line_of c.args.name.now c.args.refusal) (rw (c.in-NameTooLong.is, c.as_bytes-index.ensures.value, c.format-in-NameTooLong.ensures.text) refl) c.say-in-NameTooLong.ensures.said
+
+pub returns-in-TooManyFiles-clause-said : goal.returns-in-TooManyFiles-clause-said
+returns-in-TooManyFiles-clause-said g c = Says-same _ _ _ _ _ (line_of c.args.name.now c.args.refusal) (rw c.in-TooManyFiles.is refl) c.say_too_many.ensures.said
+
+pub returns-in-Full-clause-said : goal.returns-in-Full-clause-said
+returns-in-Full-clause-said g c = Says-same _ _ _ _ _ (line_of c.args.name.now c.args.refusal) (rw (c.in-Full.is, c.as_bytes-name.ensures.value) refl) c.say_full.ensures.said
+
+pub returns-in-ArchiveFull-clause-said : goal.returns-in-ArchiveFull-clause-said
+returns-in-ArchiveFull-clause-said g c = Says-same _ _ _ _ _ (line_of c.args.name.now c.args.refusal) (rw c.in-ArchiveFull.is refl) c.say_archive_full.ensures.said
