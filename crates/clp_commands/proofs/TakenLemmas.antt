@@ -49,5 +49,5 @@ module _ {A : Type 0} (status : A → ℕ) (text : A → List ℕ) where
   pub said_next : (old mid new : Option (List ℕ)) (a b c : ℕ) (files : List A) (i : ℕ) (d : A) → i < length files → a ≤ b → b ≤ c → Says old mid a b (flat_map text (take i files)) → Says mid new b c (text (get_or files i d)) → Says old new a c (flat_map text (take (i + 1) files))
   said_next old mid new a b c files i d within low high before here =
       let next : flat_map text (take i files) ++ text (get_or files i d) ≡ flat_map text (take (i + 1) files) =
-          ap (λ t. flat_map text (take i files) ++ t) (sym (append-nil (text (get_or files i d)))) ∙ (sym (flat_map-append text (take i files) (get_or files i d ∷ [])) ∙ ap (λ fs. flat_map text fs) (sym (take_next files i d within))) in
+      ap (λ t. flat_map text (take i files) ++ t) (sym (append-nil (text (get_or files i d)))) ∙ (sym (flat_map-append text (take i files) (get_or files i d ∷ [])) ∙ ap (λ fs. flat_map text fs) (sym (take_next files i d within))) in
       Says-same old new a c _ _ next (Says-joined old mid new a b c _ _ low high before here)

@@ -4,6 +4,7 @@ pub mod Counted
 pub mod Directory
 pub mod Ending
 pub mod Going
+pub mod Ingested
 pub mod Names
 pub mod Outcome
 pub mod Printing

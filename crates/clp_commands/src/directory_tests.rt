@@ -82,7 +82,10 @@ fn each_call_that_reads_an_archive_may_fail(rt: HostRuntime) -> Result<(), Fail>
             let outcome = over(alloc, word, &WORKED, fault, AMPLE)?;
             assert_eq!(rt; outcome.status, 5);
             assert!(rt; outcome.out.is_empty());
-            assert_eq!(rt; outcome.err.as_slice(), b"clpa: archive: disk failed\n".as_slice());
+            assert_eq!(rt;
+                outcome.err.as_slice(),
+                b"clpa: archive: disk failed\n".as_slice()
+            );
         }
     }
     Ok(())

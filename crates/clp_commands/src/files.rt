@@ -47,16 +47,16 @@ impl Listed for FileEntry {
 }
 
 /// Appends the line of a file of this number.
-fn push_line<F: Listed>(
-    gathered: &mut Vec<u8>,
-    number: u64,
-    file: &F,
-) -> Result<(), AllocError>
+fn push_line<F: Listed>(gathered: &mut Vec<u8>, number: u64, file: &F) -> Result<(), AllocError>
     ensures { OnOk result
         (gathered.new.items ≡ gathered.old.items ++ directory_line number (F.listed file.now)) }
 {
     let mut digits = itoa::Buffer::new();
-    let state: &[u8] = if file.is_whole() { b" whole " } else { b" part " };
+    let state: &[u8] = if file.is_whole() {
+        b" whole "
+    } else {
+        b" part "
+    };
     gathered.extend_from_slice(digits.format(number).as_bytes())?;
     gathered.push(b' ')?;
     gathered.extend_from_slice(digits.format(file.messages()).as_bytes())?;

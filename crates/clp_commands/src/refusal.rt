@@ -153,7 +153,13 @@ fn say_too_many<K: Sink>(err: &mut K, held: u64, more: u64)
     let more = second.format(more).as_bytes();
     say(
         err,
-        &[b"clpa: too many files: ", held, b" held, ", more, b" more\n"],
+        &[
+            b"clpa: too many files: ",
+            held,
+            b" held, ",
+            more,
+            b" more\n",
+        ],
     );
 }
 

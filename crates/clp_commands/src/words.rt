@@ -78,8 +78,7 @@ fn read_log(words: &[String]) -> Option<Command<'_>>
         [command, pattern, file]
             if command.as_str() == "scan"
                 && is_plain(pattern.as_str())
-                && is_plain(file.as_str()) =>
-        {
+                && is_plain(file.as_str()) => {
             Some(Command::Scan {
                 pattern: pattern.as_str(),
                 file: file.as_str(),
