@@ -21,7 +21,7 @@ use Rattle.clp_commands.specs.Around.{Around}
 use Rattle.clp_commands.specs.Directory.{FileLine, directory_from}
 use Rattle.clp_commands.specs.Ending.{EndsWith, RoseIn, SaysIn, Stayed, TookNothing}
 use Rattle.clp_commands.specs.Names.{RefusesMore, RefusesNames}
-use Rattle.clp_commands.specs.Printing.{HasMore, IsLong, most_messages}
+use Rattle.clp_commands.specs.Printing.{IsLong, most_messages}
 use Rattle.clp_commands.specs.Reading.{OverJournal}
 use Rattle.clp_commands.specs.Refusal.{file_line_of, file_status_of}
 use Rattle.clp_commands.specs.Taken.{file_error, file_status, gravest}
@@ -106,18 +106,29 @@ FromArchive old P =
 
 -- ---- causes
 
+-- where the bytes are told, they have more messages than so many
+abbrev pub HasMoreThan : ℕ → ℕ → Option (List ℕ) → Type 0
+HasMoreThan count version told =
+    IfSome told (λ bytes. (messages : List (List ℕ)) (ended : Bool) → MessagesOf version bytes messages ended → count < length messages)
+
 -- What a refusal that came of a file rests on. Want of memory is free.
 abbrev pub HasFileCause : Around → DiskState → DiskState → Came → Option Refusal → Type 0
 HasFileCause seen old new c None = c.whole ≡ true
 HasFileCause seen old new c (Some OpenFault) = RoseIn (seen.opens c.name) × (c.messages ≡ 0)
 HasFileCause seen old new c (Some ReadFault) = RoseIn (seen.reads c.name)
 HasFileCause seen old new c (Some (LineTooLong line)) = IfSome (seen.content c.name) (λ bytes. IsLong bytes line)
-HasFileCause seen old new c (Some TooManyLines) = IfSome (seen.content c.name) (λ bytes. HasMore bytes most_messages)
+HasFileCause seen old new c (Some TooManyLines) =
+    (c.messages ≡ most_messages) × FromArchive old (λ h before bytes stood. HasMoreThan most_messages h.version (seen.content c.name))
 HasFileCause seen old new c (Some (Full book count)) = Unit {0}
 HasFileCause seen old new c (Some (ArchiveFull end need)) = FromArchive old (λ h before bytes stood. h.length_limit < end + need)
 HasFileCause seen old new c (Some DiskFault) = Rose old.faults new.faults
 HasFileCause seen old new c (Some OutOfMemory) = Unit {0}
 HasFileCause seen old new c (Some _) = ⊥
+
+-- A file is whole exactly where nothing was refused of it, and a refusal has its cause.
+pub record CameOfFile (seen : Around) (old new : DiskState) (c : Came) : Type 0 where
+  pub cause : HasFileCause seen old new c c.refusal
+  pub part : c.refusal ≢ None → c.whole ≡ false
 
 -- What a refusal of the whole call rests on.
 abbrev pub HasCallCause : List (List ℕ) → DiskState → DiskState → Refusal → Type 0
@@ -151,7 +162,7 @@ pub record TakesFiles (names : List (List ℕ)) (seen : Around) (old new : DiskS
   pub first : ℕ
   pub names_are : map (λ c. c.name) came ≡ names
   pub numbered : OverJournal old.seen (λ journal. first ≡ length journal.names)
-  pub causes : All (λ c. HasFileCause seen old new c c.refusal) came
+  pub each : All (CameOfFile seen old new) came
   pub disk : FromArchive old (λ h before bytes stood. TakesIn seen.content h before stood names came old new)
   pub printed :
       ((status ≡ gravest (map (λ c. file_status c.refusal) came))

@@ -17,6 +17,8 @@ mod refusal;
 mod scan;
 mod show;
 mod taken;
+#[cfg(test)]
+mod taken_tests;
 mod tell;
 mod telling;
 #[cfg(test)]
