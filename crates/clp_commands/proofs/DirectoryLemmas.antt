@@ -1,10 +1,9 @@
 -- The lines of files, one more at a time.
-use Rattle.std.proofs.Common.{◌≡◌, ◌+◌, ◌<◌, refl, sym, ap, ap₂, subst, ◌∙◌, ℕ, zero, suc, List, [], ◌∷◌, ◌++◌, Option, append_assoc, length, take, get_or, arith, Result, Ok, Err, OnErr, Some, None}
+use Rattle.std.proofs.Common.{◌≡◌, ◌+◌, ◌<◌, refl, sym, ap, ap₂, subst, ◌∙◌, ℕ, zero, suc, List, [], ◌∷◌, ◌++◌, Option, append_assoc, length, map, take, get_or, arith, Result, Ok, Err, OnErr, Some, None}
 use Rattle.std.proofs.lemmas.List.{append-nil}
 use Rattle.sink_pieces.proofs.OutputLemmas.{Gathers-front, Gathers-kept, Gathers-more, Gathers-moves}
-use Rattle.archive_open.specs.declared.files.FileEntry.{FileEntry}
 use Rattle.archive_open.specs.Shown.{Opens, Shown}
-use Rattle.clp_commands.specs.Directory.{PrintsDirectory, directory, directory_from, directory_line}
+use Rattle.clp_commands.specs.Directory.{FileLine, PrintsDirectory, directory, directory_from, directory_line}
 use Rattle.clp_commands.specs.declared.outcome.ReadRefusal.{ReadRefusal}
 use Rattle.sink_pieces.specs.Output.{Gathers, Grew, GrewByFront, Moves}
 
@@ -14,20 +13,20 @@ on_err (Ok value) p = tt
 on_err (Err refusal) p = p
 
 -- the lines of some first files are a front of all
-pub directory-front : (number i : ℕ) (files : List FileEntry) → (rest : List ℕ) × (directory_from number files ≡ directory_from number (take i files) ++ rest)
-directory-front number zero files = (directory_from number files, refl)
-directory-front number (suc i) [] = ([], refl)
-directory-front number (suc i) (file ∷ files) =
-    let after = directory-front (number + 1) i files in
-    (after.0, ap (λ t. directory_line number file ++ t) after.1 ∙ sym (append_assoc (directory_line number file) _ _))
+pub directory-front : {A : Type 0} (f : A → FileLine) (number i : ℕ) (files : List A) → (rest : List ℕ) × (directory_from number (map f files) ≡ directory_from number (map f (take i files)) ++ rest)
+directory-front f number zero files = (directory_from number (map f files), refl)
+directory-front f number (suc i) [] = ([], refl)
+directory-front f number (suc i) (file ∷ files) =
+    let after = directory-front f (number + 1) i files in
+    (after.0, ap (λ t. directory_line number (f file) ++ t) after.1 ∙ sym (append_assoc (directory_line number (f file)) _ _))
 
 -- and those of one file more have its line behind them
-pub directory-more : (number i : ℕ) (files : List FileEntry) (none : FileEntry) → i < length files → directory_from number (take (suc i) files) ≡ directory_from number (take i files) ++ directory_line (number + i) (get_or files i none)
-directory-more number i [] none within = absurd (omega (arith, within))
-directory-more number zero (file ∷ files) none within = append-nil (directory_line number file) ∙ ap (λ n. directory_line n file) (omega arith)
-directory-more number (suc i) (file ∷ files) none within =
-    ap (λ t. directory_line number file ++ t) (directory-more (number + 1) i files none (omega (arith, within)) ∙ ap (λ n. directory_from (number + 1) (take i files) ++ directory_line n (get_or files i none)) (omega arith))
-    ∙ sym (append_assoc (directory_line number file) _ _)
+pub directory-more : {A : Type 0} (f : A → FileLine) (number i : ℕ) (files : List A) (none : A) → i < length files → directory_from number (map f (take (suc i) files)) ≡ directory_from number (map f (take i files)) ++ directory_line (number + i) (f (get_or files i none))
+directory-more f number i [] none within = absurd (omega (arith, within))
+directory-more f number zero (file ∷ files) none within = append-nil (directory_line number (f file)) ∙ ap (λ n. directory_line n (f file)) (omega arith)
+directory-more f number (suc i) (file ∷ files) none within =
+    ap (λ t. directory_line number (f file) ++ t) (directory-more f (number + 1) i files none (omega (arith, within)) ∙ ap (λ n. directory_from (number + 1) (map f (take i files)) ++ directory_line n (f (get_or files i none))) (omega arith))
+    ∙ sym (append_assoc (directory_line number (f file)) _ _)
 
 -- a front of a front
 pub GrewByFront-longer : (old new : Option (List ℕ)) (text whole rest : List ℕ) → whole ≡ text ++ rest → GrewByFront old new text → GrewByFront old new whole
@@ -35,31 +34,35 @@ GrewByFront-longer old new text whole rest e f = (f.0, f.1 ++ rest, e ∙ (ap (�
 
 -- ---- gathering the lines
 
--- some of what was gathered, and no more, went out
-pub directory_kept : (start now : Option (List ℕ)) (gathered : List ℕ) (files : List FileEntry) (i : ℕ) → Gathers start now gathered (directory (take i files)) → GrewByFront start now (directory files)
-directory_kept start now gathered files i g = let front = directory-front 0 i files in GrewByFront-longer start now _ (directory files) front.0 front.1 (Gathers-kept start now gathered _ g)
+module _ {A : Type 0} (f : A → FileLine) (first : ℕ) where
+  -- the lines of some first files
+  abbrev pub lines_of : ℕ → List A → List ℕ
+  lines_of i files = directory_from first (map f (take i files))
 
-directory_next : (files : List FileEntry) (i : ℕ) (file : FileEntry) → i < length files → file ≡ get_or files i file → directory (take (i + 1) files) ≡ directory (take i files) ++ directory_line i file
-directory_next files i file within is =
-    let next : i + 1 ≡ suc i = omega arith in
-    let same : 0 + i ≡ i = omega arith in
-    ap (λ n. directory (take n files)) next
-    ∙ (directory-more 0 i files file within ∙ ap₂ (λ n f. directory (take i files) ++ directory_line n f) same (sym is))
+  -- some of what was gathered, and no more, went out
+  pub directory_kept : (start now : Option (List ℕ)) (gathered : List ℕ) (files : List A) (i : ℕ) → Gathers start now gathered (lines_of i files) → GrewByFront start now (directory_from first (map f files))
+  directory_kept start now gathered files i g = let front = directory-front f first i files in GrewByFront-longer start now _ (directory_from first (map f files)) front.0 front.1 (Gathers-kept start now gathered _ g)
 
-pub directory_step : (start now new : Option (List ℕ)) (gathered all rest : List ℕ) (files : List FileEntry) (i : ℕ) (file : FileEntry) → i < length files → file ≡ get_or files i file → all ≡ gathered ++ directory_line i file
-    → Gathers start now gathered (directory (take i files)) → Moves now new all rest → Gathers start new rest (directory (take (i + 1) files))
-directory_step start now new gathered all rest files i file within is e g moves =
-    subst (λ t. Gathers start new rest t) (sym (directory_next files i file within is)) (Gathers-moves start now new all rest _ (Gathers-more start now gathered all _ (directory_line i file) e g) moves)
+  directory_next : (files : List A) (i : ℕ) (file : A) → i < length files → file ≡ get_or files i file → lines_of (i + 1) files ≡ lines_of i files ++ directory_line (first + i) (f file)
+  directory_next files i file within is =
+      let next : i + 1 ≡ suc i = omega arith in
+      ap (λ n. lines_of n files) next
+      ∙ (directory-more f first i files file within ∙ ap (λ x. lines_of i files ++ directory_line (first + i) (f x)) (sym is))
 
-pub directory_stopped : (start now new : Option (List ℕ)) (gathered all : List ℕ) (files : List FileEntry) (i : ℕ) (file : FileEntry) → i < length files → file ≡ get_or files i file → all ≡ gathered ++ directory_line i file
-    → Gathers start now gathered (directory (take i files)) → GrewByFront now new all → GrewByFront start new (directory files)
-directory_stopped start now new gathered all files i file within is e g failed =
-    let front = directory-front 0 (i + 1) files in
-    GrewByFront-longer start new _ (directory files) front.0 front.1
-    (subst (λ t. GrewByFront start new t) (sym (directory_next files i file within is)) (Gathers-front start now new all _ (Gathers-more start now gathered all _ (directory_line i file) e g) failed))
+  pub directory_step : (start now new : Option (List ℕ)) (gathered all rest : List ℕ) (files : List A) (i : ℕ) (file : A) → i < length files → file ≡ get_or files i file → all ≡ gathered ++ directory_line (first + i) (f file)
+      → Gathers start now gathered (lines_of i files) → Moves now new all rest → Gathers start new rest (lines_of (i + 1) files)
+  directory_step start now new gathered all rest files i file within is e g moves =
+      subst (λ t. Gathers start new rest t) (sym (directory_next files i file within is)) (Gathers-moves start now new all rest _ (Gathers-more start now gathered all _ (directory_line (first + i) (f file)) e g) moves)
 
-pub directory_unsent : (start now new : Option (List ℕ)) (gathered : List ℕ) (files : List FileEntry) (i : ℕ) → Gathers start now gathered (directory (take i files)) → GrewByFront now new gathered → GrewByFront start new (directory files)
-directory_unsent start now new gathered files i g failed = let front = directory-front 0 i files in GrewByFront-longer start new _ (directory files) front.0 front.1 (Gathers-front start now new gathered _ g failed)
+  pub directory_stopped : (start now new : Option (List ℕ)) (gathered all : List ℕ) (files : List A) (i : ℕ) (file : A) → i < length files → file ≡ get_or files i file → all ≡ gathered ++ directory_line (first + i) (f file)
+      → Gathers start now gathered (lines_of i files) → GrewByFront now new all → GrewByFront start new (directory_from first (map f files))
+  directory_stopped start now new gathered all files i file within is e g failed =
+      let front = directory-front f first (i + 1) files in
+      GrewByFront-longer start new _ (directory_from first (map f files)) front.0 front.1
+      (subst (λ t. GrewByFront start new t) (sym (directory_next files i file within is)) (Gathers-front start now new all _ (Gathers-more start now gathered all _ (directory_line (first + i) (f file)) e g) failed))
+
+  pub directory_unsent : (start now new : Option (List ℕ)) (gathered : List ℕ) (files : List A) (i : ℕ) → Gathers start now gathered (lines_of i files) → GrewByFront now new gathered → GrewByFront start new (directory_from first (map f files))
+  directory_unsent start now new gathered files i g failed = let front = directory-front f first i files in GrewByFront-longer start new _ (directory_from first (map f files)) front.0 front.1 (Gathers-front start now new gathered _ g failed)
 
 -- ---- the directory of an archive
 

@@ -11,3 +11,5 @@ pub mod ReadingLemmas
 pub mod RefusalLemmas
 pub mod ShownLemmas
 pub mod WordLemmas
+pub mod TakenLemmas
+pub mod NameLemmas

@@ -1,5 +1,5 @@
 -- What `files` prints: a line for each file of the archive.
-use Rattle.std.specs.Prelude.{◌≡◌, ◌+◌, ℕ, List, [], ◌∷◌, ◌++◌, Option, Result, Ok, Err, codes, is_ok, if◌then◌else◌}
+use Rattle.std.specs.Prelude.{◌≡◌, ◌+◌, ℕ, List, [], ◌∷◌, ◌++◌, map, Bool, Option, Result, Ok, Err, codes, is_ok, if◌then◌else◌}
 use Rattle.std.specs.Fmt.{decimal}
 use Rattle.log_seams.specs.Disk.{DiskState}
 use Rattle.archive_open.specs.declared.files.FileEntry.{FileEntry}
@@ -10,18 +10,27 @@ use Rattle.clp_commands.specs.Reading.{EndsReading, IsComplete, OverJournal}
 use Rattle.clp_commands.specs.declared.outcome.ReadRefusal.{ReadRefusal}
 use Rattle.clp_commands.specs.declared.outcome.ReadRefusal.TheVariants.{Damaged}
 
+-- a file as the directory tells it: its name, how many messages the archive has of it, and whether these are all
+pub record FileLine : Type 0 where
+  pub name : List ℕ
+  pub messages : ℕ
+  pub whole : Bool
+
+abbrev pub line_of_file : FileEntry → FileLine
+line_of_file file = record { name = file.name; messages = file.messages; whole = file.whole }
+
 -- the number of a file, how many messages the archive has of it, whether these are all, and its name
-abbrev pub directory_line : ℕ → FileEntry → List ℕ
+abbrev pub directory_line : ℕ → FileLine → List ℕ
 directory_line number file =
     decimal number ++ (32 ∷ (decimal file.messages ++ ((if file.whole then codes " whole " else codes " part ") ++ (file.name ++ 10 ∷ []))))
 
 -- the lines of files that are numbered on from this number
-abbrev pub directory_from : ℕ → List FileEntry → List ℕ
+abbrev pub directory_from : ℕ → List FileLine → List ℕ
 directory_from number [] = []
 directory_from number (file ∷ files) = directory_line number file ++ directory_from (number + 1) files
 
 abbrev pub directory : List FileEntry → List ℕ
-directory files = directory_from 0 files
+directory files = directory_from 0 (map line_of_file files)
 
 -- The output took the lines of the files that the journal holds, or a front of them where the command was refused.
 abbrev pub PrintsDirectory : Result Unit ReadRefusal → Option (List ℕ) → Option (List ℕ) → Option (List ℕ) → Type 0

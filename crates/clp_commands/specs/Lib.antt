@@ -5,10 +5,13 @@ pub mod Directory
 pub mod Decoding
 pub mod Ending
 pub mod Going
+pub mod Ingested
+pub mod Names
 pub mod Outcome
 pub mod Printing
 pub mod Reading
 pub mod Refusal
 pub mod Scanned
 pub mod Shown
+pub mod Taken
 pub mod Words

@@ -31,3 +31,9 @@ abbrev pub IsComplete : Around → DiskState → DiskState → Result Unit ReadR
 IsComplete seen old new answer =
     (bytes : List ℕ) (h : Header) (es : List JournalEntry) → old.seen ≡ Some bytes → StandsFor bytes h es → ¬ Rose old.faults new.faults → ¬ RoseIn seen.out_faults
     → (answer ≡ Ok tt) ⊎ (answer ≡ Err OutOfMemory)
+
+-- the bytes are an archive: they stand for a legal journal
+pub record IsArchive (bytes : List ℕ) : Type 0 where
+  pub h : Header
+  pub es : List JournalEntry
+  pub stands : StandsFor bytes h es

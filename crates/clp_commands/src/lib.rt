@@ -12,15 +12,21 @@ mod directory_tests;
 mod file;
 mod files;
 mod log;
+mod names;
 mod outcome;
 mod refusal;
 mod scan;
 mod show;
+mod taken;
+#[cfg(test)]
+mod taken_tests;
 mod tell;
+mod telling;
 #[cfg(test)]
 mod tests;
 mod top;
 mod words;
 
 pub use refusal::Refusal;
+pub use telling::Telling;
 pub use top::run;

@@ -23,9 +23,10 @@ use crate::refusal::{Refusal, report};
 use crate::scan::Scan;
 use crate::show::Show;
 use crate::tell::Tell;
+use crate::telling::Telling;
 use crate::words::{Command, read_words};
 use disk_journal::create;
-use log_seams::{Disk, Shelf, Sink};
+use log_seams::{Shelf, Sink};
 use std::alloc::Global;
 use wild_match::{Matcher, PatternRefusal, read_pattern};
 
@@ -40,7 +41,7 @@ use wild_match::{Matcher, PatternRefusal, read_pattern};
 /// `disk` is the archive's. `rt` starts the threads of the commands that work with several, and
 /// `second` is the disk beside the archive's for those that write a new one; no command here needs
 /// either yet.
-pub fn run<R, H: Shelf, D: Disk + Send, K: Sink>(
+pub fn run<R, H: Shelf, D: Telling + Send, K: Sink>(
     rt: &R,
     alloc: Global,
     words: &[String],

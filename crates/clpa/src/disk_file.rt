@@ -4,6 +4,7 @@ ghost use Rattle.log_seams.specs.Disk.{Gave, laid};
 
 use crate::faults::counted;
 use crate::place::{OffsetFile, Place};
+use clp_commands::Telling;
 use log_seams::{Disk, Failed};
 use std::io::{self, ErrorKind};
 
@@ -188,4 +189,11 @@ impl<P: Place> Disk for DiskFile<P, P::File> {
       only_now = λ _ _. tt;
       wider = λ _ _ _ _ _. tt;
     } };
+}
+
+/// Nothing is known of the bytes of a file.
+impl<P: Place> Telling for DiskFile<P, P::File> {
+    fn tells(&self) -> bool {
+        false
+    }
 }

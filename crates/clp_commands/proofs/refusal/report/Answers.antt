@@ -33,3 +33,15 @@ returns-in-Damaged-clause-said g c = Says-same _ _ _ _ _ (line_of c.args.name.no
 pub returns-in-NoSuchFile-clause-said : goal.returns-in-NoSuchFile-clause-said
 returns-in-NoSuchFile-clause-said g c =
     Says-same _ _ _ _ _ (line_of c.args.name.now c.args.refusal) (rw (c.in-NoSuchFile.is, c.as_bytes-file.ensures.value, c.as_bytes-count.ensures.value, c.format-in-NoSuchFile.ensures.text, c.format-in-NoSuchFile-2.ensures.text) refl) c.say-in-NoSuchFile.ensures.said
+
+pub returns-in-NameTooLong-clause-said : goal.returns-in-NameTooLong-clause-said
+returns-in-NameTooLong-clause-said g c = Says-same _ _ _ _ _ (line_of c.args.name.now c.args.refusal) (rw (c.in-NameTooLong.is, c.as_bytes-index.ensures.value, c.format-in-NameTooLong.ensures.text) refl) c.say-in-NameTooLong.ensures.said
+
+pub returns-in-TooManyFiles-clause-said : goal.returns-in-TooManyFiles-clause-said
+returns-in-TooManyFiles-clause-said g c = Says-same _ _ _ _ _ (line_of c.args.name.now c.args.refusal) (rw c.in-TooManyFiles.is refl) c.say_too_many.ensures.said
+
+pub returns-in-Full-clause-said : goal.returns-in-Full-clause-said
+returns-in-Full-clause-said g c = Says-same _ _ _ _ _ (line_of c.args.name.now c.args.refusal) (rw (c.in-Full.is, c.as_bytes-name.ensures.value) refl) c.say_full.ensures.said
+
+pub returns-in-ArchiveFull-clause-said : goal.returns-in-ArchiveFull-clause-said
+returns-in-ArchiveFull-clause-said g c = Says-same _ _ _ _ _ (line_of c.args.name.now c.args.refusal) (rw c.in-ArchiveFull.is refl) c.say_archive_full.ensures.said

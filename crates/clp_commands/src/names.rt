@@ -1,0 +1,43 @@
+//! Which names of files are refused.
+ghost use Rattle.std.specs.Prelude.{◌≡◌, map, string_bytes};
+ghost use Rattle.clp_commands.specs.Names.{RefusesMore, RefusesNames};
+
+use crate::refusal::Refusal;
+
+/// The most bytes of a name.
+const MOST_NAME_BYTES: usize = 4096;
+
+/// The most files of one call.
+const MOST_NAMES: usize = 512;
+
+/// The most files of an archive.
+const MOST_FILES: u64 = 1_048_576;
+
+/// What is refused of the names that are given, before the archive is looked at: the first one that is too
+/// long, or that they are too many.
+pub(crate) fn refuse_names(names: &[String]) -> Option<Refusal>
+    ensures { RefusesNames (map string_bytes names.now) result }
+{
+    for (index, name) in names.iter().enumerate() {
+        if name.as_str().len() > MOST_NAME_BYTES {
+            return Some(Refusal::NameTooLong { index });
+        }
+    }
+    if names.len() > MOST_NAMES {
+        return Some(Refusal::TooManyFiles {
+            held: 0,
+            more: names.len() as u64,
+        });
+    }
+    None
+}
+
+/// Whether so many more files are too many for an archive that has `held`.
+pub(crate) fn refuse_more(held: u64, more: u64) -> Option<Refusal>
+    ensures { RefusesMore held more result }
+{
+    if held.saturating_add(more) > MOST_FILES {
+        return Some(Refusal::TooManyFiles { held, more });
+    }
+    None
+}

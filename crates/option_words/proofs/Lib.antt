@@ -1,0 +1,5 @@
+pub mod AskedLemmas
+pub mod ChoiceLemmas
+pub mod NumberLemmas
+pub mod ReadingLemmas
+pub mod WordLemmas
