@@ -1,0 +1,11 @@
+pub mod SofarLemmas
+pub mod RowLemmas
+pub mod OutputLemmas
+pub mod PageLemmas
+pub mod SegmentLemmas
+pub mod RunLemmas
+pub mod OrderLemmas
+pub mod HeldLemmas
+pub mod GroupLemmas
+pub mod AsideLemmas
+pub mod SearchLemmas

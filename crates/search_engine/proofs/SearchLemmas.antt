@@ -1,0 +1,123 @@
+-- What was done over the segments of an archive is said of the journal that the bytes stand for.
+use Rattle.std.proofs.Common.{◌≡◌, ◌⊎◌, inl, inr, refl, sym, ap, ap₂, subst, ◌∙◌, ◌+◌, ◌<◌, ◌≤◌, ◌^◌, ℕ, List, [], ◌∷◌, ◌++◌, Option, None, Some, length, arith, length-append}
+use Rattle.std.proofs.lemmas.List.{append-nil}
+use Rattle.record_format.specs.declared.header.Header.{Header}
+use Rattle.archive_meaning.specs.declared.entry.JournalEntry.{JournalEntry}
+use Rattle.archive_meaning.specs.Held.{Held, content_of, nothing_held}
+use Rattle.archive_meaning.specs.Stands.{StandsFor}
+use Rattle.archive_open.specs.declared.files.FileEntry.{FileEntry}
+use Rattle.archive_open.specs.declared.segments.SegmentPlace.{SegmentPlace}
+use Rattle.archive_open.specs.Kept.{Kept}
+use Rattle.archive_open.specs.Shown.{IsArchiveOf, Opens, Shown, kept_of}
+use Rattle.column_store.specs.declared.range.Range.{Range}
+use Rattle.wild_match.specs.declared.pattern.Item.{Item}
+use Rattle.search_engine.specs.declared.report.Report.{Report}
+use Rattle.search_engine.specs.declared.tally.Tally.{Tally}
+use Rattle.search_engine.specs.Scan.{AreFound, AreTried, Asked, IsFound, IsTried, Picks, Placed, all_placed, lines_of}
+use Rattle.search_engine.specs.Sofar.{Grew, GrewByFront, Moves, Passes, Sofar, Stops, sofar}
+use Rattle.search_engine.specs.Held.{HaveMessages, Named, OfSegments, named}
+use Rattle.search_engine.specs.Opened.{AreOpened, IsBarrenFor, ReadsOpened, Searched, Stopped}
+use Rattle.search_engine.specs.Searched.{HasSearched, HasStopped, OfJournal, ReadsNoBarren, asked, names_of}
+use Rattle.search_engine.proofs.SofarLemmas.{all_went, passes_moves, picks_once, stops_behind, stops_here, ticks_same}
+use Rattle.search_engine.proofs.OutputLemmas.{goes_moved}
+use Rattle.search_engine.proofs.HeldLemmas.{nothing_distinct, run_distinct}
+use Rattle.search_engine.proofs.GroupLemmas.{content_small, shown_have}
+use Rattle.search_engine.proofs.AsideLemmas.{reads_aside}
+
+-- the names that the code asks are those of the archive
+pub record Knows (n : Named) (k : Kept) : Type 0 where
+  pub types : n.types ≡ k.types
+  pub words : n.words ≡ k.words
+  pub version : n.version ≡ k.version
+
+pub knows : (version : ℕ) (types words : List (List ℕ)) (own k : Kept) → own ≡ k → (types ≡ own.types) × (words ≡ own.words) × (version ≡ own.version) → Knows (named version types words) k
+knows version types words own k same is = record {
+  types = is.0 ∙ ap (λ (x : Kept). x.types) same;
+  words = is.1 ∙ ap (λ (x : Kept). x.words) same;
+  version = is.2 ∙ ap (λ (x : Kept). x.version) same;
+}
+
+named_so : (n : Named) (a : Shown) (h : Header) (held : Held) → Knows n a.kept → a.kept ≡ kept_of h held → n ≡ names_of h held
+named_so n a h held known is = λ i. record {
+  version = (known.version ∙ ap (λ (x : Kept). x.version) is) i;
+  types = (known.types ∙ ap (λ (x : Kept). x.types) is) i;
+  words = (known.words ∙ ap (λ (x : Kept). x.words) is) i;
+}
+
+-- ---- from segments to the journal
+
+pub of_journal : (seen : Option (List ℕ)) (a : Shown) (n : Named) (files : List FileEntry) (ps : List SegmentPlace) (P : Named → List SegmentPlace → List ℕ → List Placed → Type 0) (Q : Header → List JournalEntry → Held → Type 0)
+    → files ≡ a.files → ps ≡ a.segments → Opens seen a → Knows n a.kept → OfSegments seen n files ps (P n ps)
+    → ((bytes : List ℕ) (h : Header) (es : List JournalEntry) (stood : StandsFor bytes h es) → IsArchiveOf a h es stood.legal.held → P (names_of h stood.legal.held) a.segments bytes (all_placed (content_of stood.legal.held)) → Q h es stood.legal.held)
+    → OfJournal seen Q
+of_journal None a n files ps P Q same_files same_ps opens known has step = tt
+of_journal (Some bytes) a n files ps P Q same_files same_ps opens known has step = λ h es stood.
+    let is = opens h es stood in
+    let held = stood.legal.held in
+    let same : n ≡ names_of h held = named_so n a h held known is.kept in
+    let told : OfSegments (Some bytes) (names_of h held) a.files a.segments (P (names_of h held) a.segments) =
+    subst (λ m. OfSegments (Some bytes) m a.files a.segments (P m a.segments)) same
+    (subst (λ l. OfSegments (Some bytes) n a.files l (P n l)) same_ps (subst (λ l. OfSegments (Some bytes) n l ps (P n ps)) same_files has)) in
+    step bytes h es stood is (told (all_placed (content_of held)) (run_distinct h nothing_held held es nothing_distinct stood.legal.run) (shown_have bytes h es a stood is))
+
+pub asked_is : (q : Asked) (pattern : List Item) (range : Range) → q.pattern ≡ pattern → q.range ≡ range → q ≡ asked pattern range
+asked_is q pattern range one two = λ i. record { pattern = one i; range = two i }
+
+-- ---- what was done
+
+picks_short : {A : Type 0} (P : A → Type 0) (xs ys : List A) → Picks P xs ys → length ys ≤ length xs
+picks_short P [] ys is = omega (arith, ap length is)
+picks_short P (x ∷ xs) ys (inl p) = omega (arith, picks_short P xs p.0 p.2, ap length p.3)
+picks_short P (x ∷ xs) ys (inr p) = omega (arith, picks_short P xs ys p.1)
+
+pub has_searched : (bytes : List ℕ) (h : Header) (es : List JournalEntry) (q : Asked) (ps : List SegmentPlace) (tally : Tally) (count : ℕ) (w0 w1 w2 : Option (List ℕ)) (g0 g1 g2 : List ℕ) (o0 o1 e0 e1 : ℕ) (stood : StandsFor bytes h es)
+    → g0 ≡ [] → Searched (names_of h stood.legal.held) q ps (all_placed (content_of stood.legal.held)) (sofar w0 g0 (record { matched = 0; expanded = 0 }) e0) (sofar w1 g1 tally e1) o0 o1 count → Moves w1 w2 g1 g2 → g2 ≡ []
+    → HasSearched h stood.legal.held q ps (record { matched = tally.matched; expanded = tally.expanded; opened = count; segments = length ps }) w0 w2 o0 o1 e0 e1
+has_searched bytes h es q ps tally count w0 w1 w2 g0 g1 g2 o0 o1 e0 e1 stood none searched moves done =
+    let all : List Placed = all_placed (content_of stood.legal.held) in
+    let small = content_small bytes h es stood in
+    let a : Sofar = sofar w0 g0 (record { matched = 0; expanded = 0 }) e0 in
+    let b : Sofar = sofar w1 g1 tally e1 in
+    let c : Sofar = sofar w2 g2 tally e1 in
+    let p = passes_moves h.version q all a b c searched.passes (goes_moved b c moves) refl refl in
+    let found_short = picks_short (λ x. IsFound h.version q x.message) all p.found p.are_found in
+    let tried_short = picks_short (λ x. IsTried h.version q x.message) all p.tried p.are_tried in
+    let m : tally.matched ≡ length p.found = p.advances.matched (omega (arith, found_short, small)) ∙ omega arith in
+    let e : tally.expanded ≡ length p.tried = p.advances.expanded (omega (arith, tried_short, small)) ∙ omega arith in
+    record {
+      found = p.found;
+      tried = p.tried;
+      segments = searched.opened;
+      are_found = p.are_found;
+      are_tried = p.are_tried;
+      are_opened = searched.are_opened;
+      printed = all_went a c (lines_of p.found) p.advances.goes none done;
+      opens = searched.ticked;
+      expands = p.advances.ticks;
+      report = λ i. record { matched = m i; expanded = e i; opened = searched.counted i; segments = length ps };
+    }
+
+pub has_stopped : (h : Header) (held : Held) (q : Asked) (ps : List SegmentPlace) (t : Tally) (w0 w : Option (List ℕ)) (g0 : List ℕ) (o0 o1 e0 e1 : ℕ) → g0 ≡ []
+    → Stopped (names_of h held) q ps (all_placed (content_of held)) (sofar w0 g0 t e0) w e1 o0 o1 → HasStopped h held q ps w0 w o0 o1 e0 e1
+has_stopped h held q ps t w0 w g0 o0 o1 e0 e1 none stopped = record {
+  printed = λ found are. subst (λ g. GrewByFront w0 w (g ++ lines_of found)) none (stopped.stops.front found are);
+  opens = stopped.most;
+  expands = stopped.stops.most;
+}
+
+-- the last bytes did not all go out
+pub last_stopped : (n : Named) (q : Asked) (ps : List SegmentPlace) (all : List Placed) (a b : Sofar) (w : Option (List ℕ)) (o0 o1 count : ℕ) → Searched n q ps all a b o0 o1 count → GrewByFront b.written w b.gathered
+    → Stopped n q ps all a w b.ticks o0 o1
+last_stopped n q ps all a b w o0 o1 count searched front = record {
+  stops = subst (λ l. Stops n.version q l a w b.ticks) (append-nil all)
+      (stops_behind n.version q all [] a b w b.ticks searched.passes (stops_here n.version q [] b w b.ticks front (ticks_same n.version q [] b.ticks b.ticks refl)));
+  most = λ opened are.
+      let same = picks_once (λ x. ¬ IsBarrenFor n q x) ps opened searched.opened are searched.are_opened in
+      omega (arith, searched.ticked, ap (λ (l : List SegmentPlace). length l) same);
+}
+
+-- ---- before a search
+
+-- a disk that was only read shows the same archive
+pub opens_later : (old new : Option (List ℕ)) (a : Shown) → new ≡ old → Opens old a → Opens new a
+opens_later old new a same opens = subst (λ s. Opens s a) (sym same) opens

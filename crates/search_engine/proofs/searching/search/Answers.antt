@@ -1,0 +1,24 @@
+use Rattle.std.proofs.Common.{◌≡◌, subst, rules}
+use Rattle.std.specs.Prelude.{IfOk, OnErr}
+use Rattle.search_engine.specs.Searched.{HasSearched, HasStopped, OfJournal, ReadsNoBarren}
+use Rattle.search_engine.proofs.SearchLemmas.{asked_is}
+use Rattle.search_engine.proofs.searching.search.Goals as goal
+
+pub returns-clause-reads : goal.returns-clause-reads
+returns-clause-reads g c =
+    subst (λ q. OfJournal (g.D.Disk.state c.args.disk.now).seen (λ h es held. ReadsNoBarren h es held q (g.D.Disk.state c.args.disk.now).ranges (g.D.Disk.state c.search_archive.new.disk).ranges))
+    (asked_is c.in_ok-query.query c.args.pattern.now c.args.range.now c.in_ok-query.ensures.pattern c.in_ok-query.ensures.range) c.search_archive.ensures.reads
+
+pub returns-clause-done : goal.returns-clause-done
+returns-clause-done g c =
+    subst
+    (λ q. IfOk c.search_archive.result (λ r. OfJournal (g.D.Disk.state c.args.disk.now).seen (λ h _ held. HasSearched h held q c.args.archive.now.segments r (g.K.Sink.written c.args.out.now) (g.K.Sink.written c.search_archive.new.out)
+    c.args.opened.now c.search_archive.new.opened c.args.expanded.now c.search_archive.new.expanded)))
+    (asked_is c.in_ok-query.query c.args.pattern.now c.args.range.now c.in_ok-query.ensures.pattern c.in_ok-query.ensures.range) c.search_archive.ensures.done
+
+pub returns-clause-stopped : goal.returns-clause-stopped
+returns-clause-stopped g c =
+    subst
+    (λ q. OnErr c.search_archive.result (OfJournal (g.D.Disk.state c.args.disk.now).seen (λ h _ held. HasStopped h held q c.args.archive.now.segments (g.K.Sink.written c.args.out.now) (g.K.Sink.written c.search_archive.new.out)
+    c.args.opened.now c.search_archive.new.opened c.args.expanded.now c.search_archive.new.expanded)))
+    (asked_is c.in_ok-query.query c.args.pattern.now c.args.range.now c.in_ok-query.ensures.pattern c.in_ok-query.ensures.range) c.search_archive.ensures.stopped

@@ -1,0 +1,19 @@
+//! Searching an archive: the lines of all messages that a pattern matches, in order.
+#![tactic(auto)]
+
+mod output;
+mod paging;
+mod printing;
+mod query;
+mod refusal;
+mod report;
+mod searching;
+mod segments;
+mod tally;
+
+pub use refusal::SearchRefusal;
+pub use report::Report;
+pub use searching::search;
+
+#[cfg(test)]
+mod tests;

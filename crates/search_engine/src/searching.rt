@@ -1,0 +1,142 @@
+//! Searching an archive.
+ghost use Rattle.std.specs.Prelude.{◌≡◌, [], IfOk, OnErr, IsErrOf};
+ghost use Rattle.log_seams.specs.Disk.{Rests};
+ghost use Rattle.log_seams.specs.Outside.{CountsOf};
+ghost use Rattle.query_plan.specs.Laws.{IsSearched};
+ghost use Rattle.archive_open.specs.Archive.{shown};
+ghost use Rattle.archive_open.specs.Shown.{Opens};
+ghost use Rattle.search_engine.specs.Searched.{HasSearched, HasStopped, OfJournal, ReadsNoBarren, asked};
+
+use crate::output::flush;
+use crate::query::Query;
+use crate::refusal::SearchRefusal;
+use crate::report::Report;
+use crate::segments::search_segments;
+use crate::tally::Tally;
+use archive_open::{Archive, KeepsTexts};
+use column_store::Range;
+use log_seams::{Disk, Sink};
+use std::alloc::Global;
+use std::sync::ledger::Ledger;
+use step_count::Steps;
+use wild_match::Pattern;
+
+/// Searches the segments of an archive, with nothing gathered, and sends out what is left.
+fn search_archive<T: KeepsTexts + Drop, D: Disk, K: Sink, L: Ledger, M: Ledger>(
+    alloc: Global,
+    query: &Query,
+    archive: &Archive<T>,
+    disk: &mut D,
+    out: &mut K,
+    gathered: &mut Vec<u8>,
+    opened: &mut Steps<L>,
+    expanded: &mut Steps<M>,
+) -> Result<Report, SearchRefusal>
+    requires searched { IsSearched query.now.pattern }
+    requires opens { Opens (D.state disk.old).seen (shown T.kept archive.now) }
+    requires empty { gathered.old.items ≡ [] }
+
+    // what stays
+    ensures rests { Rests (D.state disk.old) (D.state disk.new) }
+    ensures reads { OfJournal (D.state disk.old).seen (λ h es held. ReadsNoBarren h es held
+        query.now (D.state disk.old).ranges (D.state disk.new).ranges) }
+
+    // by the answer
+    ensures done { IfOk result (λ r. OfJournal (D.state disk.old).seen (λ h _ held. HasSearched
+        h held query.now (shown T.kept archive.now).segments r
+        (K.written out.old) (K.written out.new) opened.old opened.new
+        expanded.old expanded.new)) }
+    ensures stopped { OnErr result (OfJournal (D.state disk.old).seen (λ h _ held. HasStopped
+        h held query.now (shown T.kept archive.now).segments
+        (K.written out.old) (K.written out.new) opened.old opened.new
+        expanded.old expanded.new)) }
+
+    // causes
+    ensures damaged { IsErrOf result SearchRefusal.Damaged
+        → OfJournal (D.state disk.old).seen (λ _ _ _. ⊥) }
+    ensures disk_counts { CountsOf SearchRefusal.DiskFault
+        (D.state disk.old).faults (D.state disk.new).faults result }
+    ensures sink_counts { CountsOf SearchRefusal.SinkFault
+        (K.faults out.old) (K.faults out.new) result }
+{
+    let mut tally = Tally {
+        matched: 0,
+        expanded: 0,
+    };
+    let files = archive.files().as_slice();
+    let segments = archive.segments().as_slice();
+    let names = archive.names();
+    let count = search_segments(
+        alloc, query, names, files, segments, disk, out, gathered, &mut tally, opened, expanded,
+    )?;
+    flush(out, gathered)?;
+    Ok(Report {
+        matched: tally.matched,
+        expanded: tally.expanded,
+        opened: count,
+        segments: segments.len() as u64,
+    })
+}
+
+/// Prints the messages of an archive that a pattern matches, in the range: each with the name of its
+/// file and its number in the file, by file and then by number. The pattern is one that
+/// [`read_pattern`](wild_match::read_pattern) read, and the archive the one of the disk.
+///
+/// A barren segment is not read: its head tells that no message of it in the range matches. Of the
+/// others `opened` counts each, and `expanded` counts the messages in the range that the widened
+/// pattern matches.
+///
+/// # Errors
+///
+/// `DiskFault` or `SinkFault`, where the count of faults of the disk or of the output rose; `Damaged`,
+/// where the disk's bytes are no archive; or `OutOfMemory`. The output then has a front of what is
+/// to be printed.
+pub fn search<T: KeepsTexts + Drop, D: Disk, K: Sink, L: Ledger, M: Ledger>(
+    alloc: Global,
+    archive: &Archive<T>,
+    disk: &mut D,
+    pattern: &Pattern,
+    range: &Range,
+    out: &mut K,
+    opened: &mut Steps<L>,
+    expanded: &mut Steps<M>,
+) -> Result<Report, SearchRefusal>
+    requires searched { IsSearched pattern.now }
+    requires opens { Opens (D.state disk.old).seen (shown T.kept archive.now) }
+
+    // what stays
+    ensures rests { Rests (D.state disk.old) (D.state disk.new) }
+    ensures reads { OfJournal (D.state disk.old).seen (λ h es held. ReadsNoBarren h es held
+        (asked pattern.now range.now) (D.state disk.old).ranges (D.state disk.new).ranges) }
+
+    // by the answer
+    ensures done { IfOk result (λ r. OfJournal (D.state disk.old).seen (λ h _ held. HasSearched
+        h held (asked pattern.now range.now) (shown T.kept archive.now).segments r
+        (K.written out.old) (K.written out.new) opened.old opened.new
+        expanded.old expanded.new)) }
+    ensures stopped { OnErr result (OfJournal (D.state disk.old).seen (λ h _ held. HasStopped
+        h held (asked pattern.now range.now) (shown T.kept archive.now).segments
+        (K.written out.old) (K.written out.new) opened.old opened.new
+        expanded.old expanded.new)) }
+
+    // causes
+    ensures damaged { IsErrOf result SearchRefusal.Damaged
+        → OfJournal (D.state disk.old).seen (λ _ _ _. ⊥) }
+    ensures disk_counts { CountsOf SearchRefusal.DiskFault
+        (D.state disk.old).faults (D.state disk.new).faults result }
+    ensures sink_counts { CountsOf SearchRefusal.SinkFault
+        (K.faults out.old) (K.faults out.new) result }
+{
+    let query = Query::new(alloc, pattern, range)?;
+    let mut gathered = Vec::new(alloc);
+    search_archive(
+        alloc,
+        &query,
+        archive,
+        disk,
+        out,
+        &mut gathered,
+        opened,
+        expanded,
+    )
+}
