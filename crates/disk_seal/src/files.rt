@@ -1,5 +1,6 @@
 //! Naming files.
 ghost use Rattle.std.specs.Prelude.{◌≡◌, ◌+◌, ◌≤◌, ℕ, [], ◌∷◌, IfOk, OnOk, OnErr, IsErrOf};
+ghost use Rattle.log_seams.specs.Outside.{CountsOf};
 ghost use Rattle.disk_journal.specs.State.{IsAtEnd};
 ghost use Rattle.disk_journal.specs.Journal.{state_of};
 ghost use Rattle.disk_journal.specs.Calls.{GoesOn, HasAdded, LeavesBeforeOrAfter, StaysAt};
@@ -67,7 +68,12 @@ pub fn register<D: Disk>(
 
     // causes
     ensures full { (end need : ℕ) → IsErrOf result (RegisterRefusal.ArchiveFull end need)
-        → IsFullFor names.now end need (state_of journal.old) }
+        → IsFullFor names.now end need (state_of journal.old)
+        × (journal.new.disk ≡ journal.old.disk) }
+    ensures memory { IsErrOf result RegisterRefusal.OutOfMemory
+        → journal.new.disk ≡ journal.old.disk }
+    ensures counts { CountsOf RegisterRefusal.DiskFault
+        (D.state journal.old.disk.now).faults (D.state journal.new.disk.now).faults result }
 {
     let payload = write_files(alloc, names)?;
     let text = frame(alloc, KIND_FILES, payload.as_slice())?;
