@@ -1,6 +1,11 @@
-use Rattle.std.proofs.Common.{refl, rules}
-use Rattle.clp_commands.proofs.CommandLemmas.{Answers-check, Answers-create, Answers-decode, Answers-files, Answers-scan, Answers-show, Answers-usage}
-use Rattle.clp_commands.proofs.CompleteLemmas.{check_answers, decode_answers, files_answers}
+use Rattle.std.proofs.Common.{refl, rules, subst, sym}
+use Rattle.wild_match.specs.Reading.{IsSearchPattern, IsLoneBackslash}
+use Rattle.wild_match.proofs.Spelling.{IsSearchPattern-not_lone, IsSearchPattern-unique}
+use Rattle.search_engine.specs.Searched.{asked}
+use Rattle.clp_commands.specs.Searching.{AnswersSearch}
+use Rattle.clp_commands.proofs.AnswerLemmas.{RefusesPattern-from, pattern_refusal}
+use Rattle.clp_commands.proofs.CommandLemmas.{Answers-check, Answers-create, Answers-decode, Answers-files, Answers-scan, Answers-search, Answers-show, Answers-usage}
+use Rattle.clp_commands.proofs.CompleteLemmas.{check_answers, decode_answers, files_answers, search_answers, search_refused}
 use Rattle.clp_commands.proofs.top.run.Goals as goal
 
 pub returns-in-Show-clause-answers : goal.returns-in-Show-clause-answers
@@ -37,3 +42,12 @@ returns-in-Decode-clause-answers g c =
     (λ n asks. let e = c.in-Some.ensures.decode n asks in cc (e, c.in-Decode.is, c.in-Some.command-is))
     (decode_answers c.in-Decode.number _ _ _ _ c.decode_file-outcome.result (rw (← c.refusal_of_file.ensures) (record { status_is = c.answer-in-Decode.ensures.status; said = c.answer-in-Decode.ensures.said })) done.keeps done.disk done.sink done.prints
     (λ at is. done.damaged at (search (rules, is))) (λ told count is. done.lacks told count (search (rules, is))) done.there)
+
+pub search_archive-outcome-requires : goal.search_archive-outcome-requires
+search_archive-outcome-requires g c = c.wide_is_wider.ensures.searched _ _ c.in-Ok.ensures.items
+
+pub returns-in-Ok-clause-answers : goal.returns-in-Ok-clause-answers
+returns-in-Ok-clause-answers g c = ?
+
+pub returns-in-Err-clause-answers : goal.returns-in-Err-clause-answers
+returns-in-Err-clause-answers g c = ?
