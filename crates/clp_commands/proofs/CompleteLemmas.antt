@@ -12,7 +12,11 @@ use Rattle.archive_decode.specs.Decoded.{StandsForNone}
 use Rattle.archive_check.specs.Checked.{DamagedAt}
 use Rattle.archive_open.specs.Shown.{RefusedAt}
 use Rattle.search_engine.specs.Scan.{Asked}
-use Rattle.wild_match.specs.Reading.{IsLoneBackslash}
+use Rattle.search_engine.specs.Searched.{asked}
+use Rattle.column_store.specs.declared.range.Range.{Range}
+use Rattle.wild_match.specs.Reading.{IsLoneBackslash, IsSearchPattern}
+use Rattle.wild_match.specs.declared.pattern.Item.{Item}
+use Rattle.wild_match.proofs.Spelling.{IsSearchPattern-unique}
 use Rattle.wild_match.specs.declared.read.PatternRefusal.{PatternRefusal}
 use Rattle.wild_match.specs.declared.read.PatternRefusal.TheVariants.{BadPattern as ReadBadPattern, OutOfMemory as ReadOutOfMemory}
 use Rattle.clp_commands.specs.Around.{Around}
@@ -24,6 +28,7 @@ use Rattle.clp_commands.specs.Ending.{EndsWith, SaysIn, Stayed, TookNothing}
 use Rattle.clp_commands.specs.Outcome.{answer_of, of_file, of_pattern, of_read}
 use Rattle.clp_commands.specs.Refusal.{line_of, status_of}
 use Rattle.clp_commands.specs.Searching.{AnswersSearch, PrintsFound, SparesBarren}
+use Rattle.clp_commands.proofs.GoingLemmas.{KeepsBytes-same}
 use Rattle.clp_commands.proofs.SearchingLemmas.{found_unopened, spares_untouched}
 use Rattle.clp_commands.specs.Reading.{IsComplete, OverJournal}
 use Rattle.clp_commands.specs.declared.outcome.FileRefusal.{FileRefusal}
@@ -105,11 +110,15 @@ search_answers q stats seen old new status answer ends keeps disk sink prints re
 
 -- a pattern that was refused, and has no lone backslash: memory ended before the archive was touched
 pub search_refused : (q : Asked) (stats : Bool) (seen : Around) (disk : DiskState) (status : ℕ) (text : List ℕ) (refusal : PatternRefusal) → IsPatternRefusal text refusal → ((at : ℕ) → IsLoneBackslash text at → ⊥)
-    → status ≡ status_of (of_pattern refusal) → SaysIn seen (line_of [] (of_pattern refusal)) → TookNothing seen.out → Stayed seen.out_faults → KeepsBytes disk disk → AnswersSearch q stats seen disk disk status
-search_refused q stats seen disk status text (ReadBadPattern place) is none s said nothing sink keeps = absurd (none place is)
-search_refused q stats seen disk status text ReadOutOfMemory is none s said nothing sink keeps =
-    search_answers q stats seen disk disk status (Err OutOfMemory) (record { status_is = s; said = said }) keeps
+    → status ≡ status_of (of_pattern refusal) → SaysIn seen (line_of [] (of_pattern refusal)) → TookNothing seen.out → Stayed seen.out_faults → AnswersSearch q stats seen disk disk status
+search_refused q stats seen disk status text (ReadBadPattern place) is none s said nothing sink = absurd (none place is)
+search_refused q stats seen disk status text ReadOutOfMemory is none s said nothing sink =
+    search_answers q stats seen disk disk status (Err OutOfMemory) (record { status_is = s; said = said }) (KeepsBytes-same disk)
     (record { later = omega arith; steady = tt; failed = λ e. absurd (cc (e)); spared = λ x e n. refl })
     (record { later = omega (arith, sink); steady = tt; failed = λ e. absurd (cc (e)); spared = λ x e n. sink })
     (subst (λ o. PrintsFound false q stats disk.seen seen.out.0 o) (sym nothing) (found_unopened false q stats disk.seen seen.out.0 refl))
     (spares_untouched q disk.seen disk.ranges) (λ at e. absurd (cc (e)))
+
+-- the pattern of a text is one
+pub search_pattern : (text : List ℕ) (a b : List Item) (range : Range) (stats : Bool) (seen : Around) (old new : DiskState) (status : ℕ) → IsSearchPattern text a → IsSearchPattern text b → AnswersSearch (asked a range) stats seen old new status → AnswersSearch (asked b range) stats seen old new status
+search_pattern text a b range stats seen old new status is_a is_b answers = subst (λ x. AnswersSearch (asked x range) stats seen old new status) (IsSearchPattern-unique text a b is_a is_b) answers
