@@ -1,7 +1,7 @@
 -- One step of the walk, over what the calls left.
 use Rattle.std.proofs.Common.{◌≡◌, ◌≢◌, ◌⊎◌, inl, inr, ℕ, suc, ◌+◌, ◌<◌, ◌≤◌, List, [], ◌∷◌, ◌++◌, length, Option, Some, None, refl, sym, ◌∙◌, ap, subst, arith}
 use Rattle.std.specs.Prelude.{IsNone, true}
-use Rattle.log_seams.specs.Disk.{DiskState, ReadsOnly}
+use Rattle.log_seams.specs.Disk.{DiskState, IsSynced, Only, ReadsOnly, Rests}
 use Rattle.record_format.specs.declared.header.Header.{Header}
 use Rattle.record_format.specs.Header.{IsHeader, header_bytes}
 use Rattle.disk_journal.specs.Place.{ClosedAt, IsDamaged, OpenAt, Walked}
@@ -14,7 +14,7 @@ use Rattle.archive_open.specs.Shown.{RefusedAt, Spares}
 use Rattle.archive_open.specs.StepsNext.{AreOpening, AreWhole, BuildsTold, Built, EndsWith, GoesOnTo, GoesWith, Looks, NoneTold, ReadsOf, StandsWhole}
 use Rattle.archive_open.proofs.AsideLemmas.{gate_spared, record_spared, spares_none, spares_on}
 use Rattle.archive_open.proofs.ReadLemmas.{Ranges, looks, looks_on}
-use Rattle.disk_journal.proofs.JournalLemmas.{walk_passes}
+use Rattle.disk_journal.proofs.JournalLemmas.{walk_halts, walk_passes}
 use Rattle.archive_open.proofs.WalkLemmas.{Refuses, damaged_here, opening_on, refused_here, whole_here}
 
 -- ---- told or not
@@ -62,6 +62,15 @@ record_told (Some bytes) b header place count p old new o here payload found rea
 
 -- ---- the calls
 
+only_before : (seen : Option (List ℕ)) (old new : List ℕ → Type 0) → ((c : List ℕ) → old c → new c) → Only seen new → Only seen old
+only_before None old new kept only = tt
+only_before (Some bytes) old new kept only = λ c is. only c (kept c is)
+
+-- a disk that was only read, and of which a crash leaves what is read, was one before
+synced_before : (old new : DiskState) → Rests old new → IsSynced new → IsSynced old
+synced_before old new rests synced =
+    only_before old.seen old.images new.images rests.no_fewer (subst (λ (t : Option (List ℕ)). Only t new.images) rests.seen synced)
+
 still_walked : (old new : JournalState) → Looks old new → StaysAt old new → IsWalked old → IsWalked new
 still_walked old new looks stays walked =
     subst (λ (h : Header). Walked (header_bytes h) new.place new.count new.disk.seen) (sym looks.header)
@@ -82,6 +91,7 @@ module _ (b : Built) (old mid : JournalState) (goes : GoesWith b old) (reads : O
   pub walk_ended : HasEnded old mid → EndsWith b mid
   walk_ended ended = record {
     closed = ended.closed;
+    ends = λ synced. walk_halts old.place 10 old mid reads ended goes.walked (synced_before old.disk mid.disk reads.rests synced);
     whole =
         subst (λ h. AreWhole b h mid.place mid.count mid.disk.seen) (sym reads.header)
         (subst (λ n. AreWhole b old.header n mid.count mid.disk.seen) (sym ended.place)

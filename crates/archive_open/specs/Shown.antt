@@ -1,10 +1,11 @@
 -- What an opened archive shows of its journal.
 use Rattle.std.specs.Prelude.{◌≡◌, ◌⊎◌, ◌≤◌, ◌^◌, ℕ, ◌+◌, ◌*◌, List, [], ◌∷◌, ◌++◌, length, map, false, Option, Some, None, option_map, IfSome, All}
 use Rattle.std.specs.List.Sorted.{IsPermutation, IsNonDecreasingBy}
-use Rattle.log_seams.specs.Disk.{DiskState}
+use Rattle.log_seams.specs.Disk.{Rests}
 use Rattle.record_format.specs.declared.header.Header.{Header}
 use Rattle.record_format.specs.Header.{IsHeader, header_bytes}
 use Rattle.disk_journal.specs.Place.{HasWalked}
+use Rattle.disk_journal.specs.State.{JournalState}
 use Rattle.segment_format.specs.declared.head.Head.{Head}
 use Rattle.segment_format.specs.Layout.{head_bytes, head_of}
 use Rattle.archive_meaning.specs.declared.entry.SegmentEntry.{SegmentEntry}
@@ -90,7 +91,13 @@ abbrev pub RefusedAt : ℕ → Option (List ℕ) → Type 0
 RefusedAt at None = Unit {0}
 RefusedAt at (Some bytes) = IsRefused at bytes
 
--- ---- the bytes that are read
+-- ---- the journal, and the bytes that are read
+
+-- the same journal, whose disk was only read
+pub record Looks (old new : JournalState) : Type 0 where
+  pub name : new.name ≡ old.name
+  pub header : new.header ≡ old.header
+  pub rests : Rests old.disk new.disk
 
 -- where the columns of a segment begin that stands behind these entries, and where they end
 abbrev pub columns_begin : Header → List JournalEntry → SegmentEntry → ℕ

@@ -1,13 +1,13 @@
 -- How what was built goes on with a record.
 use Rattle.std.specs.Prelude.{◌≡◌, ◌≢◌, ◌≤◌, ℕ, ◌+◌, List, [], ◌∷◌, ◌++◌, length, take, drop, map, false, true, Option, Some, None, option_map, All}
-use Rattle.log_seams.specs.Disk.{DiskState, Rests}
+use Rattle.log_seams.specs.Disk.{DiskState, IsSynced}
 use Rattle.record_format.specs.declared.header.Header.{Header}
 use Rattle.record_format.specs.Header.{IsHeader}
 use Rattle.segment_format.specs.declared.head.Head.{Head}
 use Rattle.segment_format.specs.Layout.{IsHead, head_bytes}
 use Rattle.disk_journal.specs.Record.{Saved}
 use Rattle.disk_journal.specs.Place.{OpenAt}
-use Rattle.disk_journal.specs.State.{IsWalked, JournalState}
+use Rattle.disk_journal.specs.State.{IsAtEnd, IsWalked, JournalState}
 use Rattle.disk_journal.specs.declared.walk.RecordPlace.{RecordPlace}
 use Rattle.archive_meaning.specs.declared.entry.JournalEntry.{JournalEntry}
 use Rattle.archive_meaning.specs.declared.entry.JournalEntry.TheVariants.{Files, Types, Words, Segment}
@@ -18,6 +18,7 @@ use Rattle.archive_meaning.specs.Stands.{Begins, IsLegal, StandsFor}
 use Rattle.archive_open.specs.declared.files.FileEntry.{FileEntry}
 use Rattle.archive_open.specs.declared.segments.SegmentPlace.{SegmentPlace}
 use Rattle.archive_open.specs.Kept.{Kept}
+pub use Rattle.archive_open.specs.Shown.{Looks}
 use Rattle.archive_open.specs.Shown.{files_of, head_in, kept_of, places_of}
 
 -- a file without messages
@@ -89,12 +90,6 @@ NoHeadTold p (Some bytes) = (head : Head) → ¬ HasHead head (payload_in p byte
 
 -- ---- reading
 
--- the same journal, whose disk was only read
-pub record Looks (old new : JournalState) : Type 0 where
-  pub name : new.name ≡ old.name
-  pub header : new.header ≡ old.header
-  pub rests : Rests old.disk new.disk
-
 -- each range that was read since is within these n bytes
 pub record ReadsWithin (at n : ℕ) (old new : Option (List (ℕ × ℕ))) : Type 0 where
   pub more : List (ℕ × ℕ)
@@ -148,6 +143,7 @@ AreWhole b header place count (Some bytes) = (h : Header) (es : List JournalEntr
 
 pub record EndsWith (b : Built) (j : JournalState) : Type 0 where
   pub closed : j.closed ≡ true
+  pub ends : IsSynced j.disk → IsAtEnd j
   pub whole : AreWhole b j.header j.place j.count j.disk.seen
 
 -- ---- what of a record is read

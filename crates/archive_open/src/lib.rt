@@ -18,7 +18,7 @@ mod walk;
 pub use archive::Archive;
 pub use files::{FileEntry, FileList};
 pub use keeps::KeepsTexts;
-pub use open::open_archive;
+pub use open::{open_archive, open_for_append};
 pub use plain::{PlainBook, PlainBooks};
 pub use refusal::ArchiveRefusal;
 pub use segments::{SegmentList, SegmentPlace};

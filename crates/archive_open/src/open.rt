@@ -1,12 +1,11 @@
 //! Opening an archive.
-ghost use Rattle.std.specs.Prelude.{◌≡◌, ℕ, IfOk, IsErrOf, IsTrue};
+ghost use Rattle.std.specs.Prelude.{◌≡◌, ℕ, IfOk, IsErrOf, IsTrue, OnOk};
 ghost use Rattle.log_seams.specs.Disk.{KeepsBytes};
 ghost use Rattle.log_seams.specs.Outside.{CountsOf};
 ghost use Rattle.disk_journal.specs.Journal.{state_of};
-ghost use Rattle.disk_journal.specs.State.{BeginsWith, IsAtFirst};
+ghost use Rattle.disk_journal.specs.State.{BeginsWith, IsAtEnd, IsAtFirst};
 ghost use Rattle.archive_open.specs.Archive.{shown};
-ghost use Rattle.archive_open.specs.Shown.{Opens, RefusedAt, Spares};
-ghost use Rattle.archive_open.specs.StepsNext.{Looks};
+ghost use Rattle.archive_open.specs.Shown.{Looks, Opens, RefusedAt, Spares};
 
 use crate::archive::Archive;
 use crate::files::FileList;
@@ -18,8 +17,9 @@ use disk_journal::{Journal, start};
 use log_seams::Disk;
 use std::alloc::Global;
 
-// Opens the archive of a journal before its first record.
-fn open_journal<D: Disk, K: KeepsTexts + Drop>(
+/// Opens the archive of a journal before its first record, as [`open_archive`] does that of a disk, and
+/// leaves the journal at its end, where records can be appended.
+pub fn open_for_append<D: Disk, K: KeepsTexts + Drop>(
     alloc: Global,
     journal: &mut Journal<'_, D>,
 ) -> Result<Archive<K>, ArchiveRefusal>
@@ -34,6 +34,9 @@ fn open_journal<D: Disk, K: KeepsTexts + Drop>(
     // by the answer, and causes
     ensures opened { IfOk result (λ archive.
         Opens (D.state journal.old.disk.now).seen (shown K.kept archive)) }
+    ensures header { IfOk result (λ archive.
+        (shown K.kept archive).header ≡ journal.old.header) }
+    ensures at_end { OnOk result (IsAtEnd (state_of journal.new)) }
     ensures damaged { (at : ℕ) → IsErrOf result (ArchiveRefusal.Damaged at)
         → RefusedAt at (D.state journal.old.disk.now).seen }
     ensures counts { CountsOf ArchiveRefusal.DiskFault
@@ -87,5 +90,5 @@ pub fn open_archive<D: Disk, K: KeepsTexts + Drop>(
 {
     let header = start(disk)?;
     let mut journal = Journal::begin(disk, header);
-    open_journal(alloc, &mut journal)
+    open_for_append(alloc, &mut journal)
 }

@@ -8,6 +8,8 @@ mod laws;
 mod record;
 mod refusals;
 mod series;
+#[cfg(test)]
+mod short_tests;
 mod synced;
 #[cfg(test)]
 mod tests;

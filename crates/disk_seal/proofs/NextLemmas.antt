@@ -36,7 +36,7 @@ told_always true p = p
 
 -- ---- the front of a store that runs
 
-gate_at : (h : Header) (told : Option (List ℕ)) (place n : ℕ) (images : List ℕ → Type 0) → AtEnd (header_bytes h) place n told images → entries told n ≡ records_of (journal_in told n)
+pub gate_at : (h : Header) (told : Option (List ℕ)) (place n : ℕ) (images : List ℕ → Type 0) → AtEnd (header_bytes h) place n told images → entries told n ≡ records_of (journal_in told n)
     → IfTold (is_some told) (place + 1 ≡ end_of h (journal_in told n))
 gate_at h None place n images ends spells = tt
 gate_at h (Some bytes) place n images ends spells =

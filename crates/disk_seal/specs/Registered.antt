@@ -1,10 +1,13 @@
 -- The record of the names of files.
-use Rattle.std.specs.Prelude.{ℕ, List, [], length}
+use Rattle.std.specs.Prelude.{◌≡◌, ℕ, List, [], length, is_some}
 use Rattle.disk_journal.specs.Record.{Saved, frame_of}
 use Rattle.disk_journal.specs.State.{JournalState}
 use Rattle.disk_journal.specs.Calls.{IsFull}
 use Rattle.archive_meaning.specs.Spelled.{record_of}
+use Rattle.archive_meaning.specs.Stands.{IsLegal}
 use Rattle.archive_meaning.specs.declared.entry.JournalEntry.TheVariants.{Files}
+use Rattle.disk_seal.specs.Told.{IfTold, journal_in}
+use Rattle.disk_seal.specs.Opening.{MayOpen}
 
 abbrev pub files_record : List (List ℕ) → Saved
 files_record names = record_of [] (Files names)
@@ -16,3 +19,11 @@ files_size names = length (frame_of (files_record names))
 -- it does not fit behind the journal's end
 abbrev pub IsFullFor : List (List ℕ) → ℕ → ℕ → JournalState → Type 0
 IsFullFor names end need j = IsFull end need (files_size names) j
+
+-- where its bytes are told, the journal holds so many names
+abbrev pub HoldsNames : ℕ → JournalState → Type 0
+HoldsNames held j = IfTold (is_some j.disk.seen) ((legal : IsLegal j.header (journal_in j.disk.seen j.count)) → held ≡ length legal.held.names)
+
+-- a store could be opened over a journal with so many names, and can be over the one with further names
+abbrev pub StaysOpen : ℕ → JournalState → JournalState → Type 0
+StaysOpen held old new = MayOpen old → HoldsNames held old → MayOpen new

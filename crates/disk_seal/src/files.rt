@@ -4,7 +4,7 @@ ghost use Rattle.disk_journal.specs.State.{IsAtEnd};
 ghost use Rattle.disk_journal.specs.Journal.{state_of};
 ghost use Rattle.disk_journal.specs.Calls.{GoesOn, HasAdded, LeavesBeforeOrAfter, StaysAt};
 ghost use Rattle.archive_meaning.specs.Sums.{AddsNames};
-ghost use Rattle.disk_seal.specs.Registered.{files_record, files_size, IsFullFor};
+ghost use Rattle.disk_seal.specs.Registered.{files_record, files_size, IsFullFor, StaysOpen};
 ghost use Rattle.disk_seal.specs.declared.files.RegisterRefusal.TheVariants.{OutOfMemory};
 
 use disk_journal::{AppendRefusal, Journal, frame};
@@ -62,6 +62,7 @@ pub fn register<D: Disk>(
         (state_of journal.old) (state_of journal.new)) }
     ensures fits { OnOk result (journal.old.place + 1 + files_size names.now
         ≤ journal.old.header.length_limit) }
+    ensures opens { OnOk result (StaysOpen held (state_of journal.old) (state_of journal.new)) }
     ensures stays { OnErr result (StaysAt (state_of journal.old) (state_of journal.new)) }
 
     // causes

@@ -1,7 +1,8 @@
 //! Preparing a segment in a turn, and committing it.
-ghost use Rattle.std.specs.Prelude.{◌≡◌, ◌+◌, ◌≤◌, ℕ, length, IfOk, IfErr, OnErr, OnOk, IsErrOf};
-ghost use Rattle.turn_lock.specs.Words.{number_of, noted, IsReady};
-ghost use Rattle.disk_seal.specs.View.{state_by};
+ghost use Rattle.std.specs.Prelude.{◌≡◌, ◌+◌, ◌≤◌, ℕ, length, IfOk, IfErr, None, OnErr, OnOk, IsErrOf};
+ghost use mathlib.Core.List.{IsPrefix};
+ghost use Rattle.turn_lock.specs.Words.{number_of, noted, seen, IsReady};
+ghost use Rattle.disk_seal.specs.View.{state_by, Kept};
 ghost use Rattle.disk_seal.specs.Pieces.{added_by, size_of};
 ghost use Rattle.disk_seal.specs.Planned.{HasNumbers};
 ghost use Rattle.disk_seal.specs.declared.plan.PrepareRefusal.TheVariants.{ArchiveFull};
@@ -61,6 +62,7 @@ impl<'d, 'b, D: Disk> Prepared<'d, 'b, D> {
         }) }
         ensures added { OnOk result (HasGrown (told_as (state_by D.state self.entry.turn.value)
             (added_by self.entry.pieces.items)) pass.old pass.new) }
+        ensures runs { OnOk result (self.entry.turn.value.stopped ≡ None) }
         ensures halted { OnErr result (HasGrownSome (added_by self.entry.pieces.items)
             (state_by D.state self.entry.turn.value) pass.old pass.new) }
         ensures fault { IfErr result (λ f. IsFaultOf D.state f pass.old) }
@@ -119,6 +121,9 @@ pub fn prepare<'d, 'b, D: Disk, R: Wait, A: Ledger, B: Ledger, C: Ledger>(
         r.turn.value r.pieces.items) }
     ensures receipt { IfOk result (λ r. (r.file ≡ draft.now.file) × (r.first ≡ draft.now.first)
         × (r.rows ≡ length draft.now.columns.rows)) }
+    ensures kept { IfOk result (λ r. Kept (state_by D.state r.turn.value)) }
+    ensures noted { IfOk result (λ r. IsPrefix (noted types.entry) (seen r.turn.value.types)
+        × IsPrefix (noted words.entry) (seen r.turn.value.words)) }
     ensures refused { OnErr result (HasGivenBack pass.old pass.new) }
     ensures full { (end need : ℕ) (of_types of_words : BookNote)
         → IsErrOf result (ArchiveFull end need of_types of_words)
@@ -132,13 +137,16 @@ pub fn prepare<'d, 'b, D: Disk, R: Wait, A: Ledger, B: Ledger, C: Ledger>(
     let mut turn = pass.take(rt, &mut turns.store);
     turn.value.facts();
     match turn.value.plan(rt, alloc, draft, types, words, turns) {
-        Ok(pieces) => Ok(Prepared {
-            turn,
-            pieces,
-            file: draft.file,
-            first: draft.first,
-            rows: draft.columns.rows(),
-        }),
+        Ok(pieces) => {
+            turn.value.facts();
+            Ok(Prepared {
+                turn,
+                pieces,
+                file: draft.file,
+                first: draft.first,
+                rows: draft.columns.rows(),
+            })
+        }
         Err(refusal) => {
             turn.put(pass);
             Err(refusal)

@@ -29,6 +29,7 @@ impl<'d, 'b, D: Disk> Store<'d, 'b, D> {
         ensures added { OnOk result (AddsAll (size_of pieces.now) (added_by pieces.now)
             (state_by D.state self.old) (state_by D.state self.new)) }
         ensures end { IfOk result (λ end. end ≡ self.new.place + 1) }
+        ensures runs { OnOk result (self.old.stopped ≡ None) }
         ensures halted { OnErr result (IsHalted (added_by pieces.now)
             (state_by D.state self.old) (state_by D.state self.new)) }
         ensures fault { IfErr result (λ f. HasFault f (state_by D.state self.new)) }
@@ -61,6 +62,7 @@ pub(crate) fn put_pieces<'d, 'b, D: Disk>(
     ensures added { OnOk result (HasGrown
         (told_as (state_by D.state turn.entry.value) (added_by pieces.now)) pass.old pass.new) }
     ensures end { IfOk result (λ end. end ≡ turn.entry.value.place + size_of pieces.now + 1) }
+    ensures runs { OnOk result (turn.entry.value.stopped ≡ None) }
     ensures halted { OnErr result (HasGrownSome (added_by pieces.now)
         (state_by D.state turn.entry.value) pass.old pass.new) }
     ensures fault { IfErr result (λ f. IsFaultOf D.state f pass.old) }

@@ -1,0 +1,4 @@
+pub mod PassLemmas
+pub mod PickLemmas
+pub mod PlaceLemmas
+pub mod WorkLemmas

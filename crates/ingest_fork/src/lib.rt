@@ -1,0 +1,13 @@
+//! Fork and join over consecutive pieces of a list of jobs, and what holds of the passes of a turn
+//! lock that the workers used.
+#![tactic(auto)]
+
+mod laws;
+mod passes;
+#[cfg(test)]
+mod tests;
+mod works;
+
+pub use laws::{all_are_joined, each_was_added, picked_are_own};
+pub use passes::{fill, join_all};
+pub use works::{Works, by_workers, by_workers_of};

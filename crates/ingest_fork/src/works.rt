@@ -1,0 +1,135 @@
+//! Jobs that workers do on several threads. Each worker does a consecutive piece of the jobs in turn,
+//! and each job has a keeper of its own, which the worker uses for it.
+ghost use Rattle.std.specs.Prelude.{◌≡◌, ℕ, ◌<◌, ◌≤◌, List, [], ◌∷◌, ◌++◌, length};
+ghost use Rattle.std.specs.Thread.{IsSync};
+ghost use Rattle.ingest_fork.specs.Works.{AllReady, AllFit, AllDone, AllWent};
+
+use std::sync::Wait;
+use std::thread::{Threads, join_mut};
+
+/// A worker, which does jobs of the type `J` one after the other, each with a keeper of the type `K`.
+/// What a worker and a keeper are is told where the trait is implemented, so a type that names a
+/// lifetime may stand there.
+pub trait Works<J, K> {
+    // It is between two jobs.
+    ghost ready: { Self → Type 0 };
+
+    // It may do the job with this keeper.
+    ghost fits: { Self → J → K → Type 0 };
+
+    // It did nothing but some of these jobs.
+    ghost went: { List J → Self → Self → Type 0 };
+
+    // What became of the job and the keeper, of a worker that did it.
+    ghost did: { Self → J → K → J → K → Type 0 };
+
+    /// Does the job.
+    fn work<R: Wait>(&mut self, rt: &R, job: &mut J, keeper: &mut K)
+        requires ready { ready self.old }
+        requires fits { fits self.old job.old keeper.old }
+        ensures ready { ready self.new }
+        ensures went { went (job.old ∷ []) self.old self.new }
+        ensures did { did self.old job.old keeper.old job.new keeper.new };
+
+    // Laws. A worker that did nothing did nothing but these jobs.
+    ghost rests: { (js : List J) (w : Self) → ready w → went js w w };
+
+    // What it did goes together.
+    ghost goes_on: { (js : List J) (a b c : Self) → went js a b → went js b c → went js a c };
+
+    // Who did nothing but a piece of the jobs did nothing but the jobs.
+    ghost wider: { (xs js ys : List J) (a b : Self) → went js a b → went (xs ++ (js ++ ys)) a b };
+
+    // What it may do it may do later.
+    ghost fits_on: { (js : List J) (a b : Self) (j : J) (k : K) → went js a b → fits a j k → fits b j k };
+
+    // What it did later it did.
+    ghost did_on: { (js : List J) (a b : Self) (j l : J) (k m : K) → went js a b → did b j k l m → did a j k l m };
+}
+
+/// One worker does all the jobs, in their order.
+fn in_turn<J, K, W: Works<J, K>, R: Wait>(rt: &R, worker: &mut W, jobs: &mut [J], keepers: &mut [K])
+    requires same { length jobs.old ≡ length keepers.old }
+    requires ready { W.ready worker.old }
+    requires fits { AllFit W.fits (worker.old ∷ []) jobs.old keepers.old }
+    ensures ready { W.ready worker.new }
+    ensures went { W.went jobs.old worker.old worker.new }
+    ensures did { AllDone W.did (worker.old ∷ []) jobs.old keepers.old jobs.new keepers.new }
+{
+    for i in 0..jobs.len() {
+        worker.work(rt, &mut jobs[i], &mut keepers[i]);
+    }
+}
+
+/// The workers do the jobs, each a consecutive piece of them: of `n` jobs the first half of the
+/// workers do as many as is their part in the count of workers. Returns once all are done.
+pub fn by_workers<J: Send, K: Send, W: Works<J, K> + Send, R: Threads + Wait + Sync>(
+    rt: &R,
+    workers: &mut [W],
+    jobs: &mut [J],
+    keepers: &mut [K],
+)
+    requires workers { (0 < length workers.old) × (length workers.old ≤ 64) }
+    requires few { length jobs.old ≤ 4294967296 }
+    requires same { length jobs.old ≡ length keepers.old }
+    requires ready { AllReady W.ready workers.old }
+    requires fits { AllFit W.fits workers.old jobs.old keepers.old }
+    ensures went { AllWent W.ready W.went jobs.old workers.old workers.new }
+    ensures did { AllDone W.did workers.old jobs.old keepers.old jobs.new keepers.new }
+{
+    let count = workers.len();
+    if count == 1 {
+        in_turn(rt, &mut workers[0], jobs, keepers);
+        return;
+    }
+    let half = count / 2;
+    let cut = jobs.len() * half / count;
+    let (these, others) = workers.split_at_mut(half);
+    let (front, back) = jobs.split_at_mut(cut);
+    let (front_keepers, back_keepers) = keepers.split_at_mut(cut);
+    join_mut(
+        rt,
+        &mut ||
+            requires shared { IsSync R.row }
+            requires workers { (0 < length these.now) × (length these.now ≤ 64) }
+            requires few { length front.now ≤ 4294967296 }
+            requires same { length front.now ≡ length front_keepers.now }
+            requires ready { AllReady W.ready these.now }
+            requires fits { AllFit W.fits these.now front.now front_keepers.now }
+            ensures went { AllWent W.ready W.went front.entry.now these.entry.now these.exit.now }
+            ensures did { AllDone W.did these.entry.now front.entry.now front_keepers.entry.now
+                front.exit.now front_keepers.exit.now }
+        { by_workers(rt, these, front, front_keepers) },
+        &mut ||
+            requires shared { IsSync R.row }
+            requires workers { (0 < length others.now) × (length others.now ≤ 64) }
+            requires few { length back.now ≤ 4294967296 }
+            requires same { length back.now ≡ length back_keepers.now }
+            requires ready { AllReady W.ready others.now }
+            requires fits { AllFit W.fits others.now back.now back_keepers.now }
+            ensures went { AllWent W.ready W.went back.entry.now others.entry.now others.exit.now }
+            ensures did { AllDone W.did others.entry.now back.entry.now back_keepers.entry.now
+                back.exit.now back_keepers.exit.now }
+        { by_workers(rt, others, back, back_keepers) },
+    );
+}
+
+/// The same over vectors of workers and keepers. A caller whose keepers' type names a lifetime learns
+/// by it what became of them.
+pub fn by_workers_of<J: Send, K: Send, W: Works<J, K> + Send, R: Threads + Wait + Sync>(
+    rt: &R,
+    workers: &mut Vec<W>,
+    jobs: &mut [J],
+    keepers: &mut Vec<K>,
+)
+    requires workers { (0 < length workers.old.items) × (length workers.old.items ≤ 64) }
+    requires few { length jobs.old ≤ 4294967296 }
+    requires same { length jobs.old ≡ length keepers.old.items }
+    requires ready { AllReady W.ready workers.old.items }
+    requires fits { AllFit W.fits workers.old.items jobs.old keepers.old.items }
+    ensures went { AllWent W.ready W.went jobs.old workers.old.items workers.new.items }
+    ensures did { AllDone W.did workers.old.items jobs.old keepers.old.items
+        jobs.new keepers.new.items }
+{
+    by_workers(rt, workers.as_mut_slice(), jobs, keepers.as_mut_slice());
+}
