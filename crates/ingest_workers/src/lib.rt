@@ -1,10 +1,16 @@
 //! Ingest: logs become the files of an archive.
 #![tactic(auto)]
 
+mod crew;
 mod hand;
+mod ingest;
 mod job;
+mod locks;
 mod outcome;
+mod run;
 mod stop;
+mod worker;
 
+pub use ingest::{IngestRefused};
 pub use job::Job;
 pub use outcome::{Cause, Outcome};
