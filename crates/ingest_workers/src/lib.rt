@@ -4,6 +4,7 @@
 mod hand;
 mod job;
 mod outcome;
+mod sealing;
 mod stop;
 
 pub use job::Job;
