@@ -74,8 +74,9 @@ no_segments s (Words first texts ∷ es) (suc k) is below = no_segments s es k i
 no_segments s (Segment t ∷ es) (suc k) is below = absurd (omega (arith, below, ap length is.1))
 
 -- The journal ends with the segment, and is legal; the texts before it are the first ones of these.
-pub record EndsWith (h : Header) (es : List JournalEntry) (s : SegmentEntry) (types words : Texts) : Type 0 where
+pub record EndsWith (h : Header) (base es : List JournalEntry) (s : SegmentEntry) (types words : Texts) : Type 0 where
   pub before : List JournalEntry
+  pub goes_on : IsPrefix base before
   pub is : es ≡ before ++ Segment s ∷ []
   pub legal : IsLegal h es
   pub types_front : IsPrefix (types_of before) types
@@ -89,7 +90,7 @@ more_taken saved more xs old new all a b is = take-add saved more xs ∙ (ap₂ 
 
 pub ends_with : (ps : List Framed) (f : Front) (s : SegmentEntry) → f.told ≡ true → CanFollow ps f → IsTextsThen s (added_by ps)
     → take f.types_saved (seen f.types) ≡ types_of f.journal → take f.words_saved (seen f.words) ≡ words_of f.journal
-    → EndsWith f.header (f.journal ++ added_by ps) s (seen f.types) (seen f.words)
+    → EndsWith f.header f.journal (f.journal ++ added_by ps) s (seen f.types) (seen f.words)
 ends_with [] f s told can is types words = absurd is
 ends_with (p ∷ ps) f s told can is types words = by_entry (λ rest. ends_with ps (front_with p f) s told can.1 rest types_then words_then) (entry_of (saved_of p.text)) refl is
   where
@@ -102,18 +103,30 @@ ends_with (p ∷ ps) f s told can is types words = by_entry (λ rest. ends_with 
     words_then : take (f.words_saved + p.words) (seen f.words) ≡ words_of (f.journal ++ entry_of (saved_of p.text) ∷ [])
     words_then = more_taken f.words_saved p.words (seen f.words) _ _ _ words (of_told can.0.of_words.these) (words_more f.journal (entry_of (saved_of p.text)))
 
-    by_entry : (IsTextsThen s (added_by ps) → EndsWith f.header ((f.journal ++ entry_of (saved_of p.text) ∷ []) ++ added_by ps) s (seen f.types) (seen f.words)) → (e : JournalEntry) → e ≡ entry_of (saved_of p.text) → IsTextsThen s (e ∷ added_by ps)
-        → EndsWith f.header (f.journal ++ added_by (p ∷ ps)) s (seen f.types) (seen f.words)
+    shorter : EndsWith f.header (f.journal ++ entry_of (saved_of p.text) ∷ []) ((f.journal ++ entry_of (saved_of p.text) ∷ []) ++ added_by ps) s (seen f.types) (seen f.words)
+        → EndsWith f.header f.journal (f.journal ++ added_by (p ∷ ps)) s (seen f.types) (seen f.words)
+    shorter rest =
+        let joined = append_assoc f.journal (entry_of (saved_of p.text) ∷ []) (added_by ps) in
+        record {
+          before = rest.before;
+          goes_on = prefix_trans f.journal (f.journal ++ entry_of (saved_of p.text) ∷ []) rest.before (entry_of (saved_of p.text) ∷ [], refl) rest.goes_on;
+          is = sym joined ∙ rest.is;
+          legal = subst (IsLegal f.header) joined rest.legal;
+          types_front = rest.types_front;
+          words_front = rest.words_front;
+        }
+
+    by_entry : (IsTextsThen s (added_by ps) → EndsWith f.header (f.journal ++ entry_of (saved_of p.text) ∷ []) ((f.journal ++ entry_of (saved_of p.text) ∷ []) ++ added_by ps) s (seen f.types) (seen f.words)) → (e : JournalEntry) → e ≡ entry_of (saved_of p.text) → IsTextsThen s (e ∷ added_by ps)
+        → EndsWith f.header f.journal (f.journal ++ added_by (p ∷ ps)) s (seen f.types) (seen f.words)
     by_entry go_on (Files names) same is = absurd is
-    by_entry go_on (Types first texts) same is =
-        subst (λ es. EndsWith f.header es s (seen f.types) (seen f.words)) (append_assoc f.journal (entry_of (saved_of p.text) ∷ []) (added_by ps)) (go_on is)
-    by_entry go_on (Words first texts) same is =
-        subst (λ es. EndsWith f.header es s (seen f.types) (seen f.words)) (append_assoc f.journal (entry_of (saved_of p.text) ∷ []) (added_by ps)) (go_on is)
+    by_entry go_on (Types first texts) same is = shorter (go_on is)
+    by_entry go_on (Words first texts) same is = shorter (go_on is)
     by_entry go_on (Segment t) same is =
         let last : f.journal ++ added_by (p ∷ ps) ≡ f.journal ++ Segment s ∷ [] = ap₂ (λ e es. f.journal ++ e ∷ es) (sym same ∙ ap (λ x. Segment x) is.0) is.1 in
         let one : f.journal ++ entry_of (saved_of p.text) ∷ [] ≡ f.journal ++ added_by (p ∷ ps) = ap (λ es. f.journal ++ entry_of (saved_of p.text) ∷ es) (sym is.1) in
         record {
           before = f.journal;
+          goes_on = prefix_self f.journal;
           is = last;
           legal = subst (IsLegal f.header) one (of_told can.0.next).legal;
           types_front = take_front f.types_saved (seen f.types) _ types;
@@ -184,8 +197,11 @@ all_canonical version (r ∷ rows) types words more_types more_words (m ∷ ms) 
     (canonical_stays version r types words more_types more_words m a b are.0, all_canonical version rows types words more_types more_words ms a b are.1)
 
 module _ (h : Header) (old es : List JournalEntry) (s : SegmentEntry) (types words noted_types noted_words : Texts) (covered messages : Texts) (file : ℕ)
-    (held_so : Holds h old file covered false false) (ends : EndsWith h es s types words) (begins : IsPrefix old ends.before) (same : s.file ≡ file) (at : s.first ≡ length covered)
+    (base : List JournalEntry) (held_so : Holds h old file covered false false) (ends : EndsWith h base es s types words) (on : IsPrefix old base) (same : s.file ≡ file) (at : s.first ≡ length covered)
     (types_on : IsPrefix noted_types types) (words_on : IsPrefix noted_words words) (canonical : AreCanonical h.version s.rows noted_types noted_words messages) where
+  begins : IsPrefix old ends.before
+  begins = prefix_trans old base ends.before on ends.goes_on
+
   split : (mid : Held) × Run h nothing_held ends.before mid × Run h mid (Segment s ∷ []) ends.legal.held
   split = runs_split h nothing_held ends.legal.held ends.before (Segment s ∷ []) (subst (λ l. Run h nothing_held l ends.legal.held) ends.is ends.legal.run)
 
@@ -198,10 +214,11 @@ module _ (h : Header) (old es : List JournalEntry) (s : SegmentEntry) (types wor
 
   -- others have added nothing to the file
   older : (m : Held) × Run h nothing_held old m × Run h m begins.0 mid
-  unfolding mid split
+  unfolding mid split begins
   older = runs_split h nothing_held mid old begins.0 (subst (λ l. Run h nothing_held l mid) (sym begins.1) split.1)
 
   more : HeldMore held_so.held mid
+  unfolding begins
   more = run_more h held_so.held mid begins.0 (subst (λ m. Run h m begins.0 mid) (one_held h nothing_held older.0 held_so.held old older.1 held_so.run) older.2)
 
   before_are : messages_of file mid.pieces ≡ covered ++ messages_of file more.pieces

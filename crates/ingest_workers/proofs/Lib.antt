@@ -1,2 +1,4 @@
 pub mod JournalLemmas
 pub mod HandLemmas
+pub mod SealLemmas
+pub mod MaySealLemmas

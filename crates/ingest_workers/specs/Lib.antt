@@ -3,3 +3,9 @@ pub mod Stop
 pub mod Parts
 pub mod Journal
 pub mod Hand
+pub mod Namer
+pub mod Sealed
+pub mod MaySeal
+pub mod Doing
+pub mod Worker
+pub mod WorkerLaws

@@ -8,6 +8,7 @@ mod job;
 mod locks;
 mod outcome;
 mod run;
+mod sealing;
 mod stop;
 mod worker;
 

@@ -1,6 +1,9 @@
 //! What came of a job.
+ghost use Rattle.std.specs.Prelude.{◌≡◌};
+ghost use Rattle.ingest_workers.specs.declared.outcome.Cause.TheVariants.{OutOfMemory};
 
 use row_codec::Which;
+use std::alloc::AllocError;
 use thiserror::Error;
 
 /// Why not all messages of a file were sealed.
@@ -42,6 +45,14 @@ pub enum Cause {
         /// How many bytes the records need.
         need: u64,
     },
+}
+
+impl From<AllocError> for Cause {
+    ghost from_gives = { λ _ e. e ≡ OutOfMemory };
+
+    fn from(_error: AllocError) -> Cause {
+        Cause::OutOfMemory
+    }
 }
 
 /// What came of a job.

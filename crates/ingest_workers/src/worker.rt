@@ -1,5 +1,9 @@
 //! A worker: it does jobs with its passes of the two books.
-ghost use Rattle.std.specs.Prelude.{IsSome};
+ghost use Rattle.std.specs.Prelude.{◌≡◌, ◌≤◌, [], Some, IsSome};
+ghost use Rattle.ingest_workers.specs.Worker.{DidJob, DidOnly, GoWith, IsGiven, IsIdle, IsNewJob, MayDo, MayName, NamesOnly};
+ghost use Rattle.ingest_workers.specs.WorkerLaws.{goes_on, wider, rests, fits_on, did_on};
+ghost use Rattle.ingest_workers.specs.Doing.{IsGivenBy, HasDone};
+ghost use Rattle.step_count.specs.Opens.{OpensFor};
 
 use crate::job::Job;
 use crate::run::run_job;
@@ -39,7 +43,12 @@ pub(crate) struct Worker<'b> {
 }
 
 impl<'b> Worker<'b> {
-    pub(crate) fn new(alloc: Global, plan: Plan, passes: BookPasses<'b>) -> Worker<'b> {
+    ghost use Rattle.std.specs.Prelude.{◌≡◌, Some};
+
+    pub(crate) fn new(alloc: Global, plan: Plan, passes: BookPasses<'b>) -> Worker<'b>
+        ensures plan { result.plan ≡ plan }
+        ensures passes { result.passes ≡ Some passes.entry }
+    {
         Worker {
             alloc,
             plan,
@@ -48,7 +57,9 @@ impl<'b> Worker<'b> {
     }
 
     /// Its passes, at its end.
-    pub(crate) fn into_passes(self) -> BookPasses<'b> {
+    pub(crate) fn into_passes(self) -> BookPasses<'b>
+        ensures { self.entry.passes ≡ Some result }
+    {
         let Worker {
             alloc: _,
             plan: _,
@@ -68,7 +79,20 @@ fn do_with_blanks<'b, 'd, S: Source, D: Disk, R: Wait, A: Ledger, B: Ledger, C: 
     job: &mut Job<S>,
     keeper: &mut Pass<'_, Store<'d, 'b, D>>,
     blanks: (Blank, Blank, Blank),
-) -> BookPasses<'b> {
+) -> BookPasses<'b>
+    requires rows { (1 ≤ plan.rows) × (plan.rows ≤ 65536) }
+    requires may { MayName passes }
+    requires with { GoWith D.state plan passes keeper.old }
+    requires new { IsNewJob D.state job.old keeper.old }
+    requires of_types { OpensFor blanks.0 A.name A.parts }
+    requires of_words { OpensFor blanks.1 B.name B.parts }
+    requires of_store { OpensFor blanks.2 C.name C.parts }
+    ensures may { MayName result }
+    ensures names { NamesOnly plan.version (IsGivenBy S.left plan.version job.old)
+        passes.entry result }
+    ensures done { HasDone D.state S.left plan.rows plan.version job.old keeper.old
+        job.new keeper.new }
+{
     let BookPasses { types, words } = passes;
     let (of_types, of_words, of_store) = blanks;
     let turns: Turns<A, B, C> = Turns {
@@ -94,19 +118,29 @@ fn do_job<'b, 'd, S: Source, D: Disk, R: Wait>(
     passes: BookPasses<'b>,
     job: &mut Job<S>,
     keeper: &mut Pass<'_, Store<'d, 'b, D>>,
-) -> BookPasses<'b> {
+) -> BookPasses<'b>
+    requires rows { (1 ≤ plan.rows) × (plan.rows ≤ 65536) }
+    requires may { MayName passes }
+    requires with { GoWith D.state plan passes keeper.old }
+    requires new { IsNewJob D.state job.old keeper.old }
+    ensures may { MayName result }
+    ensures names { NamesOnly plan.version (IsGivenBy S.left plan.version job.old)
+        passes.entry result }
+    ensures done { HasDone D.state S.left plan.rows plan.version job.old keeper.old
+        job.new keeper.new }
+{
     let blanks = (Blank::new(1), Blank::new(1), Blank::new(1));
     do_with_blanks::<_, _, _, Brand, Brand, Brand>(rt, alloc, plan, passes, job, keeper, blanks)
 }
 
 impl<'b, 'k, 'd, S: Source, D: Disk> Works<Job<S>, Pass<'k, Store<'d, 'b, D>>> for Worker<'b> {
-    ghost ready = { λ w. Unit {0} };
+    ghost ready = { IsIdle };
 
-    ghost fits = { λ w j k. Unit {0} };
+    ghost fits = { MayDo D.state };
 
-    ghost went = { λ js w v. Unit {0} };
+    ghost went = { DidOnly S.left };
 
-    ghost did = { λ w j k l m. Unit {0} };
+    ghost did = { DidJob D.state S.left };
 
     fn work<R: Wait>(
         &mut self,
@@ -123,13 +157,13 @@ impl<'b, 'k, 'd, S: Source, D: Disk> Works<Job<S>, Pass<'k, Store<'d, 'b, D>>> f
         };
     }
 
-    ghost rests = { λ js w ready. tt };
+    ghost rests = { rests S.left };
 
-    ghost goes_on = { λ js a b c one two. tt };
+    ghost goes_on = { goes_on S.left };
 
-    ghost wider = { λ xs js ys a b went. tt };
+    ghost wider = { wider S.left };
 
-    ghost fits_on = { λ js a b j k went fits. tt };
+    ghost fits_on = { fits_on D.state S.left };
 
-    ghost did_on = { λ js a b j l k m went did. tt };
+    ghost did_on = { did_on D.state S.left };
 }

@@ -1,0 +1,124 @@
+-- Laws of a worker, which its trait asks for.
+use Rattle.std.proofs.Common.{◌≡◌, ℕ, ◌+◌, ◌<◌, ◌≤◌, List, [], ◌∷◌, ◌++◌, length, sym, refl, ap, ◌∙◌, subst, Option, Some, slice_get, All, map, append-nil, append_assoc}
+use Rattle.std.proofs.lemmas.List.Quantifiers.{All-nil, All-append}
+use mathlib.Core.List.{IsPrefix}
+use Rattle.log_seams.specs.Disk.{DiskState}
+use Rattle.turn_lock.specs.Words.{about, lock_of, number_of, own_list, seen, IsReady, IsStill}
+use Rattle.turn_lock.proofs.FrontLemmas.{prefix_self, prefix_trans}
+use Rattle.ingest_fork.proofs.PlaceLemmas.{at_left, at_right}
+use Rattle.dict_lock.specs.Shared.{BookPass, GoesOn}
+use Rattle.row_codec.specs.Messages.{IsTypeOf, IsWordOf}
+use Rattle.row_codec.specs.Naming.{HasGrown, Known}
+use Rattle.disk_seal.specs.Fixed.{KeeperPass}
+use Rattle.disk_seal.specs.Known.{known_of}
+use Rattle.ingest_workers.specs.declared.job.Job.{Job}
+use Rattle.ingest_workers.specs.declared.worker.BookPasses.{BookPasses}
+use Rattle.ingest_workers.specs.declared.worker.Plan.{Plan}
+use Rattle.ingest_workers.specs.declared.worker.Worker.{Worker}
+use Rattle.ingest_workers.specs.Doing.{IsGivenBy, HasDone}
+use Rattle.ingest_workers.specs.Worker.{MayName, IsIdle, AddsOnly, NamesOnly, IsGiven, DidOnly, GoWith, IsNewJob, MayDo, DidJob}
+
+grows_self : (P : List ℕ → Type 0) (known : Known) → HasGrown P known known
+grows_self P known = record { limit = refl; front = prefix_self known.texts; more = []; added = sym (append-nil known.added); allowed = All-nil P }
+
+grows_then : (P : List ℕ → Type 0) (a b c : Known) → HasGrown P a b → HasGrown P b c → HasGrown P a c
+grows_then P a b c one two = record {
+  limit = two.limit ∙ one.limit;
+  front = prefix_trans a.texts b.texts c.texts one.front two.front;
+  more = one.more ++ two.more;
+  added = two.added ∙ (ap (λ l. l ++ two.more) one.added ∙ append_assoc a.added one.more two.more);
+  allowed = All-append P one.more two.more one.allowed two.allowed;
+}
+
+grows_wider : (P Q : List ℕ → Type 0) (a b : Known) → ((t : List ℕ) → P t → Q t) → HasGrown P a b → HasGrown Q a b
+grows_wider P Q a b f one = record { limit = one.limit; front = one.front; more = one.more; added = one.added; allowed = λ i d lt. f _ (one.allowed i d lt) }
+
+adds_self : (P : List ℕ → Type 0) (p : BookPass) → IsReady p → AddsOnly P p p
+adds_self P p ready = record {
+  goes = record { still = record { lock = refl; number = refl; about_is = refl }; ready = ready; seen_on = prefix_self (seen p) };
+  grown = grows_self P (known_of p);
+}
+
+adds_then : (P : List ℕ → Type 0) (p q r : BookPass) → AddsOnly P p q → AddsOnly P q r → AddsOnly P p r
+adds_then P p q r one two = record {
+  goes = record {
+    still = record {
+      lock = two.goes.still.lock ∙ one.goes.still.lock;
+      number = two.goes.still.number ∙ one.goes.still.number;
+      about_is = two.goes.still.about_is ∙ one.goes.still.about_is;
+    };
+    ready = two.goes.ready;
+    seen_on = prefix_trans (seen p) (seen q) (seen r) one.goes.seen_on two.goes.seen_on;
+  };
+  grown = grows_then P (known_of p) (known_of q) (known_of r) one.grown two.grown;
+}
+
+adds_wider : (P Q : List ℕ → Type 0) (p q : BookPass) → ((t : List ℕ) → P t → Q t) → AddsOnly P p q → AddsOnly Q p q
+adds_wider P Q p q f one = record { goes = one.goes; grown = grows_wider P Q (known_of p) (known_of q) f one.grown }
+
+names_wider : (version : ℕ) (P Q : List ℕ → Type 0) (b c : BookPasses) → ((m : List ℕ) → P m → Q m) → NamesOnly version P b c → NamesOnly version Q b c
+names_wider version P Q b c f one = record {
+  types = adds_wider _ _ b.types c.types (λ t has. (has.0, f has.0 has.1, has.2)) one.types;
+  words = adds_wider _ _ b.words c.words (λ t has. (has.0, f has.0 has.1, has.2)) one.words;
+}
+
+names_then : (version : ℕ) (P : List ℕ → Type 0) (b c d : BookPasses) → NamesOnly version P b c → NamesOnly version P c d → NamesOnly version P b d
+names_then version P b c d one two = record {
+  types = adds_then _ b.types c.types d.types one.types two.types;
+  words = adds_then _ b.words c.words d.words one.words two.words;
+}
+
+module _ {S : Type 0} (left : S → Option (List ℕ)) where
+  pub rests : (js : List (Job S)) (w : Worker) → IsIdle w → DidOnly left js w w
+  rests js w idle = record {
+    plan = refl;
+    before = idle.passes;
+    after = idle.passes;
+    had = idle.has;
+    has = idle.has;
+    names = record { types = adds_self _ idle.passes.types idle.may.types_ready; words = adds_self _ idle.passes.words idle.may.words_ready };
+  }
+
+  pub goes_on : (js : List (Job S)) (a b c : Worker) → DidOnly left js a b → DidOnly left js b c → DidOnly left js a c
+  goes_on js a b c one two = let same : two.before ≡ one.after = cc (two.had, one.has) in
+      let at_plan : NamesOnly a.plan.version (IsGiven left a.plan.version js) two.before two.after
+          = subst (λ (p : Plan). NamesOnly p.version (IsGiven left p.version js) two.before two.after) one.plan two.names in
+      let from : NamesOnly a.plan.version (IsGiven left a.plan.version js) one.after two.after
+          = subst (λ (x : BookPasses). NamesOnly a.plan.version (IsGiven left a.plan.version js) x two.after) same at_plan in record {
+        plan = two.plan ∙ one.plan;
+        before = one.before;
+        after = two.after;
+        had = one.had;
+        has = two.has;
+        names = names_then a.plan.version (IsGiven left a.plan.version js) one.before one.after two.after one.names from;
+      }
+
+  given_wider : (version : ℕ) (xs js ys : List (Job S)) (m : List ℕ) → IsGiven left version js m → IsGiven left version (xs ++ (js ++ ys)) m
+  given_wider version xs js ys m g = (length xs + g.0, g.1, at_right xs (js ++ ys) g.0 ∙ at_left js ys g.0 g.1 g.2, g.3)
+
+  pub wider : (xs js ys : List (Job S)) (a b : Worker) → DidOnly left js a b → DidOnly left (xs ++ (js ++ ys)) a b
+  wider xs js ys a b one = record {
+    plan = one.plan;
+    before = one.before;
+    after = one.after;
+    had = one.had;
+    has = one.has;
+    names = names_wider a.plan.version _ _ one.before one.after (given_wider a.plan.version xs js ys) one.names;
+  }
+
+module _ {S D : Type 0} (state : D → DiskState) (left : S → Option (List ℕ)) where
+  pub fits_on : (js : List (Job S)) (a b : Worker) (j : Job S) (k : KeeperPass D) → DidOnly left js a b → MayDo state a j k → MayDo state b j k
+  fits_on js a b j k one may = let rows = ap (λ (p : Plan). p.rows) one.plan in record {
+    least = subst (λ (n : ℕ). 1 ≤ n) (sym rows) may.least;
+    most = subst (λ (n : ℕ). n ≤ 65536) (sym rows) may.most;
+    fits = λ c has. let same : one.after ≡ c = cc (one.has, has) in let was = may.fits one.before one.had in
+        subst (λ (x : BookPasses). GoWith state b.plan x k) same (record {
+          types = λ x is. one.names.types.goes.still.lock ∙ was.types x is;
+          words = λ x is. one.names.words.goes.still.lock ∙ was.words x is;
+          version = λ x is. ap (λ (p : Plan). p.version) one.plan ∙ was.version x is;
+        });
+    new = may.new;
+  }
+
+  pub did_on : (js : List (Job S)) (a b : Worker) (j l : Job S) (k m : KeeperPass D) → DidOnly left js a b → DidJob state left b j k l m → DidJob state left a j k l m
+  did_on js a b j l k m one did = subst (λ (p : Plan). HasDone state left p.rows p.version j k l m) one.plan did
