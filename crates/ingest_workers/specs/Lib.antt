@@ -9,3 +9,5 @@ pub mod MaySeal
 pub mod Doing
 pub mod Worker
 pub mod WorkerLaws
+pub mod Crew
+pub mod Locked

@@ -1,5 +1,5 @@
 -- What a worker is to a contract: its passes of the two books, what they may add, and what they added.
-use Rattle.std.specs.Prelude.{◌≡◌, ℕ, ◌<◌, ◌≤◌, List, [], Option, Some, slice_get}
+use Rattle.std.specs.Prelude.{◌≡◌, ℕ, ◌<◌, ◌≤◌, List, [], Option, None, Some, IsSome, slice_get}
 use Rattle.log_seams.specs.Disk.{DiskState}
 use Rattle.turn_lock.specs.declared.board.About.{About}
 use Rattle.turn_lock.specs.Words.{about, lock_of, number_of, own_list, IsReady}
@@ -19,6 +19,23 @@ use Rattle.ingest_workers.specs.Outcome.{nothing_done}
 use Rattle.ingest_workers.specs.Journal.{HasSoFar}
 use Rattle.ingest_workers.specs.Doing.{IsGivenBy, HasDone}
 
+pub no_passes : IsSome {T = BookPasses} None → ⊥
+no_passes none = cc (none)
+
+abbrev pub passes_in : (o : Option BookPasses) → IsSome o → BookPasses
+passes_in None none = absurd (no_passes none)
+passes_in (Some b) some = b
+
+-- the passes of a worker between two jobs
+abbrev pub passes_of : Worker → BookPasses
+passes_of w = passes_in w.passes w.full
+
+abbrev pub types_of : Worker → BookPass
+types_of w = (passes_of w).types
+
+abbrev pub words_of : Worker → BookPass
+words_of w = (passes_of w).words
+
 -- both passes are between two turns, one may add log types and one words
 pub record MayName (b : BookPasses) : Type 0 where
   pub types_ready : IsReady b.types
@@ -27,10 +44,8 @@ pub record MayName (b : BookPasses) : Type 0 where
   pub adds_words : WORDS_FIRST < number_of b.words
 
 -- the worker is between two jobs
-pub record IsIdle (w : Worker) : Type 0 where
-  pub passes : BookPasses
-  pub has : w.passes ≡ Some passes
-  pub may : MayName passes
+abbrev pub IsIdle : Worker → Type 0
+IsIdle w = MayName (passes_of w)
 
 -- the pass has seen more, and all that it added meanwhile is such a text
 pub record AddsOnly (P : List ℕ → Type 0) (p q : BookPass) : Type 0 where
@@ -45,24 +60,21 @@ pub record NamesOnly (version : ℕ) (P : List ℕ → Type 0) (b c : BookPasses
 module _ {S : Type 0} (left : S → Option (List ℕ)) where
   -- the message is one of a job's source
   abbrev pub IsGiven : ℕ → List (Job S) → List ℕ → Type 0
-  IsGiven version js m = (i : ℕ) (j : Job S) × (slice_get js i ≡ Some j) × IsGivenBy left version j m
+  IsGiven version js m = (i : ℕ) × (j : Job S) × (slice_get js i ≡ Some j) × IsGivenBy left version j m
 
   -- the worker did nothing but some of these jobs
   pub record DidOnly (js : List (Job S)) (w v : Worker) : Type 0 where
     pub plan : v.plan ≡ w.plan
-    pub before : BookPasses
-    pub after : BookPasses
-    pub had : w.passes ≡ Some before
-    pub has : v.passes ≡ Some after
-    pub names : NamesOnly w.plan.version (IsGiven w.plan.version js) before after
+    pub names : NamesOnly w.plan.version (IsGiven w.plan.version js) (passes_of w) (passes_of v)
 
-module _ {S D : Type 0} (state : D → DiskState) where
+module _ {D : Type 0} where
   -- the passes are of the locks of the store that the keeper is of, and the version is its header's
   pub record GoWith (plan : Plan) (b : BookPasses) (k : KeeperPass D) : Type 0 where
     pub types : (a : About (StoreFixed D)) → about k ≡ Some a → lock_of b.types ≡ a.fixed.types
     pub words : (a : About (StoreFixed D)) → about k ≡ Some a → lock_of b.words ≡ a.fixed.words
     pub version : (a : About (StoreFixed D)) → about k ≡ Some a → plan.version ≡ a.fixed.header.version
 
+module _ {S D : Type 0} (state : D → DiskState) where
   -- the job is new, and so is its file, which the keeper is of
   pub record IsNewJob (j : Job S) (k : KeeperPass D) : Type 0 where
     pub outcome : j.outcome ≡ nothing_done
@@ -76,7 +88,7 @@ module _ {S D : Type 0} (state : D → DiskState) where
   pub record MayDo (w : Worker) (j : Job S) (k : KeeperPass D) : Type 0 where
     pub least : 1 ≤ w.plan.rows
     pub most : w.plan.rows ≤ 65536
-    pub fits : (b : BookPasses) → w.passes ≡ Some b → GoWith w.plan b k
+    pub fits : GoWith w.plan (passes_of w) k
     pub new : IsNewJob j k
 
   -- what became of a job that the worker did

@@ -1,6 +1,6 @@
 -- Laws of a worker, which its trait asks for.
-use Rattle.std.proofs.Common.{◌≡◌, ℕ, ◌+◌, ◌<◌, ◌≤◌, List, [], ◌∷◌, ◌++◌, length, sym, refl, ap, ◌∙◌, subst, Option, Some, slice_get, All, map, append-nil, append_assoc}
-use Rattle.std.proofs.lemmas.List.Quantifiers.{All-nil, All-append}
+use Rattle.std.proofs.Common.{◌≡◌, ℕ, ◌+◌, ◌<◌, ◌≤◌, List, [], ◌∷◌, ◌++◌, length, sym, refl, ap, ◌∙◌, subst, Option, None, Some, IsSome, slice_get, All, map, append-nil, append_assoc}
+use Rattle.std.proofs.lemmas.List.Elements.{All-nil, All-append}
 use mathlib.Core.List.{IsPrefix}
 use Rattle.log_seams.specs.Disk.{DiskState}
 use Rattle.turn_lock.specs.Words.{about, lock_of, number_of, own_list, seen, IsReady, IsStill}
@@ -16,7 +16,7 @@ use Rattle.ingest_workers.specs.declared.worker.BookPasses.{BookPasses}
 use Rattle.ingest_workers.specs.declared.worker.Plan.{Plan}
 use Rattle.ingest_workers.specs.declared.worker.Worker.{Worker}
 use Rattle.ingest_workers.specs.Doing.{IsGivenBy, HasDone}
-use Rattle.ingest_workers.specs.Worker.{MayName, IsIdle, AddsOnly, NamesOnly, IsGiven, DidOnly, GoWith, IsNewJob, MayDo, DidJob}
+use Rattle.ingest_workers.specs.Worker.{passes_in, passes_of, types_of, words_of, MayName, IsIdle, AddsOnly, NamesOnly, IsGiven, DidOnly, GoWith, IsNewJob, MayDo, DidJob}
 
 grows_self : (P : List ℕ → Type 0) (known : Known) → HasGrown P known known
 grows_self P known = record { limit = refl; front = prefix_self known.texts; more = []; added = sym (append-nil known.added); allowed = All-nil P }
@@ -56,7 +56,7 @@ adds_then P p q r one two = record {
 adds_wider : (P Q : List ℕ → Type 0) (p q : BookPass) → ((t : List ℕ) → P t → Q t) → AddsOnly P p q → AddsOnly Q p q
 adds_wider P Q p q f one = record { goes = one.goes; grown = grows_wider P Q (known_of p) (known_of q) f one.grown }
 
-names_wider : (version : ℕ) (P Q : List ℕ → Type 0) (b c : BookPasses) → ((m : List ℕ) → P m → Q m) → NamesOnly version P b c → NamesOnly version Q b c
+pub names_wider : (version : ℕ) (P Q : List ℕ → Type 0) (b c : BookPasses) → ((m : List ℕ) → P m → Q m) → NamesOnly version P b c → NamesOnly version Q b c
 names_wider version P Q b c f one = record {
   types = adds_wider _ _ b.types c.types (λ t has. (has.0, f has.0 has.1, has.2)) one.types;
   words = adds_wider _ _ b.words c.words (λ t has. (has.0, f has.0 has.1, has.2)) one.words;
@@ -68,55 +68,57 @@ names_then version P b c d one two = record {
   words = adds_then _ b.words c.words d.words one.words two.words;
 }
 
+passes_in_is : (o : Option BookPasses) (some : IsSome o) (b : BookPasses) → o ≡ Some b → passes_in o some ≡ b
+passes_in_is None none b is = absurd (cc (is))
+passes_in_is (Some c) some b is = cc (is)
+
+pub passes_is : (w : Worker) (b : BookPasses) → w.passes ≡ Some b → passes_of w ≡ b
+passes_is w b is = passes_in_is w.passes w.full b is
+
+pub idle_with : (o : Option BookPasses) (some : IsSome o) (b : BookPasses) → o ≡ Some b → MayName b → MayName (passes_in o some)
+idle_with o some b is may = subst MayName (sym (passes_in_is o some b is)) may
+
 module _ {S : Type 0} (left : S → Option (List ℕ)) where
   pub rests : (js : List (Job S)) (w : Worker) → IsIdle w → DidOnly left js w w
   rests js w idle = record {
     plan = refl;
-    before = idle.passes;
-    after = idle.passes;
-    had = idle.has;
-    has = idle.has;
-    names = record { types = adds_self _ idle.passes.types idle.may.types_ready; words = adds_self _ idle.passes.words idle.may.words_ready };
+    names = record { types = adds_self _ (types_of w) idle.types_ready; words = adds_self _ (words_of w) idle.words_ready };
   }
 
   pub goes_on : (js : List (Job S)) (a b c : Worker) → DidOnly left js a b → DidOnly left js b c → DidOnly left js a c
-  goes_on js a b c one two = let same : two.before ≡ one.after = cc (two.had, one.has) in
-      let at_plan : NamesOnly a.plan.version (IsGiven left a.plan.version js) two.before two.after
-          = subst (λ (p : Plan). NamesOnly p.version (IsGiven left p.version js) two.before two.after) one.plan two.names in
-      let from : NamesOnly a.plan.version (IsGiven left a.plan.version js) one.after two.after
-          = subst (λ (x : BookPasses). NamesOnly a.plan.version (IsGiven left a.plan.version js) x two.after) same at_plan in record {
+  goes_on js a b c one two =
+      let at_plan : NamesOnly a.plan.version (IsGiven left a.plan.version js) (passes_of b) (passes_of c)
+          = subst (λ (p : Plan). NamesOnly p.version (IsGiven left p.version js) (passes_of b) (passes_of c)) one.plan two.names in record {
         plan = two.plan ∙ one.plan;
-        before = one.before;
-        after = two.after;
-        had = one.had;
-        has = two.has;
-        names = names_then a.plan.version (IsGiven left a.plan.version js) one.before one.after two.after one.names from;
+        names = names_then a.plan.version (IsGiven left a.plan.version js) (passes_of a) (passes_of b) (passes_of c) one.names at_plan;
       }
 
-  given_wider : (version : ℕ) (xs js ys : List (Job S)) (m : List ℕ) → IsGiven left version js m → IsGiven left version (xs ++ (js ++ ys)) m
+  -- a worker that did one job with these passes
+  pub did_one : (j : Job S) (w v : Worker) (b c : BookPasses) → w.passes ≡ Some b → v.passes ≡ Some c → v.plan ≡ w.plan → NamesOnly w.plan.version (IsGivenBy left w.plan.version j) b c → DidOnly left (j ∷ []) w v
+  did_one j w v b c had has plan names = let first = passes_is w b had in let last = passes_is v c has in record {
+    plan = plan;
+    names = rw (first, last) (names_wider w.plan.version _ (IsGiven left w.plan.version (j ∷ [])) b c (λ m g. (0, j, refl, g)) names);
+  }
+
+  pub given_wider : (version : ℕ) (xs js ys : List (Job S)) (m : List ℕ) → IsGiven left version js m → IsGiven left version (xs ++ (js ++ ys)) m
   given_wider version xs js ys m g = (length xs + g.0, g.1, at_right xs (js ++ ys) g.0 ∙ at_left js ys g.0 g.1 g.2, g.3)
 
   pub wider : (xs js ys : List (Job S)) (a b : Worker) → DidOnly left js a b → DidOnly left (xs ++ (js ++ ys)) a b
   wider xs js ys a b one = record {
     plan = one.plan;
-    before = one.before;
-    after = one.after;
-    had = one.had;
-    has = one.has;
-    names = names_wider a.plan.version _ _ one.before one.after (given_wider a.plan.version xs js ys) one.names;
+    names = names_wider a.plan.version _ _ (passes_of a) (passes_of b) (given_wider a.plan.version xs js ys) one.names;
   }
 
 module _ {S D : Type 0} (state : D → DiskState) (left : S → Option (List ℕ)) where
   pub fits_on : (js : List (Job S)) (a b : Worker) (j : Job S) (k : KeeperPass D) → DidOnly left js a b → MayDo state a j k → MayDo state b j k
-  fits_on js a b j k one may = let rows = ap (λ (p : Plan). p.rows) one.plan in record {
+  fits_on js a b j k one may = let rows = ap (λ (p : Plan). p.rows) one.plan in let was = may.fits in record {
     least = subst (λ (n : ℕ). 1 ≤ n) (sym rows) may.least;
     most = subst (λ (n : ℕ). n ≤ 65536) (sym rows) may.most;
-    fits = λ c has. let same : one.after ≡ c = cc (one.has, has) in let was = may.fits one.before one.had in
-        subst (λ (x : BookPasses). GoWith state b.plan x k) same (record {
-          types = λ x is. one.names.types.goes.still.lock ∙ was.types x is;
-          words = λ x is. one.names.words.goes.still.lock ∙ was.words x is;
-          version = λ x is. ap (λ (p : Plan). p.version) one.plan ∙ was.version x is;
-        });
+    fits = record {
+      types = λ x is. one.names.types.goes.still.lock ∙ was.types x is;
+      words = λ x is. one.names.words.goes.still.lock ∙ was.words x is;
+      version = λ x is. ap (λ (p : Plan). p.version) one.plan ∙ was.version x is;
+    };
     new = may.new;
   }
 

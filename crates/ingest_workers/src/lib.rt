@@ -10,6 +10,7 @@ mod outcome;
 mod run;
 mod sealing;
 mod stop;
+mod work;
 mod worker;
 
 pub use ingest::{IngestRefused};
