@@ -4,3 +4,4 @@ pub mod SealLemmas
 pub mod MaySealLemmas
 pub mod CrewLemmas
 pub mod LockLemmas
+pub mod IngestLemmas

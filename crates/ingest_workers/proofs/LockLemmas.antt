@@ -94,6 +94,7 @@ module _ {S D : Type 0} {G : Ghosts (StoreView D) StoreEntry (StoreFixed D)} (st
     front = subst (λ l. IsPrefix l (list_of state after)) seen_then (subst (λ l. IsPrefix (seen_by h.done.middle) l) (sym h.entries) h.done.joined.seen_on);
     passes = h.done.passes;
     passes' = h.done.passes';
+    counted = h.done.fresh.counted;
     opened = λ i p at. let f = h.done.fresh.each i p at in let made = o.made in record {
       number = f.number opening o.about_is ∙ (let e : first + (made_by m + i) ≡ first + i = omega arith in e);
       about_is = f.about_is ∙ o.about_is;

@@ -11,3 +11,4 @@ pub mod Worker
 pub mod WorkerLaws
 pub mod Crew
 pub mod Locked
+pub mod Ingested

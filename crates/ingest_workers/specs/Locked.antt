@@ -100,6 +100,7 @@ module _ {S D : Type 0} (state : D → DiskState) where
     pub front : IsPrefix (list_of state before) (list_of state after)
     pub passes : List (KeeperPass D)
     pub passes' : List (KeeperPass D)
+    pub counted : length passes ≡ length js
     pub opened : (i : ℕ) (p : KeeperPass D) → slice_get passes i ≡ Some p → IsPassOf state first before i p
     pub went : AllWent IsIdle (DidOnly left) js ws ws'
     pub done : AllDone (DidJob state left) ws js passes js' passes'

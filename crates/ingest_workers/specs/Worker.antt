@@ -37,7 +37,7 @@ abbrev pub words_of : Worker → BookPass
 words_of w = (passes_of w).words
 
 -- both passes are between two turns, one may add log types and one words
-pub record MayName (b : BookPasses) : Type 0 where
+pub record MayAddTexts (b : BookPasses) : Type 0 where
   pub types_ready : IsReady b.types
   pub words_ready : IsReady b.words
   pub adds_types : number_of b.types < WORDS_FIRST
@@ -45,7 +45,7 @@ pub record MayName (b : BookPasses) : Type 0 where
 
 -- the worker is between two jobs
 abbrev pub IsIdle : Worker → Type 0
-IsIdle w = MayName (passes_of w)
+IsIdle w = MayAddTexts (passes_of w)
 
 -- the pass has seen more, and all that it added meanwhile is such a text
 pub record AddsOnly (P : List ℕ → Type 0) (p q : BookPass) : Type 0 where

@@ -16,7 +16,7 @@ use Rattle.ingest_workers.specs.declared.worker.BookPasses.{BookPasses}
 use Rattle.ingest_workers.specs.declared.worker.Plan.{Plan}
 use Rattle.ingest_workers.specs.declared.worker.Worker.{Worker}
 use Rattle.ingest_workers.specs.Doing.{IsGivenBy, HasDone}
-use Rattle.ingest_workers.specs.Worker.{passes_in, passes_of, types_of, words_of, MayName, IsIdle, AddsOnly, NamesOnly, IsGiven, DidOnly, GoWith, IsNewJob, MayDo, DidJob}
+use Rattle.ingest_workers.specs.Worker.{passes_in, passes_of, types_of, words_of, MayAddTexts, IsIdle, AddsOnly, NamesOnly, IsGiven, DidOnly, GoWith, IsNewJob, MayDo, DidJob}
 
 grows_self : (P : List ℕ → Type 0) (known : Known) → HasGrown P known known
 grows_self P known = record { limit = refl; front = prefix_self known.texts; more = []; added = sym (append-nil known.added); allowed = All-nil P }
@@ -75,8 +75,8 @@ passes_in_is (Some c) some b is = cc (is)
 pub passes_is : (w : Worker) (b : BookPasses) → w.passes ≡ Some b → passes_of w ≡ b
 passes_is w b is = passes_in_is w.passes w.full b is
 
-pub idle_with : (o : Option BookPasses) (some : IsSome o) (b : BookPasses) → o ≡ Some b → MayName b → MayName (passes_in o some)
-idle_with o some b is may = subst MayName (sym (passes_in_is o some b is)) may
+pub idle_with : (o : Option BookPasses) (some : IsSome o) (b : BookPasses) → o ≡ Some b → MayAddTexts b → MayAddTexts (passes_in o some)
+idle_with o some b is may = subst MayAddTexts (sym (passes_in_is o some b is)) may
 
 module _ {S : Type 0} (left : S → Option (List ℕ)) where
   pub rests : (js : List (Job S)) (w : Worker) → IsIdle w → DidOnly left js w w

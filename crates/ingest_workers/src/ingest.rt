@@ -1,10 +1,19 @@
 //! All jobs, by workers.
+ghost use Rattle.std.specs.Prelude.{◌≡◌, ◌<◌, ◌≤◌, ℕ, is_some, IfOk, IfErr, OnErr, length};
+ghost use Rattle.turn_lock.specs.Words.{id_of, lock_by};
+ghost use Rattle.dict_core.specs.declared.grows.TheConstants.{WORDS_FIRST as words_first};
+ghost use Rattle.disk_journal.specs.Journal.{state_of};
+ghost use Rattle.archive_meaning.specs.Spelled.{types_of};
+ghost use Rattle.disk_seal.specs.WordsIn.{words_of};
+ghost use Rattle.disk_seal.specs.View.{Kept, state_by};
+ghost use Rattle.disk_seal.specs.Opening.{MayOpen};
+ghost use Rattle.ingest_workers.specs.Ingested.{AreNew, AreRefused, HasBook, HasIngested, HoldTexts, IsAsItWas, OpensBook, first_file, plan_of, told_entries};
 
-use crate::crew::{dismiss, enroll};
+use crate::crew::enroll;
 use crate::job::Job;
 use crate::locks::over_store;
 use crate::outcome::{Cause, Outcome};
-use crate::worker::{Plan, Worker};
+use crate::worker::Plan;
 use dict_core::{Book, WORDS_FIRST};
 use dict_lock::SharedBook;
 use disk_journal::Journal;
@@ -35,6 +44,20 @@ struct Order {
     words_saved: u32,
 }
 
+/// The journal of a store, at its end.
+fn end<'b, 'd, D: Disk>(store: Store<'d, 'b, D>) -> Journal<'d, D>
+    ensures name { result.disk.ghost_name ≡ store.entry.name }
+    ensures disk { result.disk.now ≡ store.entry.disk }
+    ensures kept { Kept (state_by D.state store.entry) }
+{
+    let StorePasses {
+        journal,
+        types: _,
+        words: _,
+    } = store.close_store();
+    journal
+}
+
 /// The jobs are done over the journal, with workers that have a pass of each book.
 fn with_workers<'b, 'd, D: Disk + Send, S: Source + Send, R: Threads + Wait + Sync>(
     rt: &R,
@@ -46,13 +69,47 @@ fn with_workers<'b, 'd, D: Disk + Send, S: Source + Send, R: Threads + Wait + Sy
     types: &mut Maker<Book>,
     words_lock: &'b SharedBook,
     words: &mut Maker<Book>,
-) -> Result<Journal<'d, D>, Journal<'d, D>> {
+) -> Result<Journal<'d, D>, Journal<'d, D>>
+    // how it is to be done
+    requires workers { (0 < order.workers) × (order.workers ≤ 64) }
+    requires rows { (1 ≤ order.plan.rows) × (order.plan.rows ≤ 65536) }
+    requires version { order.plan.version ≡ journal.header.version }
+
+    // the journal and the jobs
+    requires journal { MayOpen (state_of journal) }
+    requires jobs { AreNew order.first (state_of journal) jobs.old }
+    requires few { (order.first < 4294967296) × (length jobs.old ≤ 4294967296) }
+
+    // the books
+    requires types_lock { lock_by types.old ≡ id_of types_lock.now }
+    requires words_lock { lock_by words.old ≡ id_of words_lock.now }
+    requires types { OpensBook 0 (is_some (state_of journal).disk.seen) journal.header.types_limit
+        (types_of (told_entries (state_of journal))) order.types_saved types.old }
+    requires words { OpensBook words_first (is_some (state_of journal).disk.seen)
+        journal.header.words_limit (words_of (told_entries (state_of journal)))
+        order.words_saved words.old }
+
+    // by the answer
+    ensures done { IfOk result (λ after. HasIngested S.left order.plan jobs.old jobs.new
+        journal.entry after) }
+    ensures refused { IfErr result (λ after. IsAsItWas journal.entry after) }
+    ensures jobs { OnErr result (jobs.new ≡ jobs.old) }
+{
     let types_reader = types.pass(types_lock);
     let words_reader = words.pass(words_lock);
     let Ok(mut workers) = Vec::with_capacity(alloc, order.workers) else {
         return Err(journal);
     };
-    enroll(&mut workers, alloc, order.plan, order.workers, types_lock, types, words_lock, words);
+    enroll(
+        &mut workers,
+        alloc,
+        order.plan,
+        order.workers,
+        types_lock,
+        types,
+        words_lock,
+        words,
+    );
     let store = Store::open_store(
         journal,
         types_reader,
@@ -61,37 +118,12 @@ fn with_workers<'b, 'd, D: Disk + Send, S: Source + Send, R: Threads + Wait + Sy
         order.words_saved,
     );
     match over_store(rt, alloc, &mut workers, jobs, store, u64::from(order.first)) {
-        Ok(store) => Ok(end(store, workers, types, words)),
-        Err(store) => {
-            let StorePasses {
-                journal,
-                types: _,
-                words: _,
-            } = store.close_store();
-            Err(journal)
-        }
+        Ok(store) => Ok(end(store)),
+        Err(store) => Err(end(store)),
     }
 }
 
-/// Ends the store and the passes of the books.
-fn end<'b, 'd, D: Disk>(
-    store: Store<'d, 'b, D>,
-    workers: Vec<Worker<'b>>,
-    types: &mut Maker<Book>,
-    words: &mut Maker<Book>,
-) -> Journal<'d, D> {
-    let StorePasses {
-        journal,
-        types: of_types,
-        words: of_words,
-    } = store.close_store();
-    types.join(of_types);
-    words.join(of_words);
-    dismiss(workers, types, words);
-    journal
-}
-
-/// The jobs are done over the journal and two locks, which are closed.
+/// The jobs are done over the journal and the locks of the two books.
 fn over_locks<'d, D: Disk + Send, S: Source + Send, R: Threads + Wait + Sync>(
     rt: &R,
     alloc: Global,
@@ -102,17 +134,35 @@ fn over_locks<'d, D: Disk + Send, S: Source + Send, R: Threads + Wait + Sync>(
     mut types: Maker<Book>,
     words_lock: SharedBook,
     mut words: Maker<Book>,
-) -> Result<Journal<'d, D>, Journal<'d, D>> {
-    match with_workers(
+) -> Result<Journal<'d, D>, Journal<'d, D>>
+    // how it is to be done
+    requires workers { (0 < order.workers) × (order.workers ≤ 64) }
+    requires rows { (1 ≤ order.plan.rows) × (order.plan.rows ≤ 65536) }
+    requires version { order.plan.version ≡ journal.header.version }
+
+    // the journal and the jobs
+    requires journal { MayOpen (state_of journal) }
+    requires jobs { AreNew order.first (state_of journal) jobs.old }
+    requires few { (order.first < 4294967296) × (length jobs.old ≤ 4294967296) }
+
+    // the books
+    requires types_lock { lock_by types ≡ id_of types_lock }
+    requires words_lock { lock_by words ≡ id_of words_lock }
+    requires types { OpensBook 0 (is_some (state_of journal).disk.seen) journal.header.types_limit
+        (types_of (told_entries (state_of journal))) order.types_saved types }
+    requires words { OpensBook words_first (is_some (state_of journal).disk.seen)
+        journal.header.words_limit (words_of (told_entries (state_of journal)))
+        order.words_saved words }
+
+    // by the answer
+    ensures done { IfOk result (λ after. HasIngested S.left order.plan jobs.old jobs.new
+        journal.entry after) }
+    ensures refused { IfErr result (λ after. IsAsItWas journal.entry after) }
+    ensures jobs { OnErr result (jobs.new ≡ jobs.old) }
+{
+    with_workers(
         rt, alloc, jobs, order, journal, &types_lock, &mut types, &words_lock, &mut words,
-    ) {
-        Ok(journal) => {
-            let _types = types_lock.close(types);
-            let _words = words_lock.close(words);
-            Ok(journal)
-        }
-        Err(journal) => Err(journal),
-    }
+    )
 }
 
 /// The same with the lock of the log types, over the book of the words.
@@ -125,7 +175,30 @@ fn over_types<'d, D: Disk + Send, S: Source + Send, R: Threads + Wait + Sync>(
     types_lock: SharedBook,
     types: Maker<Book>,
     words: Book,
-) -> Result<Journal<'d, D>, Journal<'d, D>> {
+) -> Result<Journal<'d, D>, Journal<'d, D>>
+    // how it is to be done
+    requires workers { (0 < order.workers) × (order.workers ≤ 64) }
+    requires rows { (1 ≤ order.plan.rows) × (order.plan.rows ≤ 65536) }
+    requires version { order.plan.version ≡ journal.header.version }
+
+    // the journal and the jobs
+    requires journal { MayOpen (state_of journal) }
+    requires jobs { AreNew order.first (state_of journal) jobs.old }
+    requires few { (order.first < 4294967296) × (length jobs.old ≤ 4294967296) }
+
+    // the books
+    requires types_lock { lock_by types ≡ id_of types_lock }
+    requires types { OpensBook 0 (is_some (state_of journal).disk.seen) journal.header.types_limit
+        (types_of (told_entries (state_of journal))) order.types_saved types }
+    requires words { HasBook (is_some (state_of journal).disk.seen) journal.header.words_limit
+        (words_of (told_entries (state_of journal))) order.words_saved words }
+
+    // by the answer
+    ensures done { IfOk result (λ after. HasIngested S.left order.plan jobs.old jobs.new
+        journal.entry after) }
+    ensures refused { IfErr result (λ after. IsAsItWas journal.entry after) }
+    ensures jobs { OnErr result (jobs.new ≡ jobs.old) }
+{
     match SharedBook::new(alloc, words, WORDS_FIRST) {
         Ok((words_lock, words)) => over_locks(
             rt, alloc, jobs, order, journal, types_lock, types, words_lock, words,
@@ -143,7 +216,29 @@ fn over_books<'d, D: Disk + Send, S: Source + Send, R: Threads + Wait + Sync>(
     journal: Journal<'d, D>,
     types: Book,
     words: Book,
-) -> Result<Journal<'d, D>, Journal<'d, D>> {
+) -> Result<Journal<'d, D>, Journal<'d, D>>
+    // how it is to be done
+    requires workers { (0 < order.workers) × (order.workers ≤ 64) }
+    requires rows { (1 ≤ order.plan.rows) × (order.plan.rows ≤ 65536) }
+    requires version { order.plan.version ≡ journal.header.version }
+
+    // the journal and the jobs
+    requires journal { MayOpen (state_of journal) }
+    requires jobs { AreNew order.first (state_of journal) jobs.old }
+    requires few { (order.first < 4294967296) × (length jobs.old ≤ 4294967296) }
+
+    // the books
+    requires types { HasBook (is_some (state_of journal).disk.seen) journal.header.types_limit
+        (types_of (told_entries (state_of journal))) order.types_saved types }
+    requires words { HasBook (is_some (state_of journal).disk.seen) journal.header.words_limit
+        (words_of (told_entries (state_of journal))) order.words_saved words }
+
+    // by the answer
+    ensures done { IfOk result (λ after. HasIngested S.left order.plan jobs.old jobs.new
+        journal.entry after) }
+    ensures refused { IfErr result (λ after. IsAsItWas journal.entry after) }
+    ensures jobs { OnErr result (jobs.new ≡ jobs.old) }
+{
     match SharedBook::new(alloc, types, 0) {
         Ok((lock, maker)) => over_types(rt, alloc, jobs, order, journal, lock, maker, words),
         Err(_) => Err(journal),
@@ -151,7 +246,9 @@ fn over_books<'d, D: Disk + Send, S: Source + Send, R: Threads + Wait + Sync>(
 }
 
 /// None of the jobs was begun, since there was no memory.
-fn refuse<S>(jobs: &mut [Job<S>]) {
+fn refuse<S>(jobs: &mut [Job<S>])
+    ensures { AreRefused jobs.old jobs.new }
+{
     for job in jobs.iter_mut() {
         job.outcome = Outcome {
             messages: 0,
@@ -161,7 +258,13 @@ fn refuse<S>(jobs: &mut [Job<S>]) {
     }
 }
 
-/// Does all the jobs, by workers that run at once.
+/// Does all the jobs, by so many workers that run at once, each with a consecutive piece of the jobs.
+/// Each file is cut into segments of at most so many rows. The journal comes back on each way; its
+/// disk has what was sealed, durably.
+///
+/// # Errors
+///
+/// There was no memory to begin. No job was begun then.
 pub fn ingest<'d, D: Disk + Send, S: Source + Send, R: Threads + Wait + Sync>(
     rt: &R,
     alloc: Global,
@@ -171,14 +274,28 @@ pub fn ingest<'d, D: Disk + Send, S: Source + Send, R: Threads + Wait + Sync>(
     journal: Journal<'d, D>,
     types: Book,
     words: Book,
-) -> Result<Journal<'d, D>, IngestRefused<'d, D>> {
+) -> Result<Journal<'d, D>, IngestRefused<'d, D>>
+    requires workers { (1 ≤ workers) × (workers ≤ 64) }
+    requires rows { (1 ≤ rows) × (rows ≤ 65536) }
+    requires journal { MayOpen (state_of journal) }
+    requires books { HoldTexts (state_of journal) types words }
+    requires jobs { AreNew (first_file jobs.old) (state_of journal) jobs.old }
+    ensures done { IfOk result (λ after. HasIngested S.left (plan_of rows journal.entry)
+        jobs.old jobs.new journal.entry after) }
+    ensures refused { IfErr result (λ r. IsAsItWas journal.entry r.journal) }
+    ensures jobs { OnErr result (AreRefused jobs.old jobs.new) }
+{
+    let first = match jobs.first() {
+        Some(job) => job.file,
+        None => 0,
+    };
     let order = Order {
         workers: (workers as usize).min(jobs.len()).max(1),
         plan: Plan {
             rows,
             version: journal.header.version,
         },
-        first: jobs.first().map_or(0, |job| job.file),
+        first,
         types_saved: types.len(),
         words_saved: words.len(),
     };

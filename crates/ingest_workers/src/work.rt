@@ -2,7 +2,7 @@
 ghost use Rattle.std.specs.Prelude.{◌≡◌, ◌≤◌};
 ghost use Rattle.step_count.specs.Opens.{OpensFor};
 ghost use Rattle.ingest_workers.specs.Doing.{IsGivenBy, HasDone};
-ghost use Rattle.ingest_workers.specs.Worker.{DidJob, DidOnly, GoWith, IsIdle, IsNewJob, MayDo, MayName, NamesOnly};
+ghost use Rattle.ingest_workers.specs.Worker.{DidJob, DidOnly, GoWith, IsIdle, IsNewJob, MayDo, MayAddTexts, NamesOnly};
 ghost use Rattle.ingest_workers.specs.WorkerLaws.{goes_on, wider, rests, fits_on, did_on};
 
 use crate::job::Job;
@@ -29,13 +29,13 @@ fn do_with_blanks<'b, 'd, S: Source, D: Disk, R: Wait, A: Ledger, B: Ledger, C: 
     blanks: (Blank, Blank, Blank),
 ) -> BookPasses<'b>
     requires rows { (1 ≤ plan.rows) × (plan.rows ≤ 65536) }
-    requires may { MayName passes }
+    requires may { MayAddTexts passes }
     requires with { GoWith plan passes keeper.old }
     requires new { IsNewJob D.state job.old keeper.old }
     requires of_types { OpensFor blanks.0 A.name A.parts }
     requires of_words { OpensFor blanks.1 B.name B.parts }
     requires of_store { OpensFor blanks.2 C.name C.parts }
-    ensures may { MayName result }
+    ensures may { MayAddTexts result }
     ensures names { NamesOnly plan.version (IsGivenBy S.left plan.version job.old)
         passes.entry result }
     ensures done { HasDone D.state S.left plan.rows plan.version job.old keeper.old
@@ -68,10 +68,10 @@ fn do_job<'b, 'd, S: Source, D: Disk, R: Wait>(
     keeper: &mut Pass<'_, Store<'d, 'b, D>>,
 ) -> BookPasses<'b>
     requires rows { (1 ≤ plan.rows) × (plan.rows ≤ 65536) }
-    requires may { MayName passes }
+    requires may { MayAddTexts passes }
     requires with { GoWith plan passes keeper.old }
     requires new { IsNewJob D.state job.old keeper.old }
-    ensures may { MayName result }
+    ensures may { MayAddTexts result }
     ensures names { NamesOnly plan.version (IsGivenBy S.left plan.version job.old)
         passes.entry result }
     ensures done { HasDone D.state S.left plan.rows plan.version job.old keeper.old

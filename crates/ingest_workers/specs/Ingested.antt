@@ -1,0 +1,156 @@
+-- When an ingest may begin, and what it leaves.
+use Rattle.std.specs.Prelude.{◌≡◌, ◌⊎◌, ℕ, ◌+◌, ◌<◌, ◌≤◌, Bool, false, List, [], ◌∷◌, ◌++◌, length, is_some, Option, None, Some, slice_get, All}
+use Rattle.std.specs.List.{filter_map}
+use Rattle.log_seams.specs.declared.disk.Disk.{Ghosts as DiskGhosts}
+use Rattle.log_seams.specs.Disk.{DiskState}
+use Rattle.turn_lock.specs.declared.board.About.{About}
+use Rattle.turn_lock.specs.declared.grows.Grows.{Ghosts}
+use Rattle.turn_lock.specs.Words.{about, number_of, own_list, IsOpening}
+use Rattle.ingest_fork.specs.Picked.{entries_in}
+use Rattle.dict_core.specs.Books.{BookState}
+use Rattle.dict_lock.specs.Shared.{BookPass}
+use Rattle.disk_journal.specs.declared.journal.Journal.{Journal}
+use Rattle.disk_journal.specs.Journal.{state_of}
+use Rattle.disk_journal.specs.State.{JournalState}
+use Rattle.archive_meaning.specs.declared.entry.JournalEntry.{JournalEntry}
+use Rattle.archive_meaning.specs.declared.entry.JournalEntry.TheVariants.{Files, Types, Words, Segment}
+use Rattle.archive_meaning.specs.Spelled.{types_of}
+use Rattle.disk_seal.specs.declared.fixed.StoreFixed.{StoreFixed}
+use Rattle.disk_seal.specs.Told.{IfTold, journal_in}
+use Rattle.disk_seal.specs.WordsIn.{words_of}
+use Rattle.disk_seal.specs.View.{StoreView, state_by, journal_of, journal_before, Kept}
+use Rattle.disk_seal.specs.Fixed.{KeeperPass}
+use Rattle.disk_seal.specs.Draft.{journal_seen}
+use Rattle.ingest_workers.specs.declared.job.Job.{Job}
+use Rattle.ingest_workers.specs.declared.worker.Plan.{Plan}
+use Rattle.ingest_workers.specs.declared.outcome.Outcome.{Outcome}
+use Rattle.ingest_workers.specs.declared.outcome.Cause.TheVariants.{OutOfMemory}
+use Rattle.ingest_workers.specs.Outcome.{nothing_done}
+use Rattle.ingest_workers.specs.Journal.{Holds}
+use Rattle.ingest_workers.specs.Doing.{HasDone}
+use Rattle.ingest_workers.specs.Crew.{BookMaker}
+use Rattle.ingest_workers.specs.Locked.{in_file}
+
+-- there was no memory before any work
+abbrev pub not_begun : Outcome
+not_begun = record { messages = 0; whole = false; cause = Some OutOfMemory }
+
+-- the entries of a journal, where they are told
+abbrev pub told_entries : JournalState → List JournalEntry
+told_entries j = journal_in j.disk.seen j.count
+
+-- where the journal's bytes are told, the books have its texts, and the limits of its header
+pub record HoldTexts (j : JournalState) (types words : BookState) : Type 0 where
+  pub types_are : IfTold (is_some j.disk.seen) ((types.texts ≡ types_of (told_entries j)) × (types.limit ≡ j.header.types_limit))
+  pub words_are : IfTold (is_some j.disk.seen) ((words.texts ≡ words_of (told_entries j)) × (words.limit ≡ j.header.words_limit))
+
+module _ {S : Type 0} where
+  -- the file of the first job
+  abbrev pub first_file : List (Job S) → ℕ
+  first_file [] = 0
+  first_file (j ∷ js) = j.file
+
+  -- The job was not done yet, and its file is this one, which where the journal is told has a name there and no segment.
+  pub record IsNewFile (j : JournalState) (file : ℕ) (job : Job S) : Type 0 where
+    pub outcome : job.outcome ≡ nothing_done
+    pub file_is : job.file ≡ file
+    pub small : job.file < 4294967296
+    pub empty : IfTold (is_some j.disk.seen) (Holds j.header (told_entries j) job.file [] false false)
+
+  -- the jobs' files are new, and consecutive from the first one on
+  abbrev pub AreNew : ℕ → JournalState → List (Job S) → Type 0
+  AreNew first j js = (i : ℕ) (job : Job S) → slice_get js i ≡ Some job → IsNewFile j (first + i) job
+
+  -- none of the jobs was begun, since there was no memory
+  pub record AreRefused (js js' : List (Job S)) : Type 0 where
+    pub counted : length js' ≡ length js
+    pub each : (i : ℕ) (job : Job S) → slice_get js' i ≡ Some job → job.outcome ≡ not_begun
+
+  -- the entry is one of texts, or a segment of one of the jobs' files
+  abbrev pub IsOfJobs : List (Job S) → JournalEntry → Type 0
+  IsOfJobs js (Files names) = ⊥
+  IsOfJobs js (Types first texts) = Unit {0}
+  IsOfJobs js (Words first texts) = Unit {0}
+  IsOfJobs js (Segment s) = (i : ℕ) × (job : Job S) × (slice_get js i ≡ Some job) × (job.file ≡ s.file)
+
+-- the book has so many texts; where they are told, these and this limit
+pub record HasBook (told : Bool) (limit : ℕ) (texts : List (List ℕ)) (saved : ℕ) (b : BookState) : Type 0 where
+  pub counted : saved ≡ length b.texts
+  pub are : IfTold told ((b.texts ≡ texts) × (b.limit ≡ limit))
+
+-- the maker is that of a lock just made of a book with so many texts; where they are told, it has these and this limit
+pub record OpensBook {G : Ghosts BookState (List ℕ) ℕ} (first : ℕ) (told : Bool) (limit : ℕ) (texts : List (List ℕ)) (saved : ℕ) (m : BookMaker G) : Type 0 where
+  pub book : BookState
+  pub opening : IsOpening m first book.texts book.limit
+  pub has : HasBook told limit texts saved book
+
+module _ {D : Type 0} {d : DiskGhosts D} where
+  -- the store that is made of a journal and passes that have seen so many texts
+  abbrev pub opened_over : Journal D d → BookPass → BookPass → ℕ → ℕ → StoreView D
+  opened_over j types words types_saved words_saved = record {
+    disk = j.disk.now;
+    name = j.disk.ghost_name;
+    opened = j.disk.now;
+    faults = (d.state j.disk.now).faults;
+    header = j.header;
+    place = j.place;
+    count = j.count;
+    closed = j.closed;
+    first = j.count;
+    types = types;
+    words = words;
+    types_saved = types_saved;
+    words_saved = words_saved;
+    stopped = None;
+  }
+
+  -- The journal's disk is that of a store that was opened over the journal of before, and keeps what a store keeps: its disk's bytes and each image
+  -- of it stand for its entries, since the opening each stands for some first of these with those of before; of a store that a fault stopped they
+  -- stand for these, or these with the one that was under way, and the disk's count of faults rose.
+  pub record IsLeftBy (store : StoreView D) (before after : Journal D d) : Type 0 where
+    pub name : after.disk.ghost_name ≡ before.disk.ghost_name
+    pub opened : store.opened ≡ before.disk.now
+    pub disk : store.disk ≡ after.disk.now
+    pub header : store.header ≡ before.header
+    pub first : store.first ≡ before.count
+    pub kept : Kept (state_by d.state store)
+
+  -- segments of at most so many rows, in the version of the journal's header
+  abbrev pub plan_of : ℕ → Journal D d → Plan
+  plan_of rows j = record { rows = rows; version = j.header.version }
+
+  -- the journal is as it was, or its disk stands for the same entries, to which more may be appended
+  pub record HasStayed (store : StoreView D) (before after : Journal D d) : Type 0 where
+    pub left_by : IsLeftBy store before after
+    pub running : store.stopped ≡ None
+    pub entries : journal_of (state_by d.state store) ≡ told_entries (state_of before)
+
+  abbrev pub IsAsItWas : Journal D d → Journal D d → Type 0
+  IsAsItWas before after = (after ≡ before) ⊎ ((store : StoreView D) × HasStayed store before after)
+
+module _ {S D : Type 0} {d : DiskGhosts D} where
+  -- The job at the place was done, with a pass of its file, over a store that was opened over the journal. The file's segments among the new entries
+  -- are those that the pass added, in order.
+  pub record IsFileOf (left : S → Option (List ℕ)) (plan : Plan) (before : Journal D d) (fresh : List JournalEntry) (i : ℕ) (old : Job S) (js' : List (Job S)) : Type 0 where
+    pub new : Job S
+    pub is : slice_get js' i ≡ Some new
+    pub pass : KeeperPass D
+    pub pass' : KeeperPass D
+    pub number : number_of pass ≡ old.file
+    pub over : About (StoreFixed D)
+    pub about_is : about pass ≡ Some over
+    pub opened : over.fixed.opened ≡ before.disk.now
+    pub header : over.fixed.header ≡ before.header
+    pub own_is : own_list pass ≡ []
+    pub done : HasDone d.state left plan.rows plan.version old pass new pass'
+    pub segments : filter_map (in_file old.file) fresh ≡ filter_map (in_file old.file) (journal_seen (entries_in (own_list pass')))
+
+  -- Each job was done. Where they are told, the journal's entries are those of before and new ones, which are texts and segments of the jobs' files.
+  pub record HasIngested (left : S → Option (List ℕ)) (plan : Plan) (js js' : List (Job S)) (before after : Journal D d) : Type 0 where
+    pub store : StoreView D
+    pub left_by : IsLeftBy store before after
+    pub fresh : List JournalEntry
+    pub grown : journal_of (state_by d.state store) ≡ told_entries (state_of before) ++ fresh
+    pub counted : length js' ≡ length js
+    pub files : (i : ℕ) (job : Job S) → slice_get js i ≡ Some job → IsFileOf left plan before fresh i job js'
+    pub others : All (IsOfJobs js) fresh
