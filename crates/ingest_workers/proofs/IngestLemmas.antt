@@ -44,7 +44,7 @@ use Rattle.ingest_workers.specs.Journal.{Holds}
 use Rattle.ingest_workers.specs.Worker.{MayAddTexts, IsIdle, GoWith, IsNewJob, MayDo, DidJob, passes_of, types_of as types_pass, words_of as words_pass}
 use Rattle.ingest_workers.specs.Crew.{BookMaker, HavePlan, HasEnrolled}
 use Rattle.ingest_workers.specs.Locked.{in_file, file_segment, list_of, list_behind, IsPassOf, IsStillStore, MayDoAt, HasWorked}
-use Rattle.ingest_workers.specs.Ingested.{told_entries, IsNewFile, AreNew, IsOfJobs, HasBook, OpensBook, opened_over, IsLeftBy, HasStayed, IsAsItWas, IsFileOf, HasIngested}
+use Rattle.ingest_workers.specs.Ingested.{first_file, told_entries, IsNewFile, AreNew, IsOfJobs, HasBook, OpensBook, opened_over, IsLeftBy, HasStayed, IsAsItWas, IsFileOf, HasIngested}
 use Rattle.ingest_workers.proofs.JournalLemmas.{seen_joined}
 use Rattle.ingest_workers.proofs.CrewLemmas.{map_at}
 use Rattle.ingest_workers.proofs.LockLemmas.{did_at}
@@ -85,7 +85,7 @@ picked_seen n (Blank ∷ es) = picked_seen n es
 picked_seen n (Stopped ∷ es) = picked_seen n es
 
 -- a store's entry is told of by what holds of the journal's entry in it
-OfEntry : (JournalEntry → Type 0) → StoreEntry → Type 0
+abbrev OfEntry : (JournalEntry → Type 0) → StoreEntry → Type 0
 OfEntry P (Entry e) = P e
 OfEntry P Blank = Unit {0}
 OfEntry P Stopped = Unit {0}
@@ -98,7 +98,7 @@ seen_from P (Entry x ∷ es) f (suc i) e at = seen_from P es (λ n y is. f (suc 
 seen_from P (Blank ∷ es) f i e at = seen_from P es (λ n y is. f (suc n) y is) i e at
 seen_from P (Stopped ∷ es) f i e at = seen_from P es (λ n y is. f (suc n) y is) i e at
 
-module _ {S D : Type 0} {d : DiskGhosts D} (left : S → Option (List ℕ)) where
+module _ {S : Type 0} where
   -- an entry that a pass of one of the jobs may add
   of_jobs : (js : List (Job S)) (i : ℕ) (job : Job S) (n : ℕ) (x : StoreEntry) → slice_get js i ≡ Some job → job.file ≡ n → MayAdd n x → OfEntry (IsOfJobs js) x
   of_jobs js i job n (Entry (Files names)) at file may = may
@@ -108,8 +108,9 @@ module _ {S D : Type 0} {d : DiskGhosts D} (left : S → Option (List ℕ)) wher
   of_jobs js i job n Blank at file may = tt
   of_jobs js i job n Stopped at file may = tt
 
+module _ {S D : Type 0} {d : DiskGhosts D} (left : S → Option (List ℕ)) where
   module _ (before after : Journal D d) (types words : BookPass) (t w : ℕ) (store : StoreView D) where
-    opened : StoreView D
+    abbrev opened : StoreView D
     opened = opened_over before types words t w
 
     pub left_by : fixed_of store ≡ fixed_of opened → after.disk.ghost_name ≡ store.name → after.disk.now ≡ store.disk → Kept (state_by d.state store) → IsLeftBy store before after
@@ -174,6 +175,12 @@ module _ {S D : Type 0} {d : DiskGhosts D} (left : S → Option (List ℕ)) wher
                   (sym (picked_seen (number_of f.keeper) (list_behind d.state opened store)) ∙ (h.files i f.keeper f.keeper_is ∙ picked_seen (number_of f.keeper) (entries_in (own_list f.keeper))));
             }
 
+    pub ingested_by : (o : StoreView D) (f first : ℕ) (plan : Plan) (ws ws' : List Worker) (js js' : List (Job S)) → o ≡ opened → f ≡ first → AreNew first (state_of before) js → HavePlan plan ws
+        → HasWorked d.state left f ws ws' js js' o store → after.disk.ghost_name ≡ store.name → after.disk.now ≡ store.disk → Kept (state_by d.state store)
+        → HasIngested left plan js js' before after
+    ingested_by o f first plan ws ws' js js' is same new planned h name disk kept = ingested first plan ws ws' js js' new planned
+        (subst (λ (n : ℕ). HasWorked d.state left n ws ws' js js' opened store) same (subst (λ (x : StoreView D). HasWorked d.state left f ws ws' js js' x store) is h)) name disk kept
+
     -- a list without the mark is of a store that runs
     unmarked : (told : Option (List ℕ)) (n : ℕ) (o : Option ℕ) → recorded told n ++ mark o ≡ list_of d.state opened → o ≡ None
     unmarked told n None is = refl
@@ -202,9 +209,13 @@ module _ {S D : Type 0} {d : DiskGhosts D} (left : S → Option (List ℕ)) wher
       entries = sym list_now ∙ (ap journal_seen still.entries ∙ list_before);
     })
 
+    pub stayed_by : (o : StoreView D) → o ≡ opened → IsStillStore d.state o store → after.disk.ghost_name ≡ store.name → after.disk.now ≡ store.disk → Kept (state_by d.state store) → IsAsItWas before after
+    stayed_by o is still name disk kept = stayed (subst (λ (x : StoreView D). IsStillStore d.state x store) is still) name disk kept
+
+  module _ (before : Journal D d) (types words : BookPass) (t w : ℕ) where
     -- each worker may do each job
     pub may_do : (first : ℕ) (plan : Plan) (ws : List Worker) (js : List (Job S)) → AreNew first (state_of before) js → HavePlan plan ws → 1 ≤ plan.rows → plan.rows ≤ 65536 → plan.version ≡ before.header.version
-        → ((n : ℕ) (v : Worker) → slice_get ws n ≡ Some v → (lock_of (types_pass v) ≡ lock_of types) × (lock_of (words_pass v) ≡ lock_of words)) → MayDoAt d.state first opened ws js
+        → ((n : ℕ) (v : Worker) → slice_get ws n ≡ Some v → (lock_of (types_pass v) ≡ lock_of types) × (lock_of (words_pass v) ≡ lock_of words)) → MayDoAt d.state first (opened_over before types words t w) ws js
     may_do first plan ws js new planned least most version locks ks even passes n i v job k worker at pass = let r = passes i k pass in let o = r.0 in let at_plan = planned n v worker in let l = locks n v worker in record {
       least = subst (λ (p : Plan). 1 ≤ p.rows) (sym at_plan) least;
       most = subst (λ (p : Plan). p.rows ≤ 65536) (sym at_plan) most;
@@ -220,16 +231,33 @@ module _ {S D : Type 0} {d : DiskGhosts D} (left : S → Option (List ℕ)) wher
         opening = λ a is. let start = ap (λ (x : About (StoreFixed D)). x.start) (same k a o is) in let long = ap length o.seen_is in omega arith;
         own = o.own_is;
         so_far = λ a is. subst (λ (x : About (StoreFixed D)). IfTold (is_some (d.state x.fixed.opened).seen) (Holds x.fixed.header (journal_seen (seen k)) (number_of k) [] false false)) (same k a o is)
-            (subst (λ es. IfTold (is_some (d.state before.disk.now).seen) (Holds before.header es (number_of k) [] false false)) (sym (ap journal_seen o.seen_is ∙ list_before))
+            (subst (λ es. IfTold (is_some (d.state before.disk.now).seen) (Holds before.header es (number_of k) [] false false)) (sym (ap journal_seen o.seen_is ∙ seen_list (d.state before.disk.now).seen before.count None))
             (subst (λ (x : ℕ). IfTold (is_some (d.state before.disk.now).seen) (Holds before.header (told_entries (state_of before)) x [] false false)) ((new i job at).file_is ∙ sym o.number) (new i job at).empty));
       };
     }
       where
         about_opened : About (StoreFixed D)
-        about_opened = record { first = first; start = length (list_of d.state opened); fixed = fixed_of opened }
+        about_opened = record { first = first; start = length (list_of d.state (opened_over before types words t w)); fixed = fixed_of (opened_over before types words t w) }
 
-        same : (k : KeeperPass D) (a : About (StoreFixed D)) {i : ℕ} → IsPassOf d.state first opened i k → about k ≡ Some a → about_opened ≡ a
+        same : (k : KeeperPass D) (a : About (StoreFixed D)) {i : ℕ} → IsPassOf d.state first (opened_over before types words t w) i k → about k ≡ Some a → about_opened ≡ a
         same k a o is = let was = o.about_is in cc (was, is)
+
+    pub may_do_by : (o : StoreView D) (f first : ℕ) (plan : Plan) (ws : List Worker) (js : List (Job S)) → o ≡ opened_over before types words t w → f ≡ first → AreNew first (state_of before) js → HavePlan plan ws
+        → 1 ≤ plan.rows → plan.rows ≤ 65536 → plan.version ≡ before.header.version
+        → ((n : ℕ) (v : Worker) → slice_get ws n ≡ Some v → (lock_of (types_pass v) ≡ lock_of types) × (lock_of (words_pass v) ≡ lock_of words)) → MayDoAt d.state f o ws js
+    may_do_by o f first plan ws js is same new planned least most version locks = subst (λ (n : ℕ). MayDoAt d.state n o ws js) (sym same)
+        (subst (λ (x : StoreView D). MayDoAt d.state first x ws js) (sym is) (may_do first plan ws js new planned least most version locks))
+
+-- The files of jobs have 32 bits.
+pub few_jobs : {S : Type 0} (j : JournalState) (js : List (Job S)) → AreNew (first_file js) j js → (first_file js < 4294967296) × (length js ≤ 4294967296)
+few_jobs {S} j js new = (first js new, ⊎_elim (λ (lt : 4294967296 < length js). absurd (past lt)) (λ (le : length js ≤ 4294967296). le) (cases_lt 4294967296 (length js)))
+  where
+    first : (js : List (Job S)) → AreNew (first_file js) j js → first_file js < 4294967296
+    first [] new = omega arith
+    first (x ∷ js) new = (new 0 x refl).small
+
+    past : 4294967296 < length js → ⊥
+    past lt = let job = there_is js 4294967296 lt in let is = (new 4294967296 job.0 job.1).file_is in let small = (new 4294967296 job.0 job.1).small in omega arith
 
 -- The passes of the two books.
 module _ {G : Ghosts BookState (List ℕ) ℕ} where
@@ -270,3 +298,17 @@ module _ {G : Ghosts BookState (List ℕ) ℕ} where
     e.number _ (still.about_is ∙ o.opening.about_is) ∙ (let n : first + (made_by m1 + i) ≡ first + (1 + i) = omega arith in n),
     e.ready,
   )
+
+  -- workers that were enrolled after the readers' passes were made are idle, and have passes of the same locks
+  pub crew : (told : Bool) (t_limit w_limit : ℕ) (t_texts w_texts : List (List ℕ)) (t_saved w_saved : ℕ) (types t1 t2 words w1 w2 : BookMaker G) (t_reader w_reader : BookPass) (plan : Plan) (vs : List Worker) (count : ℕ)
+      → OpensBook 0 told t_limit t_texts t_saved types → OpensBook WORDS_FIRST told w_limit w_texts w_saved words → IsFreshOf types t_reader → IsFreshOf words w_reader
+      → IsStillBy types t1 → made_by t1 ≡ made_by types + 1 → IsStillBy words w1 → made_by w1 ≡ made_by words + 1 → HasEnrolled t1 t2 w1 w2 plan vs count → count ≤ 64
+      → (n : ℕ) (v : Worker) → slice_get vs n ≡ Some v → IsIdle v × ((lock_of (types_pass v) ≡ lock_of t_reader) × (lock_of (words_pass v) ≡ lock_of w_reader))
+  crew told t_limit w_limit t_texts w_texts t_saved w_saved types t1 t2 words w1 w2 t_reader w_reader plan vs count to wo tf wf ts tm ws wm e few n v at =
+      let counted = e.counted in let lt = slice_get_within vs n v at in
+      let t = later 0 told t_limit t_texts t_saved types t1 t2 t_reader (types_pass v) (map types_pass vs) count n to tf ts tm e.of_types (map_at types_pass vs n v at) in
+      let w = later WORDS_FIRST told w_limit w_texts w_saved words w1 w2 w_reader (words_pass v) (map words_pass vs) count n wo wf ws wm e.of_words (map_at words_pass vs n v at) in
+      let t_number = t.1 in let w_number = w.1 in (
+        record { types_ready = t.2; words_ready = w.2; adds_types = omega arith; adds_words = omega arith },
+        (t.0, w.0),
+      )

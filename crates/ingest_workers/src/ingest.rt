@@ -258,6 +258,16 @@ fn refuse<S>(jobs: &mut [Job<S>])
     }
 }
 
+/// The file of the first job, 0 where there is none.
+fn first_of<S>(jobs: &[Job<S>]) -> u32
+    ensures { result ≡ first_file jobs.now }
+{
+    match jobs.first() {
+        Some(job) => job.file,
+        None => 0,
+    }
+}
+
 /// Does all the jobs, by so many workers that run at once, each with a consecutive piece of the jobs.
 /// Each file is cut into segments of at most so many rows. The journal comes back on each way; its
 /// disk has what was sealed, durably.
@@ -285,17 +295,13 @@ pub fn ingest<'d, D: Disk + Send, S: Source + Send, R: Threads + Wait + Sync>(
     ensures refused { IfErr result (λ r. IsAsItWas journal.entry r.journal) }
     ensures jobs { OnErr result (AreRefused jobs.old jobs.new) }
 {
-    let first = match jobs.first() {
-        Some(job) => job.file,
-        None => 0,
-    };
     let order = Order {
         workers: (workers as usize).min(jobs.len()).max(1),
         plan: Plan {
             rows,
             version: journal.header.version,
         },
-        first,
+        first: first_of(jobs),
         types_saved: types.len(),
         words_saved: words.len(),
     };
