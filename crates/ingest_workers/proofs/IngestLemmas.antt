@@ -39,7 +39,7 @@ use Rattle.disk_seal.proofs.NextLemmas.{told_always}
 use Rattle.ingest_workers.specs.declared.job.Job.{Job}
 use Rattle.ingest_workers.specs.declared.worker.Plan.{Plan}
 use Rattle.ingest_workers.specs.declared.worker.Worker.{Worker}
-use Rattle.ingest_workers.specs.Doing.{HasDone}
+use Rattle.ingest_workers.specs.JobDone.{IsDone}
 use Rattle.ingest_workers.specs.Journal.{Holds}
 use Rattle.ingest_workers.specs.Worker.{MayAddTexts, IsIdle, GoWith, IsNewJob, MayDo, DidJob, passes_of, types_of as types_pass, words_of as words_pass}
 use Rattle.ingest_workers.specs.Crew.{BookMaker, HavePlan, HasEnrolled}
@@ -170,7 +170,7 @@ module _ {S D : Type 0} {d : DiskGhosts D} (left : S → Option (List ℕ)) wher
               opened = refl;
               header = refl;
               own_is = o.own_is;
-              done = subst (λ (x : Plan). HasDone d.state left x.rows x.version job p.0 f.job f.keeper) (planned f.place f.worker f.worker_is) f.did_it;
+              done = subst (λ (x : Plan). IsDone d.state left x.rows x.version job p.0 f.job f.keeper) (planned f.place f.worker f.worker_is) f.did_it;
               segments = subst (λ (x : ℕ). filter_map (in_file x) (journal_seen (list_behind d.state opened store)) ≡ filter_map (in_file x) (journal_seen (entries_in (own_list f.keeper)))) n
                   (sym (picked_seen (number_of f.keeper) (list_behind d.state opened store)) ∙ (h.files i f.keeper f.keeper_is ∙ picked_seen (number_of f.keeper) (entries_in (own_list f.keeper))));
             }

@@ -26,7 +26,7 @@ use Rattle.disk_seal.specs.Fixed.{fixed_of, KeeperPass}
 use Rattle.disk_seal.specs.May.{MayAdd}
 use Rattle.ingest_workers.specs.declared.job.Job.{Job}
 use Rattle.ingest_workers.specs.declared.worker.Worker.{Worker}
-use Rattle.ingest_workers.specs.Doing.{HasDone}
+use Rattle.ingest_workers.specs.JobDone.{IsDone}
 use Rattle.ingest_workers.specs.Journal.{HasAdded}
 use Rattle.ingest_workers.specs.Worker.{IsIdle, MayDo, DidOnly, DidJob}
 use Rattle.ingest_workers.specs.Locked.{KeeperMaker, in_file, file_segment, MayDoAll, MayDoAt, HasDoneAll, HasClosed, HasKept, list_of, list_behind, IsPassOf, IsStillStore, HasWorked}

@@ -27,7 +27,7 @@ use Rattle.ingest_workers.specs.declared.outcome.Outcome.{Outcome}
 use Rattle.ingest_workers.specs.declared.outcome.Cause.TheVariants.{OutOfMemory}
 use Rattle.ingest_workers.specs.Outcome.{nothing_done}
 use Rattle.ingest_workers.specs.Journal.{Holds}
-use Rattle.ingest_workers.specs.Doing.{HasDone}
+use Rattle.ingest_workers.specs.JobDone.{IsDone}
 use Rattle.ingest_workers.specs.Crew.{BookMaker}
 use Rattle.ingest_workers.specs.Locked.{in_file}
 
@@ -142,7 +142,7 @@ module _ {S D : Type 0} {d : DiskGhosts D} where
     pub opened : over.fixed.opened ≡ before.disk.now
     pub header : over.fixed.header ≡ before.header
     pub own_is : own_list pass ≡ []
-    pub done : HasDone d.state left plan.rows plan.version old pass new pass'
+    pub done : IsDone d.state left plan.rows plan.version old pass new pass'
     pub segments : filter_map (in_file old.file) fresh ≡ filter_map (in_file old.file) (journal_seen (entries_in (own_list pass')))
 
   -- Each job was done. Where they are told, the journal's entries are those of before and new ones, which are texts and segments of the jobs' files.

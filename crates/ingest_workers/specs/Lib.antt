@@ -6,7 +6,7 @@ pub mod Hand
 pub mod Namer
 pub mod Sealed
 pub mod MaySeal
-pub mod Doing
+pub mod JobDone
 pub mod Worker
 pub mod WorkerLaws
 pub mod Crew

@@ -17,7 +17,7 @@ use Rattle.ingest_workers.specs.declared.worker.Plan.{Plan}
 use Rattle.ingest_workers.specs.declared.worker.Worker.{Worker}
 use Rattle.ingest_workers.specs.Outcome.{nothing_done}
 use Rattle.ingest_workers.specs.Journal.{HasSoFar}
-use Rattle.ingest_workers.specs.Doing.{IsGivenBy, HasDone}
+use Rattle.ingest_workers.specs.JobDone.{IsGivenBy, IsDone}
 
 pub no_passes : IsSome {T = BookPasses} None → ⊥
 no_passes none = cc (none)
@@ -93,4 +93,4 @@ module _ {S D : Type 0} (state : D → DiskState) where
 
   -- what became of a job that the worker did
   abbrev pub DidJob : (S → Option (List ℕ)) → Worker → Job S → KeeperPass D → Job S → KeeperPass D → Type 0
-  DidJob left w j k l m = HasDone state left w.plan.rows w.plan.version j k l m
+  DidJob left w j k l m = IsDone state left w.plan.rows w.plan.version j k l m

@@ -15,7 +15,7 @@ use Rattle.ingest_workers.specs.declared.job.Job.{Job}
 use Rattle.ingest_workers.specs.declared.worker.BookPasses.{BookPasses}
 use Rattle.ingest_workers.specs.declared.worker.Plan.{Plan}
 use Rattle.ingest_workers.specs.declared.worker.Worker.{Worker}
-use Rattle.ingest_workers.specs.Doing.{IsGivenBy, HasDone}
+use Rattle.ingest_workers.specs.JobDone.{IsGivenBy, IsDone}
 use Rattle.ingest_workers.specs.Worker.{passes_in, passes_of, types_of, words_of, MayAddTexts, IsIdle, AddsOnly, NamesOnly, IsGiven, DidOnly, GoWith, IsNewJob, MayDo, DidJob}
 
 grows_self : (P : List ℕ → Type 0) (known : Known) → HasGrown P known known
@@ -123,4 +123,4 @@ module _ {S D : Type 0} (state : D → DiskState) (left : S → Option (List ℕ
   }
 
   pub did_on : (js : List (Job S)) (a b : Worker) (j l : Job S) (k m : KeeperPass D) → DidOnly left js a b → DidJob state left b j k l m → DidJob state left a j k l m
-  did_on js a b j l k m one did = subst (λ (p : Plan). HasDone state left p.rows p.version j k l m) one.plan did
+  did_on js a b j l k m one did = subst (λ (p : Plan). IsDone state left p.rows p.version j k l m) one.plan did

@@ -8,7 +8,7 @@ ghost use Rattle.ingest_workers.specs.Outcome.{nothing_done};
 ghost use Rattle.ingest_workers.specs.Journal.{HasSoFar};
 ghost use Rattle.ingest_workers.specs.Namer.{IsNamerOf, types_pass, words_pass};
 ghost use Rattle.ingest_workers.specs.MaySeal.{IsWorker};
-ghost use Rattle.ingest_workers.specs.Doing.{IsGivenBy, HasDone};
+ghost use Rattle.ingest_workers.specs.JobDone.{IsGivenBy, IsDone};
 ghost use Rattle.ingest_workers.specs.Worker.{AddsOnly};
 
 use crate::job::Job;
@@ -37,6 +37,6 @@ pub fn run_job<'d, 'b, S: Source, D: Disk, R: Wait, A: Ledger, B: Ledger, C: Led
     ensures version { namer.new.version ≡ namer.old.version }
     ensures types { AddsOnly (λ t. (m : List ℕ) × IsGivenBy S.left namer.old.version job.old m × IsTypeOf namer.old.version m t) (types_pass namer.old) (types_pass namer.new) }
     ensures words { AddsOnly (λ t. (m : List ℕ) × IsGivenBy S.left namer.old.version job.old m × IsWordOf namer.old.version m t) (words_pass namer.old) (words_pass namer.new) }
-    ensures done { HasDone D.state S.left rows namer.old.version job.old keeper.old job.new keeper.new }
+    ensures done { IsDone D.state S.left rows namer.old.version job.old keeper.old job.new keeper.new }
 {
 }

@@ -1,7 +1,7 @@
 //! What a worker does: jobs, with its passes of the two books.
 ghost use Rattle.std.specs.Prelude.{◌≡◌, ◌≤◌};
 ghost use Rattle.step_count.specs.Opens.{OpensFor};
-ghost use Rattle.ingest_workers.specs.Doing.{IsGivenBy, HasDone};
+ghost use Rattle.ingest_workers.specs.JobDone.{IsGivenBy, IsDone};
 ghost use Rattle.ingest_workers.specs.Worker.{DidJob, DidOnly, GoWith, IsIdle, IsNewJob, MayDo, MayAddTexts, NamesOnly};
 ghost use Rattle.ingest_workers.specs.WorkerLaws.{goes_on, wider, rests, fits_on, did_on};
 
@@ -38,7 +38,7 @@ fn do_with_blanks<'b, 'd, S: Source, D: Disk, R: Wait, A: Ledger, B: Ledger, C: 
     ensures may { MayAddTexts result }
     ensures names { NamesOnly plan.version (IsGivenBy S.left plan.version job.old)
         passes.entry result }
-    ensures done { HasDone D.state S.left plan.rows plan.version job.old keeper.old
+    ensures done { IsDone D.state S.left plan.rows plan.version job.old keeper.old
         job.new keeper.new }
 {
     let BookPasses { types, words } = passes;
@@ -74,7 +74,7 @@ fn do_job<'b, 'd, S: Source, D: Disk, R: Wait>(
     ensures may { MayAddTexts result }
     ensures names { NamesOnly plan.version (IsGivenBy S.left plan.version job.old)
         passes.entry result }
-    ensures done { HasDone D.state S.left plan.rows plan.version job.old keeper.old
+    ensures done { IsDone D.state S.left plan.rows plan.version job.old keeper.old
         job.new keeper.new }
 {
     let blanks = (Blank::new(1), Blank::new(1), Blank::new(1));
