@@ -44,7 +44,8 @@ use Rattle.ingest_workers.specs.Journal.{Holds}
 use Rattle.ingest_workers.specs.Worker.{MayAddTexts, IsIdle, GoWith, IsNewJob, MayDo, DidJob, passes_of, types_of as types_pass, words_of as words_pass}
 use Rattle.ingest_workers.specs.Crew.{BookMaker, HavePlan, HasEnrolled}
 use Rattle.ingest_workers.specs.Locked.{in_file, file_segment, list_of, list_behind, IsPassOf, IsStillStore, MayDoAt, HasWorked}
-use Rattle.ingest_workers.specs.Ingested.{first_file, told_entries, IsNewFile, AreNew, IsOfJobs, HasBook, OpensBook, opened_over, IsLeftBy, HasStayed, IsAsItWas, IsFileOf, HasIngested}
+use Rattle.ingest_workers.specs.Ingested.{first_file, told_entries, IsNewFile, AreNew, IsOfJobs, HasBook, OpensBook, opened_over, IsLeftBy, HasStayed, IsAsItWas, IsFileOf, HasStored, HasEndedBooks, HasIngested, IsTypeGiven, IsWordGiven}
+use Rattle.ingest_workers.specs.Closing.{IsJournalOf}
 use Rattle.ingest_workers.proofs.JournalLemmas.{seen_joined}
 use Rattle.ingest_workers.proofs.CrewLemmas.{map_at}
 use Rattle.ingest_workers.proofs.LockLemmas.{did_at}
@@ -113,13 +114,17 @@ module _ {S D : Type 0} {d : DiskGhosts D} (left : S → Option (List ℕ)) wher
     abbrev opened : StoreView D
     opened = opened_over before types words t w
 
-    pub left_by : fixed_of store ≡ fixed_of opened → after.disk.ghost_name ≡ store.name → after.disk.now ≡ store.disk → Kept (state_by d.state store) → IsLeftBy store before after
-    left_by fixed name disk kept = record {
-      name = name ∙ ap (λ (f : StoreFixed D). f.name) fixed;
+    pub left_by : fixed_of store ≡ fixed_of opened → IsJournalOf store after → Kept (state_by d.state store) → IsLeftBy store before after
+    left_by fixed back kept = record {
+      name = back.name ∙ ap (λ (f : StoreFixed D). f.name) fixed;
       opened = ap (λ (f : StoreFixed D). f.opened) fixed;
-      disk = sym disk;
+      disk = sym back.disk;
       header = ap (λ (f : StoreFixed D). f.header) fixed;
       first = ap (λ (f : StoreFixed D). f.first) fixed;
+      header_now = back.header ∙ ap (λ (f : StoreFixed D). f.header) fixed;
+      place = back.place;
+      count = back.count;
+      closed = back.closed;
       kept = kept;
     }
 
@@ -130,11 +135,11 @@ module _ {S D : Type 0} {d : DiskGhosts D} (left : S → Option (List ℕ)) wher
     list_now = seen_list (d.state store.disk).seen store.count store.stopped
 
     pub ingested : (first : ℕ) (plan : Plan) (ws ws' : List Worker) (js js' : List (Job S)) → AreNew first (state_of before) js → HavePlan plan ws
-        → HasWorked d.state left first ws ws' js js' opened store → after.disk.ghost_name ≡ store.name → after.disk.now ≡ store.disk → Kept (state_by d.state store)
-        → HasIngested left plan js js' before after
-    ingested first plan ws ws' js js' new planned h name disk kept = record {
+        → HasWorked d.state left first ws ws' js js' opened store → IsJournalOf store after → Kept (state_by d.state store)
+        → HasStored left plan js js' before after
+    ingested first plan ws ws' js js' new planned h back kept = record {
       store = store;
-      left_by = left_by h.fixed name disk kept;
+      left_by = left_by h.fixed back kept;
       fresh = journal_seen (list_behind d.state opened store);
       grown = sym list_now ∙ (ap journal_seen (sym h.front.1) ∙ (seen_joined (list_of d.state opened) h.front.0
           ∙ (ap (λ l. l ++ journal_seen h.front.0) list_before ∙ ap (λ l. told_entries (state_of before) ++ journal_seen l) (sym behind))));
@@ -176,10 +181,10 @@ module _ {S D : Type 0} {d : DiskGhosts D} (left : S → Option (List ℕ)) wher
             }
 
     pub ingested_by : (o : StoreView D) (f first : ℕ) (plan : Plan) (ws ws' : List Worker) (js js' : List (Job S)) → o ≡ opened → f ≡ first → AreNew first (state_of before) js → HavePlan plan ws
-        → HasWorked d.state left f ws ws' js js' o store → after.disk.ghost_name ≡ store.name → after.disk.now ≡ store.disk → Kept (state_by d.state store)
-        → HasIngested left plan js js' before after
-    ingested_by o f first plan ws ws' js js' is same new planned h name disk kept = ingested first plan ws ws' js js' new planned
-        (subst (λ (n : ℕ). HasWorked d.state left n ws ws' js js' opened store) same (subst (λ (x : StoreView D). HasWorked d.state left f ws ws' js js' x store) is h)) name disk kept
+        → HasWorked d.state left f ws ws' js js' o store → IsJournalOf store after → Kept (state_by d.state store)
+        → HasStored left plan js js' before after
+    ingested_by o f first plan ws ws' js js' is same new planned h back kept = ingested first plan ws ws' js js' new planned
+        (subst (λ (n : ℕ). HasWorked d.state left n ws ws' js js' opened store) same (subst (λ (x : StoreView D). HasWorked d.state left f ws ws' js js' x store) is h)) back kept
 
     -- a list without the mark is of a store that runs
     unmarked : (told : Option (List ℕ)) (n : ℕ) (o : Option ℕ) → recorded told n ++ mark o ≡ list_of d.state opened → o ≡ None
@@ -202,15 +207,15 @@ module _ {S D : Type 0} {d : DiskGhosts D} (left : S → Option (List ℕ)) wher
         no_mark None n xs is = not_blank n xs is
         no_mark (Some bytes) n xs is = not_entry (journal_in (Some bytes) n) xs is
 
-    pub stayed : IsStillStore d.state opened store → after.disk.ghost_name ≡ store.name → after.disk.now ≡ store.disk → Kept (state_by d.state store) → IsAsItWas before after
-    stayed still name disk kept = inr (store, record {
-      left_by = left_by still.fixed name disk kept;
+    pub stayed : IsStillStore d.state opened store → IsJournalOf store after → Kept (state_by d.state store) → IsAsItWas before after
+    stayed still back kept = inr (store, record {
+      left_by = left_by still.fixed back kept;
       running = unmarked (d.state store.disk).seen store.count store.stopped still.entries;
       entries = sym list_now ∙ (ap journal_seen still.entries ∙ list_before);
     })
 
-    pub stayed_by : (o : StoreView D) → o ≡ opened → IsStillStore d.state o store → after.disk.ghost_name ≡ store.name → after.disk.now ≡ store.disk → Kept (state_by d.state store) → IsAsItWas before after
-    stayed_by o is still name disk kept = stayed (subst (λ (x : StoreView D). IsStillStore d.state x store) is still) name disk kept
+    pub stayed_by : (o : StoreView D) → o ≡ opened → IsStillStore d.state o store → IsJournalOf store after → Kept (state_by d.state store) → IsAsItWas before after
+    stayed_by o is still back kept = stayed (subst (λ (x : StoreView D). IsStillStore d.state x store) is still) back kept
 
   module _ (before : Journal D d) (types words : BookPass) (t w : ℕ) where
     -- each worker may do each job

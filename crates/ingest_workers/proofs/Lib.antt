@@ -5,3 +5,4 @@ pub mod MaySealLemmas
 pub mod CrewLemmas
 pub mod LockLemmas
 pub mod IngestLemmas
+pub mod ClosingLemmas

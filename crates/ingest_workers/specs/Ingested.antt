@@ -9,6 +9,7 @@ use Rattle.turn_lock.specs.Words.{about, number_of, own_list, IsOpening}
 use Rattle.ingest_fork.specs.Picked.{entries_in}
 use Rattle.dict_core.specs.Books.{BookState}
 use Rattle.dict_lock.specs.Shared.{BookPass}
+use Rattle.row_codec.specs.Messages.{IsTypeOf, IsWordOf}
 use Rattle.disk_journal.specs.declared.journal.Journal.{Journal}
 use Rattle.disk_journal.specs.Journal.{state_of}
 use Rattle.disk_journal.specs.State.{JournalState}
@@ -28,7 +29,8 @@ use Rattle.ingest_workers.specs.declared.outcome.Cause.TheVariants.{OutOfMemory}
 use Rattle.ingest_workers.specs.Outcome.{nothing_done}
 use Rattle.ingest_workers.specs.Journal.{Holds}
 use Rattle.ingest_workers.specs.JobDone.{IsDone}
-use Rattle.ingest_workers.specs.Crew.{BookMaker}
+use Rattle.ingest_workers.specs.Crew.{BookMaker, EndsBook}
+use Rattle.ingest_workers.specs.Worker.{IsGiven}
 use Rattle.ingest_workers.specs.Locked.{in_file}
 
 -- there was no memory before any work
@@ -65,6 +67,13 @@ module _ {S : Type 0} where
   pub record AreRefused (js js' : List (Job S)) : Type 0 where
     pub counted : length js' ≡ length js
     pub each : (i : ℕ) (job : Job S) → slice_get js' i ≡ Some job → job.outcome ≡ not_begun
+
+  -- the text is one of the encoding of a message of one of the jobs' sources
+  abbrev pub IsTypeGiven : (S → Option (List ℕ)) → ℕ → List (Job S) → List ℕ → Type 0
+  IsTypeGiven left version js t = (m : List ℕ) × IsGiven left version js m × IsTypeOf version m t
+
+  abbrev pub IsWordGiven : (S → Option (List ℕ)) → ℕ → List (Job S) → List ℕ → Type 0
+  IsWordGiven left version js t = (m : List ℕ) × IsGiven left version js m × IsWordOf version m t
 
   -- the entry is one of texts, or a segment of one of the jobs' files
   abbrev pub IsOfJobs : List (Job S) → JournalEntry → Type 0
@@ -113,6 +122,10 @@ module _ {D : Type 0} {d : DiskGhosts D} where
     pub disk : store.disk ≡ after.disk.now
     pub header : store.header ≡ before.header
     pub first : store.first ≡ before.count
+    pub header_now : after.header ≡ before.header
+    pub place : after.place ≡ store.place
+    pub count : after.count ≡ store.count
+    pub closed : after.closed ≡ store.closed
     pub kept : Kept (state_by d.state store)
 
   -- segments of at most so many rows, in the version of the journal's header
@@ -146,7 +159,7 @@ module _ {S D : Type 0} {d : DiskGhosts D} where
     pub segments : filter_map (in_file old.file) fresh ≡ filter_map (in_file old.file) (journal_seen (entries_in (own_list pass')))
 
   -- Each job was done. Where they are told, the journal's entries are those of before and new ones, which are texts and segments of the jobs' files.
-  pub record HasIngested (left : S → Option (List ℕ)) (plan : Plan) (js js' : List (Job S)) (before after : Journal D d) : Type 0 where
+  pub record HasStored (left : S → Option (List ℕ)) (plan : Plan) (js js' : List (Job S)) (before after : Journal D d) : Type 0 where
     pub store : StoreView D
     pub left_by : IsLeftBy store before after
     pub fresh : List JournalEntry
@@ -154,3 +167,15 @@ module _ {S D : Type 0} {d : DiskGhosts D} where
     pub counted : length js' ≡ length js
     pub files : (i : ℕ) (job : Job S) → slice_get js i ≡ Some job → IsFileOf left plan before fresh i job js'
     pub others : All (IsOfJobs js) fresh
+
+  -- the same, and the passes of both books ended
+  pub record HasEndedBooks {G : Ghosts BookState (List ℕ) ℕ} (left : S → Option (List ℕ)) (plan : Plan) (js js' : List (Job S)) (before after : Journal D d) (types types' words words' : BookMaker G) : Type 0 where
+    pub stored : HasStored left plan js js' before after
+    pub of_types : EndsBook (IsTypeGiven left plan.version js) types types' stored.store.types
+    pub of_words : EndsBook (IsWordGiven left plan.version js) words words' stored.store.words
+
+  -- The same, and each text that the new entries add is one of the encoding of a message of one of the jobs' sources.
+  pub record HasIngested (left : S → Option (List ℕ)) (plan : Plan) (js js' : List (Job S)) (before after : Journal D d) : Type 0 where
+    pub stored : HasStored left plan js js' before after
+    pub types : All (IsTypeGiven left plan.version js) (types_of stored.fresh)
+    pub words : All (IsWordGiven left plan.version js) (words_of stored.fresh)

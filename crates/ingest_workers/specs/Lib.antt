@@ -12,3 +12,4 @@ pub mod WorkerLaws
 pub mod Crew
 pub mod Locked
 pub mod Ingested
+pub mod Closing

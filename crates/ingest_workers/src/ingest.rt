@@ -5,10 +5,10 @@ ghost use Rattle.dict_core.specs.declared.grows.TheConstants.{WORDS_FIRST as wor
 ghost use Rattle.disk_journal.specs.Journal.{state_of};
 ghost use Rattle.archive_meaning.specs.Spelled.{types_of};
 ghost use Rattle.disk_seal.specs.WordsIn.{words_of};
-ghost use Rattle.disk_seal.specs.View.{Kept, state_by};
 ghost use Rattle.disk_seal.specs.Opening.{MayOpen};
-ghost use Rattle.ingest_workers.specs.Ingested.{AreNew, AreRefused, HasBook, HasIngested, HoldTexts, IsAsItWas, OpensBook, first_file, plan_of, told_entries};
+ghost use Rattle.ingest_workers.specs.Ingested.{AreNew, AreRefused, HasBook, HasEndedBooks, HasIngested, HoldTexts, IsAsItWas, OpensBook, first_file, plan_of, told_entries};
 
+use crate::closing::{end, give_back};
 use crate::crew::enroll;
 use crate::job::Job;
 use crate::locks::over_store;
@@ -17,7 +17,7 @@ use crate::worker::Plan;
 use dict_core::{Book, WORDS_FIRST};
 use dict_lock::SharedBook;
 use disk_journal::Journal;
-use disk_seal::{Store, StorePasses};
+use disk_seal::Store;
 use log_seams::{Disk, Source};
 use std::alloc::Global;
 use std::sync::Wait;
@@ -42,20 +42,6 @@ struct Order {
     /// How many texts the two books hold, which are saved.
     types_saved: u32,
     words_saved: u32,
-}
-
-/// The journal of a store, at its end.
-fn end<'b, 'd, D: Disk>(store: Store<'d, 'b, D>) -> Journal<'d, D>
-    ensures name { result.disk.ghost_name ≡ store.entry.name }
-    ensures disk { result.disk.now ≡ store.entry.disk }
-    ensures kept { Kept (state_by D.state store.entry) }
-{
-    let StorePasses {
-        journal,
-        types: _,
-        words: _,
-    } = store.close_store();
-    journal
 }
 
 /// The jobs are done over the journal, with workers that have a pass of each book.
@@ -90,8 +76,8 @@ fn with_workers<'b, 'd, D: Disk + Send, S: Source + Send, R: Threads + Wait + Sy
         order.words_saved words.old }
 
     // by the answer
-    ensures done { IfOk result (λ after. HasIngested S.left order.plan jobs.old jobs.new
-        journal.entry after) }
+    ensures done { IfOk result (λ after. HasEndedBooks S.left order.plan jobs.old jobs.new
+        journal.entry after types.old types.new words.old words.new) }
     ensures refused { IfErr result (λ after. IsAsItWas journal.entry after) }
     ensures jobs { OnErr result (jobs.new ≡ jobs.old) }
 {
@@ -118,8 +104,8 @@ fn with_workers<'b, 'd, D: Disk + Send, S: Source + Send, R: Threads + Wait + Sy
         order.words_saved,
     );
     match over_store(rt, alloc, &mut workers, jobs, store, u64::from(order.first)) {
-        Ok(store) => Ok(end(store)),
-        Err(store) => Err(end(store)),
+        Ok(store) => Ok(end(store, workers, types, words)),
+        Err(store) => Err(give_back(store)),
     }
 }
 
@@ -160,9 +146,16 @@ fn over_locks<'d, D: Disk + Send, S: Source + Send, R: Threads + Wait + Sync>(
     ensures refused { IfErr result (λ after. IsAsItWas journal.entry after) }
     ensures jobs { OnErr result (jobs.new ≡ jobs.old) }
 {
-    with_workers(
+    match with_workers(
         rt, alloc, jobs, order, journal, &types_lock, &mut types, &words_lock, &mut words,
-    )
+    ) {
+        Ok(journal) => {
+            let _types = types_lock.close(types);
+            let _words = words_lock.close(words);
+            Ok(journal)
+        }
+        Err(journal) => Err(journal),
+    }
 }
 
 /// The same with the lock of the log types, over the book of the words.

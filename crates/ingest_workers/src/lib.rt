@@ -1,6 +1,7 @@
 //! Ingest: logs become the files of an archive.
 #![tactic(auto)]
 
+mod closing;
 mod crew;
 mod hand;
 mod ingest;

@@ -11,10 +11,6 @@ over_store-requires-clause-may g c κs within = may_do_by g.S.Source.left c.args
     (λ n w at. (crew _ _ _ _ _ _ _ _ _ _ _ _ _ _ _ _ _ _ c.requires.types c.requires.words c.pass-types_reader.ensures.pass c.pass-words_reader.ensures.pass
     c.pass-types_reader.ensures.still c.pass-types_reader.ensures.made c.pass-words_reader.ensures.still c.pass-words_reader.ensures.made c.enroll.ensures.enrolled c.requires.workers.1 n w at).1)
 
-pub returns-in-Ok-over_store-clause-done : goal.returns-in-Ok-over_store-clause-done
-returns-in-Ok-over_store-clause-done g c = ingested_by g.S.Source.left c.args.journal c.end.result c.pass-types_reader.result c.pass-words_reader.result c.args.order.types_saved c.args.order.words_saved c.in-Ok-over_store.store
-    _ _ _ c.args.order.plan _ _ _ _ c.open_store-store.ensures c.from.ensures c.requires.jobs c.enroll.ensures.enrolled.planned c.in-Ok-over_store.ensures.done c.end.ensures.name c.end.ensures.disk c.end.ensures.kept
-
 pub returns-clause-refused : goal.returns-clause-refused
-returns-clause-refused g c = stayed_by g.S.Source.left c.args.journal c.end-in-Err.result c.pass-types_reader.result c.pass-words_reader.result c.args.order.types_saved c.args.order.words_saved c.in-Err.store
-    _ c.open_store-store.ensures c.in-Err.ensures.refused c.end-in-Err.ensures.name c.end-in-Err.ensures.disk c.end-in-Err.ensures.kept
+returns-clause-refused g c = stayed_by g.S.Source.left c.args.journal c.give_back.result c.pass-types_reader.result c.pass-words_reader.result c.args.order.types_saved c.args.order.words_saved c.in-Err.store
+    _ c.open_store-store.ensures c.in-Err.ensures.refused c.give_back.ensures.journal c.give_back.ensures.kept
