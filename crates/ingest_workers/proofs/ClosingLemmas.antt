@@ -1,5 +1,6 @@
 -- What the passes of a book added, once all ended.
-use Rattle.std.proofs.Common.{◌≡◌, ℕ, zero, suc, ◌+◌, ◌-◌, ◌<◌, ◌≤◌, Bool, true, false, List, [], ◌∷◌, ◌++◌, length, map, drop, take, sym, refl, ap, ◌∙◌, subst, ⊎_elim, inl, inr, arith, Option, None, Some, is_some, slice_get, All, append_assoc, take-append-drop}
+use Rattle.std.proofs.Common.{◌≡◌, ℕ, zero, suc, ◌+◌, ◌-◌, ◌<◌, ◌≤◌, Bool, true, false, List, [], ◌∷◌, ◌++◌, length, map, drop, take, get_or, sym, refl, ap, ◌∙◌, subst, ⊎_elim, inl, inr, arith, Option, None, Some, is_some, slice_get, All, append_assoc, take-append-drop}
+use Rattle.std.proofs.lemmas.List.Elements.{All-nil}
 use Rattle.std.proofs.lemmas.Option.{slice_get_within, slice_get-get_or, get_or_from_slice_get}
 use mathlib.Core.List.{IsPrefix}
 use Rattle.turn_lock.specs.declared.board.About.{About}
@@ -17,15 +18,23 @@ use Rattle.dict_core.specs.Books.{BookState}
 use Rattle.dict_core.specs.Fair.{IsFair}
 use Rattle.dict_lock.specs.Shared.{BookPass}
 use Rattle.row_codec.specs.Messages.{IsTypeOf, IsWordOf}
-use Rattle.disk_seal.specs.Told.{IfTold}
-use Rattle.disk_seal.specs.View.{KnowsBook}
+use Rattle.logtype_text.specs.Fair.{IsFairType, IsFairWord}
+use Rattle.dict_core.specs.declared.grows.TheConstants.{WORDS_FIRST}
+use Rattle.log_seams.specs.declared.disk.Disk.{Ghosts as DiskGhosts}
+use Rattle.disk_journal.specs.declared.journal.Journal.{Journal}
+use Rattle.disk_journal.specs.Journal.{state_of}
+use Rattle.archive_meaning.specs.declared.entry.JournalEntry.{JournalEntry}
+use Rattle.archive_meaning.specs.Spelled.{types_in, types_of as texts_of_types}
+use Rattle.disk_seal.specs.WordsIn.{words_in, words_of as texts_of_words}
+use Rattle.disk_seal.specs.Told.{IfTold, journal_in}
+use Rattle.disk_seal.specs.View.{KnowsBook, StoreState, state_by, journal_of}
 use Rattle.ingest_workers.specs.declared.job.Job.{Job}
 use Rattle.ingest_workers.specs.declared.worker.Plan.{Plan}
 use Rattle.ingest_workers.specs.declared.worker.Worker.{Worker}
 use Rattle.ingest_workers.specs.Worker.{AddsOnly, IsIdle, IsGiven, DidOnly, types_of, words_of, passes_of}
 use Rattle.ingest_workers.specs.WorkerLaws.{given_wider}
 use Rattle.ingest_workers.specs.Crew.{BookMaker, HavePlan, HasEnrolled, MayDismiss, HasDismissed, HasEnded, EndsBook}
-use Rattle.ingest_workers.specs.Ingested.{HasBook, OpensBook, IsTypeGiven, IsWordGiven}
+use Rattle.ingest_workers.specs.Ingested.{HasBook, OpensBook, IsTypeGiven, IsWordGiven, HasStored, HasEndedBooks, HasIngested, told_entries}
 use Rattle.ingest_workers.proofs.CrewLemmas.{map_at, map_back, map_count}
 
 module _ {G : Ghosts BookState (List ℕ) ℕ} where
@@ -69,14 +78,14 @@ module _ {G : Ghosts BookState (List ℕ) ℕ} where
   texts_given P F first told limit limit' texts texts' more saved saved' m end reader o e owned k is = by_told told o.has.are k.front
     where
       at_place : (book : BookState) → about_by m ≡ Some (record { first = first; start = length book.texts; fixed = book.limit }) → book.texts ≡ texts → take saved' (seen reader) ≡ texts' → All P more
-      at_place book about_m same front i d lt = let at = slice_get-get_or more i d lt in
-          let here : slice_get (texts ++ more) (length texts + i) ≡ Some _ = at_right texts more i ∙ at in
-          let in_front : slice_get (take saved' (seen reader)) (length texts + i) ≡ Some _ = subst (λ l. slice_get l (length texts + i) ≡ Some _) (sym (front ∙ is)) here in
-          let in_seen = prefix_get (take saved' (seen reader)) (seen reader) (length texts + i) _ (drop saved' (seen reader), take-append-drop saved' (seen reader)) in_front in
-          let in_book = prefix_get (seen reader) (seen_by end) (length texts + i) _ e.seen_on in_seen in
-          let long = ap length same in
-          let a = each_added IsFair end e.middle e.passes owned e.joined e.none _ (length texts + i) _ (e.about_is ∙ about_m) (omega arith) in_book in
-          e.each a.place a.pass a.is (length texts + i) _ a.own
+      at_place book about_m same front i d lt = let at : slice_get more i ≡ Some (get_or more i d) = slice_get-get_or more i d lt in
+          let here : slice_get (texts ++ more) (length texts + i) ≡ Some (get_or more i d) = at_right texts more i ∙ at in
+          let in_front : slice_get (take saved' (seen reader)) (length texts + i) ≡ Some (get_or more i d) = subst (λ l. slice_get l (length texts + i) ≡ Some (get_or more i d)) (sym (front ∙ is)) here in
+          let in_seen : slice_get (seen reader) (length texts + i) ≡ Some (get_or more i d) = prefix_get (take saved' (seen reader)) (seen reader) (length texts + i) (get_or more i d) (drop saved' (seen reader), take-append-drop saved' (seen reader)) in_front in
+          let in_book : slice_get (seen_by end) (length texts + i) ≡ Some (get_or more i d) = prefix_get (seen reader) (seen_by end) (length texts + i) (get_or more i d) e.seen_on in_seen in
+          let long : length book.texts ≡ length texts = ap length same in let low : length book.texts ≤ length texts + i = omega (arith, long) in
+          let a = each_added IsFair end e.middle e.passes owned e.joined e.none (record { first = first; start = length book.texts; fixed = book.limit }) (length texts + i) (get_or more i d) (e.about_is ∙ about_m) low in_book in
+          e.each a.place a.pass a.is (length texts + i) (get_or more i d) a.own
 
       by_told : (b : Bool) → IfTold b ((o.book.texts ≡ texts) × (o.book.limit ≡ limit)) → IfTold b (take saved' (seen reader) ≡ texts') → IfTold b (All P more)
       by_told false are front = tt
@@ -132,3 +141,57 @@ module _ {S : Type 0} (left : S → Option (List ℕ)) {G : Ghosts BookState (Li
       let mine : StandsIn (own_list (words_of v.0)) j t = subst (λ (x : BookPass). StandsIn (own_list x) j t) (sym v.2) own in
       let has = own_texts _ (words_of r.0) (words_of v.0) r.3.4.names.words f.own_is j t mine in let at_plan = e.planned i r.0 r.1 in
       subst (λ (x : Plan). IsWordGiven left x.version js t) at_plan (has.0, given_all r.0.plan.version r.3.0 r.3.1 r.3.2 has.0 r.3.3 has.1, has.2)
+
+-- where nothing is told there is no entry
+none_in : (o : Option (List ℕ)) (n : ℕ) → is_some o ≡ false → journal_in o n ≡ []
+none_in None n is = refl
+none_in (Some bytes) n is = absurd (cc (is))
+
+by_told : (b : Bool) (X : Type 0) → IfTold b X → (b ≡ false → X) → X
+by_told true X x f = x
+by_told false X x f = f refl
+
+types_joined : (xs ys : List JournalEntry) → texts_of_types (xs ++ ys) ≡ texts_of_types xs ++ texts_of_types ys
+types_joined [] ys = refl
+types_joined (x ∷ xs) ys = ap (λ l. types_in x ++ l) (types_joined xs ys) ∙ sym (append_assoc (types_in x) (texts_of_types xs) (texts_of_types ys))
+
+words_joined : (xs ys : List JournalEntry) → texts_of_words (xs ++ ys) ≡ texts_of_words xs ++ texts_of_words ys
+words_joined [] ys = refl
+words_joined (x ∷ xs) ys = ap (λ l. words_in x ++ l) (words_joined xs ys) ∙ sym (append_assoc (words_in x) (texts_of_words xs) (texts_of_words ys))
+
+module _ {S D : Type 0} {d : DiskGhosts D} {G : Ghosts BookState (List ℕ) ℕ} (left : S → Option (List ℕ)) (plan : Plan) (js js' : List (Job S)) (before after : Journal D d) (types types' words words' : BookMaker G) where
+  pub has_ingested : (t_saved w_saved : ℕ)
+      → OpensBook 0 (is_some (state_of before).disk.seen) before.header.types_limit (texts_of_types (told_entries (state_of before))) t_saved types
+      → OpensBook WORDS_FIRST (is_some (state_of before).disk.seen) before.header.words_limit (texts_of_words (told_entries (state_of before))) w_saved words
+      → HasEndedBooks left plan js js' before after types types' words words' → IsAllOwned IsFair types' → IsAllOwned IsFair words' → HasIngested left plan js js' before after
+  has_ingested t_saved w_saved to wo h t_owned w_owned = record {
+    store = h.store;
+    stored = h.stored;
+    types = by_told told (All (IsTypeGiven left plan.version js) (texts_of_types fresh))
+        (texts_given (IsTypeGiven left plan.version js) IsFairType 0 told before.header.types_limit s.header.types_limit (texts_of_types (told_entries (state_of before))) (texts_of_types (journal_of s)) (texts_of_types fresh)
+        t_saved s.types_saved types types' s.types to h.of_types t_owned (subst (λ b. KnowsBook IsFairType 0 s.header.types_limit b s.types s.types_saved (texts_of_types (journal_of s))) same_told h.stored.left_by.kept.types)
+        (ap texts_of_types h.stored.grown ∙ types_joined (told_entries (state_of before)) fresh))
+        (λ untold. subst (λ es. All (IsTypeGiven left plan.version js) (texts_of_types es)) (sym (no_more untold)) (All-nil (IsTypeGiven left plan.version js)));
+    words = by_told told (All (IsWordGiven left plan.version js) (texts_of_words fresh))
+        (texts_given (IsWordGiven left plan.version js) IsFairWord WORDS_FIRST told before.header.words_limit s.header.words_limit (texts_of_words (told_entries (state_of before))) (texts_of_words (journal_of s)) (texts_of_words fresh)
+        w_saved s.words_saved words words' s.words wo h.of_words w_owned (subst (λ b. KnowsBook IsFairWord WORDS_FIRST s.header.words_limit b s.words s.words_saved (texts_of_words (journal_of s))) same_told h.stored.left_by.kept.words)
+        (ap texts_of_words h.stored.grown ∙ words_joined (told_entries (state_of before)) fresh))
+        (λ untold. subst (λ es. All (IsWordGiven left plan.version js) (texts_of_words es)) (sym (no_more untold)) (All-nil (IsWordGiven left plan.version js)));
+  }
+    where
+      told : Bool
+      told = is_some (state_of before).disk.seen
+
+      fresh : List JournalEntry
+      fresh = h.stored.fresh
+
+      s : StoreState
+      s = state_by d.state h.store
+
+      same_told : is_some (d.state h.store.opened).seen ≡ told
+      same_told = ap (λ (x : D). is_some (d.state x).seen) h.stored.left_by.opened
+
+      no_more : told ≡ false → fresh ≡ []
+      no_more untold = let now : journal_of s ≡ [] = none_in s.disk.seen s.count (h.stored.left_by.kept.tells_still ∙ (same_told ∙ untold)) in
+          let was : told_entries (state_of before) ≡ [] = none_in (state_of before).disk.seen (state_of before).count untold in
+          sym (ap (λ l. l ++ fresh) was) ∙ (sym h.stored.grown ∙ now)

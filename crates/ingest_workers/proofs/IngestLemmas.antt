@@ -136,9 +136,8 @@ module _ {S D : Type 0} {d : DiskGhosts D} (left : S → Option (List ℕ)) wher
 
     pub ingested : (first : ℕ) (plan : Plan) (ws ws' : List Worker) (js js' : List (Job S)) → AreNew first (state_of before) js → HavePlan plan ws
         → HasWorked d.state left first ws ws' js js' opened store → IsJournalOf store after → Kept (state_by d.state store)
-        → HasStored left plan js js' before after
+        → HasStored left plan js js' before after store
     ingested first plan ws ws' js js' new planned h back kept = record {
-      store = store;
       left_by = left_by h.fixed back kept;
       fresh = journal_seen (list_behind d.state opened store);
       grown = sym list_now ∙ (ap journal_seen (sym h.front.1) ∙ (seen_joined (list_of d.state opened) h.front.0
@@ -182,7 +181,7 @@ module _ {S D : Type 0} {d : DiskGhosts D} (left : S → Option (List ℕ)) wher
 
     pub ingested_by : (o : StoreView D) (f first : ℕ) (plan : Plan) (ws ws' : List Worker) (js js' : List (Job S)) → o ≡ opened → f ≡ first → AreNew first (state_of before) js → HavePlan plan ws
         → HasWorked d.state left f ws ws' js js' o store → IsJournalOf store after → Kept (state_by d.state store)
-        → HasStored left plan js js' before after
+        → HasStored left plan js js' before after store
     ingested_by o f first plan ws ws' js js' is same new planned h back kept = ingested first plan ws ws' js js' new planned
         (subst (λ (n : ℕ). HasWorked d.state left n ws ws' js js' opened store) same (subst (λ (x : StoreView D). HasWorked d.state left f ws ws' js js' x store) is h)) back kept
 
@@ -274,6 +273,7 @@ module _ {G : Ghosts BookState (List ℕ) ℕ} where
     known = record { first = first; start = length o.book.texts; fixed = o.book.limit };
     is = f.about_is ∙ o.opening.about_is;
     starts = refl;
+    number = f.number _ o.opening.about_is ∙ (let none = o.opening.made in let n : first + made_by m ≡ first = omega arith in n);
     within = told_map told (λ both. both.1) o.has.are;
     from = omega arith;
     low = omega arith;

@@ -159,8 +159,7 @@ module _ {S D : Type 0} {d : DiskGhosts D} where
     pub segments : filter_map (in_file old.file) fresh ≡ filter_map (in_file old.file) (journal_seen (entries_in (own_list pass')))
 
   -- Each job was done. Where they are told, the journal's entries are those of before and new ones, which are texts and segments of the jobs' files.
-  pub record HasStored (left : S → Option (List ℕ)) (plan : Plan) (js js' : List (Job S)) (before after : Journal D d) : Type 0 where
-    pub store : StoreView D
+  pub record HasStored (left : S → Option (List ℕ)) (plan : Plan) (js js' : List (Job S)) (before after : Journal D d) (store : StoreView D) : Type 0 where
     pub left_by : IsLeftBy store before after
     pub fresh : List JournalEntry
     pub grown : journal_of (state_by d.state store) ≡ told_entries (state_of before) ++ fresh
@@ -170,12 +169,14 @@ module _ {S D : Type 0} {d : DiskGhosts D} where
 
   -- the same, and the passes of both books ended
   pub record HasEndedBooks {G : Ghosts BookState (List ℕ) ℕ} (left : S → Option (List ℕ)) (plan : Plan) (js js' : List (Job S)) (before after : Journal D d) (types types' words words' : BookMaker G) : Type 0 where
-    pub stored : HasStored left plan js js' before after
-    pub of_types : EndsBook (IsTypeGiven left plan.version js) types types' stored.store.types
-    pub of_words : EndsBook (IsWordGiven left plan.version js) words words' stored.store.words
+    pub store : StoreView D
+    pub stored : HasStored left plan js js' before after store
+    pub of_types : EndsBook (IsTypeGiven left plan.version js) types types' store.types
+    pub of_words : EndsBook (IsWordGiven left plan.version js) words words' store.words
 
   -- The same, and each text that the new entries add is one of the encoding of a message of one of the jobs' sources.
   pub record HasIngested (left : S → Option (List ℕ)) (plan : Plan) (js js' : List (Job S)) (before after : Journal D d) : Type 0 where
-    pub stored : HasStored left plan js js' before after
+    pub store : StoreView D
+    pub stored : HasStored left plan js js' before after store
     pub types : All (IsTypeGiven left plan.version js) (types_of stored.fresh)
     pub words : All (IsWordGiven left plan.version js) (words_of stored.fresh)
