@@ -5,21 +5,18 @@ use Rattle.wild_match.specs.declared.pattern.Item.{Item}
 use Rattle.wild_match.specs.declared.read.PatternRefusal.{PatternRefusal}
 use Rattle.wild_match.specs.declared.read.PatternRefusal.TheVariants.{BadPattern as ReadBadPattern, OutOfMemory as ReadOutOfMemory}
 use Rattle.wild_match.proofs.Spelling.{IsSearchPattern-unique, one-lone-backslash}
-use Rattle.record_format.specs.declared.header.Header.{Header}
-use Rattle.log_seams.specs.Disk.{DiskState}
 use Rattle.log_seams.specs.Outside.{CountsOf}
 use Rattle.clp_commands.specs.Around.{Around}
 use Rattle.clp_commands.specs.Outcome.{answer_of, of_log, of_pattern}
 use Rattle.clp_commands.specs.Refusal.{status_of, line_of}
-use Rattle.clp_commands.specs.Words.{AsksCreate, AsksScan, AsksShow}
-use Rattle.clp_commands.specs.Shown.{Shows}
 use Rattle.clp_commands.specs.Scanned.{Finds}
-use Rattle.clp_commands.specs.Answers.{Answers, AnswersCreate, AnswersLog, NoneAdded, Stayed, EndsWith, Refuses, RefusesPattern, RoseIn, TookNothing, SaysIn, IsPatternRefusal, HasCause, exit_status, error_line}
+use Rattle.clp_commands.specs.Answers.{AnswersLog, Refuses, RefusesPattern, IsPatternRefusal, HasCause}
+use Rattle.clp_commands.specs.Ending.{NoneAdded, Stayed, EndsWith, RoseIn, TookNothing, SaysIn, exit_status, error_line}
 use Rattle.clp_commands.specs.Printing.{Printed}
 use Rattle.clp_commands.specs.declared.outcome.LogRefusal.{LogRefusal}
 use Rattle.clp_commands.specs.declared.outcome.LogRefusal.TheVariants.{OpenFault, ReadFault, LineTooLong, TooManyLines, SinkFault, OutOfMemory as LogOutOfMemory}
 use Rattle.clp_commands.specs.declared.refusal.Refusal.{Refusal}
-use Rattle.clp_commands.specs.declared.refusal.Refusal.TheVariants.{Usage, BadPattern}
+use Rattle.clp_commands.specs.declared.refusal.Refusal.TheVariants.{BadPattern}
 use Rattle.clp_commands.proofs.PrintedLemmas.{Printed-no_memory}
 
 -- the cause of an outcome
@@ -72,70 +69,3 @@ AnswersLog-refused tells seen name status text ReadOutOfMemory is none s said no
 -- the pattern of a text is one
 pub AnswersLog-pattern : (file text : List ℕ) (a b : List Item) (seen : Around) (status : ℕ) → IsSearchPattern text a → IsSearchPattern text b → AnswersLog (Finds file a) seen file status → AnswersLog (Finds file b) seen file status
 AnswersLog-pattern file text a b seen status is_a is_b answers = subst (λ x. AnswersLog (Finds file x) seen file status) (IsSearchPattern-unique text a b is_a is_b) answers
-
--- words that ask to scan ask for nothing else
-pub Answers-scan : (words : List (List ℕ)) (seen : Around) (old new : DiskState) (status : ℕ) (pattern file : List ℕ) → AsksScan words pattern file → ((at : ℕ) → IsLoneBackslash pattern at → RefusesPattern seen status at) → ((items : List Item) → IsSearchPattern pattern items → AnswersLog (Finds file items) seen file status) → Answers words seen old new status
-Answers-scan words seen old new status pattern file asks lone good = record {
-  usage = λ u. absurd (u.no_scan pattern file asks);
-  show = λ f a. absurd (no_show f a.are);
-  lone_backslash = λ p f at a l. lone at (subst (λ x. IsLoneBackslash x at) (same_pattern p f a.are) l);
-  scan = λ p f items a is. subst (λ x. AnswersLog (Finds x items) seen x status) (sym (same_file p f a.are)) (good items (subst (λ x. IsSearchPattern x items) (same_pattern p f a.are) is));
-  create = λ h a. absurd (no_create h a.options a.are);
-}
-  where
-    no_show : (f : List ℕ) → words ≡ codes "show" ∷ f ∷ [] → ⊥
-    no_show f e = let both : codes "show" ∷ f ∷ [] ≡ codes "scan" ∷ pattern ∷ file ∷ [] = sym e ∙ asks.are in cc
-
-    no_create : (h : Header) (options : List (List ℕ)) → words ≡ codes "create" ∷ options → ⊥
-    no_create h options e = let both : codes "create" ∷ options ≡ codes "scan" ∷ pattern ∷ file ∷ [] = sym e ∙ asks.are in cc
-
-    same_pattern : (p f : List ℕ) → words ≡ codes "scan" ∷ p ∷ f ∷ [] → p ≡ pattern
-    same_pattern p f e = let both : codes "scan" ∷ p ∷ f ∷ [] ≡ codes "scan" ∷ pattern ∷ file ∷ [] = sym e ∙ asks.are in cc
-
-    same_file : (p f : List ℕ) → words ≡ codes "scan" ∷ p ∷ f ∷ [] → f ≡ file
-    same_file p f e = let both : codes "scan" ∷ p ∷ f ∷ [] ≡ codes "scan" ∷ pattern ∷ file ∷ [] = sym e ∙ asks.are in cc
-
--- words that ask to show ask for nothing else
-pub Answers-show : (words : List (List ℕ)) (seen : Around) (old new : DiskState) (status : ℕ) (file : List ℕ) → AsksShow words file → AnswersLog (λ _ message text. Shows message text) seen file status → Answers words seen old new status
-Answers-show words seen old new status file asks answers = record {
-  usage = λ u. absurd (u.no_show file asks);
-  show = λ f a. subst (λ x. AnswersLog (λ _ message text. Shows message text) seen x status) (sym (same_file f a.are)) answers;
-  lone_backslash = λ p f at a l. absurd (no_scan p f a.are);
-  scan = λ p f items a _. absurd (no_scan p f a.are);
-  create = λ h a. absurd (no_create a.options a.are);
-}
-  where
-    no_scan : (p f : List ℕ) → words ≡ codes "scan" ∷ p ∷ f ∷ [] → ⊥
-    no_scan p f e = let both : codes "scan" ∷ p ∷ f ∷ [] ≡ codes "show" ∷ file ∷ [] = sym e ∙ asks.are in cc
-
-    no_create : (options : List (List ℕ)) → words ≡ codes "create" ∷ options → ⊥
-    no_create options e = let both : codes "create" ∷ options ≡ codes "show" ∷ file ∷ [] = sym e ∙ asks.are in cc
-
-    same_file : (f : List ℕ) → words ≡ codes "show" ∷ f ∷ [] → f ≡ file
-    same_file f e = let both : codes "show" ∷ f ∷ [] ≡ codes "show" ∷ file ∷ [] = sym e ∙ asks.are in cc
-
--- words that ask to create ask for nothing else, and for one header alone
-pub Answers-create : (words : List (List ℕ)) (seen : Around) (old new : DiskState) (status : ℕ) (header : Header) → AsksCreate words header → ((h : Header) → AsksCreate words h → h ≡ header) → AnswersCreate header seen old new status → Answers words seen old new status
-Answers-create words seen old new status header asks one answers = record {
-  usage = λ u. absurd (u.no_create header asks);
-  show = λ f a. absurd (no_show f a.are);
-  lone_backslash = λ p f at a l. absurd (no_scan p f a.are);
-  scan = λ p f items a _. absurd (no_scan p f a.are);
-  create = λ h a. subst (λ x. AnswersCreate x seen old new status) (sym (one h a)) answers;
-}
-  where
-    no_scan : (p f : List ℕ) → words ≡ codes "scan" ∷ p ∷ f ∷ [] → ⊥
-    no_scan p f e = let both : codes "scan" ∷ p ∷ f ∷ [] ≡ codes "create" ∷ asks.options = sym e ∙ asks.are in cc
-
-    no_show : (f : List ℕ) → words ≡ codes "show" ∷ f ∷ [] → ⊥
-    no_show f e = let both : codes "show" ∷ f ∷ [] ≡ codes "create" ∷ asks.options = sym e ∙ asks.are in cc
-
--- words that ask for no command
-pub Answers-usage : (words : List (List ℕ)) (seen : Around) (old new : DiskState) (status : ℕ) → ((file : List ℕ) → ¬ AsksShow words file) → ((pattern file : List ℕ) → ¬ AsksScan words pattern file) → ((header : Header) → ¬ AsksCreate words header) → Refuses seen status Usage → Answers words seen old new status
-Answers-usage words seen old new status no_show no_scan no_create refuses = record {
-  usage = λ _. refuses;
-  show = λ f a. absurd (no_show f a);
-  lone_backslash = λ p f at a _. absurd (no_scan p f a);
-  scan = λ p f items a _. absurd (no_scan p f a);
-  create = λ h a. absurd (no_create h a);
-}

@@ -11,8 +11,8 @@ use Rattle.line_cut.specs.declared.cut.Progress.TheVariants.{Open, Ended}
 use Rattle.clp_commands.specs.Printing.{PrintsAll, PrintsFirst, PrintsSome, ComesTo, IsLong, HasMore, most_bytes, most_messages, refusal_of, Reaches, IsFresh, TellsNext, FailsAfter}
 use Rattle.clp_commands.specs.declared.outcome.LogRefusal.{LogRefusal}
 use Rattle.clp_commands.specs.declared.outcome.LogRefusal.TheVariants.{SinkFault, OutOfMemory as RefusalOutOfMemory}
-use Rattle.clp_commands.specs.Output.{GrewByFront, Gathers}
-use Rattle.clp_commands.proofs.OutputLemmas.{Gathers-nothing, Gathers-more, Gathers-moves, Gathers-front, Gathers-kept}
+use Rattle.sink_pieces.specs.Output.{GrewByFront, Gathers}
+use Rattle.sink_pieces.proofs.OutputLemmas.{Gathers-nothing, Gathers-more, Gathers-moves, Gathers-front, Gathers-kept}
 use Rattle.clp_commands.proofs.ReadingLemmas.{Reads, Reads-nothing, Reads-line, Reads-last, Reads-end, Reads-first, Reads-before, Reads-long, Reads-more, PrintsAll-some}
 
 -- The bytes that are left, up to which lines were printed.

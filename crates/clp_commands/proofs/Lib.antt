@@ -1,7 +1,8 @@
 pub mod AnswerLemmas
+pub mod CommandLemmas
 pub mod CutterLemmas
+pub mod DirectoryLemmas
 pub mod GoingLemmas
-pub mod OutputLemmas
 pub mod PrintedLemmas
 pub mod PrintingLemmas
 pub mod ReadingLemmas

@@ -1,11 +1,11 @@
 -- From what the printing comes to, to what was printed.
 use Rattle.std.proofs.Common.{◌≡◌, refl, sym, subst, ℕ, ◌-◌, List, [], true, false, Option, Some, None}
 use Rattle.std.specs.Prelude.{IfSome}
-use Rattle.clp_commands.specs.Output.{Grew, GrewByFront}
-use Rattle.clp_commands.specs.Printing.{ComesTo, Printed, PrintsSome, Reaches, Took, is_whole, most_messages}
+use Rattle.sink_pieces.specs.Output.{Grew, GrewByFront, Took}
+use Rattle.clp_commands.specs.Printing.{ComesTo, Printed, PrintsSome, Reaches, is_whole, most_messages}
 use Rattle.clp_commands.specs.declared.outcome.LogRefusal.{LogRefusal}
 use Rattle.clp_commands.specs.declared.outcome.LogRefusal.TheVariants.{OpenFault, ReadFault, LineTooLong, TooManyLines, SinkFault, OutOfMemory}
-use Rattle.clp_commands.proofs.OutputLemmas.{Grew-nothing, Gathers-all, Gathers-front}
+use Rattle.sink_pieces.proofs.OutputLemmas.{Grew-nothing, Gathers-all, Gathers-front}
 use Rattle.clp_commands.proofs.ReadingLemmas.{PrintsAll-some, PrintsBefore-some, Reads-first, Reads-nothing}
 
 -- nothing is the text of no messages

@@ -6,6 +6,11 @@ use Rattle.record_format.specs.declared.header.Header.{Header}
 use Rattle.archive_limits.specs.Limits.{AsksLimits}
 use Rattle.clp_commands.specs.Words.{AsksCreate}
 
+pub one_word : {A : Type 0} (xs : List A) (a : A) → 1 ≤ length xs → length xs < 2 → a ≡ get_or xs 0 a → xs ≡ a ∷ []
+one_word [] a few many p = absurd (omega arith)
+one_word (x ∷ []) a few many p = ap (λ s. s ∷ []) (sym p)
+one_word (x ∷ y ∷ more) a few many p = absurd (omega arith)
+
 pub two_words : {A : Type 0} (xs : List A) (a b : A) → 2 ≤ length xs → length xs < 3 → a ≡ get_or xs 0 a → b ≡ get_or xs 1 b → xs ≡ a ∷ b ∷ []
 two_words [] a b few many p q = absurd (omega arith)
 two_words (x ∷ []) a b few many p q = absurd (omega arith)

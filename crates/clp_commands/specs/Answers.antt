@@ -1,7 +1,6 @@
 -- What a call of the program answers, by what its words ask for.
 use Rattle.std.specs.Prelude.{◌≡◌, ◌≢◌, ◌⊎◌, ℕ, List, [], Option, Some, None, option_map, Result}
 use Rattle.log_seams.specs.Disk.{DiskState}
-use Rattle.log_seams.specs.Outside.{Adds, Rose}
 use Rattle.wild_match.specs.Reading.{IsSearchPattern, IsLoneBackslash}
 use Rattle.wild_match.specs.declared.pattern.Item.{Item}
 use Rattle.wild_match.specs.declared.read.PatternRefusal.{PatternRefusal}
@@ -10,51 +9,18 @@ use Rattle.record_format.specs.declared.header.Header.{Header}
 use Rattle.disk_journal.specs.Created.{CreateLeaves}
 use Rattle.disk_journal.specs.declared.refusals.CreateRefusal.{CreateRefusal}
 use Rattle.clp_commands.specs.Around.{Around}
+use Rattle.clp_commands.specs.Counted.{AnswersCheck}
+use Rattle.clp_commands.specs.Directory.{AnswersFiles}
+use Rattle.clp_commands.specs.Ending.{EndsWith, NoneAdded, RoseIn, Stayed, TookNothing}
 use Rattle.clp_commands.specs.Outcome.{answer_of, of_log, of_create}
 use Rattle.clp_commands.specs.Printing.{Printed}
-use Rattle.clp_commands.specs.Refusal.{Says, status_of, line_of}
 use Rattle.clp_commands.specs.Scanned.{Finds}
 use Rattle.clp_commands.specs.Shown.{Shows}
-use Rattle.clp_commands.specs.Words.{AsksShow, AsksScan, AsksCreate, IsUsage}
+use Rattle.clp_commands.specs.Words.{AsksShow, AsksScan, AsksCreate, AsksFiles, AsksCheck, IsUsage}
 use Rattle.clp_commands.specs.declared.outcome.LogRefusal.{LogRefusal}
 use Rattle.clp_commands.specs.declared.outcome.LogRefusal.TheVariants.{OpenFault, ReadFault, LineTooLong, TooManyLines, SinkFault, OutOfMemory as LogOutOfMemory}
 use Rattle.clp_commands.specs.declared.refusal.Refusal.{Refusal}
 use Rattle.clp_commands.specs.declared.refusal.Refusal.TheVariants.{Usage, BadPattern, OutOfMemory}
-
--- the count of faults rose during the call
-abbrev pub RoseIn : ℕ × ℕ → Type 0
-RoseIn counts = Rose counts.0 counts.1
-
--- the output took nothing
-abbrev pub TookNothing : Option (List ℕ) × Option (List ℕ) → Type 0
-TookNothing texts = texts.1 ≡ texts.0
-
--- no write to the output failed
-abbrev pub Stayed : ℕ × ℕ → Type 0
-Stayed counts = counts.1 ≡ counts.0
-
--- no read of the log failed: their count is as it was, unless it stands at the last value of u64
-abbrev pub NoneAdded : ℕ × ℕ → Type 0
-NoneAdded counts = Adds 0 counts.0 counts.1
-
--- the error output took this text and no more, unless its count of faults rose
-abbrev pub SaysIn : Around → List ℕ → Type 0
-SaysIn seen text = Says seen.err.0 seen.err.1 seen.err_faults.0 seen.err_faults.1 text
-
--- the status for an answer, where no refusal is `None`
-abbrev pub exit_status : Option Refusal → ℕ
-exit_status None = 0
-exit_status (Some refusal) = status_of refusal
-
--- the line for an answer
-abbrev pub error_line : List ℕ → Option Refusal → List ℕ
-error_line name None = []
-error_line name (Some refusal) = line_of name refusal
-
--- The call ended with this answer: with its status, and with its line on the error output.
-pub record EndsWith (seen : Around) (name : List ℕ) (status : ℕ) (answer : Option Refusal) : Type 0 where
-  pub status_is : status ≡ exit_status answer
-  pub said : SaysIn seen (error_line name answer)
 
 -- What an answer of the printing of a log rests on, beside what was printed. Want of memory is free.
 abbrev pub HasCause : Around → List ℕ → Option LogRefusal → Type 0
@@ -101,6 +67,8 @@ pub record Answers (words : List (List ℕ)) (seen : Around) (old new : DiskStat
   pub lone_backslash : (pattern file : List ℕ) (at : ℕ) → AsksScan words pattern file → IsLoneBackslash pattern at → RefusesPattern seen status at
   pub scan : (pattern file : List ℕ) (items : List Item) → AsksScan words pattern file → IsSearchPattern pattern items → AnswersLog (Finds file items) seen file status
   pub create : (header : Header) → AsksCreate words header → AnswersCreate header seen old new status
+  pub files : AsksFiles words → AnswersFiles seen old new status
+  pub check : AsksCheck words → AnswersCheck seen old new status
 
 -- A pattern is refused with the place of its lone backslash, or for want of memory.
 abbrev pub IsPatternRefusal : List ℕ → PatternRefusal → Type 0

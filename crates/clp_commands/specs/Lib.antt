@@ -1,9 +1,12 @@
 pub mod Answers
 pub mod Around
+pub mod Counted
+pub mod Directory
+pub mod Ending
 pub mod Going
 pub mod Outcome
-pub mod Output
 pub mod Printing
+pub mod Reading
 pub mod Refusal
 pub mod Scanned
 pub mod Shown

@@ -6,8 +6,12 @@ use Rattle.wild_match.specs.declared.read.PatternRefusal.{PatternRefusal}
 use Rattle.wild_match.specs.declared.read.PatternRefusal.TheVariants.{BadPattern as ReadBadPattern, OutOfMemory as ReadOutOfMemory}
 use Rattle.clp_commands.specs.declared.outcome.LogRefusal.{LogRefusal}
 use Rattle.clp_commands.specs.declared.outcome.LogRefusal.TheVariants.{OpenFault as LogOpenFault, ReadFault as LogReadFault, LineTooLong as LogLineTooLong, TooManyLines as LogTooManyLines, SinkFault as LogSinkFault, OutOfMemory as LogOutOfMemory}
+use Rattle.archive_open.specs.declared.refusal.ArchiveRefusal.{ArchiveRefusal}
+use Rattle.archive_check.specs.declared.checking.CheckRefusal.{CheckRefusal}
+use Rattle.sink_pieces.specs.declared.refusal.PrintRefusal.{PrintRefusal}
+use Rattle.clp_commands.specs.declared.outcome.ReadRefusal.{ReadRefusal}
 use Rattle.clp_commands.specs.declared.refusal.Refusal.{Refusal}
-use Rattle.clp_commands.specs.declared.refusal.Refusal.TheVariants.{BadPattern, OpenFault, ReadFault, LineTooLong, TooManyLines, DiskFault, SinkFault, NotEmpty, OutOfMemory}
+use Rattle.clp_commands.specs.declared.refusal.Refusal.TheVariants.{BadPattern, OpenFault, ReadFault, LineTooLong, TooManyLines, DiskFault, Damaged, SinkFault, NotEmpty, OutOfMemory}
 
 -- the answer of a call that may refuse, where no refusal is `None`
 abbrev pub answer_of : {E : Type 0} → Result Unit E → Option E
@@ -23,6 +27,13 @@ of_log LogTooManyLines = TooManyLines
 of_log LogSinkFault = SinkFault
 of_log LogOutOfMemory = OutOfMemory
 
+-- of a command that reads an archive
+abbrev pub of_read : ReadRefusal → Refusal
+of_read ReadRefusal.DiskFault = DiskFault
+of_read (ReadRefusal.Damaged at) = Damaged at
+of_read ReadRefusal.SinkFault = SinkFault
+of_read ReadRefusal.OutOfMemory = OutOfMemory
+
 -- of the making of an archive
 abbrev pub of_create : CreateRefusal → Refusal
 of_create CreateDiskFault = DiskFault
@@ -32,3 +43,18 @@ of_create (CreateNotEmpty len) = NotEmpty len
 abbrev pub of_pattern : PatternRefusal → Refusal
 of_pattern (ReadBadPattern at) = BadPattern at
 of_pattern ReadOutOfMemory = OutOfMemory
+
+-- why a command that reads an archive is refused where opening it was, where checking it was, and where printing was
+abbrev pub from_archive : ArchiveRefusal → ReadRefusal
+from_archive ArchiveRefusal.DiskFault = ReadRefusal.DiskFault
+from_archive (ArchiveRefusal.Damaged at) = ReadRefusal.Damaged at
+from_archive ArchiveRefusal.OutOfMemory = ReadRefusal.OutOfMemory
+
+abbrev pub from_check : CheckRefusal → ReadRefusal
+from_check CheckRefusal.DiskFault = ReadRefusal.DiskFault
+from_check (CheckRefusal.Damaged at) = ReadRefusal.Damaged at
+from_check CheckRefusal.OutOfMemory = ReadRefusal.OutOfMemory
+
+abbrev pub from_print : PrintRefusal → ReadRefusal
+from_print PrintRefusal.SinkFault = ReadRefusal.SinkFault
+from_print PrintRefusal.OutOfMemory = ReadRefusal.OutOfMemory

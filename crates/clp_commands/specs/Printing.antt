@@ -1,7 +1,7 @@
 -- What is printed of the messages of a log.
 use Rattle.std.specs.Prelude.{◌≡◌, ◌<◌, ◌≤◌, ◌+◌, ◌-◌, ℕ, List, [], ◌∷◌, ◌++◌, Bool, true, false, Option, Some, None, IfSome, All, length, take, slice_get}
 use Rattle.log_messages.specs.Messages.{IsLine, Messages, joined}
-use Rattle.clp_commands.specs.Output.{Grew, GrewByFront, Moves, Gathers}
+use Rattle.sink_pieces.specs.Output.{Grew, GrewByFront, Moves, Gathers, Took}
 use Rattle.line_cut.specs.Cutting.{CutterState}
 use Rattle.line_cut.specs.declared.cut.Cut.{Cut}
 use Rattle.line_cut.specs.declared.cut.Cut.TheVariants.{ReadFault as CutReadFault, LineTooLong as CutLineTooLong, TooManyLines as CutTooManyLines, OutOfMemory as CutOutOfMemory}
@@ -95,11 +95,6 @@ abbrev pub is_whole : Option LogRefusal → Bool
 is_whole (Some SinkFault) = false
 is_whole (Some OutOfMemory) = false
 is_whole _ = true
-
--- The sink took all of the text, or a front of it.
-abbrev pub Took : Bool → Option (List ℕ) → Option (List ℕ) → List ℕ → Type 0
-Took true old new text = Grew old new text
-Took false old new text = GrewByFront old new text
 
 -- What the printing of a log has printed when it ends with this answer: where the log's bytes are told, it is the text of its messages, of those before the fault, or a front of such a text.
 pub record Printed (tells : ℕ → List ℕ → List ℕ → Type 0) (answer : Option LogRefusal) (bytes unread old new : Option (List ℕ)) : Type 0 where

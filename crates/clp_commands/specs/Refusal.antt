@@ -2,9 +2,9 @@
 use Rattle.std.specs.Prelude.{◌⊎◌, ℕ, List, [], ◌∷◌, ◌++◌, Option, codes}
 use Rattle.std.specs.Fmt.{decimal}
 use Rattle.log_seams.specs.Outside.{Rose}
-use Rattle.clp_commands.specs.Output.{Grew}
+use Rattle.sink_pieces.specs.Output.{Grew}
 use Rattle.clp_commands.specs.declared.refusal.Refusal.{Refusal}
-use Rattle.clp_commands.specs.declared.refusal.Refusal.TheVariants.{Usage, BadPattern, OpenFault, ReadFault, LineTooLong, TooManyLines, DiskFault, SinkFault, NotEmpty, OutOfMemory}
+use Rattle.clp_commands.specs.declared.refusal.Refusal.TheVariants.{Usage, BadPattern, OpenFault, ReadFault, LineTooLong, TooManyLines, DiskFault, Damaged, SinkFault, NotEmpty, OutOfMemory}
 
 -- a text with a newline
 abbrev pub line : List ℕ → List ℕ
@@ -19,6 +19,7 @@ ending_of name ReadFault = (4, codes "clpa: " ++ (name ++ line (codes ": read fa
 ending_of name (LineTooLong n) = (4, codes "clpa: " ++ (name ++ (codes ": line " ++ (decimal n ++ line (codes " is too long")))))
 ending_of name TooManyLines = (4, codes "clpa: " ++ (name ++ line (codes ": too many lines")))
 ending_of name DiskFault = (5, line (codes "clpa: archive: disk failed"))
+ending_of name (Damaged at) = (6, codes "clpa: archive: damaged at " ++ line (decimal at))
 ending_of name SinkFault = (7, line (codes "clpa: output failed"))
 ending_of name (NotEmpty len) = (8, codes "clpa: archive: not empty, " ++ (decimal len ++ line (codes " bytes")))
 ending_of name OutOfMemory = (9, line (codes "clpa: out of memory"))

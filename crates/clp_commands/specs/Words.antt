@@ -1,7 +1,7 @@
 -- What the words of the command line ask for. The first word is the command.
 use Rattle.std.specs.Prelude.{◌≡◌, ◌≢◌, ℕ, List, [], ◌∷◌, codes}
 use Rattle.clp_commands.specs.declared.words.Command.{Command}
-use Rattle.clp_commands.specs.declared.words.Command.TheVariants.{Show, Scan, Create}
+use Rattle.clp_commands.specs.declared.words.Command.TheVariants.{Show, Scan, Create, Files, Check}
 use Rattle.archive_limits.specs.Limits.{AsksLimits}
 use Rattle.record_format.specs.Header.{IsHeader}
 use Rattle.record_format.specs.declared.header.Header.{Header}
@@ -28,20 +28,40 @@ pub record AsksCreate (words : List (List ℕ)) (header : Header) : Type 0 where
   pub are : words ≡ codes "create" ∷ options
   pub limits : AsksLimits options header
 
+-- `files`
+abbrev pub AsksFiles : List (List ℕ) → Type 0
+AsksFiles words = words ≡ codes "files" ∷ []
+
+-- `check`
+abbrev pub AsksCheck : List (List ℕ) → Type 0
+AsksCheck words = words ≡ codes "check" ∷ []
+
 -- the words ask for this command
 abbrev pub Asks : List (List ℕ) → Command → Type 0
 Asks words (Show file) = AsksShow words file.now
 Asks words (Scan pattern file) = AsksScan words pattern.now file.now
 Asks words (Create header) = AsksCreate words header
+Asks words Files = AsksFiles words
+Asks words Check = AsksCheck words
 
 -- a header that a command has keeps to the ranges of headers
 abbrev pub HasHeader : Command → Type 0
 HasHeader (Show file) = Unit {0}
 HasHeader (Scan pattern file) = Unit {0}
 HasHeader (Create header) = IsHeader header
+HasHeader Files = Unit {0}
+HasHeader Check = Unit {0}
 
 -- the words ask for no command
 pub record IsUsage (words : List (List ℕ)) : Type 0 where
   pub no_show : (file : List ℕ) → ¬ AsksShow words file
   pub no_scan : (pattern file : List ℕ) → ¬ AsksScan words pattern file
   pub no_create : (header : Header) → ¬ AsksCreate words header
+  pub no_files : ¬ AsksFiles words
+  pub no_check : ¬ AsksCheck words
+
+-- the words ask for no command that works on the archive
+pub record AskNoArchive (words : List (List ℕ)) : Type 0 where
+  pub no_create : (header : Header) → ¬ AsksCreate words header
+  pub no_files : ¬ AsksFiles words
+  pub no_check : ¬ AsksCheck words

@@ -4,11 +4,14 @@
 //! refusal its cause.
 #![tactic(auto)]
 
+mod check;
 #[cfg(test)]
 mod create_tests;
+#[cfg(test)]
+mod directory_tests;
+mod files;
 mod log;
 mod outcome;
-mod output;
 mod refusal;
 mod scan;
 mod show;

@@ -6,10 +6,10 @@ ghost use Rattle.clp_commands.specs.Printing.{Reaches, Printed, IsFresh, TellsNe
 ghost use Rattle.clp_commands.specs.declared.outcome.LogRefusal.TheVariants.{OpenFault, ReadFault, SinkFault, OutOfMemory};
 
 use crate::outcome::LogRefusal;
-use crate::output::{flush, flush_piece};
 use crate::tell::Tell;
 use line_cut::{Cut, Cutter, CutterRefused, MAX_LINE_LEN};
 use log_seams::{OpenRefused, Shelf, Sink, Source};
+use sink_pieces::{flush, flush_piece};
 use std::alloc::Global;
 
 /// The most messages of a log.

@@ -1,9 +1,15 @@
 //! How the commands of each kind end, and which refusal that is.
 ghost use Rattle.std.specs.Prelude.{◌≡◌, option_map};
-ghost use Rattle.clp_commands.specs.Outcome.{answer_of, of_create, of_log, of_pattern};
+ghost use Rattle.clp_commands.specs.declared.outcome.ReadRefusal.TheVariants.{OutOfMemory, SinkFault};
+ghost use Rattle.clp_commands.specs.Outcome.{answer_of, from_archive, from_check, from_print, of_create, of_log, of_pattern, of_read};
 
 use crate::refusal::Refusal;
+use archive_check::CheckRefusal;
+use archive_open::ArchiveRefusal;
 use disk_journal::CreateRefusal;
+use log_seams::Failed;
+use sink_pieces::PrintRefusal;
+use std::alloc::AllocError;
 use wild_match::PatternRefusal;
 
 /// Why not all messages of a log were printed.
@@ -23,6 +29,70 @@ pub(crate) enum LogRefusal {
     OutOfMemory,
 }
 
+/// Why a command that reads an archive did not print its text.
+#[derive(Clone, Copy, Debug, PartialEq, Eq)]
+pub(crate) enum ReadRefusal {
+    /// A call on the archive's disk failed.
+    DiskFault,
+    /// The disk's bytes are no archive, by what stands at this place.
+    Damaged { at: u64 },
+    /// The output cannot be written.
+    SinkFault,
+    /// There was no memory.
+    OutOfMemory,
+}
+
+impl From<ArchiveRefusal> for ReadRefusal {
+    ghost from_gives = { λ r e. e ≡ from_archive r };
+
+    fn from(refusal: ArchiveRefusal) -> Self {
+        match refusal {
+            ArchiveRefusal::DiskFault => ReadRefusal::DiskFault,
+            ArchiveRefusal::Damaged { at } => ReadRefusal::Damaged { at },
+            ArchiveRefusal::OutOfMemory => ReadRefusal::OutOfMemory,
+        }
+    }
+}
+
+impl From<CheckRefusal> for ReadRefusal {
+    ghost from_gives = { λ r e. e ≡ from_check r };
+
+    fn from(refusal: CheckRefusal) -> Self {
+        match refusal {
+            CheckRefusal::DiskFault => ReadRefusal::DiskFault,
+            CheckRefusal::Damaged { at } => ReadRefusal::Damaged { at },
+            CheckRefusal::OutOfMemory => ReadRefusal::OutOfMemory,
+        }
+    }
+}
+
+impl From<AllocError> for ReadRefusal {
+    ghost from_gives = { λ _ e. e ≡ OutOfMemory };
+
+    fn from(_: AllocError) -> Self {
+        ReadRefusal::OutOfMemory
+    }
+}
+
+impl From<Failed> for ReadRefusal {
+    ghost from_gives = { λ _ e. e ≡ SinkFault };
+
+    fn from(_: Failed) -> Self {
+        ReadRefusal::SinkFault
+    }
+}
+
+impl From<PrintRefusal> for ReadRefusal {
+    ghost from_gives = { λ r e. e ≡ from_print r };
+
+    fn from(refusal: PrintRefusal) -> Self {
+        match refusal {
+            PrintRefusal::SinkFault => ReadRefusal::SinkFault,
+            PrintRefusal::OutOfMemory => ReadRefusal::OutOfMemory,
+        }
+    }
+}
+
 /// The refusal of a command that prints a log.
 pub(crate) fn refusal_of_log(outcome: Result<(), LogRefusal>) -> Option<Refusal>
     ensures { result ≡ option_map of_log (answer_of outcome) }
@@ -35,6 +105,19 @@ pub(crate) fn refusal_of_log(outcome: Result<(), LogRefusal>) -> Option<Refusal>
         Err(LogRefusal::TooManyLines) => Some(Refusal::TooManyLines),
         Err(LogRefusal::SinkFault) => Some(Refusal::SinkFault),
         Err(LogRefusal::OutOfMemory) => Some(Refusal::OutOfMemory),
+    }
+}
+
+/// The refusal of a command that reads an archive.
+pub(crate) fn refusal_of_read(outcome: Result<(), ReadRefusal>) -> Option<Refusal>
+    ensures { result ≡ option_map of_read (answer_of outcome) }
+{
+    match outcome {
+        Ok(()) => None,
+        Err(ReadRefusal::DiskFault) => Some(Refusal::DiskFault),
+        Err(ReadRefusal::Damaged { at }) => Some(Refusal::Damaged { at }),
+        Err(ReadRefusal::SinkFault) => Some(Refusal::SinkFault),
+        Err(ReadRefusal::OutOfMemory) => Some(Refusal::OutOfMemory),
     }
 }
 

@@ -3,8 +3,8 @@ ghost use Rattle.std.specs.Prelude.{◌≡◌, ◌≤◌, ◌++◌, List, ℕ};
 ghost use Rattle.std.specs.List.{flat_map};
 ghost use Rattle.clp_commands.specs.Refusal.{Says, line_of, status_of};
 
-use crate::output::write_all;
 use log_seams::Sink;
+use sink_pieces::write_all;
 
 /// Why a command did not do what it was asked for. Each has one cause.
 #[derive(Clone, Copy, Debug, PartialEq, Eq)]
@@ -23,6 +23,9 @@ pub enum Refusal {
     TooManyLines,
     /// A call on the archive's disk failed: its count of faults rose.
     DiskFault,
+    /// The disk's bytes are no archive. `check` tells the first damage: the place of the first gate that
+    /// is missing or whose record is bad, or 0 for the header; other commands a place not before it.
+    Damaged { at: u64 },
     /// The output cannot be written: its count of faults rose.
     SinkFault,
     /// An archive is to be made, and its disk already has `len` bytes.
@@ -89,6 +92,11 @@ pub(crate) fn report<K: Sink>(err: &mut K, name: &str, refusal: Refusal) -> u8
         Refusal::DiskFault => {
             say(err, &[b"clpa: archive: disk failed\n"]);
             5
+        }
+        Refusal::Damaged { at } => {
+            let at = number.format(at).as_bytes();
+            say(err, &[b"clpa: archive: damaged at ", at, b"\n"]);
+            6
         }
         Refusal::SinkFault => {
             say(err, &[b"clpa: output failed\n"]);

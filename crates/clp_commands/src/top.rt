@@ -3,15 +3,19 @@ ghost use Rattle.std.specs.Prelude.{◌≡◌, ◌≤◌, ℕ, List, map, string
 ghost use Rattle.record_format.specs.declared.header.Header.{Header};
 ghost use Rattle.wild_match.specs.Reading.{IsLoneBackslash, IsSearchPattern};
 ghost use Rattle.wild_match.specs.declared.pattern.Item.{Item};
-ghost use Rattle.clp_commands.specs.Answers.{Answers, AnswersLog, IsPatternRefusal, RefusesPattern, error_line, exit_status};
+ghost use Rattle.clp_commands.specs.Answers.{Answers, AnswersLog, IsPatternRefusal, RefusesPattern};
 ghost use Rattle.clp_commands.specs.Around.{around};
+ghost use Rattle.clp_commands.specs.Ending.{error_line, exit_status};
 ghost use Rattle.clp_commands.specs.Going.{DiskGoesOn, OutsideGoesOn};
 ghost use Rattle.clp_commands.specs.Refusal.{Says};
 ghost use Rattle.clp_commands.specs.Scanned.{Finds};
-ghost use Rattle.clp_commands.specs.Words.{AsksCreate};
+ghost use Rattle.clp_commands.specs.Words.{AskNoArchive, AsksCreate};
+ghost use Rattle.log_seams.specs.Disk.{KeepsBytes};
 
+use crate::check::check;
+use crate::files::files;
 use crate::log::print_log;
-use crate::outcome::{refusal_of_create, refusal_of_log, refusal_of_pattern};
+use crate::outcome::{refusal_of_create, refusal_of_log, refusal_of_pattern, refusal_of_read};
 use crate::refusal::{Refusal, report};
 use crate::scan::Scan;
 use crate::show::Show;
@@ -26,7 +30,9 @@ use wild_match::{Matcher, PatternRefusal, read_pattern};
 ///
 /// `show FILE` prints each message of a log with its variables in braces. `scan PATTERN FILE` prints
 /// those that the pattern matches, each as `FILE:NUMBER:TEXT`. `create` with its options makes an
-/// archive with no file in it. A refusal has its line on `err`.
+/// archive with no file in it. `files` prints the archive's files, each as `NUMBER MESSAGES whole NAME`,
+/// or `part` in place of `whole`. `check` tells whether the archive is legal, and prints what it has. A
+/// refusal has its line on `err`.
 ///
 /// `disk` is the archive's. `rt` starts the threads of the commands that work with several, and
 /// `second` is the disk beside the archive's for those that write a new one; no command here needs
@@ -57,8 +63,9 @@ where
 
     // what stays
     ensures logs { (name : List ℕ) → H.content shelf.new name ≡ H.content shelf.old name }
-    ensures untouched { ((header : Header) → ¬ AsksCreate (map string_bytes words.now) header)
-        → disk.new ≡ disk.old }
+    ensures keeps { ((header : Header) → ¬ AsksCreate (map string_bytes words.now) header)
+        → KeepsBytes (D.state disk.old) (D.state disk.new) }
+    ensures untouched { AskNoArchive (map string_bytes words.now) → disk.new ≡ disk.old }
     ensures second { second.new ≡ second.old }
 {
     let Some(command) = read_words(words) else {
@@ -70,6 +77,14 @@ where
         Command::Create { header } => {
             let outcome = create(disk, &header);
             answer(refusal_of_create(outcome), "", err)
+        }
+        Command::Files => {
+            let outcome = files(alloc, disk, out);
+            answer(refusal_of_read(outcome), "", err)
+        }
+        Command::Check => {
+            let outcome = check(alloc, disk, out);
+            answer(refusal_of_read(outcome), "", err)
         }
     }
 }

@@ -3,7 +3,7 @@ use Rattle.std.proofs.Common.{◌≡◌, ◌≢◌, ℕ, zero, suc, ◌+◌, ◌
 use Rattle.std.proofs.lemmas.List.{length-set}
 use Rattle.std.proofs.lemmas.Option.{slice_get_within}
 use Rattle.std.proofs.lemmas.Bool.{cases_lt}
-use Rattle.ingest_fork.specs.Works.{AllReady, AllFit, Done, AllDone, Went, AllWent}
+use Rattle.ingest_fork.specs.Works.{AllReady, AllFit, Done, AllDone, Went, AllWent, GoesOn, Widens, DidOn}
 use Rattle.ingest_fork.proofs.PlaceLemmas.{at_left, at_right, in_left, in_right, set_at, set_off, cut_at}
 
 module _ {W J K : Type 0} (went : List J → W → W → Type 0) (did : W → J → K → J → K → Type 0) where
@@ -26,9 +26,9 @@ module _ {W J K : Type 0} (went : List J → W → W → Type 0) (did : W → J 
     rest_keepers = λ n le. refl;
   }
 
-  pub in_turn_step : (goes_on : (js : List J) (a b c : W) → went js a b → went js b c → went js a c)
-      → (wider : (xs js ys : List J) (a b : W) → went js a b → went (xs ++ (js ++ ys)) a b)
-      → (did_on : (js : List J) (a b : W) (j l : J) (k m : K) → went js a b → did b j k l m → did a j k l m)
+  pub in_turn_step : (goes_on : GoesOn went)
+      → (wider : Widens went)
+      → (did_on : DidOn went did)
       → (first : W) (js : List J) (ks : List K) (w v : W) (js' : List J) (ks' : List K) (i : ℕ) (j l : J) (k m : K)
       → InTurn first js ks w js' ks' i → slice_get js' i ≡ Some j → slice_get ks' i ≡ Some k → i < length js' → i < length ks' → went (j ∷ []) w v → did w j k l m
       → InTurn first js ks v (set js' i l) (set ks' i m) (i + 1)

@@ -6,6 +6,26 @@ module _ {W : Type 0} (ready : W → Type 0) where
   abbrev pub AllReady : List W → Type 0
   AllReady ws = (n : ℕ) (w : W) → slice_get ws n ≡ Some w → ready w
 
+module _ {W J : Type 0} (went : List J → W → W → Type 0) where
+  -- who did nothing did nothing but these jobs
+  abbrev pub Rests : (W → Type 0) → Type 0
+  Rests ready = (js : List J) (w : W) → ready w → went js w w
+
+  abbrev pub GoesOn : Type 0
+  GoesOn = (js : List J) (a b c : W) → went js a b → went js b c → went js a c
+
+  -- who did nothing but a piece of the jobs did nothing but the jobs
+  abbrev pub Widens : Type 0
+  Widens = (xs js ys : List J) (a b : W) → went js a b → went (xs ++ (js ++ ys)) a b
+
+  -- what it may do it may do later
+  abbrev pub FitsOn : {K : Type 0} → (W → J → K → Type 0) → Type 0
+  FitsOn {K} fits = (js : List J) (a b : W) (j : J) (k : K) → went js a b → fits a j k → fits b j k
+
+  -- what it did later it did
+  abbrev pub DidOn : {K : Type 0} → (W → J → K → J → K → Type 0) → Type 0
+  DidOn {K} did = (js : List J) (a b : W) (j l : J) (k m : K) → went js a b → did b j k l m → did a j k l m
+
 module _ {W J K : Type 0} where
   -- each worker may do each job with that job's keeper
   abbrev pub AllFit : (W → J → K → Type 0) → List W → List J → List K → Type 0

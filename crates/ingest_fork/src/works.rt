@@ -1,15 +1,16 @@
-//! Jobs that workers do on several threads. Each worker does a consecutive piece of the jobs in turn,
-//! and each job has a keeper of its own, which the worker uses for it.
-ghost use Rattle.std.specs.Prelude.{◌≡◌, ℕ, ◌<◌, ◌≤◌, List, [], ◌∷◌, ◌++◌, length};
+//! Jobs that workers do on several threads. Each worker does a consecutive piece of the jobs, one
+//! after the other, and each job has a keeper of its own, which the worker uses for it.
+ghost use Rattle.std.specs.Prelude.{◌≡◌, ◌<◌, ◌≤◌, List, [], ◌∷◌, length};
 ghost use Rattle.std.specs.Thread.{IsSync};
 ghost use Rattle.ingest_fork.specs.Works.{AllReady, AllFit, AllDone, AllWent};
+ghost use Rattle.ingest_fork.specs.Works.{Rests, GoesOn, Widens, FitsOn, DidOn};
 
 use std::sync::Wait;
 use std::thread::{Threads, join_mut};
 
-/// A worker, which does jobs of the type `J` one after the other, each with a keeper of the type `K`.
-/// What a worker and a keeper are is told where the trait is implemented, so a type that names a
-/// lifetime may stand there.
+/// A worker, which does jobs of the type `J` one after the other, each with a keeper of the type
+/// `K`. What a worker and a keeper are is told where the trait is implemented, so a type that names
+/// a lifetime may stand there.
 pub trait Works<J, K> {
     // It is between two jobs.
     ghost ready: { Self → Type 0 };
@@ -32,19 +33,19 @@ pub trait Works<J, K> {
         ensures did { did self.old job.old keeper.old job.new keeper.new };
 
     // Laws. A worker that did nothing did nothing but these jobs.
-    ghost rests: { (js : List J) (w : Self) → ready w → went js w w };
+    ghost rests: { Rests went ready };
 
     // What it did goes together.
-    ghost goes_on: { (js : List J) (a b c : Self) → went js a b → went js b c → went js a c };
+    ghost goes_on: { GoesOn went };
 
     // Who did nothing but a piece of the jobs did nothing but the jobs.
-    ghost wider: { (xs js ys : List J) (a b : Self) → went js a b → went (xs ++ (js ++ ys)) a b };
+    ghost wider: { Widens went };
 
     // What it may do it may do later.
-    ghost fits_on: { (js : List J) (a b : Self) (j : J) (k : K) → went js a b → fits a j k → fits b j k };
+    ghost fits_on: { FitsOn went fits };
 
     // What it did later it did.
-    ghost did_on: { (js : List J) (a b : Self) (j l : J) (k m : K) → went js a b → did b j k l m → did a j k l m };
+    ghost did_on: { DidOn went did };
 }
 
 /// One worker does all the jobs, in their order.
@@ -114,8 +115,8 @@ pub fn by_workers<J: Send, K: Send, W: Works<J, K> + Send, R: Threads + Wait + S
     );
 }
 
-/// The same over vectors of workers and keepers. A caller whose keepers' type names a lifetime learns
-/// by it what became of them.
+/// The same over vectors of workers and keepers. A caller whose keepers' type names a lifetime
+/// learns by it what became of them.
 pub fn by_workers_of<J: Send, K: Send, W: Works<J, K> + Send, R: Threads + Wait + Sync>(
     rt: &R,
     workers: &mut Vec<W>,

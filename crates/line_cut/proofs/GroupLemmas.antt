@@ -8,7 +8,6 @@ use Rattle.std.proofs.lemmas.List.Elements.{All-head, All-tail}
 use Rattle.std.proofs.lemmas.Option.{slice_get_within, get_or_from_slice_get, slice_get_read}
 use Rattle.log_messages.specs.Messages.{IsLine}
 use Rattle.log_messages.specs.Groups.{Group, text_of, BeginsBehind, IsFollowed, FirstLine, GroupMessages}
-use Rattle.log_messages.specs.GroupLaws.{Passes}
 use Rattle.log_messages.proofs.GroupLawLemmas.{group_messages_empty, group_messages_first}
 use Rattle.line_cut.specs.Joining.{IsTornGroup}
 use Rattle.line_cut.specs.Length.{BeginsTooLong}
@@ -144,10 +143,10 @@ begins_whole limit held left len false s =
     more (Some rest) some s = (s.1, inl (whole_last limit held rest len s, some))
 
 -- a torn group is one message before the front of a line
-pub torn_message : (test : List ℕ → Bool) (limit : ℕ) (bytes : List ℕ) (torn : IsTornGroup (Passes test) limit bytes) → (bytes ≡ (text_of torn.group ++ 10 ∷ []) ++ torn.part) × GroupMessages (Passes test) limit (text_of torn.group ++ 10 ∷ []) (text_of torn.group ∷ []) true × Passes test torn.group.first
-torn_message test limit bytes t = (
+pub torn_message : (stamped : List ℕ → Type 0) (limit : ℕ) (bytes : List ℕ) (torn : IsTornGroup stamped limit bytes) → (bytes ≡ (text_of torn.group ++ 10 ∷ []) ++ torn.part) × GroupMessages stamped limit (text_of torn.group ++ 10 ∷ []) (text_of torn.group ∷ []) true × stamped torn.group.first
+torn_message stamped limit bytes t = (
   t.splits ∙ sym (append_assoc (text_of t.group) (10 ∷ []) t.part),
-  group_messages_first (Passes test) limit t.group [] [] true t.are_lines t.is_group (λ line f. absurd (first_none [] line refl f)) (group_messages_empty (Passes test) limit),
+  group_messages_first stamped limit t.group [] [] true t.are_lines t.is_group (λ line f. absurd (first_none [] line refl f)) (group_messages_empty stamped limit),
   t.has_stamp,
 )
 

@@ -1,6 +1,6 @@
 -- A group at the front of the bytes held that grows by a line.
 use Rattle.std.proofs.Common.{◌≡◌, ◌≢◌, ◌≤◌, ◌+◌, inl, inr, refl, sym, ◌∙◌, ap, subst, arith, ℕ, Bool, true, false, List, [], ◌∷◌, ◌++◌, All, Option, None, Some, length, take, drop}
-use Rattle.std.specs.Prelude.{IfSome, slice_get}
+use Rattle.std.specs.Prelude.{◌↔◌, IfSome, IsTrue, slice_get}
 use Rattle.std.proofs.lemmas.List.{append-nil, length-append, length-take, length-drop}
 use Rattle.std.proofs.lemmas.List.Elements.{All-nil, All-cons, All-push}
 use Rattle.std.proofs.lemmas.Option.{slice_get_within}
@@ -23,9 +23,12 @@ reaches max held left (Whole len false) s = omega (arith, s.2.0)
 reaches max held left Nothing s = tt
 reaches max held left TooLong s = tt
 
--- what a test said of a line: `hay` is how the code has the bytes held
-pub judged : (test : List ℕ → Bool) (held hay : List ℕ) (len : ℕ) (said is : Bool) → hay ≡ held → said ≡ test (take len hay) → said ≡ is → test (take len held) ≡ is
-judged test held hay len said is same by e = ap (λ h. test (take len h)) (sym same) ∙ (sym by ∙ e)
+-- what was said of a line: `hay` is how the code has the bytes held
+pub judged : (stamped : List ℕ → Type 0) (held hay : List ℕ) (len : ℕ) (said : Bool) → hay ≡ held → IsTrue said ↔ stamped (take len hay) → said ≡ true → stamped (take len held)
+judged stamped held hay len said same tells is = subst (λ h. stamped (take len h)) same (tells.0 is)
+
+pub judged_none : (stamped : List ℕ → Type 0) (held hay : List ℕ) (len : ℕ) (said : Bool) → hay ≡ held → IsTrue said ↔ stamped (take len hay) → said ≡ false → ¬ stamped (take len held)
+judged_none stamped held hay len said same tells is_not is = absurd (cc (is_not, tells.1 (subst (λ h. stamped (take len h)) (sym same) is)))
 
 -- a newline behind so many bytes
 pub behind_newline : (stamped : List ℕ → Type 0) (limit : ℕ) (held : List ℕ) (len lines : ℕ) → Growing stamped limit held len lines → len + 1 ≤ length held

@@ -80,8 +80,21 @@ message_of left stamped limit text j old mid new m steps false is =
     first_open stamped limit m.group text (left_of left old.cutter) (left_of left new.cutter) (m.text ∙ sym steps.is) m.are_lines m.is_group (m.last is)
     (parts_of left stamped limit text j old mid new m steps false is)
 
-pub gave_message : {S T : Type 0} (left : S → Option (List ℕ)) (test : T → List ℕ → Bool) (text : List ℕ) (j : Joined) (old mid new : JoinerState S T) → old.cutter.given < old.cutter.max_lines → IsInFront (stamped_by test old) old.cutter.max_line mid.cutter.pending (left mid.cutter.source) j → StepsTo left text j old mid new → GaveMessage left test j.ended text old new
-gave_message left test text j old mid new room m steps = record {
+-- and what is left begins another message behind its group
+left_more : (F : List ℕ → Type 0) (np : List ℕ) (nl : Option (List ℕ)) → IfSome nl (λ rest. F (np ++ rest)) → IfSome (bytes_left np nl) F
+left_more F np None f = tt
+left_more F np (Some rest) f = f
+
+follows : {S T : Type 0} (left : S → Option (List ℕ)) (stamped : List ℕ → Type 0) (limit : ℕ) (text : List ℕ) (j : Joined) (old mid new : JoinerState S T) → (m : IsInFront stamped limit mid.cutter.pending (left mid.cutter.source) j) → StepsTo left text j old mid new → j.ended ≡ true → IfSome (left_of left new.cutter) (IsFollowed stamped limit m.group)
+follows left stamped limit text j old mid new m steps is =
+    let pending : new.cutter.pending ≡ drop (j.len + 1) mid.cutter.pending = ap (λ s. s.cutter.pending) steps.at ∙ ap (λ e. drop (j.len + newline_len e) mid.cutter.pending) is in
+    let source = ap (λ s. s.cutter.source) steps.at in
+    left_more (IsFollowed stamped limit m.group) new.cutter.pending (left new.cutter.source)
+    (subst (λ np. IfSome (left new.cutter.source) (λ rest. IsFollowed stamped limit m.group (np ++ rest))) (sym pending)
+    (subst (λ o. IfSome o (λ rest. IsFollowed stamped limit m.group (drop (j.len + 1) mid.cutter.pending ++ rest))) (sym (ap left source)) (m.followed is)))
+
+pub gave_message : {S T : Type 0} (left : S → Option (List ℕ)) (starts : T → List ℕ → Type 0) (text : List ℕ) (j : Joined) (old mid new : JoinerState S T) → old.cutter.given < old.cutter.max_lines → IsInFront (stamped_by starts old) old.cutter.max_line mid.cutter.pending (left mid.cutter.source) j → StepsTo left text j old mid new → GaveMessage left starts j.ended text old new
+gave_message left starts text j old mid new room m steps = record {
   was_open = steps.was_open;
   progress = ap (λ s. s.cutter.progress) steps.at;
   within = room;
@@ -97,8 +110,9 @@ gave_message left test text j old mid new room m steps = record {
     fits = omega (arith, ap length steps.is, length-take j.len mid.cutter.pending, m.fits);
     last = m.last;
   };
+  followed = follows left (stamped_by starts old) old.cutter.max_line text j old mid new m steps;
   alone = λ none ended.
-      subst (λ t. IsLine t × (¬ stamped_by test old t)) (sym steps.is) (m.alone (sym (ap (λ s. s.behind) steps.at) ∙ none) ended);
-  parts = parts_of left (stamped_by test old) old.cutter.max_line text j old mid new m steps j.ended refl;
-  message = message_of left (stamped_by test old) old.cutter.max_line text j old mid new m steps j.ended refl;
+      subst (λ t. IsLine t × (¬ stamped_by starts old t)) (sym steps.is) (m.alone (sym (ap (λ s. s.behind) steps.at) ∙ none) ended);
+  parts = parts_of left (stamped_by starts old) old.cutter.max_line text j old mid new m steps j.ended refl;
+  message = message_of left (stamped_by starts old) old.cutter.max_line text j old mid new m steps j.ended refl;
 }

@@ -1,12 +1,12 @@
 //! Which lines begin a message.
-ghost use Rattle.std.specs.Prelude.{◌≡◌, List, ℕ, Bool};
+ghost use Rattle.std.specs.Prelude.{◌↔◌, List, ℕ, IsTrue};
 
 /// Tells of a line whether it begins a message, as one with a stamp does.
 pub trait Heads {
-    /// The same, as a test on lines.
-    ghost test: { Self → List ℕ → Bool };
+    /// The lines that begin a message.
+    ghost starts: { Self → List ℕ → Type 0 };
 
     /// Whether this line, which is without its newline, begins a message.
     fn begins(&self, line: &[u8]) -> bool
-        ensures { result ≡ test self.now line.now };
+        ensures { IsTrue result ↔ starts self.now line.now };
 }

@@ -1,7 +1,6 @@
 //! Lines in a window that are one message, joined where they stand.
 ghost use Rattle.std.specs.Prelude.{◌≡◌, ◌+◌, ◌*◌, ◌<◌, ◌≤◌, IfOk, IfSome, IfNone, IsTrue, OnErr, length, take, drop};
 ghost use Rattle.log_messages.specs.Messages.{IsLine};
-ghost use Rattle.log_messages.specs.GroupLaws.{Passes};
 ghost use Rattle.log_seams.specs.Outside.{Counts};
 ghost use Rattle.line_cut.specs.Joining.{IsTornGroup};
 ghost use Rattle.line_cut.specs.Length.{bytes_left};
@@ -50,9 +49,9 @@ fn further_line<T: Heads>(
     requires from_in { from ≤ max_line + 1 }
     requires limit { max_line ≤ MAX_LINE_LEN }
     ensures goes { IfSome result
-        (IsFurther (Passes (T.test heads.now)) max_line window.now.held from next) }
+        (IsFurther (T.starts heads.now) max_line window.now.held from next) }
     ensures apart { IfNone result
-        (IsApart (Passes (T.test heads.now)) max_line window.now.held from next) }
+        (IsApart (T.starts heads.now) max_line window.now.held from next) }
 {
     let NextLine::Whole { len, ended } = next else {
         return None;
@@ -76,7 +75,7 @@ fn join_lines<S: Source, T: Heads>(
     first: usize,
     max_line: usize,
 ) -> Result<Joined, Failed>
-    requires first { Growing (Passes (T.test heads.now)) max_line window.old.held first 1 }
+    requires first { Growing (T.starts heads.now) max_line window.old.held first 1 }
     requires room { max_line * 2 + 1 < window.old.size }
     requires limit { max_line ≤ MAX_LINE_LEN }
 
@@ -88,8 +87,8 @@ fn join_lines<S: Source, T: Heads>(
 
     // by the answer
     ensures joined { IfOk result
-        (IsInFront (Passes (T.test heads.now)) max_line window.new.held (S.left source.new)) }
-    ensures torn { OnErr result (IsTornGroup (Passes (T.test heads.now)) max_line window.new.held) }
+        (IsInFront (T.starts heads.now) max_line window.new.held (S.left source.new)) }
+    ensures torn { OnErr result (IsTornGroup (T.starts heads.now) max_line window.new.held) }
     ensures cause { Counts (S.faults source.old) (S.faults source.new) result }
 {
     let mut len = first;
@@ -141,8 +140,8 @@ pub(crate) fn message_from<S: Source, T: Heads>(
 
     // by the answer
     ensures joined { IfOk result
-        (IsInFront (Passes (T.test heads.now)) max_line window.new.held (S.left source.new)) }
-    ensures torn { OnErr result (IsTornGroup (Passes (T.test heads.now)) max_line window.new.held) }
+        (IsInFront (T.starts heads.now) max_line window.new.held (S.left source.new)) }
+    ensures torn { OnErr result (IsTornGroup (T.starts heads.now) max_line window.new.held) }
     ensures cause { Counts (S.faults source.old) (S.faults source.new) result }
 {
     if ended {

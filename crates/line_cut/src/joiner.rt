@@ -1,7 +1,6 @@
 //! The messages of a source, where a message is a group of lines.
 ghost use Rattle.std.specs.Prelude.{◌≡◌, ◌≢◌, ◌+◌, ◌*◌, ◌^◌, ◌<◌, ◌≤◌, [], length, take, drop, IfOk, IfErr, IfSome, IfNone, IsErrOf, None, nat_lt};
 ghost use Rattle.log_seams.specs.Outside.{CountsOf, Rose};
-ghost use Rattle.log_messages.specs.GroupLaws.{Passes};
 ghost use Rattle.line_cut.specs.Cutting.{Repeats, left_of, without_line};
 ghost use Rattle.line_cut.specs.Joining.{EndedJoining, GaveMessage, IsNewJoiner, JoinerStays, RefusedToJoin, stamped_by};
 ghost use Rattle.line_cut.specs.StepsJoining.{Finds, IsInFront, at_message};
@@ -127,7 +126,7 @@ impl<S: Source, T: Heads + Drop> Joiner<S, T> {
         ensures after_refusal { (e : Cut) → self.old.cutter.progress ≡ Progress.Refused e
             → (result ≡ Seen.Refused e) × (self.new.cutter ≡ without_line self.old.cutter) }
         ensures finds { self.old.cutter.progress ≡ Progress.Open
-            → Finds (stamped_by T.test self.old) (self.old.lines + 1) self.old.cutter.max_line
+            → Finds (stamped_by T.starts self.old) (self.old.lines + 1) self.old.cutter.max_line
             (nat_lt self.old.cutter.given self.old.cutter.max_lines) self.old.behind
             self.new.cutter.pending (S.left self.new.cutter.source)
             (Rose (S.faults self.old.cutter.source) (S.faults self.new.cutter.source)) result }
@@ -162,7 +161,7 @@ impl<S: Source, T: Heads + Drop> Joiner<S, T> {
 
     /// Comes to a message that was found.
     fn come_to(&mut self, joined: Joined)
-        requires front { IsInFront (stamped_by T.test self.old) self.old.cutter.max_line
+        requires front { IsInFront (stamped_by T.starts self.old) self.old.cutter.max_line
             self.old.cutter.pending (S.left self.old.cutter.source) joined }
         requires room { self.old.cutter.given < self.old.cutter.max_lines }
         ensures { self.new ≡ at_message joined self.old }
@@ -192,12 +191,12 @@ impl<S: Source, T: Heads + Drop> Joiner<S, T> {
     pub fn advance(&mut self) -> Result<Option<Mark>, Cut>
         // by the answer
         ensures message { IfOk result (λ o. IfSome o (λ m.
-            GaveMessage S.left T.test m.ended self.new.cutter.line self.old self.new)) }
+            GaveMessage S.left T.starts m.ended self.new.cutter.line self.old self.new)) }
         ensures at_end { IfOk result (λ o. IfNone o (EndedJoining S.left self.old self.new)) }
         ensures again { Repeats self.old.cutter.progress self.old.cutter self.new.cutter result }
 
         // causes
-        ensures refused { IfErr result (RefusedToJoin S.left S.faults T.test self.old self.new) }
+        ensures refused { IfErr result (RefusedToJoin S.left S.faults T.starts self.old self.new) }
         ensures memory { IsErrOf result Cut.OutOfMemory → self.old.cutter.progress ≢ Progress.Open }
         ensures counts { self.old.cutter.progress ≡ Progress.Open
             → CountsOf Cut.ReadFault (S.faults self.old.cutter.source)
@@ -240,13 +239,13 @@ impl<S: Source, T: Heads + Drop> Joiner<S, T> {
     pub fn next(&mut self) -> Result<Option<Piece>, Cut>
         // by the answer
         ensures piece { IfOk result (λ o. IfSome o (λ p.
-            GaveMessage S.left T.test p.ended p.line self.old self.new)) }
+            GaveMessage S.left T.starts p.ended p.line self.old self.new)) }
         ensures line { IfOk result (λ o. IfSome o (λ p. self.new.cutter.line ≡ p.line)) }
         ensures at_end { IfOk result (λ o. IfNone o (EndedJoining S.left self.old self.new)) }
         ensures again { Repeats self.old.cutter.progress self.old.cutter self.new.cutter result }
 
         // causes
-        ensures refused { IfErr result (RefusedToJoin S.left S.faults T.test self.old self.new) }
+        ensures refused { IfErr result (RefusedToJoin S.left S.faults T.starts self.old self.new) }
         ensures counts { self.old.cutter.progress ≡ Progress.Open
             → CountsOf Cut.ReadFault (S.faults self.old.cutter.source)
             (S.faults self.new.cutter.source) result }

@@ -9,10 +9,10 @@ use std::test::Fail;
 struct Stars;
 
 impl Heads for Stars {
-    ghost use Rattle.std.specs.Prelude.{[], ◌∷◌, nat_eq};
+    ghost use Rattle.std.specs.Prelude.{[], ◌∷◌, IsTrue, nat_eq};
     ghost use Rattle.std.specs.List.{starts_with};
 
-    ghost test = { λ _ line. starts_with nat_eq line (42 ∷ []) };
+    ghost starts = { λ _ line. IsTrue (starts_with nat_eq line (42 ∷ [])) };
 
     fn begins(&self, line: &[u8]) -> bool {
         line.starts_with(b"*")

@@ -1,6 +1,5 @@
 //! What message comes next in a window.
 ghost use Rattle.std.specs.Prelude.{◌≡◌, ◌≢◌, ◌+◌, ◌*◌, ◌<◌, ◌≤◌, IfSome};
-ghost use Rattle.log_messages.specs.GroupLaws.{Passes};
 ghost use Rattle.log_seams.specs.Outside.{Rose};
 ghost use Rattle.line_cut.specs.Length.{bytes_left};
 ghost use Rattle.line_cut.specs.Standing.{Stands};
@@ -42,7 +41,7 @@ pub(crate) fn look_for_message<S: Source, T: Heads>(
     requires room { max_line * 2 + 1 < window.old.size }
     requires limit { max_line ≤ MAX_LINE_LEN }
     requires known { IfSome behind (Stands max_line window.old.held (S.left source.old)) }
-    ensures finds { Finds (Passes (T.test heads.now)) number max_line may_give behind
+    ensures finds { Finds (T.starts heads.now) number max_line may_give behind
         window.new.held (S.left source.new)
         (Rose (S.faults source.old) (S.faults source.new)) result }
     ensures steady { result ≢ Seen.Refused Cut.ReadFault

@@ -26,3 +26,6 @@ returns-in-DiskFault-clause-said g c = Says-same _ _ _ _ _ (line_of c.args.name.
 
 pub returns-in-NotEmpty-clause-said : goal.returns-in-NotEmpty-clause-said
 returns-in-NotEmpty-clause-said g c = Says-same _ _ _ _ _ (line_of c.args.name.now c.args.refusal) (rw (c.in-NotEmpty.is, c.as_bytes-len.ensures.value, c.format-in-NotEmpty.ensures.text) refl) c.say-in-NotEmpty.ensures.said
+
+pub returns-in-Damaged-clause-said : goal.returns-in-Damaged-clause-said
+returns-in-Damaged-clause-said g c = Says-same _ _ _ _ _ (line_of c.args.name.now c.args.refusal) (rw (c.in-Damaged.is, c.as_bytes-at-in-Damaged.ensures.value, c.format-in-Damaged.ensures.text) refl) c.say-in-Damaged.ensures.said

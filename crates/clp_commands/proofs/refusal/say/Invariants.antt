@@ -1,6 +1,6 @@
 use Rattle.std.proofs.Common.{◌≤◌, take}
 use Rattle.std.specs.List.{flat_map}
-use Rattle.clp_commands.specs.Output.{Grew}
+use Rattle.sink_pieces.specs.Output.{Grew}
 use Rattle.clp_commands.proofs.refusal.say.Given as goal
 
 abbrev pub invariant-loop-piece : goal.invariant-loop-piece

@@ -1,5 +1,5 @@
 use Rattle.std.proofs.Common.{refl, rules}
-use Rattle.clp_commands.proofs.AnswerLemmas.{Answers-create, Answers-scan, Answers-show, Answers-usage}
+use Rattle.clp_commands.proofs.CommandLemmas.{Answers-check, Answers-create, Answers-files, Answers-scan, Answers-show, Answers-usage}
 use Rattle.clp_commands.proofs.top.run.Goals as goal
 
 pub returns-in-Show-clause-answers : goal.returns-in-Show-clause-answers
@@ -15,6 +15,26 @@ returns-in-Create-clause-answers g c =
     (record { answer = c.create-outcome.result; ends = rw (← c.refusal_of_create.ensures) (record { status_is = c.answer.ensures.status; said = c.answer.ensures.said }); leaves = c.create-outcome.ensures.leaves; nothing = refl; sink = refl })
 
 pub returns-in_default-clause-answers : goal.returns-in_default-clause-answers
-returns-in_default-clause-answers g c =
-    let refused = c.in_default.ensures in
-    Answers-usage _ _ _ _ _ refused.no_show refused.no_scan refused.no_create (search rules)
+returns-in_default-clause-answers g c = Answers-usage _ _ _ _ _ c.in_default.ensures.none (search rules)
+
+pub returns-in-Files-clause-answers : goal.returns-in-Files-clause-answers
+returns-in-Files-clause-answers g c =
+    let done = c.files-outcome.ensures in
+    Answers-files _ _ _ _ _ (rw (c.in-Files.is) at (rw c.in-Some.command-is at c.in-Some.ensures.some))
+    (record {
+      answer = c.files-outcome.result;
+      ends = record { ends = rw (← c.refusal_of_read.ensures) (record { status_is = c.answer-in-Files.ensures.status; said = c.answer-in-Files.ensures.said }); keeps = done.keeps; disk = done.disk; sink = done.sink };
+      prints = done.prints;
+      damaged = λ at is. done.damaged at (search (rules, is));
+    })
+
+pub returns-in-Check-clause-answers : goal.returns-in-Check-clause-answers
+returns-in-Check-clause-answers g c =
+    let done = c.check-outcome.ensures in
+    Answers-check _ _ _ _ _ (rw (c.in-Check.is) at (rw c.in-Some.command-is at c.in-Some.ensures.some))
+    (record {
+      answer = c.check-outcome.result;
+      ends = record { ends = rw (← c.refusal_of_read-in-Check.ensures) (record { status_is = c.answer-in-Check.ensures.status; said = c.answer-in-Check.ensures.said }); keeps = done.keeps; disk = done.disk; sink = done.sink };
+      prints = done.prints;
+      damaged = λ at is. done.damaged at (search (rules, is));
+    })

@@ -1,19 +1,7 @@
-use Rattle.std.proofs.Common.{rules}
-use Rattle.clp_commands.proofs.WordLemmas.{two_words, three_words}
 use Rattle.clp_commands.proofs.words.read_words.Goals as goal
-
-pub returns-in-len2-clause-some : goal.returns-in-len2-clause-some
-returns-in-len2-clause-some c =
-    let words = two_words c.args.words.now c.command-item.result c.file-item.result c.in-len2.len_at_least c.in-len2.len_below c.command-item.is c.file-item.is in
-    record { are = rw words (search rules); plain = search rules }
-
-pub returns-in-len3-clause-some : goal.returns-in-len3-clause-some
-returns-in-len3-clause-some c =
-    let words = three_words c.args.words.now c.command-item-then-words-lt4.result c.pattern-item.result c.file-item-then-words-lt4.result c.in-len3.len_at_least c.in-len3.len_below c.command-item-then-words-lt4.is c.pattern-item.is c.file-item-then-words-lt4.is in
-    record { are = rw words (search rules); plain = search rules; plain_file = search rules }
 
 pub returns-in-Some-clause-create : goal.returns-in-Some-clause-create
 returns-in-Some-clause-create c = λ h asks. let e = c.in-Some.ensures.all h asks in cc
 
-pub returns-in_default-words-clause-create : goal.returns-in_default-words-clause-create
-returns-in_default-words-clause-create c = λ h asks. absurd (c.in_default.ensures.none h asks)
+pub returns-clause-create : goal.returns-clause-create
+returns-clause-create c = λ h asks. absurd (c.in_default.ensures.none h asks)

@@ -1,12 +1,11 @@
 use Rattle.std.proofs.Common.{◌≡◌, ◌-◌}
-use Rattle.log_messages.specs.GroupLaws.{Passes}
 use Rattle.line_cut.specs.Length.{bytes_left}
 use Rattle.line_cut.specs.StepsJoining.{Growing}
 use Rattle.line_cut.proofs.join.join_lines.Given as goal
 
 abbrev pub invariant-lines : goal.invariant-lines
 invariant-lines g l = record {
-  growing : Growing (Passes (g.T.Heads.test l.heads)) l.max_line l.window.held l.len l.lines;
+  growing : Growing (g.T.Heads.starts l.heads) l.max_line l.window.held l.len l.lines;
   left : bytes_left l.window.held (g.S.Source.left l.source) ≡ bytes_left l.initial.window.held (g.S.Source.left l.initial.source);
   size : l.window.size ≡ l.initial.window.size;
   name : g.S.Source.name l.source ≡ g.S.Source.name l.initial.source;

@@ -8,7 +8,7 @@ returns-in-Ok-clause-piece g c =
     let opened = was_joining old.cutter.progress c.look_ahead.result (λ e. (c.look_ahead.ensures.after_end e).0) (λ e h. (c.look_ahead.ensures.after_refusal e h).0) (λ n. cc (c.in-Message.is, n)) (λ e n. cc (c.in-Message.is, n)) in
     let found = c.in-Message.ensures.finds opened in
     let room : old.cutter.given < old.cutter.max_lines = search (rules, tests) in
-    gave_message g.S.Source.left g.T.Heads.test c.in-Ok.line c.in-Message.joined old mid new room found.1
+    gave_message g.S.Source.left g.T.Heads.starts c.in-Ok.line c.in-Message.joined old mid new room found.1
     (record {
       was_open = opened;
       left_same = c.look_ahead.ensures.left;

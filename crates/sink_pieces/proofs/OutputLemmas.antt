@@ -1,7 +1,7 @@
 -- What a loop of writes has done.
 use Rattle.std.proofs.Common.{◌≡◌, refl, sym, ◌∙◌, ap, subst, List, [], ℕ, ◌++◌, Option, Some, None, append_assoc, take, drop, option_map}
 use Rattle.std.proofs.lemmas.List.{take-append-drop, append-nil}
-use Rattle.clp_commands.specs.Output.{Grew, GrewByFront, Moves, Gathers}
+use Rattle.sink_pieces.specs.Output.{Grew, GrewByFront, Moves, Gathers}
 
 -- the sink took what stands before the rest
 pub record Wrote (old new : Option (List ℕ)) (text rest : List ℕ) : Type 0 where

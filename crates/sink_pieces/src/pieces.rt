@@ -1,17 +1,17 @@
 //! Bytes on their way to a sink: whole texts, and many small ones gathered into pieces.
 ghost use Rattle.std.specs.Prelude.{◌≡◌, [], OnOk, OnErr};
-ghost use Rattle.clp_commands.specs.Output.{Grew, GrewByFront, Moves};
+ghost use Rattle.sink_pieces.specs.Output.{Grew, GrewByFront, Moves};
 ghost use Rattle.log_seams.specs.Outside.{Counts};
 
 use log_seams::{Failed, Sink};
 
 /// How many bytes are gathered before they go to the sink.
-pub(crate) const PIECE: usize = 65_536;
+pub const PIECE: usize = 65_536;
 
 /// Writes all of `bytes`, in as many writes as the sink needs.
 ///
 /// After `Failed` the sink has taken the front of them, or nothing.
-pub(crate) fn write_all<K: Sink>(out: &mut K, bytes: &[u8]) -> Result<(), Failed>
+pub fn write_all<K: Sink>(out: &mut K, bytes: &[u8]) -> Result<(), Failed>
     ensures ok { OnOk result (Grew (K.written out.old) (K.written out.new) bytes.now) }
     ensures err { OnErr result (GrewByFront (K.written out.old) (K.written out.new) bytes.now) }
     ensures cause { Counts (K.faults out.old) (K.faults out.new) result }
@@ -25,7 +25,7 @@ pub(crate) fn write_all<K: Sink>(out: &mut K, bytes: &[u8]) -> Result<(), Failed
 }
 
 /// Sends all that was gathered to the sink.
-pub(crate) fn flush<K: Sink>(out: &mut K, gathered: &mut Vec<u8>) -> Result<(), Failed>
+pub fn flush<K: Sink>(out: &mut K, gathered: &mut Vec<u8>) -> Result<(), Failed>
     ensures ok { OnOk result (Grew (K.written out.old) (K.written out.new) gathered.old.items) }
     ensures empty { OnOk result (gathered.new.items ≡ []) }
     ensures err { OnErr result
@@ -38,7 +38,7 @@ pub(crate) fn flush<K: Sink>(out: &mut K, gathered: &mut Vec<u8>) -> Result<(), 
 }
 
 /// Sends what was gathered to the sink once it is enough for a piece.
-pub(crate) fn flush_piece<K: Sink>(out: &mut K, gathered: &mut Vec<u8>) -> Result<(), Failed>
+pub fn flush_piece<K: Sink>(out: &mut K, gathered: &mut Vec<u8>) -> Result<(), Failed>
     ensures ok { OnOk result
         (Moves (K.written out.old) (K.written out.new) gathered.old.items gathered.new.items) }
     ensures err { OnErr result

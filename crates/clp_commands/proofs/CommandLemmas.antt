@@ -1,0 +1,152 @@
+-- Words ask for one command alone, so what that one answers is what the program answers.
+use Rattle.std.proofs.Common.{◌≡◌, ◌≢◌, sym, ◌∙◌, ap, subst, arith, get_or, ℕ, List, [], ◌∷◌, codes}
+use Rattle.wild_match.specs.Reading.{IsLoneBackslash, IsSearchPattern}
+use Rattle.wild_match.specs.declared.pattern.Item.{Item}
+use Rattle.record_format.specs.declared.header.Header.{Header}
+use Rattle.log_seams.specs.Disk.{DiskState}
+use Rattle.clp_commands.specs.Around.{Around}
+use Rattle.clp_commands.specs.Words.{AsksCheck, AsksCreate, AsksFiles, AsksScan, AsksShow, IsUsage}
+use Rattle.clp_commands.specs.Shown.{Shows}
+use Rattle.clp_commands.specs.Scanned.{Finds}
+use Rattle.clp_commands.specs.Answers.{Answers, AnswersCreate, AnswersLog, Refuses, RefusesPattern}
+use Rattle.clp_commands.specs.Counted.{AnswersCheck}
+use Rattle.clp_commands.specs.Directory.{AnswersFiles}
+use Rattle.clp_commands.specs.declared.refusal.Refusal.TheVariants.{Usage}
+
+-- words whose first one is that of another command
+record Others (words : List (List ℕ)) (first : List ℕ) : Type 0 where
+  pub show : first ≢ codes "show" → (file : List ℕ) → ¬ AsksShow words file
+  pub scan : first ≢ codes "scan" → (pattern file : List ℕ) → ¬ AsksScan words pattern file
+  pub create : first ≢ codes "create" → (header : Header) → ¬ AsksCreate words header
+  pub files : first ≢ codes "files" → ¬ AsksFiles words
+  pub check : first ≢ codes "check" → ¬ AsksCheck words
+
+same_first : {words : List (List ℕ)} {a b : List ℕ} {xs ys : List (List ℕ)} → words ≡ a ∷ xs → words ≡ b ∷ ys → a ≡ b
+same_first p q = let both = sym p ∙ q in cc
+
+others : (words : List (List ℕ)) (first : List ℕ) (rest : List (List ℕ)) → words ≡ first ∷ rest → Others words first
+others words first rest e = record {
+  show = λ other file asks. other (same_first e asks.are);
+  scan = λ other pattern file asks. other (same_first e asks.are);
+  create = λ other header asks. other (same_first e asks.are);
+  files = λ other asks. other (same_first e asks);
+  check = λ other asks. other (same_first e asks);
+}
+
+-- the words of the commands differ
+show_scan : codes "show" ≢ codes "scan"
+show_scan e = omega (arith, ap (λ w. get_or w 1 0) e)
+
+show_create : codes "show" ≢ codes "create"
+show_create e = omega (arith, ap (λ w. get_or w 0 0) e)
+
+show_files : codes "show" ≢ codes "files"
+show_files e = omega (arith, ap (λ w. get_or w 0 0) e)
+
+show_check : codes "show" ≢ codes "check"
+show_check e = omega (arith, ap (λ w. get_or w 0 0) e)
+
+scan_create : codes "scan" ≢ codes "create"
+scan_create e = omega (arith, ap (λ w. get_or w 0 0) e)
+
+scan_files : codes "scan" ≢ codes "files"
+scan_files e = omega (arith, ap (λ w. get_or w 0 0) e)
+
+scan_check : codes "scan" ≢ codes "check"
+scan_check e = omega (arith, ap (λ w. get_or w 0 0) e)
+
+create_files : codes "create" ≢ codes "files"
+create_files e = omega (arith, ap (λ w. get_or w 0 0) e)
+
+create_check : codes "create" ≢ codes "check"
+create_check e = omega (arith, ap (λ w. get_or w 1 0) e)
+
+files_check : codes "files" ≢ codes "check"
+files_check e = omega (arith, ap (λ w. get_or w 0 0) e)
+
+pub Answers-show : (words : List (List ℕ)) (seen : Around) (old new : DiskState) (status : ℕ) (file : List ℕ) → AsksShow words file → AnswersLog (λ _ message text. Shows message text) seen file status → Answers words seen old new status
+Answers-show words seen old new status file asks answers =
+    let other = others words (codes "show") (file ∷ []) asks.are in
+    record {
+      usage = λ u. absurd (u.no_show file asks);
+      show = λ f a. subst (λ x. AnswersLog (λ _ message text. Shows message text) seen x status) (sym (same_file f a.are)) answers;
+      lone_backslash = λ p f at a l. absurd (other.scan show_scan p f a);
+      scan = λ p f items a _. absurd (other.scan show_scan p f a);
+      create = λ h a. absurd (other.create show_create h a);
+      files = λ a. absurd (other.files show_files a);
+      check = λ a. absurd (other.check show_check a);
+    }
+  where
+    same_file : (f : List ℕ) → words ≡ codes "show" ∷ f ∷ [] → f ≡ file
+    same_file f e = let both : codes "show" ∷ f ∷ [] ≡ codes "show" ∷ file ∷ [] = sym e ∙ asks.are in cc
+
+pub Answers-scan : (words : List (List ℕ)) (seen : Around) (old new : DiskState) (status : ℕ) (pattern file : List ℕ) → AsksScan words pattern file → ((at : ℕ) → IsLoneBackslash pattern at → RefusesPattern seen status at) → ((items : List Item) → IsSearchPattern pattern items → AnswersLog (Finds file items) seen file status) → Answers words seen old new status
+Answers-scan words seen old new status pattern file asks lone good =
+    let other = others words (codes "scan") (pattern ∷ file ∷ []) asks.are in
+    record {
+      usage = λ u. absurd (u.no_scan pattern file asks);
+      show = λ f a. absurd (other.show (λ e. show_scan (sym e)) f a);
+      lone_backslash = λ p f at a l. lone at (subst (λ x. IsLoneBackslash x at) (same_pattern p f a.are) l);
+      scan = λ p f items a is. subst (λ x. AnswersLog (Finds x items) seen x status) (sym (same_file p f a.are)) (good items (subst (λ x. IsSearchPattern x items) (same_pattern p f a.are) is));
+      create = λ h a. absurd (other.create scan_create h a);
+      files = λ a. absurd (other.files scan_files a);
+      check = λ a. absurd (other.check scan_check a);
+    }
+  where
+    same_pattern : (p f : List ℕ) → words ≡ codes "scan" ∷ p ∷ f ∷ [] → p ≡ pattern
+    same_pattern p f e = let both : codes "scan" ∷ p ∷ f ∷ [] ≡ codes "scan" ∷ pattern ∷ file ∷ [] = sym e ∙ asks.are in cc
+
+    same_file : (p f : List ℕ) → words ≡ codes "scan" ∷ p ∷ f ∷ [] → f ≡ file
+    same_file p f e = let both : codes "scan" ∷ p ∷ f ∷ [] ≡ codes "scan" ∷ pattern ∷ file ∷ [] = sym e ∙ asks.are in cc
+
+-- words that ask to create ask for one header alone
+pub Answers-create : (words : List (List ℕ)) (seen : Around) (old new : DiskState) (status : ℕ) (header : Header) → AsksCreate words header → ((h : Header) → AsksCreate words h → h ≡ header) → AnswersCreate header seen old new status → Answers words seen old new status
+Answers-create words seen old new status header asks one answers =
+    let other = others words (codes "create") asks.options asks.are in
+    record {
+      usage = λ u. absurd (u.no_create header asks);
+      show = λ f a. absurd (other.show (λ e. show_create (sym e)) f a);
+      lone_backslash = λ p f at a l. absurd (other.scan (λ e. scan_create (sym e)) p f a);
+      scan = λ p f items a _. absurd (other.scan (λ e. scan_create (sym e)) p f a);
+      create = λ h a. subst (λ x. AnswersCreate x seen old new status) (sym (one h a)) answers;
+      files = λ a. absurd (other.files create_files a);
+      check = λ a. absurd (other.check create_check a);
+    }
+
+pub Answers-files : (words : List (List ℕ)) (seen : Around) (old new : DiskState) (status : ℕ) → AsksFiles words → AnswersFiles seen old new status → Answers words seen old new status
+Answers-files words seen old new status asks answers =
+    let other = others words (codes "files") [] asks in
+    record {
+      usage = λ u. absurd (u.no_files asks);
+      show = λ f a. absurd (other.show (λ e. show_files (sym e)) f a);
+      lone_backslash = λ p f at a l. absurd (other.scan (λ e. scan_files (sym e)) p f a);
+      scan = λ p f items a _. absurd (other.scan (λ e. scan_files (sym e)) p f a);
+      create = λ h a. absurd (other.create (λ e. create_files (sym e)) h a);
+      files = λ a. answers;
+      check = λ a. absurd (other.check files_check a);
+    }
+
+pub Answers-check : (words : List (List ℕ)) (seen : Around) (old new : DiskState) (status : ℕ) → AsksCheck words → AnswersCheck seen old new status → Answers words seen old new status
+Answers-check words seen old new status asks answers =
+    let other = others words (codes "check") [] asks in
+    record {
+      usage = λ u. absurd (u.no_check asks);
+      show = λ f a. absurd (other.show (λ e. show_check (sym e)) f a);
+      lone_backslash = λ p f at a l. absurd (other.scan (λ e. scan_check (sym e)) p f a);
+      scan = λ p f items a _. absurd (other.scan (λ e. scan_check (sym e)) p f a);
+      create = λ h a. absurd (other.create (λ e. create_check (sym e)) h a);
+      files = λ a. absurd (other.files (λ e. files_check (sym e)) a);
+      check = λ a. answers;
+    }
+
+-- words that ask for no command
+pub Answers-usage : (words : List (List ℕ)) (seen : Around) (old new : DiskState) (status : ℕ) → IsUsage words → Refuses seen status Usage → Answers words seen old new status
+Answers-usage words seen old new status none refuses = record {
+  usage = λ _. refuses;
+  show = λ f a. absurd (none.no_show f a);
+  lone_backslash = λ p f at a _. absurd (none.no_scan p f a);
+  scan = λ p f items a _. absurd (none.no_scan p f a);
+  create = λ h a. absurd (none.no_create h a);
+  files = λ a. absurd (none.no_files a);
+  check = λ a. absurd (none.no_check a);
+}

@@ -1,0 +1,26 @@
+-- How a command ends that only reads an archive.
+use Rattle.std.specs.Prelude.{ℕ, List, [], Option, Some, None, option_map, Result}
+use Rattle.log_seams.specs.Disk.{DiskState, KeepsBytes}
+use Rattle.log_seams.specs.Outside.{CountsOf}
+use Rattle.record_format.specs.declared.header.Header.{Header}
+use Rattle.archive_meaning.specs.declared.entry.JournalEntry.{JournalEntry}
+use Rattle.archive_meaning.specs.Held.{Held}
+use Rattle.archive_meaning.specs.Stands.{StandsFor}
+use Rattle.clp_commands.specs.Around.{Around}
+use Rattle.clp_commands.specs.Ending.{EndsWith}
+use Rattle.clp_commands.specs.Outcome.{answer_of, of_read}
+use Rattle.clp_commands.specs.declared.outcome.ReadRefusal.{ReadRefusal}
+use Rattle.clp_commands.specs.declared.outcome.ReadRefusal.TheVariants.{DiskFault, SinkFault}
+
+-- where the disk tells bytes that stand for a journal, this holds of what the journal holds
+abbrev pub OverJournal : Option (List ℕ) → (Held → Type 0) → Type 0
+OverJournal None P = Unit {0}
+OverJournal (Some bytes) P = (h : Header) (es : List JournalEntry) (stood : StandsFor bytes h es) → P stood.legal.held
+
+-- The command ended with this answer, and the disk's bytes are as they were. DiskFault comes only where a call of the
+-- disk failed, SinkFault only where a write to the output did, and at every other answer none failed.
+pub record EndsReading (seen : Around) (old new : DiskState) (status : ℕ) (answer : Result Unit ReadRefusal) : Type 0 where
+  pub ends : EndsWith seen [] status (option_map of_read (answer_of answer))
+  pub keeps : KeepsBytes old new
+  pub disk : CountsOf DiskFault old.faults new.faults answer
+  pub sink : CountsOf SinkFault seen.out_faults.0 seen.out_faults.1 answer

@@ -1,0 +1,105 @@
+//! The directory and the check of an archive over a disk in memory.
+use crate::tests::{AMPLE, Outcome, Rooms, call, disk};
+use log_seams::{Disk, MemShelf};
+use std::alloc::{AllocError, Global};
+use std::test::Fail;
+
+// One file `a.log` with the bytes `a` and a line end: a record of its name, one of its log type, and
+// one of its rows. One byte stands behind its end.
+const WORKED: [u8; 156] = [
+    0x43, 0x4C, 0x50, 0x41, 0x52, 0x43, 0x48, 0x0A, 0x01, 0x00, 0x00, 0x00, 0x00, 0x00, 0x00, 0x01,
+    0x00, 0x00, 0x00, 0x80, 0x00, 0x00, 0x00, 0x00, 0x00, 0x00, 0x00, 0x00, 0x00, 0x01, 0x00, 0x00,
+    0x01, 0x01, 0x0D, 0x00, 0x00, 0x00, 0x00, 0x00, 0x00, 0x00, 0x01, 0x00, 0x00, 0x00, 0x05, 0x00,
+    0x00, 0x00, 0x61, 0x2E, 0x6C, 0x6F, 0x67, 0x01, 0x02, 0x0D, 0x00, 0x00, 0x00, 0x00, 0x00, 0x00,
+    0x00, 0x00, 0x00, 0x00, 0x00, 0x01, 0x00, 0x00, 0x00, 0x01, 0x00, 0x00, 0x00, 0x61, 0x01, 0x04,
+    0x42, 0x00, 0x00, 0x00, 0x00, 0x00, 0x00, 0x00, 0x00, 0x00, 0x00, 0x00, 0x00, 0x00, 0x00, 0x00,
+    0x00, 0x00, 0x00, 0x00, 0x01, 0x00, 0x00, 0x00, 0x03, 0x00, 0x00, 0x00, 0x00, 0x00, 0x00, 0x00,
+    0x00, 0x00, 0x00, 0x00, 0x00, 0x00, 0x00, 0x00, 0x00, 0x01, 0x00, 0x00, 0x00, 0x00, 0x00, 0x00,
+    0x00, 0x00, 0x00, 0x00, 0x00, 0x00, 0x00, 0x00, 0x00, 0x00, 0x00, 0x00, 0x00, 0x00, 0x00, 0x00,
+    0x00, 0x00, 0x00, 0x00, 0x00, 0x00, 0x00, 0x00, 0x00, 0x00, 0x00, 0xFF,
+];
+
+/// Calls `run` with one word, over a disk with these bytes whose call of this number fails.
+fn over(
+    alloc: Global,
+    word: &str,
+    bytes: &[u8],
+    fault: u64,
+    rooms: Rooms,
+) -> Result<Outcome, AllocError> {
+    let mut logs = MemShelf::new(alloc, Vec::new(alloc), Vec::new(alloc));
+    call(
+        alloc,
+        &[word],
+        &mut logs,
+        &mut disk(alloc, bytes, &[fault])?,
+        rooms,
+    )
+}
+
+#[test]
+fn files_and_check_print_what_an_archive_has(rt: HostRuntime) -> Result<(), Fail> {
+    let alloc = rt.alloc();
+    let rows: [(&str, &[u8]); 2] = [
+        ("files", b"0 1 whole a.log\n"),
+        ("check", b"entries 3 files 1 messages 1\n"),
+    ];
+    for (word, want) in rows {
+        for len in 155..=156 {
+            let outcome = over(alloc, word, &WORKED[..len], u64::MAX, AMPLE)?;
+            assert_eq!(rt; outcome.status, 0);
+            assert_eq!(rt; outcome.out.as_slice(), want);
+            assert!(rt; outcome.err.is_empty());
+        }
+    }
+    Ok(())
+}
+
+#[test]
+fn damage_is_told_at_its_gate(rt: HostRuntime) -> Result<(), Fail> {
+    let alloc = rt.alloc();
+    let rows: [(usize, &[u8]); 3] = [
+        (154, b"clpa: archive: damaged at 154\n"),
+        (153, b"clpa: archive: damaged at 78\n"),
+        (0, b"clpa: archive: damaged at 0\n"),
+    ];
+    for (len, want) in rows {
+        for word in ["check", "files"] {
+            let outcome = over(alloc, word, &WORKED[..len], u64::MAX, AMPLE)?;
+            assert_eq!(rt; outcome.status, 6);
+            assert!(rt; outcome.out.is_empty());
+            assert_eq!(rt; outcome.err.as_slice(), want);
+        }
+    }
+    Ok(())
+}
+
+#[test]
+fn each_call_that_reads_an_archive_may_fail(rt: HostRuntime) -> Result<(), Fail> {
+    let alloc = rt.alloc();
+    for word in ["check", "files"] {
+        for fault in 0..10u64 {
+            let outcome = over(alloc, word, &WORKED, fault, AMPLE)?;
+            assert_eq!(rt; outcome.status, 5);
+            assert!(rt; outcome.out.is_empty());
+            assert_eq!(rt; outcome.err.as_slice(), b"clpa: archive: disk failed\n".as_slice());
+        }
+    }
+    Ok(())
+}
+
+#[test]
+fn an_output_without_room_is_told(rt: HostRuntime) -> Result<(), Fail> {
+    let alloc = rt.alloc();
+    let rooms = Rooms {
+        out: 5,
+        err: 99,
+        out_fails: u64::MAX,
+    };
+    for word in ["check", "files"] {
+        let outcome = over(alloc, word, &WORKED, u64::MAX, rooms)?;
+        assert_eq!(rt; outcome.status, 7);
+        assert_eq!(rt; outcome.err.as_slice(), b"clpa: output failed\n".as_slice());
+    }
+    Ok(())
+}

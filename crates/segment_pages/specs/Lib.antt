@@ -1,0 +1,5 @@
+pub mod Reads
+pub mod Paged
+pub mod Laws
+pub mod Refused
+pub mod StepsLoaded

@@ -1,0 +1,77 @@
+-- Where a reader of a segment's pages stands, and which rows the bytes of a disk hold from there on.
+use Rattle.std.specs.Prelude.{◌≡◌, ◌<◌, ◌+◌, ◌*◌, ◌^◌, ℕ, List, ◌++◌, length, Option, Some, None}
+use Rattle.std.specs.List.{flat_map}
+use Rattle.log_seams.specs.Disk.{DiskState}
+use Rattle.column_store.specs.declared.row.Row.{Row}
+use Rattle.segment_format.specs.declared.head.Head.{Head}
+use Rattle.segment_format.specs.Layout.{IsHead}
+use Rattle.segment_format.specs.Spelled.{HoldsRows}
+use Rattle.segment_format.specs.Pages.{Pages, after, first_page}
+use Rattle.segment_format.specs.Laws.{HoldsPages}
+use Rattle.segment_pages.specs.Reads.{OnlyReadsIn}
+
+-- the place of the payload's first byte on the disk, and the page that is next
+pub record Paged : Type 0 where
+  pub at : ℕ
+  pub pages : Pages
+
+abbrev pub paged : ℕ → Pages → Paged
+paged at pages = record { at = at; pages = pages }
+
+-- before the first page of a segment with this head
+abbrev pub paged_first : ℕ → Head → Paged
+paged_first at head = paged at (first_page head)
+
+-- behind a page of these rows
+abbrev pub paged_after : Paged → List Row → Paged
+paged_after p rows = paged p.at (after p.pages rows)
+
+-- how many bytes the columns have, and head and columns
+abbrev pub columns_size : Pages → ℕ
+columns_size p = 17 * p.rows + 8 * p.variables
+
+abbrev pub payload_size : Pages → ℕ
+payload_size p = p.start + columns_size p
+
+-- the text stands in the bytes at a place
+pub record StandsAt (at : ℕ) (text bytes : List ℕ) : Type 0 where
+  pub front : List ℕ
+  pub behind : List ℕ
+  pub spells : bytes ≡ front ++ (text ++ behind)
+  pub place : length front ≡ at
+
+-- At a place in the bytes stands a payload of so many bytes, whose segment has this head and these rows.
+pub record HoldsSegment (at size : ℕ) (head : Head) (bytes : List ℕ) (rows : List Row) : Type 0 where
+  pub is_head : IsHead head
+  pub payload : List ℕ
+  pub stands : StandsAt at payload bytes
+  pub sized : length payload ≡ size
+  pub small : at + size < 2 ^ 64
+  pub holds : HoldsRows head payload rows
+
+-- from the next page on the bytes hold these rows
+pub record HoldsLeft (p : Paged) (bytes : List ℕ) (rows : List Row) : Type 0 where
+  pub payload : List ℕ
+  pub stands : StandsAt p.at payload bytes
+  pub sized : length payload ≡ payload_size p.pages
+  pub left : List (List Row)
+  pub holds : HoldsPages p.pages payload left
+  pub are : rows ≡ flat_map (λ page. page) left
+
+-- whatever rows the bytes hold, these are the first of them, and from the later page on they hold the others
+abbrev pub AreNext : Paged → Paged → List Row → List ℕ → Type 0
+AreNext old new rows bytes = (all : List Row) → HoldsLeft old bytes all → (left : List Row) × (all ≡ rows ++ left) × HoldsLeft new bytes left
+
+-- the same of the bytes of a disk, where they are told
+abbrev pub AreNextTold : Option (List ℕ) → Paged → Paged → List Row → Type 0
+AreNextTold None old new rows = Unit {0}
+AreNextTold (Some bytes) old new rows = AreNext old new rows bytes
+
+-- the bytes hold no rows, where they are told
+abbrev pub HoldsNoneTold : Option (List ℕ) → Paged → Type 0
+HoldsNoneTold None p = Unit {0}
+HoldsNoneTold (Some bytes) p = (rows : List Row) → ¬ HoldsLeft p bytes rows
+
+-- the disk was only read, and nothing but columns of the segment
+abbrev pub ReadsColumns : Paged → DiskState → DiskState → Type 0
+ReadsColumns p old new = OnlyReadsIn (p.at + p.pages.start) (columns_size p.pages) old new

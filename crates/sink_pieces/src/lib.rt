@@ -1,0 +1,10 @@
+//! Bytes on their way to a sink: whole texts, and many small ones gathered into pieces.
+#![tactic(auto)]
+
+mod pieces;
+mod refusal;
+#[cfg(test)]
+mod tests;
+
+pub use pieces::{PIECE, flush, flush_piece, write_all};
+pub use refusal::PrintRefusal;
