@@ -6,6 +6,9 @@ use Rattle.std.proofs.lemmas.Bool.{cases_lt}
 use mathlib.Core.List.{IsPrefix}
 use Rattle.log_seams.specs.declared.disk.Disk.{Ghosts as DiskGhosts}
 use Rattle.log_seams.specs.Disk.{DiskState}
+use Rattle.log_seams.specs.Outside.{Rose}
+use Rattle.record_format.specs.declared.header.Header.{Header}
+use Rattle.archive_meaning.specs.Stands.{IsLegal}
 use Rattle.logtype_text.specs.Fair.{IsFairType, IsFairWord}
 use Rattle.turn_lock.specs.declared.board.About.{About}
 use Rattle.turn_lock.specs.declared.grows.Grows.{Ghosts}
@@ -29,8 +32,8 @@ use Rattle.disk_seal.specs.declared.entry.StoreEntry.TheVariants.{Entry, Blank, 
 use Rattle.disk_seal.specs.declared.fixed.StoreFixed.{StoreFixed}
 use Rattle.disk_seal.specs.Told.{IfTold, journal_in, recorded, blanks, mark}
 use Rattle.disk_seal.specs.WordsIn.{words_of}
-use Rattle.disk_seal.specs.View.{StoreView, state_by, store_entries, journal_of, journal_before, Kept, KnowsBook}
-use Rattle.disk_seal.specs.Opening.{MayName}
+use Rattle.disk_seal.specs.View.{StoreView, StoreState, journal_state, state_by, store_entries, journal_of, journal_before, Kept, KnowsBook}
+use Rattle.disk_seal.specs.Opening.{MayName, MayOpen}
 use Rattle.disk_seal.specs.Fixed.{fixed_of, KeeperPass}
 use Rattle.disk_seal.specs.May.{MayAdd}
 use Rattle.disk_seal.specs.Draft.{journal_seen}
@@ -109,6 +112,40 @@ module _ {S : Type 0} where
   of_jobs js i job n Blank at file may = tt
   of_jobs js i job n Stopped at file may = tt
 
+-- a store is stopped only where the count of faults rose
+not_stopped : (s : StoreState) → Kept s → ¬ Rose s.opened.faults s.disk.faults → s.stopped ≡ None
+not_stopped s kept steady = by_mark s.stopped (λ n is. kept.fault n is)
+  where
+    later : (a b c : ℕ) → Rose a b → b ≤ c → Rose a c
+    later a b c (inl lt) le = inl (omega arith)
+    later a b c (inr most) le = inr (omega arith)
+
+    by_mark : (o : Option ℕ) → ((n : ℕ) → o ≡ Some n → Rose s.opened.faults n × (n ≤ s.disk.faults)) → o ≡ None
+    by_mark None f = refl
+    by_mark (Some n) f = let r = f n refl in absurd (steady (later s.opened.faults n s.disk.faults r.0 r.1))
+
+-- a store that runs may be opened again
+opens_again : (s : StoreState) → Kept s → s.stopped ≡ None → MayOpen (journal_state s)
+opens_again s kept runs = let going = kept.going runs in record {
+  ends = record { closed = kept.closed; ends = going.1 };
+  header = kept.header;
+  spelled = kept.spelled;
+  legal = subst (λ b. IfTold b (IsLegal s.header (journal_of s))) (sym kept.tells_still)
+      (subst (λ es. IfTold (is_some s.opened.seen) (IsLegal s.header es)) (ap (λ l. journal_of s ++ l) going.0 ∙ append-nil (journal_of s)) kept.legal);
+}
+
+opens_as : {D : Type 0} {d : DiskGhosts D} (after : Journal D d) (store : StoreView D) → IsJournalOf store after → MayOpen (journal_state (state_by d.state store)) → MayOpen (state_of after)
+opens_as {D} {d} after store back may =
+    subst (λ b. At after.disk.ghost_name after.disk.now after.header after.place after.count b) (sym back.closed)
+    (subst (λ c. At after.disk.ghost_name after.disk.now after.header after.place c store.closed) (sym back.count)
+    (subst (λ p. At after.disk.ghost_name after.disk.now after.header p store.count store.closed) (sym back.place)
+    (subst (λ h. At after.disk.ghost_name after.disk.now h store.place store.count store.closed) (sym back.header)
+    (subst (λ x. At after.disk.ghost_name x store.header store.place store.count store.closed) (sym back.disk)
+    (subst (λ n. At n store.disk store.header store.place store.count store.closed) (sym back.name) may)))))
+  where
+    At : ℕ → D → Header → ℕ → ℕ → Bool → Type 0
+    At n x h p c b = MayOpen (record { name = n; disk = d.state x; header = h; place = p; count = c; closed = b })
+
 module _ {S D : Type 0} {d : DiskGhosts D} (left : S → Option (List ℕ)) where
   module _ (before after : Journal D d) (types words : BookPass) (t w : ℕ) (store : StoreView D) where
     abbrev opened : StoreView D
@@ -126,6 +163,9 @@ module _ {S D : Type 0} {d : DiskGhosts D} (left : S → Option (List ℕ)) wher
       count = back.count;
       closed = back.closed;
       kept = kept;
+      again = λ steady. let risen : Rose (d.state store.opened).faults (d.state store.disk).faults → ⊥ = λ r. steady (subst (λ (x : D). Rose (d.state before.disk.now).faults (d.state x).faults) (sym back.disk)
+          (subst (λ (x : D). Rose (d.state x).faults (d.state store.disk).faults) (ap (λ (f : StoreFixed D). f.opened) fixed) r)) in
+          let runs = not_stopped (state_by d.state store) kept risen in (runs, opens_as after store back (opens_again (state_by d.state store) kept runs));
     }
 
     list_before : journal_seen (list_of d.state opened) ≡ told_entries (state_of before)

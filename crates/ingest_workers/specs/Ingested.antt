@@ -3,6 +3,7 @@ use Rattle.std.specs.Prelude.{◌≡◌, ◌⊎◌, ℕ, ◌+◌, ◌<◌, ◌�
 use Rattle.std.specs.List.{filter_map}
 use Rattle.log_seams.specs.declared.disk.Disk.{Ghosts as DiskGhosts}
 use Rattle.log_seams.specs.Disk.{DiskState}
+use Rattle.log_seams.specs.Outside.{Rose}
 use Rattle.turn_lock.specs.declared.board.About.{About}
 use Rattle.turn_lock.specs.declared.grows.Grows.{Ghosts}
 use Rattle.turn_lock.specs.Words.{about, number_of, own_list, IsOpening}
@@ -21,6 +22,7 @@ use Rattle.disk_seal.specs.Told.{IfTold, journal_in}
 use Rattle.disk_seal.specs.WordsIn.{words_of}
 use Rattle.disk_seal.specs.View.{StoreView, state_by, journal_of, journal_before, Kept}
 use Rattle.disk_seal.specs.Fixed.{KeeperPass}
+use Rattle.disk_seal.specs.Opening.{MayOpen}
 use Rattle.disk_seal.specs.Draft.{journal_seen}
 use Rattle.ingest_workers.specs.declared.job.Job.{Job}
 use Rattle.ingest_workers.specs.declared.worker.Plan.{Plan}
@@ -115,7 +117,7 @@ module _ {D : Type 0} {d : DiskGhosts D} where
 
   -- The journal's disk is that of a store that was opened over the journal of before, and keeps what a store keeps: its disk's bytes and each image
   -- of it stand for its entries, since the opening each stands for some first of these with those of before; of a store that a fault stopped they
-  -- stand for these, or these with the one that was under way, and the disk's count of faults rose.
+  -- stand for these, or these with the one that was under way, and the disk's count of faults rose. Where it did not, a store may be opened again.
   pub record IsLeftBy (store : StoreView D) (before after : Journal D d) : Type 0 where
     pub name : after.disk.ghost_name ≡ before.disk.ghost_name
     pub opened : store.opened ≡ before.disk.now
@@ -127,6 +129,7 @@ module _ {D : Type 0} {d : DiskGhosts D} where
     pub count : after.count ≡ store.count
     pub closed : after.closed ≡ store.closed
     pub kept : Kept (state_by d.state store)
+    pub again : ¬ Rose (d.state before.disk.now).faults (d.state after.disk.now).faults → (store.stopped ≡ None) × MayOpen (state_of after)
 
   -- segments of at most so many rows, in the version of the journal's header
   abbrev pub plan_of : ℕ → Journal D d → Plan
