@@ -1,15 +1,17 @@
 -- Words ask for one command alone, so what that one answers is what the program answers.
 use Rattle.std.proofs.Common.{◌≡◌, ◌≢◌, sym, ◌∙◌, ap, subst, arith, get_or, ℕ, List, [], ◌∷◌, codes}
+use Rattle.std.specs.Fmt.{decimal}
 use Rattle.wild_match.specs.Reading.{IsLoneBackslash, IsSearchPattern}
 use Rattle.wild_match.specs.declared.pattern.Item.{Item}
 use Rattle.record_format.specs.declared.header.Header.{Header}
 use Rattle.log_seams.specs.Disk.{DiskState}
 use Rattle.clp_commands.specs.Around.{Around}
-use Rattle.clp_commands.specs.Words.{AsksCheck, AsksCreate, AsksFiles, AsksScan, AsksShow, IsUsage}
+use Rattle.clp_commands.specs.Words.{AsksCheck, AsksCreate, AsksDecode, AsksFiles, AsksScan, AsksShow, IsUsage}
 use Rattle.clp_commands.specs.Shown.{Shows}
 use Rattle.clp_commands.specs.Scanned.{Finds}
 use Rattle.clp_commands.specs.Answers.{Answers, AnswersCreate, AnswersLog, Refuses, RefusesPattern}
 use Rattle.clp_commands.specs.Counted.{AnswersCheck}
+use Rattle.clp_commands.specs.Decoding.{AnswersDecode}
 use Rattle.clp_commands.specs.Directory.{AnswersFiles}
 use Rattle.clp_commands.specs.declared.refusal.Refusal.TheVariants.{Usage}
 
@@ -20,6 +22,7 @@ record Others (words : List (List ℕ)) (first : List ℕ) : Type 0 where
   pub create : first ≢ codes "create" → (header : Header) → ¬ AsksCreate words header
   pub files : first ≢ codes "files" → ¬ AsksFiles words
   pub check : first ≢ codes "check" → ¬ AsksCheck words
+  pub decode : first ≢ codes "decode" → (number : ℕ) → ¬ AsksDecode words number
 
 same_first : {words : List (List ℕ)} {a b : List ℕ} {xs ys : List (List ℕ)} → words ≡ a ∷ xs → words ≡ b ∷ ys → a ≡ b
 same_first p q = let both = sym p ∙ q in cc
@@ -31,6 +34,7 @@ others words first rest e = record {
   create = λ other header asks. other (same_first e asks.are);
   files = λ other asks. other (same_first e asks);
   check = λ other asks. other (same_first e asks);
+  decode = λ other number asks. other (same_first e asks.are);
 }
 
 -- the words of the commands differ
@@ -64,6 +68,21 @@ create_check e = omega (arith, ap (λ w. get_or w 1 0) e)
 files_check : codes "files" ≢ codes "check"
 files_check e = omega (arith, ap (λ w. get_or w 0 0) e)
 
+show_decode : codes "show" ≢ codes "decode"
+show_decode e = omega (arith, ap (λ w. get_or w 0 0) e)
+
+scan_decode : codes "scan" ≢ codes "decode"
+scan_decode e = omega (arith, ap (λ w. get_or w 0 0) e)
+
+create_decode : codes "create" ≢ codes "decode"
+create_decode e = omega (arith, ap (λ w. get_or w 0 0) e)
+
+files_decode : codes "files" ≢ codes "decode"
+files_decode e = omega (arith, ap (λ w. get_or w 0 0) e)
+
+check_decode : codes "check" ≢ codes "decode"
+check_decode e = omega (arith, ap (λ w. get_or w 0 0) e)
+
 pub Answers-show : (words : List (List ℕ)) (seen : Around) (old new : DiskState) (status : ℕ) (file : List ℕ) → AsksShow words file → AnswersLog (λ _ message text. Shows message text) seen file status → Answers words seen old new status
 Answers-show words seen old new status file asks answers =
     let other = others words (codes "show") (file ∷ []) asks.are in
@@ -75,6 +94,7 @@ Answers-show words seen old new status file asks answers =
       create = λ h a. absurd (other.create show_create h a);
       files = λ a. absurd (other.files show_files a);
       check = λ a. absurd (other.check show_check a);
+      decode = λ n a. absurd (other.decode show_decode n a);
     }
   where
     same_file : (f : List ℕ) → words ≡ codes "show" ∷ f ∷ [] → f ≡ file
@@ -91,6 +111,7 @@ Answers-scan words seen old new status pattern file asks lone good =
       create = λ h a. absurd (other.create scan_create h a);
       files = λ a. absurd (other.files scan_files a);
       check = λ a. absurd (other.check scan_check a);
+      decode = λ n a. absurd (other.decode scan_decode n a);
     }
   where
     same_pattern : (p f : List ℕ) → words ≡ codes "scan" ∷ p ∷ f ∷ [] → p ≡ pattern
@@ -111,6 +132,7 @@ Answers-create words seen old new status header asks one answers =
       create = λ h a. subst (λ x. AnswersCreate x seen old new status) (sym (one h a)) answers;
       files = λ a. absurd (other.files create_files a);
       check = λ a. absurd (other.check create_check a);
+      decode = λ n a. absurd (other.decode create_decode n a);
     }
 
 pub Answers-files : (words : List (List ℕ)) (seen : Around) (old new : DiskState) (status : ℕ) → AsksFiles words → AnswersFiles seen old new status → Answers words seen old new status
@@ -124,6 +146,7 @@ Answers-files words seen old new status asks answers =
       create = λ h a. absurd (other.create (λ e. create_files (sym e)) h a);
       files = λ a. answers;
       check = λ a. absurd (other.check files_check a);
+      decode = λ n a. absurd (other.decode files_decode n a);
     }
 
 pub Answers-check : (words : List (List ℕ)) (seen : Around) (old new : DiskState) (status : ℕ) → AsksCheck words → AnswersCheck seen old new status → Answers words seen old new status
@@ -137,6 +160,22 @@ Answers-check words seen old new status asks answers =
       create = λ h a. absurd (other.create (λ e. create_check (sym e)) h a);
       files = λ a. absurd (other.files (λ e. files_check (sym e)) a);
       check = λ a. answers;
+      decode = λ n a. absurd (other.decode check_decode n a);
+    }
+
+-- words that ask to decode ask for one number alone
+pub Answers-decode : (words : List (List ℕ)) (seen : Around) (old new : DiskState) (status number : ℕ) → AsksDecode words number → ((n : ℕ) → AsksDecode words n → n ≡ number) → AnswersDecode number seen old new status → Answers words seen old new status
+Answers-decode words seen old new status number asks one answers =
+    let other = others words (codes "decode") (decimal number ∷ []) asks.are in
+    record {
+      usage = λ u. absurd (u.no_decode number asks);
+      show = λ f a. absurd (other.show (λ e. show_decode (sym e)) f a);
+      lone_backslash = λ p f at a l. absurd (other.scan (λ e. scan_decode (sym e)) p f a);
+      scan = λ p f items a _. absurd (other.scan (λ e. scan_decode (sym e)) p f a);
+      create = λ h a. absurd (other.create (λ e. create_decode (sym e)) h a);
+      files = λ a. absurd (other.files (λ e. files_decode (sym e)) a);
+      check = λ a. absurd (other.check (λ e. check_decode (sym e)) a);
+      decode = λ n a. subst (λ x. AnswersDecode x seen old new status) (sym (one n a)) answers;
     }
 
 -- words that ask for no command
@@ -149,4 +188,5 @@ Answers-usage words seen old new status none refuses = record {
   create = λ h a. absurd (none.no_create h a);
   files = λ a. absurd (none.no_files a);
   check = λ a. absurd (none.no_check a);
+  decode = λ n a. absurd (none.no_decode n a);
 }

@@ -1,6 +1,8 @@
 pub mod AnswerLemmas
 pub mod CommandLemmas
+pub mod CompleteLemmas
 pub mod CutterLemmas
+pub mod DecodingLemmas
 pub mod DirectoryLemmas
 pub mod GoingLemmas
 pub mod PrintedLemmas

@@ -1,10 +1,13 @@
 -- Lists of words, by their first ones.
-use Rattle.std.proofs.Common.{◌≡◌, sym, ap, ap₂, subst, ◌∙◌, ◌<◌, ◌≤◌, ◌-◌, ℕ, List, [], ◌∷◌, length, map, take, drop, get_or, codes, arith}
-use Rattle.std.specs.Prelude.{Option, Some, None, IfSome, IfNone}
+use Rattle.std.proofs.Common.{◌≡◌, sym, ap, ap₂, subst, ◌∙◌, ◌<◌, ◌≤◌, ◌-◌, ℕ, List, [], ◌∷◌, length, map, take, drop, get_or, codes, arith, pos, rules, ◌^◌}
+use Rattle.std.specs.Prelude.{Option, Some, None, IfSome, IfNone, Result, Ok, Err}
+use Rattle.std.specs.Result.{OkIff, result_ok}
+use Rattle.std.specs.Int.{FitsUnsignedBits}
 use Rattle.std.proofs.lemmas.List.{take_all}
 use Rattle.record_format.specs.declared.header.Header.{Header}
 use Rattle.archive_limits.specs.Limits.{AsksLimits}
-use Rattle.clp_commands.specs.Words.{AsksCreate}
+use Rattle.std.specs.Fmt.{decimal}
+use Rattle.clp_commands.specs.Words.{AsksCreate, AsksDecode}
 
 pub one_word : {A : Type 0} (xs : List A) (a : A) → 1 ≤ length xs → length xs < 2 → a ≡ get_or xs 0 a → xs ≡ a ∷ []
 one_word [] a few many p = absurd (omega arith)
@@ -59,3 +62,13 @@ AsksCreate-none words None only = λ h asks. differ h (only h asks)
     differ : (h : Header) → None ≡ Some h → ⊥
     differ h e = cc
 AsksCreate-none words (Some header) only = tt
+
+-- a number below 2 ^ 32 stays itself
+pub small_is : {E : Type 0} (r : Result ℕ E) (n : ℕ) → n < 2 ^ 32 → OkIff r (FitsUnsignedBits 32 (pos n)) n → result_ok r ≡ Some n
+small_is (Ok x) n small is = ap Some is.1
+small_is (Err e) n small is = absurd (is (search rules))
+
+-- words that ask to decode the file of the number that was read
+pub AsksDecode-from : (words : List (List ℕ)) (text : List ℕ) (r : Option ℕ) → words ≡ codes "decode" ∷ text ∷ [] → IfSome r (λ n. text ≡ decimal n) → IfSome r (λ n. n < 2 ^ 32) → IfSome r (AsksDecode words)
+AsksDecode-from words text None are prints fits = tt
+AsksDecode-from words text (Some n) are prints fits = record { are = are ∙ ap (λ t. codes "decode" ∷ t ∷ []) prints; fits = fits }

@@ -10,13 +10,14 @@ use Rattle.disk_journal.specs.Created.{CreateLeaves}
 use Rattle.disk_journal.specs.declared.refusals.CreateRefusal.{CreateRefusal}
 use Rattle.clp_commands.specs.Around.{Around}
 use Rattle.clp_commands.specs.Counted.{AnswersCheck}
+use Rattle.clp_commands.specs.Decoding.{AnswersDecode}
 use Rattle.clp_commands.specs.Directory.{AnswersFiles}
 use Rattle.clp_commands.specs.Ending.{EndsWith, NoneAdded, RoseIn, Stayed, TookNothing}
 use Rattle.clp_commands.specs.Outcome.{answer_of, of_log, of_create}
 use Rattle.clp_commands.specs.Printing.{Printed}
 use Rattle.clp_commands.specs.Scanned.{Finds}
 use Rattle.clp_commands.specs.Shown.{Shows}
-use Rattle.clp_commands.specs.Words.{AsksShow, AsksScan, AsksCreate, AsksFiles, AsksCheck, IsUsage}
+use Rattle.clp_commands.specs.Words.{AsksShow, AsksScan, AsksCreate, AsksFiles, AsksCheck, AsksDecode, IsUsage}
 use Rattle.clp_commands.specs.declared.outcome.LogRefusal.{LogRefusal}
 use Rattle.clp_commands.specs.declared.outcome.LogRefusal.TheVariants.{OpenFault, ReadFault, LineTooLong, TooManyLines, SinkFault, OutOfMemory as LogOutOfMemory}
 use Rattle.clp_commands.specs.declared.refusal.Refusal.{Refusal}
@@ -69,6 +70,7 @@ pub record Answers (words : List (List ℕ)) (seen : Around) (old new : DiskStat
   pub create : (header : Header) → AsksCreate words header → AnswersCreate header seen old new status
   pub files : AsksFiles words → AnswersFiles seen old new status
   pub check : AsksCheck words → AnswersCheck seen old new status
+  pub decode : (number : ℕ) → AsksDecode words number → AnswersDecode number seen old new status
 
 -- A pattern is refused with the place of its lone backslash, or for want of memory.
 abbrev pub IsPatternRefusal : List ℕ → PatternRefusal → Type 0

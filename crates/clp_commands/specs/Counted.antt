@@ -6,7 +6,7 @@ use Rattle.archive_check.specs.Checked.{DamagedAt, Stood}
 use Rattle.archive_check.specs.declared.checking.Summary.{Summary}
 use Rattle.clp_commands.specs.Around.{Around}
 use Rattle.sink_pieces.specs.Output.{Grew, GrewByFront}
-use Rattle.clp_commands.specs.Reading.{EndsReading}
+use Rattle.clp_commands.specs.Reading.{EndsReading, IsComplete}
 use Rattle.clp_commands.specs.declared.outcome.ReadRefusal.{ReadRefusal}
 use Rattle.clp_commands.specs.declared.outcome.ReadRefusal.TheVariants.{Damaged, DiskFault, SinkFault, OutOfMemory}
 
@@ -34,3 +34,4 @@ pub record AnswersCheck (seen : Around) (old new : DiskState) (status : ℕ) : T
   pub ends : EndsReading seen old new status answer
   pub prints : PrintsCounts answer old.seen seen.out.0 seen.out.1
   pub damaged : (at : ℕ) → answer ≡ Err (Damaged at) → IfSome old.seen (DamagedAt at)
+  pub complete : IsComplete seen old new answer

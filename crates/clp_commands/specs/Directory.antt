@@ -6,7 +6,7 @@ use Rattle.archive_open.specs.declared.files.FileEntry.{FileEntry}
 use Rattle.archive_open.specs.Shown.{RefusedAt, files_of}
 use Rattle.clp_commands.specs.Around.{Around}
 use Rattle.sink_pieces.specs.Output.{Took}
-use Rattle.clp_commands.specs.Reading.{EndsReading, OverJournal}
+use Rattle.clp_commands.specs.Reading.{EndsReading, IsComplete, OverJournal}
 use Rattle.clp_commands.specs.declared.outcome.ReadRefusal.{ReadRefusal}
 use Rattle.clp_commands.specs.declared.outcome.ReadRefusal.TheVariants.{Damaged}
 
@@ -33,3 +33,4 @@ pub record AnswersFiles (seen : Around) (old new : DiskState) (status : ℕ) : T
   pub ends : EndsReading seen old new status answer
   pub prints : PrintsDirectory answer old.seen seen.out.0 seen.out.1
   pub damaged : (at : ℕ) → answer ≡ Err (Damaged at) → RefusedAt at old.seen
+  pub complete : IsComplete seen old new answer

@@ -2,6 +2,7 @@ pub mod Answers
 pub mod Around
 pub mod Counted
 pub mod Directory
+pub mod Decoding
 pub mod Ending
 pub mod Going
 pub mod Outcome

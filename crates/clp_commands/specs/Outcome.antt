@@ -9,9 +9,11 @@ use Rattle.clp_commands.specs.declared.outcome.LogRefusal.TheVariants.{OpenFault
 use Rattle.archive_open.specs.declared.refusal.ArchiveRefusal.{ArchiveRefusal}
 use Rattle.archive_check.specs.declared.checking.CheckRefusal.{CheckRefusal}
 use Rattle.sink_pieces.specs.declared.refusal.PrintRefusal.{PrintRefusal}
+use Rattle.archive_decode.specs.declared.refusal.DecodeRefusal.{DecodeRefusal}
+use Rattle.clp_commands.specs.declared.outcome.FileRefusal.{FileRefusal}
 use Rattle.clp_commands.specs.declared.outcome.ReadRefusal.{ReadRefusal}
 use Rattle.clp_commands.specs.declared.refusal.Refusal.{Refusal}
-use Rattle.clp_commands.specs.declared.refusal.Refusal.TheVariants.{BadPattern, OpenFault, ReadFault, LineTooLong, TooManyLines, DiskFault, Damaged, SinkFault, NotEmpty, OutOfMemory}
+use Rattle.clp_commands.specs.declared.refusal.Refusal.TheVariants.{BadPattern, OpenFault, ReadFault, LineTooLong, TooManyLines, DiskFault, Damaged, SinkFault, NotEmpty, NoSuchFile, OutOfMemory}
 
 -- the answer of a call that may refuse, where no refusal is `None`
 abbrev pub answer_of : {E : Type 0} → Result Unit E → Option E
@@ -33,6 +35,14 @@ of_read ReadRefusal.DiskFault = DiskFault
 of_read (ReadRefusal.Damaged at) = Damaged at
 of_read ReadRefusal.SinkFault = SinkFault
 of_read ReadRefusal.OutOfMemory = OutOfMemory
+
+-- of the command that prints a file
+abbrev pub of_file : FileRefusal → Refusal
+of_file FileRefusal.DiskFault = DiskFault
+of_file (FileRefusal.Damaged at) = Damaged at
+of_file (FileRefusal.NoSuchFile number count) = NoSuchFile number count
+of_file FileRefusal.SinkFault = SinkFault
+of_file FileRefusal.OutOfMemory = OutOfMemory
 
 -- of the making of an archive
 abbrev pub of_create : CreateRefusal → Refusal
@@ -58,3 +68,15 @@ from_check CheckRefusal.OutOfMemory = ReadRefusal.OutOfMemory
 abbrev pub from_print : PrintRefusal → ReadRefusal
 from_print PrintRefusal.SinkFault = ReadRefusal.SinkFault
 from_print PrintRefusal.OutOfMemory = ReadRefusal.OutOfMemory
+
+-- why the bytes of a file were not printed where opening was refused, and where decoding was
+abbrev pub file_from_archive : ArchiveRefusal → FileRefusal
+file_from_archive ArchiveRefusal.DiskFault = FileRefusal.DiskFault
+file_from_archive (ArchiveRefusal.Damaged at) = FileRefusal.Damaged at
+file_from_archive ArchiveRefusal.OutOfMemory = FileRefusal.OutOfMemory
+
+abbrev pub from_decode : DecodeRefusal → FileRefusal
+from_decode DecodeRefusal.DiskFault = FileRefusal.DiskFault
+from_decode (DecodeRefusal.Damaged at) = FileRefusal.Damaged at
+from_decode DecodeRefusal.SinkFault = FileRefusal.SinkFault
+from_decode DecodeRefusal.OutOfMemory = FileRefusal.OutOfMemory

@@ -1,16 +1,16 @@
 -- How a command ends that only reads an archive.
-use Rattle.std.specs.Prelude.{ℕ, List, [], Option, Some, None, option_map, Result}
+use Rattle.std.specs.Prelude.{◌≡◌, ◌⊎◌, ℕ, List, [], Option, Some, None, option_map, Result, Ok, Err}
 use Rattle.log_seams.specs.Disk.{DiskState, KeepsBytes}
-use Rattle.log_seams.specs.Outside.{CountsOf}
+use Rattle.log_seams.specs.Outside.{CountsOf, Rose}
 use Rattle.record_format.specs.declared.header.Header.{Header}
 use Rattle.archive_meaning.specs.declared.entry.JournalEntry.{JournalEntry}
 use Rattle.archive_meaning.specs.Held.{Held}
 use Rattle.archive_meaning.specs.Stands.{StandsFor}
 use Rattle.clp_commands.specs.Around.{Around}
-use Rattle.clp_commands.specs.Ending.{EndsWith}
+use Rattle.clp_commands.specs.Ending.{EndsWith, RoseIn}
 use Rattle.clp_commands.specs.Outcome.{answer_of, of_read}
 use Rattle.clp_commands.specs.declared.outcome.ReadRefusal.{ReadRefusal}
-use Rattle.clp_commands.specs.declared.outcome.ReadRefusal.TheVariants.{DiskFault, SinkFault}
+use Rattle.clp_commands.specs.declared.outcome.ReadRefusal.TheVariants.{DiskFault, SinkFault, OutOfMemory}
 
 -- where the disk tells bytes that stand for a journal, this holds of what the journal holds
 abbrev pub OverJournal : Option (List ℕ) → (Held → Type 0) → Type 0
@@ -24,3 +24,10 @@ pub record EndsReading (seen : Around) (old new : DiskState) (status : ℕ) (ans
   pub keeps : KeepsBytes old new
   pub disk : CountsOf DiskFault old.faults new.faults answer
   pub sink : CountsOf SinkFault seen.out_faults.0 seen.out_faults.1 answer
+
+-- Over bytes that stand for a journal, where no call of the disk and no write to the output failed, the command did what it
+-- was asked, or memory ended.
+abbrev pub IsComplete : Around → DiskState → DiskState → Result Unit ReadRefusal → Type 0
+IsComplete seen old new answer =
+    (bytes : List ℕ) (h : Header) (es : List JournalEntry) → old.seen ≡ Some bytes → StandsFor bytes h es → ¬ Rose old.faults new.faults → ¬ RoseIn seen.out_faults
+    → (answer ≡ Ok tt) ⊎ (answer ≡ Err OutOfMemory)

@@ -4,7 +4,7 @@ use Rattle.std.specs.Fmt.{decimal}
 use Rattle.log_seams.specs.Outside.{Rose}
 use Rattle.sink_pieces.specs.Output.{Grew}
 use Rattle.clp_commands.specs.declared.refusal.Refusal.{Refusal}
-use Rattle.clp_commands.specs.declared.refusal.Refusal.TheVariants.{Usage, BadPattern, OpenFault, ReadFault, LineTooLong, TooManyLines, DiskFault, Damaged, SinkFault, NotEmpty, OutOfMemory}
+use Rattle.clp_commands.specs.declared.refusal.Refusal.TheVariants.{Usage, BadPattern, OpenFault, ReadFault, LineTooLong, TooManyLines, DiskFault, Damaged, SinkFault, NotEmpty, NoSuchFile, OutOfMemory}
 
 -- a text with a newline
 abbrev pub line : List ℕ → List ℕ
@@ -22,6 +22,7 @@ ending_of name DiskFault = (5, line (codes "clpa: archive: disk failed"))
 ending_of name (Damaged at) = (6, codes "clpa: archive: damaged at " ++ line (decimal at))
 ending_of name SinkFault = (7, line (codes "clpa: output failed"))
 ending_of name (NotEmpty len) = (8, codes "clpa: archive: not empty, " ++ (decimal len ++ line (codes " bytes")))
+ending_of name (NoSuchFile number count) = (8, codes "clpa: no file " ++ (decimal number ++ (codes ", the archive has " ++ line (decimal count))))
 ending_of name OutOfMemory = (9, line (codes "clpa: out of memory"))
 
 abbrev pub status_of : Refusal → ℕ

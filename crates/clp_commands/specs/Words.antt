@@ -1,7 +1,8 @@
 -- What the words of the command line ask for. The first word is the command.
-use Rattle.std.specs.Prelude.{◌≡◌, ◌≢◌, ℕ, List, [], ◌∷◌, codes}
+use Rattle.std.specs.Prelude.{◌≡◌, ◌≢◌, ◌<◌, ◌^◌, ℕ, List, [], ◌∷◌, codes}
+use Rattle.std.specs.Fmt.{decimal}
 use Rattle.clp_commands.specs.declared.words.Command.{Command}
-use Rattle.clp_commands.specs.declared.words.Command.TheVariants.{Show, Scan, Create, Files, Check}
+use Rattle.clp_commands.specs.declared.words.Command.TheVariants.{Show, Scan, Create, Files, Check, Decode}
 use Rattle.archive_limits.specs.Limits.{AsksLimits}
 use Rattle.record_format.specs.Header.{IsHeader}
 use Rattle.record_format.specs.declared.header.Header.{Header}
@@ -36,6 +37,11 @@ AsksFiles words = words ≡ codes "files" ∷ []
 abbrev pub AsksCheck : List (List ℕ) → Type 0
 AsksCheck words = words ≡ codes "check" ∷ []
 
+-- `decode N`, where N is the number of a file
+pub record AsksDecode (words : List (List ℕ)) (number : ℕ) : Type 0 where
+  pub are : words ≡ codes "decode" ∷ decimal number ∷ []
+  pub fits : number < 2 ^ 32
+
 -- the words ask for this command
 abbrev pub Asks : List (List ℕ) → Command → Type 0
 Asks words (Show file) = AsksShow words file.now
@@ -43,6 +49,7 @@ Asks words (Scan pattern file) = AsksScan words pattern.now file.now
 Asks words (Create header) = AsksCreate words header
 Asks words Files = AsksFiles words
 Asks words Check = AsksCheck words
+Asks words (Decode number) = AsksDecode words number
 
 -- a header that a command has keeps to the ranges of headers
 abbrev pub HasHeader : Command → Type 0
@@ -51,6 +58,7 @@ HasHeader (Scan pattern file) = Unit {0}
 HasHeader (Create header) = IsHeader header
 HasHeader Files = Unit {0}
 HasHeader Check = Unit {0}
+HasHeader (Decode number) = Unit {0}
 
 -- the words ask for no command
 pub record IsUsage (words : List (List ℕ)) : Type 0 where
@@ -59,9 +67,11 @@ pub record IsUsage (words : List (List ℕ)) : Type 0 where
   pub no_create : (header : Header) → ¬ AsksCreate words header
   pub no_files : ¬ AsksFiles words
   pub no_check : ¬ AsksCheck words
+  pub no_decode : (number : ℕ) → ¬ AsksDecode words number
 
 -- the words ask for no command that works on the archive
 pub record AskNoArchive (words : List (List ℕ)) : Type 0 where
   pub no_create : (header : Header) → ¬ AsksCreate words header
   pub no_files : ¬ AsksFiles words
   pub no_check : ¬ AsksCheck words
+  pub no_decode : (number : ℕ) → ¬ AsksDecode words number

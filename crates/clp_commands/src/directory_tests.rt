@@ -1,4 +1,4 @@
-//! The directory and the check of an archive over a disk in memory.
+//! The commands that read an archive, over a disk in memory.
 use crate::tests::{AMPLE, Outcome, Rooms, call, disk};
 use log_seams::{Disk, MemShelf};
 use std::alloc::{AllocError, Global};
@@ -19,10 +19,10 @@ const WORKED: [u8; 156] = [
     0x00, 0x00, 0x00, 0x00, 0x00, 0x00, 0x00, 0x00, 0x00, 0x00, 0x00, 0xFF,
 ];
 
-/// Calls `run` with one word, over a disk with these bytes whose call of this number fails.
+/// Calls `run` with these words, over a disk with these bytes whose call of this number fails.
 fn over(
     alloc: Global,
-    word: &str,
+    words: &[&str],
     bytes: &[u8],
     fault: u64,
     rooms: Rooms,
@@ -30,7 +30,7 @@ fn over(
     let mut logs = MemShelf::new(alloc, Vec::new(alloc), Vec::new(alloc));
     call(
         alloc,
-        &[word],
+        words,
         &mut logs,
         &mut disk(alloc, bytes, &[fault])?,
         rooms,
@@ -38,15 +38,16 @@ fn over(
 }
 
 #[test]
-fn files_and_check_print_what_an_archive_has(rt: HostRuntime) -> Result<(), Fail> {
+fn an_archive_is_printed(rt: HostRuntime) -> Result<(), Fail> {
     let alloc = rt.alloc();
-    let rows: [(&str, &[u8]); 2] = [
-        ("files", b"0 1 whole a.log\n"),
-        ("check", b"entries 3 files 1 messages 1\n"),
+    let rows: [(&[&str], &[u8]); 3] = [
+        (&["files"], b"0 1 whole a.log\n"),
+        (&["check"], b"entries 3 files 1 messages 1\n"),
+        (&["decode", "0"], b"a\n"),
     ];
-    for (word, want) in rows {
+    for (words, want) in rows {
         for len in 155..=156 {
-            let outcome = over(alloc, word, &WORKED[..len], u64::MAX, AMPLE)?;
+            let outcome = over(alloc, words, &WORKED[..len], u64::MAX, AMPLE)?;
             assert_eq!(rt; outcome.status, 0);
             assert_eq!(rt; outcome.out.as_slice(), want);
             assert!(rt; outcome.err.is_empty());
@@ -65,7 +66,7 @@ fn damage_is_told_at_its_gate(rt: HostRuntime) -> Result<(), Fail> {
     ];
     for (len, want) in rows {
         for word in ["check", "files"] {
-            let outcome = over(alloc, word, &WORKED[..len], u64::MAX, AMPLE)?;
+            let outcome = over(alloc, &[word], &WORKED[..len], u64::MAX, AMPLE)?;
             assert_eq!(rt; outcome.status, 6);
             assert!(rt; outcome.out.is_empty());
             assert_eq!(rt; outcome.err.as_slice(), want);
@@ -77,12 +78,16 @@ fn damage_is_told_at_its_gate(rt: HostRuntime) -> Result<(), Fail> {
 #[test]
 fn each_call_that_reads_an_archive_may_fail(rt: HostRuntime) -> Result<(), Fail> {
     let alloc = rt.alloc();
-    for word in ["check", "files"] {
+    let rows: [&[&str]; 3] = [&["check"], &["files"], &["decode", "0"]];
+    for words in rows {
         for fault in 0..10u64 {
-            let outcome = over(alloc, word, &WORKED, fault, AMPLE)?;
+            let outcome = over(alloc, words, &WORKED, fault, AMPLE)?;
             assert_eq!(rt; outcome.status, 5);
             assert!(rt; outcome.out.is_empty());
-            assert_eq!(rt; outcome.err.as_slice(), b"clpa: archive: disk failed\n".as_slice());
+            assert_eq!(rt;
+                outcome.err.as_slice(),
+                b"clpa: archive: disk failed\n".as_slice()
+            );
         }
     }
     Ok(())
@@ -97,9 +102,34 @@ fn an_output_without_room_is_told(rt: HostRuntime) -> Result<(), Fail> {
         out_fails: u64::MAX,
     };
     for word in ["check", "files"] {
-        let outcome = over(alloc, word, &WORKED, u64::MAX, rooms)?;
+        let outcome = over(alloc, &[word], &WORKED, u64::MAX, rooms)?;
         assert_eq!(rt; outcome.status, 7);
         assert_eq!(rt; outcome.err.as_slice(), b"clpa: output failed\n".as_slice());
+    }
+    Ok(())
+}
+
+#[test]
+fn a_file_that_is_not_there_is_told(rt: HostRuntime) -> Result<(), Fail> {
+    let alloc = rt.alloc();
+    let usage: &[u8] = b"clpa: usage: clpa ARCHIVE COMMAND [OPTION]... [WORD]...\n";
+    let rows: [(&str, u8, &[u8]); 6] = [
+        ("1", 8, b"clpa: no file 1, the archive has 1\n"),
+        ("5", 8, b"clpa: no file 5, the archive has 1\n"),
+        (
+            "4294967295",
+            8,
+            b"clpa: no file 4294967295, the archive has 1\n",
+        ),
+        ("4294967296", 2, usage),
+        ("00", 2, usage),
+        ("-1", 2, usage),
+    ];
+    for (number, status, want) in rows {
+        let outcome = over(alloc, &["decode", number], &WORKED, u64::MAX, AMPLE)?;
+        assert_eq!(rt; outcome.status, status);
+        assert!(rt; outcome.out.is_empty());
+        assert_eq!(rt; outcome.err.as_slice(), want);
     }
     Ok(())
 }

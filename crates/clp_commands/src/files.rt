@@ -13,11 +13,7 @@ use sink_pieces::{PrintRefusal, flush, flush_piece};
 use std::alloc::{AllocError, Global};
 
 /// Appends the line of a file of this number.
-fn push_line(
-    gathered: &mut Vec<u8>,
-    number: usize,
-    file: &FileEntry,
-) -> Result<(), AllocError>
+fn push_line(gathered: &mut Vec<u8>, number: usize, file: &FileEntry) -> Result<(), AllocError>
     ensures { OnOk result
         (gathered.new.items ≡ gathered.old.items ++ directory_line number file.now) }
 {

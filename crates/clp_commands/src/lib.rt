@@ -9,6 +9,7 @@ mod check;
 mod create_tests;
 #[cfg(test)]
 mod directory_tests;
+mod file;
 mod files;
 mod log;
 mod outcome;

@@ -1,10 +1,11 @@
 //! How the commands of each kind end, and which refusal that is.
 ghost use Rattle.std.specs.Prelude.{◌≡◌, option_map};
 ghost use Rattle.clp_commands.specs.declared.outcome.ReadRefusal.TheVariants.{OutOfMemory, SinkFault};
-ghost use Rattle.clp_commands.specs.Outcome.{answer_of, from_archive, from_check, from_print, of_create, of_log, of_pattern, of_read};
+ghost use Rattle.clp_commands.specs.Outcome.{answer_of, file_from_archive, from_archive, from_check, from_decode, from_print, of_create, of_file, of_log, of_pattern, of_read};
 
 use crate::refusal::Refusal;
 use archive_check::CheckRefusal;
+use archive_decode::DecodeRefusal;
 use archive_open::ArchiveRefusal;
 use disk_journal::CreateRefusal;
 use log_seams::Failed;
@@ -93,6 +94,46 @@ impl From<PrintRefusal> for ReadRefusal {
     }
 }
 
+/// Why the bytes of a file were not printed.
+#[derive(Clone, Copy, Debug, PartialEq, Eq)]
+pub(crate) enum FileRefusal {
+    /// A call on the archive's disk failed.
+    DiskFault,
+    /// The disk's bytes are no archive, by what stands at this place.
+    Damaged { at: u64 },
+    /// The archive has no file of that number.
+    NoSuchFile { number: u64, count: u64 },
+    /// The output cannot be written.
+    SinkFault,
+    /// There was no memory.
+    OutOfMemory,
+}
+
+impl From<ArchiveRefusal> for FileRefusal {
+    ghost from_gives = { λ r e. e ≡ file_from_archive r };
+
+    fn from(refusal: ArchiveRefusal) -> Self {
+        match refusal {
+            ArchiveRefusal::DiskFault => FileRefusal::DiskFault,
+            ArchiveRefusal::Damaged { at } => FileRefusal::Damaged { at },
+            ArchiveRefusal::OutOfMemory => FileRefusal::OutOfMemory,
+        }
+    }
+}
+
+impl From<DecodeRefusal> for FileRefusal {
+    ghost from_gives = { λ r e. e ≡ from_decode r };
+
+    fn from(refusal: DecodeRefusal) -> Self {
+        match refusal {
+            DecodeRefusal::DiskFault => FileRefusal::DiskFault,
+            DecodeRefusal::Damaged { at } => FileRefusal::Damaged { at },
+            DecodeRefusal::SinkFault => FileRefusal::SinkFault,
+            DecodeRefusal::OutOfMemory => FileRefusal::OutOfMemory,
+        }
+    }
+}
+
 /// The refusal of a command that prints a log.
 pub(crate) fn refusal_of_log(outcome: Result<(), LogRefusal>) -> Option<Refusal>
     ensures { result ≡ option_map of_log (answer_of outcome) }
@@ -118,6 +159,22 @@ pub(crate) fn refusal_of_read(outcome: Result<(), ReadRefusal>) -> Option<Refusa
         Err(ReadRefusal::Damaged { at }) => Some(Refusal::Damaged { at }),
         Err(ReadRefusal::SinkFault) => Some(Refusal::SinkFault),
         Err(ReadRefusal::OutOfMemory) => Some(Refusal::OutOfMemory),
+    }
+}
+
+/// The refusal of the command that prints a file.
+pub(crate) fn refusal_of_file(outcome: Result<(), FileRefusal>) -> Option<Refusal>
+    ensures { result ≡ option_map of_file (answer_of outcome) }
+{
+    match outcome {
+        Ok(()) => None,
+        Err(FileRefusal::DiskFault) => Some(Refusal::DiskFault),
+        Err(FileRefusal::Damaged { at }) => Some(Refusal::Damaged { at }),
+        Err(FileRefusal::NoSuchFile { number, count }) => {
+            Some(Refusal::NoSuchFile { number, count })
+        }
+        Err(FileRefusal::SinkFault) => Some(Refusal::SinkFault),
+        Err(FileRefusal::OutOfMemory) => Some(Refusal::OutOfMemory),
     }
 }
 

@@ -30,6 +30,8 @@ pub enum Refusal {
     SinkFault,
     /// An archive is to be made, and its disk already has `len` bytes.
     NotEmpty { len: u64 },
+    /// The archive has no file of that number, but `count` files, which are numbered from 0.
+    NoSuchFile { number: u64, count: u64 },
     /// There was no memory.
     OutOfMemory,
 }
@@ -105,6 +107,19 @@ pub(crate) fn report<K: Sink>(err: &mut K, name: &str, refusal: Refusal) -> u8
         Refusal::NotEmpty { len } => {
             let len = number.format(len).as_bytes();
             say(err, &[b"clpa: archive: not empty, ", len, b" bytes\n"]);
+            8
+        }
+        Refusal::NoSuchFile {
+            number: file,
+            count,
+        } => {
+            let mut digits = itoa::Buffer::new();
+            let file = number.format(file).as_bytes();
+            let count = digits.format(count).as_bytes();
+            say(
+                err,
+                &[b"clpa: no file ", file, b", the archive has ", count, b"\n"],
+            );
             8
         }
         Refusal::OutOfMemory => {

@@ -13,9 +13,12 @@ ghost use Rattle.clp_commands.specs.Words.{AskNoArchive, AsksCreate};
 ghost use Rattle.log_seams.specs.Disk.{KeepsBytes};
 
 use crate::check::check;
+use crate::file::decode_file;
 use crate::files::files;
 use crate::log::print_log;
-use crate::outcome::{refusal_of_create, refusal_of_log, refusal_of_pattern, refusal_of_read};
+use crate::outcome::{
+    refusal_of_create, refusal_of_file, refusal_of_log, refusal_of_pattern, refusal_of_read,
+};
 use crate::refusal::{Refusal, report};
 use crate::scan::Scan;
 use crate::show::Show;
@@ -31,7 +34,7 @@ use wild_match::{Matcher, PatternRefusal, read_pattern};
 /// `show FILE` prints each message of a log with its variables in braces. `scan PATTERN FILE` prints
 /// those that the pattern matches, each as `FILE:NUMBER:TEXT`. `create` with its options makes an
 /// archive with no file in it. `files` prints the archive's files, each as `NUMBER MESSAGES whole NAME`,
-/// or `part` in place of `whole`. `check` tells whether the archive is legal, and prints what it has. A
+/// or `part` in place of `whole`. `decode N` prints the bytes of file N. `check` tells whether the archive is legal, and prints what it has. A
 /// refusal has its line on `err`.
 ///
 /// `disk` is the archive's. `rt` starts the threads of the commands that work with several, and
@@ -85,6 +88,10 @@ where
         Command::Check => {
             let outcome = check(alloc, disk, out);
             answer(refusal_of_read(outcome), "", err)
+        }
+        Command::Decode { number } => {
+            let outcome = decode_file(alloc, number, disk, out);
+            answer(refusal_of_file(outcome), "", err)
         }
     }
 }

@@ -1,11 +1,13 @@
 //! What the words of the command line ask for.
-ghost use Rattle.std.specs.Prelude.{◌≡◌, ◌↔◌, ℕ, List, map, string_bytes, IfSome, IfNone, IsTrue};
-ghost use Rattle.clp_commands.specs.Words.{Asks, AsksCheck, AsksCreate, AsksFiles, AsksScan, AsksShow, HasHeader, IsPlain, IsUsage};
+ghost use Rattle.std.specs.Prelude.{◌≡◌, ◌<◌, ◌^◌, ◌↔◌, ℕ, List, Some, map, string_bytes, IfSome, IfNone, IsTrue};
+ghost use Rattle.std.specs.Fmt.{decimal};
+ghost use Rattle.clp_commands.specs.Words.{Asks, AsksCheck, AsksCreate, AsksDecode, AsksFiles, AsksScan, AsksShow, HasHeader, IsPlain, IsUsage};
 ghost use Rattle.record_format.specs.Header.{IsHeader};
 ghost use Rattle.record_format.specs.declared.header.Header.{Header};
 
 use archive_limits::read_limits;
 use record_format::Header;
+use var_codec::{Coded, encode};
 
 /// A command with its words.
 #[derive(Clone, Copy, Debug)]
@@ -20,6 +22,8 @@ pub(crate) enum Command<'a> {
     Files,
     /// `check`
     Check,
+    /// `decode N`
+    Decode { number: u32 },
 }
 
 /// Whether a word is no option, since it does not begin with `-`.
@@ -59,6 +63,31 @@ fn read_alone(words: &[String]) -> Option<Command<'_>>
     }
 }
 
+/// The number below 2 ^ 32 that the text is the plain decimal print of.
+fn read_number(text: &str) -> Option<u32>
+    ensures some { IfSome result (λ number. text.now ≡ decimal number) }
+    ensures fits { IfSome result (λ number. number < 2 ^ 32) }
+    ensures all { (number : ℕ) → number < 2 ^ 32 → text.now ≡ decimal number
+        → result ≡ Some number }
+{
+    match encode(text.as_bytes()) {
+        Coded::Whole(number) => u32::try_from(number).ok(),
+        Coded::Decimal(_) | Coded::Word => None,
+    }
+}
+
+/// Reads the words of `decode`. `None` comes exactly where they are not of its form.
+fn read_decode(words: &[String]) -> Option<u32>
+    ensures asked { IfSome result (AsksDecode (map string_bytes words.now)) }
+    ensures all { (number : ℕ) → AsksDecode (map string_bytes words.now) number
+        → result ≡ Some number }
+{
+    match words {
+        [command, number] if command.as_str() == "decode" => read_number(number.as_str()),
+        _ => None,
+    }
+}
+
 /// Reads the words of the commands that print a log, none of which begins with `-`. `None` comes
 /// exactly where they are of none.
 fn read_log(words: &[String]) -> Option<Command<'_>>
@@ -78,8 +107,7 @@ fn read_log(words: &[String]) -> Option<Command<'_>>
         [command, pattern, file]
             if command.as_str() == "scan"
                 && is_plain(pattern.as_str())
-                && is_plain(file.as_str()) =>
-        {
+                && is_plain(file.as_str()) => {
             Some(Command::Scan {
                 pattern: pattern.as_str(),
                 file: file.as_str(),
@@ -92,16 +120,21 @@ fn read_log(words: &[String]) -> Option<Command<'_>>
 /// Reads the words. `None` comes exactly where they are not of the form of a command.
 ///
 /// The first word is the command. The options of `create` follow it, or the words of `show` and
-/// `scan`. Nothing follows `files` and `check`.
+/// `scan`, or the number of a file behind `decode`. Nothing follows `files` and `check`.
 pub(crate) fn read_words(words: &[String]) -> Option<Command<'_>>
     ensures some { IfSome result (Asks (map string_bytes words.now)) }
     ensures header { IfSome result HasHeader }
     ensures create { (h : Header) → AsksCreate (map string_bytes words.now) h
         → result ≡ Some (Command.Create h) }
+    ensures decode { (n : ℕ) → AsksDecode (map string_bytes words.now) n
+        → result ≡ Some (Command.Decode n) }
     ensures none { IfNone result (IsUsage (map string_bytes words.now)) }
 {
     if let Some(header) = read_create(words) {
         return Some(Command::Create { header });
+    }
+    if let Some(number) = read_decode(words) {
+        return Some(Command::Decode { number });
     }
     if let Some(command) = read_alone(words) {
         return Some(command);

@@ -29,3 +29,7 @@ returns-in-NotEmpty-clause-said g c = Says-same _ _ _ _ _ (line_of c.args.name.n
 
 pub returns-in-Damaged-clause-said : goal.returns-in-Damaged-clause-said
 returns-in-Damaged-clause-said g c = Says-same _ _ _ _ _ (line_of c.args.name.now c.args.refusal) (rw (c.in-Damaged.is, c.as_bytes-at-in-Damaged.ensures.value, c.format-in-Damaged.ensures.text) refl) c.say-in-Damaged.ensures.said
+
+pub returns-in-NoSuchFile-clause-said : goal.returns-in-NoSuchFile-clause-said
+returns-in-NoSuchFile-clause-said g c =
+    Says-same _ _ _ _ _ (line_of c.args.name.now c.args.refusal) (rw (c.in-NoSuchFile.is, c.as_bytes-file.ensures.value, c.as_bytes-count.ensures.value, c.format-in-NoSuchFile.ensures.text, c.format-in-NoSuchFile-2.ensures.text) refl) c.say-in-NoSuchFile.ensures.said

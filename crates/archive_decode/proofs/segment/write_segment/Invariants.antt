@@ -1,0 +1,18 @@
+use Rattle.std.proofs.Common.{◌≡◌, ◌-◌, ℕ, List, Some}
+use Rattle.log_seams.specs.Disk.{Rests}
+use Rattle.archive_decode.specs.StepsHeld.{HoldsMessages}
+use Rattle.archive_decode.proofs.SegmentLemmas.{Going}
+use Rattle.archive_decode.proofs.segment.write_segment.Given as goal
+
+abbrev pub invariant-loop-alloc : goal.invariant-loop-alloc
+invariant-loop-alloc g l = record {
+  rests : Rests (g.D.Disk.state l.fn.disk) (g.D.Disk.state l.disk);
+  going : (bytes : List ℕ) (messages : List (List ℕ)) → (g.D.Disk.state l.fn.disk).seen ≡ Some bytes
+      → HoldsMessages (g.N.Names.types l.names) (g.N.Names.words l.names) l.place bytes messages
+      → Going (g.N.Names.types l.names) (g.N.Names.words l.names) l.pages bytes (g.K.Sink.written l.fn.out) (g.K.Sink.written l.out) l.fn.lines l.lines messages;
+  disk : (g.D.Disk.state l.disk).faults ≡ (g.D.Disk.state l.fn.disk).faults;
+  sink : g.K.Sink.faults l.out ≡ g.K.Sink.faults l.fn.out;
+}
+
+abbrev pub decreases-loop-alloc : goal.decreases-loop-alloc
+decreases-loop-alloc g l = l.pages.pages.rows - l.pages.pages.row

@@ -1,0 +1,4 @@
+pub mod Decoded
+pub mod Refused
+pub mod StepsLines
+pub mod StepsHeld

@@ -1,0 +1,102 @@
+//! The messages of a segment on a disk.
+ghost use Rattle.std.specs.Prelude.{◌≡◌, ℕ, List, Some, IsErrOf, OnErr, OnOk};
+ghost use Rattle.log_seams.specs.Disk.{Rests};
+ghost use Rattle.log_seams.specs.Outside.{CountsOf};
+ghost use Rattle.archive_decode.specs.StepsHeld.{AreMeant, HoldsMessages};
+ghost use Rattle.archive_decode.specs.StepsLines.{Adds, AddsFront};
+
+use crate::lines::Lines;
+use crate::refusal::{DecodeRefusal, of_page};
+use archive_open::SegmentPlace;
+use column_store::Columns;
+use log_seams::{Disk, Sink};
+use row_codec::{Names, row_fits};
+use segment_pages::{SegmentPages, none_are_left};
+use std::alloc::Global;
+use std::mem;
+use std::sync::ledger::Ledger;
+use step_count::Steps;
+
+/// Memory that serves all pages: for the bytes of a page, and for its rows.
+#[derive(Drop)]
+pub(crate) struct PageRoom {
+    pub(crate) bytes: Vec<u8>,
+    pub(crate) columns: Columns,
+}
+
+/// Writes the messages of a page, in a segment whose record's gate is at a place.
+fn write_page<N: Names, K: Sink, L: Ledger>(
+    at: u64,
+    columns: &Columns,
+    names: &N,
+    lines: &mut Lines,
+    out: &mut K,
+    steps: &mut Steps<L>,
+) -> Result<(), DecodeRefusal>
+    // by the answer
+    ensures ok { OnOk result ((messages : List (List ℕ)) → AreMeant (N.types names.now) (N.words names.now) columns.now.rows messages
+        → Adds (K.written out.old) (K.written out.new) lines.old lines.new messages) }
+    ensures err { OnErr result ((messages : List (List ℕ))
+        → AreMeant (N.types names.now) (N.words names.now) columns.now.rows messages
+        → AddsFront (K.written out.old) (K.written out.new) lines.old messages) }
+
+    // causes
+    ensures damaged { (place : ℕ) → IsErrOf result (DecodeRefusal.Damaged place) → (messages : List (List ℕ))
+        → ¬ AreMeant (N.types names.now) (N.words names.now) columns.now.rows messages }
+    ensures disk { ¬ IsErrOf result DecodeRefusal.DiskFault }
+    ensures sink { CountsOf DecodeRefusal.SinkFault (K.faults out.old) (K.faults out.new) result }
+{
+    for place in 0..columns.rows() {
+        let row = columns.row(place);
+        if !row_fits(row, names) {
+            return Err(DecodeRefusal::Damaged { at });
+        }
+        lines.push(row, names, out, steps)?;
+    }
+    Ok(())
+}
+
+/// Writes the messages of a segment.
+pub(crate) fn write_segment<N: Names, D: Disk, K: Sink, L: Ledger>(
+    alloc: Global,
+    place: &SegmentPlace,
+    names: &N,
+    disk: &mut D,
+    room: &mut PageRoom,
+    lines: &mut Lines,
+    out: &mut K,
+    steps: &mut Steps<L>,
+) -> Result<(), DecodeRefusal>
+    // what stays
+    ensures rests { Rests (D.state disk.old) (D.state disk.new) }
+
+    // by the answer
+    ensures ok { OnOk result ((bytes : List ℕ) (messages : List (List ℕ)) → (D.state disk.old).seen ≡ Some bytes
+        → HoldsMessages (N.types names.now) (N.words names.now) place.now bytes messages
+        → Adds (K.written out.old) (K.written out.new) lines.old lines.new messages) }
+    ensures err { OnErr result ((bytes : List ℕ) (messages : List (List ℕ)) → (D.state disk.old).seen ≡ Some bytes
+        → HoldsMessages (N.types names.now) (N.words names.now) place.now bytes messages
+        → AddsFront (K.written out.old) (K.written out.new) lines.old messages) }
+
+    // causes
+    ensures damaged { (at : ℕ) → IsErrOf result (DecodeRefusal.Damaged at) → (bytes : List ℕ)
+        (messages : List (List ℕ)) → (D.state disk.old).seen ≡ Some bytes
+        → ¬ HoldsMessages (N.types names.now) (N.words names.now) place.now bytes messages }
+    ensures disk { CountsOf DecodeRefusal.DiskFault
+        (D.state disk.old).faults (D.state disk.new).faults result }
+    ensures sink { CountsOf DecodeRefusal.SinkFault (K.faults out.old) (K.faults out.new) result }
+{
+    let Some(mut pages) = SegmentPages::open(place.payload, place.length, &place.head, steps) else {
+        return Err(DecodeRefusal::Damaged { at: place.at });
+    };
+    while pages.has_next() {
+        let columns = mem::replace(&mut room.columns, Columns::new(alloc));
+        room.columns = match pages.next_page(disk, &mut room.bytes, columns) {
+            Ok(columns) => columns,
+            Err(refusal) => return Err(of_page(refusal, place.at)),
+        };
+        write_page(place.at, &room.columns, names, lines, out, steps)?;
+    }
+    none_are_left();
+    Ok(())
+}

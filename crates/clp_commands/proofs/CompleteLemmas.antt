@@ -1,0 +1,84 @@
+-- A command that reads an archive does what it is asked where nothing fails.
+use Rattle.std.proofs.Common.{◌≡◌, ◌⊎◌, ◌<◌, refl, subst, inl, inr, arith, length, ℕ, List, [], Option, Some, Result, Ok, Err, option_map}
+use Rattle.std.specs.Prelude.{IfSome}
+use Rattle.log_seams.specs.Disk.{DiskState, KeepsBytes}
+use Rattle.log_seams.specs.Outside.{CountsOf}
+use Rattle.record_format.specs.declared.header.Header.{Header}
+use Rattle.archive_meaning.specs.declared.entry.JournalEntry.{JournalEntry}
+use Rattle.archive_meaning.specs.Stands.{StandsFor}
+use Rattle.archive_meaning.proofs.UniqueLemmas.{journals_are_whole}
+use Rattle.archive_meaning.specs.Held.{content_of}
+use Rattle.archive_decode.specs.Decoded.{StandsForNone}
+use Rattle.archive_check.specs.Checked.{DamagedAt}
+use Rattle.archive_open.specs.Shown.{RefusedAt}
+use Rattle.clp_commands.specs.Around.{Around}
+use Rattle.clp_commands.specs.Counted.{AnswersCheck, PrintsCounts}
+use Rattle.clp_commands.specs.Directory.{AnswersFiles, PrintsDirectory}
+use Rattle.clp_commands.specs.Decoding.{AnswersDecode, IsCompleteFile, LacksFile, PrintsFile}
+use Rattle.clp_commands.specs.Ending.{EndsWith}
+use Rattle.clp_commands.specs.Outcome.{answer_of, of_file, of_read}
+use Rattle.clp_commands.specs.Reading.{IsComplete, OverJournal}
+use Rattle.clp_commands.specs.declared.outcome.FileRefusal.{FileRefusal}
+use Rattle.clp_commands.specs.declared.outcome.ReadRefusal.{ReadRefusal}
+use Rattle.clp_commands.specs.declared.outcome.ReadRefusal.TheVariants.{DiskFault, Damaged, SinkFault, OutOfMemory}
+
+complete : (seen : Around) (old new : DiskState) (answer : Result Unit ReadRefusal) → CountsOf DiskFault old.faults new.faults answer → CountsOf SinkFault seen.out_faults.0 seen.out_faults.1 answer
+    → ((at : ℕ) (bytes : List ℕ) (h : Header) (es : List JournalEntry) → answer ≡ Err (Damaged at) → old.seen ≡ Some bytes → StandsFor bytes h es → ⊥) → IsComplete seen old new answer
+complete seen old new (Ok tt) disk sink none bytes h es told stood steady sent = inl refl
+complete seen old new (Err DiskFault) disk sink none bytes h es told stood steady sent = absurd (steady (disk.failed refl))
+complete seen old new (Err (Damaged at)) disk sink none bytes h es told stood steady sent = absurd (none at bytes h es refl told stood)
+complete seen old new (Err SinkFault) disk sink none bytes h es told stood steady sent = absurd (sent (sink.failed refl))
+complete seen old new (Err OutOfMemory) disk sink none bytes h es told stood steady sent = inr refl
+
+-- what the commands answer
+pub files_answers : (seen : Around) (old new : DiskState) (status : ℕ) (answer : Result Unit ReadRefusal) → EndsWith seen [] status (option_map of_read (answer_of answer)) → KeepsBytes old new
+    → CountsOf DiskFault old.faults new.faults answer → CountsOf SinkFault seen.out_faults.0 seen.out_faults.1 answer → PrintsDirectory answer old.seen seen.out.0 seen.out.1
+    → ((at : ℕ) → answer ≡ Err (Damaged at) → RefusedAt at old.seen) → AnswersFiles seen old new status
+files_answers seen old new status answer ends keeps disk sink prints damaged = record {
+  answer = answer;
+  ends = record { ends = ends; keeps = keeps; disk = disk; sink = sink };
+  prints = prints;
+  damaged = damaged;
+  complete = complete seen old new answer disk sink (λ at bytes h es e told stood. (subst (RefusedAt at) told (damaged at e)).none h es stood);
+}
+
+pub check_answers : (seen : Around) (old new : DiskState) (status : ℕ) (answer : Result Unit ReadRefusal) → EndsWith seen [] status (option_map of_read (answer_of answer)) → KeepsBytes old new
+    → CountsOf DiskFault old.faults new.faults answer → CountsOf SinkFault seen.out_faults.0 seen.out_faults.1 answer → PrintsCounts answer old.seen seen.out.0 seen.out.1
+    → ((at : ℕ) → answer ≡ Err (Damaged at) → IfSome old.seen (DamagedAt at)) → AnswersCheck seen old new status
+check_answers seen old new status answer ends keeps disk sink prints damaged = record {
+  answer = answer;
+  ends = record { ends = ends; keeps = keeps; disk = disk; sink = sink };
+  prints = prints;
+  damaged = damaged;
+  complete = complete seen old new answer disk sink (λ at bytes h es e told stood. journals_are_whole bytes h es at stood (subst (λ s. IfSome s (DamagedAt at)) told (damaged at e)));
+}
+
+file_complete : (number : ℕ) (seen : Around) (old new : DiskState) (answer : Result Unit FileRefusal) → CountsOf FileRefusal.DiskFault old.faults new.faults answer → CountsOf FileRefusal.SinkFault seen.out_faults.0 seen.out_faults.1 answer
+    → ((at : ℕ) → answer ≡ Err (FileRefusal.Damaged at) → IfSome old.seen StandsForNone)
+    → ((told count : ℕ) → answer ≡ Err (FileRefusal.NoSuchFile told count) → LacksFile number told count old.seen seen.out.0 seen.out.1) → IsCompleteFile number seen old new answer
+file_complete number seen old new (Ok tt) disk sink damaged lacks bytes h es stood told within steady sent = inl refl
+file_complete number seen old new (Err FileRefusal.DiskFault) disk sink damaged lacks bytes h es stood told within steady sent = absurd (steady (disk.failed refl))
+file_complete number seen old new (Err (FileRefusal.Damaged at)) disk sink damaged lacks bytes h es stood told within steady sent = absurd ((subst (λ s. IfSome s StandsForNone) told (damaged at refl)) h es stood)
+file_complete number seen old new (Err (FileRefusal.NoSuchFile n count)) disk sink damaged lacks bytes h es stood told within steady sent =
+    let lack = lacks n count refl in
+    absurd (omega (arith, lack.absent, within, (subst (λ s. OverJournal s (λ held. count ≡ length (content_of held))) told lack.all) h es stood))
+file_complete number seen old new (Err FileRefusal.SinkFault) disk sink damaged lacks bytes h es stood told within steady sent = absurd (sent (sink.failed refl))
+file_complete number seen old new (Err FileRefusal.OutOfMemory) disk sink damaged lacks bytes h es stood told within steady sent = inr refl
+
+pub decode_answers : (number : ℕ) (seen : Around) (old new : DiskState) (status : ℕ) (answer : Result Unit FileRefusal) → EndsWith seen [] status (option_map of_file (answer_of answer)) → KeepsBytes old new
+    → CountsOf FileRefusal.DiskFault old.faults new.faults answer → CountsOf FileRefusal.SinkFault seen.out_faults.0 seen.out_faults.1 answer → PrintsFile answer number old.seen seen.out.0 seen.out.1
+    → ((at : ℕ) → answer ≡ Err (FileRefusal.Damaged at) → IfSome old.seen StandsForNone)
+    → ((told count : ℕ) → answer ≡ Err (FileRefusal.NoSuchFile told count) → LacksFile number told count old.seen seen.out.0 seen.out.1)
+    → ((answer ≡ Ok tt) ⊎ (answer ≡ Err FileRefusal.SinkFault) → OverJournal old.seen (λ held. number < length (content_of held))) → AnswersDecode number seen old new status
+decode_answers number seen old new status answer ends keeps disk sink prints damaged lacks there = record {
+  answer = answer;
+  ends = ends;
+  keeps = keeps;
+  prints = prints;
+  damaged = damaged;
+  lacks = lacks;
+  there = there;
+  disk = disk;
+  sink = sink;
+  complete = file_complete number seen old new answer disk sink damaged lacks;
+}
