@@ -4,5 +4,9 @@ pub mod Parts
 pub mod Journal
 pub mod Hand
 pub mod Namer
+pub mod Keys
 pub mod Sealed
 pub mod MaySeal
+pub mod Doing
+pub mod Stopping
+pub mod Done

@@ -3,9 +3,11 @@
 
 mod hand;
 mod job;
+mod naming;
 mod outcome;
 mod sealing;
 mod stop;
+mod take;
 
 pub use job::Job;
 pub use outcome::{Cause, Outcome};
