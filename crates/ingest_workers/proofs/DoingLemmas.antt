@@ -78,7 +78,7 @@ module _ {D R A B C : Type 0} where
     };
   }
 
-rows_same : (version : ℕ) (types words messages : Texts) (hand new : Hand) → SameRows hand new → HasInHand version types words messages hand → HasInHand version types words messages new
+pub rows_same : (version : ℕ) (types words messages : Texts) (hand new : Hand) → SameRows hand new → HasInHand version types words messages hand → HasInHand version types words messages new
 rows_same version types words messages hand new same has = record {
   canonical = subst (λ (c : ColumnsState). AreCanonical version c.rows types words messages) (sym same.columns) has.canonical;
   used = same.used ∙ (has.used ∙ ap (λ (c : ColumnsState). flat_map (numbers_of_row types) c.rows) (sym same.columns));
@@ -101,7 +101,7 @@ module _ {D R A B C : Type 0} (state : D → DiskState) (limit : ℕ) (start p :
       }
 
   -- what is held, told from the start
-  held_front : (q : KeeperPass D) → IsPrefix (seen p) (seen q) → WhereTold state start (λ h. FrontHolds h (journal_seen (seen q)) (number_of start) (messages_in d.closed) false false)
+  pub held_front : (q : KeeperPass D) → IsPrefix (seen p) (seen q) → WhereTold state start (λ h. FrontHolds h (journal_seen (seen q)) (number_of start) (messages_in d.closed) false false)
   held_front q on a is =
       if_told (is_some (state a.fixed.opened).seen) _ (λ told.
       let holds : Holds a.fixed.header (journal_seen (seen p)) (number_of p) (messages_in d.closed) false false = of_told (is_some (state a.fixed.opened).seen) _ told (d.so_far a (d.added.still.about_is ∙ is)) in
@@ -112,7 +112,7 @@ module _ {D R A B C : Type 0} (state : D → DiskState) (limit : ℕ) (start p :
       } in found)
 
   -- nothing more is sealed
-  pub covering : (q : KeeperPass D) (new : Hand) (line : List ℕ) → HasNotSealed state p q → new.draft.first ≡ hand.draft.first → Covering state limit start q new (taken ++ line ∷ [])
+  abbrev pub covering : (q : KeeperPass D) (new : Hand) (line : List ℕ) → HasNotSealed state p q → new.draft.first ≡ hand.draft.first → Covering state limit start q new (taken ++ line ∷ [])
   covering q new line none first = record {
     closed = d.closed;
     more = d.more ++ none.more;

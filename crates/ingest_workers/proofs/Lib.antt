@@ -4,3 +4,4 @@ pub mod SealLemmas
 pub mod MaySealLemmas
 pub mod PartLemmas
 pub mod DoingLemmas
+pub mod DoneLemmas

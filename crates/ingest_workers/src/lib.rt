@@ -1,6 +1,7 @@
 //! Ingest: logs become the files of an archive.
 #![tactic(auto)]
 
+mod finish;
 mod hand;
 mod job;
 mod naming;
