@@ -7,6 +7,9 @@ use Rattle.log_seams.specs.Disk.{DiskState}
 use Rattle.turn_lock.specs.Words.{seen, about, number_of}
 use Rattle.turn_lock.proofs.FrontLemmas.{prefix_self}
 use Rattle.column_store.specs.Columns.{ColumnsState, IsFull}
+use Rattle.column_store.specs.declared.row.Row.{Row}
+use Rattle.archive_meaning.specs.declared.entry.SegmentEntry.{SegmentEntry}
+use Rattle.ingest_workers.proofs.MaySealLemmas.{nothing_sealed}
 use Rattle.archive_meaning.specs.declared.TheConstants.{MAX_ROWS, MAX_MESSAGES}
 use Rattle.archive_meaning.specs.Held.{last_is_open}
 use Rattle.disk_seal.specs.declared.entry.StoreEntry.{StoreEntry}
@@ -122,3 +125,63 @@ module _ {D R A B C : Type 0} (state : D → DiskState) (limit : ℕ) (start p :
 
       nothing_full : (k : ℕ) → ¬ IsFull (columns_of (front k (record { rows = []; messages = [] }))) limit
       nothing_full k full = d.not_yet.not_yet 0 (omega arith) (subst (λ c. IsFull c limit) (none_in k) full)
+
+-- the segment of a rest with messages, in a file that is not whole
+rest_rows : (file first : ℕ) (ended : Bool) (rows : List Row) (messages : Texts) → 0 < length rows
+    → (let s : SegmentEntry = record { file = file; first = first; last = false; ended = false; rows = rows } in s) ∷ [] ≡ rest_of file first false ended (record { rows = rows; messages = messages })
+rest_rows file first ended [] messages some = absurd (omega (arith, some))
+rest_rows file first ended (r ∷ rows) messages some = refl
+
+module _ {D R A B C : Type 0} (state : D → DiskState) (limit : ℕ) (start p : KeeperPass D) (m : LockNamer R A B C) (hand : Hand) (taken : Texts) (ended : Bool) (d : Doing state limit start p m hand taken) (some : 0 < length hand.draft.columns.rows) where
+  pub may_seal_part : limit ≤ MAX_ROWS → length taken ≤ MAX_MESSAGES → MaySeal state p m hand
+  may_seal_part most few = record {
+    covered = messages_in d.closed;
+    messages = d.messages;
+    worker = d.worker;
+    file = d.file;
+    first = d.first;
+    so_far = d.so_far;
+    has = d.has;
+    each = d.each;
+    few = omega (arith, (has_room state limit start p m hand taken d most).rows);
+    most = omega (arith, few, ap length d.taken_is, length-append (messages_in d.closed) d.messages, d.first, d.not_yet.even);
+    some = λ is. some;
+    ended = λ is. absurd (cc (is, d.not_ended));
+    end = λ last open_end. absurd (cc (last, d.not_last));
+  }
+
+  pub part_done : (q : KeeperPass D) (new : Hand) (cause : Cause) → IsEmptied hand new → HasSealed state hand.draft p q
+      → NowHas state hand.draft m.version (types_seen m) (words_seen m) p q → IsOutcome state limit start q taken ended (record { messages = new.draft.first; whole = false; cause = Some cause })
+  part_done q new cause empty sealed has_now = record {
+    covered = taken;
+    front = prefix_self taken;
+    all = λ is. refl;
+    count = omega (arith, empty.first, d.first, d.not_yet.even, ap length d.taken_is, length-append (messages_in d.closed) d.messages);
+    done = record {
+      closed = d.closed;
+      rest = record { rows = hand.draft.columns.rows; messages = d.messages };
+      more = d.more ++ sealed.more;
+      covered_is = d.taken_is;
+      cut = d.cut;
+      not_yet = d.not_yet;
+      added = added_on start p q d.more sealed.more d.added sealed.added;
+      segments = λ a is. if_told (is_some (state a.fixed.opened).seen) _ (λ told.
+      sealed_joined d.more sealed.more
+      ∙ ap₂ (λ l k. l ++ k) (of_told (is_some (state a.fixed.opened).seen) _ told (d.segments a is))
+      (of_told (is_some (state a.fixed.opened).seen) _ told (sealed.segments a (d.added.still.about_is ∙ is))
+      ∙ (ap (λ s. s ∷ []) segment_is ∙ rest_rows (number_of start) (length (messages_in d.closed)) ended hand.draft.columns.rows d.messages some)));
+      held = λ a is. if_told (is_some (state a.fixed.opened).seen) _ (λ told.
+      let holds = of_told (is_some (state a.fixed.opened).seen) _ told
+      (has_now (messages_in d.closed) d.messages d.first d.so_far (λ b there. if_told (is_some (state b.fixed.opened).seen) _ (λ _. (d.worker.namer.version b there, d.has.canonical))) a (d.added.still.about_is ∙ is)) in
+      let by_last = subst (λ l. Holds a.fixed.header (journal_seen (seen q)) hand.draft.file (messages_in d.closed ++ d.messages) l (l && hand.draft.ended)) d.not_last holds in
+      let found : FrontHolds a.fixed.header (journal_seen (seen q)) (number_of start) taken false false = record {
+        front = journal_seen (seen q);
+        begins = prefix_self (journal_seen (seen q));
+        holds = subst (λ f. Holds a.fixed.header (journal_seen (seen q)) f taken false false) (d.file ∙ d.added.still.number)
+        (subst (λ ms. Holds a.fixed.header (journal_seen (seen q)) hand.draft.file ms false false) (sym d.taken_is) by_last);
+      } in found);
+    };
+  }
+    where
+      segment_is : segment_of hand.draft ≡ record { file = number_of start; first = length (messages_in d.closed); last = false; ended = false; rows = hand.draft.columns.rows }
+      segment_is = λ i. record { file = (d.file ∙ d.added.still.number) i; first = d.first i; last = d.not_last i; ended = d.not_ended i; rows = hand.draft.columns.rows }
