@@ -172,6 +172,14 @@ impl<'r, 'l, R: Wait, A: Ledger, B: Ledger, C: Ledger> LockNamer<'r, 'l, R, A, B
 }
 
 impl<R: Wait, A: Ledger, B: Ledger, C: Ledger> Namer for LockNamer<'_, '_, R, A, B, C> {
+    ghost use Rattle.std.specs.Prelude.{◌≡◌, ℕ, [], ◌∷◌, All, IfOk, IsErrOf, OnOk, Some, slice_get};
+    ghost use Rattle.std.specs.List.{Contains};
+    ghost use Rattle.logtype_text.specs.Encoded.{AreWithin, texts_at};
+    ghost use Rattle.logtype_text.specs.Fair.{IsFairType, IsFairWord};
+    ghost use Rattle.turn_lock.specs.Words.{seen};
+    ghost use Rattle.row_codec.specs.declared.namer.Which.TheVariants.{Types, Words};
+    ghost use Rattle.row_codec.specs.Naming.{AreNumbers, HasGrown, MetLimit};
+    ghost use Rattle.dict_lock.specs.Shared.{GoesOn};
     ghost use Rattle.dict_lock.specs.Cached.{pass_in};
     ghost use Rattle.disk_seal.specs.Known.{known_of};
 
@@ -185,14 +193,37 @@ impl<R: Wait, A: Ledger, B: Ledger, C: Ledger> Namer for LockNamer<'_, '_, R, A,
         self.version >= 3
     }
 
-    fn name_type(&mut self, text: &[u8]) -> Result<u32, NameRefusal> {
+    fn name_type(&mut self, text: &[u8]) -> Result<u32, NameRefusal>
+        requires { IsFairType text.now }
+        ensures others { (self.new.version ≡ self.old.version)
+            × (pass_in self.new.words ≡ pass_in self.old.words) }
+        ensures grown { HasGrown (λ t. t ≡ text.now) (known_of (pass_in self.old.types))
+            (known_of (pass_in self.new.types)) }
+        ensures named { IfOk result (λ n.
+            slice_get (seen (pass_in self.new.types)) n ≡ Some text.now) }
+        ensures full { (book : _) (count : ℕ) → IsErrOf result (name_full book count)
+            → (book ≡ Types) × MetLimit (known_of (pass_in self.new.types)) (text.now ∷ []) count
+            × ((known_of (pass_in self.new.types)).added ≡ (known_of (pass_in self.old.types)).added) }
+        ensures still { GoesOn (pass_in self.old.types) (pass_in self.new.types) }
+    {
         match self.types.name(self.rt, text, &mut self.turns.types) {
             Ok(number) => Ok(number),
             Err(refusal) => Err(refused(Which::Types, refusal)),
         }
     }
 
-    fn name_words(&mut self, texts: &TextList) -> Result<NumberList, NameRefusal> {
+    fn name_words(&mut self, texts: &TextList) -> Result<NumberList, NameRefusal>
+        requires { All IsFairWord texts.now }
+        ensures others { (self.new.version ≡ self.old.version)
+            × (pass_in self.new.types ≡ pass_in self.old.types) }
+        ensures grown { HasGrown (Contains texts.now) (known_of (pass_in self.old.words))
+            (known_of (pass_in self.new.words)) }
+        ensures named { IfOk result (λ ns.
+            AreNumbers (seen (pass_in self.new.words)) ns texts.now) }
+        ensures full { (book : _) (count : ℕ) → IsErrOf result (name_full book count)
+            → (book ≡ Words) × MetLimit (known_of (pass_in self.new.words)) texts.now count }
+        ensures still { GoesOn (pass_in self.old.words) (pass_in self.new.words) }
+    {
         match self.words.name_all(self.rt, texts, &mut self.turns.words) {
             Ok(numbers) => Ok(numbers),
             Err(refusal) => Err(refused(Which::Words, refusal)),
@@ -204,7 +235,20 @@ impl<R: Wait, A: Ledger, B: Ledger, C: Ledger> Namer for LockNamer<'_, '_, R, A,
         line: &[u8],
         spans: &[Span],
         numbers: &mut Vec<u32>,
-    ) -> Result<(), NameRefusal> {
+    ) -> Result<(), NameRefusal>
+        requires within { AreWithin line.now spans.now }
+        requires fair { All IsFairWord (texts_at line.now spans.now) }
+        ensures others { (self.new.version ≡ self.old.version)
+            × (pass_in self.new.types ≡ pass_in self.old.types) }
+        ensures grown { HasGrown (Contains (texts_at line.now spans.now))
+            (known_of (pass_in self.old.words)) (known_of (pass_in self.new.words)) }
+        ensures named { OnOk result (AreNumbers (seen (pass_in self.new.words)) numbers.new.items
+            (texts_at line.now spans.now)) }
+        ensures full { (book : _) (count : ℕ) → IsErrOf result (name_full book count)
+            → (book ≡ Words) × MetLimit (known_of (pass_in self.new.words))
+                (texts_at line.now spans.now) count }
+        ensures still { GoesOn (pass_in self.old.words) (pass_in self.new.words) }
+    {
         let texts = LineSpans::new(line, spans);
         match self
             .words

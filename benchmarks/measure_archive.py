@@ -1,0 +1,114 @@
+#!/usr/bin/env python3
+"""Times the commands over an archive in interleaved rounds: measure_archive.py ROUNDS LOG CLPA.
+
+The archives stand beside the log and are made anew in each round of `ingest`. What `decode` gives back
+is held against the log, and the count of lines that `search` finds against that of `grep`; a difference
+fails the run. Times, ratios and memory are as in measure.py.
+"""
+import filecmp
+import os
+import statistics
+import subprocess
+import sys
+
+from measure import run
+
+RARE, PART, COMMON, WILD = "quorum-lost", "task_1734", "heartbeat", "Task*SECONDS"
+
+
+def quarters(path):
+    """The log in four files of whole lines, made once."""
+    names = [f"{path}.{n}" for n in range(4)]
+    if not all(os.path.exists(it) for it in names):
+        size = os.path.getsize(path)
+        with open(path, "rb") as log:
+            for n, name in enumerate(names):
+                want = size * (n + 1) // 4 - log.tell()
+                with open(name, "wb") as out:
+                    while want > 0:
+                        part = log.read(min(want, 1 << 22))
+                        out.write(part)
+                        want -= len(part)
+                    out.write(log.readline())
+    return names
+
+
+def made(clpa, archive):
+    """An empty archive."""
+    if os.path.exists(archive):
+        os.remove(archive)
+    subprocess.run([clpa, archive, "create"], check=True)
+
+
+def table(what, commands, rounds, size, before=None):
+    """Runs the commands in turns and prints a row of each; the second is the measure."""
+    runs = {name: [] for name, _ in commands}
+    for _ in range(rounds):
+        for name, words in commands:
+            if before:
+                before(name)
+            runs[name].append(run(words))
+    middle = {name: statistics.median(r[0] for r in all_runs) for name, all_runs in runs.items()}
+    beside, failed = middle[commands[1][0]], False
+    for name, _ in commands:
+        _, _, lines, status = runs[name][0]
+        failed = failed or status not in (0, 1)
+        peak = max(r[1] for r in runs[name]) / 1024
+        note = "" if status in (0, 1) else f" (status {status})"
+        print("| %s | %s%s | %.3f | %.0f | %.2f | %.1f | %d |" % (what, name, note, middle[name], size / middle[name] / 1e6, beside / middle[name], peak, lines))
+    return failed, {name: runs[name][0][2] for name, _ in commands}
+
+
+def main():
+    rounds, path, clpa = int(sys.argv[1]), sys.argv[2], sys.argv[3]
+    size, failed = os.path.getsize(path), False
+    files = quarters(path)
+    one, four, packed = f"{path}.one.clp", f"{path}.four.clp", f"{path}.zst"
+    print("| what | command | seconds | MB/s | ratio | peak MiB | lines out |")
+    print("| --- | --- | --- | --- | --- | --- | --- |")
+
+    def anew(name):
+        if name.startswith("clpa ingest"):
+            made(clpa, four if "4 workers" in name else one)
+
+    wrong, _ = table("into an archive", [
+        ("clpa ingest, 1 worker", [clpa, one, "ingest", path]),
+        ("zstd -3 -T1", ["zstd", "-q", "-f", "-3", "-T1", path, "-o", packed]),
+        ("clpa ingest, 4 workers, 4 files", [clpa, four, "ingest", "--workers", "4", *files]),
+    ], rounds, size, anew)
+    failed = failed or wrong
+    for archive in (one, four):
+        checked = subprocess.run([clpa, archive, "check"], check=False, capture_output=True)
+        failed = failed or checked.returncode != 0
+    with open(f"{path}.back", "wb") as back:
+        subprocess.run([clpa, one, "decode", "0"], check=True, stdout=back)
+    if not filecmp.cmp(path, f"{path}.back", shallow=False):
+        failed = True
+        print("| decode | it gives other bytes than the log | | | | | |")
+    os.remove(f"{path}.back")
+    wrong, _ = table("out of it", [("clpa decode", [clpa, one, "decode", "0"]), ("zstd -dc", ["zstd", "-dc", packed])], rounds, size)
+    failed = failed or wrong
+    for name, text, beside in (("rare word", RARE, "-aFc"), ("part of a word", PART, "-aFc"), ("common word", COMMON, "-aFn")):
+        wrong, counts = table(f"{name} `{text}`", [
+            ("clpa search", [clpa, one, "search", text]),
+            (f"grep {beside}", ["grep", beside, text, path]),
+            ("clpa search, 4 workers", [clpa, one, "search", "--workers", "4", text]),
+        ], rounds, size)
+        found = subprocess.run(["grep", "-aFc", text, path], check=False, capture_output=True, env=dict(os.environ, LC_ALL="C"))
+        wrong = wrong or counts["clpa search"] != int(found.stdout)
+        failed = failed or wrong
+    wrong, counts = table(f"wildcard `{WILD}`", [
+        ("clpa search", [clpa, one, "search", WILD]),
+        ("grep -an", ["grep", "-an", WILD.replace("*", ".*"), path]),
+    ], rounds, size)
+    failed = failed or wrong or len(set(counts.values())) > 1
+    wrong, _ = table("whole archive", [("clpa check", [clpa, one, "check"]), ("zstd -t", ["zstd", "-q", "-t", packed]), ("clpa files", [clpa, one, "files"])], rounds, os.path.getsize(one))
+    failed = failed or wrong
+    print()
+    print(f"archive: {os.path.getsize(one)} bytes of {size}, {os.path.getsize(one) / size:.2f}; zstd -3: {os.path.getsize(packed) / size:.2f}")
+    print("ratio: the speed beside the second command of the group in the same run; above 1 is faster")
+    sys.exit(1 if failed else 0)
+
+
+if __name__ == "__main__":
+    main()

@@ -1,0 +1,200 @@
+-- What a row's message is told, and what the loop over rows has passed.
+use Rattle.std.proofs.Common.{◌≡◌, ◌⊎◌, inl, inr, ℕ, ℤ, suc, ◌+◌, ◌<◌, ◌≤◌, ◌^◌, List, [], ◌∷◌, ◌++◌, length, take, drop, get_or, Option, Some, None, refl, sym, ◌∙◌, ap, ap₂, subst, arith, length-append}
+use Rattle.std.specs.Prelude.{slice_get}
+use Rattle.std.specs.List.{AllZip}
+use Rattle.std.proofs.lemmas.List.{append-nil, append_assoc, take_at, drop_at}
+use Rattle.std.proofs.lemmas.Option.{get_or_from_slice_get, slice_get_within}
+use Rattle.std.proofs.Math.Seq.{drop-cons}
+use Rattle.std.proofs.Math.ListN.{drop_of_length-le}
+use Rattle.std.specs.Fmt.{decimal}
+use Rattle.column_store.specs.Range.{Holds}
+use Rattle.column_store.specs.declared.range.Range.{Range}
+use Rattle.column_store.specs.declared.row.Row.{Row}
+use Rattle.time_patterns.specs.Stamps.{HasStamp}
+use Rattle.time_patterns.proofs.VersionLemmas.{one_stamp_of}
+use Rattle.wild_match.specs.Matches.{Match}
+use Rattle.query_plan.specs.Pieces.{wide}
+use Rattle.row_codec.specs.Means.{HasSpelling, IsCanonical, IsSpelling}
+use Rattle.row_codec.proofs.MeansLemmas.{meaning_is_spelling}
+use Rattle.row_codec.proofs.CanonicalLemmas.{rows_return}
+use Rattle.search_engine.specs.declared.query.Judgement.{Judgement}
+use Rattle.search_engine.specs.declared.query.Judgement.TheVariants.{Left, Tried, Found}
+use Rattle.search_engine.specs.declared.tally.Tally.{Tally}
+use Rattle.search_engine.specs.Scan.{Asked, IsFound, IsInRange, IsTried, Placed, line_of, lines_of, numbered, placed}
+use Rattle.search_engine.specs.Sofar.{Advances, Goes, Passes, Sofar, TicksWithin, sofar}
+use Rattle.search_engine.specs.Held.{AreRowsOf, Named, named}
+use Rattle.search_engine.specs.Judged.{Judges, Keeps, label_of}
+use Rattle.search_engine.specs.StepsPast.{PastRows}
+use Rattle.search_engine.proofs.SofarLemmas.{goes_none, grew_nothing, numbered_append, passes_none, passes_on, ticks_behind, ticks_same}
+
+-- ---- one message
+
+passed : (version : ℕ) (q : Asked) (p : Placed) (w : Option (List ℕ)) (g h : List ℕ) (a b : Tally) (t u : ℕ) → ¬ IsFound version q p.message → ¬ IsTried version q p.message
+    → h ≡ g → b ≡ a → u ≡ t → Passes version q (p ∷ []) (sofar w g a t) (sofar w h b u)
+passed version q p w g h a b t u no_found no_tried same_g same_a same_t = record {
+  found = [];
+  tried = [];
+  are_found = inr (no_found, refl);
+  are_tried = inr (no_tried, refl);
+  advances = record {
+    goes = record { front = []; splits = append-nil g ∙ sym same_g; grew = grew_nothing w };
+    matched = λ fits. ap (λ (x : Tally). x.matched) same_a ∙ omega arith;
+    expanded = λ fits. ap (λ (x : Tally). x.expanded) same_a ∙ omega arith;
+    ticks = omega (arith, same_t);
+  };
+}
+
+tried : (version : ℕ) (q : Asked) (p : Placed) (w : Option (List ℕ)) (g h : List ℕ) (a b : Tally) (t u : ℕ) → ¬ IsFound version q p.message → IsTried version q p.message
+    → h ≡ g → b.matched ≡ a.matched → (a.expanded + 1 < 2 ^ 64 → b.expanded ≡ a.expanded + 1) → u ≡ t + 1 → Passes version q (p ∷ []) (sofar w g a t) (sofar w h b u)
+tried version q p w g h a b t u no_found is_tried same_g matched expanded ticks = record {
+  found = [];
+  tried = p ∷ [];
+  are_found = inr (no_found, refl);
+  are_tried = inl ([], is_tried, refl, refl);
+  advances = record {
+    goes = record { front = []; splits = append-nil g ∙ sym same_g; grew = grew_nothing w };
+    matched = λ fits. matched ∙ omega arith;
+    expanded = expanded;
+    ticks = ticks;
+  };
+}
+
+found : (version : ℕ) (q : Asked) (p : Placed) (w : Option (List ℕ)) (g h : List ℕ) (a b : Tally) (t u : ℕ) → IsFound version q p.message → IsTried version q p.message
+    → h ≡ g ++ line_of p → (a.matched + 1 < 2 ^ 64 → b.matched ≡ a.matched + 1) → (a.expanded + 1 < 2 ^ 64 → b.expanded ≡ a.expanded + 1) → u ≡ t + 1
+    → Passes version q (p ∷ []) (sofar w g a t) (sofar w h b u)
+found version q p w g h a b t u is_found is_tried more matched expanded ticks = record {
+  found = p ∷ [];
+  tried = p ∷ [];
+  are_found = inl ([], is_found, refl, refl);
+  are_tried = inl ([], is_tried, refl, refl);
+  advances = record {
+    goes = record { front = []; splits = ap (λ (l : List ℕ). g ++ l) (append-nil (line_of p)) ∙ sym more; grew = grew_nothing w };
+    matched = matched;
+    expanded = expanded;
+    ticks = ticks;
+  };
+}
+
+-- the range of a message is that of its row
+in_range : (version : ℕ) (range : Range) (row : Row) (types words : List (List ℕ)) (message : List ℕ) → IsCanonical version row types words message → Holds range row.pattern row.moment → IsInRange version range message
+in_range version range row types words message is holds = (row.pattern, row.moment, length is.means.stamp, is.stamp, holds)
+
+pub of_range : (version : ℕ) (range : Range) (row : Row) (types words : List (List ℕ)) (message : List ℕ) → IsCanonical version row types words message → IsInRange version range message → Holds range row.pattern row.moment
+of_range version range row types words message is inside =
+    let same = one_stamp_of version message row.pattern inside.0 row.moment inside.1 (length is.means.stamp) inside.2 is.stamp inside.3 in
+    subst (λ k. Holds range k row.moment) (sym same.0) (subst (λ m. Holds range inside.0 m) (sym same.1) inside.4)
+
+-- a message that is out of the range
+pub outside_passes : (version : ℕ) (q : Asked) (range : Range) (row : Row) (types words : List (List ℕ)) (name : List ℕ) (number : ℕ) (message : List ℕ) (w : Option (List ℕ)) (g : List ℕ) (a : Tally) (t : ℕ)
+    → range ≡ q.range → ¬ Holds range row.pattern row.moment → IsCanonical version row types words message
+    → Passes version q (placed name number message ∷ []) (sofar w g a t) (sofar w g a t)
+outside_passes version q range row types words name number message w g a t same out is =
+    let no : IsInRange version q.range message → ⊥ = λ inside. out (of_range version range row types words message is (subst (λ r. IsInRange version r message) (sym same) inside)) in
+    passed version q (placed name number message) w g g a a t t (λ f. no f.inside) (λ f. no f.inside) refl refl refl
+
+pub has_spelling : (version : ℕ) (row : Row) (types words : List (List ℕ)) (message : List ℕ) → IsCanonical version row types words message → HasSpelling row types words
+has_spelling version row types words message is = (message, meaning_is_spelling row types words message is.means)
+
+-- the line of a message
+line_written : (name : List ℕ) (number : ℕ) (message g : List ℕ) → ((g ++ label_of name number) ++ message) ++ 10 ∷ [] ≡ g ++ line_of (placed name number message)
+line_written name number message g =
+    append_assoc (g ++ label_of name number) message (10 ∷ []) ∙ append_assoc g (label_of name number) (message ++ 10 ∷ [])
+    ∙ ap (λ (l : List ℕ). g ++ l) (append_assoc name (58 ∷ (decimal number ++ 58 ∷ [])) (message ++ 10 ∷ [])
+    ∙ ap (λ (l : List ℕ). name ++ (58 ∷ l)) (append_assoc (decimal number) (58 ∷ []) (message ++ 10 ∷ [])))
+
+row_judged : (version : ℕ) (q : Asked) (name : List ℕ) (number : ℕ) (message : List ℕ) (w : Option (List ℕ)) (g g2 h : List ℕ) (a b : Tally) (t u : ℕ) (j : Judgement) (kept : ℕ) → IsInRange version q.range message
+    → Judges q message j → take kept g2 ≡ g → g2 ≡ (g ++ label_of name number) ++ message → Keeps j kept g2 h a b t u → Passes version q (placed name number message ∷ []) (sofar w g a t) (sofar w h b u)
+row_judged version q name number message w g g2 h a b t u Left kept inside judges back whole keeps =
+    passed version q (placed name number message) w g h a b t u (λ f. judges.1 f.matched) (λ f. judges.0 f.matched) (keeps.gathered ∙ back) keeps.tally keeps.ticked
+row_judged version q name number message w g g2 h a b t u Tried kept inside judges back whole keeps =
+    tried version q (placed name number message) w g h a b t u (λ f. judges.1 f.matched) (record { matched = judges.0; inside = inside }) (keeps.gathered ∙ back) keeps.matched keeps.expanded keeps.ticked
+row_judged version q name number message w g g2 h a b t u Found kept inside judges back whole keeps =
+    found version q (placed name number message) w g h a b t u (record { matched = judges.1; inside = inside }) (record { matched = judges.0; inside = inside })
+    (keeps.gathered ∙ ap (λ (l : List ℕ). l ++ 10 ∷ []) whole ∙ line_written name number message g) keeps.matched keeps.expanded keeps.ticked
+
+-- a message in the range that was written, judged and kept or taken back
+pub row_passes : (version : ℕ) (q : Asked) (range : Range) (row : Row) (types words : List (List ℕ)) (name : List ℕ) (number : ℕ) (message text : List ℕ) (w : Option (List ℕ)) (g g1 g2 h : List ℕ) (a b : Tally) (t u : ℕ)
+    (j : Judgement) (kept : ℕ) (judged : List ℕ) → range ≡ q.range → Holds range row.pattern row.moment → IsCanonical version row types words message → IsSpelling row types words text
+    → kept ≡ length g → g1 ≡ g ++ label_of name number → g2 ≡ g1 ++ text → judged ≡ drop (length g1) g2 → Judges q judged j → Keeps j kept g2 h a b t u
+    → Passes version q (placed name number message ∷ []) (sofar w g a t) (sofar w h b u)
+row_passes version q range row types words name number message text w g g1 g2 h a b t u j kept judged same holds is spelled size label wrote cut judges keeps =
+    let one : text ≡ message = rows_return version row types words message text is spelled in
+    let inside : IsInRange version q.range message = subst (λ r. IsInRange version r message) same (in_range version range row types words message is holds) in
+    let read : judged ≡ message = cut ∙ ap (drop (length g1)) wrote ∙ drop_at g1 text (length g1) refl ∙ one in
+    let whole : g2 ≡ (g ++ label_of name number) ++ message = wrote ∙ ap₂ (λ (x y : List ℕ). x ++ y) label one in
+    let back : take kept g2 ≡ g =
+    ap (take kept) (whole ∙ append_assoc g (label_of name number) message) ∙ take_at g (label_of name number ++ message) kept (sym size) in
+    row_judged version q name number message w g g2 h a b t u j kept inside (subst (λ l. Judges q l j) read judges) back whole keeps
+
+-- ---- the rows of a page
+
+drop_here : (rows : List Row) (k : ℕ) (row : Row) → slice_get rows k ≡ Some row → drop k rows ≡ row ∷ drop (k + 1) rows
+drop_here rows k row is =
+    let next : suc k ≡ k + 1 = omega arith in
+    drop-cons rows k row (slice_get_within rows k row is) ∙ ap₂ (λ (r : Row) (n : ℕ). r ∷ drop n rows) (get_or_from_slice_get rows k row row is) next
+
+-- the message of the next row, and those of the others
+pub record HasNextRow (n : Named) (row : Row) (others : List Row) (messages : List (List ℕ)) : Type 0 where
+  pub message : List ℕ
+  pub left : List (List ℕ)
+  pub all : messages ≡ message ∷ left
+  pub is : IsCanonical n.version row n.types n.words message
+  pub are : AreRowsOf n others left
+
+first_row : (n : Named) (row : Row) (others : List Row) (messages : List (List ℕ)) → AreRowsOf n (row ∷ others) messages → HasNextRow n row others messages
+first_row n row others [] are = absurd are
+first_row n row others (m ∷ messages) are = record { message = m; left = messages; all = refl; is = are.0; are = are.1 }
+
+next_row : (n : Named) (rows : List Row) (k : ℕ) (row : Row) (messages : List (List ℕ)) → slice_get rows k ≡ Some row → AreRowsOf n (drop k rows) messages → HasNextRow n row (drop (k + 1) rows) messages
+next_row n rows k row messages is are = first_row n row (drop (k + 1) rows) messages (subst (λ l. AreRowsOf n l messages) (drop_here rows k row is) are)
+
+pub rows_first : (n : Named) (q : Asked) (name : List ℕ) (number : ℕ) (rows : List Row) (messages : List (List ℕ)) (g : List ℕ) (a : Tally) (t : ℕ) → AreRowsOf n rows messages
+    → PastRows n q name number rows 0 messages (λ w. sofar w g a t) (λ w. sofar w g a t)
+rows_first n q name number rows messages g a t are = record {
+  gone = [];
+  left = messages;
+  all = refl;
+  count = refl;
+  are = are;
+  passes = λ w. passes_none n.version q (sofar w g a t);
+}
+
+pub rows_next : (n : Named) (q : Asked) (name : List ℕ) (number at : ℕ) (rows : List Row) (k : ℕ) (row : Row) (messages : List (List ℕ)) (a b c : Option (List ℕ) → Sofar) → at ≡ number + k
+    → slice_get rows k ≡ Some row → PastRows n q name number rows k messages a b
+    → ((w : Option (List ℕ)) (message : List ℕ) → IsCanonical n.version row n.types n.words message → Passes n.version q (placed name at message ∷ []) (b w) (c w))
+    → PastRows n q name number rows (k + 1) messages a c
+rows_next n q name number at rows k row messages a b c place is past one =
+    let next = next_row n rows k row past.left is past.are in
+    record {
+      gone = past.gone ++ next.message ∷ [];
+      left = next.left;
+      all = past.all ∙ ap (λ (l : List (List ℕ)). past.gone ++ l) next.all ∙ sym (append_assoc past.gone (next.message ∷ []) next.left);
+      count = omega (arith, length-append past.gone (next.message ∷ []), past.count);
+      are = next.are;
+      passes = λ w. subst (λ l. Passes n.version q l (a w) (c w)) (sym (numbered_append name number past.gone (next.message ∷ []) at (omega (arith, place, past.count))))
+          (passes_on n.version q (numbered name number past.gone) (placed name at next.message ∷ []) (a w) (b w) (c w) (past.passes w) (one w next.message next.is));
+    }
+
+none_left : (n : Named) (rows : List Row) (messages : List (List ℕ)) → rows ≡ [] → AreRowsOf n rows messages → messages ≡ []
+none_left n rows [] none are = refl
+none_left n rows (m ∷ messages) none are = absurd (subst (λ l. AreRowsOf n l (m ∷ messages)) none are)
+
+pub rows_end : (n : Named) (q : Asked) (name : List ℕ) (number : ℕ) (rows : List Row) (k : ℕ) (messages : List (List ℕ)) (a b : Option (List ℕ) → Sofar) → length rows ≤ k
+    → PastRows n q name number rows k messages a b → (w : Option (List ℕ)) → Passes n.version q (numbered name number messages) (a w) (b w)
+rows_end n q name number rows k messages a b end past w =
+    let none : past.left ≡ [] = none_left n (drop k rows) past.left (drop_of_length-le rows end) past.are in
+    let all : messages ≡ past.gone = past.all ∙ ap (λ (l : List (List ℕ)). past.gone ++ l) none ∙ append-nil past.gone in
+    subst (λ l. Passes n.version q (numbered name number l) (a w) (b w)) (sym all) (past.passes w)
+
+pub rows_ticks : (n : Named) (q : Asked) (name : List ℕ) (number : ℕ) (rows : List Row) (k : ℕ) (messages : List (List ℕ)) (a b : Option (List ℕ) → Sofar) (new : ℕ) → new ≡ (b None).ticks
+    → PastRows n q name number rows k messages a b → TicksWithin n.version q (numbered name number messages) (a None).ticks new
+rows_ticks n q name number rows k messages a b new same past =
+    let all : numbered name number messages ≡ numbered name number past.gone ++ numbered name (number + length past.gone) past.left =
+    ap (numbered name number) past.all ∙ numbered_append name number past.gone past.left (number + length past.gone) refl in
+    subst (λ l. TicksWithin n.version q l (a None).ticks new) (sym all)
+    (ticks_behind n.version q (numbered name number past.gone) (numbered name (number + length past.gone) past.left) (a None) (b None) new (past.passes None) (ticks_same n.version q _ (b None).ticks new same))
+
+pub rows_damaged : (n : Named) (q : Asked) (name : List ℕ) (number : ℕ) (rows : List Row) (k : ℕ) (row : Row) (messages : List (List ℕ)) (a b : Option (List ℕ) → Sofar) → slice_get rows k ≡ Some row
+    → ((message : List ℕ) → ¬ IsCanonical n.version row n.types n.words message) → PastRows n q name number rows k messages a b → ⊥
+rows_damaged n q name number rows k row messages a b is none past =
+    let next = next_row n rows k row past.left is past.are in none next.message next.is

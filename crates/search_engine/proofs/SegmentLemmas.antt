@@ -1,0 +1,206 @@
+-- A segment that is searched, and one that is barren.
+use Rattle.std.proofs.Common.{◌≡◌, ◌⊎◌, inl, inr, ℕ, suc, ◌+◌, ◌*◌, ◌<◌, ◌≤◌, ◌^◌, Bool, true, false, List, [], ◌∷◌, ◌++◌, length, take, drop, Option, Some, None, option_map, All, refl, sym, ◌∙◌, ap, ap₂, subst, arith, length-append}
+use Rattle.std.specs.Prelude.{slice_get, IsTrue, ◌↔◌}
+use Rattle.std.specs.List.{Contains}
+use Rattle.std.proofs.lemmas.List.{append-nil, append_assoc}
+use Rattle.std.proofs.lemmas.List.Elements.{All-nil, All-cons, All-append, All-weaker, Contains-append_left, Contains-append_right, Contains-push}
+use Rattle.std.proofs.lemmas.Option.{slice_get_within}
+use Rattle.log_seams.specs.Disk.{DiskState, Rests}
+use Rattle.column_store.specs.Range.{Holds}
+use Rattle.column_store.specs.declared.range.Range.{Range}
+use Rattle.column_store.specs.declared.row.Row.{Row}
+use Rattle.row_codec.specs.Means.{IsCanonical}
+use Rattle.row_codec.specs.Naming.{AreDistinct}
+use Rattle.segment_format.specs.Layout.{IsHead, fixed_of, head_length, head_of}
+use Rattle.segment_format.specs.Pages.{first_page}
+use Rattle.segment_pages.specs.Reads.{OnlyReadsIn, ReadsWithin}
+use Rattle.segment_pages.specs.Paged.{HoldsLeft, HoldsSegment, Paged, ReadsColumns, columns_size, paged_first}
+use Rattle.archive_meaning.specs.declared.TheConstants.{MAX_MESSAGES}
+use Rattle.query_plan.specs.declared.pieces.Piece.{Piece}
+use Rattle.query_plan.specs.Laws.{IsSearched, WideIsWider}
+use Rattle.query_plan.specs.Pieces.{wide_pieces}
+use Rattle.subquery_filter.specs.Barren.{IsBarren}
+use Rattle.subquery_filter.specs.Laws.{BarrenHasNoMatch, words_of}
+use Rattle.archive_open.specs.declared.files.FileEntry.{FileEntry}
+use Rattle.archive_open.specs.declared.segments.SegmentPlace.{SegmentPlace}
+use Rattle.search_engine.specs.Scan.{Asked, IsFound, IsTried, Picks, Placed, lines_of, numbered, placed}
+use Rattle.search_engine.specs.Sofar.{Passes, Sofar, Stops, sofar}
+use Rattle.search_engine.specs.Held.{AreRowsOf, HasMessages, HaveMessages, Named, OfLeft, OfSegments}
+use Rattle.search_engine.specs.Opened.{AreOpened, IsBarrenFor, IsRead, ReadsOpened, Searched, Stopped, columns_at}
+use Rattle.search_engine.proofs.SofarLemmas.{goes_none, picks_once}
+use Rattle.search_engine.proofs.RowLemmas.{of_range}
+
+-- ---- told
+
+pub of_none : (seen : Option (List ℕ)) (n : Named) (files : List FileEntry) (ps : List SegmentPlace) (P : List ℕ → List Placed → Type 0) → OfSegments seen n files ps (λ _ _. ⊥) → OfSegments seen n files ps P
+of_none None n files ps P none = tt
+of_none (Some bytes) n files ps P none = λ all distinct have. absurd (none all distinct have)
+
+pub of_all : (seen : Option (List ℕ)) (n : Named) (files : List FileEntry) (ps : List SegmentPlace) (P Q : List ℕ → List Placed → Type 0) → ((bytes : List ℕ) (all : List Placed) → P bytes all → Q bytes all)
+    → OfSegments seen n files ps P → OfSegments seen n files ps Q
+of_all None n files ps P Q step has = tt
+of_all (Some bytes) n files ps P Q step has = λ all distinct have. step bytes all (has all distinct have)
+
+-- ---- one segment
+
+-- its messages, where its file is this
+pub record Single (bytes : List ℕ) (n : Named) (f : FileEntry) (p : SegmentPlace) (all : List Placed) : Type 0 where
+  pub messages : List (List ℕ)
+  pub has : HasMessages bytes n p messages
+  pub parts : all ≡ numbered f.name (p.head.first + 1) messages
+
+some_same : {A : Type 0} (o : Option A) (x y : A) → o ≡ Some x → o ≡ Some y → x ≡ y
+some_same o x y one two = cc (one, two)
+
+pub single : (bytes : List ℕ) (n : Named) (files : List FileEntry) (f : FileEntry) (p : SegmentPlace) (all : List Placed) → slice_get files p.head.file ≡ Some f → HaveMessages bytes n files (p ∷ []) all → Single bytes n f p all
+single bytes n files f p all is have =
+    let same : have.0 ≡ f = some_same (slice_get files p.head.file) have.0 f have.3 is in
+    record {
+      messages = have.1;
+      has = have.4;
+      parts = have.6 ∙ ap (λ (l : List Placed). numbered have.0.name (p.head.first + 1) have.1 ++ l) have.5 ∙ append-nil (numbered have.0.name (p.head.first + 1) have.1)
+          ∙ ap (λ (g : FileEntry). numbered g.name (p.head.first + 1) have.1) same;
+    }
+
+-- ---- barren segments
+
+nothing_picked : (n : Named) (P : List ℕ → Type 0) (name : List ℕ) (k : ℕ) (whole rest : List Row) (messages : List (List ℕ)) → AreRowsOf n rest messages → ((r : Row) → Contains rest r → Contains whole r)
+    → ((r : Row) (m : List ℕ) → Contains whole r → IsCanonical n.version r n.types n.words m → ¬ P m) → Picks (λ (p : Placed). P p.message) (numbered name k messages) []
+nothing_picked n P name k whole rest [] are within none = refl
+nothing_picked n P name k whole [] (m ∷ messages) are within none = absurd are
+nothing_picked n P name k whole (r ∷ rest) (m ∷ messages) are within none =
+    let here : Contains (r ∷ rest) r = Contains-append_left (r ∷ []) rest r (Contains-push [] r) in
+    inr (none r m (within r here) are.0, nothing_picked n P name (k + 1) whole rest messages are.1 (λ x is. within x (Contains-append_right (r ∷ []) rest x is)) none)
+
+barren_tried : (n : Named) (q : Asked) (p : SegmentPlace) (rows : List Row) → BarrenHasNoMatch → IsSearched q.pattern → IsBarrenFor n q p → p.head ≡ head_of p.head.file p.head.first p.head.last p.head.ended rows (words_of n.types rows)
+    → (r : Row) (m : List ℕ) → Contains rows r → IsCanonical n.version r n.types n.words m → ¬ IsTried n.version q m
+barren_tried n q p rows law searched barren head r m is canonical tried =
+    law n.version p.head.file p.head.first p.head.last p.head.ended rows n.types n.words q.pattern q.range searched
+    (subst (IsBarren (wide_pieces q.pattern) q.range n.types n.words) head barren) r m is canonical
+    (of_range n.version q.range r n.types n.words m canonical tried.inside) tried.matched
+
+barren_found : (n : Named) (q : Asked) (p : SegmentPlace) (rows : List Row) → WideIsWider → BarrenHasNoMatch → IsSearched q.pattern → IsBarrenFor n q p
+    → p.head ≡ head_of p.head.file p.head.first p.head.last p.head.ended rows (words_of n.types rows)
+    → (r : Row) (m : List ℕ) → Contains rows r → IsCanonical n.version r n.types n.words m → ¬ IsFound n.version q m
+barren_found n q p rows wider law searched barren head r m is canonical found =
+    barren_tried n q p rows law searched barren head r m is canonical (record { matched = wider q.pattern m found.matched; inside = found.inside })
+
+barren_searched : (bytes : List ℕ) (n : Named) (f : FileEntry) (q : Asked) (p : SegmentPlace) (all : List Placed) (a : Sofar) (t : ℕ) → WideIsWider → BarrenHasNoMatch → IsSearched q.pattern → IsBarrenFor n q p
+    → Single bytes n f p all → Searched n q (p ∷ []) all a a t t 0
+barren_searched bytes n f q p all a t wider law searched barren one =
+    let has = one.has in
+    record {
+      passes = record {
+        found = [];
+        tried = [];
+        are_found = subst (λ l. Picks (λ (x : Placed). IsFound n.version q x.message) l []) (sym one.parts)
+            (nothing_picked n (IsFound n.version q) f.name (p.head.first + 1) has.rows has.rows one.messages has.are (λ r is. is) (barren_found n q p has.rows wider law searched barren has.head));
+        are_tried = subst (λ l. Picks (λ (x : Placed). IsTried n.version q x.message) l []) (sym one.parts)
+            (nothing_picked n (IsTried n.version q) f.name (p.head.first + 1) has.rows has.rows one.messages has.are (λ r is. is) (barren_tried n q p has.rows law searched barren has.head));
+        advances = record { goes = goes_none a; matched = λ fits. omega arith; expanded = λ fits. omega arith; ticks = omega arith };
+      };
+      opened = [];
+      are_opened = inr (λ no. no barren, refl);
+      ticked = omega arith;
+      counted = refl;
+    }
+
+-- what the code tells of a head
+abbrev pub Tells : Named → Asked → SegmentPlace → Bool → Type 0
+Tells n q p b = IsHead p.head → AreDistinct n.words → IsTrue b ↔ IsBarrenFor n q p
+
+pub tells : (n : Named) (q : Asked) (p : SegmentPlace) (b : Bool) (ps : List Piece) (range : Range) → ps ≡ wide_pieces q.pattern → range ≡ q.range
+    → (IsHead p.head → AreDistinct n.words → IsTrue b ↔ IsBarren ps range n.types n.words p.head) → Tells n q p b
+tells n q p b ps range same_ps same_range told =
+    subst (λ r. IsHead p.head → AreDistinct n.words → IsTrue b ↔ IsBarren (wide_pieces q.pattern) r n.types n.words p.head) same_range
+    (subst (λ l. IsHead p.head → AreDistinct n.words → IsTrue b ↔ IsBarren l range n.types n.words p.head) same_ps told)
+
+pub barren_done : (seen : Option (List ℕ)) (n : Named) (files : List FileEntry) (q : Asked) (p : SegmentPlace) (b : Bool) (a : Sofar) (t : ℕ) → WideIsWider → BarrenHasNoMatch → IsSearched q.pattern → Tells n q p b → IsTrue b
+    → OfSegments seen n files (p ∷ []) (λ _ all. Searched n q (p ∷ []) all a a t t 0)
+barren_done None n files q p b a t wider law searched told truly = tt
+barren_done (Some bytes) n files q p b a t wider law searched told truly = λ all distinct have.
+    let one = single bytes n files have.0 p all have.3 have in
+    barren_searched bytes n have.0 q p all a t wider law searched ((told one.has.holds.is_head distinct).0 truly) one
+
+not_barren : (n : Named) (q : Asked) (p : SegmentPlace) (b : Bool) → Tells n q p b → b ≡ false → IsHead p.head → AreDistinct n.words → ¬ IsBarrenFor n q p
+not_barren n q p b told shut head distinct barren = absurd (cc (shut, (told head distinct).1 barren))
+
+-- ---- opened segments
+
+pub opened_done : (seen : Option (List ℕ)) (n : Named) (files : List FileEntry) (f : FileEntry) (q : Asked) (p : SegmentPlace) (b : Bool) (pages : Paged) (name : List ℕ) (number : ℕ) (a z : Sofar) (t u : ℕ) → Tells n q p b → b ≡ false
+    → slice_get files p.head.file ≡ Some f → name ≡ f.name → number ≡ p.head.first + 1 → ((bytes : List ℕ) (rows : List Row) → HoldsSegment p.payload p.length p.head bytes rows → HoldsLeft pages bytes rows)
+    → OfLeft seen pages n (λ messages. Passes n.version q (numbered name number messages) a z) → u ≡ t + 1 → OfSegments seen n files (p ∷ []) (λ _ all. Searched n q (p ∷ []) all a z t u 1)
+opened_done None n files f q p b pages name number a z t u told shut file called first opens passes ticked = tt
+opened_done (Some bytes) n files f q p b pages name number a z t u told shut file called first opens passes ticked = λ all distinct have.
+    let one = single bytes n files f p all file have in
+    let rest = passes one.has.rows one.messages (opens bytes one.has.rows one.has.holds) one.has.are in
+    record {
+      passes = subst (λ l. Passes n.version q l a z) (ap₂ (λ (x : List ℕ) (k : ℕ). numbered x k one.messages) called first ∙ sym one.parts) rest;
+      opened = p ∷ [];
+      are_opened = inl ([], not_barren n q p b told shut one.has.holds.is_head distinct, refl, refl);
+      ticked = ticked;
+      counted = refl;
+    }
+
+pub opened_stops : (seen : Option (List ℕ)) (n : Named) (files : List FileEntry) (f : FileEntry) (q : Asked) (p : SegmentPlace) (b : Bool) (pages : Paged) (name : List ℕ) (number : ℕ) (a : Sofar) (w : Option (List ℕ)) (k t u : ℕ) → Tells n q p b → b ≡ false
+    → slice_get files p.head.file ≡ Some f → name ≡ f.name → number ≡ p.head.first + 1 → ((bytes : List ℕ) (rows : List Row) → HoldsSegment p.payload p.length p.head bytes rows → HoldsLeft pages bytes rows)
+    → OfLeft seen pages n (λ messages. Stops n.version q (numbered name number messages) a w k) → u ≡ t + 1 → OfSegments seen n files (p ∷ []) (λ _ all. Stopped n q (p ∷ []) all a w k t u)
+opened_stops None n files f q p b pages name number a w k t u told shut file called first opens stops ticked = tt
+opened_stops (Some bytes) n files f q p b pages name number a w k t u told shut file called first opens stops ticked = λ all distinct have.
+    let one = single bytes n files f p all file have in
+    let rest = stops one.has.rows one.messages (opens bytes one.has.rows one.has.holds) one.has.are in
+    let own : AreOpened n q (p ∷ []) (p ∷ []) = inl ([], not_barren n q p b told shut one.has.holds.is_head distinct, refl, refl) in
+    record {
+      stops = subst (λ l. Stops n.version q l a w k) (ap₂ (λ (x : List ℕ) (k : ℕ). numbered x k one.messages) called first ∙ sym one.parts) rest;
+      most = λ opened are.
+          let same : opened ≡ p ∷ [] = picks_once (λ x. ¬ IsBarrenFor n q x) (p ∷ []) opened (p ∷ []) are own in
+          omega (arith, ticked, ap (λ (l : List SegmentPlace). length l) same);
+    }
+
+pub left_none : (seen : Option (List ℕ)) (n : Named) (files : List FileEntry) (p : SegmentPlace) (pages : Paged) → ((bytes : List ℕ) (rows : List Row) → HoldsSegment p.payload p.length p.head bytes rows → HoldsLeft pages bytes rows)
+    → OfLeft seen pages n (λ _. ⊥) → OfSegments seen n files (p ∷ []) (λ _ _. ⊥)
+left_none None n files p pages opens none = tt
+left_none (Some bytes) n files p pages opens none = λ all distinct have. none have.4.rows have.1 (opens bytes have.4.rows have.4.holds) have.4.are
+
+pub file_none : (seen : Option (List ℕ)) (n : Named) (files : List FileEntry) (p : SegmentPlace) → length files ≤ p.head.file → OfSegments seen n files (p ∷ []) (λ _ _. ⊥)
+file_none None n files p few = tt
+file_none (Some bytes) n files p few = λ all distinct have. omega (arith, few, slice_get_within files p.head.file have.0 have.3)
+
+pub first_none : (seen : Option (List ℕ)) (n : Named) (files : List FileEntry) (p : SegmentPlace) → MAX_MESSAGES < p.head.first → OfSegments seen n files (p ∷ []) (λ _ _. ⊥)
+first_none None n files p many = tt
+first_none (Some bytes) n files p many = λ all distinct have. omega (arith, many, have.4.most)
+
+pub open_none : (seen : Option (List ℕ)) (n : Named) (files : List FileEntry) (p : SegmentPlace) → ((bytes : List ℕ) (rows : List Row) → ¬ HoldsSegment p.payload p.length p.head bytes rows) → OfSegments seen n files (p ∷ []) (λ _ _. ⊥)
+open_none None n files p none = tt
+open_none (Some bytes) n files p none = λ all distinct have. none bytes have.4.rows have.4.holds
+
+-- ---- what is read
+
+none_read : (n : Named) (q : Asked) (ps : List SegmentPlace) (old : Option (List (ℕ × ℕ))) → ReadsOpened n q ps old old
+none_read n q ps None = record { more = []; added = refl; each = All-nil (IsRead n q ps) }
+none_read n q ps (Some ranges) = record { more = []; added = ap Some (sym (append-nil ranges)); each = All-nil (IsRead n q ps) }
+
+pub nothing_read : (seen : Option (List ℕ)) (n : Named) (files : List FileEntry) (q : Asked) (ps : List SegmentPlace) (old new : Option (List (ℕ × ℕ))) → new ≡ old → OfSegments seen n files ps (λ _ _. ReadsOpened n q ps old new)
+nothing_read None n files q ps old new same = tt
+nothing_read (Some bytes) n files q ps old new same = λ all distinct have. subst (ReadsOpened n q ps old) (sym same) (none_read n q ps old)
+
+pub columns_read : (seen : Option (List ℕ)) (n : Named) (files : List FileEntry) (q : Asked) (p : SegmentPlace) (b : Bool) (pages : Paged) (old new : DiskState) → Tells n q p b → b ≡ false → pages ≡ paged_first p.payload p.head
+    → ReadsColumns pages old new → OfSegments seen n files (p ∷ []) (λ _ _. ReadsOpened n q (p ∷ []) old.ranges new.ranges)
+columns_read None n files q p b pages old new told shut is reads = tt
+columns_read (Some bytes) n files q p b pages old new told shut is reads = λ all distinct have.
+    let own : ReadsColumns (paged_first p.payload p.head) old new = subst (λ x. ReadsColumns x old new) is reads in
+    let no_barren : ¬ IsBarrenFor n q p = not_barren n q p b told shut have.4.holds.is_head distinct in
+    record {
+      more = own.ranges.more;
+      added = own.ranges.added;
+      each = All-weaker (λ r. (columns_at p ≤ r.0) × (r.0 + r.1 ≤ columns_at p + columns_size (first_page p.head))) (IsRead n q (p ∷ []))
+          (λ r within. record { p = p; is = Contains-push [] p; opened = no_barren; start = within.0; end = within.1 }) own.ranges.more own.ranges.within;
+    }
+
+pub rests_none : (d : DiskState) → Rests d d
+rests_none d = record {
+  seen = refl;
+  no_more = λ c is. is;
+  no_fewer = λ c is. is;
+  time = record { later = omega arith; nothing_else = λ t c le is. inl is; keeps = λ t c le is. is };
+}

@@ -1,0 +1,23 @@
+use Rattle.std.proofs.Common.{◌≡◌, ◌∙◌, ap₂, drop, length, List, ℕ, rules}
+use Rattle.column_store.specs.Range.{Holds}
+use Rattle.column_store.specs.Row.{row_of}
+use Rattle.search_engine.proofs.RowLemmas.{has_spelling, outside_passes, row_passes}
+use Rattle.search_engine.proofs.printing.search_row.Goals as goal
+
+pub returns-then-not-holds-clause-done : goal.returns-then-not-holds-clause-done
+returns-then-not-holds-clause-done g c = λ w message is.
+    outside_passes _ c.args.query.now c.range.result.now (row_of c.args.row) _ _ c.args.name.now c.args.number message w _ _ _ c.range.ensures
+    (λ inside. search (rules, inside)) is
+
+pub returns-then-not-row_fits-clause-damaged : goal.returns-then-not-row_fits-clause-damaged
+returns-then-not-row_fits-clause-damaged g c = λ _ message is.
+    let has = has_spelling (g.N.Names.version c.args.names.now) (row_of c.args.row) _ _ message is in
+    search (rules, has)
+
+pub returns-clause-done : goal.returns-clause-done
+returns-clause-done g c = λ w message is.
+    let holds : Holds c.range.result.now c.args.row.pattern c.args.row.moment = search rules in
+    let wrote = c.in_ok-write_onto.ensures.written in
+    row_passes _ c.args.query.now c.range.result.now (row_of c.args.row) _ _ c.args.name.now c.args.number message wrote.0 w _ _ _ _ _ _ _ _ c.judge-judgement.result c.len-len.result c.split_at.result.1.now
+    c.range.ensures holds is wrote.1 (search rules) c.in_ok-put_label.ensures wrote.2
+    (c.split_at.ensures.back ∙ ap₂ (λ (n : ℕ) (l : List ℕ). drop n l) (search rules) c.as_slice.ensures.value) c.judge-judgement.ensures c.in_ok-keep.ensures.kept

@@ -1,0 +1,53 @@
+-- Which segments a search opens, and what it reads of them.
+use Rattle.std.specs.Prelude.{◌≡◌, ◌≤◌, ◌+◌, ℕ, List, [], ◌∷◌, ◌++◌, length, take, drop, Option, Some, None, option_map, All}
+use Rattle.std.specs.List.{Contains}
+use Rattle.row_codec.specs.Naming.{AreDistinct}
+use Rattle.segment_format.specs.Layout.{fixed_of, head_length}
+use Rattle.segment_format.specs.Pages.{first_page}
+use Rattle.segment_pages.specs.Paged.{columns_size}
+use Rattle.query_plan.specs.Pieces.{wide_pieces}
+use Rattle.subquery_filter.specs.Barren.{IsBarren}
+use Rattle.archive_open.specs.declared.files.FileEntry.{FileEntry}
+use Rattle.archive_open.specs.declared.segments.SegmentPlace.{SegmentPlace}
+use Rattle.search_engine.specs.Scan.{Asked, Picks, Placed}
+use Rattle.search_engine.specs.Sofar.{Passes, Sofar, Stops}
+use Rattle.search_engine.specs.Held.{HaveMessages, Named}
+
+-- the segment's head tells that none of its rows is found
+abbrev pub IsBarrenFor : Named → Asked → SegmentPlace → Type 0
+IsBarrenFor n q p = IsBarren (wide_pieces q.pattern) q.range n.types n.words p.head
+
+-- of these segments those are opened that are not barren
+abbrev pub AreOpened : Named → Asked → List SegmentPlace → List SegmentPlace → Type 0
+AreOpened n q ps opened = Picks (λ p. ¬ IsBarrenFor n q p) ps opened
+
+-- where the columns of a segment begin
+abbrev pub columns_at : SegmentPlace → ℕ
+columns_at p = p.payload + head_length (fixed_of p.head)
+
+-- the range lies within the columns of one of the segments, which is not barren
+pub record IsRead (n : Named) (q : Asked) (ps : List SegmentPlace) (r : ℕ × ℕ) : Type 0 where
+  pub p : SegmentPlace
+  pub is : Contains ps p
+  pub opened : ¬ IsBarrenFor n q p
+  pub start : columns_at p ≤ r.0
+  pub end : r.0 + r.1 ≤ columns_at p + columns_size (first_page p.head)
+
+-- each range that was read since is such
+pub record ReadsOpened (n : Named) (q : Asked) (ps : List SegmentPlace) (old new : Option (List (ℕ × ℕ))) : Type 0 where
+  pub more : List (ℕ × ℕ)
+  pub added : new ≡ option_map (λ ranges. ranges ++ more) old
+  pub each : All (IsRead n q ps) more
+
+-- the segments were searched, which have these messages; so many were opened
+pub record Searched (n : Named) (q : Asked) (ps : List SegmentPlace) (all : List Placed) (a b : Sofar) (ticks later count : ℕ) : Type 0 where
+  pub passes : Passes n.version q all a b
+  pub opened : List SegmentPlace
+  pub are_opened : AreOpened n q ps opened
+  pub ticked : later ≡ ticks + length opened
+  pub counted : count ≡ length opened
+
+-- the search stopped among the segments, and opened no more
+pub record Stopped (n : Named) (q : Asked) (ps : List SegmentPlace) (all : List Placed) (a : Sofar) (written : Option (List ℕ)) (expanded ticks later : ℕ) : Type 0 where
+  pub stops : Stops n.version q all a written expanded
+  pub most : (opened : List SegmentPlace) → AreOpened n q ps opened → later ≤ ticks + length opened

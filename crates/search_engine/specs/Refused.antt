@@ -1,0 +1,13 @@
+-- The refusals of what a search calls, as those of the search.
+use Rattle.segment_pages.specs.declared.refusal.PageRefusal.{PageRefusal}
+use Rattle.search_engine.specs.declared.refusal.PrintRefusal.{PrintRefusal}
+use Rattle.search_engine.specs.declared.refusal.SearchRefusal.{SearchRefusal}
+
+abbrev pub from_print : PrintRefusal → SearchRefusal
+from_print PrintRefusal.Damaged = SearchRefusal.Damaged
+from_print PrintRefusal.OutOfMemory = SearchRefusal.OutOfMemory
+
+abbrev pub from_page : PageRefusal → SearchRefusal
+from_page PageRefusal.DiskFault = SearchRefusal.DiskFault
+from_page PageRefusal.Damaged = SearchRefusal.Damaged
+from_page PageRefusal.OutOfMemory = SearchRefusal.OutOfMemory

@@ -1,0 +1,169 @@
+//! The segments of an archive, searched one after the other.
+ghost use Rattle.std.specs.Prelude.{◌≡◌, ◌≤◌, [], ◌∷◌, length, slice_get, Some, MatchOption, IfOk, OnErr, IsErrOf, cond};
+ghost use Rattle.log_seams.specs.Disk.{Rests};
+ghost use Rattle.log_seams.specs.Outside.{CountsOf};
+ghost use Rattle.query_plan.specs.Laws.{IsSearched};
+ghost use Rattle.search_engine.specs.Held.{OfSegments, named};
+ghost use Rattle.search_engine.specs.Opened.{ReadsOpened, Searched, Stopped};
+ghost use Rattle.search_engine.specs.Sofar.{sofar};
+
+use crate::paging::search_pages;
+use crate::query::Query;
+use crate::refusal::SearchRefusal;
+use crate::tally::Tally;
+use archive_meaning::MAX_MESSAGES;
+use archive_open::{FileEntry, SegmentPlace};
+use log_seams::{Disk, Sink};
+use query_plan::wide_is_wider;
+use row_codec::Names;
+use segment_pages::SegmentPages;
+use std::alloc::Global;
+use std::sync::ledger::Ledger;
+use step_count::Steps;
+use subquery_filter::{barren, barren_has_no_match};
+
+/// The file with this number.
+fn file_of(files: &[FileEntry], number: u32) -> Option<&FileEntry>
+    ensures { MatchOption result (length files.now ≤ number)
+        (λ file. slice_get files.now number ≡ Some file.now) }
+{
+    files.get(number as usize)
+}
+
+/// Searches a segment, and tells whether it was opened: a barren one is not.
+fn search_segment<N: Names, D: Disk, K: Sink, L: Ledger, M: Ledger>(
+    alloc: Global,
+    query: &Query,
+    names: &N,
+    files: &[FileEntry],
+    segment: &SegmentPlace,
+    disk: &mut D,
+    out: &mut K,
+    bytes: &mut Vec<u8>,
+    gathered: &mut Vec<u8>,
+    tally: &mut Tally,
+    opened: &mut Steps<L>,
+    expanded: &mut Steps<M>,
+) -> Result<bool, SearchRefusal>
+    requires { IsSearched query.now.pattern }
+
+    // what stays
+    ensures rests { Rests (D.state disk.old) (D.state disk.new) }
+    ensures reads { OfSegments (D.state disk.old).seen
+        (named (N.version names.now) (N.types names.now) (N.words names.now))
+        files.now (segment.now ∷ []) (λ _ _. ReadsOpened
+        (named (N.version names.now) (N.types names.now) (N.words names.now)) query.now
+        (segment.now ∷ []) (D.state disk.old).ranges (D.state disk.new).ranges) }
+
+    // by the answer
+    ensures done { IfOk result (λ yes. OfSegments (D.state disk.old).seen
+        (named (N.version names.now) (N.types names.now) (N.words names.now))
+        files.now (segment.now ∷ []) (λ _ all. Searched
+        (named (N.version names.now) (N.types names.now) (N.words names.now)) query.now
+        (segment.now ∷ []) all
+        (sofar (K.written out.old) gathered.old.items tally.old expanded.old)
+        (sofar (K.written out.new) gathered.new.items tally.new expanded.new)
+        opened.old opened.new (cond yes 1 0))) }
+    ensures stopped { OnErr result (OfSegments (D.state disk.old).seen
+        (named (N.version names.now) (N.types names.now) (N.words names.now))
+        files.now (segment.now ∷ []) (λ _ all. Stopped
+        (named (N.version names.now) (N.types names.now) (N.words names.now)) query.now
+        (segment.now ∷ []) all
+        (sofar (K.written out.old) gathered.old.items tally.old expanded.old)
+        (K.written out.new) expanded.new opened.old opened.new)) }
+
+    // causes
+    ensures damaged { IsErrOf result SearchRefusal.Damaged
+        → OfSegments (D.state disk.old).seen
+        (named (N.version names.now) (N.types names.now) (N.words names.now))
+        files.now (segment.now ∷ []) (λ _ _. ⊥) }
+    ensures disk_counts { CountsOf SearchRefusal.DiskFault
+        (D.state disk.old).faults (D.state disk.new).faults result }
+    ensures sink_counts { CountsOf SearchRefusal.SinkFault
+        (K.faults out.old) (K.faults out.new) result }
+{
+    barren_has_no_match();
+    wide_is_wider();
+    if barren(&segment.head, query.plan(), query.range(), names) {
+        return Ok(false);
+    }
+    let Some(file) = file_of(files, segment.head.file) else {
+        return Err(SearchRefusal::Damaged);
+    };
+    if segment.head.first > MAX_MESSAGES {
+        return Err(SearchRefusal::Damaged);
+    }
+    let Some(pages) = SegmentPages::open(segment.payload, segment.length, &segment.head, opened)
+    else {
+        return Err(SearchRefusal::Damaged);
+    };
+    let name = file.name.as_slice();
+    let number = segment.head.first + 1;
+    search_pages(
+        alloc, query, names, name, number, pages, disk, out, bytes, gathered, tally, expanded,
+    )?;
+    Ok(true)
+}
+
+/// Searches the segments in their order, and answers how many were opened.
+pub(crate) fn search_segments<N: Names, D: Disk, K: Sink, L: Ledger, M: Ledger>(
+    alloc: Global,
+    query: &Query,
+    names: &N,
+    files: &[FileEntry],
+    segments: &[SegmentPlace],
+    disk: &mut D,
+    out: &mut K,
+    gathered: &mut Vec<u8>,
+    tally: &mut Tally,
+    opened: &mut Steps<L>,
+    expanded: &mut Steps<M>,
+) -> Result<u64, SearchRefusal>
+    requires { IsSearched query.now.pattern }
+
+    // what stays
+    ensures rests { Rests (D.state disk.old) (D.state disk.new) }
+    ensures reads { OfSegments (D.state disk.old).seen
+        (named (N.version names.now) (N.types names.now) (N.words names.now))
+        files.now segments.now (λ _ _. ReadsOpened
+        (named (N.version names.now) (N.types names.now) (N.words names.now)) query.now
+        segments.now (D.state disk.old).ranges (D.state disk.new).ranges) }
+
+    // by the answer
+    ensures done { IfOk result (λ count. OfSegments (D.state disk.old).seen
+        (named (N.version names.now) (N.types names.now) (N.words names.now))
+        files.now segments.now (λ _ all. Searched
+        (named (N.version names.now) (N.types names.now) (N.words names.now)) query.now
+        segments.now all
+        (sofar (K.written out.old) gathered.old.items tally.old expanded.old)
+        (sofar (K.written out.new) gathered.new.items tally.new expanded.new)
+        opened.old opened.new count)) }
+    ensures stopped { OnErr result (OfSegments (D.state disk.old).seen
+        (named (N.version names.now) (N.types names.now) (N.words names.now))
+        files.now segments.now (λ _ all. Stopped
+        (named (N.version names.now) (N.types names.now) (N.words names.now)) query.now
+        segments.now all
+        (sofar (K.written out.old) gathered.old.items tally.old expanded.old)
+        (K.written out.new) expanded.new opened.old opened.new)) }
+
+    // causes
+    ensures damaged { IsErrOf result SearchRefusal.Damaged
+        → OfSegments (D.state disk.old).seen
+        (named (N.version names.now) (N.types names.now) (N.words names.now))
+        files.now segments.now (λ _ _. ⊥) }
+    ensures disk_counts { CountsOf SearchRefusal.DiskFault
+        (D.state disk.old).faults (D.state disk.new).faults result }
+    ensures sink_counts { CountsOf SearchRefusal.SinkFault
+        (K.faults out.old) (K.faults out.new) result }
+{
+    let mut bytes = Vec::new(alloc);
+    let mut count = 0;
+    for segment in segments {
+        let yes = search_segment(
+            alloc, query, names, files, segment, disk, out, &mut bytes, gathered, tally, opened,
+            expanded,
+        )?;
+        count += u64::from(yes);
+    }
+    Ok(count)
+}
