@@ -6,3 +6,6 @@ pub mod CrewLemmas
 pub mod LockLemmas
 pub mod IngestLemmas
 pub mod ClosingLemmas
+pub mod PartLemmas
+pub mod DoingLemmas
+pub mod DoneLemmas

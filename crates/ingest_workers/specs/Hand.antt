@@ -25,6 +25,11 @@ pub record SameMarks (old new : Hand) : Type 0 where
   pub last : new.draft.last ≡ old.draft.last
   pub ended : new.draft.ended ≡ old.draft.ended
 
+-- the same rows are in hand
+pub record SameRows (old new : Hand) : Type 0 where
+  pub columns : new.draft.columns ≡ old.draft.columns
+  pub used : new.used.items ≡ old.used.items
+
 -- nothing is in hand, behind so many messages of the file
 pub record IsEmptyHand (file first : ℕ) (hand : Hand) : Type 0 where
   pub file_is : hand.draft.file ≡ file

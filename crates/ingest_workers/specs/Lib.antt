@@ -4,6 +4,7 @@ pub mod Parts
 pub mod Journal
 pub mod Hand
 pub mod Namer
+pub mod Keys
 pub mod Sealed
 pub mod MaySeal
 pub mod JobDone
@@ -13,3 +14,6 @@ pub mod Crew
 pub mod Locked
 pub mod Ingested
 pub mod Closing
+pub mod Doing
+pub mod Stopping
+pub mod Done

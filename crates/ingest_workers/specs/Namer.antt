@@ -3,7 +3,7 @@ use Rattle.std.specs.Prelude.{◌≡◌, ℕ, List, Some}
 use mathlib.Core.List.{IsPrefix}
 use Rattle.log_seams.specs.Disk.{DiskState}
 use Rattle.turn_lock.specs.declared.board.About.{About}
-use Rattle.turn_lock.specs.Words.{seen, own_list, about, lock_of, noted}
+use Rattle.turn_lock.specs.Words.{seen, own_list, about, lock_of, number_of, noted}
 use Rattle.dict_lock.specs.Shared.{BookPass, GoesOn}
 use Rattle.dict_lock.specs.Cached.{pass_in}
 use Rattle.disk_seal.specs.declared.namer.LockNamer.{LockNamer}
@@ -49,3 +49,11 @@ module _ {R A B C : Type 0} where
     pub full : IsFullAt state d end need types words (types_seen m) (words_seen m) p q
     pub types_on : IsPrefix (noted types) (types_seen n)
     pub words_on : IsPrefix (noted words) (words_seen n)
+
+  -- its passes are what they were, whatever they have named
+  pub record HasSamePasses (m n : LockNamer R A B C) : Type 0 where
+    pub version : n.version ≡ m.version
+    pub types_lock : lock_of (types_pass n) ≡ lock_of (types_pass m)
+    pub words_lock : lock_of (words_pass n) ≡ lock_of (words_pass m)
+    pub types_number : number_of (types_pass n) ≡ number_of (types_pass m)
+    pub words_number : number_of (words_pass n) ≡ number_of (words_pass m)

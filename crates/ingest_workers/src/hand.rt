@@ -1,12 +1,13 @@
 //! The messages of a file that a worker has in hand.
 ghost use Rattle.std.specs.Prelude.{◌≡◌, ◌+◌, ◌<◌, ◌≤◌, ◌↔◌, ◌∷◌, ◌++◌, List, [], ℕ, false, length, IsTrue, IsErrOf, OnOk, OnErr};
+ghost use Rattle.column_store.specs.declared.row.Row.{Row};
 ghost use Rattle.row_codec.specs.declared.TheConstants.{MAX_MESSAGE_LEN};
 ghost use Rattle.row_codec.specs.Messages.{IsTypeOf, IsWordOf};
 ghost use Rattle.row_codec.specs.Naming.{HasGrown, MeetsLimit};
 ghost use Rattle.column_store.specs.Columns.{IsFull};
 ghost use Rattle.ingest_workers.specs.declared.outcome.Cause.TheVariants.{Full};
 ghost use Rattle.ingest_workers.specs.declared.stop.Stop.TheVariants.{Part};
-ghost use Rattle.ingest_workers.specs.Hand.{HasInHand, IsEmptyHand, HasRoom, SameMarks};
+ghost use Rattle.ingest_workers.specs.Hand.{HasInHand, IsEmptyHand, HasRoom, SameMarks, SameRows};
 
 use crate::stop::Stop;
 use column_store::Columns;
@@ -67,6 +68,9 @@ impl Hand {
             (N.types namer.old).texts (N.words namer.old).texts messages self.old
             → OnOk result (HasInHand (N.version namer.old) (N.types namer.new).texts
                 (N.words namer.new).texts (messages ++ line.now ∷ []) self.new) }
+        ensures pushed { OnOk result ((row : Row)
+            × (self.new.draft.columns.rows ≡ self.old.draft.columns.rows ++ row ∷ [])) }
+        ensures kept { (cause : _) → IsErrOf result (Part cause) → SameRows self.old self.new }
         ensures full { (book : _) (count : ℕ) → IsErrOf result (Part (Full book count))
             → MeetsLimit (N.version namer.old) line.now book count (N.types namer.new)
                 (N.words namer.old) (N.words namer.new) }

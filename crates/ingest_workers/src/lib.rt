@@ -3,14 +3,17 @@
 
 mod closing;
 mod crew;
+mod finish;
 mod hand;
 mod ingest;
 mod job;
 mod locks;
+mod naming;
 mod outcome;
 mod run;
 mod sealing;
 mod stop;
+mod take;
 mod work;
 mod worker;
 
