@@ -49,7 +49,8 @@ use Rattle.ingest_workers.specs.Crew.{BookMaker, HavePlan, HasEnrolled}
 use Rattle.ingest_workers.specs.Locked.{in_file, file_segment, list_of, list_behind, IsPassOf, IsStillStore, MayDoAt, HasWorked}
 use Rattle.ingest_workers.specs.Ingested.{first_file, told_entries, IsNewFile, AreNew, IsOfJobs, HasBook, OpensBook, opened_over, IsLeftBy, HasStayed, IsAsItWas, IsFileOf, HasStored, HasEndedBooks, HasIngested, IsTypeGiven, IsWordGiven}
 use Rattle.ingest_workers.specs.Closing.{IsJournalOf}
-use Rattle.ingest_workers.proofs.JournalLemmas.{seen_joined}
+use Rattle.ingest_workers.proofs.FileLemmas.{file_of}
+use Rattle.ingest_workers.proofs.JournalLemmas.{seen_front, seen_joined}
 use Rattle.ingest_workers.proofs.CrewLemmas.{map_at}
 use Rattle.ingest_workers.proofs.LockLemmas.{did_at}
 
@@ -201,23 +202,19 @@ module _ {S D : Type 0} {d : DiskGhosts D} (left : S → Option (List ℕ)) wher
             let counts = h.done.keepers in let even = h.counted in let lt = slice_get_within h.passes' a.place a.pass a.is in let job = there_is js a.place (omega arith) in
             of_jobs js a.place job.0 (number_of a.pass) x job.1 (sym (number_at a.place job.0 a.pass job.1 a.is)) a.allowed
 
-        file : (i : ℕ) (job : Job S) → slice_get js i ≡ Some job → IsFileOf left plan before (journal_seen (list_behind d.state opened store)) i job js'
+        all_now : journal_seen (list_of d.state store) ≡ told_entries (state_of before) ++ journal_seen (list_behind d.state opened store)
+        all_now = ap journal_seen (sym h.front.1) ∙ (seen_joined (list_of d.state opened) h.front.0
+            ∙ (ap (λ l. l ++ journal_seen h.front.0) list_before ∙ ap (λ l. told_entries (state_of before) ++ journal_seen l) (sym behind)))
+
+        file : (i : ℕ) (job : Job S) → slice_get js i ≡ Some job → (new : Job S) × (slice_get js' i ≡ Some new) × IsFileOf left plan before (journal_seen (list_behind d.state opened store)) job new
         file i job at = let even = h.counted in let lt = slice_get_within js i job at in let p = there_is h.passes i (omega arith) in
-            let f = h.done.each i job p.0 at p.1 in let o = h.opened i p.0 p.1 in let n = number_at i job f.keeper at f.keeper_is in record {
-              new = f.job;
-              is = f.job_is;
-              pass = p.0;
-              pass' = f.keeper;
-              number = o.number ∙ sym (new i job at).file_is;
-              over = record { first = first; start = length (list_of d.state opened); fixed = fixed_of opened };
-              about_is = o.about_is;
-              opened = refl;
-              header = refl;
-              own_is = o.own_is;
-              done = subst (λ (x : Plan). IsDone d.state left x.rows x.version job p.0 f.job f.keeper) (planned f.place f.worker f.worker_is) f.did_it;
-              segments = subst (λ (x : ℕ). filter_map (in_file x) (journal_seen (list_behind d.state opened store)) ≡ filter_map (in_file x) (journal_seen (entries_in (own_list f.keeper)))) n
-                  (sym (picked_seen (number_of f.keeper) (list_behind d.state opened store)) ∙ (h.files i f.keeper f.keeper_is ∙ picked_seen (number_of f.keeper) (entries_in (own_list f.keeper))));
-            }
+            let f = h.done.each i job p.0 at p.1 in let o = h.opened i p.0 p.1 in let n = number_at i job f.keeper at f.keeper_is in
+            let done : IsDone d.state left plan.rows plan.version job p.0 f.job f.keeper = subst (λ (x : Plan). IsDone d.state left x.rows x.version job p.0 f.job f.keeper) (planned f.place f.worker f.worker_is) f.did_it in
+            let number : number_of p.0 ≡ job.file = o.number ∙ sym (new i job at).file_is in (f.job, f.job_is,
+            file_of left plan before (journal_seen (list_behind d.state opened store)) job f.job p.0 f.keeper (record { first = first; start = length (list_of d.state opened); fixed = fixed_of opened }) done number o.about_is refl refl o.own_is
+            (subst (λ (x : ℕ). filter_map (in_file x) (journal_seen (list_behind d.state opened store)) ≡ filter_map (in_file x) (journal_seen (entries_in (own_list f.keeper)))) n
+            (sym (picked_seen (number_of f.keeper) (list_behind d.state opened store)) ∙ (h.files i f.keeper f.keeper_is ∙ picked_seen (number_of f.keeper) (entries_in (own_list f.keeper)))))
+            (subst (λ es. IsPrefix (journal_seen (seen f.keeper)) es) all_now (seen_front (seen f.keeper) (list_of d.state store) (h.seen_on i f.keeper f.keeper_is))))
 
     pub ingested_by : (o : StoreView D) (f first : ℕ) (plan : Plan) (ws ws' : List Worker) (js js' : List (Job S)) → o ≡ opened → f ≡ first → AreNew first (state_of before) js → HavePlan plan ws
         → HasWorked d.state left f ws ws' js js' o store → IsJournalOf store after → Kept (state_by d.state store)

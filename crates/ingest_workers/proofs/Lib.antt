@@ -9,3 +9,4 @@ pub mod ClosingLemmas
 pub mod PartLemmas
 pub mod DoingLemmas
 pub mod DoneLemmas
+pub mod FileLemmas

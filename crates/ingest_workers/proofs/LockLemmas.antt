@@ -108,6 +108,7 @@ module _ {S D : Type 0} {G : Ghosts (StoreView D) StoreEntry (StoreFixed D)} (st
         (subst (λ l. filter_map (file_segment (number_of q)) (drop (length (list_of state before)) (seen_by h.end)) ≡ filter_map (file_segment (number_of q)) (entries_in l)) mine.own_is
         (picked_own MayAdd h.end (file_segment (number_of q)) (number_of q) opening h.owned about_end (adds_alone (number_of q))
         (subst (λ l. IsPast (length (list_of state before)) l) (sym mine.own_is) (past i q at))));
+    seen_on = λ i q at. subst (λ l. IsPrefix (seen q) l) (sym h.entries) (h.done.joined.each i q (omega arith) at).seen_on;
     added = λ j e le at. each_added MayAdd h.end h.done.middle h.done.passes' h.owned h.done.joined none_added opening j e about_end le (subst (λ l. slice_get l j ≡ Some e) h.entries at);
   }
     where

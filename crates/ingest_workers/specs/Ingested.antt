@@ -1,6 +1,7 @@
 -- When an ingest may begin, and what it leaves.
-use Rattle.std.specs.Prelude.{◌≡◌, ◌⊎◌, ℕ, ◌+◌, ◌<◌, ◌≤◌, Bool, false, List, [], ◌∷◌, ◌++◌, length, is_some, Option, None, Some, slice_get, All}
+use Rattle.std.specs.Prelude.{◌≡◌, ◌⊎◌, ℕ, ◌+◌, ◌<◌, ◌≤◌, ◌&&◌, Bool, true, false, List, [], ◌∷◌, ◌++◌, length, is_some, Option, None, Some, slice_get, All}
 use Rattle.std.specs.List.{filter_map}
+use mathlib.Core.List.{IsPrefix}
 use Rattle.log_seams.specs.declared.disk.Disk.{Ghosts as DiskGhosts}
 use Rattle.log_seams.specs.Disk.{DiskState}
 use Rattle.log_seams.specs.Outside.{Rose}
@@ -29,8 +30,9 @@ use Rattle.ingest_workers.specs.declared.worker.Plan.{Plan}
 use Rattle.ingest_workers.specs.declared.outcome.Outcome.{Outcome}
 use Rattle.ingest_workers.specs.declared.outcome.Cause.TheVariants.{OutOfMemory}
 use Rattle.ingest_workers.specs.Outcome.{nothing_done}
-use Rattle.ingest_workers.specs.Journal.{Holds}
-use Rattle.ingest_workers.specs.JobDone.{IsDone}
+use Rattle.ingest_workers.specs.Journal.{FrontHolds, Holds}
+use Rattle.ingest_workers.specs.Parts.{IsCut, IsOpen, Part, messages_in, rest_of, segments_from}
+use Rattle.ingest_workers.specs.JobDone.{AreTaken}
 use Rattle.ingest_workers.specs.Crew.{BookMaker, EndsBook}
 use Rattle.ingest_workers.specs.Worker.{IsGiven}
 use Rattle.ingest_workers.specs.Locked.{in_file}
@@ -145,21 +147,26 @@ module _ {D : Type 0} {d : DiskGhosts D} where
   IsAsItWas before after = (after ≡ before) ⊎ ((store : StoreView D) × HasStayed store before after)
 
 module _ {S D : Type 0} {d : DiskGhosts D} where
-  -- The job at the place was done, with a pass of its file, over a store that was opened over the journal. The file's segments among the new entries
-  -- are those that the pass added, in order.
-  pub record IsFileOf (left : S → Option (List ℕ)) (plan : Plan) (before : Journal D d) (fresh : List JournalEntry) (i : ℕ) (old : Job S) (js' : List (Job S)) : Type 0 where
-    pub new : Job S
-    pub is : slice_get js' i ≡ Some new
-    pub pass : KeeperPass D
-    pub pass' : KeeperPass D
-    pub number : number_of pass ≡ old.file
-    pub over : About (StoreFixed D)
-    pub about_is : about pass ≡ Some over
-    pub opened : over.fixed.opened ≡ before.disk.now
-    pub header : over.fixed.header ≡ before.header
-    pub own_is : own_list pass ≡ []
-    pub done : IsDone d.state left plan.rows plan.version old pass new pass'
-    pub segments : filter_map (in_file old.file) fresh ≡ filter_map (in_file old.file) (journal_seen (entries_in (own_list pass')))
+  -- A job was done. The messages that its outcome counts are the first ones of its source, and all of them where the file is whole. They are cut in
+  -- parts. Where the journal is told, the file's segments among the new entries are exactly those of the parts, in order, and a front of the journal
+  -- holds exactly these messages of the file.
+  pub record IsFileOf (left : S → Option (List ℕ)) (plan : Plan) (before : Journal D d) (fresh : List JournalEntry) (old new : Job S) : Type 0 where
+    pub file : new.file ≡ old.file
+    pub taken : List (List ℕ)
+    pub ended : Bool
+    pub given : AreTaken left plan.version old taken ended new.outcome.whole
+    pub covered : List (List ℕ)
+    pub front : IsPrefix covered taken
+    pub all : new.outcome.whole ≡ true → covered ≡ taken
+    pub count : new.outcome.messages ≡ length covered
+    pub closed : List Part
+    pub rest : Part
+    pub parts : covered ≡ messages_in closed ++ rest.messages
+    pub cut : All (IsCut plan.rows) closed
+    pub not_yet : IsOpen plan.rows rest
+    pub segments : IfTold (is_some (state_of before).disk.seen) (filter_map (in_file old.file) fresh
+        ≡ segments_from old.file 0 closed ++ rest_of old.file (length (messages_in closed)) new.outcome.whole ended rest)
+    pub held : IfTold (is_some (state_of before).disk.seen) (FrontHolds before.header (told_entries (state_of before) ++ fresh) old.file covered new.outcome.whole (new.outcome.whole && ended))
 
   -- Each job was done. Where they are told, the journal's entries are those of before and new ones, which are texts and segments of the jobs' files.
   pub record HasStored (left : S → Option (List ℕ)) (plan : Plan) (js js' : List (Job S)) (before after : Journal D d) (store : StoreView D) : Type 0 where
@@ -167,7 +174,7 @@ module _ {S D : Type 0} {d : DiskGhosts D} where
     pub fresh : List JournalEntry
     pub grown : journal_of (state_by d.state store) ≡ told_entries (state_of before) ++ fresh
     pub counted : length js' ≡ length js
-    pub files : (i : ℕ) (job : Job S) → slice_get js i ≡ Some job → IsFileOf left plan before fresh i job js'
+    pub files : (i : ℕ) (job : Job S) → slice_get js i ≡ Some job → (new : Job S) × (slice_get js' i ≡ Some new) × IsFileOf left plan before fresh job new
     pub others : All (IsOfJobs js) fresh
 
   -- the same, and the passes of both books ended

@@ -106,4 +106,5 @@ module _ {S D : Type 0} (state : D → DiskState) where
     pub done : AllDone (DidJob state left) ws js passes js' passes'
     pub files : (i : ℕ) (q : KeeperPass D) → slice_get passes' i ≡ Some q
         → filter_map (file_segment (number_of q)) (list_behind state before after) ≡ filter_map (file_segment (number_of q)) (entries_in (own_list q))
+    pub seen_on : (i : ℕ) (q : KeeperPass D) → slice_get passes' i ≡ Some q → IsPrefix (seen q) (list_of state after)
     pub added : (j : ℕ) (e : StoreEntry) → length (list_of state before) ≤ j → slice_get (list_of state after) j ≡ Some e → AddedByOne MayAdd passes' j e
