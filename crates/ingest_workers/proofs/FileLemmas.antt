@@ -70,6 +70,7 @@ module _ {S D : Type 0} {d : DiskGhosts D} (left : S → Option (List ℕ)) (pla
       → filter_map (in_file old.file) fresh ≡ filter_map (in_file old.file) (journal_seen (entries_in (own_list q))) → IsPrefix (journal_seen (seen q)) (told_entries (state_of before) ++ fresh) → IsFileOf left plan before fresh old new
   file_of fresh old new p q over done number known opened header own picked seen_on = let o = done.outcome in let h = o.done in record {
     file = done.file;
+    cause = done.cause;
     taken = done.taken;
     ended = done.ended;
     given = done.told;

@@ -197,7 +197,7 @@ module _ {S D : Type 0} {d : DiskGhosts D} (left : S → Option (List ℕ)) wher
 
         each : (k : ℕ) (x : StoreEntry) → slice_get (list_behind d.state opened store) k ≡ Some x → OfEntry (IsOfJobs js) x
         each k x at = let here : slice_get (list_of d.state store) (length (list_of d.state opened) + k) ≡ Some x
-              = ap (λ l. slice_get l (length (list_of d.state opened) + k)) (sym h.front.1) ∙ (at_right (list_of d.state opened) h.front.0 k ∙ (ap (λ l. slice_get l k) (sym behind) ∙ at)) in
+            = ap (λ l. slice_get l (length (list_of d.state opened) + k)) (sym h.front.1) ∙ (at_right (list_of d.state opened) h.front.0 k ∙ (ap (λ l. slice_get l k) (sym behind) ∙ at)) in
             let a = h.added (length (list_of d.state opened) + k) x (omega arith) here in
             let counts = h.done.keepers in let even = h.counted in let lt = slice_get_within h.passes' a.place a.pass a.is in let job = there_is js a.place (omega arith) in
             of_jobs js a.place job.0 (number_of a.pass) x job.1 (sym (number_at a.place job.0 a.pass job.1 a.is)) a.allowed
@@ -210,11 +210,14 @@ module _ {S D : Type 0} {d : DiskGhosts D} (left : S → Option (List ℕ)) wher
         file i job at = let even = h.counted in let lt = slice_get_within js i job at in let p = there_is h.passes i (omega arith) in
             let f = h.done.each i job p.0 at p.1 in let o = h.opened i p.0 p.1 in let n = number_at i job f.keeper at f.keeper_is in
             let done : IsDone d.state left plan.rows plan.version job p.0 f.job f.keeper = subst (λ (x : Plan). IsDone d.state left x.rows x.version job p.0 f.job f.keeper) (planned f.place f.worker f.worker_is) f.did_it in
-            let number : number_of p.0 ≡ job.file = o.number ∙ sym (new i job at).file_is in (f.job, f.job_is,
-            file_of left plan before (journal_seen (list_behind d.state opened store)) job f.job p.0 f.keeper (record { first = first; start = length (list_of d.state opened); fixed = fixed_of opened }) done number o.about_is refl refl o.own_is
-            (subst (λ (x : ℕ). filter_map (in_file x) (journal_seen (list_behind d.state opened store)) ≡ filter_map (in_file x) (journal_seen (entries_in (own_list f.keeper)))) n
-            (sym (picked_seen (number_of f.keeper) (list_behind d.state opened store)) ∙ (h.files i f.keeper f.keeper_is ∙ picked_seen (number_of f.keeper) (entries_in (own_list f.keeper)))))
-            (subst (λ es. IsPrefix (journal_seen (seen f.keeper)) es) all_now (seen_front (seen f.keeper) (list_of d.state store) (h.seen_on i f.keeper f.keeper_is))))
+            let number : number_of p.0 ≡ job.file = o.number ∙ sym (new i job at).file_is in (
+              f.job,
+              f.job_is,
+              file_of left plan before (journal_seen (list_behind d.state opened store)) job f.job p.0 f.keeper (record { first = first; start = length (list_of d.state opened); fixed = fixed_of opened }) done number o.about_is refl refl o.own_is
+                  (subst (λ (x : ℕ). filter_map (in_file x) (journal_seen (list_behind d.state opened store)) ≡ filter_map (in_file x) (journal_seen (entries_in (own_list f.keeper)))) n
+                  (sym (picked_seen (number_of f.keeper) (list_behind d.state opened store)) ∙ (h.files i f.keeper f.keeper_is ∙ picked_seen (number_of f.keeper) (entries_in (own_list f.keeper)))))
+                  (subst (λ es. IsPrefix (journal_seen (seen f.keeper)) es) all_now (seen_front (seen f.keeper) (list_of d.state store) (h.seen_on i f.keeper f.keeper_is))),
+            )
 
     pub ingested_by : (o : StoreView D) (f first : ℕ) (plan : Plan) (ws ws' : List Worker) (js js' : List (Job S)) → o ≡ opened → f ≡ first → AreNew first (state_of before) js → HavePlan plan ws
         → HasWorked d.state left f ws ws' js js' o store → IsJournalOf store after → Kept (state_by d.state store)
@@ -244,11 +247,14 @@ module _ {S D : Type 0} {d : DiskGhosts D} (left : S → Option (List ℕ)) wher
         no_mark (Some bytes) n xs is = not_entry (journal_in (Some bytes) n) xs is
 
     pub stayed : IsStillStore d.state opened store → IsJournalOf store after → Kept (state_by d.state store) → IsAsItWas before after
-    stayed still back kept = inr (store, record {
-      left_by = left_by still.fixed back kept;
-      running = unmarked (d.state store.disk).seen store.count store.stopped still.entries;
-      entries = sym list_now ∙ (ap journal_seen still.entries ∙ list_before);
-    })
+    stayed still back kept = inr (
+      store,
+      record {
+        left_by = left_by still.fixed back kept;
+        running = unmarked (d.state store.disk).seen store.count store.stopped still.entries;
+        entries = sym list_now ∙ (ap journal_seen still.entries ∙ list_before);
+      },
+    )
 
     pub stayed_by : (o : StoreView D) → o ≡ opened → IsStillStore d.state o store → IsJournalOf store after → Kept (state_by d.state store) → IsAsItWas before after
     stayed_by o is still back kept = stayed (subst (λ (x : StoreView D). IsStillStore d.state x store) is still) back kept

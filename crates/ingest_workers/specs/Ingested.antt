@@ -152,6 +152,7 @@ module _ {S D : Type 0} {d : DiskGhosts D} where
   -- holds exactly these messages of the file.
   pub record IsFileOf (left : S → Option (List ℕ)) (plan : Plan) (before : Journal D d) (fresh : List JournalEntry) (old new : Job S) : Type 0 where
     pub file : new.file ≡ old.file
+    pub cause : (new.outcome.cause ≡ None → new.outcome.whole ≡ true) × (new.outcome.whole ≡ true → new.outcome.cause ≡ None)
     pub taken : List (List ℕ)
     pub ended : Bool
     pub given : AreTaken left plan.version old taken ended new.outcome.whole

@@ -1,5 +1,5 @@
 -- What becomes of a job that a worker does.
-use Rattle.std.specs.Prelude.{◌≡◌, ℕ, Bool, true, List, Option, Some, IfSome}
+use Rattle.std.specs.Prelude.{◌≡◌, ℕ, Bool, true, List, Option, None, Some, IfSome}
 use Rattle.std.specs.List.{Contains}
 use mathlib.Core.List.{IsPrefix}
 use Rattle.log_seams.specs.Disk.{DiskState}
@@ -29,4 +29,5 @@ module _ {S D : Type 0} where
     pub taken : List (List ℕ)
     pub ended : Bool
     pub told : AreTaken left version j taken ended j'.outcome.whole
+    pub cause : (j'.outcome.cause ≡ None → j'.outcome.whole ≡ true) × (j'.outcome.whole ≡ true → j'.outcome.cause ≡ None)
     pub outcome : IsOutcome state rows p q taken ended j'.outcome

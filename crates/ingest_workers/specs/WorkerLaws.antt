@@ -88,7 +88,7 @@ module _ {S : Type 0} (left : S → Option (List ℕ)) where
   pub goes_on : (js : List (Job S)) (a b c : Worker) → DidOnly left js a b → DidOnly left js b c → DidOnly left js a c
   goes_on js a b c one two =
       let at_plan : NamesOnly a.plan.version (IsGiven left a.plan.version js) (passes_of b) (passes_of c)
-          = subst (λ (p : Plan). NamesOnly p.version (IsGiven left p.version js) (passes_of b) (passes_of c)) one.plan two.names in record {
+      = subst (λ (p : Plan). NamesOnly p.version (IsGiven left p.version js) (passes_of b) (passes_of c)) one.plan two.names in record {
         plan = two.plan ∙ one.plan;
         names = names_then a.plan.version (IsGiven left a.plan.version js) (passes_of a) (passes_of b) (passes_of c) one.names at_plan;
       }

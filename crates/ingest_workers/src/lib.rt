@@ -5,7 +5,7 @@ mod closing;
 mod crew;
 mod finish;
 mod hand;
-mod ingest;
+mod ingesting;
 mod job;
 mod locks;
 mod naming;
@@ -17,6 +17,6 @@ mod take;
 mod work;
 mod worker;
 
-pub use ingest::{IngestRefused};
+pub use ingesting::{IngestRefused, ingest};
 pub use job::Job;
 pub use outcome::{Cause, Outcome};

@@ -1,4 +1,4 @@
-//! STUB
+//! One worker's work on one file. The body stands elsewhere yet: here is what is asked of it.
 ghost use Rattle.std.specs.Prelude.{◌≡◌, ◌≤◌, ℕ, List, []};
 ghost use Rattle.turn_lock.specs.Words.{number_of, own_list};
 ghost use Rattle.row_codec.specs.Messages.{IsTypeOf, IsWordOf};
@@ -38,5 +38,4 @@ pub fn run_job<'d, 'b, S: Source, D: Disk, R: Wait, A: Ledger, B: Ledger, C: Led
     ensures types { AddsOnly (λ t. (m : List ℕ) × IsGivenBy S.left namer.old.version job.old m × IsTypeOf namer.old.version m t) (types_pass namer.old) (types_pass namer.new) }
     ensures words { AddsOnly (λ t. (m : List ℕ) × IsGivenBy S.left namer.old.version job.old m × IsWordOf namer.old.version m t) (words_pass namer.old) (words_pass namer.new) }
     ensures done { IsDone D.state S.left rows namer.old.version job.old keeper.old job.new keeper.new }
-{
-}
+{}

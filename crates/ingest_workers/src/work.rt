@@ -90,12 +90,7 @@ impl<'b, 'k, 'd, S: Source, D: Disk> Works<Job<S>, Pass<'k, Store<'d, 'b, D>>> f
 
     ghost did = { DidJob D.state S.left };
 
-    fn work<R: Wait>(
-        &mut self,
-        rt: &R,
-        job: &mut Job<S>,
-        keeper: &mut Pass<'k, Store<'d, 'b, D>>,
-    ) {
+    fn work<R: Wait>(&mut self, rt: &R, job: &mut Job<S>, keeper: &mut Pass<'k, Store<'d, 'b, D>>) {
         let Some(passes) = self.passes.take() else {
             unreachable!()
         };

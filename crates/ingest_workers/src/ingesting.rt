@@ -147,7 +147,15 @@ fn over_locks<'d, D: Disk + Send, S: Source + Send, R: Threads + Wait + Sync>(
     ensures jobs { OnErr result (jobs.new ≡ jobs.old) }
 {
     match with_workers(
-        rt, alloc, jobs, order, journal, &types_lock, &mut types, &words_lock, &mut words,
+        rt,
+        alloc,
+        jobs,
+        order,
+        journal,
+        &types_lock,
+        &mut types,
+        &words_lock,
+        &mut words,
     ) {
         Ok(journal) => {
             let _types = types_lock.close(types);

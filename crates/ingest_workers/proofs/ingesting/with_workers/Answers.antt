@@ -1,7 +1,7 @@
 use Rattle.std.proofs.Common.{refl}
 use Rattle.ingest_workers.proofs.ClosingLemmas.{ends_book, may_dismiss, types_each, types_still, words_each, words_still}
 use Rattle.ingest_workers.proofs.IngestLemmas.{crew, ingested_by, may_do_by, stayed_by}
-use Rattle.ingest_workers.proofs.ingest.with_workers.Goals as goal
+use Rattle.ingest_workers.proofs.ingesting.with_workers.Goals as goal
 
 pub over_store-requires-clause-idle : goal.over_store-requires-clause-idle
 over_store-requires-clause-idle g c κs within n w at = (crew _ _ _ _ _ _ _ _ _ _ _ _ _ _ _ _ _ _ c.requires.types c.requires.words c.pass-types_reader.ensures.pass c.pass-words_reader.ensures.pass
