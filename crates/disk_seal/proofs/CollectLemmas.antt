@@ -77,6 +77,7 @@ knows_more_seen F first limit b p q saved texts noted k more others =
       known = k.known;
       is = more.still.about_is ∙ k.is;
       starts = k.starts;
+      number = more.still.number ∙ k.number;
       within = k.within;
       from = omega (arith, k.from, longer);
       low = omega (arith, k.low, longer);

@@ -95,6 +95,7 @@ knows_more F first limit b p saved more texts new all k saves is = record {
   known = k.known;
   is = k.is;
   starts = k.starts;
+  number = k.number;
   within = k.within;
   from = k.from;
   low = saves.low;

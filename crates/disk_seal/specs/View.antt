@@ -5,7 +5,7 @@ use Rattle.logtype_text.specs.Fair.{IsFairType, IsFairWord}
 use Rattle.log_seams.specs.Disk.{DiskState, LeavesOnly}
 use Rattle.log_seams.specs.Outside.{Rose}
 use Rattle.turn_lock.specs.declared.board.About.{About}
-use Rattle.turn_lock.specs.Words.{seen, own_list, about, IsReady}
+use Rattle.turn_lock.specs.Words.{seen, own_list, about, number_of, IsReady}
 use Rattle.dict_core.specs.declared.grows.TheConstants.{WORDS_FIRST}
 use Rattle.dict_lock.specs.Shared.{BookPass}
 use Rattle.record_format.specs.declared.header.Header.{Header}
@@ -106,13 +106,14 @@ abbrev pub Image : StoreState → ℕ → List JournalEntry → List ℕ → Typ
 Image s least es bytes = IfTold (tells s) (HasFirst (header_bytes s.header) least es bytes)
 
 -- What a store keeps of a pass over a book: it is between two turns, its lock is one that was made with this first number and limit,
--- it has seen the lock's opening and at least the saved texts, which are those of the journal, all that it has seen past them is fair,
--- and it has added nothing.
+-- it is the lock's first pass, it has seen the lock's opening and at least the saved texts, which are those of the journal, all that it has
+-- seen past them is fair, and it has added nothing.
 pub record KnowsBook (IsFair : List ℕ → Type 0) (first limit : ℕ) (told : Bool) (p : BookPass) (saved : ℕ) (texts : List (List ℕ)) : Type 0 where
   pub ready : IsReady p
   pub known : About ℕ
   pub is : about p ≡ Some known
   pub starts : known.first ≡ first
+  pub number : number_of p ≡ first
   pub within : IfTold told (known.fixed ≡ limit)
   pub from : known.start ≤ length (seen p)
   pub low : saved ≤ length (seen p)

@@ -161,6 +161,10 @@ impl<'d, 'b, D: Disk> Store<'d, 'b, D> {
     pub fn close_store(self) -> StorePasses<'d, 'b, D>
         ensures name { result.journal.disk.ghost_name ≡ self.entry.name }
         ensures disk { result.journal.disk.now ≡ self.entry.disk }
+        ensures header { result.journal.header ≡ self.entry.header }
+        ensures place { result.journal.place ≡ self.entry.place }
+        ensures count { result.journal.count ≡ self.entry.count }
+        ensures closed { result.journal.closed ≡ self.entry.closed }
         ensures types { result.types ≡ self.entry.types }
         ensures words { result.words ≡ self.entry.words }
         ensures kept { Kept (state_by D.state self.entry) }
