@@ -5,3 +5,5 @@ pub mod MaySealLemmas
 pub mod PartLemmas
 pub mod DoingLemmas
 pub mod DoneLemmas
+pub mod NamingLemmas
+pub mod TakingLemmas

@@ -4,9 +4,12 @@ pub mod Parts
 pub mod Journal
 pub mod Hand
 pub mod Namer
+pub mod Naming
 pub mod Keys
 pub mod Sealed
 pub mod MaySeal
 pub mod Doing
 pub mod Stopping
 pub mod Done
+pub mod Taking
+pub mod JobDone

@@ -6,9 +6,12 @@ mod hand;
 mod job;
 mod naming;
 mod outcome;
+mod run;
 mod sealing;
 mod stop;
 mod take;
+mod taking;
 
 pub use job::Job;
 pub use outcome::{Cause, Outcome};
+pub use run::run_job;

@@ -1,0 +1,2 @@
+-- A worker that takes the messages of a source.
+use Rattle.std.proofs.Common.{◌≡◌, refl}
