@@ -1,5 +1,5 @@
 //! The end of a file.
-ghost use Rattle.std.specs.Prelude.{◌≡◌, ◌≤◌, ℕ, Bool, List, false, true, length};
+ghost use Rattle.std.specs.Prelude.{◌≡◌, ◌≤◌, ℕ, Bool, List, Ok, false, true, length};
 ghost use Rattle.archive_meaning.specs.declared.TheConstants.{MAX_ROWS, MAX_MESSAGES};
 ghost use Rattle.archive_meaning.specs.Held.{last_is_open};
 ghost use Rattle.disk_seal.specs.Fixed.{KeeperPass};
@@ -7,7 +7,6 @@ ghost use Rattle.ingest_workers.specs.Doing.{Doing};
 ghost use Rattle.ingest_workers.specs.Done.{IsOutcome};
 ghost use Rattle.ingest_workers.specs.Namer.{HasOnlySeen};
 ghost use Rattle.ingest_workers.specs.Taking.{StopsAt, mark_of};
-ghost use Rattle.ingest_workers.specs.declared.stop.Stop.TheVariants.{End};
 
 use crate::hand::Hand;
 use crate::outcome::{Cause, Outcome};
@@ -96,29 +95,30 @@ pub(crate) fn seal_part<'d, 'b, D: Disk, R: Wait, A: Ledger, B: Ledger, C: Ledge
     }
 }
 
-/// Ends a file where a worker stopped: seals what is still to be sealed.
+/// Ends a file of which no further message is taken: seals what may still be sealed. `stop` is the
+/// answer of `take_messages`.
 pub(crate) fn finish<'d, 'b, D: Disk, R: Wait, A: Ledger, B: Ledger, C: Ledger>(
     rt: &R,
     alloc: Global,
     rows: u32,
-    stop: Stop,
+    stop: Result<bool, Stop>,
     hand: &mut Hand,
     namer: &mut LockNamer<'_, '_, R, A, B, C>,
     keeper: &mut Pass<'_, Store<'d, 'b, D>>,
 ) -> Outcome
-    requires limit { rows ≤ MAX_ROWS }
+    requires limit { (1 ≤ rows) × (rows ≤ MAX_ROWS) }
     requires stops { (start : KeeperPass _) × (taken : List (List ℕ)) × (length taken ≤ MAX_MESSAGES)
         × StopsAt D.state rows start keeper.old namer.old hand.old taken stop }
     ensures namer { HasOnlySeen namer.old namer.new }
-    ensures whole { result.whole ≡ true → (ended : Bool) × (stop ≡ End ended) }
+    ensures whole { result.whole ≡ true → (ended : Bool) × (stop ≡ Ok ended) }
     ensures outcome { (start : KeeperPass _) (taken : List (List ℕ))
         → StopsAt D.state rows start keeper.old namer.old hand.old taken stop
         → IsOutcome D.state rows start keeper.new taken (mark_of stop) result }
 {
     match stop {
-        Stop::End { ended } => seal_last(rt, alloc, rows, ended, hand, namer, keeper),
-        Stop::Part(cause) => seal_part(rt, alloc, rows, cause, hand, namer, keeper),
-        Stop::Lost(cause) => Outcome {
+        Ok(ended) => seal_last(rt, alloc, rows, ended, hand, namer, keeper),
+        Err(Stop::Part(cause)) => seal_part(rt, alloc, rows, cause, hand, namer, keeper),
+        Err(Stop::Lost(cause)) => Outcome {
             messages: hand.draft.first,
             whole: false,
             cause: Some(cause),

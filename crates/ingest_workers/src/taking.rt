@@ -1,5 +1,5 @@
 //! The messages of a source, one behind the other.
-ghost use Rattle.std.specs.Prelude.{◌≡◌, ◌≤◌, ◌++◌, ◌∷◌, [], ℕ, List, Option, IfErr, OnOk};
+ghost use Rattle.std.specs.Prelude.{◌≤◌, ◌++◌, ◌∷◌, [], ℕ, List, Option, Ok, Err, IfErr, IfNone, IfOk, IfSome};
 ghost use Rattle.archive_meaning.specs.declared.TheConstants.{MAX_ROWS};
 ghost use Rattle.disk_seal.specs.Fixed.{KeeperPass};
 ghost use Rattle.ingest_workers.specs.Naming.{HasNamed};
@@ -27,12 +27,13 @@ fn cause_of(cut: Cut) -> Cause {
     }
 }
 
-/// Takes the next message of a source, which goes on behind it.
+/// Takes the next message of a source. At the end of the source it tells whether the last line had
+/// its newline.
 ///
 /// # Errors
 ///
-/// `End` at the end of the source, with its last message taken. `Part` where the reader refuses, or a
-/// dictionary is full. `Lost` where memory ended, or a segment was refused.
+/// `Part` where the reader refuses, or a dictionary is full. `Lost` where memory ended, or a segment
+/// was refused.
 fn take_next<'d, 'b, S: Source, D: Disk, R: Wait, A: Ledger, B: Ledger, C: Ledger>(
     rt: &R,
     alloc: Global,
@@ -41,7 +42,7 @@ fn take_next<'d, 'b, S: Source, D: Disk, R: Wait, A: Ledger, B: Ledger, C: Ledge
     hand: &mut Hand,
     namer: &mut LockNamer<'_, '_, R, A, B, C>,
     keeper: &mut Pass<'_, Store<'d, 'b, D>>,
-) -> Result<(), Stop>
+) -> Result<Option<bool>, Stop>
     requires limit { rows ≤ MAX_ROWS }
     requires taking { (bytes : Option (List ℕ)) × (start : KeeperPass _) × (taken : List (List ℕ))
         × Taking D.state S.left rows bytes start keeper.old namer.old hand.old reader.old taken }
@@ -55,26 +56,36 @@ fn take_next<'d, 'b, S: Source, D: Disk, R: Wait, A: Ledger, B: Ledger, C: Ledge
     // by the answer
     ensures taken { (bytes : Option (List ℕ)) (start : KeeperPass _) (taken : List (List ℕ))
         → Taking D.state S.left rows bytes start keeper.old namer.old hand.old reader.old taken
-        → OnOk result (Taking D.state S.left rows bytes start keeper.new namer.new hand.new reader.new
-            (taken ++ reader.new.message ∷ [])) }
+        → IfOk result (λ o. IfNone o (Taking D.state S.left rows bytes start keeper.new namer.new
+            hand.new reader.new (taken ++ reader.new.message ∷ []))) }
+    ensures ended { (bytes : Option (List ℕ)) (start : KeeperPass _) (taken : List (List ℕ))
+        → Taking D.state S.left rows bytes start keeper.old namer.old hand.old reader.old taken
+        → IfOk result (λ o. IfSome o (λ e. Took D.state rows namer.old.version bytes start
+            keeper.new namer.new hand.new (Ok e))) }
     ensures stopped { (bytes : Option (List ℕ)) (start : KeeperPass _) (taken : List (List ℕ))
         → Taking D.state S.left rows bytes start keeper.old namer.old hand.old reader.old taken
-        → IfErr result (Took D.state rows namer.old.version bytes start keeper.new namer.new
-            hand.new) }
+        → IfErr result (λ s. Took D.state rows namer.old.version bytes start
+            keeper.new namer.new hand.new (Err s)) }
 {
     let mark = match reader.advance() {
         Ok(Some(mark)) => mark,
-        Ok(None) => return Err(Stop::End { ended: true }),
+        Ok(None) => return Ok(Some(true)),
         Err(cut) => return Err(Stop::Part(cause_of(cut))),
     };
     take_one(rt, alloc, rows, reader.message(), hand, namer, keeper)?;
-    if !mark.ended {
-        return Err(Stop::End { ended: false });
+    if mark.ended {
+        Ok(None)
+    } else {
+        Ok(Some(false))
     }
-    Ok(())
 }
 
-/// Takes the messages of a source, until it ends or no further one can be taken.
+/// Takes the messages of a source, and tells whether its last line had its newline.
+///
+/// # Errors
+///
+/// Where no further message is taken: `Part` where what is in hand may still be sealed, and else
+/// `Lost`.
 pub(crate) fn take_messages<'d, 'b, S: Source, D: Disk, R: Wait, A: Ledger, B: Ledger, C: Ledger>(
     rt: &R,
     alloc: Global,
@@ -83,7 +94,7 @@ pub(crate) fn take_messages<'d, 'b, S: Source, D: Disk, R: Wait, A: Ledger, B: L
     hand: &mut Hand,
     namer: &mut LockNamer<'_, '_, R, A, B, C>,
     keeper: &mut Pass<'_, Store<'d, 'b, D>>,
-) -> Stop
+) -> Result<bool, Stop>
     requires limit { rows ≤ MAX_ROWS }
     requires taking { (bytes : Option (List ℕ)) × (start : KeeperPass _) × (taken : List (List ℕ))
         × Taking D.state S.left rows bytes start keeper.old namer.old hand.old reader.old taken }
@@ -100,8 +111,8 @@ pub(crate) fn take_messages<'d, 'b, S: Source, D: Disk, R: Wait, A: Ledger, B: L
         → Took D.state rows namer.old.version bytes start keeper.new namer.new hand.new result }
 {
     'messages: loop {
-        if let Err(stop) = take_next(rt, alloc, rows, reader, hand, namer, keeper) {
-            return stop;
+        if let Some(ended) = take_next(rt, alloc, rows, reader, hand, namer, keeper)? {
+            return Ok(ended);
         }
     }
 }
