@@ -31,7 +31,8 @@ use Rattle.disk_seal.specs.View.{KnowsBook, StoreState, state_by, journal_of}
 use Rattle.ingest_workers.specs.declared.job.Job.{Job}
 use Rattle.ingest_workers.specs.declared.worker.Plan.{Plan}
 use Rattle.ingest_workers.specs.declared.worker.Worker.{Worker}
-use Rattle.ingest_workers.specs.Worker.{AddsOnly, IsIdle, IsGiven, DidOnly, types_of, words_of, passes_of}
+use Rattle.ingest_workers.specs.Naming.{AddsOnly}
+use Rattle.ingest_workers.specs.Worker.{IsIdle, IsGiven, DidOnly, types_of, words_of, passes_of}
 use Rattle.ingest_workers.specs.WorkerLaws.{given_wider}
 use Rattle.ingest_workers.specs.Crew.{BookMaker, HavePlan, HasEnrolled, MayDismiss, HasDismissed, HasEnded, EndsBook}
 use Rattle.ingest_workers.specs.Ingested.{HasBook, OpensBook, IsTypeGiven, IsWordGiven, HasStored, HasEndedBooks, HasIngested, told_entries}

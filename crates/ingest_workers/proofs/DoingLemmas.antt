@@ -24,7 +24,7 @@ use Rattle.disk_seal.specs.Planned.{segment_of}
 use Rattle.ingest_workers.specs.declared.hand.Hand.{Hand}
 use Rattle.ingest_workers.specs.declared.outcome.Cause.{Cause}
 use Rattle.ingest_workers.specs.declared.stop.Stop.{Stop}
-use Rattle.ingest_workers.specs.declared.stop.Stop.TheVariants.{End, Part as PartStop, Lost}
+use Rattle.ingest_workers.specs.declared.stop.Stop.TheVariants.{Part as PartStop, Lost}
 use Rattle.ingest_workers.specs.Stopping.{IsAtStop}
 use Rattle.ingest_workers.proofs.MaySealLemmas.{nothing_sealed}
 use Rattle.ingest_workers.specs.Doing.{Covering, Doing}
@@ -152,7 +152,6 @@ module _ {D R A B C : Type 0} (state : D → DiskState) (limit : ℕ) (start p :
   -- a message was not taken
   pub not_taken : (n : LockNamer R A B C) (new : Hand) (line : List ℕ) (y : Stop) → HasSamePasses m n → IsPrefix (types_seen m) (types_seen n) → IsPrefix (words_seen m) (words_seen n) → SameMarks hand new
       → ((cause : Cause) → y ≡ PartStop cause → SameRows hand new) → IsAtStop state limit start p n new taken line y
-  not_taken n new line (End ended) same a b marks rows = covering p new line (nothing_sealed state p d.worker.ready) marks.first
   not_taken n new line (PartStop cause) same a b marks rows = doing_kept n new same a b marks (rows cause refl)
   not_taken n new line (Lost cause) same a b marks rows = covering p new line (nothing_sealed state p d.worker.ready) marks.first
 

@@ -69,6 +69,7 @@ module _ {D R A B C : Type 0} (state : D → DiskState) (limit : ℕ) (start p :
     covered = taken;
     front = prefix_self taken;
     all = λ is. refl;
+    cause = refl;
     count = omega (arith, empty.first, d.first, d.not_yet.even, ap length d.taken_is, length-append (messages_in d.closed) d.messages);
     done = record {
       closed = d.closed;
@@ -104,6 +105,7 @@ module _ {D R A B C : Type 0} (state : D → DiskState) (limit : ℕ) (start p :
         covered = messages_in c.closed;
         front = (d.messages, sym d.taken_is);
         all = λ is. absurd (cc (is));
+        cause = refl;
         count = c.first;
         done = record {
           closed = c.closed;
@@ -156,6 +158,7 @@ module _ {D R A B C : Type 0} (state : D → DiskState) (limit : ℕ) (start p :
     covered = taken;
     front = prefix_self taken;
     all = λ is. refl;
+    cause = refl;
     count = omega (arith, empty.first, d.first, d.not_yet.even, ap length d.taken_is, length-append (messages_in d.closed) d.messages);
     done = record {
       closed = d.closed;

@@ -68,16 +68,14 @@ module _ {S D : Type 0} {d : DiskGhosts D} (left : S → Option (List ℕ)) (pla
   pub file_of : (fresh : List JournalEntry) (old new : Job S) (p q : KeeperPass D) (over : About (StoreFixed D)) → IsDone d.state left plan.rows plan.version old p new q → number_of p ≡ old.file → about p ≡ Some over
       → over.fixed.opened ≡ before.disk.now → over.fixed.header ≡ before.header → own_list p ≡ []
       → filter_map (in_file old.file) fresh ≡ filter_map (in_file old.file) (journal_seen (entries_in (own_list q))) → IsPrefix (journal_seen (seen q)) (told_entries (state_of before) ++ fresh) → IsFileOf left plan before fresh old new
-  file_of fresh old new p q over done number known opened header own picked seen_on = let o = done.outcome in let h = o.done in record {
+  file_of fresh old new p q over done number known opened header own picked seen_on = let o = done.came in let h = o.done in record {
     file = done.file;
-    cause = done.cause;
-    taken = done.taken;
-    ended = done.ended;
-    given = done.told;
     covered = o.covered;
-    front = o.front;
-    all = o.all;
+    ended = o.ended;
     count = o.count;
+    cause = o.cause;
+    first = o.first;
+    all = o.all;
     closed = h.closed;
     rest = h.rest;
     parts = h.covered_is;
@@ -91,23 +89,23 @@ module _ {S D : Type 0} {d : DiskGhosts D} (left : S → Option (List ℕ)) (pla
       told_here X x = subst (λ (y : D). IfTold (is_some (d.state y).seen) X) opened x
 
       segments : ℕ → List SegmentEntry
-      segments n = segments_from n 0 done.outcome.done.closed ++ rest_of n (length (messages_in done.outcome.done.closed)) new.outcome.whole done.ended done.outcome.done.rest
+      segments n = segments_from n 0 done.came.done.closed ++ rest_of n (length (messages_in done.came.done.closed)) new.outcome.whole done.came.ended done.came.done.rest
 
       mine : (n : ℕ) → Mine n (segments n)
-      mine n = mine_joined n (segments_from n 0 done.outcome.done.closed) (rest_of n (length (messages_in done.outcome.done.closed)) new.outcome.whole done.ended done.outcome.done.rest)
-          (mine_from n 0 done.outcome.done.closed) (mine_rest n (length (messages_in done.outcome.done.closed)) new.outcome.whole done.ended done.outcome.done.rest)
+      mine n = mine_joined n (segments_from n 0 done.came.done.closed) (rest_of n (length (messages_in done.came.done.closed)) new.outcome.whole done.came.ended done.came.done.rest)
+          (mine_from n 0 done.came.done.closed) (mine_rest n (length (messages_in done.came.done.closed)) new.outcome.whole done.came.ended done.came.done.rest)
 
-      added : journal_seen (entries_in (own_list q)) ≡ journal_seen (entries_at done.outcome.done.more)
-      added = ap (λ l. journal_seen (entries_in l)) (done.outcome.done.added.own ∙ ap (λ l. l ++ done.outcome.done.more) own) ∙ ap journal_seen (entries_same done.outcome.done.more)
+      added : journal_seen (entries_in (own_list q)) ≡ journal_seen (entries_at done.came.done.more)
+      added = ap (λ l. journal_seen (entries_in l)) (done.came.done.added.own ∙ ap (λ l. l ++ done.came.done.more) own) ∙ ap journal_seen (entries_same done.came.done.more)
 
-      exactly : sealed_by done.outcome.done.more ≡ segments (number_of p) → filter_map (in_file old.file) fresh ≡ segments old.file
-      exactly are = let sealed : sealed_by done.outcome.done.more ≡ segments old.file = subst (λ (n : ℕ). sealed_by done.outcome.done.more ≡ segments n) number are in
-          picked ∙ (ap (filter_map (in_file old.file)) added ∙ (picked_all old.file (journal_seen (entries_at done.outcome.done.more)) (subst (Mine old.file) (sym sealed) (mine old.file)) ∙ sealed))
+      exactly : sealed_by done.came.done.more ≡ segments (number_of p) → filter_map (in_file old.file) fresh ≡ segments old.file
+      exactly are = let sealed : sealed_by done.came.done.more ≡ segments old.file = subst (λ (n : ℕ). sealed_by done.came.done.more ≡ segments n) number are in
+          picked ∙ (ap (filter_map (in_file old.file)) added ∙ (picked_all old.file (journal_seen (entries_at done.came.done.more)) (subst (Mine old.file) (sym sealed) (mine old.file)) ∙ sealed))
 
-      further : FrontHolds over.fixed.header (journal_seen (seen q)) (number_of p) done.outcome.covered new.outcome.whole (new.outcome.whole && done.ended)
-          → FrontHolds before.header (told_entries (state_of before) ++ fresh) old.file done.outcome.covered new.outcome.whole (new.outcome.whole && done.ended)
-      further f = subst (λ x. FrontHolds x (told_entries (state_of before) ++ fresh) old.file done.outcome.covered new.outcome.whole (new.outcome.whole && done.ended)) header
-          (subst (λ (n : ℕ). FrontHolds over.fixed.header (told_entries (state_of before) ++ fresh) n done.outcome.covered new.outcome.whole (new.outcome.whole && done.ended)) number (record {
+      further : FrontHolds over.fixed.header (journal_seen (seen q)) (number_of p) done.came.covered new.outcome.whole (new.outcome.whole && done.came.ended)
+          → FrontHolds before.header (told_entries (state_of before) ++ fresh) old.file done.came.covered new.outcome.whole (new.outcome.whole && done.came.ended)
+      further f = subst (λ x. FrontHolds x (told_entries (state_of before) ++ fresh) old.file done.came.covered new.outcome.whole (new.outcome.whole && done.came.ended)) header
+          (subst (λ (n : ℕ). FrontHolds over.fixed.header (told_entries (state_of before) ++ fresh) n done.came.covered new.outcome.whole (new.outcome.whole && done.came.ended)) number (record {
             front = f.front;
             begins = prefix_trans f.front (journal_seen (seen q)) (told_entries (state_of before) ++ fresh) f.begins seen_on;
             holds = f.holds;

@@ -8,6 +8,7 @@ use Rattle.log_seams.specs.declared.disk.Disk.{Ghosts as DiskGhosts}
 use Rattle.log_seams.specs.Disk.{DiskState}
 use Rattle.log_seams.specs.Outside.{Rose}
 use Rattle.record_format.specs.declared.header.Header.{Header}
+use Rattle.record_format.specs.Header.{IsHeader}
 use Rattle.archive_meaning.specs.Stands.{IsLegal}
 use Rattle.logtype_text.specs.Fair.{IsFairType, IsFairWord}
 use Rattle.turn_lock.specs.declared.board.About.{About}
@@ -261,11 +262,12 @@ module _ {S D : Type 0} {d : DiskGhosts D} (left : S → Option (List ℕ)) wher
 
   module _ (before : Journal D d) (types words : BookPass) (t w : ℕ) where
     -- each worker may do each job
-    pub may_do : (first : ℕ) (plan : Plan) (ws : List Worker) (js : List (Job S)) → AreNew first (state_of before) js → HavePlan plan ws → 1 ≤ plan.rows → plan.rows ≤ 65536 → plan.version ≡ before.header.version
+    pub may_do : (first : ℕ) (plan : Plan) (ws : List Worker) (js : List (Job S)) → AreNew first (state_of before) js → HavePlan plan ws → 1 ≤ plan.rows → plan.rows ≤ 65536 → plan.version ≡ before.header.version → IsHeader before.header
         → ((n : ℕ) (v : Worker) → slice_get ws n ≡ Some v → (lock_of (types_pass v) ≡ lock_of types) × (lock_of (words_pass v) ≡ lock_of words)) → MayDoAt d.state first (opened_over before types words t w) ws js
-    may_do first plan ws js new planned least most version locks ks even passes n i v job k worker at pass = let r = passes i k pass in let o = r.0 in let at_plan = planned n v worker in let l = locks n v worker in record {
+    may_do first plan ws js new planned least most version header locks ks even passes n i v job k worker at pass = let r = passes i k pass in let o = r.0 in let at_plan = planned n v worker in let l = locks n v worker in record {
       least = subst (λ (p : Plan). 1 ≤ p.rows) (sym at_plan) least;
       most = subst (λ (p : Plan). p.rows ≤ 65536) (sym at_plan) most;
+      version = subst (λ (p : Plan). (1 ≤ p.version) × (p.version ≤ 3)) (sym at_plan) (subst (λ (n : ℕ). (1 ≤ n) × (n ≤ 3)) (sym version) (header.least_version, header.most_version));
       fits = record {
         types = λ a is. l.0 ∙ ap (λ (x : About (StoreFixed D)). x.fixed.types) (same k a o is);
         words = λ a is. l.1 ∙ ap (λ (x : About (StoreFixed D)). x.fixed.words) (same k a o is);
@@ -290,10 +292,10 @@ module _ {S D : Type 0} {d : DiskGhosts D} (left : S → Option (List ℕ)) wher
         same k a o is = let was = o.about_is in cc (was, is)
 
     pub may_do_by : (o : StoreView D) (f first : ℕ) (plan : Plan) (ws : List Worker) (js : List (Job S)) → o ≡ opened_over before types words t w → f ≡ first → AreNew first (state_of before) js → HavePlan plan ws
-        → 1 ≤ plan.rows → plan.rows ≤ 65536 → plan.version ≡ before.header.version
+        → 1 ≤ plan.rows → plan.rows ≤ 65536 → plan.version ≡ before.header.version → IsHeader before.header
         → ((n : ℕ) (v : Worker) → slice_get ws n ≡ Some v → (lock_of (types_pass v) ≡ lock_of types) × (lock_of (words_pass v) ≡ lock_of words)) → MayDoAt d.state f o ws js
-    may_do_by o f first plan ws js is same new planned least most version locks = subst (λ (n : ℕ). MayDoAt d.state n o ws js) (sym same)
-        (subst (λ (x : StoreView D). MayDoAt d.state first x ws js) (sym is) (may_do first plan ws js new planned least most version locks))
+    may_do_by o f first plan ws js is same new planned least most version header locks = subst (λ (n : ℕ). MayDoAt d.state n o ws js) (sym same)
+        (subst (λ (x : StoreView D). MayDoAt d.state first x ws js) (sym is) (may_do first plan ws js new planned least most version header locks))
 
 -- The files of jobs have 32 bits.
 pub few_jobs : {S : Type 0} (j : JournalState) (js : List (Job S)) → AreNew (first_file js) j js → (first_file js < 4294967296) × (length js ≤ 4294967296)

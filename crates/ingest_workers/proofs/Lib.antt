@@ -10,3 +10,5 @@ pub mod PartLemmas
 pub mod DoingLemmas
 pub mod DoneLemmas
 pub mod FileLemmas
+pub mod NamingLemmas
+pub mod TakingLemmas

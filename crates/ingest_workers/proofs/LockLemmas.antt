@@ -68,7 +68,7 @@ module _ {S D : Type 0} (state : D → DiskState) (left : S → Option (List ℕ
       → (i : ℕ) (q : KeeperPass D) → slice_get qs i ≡ Some q → (p : KeeperPass D) × (slice_get ks i ≡ Some p) × Did p q
   did_at ws js js' ks qs even all i q at = let keepers = all.keepers in let lt = slice_get_within qs i q at in let k = there_is ks i (omega arith) in let j = there_is js i (omega arith) in
       let d = all.each i j.0 k.0 j.1 k.1 in let same : d.keeper ≡ q = cc (d.keeper_is, at) in
-      (k.0, k.1, subst (λ (x : KeeperPass D). Did k.0 x) same (record { more = d.did_it.outcome.done.more; added = d.did_it.outcome.done.added }))
+      (k.0, k.1, subst (λ (x : KeeperPass D). Did k.0 x) same (record { more = d.did_it.came.done.more; added = d.did_it.came.done.added }))
 
   are_still : (ws : List Worker) (js js' : List (Job S)) (ks qs : List (KeeperPass D)) → length ks ≡ length js → AllDone (DidJob state left) ws js ks js' qs → AreStill ks qs
   are_still ws js js' ks qs even all = record {

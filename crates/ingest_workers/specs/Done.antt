@@ -1,5 +1,5 @@
 -- What is left of a job.
-use Rattle.std.specs.Prelude.{◌≡◌, ℕ, ◌&&◌, Bool, true, List, ◌++◌, length, All}
+use Rattle.std.specs.Prelude.{◌≡◌, ℕ, ◌&&◌, Bool, true, not, is_some, List, ◌++◌, length, All}
 use mathlib.Core.List.{IsPrefix}
 use Rattle.log_seams.specs.Disk.{DiskState}
 use Rattle.turn_lock.specs.Words.{seen, number_of}
@@ -24,10 +24,11 @@ module _ {D : Type 0} where
     pub segments : WhereTold state start (λ h. sealed_by more ≡ segments_from (number_of start) 0 closed ++ rest_of (number_of start) (length (messages_in closed)) whole ended rest)
     pub held : WhereTold state start (λ h. FrontHolds h (journal_seen (seen p)) (number_of start) covered whole (whole && ended))
 
-  -- the outcome counts those of the messages taken that are sealed
+  -- the outcome counts those of the messages taken that are sealed, and has a cause exactly where the file is not whole
   pub record IsOutcome (state : D → DiskState) (limit : ℕ) (start p : KeeperPass D) (taken : List (List ℕ)) (ended : Bool) (o : Outcome) : Type 0 where
     pub covered : List (List ℕ)
     pub front : IsPrefix covered taken
     pub all : o.whole ≡ true → covered ≡ taken
+    pub cause : is_some o.cause ≡ not o.whole
     pub count : o.messages ≡ length covered
     pub done : HasDone state limit start p covered o.whole ended

@@ -1,5 +1,5 @@
 -- When an ingest may begin, and what it leaves.
-use Rattle.std.specs.Prelude.{◌≡◌, ◌⊎◌, ℕ, ◌+◌, ◌<◌, ◌≤◌, ◌&&◌, Bool, true, false, List, [], ◌∷◌, ◌++◌, length, is_some, Option, None, Some, slice_get, All}
+use Rattle.std.specs.Prelude.{◌≡◌, ◌⊎◌, ℕ, ◌+◌, ◌<◌, ◌≤◌, ◌&&◌, Bool, true, false, not, List, [], ◌∷◌, ◌++◌, length, is_some, Option, None, Some, IfSome, slice_get, All}
 use Rattle.std.specs.List.{filter_map}
 use mathlib.Core.List.{IsPrefix}
 use Rattle.log_seams.specs.declared.disk.Disk.{Ghosts as DiskGhosts}
@@ -18,6 +18,7 @@ use Rattle.disk_journal.specs.State.{JournalState}
 use Rattle.archive_meaning.specs.declared.entry.JournalEntry.{JournalEntry}
 use Rattle.archive_meaning.specs.declared.entry.JournalEntry.TheVariants.{Files, Types, Words, Segment}
 use Rattle.archive_meaning.specs.Spelled.{types_of}
+use Rattle.message_reader.specs.Versions.{MessagesOf}
 use Rattle.disk_seal.specs.declared.fixed.StoreFixed.{StoreFixed}
 use Rattle.disk_seal.specs.Told.{IfTold, journal_in}
 use Rattle.disk_seal.specs.WordsIn.{words_of}
@@ -32,7 +33,7 @@ use Rattle.ingest_workers.specs.declared.outcome.Cause.TheVariants.{OutOfMemory}
 use Rattle.ingest_workers.specs.Outcome.{nothing_done}
 use Rattle.ingest_workers.specs.Journal.{FrontHolds, Holds}
 use Rattle.ingest_workers.specs.Parts.{IsCut, IsOpen, Part, messages_in, rest_of, segments_from}
-use Rattle.ingest_workers.specs.JobDone.{AreTaken}
+use Rattle.ingest_workers.specs.JobDone.{in_source}
 use Rattle.ingest_workers.specs.Crew.{BookMaker, EndsBook}
 use Rattle.ingest_workers.specs.Worker.{IsGiven}
 use Rattle.ingest_workers.specs.Locked.{in_file}
@@ -97,6 +98,10 @@ pub record OpensBook {G : Ghosts BookState (List ℕ) ℕ} (first : ℕ) (told :
   pub opening : IsOpening m first book.texts book.limit
   pub has : HasBook told limit texts saved book
 
+-- where the bytes are told, this holds of their messages in this version, and of whether the last line had its newline
+abbrev pub OfMessages : ℕ → Option (List ℕ) → (List (List ℕ) → Bool → Type 0) → Type 0
+OfMessages version bytes P = IfSome bytes (λ b. (messages : List (List ℕ)) (ended : Bool) → MessagesOf version b messages ended → P messages ended)
+
 module _ {D : Type 0} {d : DiskGhosts D} where
   -- the store that is made of a journal and passes that have seen so many texts
   abbrev pub opened_over : Journal D d → BookPass → BookPass → ℕ → ℕ → StoreView D
@@ -147,19 +152,17 @@ module _ {D : Type 0} {d : DiskGhosts D} where
   IsAsItWas before after = (after ≡ before) ⊎ ((store : StoreView D) × HasStayed store before after)
 
 module _ {S D : Type 0} {d : DiskGhosts D} where
-  -- A job was done. The messages that its outcome counts are the first ones of its source, and all of them where the file is whole. They are cut in
-  -- parts. Where the journal is told, the file's segments among the new entries are exactly those of the parts, in order, and a front of the journal
+  -- A job was done. The messages that its outcome counts are the first ones of its source, and all of them where the file is whole; there is a cause
+  -- exactly where it is not. They are cut in parts. Where the journal is told, the file's segments among the new entries are exactly those of the parts, in order, and a front of the journal
   -- holds exactly these messages of the file.
   pub record IsFileOf (left : S → Option (List ℕ)) (plan : Plan) (before : Journal D d) (fresh : List JournalEntry) (old new : Job S) : Type 0 where
     pub file : new.file ≡ old.file
-    pub cause : (new.outcome.cause ≡ None → new.outcome.whole ≡ true) × (new.outcome.whole ≡ true → new.outcome.cause ≡ None)
-    pub taken : List (List ℕ)
-    pub ended : Bool
-    pub given : AreTaken left plan.version old taken ended new.outcome.whole
     pub covered : List (List ℕ)
-    pub front : IsPrefix covered taken
-    pub all : new.outcome.whole ≡ true → covered ≡ taken
+    pub ended : Bool
     pub count : new.outcome.messages ≡ length covered
+    pub cause : is_some new.outcome.cause ≡ not new.outcome.whole
+    pub first : OfMessages plan.version (in_source left old.source) (λ messages e. IsPrefix covered messages)
+    pub all : new.outcome.whole ≡ true → OfMessages plan.version (in_source left old.source) (λ messages e. (covered ≡ messages) × (ended ≡ e))
     pub closed : List Part
     pub rest : Part
     pub parts : covered ≡ messages_in closed ++ rest.messages

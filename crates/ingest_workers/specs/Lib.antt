@@ -4,9 +4,14 @@ pub mod Parts
 pub mod Journal
 pub mod Hand
 pub mod Namer
+pub mod Naming
 pub mod Keys
 pub mod Sealed
 pub mod MaySeal
+pub mod Doing
+pub mod Stopping
+pub mod Done
+pub mod Taking
 pub mod JobDone
 pub mod Worker
 pub mod WorkerLaws
@@ -14,6 +19,3 @@ pub mod Crew
 pub mod Locked
 pub mod Ingested
 pub mod Closing
-pub mod Doing
-pub mod Stopping
-pub mod Done

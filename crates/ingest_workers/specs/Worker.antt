@@ -4,12 +4,10 @@ use Rattle.log_seams.specs.Disk.{DiskState}
 use Rattle.turn_lock.specs.declared.board.About.{About}
 use Rattle.turn_lock.specs.Words.{about, lock_of, number_of, own_list, IsReady}
 use Rattle.dict_core.specs.declared.grows.TheConstants.{WORDS_FIRST}
-use Rattle.dict_lock.specs.Shared.{BookPass, GoesOn}
+use Rattle.dict_lock.specs.Shared.{BookPass}
 use Rattle.row_codec.specs.Messages.{IsTypeOf, IsWordOf}
-use Rattle.row_codec.specs.Naming.{HasGrown}
 use Rattle.disk_seal.specs.declared.fixed.StoreFixed.{StoreFixed}
 use Rattle.disk_seal.specs.Fixed.{KeeperPass}
-use Rattle.disk_seal.specs.Known.{known_of}
 use Rattle.disk_seal.specs.Prepare.{HasSeenOpening}
 use Rattle.ingest_workers.specs.declared.job.Job.{Job}
 use Rattle.ingest_workers.specs.declared.worker.BookPasses.{BookPasses}
@@ -17,6 +15,7 @@ use Rattle.ingest_workers.specs.declared.worker.Plan.{Plan}
 use Rattle.ingest_workers.specs.declared.worker.Worker.{Worker}
 use Rattle.ingest_workers.specs.Outcome.{nothing_done}
 use Rattle.ingest_workers.specs.Journal.{HasSoFar}
+use Rattle.ingest_workers.specs.Naming.{AddsOnly}
 use Rattle.ingest_workers.specs.JobDone.{IsGivenBy, IsDone}
 
 pub no_passes : IsSome {T = BookPasses} None → ⊥
@@ -46,11 +45,6 @@ pub record MayAddTexts (b : BookPasses) : Type 0 where
 -- the worker is between two jobs
 abbrev pub IsIdle : Worker → Type 0
 IsIdle w = MayAddTexts (passes_of w)
-
--- the pass has seen more, and all that it added meanwhile is such a text
-pub record AddsOnly (P : List ℕ → Type 0) (p q : BookPass) : Type 0 where
-  pub goes : GoesOn p q
-  pub grown : HasGrown P (known_of p) (known_of q)
 
 -- what both passes added meanwhile are texts of the encodings of these messages
 pub record NamesOnly (version : ℕ) (P : List ℕ → Type 0) (b c : BookPasses) : Type 0 where
@@ -88,6 +82,7 @@ module _ {S D : Type 0} (state : D → DiskState) where
   pub record MayDo (w : Worker) (j : Job S) (k : KeeperPass D) : Type 0 where
     pub least : 1 ≤ w.plan.rows
     pub most : w.plan.rows ≤ 65536
+    pub version : (1 ≤ w.plan.version) × (w.plan.version ≤ 3)
     pub fits : GoWith w.plan (passes_of w) k
     pub new : IsNewJob j k
 

@@ -15,8 +15,9 @@ use Rattle.ingest_workers.specs.declared.job.Job.{Job}
 use Rattle.ingest_workers.specs.declared.worker.BookPasses.{BookPasses}
 use Rattle.ingest_workers.specs.declared.worker.Plan.{Plan}
 use Rattle.ingest_workers.specs.declared.worker.Worker.{Worker}
+use Rattle.ingest_workers.specs.Naming.{AddsOnly}
 use Rattle.ingest_workers.specs.JobDone.{IsGivenBy, IsDone}
-use Rattle.ingest_workers.specs.Worker.{passes_in, passes_of, types_of, words_of, MayAddTexts, IsIdle, AddsOnly, NamesOnly, IsGiven, DidOnly, GoWith, IsNewJob, MayDo, DidJob}
+use Rattle.ingest_workers.specs.Worker.{passes_in, passes_of, types_of, words_of, MayAddTexts, IsIdle, NamesOnly, IsGiven, DidOnly, GoWith, IsNewJob, MayDo, DidJob}
 
 grows_self : (P : List ℕ → Type 0) (known : Known) → HasGrown P known known
 grows_self P known = record { limit = refl; front = prefix_self known.texts; more = []; added = sym (append-nil known.added); allowed = All-nil P }
@@ -114,6 +115,7 @@ module _ {S D : Type 0} (state : D → DiskState) (left : S → Option (List ℕ
   fits_on js a b j k one may = let rows = ap (λ (p : Plan). p.rows) one.plan in let was = may.fits in record {
     least = subst (λ (n : ℕ). 1 ≤ n) (sym rows) may.least;
     most = subst (λ (n : ℕ). n ≤ 65536) (sym rows) may.most;
+    version = subst (λ (n : ℕ). (1 ≤ n) × (n ≤ 3)) (sym (ap (λ (p : Plan). p.version) one.plan)) may.version;
     fits = record {
       types = λ x is. one.names.types.goes.still.lock ∙ was.types x is;
       words = λ x is. one.names.words.goes.still.lock ∙ was.words x is;

@@ -1,14 +1,16 @@
 //! The end of a file.
-ghost use Rattle.std.specs.Prelude.{◌≡◌, ◌≤◌, ℕ, List, false, true, length};
+ghost use Rattle.std.specs.Prelude.{◌≡◌, ◌≤◌, ℕ, Bool, List, Ok, false, true, length};
 ghost use Rattle.archive_meaning.specs.declared.TheConstants.{MAX_ROWS, MAX_MESSAGES};
 ghost use Rattle.archive_meaning.specs.Held.{last_is_open};
 ghost use Rattle.disk_seal.specs.Fixed.{KeeperPass};
 ghost use Rattle.ingest_workers.specs.Doing.{Doing};
 ghost use Rattle.ingest_workers.specs.Done.{IsOutcome};
 ghost use Rattle.ingest_workers.specs.Namer.{HasOnlySeen};
+ghost use Rattle.ingest_workers.specs.Taking.{StopsAt, mark_of};
 
 use crate::hand::Hand;
 use crate::outcome::{Cause, Outcome};
+use crate::stop::Stop;
 use disk_seal::{LockNamer, Store};
 use log_seams::Disk;
 use std::alloc::Global;
@@ -66,6 +68,8 @@ pub(crate) fn seal_part<'d, 'b, D: Disk, R: Wait, A: Ledger, B: Ledger, C: Ledge
     requires limit { _rows ≤ MAX_ROWS }
     requires doing { (start : KeeperPass _) × (taken : List (List ℕ)) × (length taken ≤ MAX_MESSAGES)
         × Doing D.state _rows start keeper.old namer.old hand.old taken }
+    ensures namer { HasOnlySeen namer.old namer.new }
+    ensures part { result.whole ≡ false }
     ensures outcome { (start : KeeperPass _) (taken : List (List ℕ))
         → Doing D.state _rows start keeper.old namer.old hand.old taken
         → IsOutcome D.state _rows start keeper.new taken false result }
@@ -87,6 +91,37 @@ pub(crate) fn seal_part<'d, 'b, D: Disk, R: Wait, A: Ledger, B: Ledger, C: Ledge
             messages: hand.draft.first,
             whole: false,
             cause: Some(refused),
+        },
+    }
+}
+
+/// Ends a file of which no further message is taken: seals what may still be sealed. `stop` is the
+/// answer of `take_messages`.
+pub(crate) fn finish<'d, 'b, D: Disk, R: Wait, A: Ledger, B: Ledger, C: Ledger>(
+    rt: &R,
+    alloc: Global,
+    rows: u32,
+    stop: Result<bool, Stop>,
+    hand: &mut Hand,
+    namer: &mut LockNamer<'_, '_, R, A, B, C>,
+    keeper: &mut Pass<'_, Store<'d, 'b, D>>,
+) -> Outcome
+    requires limit { (1 ≤ rows) × (rows ≤ MAX_ROWS) }
+    requires stops { (start : KeeperPass _) × (taken : List (List ℕ)) × (length taken ≤ MAX_MESSAGES)
+        × StopsAt D.state rows start keeper.old namer.old hand.old taken stop }
+    ensures namer { HasOnlySeen namer.old namer.new }
+    ensures whole { result.whole ≡ true → (ended : Bool) × (stop ≡ Ok ended) }
+    ensures outcome { (start : KeeperPass _) (taken : List (List ℕ))
+        → StopsAt D.state rows start keeper.old namer.old hand.old taken stop
+        → IsOutcome D.state rows start keeper.new taken (mark_of stop) result }
+{
+    match stop {
+        Ok(ended) => seal_last(rt, alloc, rows, ended, hand, namer, keeper),
+        Err(Stop::Part(cause)) => seal_part(rt, alloc, rows, cause, hand, namer, keeper),
+        Err(Stop::Lost(cause)) => Outcome {
+            messages: hand.draft.first,
+            whole: false,
+            cause: Some(cause),
         },
     }
 }

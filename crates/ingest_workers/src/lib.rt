@@ -14,9 +14,11 @@ mod run;
 mod sealing;
 mod stop;
 mod take;
+mod taking;
 mod work;
 mod worker;
 
 pub use ingesting::{IngestRefused, ingest};
 pub use job::Job;
 pub use outcome::{Cause, Outcome};
+pub use run::run_job;

@@ -1,10 +1,11 @@
 //! A namer whose passes stay what they are.
-ghost use Rattle.std.specs.Prelude.{◌≡◌, ◌≤◌, ◌↔◌, ◌++◌, ◌∷◌, [], ℕ, All, List, Some, length, IfOk, IsErrOf, IsTrue, OnOk, slice_get};
+ghost use Rattle.std.specs.Prelude.{◌≡◌, ◌≤◌, ◌↔◌, ◌++◌, ◌∷◌, [], ℕ, All, List, None, Option, Some, length, IfOk, IsErrOf, IsTrue, OnOk, slice_get};
 ghost use Rattle.std.specs.List.{Contains};
 ghost use Rattle.atomic_table.specs.Seated.{TableId};
 ghost use Rattle.logtype_text.specs.Encoded.{AreWithin, texts_at};
 ghost use Rattle.logtype_text.specs.Fair.{IsFairType, IsFairWord};
-ghost use Rattle.turn_lock.specs.Words.{lock_of, number_of, seen};
+ghost use Rattle.turn_lock.specs.declared.board.About.{About};
+ghost use Rattle.turn_lock.specs.Words.{about, lock_of, number_of, seen};
 ghost use Rattle.dict_lock.specs.Shared.{BookPass, GoesOn};
 ghost use Rattle.column_store.specs.declared.row.Row.{Row};
 ghost use Rattle.row_codec.specs.declared.TheConstants.{MAX_MESSAGE_LEN};
@@ -124,6 +125,8 @@ pub(crate) trait Keys {
     ghost words: { TableId };
     ghost types_number: { ℕ };
     ghost words_number: { ℕ };
+    ghost types_about: { Option (About ℕ) };
+    ghost words_about: { Option (About ℕ) };
 }
 
 impl Keys for Brand {
@@ -132,6 +135,8 @@ impl Keys for Brand {
     ghost words = { no_table };
     ghost types_number = { 0 };
     ghost words_number = { 0 };
+    ghost types_about = { None };
+    ghost words_about = { None };
 }
 
 /// A namer that is lent, whose passes stay those of the keys.
@@ -144,6 +149,8 @@ struct Kept<'n, N: PassNamer, K: Keys> {
     ghost words: { lock_of (N.words namer.now) ≡ K.words },
     ghost types_number: { number_of (N.types namer.now) ≡ K.types_number },
     ghost words_number: { number_of (N.words namer.now) ≡ K.words_number },
+    ghost types_about: { about (N.types namer.now) ≡ K.types_about },
+    ghost words_about: { about (N.words namer.now) ≡ K.words_about },
 }
 
 impl<N: PassNamer, K: Keys> Namer for Kept<'_, N, K> {
@@ -190,6 +197,8 @@ fn keep<'n, N: PassNamer, K: Keys>(lent: Lent<'n, N>) -> Kept<'n, N, K>
     requires words { lock_of (N.words lent.namer.now) ≡ K.words }
     requires types_number { number_of (N.types lent.namer.now) ≡ K.types_number }
     requires words_number { number_of (N.words lent.namer.now) ≡ K.words_number }
+    requires types_about { about (N.types lent.namer.now) ≡ K.types_about }
+    requires words_about { about (N.words lent.namer.now) ≡ K.words_about }
     ensures name { result.namer.ghost_name ≡ lent.entry.namer.ghost_name }
     ensures now { result.namer.now ≡ lent.entry.namer.now }
 {
@@ -211,6 +220,8 @@ fn take_by<'n, N: PassNamer, K: Keys>(
     requires words { lock_of (N.words lent.namer.now) ≡ K.words }
     requires types_number { number_of (N.types lent.namer.now) ≡ K.types_number }
     requires words_number { number_of (N.words lent.namer.now) ≡ K.words_number }
+    requires types_about { about (N.types lent.namer.now) ≡ K.types_about }
+    requires words_about { about (N.words lent.namer.now) ≡ K.words_about }
     requires short { length line.now ≤ MAX_MESSAGE_LEN }
     requires room { HasRoom hand.old }
 
@@ -222,6 +233,8 @@ fn take_by<'n, N: PassNamer, K: Keys>(
         × (lock_of (N.words result.1.namer.now) ≡ lock_of (N.words lent.entry.namer.now)) }
     ensures numbers { (number_of (N.types result.1.namer.now) ≡ number_of (N.types lent.entry.namer.now))
         × (number_of (N.words result.1.namer.now) ≡ number_of (N.words lent.entry.namer.now)) }
+    ensures abouts { (about (N.types result.1.namer.now) ≡ about (N.types lent.entry.namer.now))
+        × (about (N.words result.1.namer.now) ≡ about (N.words lent.entry.namer.now)) }
     ensures types { HasGrown (IsTypeOf (N.version lent.entry.namer.now) line.now)
         (known_of (N.types lent.entry.namer.now)) (known_of (N.types result.1.namer.now)) }
     ensures words { HasGrown (IsWordOf (N.version lent.entry.namer.now) line.now)
@@ -265,6 +278,8 @@ pub(crate) fn take_message<N: PassNamer>(
         × (lock_of (N.words namer.new) ≡ lock_of (N.words namer.old)) }
     ensures numbers { (number_of (N.types namer.new) ≡ number_of (N.types namer.old))
         × (number_of (N.words namer.new) ≡ number_of (N.words namer.old)) }
+    ensures abouts { (about (N.types namer.new) ≡ about (N.types namer.old))
+        × (about (N.words namer.new) ≡ about (N.words namer.old)) }
     ensures types { HasGrown (IsTypeOf (N.version namer.old) line.now)
         (known_of (N.types namer.old)) (known_of (N.types namer.new)) }
     ensures words { HasGrown (IsWordOf (N.version namer.old) line.now)

@@ -11,8 +11,6 @@ use std::alloc::{AllocError, AllocFailed};
 /// Why no further message of a file is taken.
 #[derive(Clone, Copy, Debug)]
 pub(crate) enum Stop {
-    /// The source has ended; `ended` tells whether its last line had its newline.
-    End { ended: bool },
     /// The rows in hand are still to be sealed.
     Part(Cause),
     /// Nothing more of the file is sealed.

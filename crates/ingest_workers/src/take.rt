@@ -1,13 +1,11 @@
 //! One message of a file.
 ghost use Rattle.std.specs.Prelude.{◌≡◌, ◌≤◌, ◌<◌, ◌++◌, ◌∷◌, [], ℕ, List, length, IfErr, OnOk};
-ghost use Rattle.row_codec.specs.Messages.{IsMessage, IsTypeOf, IsWordOf};
-ghost use Rattle.row_codec.specs.Naming.{HasGrown};
+ghost use Rattle.row_codec.specs.Messages.{IsMessage};
 ghost use Rattle.archive_meaning.specs.declared.TheConstants.{MAX_ROWS, MAX_MESSAGES};
 ghost use Rattle.disk_seal.specs.Fixed.{KeeperPass};
-ghost use Rattle.disk_seal.specs.Known.{known_of};
 ghost use Rattle.ingest_workers.specs.Doing.{Doing};
 ghost use Rattle.ingest_workers.specs.Stopping.{IsAtStop};
-ghost use Rattle.ingest_workers.specs.Namer.{types_pass, words_pass};
+ghost use Rattle.ingest_workers.specs.Naming.{HasNamed};
 
 use crate::hand::Hand;
 use crate::naming::take_message;
@@ -40,10 +38,7 @@ pub(crate) fn take_one<'d, 'b, D: Disk, R: Wait, A: Ledger, B: Ledger, C: Ledger
         × Doing D.state rows start keeper.old namer.old hand.old taken }
 
     // what the namer has learned
-    ensures types { HasGrown (IsTypeOf namer.old.version line.now)
-        (known_of (types_pass namer.old)) (known_of (types_pass namer.new)) }
-    ensures words { HasGrown (IsWordOf namer.old.version line.now)
-        (known_of (words_pass namer.old)) (known_of (words_pass namer.new)) }
+    ensures names { HasNamed (λ m. m ≡ line.now) namer.old namer.new }
 
     // by the answer
     ensures taken { (start : KeeperPass _) (taken : List (List ℕ))

@@ -29,6 +29,7 @@ fn do_with_blanks<'b, 'd, S: Source, D: Disk, R: Wait, A: Ledger, B: Ledger, C: 
     blanks: (Blank, Blank, Blank),
 ) -> BookPasses<'b>
     requires rows { (1 ≤ plan.rows) × (plan.rows ≤ 65536) }
+    requires version { (1 ≤ plan.version) × (plan.version ≤ 3) }
     requires may { MayAddTexts passes }
     requires with { GoWith plan passes keeper.old }
     requires new { IsNewJob D.state job.old keeper.old }
@@ -68,6 +69,7 @@ fn do_job<'b, 'd, S: Source, D: Disk, R: Wait>(
     keeper: &mut Pass<'_, Store<'d, 'b, D>>,
 ) -> BookPasses<'b>
     requires rows { (1 ≤ plan.rows) × (plan.rows ≤ 65536) }
+    requires version { (1 ≤ plan.version) × (plan.version ≤ 3) }
     requires may { MayAddTexts passes }
     requires with { GoWith plan passes keeper.old }
     requires new { IsNewJob D.state job.old keeper.old }

@@ -3,6 +3,7 @@ use Rattle.std.specs.Prelude.{IsErrOf}
 use Rattle.column_store.specs.Columns.{IsFull}
 use Rattle.ingest_workers.specs.declared.stop.Stop.TheVariants.{Part}
 use Rattle.ingest_workers.proofs.DoingLemmas.{covering, doing_more, doing_sealed, each_err, has_room, may_seal, not_taken, passes_of}
+use Rattle.ingest_workers.proofs.NamingLemmas.{named_one, named_only, named_then}
 use Rattle.ingest_workers.proofs.take.take_one.Goals as goal
 
 pub take_message-requires-clause-room : goal.take_message-requires-clause-room
@@ -43,3 +44,23 @@ pub returns-in-Err-clause-stopped : goal.returns-in-Err-clause-stopped
 returns-in-Err-clause-stopped g c = λ start taken d.
     covering g.D.Disk.state c.args.rows start c.args.keeper.now c.args.namer.now c.args.hand.now taken d c.seal.new.keeper c.seal.new.self c.args.line.now c.in-Err.ensures.refused
     (c.in-Err.ensures.marks.first ∙ c.take_message.ensures.marks.first)
+
+pub returns-in_err-take_message-clause-names : goal.returns-in_err-take_message-clause-names
+returns-in_err-take_message-clause-names g c =
+    named_one c.args.line.now c.args.namer.now c.take_message.new.namer c.take_message.ensures.version c.take_message.ensures.locks c.take_message.ensures.numbers c.take_message.ensures.abouts c.take_message.ensures.types c.take_message.ensures.words
+
+pub returns-then-not-is_full-clause-names : goal.returns-then-not-is_full-clause-names
+returns-then-not-is_full-clause-names g c =
+    named_one c.args.line.now c.args.namer.now c.take_message.new.namer c.take_message.ensures.version c.take_message.ensures.locks c.take_message.ensures.numbers c.take_message.ensures.abouts c.take_message.ensures.types c.take_message.ensures.words
+
+pub returns-in-Ok-clause-names : goal.returns-in-Ok-clause-names
+returns-in-Ok-clause-names g c =
+    named_then (λ m. m ≡ c.args.line.now) c.args.namer.now c.take_message.new.namer c.seal.new.namer
+    (named_one c.args.line.now c.args.namer.now c.take_message.new.namer c.take_message.ensures.version c.take_message.ensures.locks c.take_message.ensures.numbers c.take_message.ensures.abouts c.take_message.ensures.types c.take_message.ensures.words)
+    (named_only (λ m. m ≡ c.args.line.now) c.take_message.new.namer c.seal.new.namer c.seal.ensures.namer)
+
+pub returns-in-Err-clause-names : goal.returns-in-Err-clause-names
+returns-in-Err-clause-names g c =
+    named_then (λ m. m ≡ c.args.line.now) c.args.namer.now c.take_message.new.namer c.seal.new.namer
+    (named_one c.args.line.now c.args.namer.now c.take_message.new.namer c.take_message.ensures.version c.take_message.ensures.locks c.take_message.ensures.numbers c.take_message.ensures.abouts c.take_message.ensures.types c.take_message.ensures.words)
+    (named_only (λ m. m ≡ c.args.line.now) c.take_message.new.namer c.seal.new.namer c.seal.ensures.namer)
