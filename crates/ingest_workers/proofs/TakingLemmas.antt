@@ -1,6 +1,6 @@
 -- A worker that takes the messages of a source.
-use Rattle.std.proofs.Common.{◌≡◌, ◌≢◌, ◌⊎◌, inl, inr, ℕ, zero, suc, ◌+◌, ◌<◌, ◌≤◌, List, [], ◌∷◌, ◌++◌, Bool, true, false, length, refl, sym, ap, ◌∙◌, subst, arith, append-nil, append_assoc, length-append, Option, None, Some, Result, Ok, Err}
-use Rattle.std.specs.Prelude.{IfSome, IfErr, IsErrOf, is_some, not}
+use Rattle.std.proofs.Common.{◌≡◌, ◌≢◌, ◌⊎◌, inl, inr, ℕ, zero, suc, ◌+◌, ◌-◌, ◌<◌, ◌≤◌, List, [], ◌∷◌, ◌++◌, Bool, true, false, length, refl, sym, ap, ◌∙◌, subst, arith, append-nil, append_assoc, length-append, Option, None, Some, Result, Ok, Err}
+use Rattle.std.specs.Prelude.{IfSome, IfNone, IfErr, IsErrOf, is_some, not}
 use Rattle.std.specs.List.{Contains, flat_map}
 use Rattle.std.proofs.lemmas.Bool.{ne_eqb}
 use Rattle.std.proofs.lemmas.List.Elements.{All-nil}
@@ -40,7 +40,7 @@ use Rattle.ingest_workers.specs.Parts.{Part, IsCut, IsOpen, columns_of, front, m
 use Rattle.ingest_workers.specs.Stopping.{IsAtStop}
 use Rattle.ingest_workers.specs.Taking.{AreTaken, IsOneOf, StopsAt, Taking, Took, mark_of}
 use Rattle.ingest_workers.proofs.MaySealLemmas.{nothing_added}
-use Rattle.ingest_workers.proofs.NamingLemmas.{named_wider}
+use Rattle.ingest_workers.proofs.NamingLemmas.{named_then, named_wider}
 use Rattle.ingest_workers.proofs.SealLemmas.{if_told, of_told}
 
 abbrev Texts : Type 0
@@ -58,6 +58,12 @@ each_some (Some x) P f = f x
 
 pub err_at : {T E : Type 0} (r : Result T E) (y : E) (P : E → Type 0) → r ≡ Err y → IfErr r P → P y
 err_at r y P is p = subst (λ s. IfErr s P) is p
+
+pub some_at : {T : Type 0} (o : Option T) (x : T) (P : T → Type 0) → o ≡ Some x → IfSome o P → P x
+some_at o x P is p = subst (λ q. IfSome q P) is p
+
+pub none_at : {T : Type 0} (o : Option T) (P : Type 0) → o ≡ None → IfNone o P → P
+none_at o P is p = subst (λ q. IfNone q P) is p
 
 -- ---- the last line
 
@@ -163,6 +169,16 @@ module _ {S D R A B C : Type 0} (state : D → DiskState) (left : S → Option (
             told = all_of n.version bytes (taken ++ new.message ∷ []) false ((reading_ends left n.version bytes taken old new t.read).0 m');
           }
 
+-- ---- over several messages
+
+module _ {R A B C : Type 0} where
+  pub named_on : (bytes : Option (List ℕ)) (m n o : LockNamer R A B C) → HasNamed (IsOneOf m.version bytes) m n → HasNamed (IsOneOf n.version bytes) n o → HasNamed (IsOneOf m.version bytes) m o
+  named_on bytes m n o one two = named_then (IsOneOf m.version bytes) m n o one (subst (λ v. HasNamed (IsOneOf v bytes) n o) one.version two)
+
+module _ {S D R A B C : Type 0} (state : D → DiskState) (left : S → Option (List ℕ)) (limit : ℕ) (bytes : Option (List ℕ)) (start p q : KeeperPass D) (n o : LockNamer R A B C) (hand next : Hand) (old new : ReaderState S) (taken : Texts) (text : List ℕ) where
+  pub one_less : Taking state left limit bytes start p n hand old taken → Taking state left limit bytes start q o next new (taken ++ text ∷ []) → MAX_MESSAGES - new.given < MAX_MESSAGES - old.given
+  one_less a b = omega (arith, a.read.given, b.read.given, b.few, length-append taken (text ∷ []))
+
 -- ---- before the first message
 
 abbrev none : Part
@@ -181,7 +197,7 @@ none_open : (limit : ℕ) → 1 ≤ limit → IsOpen limit none
 none_open limit least = record { even = refl; not_yet = λ k le. none_full limit least k }
 
 module _ {D R A B C : Type 0} (state : D → DiskState) (limit : ℕ) (least : 1 ≤ limit) (p : KeeperPass D) (so_far : HasSoFar state p []) where
-  pub doing_none : (n : LockNamer R A B C) (hand : Hand) (file : ℕ) → IsWorker p n → file ≡ number_of p → IsEmptyHand file 0 hand → Doing state limit p p n hand []
+  doing_none : (n : LockNamer R A B C) (hand : Hand) (file : ℕ) → IsWorker p n → file ≡ number_of p → IsEmptyHand file 0 hand → Doing state limit p p n hand []
   doing_none n hand file worker is empty = record {
     closed = [];
     messages = [];
@@ -210,6 +226,7 @@ module _ {D R A B C : Type 0} (state : D → DiskState) (limit : ℕ) (least : 1
   taking_none left source r n hand file worker is empty fresh =
       record { doing = doing_none n hand file worker is empty; read = reading_begins left n.version source r fresh; going = fresh.progress; few = omega arith }
 
+module _ {D : Type 0} (state : D → DiskState) (limit : ℕ) (least : 1 ≤ limit) (p : KeeperPass D) (so_far : HasSoFar state p []) where
   pub came_none : (version : ℕ) (bytes : Option (List ℕ)) → IsReady p → CameTo state limit version bytes p p (record { messages = 0; whole = false; cause = Some OutOfMemory })
   came_none version bytes ready = record {
     covered = [];

@@ -40,11 +40,11 @@ fn take_source<'d, 'b, S: Source, D: Disk, R: Wait, A: Ledger, B: Ledger, C: Led
     requires so_far { HasSoFar D.state keeper.old [] }
 
     // what stays, and what the namer has named
-    ensures source { KeepsSource S.name S.faults source.entry result.0 }
-    ensures names { HasNamed (IsOneOf namer.old.version (S.left source.entry)) namer.old namer.new }
+    ensures source { KeepsSource S.name S.faults source result.0 }
+    ensures names { HasNamed (IsOneOf namer.old.version (S.left source)) namer.old namer.new }
 
     // the answer
-    ensures came { CameTo D.state rows namer.old.version (S.left source.entry) keeper.old keeper.new
+    ensures came { CameTo D.state rows namer.old.version (S.left source) keeper.old keeper.new
         result.1 }
 {
     let mut reader = match MessageReader::new(alloc, namer.version(), source) {

@@ -111,8 +111,10 @@ pub(crate) fn take_messages<'d, 'b, S: Source, D: Disk, R: Wait, A: Ledger, B: L
         → Took D.state rows namer.old.version bytes start keeper.new namer.new hand.new result }
 {
     'messages: loop {
-        if let Some(ended) = take_next(rt, alloc, rows, reader, hand, namer, keeper)? {
-            return Ok(ended);
+        match take_next(rt, alloc, rows, reader, hand, namer, keeper) {
+            Ok(None) => {}
+            Ok(Some(ended)) => return Ok(ended),
+            Err(stop) => return Err(stop),
         }
     }
 }
