@@ -15,3 +15,6 @@ mod taking;
 pub use job::Job;
 pub use outcome::{Cause, Outcome};
 pub use run::run_job;
+
+#[cfg(test)]
+mod tests;
