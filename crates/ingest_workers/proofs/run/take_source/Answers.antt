@@ -10,9 +10,13 @@ returns-in-Err-clause-came g c =
     came_none g.D.Disk.state c.args.rows c.requires.rows.0 c.args.keeper.now c.requires.so_far c.args.namer.now.version (g.S.Source.left c.args.source) c.requires.worker.ready
 
 pub take_messages-stop-requires-clause-taking : goal.take_messages-stop-requires-clause-taking
-take_messages-stop-requires-clause-taking g c =
-    (g.S.Source.left c.args.source, c.args.keeper.now, [], (taking_none g.D.Disk.state c.args.rows c.requires.rows.0 c.args.keeper.now c.requires.so_far g.S.Source.left c.args.source c.in-Ok.reader c.args.namer.now c.new-hand.result c.args.file c.requires.worker c.requires.file c.new-hand.ensures
-    (subst (λ v. IsNewReader v c.args.source c.in-Ok.reader) c.version.ensures c.in-Ok.ensures.fresh)))
+take_messages-stop-requires-clause-taking g c = (
+  g.S.Source.left c.args.source,
+  c.args.keeper.now,
+  [],
+  (taking_none g.D.Disk.state c.args.rows c.requires.rows.0 c.args.keeper.now c.requires.so_far g.S.Source.left c.args.source c.in-Ok.reader c.args.namer.now c.new-hand.result c.args.file c.requires.worker c.requires.file c.new-hand.ensures
+      (subst (λ v. IsNewReader v c.args.source c.in-Ok.reader) c.version.ensures c.in-Ok.ensures.fresh)),
+)
 
 pub finish-outcome-requires-clause-stops : goal.finish-outcome-requires-clause-stops
 finish-outcome-requires-clause-stops g c =
