@@ -121,9 +121,9 @@ module _ {D R A B C : Type 0} (state : D → DiskState) (limit : ℕ) (start p :
     first = first ∙ d.first;
     added = added_on start p q d.more none.more d.added none.added;
     segments = λ a is. if_told (is_some (state a.fixed.opened).seen) _ (λ told.
-    sealed_joined d.more none.more
-    ∙ (ap₂ (λ l k. l ++ k) (of_told (is_some (state a.fixed.opened).seen) _ told (d.segments a is)) (of_told (is_some (state a.fixed.opened).seen) _ told (none.segments a (d.added.still.about_is ∙ is)))
-    ∙ append-nil (segments_from (number_of start) 0 d.closed)));
+        sealed_joined d.more none.more
+        ∙ (ap₂ (λ l k. l ++ k) (of_told (is_some (state a.fixed.opened).seen) _ told (d.segments a is)) (of_told (is_some (state a.fixed.opened).seen) _ told (none.segments a (d.added.still.about_is ∙ is)))
+        ∙ append-nil (segments_from (number_of start) 0 d.closed)));
     held = held_front q none.added.seen_on;
   }
 
@@ -137,7 +137,7 @@ module _ {D R A B C : Type 0} (state : D → DiskState) (limit : ℕ) (start p :
     cut = d.cut;
     not_yet = subst (λ (c : ColumnsState). IsOpen limit (record { rows = c.rows; messages = d.messages })) (sym rows.columns) d.not_yet;
     has = subst (λ v. HasInHand v (types_seen n) (words_seen n) d.messages new) (sym same.version)
-    (rows_same m.version (types_seen n) (words_seen n) d.messages hand new rows (in_hand_on m.version (types_seen m) (words_seen m) (types_seen n) (words_seen n) d.messages hand a b d.has));
+        (rows_same m.version (types_seen n) (words_seen n) d.messages hand new rows (in_hand_on m.version (types_seen m) (words_seen m) (types_seen n) (words_seen n) d.messages hand a b d.has));
     each = subst (λ v. All (IsMessage v) d.messages) (sym same.version) d.each;
     first = marks.first ∙ d.first;
     file = marks.file ∙ d.file;
@@ -180,7 +180,7 @@ module _ {D R A B C : Type 0} (state : D → DiskState) (limit : ℕ) (start p :
       taken_is = taken_now;
       cut = d.cut;
       not_yet = subst (λ rows. IsOpen limit (record { rows = rows; messages = d.messages ++ line ∷ [] })) (sym pushed)
-      (open_more limit part row line d.not_yet (λ full. not_full (subst (λ c. IsFull c limit) (sym columns_now) full)));
+          (open_more limit part row line d.not_yet (λ full. not_full (subst (λ c. IsFull c limit) (sym columns_now) full)));
       has = now_has_it;
       each = each_now;
       first = marks.first ∙ d.first;
@@ -218,14 +218,14 @@ module _ {D R A B C : Type 0} (state : D → DiskState) (limit : ℕ) (start p :
 
     segment_is : segment_of new.draft ≡ segment_at (number_of start) (0 + length (messages_in d.closed)) grown
     segment_is =
-      let none : length (messages_in d.closed) ≡ 0 + length (messages_in d.closed) = omega arith in
-      λ i. record {
-      file = (new_file ∙ d.added.still.number) i;
-      first = (marks.first ∙ (d.first ∙ none)) i;
-      last = (marks.last ∙ d.not_last) i;
-      ended = (marks.ended ∙ d.not_ended) i;
-      rows = pushed i;
-    }
+        let none : length (messages_in d.closed) ≡ 0 + length (messages_in d.closed) = omega arith in
+        λ i. record {
+          file = (new_file ∙ d.added.still.number) i;
+          first = (marks.first ∙ (d.first ∙ none)) i;
+          last = (marks.last ∙ d.not_last) i;
+          ended = (marks.ended ∙ d.not_ended) i;
+          rows = pushed i;
+        }
 
     pub doing_sealed : (q : KeeperPass D) (now : LockNamer R A B C) (emptied : Hand) → HasOnlySeen n now → IsEmptied new emptied → HasSealed state new.draft p q
         → NowHas state new.draft n.version (types_seen n) (words_seen n) p q → IsFull new.draft.columns limit → Doing state limit start q now emptied (taken ++ line ∷ [])
@@ -249,18 +249,18 @@ module _ {D R A B C : Type 0} (state : D → DiskState) (limit : ℕ) (start p :
       worker = next_worker p q sealed.more n now only sealed.added (same_worker p m n same d.worker);
       added = added_on start p q d.more sealed.more d.added sealed.added;
       segments = λ a is. if_told (is_some (state a.fixed.opened).seen) _ (λ told.
-      sealed_joined d.more sealed.more
-      ∙ (ap₂ (λ l k. l ++ k) (of_told (is_some (state a.fixed.opened).seen) _ told (d.segments a is))
-      (of_told (is_some (state a.fixed.opened).seen) _ told (sealed.segments a (d.added.still.about_is ∙ is)) ∙ ap (λ s. s ∷ []) segment_is)
-      ∙ sym (segments_more (number_of start) 0 d.closed grown)));
+          sealed_joined d.more sealed.more
+          ∙ (ap₂ (λ l k. l ++ k) (of_told (is_some (state a.fixed.opened).seen) _ told (d.segments a is))
+          (of_told (is_some (state a.fixed.opened).seen) _ told (sealed.segments a (d.added.still.about_is ∙ is)) ∙ ap (λ s. s ∷ []) segment_is)
+          ∙ sym (segments_more (number_of start) 0 d.closed grown)));
       so_far = λ a is. if_told (is_some (state a.fixed.opened).seen) _ (λ told.
-      let at : about p ≡ Some a = sym sealed.added.still.about_is ∙ is in
-      let holds = of_told (is_some (state a.fixed.opened).seen) _ told
-      (has_now (messages_in d.closed) (d.messages ++ line ∷ []) (marks.first ∙ d.first) d.so_far
-      (λ b there. if_told (is_some (state b.fixed.opened).seen) _ (λ _. ((same_worker p m n same d.worker).namer.version b there, now_has_it.canonical))) a at) in
-      let by_last = subst (λ l. Holds a.fixed.header (journal_seen (seen q)) new.draft.file (messages_in d.closed ++ (d.messages ++ line ∷ [])) l (l && new.draft.ended)) (marks.last ∙ d.not_last) holds in
-      subst (λ f. Holds a.fixed.header (journal_seen (seen q)) f (messages_in (d.closed ++ grown ∷ [])) false false) (new_file ∙ sym sealed.added.still.number)
-      (subst (λ ms. Holds a.fixed.header (journal_seen (seen q)) new.draft.file ms false false) (sym (messages_more d.closed grown)) by_last));
+          let at : about p ≡ Some a = sym sealed.added.still.about_is ∙ is in
+          let holds = of_told (is_some (state a.fixed.opened).seen) _ told
+          (has_now (messages_in d.closed) (d.messages ++ line ∷ []) (marks.first ∙ d.first) d.so_far
+          (λ b there. if_told (is_some (state b.fixed.opened).seen) _ (λ _. ((same_worker p m n same d.worker).namer.version b there, now_has_it.canonical))) a at) in
+          let by_last = subst (λ l. Holds a.fixed.header (journal_seen (seen q)) new.draft.file (messages_in d.closed ++ (d.messages ++ line ∷ [])) l (l && new.draft.ended)) (marks.last ∙ d.not_last) holds in
+          subst (λ f. Holds a.fixed.header (journal_seen (seen q)) f (messages_in (d.closed ++ grown ∷ [])) false false) (new_file ∙ sym sealed.added.still.number)
+          (subst (λ ms. Holds a.fixed.header (journal_seen (seen q)) new.draft.file ms false false) (sym (messages_more d.closed grown)) by_last));
     }
       where
         none_in : (k : ℕ) → columns_of (front k (record { rows = emptied.draft.columns.rows; messages = [] })) ≡ columns_of (front 0 part)

@@ -80,18 +80,18 @@ module _ {D R A B C : Type 0} (state : D → DiskState) (limit : ℕ) (start p :
       not_yet = d.not_yet;
       added = added_on start p q d.more sealed.more d.added sealed.added;
       segments = λ a is. if_told (is_some (state a.fixed.opened).seen) _ (λ told.
-      sealed_joined d.more sealed.more
-      ∙ ap₂ (λ l k. l ++ k) (of_told (is_some (state a.fixed.opened).seen) _ told (d.segments a is))
-      (of_told (is_some (state a.fixed.opened).seen) _ told (sealed.segments a (told_now a is)) ∙ ap (λ s. s ∷ []) segment_is));
+          sealed_joined d.more sealed.more
+          ∙ ap₂ (λ l k. l ++ k) (of_told (is_some (state a.fixed.opened).seen) _ told (d.segments a is))
+          (of_told (is_some (state a.fixed.opened).seen) _ told (sealed.segments a (told_now a is)) ∙ ap (λ s. s ∷ []) segment_is));
       held = λ a is. if_told (is_some (state a.fixed.opened).seen) _ (λ told.
-      let holds = of_told (is_some (state a.fixed.opened).seen) _ told
-      (has_now (messages_in d.closed) d.messages d.first d.so_far (λ b there. if_told (is_some (state b.fixed.opened).seen) _ (λ _. (d.worker.namer.version b there, d.has.canonical))) a (told_now a is)) in
-      let found : FrontHolds a.fixed.header (journal_seen (seen q)) (number_of start) taken true ended = record {
-        front = journal_seen (seen q);
-        begins = prefix_self (journal_seen (seen q));
-        holds = subst (λ f. Holds a.fixed.header (journal_seen (seen q)) f taken true ended) (d.file ∙ d.added.still.number)
-        (subst (λ ms. Holds a.fixed.header (journal_seen (seen q)) hand.draft.file ms true ended) (sym d.taken_is) holds);
-      } in found);
+          let holds = of_told (is_some (state a.fixed.opened).seen) _ told
+          (has_now (messages_in d.closed) d.messages d.first d.so_far (λ b there. if_told (is_some (state b.fixed.opened).seen) _ (λ _. (d.worker.namer.version b there, d.has.canonical))) a (told_now a is)) in
+          let found : FrontHolds a.fixed.header (journal_seen (seen q)) (number_of start) taken true ended = record {
+            front = journal_seen (seen q);
+            begins = prefix_self (journal_seen (seen q));
+            holds = subst (λ f. Holds a.fixed.header (journal_seen (seen q)) f taken true ended) (d.file ∙ d.added.still.number)
+                (subst (λ ms. Holds a.fixed.header (journal_seen (seen q)) hand.draft.file ms true ended) (sym d.taken_is) holds);
+          } in found);
     };
   }
     where
@@ -116,7 +116,7 @@ module _ {D R A B C : Type 0} (state : D → DiskState) (limit : ℕ) (start p :
           not_yet = record { even = refl; not_yet = λ k le. nothing_full k };
           added = c.added;
           segments = λ a is. if_told (is_some (state a.fixed.opened).seen) _ (λ told.
-          of_told (is_some (state a.fixed.opened).seen) _ told (c.segments a is) ∙ sym (append-nil (segments_from (number_of start) 0 c.closed)));
+              of_told (is_some (state a.fixed.opened).seen) _ told (c.segments a is) ∙ sym (append-nil (segments_from (number_of start) 0 c.closed)));
           held = c.held;
         };
       }
@@ -169,20 +169,20 @@ module _ {D R A B C : Type 0} (state : D → DiskState) (limit : ℕ) (start p :
       not_yet = d.not_yet;
       added = added_on start p q d.more sealed.more d.added sealed.added;
       segments = λ a is. if_told (is_some (state a.fixed.opened).seen) _ (λ told.
-      sealed_joined d.more sealed.more
-      ∙ ap₂ (λ l k. l ++ k) (of_told (is_some (state a.fixed.opened).seen) _ told (d.segments a is))
-      (of_told (is_some (state a.fixed.opened).seen) _ told (sealed.segments a (d.added.still.about_is ∙ is))
-      ∙ (ap (λ s. s ∷ []) segment_is ∙ rest_rows (number_of start) (length (messages_in d.closed)) ended hand.draft.columns.rows d.messages some)));
+          sealed_joined d.more sealed.more
+          ∙ ap₂ (λ l k. l ++ k) (of_told (is_some (state a.fixed.opened).seen) _ told (d.segments a is))
+          (of_told (is_some (state a.fixed.opened).seen) _ told (sealed.segments a (d.added.still.about_is ∙ is))
+          ∙ (ap (λ s. s ∷ []) segment_is ∙ rest_rows (number_of start) (length (messages_in d.closed)) ended hand.draft.columns.rows d.messages some)));
       held = λ a is. if_told (is_some (state a.fixed.opened).seen) _ (λ told.
-      let holds = of_told (is_some (state a.fixed.opened).seen) _ told
-      (has_now (messages_in d.closed) d.messages d.first d.so_far (λ b there. if_told (is_some (state b.fixed.opened).seen) _ (λ _. (d.worker.namer.version b there, d.has.canonical))) a (d.added.still.about_is ∙ is)) in
-      let by_last = subst (λ l. Holds a.fixed.header (journal_seen (seen q)) hand.draft.file (messages_in d.closed ++ d.messages) l (l && hand.draft.ended)) d.not_last holds in
-      let found : FrontHolds a.fixed.header (journal_seen (seen q)) (number_of start) taken false false = record {
-        front = journal_seen (seen q);
-        begins = prefix_self (journal_seen (seen q));
-        holds = subst (λ f. Holds a.fixed.header (journal_seen (seen q)) f taken false false) (d.file ∙ d.added.still.number)
-        (subst (λ ms. Holds a.fixed.header (journal_seen (seen q)) hand.draft.file ms false false) (sym d.taken_is) by_last);
-      } in found);
+          let holds = of_told (is_some (state a.fixed.opened).seen) _ told
+          (has_now (messages_in d.closed) d.messages d.first d.so_far (λ b there. if_told (is_some (state b.fixed.opened).seen) _ (λ _. (d.worker.namer.version b there, d.has.canonical))) a (d.added.still.about_is ∙ is)) in
+          let by_last = subst (λ l. Holds a.fixed.header (journal_seen (seen q)) hand.draft.file (messages_in d.closed ++ d.messages) l (l && hand.draft.ended)) d.not_last holds in
+          let found : FrontHolds a.fixed.header (journal_seen (seen q)) (number_of start) taken false false = record {
+            front = journal_seen (seen q);
+            begins = prefix_self (journal_seen (seen q));
+            holds = subst (λ f. Holds a.fixed.header (journal_seen (seen q)) f taken false false) (d.file ∙ d.added.still.number)
+                (subst (λ ms. Holds a.fixed.header (journal_seen (seen q)) hand.draft.file ms false false) (sym d.taken_is) by_last);
+          } in found);
     };
   }
     where

@@ -86,8 +86,8 @@ in_hand_more version types words more_types more_words messages line row numbers
     record {
       canonical = subst (λ l. AreCanonical version l more_types more_words (messages ++ line ∷ [])) (sym rows) (canonical_push version hand.draft.columns.rows row more_types more_words messages line on.canonical canonical);
       used = used
-      ∙ (ap₂ (λ l m. l ++ m) on.used (sym (append-nil numbers) ∙ (ap (λ l. l ++ []) (sym are) ∙ sym (flat_map-cons (numbers_of_row more_types) row [])))
-      ∙ (sym (flat_map-append (numbers_of_row more_types) hand.draft.columns.rows (row ∷ []))
-      ∙ ap (flat_map (numbers_of_row more_types)) (sym rows)));
+          ∙ (ap₂ (λ l m. l ++ m) on.used (sym (append-nil numbers) ∙ (ap (λ l. l ++ []) (sym are) ∙ sym (flat_map-cons (numbers_of_row more_types) row [])))
+          ∙ (sym (flat_map-append (numbers_of_row more_types) hand.draft.columns.rows (row ∷ []))
+          ∙ ap (flat_map (numbers_of_row more_types)) (sym rows)));
       bytes = bytes ∙ (ap (λ n. n + length line) has.bytes ∙ omega (arith, sum_by-append length messages (line ∷ [])));
     }

@@ -243,11 +243,11 @@ module _ {D : Type 0} (state : D → DiskState) (limit : ℕ) (least : 1 ≤ lim
       added = nothing_added p ready;
       segments = λ a at. if_told (is_some (state a.fixed.opened).seen) _ (λ told. refl);
       held = λ a at. if_told (is_some (state a.fixed.opened).seen) _ (λ told.
-      let found : FrontHolds a.fixed.header (journal_seen (seen p)) (number_of p) [] false false = record {
-        front = journal_seen (seen p);
-        begins = prefix_self (journal_seen (seen p));
-        holds = of_told (is_some (state a.fixed.opened).seen) _ told (so_far a at);
-      } in found);
+          let found : FrontHolds a.fixed.header (journal_seen (seen p)) (number_of p) [] false false = record {
+            front = journal_seen (seen p);
+            begins = prefix_self (journal_seen (seen p));
+            holds = of_told (is_some (state a.fixed.opened).seen) _ told (so_far a at);
+          } in found);
     };
     first = each_some bytes (AreFirst version []) (λ b messages e is. (messages, refl));
     all = λ w. absurd (cc (w));
@@ -278,7 +278,7 @@ module _ {D R A B C : Type 0} (state : D → DiskState) (limit : ℕ) (start p :
       not_yet = none_open limit least;
       added = c.added;
       segments = λ a at. if_told (is_some (state a.fixed.opened).seen) _ (λ told.
-      of_told (is_some (state a.fixed.opened).seen) _ told (c.segments a at) ∙ sym (append-nil (segments_from (number_of start) 0 c.closed)));
+          of_told (is_some (state a.fixed.opened).seen) _ told (c.segments a at) ∙ sym (append-nil (segments_from (number_of start) 0 c.closed)));
       held = c.held;
     };
   }
@@ -308,7 +308,7 @@ module _ {D R A B C : Type 0} (state : D → DiskState) (limit version : ℕ) (b
     done = o.done;
     first = if_some bytes told (AreFirst version o.covered) (λ b tells messages e is. first_of answer t.taken o.covered messages e o.front (tells messages e is)) t.told;
     all = λ w. if_some bytes told (AreAll version o.covered (mark_of answer)) (λ b tells messages e is.
-    all_at_end answer (whole w).0 (whole w).1 t.taken o.covered messages e (o.all w) (tells messages e is)) t.told;
+        all_at_end answer (whole w).0 (whole w).1 t.taken o.covered messages e (o.all w) (tells messages e is)) t.told;
   }
     where
       told : List ℕ → Type 0

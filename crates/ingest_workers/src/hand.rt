@@ -67,18 +67,20 @@ impl Hand {
         ensures taken { (messages : List (List ℕ)) → HasInHand (N.version namer.old)
             (N.types namer.old).texts (N.words namer.old).texts messages self.old
             → OnOk result (HasInHand (N.version namer.old) (N.types namer.new).texts
-                (N.words namer.new).texts (messages ++ line.now ∷ []) self.new) }
+            (N.words namer.new).texts (messages ++ line.now ∷ []) self.new) }
         ensures pushed { OnOk result ((row : Row)
             × (self.new.draft.columns.rows ≡ self.old.draft.columns.rows ++ row ∷ [])) }
         ensures kept { (cause : _) → IsErrOf result (Part cause) → SameRows self.old self.new }
         ensures full { (book : _) (count : ℕ) → IsErrOf result (Part (Full book count))
             → MeetsLimit (N.version namer.old) line.now book count (N.types namer.new)
-                (N.words namer.old) (N.words namer.new) }
+            (N.words namer.old) (N.words namer.new) }
     {
         self.encoder.read(namer.micro(), line)?;
         self.encoder.name(line, namer)?;
         self.used.extend_from_slice(self.encoder.used())?;
-        self.draft.columns.push(self.encoder.row(), line.len() as u64)?;
+        self.draft
+            .columns
+            .push(self.encoder.row(), line.len() as u64)?;
         Ok(())
     }
 

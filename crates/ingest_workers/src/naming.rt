@@ -121,21 +121,33 @@ impl<R: Wait, A: Ledger, B: Ledger, C: Ledger> PassNamer for LockNamer<'_, '_, R
 /// The borrow of a namer and what of its passes stays, for contracts alone.
 pub(crate) trait Keys {
     ghost name: { ℕ };
+
     ghost types: { TableId };
+
     ghost words: { TableId };
+
     ghost types_number: { ℕ };
+
     ghost words_number: { ℕ };
+
     ghost types_about: { Option (About ℕ) };
+
     ghost words_about: { Option (About ℕ) };
 }
 
 impl Keys for Brand {
     ghost name = { 0 };
+
     ghost types = { no_table };
+
     ghost words = { no_table };
+
     ghost types_number = { 0 };
+
     ghost words_number = { 0 };
+
     ghost types_about = { None };
+
     ghost words_about = { None };
 }
 
@@ -244,13 +256,13 @@ fn take_by<'n, N: PassNamer, K: Keys>(
     ensures taken { (messages : List (List ℕ)) → HasInHand (N.version lent.entry.namer.now)
         (seen (N.types lent.entry.namer.now)) (seen (N.words lent.entry.namer.now)) messages hand.old
         → OnOk result.0 (HasInHand (N.version lent.entry.namer.now) (seen (N.types result.1.namer.now))
-            (seen (N.words result.1.namer.now)) (messages ++ line.now ∷ []) hand.new) }
+        (seen (N.words result.1.namer.now)) (messages ++ line.now ∷ []) hand.new) }
     ensures pushed { OnOk result.0 ((row : Row)
         × (hand.new.draft.columns.rows ≡ hand.old.draft.columns.rows ++ row ∷ [])) }
     ensures kept { (cause : _) → IsErrOf result.0 (Part cause) → SameRows hand.old hand.new }
     ensures full { (book : _) (count : ℕ) → IsErrOf result.0 (Part (Full book count))
         → MeetsLimit (N.version lent.entry.namer.now) line.now book count (known_of (N.types result.1.namer.now))
-            (known_of (N.words lent.entry.namer.now)) (known_of (N.words result.1.namer.now)) }
+        (known_of (N.words lent.entry.namer.now)) (known_of (N.words result.1.namer.now)) }
 {
     let mut kept = keep::<N, K>(lent);
     let answer = hand.take(line, &mut kept);
@@ -289,13 +301,13 @@ pub(crate) fn take_message<N: PassNamer>(
     ensures taken { (messages : List (List ℕ)) → HasInHand (N.version namer.old)
         (seen (N.types namer.old)) (seen (N.words namer.old)) messages hand.old
         → OnOk result (HasInHand (N.version namer.old) (seen (N.types namer.new))
-            (seen (N.words namer.new)) (messages ++ line.now ∷ []) hand.new) }
+        (seen (N.words namer.new)) (messages ++ line.now ∷ []) hand.new) }
     ensures pushed { OnOk result ((row : Row)
         × (hand.new.draft.columns.rows ≡ hand.old.draft.columns.rows ++ row ∷ [])) }
     ensures kept { (cause : _) → IsErrOf result (Part cause) → SameRows hand.old hand.new }
     ensures full { (book : _) (count : ℕ) → IsErrOf result (Part (Full book count))
         → MeetsLimit (N.version namer.old) line.now book count (known_of (N.types namer.new))
-            (known_of (N.words namer.old)) (known_of (N.words namer.new)) }
+        (known_of (N.words namer.old)) (known_of (N.words namer.new)) }
 {
     let (answer, lent) = take_by::<N, Brand>(hand, line, Lent { namer });
     let Lent { namer: _back } = lent;

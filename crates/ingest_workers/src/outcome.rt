@@ -14,7 +14,9 @@ pub enum Cause {
     ReadFault,
     /// The line with this number, from 1, is longer than a line may be.
     #[error("line {line} is too long")]
-    LineTooLong { line: u64 },
+    LineTooLong {
+        line: u64,
+    },
     /// A further message begins behind as many as a file may have.
     #[error("too many lines")]
     TooManyLines,

@@ -44,7 +44,7 @@ pub(crate) fn take_one<'d, 'b, D: Disk, R: Wait, A: Ledger, B: Ledger, C: Ledger
     ensures taken { (start : KeeperPass _) (taken : List (List ℕ))
         → Doing D.state rows start keeper.old namer.old hand.old taken
         → OnOk result (Doing D.state rows start keeper.new namer.new hand.new
-            (taken ++ line.now ∷ [])) }
+        (taken ++ line.now ∷ [])) }
     ensures stopped { (start : KeeperPass _) (taken : List (List ℕ))
         → Doing D.state rows start keeper.old namer.old hand.old taken
         → IfErr result (IsAtStop D.state rows start keeper.new namer.new hand.new taken line.now) }

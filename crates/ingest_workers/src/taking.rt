@@ -57,15 +57,15 @@ fn take_next<'d, 'b, S: Source, D: Disk, R: Wait, A: Ledger, B: Ledger, C: Ledge
     ensures taken { (bytes : Option (List ℕ)) (start : KeeperPass _) (taken : List (List ℕ))
         → Taking D.state S.left rows bytes start keeper.old namer.old hand.old reader.old taken
         → IfOk result (λ o. IfNone o (Taking D.state S.left rows bytes start keeper.new namer.new
-            hand.new reader.new (taken ++ reader.new.message ∷ []))) }
+        hand.new reader.new (taken ++ reader.new.message ∷ []))) }
     ensures ended { (bytes : Option (List ℕ)) (start : KeeperPass _) (taken : List (List ℕ))
         → Taking D.state S.left rows bytes start keeper.old namer.old hand.old reader.old taken
         → IfOk result (λ o. IfSome o (λ e. Took D.state rows namer.old.version bytes start
-            keeper.new namer.new hand.new (Ok e))) }
+        keeper.new namer.new hand.new (Ok e))) }
     ensures stopped { (bytes : Option (List ℕ)) (start : KeeperPass _) (taken : List (List ℕ))
         → Taking D.state S.left rows bytes start keeper.old namer.old hand.old reader.old taken
         → IfErr result (λ s. Took D.state rows namer.old.version bytes start
-            keeper.new namer.new hand.new (Err s)) }
+        keeper.new namer.new hand.new (Err s)) }
 {
     let mark = match reader.advance() {
         Ok(Some(mark)) => mark,

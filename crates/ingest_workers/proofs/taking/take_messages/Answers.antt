@@ -41,11 +41,12 @@ pub messages-preserved : goal.messages-preserved
 messages-preserved g c = record {
   source = record { named = c.take_next.ensures.source.named ∙ c.messages.invariant.source.named; later = omega (arith, c.take_next.ensures.source.later, c.messages.invariant.source.later) };
   names = λ bytes start taken t.
-  let now = c.messages.invariant.taking bytes start taken t in
-  named_on bytes c.args.namer.now c.messages.namer c.take_next.new.namer (c.messages.invariant.names bytes start taken t) (c.take_next.ensures.names bytes start now.0 now.1);
+      let now = c.messages.invariant.taking bytes start taken t in
+      named_on bytes c.args.namer.now c.messages.namer c.take_next.new.namer (c.messages.invariant.names bytes start taken t) (c.take_next.ensures.names bytes start now.0 now.1);
   taking = λ bytes start taken t.
-  let now = c.messages.invariant.taking bytes start taken t in let text = c.take_next.new.reader.message in
-  (now.0 ++ text ∷ [],
-  none_at c.in-Ok-None.field-0 (Taking g.D.Disk.state g.S.Source.left c.args.rows bytes start c.take_next.new.keeper c.take_next.new.namer c.take_next.new.hand c.take_next.new.reader (now.0 ++ text ∷ []))
-  (search rules) (c.in-Ok-None.ensures.taken bytes start now.0 now.1));
+      let now = c.messages.invariant.taking bytes start taken t in let text = c.take_next.new.reader.message in (
+        now.0 ++ text ∷ [],
+        none_at c.in-Ok-None.field-0 (Taking g.D.Disk.state g.S.Source.left c.args.rows bytes start c.take_next.new.keeper c.take_next.new.namer c.take_next.new.hand c.take_next.new.reader (now.0 ++ text ∷ []))
+            (search rules) (c.in-Ok-None.ensures.taken bytes start now.0 now.1),
+      );
 }
