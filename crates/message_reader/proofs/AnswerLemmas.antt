@@ -18,7 +18,7 @@ use Rattle.message_reader.specs.StepsReading.{group_reader, HasLimits, line_read
 use Rattle.message_reader.specs.declared.reader.TheConstants.{MAX_MESSAGES}
 use Rattle.message_reader.specs.declared.heads.Stamps.{Stamps}
 use Rattle.message_reader.specs.declared.reader.Cuts.{Cuts}
-use Rattle.message_reader.proofs.GroupLemmas.{count_of_group, count_of_line, first_of_lines, message_of_group, torn_group}
+use Rattle.message_reader.proofs.GroupLemmas.{count_of_group, count_of_line, first_of_lines, message_of_group, open_of_group, open_of_line, torn_group}
 use Rattle.message_reader.proofs.LineLemmas.{line_first, line_of_lines, never}
 
 -- ---- lines
@@ -31,6 +31,7 @@ line_gave left ended old new limits g = record {
   given = g.given;
   lines = g.given ∙ ap (λ n. old.given + n) (sym (count_of_line new.line g.is_line));
   is_message = record { short = subst (λ n. length new.line ≤ n) limits.0 g.fits; lines = inl g.is_line };
+  open_end = λ e. open_of_line new.line g.is_line (g.not_empty e);
   alone = λ _ _. (g.is_line, never new.line);
   parts = g.parts;
   first = line_first new.line ended (left_of left (line_reader old)) (left_of left (line_reader new)) g.is_line g.not_empty g.parts;
@@ -116,6 +117,7 @@ group_gave left ended old new limits g =
       given = g.given;
       lines = g.lines ∙ ap (λ n. old.lines + n) (sym (count_of_group one.group text g.count one.is one.are_lines one.count));
       is_message = message_of_group version one.group text (above_one old.heads) one.is one.are_lines one.is_group one.fits;
+      open_end = λ e. open_of_group one.group text one.is one.are_lines (one.last e);
       alone = λ none e. g.alone (not_looked new.behind none) e;
       parts = g.parts;
       first = subst (λ n. IfSome (left_of left (group_reader old)) (λ before. IfSome after (IsFirstOfGroups (IsHead version) n ended text before))) limits.0 g.message;

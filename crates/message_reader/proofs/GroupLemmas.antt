@@ -3,10 +3,10 @@ use Rattle.std.proofs.Common.{◌≡◌, ◌≢◌, ◌⊎◌, inl, inr, ℕ, ze
 use Rattle.std.specs.Prelude.{if◌then◌else◌, nat_le}
 use Rattle.std.specs.List.{flat_map}
 use Rattle.std.proofs.lemmas.Bool.{ne_eqb}
-use Rattle.std.proofs.lemmas.List.{append-nil}
+use Rattle.std.proofs.lemmas.List.{append-nil, append_assoc}
 use Rattle.std.proofs.lemmas.List.Elements.{All-head, All-tail}
 use Rattle.log_messages.specs.Messages.{IsLine}
-use Rattle.log_messages.specs.Groups.{Group, lines_of, text_of, IsGroup, IsFollowed}
+use Rattle.log_messages.specs.Groups.{Group, lines_of, text_of, last_line, IsGroup, IsFollowed}
 use Rattle.log_messages.proofs.GroupLawLemmas.{followed_by_lines, group_messages_first}
 use Rattle.time_patterns.specs.Stamps.{IsStamped}
 use Rattle.time_patterns.proofs.VersionLemmas.{first_line_tells}
@@ -15,7 +15,7 @@ use Rattle.line_cut.specs.Joining.{IsTornGroup}
 use Rattle.line_cut.specs.declared.cutter.TheConstants.{MAX_LINE_LEN}
 use Rattle.line_cut.proofs.GroupLemmas.{first_none, torn_message}
 use Rattle.message_reader.specs.Versions.{AreWholeLines, IsFirstOfLines, IsHead, MessagesOf, line_count}
-use Rattle.message_reader.specs.Reading.{IsTornMessage}
+use Rattle.message_reader.specs.Reading.{HasOpenEnd, IsTornMessage}
 use Rattle.message_reader.proofs.HeadLemmas.{zero_pattern}
 
 -- ---- how many lines
@@ -42,6 +42,27 @@ pub count_of_group : (group : Group) (text : List ℕ) (count : ℕ) → text_of
 count_of_group group text count is all size =
     let n = count_lines group.first group.later (All-head IsLine group.first group.later all) (All-tail IsLine group.first group.later all) in
     ap line_count (sym is) ∙ omega (arith, n, size)
+
+-- ---- the last byte of a message without its newline
+
+pub open_of_line : (line : List ℕ) → IsLine line → line ≢ [] → HasOpenEnd line
+open_of_line [] is some = absurd (some refl)
+open_of_line (b ∷ []) is some = ([], b, refl, All-head (λ c. c ≢ 10) b [] is)
+open_of_line (b ∷ c ∷ line) is some =
+    let o = open_of_line (c ∷ line) (All-tail (λ c. c ≢ 10) b (c ∷ line) is) (λ e. absurd (cc (e))) in (b ∷ o.0, o.1, ap (λ l. b ∷ l) o.2, o.3)
+
+open_behind : (front text : List ℕ) → HasOpenEnd text → HasOpenEnd (front ++ text)
+open_behind front text o = (front ++ o.0, o.1, ap (λ l. front ++ l) o.2 ∙ sym (append_assoc front o.0 (o.1 ∷ [])), o.3)
+
+open_lines : (first : List ℕ) (later : List (List ℕ)) → IsLine first → All IsLine later → last_line first later ≢ [] → HasOpenEnd (first ++ flat_map (λ line. 10 ∷ line) later)
+open_lines first [] is all some = subst HasOpenEnd (sym (append-nil first)) (open_of_line first is some)
+open_lines first (line ∷ later) is all some =
+    let rest = line ++ flat_map (λ l. 10 ∷ l) later in
+    open_behind first (10 ∷ rest) (open_behind (10 ∷ []) rest (open_lines line later (All-head IsLine line later all) (All-tail IsLine line later all) some))
+
+pub open_of_group : (group : Group) (text : List ℕ) → text_of group ≡ text → All IsLine (lines_of group) → last_line group.first group.later ≢ [] → HasOpenEnd text
+open_of_group group text is all some =
+    subst HasOpenEnd is (open_lines group.first group.later (All-head IsLine group.first group.later all) (All-tail IsLine group.first group.later all) some)
 
 -- ---- the stamp of a group is that of its first line
 

@@ -1,5 +1,5 @@
 -- What a reader of messages is to its callers, and what its answers mean.
-use Rattle.std.specs.Prelude.{◌≡◌, ◌⊎◌, ◌+◌, ◌<◌, ◌≤◌, ℕ, Bool, true, false, List, [], ◌∷◌, ◌++◌, length, Option, None, Result, Ok, Err, IfSome, if◌then◌else◌}
+use Rattle.std.specs.Prelude.{◌≡◌, ◌≢◌, ◌⊎◌, ◌+◌, ◌<◌, ◌≤◌, ℕ, Bool, true, false, List, [], ◌∷◌, ◌++◌, length, Option, None, Result, Ok, Err, IfSome, if◌then◌else◌}
 use Rattle.log_seams.specs.Outside.{Rose}
 use Rattle.log_messages.specs.Messages.{IsLine}
 use Rattle.log_messages.specs.Groups.{FirstLine}
@@ -48,6 +48,10 @@ pub record ReaderStays {S : Type 0} (name : S → Option (List ℕ)) (faults : S
   pub source : name new.source ≡ name old.source
   pub later : faults old.source ≤ faults new.source
 
+-- the text has a last byte, which is no newline
+abbrev pub HasOpenEnd : List ℕ → Type 0
+HasOpenEnd text = (front : List ℕ) × (last : ℕ) × (text ≡ front ++ last ∷ []) × (last ≢ 10)
+
 -- A reader gave a message, with its last newline or at the end of the input without. It is the first of what was left, and
 -- what is left has the others. Where no line was looked at behind it, it is a line without a stamp, or of version 1.
 pub record ReadMessage {S : Type 0} (left : S → Option (List ℕ)) (ended : Bool) (old new : ReaderState S) : Type 0 where
@@ -57,6 +61,7 @@ pub record ReadMessage {S : Type 0} (left : S → Option (List ℕ)) (ended : Bo
   pub given : new.given ≡ old.given + 1
   pub lines : new.lines ≡ old.lines + line_count new.message
   pub is_message : IsMessage old.version new.message
+  pub open_end : ended ≡ false → HasOpenEnd new.message
   pub alone : new.looked ≡ false → ended ≡ true → IsLine new.message × (¬ IsHead old.version new.message)
   pub parts : Parts ended new.message (left_of left old) (left_of left new)
   pub first : IfSome (left_of left old) (λ before. IfSome (left_of left new) (IsFirstOf old.version ended new.message before))

@@ -1,0 +1,190 @@
+-- The last segment of a file.
+use Rattle.std.proofs.Common.{◌≡◌, ℕ, zero, suc, ◌+◌, ◌<◌, ◌≤◌, List, [], ◌∷◌, ◌++◌, Bool, true, false, length, refl, sym, ap, ap₂, ◌∙◌, subst, arith, append-nil, append_assoc, length-append, None, Some, All}
+use Rattle.std.specs.Prelude.{is_some, ◌&&◌}
+use Rattle.std.specs.List.{flat_map}
+use mathlib.Core.List.{IsPrefix}
+use Rattle.log_seams.specs.Disk.{DiskState}
+use Rattle.turn_lock.specs.Words.{seen, about, number_of}
+use Rattle.turn_lock.proofs.FrontLemmas.{prefix_self}
+use Rattle.column_store.specs.Columns.{ColumnsState, IsFull}
+use Rattle.column_store.specs.declared.row.Row.{Row}
+use Rattle.archive_meaning.specs.declared.entry.SegmentEntry.{SegmentEntry}
+use Rattle.ingest_workers.proofs.MaySealLemmas.{nothing_sealed}
+use Rattle.archive_meaning.specs.declared.TheConstants.{MAX_ROWS, MAX_MESSAGES}
+use Rattle.archive_meaning.specs.Held.{last_is_open}
+use Rattle.disk_seal.specs.declared.entry.StoreEntry.{StoreEntry}
+use Rattle.disk_seal.specs.declared.namer.LockNamer.{LockNamer}
+use Rattle.disk_seal.specs.Draft.{journal_seen}
+use Rattle.disk_seal.specs.Fixed.{KeeperPass}
+use Rattle.disk_seal.specs.Planned.{segment_of}
+use Rattle.ingest_workers.specs.declared.hand.Hand.{Hand}
+use Rattle.ingest_workers.specs.declared.outcome.Cause.{Cause}
+use Rattle.ingest_workers.specs.declared.outcome.Outcome.{Outcome}
+use Rattle.ingest_workers.specs.Doing.{Covering, Doing}
+use Rattle.ingest_workers.specs.Done.{HasDone, IsOutcome}
+use Rattle.ingest_workers.specs.Hand.{SameMarks, SameRows}
+use Rattle.ingest_workers.specs.Journal.{FrontHolds, Holds, WhereTold, sealed_by}
+use Rattle.ingest_workers.specs.MaySeal.{MaySeal, IsEmptied}
+use Rattle.ingest_workers.specs.Namer.{types_seen, words_seen}
+use Rattle.ingest_workers.specs.Parts.{Part, IsOpen, columns_of, front, messages_in, rest_of, segments_from}
+use Rattle.ingest_workers.specs.Sealed.{HasNotSealed, HasSealed, NowHas}
+use Rattle.ingest_workers.proofs.DoingLemmas.{covering, has_room, rows_same}
+use Rattle.ingest_workers.proofs.PartLemmas.{added_on, sealed_joined}
+use Rattle.ingest_workers.proofs.SealLemmas.{if_told, of_told}
+
+abbrev Texts : Type 0
+Texts = List (List ℕ)
+
+-- the hand with the marks of the last segment
+abbrev pub marked : Bool → Hand → Hand
+marked ended hand = record hand { draft = record hand.draft { last = true; ended = ended } }
+
+module _ {D R A B C : Type 0} (state : D → DiskState) (limit : ℕ) (start p : KeeperPass D) (m : LockNamer R A B C) (hand : Hand) (taken : Texts) (ended : Bool) (d : Doing state limit start p m hand taken) where
+  abbrev part : Part
+  part = record { rows = hand.draft.columns.rows; messages = d.messages }
+
+  pub may_seal_last : limit ≤ MAX_ROWS → length taken ≤ MAX_MESSAGES → (ended ≡ false → last_is_open taken ≡ true) → MaySeal state p m (marked ended hand)
+  may_seal_last most few at_end = record {
+    covered = messages_in d.closed;
+    messages = d.messages;
+    worker = d.worker;
+    file = d.file;
+    first = d.first;
+    so_far = d.so_far;
+    has = rows_same m.version (types_seen m) (words_seen m) d.messages hand (marked ended hand) (record { columns = refl; used = refl }) d.has;
+    each = d.each;
+    few = omega (arith, (has_room state limit start p m hand taken d most).rows);
+    most = omega (arith, few, ap length d.taken_is, length-append (messages_in d.closed) d.messages, d.first, d.not_yet.even);
+    some = λ is. absurd (cc (is));
+    ended = λ is. refl;
+    end = λ last open_end. ap last_is_open (sym d.taken_is) ∙ at_end open_end;
+  }
+
+  told_now : (a : _) → about start ≡ Some a → about p ≡ Some a
+  told_now a is = d.added.still.about_is ∙ is
+
+  pub all_done : (q : KeeperPass D) (new : Hand) → IsEmptied (marked ended hand) new → HasSealed state (marked ended hand).draft p q
+      → NowHas state (marked ended hand).draft m.version (types_seen m) (words_seen m) p q → IsOutcome state limit start q taken ended (record { messages = new.draft.first; whole = true; cause = None })
+  all_done q new empty sealed has_now = record {
+    covered = taken;
+    front = prefix_self taken;
+    all = λ is. refl;
+    cause = refl;
+    count = omega (arith, empty.first, d.first, d.not_yet.even, ap length d.taken_is, length-append (messages_in d.closed) d.messages);
+    done = record {
+      closed = d.closed;
+      rest = part;
+      more = d.more ++ sealed.more;
+      covered_is = d.taken_is;
+      cut = d.cut;
+      not_yet = d.not_yet;
+      added = added_on start p q d.more sealed.more d.added sealed.added;
+      segments = λ a is. if_told (is_some (state a.fixed.opened).seen) _ (λ told.
+          sealed_joined d.more sealed.more
+          ∙ ap₂ (λ l k. l ++ k) (of_told (is_some (state a.fixed.opened).seen) _ told (d.segments a is))
+          (of_told (is_some (state a.fixed.opened).seen) _ told (sealed.segments a (told_now a is)) ∙ ap (λ s. s ∷ []) segment_is));
+      held = λ a is. if_told (is_some (state a.fixed.opened).seen) _ (λ told.
+          let holds = of_told (is_some (state a.fixed.opened).seen) _ told
+          (has_now (messages_in d.closed) d.messages d.first d.so_far (λ b there. if_told (is_some (state b.fixed.opened).seen) _ (λ _. (d.worker.namer.version b there, d.has.canonical))) a (told_now a is)) in
+          let found : FrontHolds a.fixed.header (journal_seen (seen q)) (number_of start) taken true ended = record {
+            front = journal_seen (seen q);
+            begins = prefix_self (journal_seen (seen q));
+            holds = subst (λ f. Holds a.fixed.header (journal_seen (seen q)) f taken true ended) (d.file ∙ d.added.still.number)
+                (subst (λ ms. Holds a.fixed.header (journal_seen (seen q)) hand.draft.file ms true ended) (sym d.taken_is) holds);
+          } in found);
+    };
+  }
+    where
+      segment_is : segment_of (marked ended hand).draft ≡ record { file = number_of start; first = length (messages_in d.closed); last = true; ended = ended; rows = hand.draft.columns.rows }
+      segment_is = λ i. record { file = (d.file ∙ d.added.still.number) i; first = d.first i; last = true; ended = ended; rows = hand.draft.columns.rows }
+
+  pub none_done : (q : KeeperPass D) (new : Hand) (cause : Cause) → HasNotSealed state p q → new.draft.first ≡ hand.draft.first → IsOutcome state limit start q taken ended (record { messages = new.draft.first; whole = false; cause = Some cause })
+  none_done q new cause none first =
+      let c : Covering state limit start q new (taken ++ [] ∷ []) = covering state limit start p m hand taken d q new [] none first in
+      record {
+        covered = messages_in c.closed;
+        front = (d.messages, sym d.taken_is);
+        all = λ is. absurd (cc (is));
+        cause = refl;
+        count = c.first;
+        done = record {
+          closed = c.closed;
+          rest = record { rows = []; messages = [] };
+          more = c.more;
+          covered_is = sym (append-nil (messages_in c.closed));
+          cut = c.cut;
+          not_yet = record { even = refl; not_yet = λ k le. nothing_full k };
+          added = c.added;
+          segments = λ a is. if_told (is_some (state a.fixed.opened).seen) _ (λ told.
+              of_told (is_some (state a.fixed.opened).seen) _ told (c.segments a is) ∙ sym (append-nil (segments_from (number_of start) 0 c.closed)));
+          held = c.held;
+        };
+      }
+    where
+      none_in : (k : ℕ) → columns_of (front k (record { rows = []; messages = [] })) ≡ columns_of (front 0 part)
+      none_in zero = refl
+      none_in (suc k) = refl
+
+      nothing_full : (k : ℕ) → ¬ IsFull (columns_of (front k (record { rows = []; messages = [] }))) limit
+      nothing_full k full = d.not_yet.not_yet 0 (omega arith) (subst (λ c. IsFull c limit) (none_in k) full)
+
+-- the segment of a rest with messages, in a file that is not whole
+rest_rows : (file first : ℕ) (ended : Bool) (rows : List Row) (messages : Texts) → 0 < length rows
+    → (let s : SegmentEntry = record { file = file; first = first; last = false; ended = false; rows = rows } in s) ∷ [] ≡ rest_of file first false ended (record { rows = rows; messages = messages })
+rest_rows file first ended [] messages some = absurd (omega (arith, some))
+rest_rows file first ended (r ∷ rows) messages some = refl
+
+module _ {D R A B C : Type 0} (state : D → DiskState) (limit : ℕ) (start p : KeeperPass D) (m : LockNamer R A B C) (hand : Hand) (taken : Texts) (ended : Bool) (d : Doing state limit start p m hand taken) (some : 0 < length hand.draft.columns.rows) where
+  pub may_seal_part : limit ≤ MAX_ROWS → length taken ≤ MAX_MESSAGES → MaySeal state p m hand
+  may_seal_part most few = record {
+    covered = messages_in d.closed;
+    messages = d.messages;
+    worker = d.worker;
+    file = d.file;
+    first = d.first;
+    so_far = d.so_far;
+    has = d.has;
+    each = d.each;
+    few = omega (arith, (has_room state limit start p m hand taken d most).rows);
+    most = omega (arith, few, ap length d.taken_is, length-append (messages_in d.closed) d.messages, d.first, d.not_yet.even);
+    some = λ is. some;
+    ended = λ is. absurd (cc (is, d.not_ended));
+    end = λ last open_end. absurd (cc (last, d.not_last));
+  }
+
+  pub part_done : (q : KeeperPass D) (new : Hand) (cause : Cause) → IsEmptied hand new → HasSealed state hand.draft p q
+      → NowHas state hand.draft m.version (types_seen m) (words_seen m) p q → IsOutcome state limit start q taken ended (record { messages = new.draft.first; whole = false; cause = Some cause })
+  part_done q new cause empty sealed has_now = record {
+    covered = taken;
+    front = prefix_self taken;
+    all = λ is. refl;
+    cause = refl;
+    count = omega (arith, empty.first, d.first, d.not_yet.even, ap length d.taken_is, length-append (messages_in d.closed) d.messages);
+    done = record {
+      closed = d.closed;
+      rest = record { rows = hand.draft.columns.rows; messages = d.messages };
+      more = d.more ++ sealed.more;
+      covered_is = d.taken_is;
+      cut = d.cut;
+      not_yet = d.not_yet;
+      added = added_on start p q d.more sealed.more d.added sealed.added;
+      segments = λ a is. if_told (is_some (state a.fixed.opened).seen) _ (λ told.
+          sealed_joined d.more sealed.more
+          ∙ ap₂ (λ l k. l ++ k) (of_told (is_some (state a.fixed.opened).seen) _ told (d.segments a is))
+          (of_told (is_some (state a.fixed.opened).seen) _ told (sealed.segments a (d.added.still.about_is ∙ is))
+          ∙ (ap (λ s. s ∷ []) segment_is ∙ rest_rows (number_of start) (length (messages_in d.closed)) ended hand.draft.columns.rows d.messages some)));
+      held = λ a is. if_told (is_some (state a.fixed.opened).seen) _ (λ told.
+          let holds = of_told (is_some (state a.fixed.opened).seen) _ told
+          (has_now (messages_in d.closed) d.messages d.first d.so_far (λ b there. if_told (is_some (state b.fixed.opened).seen) _ (λ _. (d.worker.namer.version b there, d.has.canonical))) a (d.added.still.about_is ∙ is)) in
+          let by_last = subst (λ l. Holds a.fixed.header (journal_seen (seen q)) hand.draft.file (messages_in d.closed ++ d.messages) l (l && hand.draft.ended)) d.not_last holds in
+          let found : FrontHolds a.fixed.header (journal_seen (seen q)) (number_of start) taken false false = record {
+            front = journal_seen (seen q);
+            begins = prefix_self (journal_seen (seen q));
+            holds = subst (λ f. Holds a.fixed.header (journal_seen (seen q)) f taken false false) (d.file ∙ d.added.still.number)
+                (subst (λ ms. Holds a.fixed.header (journal_seen (seen q)) hand.draft.file ms false false) (sym d.taken_is) by_last);
+          } in found);
+    };
+  }
+    where
+      segment_is : segment_of hand.draft ≡ record { file = number_of start; first = length (messages_in d.closed); last = false; ended = false; rows = hand.draft.columns.rows }
+      segment_is = λ i. record { file = (d.file ∙ d.added.still.number) i; first = d.first i; last = d.not_last i; ended = d.not_ended i; rows = hand.draft.columns.rows }

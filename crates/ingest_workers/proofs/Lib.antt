@@ -1,0 +1,14 @@
+pub mod JournalLemmas
+pub mod HandLemmas
+pub mod SealLemmas
+pub mod MaySealLemmas
+pub mod CrewLemmas
+pub mod LockLemmas
+pub mod IngestLemmas
+pub mod ClosingLemmas
+pub mod PartLemmas
+pub mod DoingLemmas
+pub mod DoneLemmas
+pub mod FileLemmas
+pub mod NamingLemmas
+pub mod TakingLemmas

@@ -1,0 +1,106 @@
+-- What a worker's namer has named, over several calls.
+use Rattle.std.proofs.Common.{◌≡◌, ℕ, List, [], refl, sym, ap, ◌∙◌, subst, All}
+use Rattle.std.proofs.lemmas.List.Elements.{All-weaker, All-nil}
+use mathlib.Core.List.{IsPrefix}
+use Rattle.turn_lock.specs.Words.{seen, own_list, about, lock_of, number_of, IsReady, IsStill}
+use Rattle.turn_lock.proofs.FrontLemmas.{prefix_self, prefix_trans}
+use Rattle.row_codec.specs.Messages.{IsTypeOf, IsWordOf}
+use Rattle.row_codec.specs.Naming.{HasGrown, Known}
+use Rattle.row_codec.proofs.BooksLemmas.{grows_self, grows_then}
+use Rattle.dict_lock.specs.Shared.{BookPass, GoesOn}
+use Rattle.disk_seal.specs.declared.namer.LockNamer.{LockNamer}
+use Rattle.disk_seal.specs.Known.{known_of, limit_in}
+use Rattle.ingest_workers.specs.Namer.{HasOnlySeen, types_pass, words_pass}
+use Rattle.ingest_workers.specs.Naming.{AddsOnly, HasNamed}
+use Rattle.std.specs.Prelude.{map}
+use Rattle.std.proofs.lemmas.List.{append-nil}
+
+-- ---- one pass
+
+grown_wider : (P Q : List ℕ → Type 0) → ((t : List ℕ) → P t → Q t) → (a b : Known) → HasGrown P a b → HasGrown Q a b
+grown_wider P Q wider a b g = record { limit = g.limit; front = g.front; more = g.more; added = g.added; allowed = All-weaker P Q wider g.more g.allowed }
+
+goes_then : (p q r : BookPass) → GoesOn p q → GoesOn q r → GoesOn p r
+goes_then p q r one two = record {
+  still = record { lock = two.still.lock ∙ one.still.lock; number = two.still.number ∙ one.still.number; about_is = two.still.about_is ∙ one.still.about_is };
+  ready = two.ready;
+  seen_on = prefix_trans (seen p) (seen q) (seen r) one.seen_on two.seen_on;
+}
+
+adds_self : (P : List ℕ → Type 0) (p : BookPass) → IsReady p → AddsOnly P p p
+adds_self P p ready = record {
+  goes = record { still = record { lock = refl; number = refl; about_is = refl }; ready = ready; seen_on = prefix_self (seen p) };
+  grown = grows_self P (known_of p);
+}
+
+adds_then : (P : List ℕ → Type 0) (p q r : BookPass) → AddsOnly P p q → AddsOnly P q r → AddsOnly P p r
+adds_then P p q r one two = record { goes = goes_then p q r one.goes two.goes; grown = grows_then P (known_of p) (known_of q) (known_of r) one.grown two.grown }
+
+adds_wider : (P Q : List ℕ → Type 0) → ((t : List ℕ) → P t → Q t) → (p q : BookPass) → AddsOnly P p q → AddsOnly Q p q
+adds_wider P Q wider p q adds = record { goes = adds.goes; grown = grown_wider P Q wider (known_of p) (known_of q) adds.grown }
+
+adds_none : (P : List ℕ → Type 0) (p q : BookPass) → GoesOn p q → own_list q ≡ own_list p → AddsOnly P p q
+adds_none P p q goes own = record {
+  goes = goes;
+  grown = record {
+    limit = ap limit_in goes.still.about_is;
+    front = goes.seen_on;
+    more = [];
+    added = ap (λ (l : List (ℕ × List ℕ)). map (λ x. x.1) l) own ∙ sym (append-nil (known_of p).added);
+    allowed = All-nil P;
+  };
+}
+
+adds_grown : (P : List ℕ → Type 0) (p q : BookPass) → lock_of q ≡ lock_of p → number_of q ≡ number_of p → about q ≡ about p → IsReady q → HasGrown P (known_of p) (known_of q) → AddsOnly P p q
+adds_grown P p q lock number same ready grown = record {
+  goes = record { still = record { lock = lock; number = number; about_is = same }; ready = ready; seen_on = grown.front };
+  grown = grown;
+}
+
+-- ---- both
+
+abbrev type_by : (List ℕ → Type 0) → ℕ → List ℕ → Type 0
+type_by P version t = (x : List ℕ) × P x × IsTypeOf version x t
+
+abbrev word_by : (List ℕ → Type 0) → ℕ → List ℕ → Type 0
+word_by P version t = (x : List ℕ) × P x × IsWordOf version x t
+
+module _ {R A B C : Type 0} where
+  pub named_self : (P : List ℕ → Type 0) (n : LockNamer R A B C) → HasNamed P n n
+  named_self P n = record { version = refl; types = adds_self (type_by P n.version) (types_pass n) n.types.ready; words = adds_self (word_by P n.version) (words_pass n) n.words.ready }
+
+  pub named_only : (P : List ℕ → Type 0) (m n : LockNamer R A B C) → HasOnlySeen m n → HasNamed P m n
+  named_only P m n only = record {
+    version = only.version;
+    types = adds_none (type_by P m.version) (types_pass m) (types_pass n) only.types only.own_types;
+    words = adds_none (word_by P m.version) (words_pass m) (words_pass n) only.words only.own_words;
+  }
+
+  pub named_then : (P : List ℕ → Type 0) (m n o : LockNamer R A B C) → HasNamed P m n → HasNamed P n o → HasNamed P m o
+  named_then P m n o one two = record {
+    version = two.version ∙ one.version;
+    types = adds_then (type_by P m.version) (types_pass m) (types_pass n) (types_pass o) one.types (subst (λ v. AddsOnly (type_by P v) (types_pass n) (types_pass o)) one.version two.types);
+    words = adds_then (word_by P m.version) (words_pass m) (words_pass n) (words_pass o) one.words (subst (λ v. AddsOnly (word_by P v) (words_pass n) (words_pass o)) one.version two.words);
+  }
+
+  pub named_wider : (P Q : List ℕ → Type 0) → ((x : List ℕ) → P x → Q x) → (m n : LockNamer R A B C) → HasNamed P m n → HasNamed Q m n
+  named_wider P Q wider m n named = record {
+    version = named.version;
+    types = adds_wider (type_by P m.version) (type_by Q m.version) (λ t is. (is.0, wider is.0 is.1, is.2)) (types_pass m) (types_pass n) named.types;
+    words = adds_wider (word_by P m.version) (word_by Q m.version) (λ t is. (is.0, wider is.0 is.1, is.2)) (words_pass m) (words_pass n) named.words;
+  }
+
+  -- the texts of one message
+  pub named_one : (line : List ℕ) (m n : LockNamer R A B C) → n.version ≡ m.version
+      → (lock_of (types_pass n) ≡ lock_of (types_pass m)) × (lock_of (words_pass n) ≡ lock_of (words_pass m))
+      → (number_of (types_pass n) ≡ number_of (types_pass m)) × (number_of (words_pass n) ≡ number_of (words_pass m))
+      → (about (types_pass n) ≡ about (types_pass m)) × (about (words_pass n) ≡ about (words_pass m))
+      → HasGrown (IsTypeOf m.version line) (known_of (types_pass m)) (known_of (types_pass n)) → HasGrown (IsWordOf m.version line) (known_of (words_pass m)) (known_of (words_pass n))
+      → HasNamed (λ x. x ≡ line) m n
+  named_one line m n version locks numbers abouts types words = record {
+    version = version;
+    types = adds_grown (type_by (λ x. x ≡ line) m.version) (types_pass m) (types_pass n) locks.0 numbers.0 abouts.0 n.types.ready
+        (grown_wider (IsTypeOf m.version line) (type_by (λ x. x ≡ line) m.version) (λ t is. (line, refl, is)) (known_of (types_pass m)) (known_of (types_pass n)) types);
+    words = adds_grown (word_by (λ x. x ≡ line) m.version) (words_pass m) (words_pass n) locks.1 numbers.1 abouts.1 n.words.ready
+        (grown_wider (IsWordOf m.version line) (word_by (λ x. x ≡ line) m.version) (λ t is. (line, refl, is)) (known_of (words_pass m)) (known_of (words_pass n)) words);
+  }

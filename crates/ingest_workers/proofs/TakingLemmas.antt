@@ -1,0 +1,315 @@
+-- A worker that takes the messages of a source.
+use Rattle.std.proofs.Common.{◌≡◌, ◌≢◌, ◌⊎◌, inl, inr, ℕ, zero, suc, ◌+◌, ◌-◌, ◌<◌, ◌≤◌, List, [], ◌∷◌, ◌++◌, Bool, true, false, length, refl, sym, ap, ◌∙◌, subst, arith, append-nil, append_assoc, length-append, Option, None, Some, Result, Ok, Err}
+use Rattle.std.specs.Prelude.{IfSome, IfNone, IfErr, IsErrOf, is_some, not}
+use Rattle.std.specs.List.{Contains, flat_map}
+use Rattle.std.proofs.lemmas.Bool.{ne_eqb}
+use Rattle.std.proofs.lemmas.List.Elements.{All-nil}
+use mathlib.Core.List.{IsPrefix}
+use Rattle.log_seams.specs.Disk.{DiskState}
+use Rattle.turn_lock.specs.Words.{seen, number_of, IsReady}
+use Rattle.turn_lock.proofs.FrontLemmas.{prefix_self, prefix_trans}
+use Rattle.column_store.specs.Columns.{IsFull}
+use Rattle.row_codec.specs.Means.{AreCanonical}
+use Rattle.row_codec.specs.Messages.{IsMessage}
+use Rattle.row_codec.specs.Numbers.{numbers_of_row}
+use Rattle.message_reader.specs.Reading.{HasOpenEnd, IsNewReader, ReadMessage, ReadToEnd, ReaderStays, ReaderState}
+use Rattle.message_reader.specs.Taken.{HasRead, IsFrontOf}
+use Rattle.message_reader.specs.Versions.{MessagesOf}
+use Rattle.message_reader.proofs.TakenLemmas.{reading_begins, reading_ends, reading_goes_on, reading_is_front}
+use Rattle.message_reader.proofs.VersionLawLemmas.{messages_agree}
+use Rattle.archive_meaning.specs.declared.TheConstants.{MAX_MESSAGES}
+use Rattle.archive_meaning.specs.Held.{ends_open, last_is_open}
+use Rattle.disk_seal.specs.declared.namer.LockNamer.{LockNamer}
+use Rattle.disk_seal.specs.Draft.{journal_seen}
+use Rattle.disk_seal.specs.Fixed.{KeeperPass}
+use Rattle.ingest_workers.specs.declared.hand.Hand.{Hand}
+use Rattle.ingest_workers.specs.declared.outcome.Cause.{Cause}
+use Rattle.ingest_workers.specs.declared.outcome.Cause.TheVariants.{OutOfMemory}
+use Rattle.ingest_workers.specs.declared.outcome.Outcome.{Outcome}
+use Rattle.ingest_workers.specs.declared.stop.Stop.{Stop}
+use Rattle.ingest_workers.specs.declared.stop.Stop.TheVariants.{Part as PartStop, Lost}
+use Rattle.ingest_workers.specs.Doing.{Covering, Doing}
+use Rattle.ingest_workers.specs.Done.{IsOutcome}
+use Rattle.ingest_workers.specs.Hand.{IsEmptyHand}
+use Rattle.ingest_workers.specs.JobDone.{CameTo}
+use Rattle.ingest_workers.specs.Journal.{FrontHolds, HasSoFar}
+use Rattle.ingest_workers.specs.MaySeal.{IsWorker}
+use Rattle.ingest_workers.specs.Namer.{types_seen, words_seen}
+use Rattle.ingest_workers.specs.Naming.{HasNamed}
+use Rattle.ingest_workers.specs.Parts.{Part, IsCut, IsOpen, columns_of, front, messages_in, segments_from}
+use Rattle.ingest_workers.specs.Stopping.{IsAtStop}
+use Rattle.ingest_workers.specs.Taking.{AreTaken, IsOneOf, StopsAt, Taking, Took, mark_of}
+use Rattle.ingest_workers.proofs.MaySealLemmas.{nothing_added}
+use Rattle.ingest_workers.proofs.NamingLemmas.{named_then, named_wider}
+use Rattle.ingest_workers.proofs.SealLemmas.{if_told, of_told}
+
+abbrev Texts : Type 0
+Texts = List (List ℕ)
+
+-- ---- options and results
+
+if_some : {T : Type 0} (o : Option T) (P Q : T → Type 0) → ((x : T) → P x → Q x) → IfSome o P → IfSome o Q
+if_some None P Q f p = tt
+if_some (Some x) P Q f p = f x p
+
+each_some : {T : Type 0} (o : Option T) (P : T → Type 0) → ((x : T) → P x) → IfSome o P
+each_some None P f = tt
+each_some (Some x) P f = f x
+
+pub err_at : {T E : Type 0} (r : Result T E) (y : E) (P : E → Type 0) → r ≡ Err y → IfErr r P → P y
+err_at r y P is p = subst (λ s. IfErr s P) is p
+
+pub some_at : {T : Type 0} (o : Option T) (x : T) (P : T → Type 0) → o ≡ Some x → IfSome o P → P x
+some_at o x P is p = subst (λ q. IfSome q P) is p
+
+pub none_at : {T : Type 0} (o : Option T) (P : Type 0) → o ≡ None → IfNone o P → P
+none_at o P is p = subst (λ q. IfNone q P) is p
+
+-- ---- the last line
+
+open_at : (front : List ℕ) (last : ℕ) → last ≢ 10 → ends_open (front ++ last ∷ []) ≡ true
+open_at [] last some = ap not (ne_eqb last 10 some)
+open_at (b ∷ []) last some = open_at [] last some
+open_at (b ∷ c ∷ front) last some = open_at (c ∷ front) last some
+
+open_of : (text : List ℕ) → HasOpenEnd text → ends_open text ≡ true
+open_of text o = subst (λ l. ends_open l ≡ true) (sym o.2) (open_at o.0 o.1 o.3)
+
+last_open : (xs : Texts) (x : List ℕ) → ends_open x ≡ true → last_is_open (xs ++ x ∷ []) ≡ true
+last_open [] x is = is
+last_open (y ∷ []) x is = is
+last_open (y ∷ z ∷ xs) x is = last_open (z ∷ xs) x is
+
+-- ---- what the source tells
+
+contains_at : (xs : Texts) (x : List ℕ) (rest : Texts) → Contains (xs ++ x ∷ rest) x
+contains_at [] x rest = (zero, omega arith, refl)
+contains_at (y ∷ xs) x rest = let more = contains_at xs x rest in (suc more.0, omega (arith, more.1), more.2)
+
+contains_last : (xs : Texts) (x : List ℕ) (all : Texts) → IsPrefix (xs ++ x ∷ []) all → Contains all x
+contains_last xs x all f = subst (λ l. Contains l x) (sym (append_assoc xs (x ∷ []) f.0) ∙ f.1) (contains_at xs x f.0)
+
+-- they are the first ones, and all
+abbrev AreFirst : ℕ → Texts → List ℕ → Type 0
+AreFirst version taken b = (messages : Texts) (e : Bool) → MessagesOf version b messages e → IsPrefix taken messages
+
+abbrev AreAll : ℕ → Texts → Bool → List ℕ → Type 0
+AreAll version taken ended b = (messages : Texts) (e : Bool) → MessagesOf version b messages e → (taken ≡ messages) × (ended ≡ e)
+
+front_of : {S : Type 0} (left : S → Option (List ℕ)) (version : ℕ) (bytes : Option (List ℕ)) (taken : Texts) (r : ReaderState S) → HasRead left version bytes taken r → IfSome bytes (AreFirst version taken)
+front_of left version bytes taken r h =
+    if_some bytes (IsFrontOf version taken) (AreFirst version taken) (λ b f messages e m. let more = f messages e m in (more.0, sym more.1)) (reading_is_front left version bytes taken r h)
+
+all_of : (version : ℕ) (bytes : Option (List ℕ)) (taken : Texts) (ended : Bool) → IfSome bytes (λ b. MessagesOf version b taken ended) → IfSome bytes (AreAll version taken ended)
+all_of version bytes taken ended told =
+    if_some bytes (λ b. MessagesOf version b taken ended) (AreAll version taken ended) (λ b mine messages e m. messages_agree version b taken messages ended e mine m) told
+
+-- ---- the next message
+
+module _ {S D R A B C : Type 0} (state : D → DiskState) (left : S → Option (List ℕ)) (limit : ℕ) (bytes : Option (List ℕ)) (start p : KeeperPass D) (n : LockNamer R A B C) (hand : Hand) (old new : ReaderState S) (taken : Texts)
+    (t : Taking state left limit bytes start p n hand old taken) where
+  pub took_all : ReadToEnd left old new → Took state limit n.version bytes start p n hand (Ok true)
+  took_all at_end = record {
+    taken = taken;
+    few = t.few;
+    stops = (t.doing, λ e. absurd (cc (e)));
+    told = all_of n.version bytes taken true ((reading_ends left n.version bytes taken old new t.read).1 at_end t.going);
+  }
+
+  pub took_part : (cause : Cause) → Took state limit n.version bytes start p n hand (Err (PartStop cause))
+  took_part cause = record { taken = taken; few = t.few; stops = t.doing; told = front_of left n.version bytes taken old t.read }
+
+  pub room_for_one : (ended : Bool) → ReadMessage left ended old new → length taken < MAX_MESSAGES
+  room_for_one ended m = omega (arith, m.within, t.read.given)
+
+  few_more : (ended : Bool) → ReadMessage left ended old new → length (taken ++ new.message ∷ []) ≤ MAX_MESSAGES
+  few_more ended m = omega (arith, room_for_one ended m, length-append taken (new.message ∷ []))
+
+  module _ (name : S → Option (List ℕ)) (faults : S → ℕ) (stays : ReaderStays name faults old new) where
+    front_more : (ended : Bool) → ReadMessage left ended old new → IfSome bytes (AreFirst n.version (taken ++ new.message ∷ []))
+    front_more true m = front_of left n.version bytes (taken ++ new.message ∷ []) new (reading_goes_on left name faults n.version bytes taken old new t.read stays m)
+    front_more false m =
+        let more = taken ++ new.message ∷ [] in
+        if_some bytes (AreAll n.version more false) (AreFirst n.version more) (λ b all messages e is. subst (IsPrefix more) (all messages e is).0 (prefix_self more))
+        (all_of n.version bytes more false ((reading_ends left n.version bytes taken old new t.read).0 m))
+
+    is_one : (ended : Bool) → ReadMessage left ended old new → IsOneOf n.version bytes new.message
+    is_one ended m =
+        if_some bytes (AreFirst n.version (taken ++ new.message ∷ [])) (λ b. (messages : Texts) (e : Bool) → MessagesOf n.version b messages e → Contains messages new.message)
+        (λ b are messages e is. contains_last taken new.message messages (are messages e is)) (front_more ended m)
+
+    module _ (line : List ℕ) (same : line ≡ new.message) (q : KeeperPass D) (o : LockNamer R A B C) (next : Hand) where
+      pub named_more : (ended : Bool) → ReadMessage left ended old new → HasNamed (λ x. x ≡ line) n o → HasNamed (IsOneOf n.version bytes) n o
+      named_more ended m named = named_wider (λ x. x ≡ line) (IsOneOf n.version bytes) (λ x is. subst (IsOneOf n.version bytes) (sym (is ∙ same)) (is_one ended m)) n o named
+
+      pub took_stop : (ended : Bool) → ReadMessage left ended old new → (y : Stop) → IsAtStop state limit start q o next taken line y → Took state limit n.version bytes start q o next (Err y)
+      took_stop ended m (PartStop cause) d = record { taken = taken; few = t.few; stops = d; told = front_of left n.version bytes taken old t.read }
+      took_stop ended m (Lost cause) c = record {
+        taken = taken ++ new.message ∷ [];
+        few = few_more ended m;
+        stops = subst (λ l. Covering state limit start q next (taken ++ l ∷ [])) same c;
+        told = front_more ended m;
+      }
+
+      pub taking_more : (ended : Bool) → ended ≡ true → ReadMessage left ended old new → o.version ≡ n.version → Doing state limit start q o next (taken ++ line ∷ []) → Taking state left limit bytes start q o next new (taken ++ new.message ∷ [])
+      taking_more ended is m version d =
+          let m' = subst (λ e. ReadMessage left e old new) is m in record {
+            doing = subst (λ l. Doing state limit start q o next (taken ++ l ∷ [])) same d;
+            read = subst (λ v. HasRead left v bytes (taken ++ new.message ∷ []) new) (sym version) (reading_goes_on left name faults n.version bytes taken old new t.read stays m');
+            going = m'.progress;
+            few = few_more true m';
+          }
+
+      pub took_last : (ended : Bool) → ended ≡ false → ReadMessage left ended old new → Doing state limit start q o next (taken ++ line ∷ []) → Took state limit n.version bytes start q o next (Ok false)
+      took_last ended is m d =
+          let m' = subst (λ e. ReadMessage left e old new) is m in record {
+            taken = taken ++ new.message ∷ [];
+            few = few_more false m';
+            stops = (subst (λ l. Doing state limit start q o next (taken ++ l ∷ [])) same d, λ e. last_open taken new.message (open_of new.message (m'.open_end refl)));
+            told = all_of n.version bytes (taken ++ new.message ∷ []) false ((reading_ends left n.version bytes taken old new t.read).0 m');
+          }
+
+-- ---- over several messages
+
+module _ {R A B C : Type 0} where
+  pub named_on : (bytes : Option (List ℕ)) (m n o : LockNamer R A B C) → HasNamed (IsOneOf m.version bytes) m n → HasNamed (IsOneOf n.version bytes) n o → HasNamed (IsOneOf m.version bytes) m o
+  named_on bytes m n o one two = named_then (IsOneOf m.version bytes) m n o one (subst (λ v. HasNamed (IsOneOf v bytes) n o) one.version two)
+
+module _ {S D R A B C : Type 0} (state : D → DiskState) (left : S → Option (List ℕ)) (limit : ℕ) (bytes : Option (List ℕ)) (start p q : KeeperPass D) (n o : LockNamer R A B C) (hand next : Hand) (old new : ReaderState S) (taken : Texts) (text : List ℕ) where
+  pub one_less : Taking state left limit bytes start p n hand old taken → Taking state left limit bytes start q o next new (taken ++ text ∷ []) → MAX_MESSAGES - new.given < MAX_MESSAGES - old.given
+  one_less a b = omega (arith, a.read.given, b.read.given, b.few, length-append taken (text ∷ []))
+
+-- ---- before the first message
+
+abbrev none : Part
+none = record { rows = []; messages = [] }
+
+never_full : (limit : ℕ) → 1 ≤ limit → IsFull (record { rows = []; bytes = 0 }) limit → ⊥
+never_full limit least (inl le) = let low : limit ≤ 0 = le in omega (arith, low, least)
+never_full limit least (inr (inl le)) = let low : 1048576 ≤ 0 = le in omega (arith, low)
+never_full limit least (inr (inr le)) = let low : 16777216 ≤ 0 = le in omega (arith, low)
+
+none_full : (limit : ℕ) → 1 ≤ limit → (k : ℕ) → IsFull (columns_of (front k none)) limit → ⊥
+none_full limit least zero full = never_full limit least full
+none_full limit least (suc k) full = never_full limit least full
+
+none_open : (limit : ℕ) → 1 ≤ limit → IsOpen limit none
+none_open limit least = record { even = refl; not_yet = λ k le. none_full limit least k }
+
+module _ {D R A B C : Type 0} (state : D → DiskState) (limit : ℕ) (least : 1 ≤ limit) (p : KeeperPass D) (so_far : HasSoFar state p []) where
+  doing_none : (n : LockNamer R A B C) (hand : Hand) (file : ℕ) → IsWorker p n → file ≡ number_of p → IsEmptyHand file 0 hand → Doing state limit p p n hand []
+  doing_none n hand file worker is empty = record {
+    closed = [];
+    messages = [];
+    more = [];
+    taken_is = refl;
+    cut = All-nil (IsCut limit);
+    not_yet = subst (λ rows. IsOpen limit (record { rows = rows; messages = [] })) (sym empty.rows) (none_open limit least);
+    has = record {
+      canonical = subst (λ rows. AreCanonical n.version rows (types_seen n) (words_seen n) []) (sym empty.rows) tt;
+      used = empty.used ∙ ap (flat_map (numbers_of_row (types_seen n))) (sym empty.rows);
+      bytes = empty.bytes;
+    };
+    each = All-nil (IsMessage n.version);
+    first = empty.first_is;
+    file = empty.file_is ∙ is;
+    not_last = empty.not_last;
+    not_ended = empty.not_ended;
+    worker = worker;
+    added = nothing_added p worker.ready;
+    segments = λ a at. if_told (is_some (state a.fixed.opened).seen) _ (λ told. refl);
+    so_far = so_far;
+  }
+
+  pub taking_none : {S : Type 0} (left : S → Option (List ℕ)) (source : S) (r : ReaderState S) (n : LockNamer R A B C) (hand : Hand) (file : ℕ) → IsWorker p n → file ≡ number_of p → IsEmptyHand file 0 hand → IsNewReader n.version source r
+      → Taking state left limit (left source) p p n hand r []
+  taking_none left source r n hand file worker is empty fresh =
+      record { doing = doing_none n hand file worker is empty; read = reading_begins left n.version source r fresh; going = fresh.progress; few = omega arith }
+
+module _ {D : Type 0} (state : D → DiskState) (limit : ℕ) (least : 1 ≤ limit) (p : KeeperPass D) (so_far : HasSoFar state p []) where
+  pub came_none : (version : ℕ) (bytes : Option (List ℕ)) → IsReady p → CameTo state limit version bytes p p (record { messages = 0; whole = false; cause = Some OutOfMemory })
+  came_none version bytes ready = record {
+    covered = [];
+    ended = false;
+    count = refl;
+    cause = refl;
+    done = record {
+      closed = [];
+      rest = none;
+      more = [];
+      covered_is = refl;
+      cut = All-nil (IsCut limit);
+      not_yet = none_open limit least;
+      added = nothing_added p ready;
+      segments = λ a at. if_told (is_some (state a.fixed.opened).seen) _ (λ told. refl);
+      held = λ a at. if_told (is_some (state a.fixed.opened).seen) _ (λ told.
+          let found : FrontHolds a.fixed.header (journal_seen (seen p)) (number_of p) [] false false = record {
+            front = journal_seen (seen p);
+            begins = prefix_self (journal_seen (seen p));
+            holds = of_told (is_some (state a.fixed.opened).seen) _ told (so_far a at);
+          } in found);
+    };
+    first = each_some bytes (AreFirst version []) (λ b messages e is. (messages, refl));
+    all = λ w. absurd (cc (w));
+  }
+
+-- ---- the end
+
+module _ {D R A B C : Type 0} (state : D → DiskState) (limit : ℕ) (start p : KeeperPass D) (n : LockNamer R A B C) (hand : Hand) (taken : Texts) where
+  pub at_end : (answer : Result Bool Stop) (ended : Bool) → answer ≡ Ok ended → StopsAt state limit start p n hand taken answer → Doing state limit start p n hand taken × (ended ≡ false → last_is_open taken ≡ true)
+  at_end answer ended is s = subst (StopsAt state limit start p n hand taken) is s
+
+  pub at_part : (answer : Result Bool Stop) (cause : Cause) → answer ≡ Err (PartStop cause) → StopsAt state limit start p n hand taken answer → Doing state limit start p n hand taken
+  at_part answer cause is s = subst (StopsAt state limit start p n hand taken) is s
+
+  lost_done : 1 ≤ limit → Covering state limit start p hand taken → (cause : Cause) → IsOutcome state limit start p taken false (record { messages = hand.draft.first; whole = false; cause = Some cause })
+  lost_done least c cause = record {
+    covered = messages_in c.closed;
+    front = c.front;
+    all = λ is. absurd (cc (is));
+    cause = refl;
+    count = c.first;
+    done = record {
+      closed = c.closed;
+      rest = none;
+      more = c.more;
+      covered_is = sym (append-nil (messages_in c.closed));
+      cut = c.cut;
+      not_yet = none_open limit least;
+      added = c.added;
+      segments = λ a at. if_told (is_some (state a.fixed.opened).seen) _ (λ told.
+          of_told (is_some (state a.fixed.opened).seen) _ told (c.segments a at) ∙ sym (append-nil (segments_from (number_of start) 0 c.closed)));
+      held = c.held;
+    };
+  }
+
+  pub lost_outcome : 1 ≤ limit → (answer : Result Bool Stop) (cause : Cause) → answer ≡ Err (Lost cause) → StopsAt state limit start p n hand taken answer
+      → IsOutcome state limit start p taken (mark_of answer) (record { messages = hand.draft.first; whole = false; cause = Some cause })
+  lost_outcome least answer cause is s =
+      subst (λ a. IsOutcome state limit start p taken (mark_of a) (record { messages = hand.draft.first; whole = false; cause = Some cause })) (sym is)
+      (lost_done least (subst (StopsAt state limit start p n hand taken) is s) cause)
+
+first_of : (answer : Result Bool Stop) (taken covered messages : Texts) (e : Bool) → IsPrefix covered taken → AreTaken answer taken messages e → IsPrefix covered messages
+first_of (Ok ended) taken covered messages e front is = subst (IsPrefix covered) is.0 front
+first_of (Err y) taken covered messages e front is = prefix_trans covered taken messages front is
+
+all_at_end : (answer : Result Bool Stop) (ended : Bool) → answer ≡ Ok ended → (taken covered messages : Texts) (e : Bool) → covered ≡ taken → AreTaken answer taken messages e → (covered ≡ messages) × (mark_of answer ≡ e)
+all_at_end (Ok x) ended is_end taken covered messages e same is = (same ∙ is.0, is.1)
+all_at_end (Err y) ended is_end taken covered messages e same is = absurd (cc (is_end))
+
+module _ {D R A B C : Type 0} (state : D → DiskState) (limit version : ℕ) (bytes : Option (List ℕ)) (start p : KeeperPass D) (n : LockNamer R A B C) (hand : Hand) (answer : Result Bool Stop) (t : Took state limit version bytes start p n hand answer) (q : KeeperPass D)
+    (outcome : Outcome) where
+  pub came_to : IsOutcome state limit start q t.taken (mark_of answer) outcome → (outcome.whole ≡ true → (ended : Bool) × (answer ≡ Ok ended)) → CameTo state limit version bytes start q outcome
+  came_to o whole = record {
+    covered = o.covered;
+    ended = mark_of answer;
+    count = o.count;
+    cause = o.cause;
+    done = o.done;
+    first = if_some bytes told (AreFirst version o.covered) (λ b tells messages e is. first_of answer t.taken o.covered messages e o.front (tells messages e is)) t.told;
+    all = λ w. if_some bytes told (AreAll version o.covered (mark_of answer)) (λ b tells messages e is.
+        all_at_end answer (whole w).0 (whole w).1 t.taken o.covered messages e (o.all w) (tells messages e is)) t.told;
+  }
+    where
+      told : List ℕ → Type 0
+      told b = (messages : Texts) (e : Bool) → MessagesOf version b messages e → AreTaken answer t.taken messages e

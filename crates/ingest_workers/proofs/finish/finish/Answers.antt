@@ -1,0 +1,22 @@
+use Rattle.std.proofs.Common.{rules, ◌≡◌, Ok, Err}
+use Rattle.ingest_workers.specs.declared.stop.Stop.TheVariants.{Part, Lost}
+use Rattle.ingest_workers.proofs.TakingLemmas.{at_end, at_part, lost_outcome}
+use Rattle.ingest_workers.proofs.finish.finish.Goals as goal
+
+pub seal_last-requires-clause-doing : goal.seal_last-requires-clause-doing
+seal_last-requires-clause-doing g c =
+    let is : c.args.stop ≡ Ok c.in-Ok.ended = search rules in
+    let s = c.requires.stops in
+    let at = at_end g.D.Disk.state c.args.rows s.0 c.args.keeper.now c.args.namer.now c.args.hand.now s.1 c.args.stop c.in-Ok.ended is s.3 in
+    (s.0, s.1, s.2, at.1, at.0)
+
+pub seal_part-requires-clause-doing : goal.seal_part-requires-clause-doing
+seal_part-requires-clause-doing g c =
+    let is : c.args.stop ≡ Err (Part c.in-Err-Part.cause) = search rules in
+    let s = c.requires.stops in
+    (s.0, s.1, s.2, at_part g.D.Disk.state c.args.rows s.0 c.args.keeper.now c.args.namer.now c.args.hand.now s.1 c.args.stop c.in-Err-Part.cause is s.3)
+
+pub returns-in-Err-Lost-clause-outcome : goal.returns-in-Err-Lost-clause-outcome
+returns-in-Err-Lost-clause-outcome g c = λ start taken s.
+    let is : c.args.stop ≡ Err (Lost c.in-Err-Lost.cause) = search rules in
+    lost_outcome g.D.Disk.state c.args.rows start c.args.keeper.now c.args.namer.now c.args.hand.now taken c.requires.limit.0 c.args.stop c.in-Err-Lost.cause is s

@@ -1,0 +1,15 @@
+use Rattle.std.proofs.Common.{rules, ◌≡◌, ◌∙◌}
+use Rattle.ingest_workers.proofs.DoneLemmas.{all_done, may_seal_last, none_done}
+use Rattle.ingest_workers.proofs.finish.seal_last.Goals as goal
+
+pub seal-requires : goal.seal-requires
+seal-requires g c =
+    may_seal_last g.D.Disk.state c.args._rows c.requires.doing.0 c.args.keeper.now c.args.namer.now c.args.hand.now c.requires.doing.1 c.args.ended c.requires.doing.4 c.requires.limit c.requires.doing.2 c.requires.doing.3
+
+pub returns-in-Ok-clause-outcome : goal.returns-in-Ok-clause-outcome
+returns-in-Ok-clause-outcome g c = λ start taken d.
+    all_done g.D.Disk.state c.args._rows start c.args.keeper.now c.args.namer.now c.args.hand.now taken c.args.ended d c.seal.new.keeper c.seal.new.self c.in-Ok.ensures.emptied c.in-Ok.ensures.sealed c.in-Ok.ensures.holds
+
+pub returns-in-Err-clause-outcome : goal.returns-in-Err-clause-outcome
+returns-in-Err-clause-outcome g c = λ start taken d.
+    none_done g.D.Disk.state c.args._rows start c.args.keeper.now c.args.namer.now c.args.hand.now taken c.args.ended d c.seal.new.keeper c.seal.new.self c.in-Err.cause c.in-Err.ensures.refused c.in-Err.ensures.marks.first

@@ -1,0 +1,19 @@
+use Rattle.std.proofs.Common.{rules, ◌≡◌, ◌<◌, length, refl, ◌∙◌}
+use Rattle.std.specs.Prelude.{false}
+use Rattle.ingest_workers.proofs.MaySealLemmas.{nothing_sealed}
+use Rattle.ingest_workers.proofs.DoneLemmas.{may_seal_part, none_done, part_done}
+use Rattle.ingest_workers.proofs.finish.seal_part.Goals as goal
+
+pub seal-requires : goal.seal-requires
+seal-requires g c =
+    let some : 0 < length c.args.hand.now.draft.columns.rows = search rules in
+    may_seal_part g.D.Disk.state c.args._rows c.requires.doing.0 c.args.keeper.now c.args.namer.now c.args.hand.now c.requires.doing.1 false c.requires.doing.3 some c.requires.limit c.requires.doing.2
+
+pub returns-in-Ok-clause-outcome : goal.returns-in-Ok-clause-outcome
+returns-in-Ok-clause-outcome g c = λ start taken d.
+    let some : 0 < length c.args.hand.now.draft.columns.rows = search rules in
+    part_done g.D.Disk.state c.args._rows start c.args.keeper.now c.args.namer.now c.args.hand.now taken false d some c.seal.new.keeper c.seal.new.self c.args.cause c.in-Ok.ensures.emptied c.in-Ok.ensures.sealed c.in-Ok.ensures.holds
+
+pub returns-in-Err-clause-outcome : goal.returns-in-Err-clause-outcome
+returns-in-Err-clause-outcome g c = λ start taken d.
+    none_done g.D.Disk.state c.args._rows start c.args.keeper.now c.args.namer.now c.args.hand.now taken false d c.seal.new.keeper c.seal.new.self c.in-Err.refused c.in-Err.ensures.refused c.in-Err.ensures.marks.first

@@ -1,0 +1,19 @@
+use Rattle.std.proofs.Common.{rules, ◌≡◌, ℕ, List, Some, ap, subst, sym}
+use Rattle.row_codec.specs.Messages.{IsTypeOf, IsWordOf}
+use Rattle.ingest_workers.specs.JobDone.{in_source}
+use Rattle.ingest_workers.specs.Namer.{types_pass, words_pass}
+use Rattle.ingest_workers.specs.Naming.{AddsOnly}
+use Rattle.ingest_workers.specs.Taking.{IsOneOf}
+use Rattle.ingest_workers.proofs.run.run_job.Goals as goal
+
+pub returns-clause-types : goal.returns-clause-types
+returns-clause-types g c =
+    let is : c.args.job.now.source ≡ Some c.in-Some.source = search rules in
+    subst (λ b. AddsOnly (λ t. (m : List ℕ) × IsOneOf c.args.namer.now.version b m × IsTypeOf c.args.namer.now.version m t) (types_pass c.args.namer.now) (types_pass c.take_source-source.new.namer))
+    (sym (ap (in_source g.S.Source.left) is)) c.take_source-source.ensures.names.types
+
+pub returns-clause-words : goal.returns-clause-words
+returns-clause-words g c =
+    let is : c.args.job.now.source ≡ Some c.in-Some.source = search rules in
+    subst (λ b. AddsOnly (λ t. (m : List ℕ) × IsOneOf c.args.namer.now.version b m × IsWordOf c.args.namer.now.version m t) (words_pass c.args.namer.now) (words_pass c.take_source-source.new.namer))
+    (sym (ap (in_source g.S.Source.left) is)) c.take_source-source.ensures.names.words

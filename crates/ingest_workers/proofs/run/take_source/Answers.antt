@@ -1,0 +1,43 @@
+use Rattle.std.proofs.Common.{rules, ◌≡◌, [], subst}
+use Rattle.message_reader.specs.Reading.{IsNewReader}
+use Rattle.ingest_workers.specs.Taking.{IsOneOf}
+use Rattle.ingest_workers.proofs.NamingLemmas.{named_only, named_then}
+use Rattle.ingest_workers.proofs.TakingLemmas.{came_none, came_to, taking_none}
+use Rattle.ingest_workers.proofs.run.take_source.Goals as goal
+
+pub returns-in-Err-clause-came : goal.returns-in-Err-clause-came
+returns-in-Err-clause-came g c =
+    came_none g.D.Disk.state c.args.rows c.requires.rows.0 c.args.keeper.now c.requires.so_far c.args.namer.now.version (g.S.Source.left c.args.source) c.requires.worker.ready
+
+pub take_messages-stop-requires-clause-taking : goal.take_messages-stop-requires-clause-taking
+take_messages-stop-requires-clause-taking g c = (
+  g.S.Source.left c.args.source,
+  c.args.keeper.now,
+  [],
+  (taking_none g.D.Disk.state c.args.rows c.requires.rows.0 c.args.keeper.now c.requires.so_far g.S.Source.left c.args.source c.in-Ok.reader c.args.namer.now c.new-hand.result c.args.file c.requires.worker c.requires.file c.new-hand.ensures
+      (subst (λ v. IsNewReader v c.args.source c.in-Ok.reader) c.version.ensures c.in-Ok.ensures.fresh)),
+)
+
+pub finish-outcome-requires-clause-stops : goal.finish-outcome-requires-clause-stops
+finish-outcome-requires-clause-stops g c =
+    let took = c.take_messages-stop.ensures.took (g.S.Source.left c.args.source) c.args.keeper.now []
+    (taking_none g.D.Disk.state c.args.rows c.requires.rows.0 c.args.keeper.now c.requires.so_far g.S.Source.left c.args.source c.in-Ok.reader c.args.namer.now c.new-hand.result c.args.file c.requires.worker c.requires.file c.new-hand.ensures
+    (subst (λ v. IsNewReader v c.args.source c.in-Ok.reader) c.version.ensures c.in-Ok.ensures.fresh)) in
+    (c.args.keeper.now, took.taken, took.few, took.stops)
+
+pub returns-clause-names : goal.returns-clause-names
+returns-clause-names g c =
+    let P = IsOneOf c.args.namer.now.version (g.S.Source.left c.args.source) in
+    named_then P c.args.namer.now c.take_messages-stop.new.namer c.finish-outcome.new.namer
+    (c.take_messages-stop.ensures.names (g.S.Source.left c.args.source) c.args.keeper.now []
+    (taking_none g.D.Disk.state c.args.rows c.requires.rows.0 c.args.keeper.now c.requires.so_far g.S.Source.left c.args.source c.in-Ok.reader c.args.namer.now c.new-hand.result c.args.file c.requires.worker c.requires.file c.new-hand.ensures
+    (subst (λ v. IsNewReader v c.args.source c.in-Ok.reader) c.version.ensures c.in-Ok.ensures.fresh)))
+    (named_only P c.take_messages-stop.new.namer c.finish-outcome.new.namer c.finish-outcome.ensures.namer)
+
+pub returns-clause-came : goal.returns-clause-came
+returns-clause-came g c =
+    let took = c.take_messages-stop.ensures.took (g.S.Source.left c.args.source) c.args.keeper.now []
+    (taking_none g.D.Disk.state c.args.rows c.requires.rows.0 c.args.keeper.now c.requires.so_far g.S.Source.left c.args.source c.in-Ok.reader c.args.namer.now c.new-hand.result c.args.file c.requires.worker c.requires.file c.new-hand.ensures
+    (subst (λ v. IsNewReader v c.args.source c.in-Ok.reader) c.version.ensures c.in-Ok.ensures.fresh)) in
+    came_to g.D.Disk.state c.args.rows c.args.namer.now.version (g.S.Source.left c.args.source) c.args.keeper.now c.take_messages-stop.new.keeper c.take_messages-stop.new.namer c.take_messages-stop.new.hand c.take_messages-stop.result took c.finish-outcome.new.keeper c.finish-outcome.result
+    (c.finish-outcome.ensures.outcome c.args.keeper.now took.taken took.stops) c.finish-outcome.ensures.whole

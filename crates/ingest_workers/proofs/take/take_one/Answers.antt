@@ -1,0 +1,66 @@
+use Rattle.std.proofs.Common.{rules, ◌≡◌, List, ℕ, sym, ◌∙◌, ap, subst}
+use Rattle.std.specs.Prelude.{IsErrOf}
+use Rattle.column_store.specs.Columns.{IsFull}
+use Rattle.ingest_workers.specs.declared.stop.Stop.TheVariants.{Part}
+use Rattle.ingest_workers.proofs.DoingLemmas.{covering, doing_more, doing_sealed, each_err, has_room, may_seal, not_taken, passes_of}
+use Rattle.ingest_workers.proofs.NamingLemmas.{named_one, named_only, named_then}
+use Rattle.ingest_workers.proofs.take.take_one.Goals as goal
+
+pub take_message-requires-clause-room : goal.take_message-requires-clause-room
+take_message-requires-clause-room g c =
+    has_room g.D.Disk.state c.args.rows c.requires.doing.0 c.args.keeper.now c.args.namer.now c.args.hand.now c.requires.doing.1 c.requires.doing.3 c.requires.limit
+
+pub returns-in_err-take_message-clause-stopped : goal.returns-in_err-take_message-clause-stopped
+returns-in_err-take_message-clause-stopped g c = λ start taken d.
+    each_err c.from_residual.result _ (λ y is.
+    let there : IsErrOf c.take_message.result y = search rules in
+    not_taken g.D.Disk.state c.args.rows start c.args.keeper.now c.args.namer.now c.args.hand.now taken d c.take_message.new.namer c.take_message.new.hand c.args.line.now y (passes_of c.args.namer.now c.take_message.new.namer c.take_message.ensures.version c.take_message.ensures.locks c.take_message.ensures.numbers)
+    c.take_message.ensures.types.front c.take_message.ensures.words.front c.take_message.ensures.marks
+    (λ cause same. c.take_message.ensures.kept cause (subst (IsErrOf c.take_message.result) same there)))
+
+pub returns-then-not-is_full-clause-taken : goal.returns-then-not-is_full-clause-taken
+returns-then-not-is_full-clause-taken g c = λ start taken d.
+    let not_full : ¬ IsFull c.take_message.new.hand.draft.columns c.args.rows = search rules in
+    let row = c.in_ok-take_message.ensures.pushed in
+    doing_more g.D.Disk.state c.args.rows start c.args.keeper.now c.args.namer.now c.args.hand.now taken d c.take_message.new.namer c.take_message.new.hand row.0 c.args.line.now (passes_of c.args.namer.now c.take_message.new.namer c.take_message.ensures.version c.take_message.ensures.locks c.take_message.ensures.numbers)
+    c.take_message.ensures.marks row.1 (c.in_ok-take_message.ensures.taken d.messages d.has) c.requires.message not_full
+
+pub seal-requires : goal.seal-requires
+seal-requires g c =
+    let d = c.requires.doing.3 in
+    let row = c.in_ok-take_message.ensures.pushed in
+    may_seal g.D.Disk.state c.args.rows c.requires.doing.0 c.args.keeper.now c.args.namer.now c.args.hand.now c.requires.doing.1 d c.take_message.new.namer c.take_message.new.hand row.0 c.args.line.now
+    (passes_of c.args.namer.now c.take_message.new.namer c.take_message.ensures.version c.take_message.ensures.locks c.take_message.ensures.numbers) c.take_message.ensures.marks row.1 (c.in_ok-take_message.ensures.taken d.messages d.has) c.requires.message c.requires.limit c.requires.doing.2
+
+pub returns-in-Ok-clause-taken : goal.returns-in-Ok-clause-taken
+returns-in-Ok-clause-taken g c = λ start taken d.
+    let full : IsFull c.take_message.new.hand.draft.columns c.args.rows = search rules in
+    let row = c.in_ok-take_message.ensures.pushed in
+    doing_sealed g.D.Disk.state c.args.rows start c.args.keeper.now c.args.namer.now c.args.hand.now taken d c.take_message.new.namer c.take_message.new.hand row.0 c.args.line.now (passes_of c.args.namer.now c.take_message.new.namer c.take_message.ensures.version c.take_message.ensures.locks c.take_message.ensures.numbers)
+    c.take_message.ensures.marks row.1 (c.in_ok-take_message.ensures.taken d.messages d.has) c.requires.message c.seal.new.keeper c.seal.new.namer c.seal.new.self c.seal.ensures.namer
+    c.in-Ok.ensures.emptied c.in-Ok.ensures.sealed c.in-Ok.ensures.holds full
+
+pub returns-in-Err-clause-stopped : goal.returns-in-Err-clause-stopped
+returns-in-Err-clause-stopped g c = λ start taken d.
+    covering g.D.Disk.state c.args.rows start c.args.keeper.now c.args.namer.now c.args.hand.now taken d c.seal.new.keeper c.seal.new.self c.args.line.now c.in-Err.ensures.refused
+    (c.in-Err.ensures.marks.first ∙ c.take_message.ensures.marks.first)
+
+pub returns-in_err-take_message-clause-names : goal.returns-in_err-take_message-clause-names
+returns-in_err-take_message-clause-names g c =
+    named_one c.args.line.now c.args.namer.now c.take_message.new.namer c.take_message.ensures.version c.take_message.ensures.locks c.take_message.ensures.numbers c.take_message.ensures.abouts c.take_message.ensures.types c.take_message.ensures.words
+
+pub returns-then-not-is_full-clause-names : goal.returns-then-not-is_full-clause-names
+returns-then-not-is_full-clause-names g c =
+    named_one c.args.line.now c.args.namer.now c.take_message.new.namer c.take_message.ensures.version c.take_message.ensures.locks c.take_message.ensures.numbers c.take_message.ensures.abouts c.take_message.ensures.types c.take_message.ensures.words
+
+pub returns-in-Ok-clause-names : goal.returns-in-Ok-clause-names
+returns-in-Ok-clause-names g c =
+    named_then (λ m. m ≡ c.args.line.now) c.args.namer.now c.take_message.new.namer c.seal.new.namer
+    (named_one c.args.line.now c.args.namer.now c.take_message.new.namer c.take_message.ensures.version c.take_message.ensures.locks c.take_message.ensures.numbers c.take_message.ensures.abouts c.take_message.ensures.types c.take_message.ensures.words)
+    (named_only (λ m. m ≡ c.args.line.now) c.take_message.new.namer c.seal.new.namer c.seal.ensures.namer)
+
+pub returns-in-Err-clause-names : goal.returns-in-Err-clause-names
+returns-in-Err-clause-names g c =
+    named_then (λ m. m ≡ c.args.line.now) c.args.namer.now c.take_message.new.namer c.seal.new.namer
+    (named_one c.args.line.now c.args.namer.now c.take_message.new.namer c.take_message.ensures.version c.take_message.ensures.locks c.take_message.ensures.numbers c.take_message.ensures.abouts c.take_message.ensures.types c.take_message.ensures.words)
+    (named_only (λ m. m ≡ c.args.line.now) c.take_message.new.namer c.seal.new.namer c.seal.ensures.namer)

@@ -1,0 +1,52 @@
+use Rattle.std.proofs.Common.{rules, ◌≡◌, ◌++◌, ◌∷◌, [], List, ℕ, Ok, Err, arith, subst, ◌∙◌}
+use Rattle.ingest_workers.specs.Taking.{Taking, Took}
+use Rattle.ingest_workers.proofs.TakingLemmas.{named_on, none_at, one_less, some_at}
+use Rattle.ingest_workers.proofs.taking.take_messages.Goals as goal
+
+pub take_next-requires-clause-taking : goal.take_next-requires-clause-taking
+take_next-requires-clause-taking g c =
+    let r = c.requires.taking in let now = c.messages.invariant.taking r.0 r.1 r.2 r.3 in (r.0, r.1, now.0, now.1)
+
+pub returns-in-Err-clause-names : goal.returns-in-Err-clause-names
+returns-in-Err-clause-names g c = λ bytes start taken t.
+    let now = c.messages.invariant.taking bytes start taken t in
+    named_on bytes c.args.namer.now c.messages.namer c.take_next.new.namer (c.messages.invariant.names bytes start taken t) (c.take_next.ensures.names bytes start now.0 now.1)
+
+pub returns-in-Err-clause-took : goal.returns-in-Err-clause-took
+returns-in-Err-clause-took g c = λ bytes start taken t.
+    let now = c.messages.invariant.taking bytes start taken t in
+    subst (λ v. Took g.D.Disk.state c.args.rows v bytes start c.take_next.new.keeper c.take_next.new.namer c.take_next.new.hand (Err c.in-Err.stop)) (c.messages.invariant.names bytes start taken t).version
+    (c.in-Err.ensures.stopped bytes start now.0 now.1)
+
+pub returns-in-Ok-Some-clause-names : goal.returns-in-Ok-Some-clause-names
+returns-in-Ok-Some-clause-names g c = λ bytes start taken t.
+    let now = c.messages.invariant.taking bytes start taken t in
+    named_on bytes c.args.namer.now c.messages.namer c.take_next.new.namer (c.messages.invariant.names bytes start taken t) (c.take_next.ensures.names bytes start now.0 now.1)
+
+pub returns-in-Ok-Some-clause-took : goal.returns-in-Ok-Some-clause-took
+returns-in-Ok-Some-clause-took g c = λ bytes start taken t.
+    let now = c.messages.invariant.taking bytes start taken t in
+    subst (λ v. Took g.D.Disk.state c.args.rows v bytes start c.take_next.new.keeper c.take_next.new.namer c.take_next.new.hand (Ok c.in-Ok-Some.ended)) (c.messages.invariant.names bytes start taken t).version
+    (some_at c.in-Ok-Some.field-0 c.in-Ok-Some.ended (λ e. Took g.D.Disk.state c.args.rows c.messages.namer.version bytes start c.take_next.new.keeper c.take_next.new.namer c.take_next.new.hand (Ok e))
+    (search rules) (c.in-Ok-Some.ensures.ended bytes start now.0 now.1))
+
+pub messages-smaller : goal.messages-smaller
+messages-smaller g c =
+    let r = c.requires.taking in let now = c.messages.invariant.taking r.0 r.1 r.2 r.3 in let text = c.take_next.new.reader.message in
+    one_less g.D.Disk.state g.S.Source.left c.args.rows r.0 r.1 c.messages.keeper c.take_next.new.keeper c.messages.namer c.take_next.new.namer c.messages.hand c.take_next.new.hand c.messages.reader c.take_next.new.reader now.0 text now.1
+    (none_at c.in-Ok-None.field-0 (Taking g.D.Disk.state g.S.Source.left c.args.rows r.0 r.1 c.take_next.new.keeper c.take_next.new.namer c.take_next.new.hand c.take_next.new.reader (now.0 ++ text ∷ []))
+    (search rules) (c.in-Ok-None.ensures.taken r.0 r.1 now.0 now.1))
+
+pub messages-preserved : goal.messages-preserved
+messages-preserved g c = record {
+  source = record { named = c.take_next.ensures.source.named ∙ c.messages.invariant.source.named; later = omega (arith, c.take_next.ensures.source.later, c.messages.invariant.source.later) };
+  names = λ bytes start taken t.
+      let now = c.messages.invariant.taking bytes start taken t in
+      named_on bytes c.args.namer.now c.messages.namer c.take_next.new.namer (c.messages.invariant.names bytes start taken t) (c.take_next.ensures.names bytes start now.0 now.1);
+  taking = λ bytes start taken t.
+      let now = c.messages.invariant.taking bytes start taken t in let text = c.take_next.new.reader.message in (
+        now.0 ++ text ∷ [],
+        none_at c.in-Ok-None.field-0 (Taking g.D.Disk.state g.S.Source.left c.args.rows bytes start c.take_next.new.keeper c.take_next.new.namer c.take_next.new.hand c.take_next.new.reader (now.0 ++ text ∷ []))
+            (search rules) (c.in-Ok-None.ensures.taken bytes start now.0 now.1),
+      );
+}

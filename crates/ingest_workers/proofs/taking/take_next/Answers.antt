@@ -1,0 +1,63 @@
+use Rattle.std.proofs.Common.{rules, tests, ◌≡◌, true, false, Err}
+use Rattle.message_reader.specs.Reading.{ReadMessage, ReadToEnd}
+use Rattle.ingest_workers.specs.Taking.{IsOneOf}
+use Rattle.ingest_workers.proofs.DoingLemmas.{each_err}
+use Rattle.ingest_workers.proofs.NamingLemmas.{named_self}
+use Rattle.ingest_workers.proofs.TakingLemmas.{err_at, named_more, none_at, room_for_one, some_at, taking_more, took_all, took_last, took_part, took_stop}
+use Rattle.ingest_workers.proofs.taking.take_next.Goals as goal
+
+pub returns-in-Ok-None-clause-names : goal.returns-in-Ok-None-clause-names
+returns-in-Ok-None-clause-names g c = λ bytes start taken t. named_self (IsOneOf c.args.namer.now.version bytes) c.args.namer.now
+
+pub returns-in-Ok-None-clause-ended : goal.returns-in-Ok-None-clause-ended
+returns-in-Ok-None-clause-ended g c = λ bytes start taken t.
+    took_all g.D.Disk.state g.S.Source.left c.args.rows bytes start c.args.keeper.now c.args.namer.now c.args.hand.now c.args.reader.now c.advance.new.self taken t (none_at c.in-Ok-None.field-0 (ReadToEnd g.S.Source.left c.args.reader.now c.advance.new.self) (search rules) c.in-Ok-None.ensures.at_end)
+
+pub returns-in-Err-clause-names : goal.returns-in-Err-clause-names
+returns-in-Err-clause-names g c = λ bytes start taken t. named_self (IsOneOf c.args.namer.now.version bytes) c.args.namer.now
+
+pub returns-in-Err-clause-stopped : goal.returns-in-Err-clause-stopped
+returns-in-Err-clause-stopped g c = λ bytes start taken t.
+    took_part g.D.Disk.state g.S.Source.left c.args.rows bytes start c.args.keeper.now c.args.namer.now c.args.hand.now c.args.reader.now c.advance.new.self taken t c.cause_of.result
+
+pub take_one-requires-clause-doing : goal.take_one-requires-clause-doing
+take_one-requires-clause-doing g c =
+    let r = c.requires.taking in
+    (r.1, r.2, room_for_one g.D.Disk.state g.S.Source.left c.args.rows r.0 r.1 c.args.keeper.now c.args.namer.now c.args.hand.now c.args.reader.now c.advance.new.self r.2 r.3 c.in-Ok-Some.mark.ended (some_at c.in-Ok-Some.field-0 c.in-Ok-Some.mark (λ m. ReadMessage g.S.Source.left m.ended c.args.reader.now c.advance.new.self) (search rules) c.in-Ok-Some.ensures.message), r.3.doing)
+
+pub returns-in_err-take_one-clause-names : goal.returns-in_err-take_one-clause-names
+returns-in_err-take_one-clause-names g c = λ bytes start taken t.
+    named_more g.D.Disk.state g.S.Source.left c.args.rows bytes start c.args.keeper.now c.args.namer.now c.args.hand.now c.args.reader.now c.advance.new.self taken t g.S.Source.name g.S.Source.faults c.advance.ensures.stays
+    c.message.result.now c.message.ensures c.take_one.new.keeper c.take_one.new.namer c.take_one.new.hand c.in-Ok-Some.mark.ended (some_at c.in-Ok-Some.field-0 c.in-Ok-Some.mark (λ m. ReadMessage g.S.Source.left m.ended c.args.reader.now c.advance.new.self) (search rules) c.in-Ok-Some.ensures.message) c.take_one.ensures.names
+
+pub returns-in_err-take_one-clause-stopped : goal.returns-in_err-take_one-clause-stopped
+returns-in_err-take_one-clause-stopped g c = λ bytes start taken t.
+    each_err c.from_residual.result _ (λ y is.
+    let there : c.take_one.result ≡ Err y = search rules in
+    took_stop g.D.Disk.state g.S.Source.left c.args.rows bytes start c.args.keeper.now c.args.namer.now c.args.hand.now c.args.reader.now c.advance.new.self taken t g.S.Source.name g.S.Source.faults c.advance.ensures.stays
+    c.message.result.now c.message.ensures c.take_one.new.keeper c.take_one.new.namer c.take_one.new.hand c.in-Ok-Some.mark.ended (some_at c.in-Ok-Some.field-0 c.in-Ok-Some.mark (λ m. ReadMessage g.S.Source.left m.ended c.args.reader.now c.advance.new.self) (search rules) c.in-Ok-Some.ensures.message) y
+    (err_at c.take_one.result y _ there (c.take_one.ensures.stopped start taken t.doing)))
+
+pub returns-then-mark-clause-names : goal.returns-then-mark-clause-names
+returns-then-mark-clause-names g c = λ bytes start taken t.
+    named_more g.D.Disk.state g.S.Source.left c.args.rows bytes start c.args.keeper.now c.args.namer.now c.args.hand.now c.args.reader.now c.advance.new.self taken t g.S.Source.name g.S.Source.faults c.advance.ensures.stays
+    c.message.result.now c.message.ensures c.take_one.new.keeper c.take_one.new.namer c.take_one.new.hand c.in-Ok-Some.mark.ended (some_at c.in-Ok-Some.field-0 c.in-Ok-Some.mark (λ m. ReadMessage g.S.Source.left m.ended c.args.reader.now c.advance.new.self) (search rules) c.in-Ok-Some.ensures.message) c.take_one.ensures.names
+
+pub returns-then-mark-clause-taken : goal.returns-then-mark-clause-taken
+returns-then-mark-clause-taken g c = λ bytes start taken t.
+    let is : c.in-Ok-Some.mark.ended ≡ true = search (rules, tests) in
+    taking_more g.D.Disk.state g.S.Source.left c.args.rows bytes start c.args.keeper.now c.args.namer.now c.args.hand.now c.args.reader.now c.advance.new.self taken t g.S.Source.name g.S.Source.faults c.advance.ensures.stays
+    c.message.result.now c.message.ensures c.take_one.new.keeper c.take_one.new.namer c.take_one.new.hand c.in-Ok-Some.mark.ended is (some_at c.in-Ok-Some.field-0 c.in-Ok-Some.mark (λ m. ReadMessage g.S.Source.left m.ended c.args.reader.now c.advance.new.self) (search rules) c.in-Ok-Some.ensures.message) c.take_one.ensures.names.version
+    (c.in_ok-take_one.ensures.taken start taken t.doing)
+
+pub returns-else-mark-clause-names : goal.returns-else-mark-clause-names
+returns-else-mark-clause-names g c = λ bytes start taken t.
+    named_more g.D.Disk.state g.S.Source.left c.args.rows bytes start c.args.keeper.now c.args.namer.now c.args.hand.now c.args.reader.now c.advance.new.self taken t g.S.Source.name g.S.Source.faults c.advance.ensures.stays
+    c.message.result.now c.message.ensures c.take_one.new.keeper c.take_one.new.namer c.take_one.new.hand c.in-Ok-Some.mark.ended (some_at c.in-Ok-Some.field-0 c.in-Ok-Some.mark (λ m. ReadMessage g.S.Source.left m.ended c.args.reader.now c.advance.new.self) (search rules) c.in-Ok-Some.ensures.message) c.take_one.ensures.names
+
+pub returns-else-mark-clause-ended : goal.returns-else-mark-clause-ended
+returns-else-mark-clause-ended g c = λ bytes start taken t.
+    let is : c.in-Ok-Some.mark.ended ≡ false = search (rules, tests) in
+    took_last g.D.Disk.state g.S.Source.left c.args.rows bytes start c.args.keeper.now c.args.namer.now c.args.hand.now c.args.reader.now c.advance.new.self taken t g.S.Source.name g.S.Source.faults c.advance.ensures.stays
+    c.message.result.now c.message.ensures c.take_one.new.keeper c.take_one.new.namer c.take_one.new.hand c.in-Ok-Some.mark.ended is (some_at c.in-Ok-Some.field-0 c.in-Ok-Some.mark (λ m. ReadMessage g.S.Source.left m.ended c.args.reader.now c.advance.new.self) (search rules) c.in-Ok-Some.ensures.message)
+    (c.in_ok-take_one.ensures.taken start taken t.doing)

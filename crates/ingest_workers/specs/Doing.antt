@@ -1,0 +1,48 @@
+-- A worker at its file.
+use Rattle.std.specs.Prelude.{◌≡◌, ℕ, false, List, [], ◌++◌, length, All}
+use mathlib.Core.List.{IsPrefix}
+use Rattle.log_seams.specs.Disk.{DiskState}
+use Rattle.turn_lock.specs.Words.{seen, number_of}
+use Rattle.row_codec.specs.Messages.{IsMessage}
+use Rattle.disk_seal.specs.declared.entry.StoreEntry.{StoreEntry}
+use Rattle.disk_seal.specs.declared.namer.LockNamer.{LockNamer}
+use Rattle.disk_seal.specs.Draft.{journal_seen}
+use Rattle.disk_seal.specs.Fixed.{KeeperPass}
+use Rattle.ingest_workers.specs.declared.hand.Hand.{Hand}
+use Rattle.ingest_workers.specs.Hand.{HasInHand}
+use Rattle.ingest_workers.specs.Journal.{FrontHolds, HasAdded, HasSoFar, WhereTold, sealed_by}
+use Rattle.ingest_workers.specs.MaySeal.{IsWorker}
+use Rattle.ingest_workers.specs.Namer.{types_seen, words_seen}
+use Rattle.ingest_workers.specs.Parts.{IsCut, IsOpen, Part, messages_in, segments_from}
+
+module _ {D R A B C : Type 0} where
+  -- Since the pass was `start`, these messages of its file were taken: some are sealed in full segments, the others are in hand.
+  pub record Doing (state : D → DiskState) (limit : ℕ) (start p : KeeperPass D) (n : LockNamer R A B C) (hand : Hand) (taken : List (List ℕ)) : Type 0 where
+    pub closed : List Part
+    pub messages : List (List ℕ)
+    pub more : List (ℕ × StoreEntry)
+    pub taken_is : taken ≡ messages_in closed ++ messages
+    pub cut : All (IsCut limit) closed
+    pub not_yet : IsOpen limit (record { rows = hand.draft.columns.rows; messages = messages })
+    pub has : HasInHand n.version (types_seen n) (words_seen n) messages hand
+    pub each : All (IsMessage n.version) messages
+    pub first : hand.draft.first ≡ length (messages_in closed)
+    pub file : hand.draft.file ≡ number_of p
+    pub not_last : hand.draft.last ≡ false
+    pub not_ended : hand.draft.ended ≡ false
+    pub worker : IsWorker p n
+    pub added : HasAdded start p more
+    pub segments : WhereTold state start (λ h. sealed_by more ≡ segments_from (number_of start) 0 closed)
+    pub so_far : HasSoFar state p (messages_in closed)
+
+module _ {D : Type 0} where
+  -- Nothing more of the file is sealed: of the messages that were taken the first ones are.
+  pub record Covering (state : D → DiskState) (limit : ℕ) (start p : KeeperPass D) (hand : Hand) (taken : List (List ℕ)) : Type 0 where
+    pub closed : List Part
+    pub more : List (ℕ × StoreEntry)
+    pub front : IsPrefix (messages_in closed) taken
+    pub cut : All (IsCut limit) closed
+    pub first : hand.draft.first ≡ length (messages_in closed)
+    pub added : HasAdded start p more
+    pub segments : WhereTold state start (λ h. sealed_by more ≡ segments_from (number_of start) 0 closed)
+    pub held : WhereTold state start (λ h. FrontHolds h (journal_seen (seen p)) (number_of start) (messages_in closed) false false)

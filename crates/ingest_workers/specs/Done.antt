@@ -1,0 +1,34 @@
+-- What is left of a job.
+use Rattle.std.specs.Prelude.{◌≡◌, ℕ, ◌&&◌, Bool, true, not, is_some, List, ◌++◌, length, All}
+use mathlib.Core.List.{IsPrefix}
+use Rattle.log_seams.specs.Disk.{DiskState}
+use Rattle.turn_lock.specs.Words.{seen, number_of}
+use Rattle.disk_seal.specs.declared.entry.StoreEntry.{StoreEntry}
+use Rattle.disk_seal.specs.Draft.{journal_seen}
+use Rattle.disk_seal.specs.Fixed.{KeeperPass}
+use Rattle.ingest_workers.specs.declared.outcome.Outcome.{Outcome}
+use Rattle.ingest_workers.specs.Journal.{FrontHolds, HasAdded, WhereTold, sealed_by}
+use Rattle.ingest_workers.specs.Parts.{IsCut, IsOpen, Part, messages_in, rest_of, segments_from}
+
+module _ {D : Type 0} where
+  -- Since the pass was `start` it has added these messages of its file, in full segments and one of the rest. The journal that it has seen begins
+  -- with entries that hold exactly them.
+  pub record HasDone (state : D → DiskState) (limit : ℕ) (start p : KeeperPass D) (covered : List (List ℕ)) (whole ended : Bool) : Type 0 where
+    pub closed : List Part
+    pub rest : Part
+    pub more : List (ℕ × StoreEntry)
+    pub covered_is : covered ≡ messages_in closed ++ rest.messages
+    pub cut : All (IsCut limit) closed
+    pub not_yet : IsOpen limit rest
+    pub added : HasAdded start p more
+    pub segments : WhereTold state start (λ h. sealed_by more ≡ segments_from (number_of start) 0 closed ++ rest_of (number_of start) (length (messages_in closed)) whole ended rest)
+    pub held : WhereTold state start (λ h. FrontHolds h (journal_seen (seen p)) (number_of start) covered whole (whole && ended))
+
+  -- the outcome counts those of the messages taken that are sealed, and has a cause exactly where the file is not whole
+  pub record IsOutcome (state : D → DiskState) (limit : ℕ) (start p : KeeperPass D) (taken : List (List ℕ)) (ended : Bool) (o : Outcome) : Type 0 where
+    pub covered : List (List ℕ)
+    pub front : IsPrefix covered taken
+    pub all : o.whole ≡ true → covered ≡ taken
+    pub cause : is_some o.cause ≡ not o.whole
+    pub count : o.messages ≡ length covered
+    pub done : HasDone state limit start p covered o.whole ended

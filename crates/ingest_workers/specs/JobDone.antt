@@ -1,0 +1,47 @@
+-- What becomes of a job that a worker does.
+use Rattle.std.specs.Prelude.{◌≡◌, ℕ, Bool, true, not, List, length, Option, None, Some, IfSome, is_some}
+use mathlib.Core.List.{IsPrefix}
+use Rattle.log_seams.specs.Disk.{DiskState}
+use Rattle.message_reader.specs.Versions.{MessagesOf}
+use Rattle.disk_seal.specs.Fixed.{KeeperPass}
+use Rattle.ingest_workers.specs.declared.job.Job.{Job}
+use Rattle.ingest_workers.specs.declared.outcome.Outcome.{Outcome}
+use Rattle.ingest_workers.specs.Done.{HasDone}
+use Rattle.ingest_workers.specs.Taking.{IsOneOf, KeepsSource}
+
+-- what the source of a job that is not done tells
+abbrev pub in_source : {S T : Type 0} → (S → Option T) → Option S → Option T
+in_source f None = None
+in_source f (Some source) = f source
+
+module _ {S : Type 0} where
+  -- the message is one of the job's source, in this version; of a source that does not tell its bytes nothing is said
+  abbrev pub IsGivenBy : (S → Option (List ℕ)) → ℕ → Job S → List ℕ → Type 0
+  IsGivenBy left version j m = IsOneOf version (in_source left j.source) m
+
+module _ {D : Type 0} where
+  -- What came of a file, whose messages were those of these bytes where they are told. The pass has added the messages that the outcome counts, and they
+  -- are the first ones of the file. Where it is whole they are all, and its mark is that of the bytes. There is a cause exactly where it is not whole.
+  pub record CameTo (state : D → DiskState) (limit version : ℕ) (bytes : Option (List ℕ)) (start p : KeeperPass D) (o : Outcome) : Type 0 where
+    pub covered : List (List ℕ)
+    pub ended : Bool
+    pub count : o.messages ≡ length covered
+    pub cause : is_some o.cause ≡ not o.whole
+    pub done : HasDone state limit start p covered o.whole ended
+    pub first : IfSome bytes (λ b. (messages : List (List ℕ)) (e : Bool) → MessagesOf version b messages e → IsPrefix covered messages)
+    pub all : o.whole ≡ true → IfSome bytes (λ b. (messages : List (List ℕ)) (e : Bool) → MessagesOf version b messages e → (covered ≡ messages) × (ended ≡ e))
+
+module _ {S D : Type 0} where
+  -- the job was done with this pass, in segments of at most so many rows
+  pub record IsDone (state : D → DiskState) (left : S → Option (List ℕ)) (rows version : ℕ) (j : Job S) (p : KeeperPass D) (j' : Job S) (q : KeeperPass D) : Type 0 where
+    pub file : j'.file ≡ j.file
+    pub came : CameTo state rows version (in_source left j.source) p q j'.outcome
+
+module _ {S : Type 0} where
+  -- the job has its source back
+  pub record HasSourceBack (name : S → Option (List ℕ)) (faults : S → ℕ) (j j' : Job S) : Type 0 where
+    pub before : S
+    pub after : S
+    pub had : j.source ≡ Some before
+    pub has : j'.source ≡ Some after
+    pub keeps : KeepsSource name faults before after

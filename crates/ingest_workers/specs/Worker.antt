@@ -1,0 +1,91 @@
+-- What a worker is to a contract: its passes of the two books, what they may add, and what they added.
+use Rattle.std.specs.Prelude.{◌≡◌, ℕ, ◌<◌, ◌≤◌, List, [], Option, None, Some, IsSome, slice_get}
+use Rattle.log_seams.specs.Disk.{DiskState}
+use Rattle.turn_lock.specs.declared.board.About.{About}
+use Rattle.turn_lock.specs.Words.{about, lock_of, number_of, own_list, IsReady}
+use Rattle.dict_core.specs.declared.grows.TheConstants.{WORDS_FIRST}
+use Rattle.dict_lock.specs.Shared.{BookPass}
+use Rattle.row_codec.specs.Messages.{IsTypeOf, IsWordOf}
+use Rattle.disk_seal.specs.declared.fixed.StoreFixed.{StoreFixed}
+use Rattle.disk_seal.specs.Fixed.{KeeperPass}
+use Rattle.disk_seal.specs.Prepare.{HasSeenOpening}
+use Rattle.ingest_workers.specs.declared.job.Job.{Job}
+use Rattle.ingest_workers.specs.declared.worker.BookPasses.{BookPasses}
+use Rattle.ingest_workers.specs.declared.worker.Plan.{Plan}
+use Rattle.ingest_workers.specs.declared.worker.Worker.{Worker}
+use Rattle.ingest_workers.specs.Outcome.{nothing_done}
+use Rattle.ingest_workers.specs.Journal.{HasSoFar}
+use Rattle.ingest_workers.specs.Naming.{AddsOnly}
+use Rattle.ingest_workers.specs.JobDone.{IsGivenBy, IsDone}
+
+pub no_passes : IsSome {T = BookPasses} None → ⊥
+no_passes none = cc (none)
+
+abbrev pub passes_in : (o : Option BookPasses) → IsSome o → BookPasses
+passes_in None none = absurd (no_passes none)
+passes_in (Some b) some = b
+
+-- the passes of a worker between two jobs
+abbrev pub passes_of : Worker → BookPasses
+passes_of w = passes_in w.passes w.full
+
+abbrev pub types_of : Worker → BookPass
+types_of w = (passes_of w).types
+
+abbrev pub words_of : Worker → BookPass
+words_of w = (passes_of w).words
+
+-- both passes are between two turns, one may add log types and one words
+pub record MayAddTexts (b : BookPasses) : Type 0 where
+  pub types_ready : IsReady b.types
+  pub words_ready : IsReady b.words
+  pub adds_types : number_of b.types < WORDS_FIRST
+  pub adds_words : WORDS_FIRST < number_of b.words
+
+-- the worker is between two jobs
+abbrev pub IsIdle : Worker → Type 0
+IsIdle w = MayAddTexts (passes_of w)
+
+-- what both passes added meanwhile are texts of the encodings of these messages
+pub record NamesOnly (version : ℕ) (P : List ℕ → Type 0) (b c : BookPasses) : Type 0 where
+  pub types : AddsOnly (λ t. (m : List ℕ) × P m × IsTypeOf version m t) b.types c.types
+  pub words : AddsOnly (λ t. (m : List ℕ) × P m × IsWordOf version m t) b.words c.words
+
+module _ {S : Type 0} (left : S → Option (List ℕ)) where
+  -- the message is one of a job's source
+  abbrev pub IsGiven : ℕ → List (Job S) → List ℕ → Type 0
+  IsGiven version js m = (i : ℕ) × (j : Job S) × (slice_get js i ≡ Some j) × IsGivenBy left version j m
+
+  -- the worker did nothing but some of these jobs
+  pub record DidOnly (js : List (Job S)) (w v : Worker) : Type 0 where
+    pub plan : v.plan ≡ w.plan
+    pub names : NamesOnly w.plan.version (IsGiven w.plan.version js) (passes_of w) (passes_of v)
+
+module _ {D : Type 0} where
+  -- the passes are of the locks of the store that the keeper is of, and the version is its header's
+  pub record GoWith (plan : Plan) (b : BookPasses) (k : KeeperPass D) : Type 0 where
+    pub types : (a : About (StoreFixed D)) → about k ≡ Some a → lock_of b.types ≡ a.fixed.types
+    pub words : (a : About (StoreFixed D)) → about k ≡ Some a → lock_of b.words ≡ a.fixed.words
+    pub version : (a : About (StoreFixed D)) → about k ≡ Some a → plan.version ≡ a.fixed.header.version
+
+module _ {S D : Type 0} (state : D → DiskState) where
+  -- the job is new, and so is its file, which the keeper is of
+  pub record IsNewJob (j : Job S) (k : KeeperPass D) : Type 0 where
+    pub outcome : j.outcome ≡ nothing_done
+    pub file : j.file ≡ number_of k
+    pub ready : IsReady k
+    pub opening : HasSeenOpening k
+    pub own : own_list k ≡ []
+    pub so_far : HasSoFar state k []
+
+  -- the worker may do the job with this keeper
+  pub record MayDo (w : Worker) (j : Job S) (k : KeeperPass D) : Type 0 where
+    pub least : 1 ≤ w.plan.rows
+    pub most : w.plan.rows ≤ 65536
+    pub version : (1 ≤ w.plan.version) × (w.plan.version ≤ 3)
+    pub fits : GoWith w.plan (passes_of w) k
+    pub new : IsNewJob j k
+
+  -- what became of a job that the worker did
+  abbrev pub DidJob : (S → Option (List ℕ)) → Worker → Job S → KeeperPass D → Job S → KeeperPass D → Type 0
+  DidJob left w j k l m = IsDone state left w.plan.rows w.plan.version j k l m

@@ -1,0 +1,54 @@
+//! A file on its way into an archive.
+ghost use Rattle.std.specs.Prelude.{◌≡◌, Some, IsSome};
+ghost use Rattle.ingest_workers.specs.Outcome.{nothing_done};
+
+use crate::outcome::Outcome;
+
+/// A log that is to become a file of an archive, and what came of that.
+#[derive(Drop)]
+pub struct Job<S> {
+    pub(crate) file: u32,
+    // None while a worker reads it.
+    pub(crate) source: Option<S>,
+    pub(crate) outcome: Outcome,
+    ghost full: { IsSome source },
+}
+
+impl<S> Job<S> {
+    /// The source is to become the file with this number, which is new in the archive.
+    pub fn new(file: u32, source: S) -> Job<S>
+        ensures file { result.file ≡ file }
+        ensures source { result.source ≡ Some source }
+        ensures outcome { result.outcome ≡ nothing_done }
+    {
+        Job {
+            file,
+            source: Some(source),
+            outcome: Outcome {
+                messages: 0,
+                whole: false,
+                cause: None,
+            },
+        }
+    }
+
+    /// What came of it; before any work no message, not whole, and no cause.
+    pub fn outcome(&self) -> Outcome
+        ensures { result ≡ self.now.outcome }
+    {
+        self.outcome
+    }
+
+    /// The source, as far as it was read.
+    pub fn into_source(self) -> S
+        ensures { self.source ≡ Some result }
+    {
+        let Job {
+            file: _,
+            source,
+            outcome: _,
+        } = self;
+        let Some(source) = source else { unreachable!() };
+        source
+    }
+}

@@ -1,0 +1,99 @@
+//! Jobs done under the keeper's lock.
+ghost use Rattle.std.specs.Prelude.{◌≡◌, ◌<◌, ◌≤◌, length, OnOk, OnErr, IfOk, IfErr};
+ghost use Rattle.turn_lock.specs.Words.{id_of, lock_by, made_by};
+ghost use Rattle.ingest_fork.specs.Works.{AllReady};
+ghost use Rattle.ingest_workers.specs.Worker.{IsIdle};
+ghost use Rattle.ingest_workers.specs.Locked.{HasClosed, HasDoneAll, HasKept, HasWorked, IsStillStore, MayDoAll, MayDoAt};
+
+use crate::job::Job;
+use crate::worker::Worker;
+use disk_seal::{Keeper, Store};
+use ingest_fork::{by_workers_of, fill, join_all};
+use log_seams::{Disk, Source};
+use std::alloc::{AllocError, Global};
+use std::sync::Wait;
+use std::thread::Threads;
+use turn_lock::{LockRefused, Maker};
+
+/// The workers do the jobs, each job with a pass of its own. Refused for want of memory, before any
+/// job is begun.
+fn under_lock<'k, 'b, 'd, D: Disk + Send, S: Source + Send, R: Threads + Wait + Sync>(
+    rt: &R,
+    alloc: Global,
+    workers: &mut Vec<Worker<'b>>,
+    jobs: &mut [Job<S>],
+    lock: &'k Keeper<'d, 'b, D>,
+    maker: &mut Maker<Store<'d, 'b, D>>,
+) -> Result<(), AllocError>
+    requires workers { (0 < length workers.old.items) × (length workers.old.items ≤ 64) }
+    requires idle { AllReady IsIdle workers.old.items }
+    requires jobs { length jobs.old ≤ 4294967296 }
+    requires lock { lock_by maker.old ≡ id_of lock.now }
+    requires first { made_by maker.old ≡ 0 }
+    requires may { MayDoAll D.state maker.old workers.old.items jobs.old }
+    ensures lock { lock_by maker.new ≡ lock_by maker.old }
+    ensures done { OnOk result (HasDoneAll D.state S.left maker.old maker.new
+        workers.old.items workers.new.items jobs.old jobs.new) }
+    ensures refused { OnErr result ((maker.new ≡ maker.old) × (jobs.new ≡ jobs.old)) }
+{
+    let mut keepers = Vec::with_capacity(alloc, jobs.len())?;
+    fill(maker, lock, &mut keepers, jobs.len());
+    by_workers_of(rt, workers, jobs, &mut keepers);
+    join_all(maker, keepers);
+    Ok(())
+}
+
+/// The same, and the lock is closed.
+fn over_keeper<'b, 'd, D: Disk + Send, S: Source + Send, R: Threads + Wait + Sync>(
+    rt: &R,
+    alloc: Global,
+    workers: &mut Vec<Worker<'b>>,
+    jobs: &mut [Job<S>],
+    lock: Keeper<'d, 'b, D>,
+    mut maker: Maker<Store<'d, 'b, D>>,
+) -> Result<Store<'d, 'b, D>, Store<'d, 'b, D>>
+    requires workers { (0 < length workers.old.items) × (length workers.old.items ≤ 64) }
+    requires idle { AllReady IsIdle workers.old.items }
+    requires jobs { length jobs.old ≤ 4294967296 }
+    requires lock { lock_by maker ≡ id_of lock }
+    requires first { made_by maker ≡ 0 }
+    requires may { MayDoAll D.state maker workers.old.items jobs.old }
+    ensures done { IfOk result (λ store. HasClosed D.state S.left maker.entry
+        workers.old.items workers.new.items jobs.old jobs.new store) }
+    ensures refused { IfErr result (λ store. HasKept D.state maker.entry store) }
+    ensures jobs { OnErr result (jobs.new ≡ jobs.old) }
+{
+    match under_lock(rt, alloc, workers, jobs, &lock, &mut maker) {
+        Ok(()) => Ok(lock.close(maker)),
+        Err(_) => Err(lock.close(maker)),
+    }
+}
+
+/// The workers do the jobs over the store, whose passes are numbered from the first job's file on.
+/// Refused for want of memory, before any job is begun.
+pub(crate) fn over_store<'b, 'd, D: Disk + Send, S: Source + Send, R: Threads + Wait + Sync>(
+    rt: &R,
+    alloc: Global,
+    workers: &mut Vec<Worker<'b>>,
+    jobs: &mut [Job<S>],
+    store: Store<'d, 'b, D>,
+    first: u64,
+) -> Result<Store<'d, 'b, D>, Store<'d, 'b, D>>
+    requires workers { (0 < length workers.old.items) × (length workers.old.items ≤ 64) }
+    requires idle { AllReady IsIdle workers.old.items }
+    requires jobs { length jobs.old ≤ 4294967296 }
+    requires first { first < 4294967296 }
+    requires may { MayDoAt D.state first store workers.old.items jobs.old }
+    ensures done { IfOk result (λ after. HasWorked D.state S.left first
+        workers.old.items workers.new.items jobs.old jobs.new store.entry after) }
+    ensures refused { IfErr result (λ after. IsStillStore D.state store.entry after) }
+    ensures jobs { OnErr result (jobs.new ≡ jobs.old) }
+{
+    match Keeper::new(alloc, store, first) {
+        Ok((lock, maker)) => over_keeper(rt, alloc, workers, jobs, lock, maker),
+        Err(refused) => {
+            let LockRefused { value } = refused;
+            Err(value)
+        }
+    }
+}

@@ -1,0 +1,107 @@
+//! One worker's work on one file.
+ghost use Rattle.std.specs.Prelude.{◌≡◌, ◌≤◌, ℕ, List, []};
+ghost use Rattle.turn_lock.specs.Words.{number_of, own_list};
+ghost use Rattle.row_codec.specs.Messages.{IsTypeOf, IsWordOf};
+ghost use Rattle.ingest_workers.specs.Journal.{HasSoFar};
+ghost use Rattle.ingest_workers.specs.JobDone.{CameTo, HasSourceBack, IsDone, IsGivenBy};
+ghost use Rattle.ingest_workers.specs.MaySeal.{IsWorker};
+ghost use Rattle.ingest_workers.specs.Namer.{types_pass, words_pass};
+ghost use Rattle.ingest_workers.specs.Naming.{AddsOnly, HasNamed};
+ghost use Rattle.ingest_workers.specs.Outcome.{nothing_done};
+ghost use Rattle.ingest_workers.specs.Taking.{IsOneOf, KeepsSource};
+
+use crate::finish::finish;
+use crate::hand::Hand;
+use crate::job::Job;
+use crate::outcome::{Cause, Outcome};
+use crate::taking::take_messages;
+use disk_seal::{LockNamer, Store};
+use log_seams::{Disk, Source};
+use message_reader::{CutterRefused, MessageReader};
+use std::alloc::Global;
+use std::sync::Wait;
+use std::sync::ledger::Ledger;
+use turn_lock::Pass;
+
+/// Takes the messages of a source as those of a file, which is new in the archive, and hands the source back.
+fn take_source<'d, 'b, S: Source, D: Disk, R: Wait, A: Ledger, B: Ledger, C: Ledger>(
+    rt: &R,
+    alloc: Global,
+    rows: u32,
+    file: u32,
+    source: S,
+    namer: &mut LockNamer<'_, '_, R, A, B, C>,
+    keeper: &mut Pass<'_, Store<'d, 'b, D>>,
+) -> (S, Outcome)
+    requires rows { (1 ≤ rows) × (rows ≤ 65536) }
+    requires version { (1 ≤ namer.old.version) × (namer.old.version ≤ 3) }
+    requires worker { IsWorker keeper.old namer.old }
+    requires file { file ≡ number_of keeper.old }
+    requires so_far { HasSoFar D.state keeper.old [] }
+
+    // what stays, and what the namer has named
+    ensures source { KeepsSource S.name S.faults source result.0 }
+    ensures names { HasNamed (IsOneOf namer.old.version (S.left source)) namer.old namer.new }
+
+    // the answer
+    ensures came { CameTo D.state rows namer.old.version (S.left source) keeper.old keeper.new
+        result.1 }
+{
+    let mut reader = match MessageReader::new(alloc, namer.version(), source) {
+        Ok(reader) => reader,
+        Err(CutterRefused { source }) => {
+            let outcome = Outcome {
+                messages: 0,
+                whole: false,
+                cause: Some(Cause::OutOfMemory),
+            };
+            return (source, outcome);
+        }
+    };
+    let mut hand = Hand::new(alloc, file);
+    let stop = take_messages(rt, alloc, rows, &mut reader, &mut hand, namer, keeper);
+    let outcome = finish(rt, alloc, rows, stop, &mut hand, namer, keeper);
+    (reader.into_source(), outcome)
+}
+
+/// Does a job: the messages of its source become those of its file, in segments of at most `rows`
+/// rows, and the texts that they name are named by the worker's namer.
+///
+/// `keeper` is the pass over the store that has the file's number. What came of it is the job's
+/// outcome, and the job has its source back, read as far as it was.
+pub fn run_job<'d, 'b, S: Source, D: Disk, R: Wait, A: Ledger, B: Ledger, C: Ledger>(
+    job: &mut Job<S>,
+    rt: &R,
+    alloc: Global,
+    rows: u32,
+    namer: &mut LockNamer<'_, '_, R, A, B, C>,
+    keeper: &mut Pass<'_, Store<'d, 'b, D>>,
+)
+    requires rows { (1 ≤ rows) × (rows ≤ 65536) }
+    requires version { (1 ≤ namer.old.version) × (namer.old.version ≤ 3) }
+    requires worker { IsWorker keeper.old namer.old }
+    requires file { job.old.file ≡ number_of keeper.old }
+    requires new { job.old.outcome ≡ nothing_done }
+    requires own { own_list keeper.old ≡ [] }
+    requires so_far { HasSoFar D.state keeper.old [] }
+
+    // what stays, and what the namer has named
+    ensures source { HasSourceBack S.name S.faults job.old job.new }
+    ensures version { namer.new.version ≡ namer.old.version }
+    ensures types { AddsOnly (λ t. (m : List ℕ) × IsGivenBy S.left namer.old.version job.old m
+        × IsTypeOf namer.old.version m t) (types_pass namer.old) (types_pass namer.new) }
+    ensures words { AddsOnly (λ t. (m : List ℕ) × IsGivenBy S.left namer.old.version job.old m
+        × IsWordOf namer.old.version m t) (words_pass namer.old) (words_pass namer.new) }
+
+    // what came of it
+    ensures done { IsDone D.state S.left rows namer.old.version job.old keeper.old
+        job.new keeper.new }
+{
+    let Some(source) = job.source.take() else {
+        unreachable!()
+    };
+    let (source, outcome) = take_source(rt, alloc, rows, job.file, source, namer, keeper);
+    job.outcome = outcome;
+    let left = job.source.replace(source);
+    let None = left else { unreachable!() };
+}
