@@ -1,14 +1,13 @@
 -- A worker at its file, a message further.
-use Rattle.std.proofs.Common.{◌≡◌, ◌⊎◌, inl, inr, ℕ, zero, suc, ◌+◌, ◌<◌, ◌≤◌, List, [], ◌∷◌, ◌++◌, Bool, true, false, length, refl, sym, ap, ap₂, ◌∙◌, subst, arith, append-nil, append_assoc, length-append, Some, All}
+use Rattle.std.proofs.Common.{◌≡◌, inl, inr, ℕ, zero, suc, ◌+◌, ◌<◌, ◌≤◌, List, [], ◌∷◌, ◌++◌, false, length, refl, sym, ap, ap₂, ◌∙◌, subst, arith, append-nil, append_assoc, length-append, Some, All}
 use Rattle.std.specs.Prelude.{is_some, ◌&&◌, Result, Ok, Err, IfErr, IsErrOf}
-use Rattle.std.specs.List.{flat_map, sum_by}
+use Rattle.std.specs.List.{flat_map}
 use Rattle.row_codec.specs.Numbers.{numbers_of_row}
 use Rattle.std.proofs.lemmas.List.Elements.{All-nil, All-push}
 use mathlib.Core.List.{IsPrefix}
 use Rattle.log_seams.specs.Disk.{DiskState}
-use Rattle.turn_lock.specs.declared.board.About.{About}
 use Rattle.turn_lock.specs.Words.{seen, about, lock_of, number_of}
-use Rattle.turn_lock.proofs.FrontLemmas.{prefix_self, prefix_length}
+use Rattle.turn_lock.proofs.FrontLemmas.{prefix_length}
 use Rattle.column_store.specs.declared.row.Row.{Row}
 use Rattle.column_store.specs.Row.{variable_count}
 use Rattle.column_store.specs.Columns.{ColumnsState, IsFull}
@@ -16,7 +15,6 @@ use Rattle.row_codec.specs.Means.{AreCanonical}
 use Rattle.row_codec.specs.Messages.{IsMessage}
 use Rattle.archive_meaning.specs.declared.TheConstants.{MAX_ROWS, MAX_MESSAGES}
 use Rattle.disk_seal.specs.declared.entry.StoreEntry.{StoreEntry}
-use Rattle.disk_seal.specs.declared.fixed.StoreFixed.{StoreFixed}
 use Rattle.disk_seal.specs.declared.namer.LockNamer.{LockNamer}
 use Rattle.disk_seal.specs.Draft.{journal_seen}
 use Rattle.disk_seal.specs.Fixed.{KeeperPass}
@@ -29,13 +27,13 @@ use Rattle.ingest_workers.specs.Stopping.{IsAtStop}
 use Rattle.ingest_workers.proofs.MaySealLemmas.{nothing_sealed}
 use Rattle.ingest_workers.specs.Doing.{Covering, Doing}
 use Rattle.ingest_workers.specs.Hand.{HasInHand, HasRoom, SameMarks, SameRows}
-use Rattle.ingest_workers.specs.Journal.{FrontHolds, HasAdded, HasSoFar, Holds, WhereTold, sealed_by}
+use Rattle.ingest_workers.specs.Journal.{FrontHolds, HasAdded, Holds, WhereTold}
 use Rattle.ingest_workers.specs.MaySeal.{IsEmptied, IsWorker, MaySeal}
 use Rattle.ingest_workers.specs.Namer.{HasOnlySeen, HasSamePasses, types_pass, words_pass, types_seen, words_seen}
 use Rattle.ingest_workers.specs.Parts.{Part, IsCut, IsOpen, columns_of, front, messages_in, segments_from}
 use Rattle.ingest_workers.specs.Sealed.{HasNotSealed, HasSealed, NowHas}
 use Rattle.ingest_workers.proofs.JournalLemmas.{seen_front}
-use Rattle.ingest_workers.proofs.HandLemmas.{canonical_even, in_hand_on}
+use Rattle.ingest_workers.proofs.HandLemmas.{in_hand_on}
 use Rattle.ingest_workers.proofs.PartLemmas.{added_on, segment_at, cut_more, messages_more, open_all, open_more, sealed_joined, segments_more}
 use Rattle.ingest_workers.proofs.SealLemmas.{if_told, of_told}
 

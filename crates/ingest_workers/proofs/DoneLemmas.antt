@@ -1,32 +1,26 @@
 -- The last segment of a file.
-use Rattle.std.proofs.Common.{◌≡◌, ℕ, zero, suc, ◌+◌, ◌<◌, ◌≤◌, List, [], ◌∷◌, ◌++◌, Bool, true, false, length, refl, sym, ap, ap₂, ◌∙◌, subst, arith, append-nil, append_assoc, length-append, None, Some, All}
+use Rattle.std.proofs.Common.{◌≡◌, ℕ, zero, suc, ◌<◌, ◌≤◌, List, [], ◌∷◌, ◌++◌, Bool, true, false, length, refl, sym, ap, ap₂, ◌∙◌, subst, arith, append-nil, length-append, None, Some}
 use Rattle.std.specs.Prelude.{is_some, ◌&&◌}
-use Rattle.std.specs.List.{flat_map}
-use mathlib.Core.List.{IsPrefix}
 use Rattle.log_seams.specs.Disk.{DiskState}
 use Rattle.turn_lock.specs.Words.{seen, about, number_of}
 use Rattle.turn_lock.proofs.FrontLemmas.{prefix_self}
-use Rattle.column_store.specs.Columns.{ColumnsState, IsFull}
+use Rattle.column_store.specs.Columns.{IsFull}
 use Rattle.column_store.specs.declared.row.Row.{Row}
 use Rattle.archive_meaning.specs.declared.entry.SegmentEntry.{SegmentEntry}
-use Rattle.ingest_workers.proofs.MaySealLemmas.{nothing_sealed}
 use Rattle.archive_meaning.specs.declared.TheConstants.{MAX_ROWS, MAX_MESSAGES}
 use Rattle.archive_meaning.specs.Held.{last_is_open}
-use Rattle.disk_seal.specs.declared.entry.StoreEntry.{StoreEntry}
 use Rattle.disk_seal.specs.declared.namer.LockNamer.{LockNamer}
 use Rattle.disk_seal.specs.Draft.{journal_seen}
 use Rattle.disk_seal.specs.Fixed.{KeeperPass}
 use Rattle.disk_seal.specs.Planned.{segment_of}
 use Rattle.ingest_workers.specs.declared.hand.Hand.{Hand}
 use Rattle.ingest_workers.specs.declared.outcome.Cause.{Cause}
-use Rattle.ingest_workers.specs.declared.outcome.Outcome.{Outcome}
 use Rattle.ingest_workers.specs.Doing.{Covering, Doing}
-use Rattle.ingest_workers.specs.Done.{HasDone, IsOutcome}
-use Rattle.ingest_workers.specs.Hand.{SameMarks, SameRows}
-use Rattle.ingest_workers.specs.Journal.{FrontHolds, Holds, WhereTold, sealed_by}
+use Rattle.ingest_workers.specs.Done.{IsOutcome}
+use Rattle.ingest_workers.specs.Journal.{FrontHolds, Holds}
 use Rattle.ingest_workers.specs.MaySeal.{MaySeal, IsEmptied}
 use Rattle.ingest_workers.specs.Namer.{types_seen, words_seen}
-use Rattle.ingest_workers.specs.Parts.{Part, IsOpen, columns_of, front, messages_in, rest_of, segments_from}
+use Rattle.ingest_workers.specs.Parts.{Part, columns_of, front, messages_in, rest_of, segments_from}
 use Rattle.ingest_workers.specs.Sealed.{HasNotSealed, HasSealed, NowHas}
 use Rattle.ingest_workers.proofs.DoingLemmas.{covering, has_room, rows_same}
 use Rattle.ingest_workers.proofs.PartLemmas.{added_on, sealed_joined}

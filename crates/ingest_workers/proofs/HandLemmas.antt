@@ -1,14 +1,13 @@
 -- A message more in hand.
-use Rattle.std.proofs.Common.{◌≡◌, ℕ, zero, suc, ◌+◌, ◌<◌, ◌≤◌, List, [], ◌∷◌, ◌++◌, length, map, refl, sym, ap, ap₂, ◌∙◌, subst, arith, append-nil, length-append}
+use Rattle.std.proofs.Common.{◌≡◌, ℕ, suc, ◌+◌, ◌<◌, ◌≤◌, List, [], ◌∷◌, ◌++◌, length, refl, sym, ap, ap₂, ◌∙◌, subst, arith, append-nil, length-append}
 use Rattle.std.specs.Prelude.{slice_index_or, false}
-use Rattle.std.specs.List.{flat_map, sum_by, AllZip}
+use Rattle.std.specs.List.{flat_map}
 use Rattle.std.proofs.lemmas.List.Concat.{flat_map-cons, flat_map-append}
 use Rattle.std.proofs.lemmas.List.Sums.{sum_by-append}
-use Rattle.std.proofs.lemmas.List.Elements.{AllZip-push}
 use Rattle.std.proofs.lemmas.List.{get_or_append_left}
 use Rattle.std.proofs.lemmas.Option.{slice_get_within}
 use mathlib.Core.List.{IsPrefix}
-use Rattle.logtype_text.specs.Parts.{Part, Constant, Variable, AreParts, StandAt, joined, text_of_part}
+use Rattle.logtype_text.specs.Parts.{Part, Constant, Variable, StandAt, joined, text_of_part}
 use Rattle.column_store.specs.declared.row.Row.{Row}
 use Rattle.row_codec.specs.Means.{AreCanonical, EachWord, HasWord, IsCanonical}
 use Rattle.row_codec.specs.Numbers.{numbers_of_row, kinds_from, word_numbers}

@@ -1,5 +1,5 @@
 -- What a journal has of a file once a segment was sealed.
-use Rattle.std.proofs.Common.{◌≡◌, ◌≢◌, ℕ, zero, suc, ◌+◌, ◌<◌, ◌≤◌, List, [], ◌∷◌, ◌++◌, Bool, true, false, length, take, drop, map, refl, sym, ap, ap₂, ◌∙◌, subst, arith, append-nil, append_assoc, length-append, take-add, None, Some, All}
+use Rattle.std.proofs.Common.{◌≡◌, ℕ, zero, suc, ◌+◌, ◌<◌, ◌≤◌, List, [], ◌∷◌, ◌++◌, Bool, true, false, length, take, drop, map, refl, sym, ap, ap₂, ◌∙◌, subst, arith, append-nil, append_assoc, length-append, take-add}
 use Rattle.std.specs.Prelude.{◌==◌, ◌||◌, ◌&&◌, if◌then◌else◌}
 use Rattle.std.proofs.lemmas.Bool.{eq-eqb}
 use Rattle.std.proofs.lemmas.List.{take-append-drop}
@@ -16,7 +16,7 @@ use Rattle.archive_meaning.specs.declared.entry.JournalEntry.{JournalEntry}
 use Rattle.archive_meaning.specs.declared.entry.JournalEntry.TheVariants.{Files, Types, Words, Segment}
 use Rattle.archive_meaning.specs.Held.{Held, Piece, nothing_held, messages_of, is_whole, is_ended}
 use Rattle.archive_meaning.specs.Legal.{Accepts, Run, piece_of}
-use Rattle.archive_meaning.specs.Spelled.{types_in, types_of}
+use Rattle.archive_meaning.specs.Spelled.{types_of}
 use Rattle.archive_meaning.specs.Stands.{IsLegal}
 use Rattle.archive_meaning.proofs.SumsLemmas.{messages_joined, whole_joined}
 use Rattle.archive_meaning.proofs.RunLemmas.{runs_split, one_held, one_messages}
@@ -24,9 +24,9 @@ use Rattle.archive_meaning.proofs.JudgeLemmas.{run_types}
 use Rattle.disk_seal.specs.declared.pieces.Piece.{Piece as Framed}
 use Rattle.disk_seal.specs.declared.entry.StoreEntry.{StoreEntry}
 use Rattle.disk_seal.specs.declared.entry.StoreEntry.TheVariants.{Entry, Blank, Stopped}
-use Rattle.disk_seal.specs.Told.{IfTold, entry_of, entry_for, recorded, journal_in, mark, blanks}
-use Rattle.disk_seal.specs.WordsIn.{words_in, words_of}
-use Rattle.disk_seal.specs.Adding.{Front, Saves, CanAdd}
+use Rattle.disk_seal.specs.Told.{IfTold, entry_of, entry_for}
+use Rattle.disk_seal.specs.WordsIn.{words_of}
+use Rattle.disk_seal.specs.Adding.{Front}
 use Rattle.disk_seal.specs.Pieces.{CanFollow, added_by, front_with}
 use Rattle.disk_seal.specs.Planned.{IsTextsThen}
 use Rattle.disk_seal.specs.Draft.{journal_seen}

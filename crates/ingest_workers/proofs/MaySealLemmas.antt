@@ -1,29 +1,23 @@
 -- What is in hand may follow.
-use Rattle.std.proofs.Common.{◌≡◌, ℕ, zero, suc, ◌+◌, ◌<◌, ◌≤◌, ◌^◌, List, [], ◌∷◌, ◌++◌, Bool, true, false, length, refl, sym, ap, ◌∙◌, subst, arith, append-nil, Some, All}
+use Rattle.std.proofs.Common.{◌≡◌, ℕ, ◌<◌, ◌≤◌, ◌^◌, List, [], ◌++◌, false, length, refl, sym, ap, ◌∙◌, subst, append-nil, All}
 use Rattle.std.specs.Prelude.{is_some, Result, Ok, Err, OnErr}
 use Rattle.std.specs.List.Sorted.{IsStrictlyIncreasing}
 use Rattle.disk_seal.specs.Planned.{HasNumbers}
 use Rattle.segment_format.proofs.SetLemmas.{rise_of, up_sorted_set}
-use Rattle.std.specs.List.{flat_map}
 use Rattle.std.proofs.lemmas.List.Elements.{All-nil}
-use mathlib.Core.List.{IsPrefix}
 use Rattle.log_seams.specs.Disk.{DiskState}
-use Rattle.turn_lock.specs.declared.board.About.{About}
-use Rattle.turn_lock.specs.Words.{seen, own_list, about, number_of, IsReady}
+use Rattle.turn_lock.specs.Words.{seen, own_list, number_of, IsReady}
 use Rattle.turn_lock.proofs.FrontLemmas.{prefix_self}
 use Rattle.dict_lock.specs.Shared.{BookPass, GoesOn}
 use Rattle.column_store.specs.Row.{IsRow, variable_count}
 use Rattle.segment_format.specs.Layout.{sorted_set}
 use Rattle.row_codec.specs.Means.{AreCanonical}
 use Rattle.row_codec.specs.Messages.{IsMessage}
-use Rattle.row_codec.specs.Numbers.{numbers_of_row}
 use Rattle.archive_meaning.specs.Held.{last_is_open, messages_of, is_whole}
 use Rattle.archive_meaning.specs.Legal.{AddsSegment}
 use Rattle.disk_seal.specs.declared.draft.Draft.{Draft}
 use Rattle.disk_seal.specs.declared.entry.StoreEntry.{StoreEntry}
-use Rattle.disk_seal.specs.declared.fixed.StoreFixed.{StoreFixed}
 use Rattle.disk_seal.specs.declared.namer.LockNamer.{LockNamer}
-use Rattle.disk_seal.specs.Told.{IfTold}
 use Rattle.disk_seal.specs.Fixed.{KeeperPass}
 use Rattle.disk_seal.specs.Draft.{MayFollow, journal_seen}
 use Rattle.disk_seal.specs.Planned.{segment_of}

@@ -1,8 +1,7 @@
 -- What a worker's namer has named, over several calls.
-use Rattle.std.proofs.Common.{◌≡◌, ℕ, List, [], refl, sym, ap, ◌∙◌, subst, All}
+use Rattle.std.proofs.Common.{◌≡◌, ℕ, List, [], refl, sym, ap, ◌∙◌, subst}
 use Rattle.std.proofs.lemmas.List.Elements.{All-weaker, All-nil}
-use mathlib.Core.List.{IsPrefix}
-use Rattle.turn_lock.specs.Words.{seen, own_list, about, lock_of, number_of, IsReady, IsStill}
+use Rattle.turn_lock.specs.Words.{seen, own_list, about, lock_of, number_of, IsReady}
 use Rattle.turn_lock.proofs.FrontLemmas.{prefix_self, prefix_trans}
 use Rattle.row_codec.specs.Messages.{IsTypeOf, IsWordOf}
 use Rattle.row_codec.specs.Naming.{HasGrown, Known}

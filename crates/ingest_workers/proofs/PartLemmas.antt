@@ -1,13 +1,11 @@
 -- Parts that grow, and segments one behind the other.
-use Rattle.std.proofs.Common.{◌≡◌, ◌⊎◌, inl, inr, ⊎_elim, ℕ, zero, suc, ◌+◌, ◌<◌, ◌≤◌, List, [], ◌∷◌, ◌++◌, Bool, true, false, length, take, map, refl, sym, ap, ap₂, ◌∙◌, subst, arith, append-nil, append_assoc, length-append, take_all, All}
+use Rattle.std.proofs.Common.{◌≡◌, ◌⊎◌, inl, inr, ⊎_elim, ℕ, zero, suc, ◌+◌, ◌<◌, ◌≤◌, List, [], ◌∷◌, ◌++◌, false, length, refl, sym, ap, ap₂, ◌∙◌, subst, arith, append-nil, append_assoc, length-append, take_all}
 use Rattle.std.proofs.lemmas.List.{take-append-le}
-use Rattle.std.proofs.lemmas.List.Elements.{All-append, All-from_recursion}
-use mathlib.Core.List.{IsPrefix}
-use Rattle.turn_lock.specs.Words.{seen, own_list, IsStill}
+use Rattle.std.proofs.lemmas.List.Elements.{All-append}
+use Rattle.turn_lock.specs.Words.{seen, own_list}
 use Rattle.turn_lock.proofs.FrontLemmas.{prefix_trans, prefix_length}
 use Rattle.column_store.specs.declared.row.Row.{Row}
-use Rattle.column_store.specs.Row.{variable_count}
-use Rattle.column_store.specs.Columns.{ColumnsState, IsFull}
+use Rattle.column_store.specs.Columns.{IsFull}
 use Rattle.archive_meaning.specs.declared.entry.SegmentEntry.{SegmentEntry}
 use Rattle.archive_meaning.specs.declared.entry.JournalEntry.{JournalEntry}
 use Rattle.archive_meaning.specs.declared.entry.JournalEntry.TheVariants.{Files, Types, Words, Segment}

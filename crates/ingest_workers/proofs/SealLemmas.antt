@@ -1,6 +1,6 @@
 -- What a pass has sealed.
-use Rattle.std.proofs.Common.{◌≡◌, ◌≢◌, ⊎_elim, inl, inr, ◌⊎◌, ℕ, zero, suc, ◌+◌, ◌<◌, ◌≤◌, List, [], ◌∷◌, ◌++◌, Bool, true, false, length, take, map, refl, sym, ap, ap₂, ◌∙◌, subst, arith, append-nil, length-append, None, Some, Option, All}
-use Rattle.std.specs.Prelude.{is_some, ◌&&◌}
+use Rattle.std.proofs.Common.{◌≡◌, ◌≢◌, ⊎_elim, ℕ, ◌+◌, ◌<◌, ◌≤◌, List, [], ◌∷◌, ◌++◌, Bool, true, false, length, take, map, refl, sym, ap, ap₂, ◌∙◌, subst, arith, append-nil, length-append, None, Some, Option, All}
+use Rattle.std.specs.Prelude.{is_some}
 use Rattle.std.proofs.lemmas.List.Elements.{All-nil, All-cons}
 use mathlib.Core.List.{IsPrefix}
 use Rattle.log_seams.specs.Disk.{DiskState}
@@ -10,19 +10,17 @@ use Rattle.turn_lock.specs.Words.{seen, own_list, about, number_of, noted, IsRea
 use Rattle.turn_lock.proofs.FrontLemmas.{prefix_self, prefix_trans}
 use Rattle.dict_lock.specs.Shared.{BookPass, GoesOn}
 use Rattle.row_codec.specs.Means.{AreCanonical}
-use Rattle.archive_meaning.specs.declared.entry.SegmentEntry.{SegmentEntry}
 use Rattle.archive_meaning.specs.declared.entry.JournalEntry.{JournalEntry}
-use Rattle.record_format.specs.declared.header.Header.{Header}
 use Rattle.archive_meaning.specs.Spelled.{types_of}
 use Rattle.disk_seal.specs.WordsIn.{words_of}
 use Rattle.disk_seal.specs.declared.draft.Draft.{Draft}
 use Rattle.disk_seal.specs.declared.entry.StoreEntry.{StoreEntry}
-use Rattle.disk_seal.specs.declared.entry.StoreEntry.TheVariants.{Entry, Blank, Stopped}
+use Rattle.disk_seal.specs.declared.entry.StoreEntry.TheVariants.{Entry, Stopped}
 use Rattle.disk_seal.specs.declared.fixed.StoreFixed.{StoreFixed}
 use Rattle.disk_seal.specs.declared.namer.LockNamer.{LockNamer}
 use Rattle.disk_seal.specs.declared.pieces.Piece.{Piece}
 use Rattle.disk_seal.specs.Told.{IfTold, entry_for, recorded, journal_in, mark}
-use Rattle.disk_seal.specs.View.{StoreView, StoreState, state_by, tells, journal_of, store_entries, Kept}
+use Rattle.disk_seal.specs.View.{StoreView, StoreState, state_by, tells, journal_of, Kept}
 use Rattle.disk_seal.specs.Fixed.{KeeperPass, fixed_of}
 use Rattle.disk_seal.specs.Draft.{journal_seen}
 use Rattle.disk_seal.specs.Adding.{front_of}
@@ -32,7 +30,7 @@ use Rattle.disk_seal.specs.Prepare.{HasGivenBack, IsPrepared, IsFullAt, BookNote
 use Rattle.disk_seal.specs.Sealing.{told_as, HasGrown, HasGrownSome}
 use Rattle.ingest_workers.specs.declared.outcome.Cause.{Cause}
 use Rattle.ingest_workers.specs.declared.outcome.Cause.TheVariants.{ArchiveFull}
-use Rattle.ingest_workers.specs.Journal.{HasAdded, HasSoFar, Holds, WhereTold, entries_at, sealed_by, segments_in}
+use Rattle.ingest_workers.specs.Journal.{HasAdded, Holds, entries_at, sealed_by, segments_in}
 use Rattle.ingest_workers.specs.Namer.{HasNoRoom, HasOnlySeen, types_pass, words_pass, types_seen, words_seen}
 use Rattle.ingest_workers.specs.Sealed.{HasNotSealed, HasSealed, NowHas}
 use Rattle.ingest_workers.proofs.JournalLemmas.{seen_joined, seen_told, seen_front, segments_sealed, no_segments, EndsWith, ends_with, holds_more}

@@ -1,5 +1,5 @@
 -- A worker at its file.
-use Rattle.std.specs.Prelude.{◌≡◌, ℕ, false, List, [], ◌++◌, length, All}
+use Rattle.std.specs.Prelude.{◌≡◌, ℕ, false, List, ◌++◌, length, All}
 use mathlib.Core.List.{IsPrefix}
 use Rattle.log_seams.specs.Disk.{DiskState}
 use Rattle.turn_lock.specs.Words.{seen, number_of}

@@ -1,9 +1,8 @@
 -- What a worker has in hand.
-use Rattle.std.specs.Prelude.{◌≡◌, ℕ, ◌<◌, ◌≤◌, Bool, false, List, [], length, All}
+use Rattle.std.specs.Prelude.{◌≡◌, ℕ, ◌<◌, false, List, [], length}
 use Rattle.std.specs.List.{flat_map, sum_by}
 use Rattle.column_store.specs.Row.{variable_count}
 use Rattle.row_codec.specs.Means.{AreCanonical}
-use Rattle.row_codec.specs.Messages.{IsMessage}
 use Rattle.row_codec.specs.Numbers.{numbers_of_row}
 use Rattle.ingest_workers.specs.declared.hand.Hand.{Hand}
 

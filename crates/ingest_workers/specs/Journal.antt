@@ -11,7 +11,6 @@ use Rattle.archive_meaning.specs.declared.entry.JournalEntry.TheVariants.{Files,
 use Rattle.archive_meaning.specs.Held.{Held, nothing_held, messages_of, is_whole, is_ended}
 use Rattle.archive_meaning.specs.Legal.{Run}
 use Rattle.disk_seal.specs.declared.entry.StoreEntry.{StoreEntry}
-use Rattle.disk_seal.specs.declared.entry.StoreEntry.TheVariants.{Entry, Blank, Stopped}
 use Rattle.disk_seal.specs.declared.fixed.StoreFixed.{StoreFixed}
 use Rattle.disk_seal.specs.Told.{IfTold}
 use Rattle.disk_seal.specs.Fixed.{KeeperPass}

@@ -1,5 +1,5 @@
 -- What of a pass over a book no naming changes.
-use Rattle.std.specs.Prelude.{ℕ, []}
+use Rattle.std.specs.Prelude.{[]}
 use Rattle.atomic_table.specs.Seated.{TableId}
 
 abbrev pub no_table : TableId

@@ -1,5 +1,5 @@
 -- How the messages of a file are cut into segments.
-use Rattle.std.specs.Prelude.{◌≡◌, ℕ, ◌+◌, ◌<◌, ◌≤◌, Bool, true, false, List, [], ◌∷◌, ◌++◌, length, take, All}
+use Rattle.std.specs.Prelude.{◌≡◌, ℕ, ◌+◌, ◌<◌, ◌≤◌, Bool, true, false, List, [], ◌∷◌, ◌++◌, length, take}
 use Rattle.std.specs.List.{sum_by}
 use Rattle.column_store.specs.declared.row.Row.{Row}
 use Rattle.column_store.specs.Columns.{ColumnsState, IsFull}

@@ -1,4 +1,3 @@
-use Rattle.std.proofs.Common.{rules, ◌≡◌, ◌∙◌}
 use Rattle.ingest_workers.proofs.DoneLemmas.{all_done, may_seal_last, none_done}
 use Rattle.ingest_workers.proofs.finish.seal_last.Goals as goal
 

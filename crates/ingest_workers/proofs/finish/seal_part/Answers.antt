@@ -1,6 +1,5 @@
-use Rattle.std.proofs.Common.{rules, ◌≡◌, ◌<◌, length, refl, ◌∙◌}
+use Rattle.std.proofs.Common.{rules, ◌<◌, length}
 use Rattle.std.specs.Prelude.{false}
-use Rattle.ingest_workers.proofs.MaySealLemmas.{nothing_sealed}
 use Rattle.ingest_workers.proofs.DoneLemmas.{may_seal_part, none_done, part_done}
 use Rattle.ingest_workers.proofs.finish.seal_part.Goals as goal
 

@@ -1,4 +1,4 @@
-use Rattle.std.proofs.Common.{rules, ◌≡◌, [], subst}
+use Rattle.std.proofs.Common.{[], subst}
 use Rattle.message_reader.specs.Reading.{IsNewReader}
 use Rattle.ingest_workers.specs.Taking.{IsOneOf}
 use Rattle.ingest_workers.proofs.NamingLemmas.{named_only, named_then}

@@ -1,7 +1,7 @@
-use Rattle.std.proofs.Common.{rules, ◌≡◌, ℕ, List, refl, sym, subst, ap, ◌∙◌}
+use Rattle.std.proofs.Common.{◌≡◌, ℕ, List, subst}
 use Rattle.turn_lock.specs.History.{HasLearned}
 use mathlib.Core.List.{IsPrefix}
-use Rattle.turn_lock.specs.Words.{noted, seen}
+use Rattle.turn_lock.specs.Words.{seen}
 use Rattle.ingest_workers.specs.Namer.{types_seen, words_seen}
 use Rattle.ingest_workers.proofs.SealLemmas.{given_back, has_sealed, halted, now_has, no_room, only_seen}
 use Rattle.ingest_workers.proofs.sealing.seal_draft.Goals as goal

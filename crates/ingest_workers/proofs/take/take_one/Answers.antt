@@ -1,7 +1,6 @@
-use Rattle.std.proofs.Common.{rules, ◌≡◌, List, ℕ, sym, ◌∙◌, ap, subst}
+use Rattle.std.proofs.Common.{rules, ◌≡◌, ◌∙◌, subst}
 use Rattle.std.specs.Prelude.{IsErrOf}
 use Rattle.column_store.specs.Columns.{IsFull}
-use Rattle.ingest_workers.specs.declared.stop.Stop.TheVariants.{Part}
 use Rattle.ingest_workers.proofs.DoingLemmas.{covering, doing_more, doing_sealed, each_err, has_room, may_seal, not_taken, passes_of}
 use Rattle.ingest_workers.proofs.NamingLemmas.{named_one, named_only, named_then}
 use Rattle.ingest_workers.proofs.take.take_one.Goals as goal

@@ -1,4 +1,4 @@
-use Rattle.std.proofs.Common.{rules, ◌≡◌, ◌++◌, ◌∷◌, [], List, ℕ, Ok, Err, arith, subst, ◌∙◌}
+use Rattle.std.proofs.Common.{rules, ◌++◌, ◌∷◌, [], Ok, Err, arith, subst, ◌∙◌}
 use Rattle.ingest_workers.specs.Taking.{Taking, Took}
 use Rattle.ingest_workers.proofs.TakingLemmas.{named_on, none_at, one_less, some_at}
 use Rattle.ingest_workers.proofs.taking.take_messages.Goals as goal

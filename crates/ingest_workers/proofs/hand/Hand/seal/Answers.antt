@@ -1,13 +1,9 @@
-use Rattle.std.proofs.Common.{rules, ◌≡◌, ◌+◌, ◌<◌, ◌≤◌, ◌^◌, ℕ, List, length, refl, sym, ap, ◌∙◌, subst, arith}
-use Rattle.std.specs.Prelude.{IsErrOf, OnErr}
-use Rattle.std.specs.List.{flat_map}
-use Rattle.log_seams.specs.Disk.{DiskState}
+use Rattle.std.proofs.Common.{rules, length, refl, sym, ap, ◌∙◌, arith}
+use Rattle.std.specs.Prelude.{IsErrOf}
 use Rattle.segment_format.specs.Layout.{sorted_set}
-use Rattle.row_codec.specs.Numbers.{numbers_of_row}
 use Rattle.archive_meaning.proofs.FormLemmas.{rows_numbers_few}
-use Rattle.disk_seal.specs.declared.draft.Draft.{Draft}
 use Rattle.ingest_workers.specs.declared.outcome.Cause.TheVariants.{ArchiveFull}
-use Rattle.ingest_workers.specs.Namer.{types_seen, words_seen}
+use Rattle.ingest_workers.specs.Namer.{types_seen}
 use Rattle.ingest_workers.proofs.MaySealLemmas.{next_of, nothing_sealed, on_err, numbers_of, room_for}
 use Rattle.ingest_workers.proofs.hand.Hand.seal.Goals as goal
 

@@ -1,6 +1,5 @@
-use Rattle.std.proofs.Common.{rules, ◌≡◌, ◌+◌, ◌<◌, ◌≤◌, ◌++◌, ◌∷◌, [], List, ℕ, length, arith, ap, sym, ◌∙◌, subst}
+use Rattle.std.proofs.Common.{◌++◌, ◌∷◌, [], length, arith, ap, ◌∙◌}
 use Rattle.column_store.specs.declared.row.Row.{Row}
-use Rattle.column_store.specs.Row.{row_of}
 use Rattle.row_codec.specs.Encoding.{row_held}
 use Rattle.ingest_workers.proofs.HandLemmas.{row_short, in_hand_more}
 use Rattle.ingest_workers.proofs.hand.Hand.take.Goals as goal
