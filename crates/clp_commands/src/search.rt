@@ -103,7 +103,7 @@ fn search_with<D: Disk, K: Sink, L: Ledger, M: Ledger>(
     );
     let report = match answer {
         Ok(report) => report,
-        // A search does not tell where the damage is. It stands before the gate that closes the archive.
+        // The search tells no place. Damage stands before the gate that closes the archive.
         Err(refusal) => return Err(of_search(refusal, archive.end().saturating_sub(1))),
     };
     if stats {
