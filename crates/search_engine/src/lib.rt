@@ -10,6 +10,7 @@ mod report;
 mod searching;
 mod segments;
 mod tally;
+mod verdicts;
 
 pub use refusal::SearchRefusal;
 pub use report::Report;
