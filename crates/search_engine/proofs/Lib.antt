@@ -10,3 +10,4 @@ pub mod HeldLemmas
 pub mod GroupLemmas
 pub mod AsideLemmas
 pub mod SearchLemmas
+pub mod LawLemmas

@@ -6,4 +6,5 @@ pub mod Judged
 pub mod Opened
 pub mod Verdicts
 pub mod Searched
+pub mod Laws
 pub mod StepsPast

@@ -1,6 +1,7 @@
 //! Searching an archive: the lines of all messages that a pattern matches, in order.
 #![tactic(auto)]
 
+mod laws;
 mod output;
 mod paging;
 mod printing;
@@ -12,6 +13,7 @@ mod segments;
 mod tally;
 mod verdicts;
 
+pub use laws::{exact_expands_printed, one_is_found};
 pub use refusal::SearchRefusal;
 pub use report::Report;
 pub use searching::search;

@@ -110,7 +110,8 @@ fn search_segment<N: Names, D: Disk, K: Sink, L: Ledger, M: Ledger>(
     let name = file.name.as_slice();
     let number = segment.head.first + 1;
     search_pages(
-        alloc, query, names, name, number, pages, verdicts, disk, out, bytes, gathered, tally, expanded,
+        alloc, query, names, name, number, pages, verdicts, disk, out, bytes, gathered, tally,
+        expanded,
     )?;
     Ok(true)
 }

@@ -49,12 +49,7 @@ impl Verdicts {
     }
 
     /// Asks for a log type, and tells whether a message of it may be expanded.
-    fn learn<N: Names>(
-        &mut self,
-        query: &Query,
-        names: &N,
-        number: u32,
-    ) -> Result<bool, AllocError>
+    fn learn<N: Names>(&mut self, query: &Query, names: &N, number: u32) -> Result<bool, AllocError>
         requires { AreVerdicts query.now (N.types names.now) self.old }
         ensures known { AreVerdicts query.now (N.types names.now) self.new }
         ensures rejected { IfOk result (λ yes. IsFalse yes
