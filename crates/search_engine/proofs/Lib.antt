@@ -2,6 +2,7 @@ pub mod SofarLemmas
 pub mod RowLemmas
 pub mod OutputLemmas
 pub mod PageLemmas
+pub mod VerdictLemmas
 pub mod SegmentLemmas
 pub mod RunLemmas
 pub mod OrderLemmas
@@ -9,3 +10,4 @@ pub mod HeldLemmas
 pub mod GroupLemmas
 pub mod AsideLemmas
 pub mod SearchLemmas
+pub mod LawLemmas

@@ -25,7 +25,7 @@ use Rattle.search_engine.proofs.SofarLemmas.{grew_nothing, numbered_append, pass
 
 -- ---- one message
 
-passed : (version : ℕ) (q : Asked) (p : Placed) (w : Option (List ℕ)) (g h : List ℕ) (a b : Tally) (t u : ℕ) → ¬ IsFound version q p.message → ¬ IsTried version q p.message
+pub passed : (version : ℕ) (q : Asked) (p : Placed) (w : Option (List ℕ)) (g h : List ℕ) (a b : Tally) (t u : ℕ) → ¬ IsFound version q p.message → ¬ IsTried version q p.message
     → h ≡ g → b ≡ a → u ≡ t → Passes version q (p ∷ []) (sofar w g a t) (sofar w h b u)
 passed version q p w g h a b t u no_found no_tried same_g same_a same_t = record {
   found = [];

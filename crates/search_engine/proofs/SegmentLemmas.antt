@@ -1,8 +1,9 @@
 -- A segment that is searched, and one that is barren.
-use Rattle.std.proofs.Common.{◌≡◌, inl, inr, ℕ, ◌+◌, ◌<◌, ◌≤◌, Bool, false, List, [], ◌∷◌, ◌++◌, length, Option, Some, None, refl, sym, ◌∙◌, ap, ap₂, subst, arith}
+use Rattle.std.proofs.Common.{◌≡◌, map, inl, inr, ℕ, ◌+◌, ◌<◌, ◌≤◌, Bool, false, List, [], ◌∷◌, ◌++◌, length, Option, Some, None, refl, sym, ◌∙◌, ap, ap₂, subst, arith}
 use Rattle.std.specs.Prelude.{slice_get, IsTrue, ◌↔◌}
 use Rattle.std.specs.List.{Contains}
-use Rattle.std.proofs.lemmas.List.{append-nil}
+use Rattle.std.proofs.lemmas.List.{append-nil, length-map}
+use Rattle.std.proofs.Math.ListN.{get_or-map}
 use Rattle.std.proofs.lemmas.List.Elements.{All-nil, All-weaker, Contains-append_left, Contains-append_right, Contains-push}
 use Rattle.std.proofs.lemmas.Option.{slice_get_within}
 use Rattle.log_seams.specs.Disk.{DiskState, Rests}
@@ -10,7 +11,7 @@ use Rattle.column_store.specs.declared.range.Range.{Range}
 use Rattle.column_store.specs.declared.row.Row.{Row}
 use Rattle.row_codec.specs.Means.{IsCanonical}
 use Rattle.row_codec.specs.Naming.{AreDistinct}
-use Rattle.segment_format.specs.Layout.{IsHead, head_of}
+use Rattle.segment_format.specs.Layout.{sorted_set, IsHead, head_of}
 use Rattle.segment_format.specs.Pages.{first_page}
 use Rattle.segment_pages.specs.Paged.{HoldsLeft, HoldsSegment, Paged, ReadsColumns, columns_size, paged_first}
 use Rattle.archive_meaning.specs.declared.TheConstants.{MAX_MESSAGES}
@@ -25,7 +26,12 @@ use Rattle.search_engine.specs.Scan.{Asked, IsFound, IsTried, Picks, Placed, num
 use Rattle.search_engine.specs.Sofar.{Passes, Sofar, Stops}
 use Rattle.search_engine.specs.Held.{AreRowsOf, HasMessages, HaveMessages, Named, OfLeft, OfSegments}
 use Rattle.search_engine.specs.Opened.{AreOpened, IsBarrenFor, IsRead, ReadsOpened, Searched, Stopped, columns_at}
-use Rattle.search_engine.proofs.SofarLemmas.{goes_none, picks_once}
+use Rattle.search_engine.specs.Verdicts.{IsRejectedType}
+use Rattle.subquery_filter.specs.Verdicts.{RejectedNeverMatches}
+use Rattle.segment_format.specs.declared.head.Head.{Head}
+use Rattle.segment_format.proofs.SetLemmas.{has_sorted_set}
+use Rattle.search_engine.proofs.VerdictLemmas.{rejected_tried}
+use Rattle.search_engine.proofs.SofarLemmas.{front_none, goes_none, picks_once, stops_here, ticks_same}
 use Rattle.search_engine.proofs.RowLemmas.{of_range}
 
 -- ---- told
@@ -124,6 +130,47 @@ not_barren : (n : Named) (q : Asked) (p : SegmentPlace) (b : Bool) → Tells n q
 not_barren n q p b told shut head distinct barren = absurd (cc (shut, (told head distinct).1 barren))
 
 -- ---- opened segments
+
+type_listed : (rows : List Row) (r : Row) → Contains rows r → Contains (sorted_set (map (λ x. x.log_type) rows)) r.log_type
+type_listed rows r is =
+    has_sorted_set (map (λ (x : Row). x.log_type) rows) r.log_type
+    (is.0, omega (arith, is.1, length-map rows (λ (x : Row). x.log_type)), get_or-map (λ (x : Row). x.log_type) rows is.0 r ∙ ap (λ (x : Row). x.log_type) is.2)
+
+-- one of whose log types no message is expanded
+pub rejected_done : (seen : Option (List ℕ)) (n : Named) (files : List FileEntry) (q : Asked) (p : SegmentPlace) (b : Bool) (a : Sofar) (t u : ℕ) → WideIsWider → RejectedNeverMatches → IsSearched q.pattern → Tells n q p b → b ≡ false
+    → ((k : ℕ) → Contains p.head.types k → IsRejectedType q n.types k) → u ≡ t + 1 → OfSegments seen n files (p ∷ []) (λ _ all. Searched n q (p ∷ []) all a a t u 1)
+rejected_done None n files q p b a t u wider law searched told shut rejected ticked = tt
+rejected_done (Some bytes) n files q p b a t u wider law searched told shut rejected ticked = λ all distinct have.
+    let one = single bytes n files have.0 p all have.3 have in
+    let has = one.has in
+    let types : p.head.types ≡ sorted_set (map (λ (x : Row). x.log_type) has.rows) = ap (λ (h : Head). h.types) has.head in
+    let none : (r : Row) (m : List ℕ) → Contains has.rows r → IsCanonical n.version r n.types n.words m → ¬ IsTried n.version q m =
+    λ r m here canonical. rejected_tried n.version q r n.types n.words m law searched (rejected r.log_type (subst (λ l. Contains l r.log_type) (sym types) (type_listed has.rows r here))) canonical in
+    record {
+      passes = record {
+        found = [];
+        tried = [];
+        are_found = subst (λ l. Picks (λ (x : Placed). IsFound n.version q x.message) l []) (sym one.parts)
+            (nothing_picked n (IsFound n.version q) have.0.name (p.head.first + 1) has.rows has.rows one.messages has.are (λ r is. is)
+            (λ r m here canonical f. none r m here canonical (record { matched = wider q.pattern m f.matched; inside = f.inside })));
+        are_tried = subst (λ l. Picks (λ (x : Placed). IsTried n.version q x.message) l []) (sym one.parts)
+            (nothing_picked n (IsTried n.version q) have.0.name (p.head.first + 1) has.rows has.rows one.messages has.are (λ r is. is) none);
+        advances = record { goes = goes_none a; matched = λ fits. omega arith; expanded = λ fits. omega arith; ticks = omega arith };
+      };
+      opened = p ∷ [];
+      are_opened = inl ([], not_barren n q p b told shut has.holds.is_head distinct, refl, refl);
+      ticked = ticked;
+      counted = refl;
+    }
+
+-- one that was not opened yet
+pub unopened_stops : (seen : Option (List ℕ)) (n : Named) (files : List FileEntry) (q : Asked) (p : SegmentPlace) (a : Sofar) (w : Option (List ℕ)) (k t u : ℕ) → w ≡ a.written → k ≡ a.ticks → u ≡ t
+    → OfSegments seen n files (p ∷ []) (λ _ all. Stopped n q (p ∷ []) all a w k t u)
+unopened_stops None n files q p a w k t u same ticks ticked = tt
+unopened_stops (Some bytes) n files q p a w k t u same ticks ticked = λ all distinct have. record {
+  stops = stops_here n.version q all a w k (front_none a.written w a.gathered same) (ticks_same n.version q all a.ticks k ticks);
+  most = λ opened are. omega (arith, ticked);
+}
 
 pub opened_done : (seen : Option (List ℕ)) (n : Named) (files : List FileEntry) (f : FileEntry) (q : Asked) (p : SegmentPlace) (b : Bool) (pages : Paged) (name : List ℕ) (number : ℕ) (a z : Sofar) (t u : ℕ) → Tells n q p b → b ≡ false
     → slice_get files p.head.file ≡ Some f → name ≡ f.name → number ≡ p.head.first + 1 → ((bytes : List ℕ) (rows : List Row) → HoldsSegment p.payload p.length p.head bytes rows → HoldsLeft pages bytes rows)

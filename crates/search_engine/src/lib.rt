@@ -1,6 +1,7 @@
 //! Searching an archive: the lines of all messages that a pattern matches, in order.
 #![tactic(auto)]
 
+mod laws;
 mod output;
 mod paging;
 mod printing;
@@ -10,7 +11,9 @@ mod report;
 mod searching;
 mod segments;
 mod tally;
+mod verdicts;
 
+pub use laws::{exact_expands_printed, one_is_found};
 pub use refusal::SearchRefusal;
 pub use report::Report;
 pub use searching::search;

@@ -2,19 +2,24 @@
 ghost use Rattle.std.specs.Prelude.{◌≡◌, ◌<◌, ◌+◌, ◌^◌, ◌++◌, ◌∷◌, [], ℕ, List, Option, length, OnOk, OnErr, IsErrOf};
 ghost use Rattle.column_store.specs.Row.{row_of};
 ghost use Rattle.row_codec.specs.Means.{IsCanonical};
+ghost use Rattle.query_plan.specs.Laws.{IsSearched};
 ghost use Rattle.search_engine.specs.Held.{AreRowsOf, named};
 ghost use Rattle.search_engine.specs.Judged.{Keeps, label_of};
 ghost use Rattle.search_engine.specs.Scan.{numbered, placed};
 ghost use Rattle.search_engine.specs.Sofar.{Passes, TicksWithin, sofar};
+ghost use Rattle.search_engine.specs.Verdicts.{AreVerdicts, IsVerdict};
 
 use crate::query::{Judgement, Query};
 use crate::refusal::PrintRefusal;
 use crate::tally::Tally;
+use crate::verdicts::{Verdicts, is_certain, is_rejected};
 use column_store::{Columns, RowRef};
+use query_plan::wide_is_wider;
 use row_codec::{Names, row_fits, write_onto};
 use std::alloc::AllocError;
 use std::sync::ledger::Ledger;
 use step_count::Steps;
+use subquery_filter::{Verdict, verdicts_hold};
 
 /// Appends what stands before a message in its line.
 fn put_label(gathered: &mut Vec<u8>, name: &[u8], number: u64) -> Result<(), AllocError>
@@ -59,17 +64,21 @@ fn keep<M: Ledger>(
 /// Writes the line of a row behind what is gathered, where its message is found.
 ///
 /// A message in the range is written and then matched: one that is not found is taken back, which
-/// costs less than a match over the row as it is stored.
+/// costs less than a match over the row as it is stored. Where its log type tells that it cannot be
+/// found it is not written, and where it tells that it is expanded it is not matched for that.
 fn search_row<N: Names, M: Ledger>(
     query: &Query,
     names: &N,
     name: &[u8],
     number: u64,
     row: RowRef<'_>,
+    verdict: Option<Verdict>,
     gathered: &mut Vec<u8>,
     tally: &mut Tally,
     expanded: &mut Steps<M>,
 ) -> Result<(), PrintRefusal>
+    requires searched { IsSearched query.now.pattern }
+    requires verdict { IsVerdict query.now (N.types names.now) row.log_type verdict }
     ensures done { OnOk result ((w : Option (List ℕ)) (message : List ℕ)
         → IsCanonical (N.version names.now) (row_of row.entry) (N.types names.now)
         (N.words names.now) message
@@ -81,6 +90,11 @@ fn search_row<N: Names, M: Ledger>(
         → ¬ IsCanonical (N.version names.now) (row_of row.entry) (N.types names.now)
         (N.words names.now) message }
 {
+    verdicts_hold();
+    wide_is_wider();
+    if is_rejected(verdict) {
+        return Ok(());
+    }
     if !query.range().holds(row.pattern, row.moment) {
         return Ok(());
     }
@@ -92,7 +106,7 @@ fn search_row<N: Names, M: Ledger>(
     let start = gathered.len();
     write_onto(row, names, gathered)?;
     let (_, text) = gathered.as_slice().split_at(start);
-    let judgement = query.judge(text);
+    let judgement = query.judge(is_certain(verdict), text);
     keep(judgement, len, gathered, tally, expanded)?;
     Ok(())
 }
@@ -105,11 +119,14 @@ pub(crate) fn search_page<N: Names, M: Ledger>(
     name: &[u8],
     number: u64,
     page: &Columns,
+    verdicts: &Verdicts,
     gathered: &mut Vec<u8>,
     tally: &mut Tally,
     expanded: &mut Steps<M>,
 ) -> Result<(), PrintRefusal>
-    requires { number + length page.now.rows < 2 ^ 64 }
+    requires searched { IsSearched query.now.pattern }
+    requires verdicts { AreVerdicts query.now (N.types names.now) verdicts.now }
+    requires small { number + length page.now.rows < 2 ^ 64 }
     ensures done { OnOk result ((w : Option (List ℕ)) (messages : List (List ℕ))
         → AreRowsOf (named (N.version names.now) (N.types names.now) (N.words names.now))
         page.now.rows messages
@@ -128,7 +145,10 @@ pub(crate) fn search_page<N: Names, M: Ledger>(
     for place in 0..page.rows() {
         let row = page.row(place);
         let at = number + u64::from(place);
-        search_row(query, names, name, at, row, gathered, tally, expanded)?;
+        let verdict = verdicts.of(row.log_type);
+        search_row(
+            query, names, name, at, row, verdict, gathered, tally, expanded,
+        )?;
     }
     Ok(())
 }

@@ -1,6 +1,7 @@
 //! A search made ready.
 ghost use Rattle.std.specs.Prelude.{◌≡◌, IfOk, IsTrue};
-ghost use Rattle.query_plan.specs.Pieces.{wide_pieces};
+ghost use Rattle.query_plan.specs.Pieces.{wide, wide_pieces};
+ghost use Rattle.wild_match.specs.Matches.{Match};
 ghost use Rattle.search_engine.specs.Judged.{Judges};
 
 use column_store::Range;
@@ -96,11 +97,14 @@ impl Query {
     }
 
     /// Whether a message is expanded, and whether it is found, where it is in the range.
-    pub(crate) fn judge(&self, text: &[u8]) -> Judgement
+    ///
+    /// `certain` tells that the pattern that the search is planned over matches it.
+    pub(crate) fn judge(&self, certain: bool, text: &[u8]) -> Judgement
+        requires { IsTrue certain → Match (wide self.now.pattern) text.now }
         ensures { Judges self.now text.now result }
     {
         wide_is_wider();
-        if !self.planned.matches(text) {
+        if !certain && !self.planned.matches(text) {
             return Judgement::Left;
         }
         if self.exact || self.whole.matches(text) {

@@ -6,11 +6,13 @@ ghost use Rattle.query_plan.specs.Laws.{IsSearched};
 ghost use Rattle.search_engine.specs.Held.{OfSegments, named};
 ghost use Rattle.search_engine.specs.Opened.{ReadsOpened, Searched, Stopped};
 ghost use Rattle.search_engine.specs.Sofar.{sofar};
+ghost use Rattle.search_engine.specs.Verdicts.{AreVerdicts};
 
 use crate::paging::search_pages;
 use crate::query::Query;
 use crate::refusal::SearchRefusal;
 use crate::tally::Tally;
+use crate::verdicts::Verdicts;
 use archive_meaning::MAX_MESSAGES;
 use archive_open::{FileEntry, SegmentPlace};
 use log_seams::{Disk, Sink};
@@ -20,7 +22,7 @@ use segment_pages::SegmentPages;
 use std::alloc::Global;
 use std::sync::ledger::Ledger;
 use step_count::Steps;
-use subquery_filter::{barren, barren_has_no_match};
+use subquery_filter::{barren, barren_has_no_match, verdicts_hold};
 
 /// The file with this number.
 fn file_of(files: &[FileEntry], number: u32) -> Option<&FileEntry>
@@ -37,6 +39,7 @@ fn search_segment<N: Names, D: Disk, K: Sink, L: Ledger, M: Ledger>(
     names: &N,
     files: &[FileEntry],
     segment: &SegmentPlace,
+    verdicts: &mut Verdicts,
     disk: &mut D,
     out: &mut K,
     bytes: &mut Vec<u8>,
@@ -45,9 +48,11 @@ fn search_segment<N: Names, D: Disk, K: Sink, L: Ledger, M: Ledger>(
     opened: &mut Steps<L>,
     expanded: &mut Steps<M>,
 ) -> Result<bool, SearchRefusal>
-    requires { IsSearched query.now.pattern }
+    requires searched { IsSearched query.now.pattern }
+    requires verdicts { AreVerdicts query.now (N.types names.now) verdicts.old }
 
     // what stays
+    ensures known { AreVerdicts query.now (N.types names.now) verdicts.new }
     ensures rests { Rests (D.state disk.old) (D.state disk.new) }
     ensures reads { OfSegments (D.state disk.old).seen
         (named (N.version names.now) (N.types names.now) (N.words names.now))
@@ -83,6 +88,7 @@ fn search_segment<N: Names, D: Disk, K: Sink, L: Ledger, M: Ledger>(
         (K.faults out.old) (K.faults out.new) result }
 {
     barren_has_no_match();
+    verdicts_hold();
     wide_is_wider();
     if barren(&segment.head, query.plan(), query.range(), names) {
         return Ok(false);
@@ -93,14 +99,19 @@ fn search_segment<N: Names, D: Disk, K: Sink, L: Ledger, M: Ledger>(
     if segment.head.first > MAX_MESSAGES {
         return Err(SearchRefusal::Damaged);
     }
+    let some = verdicts.learn_all(query, names, segment.head.types.as_slice())?;
     let Some(pages) = SegmentPages::open(segment.payload, segment.length, &segment.head, opened)
     else {
         return Err(SearchRefusal::Damaged);
     };
+    if !some {
+        return Ok(true);
+    }
     let name = file.name.as_slice();
     let number = segment.head.first + 1;
     search_pages(
-        alloc, query, names, name, number, pages, disk, out, bytes, gathered, tally, expanded,
+        alloc, query, names, name, number, pages, verdicts, disk, out, bytes, gathered, tally,
+        expanded,
     )?;
     Ok(true)
 }
@@ -157,10 +168,22 @@ pub(crate) fn search_segments<N: Names, D: Disk, K: Sink, L: Ledger, M: Ledger>(
         (K.faults out.old) (K.faults out.new) result }
 {
     let mut bytes = Vec::new(alloc);
+    let mut verdicts = Verdicts::new(alloc);
     let mut count = 0;
     for segment in segments {
         let yes = search_segment(
-            alloc, query, names, files, segment, disk, out, &mut bytes, gathered, tally, opened,
+            alloc,
+            query,
+            names,
+            files,
+            segment,
+            &mut verdicts,
+            disk,
+            out,
+            &mut bytes,
+            gathered,
+            tally,
+            opened,
             expanded,
         )?;
         count += u64::from(yes);

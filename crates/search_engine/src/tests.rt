@@ -1,7 +1,7 @@
 //! Searches of small archives, which were written by another program.
 ghost use Rattle.step_count.specs.Opens.{OpensFor};
 
-use crate::{Report, search};
+use crate::{Report, exact_expands_printed, one_is_found, search};
 use archive_open::{Archive, PlainBooks, open_archive};
 use column_store::Range;
 use log_seams::{MemDisk, MemSink, Text};
@@ -237,13 +237,17 @@ fn more_open_tokens_than_planned(rt: HostRuntime) -> Result<(), Fail> {
 }
 
 #[test]
-fn columns_of_barren_segments_stay_unread(rt: HostRuntime) -> Result<(), Fail> {
+fn columns_that_cannot_match_stay_unread(rt: HostRuntime) -> Result<(), Fail> {
     let alloc = rt.alloc();
     let second: &[u8] = b"a.log:2:run task_2 x\n";
     assert!(rt; finds(alloc, &ROWS, b" task_2 ", ALL, second, (1, 1, 1, 4))?);
     assert!(rt; finds(alloc, &ROWS, b" task_9 ", ALL, b"", (0, 0, 0, 4))?);
+    assert!(rt; finds(alloc, &ROWS, b"run;x", ALL, b"", (0, 0, 3, 4))?);
     assert_eq!(rt; searched(alloc, &ROWS, b" task_2 ", ALL, 1_000)?.calls, 5);
     assert_eq!(rt; searched(alloc, &ROWS, b" task_9 ", ALL, 1_000)?.calls, 0);
+    assert_eq!(rt; searched(alloc, &ROWS, b"run;x", ALL, 1_000)?.calls, 0);
+    exact_expands_printed();
+    one_is_found();
     Ok(())
 }
 

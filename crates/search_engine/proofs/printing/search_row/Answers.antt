@@ -1,6 +1,7 @@
-use Rattle.std.proofs.Common.{◌∙◌, ap₂, drop, List, ℕ, rules}
+use Rattle.std.proofs.Common.{refl, ◌∙◌, ap₂, drop, List, ℕ, rules}
 use Rattle.column_store.specs.Range.{Holds}
 use Rattle.column_store.specs.Row.{row_of}
+use Rattle.search_engine.proofs.VerdictLemmas.{certain_matches, rejected_passes}
 use Rattle.search_engine.proofs.RowLemmas.{has_spelling, outside_passes, row_passes}
 use Rattle.search_engine.proofs.printing.search_row.Goals as goal
 
@@ -21,3 +22,13 @@ returns-clause-done g c = λ w message is.
     row_passes _ c.args.query.now c.range.result.now (row_of c.args.row) _ _ c.args.name.now c.args.number message wrote.0 w _ _ _ _ _ _ _ _ c.judge-judgement.result c.len-len.result c.split_at.result.1.now
     c.range.ensures holds is wrote.1 (search rules) c.in_ok-put_label.ensures wrote.2
     (c.split_at.ensures.back ∙ ap₂ (λ (n : ℕ) (l : List ℕ). drop n l) (search rules) c.as_slice.ensures.value) c.judge-judgement.ensures c.in_ok-keep.ensures.kept
+
+pub returns-then-is_rejected-clause-done : goal.returns-then-is_rejected-clause-done
+returns-then-is_rejected-clause-done g c = λ w message is.
+    rejected_passes _ c.args.query.now (row_of c.args.row) _ _ c.args.name.now c.args.number message w _ _ _ c.args.verdict c.wide_is_wider.ensures.wider c.verdicts_hold.ensures.rejected c.requires.searched (search rules) c.requires.verdict is
+
+pub judge-judgement-requires : goal.judge-judgement-requires
+judge-judgement-requires g c = λ truly.
+    let wrote = c.in_ok-write_onto.ensures.written in
+    certain_matches c.args.query.now (row_of c.args.row) _ _ wrote.0 _ _ c.split_at.result.1.now c.len-start.result c.args.verdict c.verdicts_hold.ensures.certain (search rules) c.requires.verdict wrote.1 (search rules) wrote.2
+    (c.split_at.ensures.back ∙ ap₂ (λ (n : ℕ) (l : List ℕ). drop n l) refl c.as_slice.ensures.value)
