@@ -3,6 +3,7 @@ use Rattle.std.proofs.Common.{◌≡◌, refl, sym, ap, ap₂, subst, ◌∙◌,
 use Rattle.std.specs.Prelude.{◌==◌, ◌&&◌, IfSome, slice_get}
 use Rattle.std.specs.List.{filter}
 use Rattle.std.proofs.lemmas.List.{append-nil, drop_all}
+use Rattle.log_seams.specs.Disk.{DiskState, KeepsBytes}
 use Rattle.record_format.specs.declared.header.Header.{Header}
 use Rattle.segment_pages.specs.Laws.{SegmentsAreHeld}
 use Rattle.sink_pieces.specs.Output.{Grew, GrewByFront, Took}
@@ -138,3 +139,7 @@ front_sent open_end old new lines messages none begun front = subst (λ l. GrewB
 -- the same places
 pub held_in : (types words : List (List ℕ)) (number : ℕ) (places others : List SegmentPlace) (bytes : List ℕ) (messages : List (List ℕ)) → places ≡ others → HoldAll types words (filter (is_of number) others) bytes messages → HoldAll types words (filter (is_of number) places) bytes messages
 held_in types words number places others bytes messages e hold = subst (λ l. HoldAll types words (filter (is_of number) l) bytes messages) (sym e) hold
+
+-- an archive that was opened is that of the disk, which was only read
+pub opens_after : (old new : DiskState) (a : Shown) → KeepsBytes old new → Opens old.seen a → Opens new.seen a
+opens_after old new a keeps opened = subst (λ s. Opens s a) (sym keeps.seen) opened

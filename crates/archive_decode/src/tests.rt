@@ -37,11 +37,13 @@ fn decoded(
     let text = Text::new(bytes.to_vec(alloc)?);
     let mut disk = MemDisk::new(alloc, text, 400, 40, Vec::new(alloc))?;
     let mut out = MemSink::new(alloc, room, Vec::new(alloc))?;
-    let opened = open_archive::<MemDisk, PlainBooks>(alloc, &mut disk);
-    let outcome = match opened {
-        Ok(archive) => decode(alloc, &archive, 0, &mut disk, &mut out),
-        Err(_) => Err(DecodeRefusal::OutOfMemory),
+    let Ok(archive) = open_archive::<MemDisk, PlainBooks>(alloc, &mut disk) else {
+        return Err(AllocError);
     };
+    if archive.files().as_slice().is_empty() {
+        return Err(AllocError);
+    }
+    let outcome = decode(alloc, &archive, 0, &mut disk, &mut out);
     Ok((outcome, out.bytes().to_vec(alloc)?))
 }
 

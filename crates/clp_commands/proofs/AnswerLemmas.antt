@@ -69,3 +69,8 @@ AnswersLog-refused tells seen name status text ReadOutOfMemory is none s said no
 -- the pattern of a text is one
 pub AnswersLog-pattern : (file text : List ℕ) (a b : List Item) (seen : Around) (status : ℕ) → IsSearchPattern text a → IsSearchPattern text b → AnswersLog (Finds file a) seen file status → AnswersLog (Finds file b) seen file status
 AnswersLog-pattern file text a b seen status is_a is_b answers = subst (λ x. AnswersLog (Finds file x) seen file status) (IsSearchPattern-unique text a b is_a is_b) answers
+
+-- why a pattern was not read
+pub pattern_refusal : {T : Type 0} (text : List ℕ) (r : Result T PatternRefusal) (refusal : PatternRefusal) → r ≡ Err refusal → ((at : ℕ) → r ≡ Err (ReadBadPattern at) → IsLoneBackslash text at) → IsPatternRefusal text refusal
+pattern_refusal text r (ReadBadPattern at) is bad = bad at is
+pattern_refusal text r ReadOutOfMemory is bad = tt

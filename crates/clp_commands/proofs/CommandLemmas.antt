@@ -1,10 +1,13 @@
 -- Words ask for one command alone, so what that one answers is what the program answers.
-use Rattle.std.proofs.Common.{◌≡◌, ◌≢◌, sym, ◌∙◌, ap, subst, arith, get_or, ℕ, List, [], ◌∷◌, codes}
+use Rattle.std.proofs.Common.{◌≡◌, ◌≢◌, sym, ◌∙◌, ap, subst, arith, get_or, ℕ, ℤ, Bool, Option, List, [], ◌∷◌, codes}
 use Rattle.std.specs.Fmt.{decimal}
 use Rattle.wild_match.specs.Reading.{IsLoneBackslash, IsSearchPattern}
 use Rattle.wild_match.specs.declared.pattern.Item.{Item}
 use Rattle.record_format.specs.declared.header.Header.{Header}
 use Rattle.log_seams.specs.Disk.{DiskState}
+use Rattle.option_words.specs.Asked.{AsksSearch}
+use Rattle.search_engine.specs.Searched.{asked}
+use Rattle.clp_commands.specs.Searching.{AnswersSearch}
 use Rattle.clp_commands.specs.Around.{Around}
 use Rattle.clp_commands.specs.Words.{AsksCheck, AsksCreate, AsksDecode, AsksFiles, AsksScan, AsksShow, IsUsage}
 use Rattle.clp_commands.specs.Shown.{Shows}
@@ -23,6 +26,7 @@ record Others (words : List (List ℕ)) (first : List ℕ) : Type 0 where
   pub files : first ≢ codes "files" → ¬ AsksFiles words
   pub check : first ≢ codes "check" → ¬ AsksCheck words
   pub decode : first ≢ codes "decode" → (number : ℕ) → ¬ AsksDecode words number
+  pub search : first ≢ codes "search" → (from to : Option ℤ) (stats : Bool) (workers : ℕ) (pattern : List ℕ) → ¬ AsksSearch words from to stats workers pattern
 
 same_first : {words : List (List ℕ)} {a b : List ℕ} {xs ys : List (List ℕ)} → words ≡ a ∷ xs → words ≡ b ∷ ys → a ≡ b
 same_first p q = let both = sym p ∙ q in cc
@@ -35,6 +39,7 @@ others words first rest e = record {
   files = λ other asks. other (same_first e asks);
   check = λ other asks. other (same_first e asks);
   decode = λ other number asks. other (same_first e asks.are);
+  search = λ other from to stats workers pattern asks. other (same_first e asks.are);
 }
 
 -- the words of the commands differ
@@ -83,6 +88,24 @@ files_decode e = omega (arith, ap (λ w. get_or w 0 0) e)
 check_decode : codes "check" ≢ codes "decode"
 check_decode e = omega (arith, ap (λ w. get_or w 0 0) e)
 
+show_search : codes "show" ≢ codes "search"
+show_search e = omega (arith, ap (λ w. get_or w 1 0) e)
+
+scan_search : codes "scan" ≢ codes "search"
+scan_search e = omega (arith, ap (λ w. get_or w 1 0) e)
+
+create_search : codes "create" ≢ codes "search"
+create_search e = omega (arith, ap (λ w. get_or w 0 0) e)
+
+files_search : codes "files" ≢ codes "search"
+files_search e = omega (arith, ap (λ w. get_or w 0 0) e)
+
+check_search : codes "check" ≢ codes "search"
+check_search e = omega (arith, ap (λ w. get_or w 0 0) e)
+
+decode_search : codes "decode" ≢ codes "search"
+decode_search e = omega (arith, ap (λ w. get_or w 0 0) e)
+
 pub Answers-show : (words : List (List ℕ)) (seen : Around) (old new : DiskState) (status : ℕ) (file : List ℕ) → AsksShow words file → AnswersLog (λ _ message text. Shows message text) seen file status → Answers words seen old new status
 Answers-show words seen old new status file asks answers =
     let other = others words (codes "show") (file ∷ []) asks.are in
@@ -95,6 +118,8 @@ Answers-show words seen old new status file asks answers =
       files = λ a. absurd (other.files show_files a);
       check = λ a. absurd (other.check show_check a);
       decode = λ n a. absurd (other.decode show_decode n a);
+      bad_search = λ f t st w p at a _. absurd (other.search show_search f t st w p a);
+      search = λ f t st w p items a _. absurd (other.search show_search f t st w p a);
     }
   where
     same_file : (f : List ℕ) → words ≡ codes "show" ∷ f ∷ [] → f ≡ file
@@ -112,6 +137,8 @@ Answers-scan words seen old new status pattern file asks lone good =
       files = λ a. absurd (other.files scan_files a);
       check = λ a. absurd (other.check scan_check a);
       decode = λ n a. absurd (other.decode scan_decode n a);
+      bad_search = λ f t st w p at a _. absurd (other.search scan_search f t st w p a);
+      search = λ f t st w p items a _. absurd (other.search scan_search f t st w p a);
     }
   where
     same_pattern : (p f : List ℕ) → words ≡ codes "scan" ∷ p ∷ f ∷ [] → p ≡ pattern
@@ -133,6 +160,8 @@ Answers-create words seen old new status header asks one answers =
       files = λ a. absurd (other.files create_files a);
       check = λ a. absurd (other.check create_check a);
       decode = λ n a. absurd (other.decode create_decode n a);
+      bad_search = λ f t st w p at a _. absurd (other.search create_search f t st w p a);
+      search = λ f t st w p items a _. absurd (other.search create_search f t st w p a);
     }
 
 pub Answers-files : (words : List (List ℕ)) (seen : Around) (old new : DiskState) (status : ℕ) → AsksFiles words → AnswersFiles seen old new status → Answers words seen old new status
@@ -147,6 +176,8 @@ Answers-files words seen old new status asks answers =
       files = λ a. answers;
       check = λ a. absurd (other.check files_check a);
       decode = λ n a. absurd (other.decode files_decode n a);
+      bad_search = λ f t st w p at a _. absurd (other.search files_search f t st w p a);
+      search = λ f t st w p items a _. absurd (other.search files_search f t st w p a);
     }
 
 pub Answers-check : (words : List (List ℕ)) (seen : Around) (old new : DiskState) (status : ℕ) → AsksCheck words → AnswersCheck seen old new status → Answers words seen old new status
@@ -161,6 +192,8 @@ Answers-check words seen old new status asks answers =
       files = λ a. absurd (other.files (λ e. files_check (sym e)) a);
       check = λ a. answers;
       decode = λ n a. absurd (other.decode check_decode n a);
+      bad_search = λ f t st w p at a _. absurd (other.search check_search f t st w p a);
+      search = λ f t st w p items a _. absurd (other.search check_search f t st w p a);
     }
 
 -- words that ask to decode ask for one number alone
@@ -176,6 +209,33 @@ Answers-decode words seen old new status number asks one answers =
       files = λ a. absurd (other.files (λ e. files_decode (sym e)) a);
       check = λ a. absurd (other.check (λ e. check_decode (sym e)) a);
       decode = λ n a. subst (λ x. AnswersDecode x seen old new status) (sym (one n a)) answers;
+      bad_search = λ f t st w p at a _. absurd (other.search decode_search f t st w p a);
+      search = λ f t st w p items a _. absurd (other.search decode_search f t st w p a);
+    }
+
+-- words that ask to search ask for one search alone
+pub Answers-search : (words : List (List ℕ)) (seen : Around) (old new : DiskState) (status : ℕ) (from to : Option ℤ) (stats : Bool) (workers : ℕ) (pattern : List ℕ) → AsksSearch words from to stats workers pattern
+    → ((f t : Option ℤ) (st : Bool) (w : ℕ) (p : List ℕ) → AsksSearch words f t st w p → (from ≡ f) × (to ≡ t) × (stats ≡ st) × (workers ≡ w) × (pattern ≡ p))
+    → ((at : ℕ) → IsLoneBackslash pattern at → RefusesPattern seen status at)
+    → ((items : List Item) → IsSearchPattern pattern items → AnswersSearch (asked items (record { from = from; to = to })) stats seen old new status) → Answers words seen old new status
+Answers-search words seen old new status from to stats workers pattern asks one lone good =
+    let other = others words (codes "search") asks.options asks.are in
+    record {
+      usage = λ u. absurd (u.no_search from to stats workers pattern asks);
+      show = λ f a. absurd (other.show (λ e. show_search (sym e)) f a);
+      lone_backslash = λ p f at a l. absurd (other.scan (λ e. scan_search (sym e)) p f a);
+      scan = λ p f items a _. absurd (other.scan (λ e. scan_search (sym e)) p f a);
+      create = λ h a. absurd (other.create (λ e. create_search (sym e)) h a);
+      files = λ a. absurd (other.files (λ e. files_search (sym e)) a);
+      check = λ a. absurd (other.check (λ e. check_search (sym e)) a);
+      decode = λ n a. absurd (other.decode (λ e. decode_search (sym e)) n a);
+      bad_search = λ f t st w p at a l. lone at (subst (λ x. IsLoneBackslash x at) (sym (one f t st w p a).4) l);
+      search = λ f t st w p items a is.
+          let e = one f t st w p a in
+          subst (λ (x : Option ℤ). AnswersSearch (asked items (record { from = x; to = t })) st seen old new status) e.0
+          (subst (λ (x : Option ℤ). AnswersSearch (asked items (record { from = from; to = x })) st seen old new status) e.1
+          (subst (λ (x : Bool). AnswersSearch (asked items (record { from = from; to = to })) x seen old new status) e.2
+          (good items (subst (λ x. IsSearchPattern x items) (sym e.4) is))));
     }
 
 -- words that ask for no command
@@ -189,4 +249,6 @@ Answers-usage words seen old new status none refuses = record {
   files = λ a. absurd (none.no_files a);
   check = λ a. absurd (none.no_check a);
   decode = λ n a. absurd (none.no_decode n a);
+  bad_search = λ f t st w p at a _. absurd (none.no_search f t st w p a);
+  search = λ f t st w p items a _. absurd (none.no_search f t st w p a);
 }

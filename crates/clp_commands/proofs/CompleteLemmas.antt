@@ -1,6 +1,6 @@
 -- A command that reads an archive does what it is asked where nothing fails.
-use Rattle.std.proofs.Common.{◌≡◌, ◌⊎◌, ◌<◌, refl, subst, inl, inr, arith, length, ℕ, List, [], Option, Some, Result, Ok, Err, option_map}
-use Rattle.std.specs.Prelude.{IfSome}
+use Rattle.std.proofs.Common.{◌≡◌, ◌⊎◌, ◌<◌, refl, sym, subst, false, Bool, inl, inr, arith, length, ℕ, List, [], Option, Some, Result, Ok, Err, option_map}
+use Rattle.std.specs.Prelude.{IfSome, is_ok}
 use Rattle.log_seams.specs.Disk.{DiskState, KeepsBytes}
 use Rattle.log_seams.specs.Outside.{CountsOf}
 use Rattle.record_format.specs.declared.header.Header.{Header}
@@ -11,12 +11,25 @@ use Rattle.archive_meaning.specs.Held.{content_of}
 use Rattle.archive_decode.specs.Decoded.{StandsForNone}
 use Rattle.archive_check.specs.Checked.{DamagedAt}
 use Rattle.archive_open.specs.Shown.{RefusedAt}
+use Rattle.search_engine.specs.Scan.{Asked}
+use Rattle.search_engine.specs.Searched.{asked}
+use Rattle.column_store.specs.declared.range.Range.{Range}
+use Rattle.wild_match.specs.Reading.{IsLoneBackslash, IsSearchPattern}
+use Rattle.wild_match.specs.declared.pattern.Item.{Item}
+use Rattle.wild_match.proofs.Spelling.{IsSearchPattern-unique}
+use Rattle.wild_match.specs.declared.read.PatternRefusal.{PatternRefusal}
+use Rattle.wild_match.specs.declared.read.PatternRefusal.TheVariants.{BadPattern as ReadBadPattern, OutOfMemory as ReadOutOfMemory}
 use Rattle.clp_commands.specs.Around.{Around}
 use Rattle.clp_commands.specs.Counted.{AnswersCheck, PrintsCounts}
 use Rattle.clp_commands.specs.Directory.{AnswersFiles, PrintsDirectory}
 use Rattle.clp_commands.specs.Decoding.{AnswersDecode, IsCompleteFile, LacksFile, PrintsFile}
-use Rattle.clp_commands.specs.Ending.{EndsWith}
-use Rattle.clp_commands.specs.Outcome.{answer_of, of_file, of_read}
+use Rattle.clp_commands.specs.Answers.{IsPatternRefusal}
+use Rattle.clp_commands.specs.Ending.{EndsWith, SaysIn, Stayed, TookNothing}
+use Rattle.clp_commands.specs.Outcome.{answer_of, of_file, of_pattern, of_read}
+use Rattle.clp_commands.specs.Refusal.{line_of, status_of}
+use Rattle.clp_commands.specs.Searching.{AnswersSearch, PrintsFound, SparesBarren}
+use Rattle.clp_commands.proofs.GoingLemmas.{KeepsBytes-same}
+use Rattle.clp_commands.proofs.SearchingLemmas.{found_unopened, spares_untouched}
 use Rattle.clp_commands.specs.Reading.{IsComplete, OverJournal}
 use Rattle.clp_commands.specs.declared.outcome.FileRefusal.{FileRefusal}
 use Rattle.clp_commands.specs.declared.outcome.ReadRefusal.{ReadRefusal}
@@ -82,3 +95,30 @@ decode_answers number seen old new status answer ends keeps disk sink prints dam
   sink = sink;
   complete = file_complete number seen old new answer disk sink damaged lacks;
 }
+
+pub search_answers : (q : Asked) (stats : Bool) (seen : Around) (old new : DiskState) (status : ℕ) (answer : Result Unit ReadRefusal) → EndsWith seen [] status (option_map of_read (answer_of answer)) → KeepsBytes old new
+    → CountsOf DiskFault old.faults new.faults answer → CountsOf SinkFault seen.out_faults.0 seen.out_faults.1 answer → PrintsFound (is_ok answer) q stats old.seen seen.out.0 seen.out.1 → SparesBarren q old.seen old.ranges new.ranges
+    → ((at : ℕ) → answer ≡ Err (Damaged at) → IfSome old.seen StandsForNone) → AnswersSearch q stats seen old new status
+search_answers q stats seen old new status answer ends keeps disk sink prints reads damaged = record {
+  answer = answer;
+  ends = record { ends = ends; keeps = keeps; disk = disk; sink = sink };
+  prints = prints;
+  reads = reads;
+  damaged = damaged;
+  complete = complete seen old new answer disk sink (λ at bytes h es e told stood. (subst (λ s. IfSome s StandsForNone) told (damaged at e)) h es stood);
+}
+
+-- a pattern that was refused, and has no lone backslash: memory ended before the archive was touched
+pub search_refused : (q : Asked) (stats : Bool) (seen : Around) (disk : DiskState) (status : ℕ) (text : List ℕ) (refusal : PatternRefusal) → IsPatternRefusal text refusal → ((at : ℕ) → IsLoneBackslash text at → ⊥)
+    → status ≡ status_of (of_pattern refusal) → SaysIn seen (line_of [] (of_pattern refusal)) → TookNothing seen.out → Stayed seen.out_faults → AnswersSearch q stats seen disk disk status
+search_refused q stats seen disk status text (ReadBadPattern place) is none s said nothing sink = absurd (none place is)
+search_refused q stats seen disk status text ReadOutOfMemory is none s said nothing sink =
+    search_answers q stats seen disk disk status (Err OutOfMemory) (record { status_is = s; said = said }) (KeepsBytes-same disk)
+    (record { later = omega arith; steady = tt; failed = λ e. absurd (cc (e)); spared = λ x e n. refl })
+    (record { later = omega (arith, sink); steady = tt; failed = λ e. absurd (cc (e)); spared = λ x e n. sink })
+    (subst (λ o. PrintsFound false q stats disk.seen seen.out.0 o) (sym nothing) (found_unopened false q stats disk.seen seen.out.0 refl))
+    (spares_untouched q disk.seen disk.ranges) (λ at e. absurd (cc (e)))
+
+-- the pattern of a text is one
+pub search_pattern : (text : List ℕ) (a b : List Item) (range : Range) (stats : Bool) (seen : Around) (old new : DiskState) (status : ℕ) → IsSearchPattern text a → IsSearchPattern text b → AnswersSearch (asked a range) stats seen old new status → AnswersSearch (asked b range) stats seen old new status
+search_pattern text a b range stats seen old new status is_a is_b answers = subst (λ x. AnswersSearch (asked x range) stats seen old new status) (IsSearchPattern-unique text a b is_a is_b) answers

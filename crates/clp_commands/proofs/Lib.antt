@@ -9,6 +9,7 @@ pub mod PrintedLemmas
 pub mod PrintingLemmas
 pub mod ReadingLemmas
 pub mod RefusalLemmas
+pub mod SearchingLemmas
 pub mod ShownLemmas
 pub mod WordLemmas
 pub mod TakenLemmas

@@ -1,5 +1,5 @@
 -- Lists of words, by their first ones.
-use Rattle.std.proofs.Common.{◌≡◌, sym, ap, ap₂, subst, ◌∙◌, ◌<◌, ◌≤◌, ◌-◌, ℕ, List, [], ◌∷◌, length, map, take, drop, get_or, codes, arith, pos, rules, ◌^◌}
+use Rattle.std.proofs.Common.{◌≡◌, sym, ap, ap₂, subst, ◌∙◌, ◌<◌, ◌≤◌, ◌-◌, ℕ, ℤ, Bool, List, [], ◌∷◌, length, map, take, drop, get_or, codes, arith, pos, rules, ◌^◌}
 use Rattle.std.specs.Prelude.{Option, Some, None, IfSome, IfNone, Result, Ok, Err}
 use Rattle.std.specs.Result.{OkIff, result_ok}
 use Rattle.std.specs.Int.{FitsUnsignedBits}
@@ -7,7 +7,9 @@ use Rattle.std.proofs.lemmas.List.{take_all}
 use Rattle.record_format.specs.declared.header.Header.{Header}
 use Rattle.archive_limits.specs.Limits.{AsksLimits}
 use Rattle.std.specs.Fmt.{decimal}
-use Rattle.clp_commands.specs.Words.{AsksCreate, AsksDecode}
+use Rattle.option_words.specs.Asked.{AsksSearch}
+use Rattle.clp_commands.specs.declared.words.Command.{Command}
+use Rattle.clp_commands.specs.Words.{AsksCheck, AsksCreate, AsksDecode, AsksFiles, AsksScan, AsksShow, IsUsage}
 
 pub one_word : {A : Type 0} (xs : List A) (a : A) → 1 ≤ length xs → length xs < 2 → a ≡ get_or xs 0 a → xs ≡ a ∷ []
 one_word [] a few many p = absurd (omega arith)
@@ -72,3 +74,10 @@ small_is (Err e) n small is = absurd (is (search rules))
 pub AsksDecode-from : (words : List (List ℕ)) (text : List ℕ) (r : Option ℕ) → words ≡ codes "decode" ∷ text ∷ [] → IfSome r (λ n. text ≡ decimal n) → IfSome r (λ n. n < 2 ^ 32) → IfSome r (AsksDecode words)
 AsksDecode-from words text None are prints fits = tt
 AsksDecode-from words text (Some n) are prints fits = record { are = are ∙ ap (λ t. codes "decode" ∷ t ∷ []) prints; fits = fits }
+
+-- words that are of no command's form
+pub usage_from : (words : List (List ℕ)) (r : Option Command) → ((h : Header) → ¬ AsksCreate words h) → ((n : ℕ) → ¬ AsksDecode words n)
+    → ((from to : Option ℤ) (stats : Bool) (workers : ℕ) (pattern : List ℕ) → ¬ AsksSearch words from to stats workers pattern) → ¬ AsksFiles words → ¬ AsksCheck words
+    → IfNone r ((file : List ℕ) → ¬ AsksShow words file) → IfNone r ((pattern file : List ℕ) → ¬ AsksScan words pattern file) → IfNone r (IsUsage words)
+usage_from words None create decode search files check show scan = record { no_show = show; no_scan = scan; no_create = create; no_files = files; no_check = check; no_decode = decode; no_search = search }
+usage_from words (Some command) create decode search files check show scan = tt

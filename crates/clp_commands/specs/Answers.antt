@@ -1,11 +1,13 @@
 -- What a call of the program answers, by what its words ask for.
-use Rattle.std.specs.Prelude.{◌≡◌, ◌≢◌, ◌⊎◌, ℕ, List, [], Option, Some, None, option_map, Result}
+use Rattle.std.specs.Prelude.{◌≡◌, ◌≢◌, ◌⊎◌, ℕ, ℤ, Bool, List, [], Option, Some, None, option_map, Result}
 use Rattle.log_seams.specs.Disk.{DiskState}
 use Rattle.wild_match.specs.Reading.{IsSearchPattern, IsLoneBackslash}
 use Rattle.wild_match.specs.declared.pattern.Item.{Item}
 use Rattle.wild_match.specs.declared.read.PatternRefusal.{PatternRefusal}
 use Rattle.wild_match.specs.declared.read.PatternRefusal.TheVariants.{BadPattern as ReadBadPattern, OutOfMemory as ReadOutOfMemory}
 use Rattle.record_format.specs.declared.header.Header.{Header}
+use Rattle.option_words.specs.Asked.{AsksSearch}
+use Rattle.search_engine.specs.Searched.{asked}
 use Rattle.disk_journal.specs.Created.{CreateLeaves}
 use Rattle.disk_journal.specs.declared.refusals.CreateRefusal.{CreateRefusal}
 use Rattle.clp_commands.specs.Around.{Around}
@@ -16,6 +18,7 @@ use Rattle.clp_commands.specs.Ending.{EndsWith, NoneAdded, RoseIn, Stayed, TookN
 use Rattle.clp_commands.specs.Outcome.{answer_of, of_log, of_create}
 use Rattle.clp_commands.specs.Printing.{Printed}
 use Rattle.clp_commands.specs.Scanned.{Finds}
+use Rattle.clp_commands.specs.Searching.{AnswersSearch}
 use Rattle.clp_commands.specs.Shown.{Shows}
 use Rattle.clp_commands.specs.Words.{AsksShow, AsksScan, AsksCreate, AsksFiles, AsksCheck, AsksDecode, IsUsage}
 use Rattle.clp_commands.specs.declared.outcome.LogRefusal.{LogRefusal}
@@ -71,6 +74,8 @@ pub record Answers (words : List (List ℕ)) (seen : Around) (old new : DiskStat
   pub files : AsksFiles words → AnswersFiles seen old new status
   pub check : AsksCheck words → AnswersCheck seen old new status
   pub decode : (number : ℕ) → AsksDecode words number → AnswersDecode number seen old new status
+  pub bad_search : (from to : Option ℤ) (stats : Bool) (workers : ℕ) (pattern : List ℕ) (at : ℕ) → AsksSearch words from to stats workers pattern → IsLoneBackslash pattern at → RefusesPattern seen status at
+  pub search : (from to : Option ℤ) (stats : Bool) (workers : ℕ) (pattern : List ℕ) (items : List Item) → AsksSearch words from to stats workers pattern → IsSearchPattern pattern items → AnswersSearch (asked items (record { from = from; to = to })) stats seen old new status
 
 -- A pattern is refused with the place of its lone backslash, or for want of memory.
 abbrev pub IsPatternRefusal : List ℕ → PatternRefusal → Type 0

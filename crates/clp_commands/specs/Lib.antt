@@ -12,6 +12,7 @@ pub mod Printing
 pub mod Reading
 pub mod Refusal
 pub mod Scanned
+pub mod Searching
 pub mod Shown
 pub mod Taken
 pub mod Words

@@ -1,5 +1,5 @@
 -- How the commands of each kind end, and which refusal that is.
-use Rattle.std.specs.Prelude.{Option, Some, None, Result, Ok, Err}
+use Rattle.std.specs.Prelude.{ℕ, Option, Some, None, Result, Ok, Err}
 use Rattle.disk_journal.specs.declared.refusals.CreateRefusal.{CreateRefusal}
 use Rattle.disk_journal.specs.declared.refusals.CreateRefusal.TheVariants.{DiskFault as CreateDiskFault, NotEmpty as CreateNotEmpty}
 use Rattle.wild_match.specs.declared.read.PatternRefusal.{PatternRefusal}
@@ -10,6 +10,7 @@ use Rattle.archive_open.specs.declared.refusal.ArchiveRefusal.{ArchiveRefusal}
 use Rattle.archive_check.specs.declared.checking.CheckRefusal.{CheckRefusal}
 use Rattle.sink_pieces.specs.declared.refusal.PrintRefusal.{PrintRefusal}
 use Rattle.archive_decode.specs.declared.refusal.DecodeRefusal.{DecodeRefusal}
+use Rattle.search_engine.specs.declared.refusal.SearchRefusal.{SearchRefusal}
 use Rattle.clp_commands.specs.declared.outcome.FileRefusal.{FileRefusal}
 use Rattle.clp_commands.specs.declared.outcome.ReadRefusal.{ReadRefusal}
 use Rattle.clp_commands.specs.declared.refusal.Refusal.{Refusal}
@@ -68,6 +69,13 @@ from_check CheckRefusal.OutOfMemory = ReadRefusal.OutOfMemory
 abbrev pub from_print : PrintRefusal → ReadRefusal
 from_print PrintRefusal.SinkFault = ReadRefusal.SinkFault
 from_print PrintRefusal.OutOfMemory = ReadRefusal.OutOfMemory
+
+-- where searching was, in an archive that is told as damaged at this place
+abbrev pub from_search : ℕ → SearchRefusal → ReadRefusal
+from_search at SearchRefusal.DiskFault = ReadRefusal.DiskFault
+from_search at SearchRefusal.SinkFault = ReadRefusal.SinkFault
+from_search at SearchRefusal.Damaged = ReadRefusal.Damaged at
+from_search at SearchRefusal.OutOfMemory = ReadRefusal.OutOfMemory
 
 -- why the bytes of a file were not printed where opening was refused, and where decoding was
 abbrev pub file_from_archive : ArchiveRefusal → FileRefusal

@@ -1,9 +1,10 @@
 -- What the words of the command line ask for. The first word is the command.
-use Rattle.std.specs.Prelude.{◌≡◌, ◌≢◌, ◌<◌, ◌^◌, ℕ, List, [], ◌∷◌, codes}
+use Rattle.std.specs.Prelude.{◌≡◌, ◌≢◌, ◌<◌, ◌^◌, ℕ, ℤ, Bool, List, [], ◌∷◌, Option, codes}
 use Rattle.std.specs.Fmt.{decimal}
 use Rattle.clp_commands.specs.declared.words.Command.{Command}
-use Rattle.clp_commands.specs.declared.words.Command.TheVariants.{Show, Scan, Create, Files, Check, Decode}
+use Rattle.clp_commands.specs.declared.words.Command.TheVariants.{Show, Scan, Create, Files, Check, Decode, Search}
 use Rattle.archive_limits.specs.Limits.{AsksLimits}
+use Rattle.option_words.specs.Asked.{AsksSearch}
 use Rattle.record_format.specs.Header.{IsHeader}
 use Rattle.record_format.specs.declared.header.Header.{Header}
 
@@ -50,6 +51,17 @@ Asks words (Create header) = AsksCreate words header
 Asks words Files = AsksFiles words
 Asks words Check = AsksCheck words
 Asks words (Decode number) = AsksDecode words number
+Asks words (Search s) = AsksSearch words s.from s.to s.stats s.workers s.pattern.now
+
+-- the command is a search with these options and this pattern
+abbrev pub IsSearchOf : Option ℤ → Option ℤ → Bool → ℕ → List ℕ → Command → Type 0
+IsSearchOf from to stats workers pattern (Show file) = ⊥
+IsSearchOf from to stats workers pattern (Scan searched file) = ⊥
+IsSearchOf from to stats workers pattern (Create header) = ⊥
+IsSearchOf from to stats workers pattern Files = ⊥
+IsSearchOf from to stats workers pattern Check = ⊥
+IsSearchOf from to stats workers pattern (Decode number) = ⊥
+IsSearchOf from to stats workers pattern (Search s) = (s.from ≡ from) × (s.to ≡ to) × (s.stats ≡ stats) × (s.workers ≡ workers) × (s.pattern.now ≡ pattern)
 
 -- a header that a command has keeps to the ranges of headers
 abbrev pub HasHeader : Command → Type 0
@@ -59,6 +71,7 @@ HasHeader (Create header) = IsHeader header
 HasHeader Files = Unit {0}
 HasHeader Check = Unit {0}
 HasHeader (Decode number) = Unit {0}
+HasHeader (Search s) = Unit {0}
 
 -- the words ask for no command
 pub record IsUsage (words : List (List ℕ)) : Type 0 where
@@ -68,6 +81,7 @@ pub record IsUsage (words : List (List ℕ)) : Type 0 where
   pub no_files : ¬ AsksFiles words
   pub no_check : ¬ AsksCheck words
   pub no_decode : (number : ℕ) → ¬ AsksDecode words number
+  pub no_search : (from to : Option ℤ) (stats : Bool) (workers : ℕ) (pattern : List ℕ) → ¬ AsksSearch words from to stats workers pattern
 
 -- the words ask for no command that works on the archive
 pub record AskNoArchive (words : List (List ℕ)) : Type 0 where
@@ -75,3 +89,4 @@ pub record AskNoArchive (words : List (List ℕ)) : Type 0 where
   pub no_files : ¬ AsksFiles words
   pub no_check : ¬ AsksCheck words
   pub no_decode : (number : ℕ) → ¬ AsksDecode words number
+  pub no_search : (from to : Option ℤ) (stats : Bool) (workers : ℕ) (pattern : List ℕ) → ¬ AsksSearch words from to stats workers pattern

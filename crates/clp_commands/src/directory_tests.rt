@@ -20,7 +20,7 @@ const WORKED: [u8; 156] = [
 ];
 
 /// Calls `run` with these words, over a disk with these bytes whose call of this number fails.
-fn over(
+pub(crate) fn over(
     alloc: Global,
     words: &[&str],
     bytes: &[u8],

@@ -16,6 +16,9 @@ mod names;
 mod outcome;
 mod refusal;
 mod scan;
+mod search;
+#[cfg(test)]
+mod search_tests;
 mod show;
 mod taken;
 #[cfg(test)]

@@ -1,7 +1,7 @@
 //! How the commands of each kind end, and which refusal that is.
 ghost use Rattle.std.specs.Prelude.{◌≡◌, option_map};
 ghost use Rattle.clp_commands.specs.declared.outcome.ReadRefusal.TheVariants.{OutOfMemory, SinkFault};
-ghost use Rattle.clp_commands.specs.Outcome.{answer_of, file_from_archive, from_archive, from_check, from_decode, from_print, of_create, of_file, of_log, of_pattern, of_read};
+ghost use Rattle.clp_commands.specs.Outcome.{answer_of, file_from_archive, from_archive, from_check, from_decode, from_print, from_search, of_create, of_file, of_log, of_pattern, of_read};
 
 use crate::refusal::Refusal;
 use archive_check::CheckRefusal;
@@ -9,6 +9,7 @@ use archive_decode::DecodeRefusal;
 use archive_open::ArchiveRefusal;
 use disk_journal::CreateRefusal;
 use log_seams::Failed;
+use search_engine::SearchRefusal;
 use sink_pieces::PrintRefusal;
 use std::alloc::AllocError;
 use wild_match::PatternRefusal;
@@ -91,6 +92,18 @@ impl From<PrintRefusal> for ReadRefusal {
             PrintRefusal::SinkFault => ReadRefusal::SinkFault,
             PrintRefusal::OutOfMemory => ReadRefusal::OutOfMemory,
         }
+    }
+}
+
+/// The refusal of a search, in an archive that is told as damaged at this place.
+pub(crate) fn of_search(refusal: SearchRefusal, at: u64) -> ReadRefusal
+    ensures { result ≡ from_search at refusal }
+{
+    match refusal {
+        SearchRefusal::DiskFault => ReadRefusal::DiskFault,
+        SearchRefusal::SinkFault => ReadRefusal::SinkFault,
+        SearchRefusal::Damaged => ReadRefusal::Damaged { at },
+        SearchRefusal::OutOfMemory => ReadRefusal::OutOfMemory,
     }
 }
 

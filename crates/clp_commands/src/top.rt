@@ -21,12 +21,15 @@ use crate::outcome::{
 };
 use crate::refusal::{Refusal, report};
 use crate::scan::Scan;
+use crate::search::search_archive;
 use crate::show::Show;
 use crate::tell::Tell;
 use crate::telling::Telling;
 use crate::words::{Command, read_words};
+use column_store::Range;
 use disk_journal::create;
 use log_seams::{Shelf, Sink};
+use query_plan::wide_is_wider;
 use std::alloc::Global;
 use wild_match::{Matcher, PatternRefusal, read_pattern};
 
@@ -35,8 +38,9 @@ use wild_match::{Matcher, PatternRefusal, read_pattern};
 /// `show FILE` prints each message of a log with its variables in braces. `scan PATTERN FILE` prints
 /// those that the pattern matches, each as `FILE:NUMBER:TEXT`. `create` with its options makes an
 /// archive with no file in it. `files` prints the archive's files, each as `NUMBER MESSAGES whole NAME`,
-/// or `part` in place of `whole`. `decode N` prints the bytes of file N. `check` tells whether the archive is legal, and prints what it has. A
-/// refusal has its line on `err`.
+/// or `part` in place of `whole`. `decode N` prints the bytes of file N. `check` tells whether the
+/// archive is legal, and prints what it has. `search` with its options prints the messages of the
+/// archive that a pattern matches, as `scan` prints those of a log. A refusal has its line on `err`.
 ///
 /// `disk` is the archive's. `rt` starts the threads of the commands that work with several, and
 /// `second` is the disk beside the archive's for those that write a new one; no command here needs
@@ -94,6 +98,18 @@ where
             let outcome = decode_file(alloc, number, disk, out);
             answer(refusal_of_file(outcome), "", err)
         }
+        Command::Search { asked } => match read_pattern(alloc, asked.pattern.as_bytes()) {
+            Ok(pattern) => {
+                wide_is_wider();
+                let range = Range {
+                    from: asked.from,
+                    to: asked.to,
+                };
+                let outcome = search_archive(alloc, &pattern, &range, asked.stats, disk, out);
+                answer(refusal_of_read(outcome), "", err)
+            }
+            Err(refusal) => report(err, "", refusal_of_pattern(refusal)),
+        },
     }
 }
 

@@ -1,11 +1,13 @@
 //! What the words of the command line ask for.
-ghost use Rattle.std.specs.Prelude.{◌≡◌, ◌<◌, ◌^◌, ◌↔◌, ℕ, List, Some, map, string_bytes, IfSome, IfNone, IsTrue};
+ghost use Rattle.std.specs.Prelude.{◌≡◌, ◌<◌, ◌^◌, ◌↔◌, ℕ, ℤ, Bool, List, Option, Some, map, string_bytes, IfSome, IfNone, IsSomeAnd, IsTrue};
 ghost use Rattle.std.specs.Fmt.{decimal};
-ghost use Rattle.clp_commands.specs.Words.{Asks, AsksCheck, AsksCreate, AsksDecode, AsksFiles, AsksScan, AsksShow, HasHeader, IsPlain, IsUsage};
+ghost use Rattle.clp_commands.specs.Words.{Asks, AsksCheck, AsksCreate, AsksDecode, AsksFiles, AsksScan, AsksShow, HasHeader, IsPlain, IsSearchOf, IsUsage};
+ghost use Rattle.option_words.specs.Asked.{AsksSearch};
 ghost use Rattle.record_format.specs.Header.{IsHeader};
 ghost use Rattle.record_format.specs.declared.header.Header.{Header};
 
 use archive_limits::read_limits;
+use option_words::{SearchWords, read_search};
 use record_format::Header;
 use var_codec::{Coded, encode};
 
@@ -24,6 +26,8 @@ pub(crate) enum Command<'a> {
     Check,
     /// `decode N`
     Decode { number: u32 },
+    /// `search [--from MS] [--to MS] [--stats] [--workers W] PATTERN`
+    Search { asked: SearchWords<'a> },
 }
 
 /// Whether a word is no option, since it does not begin with `-`.
@@ -120,7 +124,8 @@ fn read_log(words: &[String]) -> Option<Command<'_>>
 /// Reads the words. `None` comes exactly where they are not of the form of a command.
 ///
 /// The first word is the command. The options of `create` follow it, or the words of `show` and
-/// `scan`, or the number of a file behind `decode`. Nothing follows `files` and `check`.
+/// `scan`, or the number of a file behind `decode`, or the options and the pattern of `search`.
+/// Nothing follows `files` and `check`.
 pub(crate) fn read_words(words: &[String]) -> Option<Command<'_>>
     ensures some { IfSome result (Asks (map string_bytes words.now)) }
     ensures header { IfSome result HasHeader }
@@ -128,6 +133,9 @@ pub(crate) fn read_words(words: &[String]) -> Option<Command<'_>>
         → result ≡ Some (Command.Create h) }
     ensures decode { (n : ℕ) → AsksDecode (map string_bytes words.now) n
         → result ≡ Some (Command.Decode n) }
+    ensures search { (from to : Option ℤ) (stats : Bool) (workers : ℕ) (pattern : List ℕ)
+        → AsksSearch (map string_bytes words.now) from to stats workers pattern
+        → IsSomeAnd result (IsSearchOf from to stats workers pattern) }
     ensures none { IfNone result (IsUsage (map string_bytes words.now)) }
 {
     if let Some(header) = read_create(words) {
@@ -135,6 +143,9 @@ pub(crate) fn read_words(words: &[String]) -> Option<Command<'_>>
     }
     if let Some(number) = read_decode(words) {
         return Some(Command::Decode { number });
+    }
+    if let Some(asked) = read_search(words) {
+        return Some(Command::Search { asked });
     }
     if let Some(command) = read_alone(words) {
         return Some(command);

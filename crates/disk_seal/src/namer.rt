@@ -246,7 +246,7 @@ impl<R: Wait, A: Ledger, B: Ledger, C: Ledger> Namer for LockNamer<'_, '_, R, A,
             (texts_at line.now spans.now)) }
         ensures full { (book : _) (count : ℕ) → IsErrOf result (name_full book count)
             → (book ≡ Words) × MetLimit (known_of (pass_in self.new.words))
-                (texts_at line.now spans.now) count }
+            (texts_at line.now spans.now) count }
         ensures still { GoesOn (pass_in self.old.words) (pass_in self.new.words) }
     {
         let texts = LineSpans::new(line, spans);

@@ -1,13 +1,12 @@
 -- What is read of the segments that are opened is beside the columns of barren ones.
-use Rattle.std.proofs.Common.{◌≡◌, ◌⊎◌, inl, inr, refl, sym, ap, ap₂, subst, ◌∙◌, ◌+◌, ◌*◌, ◌<◌, ◌≤◌, ℕ, zero, suc, List, [], ◌∷◌, ◌++◌, length, drop, All, Option, append_assoc, arith, length-append}
-use Rattle.std.specs.List.{Contains}
+use Rattle.std.proofs.Common.{◌≡◌, ◌⊎◌, inl, inr, refl, sym, ap, ap₂, subst, ◌∙◌, ◌+◌, ◌≤◌, ℕ, List, [], ◌∷◌, ◌++◌, length, drop, Option, append_assoc, arith, length-append}
 use Rattle.std.proofs.lemmas.List.{append-nil}
 use Rattle.std.proofs.lemmas.List.Elements.{All-weaker}
 use Rattle.std.proofs.lemmas.List.Sorted.{Contains-permutation, IsPermutation-sym}
 use Rattle.record_format.specs.declared.header.Header.{Header}
 use Rattle.column_store.specs.declared.row.Row.{Row}
 use Rattle.segment_format.specs.declared.head.Head.{Head}
-use Rattle.segment_format.specs.Layout.{fixed_of, head_bytes, head_length}
+use Rattle.segment_format.specs.Layout.{fixed_of, head_length}
 use Rattle.segment_format.specs.Pages.{first_page}
 use Rattle.segment_format.proofs.PagesLawLemmas.{pages_are_rows}
 use Rattle.segment_pages.specs.Paged.{HoldsSegment, columns_size}
@@ -16,7 +15,6 @@ use Rattle.disk_journal.specs.Record.{spelled}
 use Rattle.archive_meaning.specs.declared.entry.SegmentEntry.{SegmentEntry}
 use Rattle.archive_meaning.specs.declared.entry.JournalEntry.{JournalEntry}
 use Rattle.archive_meaning.specs.declared.entry.JournalEntry.TheVariants.{Files, Types, Words, Segment}
-use Rattle.archive_meaning.specs.Held.{Held}
 use Rattle.archive_meaning.specs.Spelled.{front_of, record_of, records_from, types_in, types_of}
 use Rattle.archive_meaning.specs.Stands.{StandsFor}
 use Rattle.archive_meaning.proofs.UniqueLemmas.{front_joined}

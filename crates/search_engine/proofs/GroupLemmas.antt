@@ -1,8 +1,7 @@
 -- The segments of an opened archive, sorted by file and first message, hold the content of its journal in order.
-use Rattle.std.proofs.Common.{◌≡◌, ◌⊎◌, inl, inr, refl, sym, ap, ap₂, subst, ◌∙◌, ◌+◌, ◌-◌, ◌*◌, ◌^◌, ◌<◌, ◌≤◌, ℕ, zero, suc, Bool, true, false, cond, List, [], ◌∷◌, ◌++◌, Option, None, Some, length, map, get_or, append_assoc, arith, length-append}
+use Rattle.std.proofs.Common.{◌≡◌, inl, inr, refl, sym, ap, ap₂, subst, ◌∙◌, ◌+◌, ◌*◌, ◌^◌, ◌<◌, ◌≤◌, ℕ, zero, suc, Bool, true, false, cond, List, [], ◌∷◌, ◌++◌, Some, length, map, append_assoc, arith, length-append}
 use Rattle.std.specs.Prelude.{◌==◌, ◌||◌, ◌&&◌, if◌then◌else◌, slice_get, All}
-use Rattle.std.specs.List.{AllZip, Contains, filter, flat_map}
-use Rattle.std.specs.List.Sorted.{IsNonDecreasingBy, IsPermutation}
+use Rattle.std.specs.List.{filter}
 use Rattle.std.proofs.lemmas.List.{append-nil}
 use Rattle.std.proofs.lemmas.List.Concat.{flat_map-cons}
 use Rattle.std.proofs.lemmas.List.Elements.{All-nil, All-cons, All-head, All-tail}
@@ -10,19 +9,17 @@ use Rattle.std.proofs.lemmas.List.Sorted.{All-permutation}
 use Rattle.std.proofs.lemmas.Bool.{cases_lt}
 use Rattle.std.proofs.lemmas.Slice.Zip.{AllZip-long}
 use Rattle.record_format.specs.declared.header.Header.{Header}
-use Rattle.row_codec.specs.Naming.{AreDistinct}
-use Rattle.archive_meaning.specs.declared.TheConstants.{MAX_FILES, MAX_MESSAGES}
 use Rattle.archive_meaning.specs.declared.entry.SegmentEntry.{SegmentEntry}
 use Rattle.archive_meaning.specs.declared.entry.JournalEntry.{JournalEntry}
 use Rattle.archive_meaning.specs.declared.entry.JournalEntry.TheVariants.{Files, Types, Words, Segment}
 use Rattle.archive_meaning.specs.Held.{File, Held, Piece, content_of, files_from, is_whole, is_ended, messages_of, nothing_held}
 use Rattle.archive_meaning.specs.Legal.{Accepts, AddsSegment, AreNamed, Run, piece_of}
-use Rattle.archive_meaning.specs.Spelled.{front_of, record_of, types_in, types_of}
+use Rattle.archive_meaning.specs.Spelled.{front_of, record_of, types_in}
 use Rattle.archive_meaning.specs.Stands.{StandsFor}
 use Rattle.archive_open.proofs.NextLemmas.{front_length}
 use Rattle.archive_open.specs.declared.files.FileEntry.{FileEntry}
 use Rattle.archive_open.specs.declared.segments.SegmentPlace.{SegmentPlace}
-use Rattle.archive_open.specs.Shown.{IsArchiveOf, Shown, counted, files_of, order_of, places_from, places_of}
+use Rattle.archive_open.specs.Shown.{IsArchiveOf, Shown, counted, order_of, places_from, places_of}
 use Rattle.search_engine.specs.Scan.{Placed, all_placed, numbered, placed}
 use Rattle.search_engine.specs.Held.{HaveMessages, Named}
 use Rattle.search_engine.specs.Searched.{names_of}

@@ -1,14 +1,10 @@
 -- The segments of an opened archive hold the messages of its journal's content, by file and then by number.
-use Rattle.std.proofs.Common.{◌≡◌, ◌⊎◌, inl, inr, refl, sym, ap, ap₂, subst, ◌∙◌, ◌+◌, ◌-◌, ◌*◌, ◌^◌, ◌<◌, ◌≤◌, ℕ, zero, suc, Bool, true, false, cond, List, [], ◌∷◌, ◌++◌, Option, None, Some, length, map, get_or, append_assoc, arith, length-append}
-use Rattle.std.specs.Prelude.{◌==◌, ◌||◌, ◌&&◌, if◌then◌else◌, slice_get, All}
-use Rattle.std.specs.List.{AllZip, Contains, filter, flat_map}
-use Rattle.std.specs.List.Sorted.{IsNonDecreasingBy, IsPermutation}
+use Rattle.std.proofs.Common.{◌≡◌, refl, sym, ap, ap₂, subst, ◌∙◌, ◌+◌, ℕ, zero, suc, Bool, true, false, cond, List, [], ◌∷◌, ◌++◌, Some, length, map, get_or, append_assoc, arith, length-append}
+use Rattle.std.specs.Prelude.{◌==◌, ◌||◌, ◌&&◌, if◌then◌else◌, slice_get}
+use Rattle.std.specs.List.{filter, flat_map}
 use Rattle.std.proofs.lemmas.List.{append-nil}
 use Rattle.std.proofs.lemmas.List.Concat.{flat_map-cons}
-use Rattle.std.proofs.lemmas.List.Elements.{All-nil, All-cons, All-append, All-weaker, All-head, All-tail}
-use Rattle.std.proofs.lemmas.List.Sorted.{All-permutation}
 use Rattle.std.proofs.lemmas.Option.{get_or_from_slice_get}
-use Rattle.std.proofs.lemmas.Slice.Zip.{AllZip-long}
 use mathlib.Core.List.{IsPrefix}
 use Rattle.record_format.specs.declared.header.Header.{Header}
 use Rattle.column_store.specs.declared.row.Row.{Row}
@@ -21,27 +17,23 @@ use Rattle.row_codec.proofs.MeansLemmas.{canonical_stays, prefix_keeps}
 use Rattle.segment_format.specs.Layout.{head_of, sorted_set}
 use Rattle.segment_pages.specs.Paged.{HoldsSegment}
 use Rattle.segment_pages.proofs.StandLemmas.{segments_held}
-use Rattle.archive_meaning.specs.declared.TheConstants.{MAX_FILES, MAX_MESSAGES}
 use Rattle.archive_meaning.specs.declared.entry.SegmentEntry.{SegmentEntry}
 use Rattle.archive_meaning.specs.declared.entry.JournalEntry.{JournalEntry}
 use Rattle.archive_meaning.specs.declared.entry.JournalEntry.TheVariants.{Files, Types, Words, Segment}
-use Rattle.archive_meaning.specs.Held.{File, Held, Piece, content_of, files_from, is_whole, messages_of, nothing_held}
-use Rattle.archive_meaning.specs.Legal.{Accepts, AddsSegment, AreNamed, Run, piece_of}
-use Rattle.archive_meaning.specs.Spelled.{end_of, front_of, record_of, types_in, types_of, words_named}
+use Rattle.archive_meaning.specs.Held.{Held, Piece, is_whole, messages_of, nothing_held}
+use Rattle.archive_meaning.specs.Legal.{Accepts, AddsSegment, Run, piece_of}
+use Rattle.archive_meaning.specs.Spelled.{front_of, record_of, types_in, types_of}
 use Rattle.archive_meaning.specs.Stands.{StandsFor}
 use Rattle.archive_meaning.proofs.JudgeLemmas.{end_more, run_types}
 use Rattle.archive_meaning.proofs.LegalLemmas.{types_after}
 use Rattle.archive_meaning.proofs.SumsLemmas.{messages_joined, whole_joined}
-use Rattle.archive_open.proofs.NextLemmas.{front_length}
 use Rattle.archive_open.specs.declared.files.FileEntry.{FileEntry}
 use Rattle.archive_open.specs.declared.segments.SegmentPlace.{SegmentPlace}
-use Rattle.archive_open.specs.Shown.{IsArchiveOf, Shown, counted, files_of, head_in, order_of, placed, places_from, places_of}
-use Rattle.subquery_filter.specs.Laws.{words_of}
-use Rattle.search_engine.specs.Scan.{Placed, all_placed, numbered}
-use Rattle.search_engine.specs.Held.{AreRowsOf, HasMessages, HaveMessages, Named}
+use Rattle.archive_open.specs.Shown.{head_in, places_from}
+use Rattle.search_engine.specs.Scan.{numbered}
+use Rattle.search_engine.specs.Held.{HasMessages, HaveMessages}
 use Rattle.search_engine.specs.Searched.{names_of}
 use Rattle.search_engine.proofs.SofarLemmas.{numbered_append}
-use Rattle.search_engine.proofs.OrderLemmas.{AreAbove, AreAtLeast, NeverFall, Rise, above_from, least_lower, never_fall, sorted_filter}
 
 -- the segment is one of the file of a number
 abbrev pub is_of : ℕ → SegmentPlace → Bool

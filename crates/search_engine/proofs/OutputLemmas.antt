@@ -1,5 +1,5 @@
 -- What a loop of writes has done.
-use Rattle.std.proofs.Common.{◌≡◌, refl, sym, ◌∙◌, ap, subst, List, [], ℕ, ◌++◌, Option, Some, None, take, drop}
+use Rattle.std.proofs.Common.{◌≡◌, refl, sym, ◌∙◌, ap, subst, List, [], ℕ, ◌++◌, Option, take, drop}
 use Rattle.std.proofs.lemmas.List.{append-nil, append_assoc, take-append-drop}
 use Rattle.search_engine.specs.Sofar.{Goes, Grew, GrewByFront, Moves, Sofar}
 use Rattle.search_engine.proofs.SofarLemmas.{grew_nothing, grew_on}

@@ -1,19 +1,17 @@
 -- What the pages of a segment have passed.
-use Rattle.std.proofs.Common.{◌≡◌, ◌⊎◌, inl, inr, ℕ, suc, ◌+◌, ◌-◌, ◌*◌, ◌<◌, ◌≤◌, List, [], ◌∷◌, ◌++◌, length, take, drop, Option, Some, None, option_map, All, refl, sym, ◌∙◌, ap, ap₂, subst, arith, length-append}
-use Rattle.std.specs.Prelude.{IfOk}
-use Rattle.std.proofs.lemmas.List.{append-nil, append_assoc, append_cancel_left, take_at, drop_at}
-use Rattle.std.proofs.lemmas.List.Elements.{All-nil}
-use Rattle.log_seams.specs.Disk.{DiskState, Elapses, Rests}
+use Rattle.std.proofs.Common.{◌≡◌, inl, ℕ, suc, ◌+◌, ◌*◌, ◌≤◌, List, [], ◌∷◌, ◌++◌, length, Option, Some, None, refl, sym, ◌∙◌, ap, ap₂, subst, arith, length-append}
+use Rattle.std.proofs.lemmas.List.{append-nil, append_assoc}
+use Rattle.log_seams.specs.Disk.{DiskState, Rests}
 use Rattle.column_store.specs.declared.row.Row.{Row}
-use Rattle.segment_pages.specs.Reads.{OnlyReadsIn, ReadsWithin}
+use Rattle.segment_pages.specs.Reads.{OnlyReadsIn}
 use Rattle.segment_format.specs.Pages.{page_rows}
-use Rattle.segment_pages.specs.Paged.{AreNext, AreNextTold, HoldsLeft, HoldsNoneTold, Paged, ReadsColumns, columns_size, paged_after}
+use Rattle.segment_pages.specs.Paged.{AreNextTold, HoldsNoneTold, Paged, ReadsColumns, columns_size, paged_after}
 use Rattle.segment_pages.specs.Laws.{NoneAreLeft}
 use Rattle.segment_pages.proofs.ReadLemmas.{none_within, reads_on}
-use Rattle.search_engine.specs.Scan.{Asked, Placed, numbered}
-use Rattle.search_engine.specs.Sofar.{GrewByFront, Moves, Passes, Sofar, Stops, TicksWithin, sofar}
+use Rattle.search_engine.specs.Scan.{Asked, numbered}
+use Rattle.search_engine.specs.Sofar.{GrewByFront, Moves, Passes, Sofar, Stops, TicksWithin}
 use Rattle.search_engine.specs.Held.{AreRowsOf, Named, OfLeft}
-use Rattle.search_engine.specs.StepsPast.{PagesPast, Past, PastTold}
+use Rattle.search_engine.specs.StepsPast.{PagesPast, PastTold}
 use Rattle.search_engine.proofs.SofarLemmas.{front_none, numbered_append, passes_moves, passes_none, passes_on, stops_behind, stops_here, stops_more, ticks_same}
 use Rattle.segment_pages.specs.declared.refusal.PageRefusal.{PageRefusal}
 use Rattle.search_engine.specs.declared.refusal.PrintRefusal.{PrintRefusal}

@@ -1,7 +1,6 @@
 -- What a row's message is told, and what the loop over rows has passed.
-use Rattle.std.proofs.Common.{◌≡◌, ◌⊎◌, inl, inr, ℕ, ℤ, suc, ◌+◌, ◌<◌, ◌≤◌, ◌^◌, List, [], ◌∷◌, ◌++◌, length, take, drop, get_or, Option, Some, None, refl, sym, ◌∙◌, ap, ap₂, subst, arith, length-append}
+use Rattle.std.proofs.Common.{◌≡◌, inl, inr, ℕ, suc, ◌+◌, ◌<◌, ◌≤◌, ◌^◌, List, [], ◌∷◌, ◌++◌, length, take, drop, Option, Some, None, refl, sym, ◌∙◌, ap, ap₂, subst, arith, length-append}
 use Rattle.std.specs.Prelude.{slice_get}
-use Rattle.std.specs.List.{AllZip}
 use Rattle.std.proofs.lemmas.List.{append-nil, append_assoc, take_at, drop_at}
 use Rattle.std.proofs.lemmas.Option.{get_or_from_slice_get, slice_get_within}
 use Rattle.std.proofs.Math.Seq.{drop-cons}
@@ -10,22 +9,19 @@ use Rattle.std.specs.Fmt.{decimal}
 use Rattle.column_store.specs.Range.{Holds}
 use Rattle.column_store.specs.declared.range.Range.{Range}
 use Rattle.column_store.specs.declared.row.Row.{Row}
-use Rattle.time_patterns.specs.Stamps.{HasStamp}
 use Rattle.time_patterns.proofs.VersionLemmas.{one_stamp_of}
-use Rattle.wild_match.specs.Matches.{Match}
-use Rattle.query_plan.specs.Pieces.{wide}
 use Rattle.row_codec.specs.Means.{HasSpelling, IsCanonical, IsSpelling}
 use Rattle.row_codec.proofs.MeansLemmas.{meaning_is_spelling}
 use Rattle.row_codec.proofs.CanonicalLemmas.{rows_return}
 use Rattle.search_engine.specs.declared.query.Judgement.{Judgement}
 use Rattle.search_engine.specs.declared.query.Judgement.TheVariants.{Left, Tried, Found}
 use Rattle.search_engine.specs.declared.tally.Tally.{Tally}
-use Rattle.search_engine.specs.Scan.{Asked, IsFound, IsInRange, IsTried, Placed, line_of, lines_of, numbered, placed}
-use Rattle.search_engine.specs.Sofar.{Advances, Goes, Passes, Sofar, TicksWithin, sofar}
-use Rattle.search_engine.specs.Held.{AreRowsOf, Named, named}
+use Rattle.search_engine.specs.Scan.{Asked, IsFound, IsInRange, IsTried, Placed, line_of, numbered, placed}
+use Rattle.search_engine.specs.Sofar.{Passes, Sofar, TicksWithin, sofar}
+use Rattle.search_engine.specs.Held.{AreRowsOf, Named}
 use Rattle.search_engine.specs.Judged.{Judges, Keeps, label_of}
 use Rattle.search_engine.specs.StepsPast.{PastRows}
-use Rattle.search_engine.proofs.SofarLemmas.{goes_none, grew_nothing, numbered_append, passes_none, passes_on, ticks_behind, ticks_same}
+use Rattle.search_engine.proofs.SofarLemmas.{grew_nothing, numbered_append, passes_none, passes_on, ticks_behind, ticks_same}
 
 -- ---- one message
 

@@ -1,20 +1,19 @@
 -- The loop over segments.
-use Rattle.std.proofs.Common.{◌≡◌, ◌⊎◌, inl, inr, ℕ, suc, ◌+◌, ◌<◌, ◌≤◌, Bool, true, false, cond, List, [], ◌∷◌, ◌++◌, length, take, drop, get_or, Option, Some, None, option_map, All, refl, sym, ◌∙◌, ap, ap₂, subst, arith, length-append, take-append-drop}
+use Rattle.std.proofs.Common.{◌≡◌, ℕ, suc, ◌+◌, ◌<◌, ◌≤◌, List, [], ◌∷◌, ◌++◌, length, take, drop, get_or, Option, Some, None, option_map, refl, sym, ◌∙◌, ap, ap₂, subst, arith, length-append, take-append-drop}
 use Rattle.std.specs.List.{Contains}
 use Rattle.std.proofs.lemmas.List.{append-nil, append_assoc, take_all}
-use Rattle.std.proofs.lemmas.List.Elements.{All-append, All-weaker, Contains-get_or, Contains-push, Contains-push_cases}
+use Rattle.std.proofs.lemmas.List.Elements.{All-append, All-weaker, Contains-get_or}
 use Rattle.std.proofs.Math.Seq.{drop-cons, take-add}
 use Rattle.std.proofs.Math.ListN.{drop_of_length-le}
 use Rattle.log_seams.specs.Disk.{DiskState, Rests}
 use Rattle.log_seams.proofs.MomentLemmas.{rests_on}
-use Rattle.row_codec.specs.Naming.{AreDistinct}
 use Rattle.archive_open.specs.declared.files.FileEntry.{FileEntry}
 use Rattle.archive_open.specs.declared.segments.SegmentPlace.{SegmentPlace}
-use Rattle.search_engine.specs.Scan.{Asked, Picks, Placed, numbered}
-use Rattle.search_engine.specs.Sofar.{Passes, Sofar, Stops, sofar}
+use Rattle.search_engine.specs.Scan.{Asked, Placed, numbered}
+use Rattle.search_engine.specs.Sofar.{Sofar, Stops}
 use Rattle.search_engine.specs.Held.{HaveMessages, Named, OfSegments}
 use Rattle.search_engine.specs.Opened.{AreOpened, IsBarrenFor, IsRead, ReadsOpened, Searched, Stopped}
-use Rattle.search_engine.specs.StepsPast.{SegmentsPast, SegmentsPastTold, SegmentsRun}
+use Rattle.search_engine.specs.StepsPast.{SegmentsPastTold, SegmentsRun}
 use Rattle.search_engine.proofs.SofarLemmas.{passes_none, passes_on, picks_append, picks_once, picks_split, stops_behind, stops_more}
 use Rattle.search_engine.proofs.SegmentLemmas.{nothing_read, rests_none}
 

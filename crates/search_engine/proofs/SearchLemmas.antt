@@ -1,5 +1,5 @@
 -- What was done over the segments of an archive is said of the journal that the bytes stand for.
-use Rattle.std.proofs.Common.{◌≡◌, ◌⊎◌, inl, inr, refl, sym, ap, ap₂, subst, ◌∙◌, ◌+◌, ◌<◌, ◌≤◌, ◌^◌, ℕ, List, [], ◌∷◌, ◌++◌, Option, None, Some, length, arith, length-append}
+use Rattle.std.proofs.Common.{◌≡◌, inl, inr, refl, sym, ap, subst, ◌∙◌, ◌≤◌, ℕ, List, [], ◌∷◌, ◌++◌, Option, None, Some, length, arith}
 use Rattle.std.proofs.lemmas.List.{append-nil}
 use Rattle.record_format.specs.declared.header.Header.{Header}
 use Rattle.archive_meaning.specs.declared.entry.JournalEntry.{JournalEntry}
@@ -11,18 +11,16 @@ use Rattle.archive_open.specs.Kept.{Kept}
 use Rattle.archive_open.specs.Shown.{IsArchiveOf, Opens, Shown, kept_of}
 use Rattle.column_store.specs.declared.range.Range.{Range}
 use Rattle.wild_match.specs.declared.pattern.Item.{Item}
-use Rattle.search_engine.specs.declared.report.Report.{Report}
 use Rattle.search_engine.specs.declared.tally.Tally.{Tally}
-use Rattle.search_engine.specs.Scan.{AreFound, AreTried, Asked, IsFound, IsTried, Picks, Placed, all_placed, lines_of}
-use Rattle.search_engine.specs.Sofar.{Grew, GrewByFront, Moves, Passes, Sofar, Stops, sofar}
-use Rattle.search_engine.specs.Held.{HaveMessages, Named, OfSegments, named}
-use Rattle.search_engine.specs.Opened.{AreOpened, IsBarrenFor, ReadsOpened, Searched, Stopped}
-use Rattle.search_engine.specs.Searched.{HasSearched, HasStopped, OfJournal, ReadsNoBarren, asked, names_of}
+use Rattle.search_engine.specs.Scan.{Asked, IsFound, IsTried, Picks, Placed, all_placed, lines_of}
+use Rattle.search_engine.specs.Sofar.{GrewByFront, Moves, Sofar, Stops, sofar}
+use Rattle.search_engine.specs.Held.{Named, OfSegments, named}
+use Rattle.search_engine.specs.Opened.{IsBarrenFor, Searched, Stopped}
+use Rattle.search_engine.specs.Searched.{HasSearched, HasStopped, OfJournal, asked, names_of}
 use Rattle.search_engine.proofs.SofarLemmas.{all_went, passes_moves, picks_once, stops_behind, stops_here, ticks_same}
 use Rattle.search_engine.proofs.OutputLemmas.{goes_moved}
 use Rattle.search_engine.proofs.HeldLemmas.{nothing_distinct, run_distinct}
 use Rattle.search_engine.proofs.GroupLemmas.{content_small, shown_have}
-use Rattle.search_engine.proofs.AsideLemmas.{reads_aside}
 
 -- the names that the code asks are those of the archive
 pub record Knows (n : Named) (k : Kept) : Type 0 where

@@ -1,19 +1,17 @@
 -- A segment that is searched, and one that is barren.
-use Rattle.std.proofs.Common.{◌≡◌, ◌⊎◌, inl, inr, ℕ, suc, ◌+◌, ◌*◌, ◌<◌, ◌≤◌, ◌^◌, Bool, true, false, List, [], ◌∷◌, ◌++◌, length, take, drop, Option, Some, None, option_map, All, refl, sym, ◌∙◌, ap, ap₂, subst, arith, length-append}
+use Rattle.std.proofs.Common.{◌≡◌, inl, inr, ℕ, ◌+◌, ◌<◌, ◌≤◌, Bool, false, List, [], ◌∷◌, ◌++◌, length, Option, Some, None, refl, sym, ◌∙◌, ap, ap₂, subst, arith}
 use Rattle.std.specs.Prelude.{slice_get, IsTrue, ◌↔◌}
 use Rattle.std.specs.List.{Contains}
-use Rattle.std.proofs.lemmas.List.{append-nil, append_assoc}
-use Rattle.std.proofs.lemmas.List.Elements.{All-nil, All-cons, All-append, All-weaker, Contains-append_left, Contains-append_right, Contains-push}
+use Rattle.std.proofs.lemmas.List.{append-nil}
+use Rattle.std.proofs.lemmas.List.Elements.{All-nil, All-weaker, Contains-append_left, Contains-append_right, Contains-push}
 use Rattle.std.proofs.lemmas.Option.{slice_get_within}
 use Rattle.log_seams.specs.Disk.{DiskState, Rests}
-use Rattle.column_store.specs.Range.{Holds}
 use Rattle.column_store.specs.declared.range.Range.{Range}
 use Rattle.column_store.specs.declared.row.Row.{Row}
 use Rattle.row_codec.specs.Means.{IsCanonical}
 use Rattle.row_codec.specs.Naming.{AreDistinct}
-use Rattle.segment_format.specs.Layout.{IsHead, fixed_of, head_length, head_of}
+use Rattle.segment_format.specs.Layout.{IsHead, head_of}
 use Rattle.segment_format.specs.Pages.{first_page}
-use Rattle.segment_pages.specs.Reads.{OnlyReadsIn, ReadsWithin}
 use Rattle.segment_pages.specs.Paged.{HoldsLeft, HoldsSegment, Paged, ReadsColumns, columns_size, paged_first}
 use Rattle.archive_meaning.specs.declared.TheConstants.{MAX_MESSAGES}
 use Rattle.query_plan.specs.declared.pieces.Piece.{Piece}
@@ -23,8 +21,8 @@ use Rattle.subquery_filter.specs.Barren.{IsBarren}
 use Rattle.subquery_filter.specs.Laws.{BarrenHasNoMatch, words_of}
 use Rattle.archive_open.specs.declared.files.FileEntry.{FileEntry}
 use Rattle.archive_open.specs.declared.segments.SegmentPlace.{SegmentPlace}
-use Rattle.search_engine.specs.Scan.{Asked, IsFound, IsTried, Picks, Placed, lines_of, numbered, placed}
-use Rattle.search_engine.specs.Sofar.{Passes, Sofar, Stops, sofar}
+use Rattle.search_engine.specs.Scan.{Asked, IsFound, IsTried, Picks, Placed, numbered}
+use Rattle.search_engine.specs.Sofar.{Passes, Sofar, Stops}
 use Rattle.search_engine.specs.Held.{AreRowsOf, HasMessages, HaveMessages, Named, OfLeft, OfSegments}
 use Rattle.search_engine.specs.Opened.{AreOpened, IsBarrenFor, IsRead, ReadsOpened, Searched, Stopped, columns_at}
 use Rattle.search_engine.proofs.SofarLemmas.{goes_none, picks_once}

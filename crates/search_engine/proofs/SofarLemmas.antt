@@ -1,12 +1,11 @@
 -- A search that goes on over parts of a list goes on over the whole, and one that stops in a part stops in the whole.
-use Rattle.std.proofs.Common.{◌≡◌, ◌⊎◌, inl, inr, ℕ, ◌+◌, ◌<◌, ◌≤◌, ◌^◌, List, [], ◌∷◌, ◌++◌, length, Option, Some, None, option_map, refl, sym, ◌∙◌, ap, ap₂, subst, arith, length-append}
+use Rattle.std.proofs.Common.{◌≡◌, inl, inr, ℕ, ◌+◌, List, [], ◌∷◌, ◌++◌, length, Option, Some, None, option_map, refl, sym, ◌∙◌, ap, subst, arith, length-append}
 use Rattle.std.specs.Prelude.{Result, Ok, Err, OnErr}
-use Rattle.std.specs.List.{flat_map}
 use Rattle.std.proofs.lemmas.List.{append-nil, append_assoc}
 use Rattle.std.proofs.lemmas.List.Concat.{flat_map-append}
 use Rattle.search_engine.specs.declared.tally.Tally.{Tally}
-use Rattle.search_engine.specs.Scan.{AreFound, AreTried, Asked, IsFound, IsTried, Picks, Placed, line_of, lines_of, numbered, placed}
-use Rattle.search_engine.specs.Sofar.{Advances, Counted, Goes, Grew, GrewByFront, Passes, Sofar, Stops, TicksWithin, sofar}
+use Rattle.search_engine.specs.Scan.{Asked, IsFound, IsTried, Picks, Placed, line_of, lines_of, numbered, placed}
+use Rattle.search_engine.specs.Sofar.{Advances, Counted, Goes, Grew, GrewByFront, Passes, Sofar, Stops, TicksWithin}
 
 pub on_err : {T E : Type 0} (r : Result T E) (P : Type 0) → P → OnErr r P
 on_err (Ok t) P p = tt

@@ -1,17 +1,15 @@
 -- Which segments a search opens, and what it reads of them.
-use Rattle.std.specs.Prelude.{◌≡◌, ◌≤◌, ◌+◌, ℕ, List, [], ◌∷◌, ◌++◌, length, take, drop, Option, Some, None, option_map, All}
+use Rattle.std.specs.Prelude.{◌≡◌, ◌≤◌, ◌+◌, ℕ, List, ◌++◌, length, Option, option_map, All}
 use Rattle.std.specs.List.{Contains}
-use Rattle.row_codec.specs.Naming.{AreDistinct}
 use Rattle.segment_format.specs.Layout.{fixed_of, head_length}
 use Rattle.segment_format.specs.Pages.{first_page}
 use Rattle.segment_pages.specs.Paged.{columns_size}
 use Rattle.query_plan.specs.Pieces.{wide_pieces}
 use Rattle.subquery_filter.specs.Barren.{IsBarren}
-use Rattle.archive_open.specs.declared.files.FileEntry.{FileEntry}
 use Rattle.archive_open.specs.declared.segments.SegmentPlace.{SegmentPlace}
 use Rattle.search_engine.specs.Scan.{Asked, Picks, Placed}
 use Rattle.search_engine.specs.Sofar.{Passes, Sofar, Stops}
-use Rattle.search_engine.specs.Held.{HaveMessages, Named}
+use Rattle.search_engine.specs.Held.{Named}
 
 -- the segment's head tells that none of its rows is found
 abbrev pub IsBarrenFor : Named → Asked → SegmentPlace → Type 0

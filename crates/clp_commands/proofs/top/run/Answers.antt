@@ -1,6 +1,10 @@
-use Rattle.std.proofs.Common.{refl, rules}
-use Rattle.clp_commands.proofs.CommandLemmas.{Answers-check, Answers-create, Answers-decode, Answers-files, Answers-scan, Answers-show, Answers-usage}
-use Rattle.clp_commands.proofs.CompleteLemmas.{check_answers, decode_answers, files_answers}
+use Rattle.std.proofs.Common.{refl, rules, subst, []}
+use Rattle.wild_match.specs.Reading.{IsSearchPattern}
+use Rattle.clp_commands.specs.Answers.{IsPatternRefusal}
+use Rattle.wild_match.proofs.Spelling.{IsSearchPattern-not_lone, IsSearchPattern-unique}
+use Rattle.clp_commands.proofs.AnswerLemmas.{RefusesPattern-from, pattern_refusal}
+use Rattle.clp_commands.proofs.CommandLemmas.{Answers-check, Answers-create, Answers-decode, Answers-files, Answers-scan, Answers-search, Answers-show, Answers-usage}
+use Rattle.clp_commands.proofs.CompleteLemmas.{check_answers, decode_answers, files_answers, search_answers, search_pattern, search_refused}
 use Rattle.clp_commands.proofs.top.run.Goals as goal
 
 pub returns-in-Show-clause-answers : goal.returns-in-Show-clause-answers
@@ -37,3 +41,24 @@ returns-in-Decode-clause-answers g c =
     (λ n asks. let e = c.in-Some.ensures.decode n asks in cc (e, c.in-Decode.is, c.in-Some.command-is))
     (decode_answers c.in-Decode.number _ _ _ _ c.decode_file-outcome.result (rw (← c.refusal_of_file.ensures) (record { status_is = c.answer-in-Decode.ensures.status; said = c.answer-in-Decode.ensures.said })) done.keeps done.disk done.sink done.prints
     (λ at is. done.damaged at (search (rules, is))) (λ told count is. done.lacks told count (search (rules, is))) done.there)
+
+pub search_archive-outcome-requires : goal.search_archive-outcome-requires
+search_archive-outcome-requires g c = record { searched = c.wide_is_wider.ensures.searched _ _ c.in-Ok.ensures.items }
+
+pub returns-in-Ok-clause-answers : goal.returns-in-Ok-clause-answers
+returns-in-Ok-clause-answers g c =
+    let done = c.search_archive-outcome.ensures in
+    let items = subst (λ t. IsSearchPattern t c.in-Ok.pattern) c.as_bytes.ensures.value c.in-Ok.ensures.items in
+    Answers-search _ _ _ _ _ c.in-Search.asked.from c.in-Search.asked.to c.in-Search.asked.stats c.in-Search.asked.workers c.in-Search.asked.pattern.now (rw (c.in-Search.is) at (rw c.in-Some.command-is at c.in-Some.ensures.some))
+    (λ f t st w p asks. rw (c.in-Search.is) at (rw c.in-Some.command-is at (c.in-Some.ensures.search f t st w p asks)))
+    (λ at lone. absurd (IsSearchPattern-not_lone _ _ at items lone))
+    (λ its is. search_pattern _ _ _ _ _ _ _ _ _ items is
+    (search_answers _ _ _ _ _ _ c.search_archive-outcome.result (rw (← c.refusal_of_read-in-Ok.ensures) (record { status_is = c.answer-in-Ok.ensures.status; said = c.answer-in-Ok.ensures.said })) done.keeps done.disk done.sink done.prints done.reads (λ at is. done.damaged at (search (rules, is)))))
+
+pub returns-in-Err-clause-answers : goal.returns-in-Err-clause-answers
+returns-in-Err-clause-answers g c =
+    let refused = subst (λ t. IsPatternRefusal t c.in-Err.refusal) c.as_bytes.ensures.value (pattern_refusal _ _ c.in-Err.refusal c.in-Err.is c.read_pattern.ensures.bad) in
+    Answers-search _ _ _ _ _ c.in-Search.asked.from c.in-Search.asked.to c.in-Search.asked.stats c.in-Search.asked.workers c.in-Search.asked.pattern.now (rw (c.in-Search.is) at (rw c.in-Some.command-is at c.in-Some.ensures.some))
+    (λ f t st w p asks. rw (c.in-Search.is) at (rw c.in-Some.command-is at (c.in-Some.ensures.search f t st w p asks)))
+    (λ at lone. RefusesPattern-from _ [] _ _ at c.in-Err.refusal refused lone (rw (← c.refusal_of_pattern.ensures) c.report-in-Err.ensures.status) (rw (← c.refusal_of_pattern.ensures) c.report-in-Err.ensures.said) refl refl)
+    (λ its is. search_refused _ _ _ _ _ _ c.in-Err.refusal refused (λ at lone. IsSearchPattern-not_lone _ its at is lone) (rw (← c.refusal_of_pattern.ensures) c.report-in-Err.ensures.status) (rw (← c.refusal_of_pattern.ensures) c.report-in-Err.ensures.said) refl refl)

@@ -1,6 +1,5 @@
-use Rattle.std.proofs.Common.{arith, rules, sym, refl}
+use Rattle.std.proofs.Common.{rules, refl}
 use Rattle.std.proofs.lemmas.Result.{err_from_is_err_and}
-use Rattle.search_engine.specs.Held.{named}
 use Rattle.search_engine.specs.Sofar.{sofar}
 use Rattle.search_engine.proofs.SofarLemmas.{on_err}
 use Rattle.search_engine.proofs.PageLemmas.{flush_stops, none_damaged, page_damaged, page_damaged_from, page_past, page_stops, print_damaged_from}

@@ -1,4 +1,4 @@
-use Rattle.std.proofs.Common.{arith, rules, ◌∙◌, refl}
+use Rattle.std.proofs.Common.{rules, refl}
 use Rattle.segment_pages.proofs.PageLemmas.{none_left}
 use Rattle.search_engine.proofs.SofarLemmas.{on_err}
 use Rattle.search_engine.proofs.PageLemmas.{pages_first, pages_next, pages_reads, past_end, past_stops}

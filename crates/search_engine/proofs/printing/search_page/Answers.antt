@@ -1,6 +1,4 @@
-use Rattle.std.proofs.Common.{arith, rules}
-use Rattle.search_engine.specs.Held.{named}
-use Rattle.search_engine.specs.Sofar.{sofar}
+use Rattle.std.proofs.Common.{rules}
 use Rattle.std.proofs.lemmas.Result.{err_from_is_err_and}
 use Rattle.search_engine.proofs.SofarLemmas.{on_err}
 use Rattle.search_engine.proofs.RowLemmas.{rows_damaged, rows_end, rows_first, rows_next, rows_ticks}

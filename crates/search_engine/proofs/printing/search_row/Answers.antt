@@ -1,4 +1,4 @@
-use Rattle.std.proofs.Common.{◌≡◌, ◌∙◌, ap₂, drop, length, List, ℕ, rules}
+use Rattle.std.proofs.Common.{◌∙◌, ap₂, drop, List, ℕ, rules}
 use Rattle.column_store.specs.Range.{Holds}
 use Rattle.column_store.specs.Row.{row_of}
 use Rattle.search_engine.proofs.RowLemmas.{has_spelling, outside_passes, row_passes}

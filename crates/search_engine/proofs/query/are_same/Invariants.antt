@@ -1,4 +1,4 @@
-use Rattle.std.proofs.Common.{◌≡◌, ◌<◌, ℕ, get_or, length}
+use Rattle.std.proofs.Common.{◌≡◌, ◌<◌, ℕ, get_or}
 use Rattle.wild_match.specs.declared.pattern.Item.{Item}
 use Rattle.search_engine.proofs.query.are_same.Given as goal
 

@@ -1,11 +1,9 @@
-use Rattle.std.proofs.Common.{◌≡◌, ◌∙◌, sym, ap, subst, rules, refl, length, List, ℕ}
+use Rattle.std.proofs.Common.{◌∙◌, sym, subst, rules, length}
 use Rattle.archive_open.specs.Archive.{shown}
-use Rattle.search_engine.specs.Held.{Named, named}
 use Rattle.search_engine.specs.Opened.{ReadsOpened, Searched, Stopped}
 use Rattle.search_engine.specs.Searched.{HasSearched}
 use Rattle.search_engine.specs.Sofar.{sofar}
 use Rattle.search_engine.proofs.SofarLemmas.{on_err}
-use Rattle.search_engine.proofs.SegmentLemmas.{of_all}
 use Rattle.search_engine.proofs.AsideLemmas.{reads_aside}
 use Rattle.search_engine.proofs.SearchLemmas.{has_searched, has_stopped, knows, last_stopped, of_journal}
 use Rattle.search_engine.proofs.searching.search_archive.Goals as goal

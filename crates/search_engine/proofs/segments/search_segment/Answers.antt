@@ -1,4 +1,4 @@
-use Rattle.std.proofs.Common.{rules, refl, ℕ, arith}
+use Rattle.std.proofs.Common.{rules, refl}
 use Rattle.search_engine.specs.Held.{Named, named}
 use Rattle.search_engine.proofs.SofarLemmas.{on_err}
 use Rattle.search_engine.proofs.SegmentLemmas.{barren_done, columns_read, file_none, first_none, left_none, nothing_read, of_none, open_none, opened_done, opened_stops, rests_none, tells}

@@ -1,4 +1,4 @@
-use Rattle.std.proofs.Common.{rules, refl, arith}
+use Rattle.std.proofs.Common.{rules, refl}
 use Rattle.log_seams.proofs.MomentLemmas.{rests_on}
 use Rattle.search_engine.proofs.SofarLemmas.{on_err}
 use Rattle.search_engine.proofs.RunLemmas.{run_damaged, run_end, run_first, run_next, run_reads, run_stops}
