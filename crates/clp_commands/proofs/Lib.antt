@@ -14,3 +14,4 @@ pub mod ShownLemmas
 pub mod WordLemmas
 pub mod TakenLemmas
 pub mod NameLemmas
+pub mod JoinLemmas
