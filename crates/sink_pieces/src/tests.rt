@@ -15,7 +15,7 @@ fn pieces_go_out_once_they_are_full(rt: HostRuntime) -> Result<(), Fail> {
     assert!(rt; gathered.is_empty() && out.bytes().len() == PIECE);
     gathered.push(9)?;
     assert_eq!(rt; flush(&mut out, &mut gathered), Ok(()));
-    assert_eq!(rt; &out.bytes()[PIECE - 1..], [8u8, 9].as_slice());
+    assert_eq!(rt; out.bytes().get(PIECE - 1..), Some([8u8, 9].as_slice()));
     assert_eq!(rt; write_all(&mut out, b"ab"), Err(Failed));
     Ok(())
 }
