@@ -72,10 +72,12 @@ text_uncounted h es held q stats a r old mid new o0 o1 e0 e1 is s g = record {
   segments = a.segments;
   are_segments = is.segments;
   there = λ e. absurd (cc (e));
-  took = λ f.
-      (lines_of s.found ++ g.0, g.1,
-      text_is h held q stats a.segments r old mid o0 o1 e0 e1 s f ∙ (ap (λ t. lines_of s.found ++ t) g.2 ∙ sym (append_assoc (lines_of s.found) g.0 g.1)),
-      Grew-append old mid new (lines_of s.found) g.0 s.printed g.3);
+  took = λ f. (
+    lines_of s.found ++ g.0,
+    g.1,
+    text_is h held q stats a.segments r old mid o0 o1 e0 e1 s f ∙ (ap (λ t. lines_of s.found ++ t) g.2 ∙ sym (append_assoc (lines_of s.found) g.0 g.1)),
+    Grew-append old mid new (lines_of s.found) g.0 s.printed g.3,
+  );
 }
 
 -- the line of the counts, where it is asked for and where it is not
