@@ -20,7 +20,8 @@ const COUNTS_AT: usize = 13;
 /// Makes a buffer as long as that, where it is not.
 pub(crate) fn grow(buffer: &mut Vec<u8>, size: usize) -> Result<(), AllocError>
     ensures long { OnOk result (size ≤ length buffer.new.items) }
-    ensures kept { OnOk result (take (length buffer.old.items) buffer.new.items ≡ buffer.old.items) }
+    ensures kept { OnOk result
+        (take (length buffer.old.items) buffer.new.items ≡ buffer.old.items) }
 {
     if buffer.len() < size {
         buffer.resize(size, 0)?;

@@ -32,7 +32,8 @@ impl Model for SegmentPages {
 
     ghost view = { λ p. paged p.at p.pages };
 
-    ghost invariant = { λ p. (p.at + payload_size p.pages < 2 ^ 64) × (p.pages.variables < 2 ^ 32) };
+    ghost invariant = { λ p. (p.at + payload_size p.pages < 2 ^ 64)
+        × (p.pages.variables < 2 ^ 32) };
 }
 
 impl SegmentPages {
