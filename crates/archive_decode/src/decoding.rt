@@ -45,17 +45,22 @@ fn write_segments<N: Names, D: Disk, K: Sink, L: Ledger>(
     ensures rests { Rests (D.state disk.old) (D.state disk.new) }
 
     // by the answer
-    ensures ok { OnOk result ((bytes : List ℕ) (messages : List (List ℕ)) → (D.state disk.old).seen ≡ Some bytes
-        → HoldAll (N.types names.now) (N.words names.now) (filter (is_of number) places.now) bytes messages
+    ensures ok { OnOk result
+        ((bytes : List ℕ) (messages : List (List ℕ)) → (D.state disk.old).seen ≡ Some bytes
+        → HoldAll (N.types names.now) (N.words names.now)
+        (filter (is_of number) places.now) bytes messages
         → Adds (K.written out.old) (K.written out.new) lines.old lines.new messages) }
-    ensures err { OnErr result ((bytes : List ℕ) (messages : List (List ℕ)) → (D.state disk.old).seen ≡ Some bytes
-        → HoldAll (N.types names.now) (N.words names.now) (filter (is_of number) places.now) bytes messages
+    ensures err { OnErr result
+        ((bytes : List ℕ) (messages : List (List ℕ)) → (D.state disk.old).seen ≡ Some bytes
+        → HoldAll (N.types names.now) (N.words names.now)
+        (filter (is_of number) places.now) bytes messages
         → AddsFront (K.written out.old) (K.written out.new) lines.old messages) }
 
     // causes
     ensures damaged { (at : ℕ) → IsErrOf result (DecodeRefusal.Damaged at) → (bytes : List ℕ)
         (messages : List (List ℕ)) → (D.state disk.old).seen ≡ Some bytes
-        → ¬ HoldAll (N.types names.now) (N.words names.now) (filter (is_of number) places.now) bytes messages }
+        → ¬ HoldAll (N.types names.now) (N.words names.now)
+        (filter (is_of number) places.now) bytes messages }
     ensures disk { CountsOf DecodeRefusal.DiskFault
         (D.state disk.old).faults (D.state disk.new).faults result }
     ensures sink { CountsOf DecodeRefusal.SinkFault (K.faults out.old) (K.faults out.new) result }

@@ -34,14 +34,17 @@ fn write_page<N: Names, K: Sink, L: Ledger>(
     steps: &mut Steps<L>,
 ) -> Result<(), DecodeRefusal>
     // by the answer
-    ensures ok { OnOk result ((messages : List (List ℕ)) → AreMeant (N.types names.now) (N.words names.now) columns.now.rows messages
+    ensures ok { OnOk result
+        ((messages : List (List ℕ))
+        → AreMeant (N.types names.now) (N.words names.now) columns.now.rows messages
         → Adds (K.written out.old) (K.written out.new) lines.old lines.new messages) }
     ensures err { OnErr result ((messages : List (List ℕ))
         → AreMeant (N.types names.now) (N.words names.now) columns.now.rows messages
         → AddsFront (K.written out.old) (K.written out.new) lines.old messages) }
 
     // causes
-    ensures damaged { (place : ℕ) → IsErrOf result (DecodeRefusal.Damaged place) → (messages : List (List ℕ))
+    ensures damaged { (place : ℕ) → IsErrOf result (DecodeRefusal.Damaged place)
+        → (messages : List (List ℕ))
         → ¬ AreMeant (N.types names.now) (N.words names.now) columns.now.rows messages }
     ensures disk { ¬ IsErrOf result DecodeRefusal.DiskFault }
     ensures sink { CountsOf DecodeRefusal.SinkFault (K.faults out.old) (K.faults out.new) result }
@@ -71,10 +74,12 @@ pub(crate) fn write_segment<N: Names, D: Disk, K: Sink, L: Ledger>(
     ensures rests { Rests (D.state disk.old) (D.state disk.new) }
 
     // by the answer
-    ensures ok { OnOk result ((bytes : List ℕ) (messages : List (List ℕ)) → (D.state disk.old).seen ≡ Some bytes
+    ensures ok { OnOk result
+        ((bytes : List ℕ) (messages : List (List ℕ)) → (D.state disk.old).seen ≡ Some bytes
         → HoldsMessages (N.types names.now) (N.words names.now) place.now bytes messages
         → Adds (K.written out.old) (K.written out.new) lines.old lines.new messages) }
-    ensures err { OnErr result ((bytes : List ℕ) (messages : List (List ℕ)) → (D.state disk.old).seen ≡ Some bytes
+    ensures err { OnErr result
+        ((bytes : List ℕ) (messages : List (List ℕ)) → (D.state disk.old).seen ≡ Some bytes
         → HoldsMessages (N.types names.now) (N.words names.now) place.now bytes messages
         → AddsFront (K.written out.old) (K.written out.new) lines.old messages) }
 

@@ -203,7 +203,8 @@ impl<R: Wait, A: Ledger, B: Ledger, C: Ledger> Namer for LockNamer<'_, '_, R, A,
             slice_get (seen (pass_in self.new.types)) n ≡ Some text.now) }
         ensures full { (book : _) (count : ℕ) → IsErrOf result (name_full book count)
             → (book ≡ Types) × MetLimit (known_of (pass_in self.new.types)) (text.now ∷ []) count
-            × ((known_of (pass_in self.new.types)).added ≡ (known_of (pass_in self.old.types)).added) }
+            × ((known_of (pass_in self.new.types)).added
+            ≡ (known_of (pass_in self.old.types)).added) }
         ensures still { GoesOn (pass_in self.old.types) (pass_in self.new.types) }
     {
         match self.types.name(self.rt, text, &mut self.turns.types) {

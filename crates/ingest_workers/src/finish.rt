@@ -30,7 +30,8 @@ pub(crate) fn seal_last<'d, 'b, D: Disk, R: Wait, A: Ledger, B: Ledger, C: Ledge
     keeper: &mut Pass<'_, Store<'d, 'b, D>>,
 ) -> Outcome
     requires limit { _rows ≤ MAX_ROWS }
-    requires doing { (start : KeeperPass _) × (taken : List (List ℕ)) × (length taken ≤ MAX_MESSAGES)
+    requires doing { (start : KeeperPass _) × (taken : List (List ℕ))
+        × (length taken ≤ MAX_MESSAGES)
         × (ended ≡ false → last_is_open taken ≡ true)
         × Doing D.state _rows start keeper.old namer.old hand.old taken }
     ensures namer { HasOnlySeen namer.old namer.new }
@@ -66,7 +67,8 @@ pub(crate) fn seal_part<'d, 'b, D: Disk, R: Wait, A: Ledger, B: Ledger, C: Ledge
     keeper: &mut Pass<'_, Store<'d, 'b, D>>,
 ) -> Outcome
     requires limit { _rows ≤ MAX_ROWS }
-    requires doing { (start : KeeperPass _) × (taken : List (List ℕ)) × (length taken ≤ MAX_MESSAGES)
+    requires doing { (start : KeeperPass _) × (taken : List (List ℕ))
+        × (length taken ≤ MAX_MESSAGES)
         × Doing D.state _rows start keeper.old namer.old hand.old taken }
     ensures namer { HasOnlySeen namer.old namer.new }
     ensures part { result.whole ≡ false }
@@ -107,7 +109,8 @@ pub(crate) fn finish<'d, 'b, D: Disk, R: Wait, A: Ledger, B: Ledger, C: Ledger>(
     keeper: &mut Pass<'_, Store<'d, 'b, D>>,
 ) -> Outcome
     requires limit { (1 ≤ rows) × (rows ≤ MAX_ROWS) }
-    requires stops { (start : KeeperPass _) × (taken : List (List ℕ)) × (length taken ≤ MAX_MESSAGES)
+    requires stops { (start : KeeperPass _) × (taken : List (List ℕ))
+        × (length taken ≤ MAX_MESSAGES)
         × StopsAt D.state rows start keeper.old namer.old hand.old taken stop }
     ensures namer { HasOnlySeen namer.old namer.new }
     ensures whole { result.whole ≡ true → (ended : Bool) × (stop ≡ Ok ended) }

@@ -78,13 +78,15 @@ pub(crate) trait PassNamer {
         requires within { AreWithin line.now spans.now }
         requires fair { All IsFairWord (texts_at line.now spans.now) }
         ensures others { (version self.new ≡ version self.old) × (types self.new ≡ types self.old) }
-        ensures grown { HasGrown (Contains (texts_at line.now spans.now)) (known_of (words self.old))
+        ensures grown { HasGrown (Contains (texts_at line.now spans.now))
+            (known_of (words self.old))
             (known_of (words self.new)) }
         ensures still { GoesOn (words self.old) (words self.new) }
         ensures named { OnOk result (AreNumbers (seen (words self.new)) numbers.new.items
             (texts_at line.now spans.now)) }
         ensures full { (book : _) (count : ℕ) → IsErrOf result (name_full book count)
-            → (book ≡ Words) × MetLimit (known_of (words self.new)) (texts_at line.now spans.now) count };
+            → (book ≡ Words)
+            × MetLimit (known_of (words self.new)) (texts_at line.now spans.now) count };
 }
 
 impl<R: Wait, A: Ledger, B: Ledger, C: Ledger> PassNamer for LockNamer<'_, '_, R, A, B, C> {
@@ -254,14 +256,17 @@ fn take_by<'n, N: PassNamer, K: Keys>(
 
     // by the answer
     ensures taken { (messages : List (List ℕ)) → HasInHand (N.version lent.entry.namer.now)
-        (seen (N.types lent.entry.namer.now)) (seen (N.words lent.entry.namer.now)) messages hand.old
-        → OnOk result.0 (HasInHand (N.version lent.entry.namer.now) (seen (N.types result.1.namer.now))
+        (seen (N.types lent.entry.namer.now))
+        (seen (N.words lent.entry.namer.now)) messages hand.old
+        → OnOk result.0
+        (HasInHand (N.version lent.entry.namer.now) (seen (N.types result.1.namer.now))
         (seen (N.words result.1.namer.now)) (messages ++ line.now ∷ []) hand.new) }
     ensures pushed { OnOk result.0 ((row : Row)
         × (hand.new.draft.columns.rows ≡ hand.old.draft.columns.rows ++ row ∷ [])) }
     ensures kept { (cause : _) → IsErrOf result.0 (Part cause) → SameRows hand.old hand.new }
     ensures full { (book : _) (count : ℕ) → IsErrOf result.0 (Part (Full book count))
-        → MeetsLimit (N.version lent.entry.namer.now) line.now book count (known_of (N.types result.1.namer.now))
+        → MeetsLimit (N.version lent.entry.namer.now) line.now book count
+        (known_of (N.types result.1.namer.now))
         (known_of (N.words lent.entry.namer.now)) (known_of (N.words result.1.namer.now)) }
 {
     let mut kept = keep::<N, K>(lent);

@@ -34,7 +34,8 @@ pub(crate) fn take_one<'d, 'b, D: Disk, R: Wait, A: Ledger, B: Ledger, C: Ledger
 ) -> Result<(), Stop>
     requires limit { rows ≤ MAX_ROWS }
     requires message { IsMessage namer.old.version line.now }
-    requires doing { (start : KeeperPass _) × (taken : List (List ℕ)) × (length taken < MAX_MESSAGES)
+    requires doing { (start : KeeperPass _) × (taken : List (List ℕ))
+        × (length taken < MAX_MESSAGES)
         × Doing D.state rows start keeper.old namer.old hand.old taken }
 
     // what the namer has learned

@@ -53,7 +53,8 @@ fn are_files(words: &[String]) -> bool
 /// given, there is 1 worker, and a segment has up to 65,536 rows.
 pub fn read_ingest(words: &[String]) -> Option<IngestWords<'_>>
     ensures asked { IfSome result (λ r.
-        AsksIngest (map string_bytes words.now) r.workers r.segment (map string_bytes r.files.now)) }
+        AsksIngest (map string_bytes words.now) r.workers r.segment
+        (map string_bytes r.files.now)) }
     ensures all { (workers segment : ℕ) (files : List (List ℕ))
         → AsksIngest (map string_bytes words.now) workers segment files
         → IsSomeAnd result (λ r. (r.workers ≡ workers) × (r.segment ≡ segment)
