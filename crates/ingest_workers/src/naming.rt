@@ -245,7 +245,8 @@ fn take_by<'n, N: PassNamer, K: Keys>(
     ensures version { N.version result.1.namer.now ≡ N.version lent.entry.namer.now }
     ensures locks { (lock_of (N.types result.1.namer.now) ≡ lock_of (N.types lent.entry.namer.now))
         × (lock_of (N.words result.1.namer.now) ≡ lock_of (N.words lent.entry.namer.now)) }
-    ensures numbers { (number_of (N.types result.1.namer.now) ≡ number_of (N.types lent.entry.namer.now))
+    ensures numbers { (number_of (N.types result.1.namer.now)
+        ≡ number_of (N.types lent.entry.namer.now))
         × (number_of (N.words result.1.namer.now) ≡ number_of (N.words lent.entry.namer.now)) }
     ensures abouts { (about (N.types result.1.namer.now) ≡ about (N.types lent.entry.namer.now))
         × (about (N.words result.1.namer.now) ≡ about (N.words lent.entry.namer.now)) }
