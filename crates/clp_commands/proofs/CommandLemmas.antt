@@ -5,7 +5,7 @@ use Rattle.wild_match.specs.Reading.{IsLoneBackslash, IsSearchPattern}
 use Rattle.wild_match.specs.declared.pattern.Item.{Item}
 use Rattle.record_format.specs.declared.header.Header.{Header}
 use Rattle.log_seams.specs.Disk.{DiskState}
-use Rattle.option_words.specs.Asked.{AsksSearch}
+use Rattle.option_words.specs.Asked.{AsksIngest, AsksSearch}
 use Rattle.search_engine.specs.Searched.{asked}
 use Rattle.clp_commands.specs.Searching.{AnswersSearch}
 use Rattle.clp_commands.specs.Around.{Around}
@@ -16,6 +16,7 @@ use Rattle.clp_commands.specs.Answers.{Answers, AnswersCreate, AnswersLog, Refus
 use Rattle.clp_commands.specs.Counted.{AnswersCheck}
 use Rattle.clp_commands.specs.Decoding.{AnswersDecode}
 use Rattle.clp_commands.specs.Directory.{AnswersFiles}
+use Rattle.clp_commands.specs.IngestPrints.{PrintsIngest}
 use Rattle.clp_commands.specs.declared.refusal.Refusal.TheVariants.{Usage}
 
 -- words whose first one is that of another command
@@ -27,6 +28,7 @@ record Others (words : List (List ℕ)) (first : List ℕ) : Type 0 where
   pub check : first ≢ codes "check" → ¬ AsksCheck words
   pub decode : first ≢ codes "decode" → (number : ℕ) → ¬ AsksDecode words number
   pub search : first ≢ codes "search" → (from to : Option ℤ) (stats : Bool) (workers : ℕ) (pattern : List ℕ) → ¬ AsksSearch words from to stats workers pattern
+  pub ingest : first ≢ codes "ingest" → (workers segment : ℕ) (files : List (List ℕ)) → ¬ AsksIngest words workers segment files
 
 same_first : {words : List (List ℕ)} {a b : List ℕ} {xs ys : List (List ℕ)} → words ≡ a ∷ xs → words ≡ b ∷ ys → a ≡ b
 same_first p q = let both = sym p ∙ q in cc
@@ -40,6 +42,7 @@ others words first rest e = record {
   check = λ other asks. other (same_first e asks);
   decode = λ other number asks. other (same_first e asks.are);
   search = λ other from to stats workers pattern asks. other (same_first e asks.are);
+  ingest = λ other workers segment files asks. other (same_first e asks.are);
 }
 
 -- the words of the commands differ
@@ -106,6 +109,27 @@ check_search e = omega (arith, ap (λ w. get_or w 0 0) e)
 decode_search : codes "decode" ≢ codes "search"
 decode_search e = omega (arith, ap (λ w. get_or w 0 0) e)
 
+show_ingest : codes "show" ≢ codes "ingest"
+show_ingest e = omega (arith, ap (λ w. get_or w 0 0) e)
+
+scan_ingest : codes "scan" ≢ codes "ingest"
+scan_ingest e = omega (arith, ap (λ w. get_or w 0 0) e)
+
+create_ingest : codes "create" ≢ codes "ingest"
+create_ingest e = omega (arith, ap (λ w. get_or w 0 0) e)
+
+files_ingest : codes "files" ≢ codes "ingest"
+files_ingest e = omega (arith, ap (λ w. get_or w 0 0) e)
+
+check_ingest : codes "check" ≢ codes "ingest"
+check_ingest e = omega (arith, ap (λ w. get_or w 0 0) e)
+
+decode_ingest : codes "decode" ≢ codes "ingest"
+decode_ingest e = omega (arith, ap (λ w. get_or w 0 0) e)
+
+search_ingest : codes "search" ≢ codes "ingest"
+search_ingest e = omega (arith, ap (λ w. get_or w 0 0) e)
+
 pub Answers-show : (words : List (List ℕ)) (seen : Around) (old new : DiskState) (status : ℕ) (file : List ℕ) → AsksShow words file → AnswersLog (λ _ message text. Shows message text) seen file status → Answers words seen old new status
 Answers-show words seen old new status file asks answers =
     let other = others words (codes "show") (file ∷ []) asks.are in
@@ -120,6 +144,7 @@ Answers-show words seen old new status file asks answers =
       decode = λ n a. absurd (other.decode show_decode n a);
       bad_search = λ f t st w p at a _. absurd (other.search show_search f t st w p a);
       search = λ f t st w p items a _. absurd (other.search show_search f t st w p a);
+      ingest = λ w r fs a. absurd (other.ingest show_ingest w r fs a);
     }
   where
     same_file : (f : List ℕ) → words ≡ codes "show" ∷ f ∷ [] → f ≡ file
@@ -139,6 +164,7 @@ Answers-scan words seen old new status pattern file asks lone good =
       decode = λ n a. absurd (other.decode scan_decode n a);
       bad_search = λ f t st w p at a _. absurd (other.search scan_search f t st w p a);
       search = λ f t st w p items a _. absurd (other.search scan_search f t st w p a);
+      ingest = λ w r fs a. absurd (other.ingest scan_ingest w r fs a);
     }
   where
     same_pattern : (p f : List ℕ) → words ≡ codes "scan" ∷ p ∷ f ∷ [] → p ≡ pattern
@@ -162,6 +188,7 @@ Answers-create words seen old new status header asks one answers =
       decode = λ n a. absurd (other.decode create_decode n a);
       bad_search = λ f t st w p at a _. absurd (other.search create_search f t st w p a);
       search = λ f t st w p items a _. absurd (other.search create_search f t st w p a);
+      ingest = λ w r fs a. absurd (other.ingest create_ingest w r fs a);
     }
 
 pub Answers-files : (words : List (List ℕ)) (seen : Around) (old new : DiskState) (status : ℕ) → AsksFiles words → AnswersFiles seen old new status → Answers words seen old new status
@@ -178,6 +205,7 @@ Answers-files words seen old new status asks answers =
       decode = λ n a. absurd (other.decode files_decode n a);
       bad_search = λ f t st w p at a _. absurd (other.search files_search f t st w p a);
       search = λ f t st w p items a _. absurd (other.search files_search f t st w p a);
+      ingest = λ w r fs a. absurd (other.ingest files_ingest w r fs a);
     }
 
 pub Answers-check : (words : List (List ℕ)) (seen : Around) (old new : DiskState) (status : ℕ) → AsksCheck words → AnswersCheck seen old new status → Answers words seen old new status
@@ -194,6 +222,7 @@ Answers-check words seen old new status asks answers =
       decode = λ n a. absurd (other.decode check_decode n a);
       bad_search = λ f t st w p at a _. absurd (other.search check_search f t st w p a);
       search = λ f t st w p items a _. absurd (other.search check_search f t st w p a);
+      ingest = λ w r fs a. absurd (other.ingest check_ingest w r fs a);
     }
 
 -- words that ask to decode ask for one number alone
@@ -211,6 +240,7 @@ Answers-decode words seen old new status number asks one answers =
       decode = λ n a. subst (λ x. AnswersDecode x seen old new status) (sym (one n a)) answers;
       bad_search = λ f t st w p at a _. absurd (other.search decode_search f t st w p a);
       search = λ f t st w p items a _. absurd (other.search decode_search f t st w p a);
+      ingest = λ w r fs a. absurd (other.ingest decode_ingest w r fs a);
     }
 
 -- words that ask to search ask for one search alone
@@ -236,6 +266,7 @@ Answers-search words seen old new status from to stats workers pattern asks one 
           (subst (λ (x : Option ℤ). AnswersSearch (asked items (record { from = from; to = x })) st seen old new status) e.1
           (subst (λ (x : Bool). AnswersSearch (asked items (record { from = from; to = to })) x seen old new status) e.2
           (good items (subst (λ x. IsSearchPattern x items) (sym e.4) is))));
+      ingest = λ w r fs a. absurd (other.ingest search_ingest w r fs a);
     }
 
 -- words that ask for no command
@@ -251,4 +282,25 @@ Answers-usage words seen old new status none refuses = record {
   decode = λ n a. absurd (none.no_decode n a);
   bad_search = λ f t st w p at a _. absurd (none.no_search f t st w p a);
   search = λ f t st w p items a _. absurd (none.no_search f t st w p a);
+  ingest = λ w r fs a. absurd (none.no_ingest w r fs a);
 }
+
+-- words that ask to ingest ask for one ingest alone
+pub Answers-ingest : (words : List (List ℕ)) (seen : Around) (old new : DiskState) (status workers segment : ℕ) (files : List (List ℕ)) → AsksIngest words workers segment files
+    → ((w r : ℕ) (fs : List (List ℕ)) → AsksIngest words w r fs → (workers ≡ w) × (segment ≡ r) × (files ≡ fs))
+    → PrintsIngest files seen status → Answers words seen old new status
+Answers-ingest words seen old new status workers segment files asks one answers =
+    let other = others words (codes "ingest") asks.options asks.are in
+    record {
+      usage = λ u. absurd (u.no_ingest workers segment files asks);
+      show = λ f a. absurd (other.show (λ e. show_ingest (sym e)) f a);
+      lone_backslash = λ p f at a l. absurd (other.scan (λ e. scan_ingest (sym e)) p f a);
+      scan = λ p f items a _. absurd (other.scan (λ e. scan_ingest (sym e)) p f a);
+      create = λ h a. absurd (other.create (λ e. create_ingest (sym e)) h a);
+      files = λ a. absurd (other.files (λ e. files_ingest (sym e)) a);
+      check = λ a. absurd (other.check (λ e. check_ingest (sym e)) a);
+      decode = λ n a. absurd (other.decode (λ e. decode_ingest (sym e)) n a);
+      bad_search = λ f t st w p at a _. absurd (other.search (λ e. search_ingest (sym e)) f t st w p a);
+      search = λ f t st w p items a _. absurd (other.search (λ e. search_ingest (sym e)) f t st w p a);
+      ingest = λ w r fs a. subst (λ x. PrintsIngest x seen status) (one w r fs a).2 answers;
+    }

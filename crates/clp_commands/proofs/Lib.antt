@@ -1,4 +1,5 @@
 pub mod AnswerLemmas
+pub mod AppendLemmas
 pub mod CommandLemmas
 pub mod CompleteLemmas
 pub mod CutterLemmas

@@ -7,7 +7,7 @@ use Rattle.std.proofs.lemmas.List.{take_all}
 use Rattle.record_format.specs.declared.header.Header.{Header}
 use Rattle.archive_limits.specs.Limits.{AsksLimits}
 use Rattle.std.specs.Fmt.{decimal}
-use Rattle.option_words.specs.Asked.{AsksSearch}
+use Rattle.option_words.specs.Asked.{AsksIngest, AsksSearch}
 use Rattle.clp_commands.specs.declared.words.Command.{Command}
 use Rattle.clp_commands.specs.Words.{AsksCheck, AsksCreate, AsksDecode, AsksFiles, AsksScan, AsksShow, IsUsage}
 
@@ -77,7 +77,7 @@ AsksDecode-from words text (Some n) are prints fits = record { are = are ∙ ap 
 
 -- words that are of no command's form
 pub usage_from : (words : List (List ℕ)) (r : Option Command) → ((h : Header) → ¬ AsksCreate words h) → ((n : ℕ) → ¬ AsksDecode words n)
-    → ((from to : Option ℤ) (stats : Bool) (workers : ℕ) (pattern : List ℕ) → ¬ AsksSearch words from to stats workers pattern) → ¬ AsksFiles words → ¬ AsksCheck words
+    → ((from to : Option ℤ) (stats : Bool) (workers : ℕ) (pattern : List ℕ) → ¬ AsksSearch words from to stats workers pattern) → ((workers segment : ℕ) (files : List (List ℕ)) → ¬ AsksIngest words workers segment files) → ¬ AsksFiles words → ¬ AsksCheck words
     → IfNone r ((file : List ℕ) → ¬ AsksShow words file) → IfNone r ((pattern file : List ℕ) → ¬ AsksScan words pattern file) → IfNone r (IsUsage words)
-usage_from words None create decode search files check show scan = record { no_show = show; no_scan = scan; no_create = create; no_files = files; no_check = check; no_decode = decode; no_search = search }
-usage_from words (Some command) create decode search files check show scan = tt
+usage_from words None create decode search ingest files check show scan = record { no_show = show; no_scan = scan; no_create = create; no_files = files; no_check = check; no_decode = decode; no_search = search; no_ingest = ingest }
+usage_from words (Some command) create decode search ingest files check show scan = tt

@@ -5,8 +5,10 @@ pub mod Directory
 pub mod Decoding
 pub mod Ending
 pub mod Going
+pub mod IngestPrints
 pub mod Ingested
 pub mod Names
+pub mod Naming
 pub mod Outcome
 pub mod Printing
 pub mod Reading

@@ -7,6 +7,8 @@ use Rattle.wild_match.specs.declared.read.PatternRefusal.TheVariants.{BadPattern
 use Rattle.clp_commands.specs.declared.outcome.LogRefusal.{LogRefusal}
 use Rattle.clp_commands.specs.declared.outcome.LogRefusal.TheVariants.{OpenFault as LogOpenFault, ReadFault as LogReadFault, LineTooLong as LogLineTooLong, TooManyLines as LogTooManyLines, SinkFault as LogSinkFault, OutOfMemory as LogOutOfMemory}
 use Rattle.archive_open.specs.declared.refusal.ArchiveRefusal.{ArchiveRefusal}
+use Rattle.disk_journal.specs.declared.refusals.StartRefusal.{StartRefusal}
+use Rattle.disk_seal.specs.declared.files.RegisterRefusal.{RegisterRefusal}
 use Rattle.archive_check.specs.declared.checking.CheckRefusal.{CheckRefusal}
 use Rattle.sink_pieces.specs.declared.refusal.PrintRefusal.{PrintRefusal}
 use Rattle.archive_decode.specs.declared.refusal.DecodeRefusal.{DecodeRefusal}
@@ -14,7 +16,7 @@ use Rattle.search_engine.specs.declared.refusal.SearchRefusal.{SearchRefusal}
 use Rattle.clp_commands.specs.declared.outcome.FileRefusal.{FileRefusal}
 use Rattle.clp_commands.specs.declared.outcome.ReadRefusal.{ReadRefusal}
 use Rattle.clp_commands.specs.declared.refusal.Refusal.{Refusal}
-use Rattle.clp_commands.specs.declared.refusal.Refusal.TheVariants.{BadPattern, OpenFault, ReadFault, LineTooLong, TooManyLines, DiskFault, Damaged, SinkFault, NotEmpty, NoSuchFile, OutOfMemory}
+use Rattle.clp_commands.specs.declared.refusal.Refusal.TheVariants.{BadPattern, OpenFault, ReadFault, LineTooLong, TooManyLines, DiskFault, Damaged, SinkFault, NotEmpty, NoSuchFile, OutOfMemory, ArchiveFull}
 
 -- the answer of a call that may refuse, where no refusal is `None`
 abbrev pub answer_of : {E : Type 0} → Result Unit E → Option E
@@ -88,3 +90,18 @@ from_decode DecodeRefusal.DiskFault = FileRefusal.DiskFault
 from_decode (DecodeRefusal.Damaged at) = FileRefusal.Damaged at
 from_decode DecodeRefusal.SinkFault = FileRefusal.SinkFault
 from_decode DecodeRefusal.OutOfMemory = FileRefusal.OutOfMemory
+
+-- of what comes before logs are taken in: the reading of the header, the opening, and the naming of the files
+abbrev pub of_start : StartRefusal → Refusal
+of_start StartRefusal.DiskFault = DiskFault
+of_start (StartRefusal.Damaged at) = Damaged at
+
+abbrev pub of_archive : ArchiveRefusal → Refusal
+of_archive ArchiveRefusal.DiskFault = DiskFault
+of_archive (ArchiveRefusal.Damaged at) = Damaged at
+of_archive ArchiveRefusal.OutOfMemory = OutOfMemory
+
+abbrev pub of_register : RegisterRefusal → Refusal
+of_register RegisterRefusal.OutOfMemory = OutOfMemory
+of_register (RegisterRefusal.ArchiveFull end need) = ArchiveFull end need
+of_register RegisterRefusal.DiskFault = DiskFault

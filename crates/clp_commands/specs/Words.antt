@@ -1,10 +1,10 @@
 -- What the words of the command line ask for. The first word is the command.
-use Rattle.std.specs.Prelude.{◌≡◌, ◌≢◌, ◌<◌, ◌^◌, ℕ, ℤ, Bool, List, [], ◌∷◌, Option, codes}
+use Rattle.std.specs.Prelude.{◌≡◌, ◌≢◌, ◌<◌, ◌^◌, ℕ, ℤ, Bool, List, [], ◌∷◌, Option, codes, map, string_bytes}
 use Rattle.std.specs.Fmt.{decimal}
 use Rattle.clp_commands.specs.declared.words.Command.{Command}
-use Rattle.clp_commands.specs.declared.words.Command.TheVariants.{Show, Scan, Create, Files, Check, Decode, Search}
+use Rattle.clp_commands.specs.declared.words.Command.TheVariants.{Show, Scan, Create, Files, Check, Decode, Search, Ingest}
 use Rattle.archive_limits.specs.Limits.{AsksLimits}
-use Rattle.option_words.specs.Asked.{AsksSearch}
+use Rattle.option_words.specs.Asked.{AsksIngest, AsksSearch}
 use Rattle.record_format.specs.Header.{IsHeader}
 use Rattle.record_format.specs.declared.header.Header.{Header}
 
@@ -52,6 +52,7 @@ Asks words Files = AsksFiles words
 Asks words Check = AsksCheck words
 Asks words (Decode number) = AsksDecode words number
 Asks words (Search s) = AsksSearch words s.from s.to s.stats s.workers s.pattern.now
+Asks words (Ingest a) = AsksIngest words a.workers a.segment (map string_bytes a.files.now)
 
 -- the command is a search with these options and this pattern
 abbrev pub IsSearchOf : Option ℤ → Option ℤ → Bool → ℕ → List ℕ → Command → Type 0
@@ -62,6 +63,18 @@ IsSearchOf from to stats workers pattern Files = ⊥
 IsSearchOf from to stats workers pattern Check = ⊥
 IsSearchOf from to stats workers pattern (Decode number) = ⊥
 IsSearchOf from to stats workers pattern (Search s) = (s.from ≡ from) × (s.to ≡ to) × (s.stats ≡ stats) × (s.workers ≡ workers) × (s.pattern.now ≡ pattern)
+IsSearchOf from to stats workers pattern (Ingest a) = ⊥
+
+-- the command is an ingest with these options, of these files
+abbrev pub IsIngestOf : ℕ → ℕ → List (List ℕ) → Command → Type 0
+IsIngestOf workers segment files (Show file) = ⊥
+IsIngestOf workers segment files (Scan searched file) = ⊥
+IsIngestOf workers segment files (Create header) = ⊥
+IsIngestOf workers segment files Files = ⊥
+IsIngestOf workers segment files Check = ⊥
+IsIngestOf workers segment files (Decode number) = ⊥
+IsIngestOf workers segment files (Search s) = ⊥
+IsIngestOf workers segment files (Ingest a) = (a.workers ≡ workers) × (a.segment ≡ segment) × (map string_bytes a.files.now ≡ files)
 
 -- a header that a command has keeps to the ranges of headers
 abbrev pub HasHeader : Command → Type 0
@@ -72,6 +85,7 @@ HasHeader Files = Unit {0}
 HasHeader Check = Unit {0}
 HasHeader (Decode number) = Unit {0}
 HasHeader (Search s) = Unit {0}
+HasHeader (Ingest a) = Unit {0}
 
 -- the words ask for no command
 pub record IsUsage (words : List (List ℕ)) : Type 0 where
@@ -82,6 +96,7 @@ pub record IsUsage (words : List (List ℕ)) : Type 0 where
   pub no_check : ¬ AsksCheck words
   pub no_decode : (number : ℕ) → ¬ AsksDecode words number
   pub no_search : (from to : Option ℤ) (stats : Bool) (workers : ℕ) (pattern : List ℕ) → ¬ AsksSearch words from to stats workers pattern
+  pub no_ingest : (workers segment : ℕ) (files : List (List ℕ)) → ¬ AsksIngest words workers segment files
 
 -- the words ask for no command that works on the archive
 pub record AskNoArchive (words : List (List ℕ)) : Type 0 where
@@ -90,3 +105,4 @@ pub record AskNoArchive (words : List (List ℕ)) : Type 0 where
   pub no_check : ¬ AsksCheck words
   pub no_decode : (number : ℕ) → ¬ AsksDecode words number
   pub no_search : (from to : Option ℤ) (stats : Bool) (workers : ℕ) (pattern : List ℕ) → ¬ AsksSearch words from to stats workers pattern
+  pub no_ingest : (workers segment : ℕ) (files : List (List ℕ)) → ¬ AsksIngest words workers segment files

@@ -4,6 +4,7 @@
 //! refusal its cause.
 #![tactic(auto)]
 
+mod append;
 mod check;
 #[cfg(test)]
 mod create_tests;
@@ -11,6 +12,7 @@ mod create_tests;
 mod directory_tests;
 mod file;
 mod files;
+mod ingest;
 mod log;
 mod names;
 mod outcome;

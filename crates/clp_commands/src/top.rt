@@ -10,11 +10,13 @@ ghost use Rattle.clp_commands.specs.Going.{DiskGoesOn, OutsideGoesOn};
 ghost use Rattle.clp_commands.specs.Refusal.{Says};
 ghost use Rattle.clp_commands.specs.Scanned.{Finds};
 ghost use Rattle.clp_commands.specs.Words.{AskNoArchive, AsksCreate};
+ghost use Rattle.option_words.specs.Asked.{AsksIngest};
 ghost use Rattle.log_seams.specs.Disk.{KeepsBytes};
 
 use crate::check::check;
 use crate::file::decode_file;
 use crate::files::files;
+use crate::ingest::ingest_files;
 use crate::log::print_log;
 use crate::outcome::{
     refusal_of_create, refusal_of_file, refusal_of_log, refusal_of_pattern, refusal_of_read,
@@ -31,6 +33,8 @@ use disk_journal::create;
 use log_seams::{Shelf, Sink};
 use query_plan::wide_is_wider;
 use std::alloc::Global;
+use std::sync::Wait;
+use std::thread::Threads;
 use wild_match::{Matcher, PatternRefusal, read_pattern};
 
 /// Does what the words ask for, and answers the status that the program ends with.
@@ -42,10 +46,10 @@ use wild_match::{Matcher, PatternRefusal, read_pattern};
 /// archive is legal, and prints what it has. `search` with its options prints the messages of the
 /// archive that a pattern matches, as `scan` prints those of a log. A refusal has its line on `err`.
 ///
-/// `disk` is the archive's. `rt` starts the threads of the commands that work with several, and
-/// `second` is the disk beside the archive's for those that write a new one; no command here needs
-/// either yet.
-pub fn run<R, H: Shelf, D: Telling + Send, K: Sink>(
+/// `ingest` adds logs to the archive, and prints of each what `files` prints. `disk` is the archive's.
+/// `rt` starts the threads of `ingest`. `second` is the disk beside the archive's for commands that
+/// write a new one; no command here needs it yet.
+pub fn run<R: Threads + Wait + Sync, H: Shelf, D: Telling + Send, K: Sink>(
     rt: &R,
     alloc: Global,
     words: &[String],
@@ -72,6 +76,8 @@ where
     // what stays
     ensures logs { (name : List ℕ) → H.content shelf.new name ≡ H.content shelf.old name }
     ensures keeps { ((header : Header) → ¬ AsksCreate (map string_bytes words.now) header)
+        → ((workers segment : ℕ) (files : List (List ℕ))
+        → ¬ AsksIngest (map string_bytes words.now) workers segment files)
         → KeepsBytes (D.state disk.old) (D.state disk.new) }
     ensures untouched { AskNoArchive (map string_bytes words.now) → disk.new ≡ disk.old }
     ensures second { second.new ≡ second.old }
@@ -110,6 +116,7 @@ where
             }
             Err(refusal) => report(err, "", refusal_of_pattern(refusal)),
         },
+        Command::Ingest { asked } => ingest_files(rt, alloc, asked, shelf, disk, out, err),
     }
 }
 

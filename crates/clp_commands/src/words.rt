@@ -1,13 +1,13 @@
 //! What the words of the command line ask for.
 ghost use Rattle.std.specs.Prelude.{◌≡◌, ◌<◌, ◌^◌, ◌↔◌, ℕ, ℤ, Bool, List, Option, Some, map, string_bytes, IfSome, IfNone, IsSomeAnd, IsTrue};
 ghost use Rattle.std.specs.Fmt.{decimal};
-ghost use Rattle.clp_commands.specs.Words.{Asks, AsksCheck, AsksCreate, AsksDecode, AsksFiles, AsksScan, AsksShow, HasHeader, IsPlain, IsSearchOf, IsUsage};
-ghost use Rattle.option_words.specs.Asked.{AsksSearch};
+ghost use Rattle.clp_commands.specs.Words.{Asks, AsksCheck, AsksCreate, AsksDecode, AsksFiles, AsksScan, AsksShow, HasHeader, IsIngestOf, IsPlain, IsSearchOf, IsUsage};
+ghost use Rattle.option_words.specs.Asked.{AsksIngest, AsksSearch};
 ghost use Rattle.record_format.specs.Header.{IsHeader};
 ghost use Rattle.record_format.specs.declared.header.Header.{Header};
 
 use archive_limits::read_limits;
-use option_words::{SearchWords, read_search};
+use option_words::{IngestWords, SearchWords, read_ingest, read_search};
 use record_format::Header;
 use var_codec::{Coded, encode};
 
@@ -28,6 +28,8 @@ pub(crate) enum Command<'a> {
     Decode { number: u32 },
     /// `search [--from MS] [--to MS] [--stats] [--workers W] PATTERN`
     Search { asked: SearchWords<'a> },
+    /// `ingest [--workers W] [--segment R] FILE...`
+    Ingest { asked: IngestWords<'a> },
 }
 
 /// Whether a word is no option, since it does not begin with `-`.
@@ -124,7 +126,8 @@ fn read_log(words: &[String]) -> Option<Command<'_>>
 /// Reads the words. `None` comes exactly where they are not of the form of a command.
 ///
 /// The first word is the command. The options of `create` follow it, or the words of `show` and
-/// `scan`, or the number of a file behind `decode`, or the options and the pattern of `search`.
+/// `scan`, or the number of a file behind `decode`, or the options and the pattern of `search`, or
+/// the options and the files of `ingest`.
 /// Nothing follows `files` and `check`.
 pub(crate) fn read_words(words: &[String]) -> Option<Command<'_>>
     ensures some { IfSome result (Asks (map string_bytes words.now)) }
@@ -136,6 +139,9 @@ pub(crate) fn read_words(words: &[String]) -> Option<Command<'_>>
     ensures search { (from to : Option ℤ) (stats : Bool) (workers : ℕ) (pattern : List ℕ)
         → AsksSearch (map string_bytes words.now) from to stats workers pattern
         → IsSomeAnd result (IsSearchOf from to stats workers pattern) }
+    ensures ingest { (workers segment : ℕ) (files : List (List ℕ))
+        → AsksIngest (map string_bytes words.now) workers segment files
+        → IsSomeAnd result (IsIngestOf workers segment files) }
     ensures none { IfNone result (IsUsage (map string_bytes words.now)) }
 {
     if let Some(header) = read_create(words) {
@@ -146,6 +152,9 @@ pub(crate) fn read_words(words: &[String]) -> Option<Command<'_>>
     }
     if let Some(asked) = read_search(words) {
         return Some(Command::Search { asked });
+    }
+    if let Some(asked) = read_ingest(words) {
+        return Some(Command::Ingest { asked });
     }
     if let Some(command) = read_alone(words) {
         return Some(command);

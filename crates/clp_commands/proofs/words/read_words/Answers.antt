@@ -12,5 +12,8 @@ returns-clause-search c = λ f t st w p asks. absurd (c.in_default-read_search.e
 
 pub returns-clause-none : goal.returns-clause-none
 returns-clause-none c =
-    usage_from _ c.read_log.result c.in_default.ensures.none (λ n asks. let e = c.in_default-read_decode.ensures.all n asks in absurd (cc (e))) c.in_default-read_search.ensures.all
+    usage_from _ c.read_log.result c.in_default.ensures.none (λ n asks. let e = c.in_default-read_decode.ensures.all n asks in absurd (cc (e))) c.in_default-read_search.ensures.all c.in_default-read_ingest.ensures.all
     c.in_default-read_alone.ensures.no_files c.in_default-read_alone.ensures.no_check c.read_log.ensures.no_show c.read_log.ensures.no_scan
+
+pub returns-clause-ingest : goal.returns-clause-ingest
+returns-clause-ingest c = λ w r fs asks. absurd (c.in_default-read_ingest.ensures.all w r fs asks)

@@ -1,0 +1,131 @@
+//! Opening an archive, and naming the files that are added to it.
+ghost use Rattle.std.specs.Prelude.{◌≡◌, ◌≤◌, length, map, string_bytes, IfOk, IfSome, None};
+ghost use Rattle.disk_journal.specs.Journal.{state_of};
+ghost use Rattle.disk_journal.specs.State.{BeginsWith, IsAtFirst};
+ghost use Rattle.clp_commands.specs.Going.{DiskGoesOn};
+ghost use Rattle.clp_commands.specs.Names.{RefusesNames};
+ghost use Rattle.clp_commands.specs.Naming.{IsNamed};
+ghost use Rattle.clp_commands.specs.Outcome.{of_read, of_register, of_start, of_archive};
+ghost use Rattle.clp_commands.specs.Reading.{IsArchive};
+ghost use Rattle.clp_commands.specs.declared.refusal.Refusal.TheVariants.{OutOfMemory};
+
+use crate::names::refuse_more;
+use crate::outcome::ReadRefusal;
+use crate::refusal::Refusal;
+use archive_core::Books;
+use archive_open::{Archive, ArchiveRefusal, open_for_append};
+use dict_core::Book;
+use disk_journal::{Journal, StartRefusal};
+use disk_seal::{RegisterRefusal, register};
+use log_seams::{Disk, Text, TextList};
+use std::alloc::{AllocError, Global};
+
+/// An archive that was opened, and in which new files have their names.
+#[derive(Drop)]
+pub(crate) struct Named {
+    /// The texts of log types.
+    pub(crate) types: Book,
+    /// The words of variables.
+    pub(crate) words: Book,
+    /// The number of the first new file.
+    pub(crate) first: u32,
+}
+
+impl From<AllocError> for Refusal {
+    ghost from_gives = { λ _ e. e ≡ OutOfMemory };
+
+    fn from(_: AllocError) -> Self {
+        Refusal::OutOfMemory
+    }
+}
+
+impl From<StartRefusal> for Refusal {
+    ghost from_gives = { λ r e. e ≡ of_start r };
+
+    fn from(refusal: StartRefusal) -> Self {
+        match refusal {
+            StartRefusal::DiskFault => Refusal::DiskFault,
+            StartRefusal::Damaged { at } => Refusal::Damaged { at },
+        }
+    }
+}
+
+impl From<ArchiveRefusal> for Refusal {
+    ghost from_gives = { λ r e. e ≡ of_archive r };
+
+    fn from(refusal: ArchiveRefusal) -> Self {
+        match refusal {
+            ArchiveRefusal::DiskFault => Refusal::DiskFault,
+            ArchiveRefusal::Damaged { at } => Refusal::Damaged { at },
+            ArchiveRefusal::OutOfMemory => Refusal::OutOfMemory,
+        }
+    }
+}
+
+impl From<RegisterRefusal> for Refusal {
+    ghost from_gives = { λ r e. e ≡ of_register r };
+
+    fn from(refusal: RegisterRefusal) -> Self {
+        match refusal {
+            RegisterRefusal::OutOfMemory => Refusal::OutOfMemory,
+            RegisterRefusal::ArchiveFull { end, need } => Refusal::ArchiveFull { end, need },
+            RegisterRefusal::DiskFault => Refusal::DiskFault,
+        }
+    }
+}
+
+impl From<ReadRefusal> for Refusal {
+    ghost from_gives = { λ r e. e ≡ of_read r };
+
+    fn from(refusal: ReadRefusal) -> Self {
+        match refusal {
+            ReadRefusal::DiskFault => Refusal::DiskFault,
+            ReadRefusal::Damaged { at } => Refusal::Damaged { at },
+            ReadRefusal::SinkFault => Refusal::SinkFault,
+            ReadRefusal::OutOfMemory => Refusal::OutOfMemory,
+        }
+    }
+}
+
+/// The names as texts.
+fn texts_of(alloc: Global, names: &[String]) -> Result<TextList, AllocError>
+    ensures { IfOk result (λ texts. texts ≡ map string_bytes names.now) }
+{
+    let mut texts = Vec::with_capacity(alloc, names.len())?;
+    for name in names {
+        let bytes = Vec::from_slice(alloc, name.as_bytes())?;
+        texts.push_reserved(Text::new(bytes));
+    }
+    Ok(TextList::new(texts))
+}
+
+/// Opens the archive of a journal before its first record, and appends the names of new files.
+pub(crate) fn open_and_name<D: Disk>(
+    alloc: Global,
+    journal: &mut Journal<'_, D>,
+    names: &[String],
+) -> Result<Named, Refusal>
+    requires first { IsAtFirst (state_of journal.old) }
+    requires begins { BeginsWith journal.old.header (D.state journal.old.disk.now) }
+    requires archive { IfSome (D.state journal.old.disk.now).seen IsArchive }
+    requires names { RefusesNames (map string_bytes names.now) None }
+    requires some { 1 ≤ length names.now }
+    ensures name { journal.new.disk.ghost_name ≡ journal.old.disk.ghost_name }
+    ensures goes_on { DiskGoesOn (D.state journal.old.disk.now) (D.state journal.new.disk.now) }
+    ensures named { IfOk result (λ n.
+        IsNamed (state_of journal.new) n.types n.words n.first (length names.now)) }
+{
+    let archive: Archive<Books> = open_for_append(alloc, journal)?;
+    let held = archive.files().as_slice().len() as u64;
+    if let Some(refusal) = refuse_more(held, names.len() as u64) {
+        return Err(refusal);
+    }
+    let texts = texts_of(alloc, names)?;
+    let first = register(alloc, journal, held as u32, &texts)?;
+    let Books { types, words, .. } = archive.into_books();
+    Ok(Named {
+        types,
+        words,
+        first,
+    })
+}

@@ -1,0 +1,237 @@
+//! The command `ingest`: logs become the files of an archive.
+ghost use Rattle.std.specs.Prelude.{◌≡◌, ◌+◌, ◌≤◌, ℕ, List, [], length, map, string_bytes, vec_len, vec_capacity, IfOk, IfErr, IfSome, OnOk, None};
+ghost use Rattle.disk_journal.specs.Journal.{state_of};
+ghost use Rattle.clp_commands.specs.Around.{around};
+ghost use Rattle.clp_commands.specs.Going.{DiskGoesOn, OutsideGoesOn};
+ghost use Rattle.clp_commands.specs.IngestPrints.{PrintsIngest, names_of};
+ghost use Rattle.clp_commands.specs.Names.{RefusesNames};
+ghost use Rattle.clp_commands.specs.Naming.{AreNumbered, HasGoneOn, IsNamed};
+ghost use Rattle.clp_commands.specs.Reading.{IsArchive};
+
+use crate::append::{Named, open_and_name};
+use crate::files::print_directory;
+use crate::names::refuse_names;
+use crate::refusal::{Refusal, report};
+use crate::taken::{TakenFile, report_taken};
+use crate::telling::{Telling, check_told};
+use disk_journal::{Journal, start};
+use ingest_workers::{Cause, Job, ingest};
+use log_seams::{Disk, OpenRefused, Shelf, Sink};
+use log_sources::{LogSource, close_logs, open_logs};
+use option_words::IngestWords;
+use sink_pieces::PrintRefusal;
+use std::alloc::Global;
+use std::sync::Wait;
+use std::thread::Threads;
+
+/// What is refused of a file, by what came of its opening and of its job: that a log could not be opened
+/// goes before what its job met.
+fn refusal_of_file(opening: Option<OpenRefused>, cause: Option<Cause>) -> Option<Refusal> {
+    match opening {
+        Some(OpenRefused::Failed) => return Some(Refusal::OpenFault),
+        Some(OpenRefused::OutOfMemory) => return Some(Refusal::OutOfMemory),
+        None => {}
+    }
+    Some(match cause? {
+        Cause::ReadFault => Refusal::ReadFault,
+        Cause::LineTooLong { line } => Refusal::LineTooLong { line },
+        Cause::TooManyLines => Refusal::TooManyLines,
+        Cause::Full { book, count } => Refusal::Full { book, count },
+        Cause::DiskFault { .. } => Refusal::DiskFault,
+        Cause::OutOfMemory => Refusal::OutOfMemory,
+        Cause::ArchiveFull { end, need } => Refusal::ArchiveFull { end, need },
+    })
+}
+
+/// Makes a job of each source, in their order; the files are numbered on from `first`.
+fn begin_jobs<S>(first: u32, sources: &mut Vec<S>, jobs: &mut Vec<Job<S>>)
+    requires few { first + vec_len sources.old ≤ 1048576 }
+    requires none { jobs.old.items ≡ [] }
+    requires room { vec_len sources.old ≤ vec_capacity jobs.old }
+    ensures numbered { AreNumbered first jobs.new.items }
+    ensures count { vec_len jobs.new ≡ vec_len sources.old }
+    ensures sources { sources.new.items ≡ [] }
+    ensures room { vec_capacity sources.new ≡ vec_capacity sources.old }
+{
+    while let Some(source) = sources.pop() {
+        let file = first + sources.len() as u32;
+        jobs.push_reserved(Job::new(file, source));
+    }
+    jobs.as_mut_slice().reverse();
+}
+
+/// Ends the jobs: their sources are given back, and what came of each file is told in their order.
+fn end_jobs<'a, S>(
+    names: &'a [String],
+    jobs: &mut Vec<Job<LogSource<S>>>,
+    sources: &mut Vec<LogSource<S>>,
+    taken: &mut Vec<TakenFile<'a>>,
+)
+    requires count { vec_len jobs.old ≡ length names.now }
+    requires none { taken.old.items ≡ [] }
+    requires room { length names.now ≤ vec_capacity taken.old }
+    requires no_source { sources.old.items ≡ [] }
+    requires sources { length names.now ≤ vec_capacity sources.old }
+    ensures names { names_of taken.new.items ≡ map string_bytes names.now }
+    ensures jobs { jobs.new.items ≡ [] }
+{
+    while let Some(job) = jobs.pop() {
+        let outcome = job.outcome();
+        let source = job.into_source();
+        taken.push_reserved(TakenFile {
+            name: names[jobs.len()].as_str(),
+            messages: outcome.messages,
+            whole: outcome.whole,
+            refusal: refusal_of_file(source.refusal(), outcome.cause),
+        });
+        sources.push_reserved(source);
+    }
+    taken.as_mut_slice().reverse();
+}
+
+/// Takes the logs in as the new files of a journal. Without memory to begin nothing is taken in.
+fn take_in<'a, 'd, R: Threads + Wait + Sync, H: Shelf, D: Disk + Send>(
+    rt: &R,
+    alloc: Global,
+    asked: IngestWords<'a>,
+    journal: Journal<'d, D>,
+    named: Named,
+    shelf: &mut H,
+    taken: &mut Vec<TakenFile<'a>>,
+) -> Result<Journal<'d, D>, Journal<'d, D>>
+where
+    H::Src: Send,
+    requires workers { (1 ≤ asked.workers) × (asked.workers ≤ 64) }
+    requires segment { (1 ≤ asked.segment) × (asked.segment ≤ 65536) }
+    requires named { IsNamed (state_of journal) named.types named.words named.first
+        (length asked.files.now) }
+    requires none { taken.old.items ≡ [] }
+    requires room { length asked.files.now ≤ vec_capacity taken.old }
+
+    // the disk
+    ensures ok { IfOk result (λ after. HasGoneOn journal.entry after) }
+    ensures err { IfErr result (λ after. HasGoneOn journal.entry after) }
+
+    // the files
+    ensures names { OnOk result (names_of taken.new.items ≡ map string_bytes asked.files.now) }
+
+    // the logs
+    ensures logs { (n : List ℕ) → H.content shelf.new n ≡ H.content shelf.old n }
+    ensures opens { (n : List ℕ) → H.open_faults shelf.old n ≤ H.open_faults shelf.new n }
+    ensures reads { (n : List ℕ) → H.read_faults shelf.old n ≤ H.read_faults shelf.new n }
+{
+    let Named {
+        types,
+        words,
+        first,
+    } = named;
+    let Ok(mut sources) = open_logs(alloc, shelf, asked.files) else {
+        return Err(journal);
+    };
+    let Ok(mut jobs) = Vec::with_capacity(alloc, sources.len()) else {
+        close_logs(shelf, sources);
+        return Err(journal);
+    };
+    begin_jobs(first, &mut sources, &mut jobs);
+    // without memory the jobs say so
+    let journal = match ingest(
+        rt,
+        alloc,
+        jobs.as_mut_slice(),
+        asked.workers,
+        asked.segment,
+        journal,
+        types,
+        words,
+    ) {
+        Ok(journal) => journal,
+        Err(refused) => refused.journal,
+    };
+    end_jobs(asked.files, &mut jobs, &mut sources, taken);
+    jobs.destroy_empty();
+    close_logs(shelf, sources);
+    Ok(journal)
+}
+
+/// Adds the logs to the archive of a disk. Answers the number of the first new file.
+fn add_files<'a, R: Threads + Wait + Sync, H: Shelf, D: Telling + Send>(
+    rt: &R,
+    alloc: Global,
+    asked: IngestWords<'a>,
+    shelf: &mut H,
+    disk: &mut D,
+    taken: &mut Vec<TakenFile<'a>>,
+) -> Result<u32, Refusal>
+where
+    H::Src: Send,
+    requires workers { (1 ≤ asked.workers) × (asked.workers ≤ 64) }
+    requires segment { (1 ≤ asked.segment) × (asked.segment ≤ 65536) }
+    requires names { RefusesNames (map string_bytes asked.files.now) None }
+    requires some { 1 ≤ length asked.files.now }
+    requires none { taken.old.items ≡ [] }
+    requires room { length asked.files.now ≤ vec_capacity taken.old }
+
+    // the files
+    ensures taken { OnOk result (names_of taken.new.items ≡ map string_bytes asked.files.now) }
+
+    // whatever the answer
+    ensures goes_on { DiskGoesOn (D.state disk.old) (D.state disk.new) }
+    ensures logs { (n : List ℕ) → H.content shelf.new n ≡ H.content shelf.old n }
+    ensures opens { (n : List ℕ) → H.open_faults shelf.old n ≤ H.open_faults shelf.new n }
+    ensures reads { (n : List ℕ) → H.read_faults shelf.old n ≤ H.read_faults shelf.new n }
+{
+    check_told(alloc, disk)?;
+    let header = start(disk)?;
+    let mut journal = Journal::begin(disk, header);
+    let named = open_and_name(alloc, &mut journal, asked.files)?;
+    let first = named.first;
+    match take_in(rt, alloc, asked, journal, named, shelf, taken) {
+        Ok(_journal) => Ok(first),
+        Err(_journal) => Err(Refusal::OutOfMemory),
+    }
+}
+
+/// Adds logs to an archive, and tells what came of each.
+pub(crate) fn ingest_files<R: Threads + Wait + Sync, H: Shelf, D: Telling + Send, K: Sink>(
+    rt: &R,
+    alloc: Global,
+    asked: IngestWords<'_>,
+    shelf: &mut H,
+    disk: &mut D,
+    out: &mut K,
+    err: &mut K,
+) -> u8
+where
+    H::Src: Send,
+    requires workers { (1 ≤ asked.workers) × (asked.workers ≤ 64) }
+    requires segment { (1 ≤ asked.segment) × (asked.segment ≤ 65536) }
+    requires some { 1 ≤ length asked.files.now }
+    ensures prints { PrintsIngest (map string_bytes asked.files.now)
+        (around H.content H.unread H.open_faults H.read_faults K.written K.faults
+        shelf.old shelf.new out.old out.new err.old err.new)
+        result }
+
+    // whatever the answer
+    ensures outside { OutsideGoesOn
+        (around H.content H.unread H.open_faults H.read_faults K.written K.faults
+        shelf.old shelf.new out.old out.new err.old err.new) }
+    ensures goes_on { DiskGoesOn (D.state disk.old) (D.state disk.new) }
+    ensures logs { (n : List ℕ) → H.content shelf.new n ≡ H.content shelf.old n }
+{
+    if let Some(refusal) = refuse_names(asked.files) {
+        return report(err, "", refusal);
+    }
+    let Ok(mut taken) = Vec::with_capacity(alloc, asked.files.len()) else {
+        return report(err, "", Refusal::OutOfMemory);
+    };
+    match add_files(rt, alloc, asked, shelf, disk, &mut taken) {
+        Ok(first) => {
+            match print_directory(alloc, u64::from(first), taken.as_slice(), out) {
+                Ok(()) => report_taken(err, taken.as_slice()),
+                Err(PrintRefusal::SinkFault) => report(err, "", Refusal::SinkFault),
+                Err(PrintRefusal::OutOfMemory) => report(err, "", Refusal::OutOfMemory),
+            }
+        }
+        Err(refusal) => report(err, "", refusal),
+    }
+}
