@@ -47,7 +47,7 @@ fn an_empty_disk_becomes_an_archive(rt: HostRuntime) -> Result<(), Fail> {
     ];
     for (words, want) in rows {
         let mut archive = disk(alloc, &[], &[])?;
-        let outcome = over(rt, alloc, words, &mut archive, AMPLE)?;
+        let outcome = over(&rt, alloc, words, &mut archive, AMPLE)?;
         assert_eq!(rt; outcome.status, 0);
         assert!(rt; outcome.out.is_empty());
         assert!(rt; outcome.err.is_empty());
@@ -74,7 +74,7 @@ fn a_disk_with_bytes_is_left_alone(rt: HostRuntime) -> Result<(), Fail> {
     let rows: [(Rooms, &[u8]); 2] = [(AMPLE, line), (no_room, b"")];
     for (rooms, want) in rows {
         let mut archive = disk(alloc, bytes.as_slice(), &[])?;
-        let outcome = over(rt, alloc, &["create"], &mut archive, rooms)?;
+        let outcome = over(&rt, alloc, &["create"], &mut archive, rooms)?;
         assert_eq!(rt; outcome.status, 8);
         assert!(rt; outcome.out.is_empty());
         assert_eq!(rt; outcome.err.as_slice(), want);
@@ -89,7 +89,7 @@ fn each_call_on_the_disk_may_fail(rt: HostRuntime) -> Result<(), Fail> {
     let alloc = rt.alloc();
     for fault in 0..3u64 {
         let mut archive = disk(alloc, &[], &[fault])?;
-        let outcome = over(rt, alloc, &["create"], &mut archive, AMPLE)?;
+        let outcome = over(&rt, alloc, &["create"], &mut archive, AMPLE)?;
         assert_eq!(rt; outcome.status, 5);
         assert!(rt; outcome.out.is_empty());
         assert_eq!(rt;

@@ -51,7 +51,7 @@ fn an_archive_is_printed(rt: HostRuntime) -> Result<(), Fail> {
     ];
     for (words, want) in rows {
         for len in 155..=156 {
-            let outcome = over(rt, alloc, words, &WORKED[..len], u64::MAX, AMPLE)?;
+            let outcome = over(&rt, alloc, words, &WORKED[..len], u64::MAX, AMPLE)?;
             assert_eq!(rt; outcome.status, 0);
             assert_eq!(rt; outcome.out.as_slice(), want);
             assert!(rt; outcome.err.is_empty());
@@ -70,7 +70,7 @@ fn damage_is_told_at_its_gate(rt: HostRuntime) -> Result<(), Fail> {
     ];
     for (len, want) in rows {
         for word in ["check", "files"] {
-            let outcome = over(rt, alloc, &[word], &WORKED[..len], u64::MAX, AMPLE)?;
+            let outcome = over(&rt, alloc, &[word], &WORKED[..len], u64::MAX, AMPLE)?;
             assert_eq!(rt; outcome.status, 6);
             assert!(rt; outcome.out.is_empty());
             assert_eq!(rt; outcome.err.as_slice(), want);
@@ -85,7 +85,7 @@ fn each_call_that_reads_an_archive_may_fail(rt: HostRuntime) -> Result<(), Fail>
     let rows: [&[&str]; 3] = [&["check"], &["files"], &["decode", "0"]];
     for words in rows {
         for fault in 0..10u64 {
-            let outcome = over(rt, alloc, words, &WORKED, fault, AMPLE)?;
+            let outcome = over(&rt, alloc, words, &WORKED, fault, AMPLE)?;
             assert_eq!(rt; outcome.status, 5);
             assert!(rt; outcome.out.is_empty());
             assert_eq!(rt;
@@ -106,7 +106,7 @@ fn an_output_without_room_is_told(rt: HostRuntime) -> Result<(), Fail> {
         out_fails: u64::MAX,
     };
     for word in ["check", "files"] {
-        let outcome = over(rt, alloc, &[word], &WORKED, u64::MAX, rooms)?;
+        let outcome = over(&rt, alloc, &[word], &WORKED, u64::MAX, rooms)?;
         assert_eq!(rt; outcome.status, 7);
         assert_eq!(rt; outcome.err.as_slice(), b"clpa: output failed\n".as_slice());
     }
@@ -130,7 +130,7 @@ fn a_file_that_is_not_there_is_told(rt: HostRuntime) -> Result<(), Fail> {
         ("-1", 2, usage),
     ];
     for (number, status, want) in rows {
-        let outcome = over(rt, alloc, &["decode", number], &WORKED, u64::MAX, AMPLE)?;
+        let outcome = over(&rt, alloc, &["decode", number], &WORKED, u64::MAX, AMPLE)?;
         assert_eq!(rt; outcome.status, status);
         assert!(rt; outcome.out.is_empty());
         assert_eq!(rt; outcome.err.as_slice(), want);
