@@ -128,7 +128,7 @@ fn what_does_not_fit_is_told(rt: HostRuntime) -> Result<(), Fail> {
         (
             "--types=1",
             4,
-            b"0 0 part a.log\n1 0 part c.log\n",
+            b"0 1 part a.log\n1 0 part c.log\n",
             b"clpa: a.log: dictionary of types is full at 1\nclpa: c.log: dictionary of types is full at 1\n",
         ),
         ("--words=1", 0, b"0 3 whole a.log\n1 1 whole c.log\n", b""),
@@ -142,7 +142,7 @@ fn what_does_not_fit_is_told(rt: HostRuntime) -> Result<(), Fail> {
             "--bytes=65",
             4,
             b"0 0 part a.log\n1 0 part c.log\n",
-            b"clpa: a.log: archive full at 65, 237 more needed\nclpa: c.log: archive full at 65, 290 more needed\n",
+            b"clpa: a.log: archive full at 65, 224 more needed\nclpa: c.log: archive full at 65, 143 more needed\n",
         ),
     ];
     for (limit, status, out, err) in rows {
