@@ -115,7 +115,8 @@ where
     ensures err { IfErr result (λ after. HasGoneOn journal.entry after) }
 
     // the files
-    ensures names { OnOk result (names_of taken.new.items ≡ map string_bytes asked.files.now) }
+    ensures names { OnOk result
+        (names_of taken.new.items ≡ map string_bytes asked.entry.files.now) }
 
     // the logs
     ensures logs { (n : List ℕ) → H.content shelf.new n ≡ H.content shelf.old n }
