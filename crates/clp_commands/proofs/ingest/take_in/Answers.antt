@@ -29,5 +29,5 @@ end_jobs-requires-clause-sources g c =
 pub returns-clause-ok : goal.returns-clause-ok
 returns-clause-ok g c = elim c.match-ingest.branch [
   | in-Ok-ingest w ↦ ingested_goes_on _ c.args.asked.segment _ _ c.args.journal _ c.match-ingest.journal w.journal-is w.in-Ok-ingest.ensures.done
-  | in-Err w ↦ as_it_was_goes_on c.args.journal _ c.match-ingest.journal (g.met.D.Disk.lawful c.args.journal.disk.now) w.journal-is w.in-Err.ensures.refused
+  | in-Err w ↦ as_it_was_goes_on c.args.journal _ c.match-ingest.journal ((g.met.D.Disk g.world.𝓛 g.world.𝓜 g.world.𝓡 ((λ s x. x), (λ x. x), (λ x. x), λ x. x)).lawful c.args.journal.disk.now) w.journal-is w.in-Err.ensures.refused
 ]
