@@ -12,7 +12,7 @@ use Rattle.log_seams.proofs.MomentLemmas.{weaker}
 use Rattle.dict_core.specs.Books.{BookState}
 use Rattle.disk_journal.specs.declared.journal.Journal.{Journal}
 use Rattle.disk_journal.specs.State.{JournalState}
-use Rattle.disk_seal.specs.View.{StoreView, state_by}
+use Rattle.disk_seal.specs.View.{StoreView}
 use Rattle.disk_seal.proofs.ToldLemmas.{told_map}
 use Rattle.ingest_workers.specs.Ingested.{AreNew, HasIngested, IsAsItWas, IsLeftBy, first_file, plan_of, told_entries}
 use Rattle.ingest_workers.specs.Journal.{Holds}

@@ -1,4 +1,4 @@
-use Rattle.std.proofs.Common.{arith, string_bytes, ◌≡◌, ◌∙◌, length, map}
+use Rattle.std.proofs.Common.{arith, string_bytes, ◌≡◌, length, map}
 use Rattle.std.proofs.lemmas.List.{length-map}
 use Rattle.clp_commands.proofs.JobLemmas.{are_new, as_it_was_goes_on, as_many, ingested_goes_on}
 use Rattle.clp_commands.proofs.ingest.take_in.Goals.{in-Ok-ingest, in-Err}
