@@ -131,8 +131,8 @@ record IsReady (h : Header) (es : List JournalEntry) (types words : BookState) (
 
 -- the texts that are kept are those of both books
 pub record HasBooks (k : Kept) (types words : BookState) : Type 0 where
-  pub types : k.types ≡ types.texts
-  pub words : k.words ≡ words.texts
+  pub types_are : k.types ≡ types.texts
+  pub words_are : k.words ≡ words.texts
   pub types_limit : k.types_limit ≡ types.limit
   pub words_limit : k.words_limit ≡ words.limit
 
@@ -141,8 +141,8 @@ ready : (h : Header) (es : List JournalEntry) (a : Shown) (types words : BookSta
 ready h es a types words names first legal is books same =
     let number : first ≡ length legal.held.names = files_counted h es a legal.held first is same in
     record {
-      types_are = (sym books.types ∙ (ap (λ (k : Kept). k.types) is.kept ∙ (types_held h es legal ∙ sym (types_named es names))), sym books.types_limit ∙ ap (λ (k : Kept). k.types_limit) is.kept);
-      words_are = (sym books.words ∙ (ap (λ (k : Kept). k.words) is.kept ∙ (words_held h es legal ∙ sym (words_named es names))), sym books.words_limit ∙ ap (λ (k : Kept). k.words_limit) is.kept);
+      types_are = (sym books.types_are ∙ (ap (λ (k : Kept). k.types) is.kept ∙ (types_held h es legal ∙ sym (types_named es names))), sym books.types_limit ∙ ap (λ (k : Kept). k.types_limit) is.kept);
+      words_are = (sym books.words_are ∙ (ap (λ (k : Kept). k.words) is.kept ∙ (words_held h es legal ∙ sym (words_named es names))), sym books.words_limit ∙ ap (λ (k : Kept). k.words_limit) is.kept);
       empty = λ i within. subst (λ n. Holds h (es ++ Files names ∷ []) (n + i) [] false false) (sym number) (holds i within);
     }
   where

@@ -39,13 +39,13 @@ some_files (file ∷ files) some = omega arith
 
 -- so many workers, segments of so many messages, and these files may be asked for
 pub record AreInRange (workers segment : ℕ) (files : List (List ℕ)) : Type 0 where
-  pub workers : IsUpTo 64 workers
-  pub segment : IsUpTo 65536 segment
+  pub workers_are : IsUpTo 64 workers
+  pub segment_is : IsUpTo 65536 segment
   pub some : 1 ≤ length files
 
 pub asked_in_range : (words : List (List ℕ)) (workers segment : ℕ) (files : List (List ℕ)) → AsksIngest words workers segment files → AreInRange workers segment files
 asked_in_range words workers segment files asks = record {
-  workers = chosen_up_to 64 1 (flat_map workers_of asks.choices) workers (omega arith, omega arith) (workers_up_to asks.options asks.choices files asks.spelled) asks.workers_is;
-  segment = chosen_up_to 65536 65536 (flat_map segments_of asks.choices) segment (omega arith, omega arith) (segments_up_to asks.options asks.choices files asks.spelled) asks.segment_is;
+  workers_are = chosen_up_to 64 1 (flat_map workers_of asks.choices) workers (omega arith, omega arith) (workers_up_to asks.options asks.choices files asks.spelled) asks.workers_is;
+  segment_is = chosen_up_to 65536 65536 (flat_map segments_of asks.choices) segment (omega arith, omega arith) (segments_up_to asks.options asks.choices files asks.spelled) asks.segment_is;
   some = some_files files asks.files_are.some;
 }
