@@ -1,6 +1,6 @@
 -- From an archive that was opened to one in which new files have their names.
 use Rattle.std.proofs.Common.{◌≡◌, ◌+◌, ◌<◌, ◌≤◌, refl, sym, ap, subst, ◌∙◌, ℕ, suc, List, [], ◌∷◌, ◌++◌, false, get_or, length, map, take, Option, Some, None, arith}
-use Rattle.std.specs.Prelude.{IfSome, is_some}
+use Rattle.std.specs.Prelude.{IfSome, is_some, replicate}
 use Rattle.std.proofs.Math.ListN.{get_or-map}
 use Rattle.std.proofs.Math.Seq.{take-suc}
 use Rattle.std.proofs.lemmas.List.{length-map}
@@ -16,8 +16,10 @@ use Rattle.archive_meaning.specs.declared.entry.JournalEntry.TheVariants.{Files}
 use Rattle.archive_meaning.specs.Held.{Held, Piece, content_of, files_from}
 use Rattle.archive_meaning.specs.Spelled.{end_of, record_of, records_of, types_of}
 use Rattle.archive_meaning.specs.Stands.{IsLegal, StandsFor}
-use Rattle.archive_meaning.specs.Sums.{AddsNames}
-use Rattle.archive_meaning.proofs.JudgeLemmas.{end_more}
+use Rattle.archive_meaning.specs.Sums.{AddsNames, Admits, AreSums, Sums, end_with, no_messages, sums_from}
+use Rattle.archive_meaning.proofs.JudgeLemmas.{admitted, end_more, same_types}
+use Rattle.archive_meaning.proofs.SumsLemmas.{length-sums}
+use Rattle.archive_meaning.proofs.UniqueLemmas.{records_joined}
 use Rattle.archive_open.specs.Kept.{Kept}
 use Rattle.archive_open.specs.Shown.{IsArchiveOf, Looks, Opens, Shown}
 use Rattle.disk_journal.proofs.SpellingLemmas.{length-frame}
@@ -26,7 +28,7 @@ use Rattle.disk_seal.specs.Opening.{MayOpen}
 use Rattle.disk_seal.specs.Registered.{HoldsNames, StaysOpen, files_record, files_size}
 use Rattle.disk_seal.specs.WordsIn.{words_of}
 use Rattle.disk_seal.proofs.NextLemmas.{gate_at}
-use Rattle.disk_seal.proofs.OpenLemmas.{journal_is, names_legal, records_named, stood_opens}
+use Rattle.disk_seal.proofs.OpenLemmas.{journal_is, stood_opens}
 use Rattle.disk_seal.proofs.ToldLemmas.{told_both, told_map}
 use Rattle.ingest_workers.specs.Ingested.{HoldTexts, told_entries}
 use Rattle.ingest_workers.specs.Journal.{Holds}
@@ -102,6 +104,18 @@ module _ (old now : JournalState) (a : Shown) (from : OpensFrom old now a) where
 
 -- ---- the names of the new files
 
+-- a legal journal with names more is one
+legal_with : (h : Header) (header : IsHeader h) (es : List JournalEntry) (names : List (List ℕ)) (legal : IsLegal h es) → AddsNames (length legal.held.names) names → end_of h (es ++ Files names ∷ []) ≤ h.length_limit → IsLegal h (es ++ Files names ∷ [])
+legal_with h header es names legal adds short =
+    let sums : Sums = record { header = h; types = legal.held.types; words = legal.held.words; files = sums_from 0 legal.held.names legal.held.pieces; end = end_of h es } in
+    let are : AreSums sums es = record { header = header; held = legal.held; run = legal.run; named = legal.named; types = refl; words = refl; files = refl; end = refl; short = legal.short } in
+    let more : Sums = record sums { files = sums.files ++ replicate (length names) no_messages; end = end_with sums (Files names) } in
+    let types : types_of es ≡ sums.types = sym (same_types sums es are) in
+    let end : end_of h (es ++ Files names ∷ []) ≡ end_of h es + 10 + length (record_of (types_of es) (Files names)).payload = end_more h es (Files names) in
+    let admits : Admits sums (Files names) more = ((subst (λ n. AddsNames n names) (sym (length-sums 0 legal.held.names legal.held.pieces)) adds, refl), omega (arith, end, short)) in
+    let all : AreSums more (es ++ Files names ∷ []) = admitted sums more es (Files names) are admits in
+    record { held = all.held; run = all.run; named = all.named; short = subst (λ n. n ≤ h.length_limit) (sym end) (omega (arith, end, short)) }
+
 module _ (h : Header) (header : IsHeader h) (names : List (List ℕ)) (held place : ℕ) where
   -- what the journal with the names is, where its bytes are told
   entries_named : (told now : Option (List ℕ)) (count more : ℕ) → is_some now ≡ is_some told → Added told count (files_record names ∷ []) now more
@@ -117,8 +131,8 @@ module _ (h : Header) (header : IsHeader h) (names : List (List ℕ)) (held plac
       let end : end_of h (es ++ Files names ∷ []) ≡ end_of h es + 10 + length (record_of (types_of es) (Files names)).payload = end_more h es (Files names) in
       let long : files_size names ≡ 10 + length (files_record names).payload = length-frame (files_record names) in
       journal_is h header (es ++ Files names ∷ []) (Some c) more (
-        added ∙ (ap (λ (l : List Saved). l ++ files_record names ∷ []) spelled ∙ sym (records_named h header es names)),
-        names_legal h header es names legal (subst (λ n. AddsNames n names) (holds legal) adds) (omega (arith, end, long, gate, fits)),
+        added ∙ (ap (λ (l : List Saved). l ++ files_record names ∷ []) spelled ∙ sym (records_joined [] es (Files names ∷ []))),
+        legal_with h header es names legal (subst (λ n. AddsNames n names) (holds legal) adds) (omega (arith, end, long, gate, fits)),
       )
 
 -- ---- both books, and the new files
@@ -177,8 +191,8 @@ module _ (old now new : JournalState) (a : Shown) (from : OpensFrom old now a) (
       (subst (λ b. IfTold b (IsReady now.header es types words held (length names))) (sym appends.goes.tells) here) in
       told_both (is_some new.disk.seen) (λ (is : told_entries new ≡ es) (r : IsReady new.header es types words held (length names)). subst (λ x. IsReady new.header x types words held (length names)) (sym is) r) told_named there
 
-  pub is_named : (types words : BookState) → HasBooks a.kept types words → IsNamed new types words held (length names)
-  is_named types words books =
+  all_named : (types words : BookState) → HasBooks a.kept types words → IsNamed new types words held (length names)
+  all_named types words books =
       let r = told_ready types words books in
       let told = is_some new.disk.seen in
       let Is : Type 0 = IsReady new.header (told_entries new) types words held (length names) in
@@ -188,3 +202,7 @@ module _ (old now new : JournalState) (a : Shown) (from : OpensFrom old now a) (
         few = appends.adds.all;
         empty = told_map told (λ (x : Is). x.empty) r;
       }
+
+  pub is_named : (types words : BookState) → HasBooks a.kept types words → (first count : ℕ) → first ≡ held → count ≡ length names → IsNamed new types words first count
+  is_named types words books first count number counted =
+      subst (λ n. IsNamed new types words n count) (sym number) (subst (λ n. IsNamed new types words held n) (sym counted) (all_named types words books))
