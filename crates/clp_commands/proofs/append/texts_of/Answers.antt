@@ -10,5 +10,5 @@ loop-name-preserved c =
       room = c.push_reserved.ensures.capacity ∙ before.room;
       count = omega (arith, c.push_reserved.ensures.len, before.count);
       these = texts_next string_bytes c.args.names.now c.loop-name.name-index c.name-item.result c.new.result c.loop-name.texts.items _ c.loop-name-test.true c.name-item.is
-          (c.new.ensures ∙ c.in_ok-bytes.ensures ∙ c.as_bytes.ensures.value) before.these c.push_reserved.ensures.items;
+          (c.new.ensures ∙ c.in_ok-bytes.ensures.items ∙ c.as_bytes.ensures.value) before.these c.push_reserved.ensures.items;
     }
