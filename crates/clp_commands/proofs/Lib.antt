@@ -17,3 +17,4 @@ pub mod WordLemmas
 pub mod TakenLemmas
 pub mod NameLemmas
 pub mod JoinLemmas
+pub mod JobLemmas
