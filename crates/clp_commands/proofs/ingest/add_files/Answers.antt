@@ -3,7 +3,7 @@ use Rattle.clp_commands.proofs.ingest.add_files.Goals as goal
 
 pub returns-in-Ok-clause-goes_on : goal.returns-in-Ok-clause-goes_on
 returns-in-Ok-clause-goes_on g c =
-    let law = g.met.D.Disk.lawful in
+    let law = (g.met.D.Disk g.world.𝓛 g.world.𝓜 g.world.𝓡 ((λ s x. x), (λ x. x), (λ x. x), λ x. x)).lawful in
     let told = c.check_told.ensures in
     let begun = c.start.ensures in
     DiskGoesOn-joined _ _ _ (law _) (DiskGoesOn-kept _ _ _ (law _) (law _) (law _) told.keeps told.disk.later begun.keeps begun.counts.later)
@@ -11,7 +11,7 @@ returns-in-Ok-clause-goes_on g c =
 
 pub returns-in-Err-clause-goes_on : goal.returns-in-Err-clause-goes_on
 returns-in-Err-clause-goes_on g c =
-    let law = g.met.D.Disk.lawful in
+    let law = (g.met.D.Disk g.world.𝓛 g.world.𝓜 g.world.𝓡 ((λ s x. x), (λ x. x), (λ x. x), λ x. x)).lawful in
     let told = c.check_told.ensures in
     let begun = c.start.ensures in
     DiskGoesOn-joined _ _ _ (law _) (DiskGoesOn-kept _ _ _ (law _) (law _) (law _) told.keeps told.disk.later begun.keeps begun.counts.later)
