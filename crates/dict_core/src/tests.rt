@@ -52,7 +52,8 @@ fn a_book_is_copied_from_a_text_on(rt: HostRuntime) -> Result<(), Fail> {
     Ok(())
 }
 
-/// Whether the book has no number for this text of one hash before it names it so, and this number then.
+/// Whether the book has no number for this text of one hash before it names it so, and this number
+/// then.
 fn names_anew(book: &mut Book, text: &[u8], number: u32) -> bool {
     book.number_of(text).is_none() && names(book, text, Ok(number))
 }

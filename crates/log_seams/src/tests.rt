@@ -15,7 +15,8 @@ fn numbers(alloc: Global, list: &[u64]) -> Result<Vec<u64>, AllocError> {
     list.to_vec(alloc)
 }
 
-// Whether the next read, with a buffer of so many bytes, gives these, or fails where none are wanted.
+// Whether the next read, with a buffer of so many bytes, gives these, or fails where none are
+// wanted.
 fn reads<S: Source>(
     alloc: Global,
     source: &mut S,
