@@ -131,7 +131,8 @@ fn words_before_a_full_dictionary(rt: HostRuntime) {
     assert!(rt; books.word_number(b"x1-a") == Some(0));
 }
 
-// What the row of a message is written as, where it is the encoding of one, over books without texts.
+// What the row of a message is written as, where it is the encoding of one, over books without
+// texts.
 fn back<L: Ledger>(
     alloc: Global,
     line: &[u8],
