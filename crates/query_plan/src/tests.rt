@@ -6,7 +6,7 @@ use crate::{
     readings_are_exact, wide_is_wider,
 };
 use log_seams::{Text, TextList};
-use logtype_text::{Symbol, split};
+use logtype_text::{Kind, Span, Symbol, split};
 use std::alloc::{AllocError, Global};
 use std::test::Fail;
 use wild_match::{Item, matches, read_pattern};
@@ -164,23 +164,32 @@ fn patterns_and_their_pieces(rt: HostRuntime) -> Result<(), Fail> {
     Ok(())
 }
 
+/// The symbol of a variable whose bytes lie in this span of a body.
+fn variable_of(
+    alloc: Global,
+    body: &[u8],
+    kind: Kind,
+    span: Option<&Span>,
+) -> Result<VarSymbol, AllocError> {
+    let text = match span {
+        Some(span) => body.get(span.start..span.end).unwrap_or(b""),
+        None => b"",
+    };
+    let text = Text::new(Vec::from_slice(alloc, text)?);
+    Ok(VarSymbol::Var { kind, text })
+}
+
 /// The symbols of a body.
 fn symbols_of(alloc: Global, body: &[u8]) -> Result<VarSymbols, AllocError> {
     let split = split(alloc, body)?;
     let mut spans = split.spans.as_slice().iter();
     let mut symbols = Vec::new(alloc);
     for symbol in split.symbols.as_slice() {
-        match symbol {
-            Symbol::Byte(byte) => symbols.push(VarSymbol::Byte(*byte))?,
-            Symbol::Slot(kind) => {
-                let text = match spans.next() {
-                    Some(span) => body.get(span.start..span.end).unwrap_or(b""),
-                    None => b"",
-                };
-                let text = Text::new(Vec::from_slice(alloc, text)?);
-                symbols.push(VarSymbol::Var { kind: *kind, text })?;
-            }
-        }
+        let symbol = match symbol {
+            Symbol::Byte(byte) => VarSymbol::Byte(*byte),
+            Symbol::Slot(kind) => variable_of(alloc, body, *kind, spans.next())?,
+        };
+        symbols.push(symbol)?;
     }
     Ok(VarSymbols::new(symbols))
 }
