@@ -160,58 +160,67 @@ fn answer_to(alloc: Global, text: &[u8], message: &[u8]) -> Result<String, Alloc
     }
 }
 
+/// What the row's text and message answer, and what they are to.
+fn row_holds(alloc: Global, row: &str) -> Result<bool, Fail> {
+    let (text, rest) = row.split_once(' ').ok_or("a text")?;
+    let (message, want) = rest.split_once(' ').ok_or("a message")?;
+    let text = bytes_of(alloc, text)?;
+    let message = bytes_of(alloc, message)?;
+    let answer = answer_to(alloc, text.as_slice(), message.as_slice())?;
+    Ok(answer.as_str() == want)
+}
+
 #[test]
 fn answers_of_a_table(rt: HostRuntime) -> Result<(), Fail> {
     for row in TABLE.lines() {
-        let (text, rest) = row.split_once(' ').ok_or("a text")?;
-        let (message, want) = rest.split_once(' ').ok_or("a message")?;
-        let text = bytes_of(rt.alloc(), text)?;
-        let message = bytes_of(rt.alloc(), message)?;
-        let answer = answer_to(rt.alloc(), text.as_slice(), message.as_slice())?;
-        assert_eq!(rt; answer.as_str(), want, "at {row}");
+        let holds = row_holds(rt.alloc(), row)?;
+        assert!(rt; holds, "at {row}");
     }
     Ok(())
 }
 
+/// A pattern's text, a message, the answer in the table's words.
+const LINES: &[(&[u8], &[u8], &str)] = &[
+    (b"12*34", b"12534", "1"),
+    (b"12*34", b"12 34", "1"),
+    (b"12*34", b"a12*34", "1"),
+    (b"12*34", b"1234", "1"),
+    (b"12*34", b"34 12", "0"),
+    (b"12\\*34", b"12534", "0"),
+    (b"12\\*34", b"12 34", "0"),
+    (b"12\\*34", b"a12*34", "1"),
+    (b"", b"", "1"),
+    (b"", b"any", "1"),
+    (b"?", b"", "0"),
+    (b"?", b"x", "1"),
+    (b"\\?", b"x", "0"),
+    (b"a\\\\b", b"a\\b", "1"),
+    (b"ab\\", b"ab", "bad2"),
+    (b"ab\\\\\\", b"ab", "bad4"),
+    (
+        b"?????????????????????????????????b",
+        b"a line of which too little is left b",
+        "1",
+    ),
+    (
+        b"a needle that is longer than the room beside it",
+        b"..a needle that is longer than the room beside it",
+        "1",
+    ),
+    (
+        b"a needle that is longer than the room beside it",
+        b"a needle that is longer than the room beside him",
+        "0",
+    ),
+    (b"x*", b"axb", "1"),
+];
+
 #[test]
 fn answers_for_lines(rt: HostRuntime) -> Result<(), Fail> {
-    let rows: [(&[u8], &[u8], &str); 20] = [
-        (b"12*34", b"12534", "1"),
-        (b"12*34", b"12 34", "1"),
-        (b"12*34", b"a12*34", "1"),
-        (b"12*34", b"1234", "1"),
-        (b"12*34", b"34 12", "0"),
-        (b"12\\*34", b"12534", "0"),
-        (b"12\\*34", b"12 34", "0"),
-        (b"12\\*34", b"a12*34", "1"),
-        (b"", b"", "1"),
-        (b"", b"any", "1"),
-        (b"?", b"", "0"),
-        (b"?", b"x", "1"),
-        (b"\\?", b"x", "0"),
-        (b"a\\\\b", b"a\\b", "1"),
-        (b"ab\\", b"ab", "bad2"),
-        (b"ab\\\\\\", b"ab", "bad4"),
-        (
-            b"?????????????????????????????????b",
-            b"a line of which too little is left b",
-            "1",
-        ),
-        (
-            b"a needle that is longer than the room beside it",
-            b"..a needle that is longer than the room beside it",
-            "1",
-        ),
-        (
-            b"a needle that is longer than the room beside it",
-            b"a needle that is longer than the room beside him",
-            "0",
-        ),
-        (b"x*", b"axb", "1"),
-    ];
-    for (text, message, want) in rows {
+    for (text, message, want) in LINES {
         let answer = answer_to(rt.alloc(), text, message)?;
-        assert_eq!(rt; answer.as_str(), want, "{text:?} at {message:?}");
+        let well = answer.as_str() == *want;
+        assert!(rt; well, "{text:?} at {message:?}");
     }
     Ok(())
 }
@@ -230,78 +239,103 @@ fn slow(items: &[Item], bytes: &[u8]) -> bool {
     }
 }
 
+/// The pattern of a text, and its matcher.
+fn read(alloc: Global, text: &[u8]) -> Result<(Pattern, Matcher), Fail> {
+    let pattern = read_pattern(alloc, text).ok().ok_or("a pattern")?;
+    let matcher = Matcher::new(alloc, &pattern)?;
+    Ok((pattern, matcher))
+}
+
+/// Whether the pattern and its matcher answer for the line as wanted.
+fn both_answer(pattern: &Pattern, matcher: &Matcher, line: &[u8], want: bool) -> bool {
+    matches(pattern, line) == want && matcher.matches(line) == want
+}
+
 #[test]
 fn many_wildcards_over_lines_of_one_byte(rt: HostRuntime) -> Result<(), Fail> {
     let alloc = rt.alloc();
-    let pattern = read_pattern(alloc, b"a*a*a*b").ok().ok_or("a pattern")?;
-    let matcher = Matcher::new(alloc, &pattern)?;
-    let mut line = Vec::new(alloc);
-    for _ in 0..14 {
-        let want = slow(pattern.as_slice(), line.as_slice());
-        assert!(rt; !want);
-        assert_eq!(rt; matches(&pattern, line.as_slice()), want);
-        assert_eq!(rt; matcher.matches(line.as_slice()), want);
-        line.push(b'a')?;
+    let (pattern, matcher) = read(alloc, b"a*a*a*b")?;
+    let line = [b'a'; 14];
+    for len in 0..14usize {
+        let line = line.get(..len).unwrap_or(b"");
+        let want = slow(pattern.as_slice(), line);
+        assert!(rt; !want && both_answer(&pattern, &matcher, line, want));
     }
-    line.push(b'b')?;
-    assert!(rt; slow(pattern.as_slice(), line.as_slice()));
-    assert!(rt; matches(&pattern, line.as_slice()));
-    assert!(rt; matcher.matches(line.as_slice()));
-    let long = Vec::from_elem(alloc, b'a', 100_000)?;
-    assert!(rt; !matches(&pattern, long.as_slice()));
-    assert!(rt; !matcher.matches(long.as_slice()));
+    let line = b"aaaaaaaaaaaaaab";
+    let want = slow(pattern.as_slice(), line);
+    assert!(rt; want && both_answer(&pattern, &matcher, line, want));
     Ok(())
+}
+
+#[test]
+fn many_wildcards_over_a_long_line(rt: HostRuntime) -> Result<(), Fail> {
+    let (pattern, matcher) = read(rt.alloc(), b"a*a*a*b")?;
+    let long = Vec::from_elem(rt.alloc(), b'a', 100_000)?;
+    assert!(rt; both_answer(&pattern, &matcher, long.as_slice(), false));
+    Ok(())
+}
+
+const SHORT_LINES: &[&[u8]] = &[b"", b"ab", b"axxb", b"abab", b"ba", b"a"];
+
+const PATTERNS: &[&[Item]] = &[
+    &[],
+    &[Item::Byte(b'a'), Item::Byte(b'b')],
+    &[Item::Byte(b'a'), Item::Many, Item::Byte(b'b')],
+    &[Item::One, Item::Many, Item::Byte(b'a'), Item::One],
+    &[Item::Many],
+];
+
+/// Whether the items answer for each of the short lines as their definition does.
+fn answer_as_defined(alloc: Global, items: &[Item]) -> Result<bool, AllocError> {
+    let pattern = Pattern::new(Vec::from_slice(alloc, items)?);
+    let matcher = Matcher::new(alloc, &pattern)?;
+    for line in SHORT_LINES {
+        if !both_answer(&pattern, &matcher, line, slow(items, line)) {
+            return Ok(false);
+        }
+    }
+    Ok(true)
 }
 
 #[test]
 fn patterns_that_begin_and_end_with_a_byte(rt: HostRuntime) -> Result<(), Fail> {
-    let alloc = rt.alloc();
-    let lines: [&[u8]; 6] = [b"", b"ab", b"axxb", b"abab", b"ba", b"a"];
-    let patterns: [&[Item]; 5] = [
-        &[],
-        &[Item::Byte(b'a'), Item::Byte(b'b')],
-        &[Item::Byte(b'a'), Item::Many, Item::Byte(b'b')],
-        &[Item::One, Item::Many, Item::Byte(b'a'), Item::One],
-        &[Item::Many],
-    ];
-    for items in patterns {
-        let pattern = Pattern::new(Vec::from_slice(alloc, items)?);
-        let matcher = Matcher::new(alloc, &pattern)?;
-        for line in lines {
-            let want = slow(items, line);
-            assert_eq!(rt; matches(&pattern, line), want, "{items:?} at {line:?}");
-            assert_eq!(rt; matcher.matches(line), want, "{items:?} at {line:?}");
-        }
+    for items in PATTERNS {
+        let well = answer_as_defined(rt.alloc(), items)?;
+        assert!(rt; well, "{items:?}");
+    }
+    Ok(())
+}
+
+/// A place, and that of the next needle of the pattern from there.
+const PLACES: &[(usize, Option<usize>)] = &[
+    (0, Some(2)),
+    (2, Some(2)),
+    (3, Some(6)),
+    (7, None),
+    (9, None),
+];
+
+#[test]
+fn needles(rt: HostRuntime) -> Result<(), Fail> {
+    let (_, matcher) = read(rt.alloc(), b"ab*cde?f")?;
+    assert!(rt; matcher.needle() == b"cde".as_slice());
+    for (from, want) in PLACES {
+        let found = matcher.next_needle(b"abcde cde", *from);
+        assert!(rt; found == *want, "from {from}");
     }
     Ok(())
 }
 
 #[test]
-fn needles(rt: HostRuntime) -> Result<(), Fail> {
-    let alloc = rt.alloc();
-    let pattern = read_pattern(alloc, b"ab*cde?f").ok().ok_or("a pattern")?;
-    let matcher = Matcher::new(alloc, &pattern)?;
-    assert_eq!(rt; matcher.needle(), b"cde".as_slice());
-    let places = [
-        (0, Some(2)),
-        (2, Some(2)),
-        (3, Some(6)),
-        (7, None),
-        (9, None),
-    ];
-    for (from, want) in places {
-        assert_eq!(rt;
-            matcher.next_needle(b"abcde cde", from),
-            want,
-            "from {from}"
-        );
-    }
-    let pattern = read_pattern(alloc, b"?").ok().ok_or("a pattern")?;
-    let matcher = Matcher::new(alloc, &pattern)?;
-    assert_eq!(rt; matcher.needle(), b"".as_slice());
-    assert_eq!(rt; matcher.next_needle(b"ab", 1), Some(1));
+fn no_needle(rt: HostRuntime) -> Result<(), Fail> {
+    let (_, matcher) = read(rt.alloc(), b"?")?;
+    assert!(rt; matcher.needle() == b"".as_slice() && matcher.next_needle(b"ab", 1) == Some(1));
+    Ok(())
+}
+
+#[test]
+fn laws_of_spelling_stand() {
     one_spelling();
     one_lone_backslash();
     spelled_or_lone();
-    Ok(())
 }
