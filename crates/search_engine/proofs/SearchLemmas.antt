@@ -13,12 +13,13 @@ use Rattle.column_store.specs.declared.range.Range.{Range}
 use Rattle.wild_match.specs.declared.pattern.Item.{Item}
 use Rattle.search_engine.specs.declared.tally.Tally.{Tally}
 use Rattle.search_engine.specs.Scan.{Asked, IsFound, IsTried, Picks, Placed, all_placed, lines_of}
-use Rattle.search_engine.specs.Sofar.{GrewByFront, Moves, Sofar, Stops, sofar}
+use Rattle.sink_pieces.specs.Output.{Grew, GrewByFront}
+use Rattle.sink_pieces.proofs.OutputLemmas.{Moves-all}
+use Rattle.search_engine.specs.Sofar.{Sofar, Stops, sofar}
 use Rattle.search_engine.specs.Held.{Named, OfSegments, named}
 use Rattle.search_engine.specs.Opened.{IsBarrenFor, Searched, Stopped}
 use Rattle.search_engine.specs.Searched.{HasSearched, HasStopped, OfJournal, asked, names_of}
-use Rattle.search_engine.proofs.SofarLemmas.{all_went, passes_moves, picks_once, stops_behind, stops_here, ticks_same}
-use Rattle.search_engine.proofs.OutputLemmas.{goes_moved}
+use Rattle.search_engine.proofs.SofarLemmas.{all_went, goes_moved, passes_moves, picks_once, stops_behind, stops_here, ticks_same}
 use Rattle.search_engine.proofs.HeldLemmas.{nothing_distinct, run_distinct}
 use Rattle.search_engine.proofs.GroupLemmas.{content_small, shown_have}
 
@@ -69,15 +70,15 @@ picks_short P (x ∷ xs) ys (inl p) = omega (arith, picks_short P xs p.0 p.2, ap
 picks_short P (x ∷ xs) ys (inr p) = omega (arith, picks_short P xs ys p.1)
 
 pub has_searched : (bytes : List ℕ) (h : Header) (es : List JournalEntry) (q : Asked) (ps : List SegmentPlace) (tally : Tally) (count : ℕ) (w0 w1 w2 : Option (List ℕ)) (g0 g1 g2 : List ℕ) (o0 o1 e0 e1 : ℕ) (stood : StandsFor bytes h es)
-    → g0 ≡ [] → Searched (names_of h stood.legal.held) q ps (all_placed (content_of stood.legal.held)) (sofar w0 g0 (record { matched = 0; expanded = 0 }) e0) (sofar w1 g1 tally e1) o0 o1 count → Moves w1 w2 g1 g2 → g2 ≡ []
+    → g0 ≡ [] → Searched (names_of h stood.legal.held) q ps (all_placed (content_of stood.legal.held)) (sofar w0 g0 (record { matched = 0; expanded = 0 }) e0) (sofar w1 g1 tally e1) o0 o1 count → Grew w1 w2 g1 → g2 ≡ []
     → HasSearched h stood.legal.held q ps (record { matched = tally.matched; expanded = tally.expanded; opened = count; segments = length ps }) w0 w2 o0 o1 e0 e1
-has_searched bytes h es q ps tally count w0 w1 w2 g0 g1 g2 o0 o1 e0 e1 stood none searched moves done =
+has_searched bytes h es q ps tally count w0 w1 w2 g0 g1 g2 o0 o1 e0 e1 stood none searched grew done =
     let all : List Placed = all_placed (content_of stood.legal.held) in
     let small = content_small bytes h es stood in
     let a : Sofar = sofar w0 g0 (record { matched = 0; expanded = 0 }) e0 in
     let b : Sofar = sofar w1 g1 tally e1 in
     let c : Sofar = sofar w2 g2 tally e1 in
-    let p = passes_moves h.version q all a b c searched.passes (goes_moved b c moves) refl refl in
+    let p = passes_moves h.version q all a b c searched.passes (goes_moved b c (Moves-all w1 w2 g1 g2 grew done)) refl refl in
     let found_short = picks_short (λ x. IsFound h.version q x.message) all p.found p.are_found in
     let tried_short = picks_short (λ x. IsTried h.version q x.message) all p.tried p.are_tried in
     let m : tally.matched ≡ length p.found = p.advances.matched (omega (arith, found_short, small)) ∙ omega arith in

@@ -2,7 +2,6 @@
 #![tactic(auto)]
 
 mod laws;
-mod output;
 mod paging;
 mod printing;
 mod query;

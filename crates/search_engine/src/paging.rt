@@ -10,7 +10,6 @@ ghost use Rattle.search_engine.specs.Sofar.{Passes, Stops, sofar};
 ghost use Rattle.search_engine.specs.StepsPast.{PastTold};
 ghost use Rattle.search_engine.specs.Verdicts.{AreVerdicts};
 
-use crate::output::flush_piece;
 use crate::printing::search_page;
 use crate::query::Query;
 use crate::refusal::SearchRefusal;
@@ -20,6 +19,7 @@ use column_store::Columns;
 use log_seams::{Disk, Sink};
 use row_codec::Names;
 use segment_pages::SegmentPages;
+use sink_pieces::flush_piece;
 use std::alloc::Global;
 use std::sync::ledger::Ledger;
 use step_count::Steps;

@@ -7,7 +7,6 @@ ghost use Rattle.archive_open.specs.Archive.{shown};
 ghost use Rattle.archive_open.specs.Shown.{Opens};
 ghost use Rattle.search_engine.specs.Searched.{HasSearched, HasStopped, OfJournal, ReadsNoBarren, asked};
 
-use crate::output::flush;
 use crate::query::Query;
 use crate::refusal::SearchRefusal;
 use crate::report::Report;
@@ -16,6 +15,7 @@ use crate::tally::Tally;
 use archive_open::{Archive, KeepsTexts};
 use column_store::Range;
 use log_seams::{Disk, Sink};
+use sink_pieces::flush;
 use std::alloc::Global;
 use std::sync::ledger::Ledger;
 use step_count::Steps;
