@@ -10,7 +10,6 @@ mod report;
 mod searching;
 mod segments;
 mod tally;
-mod verdicts;
 
 pub use laws::{exact_expands_printed, one_is_found};
 pub use refusal::SearchRefusal;

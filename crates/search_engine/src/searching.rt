@@ -66,8 +66,10 @@ fn search_archive<T: KeepsTexts + Drop, D: Disk, K: Sink, L: Ledger, M: Ledger>(
     let files = archive.files().as_slice();
     let segments = archive.segments().as_slice();
     let names = archive.names();
+    let filter = query.filter(alloc, names)?;
     let count = search_segments(
-        alloc, query, names, files, segments, disk, out, gathered, &mut tally, opened, expanded,
+        alloc, query, names, files, segments, &filter, disk, out, gathered, &mut tally, opened,
+        expanded,
     )?;
     flush(out, gathered)?;
     Ok(Report {
