@@ -1,15 +1,14 @@
 -- A token of the pattern that can stand in no stamp stands among the constant bytes, or in a variable.
-use Rattle.std.proofs.Common.{◌≡◌, ℕ, Bool, true, false, zero, suc, ◌+◌, ◌<◌, List, [], ◌∷◌, ◌++◌, length, refl, sym, ◌∙◌, ap, subst, arith, inl, inr, append_assoc, append-nil}
-use Rattle.std.specs.Prelude.{◌⊎◌, ◌||◌, not, Option, None, All, IsTrue}
+use Rattle.std.proofs.Common.{◌≡◌, ℕ, Bool, true, false, zero, suc, List, [], ◌∷◌, ◌++◌, refl, sym, ◌∙◌, ap, subst, arith, inl, inr, append_assoc, append-nil}
+use Rattle.std.specs.Prelude.{◌⊎◌, ◌||◌, not, Option, All, IsTrue}
 use Rattle.std.specs.List.{AllByRecursion, Contains}
 use Rattle.std.proofs.lemmas.List.Elements.{recursion_from_All}
 use Rattle.token_rules.specs.Tokens.{IsDelimiter}
 use Rattle.time_patterns.specs.Laws.{is_stamp_byte}
-use Rattle.logtype_text.specs.Parts.{Part, Constant, Variable, AreParts}
+use Rattle.logtype_text.specs.Parts.{Part}
 use Rattle.logtype_text.specs.Cut.{PartsAreCut, plains}
-use Rattle.wild_match.specs.Matches.{Match}
 use Rattle.wild_match.specs.declared.pattern.Item.{Item}
-use Rattle.wild_match.specs.declared.pattern.Item.TheVariants.{Byte, Many}
+use Rattle.wild_match.specs.declared.pattern.Item.TheVariants.{Many}
 use Rattle.query_plan.specs.declared.pieces.Piece.{Piece}
 use Rattle.query_plan.specs.declared.pieces.Piece.TheVariants.{Gap, Mark, Word as WordPiece}
 use Rattle.query_plan.specs.Laws.{ForeignStandsInNoStamp, TokensAreBrought}

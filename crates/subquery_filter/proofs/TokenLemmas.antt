@@ -1,6 +1,6 @@
 -- A token of the pattern stands among the constant bytes of a row's log type, or within a word of the row.
-use Rattle.std.proofs.Common.{◌≡◌, ℕ, suc, ◌<◌, ◌≤◌, Bool, true, false, List, [], ◌∷◌, ◌++◌, length, map, refl, sym, ◌∙◌, ap, subst, arith, inl, inr}
-use Rattle.std.specs.Prelude.{◌⊎◌, ◌==◌, ◌||◌, ◌&&◌, ℤ, pos, negsuc, Option, None, Some, All, IsTrue, nat_le, slice_get}
+use Rattle.std.proofs.Common.{◌≡◌, ℕ, suc, ◌<◌, Bool, true, false, List, [], ◌∷◌, ◌++◌, length, map, refl, sym, subst, arith, inl, inr}
+use Rattle.std.specs.Prelude.{◌==◌, ◌||◌, ◌&&◌, ℤ, pos, negsuc, Option, Some, All, IsTrue, nat_le, slice_get}
 use Rattle.std.specs.List.{Contains}
 use Rattle.std.specs.Char.{digit_value}
 use Rattle.std.specs.Fmt.{decimal, signed_decimal, sign_text}
@@ -10,23 +10,21 @@ use Rattle.std.proofs.lemmas.Str.Parse.{digit_from_value}
 use Rattle.std.proofs.lemmas.List.Elements.{All-cons, All-nil}
 use Rattle.time_patterns.specs.Laws.{ShortTexts, is_stamp_byte}
 use Rattle.time_patterns.specs.Stamps.{HasStamp}
-use Rattle.var_codec.specs.Codes.{Codes, text_of}
+use Rattle.var_codec.specs.Codes.{Codes}
 use Rattle.var_codec.specs.declared.Coded.TheVariants.{Whole as WholeWord, Decimal as DecimalWord}
 use Rattle.var_codec.proofs.Texts.{all_digits}
 use Rattle.logtype_text.specs.declared.symbols.Kind.TheVariants.{Whole, Word, Decimal}
 use Rattle.logtype_text.specs.Parts.{Part, Constant, Variable, joined, symbol_of}
 use Rattle.logtype_text.specs.TypeText.{type_text}
 use Rattle.wild_match.specs.Matches.{Match}
-use Rattle.column_store.specs.declared.row.Row.{Row}
-use Rattle.row_codec.specs.Means.{EachWord, HasWord, IsCanonical}
-use Rattle.row_codec.specs.Numbers.{numbers_of_row, word_numbers}
+use Rattle.row_codec.specs.Means.{EachWord, HasWord}
+use Rattle.row_codec.specs.Numbers.{word_numbers}
 use Rattle.row_codec.proofs.EncoderLemmas.{slots}
-use Rattle.query_plan.specs.declared.pieces.Piece.{Piece}
 use Rattle.query_plan.specs.Laws.{ForeignStandsInNoStamp, TokensAreBrought}
-use Rattle.query_plan.specs.Needs.{HeldIn, around, is_foreign}
-use Rattle.query_plan.specs.Pieces.{IsCut, flat}
+use Rattle.query_plan.specs.Needs.{HeldIn, around}
+use Rattle.query_plan.specs.Pieces.{flat}
 use Rattle.subquery_filter.specs.StepsLetters.{marked_from}
-use Rattle.subquery_filter.specs.Tokens.{IsTokenOf, RowsBringTokens, StandsInType, StandsInWord}
+use Rattle.subquery_filter.specs.Tokens.{RowsBringTokens, StandsInType}
 use Rattle.subquery_filter.proofs.BarrenLemmas.{body_behind, contains_first, contains_rest, row_numbers, stamp_bytes}
 use Rattle.subquery_filter.proofs.VerdictLemmas.{marked_are}
 

@@ -1,4 +1,4 @@
-use Rattle.std.proofs.Common.{rules, arith}
+use Rattle.std.proofs.Common.{rules}
 use Rattle.subquery_filter.proofs.FilterLemmas.{marks_step}
 use Rattle.subquery_filter.proofs.tokens.marks_of.Goals as goal
 

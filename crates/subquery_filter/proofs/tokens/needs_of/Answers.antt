@@ -1,4 +1,3 @@
-use Rattle.std.proofs.Common.{rules, arith}
 use Rattle.subquery_filter.proofs.FilterLemmas.{has_none, needs_step}
 use Rattle.subquery_filter.proofs.tokens.needs_of.Goals as goal
 

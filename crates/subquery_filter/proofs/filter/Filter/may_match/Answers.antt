@@ -1,4 +1,4 @@
-use Rattle.std.proofs.Common.{rules, subst}
+use Rattle.std.proofs.Common.{subst}
 use Rattle.subquery_filter.specs.StepsFilter.{HasEach}
 use Rattle.subquery_filter.proofs.FilterLemmas.{none_may}
 use Rattle.subquery_filter.proofs.filter.Filter.may_match.Goals as goal
