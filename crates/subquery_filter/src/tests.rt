@@ -1,6 +1,6 @@
 use crate::books::Books;
 use crate::runs::holds_run;
-use crate::{Verdict, accepts, barren, verdict_of};
+use crate::{Filter, Verdict, accepts, barren, verdict_of};
 use column_store::{Range, RowRef};
 use log_seams::NumberList;
 use query_plan::Plan;
@@ -243,6 +243,39 @@ fn verdicts_of_log_types(rt: HostRuntime) -> Result<(), Fail> {
         let plan = plan_of(rt.alloc(), text)?;
         let well = verdict_of(&plan, log_type) == *want;
         assert!(rt; well, "{text:?}");
+    }
+    Ok(())
+}
+
+/// A row is told by what its words bring, and a segment by the words that its head lists. A number
+/// that happens to be that of a word counts as the word.
+#[test]
+fn rows_by_bits(rt: HostRuntime) -> Result<(), Fail> {
+    let alloc = rt.alloc();
+    let books = some_books(alloc)?;
+    // a pattern's text, a row's log type and words, its verdict, whether its segment may match
+    let rows: [(&[u8], u32, &[u32], &[u64], Verdict, bool); 9] = [
+        (b"task", 0, &[0], &[0], Verdict::Tried, true),
+        (b"task", 0, &[2], &[2], Verdict::Rejected, false),
+        (b"run*oo", 0, &[1, 2], &[1], Verdict::Rejected, true),
+        (b"run*oo", 0, &[1, 2], &[2], Verdict::Tried, true),
+        (b"run", 0, &[1], &[1], Verdict::Certain, true),
+        (b"took", 1, &[], &[7, 0x14F32], Verdict::Certain, true),
+        (b"oo1", 1, &[], &[7, 0x14F32], Verdict::Rejected, false),
+        (b"oo1", 1, &[2], &[2, 0x14F32], Verdict::Tried, true),
+        (b"12", 0, &[0], &[0], Verdict::Tried, true),
+    ];
+    for (text, log_type, listed, words, verdict, may) in rows {
+        let plan = plan_of(alloc, text)?;
+        let filter = Filter::new(alloc, &plan, &books)?;
+        let row = RowRef {
+            pattern: 0,
+            moment: 0,
+            log_type,
+            words,
+        };
+        assert_eq!(rt; filter.verdict(row), verdict, "{text:?} {words:?}");
+        assert_eq!(rt; filter.may_match(&[log_type], listed), may, "{text:?}");
     }
     Ok(())
 }
