@@ -1,9 +1,7 @@
 -- What causes say.
-use Rattle.std.proofs.Common.{◌≡◌, ◌≢◌, ⊎_elim, inl, inr, ℕ, zero, suc, ◌+◌, ◌<◌, ◌≤◌, Bool, true, false, List, [], ◌∷◌, ◌++◌, length, refl, sym, ap, ◌∙◌, subst, arith, append-nil, append_assoc, length-append, Option, None, Some, Result, Ok, Err}
-use Rattle.std.specs.Prelude.{IfSome, IsErrOf}
-use mathlib.Core.List.{IsPrefix}
+use Rattle.std.proofs.Common.{◌≡◌, ℕ, List, refl, ◌∙◌, Option, None, Some}
 use Rattle.log_seams.specs.Disk.{DiskState}
-use Rattle.turn_lock.specs.Words.{about, seen}
+use Rattle.turn_lock.specs.Words.{about}
 use Rattle.dict_lock.specs.Shared.{BookPass}
 use Rattle.row_codec.specs.declared.namer.Which.{Which}
 use Rattle.row_codec.specs.declared.namer.Which.TheVariants.{Types, Words}
@@ -14,9 +12,8 @@ use Rattle.disk_seal.specs.Fixed.{KeeperPass}
 use Rattle.disk_seal.specs.Known.{known_of}
 use Rattle.ingest_workers.specs.declared.outcome.Cause.{Cause}
 use Rattle.ingest_workers.specs.declared.outcome.Cause.TheVariants.{ReadFault, LineTooLong, TooManyLines, Full, DiskFault, ArchiveFull, OutOfMemory}
-use Rattle.ingest_workers.specs.declared.stop.Stop.{Stop}
 use Rattle.ingest_workers.specs.declared.stop.Stop.TheVariants.{Part as PartStop, Lost}
-use Rattle.ingest_workers.specs.Causes.{Grounds, Limits, Log, HasFailed, HasJobCause, HasLogCause, HasNoRoomBy, HasSealCause, IsFullCause, NoneFailed, grounds_of, limit_of, limits_by}
+use Rattle.ingest_workers.specs.Causes.{Grounds, Limits, Log, HasJobCause, HasLogCause, HasSealCause, IsFullCause, NoneFailed, grounds_of, limit_of, limits_by}
 use Rattle.ingest_workers.specs.Stop.{IsNameStop, stop_by}
 
 -- ---- a message that is not named

@@ -1,22 +1,19 @@
 -- What an ingest leaves, from what its workers did over the store.
-use Rattle.std.proofs.Common.{◌≡◌, ◌⊎◌, ℕ, zero, suc, ◌+◌, ◌-◌, ◌^◌, ◌<◌, ◌≤◌, Bool, true, false, List, [], ◌∷◌, ◌++◌, length, map, drop, take, sym, refl, ap, ◌∙◌, subst, ⊎_elim, inl, inr, arith, Option, None, Some, is_some, slice_get, All, append-nil, append_assoc}
+use Rattle.std.proofs.Common.{◌≡◌, ℕ, zero, suc, ◌+◌, ◌-◌, ◌^◌, ◌<◌, ◌≤◌, Bool, true, false, List, [], ◌∷◌, ◌++◌, length, map, drop, take, sym, refl, ap, ◌∙◌, subst, ⊎_elim, inl, inr, arith, Option, None, Some, is_some, slice_get, All, append-nil, append_assoc}
 use Rattle.std.specs.List.{filter_map, cons_option}
 use Rattle.std.proofs.lemmas.Option.{slice_get_within, slice_get-get_or}
 use Rattle.std.proofs.lemmas.Bool.{cases_lt}
 use mathlib.Core.List.{IsPrefix}
 use Rattle.log_seams.specs.declared.disk.Disk.{Ghosts as DiskGhosts}
-use Rattle.log_seams.specs.Disk.{DiskState}
 use Rattle.log_seams.specs.Outside.{Rose}
 use Rattle.record_format.specs.declared.header.Header.{Header}
 use Rattle.record_format.specs.Header.{IsHeader}
 use Rattle.archive_meaning.specs.Stands.{IsLegal}
-use Rattle.logtype_text.specs.Fair.{IsFairType, IsFairWord}
 use Rattle.turn_lock.specs.declared.board.About.{About}
 use Rattle.turn_lock.specs.declared.grows.Grows.{Ghosts}
-use Rattle.turn_lock.specs.Words.{lock_by, lock_of, made_by, about_by, seen_by, seen, own_list, about, number_of, IsReady, IsFreshOf, IsStillBy, IsOpening}
-use Rattle.ingest_fork.specs.Passes.{Fresh, IsFresh}
-use Rattle.ingest_fork.specs.Picked.{entries_in, AddedByOne}
-use Rattle.ingest_fork.specs.Works.{AllReady, AllFit, AllDone, Done}
+use Rattle.turn_lock.specs.Words.{lock_of, made_by, seen, own_list, about, number_of, IsReady, IsFreshOf, IsStillBy}
+use Rattle.ingest_fork.specs.Passes.{Fresh}
+use Rattle.ingest_fork.specs.Picked.{entries_in}
 use Rattle.ingest_fork.proofs.PlaceLemmas.{at_right, there_is}
 use Rattle.dict_core.specs.Books.{BookState}
 use Rattle.dict_core.specs.declared.grows.TheConstants.{WORDS_FIRST}
@@ -24,34 +21,30 @@ use Rattle.dict_lock.specs.Shared.{BookPass}
 use Rattle.disk_journal.specs.declared.journal.Journal.{Journal}
 use Rattle.disk_journal.specs.Journal.{state_of}
 use Rattle.disk_journal.specs.State.{JournalState}
-use Rattle.archive_meaning.specs.declared.entry.SegmentEntry.{SegmentEntry}
 use Rattle.archive_meaning.specs.declared.entry.JournalEntry.{JournalEntry}
 use Rattle.archive_meaning.specs.declared.entry.JournalEntry.TheVariants.{Files, Types, Words, Segment}
-use Rattle.archive_meaning.specs.Spelled.{types_of}
 use Rattle.disk_seal.specs.declared.entry.StoreEntry.{StoreEntry}
 use Rattle.disk_seal.specs.declared.entry.StoreEntry.TheVariants.{Entry, Blank, Stopped}
 use Rattle.disk_seal.specs.declared.fixed.StoreFixed.{StoreFixed}
 use Rattle.disk_seal.specs.Told.{IfTold, journal_in, recorded, blanks, mark}
-use Rattle.disk_seal.specs.WordsIn.{words_of}
-use Rattle.disk_seal.specs.View.{StoreView, StoreState, journal_state, state_by, store_entries, journal_of, journal_before, Kept, KnowsBook}
-use Rattle.disk_seal.specs.Opening.{MayName, MayOpen}
+use Rattle.disk_seal.specs.View.{StoreView, StoreState, journal_state, state_by, journal_of, Kept, KnowsBook}
+use Rattle.disk_seal.specs.Opening.{MayOpen}
 use Rattle.disk_seal.specs.Fixed.{fixed_of, KeeperPass}
 use Rattle.disk_seal.specs.May.{MayAdd}
 use Rattle.disk_seal.specs.Draft.{journal_seen}
 use Rattle.disk_seal.proofs.ToldLemmas.{told_map}
-use Rattle.disk_seal.proofs.NextLemmas.{told_always}
 use Rattle.ingest_workers.specs.declared.job.Job.{Job}
 use Rattle.ingest_workers.specs.declared.worker.Plan.{Plan}
 use Rattle.ingest_workers.specs.declared.worker.Worker.{Worker}
 use Rattle.ingest_workers.specs.JobDone.{IsDone}
 use Rattle.ingest_workers.specs.Journal.{Holds}
-use Rattle.ingest_workers.specs.Worker.{MayAddTexts, IsIdle, GoWith, IsNewJob, MayDo, DidJob, limits_in, passes_of, types_of as types_pass, words_of as words_pass}
+use Rattle.ingest_workers.specs.Worker.{IsIdle, limits_in, types_of as types_pass, words_of as words_pass}
 use Rattle.ingest_workers.specs.Crew.{BookMaker, HavePlan, HasEnrolled}
 use Rattle.ingest_workers.specs.Locked.{in_file, file_segment, list_of, list_behind, IsPassOf, IsStillStore, MayDoAt, HasWorked}
-use Rattle.ingest_workers.specs.Ingested.{first_file, told_entries, IsNewFile, AreNew, IsOfJobs, HasBook, OpensBook, opened_over, IsLeftBy, HasStayed, IsAsItWas, IsFileOf, HasStored, HasEndedBooks, HasIngested, HasItsCause, HaveCauses, IsTypeGiven, IsWordGiven, grounds_over, header_limits}
+use Rattle.ingest_workers.specs.Ingested.{first_file, told_entries, AreNew, IsOfJobs, OpensBook, opened_over, IsLeftBy, IsAsItWas, IsFileOf, HasStored, HasItsCause, HaveCauses, grounds_over, header_limits}
 use Rattle.disk_seal.specs.Known.{limit_in}
 use Rattle.turn_lock.proofs.FrontLemmas.{prefix_trans}
-use Rattle.ingest_workers.specs.Causes.{Limits, grounds_of, limit_of, limits_by, log_of}
+use Rattle.ingest_workers.specs.Causes.{Limits, grounds_of, limit_of, log_of}
 use Rattle.ingest_workers.proofs.CauseLemmas.{cause_on}
 use Rattle.ingest_workers.specs.Closing.{IsJournalOf}
 use Rattle.ingest_workers.proofs.FileLemmas.{file_of}

@@ -1,5 +1,5 @@
 -- What holds of the store once all jobs were done and its lock was closed.
-use Rattle.std.proofs.Common.{◌≡◌, ◌≢◌, ℕ, ◌+◌, ◌==◌, ◌<◌, ◌≤◌, Bool, true, false, if◌then◌else◌, List, [], ◌∷◌, ◌++◌, length, drop, sym, refl, ap, ◌∙◌, subst, arith, Option, None, Some, slice_get, All, Result, Ok, Err, IfOk, IfErr}
+use Rattle.std.proofs.Common.{◌≡◌, ◌≢◌, ℕ, ◌+◌, ◌==◌, Bool, true, false, if◌then◌else◌, List, [], ◌++◌, length, drop, sym, refl, ap, ◌∙◌, subst, arith, Option, None, Some, slice_get, Result, Ok, Err, IfOk, IfErr}
 use Rattle.std.proofs.lemmas.Bool.Decides.{nat_tests}
 use Rattle.std.specs.List.{filter_map}
 use Rattle.std.proofs.lemmas.Option.{slice_get_within}
@@ -8,15 +8,13 @@ use Rattle.log_seams.specs.Disk.{DiskState}
 use Rattle.turn_lock.specs.declared.board.About.{About}
 use Rattle.turn_lock.specs.declared.grows.Grows.{Ghosts}
 use Rattle.turn_lock.specs.History.{Has}
-use Rattle.turn_lock.specs.Words.{lock_by, lock_of, made_by, seen_by, ended_by, own_by, about_by, seen, own_list, about, number_of, IsReady, IsStill, IsStillBy, HasFixed, HasJoinedAll, IsAllOwned, IsOpening}
-use Rattle.ingest_fork.specs.Passes.{Fresh, IsFresh, Joined, HasEnded, AreJoinable, AreStill, OnlyThese}
-use Rattle.ingest_fork.specs.Picked.{entries_in, AddedByOne, AddsAlone, IsPast, NoneAdded}
-use Rattle.ingest_fork.specs.Works.{AllFit, AllDone, AllWent, Done}
+use Rattle.turn_lock.specs.Words.{made_by, seen_by, ended_by, about_by, seen, own_list, number_of, IsStill, HasFixed, HasJoinedAll, IsOpening}
+use Rattle.ingest_fork.specs.Passes.{Fresh, AreJoinable, AreStill}
+use Rattle.ingest_fork.specs.Picked.{entries_in, AddsAlone, IsPast, NoneAdded}
+use Rattle.ingest_fork.specs.Works.{AllDone}
 use Rattle.ingest_fork.proofs.PassLemmas.{all_joined}
 use Rattle.ingest_fork.proofs.PickLemmas.{picked_own, each_added}
 use Rattle.ingest_fork.proofs.PlaceLemmas.{there_is}
-use Rattle.archive_meaning.specs.declared.entry.SegmentEntry.{SegmentEntry}
-use Rattle.archive_meaning.specs.declared.entry.JournalEntry.{JournalEntry}
 use Rattle.archive_meaning.specs.declared.entry.JournalEntry.TheVariants.{Files, Types, Words, Segment}
 use Rattle.disk_seal.specs.declared.entry.StoreEntry.{StoreEntry}
 use Rattle.disk_seal.specs.declared.entry.StoreEntry.TheVariants.{Entry, Blank, Stopped}
@@ -26,10 +24,9 @@ use Rattle.disk_seal.specs.Fixed.{fixed_of, KeeperPass}
 use Rattle.disk_seal.specs.May.{MayAdd}
 use Rattle.ingest_workers.specs.declared.job.Job.{Job}
 use Rattle.ingest_workers.specs.declared.worker.Worker.{Worker}
-use Rattle.ingest_workers.specs.JobDone.{IsDone}
 use Rattle.ingest_workers.specs.Journal.{HasAdded}
-use Rattle.ingest_workers.specs.Worker.{IsIdle, MayDo, DidOnly, DidJob}
-use Rattle.ingest_workers.specs.Locked.{KeeperMaker, in_file, file_segment, MayDoAll, MayDoAt, HasDoneAll, HasClosed, HasKept, list_of, list_behind, IsPassOf, IsStillStore, HasWorked}
+use Rattle.ingest_workers.specs.Worker.{DidJob}
+use Rattle.ingest_workers.specs.Locked.{KeeperMaker, file_segment, MayDoAll, MayDoAt, HasDoneAll, HasClosed, HasKept, list_of, IsStillStore, HasWorked}
 
 module _ {X Y : Type 0} {P Q : X → Type 0} where
   pub ok_then : (r : Result X Y) → ((x : X) → P x → Q x) → IfOk r P → IfOk r Q

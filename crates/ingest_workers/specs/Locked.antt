@@ -1,12 +1,11 @@
 -- Jobs that workers do under the keeper's lock, and the store that comes back.
-use Rattle.std.specs.Prelude.{◌≡◌, ℕ, ◌+◌, ◌==◌, ◌<◌, ◌≤◌, if◌then◌else◌, List, [], length, drop, Option, None, Some, slice_get}
+use Rattle.std.specs.Prelude.{◌≡◌, ℕ, ◌+◌, ◌==◌, ◌≤◌, if◌then◌else◌, List, [], length, drop, Option, None, Some, slice_get}
 use Rattle.std.specs.List.{filter_map}
 use mathlib.Core.List.{IsPrefix}
 use Rattle.log_seams.specs.Disk.{DiskState}
-use Rattle.turn_lock.specs.declared.board.About.{About}
 use Rattle.turn_lock.specs.declared.grows.Grows.{Ghosts}
 use Rattle.turn_lock.specs.declared.maker.Maker.{Maker}
-use Rattle.turn_lock.specs.Words.{seen, own_list, about, number_of, IsReady, HasFixed, IsAllOwned, IsOpening, about_by, seen_by}
+use Rattle.turn_lock.specs.Words.{seen, own_list, about, number_of, IsReady, HasFixed, IsAllOwned, about_by, seen_by}
 use Rattle.ingest_fork.specs.Passes.{Fresh, Joined}
 use Rattle.ingest_fork.specs.Picked.{entries_in, AddedByOne}
 use Rattle.ingest_fork.specs.Works.{AllFit, AllDone, AllWent}

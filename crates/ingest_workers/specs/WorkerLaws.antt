@@ -1,13 +1,11 @@
 -- Laws of a worker, which its trait asks for.
-use Rattle.std.proofs.Common.{◌≡◌, ℕ, ◌+◌, ◌<◌, ◌≤◌, List, [], ◌∷◌, ◌++◌, length, sym, refl, ap, ◌∙◌, subst, Option, None, Some, IsSome, slice_get, All, map, append-nil, append_assoc}
+use Rattle.std.proofs.Common.{◌≡◌, ℕ, ◌+◌, ◌≤◌, List, [], ◌∷◌, ◌++◌, length, sym, refl, ap, ◌∙◌, subst, Option, None, Some, IsSome, append-nil, append_assoc}
 use Rattle.std.proofs.lemmas.List.Elements.{All-nil, All-append}
-use mathlib.Core.List.{IsPrefix}
 use Rattle.log_seams.specs.Disk.{DiskState}
-use Rattle.turn_lock.specs.Words.{about, lock_of, number_of, own_list, seen, IsReady, IsStill}
+use Rattle.turn_lock.specs.Words.{seen, IsReady}
 use Rattle.turn_lock.proofs.FrontLemmas.{prefix_self, prefix_trans}
 use Rattle.ingest_fork.proofs.PlaceLemmas.{at_left, at_right}
-use Rattle.dict_lock.specs.Shared.{BookPass, GoesOn}
-use Rattle.row_codec.specs.Messages.{IsTypeOf, IsWordOf}
+use Rattle.dict_lock.specs.Shared.{BookPass}
 use Rattle.row_codec.specs.Naming.{HasGrown, Known}
 use Rattle.disk_seal.specs.Fixed.{KeeperPass}
 use Rattle.disk_seal.specs.Known.{known_of, limit_in}
@@ -16,9 +14,9 @@ use Rattle.ingest_workers.specs.declared.worker.BookPasses.{BookPasses}
 use Rattle.ingest_workers.specs.declared.worker.Plan.{Plan}
 use Rattle.ingest_workers.specs.declared.worker.Worker.{Worker}
 use Rattle.ingest_workers.specs.Naming.{AddsOnly}
-use Rattle.ingest_workers.specs.Causes.{Limits, limits_by}
+use Rattle.ingest_workers.specs.Causes.{Limits}
 use Rattle.ingest_workers.specs.JobDone.{IsGivenBy, IsDone}
-use Rattle.ingest_workers.specs.Worker.{passes_in, passes_of, types_of, words_of, limits_in, MayAddTexts, IsIdle, NamesOnly, IsGiven, DidOnly, GoWith, IsNewJob, MayDo, DidJob}
+use Rattle.ingest_workers.specs.Worker.{passes_in, passes_of, types_of, words_of, limits_in, MayAddTexts, IsIdle, NamesOnly, IsGiven, DidOnly, MayDo, DidJob}
 
 grows_self : (P : List ℕ → Type 0) (known : Known) → HasGrown P known known
 grows_self P known = record { limit = refl; front = prefix_self known.texts; more = []; added = sym (append-nil known.added); allowed = All-nil P }

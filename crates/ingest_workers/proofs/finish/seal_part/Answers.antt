@@ -1,6 +1,6 @@
-use Rattle.std.proofs.Common.{rules, ◌≡◌, ◌<◌, length, Some, inr}
+use Rattle.std.proofs.Common.{rules, ◌<◌, length, Some, inr}
 use Rattle.std.specs.Prelude.{false}
-use Rattle.ingest_workers.proofs.DoneLemmas.{empty_done, may_seal_part, none_done, part_done}
+use Rattle.ingest_workers.proofs.DoneLemmas.{may_seal_part, none_done, part_done}
 use Rattle.ingest_workers.proofs.finish.seal_part.Goals as goal
 
 pub seal-requires : goal.seal-requires

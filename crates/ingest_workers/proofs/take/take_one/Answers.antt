@@ -47,12 +47,11 @@ returns-in-Ok-clause-taken g c = λ start taken d.
     c.in-Ok.ensures.emptied c.in-Ok.ensures.sealed c.in-Ok.ensures.holds full
 
 pub returns-in-Err-clause-stopped : goal.returns-in-Err-clause-stopped
-returns-in-Err-clause-stopped g c = λ start taken d.
-    (
-      covering g.D.Disk.state c.args.rows start c.args.keeper.now c.args.namer.now c.args.hand.now taken d c.seal.new.keeper c.seal.new.self c.args.line.now c.in-Err.ensures.refused
-          (c.in-Err.ensures.marks.first ∙ c.take_message.ensures.marks.first),
-      seal_cause g.D.Disk.state start c.args.keeper.now c.seal.new.keeper d.added.still.about_is c.in-Err.cause c.in-Err.ensures.causes,
-    )
+returns-in-Err-clause-stopped g c = λ start taken d. (
+  covering g.D.Disk.state c.args.rows start c.args.keeper.now c.args.namer.now c.args.hand.now taken d c.seal.new.keeper c.seal.new.self c.args.line.now c.in-Err.ensures.refused
+      (c.in-Err.ensures.marks.first ∙ c.take_message.ensures.marks.first),
+  seal_cause g.D.Disk.state start c.args.keeper.now c.seal.new.keeper d.added.still.about_is c.in-Err.cause c.in-Err.ensures.causes,
+)
 
 pub returns-in_err-take_message-clause-names : goal.returns-in_err-take_message-clause-names
 returns-in_err-take_message-clause-names g c =
