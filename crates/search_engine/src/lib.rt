@@ -15,6 +15,3 @@ pub use laws::{exact_expands_printed, one_is_found};
 pub use refusal::SearchRefusal;
 pub use report::Report;
 pub use searching::search;
-
-#[cfg(test)]
-mod tests;
