@@ -102,10 +102,7 @@ fn search_segment<N: Names, D: Disk, K: Sink, L: Ledger, M: Ledger>(
     else {
         return Err(SearchRefusal::Damaged);
     };
-    if !filter.may_match(
-        segment.head.types.as_slice(),
-        segment.head.words.as_slice(),
-    ) {
+    if !filter.may_match(segment.head.types.as_slice(), segment.head.words.as_slice()) {
         return Ok(true);
     }
     let name = file.name.as_slice();
@@ -175,19 +172,8 @@ pub(crate) fn search_segments<N: Names, D: Disk, K: Sink, L: Ledger, M: Ledger>(
     let mut count = 0;
     for segment in segments {
         let yes = search_segment(
-            alloc,
-            query,
-            names,
-            files,
-            segment,
-            filter,
-            disk,
-            out,
-            &mut bytes,
-            gathered,
-            tally,
-            opened,
-            expanded,
+            alloc, query, names, files, segment, filter, disk, out, &mut bytes, gathered, tally,
+            opened, expanded,
         )?;
         count += u64::from(yes);
     }
