@@ -132,8 +132,8 @@ pub(crate) fn search_pages<N: Names, D: Disk, K: Sink, M: Ledger>(
     let mut at = number;
     while pages.has_next() {
         columns = search_next(
-            query, names, name, at, &mut pages, columns, filter, disk, out, bytes, gathered,
-            tally, expanded,
+            query, names, name, at, &mut pages, columns, filter, disk, out, bytes, gathered, tally,
+            expanded,
         )?;
         at += u64::from(columns.rows());
     }

@@ -139,14 +139,14 @@ tests_step ps tokens types count old new text test size is there right needs bef
     (elim (cases_lt t (length old)) [
       | inl less ↦ subst (λ (x : TypeTest). IsRight ps other x.verdict × Needs tokens other x.needs) (sym (get_or_append_left old (test ∷ []) unknown t less)) (before t other found)
       | inr past ↦ elim (cases_eq t (length old)) [
-          | inl same ↦
-              let at : get_or (old ++ test ∷ []) t unknown ≡ test = ap (λ (j : ℕ). get_or (old ++ test ∷ []) j unknown) same ∙ tests_at old test 0 in
-              let texts : text ≡ other = some_same (slice_get types count) text other there (ap (λ (j : ℕ). slice_get types j) (sym (same ∙ size)) ∙ found) in
-              subst (λ (x : TypeTest). IsRight ps other x.verdict × Needs tokens other x.needs) (sym at) (subst (λ x. IsRight ps x test.verdict × Needs tokens x test.needs) texts (right, needs))
-          | inr more ↦
-              let none : get_or (old ++ test ∷ []) t unknown ≡ unknown = get_or_past (old ++ test ∷ []) t unknown (omega (arith, past, more, length-append old (test ∷ []))) in
-              subst (λ (x : TypeTest). IsRight ps other x.verdict × Needs tokens other x.needs) (sym none) (tt, λ all each. has_none all)
-        ]
+        | inl same ↦
+            let at : get_or (old ++ test ∷ []) t unknown ≡ test = ap (λ (j : ℕ). get_or (old ++ test ∷ []) j unknown) same ∙ tests_at old test 0 in
+            let texts : text ≡ other = some_same (slice_get types count) text other there (ap (λ (j : ℕ). slice_get types j) (sym (same ∙ size)) ∙ found) in
+            subst (λ (x : TypeTest). IsRight ps other x.verdict × Needs tokens other x.needs) (sym at) (subst (λ x. IsRight ps x test.verdict × Needs tokens x test.needs) texts (right, needs))
+        | inr more ↦
+            let none : get_or (old ++ test ∷ []) t unknown ≡ unknown = get_or_past (old ++ test ∷ []) t unknown (omega (arith, past, more, length-append old (test ∷ []))) in
+            subst (λ (x : TypeTest). IsRight ps other x.verdict × Needs tokens other x.needs) (sym none) (tt, λ all each. has_none all)
+      ]
     ])
 
 pub tests_none : (ps : List Piece) (tokens : List Token) (types : List (List ℕ)) (tests : List TypeTest) → tests ≡ [] → AreTests ps tokens types tests
