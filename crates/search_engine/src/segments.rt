@@ -5,8 +5,8 @@ ghost use Rattle.log_seams.specs.Outside.{CountsOf};
 ghost use Rattle.query_plan.specs.Laws.{IsSearched};
 ghost use Rattle.query_plan.specs.Pieces.{wide_pieces};
 ghost use Rattle.subquery_filter.specs.Filter.{IsFilter};
-ghost use Rattle.search_engine.specs.Held.{OfSegments, named};
-ghost use Rattle.search_engine.specs.Opened.{ReadsOpened, Searched, Stopped};
+ghost use Rattle.search_engine.specs.Held.{named};
+ghost use Rattle.search_engine.specs.Opened.{NoneTold, ReadsTold, SearchedTold, StoppedTold};
 ghost use Rattle.search_engine.specs.Sofar.{sofar};
 
 use crate::paging::search_pages;
@@ -54,34 +54,27 @@ fn search_segment<N: Names, D: Disk, K: Sink, L: Ledger, M: Ledger>(
 
     // what stays
     ensures rests { Rests (D.state disk.old) (D.state disk.new) }
-    ensures reads { OfSegments (D.state disk.old).seen
+    ensures reads { ReadsTold (D.state disk.old) (D.state disk.new)
         (named (N.version names.now) (N.types names.now) (N.words names.now))
-        files.now (segment.now ∷ []) (λ _ _. ReadsOpened
-        (named (N.version names.now) (N.types names.now) (N.words names.now)) query.now
-        (segment.now ∷ []) (D.state disk.old).ranges (D.state disk.new).ranges) }
+        files.now query.now (segment.now ∷ []) }
 
     // by the answer
-    ensures done { IfOk result (λ yes. OfSegments (D.state disk.old).seen
+    ensures done { IfOk result (λ yes. SearchedTold (D.state disk.old).seen
         (named (N.version names.now) (N.types names.now) (N.words names.now))
-        files.now (segment.now ∷ []) (λ _ all. Searched
-        (named (N.version names.now) (N.types names.now) (N.words names.now)) query.now
-        (segment.now ∷ []) all
+        files.now query.now (segment.now ∷ [])
         (sofar (K.written out.old) gathered.old.items tally.old expanded.old)
         (sofar (K.written out.new) gathered.new.items tally.new expanded.new)
-        opened.old opened.new (cond yes 1 0))) }
-    ensures stopped { OnErr result (OfSegments (D.state disk.old).seen
+        opened.old opened.new (cond yes 1 0)) }
+    ensures stopped { OnErr result (StoppedTold (D.state disk.old).seen
         (named (N.version names.now) (N.types names.now) (N.words names.now))
-        files.now (segment.now ∷ []) (λ _ all. Stopped
-        (named (N.version names.now) (N.types names.now) (N.words names.now)) query.now
-        (segment.now ∷ []) all
+        files.now query.now (segment.now ∷ [])
         (sofar (K.written out.old) gathered.old.items tally.old expanded.old)
-        (K.written out.new) expanded.new opened.old opened.new)) }
+        (K.written out.new) expanded.new opened.old opened.new) }
 
     // causes
-    ensures damaged { IsErrOf result SearchRefusal.Damaged
-        → OfSegments (D.state disk.old).seen
+    ensures damaged { IsErrOf result SearchRefusal.Damaged → NoneTold (D.state disk.old).seen
         (named (N.version names.now) (N.types names.now) (N.words names.now))
-        files.now (segment.now ∷ []) (λ _ _. ⊥) }
+        files.now (segment.now ∷ []) }
     ensures disk_counts { CountsOf SearchRefusal.DiskFault
         (D.state disk.old).faults (D.state disk.new).faults result }
     ensures sink_counts { CountsOf SearchRefusal.SinkFault
@@ -135,34 +128,27 @@ pub(crate) fn search_segments<N: Names, D: Disk, K: Sink, L: Ledger, M: Ledger>(
 
     // what stays
     ensures rests { Rests (D.state disk.old) (D.state disk.new) }
-    ensures reads { OfSegments (D.state disk.old).seen
+    ensures reads { ReadsTold (D.state disk.old) (D.state disk.new)
         (named (N.version names.now) (N.types names.now) (N.words names.now))
-        files.now segments.now (λ _ _. ReadsOpened
-        (named (N.version names.now) (N.types names.now) (N.words names.now)) query.now
-        segments.now (D.state disk.old).ranges (D.state disk.new).ranges) }
+        files.now query.now segments.now }
 
     // by the answer
-    ensures done { IfOk result (λ count. OfSegments (D.state disk.old).seen
+    ensures done { IfOk result (λ count. SearchedTold (D.state disk.old).seen
         (named (N.version names.now) (N.types names.now) (N.words names.now))
-        files.now segments.now (λ _ all. Searched
-        (named (N.version names.now) (N.types names.now) (N.words names.now)) query.now
-        segments.now all
+        files.now query.now segments.now
         (sofar (K.written out.old) gathered.old.items tally.old expanded.old)
         (sofar (K.written out.new) gathered.new.items tally.new expanded.new)
-        opened.old opened.new count)) }
-    ensures stopped { OnErr result (OfSegments (D.state disk.old).seen
+        opened.old opened.new count) }
+    ensures stopped { OnErr result (StoppedTold (D.state disk.old).seen
         (named (N.version names.now) (N.types names.now) (N.words names.now))
-        files.now segments.now (λ _ all. Stopped
-        (named (N.version names.now) (N.types names.now) (N.words names.now)) query.now
-        segments.now all
+        files.now query.now segments.now
         (sofar (K.written out.old) gathered.old.items tally.old expanded.old)
-        (K.written out.new) expanded.new opened.old opened.new)) }
+        (K.written out.new) expanded.new opened.old opened.new) }
 
     // causes
-    ensures damaged { IsErrOf result SearchRefusal.Damaged
-        → OfSegments (D.state disk.old).seen
+    ensures damaged { IsErrOf result SearchRefusal.Damaged → NoneTold (D.state disk.old).seen
         (named (N.version names.now) (N.types names.now) (N.words names.now))
-        files.now segments.now (λ _ _. ⊥) }
+        files.now segments.now }
     ensures disk_counts { CountsOf SearchRefusal.DiskFault
         (D.state disk.old).faults (D.state disk.new).faults result }
     ensures sink_counts { CountsOf SearchRefusal.SinkFault
