@@ -24,4 +24,6 @@ pub use outcome::{Cause, Outcome};
 pub use run::run_job;
 
 #[cfg(test)]
+mod fault_tests;
+#[cfg(test)]
 mod tests;
