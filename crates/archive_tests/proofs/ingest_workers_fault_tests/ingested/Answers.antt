@@ -1,7 +1,7 @@
 use Rattle.std.proofs.Common.{rules, refl, sym, subst}
 use Rattle.record_format.specs.Header.{IsHeader}
 use Rattle.ingest_workers.proofs.TakingLemmas.{none_at}
-use Rattle.ingest_workers.proofs.fault_tests.ingested.Goals as goal
+use Rattle.archive_tests.proofs.ingest_workers_fault_tests.ingested.Goals as goal
 
 pub ingest-requires-clause-journal : goal.ingest-requires-clause-journal
 ingest-requires-clause-journal g c κs within =

@@ -2,9 +2,9 @@
 ghost use Rattle.std.specs.Prelude.{◌≡◌, None, false, is_ok};
 ghost use Rattle.log_seams.specs.Outside.{Counts};
 
-use crate::{Cause, Job, Outcome, ingest};
 use dict_core::Book;
 use disk_journal::{Journal, create};
+use ingest_workers::{Cause, Job, Outcome, ingest};
 use log_seams::{Disk, Failed, PlainSource, Text};
 use record_format::Header;
 use std::alloc::Global;
