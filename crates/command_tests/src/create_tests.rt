@@ -1,19 +1,19 @@
 //! The making of an archive over a disk in memory.
-use crate::tests::{AMPLE, Outcome, Rooms, call, disk};
+use crate::log_tests::{AMPLE, Outcome, Rooms, call, disk};
 use log_seams::{Disk, MemDisk, MemShelf};
 use std::alloc::{AllocError, Global};
 use std::sync::Wait;
 use std::test::Fail;
 use std::thread::Threads;
 
-const EMPTY: [u8; 33] = [
+static EMPTY: [u8; 33] = [
     0x43, 0x4C, 0x50, 0x41, 0x52, 0x43, 0x48, 0x0A, 0x01, 0x00, 0x00, 0x00, 0x00, 0x00, 0x00, 0x01,
     0x00, 0x00, 0x00, 0x80, 0x00, 0x00, 0x00, 0x00, 0x00, 0x00, 0x00, 0x00, 0x00, 0x01, 0x00, 0x00,
     0x00,
 ];
 
 // An archive with the limits 2, 3 and 60.
-const SMALL: [u8; 33] = [
+static SMALL: [u8; 33] = [
     0x43, 0x4C, 0x50, 0x41, 0x52, 0x43, 0x48, 0x0A, 0x01, 0x00, 0x00, 0x00, 0x02, 0x00, 0x00, 0x00,
     0x03, 0x00, 0x00, 0x00, 0x00, 0x00, 0x00, 0x00, 0x3C, 0x00, 0x00, 0x00, 0x00, 0x00, 0x00, 0x00,
     0x00,
@@ -31,29 +31,28 @@ fn over<R: Threads + Wait + Sync>(
     call(rt, alloc, words, &mut logs, archive, rooms)
 }
 
+const AN_EMPTY_DISK: &[(&[&str], &[u8])] = &[
+    (&["create"], &EMPTY),
+    (
+        &["create", "--types=2", "--words", "3", "--bytes=60"],
+        &SMALL,
+    ),
+    (
+        &["create", "--bytes", "60", "--types", "2", "--words=3"],
+        &SMALL,
+    ),
+];
+
 #[test]
 fn an_empty_disk_becomes_an_archive(rt: HostRuntime) -> Result<(), Fail> {
     let alloc = rt.alloc();
-    let rows: [(&[&str], &[u8]); 3] = [
-        (&["create"], &EMPTY),
-        (
-            &["create", "--types=2", "--words", "3", "--bytes=60"],
-            &SMALL,
-        ),
-        (
-            &["create", "--bytes", "60", "--types", "2", "--words=3"],
-            &SMALL,
-        ),
-    ];
-    for (words, want) in rows {
+    for &(words, want) in AN_EMPTY_DISK {
         let mut archive = disk(alloc, &[], &[])?;
         let outcome = over(&rt, alloc, words, &mut archive, AMPLE)?;
-        assert_eq!(rt; outcome.status, 0);
-        assert!(rt; outcome.out.is_empty());
-        assert!(rt; outcome.err.is_empty());
-        assert_eq!(rt; archive.bytes(), want);
-        assert_eq!(rt; archive.calls(), 3);
-        assert_eq!(rt; archive.faults(), 0);
+        assert!(rt; outcome.is(0, b"", b""));
+        assert!(rt; archive.bytes() == want);
+        assert!(rt; archive.calls() == 3);
+        assert!(rt; archive.faults() == 0);
     }
     Ok(())
 }
@@ -75,11 +74,9 @@ fn a_disk_with_bytes_is_left_alone(rt: HostRuntime) -> Result<(), Fail> {
     for (rooms, want) in rows {
         let mut archive = disk(alloc, bytes.as_slice(), &[])?;
         let outcome = over(&rt, alloc, &["create"], &mut archive, rooms)?;
-        assert_eq!(rt; outcome.status, 8);
-        assert!(rt; outcome.out.is_empty());
-        assert_eq!(rt; outcome.err.as_slice(), want);
-        assert_eq!(rt; archive.bytes(), bytes.as_slice());
-        assert_eq!(rt; archive.calls(), 1);
+        assert!(rt; outcome.is(8, b"", want));
+        assert!(rt; archive.bytes() == bytes.as_slice());
+        assert!(rt; archive.calls() == 1);
     }
     Ok(())
 }
@@ -90,13 +87,8 @@ fn each_call_on_the_disk_may_fail(rt: HostRuntime) -> Result<(), Fail> {
     for fault in 0..3u64 {
         let mut archive = disk(alloc, &[], &[fault])?;
         let outcome = over(&rt, alloc, &["create"], &mut archive, AMPLE)?;
-        assert_eq!(rt; outcome.status, 5);
-        assert!(rt; outcome.out.is_empty());
-        assert_eq!(rt;
-            outcome.err.as_slice(),
-            b"clpa: archive: disk failed\n".as_slice()
-        );
-        assert_eq!(rt; archive.faults(), 1);
+        assert!(rt; outcome.is(5, b"", b"clpa: archive: disk failed\n"));
+        assert!(rt; archive.faults() == 1);
     }
     Ok(())
 }

@@ -1,14 +1,18 @@
 //! The commands that read an archive, over a disk in memory.
-use crate::tests::{AMPLE, Outcome, Rooms, call, disk};
+use crate::log_tests::{AMPLE, Outcome, Rooms, call, disk};
 use log_seams::{Disk, MemShelf};
 use std::alloc::{AllocError, Global};
 use std::sync::Wait;
 use std::test::Fail;
+
+/// The line of a call that has no meaning.
+const USAGE: &[u8] = b"clpa: usage: clpa ARCHIVE COMMAND [OPTION]... [WORD]...\n";
+
 use std::thread::Threads;
 
 // One file `a.log` with the bytes `a` and a line end: a record of its name, one of its log type, and
 // one of its rows. One byte stands behind its end.
-pub(crate) const WORKED: [u8; 156] = [
+pub(crate) static WORKED: [u8; 156] = [
     0x43, 0x4C, 0x50, 0x41, 0x52, 0x43, 0x48, 0x0A, 0x01, 0x00, 0x00, 0x00, 0x00, 0x00, 0x00, 0x01,
     0x00, 0x00, 0x00, 0x80, 0x00, 0x00, 0x00, 0x00, 0x00, 0x00, 0x00, 0x00, 0x00, 0x01, 0x00, 0x00,
     0x01, 0x01, 0x0D, 0x00, 0x00, 0x00, 0x00, 0x00, 0x00, 0x00, 0x01, 0x00, 0x00, 0x00, 0x05, 0x00,
@@ -41,57 +45,51 @@ pub(crate) fn over<R: Threads + Wait + Sync>(
     )
 }
 
+const AN_ARCHIVE_IS_PRINTED: &[(&[&str], &[u8])] = &[
+    (&["files"], b"0 1 whole a.log\n"),
+    (&["check"], b"entries 3 files 1 messages 1\n"),
+    (&["decode", "0"], b"a\n"),
+];
+
 #[test]
 fn an_archive_is_printed(rt: HostRuntime) -> Result<(), Fail> {
     let alloc = rt.alloc();
-    let rows: [(&[&str], &[u8]); 3] = [
-        (&["files"], b"0 1 whole a.log\n"),
-        (&["check"], b"entries 3 files 1 messages 1\n"),
-        (&["decode", "0"], b"a\n"),
-    ];
-    for (words, want) in rows {
+    for &(words, want) in AN_ARCHIVE_IS_PRINTED {
         for len in 155..=156 {
             let outcome = over(&rt, alloc, words, &WORKED[..len], u64::MAX, AMPLE)?;
-            assert_eq!(rt; outcome.status, 0);
-            assert_eq!(rt; outcome.out.as_slice(), want);
-            assert!(rt; outcome.err.is_empty());
+            assert!(rt; outcome.is(0, want, b""));
         }
     }
     Ok(())
 }
+
+const DAMAGE_IS_TOLD: &[(usize, &[u8])] = &[
+    (154, b"clpa: archive: damaged at 154\n"),
+    (153, b"clpa: archive: damaged at 78\n"),
+    (0, b"clpa: archive: damaged at 0\n"),
+];
 
 #[test]
 fn damage_is_told_at_its_gate(rt: HostRuntime) -> Result<(), Fail> {
     let alloc = rt.alloc();
-    let rows: [(usize, &[u8]); 3] = [
-        (154, b"clpa: archive: damaged at 154\n"),
-        (153, b"clpa: archive: damaged at 78\n"),
-        (0, b"clpa: archive: damaged at 0\n"),
-    ];
-    for (len, want) in rows {
+    for &(len, want) in DAMAGE_IS_TOLD {
         for word in ["check", "files"] {
             let outcome = over(&rt, alloc, &[word], &WORKED[..len], u64::MAX, AMPLE)?;
-            assert_eq!(rt; outcome.status, 6);
-            assert!(rt; outcome.out.is_empty());
-            assert_eq!(rt; outcome.err.as_slice(), want);
+            assert!(rt; outcome.is(6, b"", want));
         }
     }
     Ok(())
 }
 
+const EACH_CALL_THAT: &[&[&str]] = &[&["check"], &["files"], &["decode", "0"]];
+
 #[test]
 fn each_call_that_reads_an_archive_may_fail(rt: HostRuntime) -> Result<(), Fail> {
     let alloc = rt.alloc();
-    let rows: [&[&str]; 3] = [&["check"], &["files"], &["decode", "0"]];
-    for words in rows {
+    for &words in EACH_CALL_THAT {
         for fault in 0..10u64 {
             let outcome = over(&rt, alloc, words, &WORKED, fault, AMPLE)?;
-            assert_eq!(rt; outcome.status, 5);
-            assert!(rt; outcome.out.is_empty());
-            assert_eq!(rt;
-                outcome.err.as_slice(),
-                b"clpa: archive: disk failed\n".as_slice()
-            );
+            assert!(rt; outcome.is(5, b"", b"clpa: archive: disk failed\n"));
         }
     }
     Ok(())
@@ -107,33 +105,31 @@ fn an_output_without_room_is_told(rt: HostRuntime) -> Result<(), Fail> {
     };
     for word in ["check", "files"] {
         let outcome = over(&rt, alloc, &[word], &WORKED, u64::MAX, rooms)?;
-        assert_eq!(rt; outcome.status, 7);
-        assert_eq!(rt; outcome.err.as_slice(), b"clpa: output failed\n".as_slice());
+        assert!(rt; outcome.status == 7);
+        assert!(rt; outcome.err.as_slice() == b"clpa: output failed\n".as_slice());
     }
     Ok(())
 }
 
+const A_FILE_THAT: &[(&str, u8, &[u8])] = &[
+    ("1", 8, b"clpa: no file 1, the archive has 1\n"),
+    ("5", 8, b"clpa: no file 5, the archive has 1\n"),
+    (
+        "4294967295",
+        8,
+        b"clpa: no file 4294967295, the archive has 1\n",
+    ),
+    ("4294967296", 2, USAGE),
+    ("00", 2, USAGE),
+    ("-1", 2, USAGE),
+];
+
 #[test]
 fn a_file_that_is_not_there_is_told(rt: HostRuntime) -> Result<(), Fail> {
     let alloc = rt.alloc();
-    let usage: &[u8] = b"clpa: usage: clpa ARCHIVE COMMAND [OPTION]... [WORD]...\n";
-    let rows: [(&str, u8, &[u8]); 6] = [
-        ("1", 8, b"clpa: no file 1, the archive has 1\n"),
-        ("5", 8, b"clpa: no file 5, the archive has 1\n"),
-        (
-            "4294967295",
-            8,
-            b"clpa: no file 4294967295, the archive has 1\n",
-        ),
-        ("4294967296", 2, usage),
-        ("00", 2, usage),
-        ("-1", 2, usage),
-    ];
-    for (number, status, want) in rows {
+    for &(number, status, want) in A_FILE_THAT {
         let outcome = over(&rt, alloc, &["decode", number], &WORKED, u64::MAX, AMPLE)?;
-        assert_eq!(rt; outcome.status, status);
-        assert!(rt; outcome.out.is_empty());
-        assert_eq!(rt; outcome.err.as_slice(), want);
+        assert!(rt; outcome.is(status, b"", want));
     }
     Ok(())
 }

@@ -1,10 +1,13 @@
 //! Searches of an archive over a disk in memory.
 use crate::directory_tests::over;
-use crate::tests::{AMPLE, Rooms};
+use crate::log_tests::{AMPLE, Rooms};
 use std::test::Fail;
 
+/// The line of a call that has no meaning.
+const USAGE: &[u8] = b"clpa: usage: clpa ARCHIVE COMMAND [OPTION]... [WORD]...\n";
+
 // File `a.log` with the lines `12534`, `12 34` and `a12*34`.
-const NUMBERS: [u8; 280] = [
+static NUMBERS: [u8; 280] = [
     67, 76, 80, 65, 82, 67, 72, 10, 1, 0, 0, 0, 100, 0, 0, 0, 100, 0, 0, 0, 0, 0, 0, 0, 0, 16, 0,
     0, 0, 0, 0, 0, 1, 1, 13, 0, 0, 0, 0, 0, 0, 0, 1, 0, 0, 0, 5, 0, 0, 0, 97, 46, 108, 111, 103, 1,
     2, 27, 0, 0, 0, 0, 0, 0, 0, 0, 0, 0, 0, 3, 0, 0, 0, 1, 0, 0, 0, 17, 3, 0, 0, 0, 17, 32, 17, 3,
@@ -17,51 +20,48 @@ const NUMBERS: [u8; 280] = [
     0, 0, 0, 0, 0, 0, 0,
 ];
 
+const A_SEARCH_PRINTS: &[(&[&str], &[u8])] = &[
+    (
+        &["search", "--stats", "12*34"],
+        b"a.log:1:12534\na.log:2:12 34\na.log:3:a12*34\nmatched 3 expanded 3 opened 1 segments 1\n",
+    ),
+    (&["search", "12\\*34"], b"a.log:3:a12*34\n"),
+    (&["search", "--workers=3", "--from=-5", "12"], b""),
+    (
+        &["search", "--stats", "y"],
+        b"matched 0 expanded 0 opened 1 segments 1\n",
+    ),
+];
+
 #[test]
 fn a_search_prints_what_it_finds(rt: HostRuntime) -> Result<(), Fail> {
     let alloc = rt.alloc();
-    let rows: [(&[&str], &[u8]); 4] = [
-        (
-            &["search", "--stats", "12*34"],
-            b"a.log:1:12534\na.log:2:12 34\na.log:3:a12*34\nmatched 3 expanded 3 opened 1 segments 1\n",
-        ),
-        (&["search", "12\\*34"], b"a.log:3:a12*34\n"),
-        (&["search", "--workers=3", "--from=-5", "12"], b""),
-        (
-            &["search", "--stats", "y"],
-            b"matched 0 expanded 0 opened 1 segments 1\n",
-        ),
-    ];
-    for (words, want) in rows {
+    for &(words, want) in A_SEARCH_PRINTS {
         let outcome = over(&rt, alloc, words, &NUMBERS, u64::MAX, AMPLE)?;
-        assert_eq!(rt; outcome.status, 0);
-        assert_eq!(rt; outcome.out.as_slice(), want);
-        assert!(rt; outcome.err.is_empty());
+        assert!(rt; outcome.is(0, want, b""));
     }
     Ok(())
 }
 
+const A_SEARCH_THAT: &[(&[&str], u64, u8, &[u8])] = &[
+    (&["search"], u64::MAX, 2, USAGE),
+    (&["search", "--segment=5", "x"], u64::MAX, 2, USAGE),
+    (
+        &["search", "--stats", "ab\\"],
+        0,
+        3,
+        b"clpa: pattern: lone backslash at 2\n",
+    ),
+    (&["search", "12"], 0, 5, b"clpa: archive: disk failed\n"),
+    (&["search", "12"], 12, 5, b"clpa: archive: disk failed\n"),
+];
+
 #[test]
 fn a_search_that_cannot_be_made_is_told(rt: HostRuntime) -> Result<(), Fail> {
     let alloc = rt.alloc();
-    let usage: &[u8] = b"clpa: usage: clpa ARCHIVE COMMAND [OPTION]... [WORD]...\n";
-    let rows: [(&[&str], u64, u8, &[u8]); 5] = [
-        (&["search"], u64::MAX, 2, usage),
-        (&["search", "--segment=5", "x"], u64::MAX, 2, usage),
-        (
-            &["search", "--stats", "ab\\"],
-            0,
-            3,
-            b"clpa: pattern: lone backslash at 2\n",
-        ),
-        (&["search", "12"], 0, 5, b"clpa: archive: disk failed\n"),
-        (&["search", "12"], 12, 5, b"clpa: archive: disk failed\n"),
-    ];
-    for (words, fault, status, want) in rows {
+    for &(words, fault, status, want) in A_SEARCH_THAT {
         let outcome = over(&rt, alloc, words, &NUMBERS, fault, AMPLE)?;
-        assert_eq!(rt; outcome.status, status);
-        assert!(rt; outcome.out.is_empty());
-        assert_eq!(rt; outcome.err.as_slice(), want);
+        assert!(rt; outcome.is(status, b"", want));
     }
     Ok(())
 }
@@ -84,9 +84,9 @@ fn a_search_without_room_prints_a_front(rt: HostRuntime) -> Result<(), Fail> {
             u64::MAX,
             rooms,
         )?;
-        assert_eq!(rt; outcome.status, 7);
+        assert!(rt; outcome.status == 7);
         assert!(rt; text.starts_with(outcome.out.as_slice()));
-        assert_eq!(rt; outcome.err.as_slice(), b"clpa: output failed\n".as_slice());
+        assert!(rt; outcome.err.as_slice() == b"clpa: output failed\n".as_slice());
     }
     Ok(())
 }

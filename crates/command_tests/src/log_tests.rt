@@ -1,9 +1,13 @@
 //! The commands over logs, a disk and outputs in memory.
-use crate::run;
+use clp_commands::run;
 use log_seams::{MemDisk, MemFile, MemShelf, MemSink, Text};
 use std::alloc::{AllocError, Global};
 use std::sync::Wait;
 use std::test::Fail;
+
+/// The line of a call that has no meaning.
+const USAGE: &[u8] = b"clpa: usage: clpa ARCHIVE COMMAND [OPTION]... [WORD]...\n";
+
 use std::thread::Threads;
 
 /// What a call answered and wrote.
@@ -12,6 +16,13 @@ pub(crate) struct Outcome {
     pub(crate) status: u8,
     pub(crate) out: Vec<u8>,
     pub(crate) err: Vec<u8>,
+}
+
+impl Outcome {
+    /// Whether the call answered this and wrote these bytes.
+    pub(crate) fn is(&self, status: u8, out: &[u8], err: &[u8]) -> bool {
+        self.status == status && self.out.as_slice() == out && self.err.as_slice() == err
+    }
 }
 
 /// How many bytes the two outputs take, and the write to the first that fails.
@@ -64,6 +75,18 @@ pub(crate) fn call<R: Threads + Wait + Sync>(
     for word in words {
         list.push(String::from_str(alloc, word)?)?;
     }
+    listed(rt, alloc, list, shelf, archive, rooms)
+}
+
+/// The same with words of a list of one's own.
+pub(crate) fn listed<R: Threads + Wait + Sync>(
+    rt: &R,
+    alloc: Global,
+    words: Vec<String>,
+    shelf: &mut MemShelf,
+    archive: &mut MemDisk,
+    rooms: Rooms,
+) -> Result<Outcome, AllocError> {
     let mut second = disk(alloc, &[], &[])?;
     let out_fails = vec![in alloc; rooms.out_fails; 1]?;
     let mut out = MemSink::new(alloc, rooms.out, out_fails)?;
@@ -71,7 +94,7 @@ pub(crate) fn call<R: Threads + Wait + Sync>(
     let status = run(
         rt,
         alloc,
-        list.as_slice(),
+        words.as_slice(),
         shelf,
         archive,
         &mut second,
@@ -104,40 +127,39 @@ fn over<R: Threads + Wait + Sync>(
     )
 }
 
+const SHOW_MARKS_VARIABLES: &[(&[u8], &[u8])] = &[
+    (b"", b""),
+    (b"\n", b"\n"),
+    (b"a\r\nb", b"a\r\nb\n"),
+    (b"x=foo foo bad to\n", b"x={w:foo} foo {w:bad} to\n"),
+    (b"x=foo foo bad to", b"x={w:foo} foo {w:bad} to\n"),
+    (b"=_ =a a\n", b"=_ ={w:a} a\n"),
+    (
+        b"INFO Task task_12 assigned to container: [NodeAddress:172.128.0.41, ContainerID:container_15], operation took 0.335 SECONDS\n",
+        b"INFO Task {w:task_12} assigned to container: [NodeAddress:{w:172.128.0.41}, ContainerID:{w:container_15}], operation took {d:0.335=0000000000014F32} SECONDS\n",
+    ),
+    (
+        b"0 -0 007 9223372036854775807 9223372036854775808 -9223372036854775808 +5\n",
+        b"{i:0=0000000000000000} {w:-0} {w:007} {i:9223372036854775807=7FFFFFFFFFFFFFFF} {w:9223372036854775808} {i:-9223372036854775808=8000000000000000} {w:+5}\n",
+    ),
+    (
+        b"1. .5 -.5 -12.50 00.10 1.2.3 1234567890123456.7 .9999999999999999\n",
+        b"{w:1.} {d:.5=0000000000000500} {d:-.5=8000000000000500} {d:-12.50=800000000004E231} {d:00.10=0000000000000A31} {w:1.2.3} {w:1234567890123456.7} {d:.9999999999999999=2386F26FC0FFFFFF}\n",
+    ),
+    (b"\x11\x12\x13\x5C\xFF", b"\x11\x12\x13\x5C\xFF\n"),
+    (b"\x80be\xFF", b"\x80{w:be}\xFF\n"),
+    (
+        b"-1=-1\n\n7",
+        b"{i:-1=FFFFFFFFFFFFFFFF}={i:-1=FFFFFFFFFFFFFFFF}\n\n{i:7=0000000000000007}\n",
+    ),
+];
+
 #[test]
 fn show_marks_variables(rt: HostRuntime) -> Result<(), Fail> {
     let alloc = rt.alloc();
-    let rows: [(&[u8], &[u8]); 12] = [
-        (b"", b""),
-        (b"\n", b"\n"),
-        (b"a\r\nb", b"a\r\nb\n"),
-        (b"x=foo foo bad to\n", b"x={w:foo} foo {w:bad} to\n"),
-        (b"x=foo foo bad to", b"x={w:foo} foo {w:bad} to\n"),
-        (b"=_ =a a\n", b"=_ ={w:a} a\n"),
-        (
-            b"INFO Task task_12 assigned to container: [NodeAddress:172.128.0.41, ContainerID:container_15], operation took 0.335 SECONDS\n",
-            b"INFO Task {w:task_12} assigned to container: [NodeAddress:{w:172.128.0.41}, ContainerID:{w:container_15}], operation took {d:0.335=0000000000014F32} SECONDS\n",
-        ),
-        (
-            b"0 -0 007 9223372036854775807 9223372036854775808 -9223372036854775808 +5\n",
-            b"{i:0=0000000000000000} {w:-0} {w:007} {i:9223372036854775807=7FFFFFFFFFFFFFFF} {w:9223372036854775808} {i:-9223372036854775808=8000000000000000} {w:+5}\n",
-        ),
-        (
-            b"1. .5 -.5 -12.50 00.10 1.2.3 1234567890123456.7 .9999999999999999\n",
-            b"{w:1.} {d:.5=0000000000000500} {d:-.5=8000000000000500} {d:-12.50=800000000004E231} {d:00.10=0000000000000A31} {w:1.2.3} {w:1234567890123456.7} {d:.9999999999999999=2386F26FC0FFFFFF}\n",
-        ),
-        (b"\x11\x12\x13\x5C\xFF", b"\x11\x12\x13\x5C\xFF\n"),
-        (b"\x80be\xFF", b"\x80{w:be}\xFF\n"),
-        (
-            b"-1=-1\n\n7",
-            b"{i:-1=FFFFFFFFFFFFFFFF}={i:-1=FFFFFFFFFFFFFFFF}\n\n{i:7=0000000000000007}\n",
-        ),
-    ];
-    for (log, want) in rows {
+    for &(log, want) in SHOW_MARKS_VARIABLES {
         let outcome = over(&rt, alloc, &["show", "n.log"], "n.log", log)?;
-        assert_eq!(rt; outcome.status, 0);
-        assert_eq!(rt; outcome.out.as_slice(), want);
-        assert_eq!(rt; outcome.err.as_slice(), b"".as_slice());
+        assert!(rt; outcome.is(0, want, b""));
     }
     Ok(())
 }
@@ -163,45 +185,41 @@ fn scan_prints_what_matches(rt: HostRuntime) -> Result<(), Fail> {
     ];
     for (pattern, want) in rows {
         let outcome = over(&rt, alloc, &["scan", pattern, "a.log"], "a.log", log)?;
-        assert_eq!(rt; outcome.status, 0);
-        assert_eq!(rt; outcome.out.as_slice(), want);
-        assert_eq!(rt; outcome.err.as_slice(), b"".as_slice());
+        assert!(rt; outcome.is(0, want, b""));
     }
     Ok(())
 }
 
+const REFUSALS_HAVE_THEIR: &[(&[&str], u8, &[u8])] = &[
+    (&[], 2, USAGE),
+    (&["show"], 2, USAGE),
+    (&["show", "a.log", "b.log"], 2, USAGE),
+    (&["show", "-"], 2, USAGE),
+    (&["Show", "a.log"], 2, USAGE),
+    (&["scan", "a.log"], 2, USAGE),
+    (&["scan", "-x", "a.log"], 2, USAGE),
+    (&["create", "a.log"], 2, USAGE),
+    (&["create", "--types", "0"], 2, USAGE),
+    (&["create", "--bytes=33", "--bytes=33"], 2, USAGE),
+    (&["show", "gone.log"], 4, b"clpa: gone.log: cannot open\n"),
+    (
+        &["scan", "ab\\", "a.log"],
+        3,
+        b"clpa: pattern: lone backslash at 2\n",
+    ),
+    (
+        &["scan", "\\\\\\", "gone.log"],
+        3,
+        b"clpa: pattern: lone backslash at 2\n",
+    ),
+];
+
 #[test]
 fn refusals_have_their_lines(rt: HostRuntime) -> Result<(), Fail> {
     let alloc = rt.alloc();
-    let usage: &[u8] = b"clpa: usage: clpa ARCHIVE COMMAND [OPTION]... [WORD]...\n";
-    let rows: [(&[&str], u8, &[u8]); 13] = [
-        (&[], 2, usage),
-        (&["show"], 2, usage),
-        (&["show", "a.log", "b.log"], 2, usage),
-        (&["show", "-"], 2, usage),
-        (&["Show", "a.log"], 2, usage),
-        (&["scan", "a.log"], 2, usage),
-        (&["scan", "-x", "a.log"], 2, usage),
-        (&["create", "a.log"], 2, usage),
-        (&["create", "--types", "0"], 2, usage),
-        (&["create", "--bytes=33", "--bytes=33"], 2, usage),
-        (&["show", "gone.log"], 4, b"clpa: gone.log: cannot open\n"),
-        (
-            &["scan", "ab\\", "a.log"],
-            3,
-            b"clpa: pattern: lone backslash at 2\n",
-        ),
-        (
-            &["scan", "\\\\\\", "gone.log"],
-            3,
-            b"clpa: pattern: lone backslash at 2\n",
-        ),
-    ];
-    for (words, status, want) in rows {
+    for &(words, status, want) in REFUSALS_HAVE_THEIR {
         let outcome = over(&rt, alloc, words, "a.log", b"a\n")?;
-        assert_eq!(rt; outcome.status, status);
-        assert_eq!(rt; outcome.out.as_slice(), b"".as_slice());
-        assert_eq!(rt; outcome.err.as_slice(), want);
+        assert!(rt; outcome.is(status, b"", want));
     }
     Ok(())
 }
@@ -225,14 +243,14 @@ fn a_read_that_fails_ends_the_log(rt: HostRuntime) -> Result<(), Fail> {
             AMPLE,
         )?;
         let failed = want.len() < 4;
-        assert_eq!(rt; outcome.status, if failed { 4 } else { 0 });
-        assert_eq!(rt; outcome.out.as_slice(), want);
+        assert!(rt; outcome.status == if failed { 4 } else { 0 });
+        assert!(rt; outcome.out.as_slice() == want);
         let line: &[u8] = if failed {
             b"clpa: n.log: read failed\n"
         } else {
             b""
         };
-        assert_eq!(rt; outcome.err.as_slice(), line);
+        assert!(rt; outcome.err.as_slice() == line);
     }
     Ok(())
 }
@@ -250,16 +268,20 @@ fn an_opening_that_fails_is_told(rt: HostRuntime) -> Result<(), Fail> {
     let mut archive = disk(alloc, &[], &[])?;
     let words = ["scan", "a", "n.log"];
     let outcome = call(&rt, alloc, &words, &mut logs, &mut archive, AMPLE)?;
-    assert_eq!(rt; outcome.status, 4);
-    assert_eq!(rt;
-        outcome.err.as_slice(),
-        b"clpa: n.log: cannot open\n".as_slice()
-    );
+    assert!(rt; outcome.status == 4);
+    assert!(rt; outcome.err.as_slice() == b"clpa: n.log: cannot open\n".as_slice());
     let outcome = call(&rt, alloc, &words, &mut logs, &mut archive, AMPLE)?;
-    assert_eq!(rt; outcome.status, 0);
-    assert_eq!(rt; outcome.out.as_slice(), b"n.log:1:a\n".as_slice());
+    assert!(rt; outcome.status == 0);
+    assert!(rt; outcome.out.as_slice() == b"n.log:1:a\n".as_slice());
     Ok(())
 }
+
+const A_FAILING_ERROR: &[(&[&str], u8, &[u8])] = &[
+    (&["show"], 2, b""),
+    (&["scan", "\\", "n.log"], 3, b""),
+    (&["show", "gone.log"], 4, b""),
+    (&["show", "n.log"], 0, b"{w:7x}\n"),
+];
 
 #[test]
 fn a_failing_error_output_changes_nothing_else(rt: HostRuntime) -> Result<(), Fail> {
@@ -269,19 +291,11 @@ fn a_failing_error_output_changes_nothing_else(rt: HostRuntime) -> Result<(), Fa
         err: 0,
         out_fails: u64::MAX,
     };
-    let rows: [(&[&str], u8, &[u8]); 4] = [
-        (&["show"], 2, b""),
-        (&["scan", "\\", "n.log"], 3, b""),
-        (&["show", "gone.log"], 4, b""),
-        (&["show", "n.log"], 0, b"{w:7x}\n"),
-    ];
-    for (words, status, want) in rows {
+    for &(words, status, want) in A_FAILING_ERROR {
         let mut logs = shelf(alloc, "n.log", b"7x\n", &[])?;
         let mut archive = disk(alloc, &[], &[])?;
         let outcome = call(&rt, alloc, words, &mut logs, &mut archive, rooms)?;
-        assert_eq!(rt; outcome.status, status);
-        assert_eq!(rt; outcome.out.as_slice(), want);
-        assert!(rt; outcome.err.is_empty());
+        assert!(rt; outcome.is(status, want, b""));
     }
     Ok(())
 }
@@ -313,9 +327,9 @@ fn an_output_that_fails_has_a_front(rt: HostRuntime) -> Result<(), Fail> {
             out_fails: u64::MAX,
         };
         let outcome = call(&rt, alloc, words, &mut logs, &mut archive, rooms)?;
-        assert_eq!(rt; outcome.status, 7);
+        assert!(rt; outcome.status == 7);
         assert!(rt; front.starts_with(outcome.out.as_slice()));
-        assert_eq!(rt; outcome.err.as_slice(), b"clpa: output failed\n".as_slice());
+        assert!(rt; outcome.err.as_slice() == b"clpa: output failed\n".as_slice());
     }
     Ok(())
 }
@@ -328,17 +342,12 @@ fn a_line_has_a_limit(rt: HostRuntime) -> Result<(), Fail> {
         log.push(b'x')?;
     }
     let outcome = over(&rt, alloc, &["show", "n.log"], "n.log", log.as_slice())?;
-    assert_eq!(rt; outcome.status, 0);
+    assert!(rt; outcome.status == 0);
     assert!(rt; outcome.out.starts_with(log.as_slice()));
-    assert_eq!(rt; outcome.out.len(), log.len() + 1);
+    assert!(rt; outcome.out.len() == log.len() + 1);
     log.push(b'x')?;
     let outcome = over(&rt, alloc, &["show", "n.log"], "n.log", log.as_slice())?;
-    assert_eq!(rt; outcome.status, 4);
-    assert_eq!(rt; outcome.out.as_slice(), b"a\n".as_slice());
-    assert_eq!(rt;
-        outcome.err.as_slice(),
-        b"clpa: n.log: line 2 is too long\n".as_slice()
-    );
+    assert!(rt; outcome.is(4, b"a\n", b"clpa: n.log: line 2 is too long\n"));
     Ok(())
 }
 
@@ -369,15 +378,15 @@ fn output_goes_out_in_pieces(rt: HostRuntime) -> Result<(), Fail> {
             &mut archive,
             rooms,
         )?;
-        assert_eq!(rt; outcome.status, if len == 195_000 { 0 } else { 7 });
-        assert_eq!(rt; outcome.out.len(), len);
+        assert!(rt; outcome.status == if len == 195_000 { 0 } else { 7 });
+        assert!(rt; outcome.out.len() == len);
         assert!(rt; want.starts_with(outcome.out.as_slice()));
         let line: &[u8] = if len == 195_000 {
             b""
         } else {
             b"clpa: output failed\n"
         };
-        assert_eq!(rt; outcome.err.as_slice(), line);
+        assert!(rt; outcome.err.as_slice() == line);
     }
     Ok(())
 }
@@ -401,8 +410,8 @@ fn a_read_that_fails_later_ends_the_log(rt: HostRuntime) -> Result<(), Fail> {
             &mut archive,
             AMPLE,
         )?;
-        assert_eq!(rt; outcome.status, if fail < 3 { 4 } else { 0 });
-        assert_eq!(rt; outcome.out.len(), len);
+        assert!(rt; outcome.status == if fail < 3 { 4 } else { 0 });
+        assert!(rt; outcome.out.len() == len);
         assert!(rt; log.starts_with(outcome.out.as_slice()));
     }
     Ok(())
