@@ -17,11 +17,11 @@ fn compare<R: Abort, S: Source>(
 ) {
     for row in messages {
         let (message, ended) = *row;
-        assert_eq!(rt; reader.advance(), Ok(Some(Mark { ended })));
+        assert!(rt; reader.advance() == Ok(Some(Mark { ended })));
         assert!(rt; reader.message() == message);
     }
     for _ in 0..2 {
-        assert_eq!(rt; reader.advance(), end.map(|()| None));
+        assert!(rt; reader.advance() == end.map(|()| None));
         assert!(rt; reader.message().is_empty());
     }
 }
@@ -107,22 +107,23 @@ fn messages_by_version(rt: HostRuntime) -> Result<(), Fail> {
     Ok(())
 }
 
+const MESSAGES_BEFORE_A_FAULT: &[(u32, &[u8], &[(&[u8], bool)])] = &[
+    // more lines might belong to a message with a stamp
+    (2, b"2023-11-14T22:13:20Z a\nb\n", &[]),
+    (
+        1,
+        b"2023-11-14T22:13:20Z a\nb\n",
+        &[(b"2023-11-14T22:13:20Z a", true), (b"b", true)],
+    ),
+    // and none to one without
+    (3, b"a\nb\nc", &[(b"a", true), (b"b", true)]),
+];
+
 // The first read gives all the bytes, and the second one fails.
 #[test]
 fn messages_before_a_fault(rt: HostRuntime) -> Result<(), Fail> {
     let alloc = rt.alloc();
-    let rows: [(u32, &[u8], &[(&[u8], bool)]); 3] = [
-        // more lines might belong to a message with a stamp
-        (2, b"2023-11-14T22:13:20Z a\nb\n", &[]),
-        (
-            1,
-            b"2023-11-14T22:13:20Z a\nb\n",
-            &[(b"2023-11-14T22:13:20Z a", true), (b"b", true)],
-        ),
-        // and none to one without
-        (3, b"a\nb\nc", &[(b"a", true), (b"b", true)]),
-    ];
-    for (version, bytes, messages) in rows {
+    for &(version, bytes, messages) in MESSAGES_BEFORE_A_FAULT {
         if version < 1 || version > 3 {
             continue;
         }
@@ -130,7 +131,7 @@ fn messages_before_a_fault(rt: HostRuntime) -> Result<(), Fail> {
         let made = MessageReader::new(alloc, version, source);
         let mut reader = made.map_err(|_| "no memory")?;
         compare(&rt, &mut reader, messages, Err(Cut::ReadFault));
-        assert_eq!(rt; reader.into_source().faults(), 1);
+        assert!(rt; reader.into_source().faults() == 1);
     }
     Ok(())
 }

@@ -89,12 +89,11 @@ fn ingest_has_workers_rows_and_files(rt: HostRuntime) -> Result<(), Fail> {
     for &(words, workers, segment, files) in INGESTS {
         let all = words_of(rt.alloc(), words)?;
         let asked = read_ingest(all.as_slice()).ok_or("none")?;
-        assert_eq!(rt;
-            (asked.workers, asked.segment),
-            (workers, segment),
+        assert!(rt;
+            (asked.workers, asked.segment) == (workers, segment),
             "{words:?}"
         );
-        assert_eq!(rt; asked.files.len(), files, "{words:?}");
+        assert!(rt; asked.files.len() == files, "{words:?}");
     }
     Ok(())
 }
@@ -104,9 +103,12 @@ fn search_has_a_pattern_and_a_range(rt: HostRuntime) -> Result<(), Fail> {
     for &(words, pattern, from, to, stats, workers) in SEARCHES {
         let all = words_of(rt.alloc(), words)?;
         let asked = read_search(all.as_slice()).ok_or("none")?;
-        assert_eq!(rt; asked.pattern, pattern, "{words:?}");
-        assert_eq!(rt; (asked.from, asked.to), (from, to), "{words:?}");
-        assert_eq!(rt; (asked.stats, asked.workers), (stats, workers), "{words:?}");
+        assert!(rt; asked.pattern == pattern, "{words:?}");
+        assert!(rt; (asked.from, asked.to) == (from, to), "{words:?}");
+        assert!(rt;
+            (asked.stats, asked.workers) == (stats, workers),
+            "{words:?}"
+        );
     }
     Ok(())
 }
@@ -114,7 +116,7 @@ fn search_has_a_pattern_and_a_range(rt: HostRuntime) -> Result<(), Fail> {
 #[test]
 fn decode_has_a_number(rt: HostRuntime) -> Result<(), Fail> {
     let all = words_of(rt.alloc(), &["decode", "4294967295"])?;
-    assert_eq!(rt; read_decode(all.as_slice()), Some(u32::MAX));
+    assert!(rt; read_decode(all.as_slice()) == Some(u32::MAX));
     Ok(())
 }
 

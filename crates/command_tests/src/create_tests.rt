@@ -31,26 +31,25 @@ fn over<R: Threads + Wait + Sync>(
     call(rt, alloc, words, &mut logs, archive, rooms)
 }
 
-const AN_EMPTY_DISK: &[(&[&str], &[u8])] = &[
-    (&["create"], &EMPTY),
-    (
-        &["create", "--types=2", "--words", "3", "--bytes=60"],
-        &SMALL,
-    ),
+// words, and whether they ask for the small archive
+const AN_EMPTY_DISK: &[(&[&str], bool)] = &[
+    (&["create"], false),
+    (&["create", "--types=2", "--words", "3", "--bytes=60"], true),
     (
         &["create", "--bytes", "60", "--types", "2", "--words=3"],
-        &SMALL,
+        true,
     ),
 ];
 
 #[test]
 fn an_empty_disk_becomes_an_archive(rt: HostRuntime) -> Result<(), Fail> {
     let alloc = rt.alloc();
-    for &(words, want) in AN_EMPTY_DISK {
+    for &(words, is_small) in AN_EMPTY_DISK {
+        let want = if is_small { &SMALL } else { &EMPTY };
         let mut archive = disk(alloc, &[], &[])?;
         let outcome = over(&rt, alloc, words, &mut archive, AMPLE)?;
         assert!(rt; outcome.is(0, b"", b""));
-        assert!(rt; archive.bytes() == want);
+        assert!(rt; archive.bytes() == want.as_slice());
         assert!(rt; archive.calls() == 3);
         assert!(rt; archive.faults() == 0);
     }

@@ -1,6 +1,7 @@
-use crate::line_cut_tests::{OneByte, text};
+use crate::line_cut_tests::{faulty, text};
 use line_cut::{Cut, Heads, Joiner, MAX_LINE_LEN, Mark};
 use log_seams::{MemSource, PlainSource, Source, Text};
+use std::alloc::{AllocError, Global};
 use std::process::Abort;
 use std::test::Fail;
 
@@ -40,7 +41,7 @@ fn compare_piece<R: Abort, S: Source>(
     match joiner.next() {
         Ok(Some(piece)) => {
             assert!(rt; piece.line.as_slice() == message);
-            assert_eq!(rt; piece.ended, ended);
+            assert!(rt; piece.ended == ended);
         }
         Ok(None) => assert!(rt; false, "the end, and no message"),
         Err(cut) => assert!(rt; false, "no message: {cut:?}"),
@@ -52,11 +53,11 @@ fn compare_end<R: Abort, S: Source>(rt: &R, joiner: &mut Joiner<S, Stars>, end: 
     match joiner.next() {
         Ok(Some(_)) => assert!(rt; false, "a message, and no end"),
         Ok(None) => assert!(rt; end.is_ok()),
-        Err(cut) => assert_eq!(rt; Err(cut), end),
+        Err(cut) => assert!(rt; Err(cut) == end),
     }
     match joiner.advance() {
         Ok(mark) => assert!(rt; mark.is_none() && end.is_ok()),
-        Err(cut) => assert_eq!(rt; Err(cut), end),
+        Err(cut) => assert!(rt; Err(cut) == end),
     }
     assert!(rt; joiner.line().is_empty());
 }
@@ -74,7 +75,7 @@ fn compare<R: Abort, S: Source>(
         if number % 2 == 0 {
             compare_piece(rt, joiner, message, ended);
         } else {
-            assert_eq!(rt; joiner.advance(), Ok(Some(Mark { ended })));
+            assert!(rt; joiner.advance() == Ok(Some(Mark { ended })));
         }
         assert!(rt; joiner.line() == message);
     }
@@ -203,80 +204,110 @@ fn messages_and_limits(rt: HostRuntime) -> Result<(), Fail> {
     Ok(())
 }
 
+const ONE: &[(&[u8], bool)] = &[(b"x", true)];
+
+const ALL: &[(&[u8], bool)] = &[(b"x", true), (b"*a\nb", true), (b"*c", false)];
+
+// What is joined of four lines: the number of the read that fails, from 0. Each read gives one of the
+// bytes, and the one behind them the end.
+type Faulty = (u64, &'static [(&'static [u8], bool)], Result<(), Cut>);
+
+const FAULTY: &[Faulty] = &[
+    (0, &[], Err(Cut::ReadFault)),
+    (1, &[], Err(Cut::ReadFault)),
+    // behind a line without a star nothing is looked at, and it is given
+    (2, ONE, Err(Cut::ReadFault)),
+    (3, ONE, Err(Cut::ReadFault)),
+    // behind one with a star the next line is not whole, and more might belong to it
+    (5, ONE, Err(Cut::ReadFault)),
+    (6, ONE, Err(Cut::ReadFault)),
+    (7, ONE, Err(Cut::ReadFault)),
+    (8, ONE, Err(Cut::ReadFault)),
+    (9, ONE, Err(Cut::ReadFault)),
+    // the end of the input was met once, and is not read for again
+    (10, ALL, Ok(())),
+];
+
 #[test]
 fn the_messages_before_a_fault(rt: HostRuntime) -> Result<(), Fail> {
-    let alloc = rt.alloc();
-    let one: [(&[u8], bool); 1] = [(b"x", true)];
-    let all: [(&[u8], bool); 3] = [(b"x", true), (b"*a\nb", true), (b"*c", false)];
-    // the number of the read that fails, from 0: each read gives one of the bytes, and the one
-    // behind them the end
-    let rows: [(u64, &[(&[u8], bool)], Result<(), Cut>); 10] = [
-        (0, &[], Err(Cut::ReadFault)),
-        (1, &[], Err(Cut::ReadFault)),
-        // behind a line without a star nothing is looked at, and it is given
-        (2, &one, Err(Cut::ReadFault)),
-        (3, &one, Err(Cut::ReadFault)),
-        // behind one with a star the next line is not whole, and more might belong to it
-        (5, &one, Err(Cut::ReadFault)),
-        (6, &one, Err(Cut::ReadFault)),
-        (7, &one, Err(Cut::ReadFault)),
-        (8, &one, Err(Cut::ReadFault)),
-        (9, &one, Err(Cut::ReadFault)),
-        // the end of the input was met once, and is not read for again
-        (10, &all, Ok(())),
-    ];
-    for (fails, messages, end) in rows {
-        let log = MemSource::new(text(alloc, b"x\n*a\nb\n*c")?, [fails].to_vec(alloc)?);
-        let made = Joiner::new(alloc, OneByte { log }, Stars, 4, 9);
+    for (fails, messages, end) in FAULTY {
+        let source = faulty(rt.alloc(), b"x\n*a\nb\n*c", *fails)?;
+        let made = Joiner::new(rt.alloc(), source, Stars, 4, 9);
         let mut joiner = made.map_err(|_| "no memory")?;
-        compare(&rt, &mut joiner, messages, end);
-        let failed = u64::from(end == Err(Cut::ReadFault));
-        assert_eq!(rt; joiner.into_source().log.faults(), failed);
+        compare(&rt, &mut joiner, messages, *end);
+        let failed = u64::from(*end == Err(Cut::ReadFault));
+        assert!(rt; joiner.into_source().log.faults() == failed);
     }
     Ok(())
 }
 
-// A first line of 1,048,570 bytes and a second of so many: the first six bytes short of the limit.
+// A first line of 1,048,570 bytes, and one with this line behind it.
+fn long_message(alloc: Global, second: &[u8]) -> Result<(Vec<u8>, Vec<u8>), AllocError> {
+    let mut first = b"*".to_vec(alloc)?;
+    first.extend_from_slice(&vec![in alloc; b'x'; 1_048_569]?)?;
+    let mut both = first.clone()?;
+    both.push(b'\n')?;
+    both.extend_from_slice(second)?;
+    Ok((first, both))
+}
+
+// Six bytes short of the limit, a newline and five bytes more are one message.
 #[test]
-fn messages_up_to_the_greatest_limit(rt: HostRuntime) -> Result<(), Fail> {
+fn a_message_of_the_greatest_limit(rt: HostRuntime) -> Result<(), Fail> {
     let alloc = rt.alloc();
-    for (second, together) in [(b"12345".as_slice(), true), (b"123456".as_slice(), false)] {
-        let mut first = b"*".to_vec(alloc)?;
-        first.extend_from_slice(&vec![in alloc; b'x'; 1_048_569]?)?;
-        let mut bytes = first.clone()?;
-        bytes.push(b'\n')?;
-        bytes.extend_from_slice(second)?;
-        let both = bytes.clone()?;
-        let source = MemSource::new(Text::new(bytes), Vec::new(alloc));
-        let made = Joiner::new(alloc, source, Stars, MAX_LINE_LEN, 4_294_967_294);
-        let mut joiner = made.map_err(|_| "no memory")?;
-        if together {
-            compare(&rt, &mut joiner, &[(&both, false)], Ok(()));
-        } else {
-            compare(&rt, &mut joiner, &[(&first, true), (second, false)], Ok(()));
-        }
-    }
+    let (_, both) = long_message(alloc, b"12345")?;
+    let source = MemSource::new(Text::new(both.clone()?), Vec::new(alloc));
+    let made = Joiner::new(alloc, source, Stars, MAX_LINE_LEN, 4_294_967_294);
+    let mut joiner = made.map_err(|_| "no memory")?;
+    compare(&rt, &mut joiner, &[(&both, false)], Ok(()));
     Ok(())
+}
+
+#[test]
+fn a_line_past_the_greatest_limit_stands_alone(rt: HostRuntime) -> Result<(), Fail> {
+    let alloc = rt.alloc();
+    let (first, both) = long_message(alloc, b"123456")?;
+    let source = MemSource::new(Text::new(both), Vec::new(alloc));
+    let made = Joiner::new(alloc, source, Stars, MAX_LINE_LEN, 4_294_967_294);
+    let mut joiner = made.map_err(|_| "no memory")?;
+    compare(
+        &rt,
+        &mut joiner,
+        &[(&first, true), (b"123456", false)],
+        Ok(()),
+    );
+    Ok(())
+}
+
+// A thousand messages of two lines, whose first is a star and as many bytes, below 997.
+fn many_messages(alloc: Global) -> Result<Text, AllocError> {
+    let mut bytes = Vec::new(alloc);
+    let longest = [b'a'; 997];
+    for number in 0..1000usize {
+        bytes.push(b'*')?;
+        bytes.extend_from_slice(&longest[..number % 997])?;
+        bytes.extend_from_slice(b"\nb\n\n")?;
+    }
+    Ok(Text::new(bytes))
+}
+
+// Whether the next message has so many bytes `a` in its first line, and a newline follows it.
+fn is_next<S: Source>(joiner: &mut Joiner<S, Stars>, len: usize) -> bool {
+    joiner.advance() == Ok(Some(Mark { ended: true }))
+        && joiner.line().len() == len + 4
+        && (joiner.line().ends_with(b"a\nb\n") || len == 0)
 }
 
 // Messages of many lengths, which go over the ends of what is read at once.
 #[test]
 fn messages_over_the_ends_of_reads(rt: HostRuntime) -> Result<(), Fail> {
     let alloc = rt.alloc();
-    let mut bytes = Vec::new(alloc);
-    for number in 0..1000usize {
-        bytes.push(b'*')?;
-        bytes.extend_from_slice(&vec![in alloc; b'a'; number % 997]?)?;
-        bytes.extend_from_slice(b"\nb\n\n")?;
-    }
-    let source = PlainSource::new(Text::new(bytes));
+    let source = PlainSource::new(many_messages(alloc)?);
     let made = Joiner::new(alloc, source, Stars, 1001, 1000);
     let mut joiner = made.map_err(|_| "no memory")?;
     for number in 0..1000usize {
-        assert_eq!(rt; joiner.advance(), Ok(Some(Mark { ended: true })));
-        assert_eq!(rt; joiner.line().len(), number % 997 + 4);
-        assert!(rt; joiner.line().ends_with(b"a\nb\n") || number % 997 == 0);
+        assert!(rt; is_next(&mut joiner, number % 997));
     }
-    assert_eq!(rt; joiner.advance(), Ok(None));
+    assert!(rt; joiner.advance() == Ok(None));
     Ok(())
 }

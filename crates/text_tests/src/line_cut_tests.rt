@@ -24,7 +24,7 @@ fn compare_piece<R: Abort, S: Source>(rt: &R, cutter: &mut Cutter<S>, line: &[u8
     match cutter.next() {
         Ok(Some(piece)) => {
             assert!(rt; piece.line.as_slice() == line);
-            assert_eq!(rt; piece.ended, ended);
+            assert!(rt; piece.ended == ended);
         }
         Ok(None) => assert!(rt; false, "the end, and no line"),
         Err(cut) => assert!(rt; false, "no line: {cut:?}"),
@@ -36,11 +36,11 @@ fn compare_end<R: Abort, S: Source>(rt: &R, cutter: &mut Cutter<S>, end: Result<
     match cutter.next() {
         Ok(Some(_)) => assert!(rt; false, "a line, and no end"),
         Ok(None) => assert!(rt; end.is_ok()),
-        Err(cut) => assert_eq!(rt; Err(cut), end),
+        Err(cut) => assert!(rt; Err(cut) == end),
     }
     match cutter.advance() {
         Ok(mark) => assert!(rt; mark.is_none() && end.is_ok()),
-        Err(cut) => assert_eq!(rt; Err(cut), end),
+        Err(cut) => assert!(rt; Err(cut) == end),
     }
     assert!(rt; cutter.line().is_empty());
 }
@@ -58,7 +58,7 @@ fn compare<R: Abort, S: Source>(
         if number % 2 == 0 {
             compare_piece(rt, cutter, line, ended);
         } else {
-            assert_eq!(rt; cutter.advance(), Ok(Some(Mark { ended })));
+            assert!(rt; cutter.advance() == Ok(Some(Mark { ended })));
         }
         assert!(rt; cutter.line() == line);
     }
@@ -189,84 +189,117 @@ impl Source for OneByte {
     }
 }
 
+const ONE: &[(&[u8], bool)] = &[(b"ab", true)];
+
+const TWO: &[(&[u8], bool)] = &[(b"ab", true), (b"cd", true)];
+
+const ALL: &[(&[u8], bool)] = &[(b"ab", true), (b"cd", true), (b"e", false)];
+
+// What is cut of three lines, of which the last has no newline: the number of the read that fails,
+// from 0, and the limit of lines. Each read gives one of the bytes, and the one behind them the end.
+type Faulty = (u64, u64, &'static [(&'static [u8], bool)], Result<(), Cut>);
+
+const FAULTY: &[Faulty] = &[
+    (0, 4, &[], Err(Cut::ReadFault)),
+    (1, 4, &[], Err(Cut::ReadFault)),
+    (2, 4, &[], Err(Cut::ReadFault)),
+    (3, 4, ONE, Err(Cut::ReadFault)),
+    (4, 4, ONE, Err(Cut::ReadFault)),
+    (6, 4, TWO, Err(Cut::ReadFault)),
+    (7, 4, TWO, Err(Cut::ReadFault)),
+    (8, 4, ALL, Ok(())),
+    // behind the last line that is allowed: the read for its first byte fails, or the one behind it would
+    (3, 1, ONE, Err(Cut::ReadFault)),
+    (4, 1, ONE, Err(Cut::TooManyLines)),
+    (6, 2, TWO, Err(Cut::ReadFault)),
+    (7, 2, TWO, Err(Cut::TooManyLines)),
+];
+
+// A source of these bytes, one a read, of which the read with this number fails.
+pub(crate) fn faulty(alloc: Global, bytes: &[u8], fails: u64) -> Result<OneByte, AllocError> {
+    let log = MemSource::new(text(alloc, bytes)?, [fails].to_vec(alloc)?);
+    Ok(OneByte { log })
+}
+
 #[test]
 fn the_whole_lines_before_a_fault(rt: HostRuntime) -> Result<(), Fail> {
-    let alloc = rt.alloc();
-    let one: [(&[u8], bool); 1] = [(b"ab", true)];
-    let two: [(&[u8], bool); 2] = [(b"ab", true), (b"cd", true)];
-    let all: [(&[u8], bool); 3] = [(b"ab", true), (b"cd", true), (b"e", false)];
-    // the number of the read that fails, from 0, and the limit of lines: each read gives one of the
-    // bytes, and the one behind them the end
-    let rows: [(u64, u64, &[(&[u8], bool)], Result<(), Cut>); 12] = [
-        (0, 4, &[], Err(Cut::ReadFault)),
-        (1, 4, &[], Err(Cut::ReadFault)),
-        (2, 4, &[], Err(Cut::ReadFault)),
-        (3, 4, &one, Err(Cut::ReadFault)),
-        (4, 4, &one, Err(Cut::ReadFault)),
-        (6, 4, &two, Err(Cut::ReadFault)),
-        (7, 4, &two, Err(Cut::ReadFault)),
-        (8, 4, &all, Ok(())),
-        // behind the last line that is allowed: the read for its first byte fails, or the one behind it would
-        (3, 1, &one, Err(Cut::ReadFault)),
-        (4, 1, &one, Err(Cut::TooManyLines)),
-        (6, 2, &two, Err(Cut::ReadFault)),
-        (7, 2, &two, Err(Cut::TooManyLines)),
-    ];
-    for (fails, max_lines, lines, end) in rows {
-        let log = MemSource::new(text(alloc, b"ab\ncd\ne")?, [fails].to_vec(alloc)?);
-        let made = Cutter::new(alloc, OneByte { log }, 4, max_lines);
+    for (fails, max_lines, lines, end) in FAULTY {
+        let source = faulty(rt.alloc(), b"ab\ncd\ne", *fails)?;
+        let made = Cutter::new(rt.alloc(), source, 4, *max_lines);
         let mut cutter = made.map_err(|_| "no memory")?;
-        compare(&rt, &mut cutter, lines, end);
-        let failed = u64::from(end == Err(Cut::ReadFault));
-        assert_eq!(rt; cutter.into_source().log.faults(), failed);
+        compare(&rt, &mut cutter, lines, *end);
+        let failed = u64::from(*end == Err(Cut::ReadFault));
+        assert!(rt; cutter.into_source().log.faults() == failed);
     }
     Ok(())
+}
+
+// Two lines, one of the byte `a` and one of so many bytes `x`.
+fn long_lines(alloc: Global, longest: &[u8], more: usize) -> Result<Text, AllocError> {
+    let mut bytes = b"a\n".to_vec(alloc)?;
+    bytes.extend_from_slice(longest)?;
+    for _ in 0..more {
+        bytes.push(b'x')?;
+    }
+    bytes.push(b'\n')?;
+    Ok(Text::new(bytes))
 }
 
 #[test]
 fn lines_up_to_the_greatest_limit(rt: HostRuntime) -> Result<(), Fail> {
     let alloc = rt.alloc();
     let longest = vec![in alloc; b'x'; MAX_LINE_LEN]?;
-    for more in [0, 1] {
-        let mut bytes = b"a\n".to_vec(alloc)?;
-        bytes.extend_from_slice(&longest)?;
-        bytes.extend_from_slice(&vec![in alloc; b'x'; more]?)?;
-        bytes.push(b'\n')?;
-        let source = MemSource::new(Text::new(bytes), Vec::new(alloc));
-        let made = Cutter::new(alloc, source, MAX_LINE_LEN, 4_294_967_294);
-        let mut cutter = made.map_err(|_| "no memory")?;
-        let lines: [(&[u8], bool); 2] = [(b"a", true), (&longest, true)];
-        if more == 0 {
-            compare(&rt, &mut cutter, &lines, Ok(()));
-        } else {
-            compare(
-                &rt,
-                &mut cutter,
-                &lines[..1],
-                Err(Cut::LineTooLong { line: 2 }),
-            );
-        }
-    }
+    let source = MemSource::new(long_lines(alloc, &longest, 0)?, Vec::new(alloc));
+    let made = Cutter::new(alloc, source, MAX_LINE_LEN, 4_294_967_294);
+    let mut cutter = made.map_err(|_| "no memory")?;
+    compare(&rt, &mut cutter, &[(b"a", true), (&longest, true)], Ok(()));
     Ok(())
+}
+
+#[test]
+fn a_line_past_the_greatest_limit(rt: HostRuntime) -> Result<(), Fail> {
+    let alloc = rt.alloc();
+    let longest = vec![in alloc; b'x'; MAX_LINE_LEN]?;
+    let source = MemSource::new(long_lines(alloc, &longest, 1)?, Vec::new(alloc));
+    let made = Cutter::new(alloc, source, MAX_LINE_LEN, 4_294_967_294);
+    let mut cutter = made.map_err(|_| "no memory")?;
+    compare(
+        &rt,
+        &mut cutter,
+        &[(b"a", true)],
+        Err(Cut::LineTooLong { line: 2 }),
+    );
+    Ok(())
+}
+
+// A thousand lines of many lengths below 997.
+fn many_lines(alloc: Global) -> Result<Text, AllocError> {
+    let mut bytes = Vec::new(alloc);
+    let longest = [b'a'; 997];
+    for number in 0..1000usize {
+        bytes.extend_from_slice(&longest[..number % 997])?;
+        bytes.push(b'\n')?;
+    }
+    Ok(Text::new(bytes))
+}
+
+// Whether the next line is one of so many bytes `a`, and a newline follows it.
+fn is_next<S: Source>(cutter: &mut Cutter<S>, len: usize) -> bool {
+    cutter.advance() == Ok(Some(Mark { ended: true }))
+        && cutter.line().len() == len
+        && cutter.line().iter().all(|b| *b == b'a')
 }
 
 // Lines of many lengths, which go over the ends of what is read at once.
 #[test]
 fn lines_over_the_ends_of_reads(rt: HostRuntime) -> Result<(), Fail> {
     let alloc = rt.alloc();
-    let mut bytes = Vec::new(alloc);
-    for number in 0..1000usize {
-        bytes.extend_from_slice(&vec![in alloc; b'a'; number % 997]?)?;
-        bytes.push(b'\n')?;
-    }
-    let source = PlainSource::new(Text::new(bytes));
+    let source = PlainSource::new(many_lines(alloc)?);
     let made = Cutter::new(alloc, source, 1000, 1000);
     let mut cutter = made.map_err(|_| "no memory")?;
     for number in 0..1000usize {
-        assert_eq!(rt; cutter.advance(), Ok(Some(Mark { ended: true })));
-        assert_eq!(rt; cutter.line().len(), number % 997);
-        assert!(rt; cutter.line().iter().all(|b| *b == b'a'));
+        assert!(rt; is_next(&mut cutter, number % 997));
     }
-    assert_eq!(rt; cutter.advance(), Ok(None));
+    assert!(rt; cutter.advance() == Ok(None));
     Ok(())
 }

@@ -8,105 +8,107 @@ type Numbers = (u8, i64, u8);
 // The stamp that was read is this, or none, and prints back to the line's front.
 fn assert_stamp(rt: &impl Abort, line: &[u8], read: Option<Stamp>, want: Option<Numbers>) {
     let got = read.map(|stamp| (stamp.pattern, stamp.moment, stamp.len));
-    assert_eq!(rt; got, want);
+    assert!(rt; got == want);
     if let Some((pattern, moment, len)) = got {
         assert!(rt; stamp_ok(pattern, moment));
         let mut out = [0; 32];
         let printed = print_stamp(pattern, moment, &mut out);
-        assert_eq!(rt; printed, usize::from(len));
+        assert!(rt; printed == usize::from(len));
         assert!(rt; Some(&out[..printed]) == line.get(..printed));
     }
 }
 
+const WORKED_STAMPS_ARE_READ: &[(&[u8], Option<Numbers>)] = &[
+    (b"[2015-03-23 05:38:41,123] x", Some((5, 1427089121123, 25))),
+    (b"0000-01-01 00:00:00.000", Some((2, -62167219200000, 23))),
+    (b"00/02/29 00:00:00", Some((10, 951782400000, 17))),
+    (b"9999-12-31T23:59:59Z", Some((6, 253402300799000, 20))),
+    (b"2023-11-14T22:13:20Zx", None),
+    (b"2023-02-30 00:00:00 x", None),
+    (b"2023-11-14 22:13:60 x", None),
+    (b"1900-02-29 00:00:00", None),
+    (
+        b"2023-11-14 22:13:20,000x INFO",
+        Some((8, 1700000000000, 19)),
+    ),
+    (b"", None),
+];
+
 #[test]
 fn worked_stamps_are_read(rt: HostRuntime) {
-    let rows: [(&[u8], Option<Numbers>); 10] = [
-        (b"[2015-03-23 05:38:41,123] x", Some((5, 1427089121123, 25))),
-        (b"0000-01-01 00:00:00.000", Some((2, -62167219200000, 23))),
-        (b"00/02/29 00:00:00", Some((10, 951782400000, 17))),
-        (b"9999-12-31T23:59:59Z", Some((6, 253402300799000, 20))),
-        (b"2023-11-14T22:13:20Zx", None),
-        (b"2023-02-30 00:00:00 x", None),
-        (b"2023-11-14 22:13:60 x", None),
-        (b"1900-02-29 00:00:00", None),
-        (
-            b"2023-11-14 22:13:20,000x INFO",
-            Some((8, 1700000000000, 19)),
-        ),
-        (b"", None),
-    ];
-    for (line, want) in rows {
+    for &(line, want) in WORKED_STAMPS_ARE_READ {
         assert_stamp(&rt, line, read_stamp(line), want);
     }
 }
 
+const MICROSECONDS_ARE_READ: &[(&[u8], Option<Numbers>, Option<Numbers>)] = &[
+    (
+        b"2023-11-14 22:13:20,123456 x",
+        Some((11, 1700000000123456, 26)),
+        Some((8, 1700000000000, 19)),
+    ),
+    (
+        b"2023-11-14 22:13:20,123 x",
+        Some((17, 1700000000123000, 23)),
+        Some((1, 1700000000123, 23)),
+    ),
+    (
+        b"2023-11-14 22:13:20.123456 x",
+        Some((12, 1700000000123456, 26)),
+        None,
+    ),
+    (
+        b"2023-11-14T22:13:20.000001Z",
+        Some((13, 1700000000000001, 27)),
+        None,
+    ),
+    (
+        b"2023-11-14T22:13:20.999999 x",
+        Some((14, 1700000000999999, 26)),
+        None,
+    ),
+    (
+        b"[2023-11-14 22:13:20,500000]: x",
+        Some((15, 1700000000500000, 28)),
+        None,
+    ),
+    (
+        b"2023/11/14 22:13:20.500000 x",
+        Some((16, 1700000000500000, 26)),
+        None,
+    ),
+    (b"2023-11-14T22:13:20.5000000 x", None, None),
+    (
+        b"2023-11-14 22:13:20,12345 x",
+        Some((24, 1700000000000000, 19)),
+        Some((8, 1700000000000, 19)),
+    ),
+    (
+        b"2023/11/14 22:13:20 x",
+        Some((25, 1700000000000000, 19)),
+        Some((9, 1700000000000, 19)),
+    ),
+    (
+        b"99/12/31 23:59:59",
+        Some((26, 4102444799000000, 17)),
+        Some((10, 4102444799000, 17)),
+    ),
+    (
+        b"0000-01-01T00:00:00.000000",
+        Some((14, -62167219200000000, 26)),
+        None,
+    ),
+    (
+        b"9999-12-31 23:59:59,999999",
+        Some((11, 253402300799999999, 26)),
+        Some((8, 253402300799000, 19)),
+    ),
+    (b"24/02/30 22:13:20", None, None),
+];
+
 #[test]
 fn microseconds_are_read(rt: HostRuntime) {
-    let rows: [(&[u8], Option<Numbers>, Option<Numbers>); 14] = [
-        (
-            b"2023-11-14 22:13:20,123456 x",
-            Some((11, 1700000000123456, 26)),
-            Some((8, 1700000000000, 19)),
-        ),
-        (
-            b"2023-11-14 22:13:20,123 x",
-            Some((17, 1700000000123000, 23)),
-            Some((1, 1700000000123, 23)),
-        ),
-        (
-            b"2023-11-14 22:13:20.123456 x",
-            Some((12, 1700000000123456, 26)),
-            None,
-        ),
-        (
-            b"2023-11-14T22:13:20.000001Z",
-            Some((13, 1700000000000001, 27)),
-            None,
-        ),
-        (
-            b"2023-11-14T22:13:20.999999 x",
-            Some((14, 1700000000999999, 26)),
-            None,
-        ),
-        (
-            b"[2023-11-14 22:13:20,500000]: x",
-            Some((15, 1700000000500000, 28)),
-            None,
-        ),
-        (
-            b"2023/11/14 22:13:20.500000 x",
-            Some((16, 1700000000500000, 26)),
-            None,
-        ),
-        (b"2023-11-14T22:13:20.5000000 x", None, None),
-        (
-            b"2023-11-14 22:13:20,12345 x",
-            Some((24, 1700000000000000, 19)),
-            Some((8, 1700000000000, 19)),
-        ),
-        (
-            b"2023/11/14 22:13:20 x",
-            Some((25, 1700000000000000, 19)),
-            Some((9, 1700000000000, 19)),
-        ),
-        (
-            b"99/12/31 23:59:59",
-            Some((26, 4102444799000000, 17)),
-            Some((10, 4102444799000, 17)),
-        ),
-        (
-            b"0000-01-01T00:00:00.000000",
-            Some((14, -62167219200000000, 26)),
-            None,
-        ),
-        (
-            b"9999-12-31 23:59:59,999999",
-            Some((11, 253402300799999999, 26)),
-            Some((8, 253402300799000, 19)),
-        ),
-        (b"24/02/30 22:13:20", None, None),
-    ];
-    for (line, micro, milli) in rows {
+    for &(line, micro, milli) in MICROSECONDS_ARE_READ {
         assert_stamp(&rt, line, read_micro(line), micro);
         assert_stamp(&rt, line, read_stamp(line), milli);
     }
@@ -143,7 +145,7 @@ fn moments_are_tested(rt: HostRuntime) {
         (1, i64::MIN, false),
     ];
     for (pattern, moment, want) in rows {
-        assert_eq!(rt; stamp_ok(pattern, moment), want);
+        assert!(rt; stamp_ok(pattern, moment) == want);
     }
 }
 

@@ -86,16 +86,16 @@ const DECIMAL_WORDS: &[(u64, Option<&str>)] = &[
 fn texts_have_their_words_and_words_their_texts(rt: HostRuntime) {
     let mut out = [0; 20];
     for &(text, coded) in VARIABLES {
-        assert_eq!(rt; encode(text.as_bytes()), coded, "the word of {text}");
+        assert!(rt; encode(text.as_bytes()) == coded, "the word of {text}");
         match coded {
             Coded::Whole(value) => {
                 let len = whole_text(value, &mut out);
-                assert_eq!(rt; &out[..len], text.as_bytes(), "the text of {value}");
+                assert!(rt; &out[..len] == text.as_bytes(), "the text of {value}");
             }
             Coded::Decimal(word) => {
                 assert!(rt; decimal_ok(word), "a text for {word}");
                 let len = decimal_text(word, &mut out);
-                assert_eq!(rt; &out[..len], text.as_bytes(), "the text of {word}");
+                assert!(rt; &out[..len] == text.as_bytes(), "the text of {word}");
             }
             Coded::Word => {}
         }
@@ -106,18 +106,16 @@ fn texts_have_their_words_and_words_their_texts(rt: HostRuntime) {
 fn decimal_words_are_told_from_other_numbers(rt: HostRuntime) {
     let mut out = [0; 20];
     for &(word, text) in DECIMAL_WORDS {
-        assert_eq!(rt;
-            decimal_ok(word),
-            text.is_some(),
+        assert!(rt;
+            decimal_ok(word) == text.is_some(),
             "whether {word} has a text"
         );
         if let Some(text) = text {
             assert!(rt; decimal_ok(word));
             let len = decimal_text(word, &mut out);
-            assert_eq!(rt; &out[..len], text.as_bytes(), "the text of {word}");
-            assert_eq!(rt;
-                encode(text.as_bytes()),
-                Coded::Decimal(word),
+            assert!(rt; &out[..len] == text.as_bytes(), "the text of {word}");
+            assert!(rt;
+                encode(text.as_bytes()) == Coded::Decimal(word),
                 "the word of {text}"
             );
         }
