@@ -1,1 +1,4 @@
 pub mod Values
+pub mod Forms
+pub mod Built
+pub mod Asked
