@@ -1,4 +1,4 @@
 mod NameLemmas
 mod NumberLemmas
 mod FormLemmas
-mod FoundLemmas
+mod ErrorLemmas
