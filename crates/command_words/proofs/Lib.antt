@@ -2,3 +2,5 @@ mod NameLemmas
 mod NumberLemmas
 mod FormLemmas
 mod ErrorLemmas
+mod RowLemmas
+mod GivenLemmas

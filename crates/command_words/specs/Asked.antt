@@ -9,7 +9,7 @@ use Rattle.record_format.specs.declared.header.Header.{Header}
 use Rattle.clap.specs.declared.error.kind.ErrorKind.{ErrorKind}
 use Rattle.clap.specs.declared.error.kind.ErrorKind.TheVariants as kind
 use Rattle.command_words.specs.Forms.{clpa}
-use Rattle.command_words.specs.Values.{IsMomentIn, IsNumberIn, IsNumberOr}
+use Rattle.command_words.specs.Values.{IsGood, IsGoodMoment, IsMomentIn, IsNumberIn, IsNumberOr}
 use Rattle.command_words.specs.declared.command.BenchWords.{BenchWords}
 use Rattle.command_words.specs.declared.command.IngestWords.{IngestWords}
 use Rattle.command_words.specs.declared.command.SearchWords.{SearchWords}
@@ -94,6 +94,23 @@ pub record Asks (words : List Text) (asked : Asked) : Type 0 where
   pub found : subcommand_of clpa words ≡ Some (name_of asked, rows)
   pub given : Gives rows asked
 
+-- each number that was found is written as numbers are, and lies in its range
+pub record AreGood (rows : List Row) : Type 0 where
+  pub format : IsGood 1 3 (first_of (codes "format") rows)
+  pub types : IsGood 1 2147483648 (first_of (codes "types") rows)
+  pub words : IsGood 1 2147483648 (first_of (codes "words") rows)
+  pub bytes : IsGood 33 1099511627776 (first_of (codes "bytes") rows)
+  pub workers : IsGood 1 64 (first_of (codes "workers") rows)
+  pub segment : IsGood 1 65536 (first_of (codes "segment") rows)
+  pub from : IsGoodMoment (first_of (codes "from") rows)
+  pub to : IsGoodMoment (first_of (codes "to") rows)
+  pub number : IsGood 0 4294967295 (first_of (codes "number") rows)
+  pub lines : IsGood 1 1000000 (first_of (codes "lines") rows)
+
+-- the numbers among the words are good
+abbrev pub HaveGoodNumbers : List Text → Type 0
+HaveGoodNumbers words = (name : Text) (rows : List Row) → subcommand_of clpa words ≡ Some (name, rows) → AreGood rows
+
 -- ---- the command as it is answered
 
 abbrev pub ingested : IngestWords → Asked
@@ -139,3 +156,7 @@ pub record IsReading (name : Text) (rows : List Row) (read : Option Command) : T
 abbrev pub refusal_by : ErrorKind → WordsRefusal
 refusal_by kind.OutOfMemory = OutOfMemory
 refusal_by _ = Usage
+
+-- what a parse found is the command of this, with its values
+abbrev pub IsFound : Option (Text × List Row) → Asked → Type 0
+IsFound found asked = (rows : List Row) × (found ≡ Some (name_of asked, rows)) × Gives rows asked

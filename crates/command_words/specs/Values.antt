@@ -28,3 +28,12 @@ pub record IsMoment (text : List ℕ) (z : ℤ) : Type 0 where
 abbrev pub IsMomentIn : Option (List ℕ) → Option ℤ → Type 0
 IsMomentIn None moment = moment ≡ None
 IsMomentIn (Some text) moment = IsSomeAnd moment (IsMoment text)
+
+-- the text is such a number, where it is given
+abbrev pub IsGood : ℕ → ℕ → Option (List ℕ) → Type 0
+IsGood least most None = Unit {0}
+IsGood least most (Some text) = (n : ℕ) × IsNumber least most text n
+
+abbrev pub IsGoodMoment : Option (List ℕ) → Type 0
+IsGoodMoment None = Unit {0}
+IsGoodMoment (Some text) = (z : ℤ) × IsMoment text z

@@ -1,9 +1,9 @@
 //! The reading of the words.
 ghost use Rattle.std.specs.Prelude.{◌≡◌, ◌≢◌, [], true, false, IfErr, IfOk, map, option_map, string_bytes};
 ghost use Rattle.clap.specs.Words.{fault_of, kind_of, subcommand_of, subcommand_rows_of, takes};
-ghost use Rattle.command_words.specs.Asked.{Asked, Asks, IsAnswer, asked_by, refusal_by, rows_in};
+ghost use Rattle.command_words.specs.Asked.{Asked, Asks, HaveGoodNumbers, IsAnswer, IsFound, asked_by, refusal_by, rows_in};
 ghost use Rattle.command_words.specs.Forms.{clpa};
-ghost use Rattle.command_words.specs.declared.command.WordsRefusal.TheVariants.{Usage};
+ghost use Rattle.command_words.specs.declared.command.WordsRefusal.TheVariants.{OutOfMemory, Usage};
 
 use crate::command::{Command, WordsRefusal};
 use crate::form::commands;
@@ -47,6 +47,23 @@ fn entered<'m, 'a>(matches: &'m ArgMatches<'a>) -> Option<(&'a str, &'m ArgMatch
     matches.subcommand()
 }
 
+/// The command that was found.
+fn read_found<'a>(
+    alloc: Global,
+    matches: &ArgMatches<'a>,
+) -> Result<Command<'a>, WordsRefusal>
+    ensures asked { IfOk result (λ c. IsFound (subcommand_rows_of matches.now) (asked_by c)) }
+    ensures all { (a : Asked) → IsFound (subcommand_rows_of matches.now) a → IsAnswer a result }
+{
+    let Some((name, found)) = entered(matches) else {
+        return Err(WordsRefusal::Usage);
+    };
+    match read_command(alloc, name, found)? {
+        Some(command) => Ok(command),
+        None => Err(WordsRefusal::Usage),
+    }
+}
+
 /// The command that the words ask for.
 ///
 /// The first word is the command. An option is one word `--name=value` or two words `--name value`, and
@@ -59,13 +76,10 @@ fn entered<'m, 'a>(matches: &'m ArgMatches<'a>) -> Option<(&'a str, &'m ArgMatch
 pub fn read_words<'a>(alloc: Global, words: &'a [String]) -> Result<Command<'a>, WordsRefusal>
     ensures asked { IfOk result (λ c. Asks (map string_bytes words.entry.now) (asked_by c)) }
     ensures all { (a : Asked) → Asks (map string_bytes words.entry.now) a → IsAnswer a result }
+    ensures taken { takes clpa (map string_bytes words.entry.now) ≡ true
+        → HaveGoodNumbers (map string_bytes words.entry.now)
+        → IfErr result (λ r. r ≡ OutOfMemory) }
 {
     let matches = parse(alloc, words)?;
-    let Some((name, found)) = entered(&matches) else {
-        return Err(WordsRefusal::Usage);
-    };
-    match read_command(alloc, name, found)? {
-        Some(command) => Ok(command),
-        None => Err(WordsRefusal::Usage),
-    }
+    read_found(alloc, &matches)
 }

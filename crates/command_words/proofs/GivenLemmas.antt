@@ -1,0 +1,266 @@
+-- Words without a fault, whose numbers are good, ask for something.
+use Rattle.std.proofs.Common.{◌≡◌, ◌∙◌, ℕ, ℤ, Bool, cond, true, false, not, ◌&&◌, ◌||◌, ◌==◌, refl, sym, ap, subst, List, [], ◌∷◌, Option, Some, None, is_some, inl, inr, codes, length, option_map, ◌↔◌, IsTrue}
+use Rattle.std.specs.List.{find, list_any}
+use Rattle.std.specs.Option.{option_map_or}
+use Rattle.std.specs.Prelude.{option_and_then, slice_get}
+use Rattle.std.specs.Str.{bytes_eq}
+use Rattle.std.specs.Cmp.Lexicographic.{other_text, same_text}
+use Rattle.clap.specs.Facts.{explicit_source}
+use Rattle.clap.specs.Kinds.{Kinds, check_kinds, or_else}
+use Rattle.clap.specs.Takes.{is_given}
+use Rattle.clap.specs.Walk.{Row, Rule, Text, all_of, answers_to, first_of, finished, nothing_held, rows_after, settled, stop_after, walk, walk_from}
+use Rattle.clap.specs.Simple.{App, Shape, built, built_leaf, entered, inherited, label_of, marked_built, names_of, rows_at, subcommand_of, with_leaf_noted}
+use Rattle.clap.specs.Faults.{check_fault, defaults_fault, entered_fault, fault_of, level_fault, settle_fault, walk_fault}
+use Rattle.command_words.specs.Forms as forms
+use Rattle.command_words.specs.Forms.{clpa}
+use Rattle.command_words.specs.Values.{IsGood, IsGoodMoment, IsMomentIn, IsNumberIn, IsNumberOr}
+use Rattle.command_words.specs.Asked.{AreGood, Asked, Asks, Gives, HaveGoodNumbers, IsFor, name_of, to_bench, to_check, to_create, to_decode, to_ingest, to_list, to_scan, to_search, to_show}
+use Rattle.command_words.proofs.RowLemmas.{AllFull, Full, first_none, level_full, second_none}
+
+-- ---- values
+
+abbrev HasValue : Text → List Row → Type 0
+HasValue id rows = (text : Text) × (first_of id rows ≡ Some text)
+
+abbrev HasValues : Text → List Row → Type 0
+HasValues id rows = (texts : List Text) × (all_of id rows ≡ Some texts)
+
+IfFull : Option Row → Type 0
+IfFull None = Unit {0}
+IfFull (Some r) = Full r.values
+
+found_full : (p : Row → Bool) (rows : List Row) → AllFull rows → IfFull (find p rows)
+found_full p [] all = tt
+found_full p (r ∷ rs) all = go (p r) (found_full p rs all.1)
+  where
+    go : (b : Bool) → IfFull (find p rs) → IfFull (cond b (Some r) (find p rs))
+    go true later = all.0
+    go false later = later
+
+first_value : (values : List Text) → Full values → (text : Text) × (slice_get values 0 ≡ Some text)
+first_value [] full = absurd full
+first_value (v ∷ vs) full = (v, refl)
+
+given_value : (id : Text) (rows : List Row) → AllFull rows → is_given id rows ≡ true → HasValue id rows
+given_value id rows all given = go (find (λ r. bytes_eq r.id id) rows) (found_full _ rows all) given
+  where
+    go : (o : Option Row) → IfFull o → option_map_or (λ r. explicit_source r.source) o false ≡ true → (text : Text) × (option_and_then (λ r. slice_get r.values 0) o ≡ Some text)
+    go None full given = absurd (cc (given))
+    go (Some r) full given = first_value r.values full
+
+given_values : (id : Text) (rows : List Row) → is_given id rows ≡ true → HasValues id rows
+given_values id rows given = go (find (λ r. bytes_eq r.id id) rows) given
+  where
+    go : (o : Option Row) → option_map_or (λ r. explicit_source r.source) o false ≡ true → (texts : List Text) × (option_map (λ r. r.values) o ≡ Some texts)
+    go None given = absurd (cc (given))
+    go (Some r) given = (r.values, refl)
+
+-- ---- the last checks
+
+wanted : (help subcommand argument : Bool) → check_kinds help subcommand argument ≡ [] → (subcommand ≡ false) × (argument ≡ false)
+wanted true subcommand argument e = absurd (cc (e))
+wanted false true argument e = absurd (cc (e))
+wanted false false true e = absurd (cc (e))
+wanted false false false e = (refl, refl)
+
+-- each required argument was given
+given_all : (s : Shape) (rows : List Row) → check_fault s rows false ≡ [] → list_any (λ a. a.required && not (is_given a.id rows)) s.rules ≡ false
+given_all s rows e =
+    go s.subcommand_negates_reqs (wanted (not false && (s.arg_required_else_help && not (list_any (λ r. explicit_source r.source) rows))) (not false && s.subcommand_required)
+    (not (s.subcommand_negates_reqs && false) && list_any (λ a. a.required && not (is_given a.id rows)) s.rules) e).1
+  where
+    go : (b : Bool) → (not (b && false) && list_any (λ a. a.required && not (is_given a.id rows)) s.rules) ≡ false
+        → list_any (λ a. a.required && not (is_given a.id rows)) s.rules ≡ false
+    go true e = e
+    go false e = e
+
+-- the first of them, and those after it
+required : (given rest : Bool) → (not given || rest) ≡ false → (given ≡ true) × (rest ≡ false)
+required true rest e = (refl, e)
+required false rest e = absurd (cc (e))
+
+-- ---- numbers
+
+number_or : (default least most : ℕ) (text : Option Text) → IsGood least most text → (n : ℕ) × IsNumberOr default least most text n
+number_or default least most None good = (default, refl)
+number_or default least most (Some text) good = good
+
+number_in : (least most : ℕ) (given : Option Text) → ((text : Text) × (given ≡ Some text)) → IsGood least most given → (n : ℕ) × IsNumberIn least most given n
+number_in least most None value good = absurd (cc (value.1))
+number_in least most (Some text) value good = good
+
+moment_in : (text : Option Text) → IsGoodMoment text → (moment : Option ℤ) × IsMomentIn text moment
+moment_in None good = (None, refl)
+moment_in (Some text) good = (Some good.0, good.1)
+
+flag_in : (text : Option Text) → (stats : Bool) × (IsTrue stats ↔ (text ≡ Some (codes "true")))
+flag_in None = (false, (λ h. absurd h, λ e. absurd (cc (e))))
+flag_in (Some text) = go (bytes_eq text (codes "true")) refl
+  where
+    go : (b : Bool) → bytes_eq text (codes "true") ≡ b → (stats : Bool) × (IsTrue stats ↔ (Some text ≡ Some (codes "true")))
+    go true e = (true, (λ h. ap Some (same_text text (codes "true") e), λ h. tt))
+    go false e = (false, (λ h. absurd h, λ h. absurd (other_text text (codes "true") e (cc (h)))))
+
+-- ---- each command
+
+Ends : Text → List Row → Type 0
+Ends name rows = AreGood rows → (asked : Asked) × IsFor name rows asked
+
+abbrev IsGoodShape : Shape → Type 0
+IsGoodShape s = (words : List Text) → level_fault s [] nothing_held words false [] ≡ [] → Ends s.name (rows_after s.rules [] words)
+
+AllGood : List Shape → Type 0
+AllGood [] = Unit {0}
+AllGood (s ∷ rest) = IsGoodShape s × AllGood rest
+
+IfGood : Option Shape → Type 0
+IfGood None = Unit {0}
+IfGood (Some s) = IsGoodShape s
+
+-- the commands as they are built
+abbrev ready : Shape → Shape
+ready s = built_leaf (inherited (with_leaf_noted (marked_built clpa.top)) s)
+
+good_show : IsGoodShape (ready forms.show)
+good_show words e good =
+    let rows = rows_after (ready forms.show).rules [] words in
+    let level = level_full (ready forms.show) words (inl refl, tt) (λ x. refl) e in
+    let g0 = given_all (ready forms.show) rows level.1 in
+    let g1 = required (is_given (codes "file") rows) false g0 in
+    let file = given_value (codes "file") rows level.0 g1.0 in
+    (to_show file.0, (refl, file.1))
+
+good_scan : IsGoodShape (ready forms.scan)
+good_scan words e good =
+    let rows = rows_after (ready forms.scan).rules [] words in
+    let level = level_full (ready forms.scan) words (inl refl, (inl refl, tt)) (λ x. refl) e in
+    let g0 = given_all (ready forms.scan) rows level.1 in
+    let g1 = required (is_given (codes "pattern") rows) (not (is_given (codes "file") rows) || false) g0 in
+    let g2 = required (is_given (codes "file") rows) false g1.1 in
+    let pattern = given_value (codes "pattern") rows level.0 g1.0 in
+    let file = given_value (codes "file") rows level.0 g2.0 in
+    (to_scan pattern.0 file.0, (refl, (pattern.1, file.1)))
+
+good_create : IsGoodShape (ready forms.create)
+good_create words e good =
+    let rows = rows_after (ready forms.create).rules [] words in
+    let level = level_full (ready forms.create) words (inl refl, (inl refl, (inl refl, (inl refl, tt)))) (λ x. refl) e in
+    let version = number_or 1 1 3 (first_of (codes "format") rows) good.format in
+    let types = number_or 16777216 1 2147483648 (first_of (codes "types") rows) good.types in
+    let words_limit = number_or 2147483648 1 2147483648 (first_of (codes "words") rows) good.words in
+    let bytes = number_or 1099511627776 33 1099511627776 (first_of (codes "bytes") rows) good.bytes in
+    (to_create (record { version = version.0; types_limit = types.0; words_limit = words_limit.0; length_limit = bytes.0 }),
+    (refl, record { version = version.1; types = types.1; words = words_limit.1; bytes = bytes.1 }))
+
+good_ingest : IsGoodShape (ready forms.ingest)
+good_ingest words e good =
+    let rows = rows_after (ready forms.ingest).rules [] words in
+    let level = level_full (ready forms.ingest) words (inl refl, (inl refl, (inl refl, tt))) (λ x. refl) e in
+    let g0 = given_all (ready forms.ingest) rows level.1 in
+    let g1 = required (is_given (codes "file") rows) false g0 in
+    let workers = number_or 1 1 64 (first_of (codes "workers") rows) good.workers in
+    let segment = number_or 65536 1 65536 (first_of (codes "segment") rows) good.segment in
+    let files = given_values (codes "file") rows g1.0 in
+    (to_ingest workers.0 segment.0 files.0, (refl, record { workers_are = workers.1; segment_is = segment.1; files_are = files.1 }))
+
+good_files : IsGoodShape (ready forms.files)
+good_files words e good =
+    let rows = rows_after (ready forms.files).rules [] words in
+    let level = level_full (ready forms.files) words tt (λ x. refl) e in
+    (to_list, (refl, tt))
+
+good_check : IsGoodShape (ready forms.check)
+good_check words e good =
+    let rows = rows_after (ready forms.check).rules [] words in
+    let level = level_full (ready forms.check) words tt (λ x. refl) e in
+    (to_check, (refl, tt))
+
+good_decode : IsGoodShape (ready forms.decode)
+good_decode words e good =
+    let rows = rows_after (ready forms.decode).rules [] words in
+    let level = level_full (ready forms.decode) words (inl refl, tt) (λ x. refl) e in
+    let g0 = given_all (ready forms.decode) rows level.1 in
+    let g1 = required (is_given (codes "number") rows) false g0 in
+    let number = number_in 0 4294967295 (first_of (codes "number") rows) (given_value (codes "number") rows level.0 g1.0) good.number in
+    (to_decode number.0, (refl, number.1))
+
+good_search : IsGoodShape (ready forms.search)
+good_search words e good =
+    let rows = rows_after (ready forms.search).rules [] words in
+    let level = level_full (ready forms.search) words (inl refl, (inl refl, (inr tt, (inl refl, (inl refl, tt))))) (λ x. refl) e in
+    let g0 = given_all (ready forms.search) rows level.1 in
+    let g1 = required (is_given (codes "pattern") rows) false g0 in
+    let from = moment_in (first_of (codes "from") rows) good.from in
+    let to = moment_in (first_of (codes "to") rows) good.to in
+    let stats = flag_in (first_of (codes "stats") rows) in
+    let workers = number_or 1 1 64 (first_of (codes "workers") rows) good.workers in
+    let pattern = given_value (codes "pattern") rows level.0 g1.0 in
+    (to_search from.0 to.0 stats.0 workers.0 pattern.0,
+    (refl, record { from_is = from.1; to_is = to.1; stats_are = stats.1; workers_are = workers.1; pattern_is = pattern.1 }))
+
+good_bench : IsGoodShape (ready forms.bench)
+good_bench words e good =
+    let rows = rows_after (ready forms.bench).rules [] words in
+    let level = level_full (ready forms.bench) words (inl refl, (inl refl, (inl refl, tt))) (λ x. refl) e in
+    let g0 = given_all (ready forms.bench) rows level.1 in
+    let g1 = required (is_given (codes "number") rows) (not (is_given (codes "lines") rows) || (not (is_given (codes "workers") rows) || false)) g0 in
+    let g2 = required (is_given (codes "lines") rows) (not (is_given (codes "workers") rows) || false) g1.1 in
+    let g3 = required (is_given (codes "workers") rows) false g2.1 in
+    let number = number_in 0 4294967295 (first_of (codes "number") rows) (given_value (codes "number") rows level.0 g1.0) good.number in
+    let lines = number_in 1 1000000 (first_of (codes "lines") rows) (given_value (codes "lines") rows level.0 g2.0) good.lines in
+    let workers = number_in 1 64 (first_of (codes "workers") rows) (given_value (codes "workers") rows level.0 g3.0) good.workers in
+    (to_bench number.0 lines.0 workers.0, (refl, record { number_is = number.1; lines_are = lines.1; workers_are = workers.1 }))
+
+all_good : AllGood (built clpa).subs
+all_good = (good_show, (good_scan, (good_create, (good_ingest, (good_files, (good_check, (good_decode, (good_search, (good_bench, tt)))))))))
+
+found_good : (p : Shape → Bool) (subs : List Shape) → AllGood subs → IfGood (find p subs)
+found_good p [] all = tt
+found_good p (s ∷ rest) all = go (p s) (found_good p rest all.1)
+  where
+    go : (b : Bool) → IfGood (find p rest) → IfGood (cond b (Some s) (find p rest))
+    go true later = all.0
+    go false later = later
+
+-- ---- the command that is entered
+
+entered_ends : (a : App) (stop : Option (Text × List Text)) → AllGood a.subs → entered_fault a stop ≡ [] → is_some (entered a stop) ≡ true
+    → (name : Text) × ((rows : List Row) × (entered a stop ≡ Some (name, rows)) × Ends name rows)
+entered_ends a None all e some = absurd (cc (some))
+entered_ends a (Some p) all e some = go (find (λ s. answers_to p.0 (label_of s)) a.subs) (found_good _ a.subs all) e some
+  where
+    go : (o : Option Shape) → IfGood o → option_map_or (λ s. level_fault s [] nothing_held p.1 false []) o [] ≡ [] → is_some (option_map (λ s. rows_at s p.1) o) ≡ true
+        → (name : Text) × ((rows : List Row) × (option_map (λ s. rows_at s p.1) o ≡ Some (name, rows)) × Ends name rows)
+    go None good e some = absurd (cc (some))
+    go (Some s) good e some = (s.name, (rows_after s.rules [] p.1, (refl, good p.1 e)))
+
+-- a command is there
+enters : (some : Bool) → (not some && true) ≡ false → some ≡ true
+enters true e = refl
+enters false e = absurd (cc (e))
+
+pub something_asked : (words : List Text) → fault_of clpa words ≡ [] → HaveGoodNumbers words → (asked : Asked) × Asks words asked
+something_asked words e good =
+    let a = built clpa in
+    let stop = stop_after a.top.rules (names_of a) words in
+    let end = (walk a.top.rules (names_of a) nothing_held words).held in
+    let has = is_some (entered a stop) in
+    let walks = walk_fault a.top (names_of a) (walk_from nothing_held) words in
+    let enters_by = entered_fault a stop in
+    let settles = settle_fault a.top.rules a.top.args_override_self end in
+    let fills = defaults_fault (settled a.top.rules end).rows a.top.rules in
+    let checks = check_fault a.top (finished a.top.rules end) has in
+    let whole : or_else walks (or_else enters_by (or_else settles (or_else fills checks))) ≡ [] = e in
+    let below = second_none walks (or_else enters_by (or_else settles (or_else fills checks))) whole in
+    let inner = first_none enters_by (or_else settles (or_else fills checks)) below in
+    let after = second_none enters_by (or_else settles (or_else fills checks)) below in
+    let last = second_none fills checks (second_none settles (or_else fills checks) after) in
+    let some = enters has (wanted (not has && false) (not has && true) false last).0 in
+    let ends = entered_ends a stop all_good inner some in
+    let asked = ends.1.1.1 (good ends.0 ends.1.0 ends.1.1.0) in
+    (asked.0, record {
+      rows = ends.1.0;
+      good = e;
+      found = ends.1.1.0 ∙ ap (λ (name : Text). Some (name, ends.1.0)) (sym asked.1.0);
+      given = asked.1.1;
+    })
