@@ -14,7 +14,7 @@ use Rattle.clap.specs.Faults.{check_fault, defaults_fault, entered_fault, fault_
 use Rattle.command_words.specs.Forms as forms
 use Rattle.command_words.specs.Forms.{clpa}
 use Rattle.command_words.specs.Values.{IsGood, IsGoodMoment, IsMomentIn, IsNumberIn, IsNumberOr}
-use Rattle.command_words.specs.Asked.{AreGood, Asked, Asks, Gives, HaveGoodNumbers, IsFor, name_of, to_bench, to_check, to_create, to_decode, to_ingest, to_list, to_scan, to_search, to_show}
+use Rattle.command_words.specs.Asked.{AreGood, Asked, Asks, Gives, HaveGoodNumbers, name_of, to_bench, to_check, to_create, to_decode, to_ingest, to_list, to_scan, to_search, to_show}
 use Rattle.command_words.proofs.RowLemmas.{AllFull, Full, first_none, level_full, second_none}
 
 -- ---- values
@@ -25,7 +25,7 @@ HasValue id rows = (text : Text) × (first_of id rows ≡ Some text)
 abbrev HasValues : Text → List Row → Type 0
 HasValues id rows = (texts : List Text) × (all_of id rows ≡ Some texts)
 
-IfFull : Option Row → Type 0
+abbrev IfFull : Option Row → Type 0
 IfFull None = Unit {0}
 IfFull (Some r) = Full r.values
 
@@ -93,27 +93,40 @@ moment_in : (text : Option Text) → IsGoodMoment text → (moment : Option ℤ)
 moment_in None good = (None, refl)
 moment_in (Some text) good = (Some good.0, good.1)
 
-flag_in : (text : Option Text) → (stats : Bool) × (IsTrue stats ↔ (text ≡ Some (codes "true")))
-flag_in None = (false, (λ h. absurd h, λ e. absurd (cc (e))))
+record Flag (text : Option Text) : Type 0 where
+  stats : Bool
+  is : IsTrue stats ↔ (text ≡ Some (codes "true"))
+
+flag_in : (text : Option Text) → Flag text
+flag_in None = record { stats = false; is = (λ h. absurd (cc (h)), λ e. absurd (cc (e))) }
 flag_in (Some text) = go (bytes_eq text (codes "true")) refl
   where
-    go : (b : Bool) → bytes_eq text (codes "true") ≡ b → (stats : Bool) × (IsTrue stats ↔ (Some text ≡ Some (codes "true")))
-    go true e = (true, (λ h. ap Some (same_text text (codes "true") e), λ h. tt))
-    go false e = (false, (λ h. absurd h, λ h. absurd (other_text text (codes "true") e (cc (h)))))
+    go : (b : Bool) → bytes_eq text (codes "true") ≡ b → Flag (Some text)
+    go true e = record { stats = true; is = (λ h. ap Some (same_text text (codes "true") e), λ h. refl) }
+    go false e = record { stats = false; is = (λ h. absurd (cc (h)), λ h. absurd (other_text text (codes "true") e (cc (h)))) }
 
 -- ---- each command
 
-Ends : Text → List Row → Type 0
-Ends name rows = AreGood rows → (asked : Asked) × IsFor name rows asked
+record Given (name : Text) (rows : List Row) : Type 0 where
+  asked : Asked
+  named : name_of asked ≡ name
+  gives : Gives rows asked
+
+abbrev Ends : Text → List Row → Type 0
+Ends name rows = AreGood rows → Given name rows
 
 abbrev IsGoodShape : Shape → Type 0
 IsGoodShape s = (words : List Text) → level_fault s [] nothing_held words false [] ≡ [] → Ends s.name (rows_after s.rules [] words)
 
-AllGood : List Shape → Type 0
-AllGood [] = Unit {0}
-AllGood (s ∷ rest) = IsGoodShape s × AllGood rest
+record Both (A B : Type 0) : Type 0 where
+  first : A
+  second : B
 
-IfGood : Option Shape → Type 0
+abbrev AllGood : List Shape → Type 0
+AllGood [] = Unit {0}
+AllGood (s ∷ rest) = Both (IsGoodShape s) (AllGood rest)
+
+abbrev IfGood : Option Shape → Type 0
 IfGood None = Unit {0}
 IfGood (Some s) = IsGoodShape s
 
@@ -124,70 +137,63 @@ ready s = built_leaf (inherited (with_leaf_noted (marked_built clpa.top)) s)
 good_show : IsGoodShape (ready forms.show)
 good_show words e good =
     let rows = rows_after (ready forms.show).rules [] words in
-    let level = level_full (ready forms.show) words (inl refl, tt) (λ x. refl) e in
+    let level = level_full (ready forms.show) words refl (λ x. refl) e in
     let g0 = given_all (ready forms.show) rows level.1 in
     let g1 = required (is_given (codes "file") rows) false g0 in
     let file = given_value (codes "file") rows level.0 g1.0 in
-    (to_show file.0, (refl, file.1))
+    record { asked = to_show file.0; named = refl; gives = file.1 }
 
 good_scan : IsGoodShape (ready forms.scan)
 good_scan words e good =
     let rows = rows_after (ready forms.scan).rules [] words in
-    let level = level_full (ready forms.scan) words (inl refl, (inl refl, tt)) (λ x. refl) e in
+    let level = level_full (ready forms.scan) words refl (λ x. refl) e in
     let g0 = given_all (ready forms.scan) rows level.1 in
     let g1 = required (is_given (codes "pattern") rows) (not (is_given (codes "file") rows) || false) g0 in
     let g2 = required (is_given (codes "file") rows) false g1.1 in
     let pattern = given_value (codes "pattern") rows level.0 g1.0 in
     let file = given_value (codes "file") rows level.0 g2.0 in
-    (to_scan pattern.0 file.0, (refl, (pattern.1, file.1)))
+    record { asked = to_scan pattern.0 file.0; named = refl; gives = (pattern.1, file.1) }
 
 good_create : IsGoodShape (ready forms.create)
 good_create words e good =
     let rows = rows_after (ready forms.create).rules [] words in
-    let level = level_full (ready forms.create) words (inl refl, (inl refl, (inl refl, (inl refl, tt)))) (λ x. refl) e in
+    let level = level_full (ready forms.create) words refl (λ x. refl) e in
     let version = number_or 1 1 3 (first_of (codes "format") rows) good.format in
     let types = number_or 16777216 1 2147483648 (first_of (codes "types") rows) good.types in
     let words_limit = number_or 2147483648 1 2147483648 (first_of (codes "words") rows) good.words in
     let bytes = number_or 1099511627776 33 1099511627776 (first_of (codes "bytes") rows) good.bytes in
-    (to_create (record { version = version.0; types_limit = types.0; words_limit = words_limit.0; length_limit = bytes.0 }),
-    (refl, record { version = version.1; types = types.1; words = words_limit.1; bytes = bytes.1 }))
+    record { asked = to_create (record { version = version.0; types_limit = types.0; words_limit = words_limit.0; length_limit = bytes.0 }); named = refl; gives = record { version = version.1; types = types.1; words = words_limit.1; bytes = bytes.1 } }
 
 good_ingest : IsGoodShape (ready forms.ingest)
 good_ingest words e good =
     let rows = rows_after (ready forms.ingest).rules [] words in
-    let level = level_full (ready forms.ingest) words (inl refl, (inl refl, (inl refl, tt))) (λ x. refl) e in
+    let level = level_full (ready forms.ingest) words refl (λ x. refl) e in
     let g0 = given_all (ready forms.ingest) rows level.1 in
     let g1 = required (is_given (codes "file") rows) false g0 in
     let workers = number_or 1 1 64 (first_of (codes "workers") rows) good.workers in
     let segment = number_or 65536 1 65536 (first_of (codes "segment") rows) good.segment in
     let files = given_values (codes "file") rows g1.0 in
-    (to_ingest workers.0 segment.0 files.0, (refl, record { workers_are = workers.1; segment_is = segment.1; files_are = files.1 }))
+    record { asked = to_ingest workers.0 segment.0 files.0; named = refl; gives = record { workers_are = workers.1; segment_is = segment.1; files_are = files.1 } }
 
 good_files : IsGoodShape (ready forms.files)
-good_files words e good =
-    let rows = rows_after (ready forms.files).rules [] words in
-    let level = level_full (ready forms.files) words tt (λ x. refl) e in
-    (to_list, (refl, tt))
+good_files words e good = record { asked = to_list; named = refl; gives = tt }
 
 good_check : IsGoodShape (ready forms.check)
-good_check words e good =
-    let rows = rows_after (ready forms.check).rules [] words in
-    let level = level_full (ready forms.check) words tt (λ x. refl) e in
-    (to_check, (refl, tt))
+good_check words e good = record { asked = to_check; named = refl; gives = tt }
 
 good_decode : IsGoodShape (ready forms.decode)
 good_decode words e good =
     let rows = rows_after (ready forms.decode).rules [] words in
-    let level = level_full (ready forms.decode) words (inl refl, tt) (λ x. refl) e in
+    let level = level_full (ready forms.decode) words refl (λ x. refl) e in
     let g0 = given_all (ready forms.decode) rows level.1 in
     let g1 = required (is_given (codes "number") rows) false g0 in
     let number = number_in 0 4294967295 (first_of (codes "number") rows) (given_value (codes "number") rows level.0 g1.0) good.number in
-    (to_decode number.0, (refl, number.1))
+    record { asked = to_decode number.0; named = refl; gives = number.1 }
 
 good_search : IsGoodShape (ready forms.search)
 good_search words e good =
     let rows = rows_after (ready forms.search).rules [] words in
-    let level = level_full (ready forms.search) words (inl refl, (inl refl, (inr tt, (inl refl, (inl refl, tt))))) (λ x. refl) e in
+    let level = level_full (ready forms.search) words refl (λ x. refl) e in
     let g0 = given_all (ready forms.search) rows level.1 in
     let g1 = required (is_given (codes "pattern") rows) false g0 in
     let from = moment_in (first_of (codes "from") rows) good.from in
@@ -195,13 +201,12 @@ good_search words e good =
     let stats = flag_in (first_of (codes "stats") rows) in
     let workers = number_or 1 1 64 (first_of (codes "workers") rows) good.workers in
     let pattern = given_value (codes "pattern") rows level.0 g1.0 in
-    (to_search from.0 to.0 stats.0 workers.0 pattern.0,
-    (refl, record { from_is = from.1; to_is = to.1; stats_are = stats.1; workers_are = workers.1; pattern_is = pattern.1 }))
+    record { asked = to_search from.0 to.0 stats.stats workers.0 pattern.0; named = refl; gives = record { from_is = from.1; to_is = to.1; stats_are = stats.is; workers_are = workers.1; pattern_is = pattern.1 } }
 
 good_bench : IsGoodShape (ready forms.bench)
 good_bench words e good =
     let rows = rows_after (ready forms.bench).rules [] words in
-    let level = level_full (ready forms.bench) words (inl refl, (inl refl, (inl refl, tt))) (λ x. refl) e in
+    let level = level_full (ready forms.bench) words refl (λ x. refl) e in
     let g0 = given_all (ready forms.bench) rows level.1 in
     let g1 = required (is_given (codes "number") rows) (not (is_given (codes "lines") rows) || (not (is_given (codes "workers") rows) || false)) g0 in
     let g2 = required (is_given (codes "lines") rows) (not (is_given (codes "workers") rows) || false) g1.1 in
@@ -209,37 +214,46 @@ good_bench words e good =
     let number = number_in 0 4294967295 (first_of (codes "number") rows) (given_value (codes "number") rows level.0 g1.0) good.number in
     let lines = number_in 1 1000000 (first_of (codes "lines") rows) (given_value (codes "lines") rows level.0 g2.0) good.lines in
     let workers = number_in 1 64 (first_of (codes "workers") rows) (given_value (codes "workers") rows level.0 g3.0) good.workers in
-    (to_bench number.0 lines.0 workers.0, (refl, record { number_is = number.1; lines_are = lines.1; workers_are = workers.1 }))
+    record { asked = to_bench number.0 lines.0 workers.0; named = refl; gives = record { number_is = number.1; lines_are = lines.1; workers_are = workers.1 } }
 
 all_good : AllGood (built clpa).subs
-all_good = (good_show, (good_scan, (good_create, (good_ingest, (good_files, (good_check, (good_decode, (good_search, (good_bench, tt)))))))))
+all_good = record { first = good_show; second = record { first = good_scan; second = record { first = good_create; second = record { first = good_ingest; second = record { first = good_files; second = record { first = good_check; second = record { first = good_decode; second = record { first = good_search; second = record { first = good_bench; second = tt } } } } } } } } }
 
 found_good : (p : Shape → Bool) (subs : List Shape) → AllGood subs → IfGood (find p subs)
 found_good p [] all = tt
-found_good p (s ∷ rest) all = go (p s) (found_good p rest all.1)
+found_good p (s ∷ rest) all = go (p s) (found_good p rest all.second)
   where
     go : (b : Bool) → IfGood (find p rest) → IfGood (cond b (Some s) (find p rest))
-    go true later = all.0
+    go true later = all.first
     go false later = later
 
 -- ---- the command that is entered
 
-entered_ends : (a : App) (stop : Option (Text × List Text)) → AllGood a.subs → entered_fault a stop ≡ [] → is_some (entered a stop) ≡ true
-    → (name : Text) × ((rows : List Row) × (entered a stop ≡ Some (name, rows)) × Ends name rows)
+record Entered (found : Option (Text × List Row)) : Type 0 where
+  name : Text
+  rows : List Row
+  is : found ≡ Some (name, rows)
+  ends : Ends name rows
+
+entered_ends : (a : App) (stop : Option (Text × List Text)) → AllGood a.subs → entered_fault a stop ≡ [] → is_some (entered a stop) ≡ true → Entered (entered a stop)
 entered_ends a None all e some = absurd (cc (some))
 entered_ends a (Some p) all e some = go (find (λ s. answers_to p.0 (label_of s)) a.subs) (found_good _ a.subs all) e some
   where
     go : (o : Option Shape) → IfGood o → option_map_or (λ s. level_fault s [] nothing_held p.1 false []) o [] ≡ [] → is_some (option_map (λ s. rows_at s p.1) o) ≡ true
-        → (name : Text) × ((rows : List Row) × (option_map (λ s. rows_at s p.1) o ≡ Some (name, rows)) × Ends name rows)
+        → Entered (option_map (λ s. rows_at s p.1) o)
     go None good e some = absurd (cc (some))
-    go (Some s) good e some = (s.name, (rows_after s.rules [] p.1, (refl, good p.1 e)))
+    go (Some s) good e some = record { name = s.name; rows = rows_after s.rules [] p.1; is = refl; ends = good p.1 e }
 
 -- a command is there
 enters : (some : Bool) → (not some && true) ≡ false → some ≡ true
 enters true e = refl
 enters false e = absurd (cc (e))
 
-pub something_asked : (words : List Text) → fault_of clpa words ≡ [] → HaveGoodNumbers words → (asked : Asked) × Asks words asked
+pub record Something (words : List Text) : Type 0 where
+  pub asked : Asked
+  pub asks : Asks words asked
+
+pub something_asked : (words : List Text) → fault_of clpa words ≡ [] → HaveGoodNumbers words → Something words
 something_asked words e good =
     let a = built clpa in
     let stop = stop_after a.top.rules (names_of a) words in
@@ -257,10 +271,13 @@ something_asked words e good =
     let last = second_none fills checks (second_none settles (or_else fills checks) after) in
     let some = enters has (wanted (not has && false) (not has && true) false last).0 in
     let ends = entered_ends a stop all_good inner some in
-    let asked = ends.1.1.1 (good ends.0 ends.1.0 ends.1.1.0) in
-    (asked.0, record {
-      rows = ends.1.0;
-      good = e;
-      found = ends.1.1.0 ∙ ap (λ (name : Text). Some (name, ends.1.0)) (sym asked.1.0);
-      given = asked.1.1;
-    })
+    let given = ends.ends (good ends.name ends.rows ends.is) in
+    record {
+      asked = given.asked;
+      asks = record {
+        rows = ends.rows;
+        good = e;
+        found = ends.is ∙ ap (λ (name : Text). Some (name, ends.rows)) (sym given.named);
+        given = given.gives;
+      };
+    }

@@ -1,14 +1,15 @@
 -- Where `clap` finds no fault in a command's words, each value that they leave has a text.
-use Rattle.std.proofs.Common.{◌≡◌, ℕ, Bool, cond, true, false, zero, suc, not, ◌&&◌, refl, sym, subst, List, [], ◌∷◌, ◌++◌, length, drop, Option, Some, None, is_some, ◌⊎◌, inl, inr, nat_lt}
-use Rattle.std.specs.List.{find, fold}
+use Rattle.std.proofs.Common.{◌≡◌, ℕ, Bool, cond, true, false, zero, suc, not, ◌&&◌, ◌||◌, refl, sym, subst, List, [], ◌∷◌, ◌++◌, length, drop, Option, Some, None, is_some, nat_lt}
+use Rattle.std.specs.List.{find, fold, list_all}
 use Rattle.std.specs.Option.{option_map_or}
 use Rattle.std.specs.Prelude.{encode_utf8, slice_get, if◌then◌else◌}
 use Rattle.std.specs.Str.{bytes_eq, chars}
 use Rattle.clap.specs.Lexer.{long_of, short_of}
 use Rattle.clap.specs.Facts.{unwrap_or_range}
 use Rattle.clap.specs.Kinds.{Kinds, or_else, range_kinds}
-use Rattle.clap.specs.Walk.{Held, Outcome, Row, Rule, Step, Text, Waiting, Walk, action_of, after_flag, after_step, arg_by_id, arg_by_index, arg_by_long, arg_by_short, bundle, bundle_met, bundle_step, default_rows, done, finished, flag_met, has_row, idle, is_pending, long_met, long_or_other, long_word, most_values, next, nothing_held, option, option_met, option_word, plain, plain_word, positional, positional_held, pushed, reacted, reading_by, refused, rows_after, settled, settled_rows, short_met, short_or_plain, short_word, stronger, subcommand, subcommand_met, subcommand_or_other, takes_several, takes_values, to_positional, trailing, used, used_as, used_by_id, value, values_or_missing, waits, walk, walk_from, walked, walked_from, with_default, with_values, without, word_met}
+use Rattle.clap.specs.Walk.{Held, Outcome, Row, Rule, Step, Text, Waiting, Walk, action_of, after_flag, after_step, arg_by_id, arg_by_index, arg_by_long, arg_by_short, bundle, bundle_met, bundle_step, default_rows, done, finished, flag_met, has_row, idle, is_empty, is_pending, long_met, long_or_other, long_word, most_values, next, nothing_held, option, option_met, option_word, plain, plain_word, positional, positional_held, pushed, reacted, reading_by, refused, rows_after, settled, settled_rows, short_met, short_or_plain, short_word, stronger, subcommand, subcommand_met, subcommand_or_other, takes_several, takes_values, to_positional, trailing, used, used_as, used_by_id, value, values_or_missing, waits, walk, walk_from, walked, walked_from, with_default, with_values, without, word_met}
 use Rattle.clap.specs.Simple.{Shape}
+use Rattle.clap.proofs.WalkLemmas.{both}
 use Rattle.clap.specs.Faults.{check_fault, defaults_fault, flag_word_fault, level_fault, long_fault, option_fault, other_fault, positional_fault, react_fault, settle_fault, step_fault, stray_fault, turn_fault, use_fault, walk_fault, word_fault}
 use Rattle.clap.specs.declared.builder.action.ArgAction.{ArgAction}
 use Rattle.clap.specs.declared.builder.action.ArgAction.TheVariants.{Set, Append, SetTrue, SetFalse, Count, Help, HelpShort, HelpLong, Version}
@@ -26,12 +27,14 @@ AllFull [] = Unit {0}
 AllFull (r ∷ rs) = Full r.values × AllFull rs
 
 -- a use of the argument leaves a value
+abbrev pub leaves : Rule → Bool
+leaves a = nat_lt 0 (unwrap_or_range a.range).start_inclusive || not (is_empty a.missing)
+
 abbrev pub Leaves : Rule → Type 0
-Leaves a = (nat_lt 0 (unwrap_or_range a.range).start_inclusive ≡ true) ⊎ Full a.missing
+Leaves a = leaves a ≡ true
 
 abbrev pub AllLeave : List Rule → Type 0
-AllLeave [] = Unit {0}
-AllLeave (a ∷ rest) = Leaves a × AllLeave rest
+AllLeave c = list_all leaves c ≡ true
 
 abbrev pub IfLeaves : Option Rule → Type 0
 IfLeaves None = Unit {0}
@@ -85,21 +88,28 @@ used_full HelpShort id how values rows f all = all
 used_full HelpLong id how values rows f all = all
 used_full Version id how values rows f all = all
 
-none_wanted : (least most : ℕ) (next : Kinds) → nat_lt 0 least ≡ true → or_else (range_kinds least most 0) next ≡ [] → ⊥
-none_wanted zero most next lt e = cc (lt)
-none_wanted (suc n) most next lt e = cc (e)
+none_wanted : (least most : ℕ) (more : Kinds) → nat_lt 0 least ≡ true → or_else (range_kinds least most 0) more ≡ [] → ⊥
+none_wanted zero most more lt e = cc (lt)
+none_wanted (suc n) most more lt e = cc (e)
+
+full_missing : (values : List Text) → (false || not (is_empty values)) ≡ true → Full values
+full_missing [] l = absurd (cc (l))
+full_missing (v ∷ vs) l = tt
 
 use_full : (again : Bool) (a : Rule) (values : List Text) (rows : List Row) → Leaves a → use_fault again a values rows ≡ [] → Full (values_or_missing a values)
 use_full again a (v ∷ vs) rows l e = tt
-use_full again a [] rows (inl lt) e = absurd (none_wanted (unwrap_or_range a.range).start_inclusive (most_values a) _ lt e)
-use_full again a [] rows (inr m) e = m
+use_full again a [] rows l e = go (nat_lt 0 (unwrap_or_range a.range).start_inclusive) refl l
+  where
+    go : (b : Bool) → nat_lt 0 (unwrap_or_range a.range).start_inclusive ≡ b → (b || not (is_empty a.missing)) ≡ true → Full a.missing
+    go true lt l = absurd (none_wanted (unwrap_or_range a.range).start_inclusive (most_values a) _ lt e)
+    go false lt l = full_missing a.missing l
 
 found_leaves : (c : List Rule) (p : Rule → Bool) → AllLeave c → IfLeaves (find p c)
 found_leaves [] p all = tt
-found_leaves (a ∷ rest) p all = go (p a) (found_leaves rest p all.1)
+found_leaves (a ∷ rest) p all = go (p a) (found_leaves rest p (both (leaves a) (list_all leaves rest) all).1)
   where
     go : (b : Bool) → IfLeaves (find p rest) → IfLeaves (cond b (Some a) (find p rest))
-    go true later = all.0
+    go true later = (both (leaves a) (list_all leaves rest) all).0
     go false later = later
 
 -- ---- the walk over the words of a command
@@ -142,12 +152,12 @@ module _ (c : List Rule) (leave : AllLeave c) (again : Bool) where
       go false e = flag_full a v h l e all
 
 module _ (c : List Rule) where
-  step_of_bundle : (o : Option ℕ) (flags : Text) (skip : ℕ) (so_far : Outcome) (h : Held) (next : Text → ℕ → Outcome → Held → Held × Outcome) → HasNoShort c
-      → ((f : Text) (k : ℕ) (s : Outcome) → AllFull (next f k s h).0.rows) → AllFull h.rows → AllFull (bundle_step c o flags skip so_far h next).0.rows
-  step_of_bundle None flags skip so_far h next short later all = all
-  step_of_bundle (Some x) flags zero so_far h next short later all =
-      subst (λ (o : Option Rule). AllFull (short_met c o (drop (length (encode_utf8 x)) flags) h (next (drop (length (encode_utf8 x)) flags) 0 done)).0.rows) (sym (short x)) all
-  step_of_bundle (Some x) flags (suc skip) so_far h next short later all = later _ skip so_far
+  step_of_bundle : (o : Option ℕ) (flags : Text) (skip : ℕ) (so_far : Outcome) (h : Held) (after : Text → ℕ → Outcome → Held → Held × Outcome) → HasNoShort c
+      → ((f : Text) (k : ℕ) (s : Outcome) → AllFull (after f k s h).0.rows) → AllFull h.rows → AllFull (bundle_step c o flags skip so_far h after).0.rows
+  step_of_bundle None flags skip so_far h after short later all = all
+  step_of_bundle (Some x) flags zero so_far h after short later all =
+      subst (λ (o : Option Rule). AllFull (short_met c o (drop (length (encode_utf8 x)) flags) h (after (drop (length (encode_utf8 x)) flags) 0 done)).0.rows) (sym (short x)) all
+  step_of_bundle (Some x) flags (suc skip) so_far h after short later all = later _ skip so_far
 
   bundle_full : (k : ℕ) (flags : Text) (skip : ℕ) (so_far : Outcome) (h : Held) → HasNoShort c → AllFull h.rows → AllFull (bundle_met c k flags skip so_far h).0.rows
   unfolding bundle_met
@@ -266,6 +276,7 @@ level_full s words leave short e =
     let checks = check_fault s (finished s.rules end) false in
     let whole : or_else walks (or_else settles (or_else fills checks)) ≡ [] = e in
     let after = second_none walks (or_else settles (or_else fills checks)) whole in
-    let walk_is_full = walk_full s leave short words (walk_from nothing_held) (first_none walks (or_else settles (or_else fills checks)) whole) tt in
-    (defaults_full s.rules (settled s.rules end).rows (settled_full s.rules leave s.args_override_self end (first_none settles (or_else fills checks) after) walk_is_full),
-    second_none fills checks (second_none settles (or_else fills checks) after))
+    let walk_is_full = walk_full s leave short words (walk_from nothing_held) (first_none walks (or_else settles (or_else fills checks)) whole) tt in (
+      defaults_full s.rules (settled s.rules end).rows (settled_full s.rules leave s.args_override_self end (first_none settles (or_else fills checks) after) walk_is_full),
+      second_none fills checks (second_none settles (or_else fills checks) after),
+    )

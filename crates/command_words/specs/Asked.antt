@@ -1,5 +1,6 @@
 -- What words ask for.
-use Rattle.std.specs.Prelude.{◌≡◌, ℕ, ℤ, Bool, List, [], Option, Some, map, codes, Result, Ok, Err, ◌↔◌, IsTrue, IfSome, IsSomeAnd}
+use Rattle.std.specs.Prelude.{◌≡◌, ℕ, ℤ, Bool, List, [], Option, Some, map, codes, Result, Ok, Err}
+use Rattle.std.specs.Prelude.{◌↔◌, IsTrue, IfSome, IsSomeAnd}
 use Rattle.clap.specs.Walk.{Row, Text, all_of, first_of, rows_of}
 use Rattle.clap.specs.Matches.{found_of}
 use Rattle.clap.specs.Simple.{subcommand_of}
@@ -16,7 +17,9 @@ use Rattle.command_words.specs.declared.command.SearchWords.{SearchWords}
 use Rattle.command_words.specs.declared.command.WordsRefusal.{WordsRefusal}
 use Rattle.command_words.specs.declared.command.WordsRefusal.TheVariants.{Usage, OutOfMemory}
 use Rattle.command_words.specs.declared.command.Command.{Command}
-use Rattle.command_words.specs.declared.command.Command.TheVariants.{Show, Scan, Create, Ingest, Files, Check, Decode, Search, Bench}
+use Rattle.command_words.specs.declared.command.Command.TheVariants.{Show, Scan, Create, Ingest}
+use Rattle.command_words.specs.declared.command.Command.TheVariants.{Files, Check, Decode, Search}
+use Rattle.command_words.specs.declared.command.Command.TheVariants.{Bench}
 
 -- what can be asked for, with its values
 pub data Asked : Type 0 where
@@ -53,7 +56,8 @@ pub record IsCreate (rows : List Row) (header : Header) : Type 0 where
   pub version : IsNumberOr 1 1 3 (first_of (codes "format") rows) header.version
   pub types : IsNumberOr 16777216 1 2147483648 (first_of (codes "types") rows) header.types_limit
   pub words : IsNumberOr 2147483648 1 2147483648 (first_of (codes "words") rows) header.words_limit
-  pub bytes : IsNumberOr 1099511627776 33 1099511627776 (first_of (codes "bytes") rows) header.length_limit
+  pub bytes : IsNumberOr 1099511627776 33 1099511627776 (first_of (codes "bytes") rows)
+      header.length_limit
 
 -- the options and words of `ingest` give these
 pub record IsIngest (rows : List Row) (workers segment : ℕ) (files : List Text) : Type 0 where
@@ -62,7 +66,8 @@ pub record IsIngest (rows : List Row) (workers segment : ℕ) (files : List Text
   pub files_are : all_of (codes "file") rows ≡ Some files
 
 -- the options and the word of `search` give these
-pub record IsSearch (rows : List Row) (from to : Option ℤ) (stats : Bool) (workers : ℕ) (pattern : Text) : Type 0 where
+pub record IsSearch (rows : List Row) (from to : Option ℤ) (stats : Bool) (workers : ℕ)
+    (pattern : Text) : Type 0 where
   pub from_is : IsMomentIn (first_of (codes "from") rows) from
   pub to_is : IsMomentIn (first_of (codes "to") rows) to
   pub stats_are : IsTrue stats ↔ (first_of (codes "stats") rows ≡ Some (codes "true"))
@@ -78,7 +83,8 @@ pub record IsBench (rows : List Row) (number lines workers : ℕ) : Type 0 where
 -- the values that `clap` found for a command are those of what is asked
 abbrev pub Gives : List Row → Asked → Type 0
 Gives rows (to_show file) = first_of (codes "file") rows ≡ Some file
-Gives rows (to_scan pattern file) = (first_of (codes "pattern") rows ≡ Some pattern) × (first_of (codes "file") rows ≡ Some file)
+Gives rows (to_scan pattern file) =
+    (first_of (codes "pattern") rows ≡ Some pattern) × (first_of (codes "file") rows ≡ Some file)
 Gives rows (to_create header) = IsCreate rows header
 Gives rows (to_ingest workers segment files) = IsIngest rows workers segment files
 Gives rows to_list = Unit {0}
@@ -109,7 +115,8 @@ pub record AreGood (rows : List Row) : Type 0 where
 
 -- the numbers among the words are good
 abbrev pub HaveGoodNumbers : List Text → Type 0
-HaveGoodNumbers words = (name : Text) (rows : List Row) → subcommand_of clpa words ≡ Some (name, rows) → AreGood rows
+HaveGoodNumbers words =
+    (name : Text) (rows : List Row) → subcommand_of clpa words ≡ Some (name, rows) → AreGood rows
 
 -- ---- the command as it is answered
 
@@ -150,7 +157,8 @@ IsFor name rows asked = (name_of asked ≡ name) × Gives rows asked
 -- the command that these give, and none exactly where they give none
 pub record IsReading (name : Text) (rows : List Row) (read : Option Command) : Type 0 where
   pub some : IfSome read (λ command. IsFor name rows (asked_by command))
-  pub all : (asked : Asked) → IsFor name rows asked → IsSomeAnd read (λ command. asked_by command ≡ asked)
+  pub all : (asked : Asked) → IsFor name rows asked
+      → IsSomeAnd read (λ command. asked_by command ≡ asked)
 
 -- why words are refused, by the kind of the error of `clap`
 abbrev pub refusal_by : ErrorKind → WordsRefusal

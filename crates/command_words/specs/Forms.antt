@@ -11,7 +11,9 @@ word name = record (new_rule name) { required = true }
 
 -- one word or more
 abbrev pub several : Text → Rule
-several name = record (word name) { range = Some (record { start_inclusive = 1; end_inclusive = usize_max }) }
+several name = record (word name) {
+  range = Some (record { start_inclusive = 1; end_inclusive = usize_max });
+}
 
 -- `--name value` or `--name=value`
 abbrev pub option : Text → Rule
@@ -31,10 +33,13 @@ abbrev pub scan : Shape
 scan = command (codes "scan") (word (codes "pattern") ∷ word (codes "file") ∷ [])
 
 abbrev pub create : Shape
-create = command (codes "create") (option (codes "format") ∷ option (codes "types") ∷ option (codes "words") ∷ option (codes "bytes") ∷ [])
+create = command (codes "create")
+    (option (codes "format") ∷ option (codes "types")
+    ∷ option (codes "words") ∷ option (codes "bytes") ∷ [])
 
 abbrev pub ingest : Shape
-ingest = command (codes "ingest") (option (codes "workers") ∷ option (codes "segment") ∷ several (codes "file") ∷ [])
+ingest = command (codes "ingest")
+    (option (codes "workers") ∷ option (codes "segment") ∷ several (codes "file") ∷ [])
 
 abbrev pub files : Shape
 files = command (codes "files") []
@@ -46,11 +51,13 @@ abbrev pub decode : Shape
 decode = command (codes "decode") (word (codes "number") ∷ [])
 
 abbrev pub search : Shape
-search =
-    command (codes "search") (option (codes "from") ∷ option (codes "to") ∷ flag (codes "stats") ∷ option (codes "workers") ∷ word (codes "pattern") ∷ [])
+search = command (codes "search")
+    (option (codes "from") ∷ option (codes "to") ∷ flag (codes "stats")
+    ∷ option (codes "workers") ∷ word (codes "pattern") ∷ [])
 
 abbrev pub bench : Shape
-bench = command (codes "bench") (word (codes "number") ∷ word (codes "lines") ∷ word (codes "workers") ∷ [])
+bench = command (codes "bench")
+    (word (codes "number") ∷ word (codes "lines") ∷ word (codes "workers") ∷ [])
 
 -- the program without its commands: its first word is the command, and none of its own are about help
 abbrev pub top : Shape

@@ -196,10 +196,7 @@ fn create<'a>(found: &ArgMatches<'a>) -> Option<Command<'a>>
     Some(Command::Create { header })
 }
 
-fn ingest<'a>(
-    alloc: Global,
-    found: &ArgMatches<'a>,
-) -> Result<Option<Command<'a>>, AllocError>
+fn ingest<'a>(alloc: Global, found: &ArgMatches<'a>) -> Result<Option<Command<'a>>, AllocError>
     ensures { IfOk result (IsReading (codes "ingest") (rows_in found.now)) }
 {
     match read_ingest(alloc, found)? {

@@ -48,10 +48,7 @@ fn entered<'m, 'a>(matches: &'m ArgMatches<'a>) -> Option<(&'a str, &'m ArgMatch
 }
 
 /// The command that was found.
-fn read_found<'a>(
-    alloc: Global,
-    matches: &ArgMatches<'a>,
-) -> Result<Command<'a>, WordsRefusal>
+fn read_found<'a>(alloc: Global, matches: &ArgMatches<'a>) -> Result<Command<'a>, WordsRefusal>
     ensures asked { IfOk result (λ c. IsFound (subcommand_rows_of matches.now) (asked_by c)) }
     ensures all { (a : Asked) → IsFound (subcommand_rows_of matches.now) a → IsAnswer a result }
 {

@@ -28,8 +28,14 @@ const ROWS: &[(&[&str], &str)] = &[
     (&["sho", "a"], USAGE),
     (&["", "a"], USAGE),
     (&["--", "show", "a"], USAGE),
-    (&["scan", "p", "f"], "Ok(Scan { pattern: \"p\", file: \"f\" })"),
-    (&["scan", "--", "-p", "-f"], "Ok(Scan { pattern: \"-p\", file: \"-f\" })"),
+    (
+        &["scan", "p", "f"],
+        "Ok(Scan { pattern: \"p\", file: \"f\" })",
+    ),
+    (
+        &["scan", "--", "-p", "-f"],
+        "Ok(Scan { pattern: \"-p\", file: \"-f\" })",
+    ),
     (&["scan", "p"], USAGE),
     (&["scan", "p", "f", "g"], USAGE),
     (&["files"], "Ok(Files)"),
@@ -48,11 +54,24 @@ const ROWS: &[(&[&str], &str)] = &[
         "Ok(Create { header: Header { version: 1, types_limit: 16777216, words_limit: 2147483648, length_limit: 1099511627776 } })",
     ),
     (
-        &["create", "--bytes", "33", "--types=1", "--format=3", "--words=1"],
+        &[
+            "create",
+            "--bytes",
+            "33",
+            "--types=1",
+            "--format=3",
+            "--words=1",
+        ],
         "Ok(Create { header: Header { version: 3, types_limit: 1, words_limit: 1, length_limit: 33 } })",
     ),
     (
-        &["create", "--types=2147483648", "--words", "2147483648", "--bytes=1099511627776"],
+        &[
+            "create",
+            "--types=2147483648",
+            "--words",
+            "2147483648",
+            "--bytes=1099511627776",
+        ],
         "Ok(Create { header: Header { version: 1, types_limit: 2147483648, words_limit: 2147483648, length_limit: 1099511627776 } })",
     ),
     (&["create", "--format=0"], USAGE),
@@ -99,7 +118,10 @@ const ROWS: &[(&[&str], &str)] = &[
     (&["ingest", "a", "--stats"], USAGE),
     // the number of a file
     (&["decode", "0"], "Ok(Decode { number: 0 })"),
-    (&["decode", "4294967295"], "Ok(Decode { number: 4294967295 })"),
+    (
+        &["decode", "4294967295"],
+        "Ok(Decode { number: 4294967295 })",
+    ),
     (&["decode", "4294967296"], USAGE),
     (&["decode", "-1"], USAGE),
     (&["decode", "--", "-0"], USAGE),
@@ -123,7 +145,12 @@ const ROWS: &[(&[&str], &str)] = &[
         "Ok(Search { asked: SearchWords { from: Some(6), to: Some(5), stats: false, workers: 64, pattern: \"\" } })",
     ),
     (
-        &["search", "--from=-9223372036854775808", "--to=9223372036854775807", "x"],
+        &[
+            "search",
+            "--from=-9223372036854775808",
+            "--to=9223372036854775807",
+            "x",
+        ],
         "Ok(Search { asked: SearchWords { from: Some(-9223372036854775808), to: Some(9223372036854775807), stats: false, workers: 1, pattern: \"x\" } })",
     ),
     (&["search"], USAGE),
