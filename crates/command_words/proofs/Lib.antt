@@ -4,3 +4,4 @@ mod FormLemmas
 mod ErrorLemmas
 mod RowLemmas
 mod GivenLemmas
+mod SpellingLemmas

@@ -59,7 +59,7 @@ abbrev pub bench : Shape
 bench = command (codes "bench")
     (word (codes "number") ∷ word (codes "lines") ∷ word (codes "workers") ∷ [])
 
--- the program without its commands: its first word is the command, and none of its own are about help
+-- the program without its commands: its first word is the command, and it has no help
 abbrev pub top : Shape
 top = record (new_shape (codes "clpa")) {
   no_binary_name = true;

@@ -2,3 +2,4 @@ pub mod Values
 pub mod Forms
 pub mod Built
 pub mod Asked
+pub mod Spellings

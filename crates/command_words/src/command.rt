@@ -69,8 +69,8 @@ pub struct BenchWords {
 /// Why words ask for no command.
 #[derive(Clone, Copy, Debug, PartialEq, Eq, Error)]
 pub enum WordsRefusal {
-    /// They are not of the form of a command, or a number is not written as numbers are, or is outside
-    /// its range.
+    /// They are not of the form of a command, or a number is not written as numbers are, or is
+    /// outside its range.
     #[error("the words are those of no command")]
     Usage,
     /// There was no memory.

@@ -228,8 +228,8 @@ fn bench<'a>(found: &ArgMatches<'a>) -> Option<Command<'a>>
     Some(Command::Bench { asked })
 }
 
-/// The command of this name, with the values that were found for it. None comes exactly where a number
-/// is not written as numbers are, or is outside its range.
+/// The command of this name, with the values that were found for it, and none exactly where they are
+/// those of none.
 pub(crate) fn read_command<'a>(
     alloc: Global,
     name: &str,

@@ -9,8 +9,10 @@ mod form;
 mod found;
 mod number;
 mod read;
+mod spelled;
 #[cfg(test)]
 mod tests;
 
 pub use command::{BenchWords, Command, IngestWords, SearchWords, WordsRefusal};
 pub use read::read_words;
+pub use spelled::spellings;

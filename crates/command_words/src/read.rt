@@ -63,13 +63,13 @@ fn read_found<'a>(alloc: Global, matches: &ArgMatches<'a>) -> Result<Command<'a>
 
 /// The command that the words ask for.
 ///
-/// The first word is the command. An option is one word `--name=value` or two words `--name value`, and
-/// `--stats` is a flag; each comes once at most, before or after the other words. A value that begins
-/// with `-` is written behind `=`. After the word `--` no word is an option. A number is written in
-/// decimal, without a needless zero, with a sign only where it is below zero.
+/// The first word is the command. An option is one word `--name=value` or two words `--name value`,
+/// and `--stats` is a flag; each comes once at most, before or after the other words. A value that
+/// begins with `-` is written behind `=`. After the word `--` no word is an option. A number is
+/// written in decimal, without a needless zero, with a sign only where it is below zero.
 ///
-/// `Usage` comes only where `clap` refuses the words for another cause than memory, or where a number is
-/// not written so or is outside its range; every other refusal is want of memory.
+/// `Usage` comes only where `clap` refuses the words for another cause than memory, or where a
+/// number is not written so or is outside its range; every other refusal is want of memory.
 pub fn read_words<'a>(alloc: Global, words: &'a [String]) -> Result<Command<'a>, WordsRefusal>
     ensures asked { IfOk result (λ c. Asks (map string_bytes words.entry.now) (asked_by c)) }
     ensures all { (a : Asked) → Asks (map string_bytes words.entry.now) a → IsAnswer a result }
