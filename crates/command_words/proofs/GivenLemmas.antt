@@ -102,7 +102,7 @@ flag_in None = record { stats = false; is = (λ h. absurd (cc (h)), λ e. absurd
 flag_in (Some text) = go (bytes_eq text (codes "true")) refl
   where
     go : (b : Bool) → bytes_eq text (codes "true") ≡ b → Flag (Some text)
-    go true e = record { stats = true; is = (λ h. ap Some (same_text text (codes "true") e), λ h. refl) }
+    go true e = record { stats = true; is = (λ h. ap Some (same_text text (codes "true") (sym e)), λ h. refl) }
     go false e = record { stats = false; is = (λ h. absurd (cc (h)), λ h. absurd (other_text text (codes "true") (sym e) (cc (h)))) }
 
 -- ---- each command
