@@ -1,5 +1,5 @@
 -- Words without a fault, whose numbers are good, ask for something.
-use Rattle.std.proofs.Common.{◌≡◌, ◌∙◌, ℕ, ℤ, Bool, cond, true, false, not, ◌&&◌, ◌||◌, ◌==◌, refl, sym, ap, subst, List, [], ◌∷◌, Option, Some, None, is_some, inl, inr, codes, length, option_map, ◌↔◌, IsTrue}
+use Rattle.std.proofs.Common.{arith, ◌≡◌, ◌∙◌, ℕ, ℤ, Bool, cond, true, false, not, ◌&&◌, ◌||◌, ◌==◌, refl, sym, ap, subst, List, [], ◌∷◌, Option, Some, None, is_some, inl, inr, codes, length, option_map, ◌↔◌, IsTrue}
 use Rattle.std.specs.List.{find, list_any}
 use Rattle.std.specs.Option.{option_map_or}
 use Rattle.std.specs.Prelude.{option_and_then, slice_get}
@@ -13,8 +13,8 @@ use Rattle.clap.specs.Simple.{App, Shape, built, built_leaf, entered, inherited,
 use Rattle.clap.specs.Faults.{check_fault, defaults_fault, entered_fault, fault_of, level_fault, settle_fault, walk_fault}
 use Rattle.command_words.specs.Forms as forms
 use Rattle.command_words.specs.Forms.{clpa}
-use Rattle.command_words.specs.Values.{IsGood, IsGoodMoment, IsMomentIn, IsNumberIn, IsNumberOr}
-use Rattle.command_words.specs.Asked.{AreGood, Asked, Asks, Gives, HaveGoodNumbers, name_of, to_bench, to_check, to_create, to_decode, to_ingest, to_list, to_scan, to_search, to_show}
+use Rattle.command_words.specs.Values.{IsGood, IsGoodMoment, IsMomentIn, IsNumberIn, IsNumberOr, IsWithin}
+use Rattle.command_words.specs.Asked.{AreGood, Asked, Asks, Gives, HaveGoodNumbers, IsFound, IsInRange, name_of, to_bench, to_check, to_create, to_decode, to_ingest, to_list, to_scan, to_search, to_show}
 use Rattle.command_words.proofs.RowLemmas.{AllFull, Full, first_none, level_full, second_none}
 
 -- ---- values
@@ -118,17 +118,24 @@ Ends name rows = AreGood rows → Given name rows
 abbrev IsGoodShape : Shape → Type 0
 IsGoodShape s = (words : List Text) → level_fault s [] nothing_held words false [] ≡ [] → Ends s.name (rows_after s.rules [] words)
 
+abbrev IsFullShape : Shape → Type 0
+IsFullShape s = (words : List Text) → level_fault s [] nothing_held words false [] ≡ [] → AllFull (rows_after s.rules [] words)
+
+record Checked (s : Shape) : Type 0 where
+  good : IsGoodShape s
+  full : IsFullShape s
+
 record Both (A B : Type 0) : Type 0 where
   first : A
   second : B
 
 abbrev AllGood : List Shape → Type 0
 AllGood [] = Unit {0}
-AllGood (s ∷ rest) = Both (IsGoodShape s) (AllGood rest)
+AllGood (s ∷ rest) = Both (Checked s) (AllGood rest)
 
 abbrev IfGood : Option Shape → Type 0
 IfGood None = Unit {0}
-IfGood (Some s) = IsGoodShape s
+IfGood (Some s) = Checked s
 
 -- the commands as they are built
 abbrev ready : Shape → Shape
@@ -216,8 +223,35 @@ good_bench words e good =
     let workers = number_in 1 64 (first_of (codes "workers") rows) (given_value (codes "workers") rows level.0 g3.0) good.workers in
     record { asked = to_bench number.0 lines.0 workers.0; named = refl; gives = record { number_is = number.1; lines_are = lines.1; workers_are = workers.1 } }
 
+checked_show : Checked (ready forms.show)
+checked_show = record { good = good_show; full = λ words e. (level_full (ready forms.show) words refl (λ x. refl) e).0 }
+
+checked_scan : Checked (ready forms.scan)
+checked_scan = record { good = good_scan; full = λ words e. (level_full (ready forms.scan) words refl (λ x. refl) e).0 }
+
+checked_create : Checked (ready forms.create)
+checked_create = record { good = good_create; full = λ words e. (level_full (ready forms.create) words refl (λ x. refl) e).0 }
+
+checked_ingest : Checked (ready forms.ingest)
+checked_ingest = record { good = good_ingest; full = λ words e. (level_full (ready forms.ingest) words refl (λ x. refl) e).0 }
+
+checked_files : Checked (ready forms.files)
+checked_files = record { good = good_files; full = λ words e. (level_full (ready forms.files) words refl (λ x. refl) e).0 }
+
+checked_check : Checked (ready forms.check)
+checked_check = record { good = good_check; full = λ words e. (level_full (ready forms.check) words refl (λ x. refl) e).0 }
+
+checked_decode : Checked (ready forms.decode)
+checked_decode = record { good = good_decode; full = λ words e. (level_full (ready forms.decode) words refl (λ x. refl) e).0 }
+
+checked_search : Checked (ready forms.search)
+checked_search = record { good = good_search; full = λ words e. (level_full (ready forms.search) words refl (λ x. refl) e).0 }
+
+checked_bench : Checked (ready forms.bench)
+checked_bench = record { good = good_bench; full = λ words e. (level_full (ready forms.bench) words refl (λ x. refl) e).0 }
+
 all_good : AllGood (built clpa).subs
-all_good = record { first = good_show; second = record { first = good_scan; second = record { first = good_create; second = record { first = good_ingest; second = record { first = good_files; second = record { first = good_check; second = record { first = good_decode; second = record { first = good_search; second = record { first = good_bench; second = tt } } } } } } } } }
+all_good = record { first = checked_show; second = record { first = checked_scan; second = record { first = checked_create; second = record { first = checked_ingest; second = record { first = checked_files; second = record { first = checked_check; second = record { first = checked_decode; second = record { first = checked_search; second = record { first = checked_bench; second = tt } } } } } } } } }
 
 found_good : (p : Shape → Bool) (subs : List Shape) → AllGood subs → IfGood (find p subs)
 found_good p [] all = tt
@@ -234,6 +268,7 @@ record Entered (found : Option (Text × List Row)) : Type 0 where
   rows : List Row
   is : found ≡ Some (name, rows)
   ends : Ends name rows
+  full : AllFull rows
 
 entered_ends : (a : App) (stop : Option (Text × List Text)) → AllGood a.subs → entered_fault a stop ≡ [] → is_some (entered a stop) ≡ true → Entered (entered a stop)
 entered_ends a None all e some = absurd (cc (some))
@@ -242,19 +277,15 @@ entered_ends a (Some p) all e some = go (find (λ s. answers_to p.0 (label_of s)
     go : (o : Option Shape) → IfGood o → option_map_or (λ s. level_fault s [] nothing_held p.1 false []) o [] ≡ [] → is_some (option_map (λ s. rows_at s p.1) o) ≡ true
         → Entered (option_map (λ s. rows_at s p.1) o)
     go None good e some = absurd (cc (some))
-    go (Some s) good e some = record { name = s.name; rows = rows_after s.rules [] p.1; is = refl; ends = good p.1 e }
+    go (Some s) good e some = record { name = s.name; rows = rows_after s.rules [] p.1; is = refl; ends = good.good p.1 e; full = good.full p.1 e }
 
 -- a command is there
 enters : (some : Bool) → (not some && true) ≡ false → some ≡ true
 enters true e = refl
 enters false e = absurd (cc (e))
 
-pub record Something (words : List Text) : Type 0 where
-  pub asked : Asked
-  pub asks : Asks words asked
-
-pub something_asked : (words : List Text) → fault_of clpa words ≡ [] → HaveGoodNumbers words → Something words
-something_asked words e good =
+entered_of : (words : List Text) → fault_of clpa words ≡ [] → Entered (subcommand_of clpa words)
+entered_of words e =
     let a = built clpa in
     let stop = stop_after a.top.rules (names_of a) words in
     let end = (walk a.top.rules (names_of a) nothing_held words).held in
@@ -270,14 +301,90 @@ something_asked words e good =
     let after = second_none enters_by (or_else settles (or_else fills checks)) below in
     let last = second_none fills checks (second_none settles (or_else fills checks) after) in
     let some = enters has (wanted (not has && false) (not has && true) false last).0 in
-    let ends = entered_ends a stop all_good inner some in
+    entered_ends a stop all_good inner some
+
+named_as : (found : Option (Text × List Row)) (one other : Text) (rows : List Row) → found ≡ Some (one, rows) → other ≡ one → found ≡ Some (other, rows)
+named_as found one other rows is same = is ∙ ap (λ (name : Text). Some (name, rows)) (sym same)
+
+pub record Something (words : List Text) : Type 0 where
+  pub asked : Asked
+  pub asks : Asks words asked
+
+pub something_asked : (words : List Text) → fault_of clpa words ≡ [] → HaveGoodNumbers words → Something words
+something_asked words e good =
+    let ends = entered_of words e in
     let given = ends.ends (good ends.name ends.rows ends.is) in
     record {
       asked = given.asked;
       asks = record {
         rows = ends.rows;
         good = e;
-        found = ends.is ∙ ap (λ (name : Text). Some (name, ends.rows)) (sym given.named);
+        found = named_as (subcommand_of clpa words) ends.name (name_of given.asked) ends.rows ends.is given.named;
         given = given.gives;
       };
     }
+
+-- ---- what is asked lies in its ranges
+
+abbrev rows_or_none : Option (Text × List Row) → List Row
+rows_or_none None = []
+rows_or_none (Some p) = p.1
+
+full_as : (found : Option (Text × List Row)) (one other : Text) (xs ys : List Row) → found ≡ Some (one, xs) → found ≡ Some (other, ys) → AllFull xs → AllFull ys
+full_as found one other xs ys is are full = subst AllFull (ap rows_or_none (sym is ∙ are)) full
+
+rows_full : (words : List Text) (name : Text) (rows : List Row) → fault_of clpa words ≡ [] → subcommand_of clpa words ≡ Some (name, rows) → AllFull rows
+rows_full words name rows e found =
+    let ends = entered_of words e in full_as (subcommand_of clpa words) ends.name name ends.rows rows ends.is found ends.full
+
+some_values : (id : Text) (rows : List Row) (files : List Text) → AllFull rows → all_of id rows ≡ Some files → files ≡ [] → ⊥
+some_values id rows files all is none = go (find (λ r. bytes_eq r.id id) rows) (found_full _ rows all) is
+  where
+    go : (o : Option Row) → IfFull o → option_map (λ r. r.values) o ≡ Some files → ⊥
+    go None full is = cc (is)
+    go (Some r) full is = let empty : r.values ≡ [] = cc (is, none) in subst Full empty full
+
+within : (default least most : ℕ) (text : Option Text) (n : ℕ) → IsWithin least most default → IsNumberOr default least most text n → IsWithin least most n
+within default least most None n inside is = subst (IsWithin least most) (sym is) inside
+within default least most (Some text) n inside is = record { low = is.low; high = is.high }
+
+within_in : (least most : ℕ) (text : Option Text) (n : ℕ) → IsNumberIn least most text n → IsWithin least most n
+within_in least most None n is = absurd is
+within_in least most (Some text) n is = record { low = is.low; high = is.high }
+
+pub asked_in_range : (words : List Text) (asked : Asked) → Asks words asked → IsInRange asked
+asked_in_range words (to_show file) asks = tt
+asked_in_range words (to_scan pattern file) asks = tt
+asked_in_range words (to_create header) asks =
+    let version = within 1 1 3 (first_of (codes "format") asks.rows) header.version (record { low = omega arith; high = omega arith }) asks.given.version in
+    let types = within 16777216 1 2147483648 (first_of (codes "types") asks.rows) header.types_limit (record { low = omega arith; high = omega arith }) asks.given.types in
+    let words_limit = within 2147483648 1 2147483648 (first_of (codes "words") asks.rows) header.words_limit (record { low = omega arith; high = omega arith }) asks.given.words in
+    let bytes = within 1099511627776 33 1099511627776 (first_of (codes "bytes") asks.rows) header.length_limit (record { low = omega arith; high = omega arith }) asks.given.bytes in
+    record {
+      least_version = version.low;
+      most_version = version.high;
+      least_types = types.low;
+      most_types = types.high;
+      least_words = words_limit.low;
+      most_words = words_limit.high;
+      least_length = bytes.low;
+      most_length = bytes.high;
+    }
+asked_in_range words (to_ingest workers segment files) asks = record {
+  workers_are = within 1 1 64 (first_of (codes "workers") asks.rows) workers (record { low = omega arith; high = omega arith }) asks.given.workers_are;
+  segment_is = within 65536 1 65536 (first_of (codes "segment") asks.rows) segment (record { low = omega arith; high = omega arith }) asks.given.segment_is;
+  some = some_values (codes "file") asks.rows files (rows_full words (codes "ingest") asks.rows asks.good asks.found) asks.given.files_are;
+}
+asked_in_range words to_list asks = tt
+asked_in_range words to_check asks = tt
+asked_in_range words (to_decode number) asks = within_in 0 4294967295 (first_of (codes "number") asks.rows) number asks.given
+asked_in_range words (to_search from to stats workers pattern) asks =
+    within 1 1 64 (first_of (codes "workers") asks.rows) workers (record { low = omega arith; high = omega arith }) asks.given.workers_are
+asked_in_range words (to_bench number lines workers) asks = record {
+  number_is = within_in 0 4294967295 (first_of (codes "number") asks.rows) number asks.given.number_is;
+  lines_are = within_in 1 1000000 (first_of (codes "lines") asks.rows) lines asks.given.lines_are;
+  workers_are = within_in 1 64 (first_of (codes "workers") asks.rows) workers asks.given.workers_are;
+}
+
+pub asks_found : (words : List Text) (asked : Asked) (found : Option (Text × List Row)) → fault_of clpa words ≡ [] → found ≡ subcommand_of clpa words → IsFound found asked → Asks words asked
+asks_found words asked found good is of = record { rows = of.0; good = good; found = sym is ∙ of.1; given = of.2 }

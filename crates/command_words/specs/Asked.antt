@@ -1,16 +1,18 @@
 -- What words ask for.
-use Rattle.std.specs.Prelude.{◌≡◌, ℕ, ℤ, Bool, List, [], Option, Some, map, codes, Result, Ok, Err}
+use Rattle.std.specs.Prelude.{◌≡◌, ◌≢◌, ℕ, ℤ, Bool, List, [], Option, Some, map, codes, Result, Ok, Err}
 use Rattle.std.specs.Prelude.{◌↔◌, IsTrue, IfSome, IsSomeAnd}
 use Rattle.clap.specs.Walk.{Row, Text, all_of, first_of, rows_of}
 use Rattle.clap.specs.Matches.{found_of}
 use Rattle.clap.specs.Simple.{subcommand_of}
 use Rattle.clap.specs.Faults.{fault_of}
 use Rattle.clap.specs.declared.parser.matches.ArgMatches.{ArgMatches}
+use Rattle.record_format.specs.Header.{IsHeader}
 use Rattle.record_format.specs.declared.header.Header.{Header}
 use Rattle.clap.specs.declared.error.kind.ErrorKind.{ErrorKind}
 use Rattle.clap.specs.declared.error.kind.ErrorKind.TheVariants as kind
 use Rattle.command_words.specs.Forms.{clpa}
-use Rattle.command_words.specs.Values.{IsGood, IsGoodMoment, IsMomentIn, IsNumberIn, IsNumberOr}
+use Rattle.command_words.specs.Values.{IsGood, IsGoodMoment, IsMomentIn, IsNumberIn}
+use Rattle.command_words.specs.Values.{IsNumberOr, IsWithin}
 use Rattle.command_words.specs.declared.command.BenchWords.{BenchWords}
 use Rattle.command_words.specs.declared.command.IngestWords.{IngestWords}
 use Rattle.command_words.specs.declared.command.SearchWords.{SearchWords}
@@ -117,6 +119,29 @@ pub record AreGood (rows : List Row) : Type 0 where
 abbrev pub HaveGoodNumbers : List Text → Type 0
 HaveGoodNumbers words =
     (name : Text) (rows : List Row) → subcommand_of clpa words ≡ Some (name, rows) → AreGood rows
+
+-- ---- the ranges of what is asked
+
+pub record IsIngestInRange (workers segment : ℕ) (files : List Text) : Type 0 where
+  pub workers_are : IsWithin 1 64 workers
+  pub segment_is : IsWithin 1 65536 segment
+  pub some : files ≢ []
+
+pub record IsBenchInRange (number lines workers : ℕ) : Type 0 where
+  pub number_is : IsWithin 0 4294967295 number
+  pub lines_are : IsWithin 1 1000000 lines
+  pub workers_are : IsWithin 1 64 workers
+
+abbrev pub IsInRange : Asked → Type 0
+IsInRange (to_show file) = Unit {0}
+IsInRange (to_scan pattern file) = Unit {0}
+IsInRange (to_create header) = IsHeader header
+IsInRange (to_ingest workers segment files) = IsIngestInRange workers segment files
+IsInRange to_list = Unit {0}
+IsInRange to_check = Unit {0}
+IsInRange (to_decode number) = IsWithin 0 4294967295 number
+IsInRange (to_search from to stats workers pattern) = IsWithin 1 64 workers
+IsInRange (to_bench number lines workers) = IsBenchInRange number lines workers
 
 -- ---- the command as it is answered
 

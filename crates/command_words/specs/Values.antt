@@ -37,3 +37,7 @@ IsGood least most (Some text) = (n : ℕ) × IsNumber least most text n
 abbrev pub IsGoodMoment : Option (List ℕ) → Type 0
 IsGoodMoment None = Unit {0}
 IsGoodMoment (Some text) = (z : ℤ) × IsMoment text z
+
+pub record IsWithin (least most n : ℕ) : Type 0 where
+  pub low : least ≤ n
+  pub high : n ≤ most
