@@ -1,4 +1,4 @@
-use crate::read_words;
+use crate::{Command, WordsRefusal, read_words};
 use std::alloc::{AllocError, Global};
 use std::test::Fail;
 
@@ -11,48 +11,164 @@ fn words_of(alloc: Global, words: &[&str]) -> Result<Vec<String>, AllocError> {
     Ok(all)
 }
 
-const USAGE: &str = "Err(Usage)";
+/// Why the words are refused, where they are.
+fn refusal(alloc: Global, words: &[&str]) -> Result<Option<WordsRefusal>, AllocError> {
+    let all = words_of(alloc, words)?;
+    Ok(read_words(alloc, all.as_slice()).err())
+}
 
-/// Words, and the command that they ask for, or the refusal.
-const ROWS: &[(&[&str], &str)] = &[
-    // words alone
-    (&[], USAGE),
-    (&["show", "a"], "Ok(Show { file: \"a\" })"),
-    (&["show", ""], "Ok(Show { file: \"\" })"),
-    (&["show", "-"], "Ok(Show { file: \"-\" })"),
-    (&["show", "--", "--"], "Ok(Show { file: \"--\" })"),
-    (&["show"], USAGE),
-    (&["show", "a", "b"], USAGE),
-    (&["show", "-a"], USAGE),
-    (&["show", "--"], USAGE),
-    (&["sho", "a"], USAGE),
-    (&["", "a"], USAGE),
-    (&["--", "show", "a"], USAGE),
-    (
-        &["scan", "p", "f"],
-        "Ok(Scan { pattern: \"p\", file: \"f\" })",
-    ),
-    (
-        &["scan", "--", "-p", "-f"],
-        "Ok(Scan { pattern: \"-p\", file: \"-f\" })",
-    ),
-    (&["scan", "p"], USAGE),
-    (&["scan", "p", "f", "g"], USAGE),
-    (&["files"], "Ok(Files)"),
-    (&["files", "a"], USAGE),
-    (&["check"], "Ok(Check)"),
-    (&["check", "--stats"], USAGE),
-    (&["help"], USAGE),
-    (&["help", "show"], USAGE),
-    (&["--help"], USAGE),
-    (&["-h"], USAGE),
-    (&["--version"], USAGE),
-    (&["show", "--help"], USAGE),
-    // the limits of a new archive
-    (
-        &["create"],
-        "Ok(Create { header: Header { version: 1, types_limit: 16777216, words_limit: 2147483648, length_limit: 1099511627776 } })",
-    ),
+/// Words that are of no form.
+const NO_FORM: &[&[&str]] = &[
+    &[],
+    &["show"],
+    &["show", "a", "b"],
+    &["show", "-a"],
+    &["show", "--"],
+    &["sho", "a"],
+    &["--", "show", "a"],
+    &["scan", "p"],
+    &["scan", "p", "f", "g"],
+    &["files", "a"],
+    &["check", "--stats"],
+    &["help"],
+    &["help", "show"],
+    &["-h"],
+    &["--version"],
+    &["show", "--help"],
+];
+
+/// Words whose options are not of the form.
+const NO_OPTION: &[&[&str]] = &[
+    &["create", "--types=5", "--types=5"],
+    &["create", "--types"],
+    &["create", "--types", "--words=5"],
+    &["create", "--type=5"],
+    &["create", "--workers=1"],
+    &["create", "a"],
+    &["--types=5", "create"],
+    &["ingest"],
+    &["ingest", "--workers=2"],
+    &["ingest", "a", "--stats"],
+    &["search"],
+    &["search", "a", "b"],
+    &["search", "-a"],
+    &["search", "--from", "-5", "a"],
+    &["search", "--stats", "--stats", "a"],
+    &["search", "--stats=true", "a"],
+    &["search", "--segment=1", "a"],
+];
+
+/// Words with a number that is outside its range.
+const OUTSIDE: &[&[&str]] = &[
+    &["create", "--format=0"],
+    &["create", "--format=4"],
+    &["create", "--types", "0"],
+    &["create", "--types", "2147483649"],
+    &["create", "--words=0"],
+    &["create", "--words=2147483649"],
+    &["create", "--bytes=32"],
+    &["create", "--bytes=1099511627777"],
+    &["ingest", "--workers=0", "a"],
+    &["ingest", "--workers=65", "a"],
+    &["ingest", "--segment=0", "a"],
+    &["ingest", "--segment=65537", "a"],
+    &["decode", "4294967296"],
+    &["search", "--from=9223372036854775808", "a"],
+    &["search", "--to=-9223372036854775809", "a"],
+    &["bench", "4294967296", "1", "1"],
+    &["bench", "0", "0", "1"],
+    &["bench", "0", "1000001", "1"],
+    &["bench", "0", "1", "65"],
+];
+
+/// Words with a number that is not written as numbers are.
+const NO_NUMBER: &[&[&str]] = &[
+    &["create", "--types="],
+    &["create", "--types=007"],
+    &["create", "--types=+5"],
+    &["create", "--types=-5"],
+    &["create", "--types= 5"],
+    &["create", "--types=5.0"],
+    &["decode", "--", "-0"],
+    &["decode", "00"],
+    &["decode", "+1"],
+    &["decode", "x"],
+    &["decode", ""],
+    &["search", "--from=-0", "a"],
+    &["search", "--from=05", "a"],
+];
+
+#[test]
+fn other_forms_are_refused(rt: HostRuntime) -> Result<(), Fail> {
+    for &words in NO_FORM {
+        assert_eq!(rt;
+            refusal(rt.alloc(), words)?,
+            Some(WordsRefusal::Usage),
+            "{words:?}"
+        );
+    }
+    Ok(())
+}
+
+#[test]
+fn other_options_are_refused(rt: HostRuntime) -> Result<(), Fail> {
+    for &words in NO_OPTION {
+        assert_eq!(rt;
+            refusal(rt.alloc(), words)?,
+            Some(WordsRefusal::Usage),
+            "{words:?}"
+        );
+    }
+    Ok(())
+}
+
+#[test]
+fn numbers_outside_their_range_are_refused(rt: HostRuntime) -> Result<(), Fail> {
+    for &words in OUTSIDE {
+        assert_eq!(rt;
+            refusal(rt.alloc(), words)?,
+            Some(WordsRefusal::Usage),
+            "{words:?}"
+        );
+    }
+    Ok(())
+}
+
+#[test]
+fn other_texts_are_no_numbers(rt: HostRuntime) -> Result<(), Fail> {
+    for &words in NO_NUMBER {
+        assert_eq!(rt;
+            refusal(rt.alloc(), words)?,
+            Some(WordsRefusal::Usage),
+            "{words:?}"
+        );
+    }
+    Ok(())
+}
+
+/// Words of `show`, and the file.
+const SHOWS: &[(&[&str], &str)] = &[
+    (&["show", "a"], "a"),
+    (&["show", ""], ""),
+    (&["show", "-"], "-"),
+    (&["show", "--", "--"], "--"),
+];
+
+#[test]
+fn show_has_a_file(rt: HostRuntime) -> Result<(), Fail> {
+    for &(words, wanted) in SHOWS {
+        let all = words_of(rt.alloc(), words)?;
+        let Ok(Command::Show { file }) = read_words(rt.alloc(), all.as_slice()) else {
+            return Err(Fail::from("no show"));
+        };
+        assert_eq!(rt; file, wanted);
+    }
+    Ok(())
+}
+
+/// Words of `create`, and the version and the limits.
+const CREATES: &[(&[&str], u32, u32, u32, u64)] = &[
+    (&["create"], 1, 16_777_216, 2_147_483_648, 1_099_511_627_776),
     (
         &[
             "create",
@@ -62,136 +178,120 @@ const ROWS: &[(&[&str], &str)] = &[
             "--format=3",
             "--words=1",
         ],
-        "Ok(Create { header: Header { version: 3, types_limit: 1, words_limit: 1, length_limit: 33 } })",
+        3,
+        1,
+        1,
+        33,
     ),
     (
-        &[
-            "create",
-            "--types=2147483648",
-            "--words",
-            "2147483648",
-            "--bytes=1099511627776",
-        ],
-        "Ok(Create { header: Header { version: 1, types_limit: 2147483648, words_limit: 2147483648, length_limit: 1099511627776 } })",
+        &["create", "--types=2147483648", "--words", "2147483648"],
+        1,
+        2_147_483_648,
+        2_147_483_648,
+        1_099_511_627_776,
     ),
-    (&["create", "--format=0"], USAGE),
-    (&["create", "--format=4"], USAGE),
-    (&["create", "--types", "0"], USAGE),
-    (&["create", "--types", "2147483649"], USAGE),
-    (&["create", "--words=0"], USAGE),
-    (&["create", "--words=2147483649"], USAGE),
-    (&["create", "--bytes=32"], USAGE),
-    (&["create", "--bytes=1099511627777"], USAGE),
-    (&["create", "--bytes=18446744073709551649"], USAGE),
-    (&["create", "--types=5", "--types=5"], USAGE),
-    (&["create", "--types"], USAGE),
-    (&["create", "--types="], USAGE),
-    (&["create", "--types", "--words=5"], USAGE),
-    (&["create", "--types=007"], USAGE),
-    (&["create", "--types=+5"], USAGE),
-    (&["create", "--types=-5"], USAGE),
-    (&["create", "--types= 5"], USAGE),
-    (&["create", "--types=5.0"], USAGE),
-    (&["create", "--type=5"], USAGE),
-    (&["create", "--workers=1"], USAGE),
-    (&["create", "a"], USAGE),
-    (&["--types=5", "create"], USAGE),
-    // taking files in
-    (
-        &["ingest", "a"],
-        "Ok(Ingest { asked: IngestWords { workers: 1, segment: 65536, files: [\"a\"] } })",
-    ),
-    (
-        &["ingest", "--segment", "1", "--workers=64", "a", "b"],
-        "Ok(Ingest { asked: IngestWords { workers: 64, segment: 1, files: [\"a\", \"b\"] } })",
-    ),
-    (
-        &["ingest", "a", "--workers", "2", "b", "--", "-c"],
-        "Ok(Ingest { asked: IngestWords { workers: 2, segment: 65536, files: [\"a\", \"b\", \"-c\"] } })",
-    ),
-    (&["ingest"], USAGE),
-    (&["ingest", "--workers=2"], USAGE),
-    (&["ingest", "--workers=0", "a"], USAGE),
-    (&["ingest", "--workers=65", "a"], USAGE),
-    (&["ingest", "--segment=0", "a"], USAGE),
-    (&["ingest", "--segment=65537", "a"], USAGE),
-    (&["ingest", "a", "--stats"], USAGE),
-    // the number of a file
-    (&["decode", "0"], "Ok(Decode { number: 0 })"),
-    (
-        &["decode", "4294967295"],
-        "Ok(Decode { number: 4294967295 })",
-    ),
-    (&["decode", "4294967296"], USAGE),
-    (&["decode", "-1"], USAGE),
-    (&["decode", "--", "-0"], USAGE),
-    (&["decode", "00"], USAGE),
-    (&["decode", "+1"], USAGE),
-    (&["decode", "x"], USAGE),
-    (&["decode", ""], USAGE),
-    (&["decode"], USAGE),
-    (&["decode", "0", "1"], USAGE),
-    // searching
-    (
-        &["search", "a*b"],
-        "Ok(Search { asked: SearchWords { from: None, to: None, stats: false, workers: 1, pattern: \"a*b\" } })",
-    ),
-    (
-        &["search", "--from=-5", "--stats", "--", "-x"],
-        "Ok(Search { asked: SearchWords { from: Some(-5), to: None, stats: true, workers: 1, pattern: \"-x\" } })",
-    ),
-    (
-        &["search", "", "--to", "5", "--from", "6", "--workers", "64"],
-        "Ok(Search { asked: SearchWords { from: Some(6), to: Some(5), stats: false, workers: 64, pattern: \"\" } })",
-    ),
-    (
-        &[
-            "search",
-            "--from=-9223372036854775808",
-            "--to=9223372036854775807",
-            "x",
-        ],
-        "Ok(Search { asked: SearchWords { from: Some(-9223372036854775808), to: Some(9223372036854775807), stats: false, workers: 1, pattern: \"x\" } })",
-    ),
-    (&["search"], USAGE),
-    (&["search", "a", "b"], USAGE),
-    (&["search", "-a"], USAGE),
-    (&["search", "--from", "-5", "a"], USAGE),
-    (&["search", "--from=9223372036854775808", "a"], USAGE),
-    (&["search", "--to=-9223372036854775809", "a"], USAGE),
-    (&["search", "--from=-0", "a"], USAGE),
-    (&["search", "--from=05", "a"], USAGE),
-    (&["search", "--from=5", "--from=5", "a"], USAGE),
-    (&["search", "--stats", "--stats", "a"], USAGE),
-    (&["search", "--stats=1", "a"], USAGE),
-    (&["search", "--stats=true", "a"], USAGE),
-    (&["search", "--workers=65", "a"], USAGE),
-    (&["search", "--segment=1", "a"], USAGE),
-    // the benchmark
-    (
-        &["bench", "4294967295", "1000000", "64"],
-        "Ok(Bench { asked: BenchWords { number: 4294967295, lines: 1000000, workers: 64 } })",
-    ),
-    (
-        &["bench", "0", "1", "1"],
-        "Ok(Bench { asked: BenchWords { number: 0, lines: 1, workers: 1 } })",
-    ),
-    (&["bench", "4294967296", "1", "1"], USAGE),
-    (&["bench", "0", "0", "1"], USAGE),
-    (&["bench", "0", "1000001", "1"], USAGE),
-    (&["bench", "0", "1", "0"], USAGE),
-    (&["bench", "0", "1", "65"], USAGE),
-    (&["bench", "0", "1"], USAGE),
-    (&["bench", "0", "1", "1", "1"], USAGE),
 ];
 
 #[test]
-fn words_ask_for_a_command_or_none(rt: HostRuntime) -> Result<(), Fail> {
-    let alloc = rt.alloc();
-    for &(words, shown) in ROWS {
-        let all = words_of(alloc, words)?;
-        let asked = format!(in alloc; "{:?}", read_words(alloc, all.as_slice()))?;
-        assert_eq!(rt; asked.as_str(), shown, "{words:?}");
+fn create_has_limits(rt: HostRuntime) -> Result<(), Fail> {
+    for &(words, version, types, limit, bytes) in CREATES {
+        let all = words_of(rt.alloc(), words)?;
+        let Ok(Command::Create { header }) = read_words(rt.alloc(), all.as_slice()) else {
+            return Err(Fail::from("no create"));
+        };
+        assert_eq!(rt; (header.version, header.types_limit), (version, types));
+        assert_eq!(rt; (header.words_limit, header.length_limit), (limit, bytes));
     }
+    Ok(())
+}
+
+/// Words of `ingest`, and the counts of workers, of rows and of files.
+const INGESTS: &[(&[&str], u32, u32, usize)] = &[
+    (&["ingest", "a"], 1, 65_536, 1),
+    (
+        &["ingest", "--segment", "1", "--workers=64", "a", "b"],
+        64,
+        1,
+        2,
+    ),
+    (
+        &["ingest", "a", "--workers", "2", "b", "--", "-c"],
+        2,
+        65_536,
+        3,
+    ),
+];
+
+#[test]
+fn ingest_has_workers_rows_and_files(rt: HostRuntime) -> Result<(), Fail> {
+    for &(words, workers, segment, files) in INGESTS {
+        let all = words_of(rt.alloc(), words)?;
+        let Ok(Command::Ingest { asked }) = read_words(rt.alloc(), all.as_slice()) else {
+            return Err(Fail::from("no ingest"));
+        };
+        assert_eq!(rt; (asked.workers, asked.segment), (workers, segment));
+        assert_eq!(rt; asked.files.len(), files);
+    }
+    Ok(())
+}
+
+/// Words of `search`, and the bounds, whether counts are printed, the workers and the pattern.
+const SEARCHES: &[(&[&str], Option<i64>, Option<i64>, bool, u32, &str)] = &[
+    (&["search", "a*b"], None, None, false, 1, "a*b"),
+    (
+        &["search", "--from=-5", "--stats", "--", "-x"],
+        Some(-5),
+        None,
+        true,
+        1,
+        "-x",
+    ),
+    (
+        &["search", "", "--to", "5", "--from", "6", "--workers", "64"],
+        Some(6),
+        Some(5),
+        false,
+        64,
+        "",
+    ),
+    (
+        &["search", "--from=-9223372036854775808", "x"],
+        Some(i64::MIN),
+        None,
+        false,
+        1,
+        "x",
+    ),
+];
+
+#[test]
+fn search_has_a_range_and_a_pattern(rt: HostRuntime) -> Result<(), Fail> {
+    for &(words, from, to, stats, workers, pattern) in SEARCHES {
+        let all = words_of(rt.alloc(), words)?;
+        let Ok(Command::Search { asked }) = read_words(rt.alloc(), all.as_slice()) else {
+            return Err(Fail::from("no search"));
+        };
+        assert_eq!(rt; (asked.from, asked.to), (from, to));
+        assert_eq!(rt; (asked.stats, asked.workers), (stats, workers));
+        assert_eq!(rt; asked.pattern, pattern);
+    }
+    Ok(())
+}
+
+#[test]
+fn decode_and_bench_have_numbers(rt: HostRuntime) -> Result<(), Fail> {
+    let all = words_of(rt.alloc(), &["decode", "4294967295"])?;
+    let Ok(Command::Decode { number }) = read_words(rt.alloc(), all.as_slice()) else {
+        return Err(Fail::from("no decode"));
+    };
+    assert_eq!(rt; number, u32::MAX);
+    let all = words_of(rt.alloc(), &["bench", "0", "1000000", "64"])?;
+    let Ok(Command::Bench { asked }) = read_words(rt.alloc(), all.as_slice()) else {
+        return Err(Fail::from("no bench"));
+    };
+    assert_eq!(rt;
+        (asked.number, asked.lines, asked.workers),
+        (0, 1_000_000, 64)
+    );
     Ok(())
 }
