@@ -1,5 +1,5 @@
 -- The command of a name.
-use Rattle.std.proofs.Common.{◌≡◌, ◌∙◌, ℕ, ℤ, Bool, List, Option, sym, refl, codes}
+use Rattle.std.proofs.Common.{◌≡◌, ℕ, ℤ, Bool, List, Option, sym, refl, codes}
 use Rattle.std.specs.Prelude.{IfSome, IsSomeAnd}
 use Rattle.std.specs.Cmp.Lexicographic.{other_text}
 use Rattle.clap.specs.Walk.{Row, Text}

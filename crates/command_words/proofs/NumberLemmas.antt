@@ -1,6 +1,6 @@
 -- The number that a text is the print of.
-use Rattle.std.proofs.Common.{◌≡◌, ℕ, ℤ, FitsSigned, w64, ◌<◌, ◌^◌, List, pos, sym, ap, ◌∙◌, arith, rules}
-use Rattle.std.specs.Prelude.{Option, Some, Result, Ok, Err}
+use Rattle.std.proofs.Common.{◌≡◌, ℕ, ℤ, FitsSigned, w64, ◌<◌, ◌^◌, List, pos, sym, ap, ◌∙◌, rules}
+use Rattle.std.specs.Prelude.{Some, Result, Ok, Err}
 use Rattle.std.specs.Result.{OkIff, result_ok}
 use Rattle.std.specs.Int.{FitsUnsignedBits}
 use Rattle.std.specs.Fmt.{decimal, signed_decimal}

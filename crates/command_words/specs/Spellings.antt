@@ -1,8 +1,8 @@
 -- How words are spelled, for every text and every number.
-use Rattle.std.specs.Prelude.{◌≡◌, ◌≤◌, ℕ, List, [], ◌∷◌, None, codes, true, false}
+use Rattle.std.specs.Prelude.{◌≤◌, ℕ, List, [], ◌∷◌, None, codes, true, false}
 use Rattle.std.specs.Fmt.{decimal}
 use Rattle.clap.specs.Walk.{Text}
-use Rattle.command_words.specs.Asked.{Asked, Asks, to_bench, to_check, to_create, to_decode}
+use Rattle.command_words.specs.Asked.{Asked, Asks, to_check, to_create, to_decode}
 use Rattle.command_words.specs.Asked.{to_ingest, to_list, to_scan, to_search, to_show}
 
 -- behind `--` each text is a word

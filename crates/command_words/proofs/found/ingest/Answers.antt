@@ -1,4 +1,4 @@
-use Rattle.std.proofs.Common.{codes, refl, subst, Some, None, IfSome, IsSomeAnd, ◌≡◌}
+use Rattle.std.proofs.Common.{refl, subst, Some, None, IfSome, IsSomeAnd, ◌≡◌}
 use Rattle.command_words.specs.Asked.{Gives, ingested, rows_in, to_ingest}
 use Rattle.command_words.specs.declared.command.Command.TheVariants.{Ingest}
 use Rattle.command_words.proofs.NameLemmas.{reads_ingest}

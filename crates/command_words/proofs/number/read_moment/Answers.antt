@@ -1,4 +1,4 @@
-use Rattle.std.proofs.Common.{◌≡◌, ℤ, Some, to_z, of_z, w64, ap, ◌∙◌, inl, inr, rules}
+use Rattle.std.proofs.Common.{◌≡◌, Some, w64, ap, ◌∙◌, inl, inr}
 use Rattle.std.proofs.lemmas.Int.{to_z-of_z}
 use Rattle.command_words.proofs.NumberLemmas.{signed_is}
 use Rattle.command_words.proofs.number.read_moment.Goals as goal

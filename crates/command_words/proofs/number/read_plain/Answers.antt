@@ -1,8 +1,7 @@
-use Rattle.std.proofs.Common.{◌≡◌, ◌<◌, ◌^◌, ℕ, Some, pos, nat_abs, to_z, of_z, w64, subst, ◌∙◌, inl, inr, arith, rules}
+use Rattle.std.proofs.Common.{◌≡◌, pos, nat_abs, to_z, of_z, w64, subst, ◌∙◌, inl, inr, arith, rules}
 use Rattle.std.specs.Result.{OkIff}
 use Rattle.std.specs.Int.{FitsUnsignedBits}
 use Rattle.std.proofs.lemmas.Int.{to_z-of_z}
-use Rattle.var_codec.specs.declared.Coded.TheVariants.{Whole, Decimal, Word}
 use Rattle.command_words.proofs.NumberLemmas.{coded_is, unsigned_is}
 use Rattle.command_words.proofs.number.read_plain.Goals as goal
 

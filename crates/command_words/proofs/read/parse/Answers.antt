@@ -1,5 +1,5 @@
-use Rattle.std.proofs.Common.{◌≡◌, ◌∙◌, ap, sym, map, string_bytes}
-use Rattle.clap.specs.Words.{fault_of, is_simple, is_simple_and_free, kind_of, subcommand_of, takes}
+use Rattle.std.proofs.Common.{◌∙◌, ap, sym, map, string_bytes}
+use Rattle.clap.specs.Words.{fault_of, is_simple, is_simple_and_free, subcommand_of, takes}
 use Rattle.command_words.specs.Forms.{clpa}
 use Rattle.command_words.proofs.ErrorLemmas.{has_fault, not_taken}
 use Rattle.command_words.proofs.FormLemmas.{is_simple_and_free_here, is_simple_here}
