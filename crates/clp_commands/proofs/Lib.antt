@@ -16,3 +16,4 @@ pub mod WordLemmas
 pub mod TakenLemmas
 pub mod NameLemmas
 pub mod JoinLemmas
+pub mod LeavesLemmas
