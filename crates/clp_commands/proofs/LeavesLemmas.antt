@@ -149,7 +149,7 @@ counted : (told : Option (List ℕ)) (n : ℕ) → is_some told ≡ true → len
 counted None n is = absurd (cc (is))
 counted (Some bytes) n is = length-map (entries (Some bytes) n) entry_of ∙ length-records n _
 
-of_told : {P : Type 0} (b : Bool) → b ≡ true → IfTold b P → P
+pub of_told : {P : Type 0} (b : Bool) → b ≡ true → IfTold b P → P
 of_told {P} b is p = subst (λ x. IfTold x P) is p
 
 either_front : (es under : List JournalEntry) (k : ℕ) → length es ≤ k → length under ≤ 1 → (take k (es ++ under) ≡ es) ⊎ (take k (es ++ under) ≡ es ++ under)

@@ -17,3 +17,5 @@ pub mod TakenLemmas
 pub mod NameLemmas
 pub mod JoinLemmas
 pub mod LeavesLemmas
+pub mod PieceLemmas
+pub mod ContentLemmas

@@ -1,5 +1,5 @@
 -- How the journal goes on through the steps of an ingest.
-use Rattle.std.specs.Prelude.{◌≡◌, ℕ, true, is_some, List, [], ◌∷◌, ◌++◌}
+use Rattle.std.specs.Prelude.{◌≡◌, ◌⊎◌, ℕ, true, is_some, List, [], ◌∷◌, ◌++◌, Option, Some}
 use mathlib.Core.List.{IsPrefix}
 use Rattle.record_format.specs.declared.header.Header.{Header}
 use Rattle.disk_journal.specs.State.{JournalState}
@@ -21,3 +21,7 @@ pub record HasNames (h : Header) (before : List JournalEntry) (names : List (Lis
   pub told : is_some j.disk.seen ≡ true
   pub header : j.header ≡ h
   pub entries : told_entries j ≡ before ++ Files names ∷ []
+
+-- what a source has left is the log's, or nothing for a log that could not be opened
+abbrev pub IsLogOf : Option (List ℕ) → Option (List ℕ) → Type 0
+IsLogOf log told = (told ≡ log) ⊎ (told ≡ Some [])
