@@ -19,3 +19,4 @@ pub mod JoinLemmas
 pub mod LeavesLemmas
 pub mod PieceLemmas
 pub mod ContentLemmas
+pub mod JobLemmas

@@ -2,7 +2,9 @@
 use crate::tests::{AMPLE, Outcome, Rooms, call, disk};
 use log_seams::{Disk, MemDisk, MemShelf};
 use std::alloc::{AllocError, Global};
+use std::sync::Wait;
 use std::test::Fail;
+use std::thread::Threads;
 
 const EMPTY: [u8; 33] = [
     0x43, 0x4C, 0x50, 0x41, 0x52, 0x43, 0x48, 0x0A, 0x01, 0x00, 0x00, 0x00, 0x00, 0x00, 0x00, 0x01,
@@ -18,14 +20,15 @@ const SMALL: [u8; 33] = [
 ];
 
 /// Calls `run` with these words, over the archive's disk.
-fn over(
+fn over<R: Threads + Wait + Sync>(
+    rt: &R,
     alloc: Global,
     words: &[&str],
     archive: &mut MemDisk,
     rooms: Rooms,
 ) -> Result<Outcome, AllocError> {
     let mut logs = MemShelf::new(alloc, Vec::new(alloc), Vec::new(alloc));
-    call(alloc, words, &mut logs, archive, rooms)
+    call(rt, alloc, words, &mut logs, archive, rooms)
 }
 
 #[test]
@@ -44,7 +47,7 @@ fn an_empty_disk_becomes_an_archive(rt: HostRuntime) -> Result<(), Fail> {
     ];
     for (words, want) in rows {
         let mut archive = disk(alloc, &[], &[])?;
-        let outcome = over(alloc, words, &mut archive, AMPLE)?;
+        let outcome = over(&rt, alloc, words, &mut archive, AMPLE)?;
         assert_eq!(rt; outcome.status, 0);
         assert!(rt; outcome.out.is_empty());
         assert!(rt; outcome.err.is_empty());
@@ -71,7 +74,7 @@ fn a_disk_with_bytes_is_left_alone(rt: HostRuntime) -> Result<(), Fail> {
     let rows: [(Rooms, &[u8]); 2] = [(AMPLE, line), (no_room, b"")];
     for (rooms, want) in rows {
         let mut archive = disk(alloc, bytes.as_slice(), &[])?;
-        let outcome = over(alloc, &["create"], &mut archive, rooms)?;
+        let outcome = over(&rt, alloc, &["create"], &mut archive, rooms)?;
         assert_eq!(rt; outcome.status, 8);
         assert!(rt; outcome.out.is_empty());
         assert_eq!(rt; outcome.err.as_slice(), want);
@@ -86,7 +89,7 @@ fn each_call_on_the_disk_may_fail(rt: HostRuntime) -> Result<(), Fail> {
     let alloc = rt.alloc();
     for fault in 0..3u64 {
         let mut archive = disk(alloc, &[], &[fault])?;
-        let outcome = over(alloc, &["create"], &mut archive, AMPLE)?;
+        let outcome = over(&rt, alloc, &["create"], &mut archive, AMPLE)?;
         assert_eq!(rt; outcome.status, 5);
         assert!(rt; outcome.out.is_empty());
         assert_eq!(rt;

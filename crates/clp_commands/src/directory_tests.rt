@@ -2,11 +2,13 @@
 use crate::tests::{AMPLE, Outcome, Rooms, call, disk};
 use log_seams::{Disk, MemShelf};
 use std::alloc::{AllocError, Global};
+use std::sync::Wait;
 use std::test::Fail;
+use std::thread::Threads;
 
 // One file `a.log` with the bytes `a` and a line end: a record of its name, one of its log type, and
 // one of its rows. One byte stands behind its end.
-const WORKED: [u8; 156] = [
+pub(crate) const WORKED: [u8; 156] = [
     0x43, 0x4C, 0x50, 0x41, 0x52, 0x43, 0x48, 0x0A, 0x01, 0x00, 0x00, 0x00, 0x00, 0x00, 0x00, 0x01,
     0x00, 0x00, 0x00, 0x80, 0x00, 0x00, 0x00, 0x00, 0x00, 0x00, 0x00, 0x00, 0x00, 0x01, 0x00, 0x00,
     0x01, 0x01, 0x0D, 0x00, 0x00, 0x00, 0x00, 0x00, 0x00, 0x00, 0x01, 0x00, 0x00, 0x00, 0x05, 0x00,
@@ -20,7 +22,8 @@ const WORKED: [u8; 156] = [
 ];
 
 /// Calls `run` with these words, over a disk with these bytes whose call of this number fails.
-pub(crate) fn over(
+pub(crate) fn over<R: Threads + Wait + Sync>(
+    rt: &R,
     alloc: Global,
     words: &[&str],
     bytes: &[u8],
@@ -29,6 +32,7 @@ pub(crate) fn over(
 ) -> Result<Outcome, AllocError> {
     let mut logs = MemShelf::new(alloc, Vec::new(alloc), Vec::new(alloc));
     call(
+        rt,
         alloc,
         words,
         &mut logs,
@@ -47,7 +51,7 @@ fn an_archive_is_printed(rt: HostRuntime) -> Result<(), Fail> {
     ];
     for (words, want) in rows {
         for len in 155..=156 {
-            let outcome = over(alloc, words, &WORKED[..len], u64::MAX, AMPLE)?;
+            let outcome = over(&rt, alloc, words, &WORKED[..len], u64::MAX, AMPLE)?;
             assert_eq!(rt; outcome.status, 0);
             assert_eq!(rt; outcome.out.as_slice(), want);
             assert!(rt; outcome.err.is_empty());
@@ -66,7 +70,7 @@ fn damage_is_told_at_its_gate(rt: HostRuntime) -> Result<(), Fail> {
     ];
     for (len, want) in rows {
         for word in ["check", "files"] {
-            let outcome = over(alloc, &[word], &WORKED[..len], u64::MAX, AMPLE)?;
+            let outcome = over(&rt, alloc, &[word], &WORKED[..len], u64::MAX, AMPLE)?;
             assert_eq!(rt; outcome.status, 6);
             assert!(rt; outcome.out.is_empty());
             assert_eq!(rt; outcome.err.as_slice(), want);
@@ -81,7 +85,7 @@ fn each_call_that_reads_an_archive_may_fail(rt: HostRuntime) -> Result<(), Fail>
     let rows: [&[&str]; 3] = [&["check"], &["files"], &["decode", "0"]];
     for words in rows {
         for fault in 0..10u64 {
-            let outcome = over(alloc, words, &WORKED, fault, AMPLE)?;
+            let outcome = over(&rt, alloc, words, &WORKED, fault, AMPLE)?;
             assert_eq!(rt; outcome.status, 5);
             assert!(rt; outcome.out.is_empty());
             assert_eq!(rt;
@@ -102,7 +106,7 @@ fn an_output_without_room_is_told(rt: HostRuntime) -> Result<(), Fail> {
         out_fails: u64::MAX,
     };
     for word in ["check", "files"] {
-        let outcome = over(alloc, &[word], &WORKED, u64::MAX, rooms)?;
+        let outcome = over(&rt, alloc, &[word], &WORKED, u64::MAX, rooms)?;
         assert_eq!(rt; outcome.status, 7);
         assert_eq!(rt; outcome.err.as_slice(), b"clpa: output failed\n".as_slice());
     }
@@ -126,7 +130,7 @@ fn a_file_that_is_not_there_is_told(rt: HostRuntime) -> Result<(), Fail> {
         ("-1", 2, usage),
     ];
     for (number, status, want) in rows {
-        let outcome = over(alloc, &["decode", number], &WORKED, u64::MAX, AMPLE)?;
+        let outcome = over(&rt, alloc, &["decode", number], &WORKED, u64::MAX, AMPLE)?;
         assert_eq!(rt; outcome.status, status);
         assert!(rt; outcome.out.is_empty());
         assert_eq!(rt; outcome.err.as_slice(), want);

@@ -53,11 +53,12 @@ fn begin_jobs<S>(first: u32, sources: &mut Vec<S>, jobs: &mut Vec<Job<S>>)
     ensures sources { sources.new.items ≡ [] }
     ensures room { vec_capacity sources.new ≡ vec_capacity sources.old }
 {
+    // popped from the last on
+    sources.as_mut_slice().reverse();
     while let Some(source) = sources.pop() {
-        let file = first + sources.len() as u32;
+        let file = first + jobs.len() as u32;
         jobs.push_reserved(Job::new(file, source));
     }
-    jobs.as_mut_slice().reverse();
 }
 
 /// Ends the jobs: their sources are given back, and what came of each file is told in their order.
@@ -75,18 +76,19 @@ fn end_jobs<'a, S>(
     ensures names { names_of taken.new.items ≡ map string_bytes names.now }
     ensures jobs { jobs.new.items ≡ [] }
 {
+    // popped from the last on
+    jobs.as_mut_slice().reverse();
     while let Some(job) = jobs.pop() {
         let outcome = job.outcome();
         let source = job.into_source();
         taken.push_reserved(TakenFile {
-            name: names[jobs.len()].as_str(),
+            name: names[taken.len()].as_str(),
             messages: outcome.messages,
             whole: outcome.whole,
             refusal: refusal_of_file(source.refusal(), outcome.cause),
         });
         sources.push_reserved(source);
     }
-    taken.as_mut_slice().reverse();
 }
 
 /// Takes the logs in as the new files of a journal. Without memory to begin nothing is taken in.
@@ -113,7 +115,8 @@ where
     ensures err { IfErr result (λ after. HasGoneOn journal.entry after) }
 
     // the files
-    ensures names { OnOk result (names_of taken.new.items ≡ map string_bytes asked.files.now) }
+    ensures names { OnOk result
+        (names_of taken.new.items ≡ map string_bytes asked.entry.files.now) }
 
     // the logs
     ensures logs { (n : List ℕ) → H.content shelf.new n ≡ H.content shelf.old n }

@@ -13,6 +13,8 @@ mod directory_tests;
 mod file;
 mod files;
 mod ingest;
+#[cfg(test)]
+mod ingest_tests;
 mod log;
 mod names;
 mod outcome;

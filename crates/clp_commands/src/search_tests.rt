@@ -33,7 +33,7 @@ fn a_search_prints_what_it_finds(rt: HostRuntime) -> Result<(), Fail> {
         ),
     ];
     for (words, want) in rows {
-        let outcome = over(alloc, words, &NUMBERS, u64::MAX, AMPLE)?;
+        let outcome = over(&rt, alloc, words, &NUMBERS, u64::MAX, AMPLE)?;
         assert_eq!(rt; outcome.status, 0);
         assert_eq!(rt; outcome.out.as_slice(), want);
         assert!(rt; outcome.err.is_empty());
@@ -58,7 +58,7 @@ fn a_search_that_cannot_be_made_is_told(rt: HostRuntime) -> Result<(), Fail> {
         (&["search", "12"], 12, 5, b"clpa: archive: disk failed\n"),
     ];
     for (words, fault, status, want) in rows {
-        let outcome = over(alloc, words, &NUMBERS, fault, AMPLE)?;
+        let outcome = over(&rt, alloc, words, &NUMBERS, fault, AMPLE)?;
         assert_eq!(rt; outcome.status, status);
         assert!(rt; outcome.out.is_empty());
         assert_eq!(rt; outcome.err.as_slice(), want);
@@ -77,6 +77,7 @@ fn a_search_without_room_prints_a_front(rt: HostRuntime) -> Result<(), Fail> {
             out_fails: u64::MAX,
         };
         let outcome = over(
+            &rt,
             alloc,
             &["search", "--stats", "12*34"],
             &NUMBERS,

@@ -2,7 +2,9 @@
 use crate::run;
 use log_seams::{MemDisk, MemFile, MemShelf, MemSink, Text};
 use std::alloc::{AllocError, Global};
+use std::sync::Wait;
 use std::test::Fail;
+use std::thread::Threads;
 
 /// What a call answered and wrote.
 #[derive(Drop)]
@@ -50,7 +52,8 @@ fn shelf(alloc: Global, name: &str, bytes: &[u8], fails: &[u64]) -> Result<MemSh
 }
 
 /// Calls `run` with these words, over the shelf, the archive's disk and outputs with so much room.
-pub(crate) fn call(
+pub(crate) fn call<R: Threads + Wait + Sync>(
+    rt: &R,
     alloc: Global,
     words: &[&str],
     shelf: &mut MemShelf,
@@ -66,7 +69,7 @@ pub(crate) fn call(
     let mut out = MemSink::new(alloc, rooms.out, out_fails)?;
     let mut err = MemSink::new(alloc, rooms.err, Vec::new(alloc))?;
     let status = run(
-        &(),
+        rt,
         alloc,
         list.as_slice(),
         shelf,
@@ -83,9 +86,22 @@ pub(crate) fn call(
 }
 
 /// Calls `run` with these words, over a shelf with one log.
-fn over(alloc: Global, words: &[&str], name: &str, bytes: &[u8]) -> Result<Outcome, AllocError> {
+fn over<R: Threads + Wait + Sync>(
+    rt: &R,
+    alloc: Global,
+    words: &[&str],
+    name: &str,
+    bytes: &[u8],
+) -> Result<Outcome, AllocError> {
     let mut logs = shelf(alloc, name, bytes, &[])?;
-    call(alloc, words, &mut logs, &mut disk(alloc, &[], &[])?, AMPLE)
+    call(
+        rt,
+        alloc,
+        words,
+        &mut logs,
+        &mut disk(alloc, &[], &[])?,
+        AMPLE,
+    )
 }
 
 #[test]
@@ -118,7 +134,7 @@ fn show_marks_variables(rt: HostRuntime) -> Result<(), Fail> {
         ),
     ];
     for (log, want) in rows {
-        let outcome = over(alloc, &["show", "n.log"], "n.log", log)?;
+        let outcome = over(&rt, alloc, &["show", "n.log"], "n.log", log)?;
         assert_eq!(rt; outcome.status, 0);
         assert_eq!(rt; outcome.out.as_slice(), want);
         assert_eq!(rt; outcome.err.as_slice(), b"".as_slice());
@@ -146,7 +162,7 @@ fn scan_prints_what_matches(rt: HostRuntime) -> Result<(), Fail> {
         ("nowhere", b""),
     ];
     for (pattern, want) in rows {
-        let outcome = over(alloc, &["scan", pattern, "a.log"], "a.log", log)?;
+        let outcome = over(&rt, alloc, &["scan", pattern, "a.log"], "a.log", log)?;
         assert_eq!(rt; outcome.status, 0);
         assert_eq!(rt; outcome.out.as_slice(), want);
         assert_eq!(rt; outcome.err.as_slice(), b"".as_slice());
@@ -182,7 +198,7 @@ fn refusals_have_their_lines(rt: HostRuntime) -> Result<(), Fail> {
         ),
     ];
     for (words, status, want) in rows {
-        let outcome = over(alloc, words, "a.log", b"a\n")?;
+        let outcome = over(&rt, alloc, words, "a.log", b"a\n")?;
         assert_eq!(rt; outcome.status, status);
         assert_eq!(rt; outcome.out.as_slice(), b"".as_slice());
         assert_eq!(rt; outcome.err.as_slice(), want);
@@ -200,7 +216,14 @@ fn a_read_that_fails_ends_the_log(rt: HostRuntime) -> Result<(), Fail> {
         ([2], b"a\nb\n".as_slice()),
     ] {
         let mut logs = shelf(alloc, "n.log", b"a\nb", &fails)?;
-        let outcome = call(alloc, &["show", "n.log"], &mut logs, &mut archive, AMPLE)?;
+        let outcome = call(
+            &rt,
+            alloc,
+            &["show", "n.log"],
+            &mut logs,
+            &mut archive,
+            AMPLE,
+        )?;
         let failed = want.len() < 4;
         assert_eq!(rt; outcome.status, if failed { 4 } else { 0 });
         assert_eq!(rt; outcome.out.as_slice(), want);
@@ -226,13 +249,13 @@ fn an_opening_that_fails_is_told(rt: HostRuntime) -> Result<(), Fail> {
     let mut logs = MemShelf::new(alloc, files, vec![in alloc; 0; 1]?);
     let mut archive = disk(alloc, &[], &[])?;
     let words = ["scan", "a", "n.log"];
-    let outcome = call(alloc, &words, &mut logs, &mut archive, AMPLE)?;
+    let outcome = call(&rt, alloc, &words, &mut logs, &mut archive, AMPLE)?;
     assert_eq!(rt; outcome.status, 4);
     assert_eq!(rt;
         outcome.err.as_slice(),
         b"clpa: n.log: cannot open\n".as_slice()
     );
-    let outcome = call(alloc, &words, &mut logs, &mut archive, AMPLE)?;
+    let outcome = call(&rt, alloc, &words, &mut logs, &mut archive, AMPLE)?;
     assert_eq!(rt; outcome.status, 0);
     assert_eq!(rt; outcome.out.as_slice(), b"n.log:1:a\n".as_slice());
     Ok(())
@@ -255,7 +278,7 @@ fn a_failing_error_output_changes_nothing_else(rt: HostRuntime) -> Result<(), Fa
     for (words, status, want) in rows {
         let mut logs = shelf(alloc, "n.log", b"7x\n", &[])?;
         let mut archive = disk(alloc, &[], &[])?;
-        let outcome = call(alloc, words, &mut logs, &mut archive, rooms)?;
+        let outcome = call(&rt, alloc, words, &mut logs, &mut archive, rooms)?;
         assert_eq!(rt; outcome.status, status);
         assert_eq!(rt; outcome.out.as_slice(), want);
         assert!(rt; outcome.err.is_empty());
@@ -289,7 +312,7 @@ fn an_output_that_fails_has_a_front(rt: HostRuntime) -> Result<(), Fail> {
             err: 99,
             out_fails: u64::MAX,
         };
-        let outcome = call(alloc, words, &mut logs, &mut archive, rooms)?;
+        let outcome = call(&rt, alloc, words, &mut logs, &mut archive, rooms)?;
         assert_eq!(rt; outcome.status, 7);
         assert!(rt; front.starts_with(outcome.out.as_slice()));
         assert_eq!(rt; outcome.err.as_slice(), b"clpa: output failed\n".as_slice());
@@ -304,12 +327,12 @@ fn a_line_has_a_limit(rt: HostRuntime) -> Result<(), Fail> {
     for _ in 0..1_048_576 {
         log.push(b'x')?;
     }
-    let outcome = over(alloc, &["show", "n.log"], "n.log", log.as_slice())?;
+    let outcome = over(&rt, alloc, &["show", "n.log"], "n.log", log.as_slice())?;
     assert_eq!(rt; outcome.status, 0);
     assert!(rt; outcome.out.starts_with(log.as_slice()));
     assert_eq!(rt; outcome.out.len(), log.len() + 1);
     log.push(b'x')?;
-    let outcome = over(alloc, &["show", "n.log"], "n.log", log.as_slice())?;
+    let outcome = over(&rt, alloc, &["show", "n.log"], "n.log", log.as_slice())?;
     assert_eq!(rt; outcome.status, 4);
     assert_eq!(rt; outcome.out.as_slice(), b"a\n".as_slice());
     assert_eq!(rt;
@@ -338,7 +361,14 @@ fn output_goes_out_in_pieces(rt: HostRuntime) -> Result<(), Fail> {
             err: 99,
             out_fails,
         };
-        let outcome = call(alloc, &["show", "n.log"], &mut logs, &mut archive, rooms)?;
+        let outcome = call(
+            &rt,
+            alloc,
+            &["show", "n.log"],
+            &mut logs,
+            &mut archive,
+            rooms,
+        )?;
         assert_eq!(rt; outcome.status, if len == 195_000 { 0 } else { 7 });
         assert_eq!(rt; outcome.out.len(), len);
         assert!(rt; want.starts_with(outcome.out.as_slice()));
@@ -363,7 +393,14 @@ fn a_read_that_fails_later_ends_the_log(rt: HostRuntime) -> Result<(), Fail> {
     for (fail, len) in [(0u64, 0), (1, 262_140), (2, 500_000), (3, 500_000)] {
         let mut logs = shelf(alloc, "n.log", log.as_slice(), &[fail])?;
         let mut archive = disk(alloc, &[], &[])?;
-        let outcome = call(alloc, &["show", "n.log"], &mut logs, &mut archive, AMPLE)?;
+        let outcome = call(
+            &rt,
+            alloc,
+            &["show", "n.log"],
+            &mut logs,
+            &mut archive,
+            AMPLE,
+        )?;
         assert_eq!(rt; outcome.status, if fail < 3 { 4 } else { 0 });
         assert_eq!(rt; outcome.out.len(), len);
         assert!(rt; log.starts_with(outcome.out.as_slice()));

@@ -1,0 +1,15 @@
+use Rattle.std.proofs.Common.{◌≡◌, ◌+◌, ◌≤◌, length, map, take, string_bytes, vec_len, vec_capacity}
+use Rattle.clp_commands.specs.IngestPrints.{names_of}
+use Rattle.clp_commands.proofs.ingest.end_jobs.Given as goal
+
+abbrev pub invariant-loop-job : goal.invariant-loop-job
+invariant-loop-job g l = record {
+  named : names_of l.taken.items ≡ take (length l.taken.items) (map string_bytes l.names);
+  count : vec_len l.taken + vec_len l.jobs ≡ length l.names;
+  room : vec_capacity l.taken ≡ vec_capacity l.fn.taken;
+  ended : vec_len l.sources ≡ vec_len l.taken;
+  room_sources : vec_capacity l.sources ≡ vec_capacity l.fn.sources;
+}
+
+abbrev pub decreases-loop-job : goal.decreases-loop-job
+decreases-loop-job g l = vec_len l.jobs

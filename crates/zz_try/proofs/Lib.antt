@@ -1,0 +1,4 @@
+pub mod ContentLemmas
+pub mod JoinLemmas
+pub mod LeavesLemmas
+pub mod PieceLemmas

@@ -1,0 +1,90 @@
+-- What the taking of files into an archive leaves: the journal, the content of the archive, what a crash may leave of it,
+-- and what is printed.
+use Rattle.std.specs.Prelude.{◌≡◌, ◌≢◌, ◌+◌, ◌<◌, ◌≤◌, ◌⊎◌, ℕ, Bool, true, false, List, [], ◌∷◌, ◌++◌, length, map, All, Option, Some, None, IfSome, slice_get}
+use Rattle.std.specs.List.{AllZip, Contains, flat_map}
+use mathlib.Core.List.{IsPrefix}
+use Rattle.log_seams.specs.Disk.{DiskState}
+use Rattle.log_seams.specs.Outside.{Rose}
+use Rattle.record_format.specs.declared.header.Header.{Header}
+use Rattle.row_codec.specs.Messages.{IsTypeOf, IsWordOf}
+use Rattle.archive_meaning.specs.declared.entry.JournalEntry.{JournalEntry}
+use Rattle.archive_meaning.specs.declared.entry.JournalEntry.TheVariants.{Files, Types, Words, Segment}
+use Rattle.archive_meaning.specs.Held.{File, content_of}
+use Rattle.archive_meaning.specs.Stands.{StandsFor}
+use Rattle.archive_meaning.specs.Spelled.{end_of}
+use Rattle.disk_seal.specs.Registered.{files_size}
+use Rattle.message_reader.specs.Versions.{MessagesOf}
+
+-- What came of a file: its name, how many messages of it the archive has, whether these are all, and why they are not.
+pub record Came : Type 0 where
+  pub name : List ℕ
+  pub messages : ℕ
+  pub whole : Bool
+  pub refusal : Option ℕ
+
+-- ---- the journal
+
+-- where the bytes of the name are told, the message is one of them
+abbrev pub IsMessageIn : (List ℕ → Option (List ℕ)) → ℕ → List ℕ → List ℕ → Type 0
+IsMessageIn content version name message =
+    IfSome (content name) (λ bytes. (messages : List (List ℕ)) (ended : Bool) → MessagesOf version bytes messages ended → Contains messages message)
+
+-- the message is one of a given file
+abbrev pub IsGiven : (List ℕ → Option (List ℕ)) → ℕ → List (List ℕ) → List ℕ → Type 0
+IsGiven content version names message = (name : List ℕ) × Contains names name × IsMessageIn content version name message
+
+-- An entry that may stand behind the names of new files, which are numbered on from `first`: a segment of one of them, or
+-- texts of the encodings of given messages.
+abbrev pub IsOfNew : (List ℕ → Option (List ℕ)) → ℕ → List (List ℕ) → ℕ → JournalEntry → Type 0
+IsOfNew content version names first (Files more) = ⊥
+IsOfNew content version names first (Types number texts) = All (λ text. (m : List ℕ) × IsGiven content version names m × IsTypeOf version m text) texts
+IsOfNew content version names first (Words number texts) = All (λ text. (m : List ℕ) × IsGiven content version names m × IsWordOf version m text) texts
+IsOfNew content version names first (Segment s) = (first ≤ s.file) × (s.file < first + length names)
+
+-- ---- the content
+
+-- a new file holds the first messages of its name, as many as it is told with, and all of them where it is told as whole
+pub record IsFront (content : List ℕ → Option (List ℕ)) (version : ℕ) (c : Came) (f : File) : Type 0 where
+  pub name : f.name ≡ c.name
+  pub messages : length f.messages ≡ c.messages
+  pub whole : f.whole ≡ c.whole
+  pub front : IfSome (content c.name) (λ bytes. (messages : List (List ℕ)) (ended : Bool) → MessagesOf version bytes messages ended → IsPrefix f.messages messages)
+  pub all : c.whole ≡ true → IfSome (content c.name) (λ bytes. MessagesOf version bytes f.messages f.ended)
+
+-- ---- what a crash leaves
+
+-- the bytes stand for the journal, or for it and the record that was under way
+abbrev pub StandsForEither : Header → List JournalEntry → List JournalEntry → List ℕ → Type 0
+StandsForEither h es tail bytes = StandsFor bytes h es ⊎ StandsFor bytes h (es ++ tail)
+
+-- The disk as it reads, and each image at the end, stand for the journal. Each image since the start stands for a journal
+-- between the one before and this one. Where a call of the disk failed, one record more may be under way.
+pub record LeavesJournal (h : Header) (before es : List JournalEntry) (old new : DiskState) : Type 0 where
+  pub tail : List JournalEntry
+  pub one : length tail ≤ 1
+  pub none : (Rose old.faults new.faults → ⊥) → tail ≡ []
+  pub reads : IfSome new.seen (StandsForEither h es tail)
+  pub now : (c : List ℕ) → new.images c → StandsForEither h es tail c
+  pub since : (c : List ℕ) → new.since old.clock c → (some : List JournalEntry) × IsPrefix before some × IsPrefix some (es ++ tail) × StandsFor c h some
+
+-- ---- by the answer
+
+-- Nothing was taken in: the journal is as it was.
+pub record TakesNothing (h : Header) (before : List JournalEntry) (old new : DiskState) : Type 0 where
+  pub leaves : LeavesJournal h before before old new
+
+-- The names were added to the journal, and then what came of each file.
+pub record TakesIn {bytes : List ℕ} (content : List ℕ → Option (List ℕ)) (h : Header) (before : List JournalEntry) (stood : StandsFor bytes h before) (names : List (List ℕ)) (came : List Came) (old new : DiskState) : Type 0 where
+  pub added : List JournalEntry
+  pub each : All (IsOfNew content h.version names (length stood.legal.held.names)) added
+  pub leaves : LeavesJournal h before (before ++ (Files names ∷ added)) old new
+  pub files : List File
+  pub content_is : (image : List ℕ) (stands : StandsFor image h (before ++ (Files names ∷ added))) → content_of stands.legal.held ≡ content_of stood.legal.held ++ files
+  pub fronts : AllZip (IsFront content h.version) came files
+
+-- Where the disk tells its bytes, these and each image of it stand for one journal at the start. Then this holds of it.
+abbrev pub FromArchive : DiskState → ((h : Header) (before : List JournalEntry) (bytes : List ℕ) → StandsFor bytes h before → Type 0) → Type 0
+FromArchive old P =
+    IfSome old.seen (λ bytes. (h : Header) (before : List JournalEntry) (stood : StandsFor bytes h before)
+    → ((c : List ℕ) → old.images c → StandsFor c h before) → P h before bytes stood)
+

@@ -1,0 +1,2 @@
+pub mod Ingested
+pub mod Leaves
