@@ -1,5 +1,6 @@
 pub mod AnswerLemmas
 pub mod AppendLemmas
+pub mod CameLemmas
 pub mod CommandLemmas
 pub mod CompleteLemmas
 pub mod CutterLemmas

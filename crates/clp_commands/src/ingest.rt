@@ -175,7 +175,8 @@ where
     requires room { length asked.files.now ≤ vec_capacity taken.old }
 
     // the files
-    ensures taken { OnOk result (names_of taken.new.items ≡ map string_bytes asked.files.now) }
+    ensures taken { OnOk result
+        (names_of taken.new.items ≡ map string_bytes asked.entry.files.now) }
 
     // whatever the answer
     ensures goes_on { DiskGoesOn (D.state disk.old) (D.state disk.new) }
@@ -209,7 +210,7 @@ where
     requires workers { (1 ≤ asked.workers) × (asked.workers ≤ 64) }
     requires segment { (1 ≤ asked.segment) × (asked.segment ≤ 65536) }
     requires some { 1 ≤ length asked.files.now }
-    ensures prints { PrintsIngest (map string_bytes asked.files.now)
+    ensures prints { PrintsIngest (map string_bytes asked.entry.files.now)
         (around H.content H.unread H.open_faults H.read_faults K.written K.faults
         shelf.old shelf.new out.old out.new err.old err.new)
         result }

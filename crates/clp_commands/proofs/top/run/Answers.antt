@@ -1,9 +1,11 @@
-use Rattle.std.proofs.Common.{refl, rules, subst, []}
+use Rattle.std.proofs.Common.{refl, rules, subst, [], map, string_bytes, arith}
+use Rattle.std.proofs.lemmas.List.{length-map}
+use Rattle.option_words.proofs.RangeLemmas.{asked_in_range}
 use Rattle.wild_match.specs.Reading.{IsSearchPattern}
 use Rattle.clp_commands.specs.Answers.{IsPatternRefusal}
 use Rattle.wild_match.proofs.Spelling.{IsSearchPattern-not_lone, IsSearchPattern-unique}
 use Rattle.clp_commands.proofs.AnswerLemmas.{RefusesPattern-from, pattern_refusal}
-use Rattle.clp_commands.proofs.CommandLemmas.{Answers-check, Answers-create, Answers-decode, Answers-files, Answers-scan, Answers-search, Answers-show, Answers-usage}
+use Rattle.clp_commands.proofs.CommandLemmas.{Answers-check, Answers-create, Answers-decode, Answers-files, Answers-ingest, Answers-scan, Answers-search, Answers-show, Answers-usage}
 use Rattle.clp_commands.proofs.CompleteLemmas.{check_answers, decode_answers, files_answers, search_answers, search_pattern, search_refused}
 use Rattle.clp_commands.proofs.top.run.Goals as goal
 
@@ -62,3 +64,20 @@ returns-in-Err-clause-answers g c =
     (λ f t st w p asks. rw (c.in-Search.is) at (rw c.in-Some.command-is at (c.in-Some.ensures.search f t st w p asks)))
     (λ at lone. RefusesPattern-from _ [] _ _ at c.in-Err.refusal refused lone (rw (← c.refusal_of_pattern.ensures) c.report-in-Err.ensures.status) (rw (← c.refusal_of_pattern.ensures) c.report-in-Err.ensures.said) refl refl)
     (λ its is. search_refused _ _ _ _ _ _ c.in-Err.refusal refused (λ at lone. IsSearchPattern-not_lone _ its at is lone) (rw (← c.refusal_of_pattern.ensures) c.report-in-Err.ensures.status) (rw (← c.refusal_of_pattern.ensures) c.report-in-Err.ensures.said) refl refl)
+
+pub ingest_files-requires : goal.ingest_files-requires
+ingest_files-requires g c =
+    let range = asked_in_range _ _ _ _ (rw (c.in-Ingest.is) at (rw c.in-Some.command-is at c.in-Some.ensures.some)) in
+    record { workers = range.workers_are; segment = range.segment_is; some = omega (arith, range.some, length-map c.in-Ingest.asked.files.now string_bytes) }
+
+pub returns-in-Ingest-clause-answers : goal.returns-in-Ingest-clause-answers
+returns-in-Ingest-clause-answers g c =
+    Answers-ingest _ _ _ _ _ c.in-Ingest.asked.workers c.in-Ingest.asked.segment (map string_bytes c.in-Ingest.asked.files.now) (rw (c.in-Ingest.is) at (rw c.in-Some.command-is at c.in-Some.ensures.some))
+    (λ w r fs asks. rw (c.in-Ingest.is) at (rw c.in-Some.command-is at (c.in-Some.ensures.ingest w r fs asks)))
+    c.ingest_files.ensures.prints
+
+pub returns-in-Ingest-clause-keeps : goal.returns-in-Ingest-clause-keeps
+returns-in-Ingest-clause-keeps g c = λ create ingest. absurd (ingest _ _ _ (rw (c.in-Ingest.is) at (rw c.in-Some.command-is at c.in-Some.ensures.some)))
+
+pub returns-in-Ingest-clause-untouched : goal.returns-in-Ingest-clause-untouched
+returns-in-Ingest-clause-untouched g c = λ none. absurd (none.no_ingest _ _ _ (rw (c.in-Ingest.is) at (rw c.in-Some.command-is at c.in-Some.ensures.some)))
