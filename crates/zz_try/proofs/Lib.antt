@@ -1,4 +1,0 @@
-pub mod ContentLemmas
-pub mod JoinLemmas
-pub mod LeavesLemmas
-pub mod PieceLemmas

@@ -1,2 +1,0 @@
-pub mod Ingested
-pub mod Leaves
