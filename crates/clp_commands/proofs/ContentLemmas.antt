@@ -1,8 +1,8 @@
 -- What the archive holds of files that were taken in.
-use Rattle.std.proofs.Common.{◌≡◌, ◌+◌, ◌<◌, ◌≤◌, ◌&&◌, ◌⊎◌, inl, inr, ⊎_elim, refl, sym, ap, ap₂, subst, ◌∙◌, ℕ, suc, Bool, true, false, List, [], ◌∷◌, ◌++◌, length, map, Option, Some, None, arith, append-nil, append_assoc}
-use Rattle.std.specs.Prelude.{All, IfSome, is_some, slice_get}
+use Rattle.std.proofs.Common.{◌≡◌, ◌≢◌, not, ◌+◌, ◌<◌, ◌≤◌, ◌&&◌, ◌⊎◌, inl, inr, ⊎_elim, refl, sym, ap, ap₂, subst, ◌∙◌, ℕ, suc, Bool, true, false, List, [], ◌∷◌, ◌++◌, length, map, Option, Some, None, arith, append-nil, append_assoc}
+use Rattle.std.specs.Prelude.{All, IfSome, is_some, option_map, slice_get}
 use Rattle.std.specs.List.{AllZip, Contains}
-use Rattle.std.proofs.lemmas.Option.{get_or_from_slice_get, slice_get_within}
+use Rattle.std.proofs.lemmas.Option.{get_or_from_slice_get, slice_get-map, slice_get_within}
 use Rattle.std.proofs.lemmas.List.Elements.{All-cons, All-drop, All-head, All-nil, All-tail, All-take, All-weaker}
 use Rattle.std.proofs.Math.Seq.{drop-append_seam, take-append_seam}
 use mathlib.Core.List.{IsPrefix}
@@ -23,29 +23,30 @@ use Rattle.archive_meaning.specs.Stands.{IsLegal, StandsFor}
 use Rattle.archive_meaning.proofs.RunLemmas.{one_held, runs_split}
 use Rattle.archive_meaning.proofs.UniqueLemmas.{legal_front}
 use Rattle.disk_seal.specs.Told.{IfTold}
-use Rattle.disk_seal.specs.View.{journal_of, state_by}
+use Rattle.disk_seal.specs.View.{journal_of, state_by, tells}
 use Rattle.disk_seal.specs.WordsIn.{words_in, words_of}
 use Rattle.ingest_workers.specs.declared.job.Job.{Job}
-use Rattle.ingest_workers.specs.Ingested.{HasIngested, HasStored, IsFileOf, IsOfJobs, IsTypeGiven, IsWordGiven, OfMessages, plan_of, told_entries}
+use Rattle.ingest_workers.specs.declared.outcome.Outcome.{Outcome}
+use Rattle.ingest_workers.specs.Ingested.{AreRefused, HasIngested, HasStored, IsAsItWas, IsFileOf, IsOfJobs, IsTypeGiven, IsWordGiven, OfMessages, plan_of, told_entries}
 use Rattle.ingest_workers.specs.Journal.{FrontHolds}
 use Rattle.ingest_workers.specs.JobDone.{in_source}
 use Rattle.ingest_workers.specs.Worker.{IsGiven as IsGivenByJobs}
 use Rattle.clp_commands.specs.Ingested.{Came, IsFront, IsGiven, IsMessageIn, IsOfNew, LeavesJournal, TakesIn}
 use Rattle.clp_commands.specs.Leaves.{HasNames, IsLogOf}
 use Rattle.clp_commands.proofs.JoinLemmas.{HasNone, content_grows, new_file, with_names}
-use Rattle.clp_commands.proofs.LeavesLemmas.{left_leaves, of_told}
+use Rattle.clp_commands.proofs.LeavesLemmas.{left_leaves, of_told, same_leaves}
 use Rattle.clp_commands.proofs.PieceLemmas.{HasGrown, HoldsOf, IsNewFrom, grown, one_file}
 
 -- ---- one new file
 
--- What the archive has of a file: as many messages as are told, which are the first ones of the log, and all of them where it is whole.
+-- What the archive has of a file: as many messages as are told, which are the first ones of the log, and all of them where nothing was refused.
 pub record IsTold (content : List ℕ → Option (List ℕ)) (version : ℕ) (ps : List Piece) (file : ℕ) (c : Came) : Type 0 where
   pub covered : List (List ℕ)
   pub ended : Bool
   pub holds : HoldsOf file ps covered c.whole (c.whole && ended)
   pub count : c.messages ≡ length covered
   pub first : IfSome (content c.name) (λ bytes. (messages : List (List ℕ)) (e : Bool) → MessagesOf version bytes messages e → IsPrefix covered messages)
-  pub all : c.whole ≡ true → IfSome (content c.name) (λ bytes. MessagesOf version bytes covered ended)
+  pub all : c.refusal ≡ None → (c.whole ≡ true) × IfSome (content c.name) (λ bytes. MessagesOf version bytes covered ended)
 
 abbrev file_in : Came → ℕ → List Piece → File
 file_in c file ps = record { name = c.name; messages = messages_of file ps; whole = is_whole file ps; ended = is_ended file ps }
@@ -56,9 +57,11 @@ front_of_told content version ps file c told = record {
   messages = ap length told.holds.messages ∙ sym told.count;
   whole = told.holds.whole_is;
   front = subst (λ ms. IfSome (content c.name) (λ bytes. (messages : List (List ℕ)) (e : Bool) → MessagesOf version bytes messages e → IsPrefix ms messages)) (sym told.holds.messages) told.first;
-  all = λ is.
-      subst (λ ms. IfSome (content c.name) (λ bytes. MessagesOf version bytes ms (is_ended file ps))) (sym told.holds.messages)
-      (subst (λ e. IfSome (content c.name) (λ bytes. MessagesOf version bytes told.covered e)) (sym (told.holds.ended_is ∙ ap (λ b. b && told.ended) is)) (told.all is));
+  all = λ is. let full = told.all is in (
+    full.0,
+    subst (λ ms. IfSome (content c.name) (λ bytes. MessagesOf version bytes ms (is_ended file ps))) (sym told.holds.messages)
+    (subst (λ e. IfSome (content c.name) (λ bytes. MessagesOf version bytes told.covered e)) (sym (told.holds.ended_is ∙ ap (λ b. b && told.ended) full.0)) full.1),
+  );
 }
 
 pub fronts_are : (content : List ℕ → Option (List ℕ)) (version : ℕ) (ps : List Piece) (k : ℕ) (names : List (List ℕ)) (came : List Came) → map (λ (c : Came). c.name) came ≡ names
@@ -170,8 +173,8 @@ module _ (content : List ℕ → Option (List ℕ)) (h : Header) (before : List 
   }
 
   -- of a file whose job was not begun nothing is held
-  pub none_told : (i : ℕ) (c : Came) → i < length names → fresh ≡ [] → c.messages ≡ 0 → c.whole ≡ false → IsTold content h.version legal.held.pieces (first + i) c
-  none_told i c within nothing count part =
+  pub none_told : (i : ℕ) (c : Came) → i < length names → fresh ≡ [] → c.messages ≡ 0 → c.whole ≡ false → c.refusal ≢ None → IsTold content h.version legal.held.pieces (first + i) c
+  none_told i c within nothing count part refused =
       let none : HasNone (first + i) mid.pieces = (new_file h before names stood.legal i within).none in
       let same : legal.held ≡ mid = subst (λ es. Run h mid es legal.held) nothing run_of_new in
       let here : HasNone (first + i) legal.held.pieces = subst (λ (x : Held). HasNone (first + i) x.pieces) (sym same) none in
@@ -181,7 +184,7 @@ module _ (content : List ℕ → Option (List ℕ)) (h : Header) (before : List 
         holds = record { messages = here.messages; whole_is = here.whole ∙ sym part; ended_is = here.ended ∙ sym (ap (λ b. b && false) part) };
         count = count;
         first = always (content c.name);
-        all = λ is. absurd (cc (is, part));
+        all = λ is. absurd (refused is);
       }
     where
       always : (o : Option (List ℕ)) → IfSome o (λ bytes. (messages : List (List ℕ)) (e : Bool) → MessagesOf h.version bytes messages e → IsPrefix [] messages)
@@ -189,17 +192,19 @@ module _ (content : List ℕ → Option (List ℕ)) (h : Header) (before : List 
       always (Some b) = λ messages e are. (messages, refl)
 
   -- of a file whose job was done these are
-  pub file_told : {S D : Type 0} {d : DiskGhosts D} (left : S → Option (List ℕ)) (j : Journal D d) → HasNames h before names (state_of j) → (rows i : ℕ) (c : Came) (name : List ℕ) (old done : Job S) → i < length names → old.file ≡ first + i
+  pub file_told : {S D : Type 0} {d : DiskGhosts D} (left : S → Option (List ℕ)) (j : Journal D d) → HasNames h before names (state_of j) → (rows i : ℕ) (c : Came) (old done : Job S) → i < length names → old.file ≡ first + i
       → IsFileOf left (plan_of rows j) j fresh old done → c.messages ≡ done.outcome.messages → c.whole ≡ done.outcome.whole
-      → (in_source left old.source ≡ content c.name) ⊎ ((in_source left old.source ≡ Some []) × (c.whole ≡ false)) → IsTold content h.version legal.held.pieces (first + i) c
-  file_told {S} {D} {d} left j named rows i c name old done within number is count whole log =
+      → IsLogOf (content c.name) (in_source left old.source) → (c.refusal ≡ None → (in_source left old.source ≡ content c.name) × (done.outcome.cause ≡ None)) → IsTold content h.version legal.held.pieces (first + i) c
+  file_told {S} {D} {d} left j named rows i c old done within number is count whole log opened =
       record {
         covered = is.covered;
         ended = is.ended;
         holds = holds;
         count = count ∙ is.count;
-        first = front_by (content c.name) (in_source left old.source) (⊎_elim (λ same. inl same) (λ none. inr none.0) log) first_told;
-        all = λ full. ⊎_elim (λ same. all_by (content c.name) (subst (λ (o : Option (List ℕ)). OfMessages h.version o (λ messages e. (is.covered ≡ messages) × (is.ended ≡ e))) same (all_told full))) (λ none. absurd (cc (full, none.1))) log;
+        first = front_by (content c.name) (in_source left old.source) log first_told;
+        all = λ spared.
+            let full : done.outcome.whole ≡ true = all_of (opened spared).1 in
+            (whole ∙ full, all_by (content c.name) (subst (λ (o : Option (List ℕ)). OfMessages h.version o (λ messages e. (is.covered ≡ messages) × (is.ended ≡ e))) (opened spared).0 (all_told full)));
       }
     where
       version : (plan_of rows j).version ≡ h.version
@@ -208,8 +213,15 @@ module _ (content : List ℕ → Option (List ℕ)) (h : Header) (before : List 
       first_told : OfMessages h.version (in_source left old.source) (λ messages e. IsPrefix is.covered messages)
       first_told = subst (λ v. OfMessages v (in_source left old.source) (λ messages e. IsPrefix is.covered messages)) version is.first
 
-      all_told : c.whole ≡ true → OfMessages h.version (in_source left old.source) (λ messages e. (is.covered ≡ messages) × (is.ended ≡ e))
-      all_told full = subst (λ v. OfMessages v (in_source left old.source) (λ messages e. (is.covered ≡ messages) × (is.ended ≡ e))) version (is.all (sym whole ∙ full))
+      all_of : done.outcome.cause ≡ None → done.outcome.whole ≡ true
+      all_of spared = not_false done.outcome.whole (sym is.cause ∙ ap is_some spared)
+        where
+          not_false : (b : Bool) → not b ≡ false → b ≡ true
+          not_false true is = refl
+          not_false false is = absurd (cc (is))
+
+      all_told : done.outcome.whole ≡ true → OfMessages h.version (in_source left old.source) (λ messages e. (is.covered ≡ messages) × (is.ended ≡ e))
+      all_told full = subst (λ v. OfMessages v (in_source left old.source) (λ messages e. (is.covered ≡ messages) × (is.ended ≡ e))) version (is.all full)
 
       front_by : (log told : Option (List ℕ)) → (told ≡ log) ⊎ (told ≡ Some []) → OfMessages h.version told (λ messages e. IsPrefix is.covered messages)
           → IfSome log (λ bytes. (messages : List (List ℕ)) (e : Bool) → MessagesOf h.version bytes messages e → IsPrefix is.covered messages)
@@ -242,3 +254,60 @@ module _ (content : List ℕ → Option (List ℕ)) (h : Header) (before : List 
           (subst (λ n. HoldsOf n legal.held.pieces is.covered done.outcome.whole (done.outcome.whole && is.ended)) number
           (one_file h (before ++ Files names ∷ []) fresh mid legal.held old.file (subst (λ n. HasNone n mid.pieces) (sym number) empty.none) empty.run run_of_new
           rows is.covered done.outcome.whole is.ended is.closed is.rest is.parts is.cut is.not_yet segments front))
+
+-- ---- the files of the jobs
+
+-- What is told of a file by its job. Where nothing was refused of it, its log was opened, and the job had no cause.
+pub record CameOfJob {S : Type 0} (left : S → Option (List ℕ)) (content : List ℕ → Option (List ℕ)) (js js' : List (Job S)) (i : ℕ) (c : Came) : Type 0 where
+  pub old : Job S
+  pub done : Job S
+  pub at : slice_get js i ≡ Some old
+  pub at_done : slice_get js' i ≡ Some done
+  pub messages : c.messages ≡ done.outcome.messages
+  pub whole : c.whole ≡ done.outcome.whole
+  pub opened : c.refusal ≡ None → (in_source left old.source ≡ content c.name) × (done.outcome.cause ≡ None)
+
+named_at : (came : List Came) (names : List (List ℕ)) → map (λ (c : Came). c.name) came ≡ names → (i : ℕ) (c : Came) → slice_get came i ≡ Some c → slice_get names i ≡ Some c.name
+named_at came names are i c at =
+    subst (λ l. slice_get l i ≡ Some c.name) are (slice_get-map (λ (x : Came). x.name) came i ∙ ap (option_map (λ (x : Came). x.name)) at)
+
+module _ {S D : Type 0} {d : DiskGhosts D} (left : S → Option (List ℕ)) (content : List ℕ → Option (List ℕ)) (h : Header) (before : List JournalEntry) (names : List (List ℕ)) {bytes : List ℕ} (stood : StandsFor bytes h before)
+    (j after : Journal D d) (law : IsLawful (d.state after.disk.now)) (named : HasNames h before names (state_of j)) (js js' : List (Job S)) (of : AreJobsOf left content h.version names (length stood.legal.held.names) js)
+    (came : List Came) (are : map (λ (c : Came). c.name) came ≡ names) (each : (i : ℕ) (c : Came) → slice_get came i ≡ Some c → CameOfJob left content js js' i c) where
+  -- the jobs were done
+  pub ingested_takes_in : (rows : ℕ) → HasIngested left (plan_of rows j) js js' j after → TakesIn content h before stood names came (d.state j.disk.now) (d.state after.disk.now)
+  ingested_takes_in rows done =
+      let s = done.stored in
+      let k = s.left_by.kept in
+      let told : tells (state_by d.state done.store) ≡ true = ap (λ (x : D). is_some (d.state x).seen) s.left_by.opened ∙ named.told in
+      let version : (plan_of rows j).version ≡ h.version = ap (λ (x : Header). x.version) named.header in
+      let grown : journal_of (state_by d.state done.store) ≡ before ++ (Files names ∷ s.fresh) = s.grown ∙ (ap (λ l. l ++ s.fresh) named.entries ∙ append_assoc before (Files names ∷ []) s.fresh) in
+      let legal : IsLegal h (before ++ (Files names ∷ s.fresh)) =
+      subst (IsLegal h) grown
+      (legal_front h (journal_of (state_by d.state done.store)) k.under (subst (λ x. IsLegal x (journal_of (state_by d.state done.store) ++ k.under)) (s.left_by.header ∙ named.header) (of_told (tells (state_by d.state done.store)) told k.legal))) in
+      let new : All (IsOfNew content h.version names (length stood.legal.held.names)) s.fresh =
+      all_of_names left content h.version names (length stood.legal.held.names) js of s.fresh s.others (subst (λ v. All (IsTypeGiven left v js) (types_of s.fresh)) version done.types) (subst (λ v. All (IsWordGiven left v js) (words_of s.fresh)) version done.words) in
+      taken_in content h before names stood s.fresh legal new (d.state j.disk.now) (d.state after.disk.now) (left_leaves h before names j after law named done.store s.left_by s.fresh s.grown) came are
+      (λ i c at.
+          let one = each i c at in
+          let its = s.files i one.old one.at in
+          let log = of.log i one.old one.at in
+          let same : its.0 ≡ one.done = some_is its.0 one.done (sym its.1 ∙ one.at_done) in
+          let name : log.0 ≡ c.name = some_is log.0 c.name (sym log.1 ∙ named_at came names are i c at) in
+          file_told content h before names stood s.fresh legal new left j named rows i c one.old one.done (slice_get_within names i log.0 log.1) (of.file i one.old one.at)
+          (subst (λ (x : Job S). IsFileOf left (plan_of rows j) j s.fresh one.old x) same its.2) one.messages one.whole (subst (λ n. IsLogOf (content n) (in_source left one.old.source)) name log.2) one.opened)
+    where
+      some_is : {A : Type 0} (x y : A) → Some x ≡ Some y → x ≡ y
+      some_is x y e = cc (e)
+
+  -- none of them was begun
+  pub refused_takes_in : IsLawful (d.state j.disk.now) → ((c : List ℕ) → (d.state j.disk.now).images c → StandsFor c h (before ++ Files names ∷ [])) → IsLegal h (before ++ Files names ∷ []) → IsAsItWas j after → AreRefused js js'
+      → TakesIn content h before stood names came (d.state j.disk.now) (d.state after.disk.now)
+  refused_takes_in law_j only legal stayed refused =
+      taken_in content h before names stood [] legal (All-nil (IsOfNew content h.version names (length stood.legal.held.names))) (d.state j.disk.now) (d.state after.disk.now) (same_leaves h before names j after law named law_j only stayed) came are
+      (λ i c at.
+          let one = each i c at in
+          let none = refused.each i one.done one.at_done in
+          none_told content h before names stood [] legal (All-nil (IsOfNew content h.version names (length stood.legal.held.names))) i c (slice_get_within names i c.name (named_at came names are i c at)) refl
+          (one.messages ∙ ap (λ (o : Outcome). o.messages) none) (one.whole ∙ ap (λ (o : Outcome). o.whole) none)
+          (λ spared. absurd (cc (sym (ap (λ (o : Outcome). o.cause) none) ∙ (one.opened spared).1))))
