@@ -20,4 +20,5 @@ pub mod JoinLemmas
 pub mod LeavesLemmas
 pub mod PieceLemmas
 pub mod ContentLemmas
+pub mod RegisterLemmas
 pub mod JobLemmas

@@ -1,6 +1,7 @@
 -- How the journal goes on through the steps of an ingest.
-use Rattle.std.specs.Prelude.{◌≡◌, ◌⊎◌, ℕ, true, is_some, List, [], ◌∷◌, ◌++◌, Option, Some}
+use Rattle.std.specs.Prelude.{◌≡◌, ◌⊎◌, ℕ, true, is_some, List, [], ◌∷◌, ◌++◌, length, Option, Some}
 use mathlib.Core.List.{IsPrefix}
+use Rattle.log_seams.specs.Disk.{DiskState, LeavesOnly}
 use Rattle.record_format.specs.declared.header.Header.{Header}
 use Rattle.disk_journal.specs.State.{JournalState}
 use Rattle.archive_meaning.specs.declared.entry.JournalEntry.{JournalEntry}
@@ -25,3 +26,10 @@ pub record HasNames (h : Header) (before : List JournalEntry) (names : List (Lis
 -- what a source has left is the log's, or nothing for a log that could not be opened
 abbrev pub IsLogOf : Option (List ℕ) → Option (List ℕ) → Type 0
 IsLogOf log told = (told ≡ log) ⊎ (told ≡ Some [])
+
+-- The names of new files were appended to the journal, which is told with them, and they are numbered from `first` on. Each image since the start stands
+-- for the journal of before, or for it with the names.
+pub record AddsNamesTo (h : Header) (before : List JournalEntry) {bytes : List ℕ} (stood : StandsFor bytes h before) (names : List (List ℕ)) (first : ℕ) (old : DiskState) (j : JournalState) : Type 0 where
+  pub has : HasNames h before names j
+  pub number : first ≡ length stood.legal.held.names
+  pub past : LeavesOnly old j.disk (StandsBetween h before (before ++ Files names ∷ []))
