@@ -21,4 +21,5 @@ pub mod LeavesLemmas
 pub mod PieceLemmas
 pub mod ContentLemmas
 pub mod RegisterLemmas
+pub mod StepsLemmas
 pub mod JobLemmas

@@ -8,6 +8,7 @@ use Rattle.archive_meaning.specs.declared.entry.JournalEntry.{JournalEntry}
 use Rattle.archive_meaning.specs.declared.entry.JournalEntry.TheVariants.{Files}
 use Rattle.archive_meaning.specs.Stands.{StandsFor}
 use Rattle.ingest_workers.specs.Ingested.{told_entries}
+use Rattle.clp_commands.specs.Ingested.{Came, TakesIn}
 
 -- the bytes stand for the journal
 abbrev pub StandsStill : Header → List JournalEntry → List ℕ → Type 0
@@ -33,3 +34,8 @@ pub record AddsNamesTo (h : Header) (before : List JournalEntry) {bytes : List �
   pub has : HasNames h before names j
   pub number : first ≡ length stood.legal.held.names
   pub past : LeavesOnly old j.disk (StandsBetween h before (before ++ Files names ∷ []))
+
+-- Where the journal is told with the names behind an archive, numbered from `first` on, the files were taken into it, with what came of them.
+abbrev pub TakesInto : (List ℕ → Option (List ℕ)) → List (List ℕ) → ℕ → List Came → JournalState → DiskState → Type 0
+TakesInto content names first came j new =
+    (h : Header) (before : List JournalEntry) (bytes : List ℕ) (stood : StandsFor bytes h before) → HasNames h before names j → first ≡ length stood.legal.held.names → TakesIn content h before stood names came j.disk new
