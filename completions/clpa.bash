@@ -5,11 +5,15 @@ _clpa() {
     COMPREPLY=()
     case $COMP_CWORD:$command in
         1:*) compopt -o default ;;
-        2:*) mapfile -t COMPREPLY < <(compgen -W 'check create decode files scan search show' -- "$word") ;;
+        2:*) mapfile -t COMPREPLY < <(compgen -W 'check create decode files ingest scan search show' -- "$word") ;;
         3:show | 4:scan) compopt -o default ;;
         *:create)
             mapfile -t COMPREPLY < <(compgen -W '--bytes= --format= --types= --words=' -- "$word")
             compopt -o nospace
+            ;;
+        *:ingest)
+            mapfile -t COMPREPLY < <(compgen -W '--segment= --workers=' -- "$word")
+            compopt -o default
             ;;
         *:search) mapfile -t COMPREPLY < <(compgen -W '--from= --stats --to= --workers=' -- "$word") ;;
     esac

@@ -26,3 +26,8 @@ DiskGoesOn-joined old mid new law first second = record {
   tells = second.tells ∙ first.tells;
   moments = joined old mid new _ _ _ law first.moments second.moments (λ c p. tt) (λ c p. tt);
 }
+
+-- two calls that write nothing
+pub DiskGoesOn-kept : (old mid new : DiskState) → IsLawful old → IsLawful mid → IsLawful new → KeepsBytes old mid → old.faults ≤ mid.faults → KeepsBytes mid new → mid.faults ≤ new.faults → DiskGoesOn old new
+DiskGoesOn-kept old mid new law law_mid law_new first counts second more =
+    DiskGoesOn-joined old mid new law_new (DiskGoesOn-seen old mid law law_mid counts first.seen first.time) (DiskGoesOn-seen mid new law_mid law_new more second.seen second.time)
