@@ -267,7 +267,7 @@ pub record CameOfJob {S : Type 0} (left : S → Option (List ℕ)) (content : Li
   pub whole : c.whole ≡ done.outcome.whole
   pub opened : c.refusal ≡ None → (in_source left old.source ≡ content c.name) × (done.outcome.cause ≡ None)
 
-named_at : (came : List Came) (names : List (List ℕ)) → map (λ (c : Came). c.name) came ≡ names → (i : ℕ) (c : Came) → slice_get came i ≡ Some c → slice_get names i ≡ Some c.name
+pub named_at : (came : List Came) (names : List (List ℕ)) → map (λ (c : Came). c.name) came ≡ names → (i : ℕ) (c : Came) → slice_get came i ≡ Some c → slice_get names i ≡ Some c.name
 named_at came names are i c at =
     subst (λ l. slice_get l i ≡ Some c.name) are (slice_get-map (λ (x : Came). x.name) came i ∙ ap (option_map (λ (x : Came). x.name)) at)
 

@@ -21,5 +21,6 @@ pub mod LeavesLemmas
 pub mod PieceLemmas
 pub mod ContentLemmas
 pub mod RegisterLemmas
+pub mod TakeInLemmas
 pub mod StepsLemmas
 pub mod JobLemmas

@@ -8,6 +8,7 @@ pub mod Going
 pub mod IngestPrints
 pub mod Ingested
 pub mod Names
+pub mod Jobs
 pub mod Leaves
 pub mod Naming
 pub mod Outcome
