@@ -89,7 +89,7 @@ pub record OpensFrom (old now : JournalState) (a : Shown) : Type 0 where
   pub ends : IsAtEnd now
 
 module _ (old now : JournalState) (a : Shown) (from : OpensFrom old now a) where
-  may_append : MayOpen now
+  pub may_append : MayOpen now
   may_append =
       let stood = stood_by old.disk.seen old.header a from.archive from.opened from.header in
       stood_opens now from.ends (subst IsHeader (sym from.looks.header) from.begins.legal)
@@ -99,13 +99,13 @@ module _ (old now : JournalState) (a : Shown) (from : OpensFrom old now a) where
   shows_now : IfTold (is_some now.disk.seen) (ShowsOf a now.header (told_entries now))
   shows_now = shows_of now.header now.disk.seen now.place now.count now.disk.images a may_append.header (subst (λ told. Opens told a) (sym from.looks.rests.seen) from.opened) may_append.ends.ends may_append.spelled
 
-  holds_names : (held : ℕ) → held ≡ length a.files → HoldsNames held now
+  pub holds_names : (held : ℕ) → held ≡ length a.files → HoldsNames held now
   holds_names held same = told_map (is_some now.disk.seen) (λ (shows : ShowsOf a now.header (told_entries now)). λ legal. files_counted now.header (told_entries now) a legal.held held (shows legal) same) shows_now
 
 -- ---- the names of the new files
 
 -- a legal journal with names more is one
-legal_with : (h : Header) (header : IsHeader h) (es : List JournalEntry) (names : List (List ℕ)) (legal : IsLegal h es) → AddsNames (length legal.held.names) names → end_of h (es ++ Files names ∷ []) ≤ h.length_limit → IsLegal h (es ++ Files names ∷ [])
+pub legal_with : (h : Header) (header : IsHeader h) (es : List JournalEntry) (names : List (List ℕ)) (legal : IsLegal h es) → AddsNames (length legal.held.names) names → end_of h (es ++ Files names ∷ []) ≤ h.length_limit → IsLegal h (es ++ Files names ∷ [])
 legal_with h header es names legal adds short =
     let sums : Sums = record { header = h; types = legal.held.types; words = legal.held.words; files = sums_from 0 legal.held.names legal.held.pieces; end = end_of h es } in
     let are : AreSums sums es = record { header = header; held = legal.held; run = legal.run; named = legal.named; types = refl; words = refl; files = refl; end = refl; short = legal.short } in
@@ -174,7 +174,7 @@ pub record AppendsNames (held : ℕ) (names : List (List ℕ)) (old new : Journa
   pub opens : StaysOpen held old new
 
 module _ (old now new : JournalState) (a : Shown) (from : OpensFrom old now a) (held : ℕ) (same : held ≡ length a.files) (names : List (List ℕ)) (appends : AppendsNames held names now new) where
-  told_named : IfTold (is_some new.disk.seen) (told_entries new ≡ told_entries now ++ Files names ∷ [])
+  pub told_named : IfTold (is_some new.disk.seen) (told_entries new ≡ told_entries now ++ Files names ∷ [])
   told_named =
       let may = may_append old now a from in
       entries_named now.header may.header names held now.place now.disk.seen new.disk.seen now.count new.count appends.goes.tells appends.added.added may.spelled may.legal

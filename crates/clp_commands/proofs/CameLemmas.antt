@@ -13,7 +13,7 @@ use Rattle.clp_commands.specs.declared.refusal.Refusal.{Refusal}
 use Rattle.clp_commands.specs.declared.refusal.Refusal.TheVariants.{OutOfMemory, SinkFault}
 use Rattle.clp_commands.specs.declared.taken.TakenFile.{TakenFile}
 
-names_came : (files : List TakenFile) → map (λ (c : Came). c.name) (map came_of files) ≡ names_of files
+pub names_came : (files : List TakenFile) → map (λ (c : Came). c.name) (map came_of files) ≡ names_of files
 names_came [] = refl
 names_came (file ∷ files) = ap (λ ns. file.name.now ∷ ns) (names_came files)
 

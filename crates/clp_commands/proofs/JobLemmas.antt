@@ -50,7 +50,7 @@ module _ {S : Type 0} where
 
   -- ---- jobs over new files
 
-  numbered_at : (n : ℕ) (js : List (Job S)) (i : ℕ) (job : Job S) → AreNumbered n js → slice_get js i ≡ Some job → (job.outcome ≡ nothing_done) × (job.file ≡ n + i)
+  pub numbered_at : (n : ℕ) (js : List (Job S)) (i : ℕ) (job : Job S) → AreNumbered n js → slice_get js i ≡ Some job → (job.outcome ≡ nothing_done) × (job.file ≡ n + i)
   numbered_at n [] i job are at = absurd (cc (at))
   numbered_at n (j ∷ js) zero job are at =
       let same : j ≡ job = cc in (subst (λ (x : Job S). x.outcome ≡ nothing_done) same are.0, ap (λ (x : Job S). x.file) (sym same) ∙ are.1 ∙ omega arith)

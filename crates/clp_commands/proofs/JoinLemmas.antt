@@ -50,7 +50,7 @@ or_false : (a : Bool) → (a || false) ≡ a
 or_false true = refl
 or_false false = refl
 
-ended_joined : (file : ℕ) (ps qs : List Piece) → is_ended file (ps ++ qs) ≡ (is_ended file ps || is_ended file qs)
+pub ended_joined : (file : ℕ) (ps qs : List Piece) → is_ended file (ps ++ qs) ≡ (is_ended file ps || is_ended file qs)
 ended_joined file [] qs = refl
 ended_joined file (p ∷ ps) qs =
     ap (λ b. (p.file == file && p.last && p.ended) || b) (ended_joined file ps qs) ∙ or_joined (p.file == file && p.last && p.ended) (is_ended file ps) (is_ended file qs)

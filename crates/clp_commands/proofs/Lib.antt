@@ -17,4 +17,10 @@ pub mod WordLemmas
 pub mod TakenLemmas
 pub mod NameLemmas
 pub mod JoinLemmas
+pub mod LeavesLemmas
+pub mod PieceLemmas
+pub mod ContentLemmas
+pub mod RegisterLemmas
+pub mod TakeInLemmas
+pub mod StepsLemmas
 pub mod JobLemmas

@@ -59,13 +59,14 @@ IsOfNew content version names first (Segment s) = (first ≤ s.file) × (s.file 
 
 -- ---- the content
 
--- a new file holds the first messages of its name, as many as it is told with, and all of them where it is told as whole
+-- A new file holds the first messages of its name, as many as it is told with, and all of them where nothing was refused of it, which is where it is
+-- told as whole.
 pub record IsFront (content : List ℕ → Option (List ℕ)) (version : ℕ) (c : Came) (f : File) : Type 0 where
   pub name : f.name ≡ c.name
   pub messages : length f.messages ≡ c.messages
   pub whole : f.whole ≡ c.whole
   pub front : IfSome (content c.name) (λ bytes. (messages : List (List ℕ)) (ended : Bool) → MessagesOf version bytes messages ended → IsPrefix f.messages messages)
-  pub all : c.whole ≡ true → IfSome (content c.name) (λ bytes. MessagesOf version bytes f.messages f.ended)
+  pub all : c.refusal ≡ None → (c.whole ≡ true) × IfSome (content c.name) (λ bytes. MessagesOf version bytes f.messages f.ended)
 
 -- ---- what a crash leaves
 

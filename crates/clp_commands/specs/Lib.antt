@@ -8,6 +8,8 @@ pub mod Going
 pub mod IngestPrints
 pub mod Ingested
 pub mod Names
+pub mod Jobs
+pub mod Leaves
 pub mod Naming
 pub mod Outcome
 pub mod Printing

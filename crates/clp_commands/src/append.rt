@@ -3,6 +3,8 @@ ghost use Rattle.std.specs.Prelude.{◌≡◌, ◌≤◌, length, map, string_by
 ghost use Rattle.disk_journal.specs.Journal.{state_of};
 ghost use Rattle.disk_journal.specs.State.{BeginsWith, IsAtFirst};
 ghost use Rattle.clp_commands.specs.Going.{DiskGoesOn};
+ghost use Rattle.clp_commands.specs.Ingested.{FromArchive};
+ghost use Rattle.clp_commands.specs.Leaves.{AddsNamesTo};
 ghost use Rattle.clp_commands.specs.Names.{RefusesNames};
 ghost use Rattle.clp_commands.specs.Naming.{IsNamed};
 ghost use Rattle.clp_commands.specs.Outcome.{of_read, of_register, of_start, of_archive};
@@ -114,6 +116,9 @@ pub(crate) fn open_and_name<D: Disk>(
     ensures goes_on { DiskGoesOn (D.state journal.old.disk.now) (D.state journal.new.disk.now) }
     ensures named { IfOk result (λ n.
         IsNamed (state_of journal.new) n.types n.words n.first (length names.now)) }
+    ensures names { IfOk result (λ n. FromArchive (D.state journal.old.disk.now)
+        (λ h before bytes stood. AddsNamesTo h before stood (map string_bytes names.now) n.first
+        (D.state journal.old.disk.now) (state_of journal.new))) }
 {
     let archive: Archive<Books> = open_for_append(alloc, journal)?;
     let held = archive.files().as_slice().len() as u64;

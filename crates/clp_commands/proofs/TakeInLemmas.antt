@@ -1,0 +1,160 @@
+-- From the logs that were opened, and their jobs, to what came of the files.
+use Rattle.std.proofs.Common.{◌≡◌, ◌+◌, inl, inr, refl, sym, ap, subst, ◌∙◌, ℕ, zero, suc, List, [], ◌∷◌, ◌++◌, true, map, Option, Some, None}
+use Rattle.std.specs.Prelude.{is_some, option_map, slice_get}
+use Rattle.std.specs.List.{AllZip}
+use Rattle.std.proofs.lemmas.Option.{slice_get-map}
+use Rattle.log_seams.specs.declared.disk.Disk.{Ghosts as DiskGhosts}
+use Rattle.log_seams.specs.declared.refusals.OpenRefused.{OpenRefused}
+use Rattle.log_seams.specs.Disk.{IsLawful}
+use Rattle.record_format.specs.Header.{IsHeader, header_bytes}
+use Rattle.record_format.specs.declared.header.Header.{Header}
+use Rattle.disk_journal.specs.Record.{Stands}
+use Rattle.disk_journal.specs.Place.{AtEnd, entries}
+use Rattle.disk_journal.specs.State.{JournalState}
+use Rattle.disk_journal.specs.declared.journal.Journal.{Journal}
+use Rattle.disk_journal.specs.Journal.{state_of}
+use Rattle.archive_meaning.specs.declared.entry.JournalEntry.{JournalEntry}
+use Rattle.archive_meaning.specs.declared.entry.JournalEntry.TheVariants.{Files}
+use Rattle.archive_meaning.specs.Spelled.{records_of}
+use Rattle.archive_meaning.specs.Stands.{IsLegal, StandsFor}
+use Rattle.disk_seal.specs.Opening.{MayOpen}
+use Rattle.disk_seal.specs.Told.{journal_in}
+use Rattle.log_sources.specs.declared.source.LogSource.{LogSource}
+use Rattle.log_sources.specs.declared.source.LogSource.TheVariants.{Opened, Unopened}
+use Rattle.log_sources.specs.Sources.{CameOf, left_in, refusal_of}
+use Rattle.ingest_workers.specs.declared.job.Job.{Job}
+use Rattle.ingest_workers.specs.declared.outcome.Cause.{Cause}
+use Rattle.ingest_workers.specs.Ingested.{AreRefused, HasIngested, IsAsItWas, plan_of}
+use Rattle.ingest_workers.specs.JobDone.{in_source}
+use Rattle.clp_commands.specs.IngestPrints.{came_of, names_of}
+use Rattle.clp_commands.specs.Ingested.{Came}
+use Rattle.clp_commands.specs.Jobs.{IsToldBy, refusal_by, sources_of}
+use Rattle.clp_commands.specs.Leaves.{HasNames, IsLogOf, TakesInto}
+use Rattle.clp_commands.specs.Naming.{AreNumbered}
+use Rattle.clp_commands.specs.declared.taken.TakenFile.{TakenFile}
+use Rattle.clp_commands.proofs.CameLemmas.{names_came}
+use Rattle.clp_commands.proofs.ContentLemmas.{AreJobsOf, CameOfJob, ingested_takes_in, named_at, refused_takes_in}
+use Rattle.clp_commands.proofs.JobLemmas.{numbered_at}
+use Rattle.clp_commands.proofs.LeavesLemmas.{of_told}
+
+-- ---- each job has the source of its name
+
+-- at one place: a name, its source, and the job with this source
+record IsPlace {S A : Type 0} (R : List ℕ → A → Type 0) (names : List (List ℕ)) (sources : List A) (i : ℕ) (job : Job S) (source_is : Option S → A → Type 0) : Type 0 where
+  name : List ℕ
+  source : A
+  name_at : slice_get names i ≡ Some name
+  source_at : slice_get sources i ≡ Some source
+  has : source_is job.source source
+  came : R name source
+
+module _ {A : Type 0} (R : List ℕ → A → Type 0) where
+  abbrev Place : List (List ℕ) → List A → ℕ → Job A → Type 0
+  Place names sources i job = IsPlace R names sources i job (λ o s. o ≡ Some s)
+
+  place_of : (names : List (List ℕ)) (sources : List A) (js : List (Job A)) → AllZip R names sources → sources_of js ≡ map Some sources → (i : ℕ) (job : Job A) → slice_get js i ≡ Some job → Place names sources i job
+  place_of names sources [] zip same i job at = absurd (cc (at))
+  place_of names [] (j ∷ js) zip same i job at = absurd (cc (same))
+  place_of [] (s ∷ sources) (j ∷ js) zip same i job at = absurd zip
+  place_of (n ∷ names) (s ∷ sources) (j ∷ js) zip same zero job at =
+      let is : j ≡ job = cc (at) in
+      record { name = n; source = s; name_at = refl; source_at = refl; has = ap (λ (x : Job A). x.source) (sym is) ∙ cc (same); came = zip.0 }
+  place_of (n ∷ names) (s ∷ sources) (j ∷ js) zip same (suc i) job at =
+      let rest = place_of names sources js zip.1 (cc (same)) i job at in
+      record { name = rest.name; source = rest.source; name_at = rest.name_at; source_at = rest.source_at; has = rest.has; came = rest.came }
+
+  job_at : (names : List (List ℕ)) (sources : List A) (js : List (Job A)) → AllZip R names sources → sources_of js ≡ map Some sources → (i : ℕ) (name : List ℕ) → slice_get names i ≡ Some name → (job : Job A) × (slice_get js i ≡ Some job)
+  job_at [] sources js zip same i name at = absurd (cc (at))
+  job_at (n ∷ names) [] js zip same i name at = absurd zip
+  job_at (n ∷ names) (s ∷ sources) [] zip same i name at = absurd (cc (same))
+  job_at (n ∷ names) (s ∷ sources) (j ∷ js) zip same zero name at = (j, refl)
+  job_at (n ∷ names) (s ∷ sources) (j ∷ js) zip same (suc i) name at = job_at names sources js zip.1 (cc (same)) i name at
+
+module _ {S : Type 0} (left name : S → Option (List ℕ)) (faults : S → ℕ) (content : List ℕ → Option (List ℕ)) (opens opens_now : List ℕ → ℕ) where
+  abbrev Came_of : List ℕ → LogSource S → Type 0
+  Came_of = CameOf left name faults content opens opens_now
+
+  log_of : (asked : List ℕ) (s : LogSource S) → Came_of asked s → IsLogOf (content asked) (left_in left s)
+  log_of asked (Opened s) came = inl came.left_is
+  log_of asked (Unopened cause n) came = inr refl
+
+  opened_log : (asked : List ℕ) (s : LogSource S) → Came_of asked s → refusal_of s ≡ None → left_in left s ≡ content asked
+  opened_log asked (Opened s) came none = came.left_is
+  opened_log asked (Unopened cause n) came none = absurd (cc (none))
+
+  module _ (names : List (List ℕ)) (sources : List (LogSource S)) (opened : AllZip Came_of names sources) (first : ℕ) (js : List (Job (LogSource S))) (sourced : sources_of js ≡ map Some sources) (numbered : AreNumbered first js) where
+    pub are_jobs_of : (version : ℕ) → AreJobsOf (left_in left) content version names first js
+    are_jobs_of version = record {
+      file = λ i job at. (numbered_at first js i job numbered at).1;
+      log = λ i job at.
+          let p = place_of Came_of names sources js opened sourced i job at in
+          (p.name, p.name_at, subst (λ (o : Option (LogSource S)). IsLogOf (content p.name) (in_source (left_in left) o)) (sym p.has) (log_of p.name p.source p.came));
+    }
+
+    -- each file is told by its job, and by the opening of its log
+    module _ (openings : List (Option OpenRefused)) (openings_are : openings ≡ map refusal_of sources) (js' : List (Job (LogSource S))) (taken : List TakenFile) (named : names_of taken ≡ names)
+        (told : (i : ℕ) (file : TakenFile) → slice_get taken i ≡ Some file → IsToldBy openings js' i file) where
+      pub came_named : map (λ (c : Came). c.name) (map came_of taken) ≡ names
+      came_named = names_came taken ∙ named
+
+      pub came_of_jobs : (i : ℕ) (c : Came) → slice_get (map came_of taken) i ≡ Some c → CameOfJob (left_in left) content js js' i c
+      came_of_jobs i c at = by_file (slice_get taken i) refl
+        where
+          by_file : (o : Option TakenFile) → slice_get taken i ≡ o → CameOfJob (left_in left) content js js' i c
+          by_file None none = absurd (cc (sym at ∙ (slice_get-map came_of taken i ∙ ap (option_map came_of) none)))
+          by_file (Some file) here =
+              let is : came_of file ≡ c = some_is (came_of file) c (sym (slice_get-map came_of taken i ∙ ap (option_map came_of) here) ∙ at) in
+              let t = told i file here in
+              let name_at : slice_get names i ≡ Some c.name = named_at (map came_of taken) names came_named i c at in
+              let job = job_at Came_of names sources js opened sourced i c.name name_at in
+              let p = place_of Came_of names sources js opened sourced i job.0 job.1 in
+              let same_name : p.name ≡ c.name = some_is p.name c.name (sym p.name_at ∙ name_at) in
+              let opening_is : t.opening ≡ refusal_of p.source
+              = some_is t.opening (refusal_of p.source) (sym t.opening_at ∙ (ap (λ (l : List (Option OpenRefused)). slice_get l i) openings_are ∙ (slice_get-map refusal_of sources i ∙ ap (option_map refusal_of) p.source_at))) in
+              record {
+                old = job.0;
+                done = t.job;
+                at = job.1;
+                at_done = t.at;
+                messages = ap (λ (x : Came). x.messages) (sym is) ∙ t.messages;
+                whole = ap (λ (x : Came). x.whole) (sym is) ∙ t.whole;
+                opened = λ spared.
+                    let none = both_none t.opening t.job.outcome.cause (sym t.refusal ∙ (ap (λ (x : Came). x.refusal) is ∙ spared)) in (
+                      ap (in_source (left_in left)) p.has ∙ (opened_log p.name p.source p.came (sym opening_is ∙ none.0) ∙ ap content same_name),
+                      none.1,
+                    );
+              }
+            where
+              some_is : {X : Type 0} (x y : X) → Some x ≡ Some y → x ≡ y
+              some_is x y e = cc (e)
+
+              both_none : (opening : Option OpenRefused) (cause : Option Cause) → refusal_by opening cause ≡ None → (opening ≡ None) × (cause ≡ None)
+              both_none (Some o) cause is = absurd (cc (is))
+              both_none None (Some c) is = absurd (cc (is))
+              both_none None None is = (refl, refl)
+
+      -- the jobs were done
+      module _ {D : Type 0} {d : DiskGhosts D} (j after : Journal D d) (law : IsLawful (d.state after.disk.now)) where
+        pub done_takes_into : (rows : ℕ) → HasIngested (left_in left) (plan_of rows j) js js' j after → TakesInto content names first (map came_of taken) (state_of j) (d.state after.disk.now)
+        done_takes_into rows done = λ h before bytes stood has number.
+            ingested_takes_in (left_in left) content h before names stood j after law has js js' (subst (λ n. AreJobsOf (left_in left) content h.version names n js) number (are_jobs_of h.version)) (map came_of taken) came_named came_of_jobs rows done
+
+        -- none was begun
+        pub refused_takes_into : IsLawful (d.state j.disk.now) → MayOpen (state_of j) → IsAsItWas j after → AreRefused js js' → TakesInto content names first (map came_of taken) (state_of j) (d.state after.disk.now)
+        refused_takes_into law_j may stayed refused = λ h before bytes stood has number.
+            let stands = stands_named h before names (state_of j) may has in
+            refused_takes_in (left_in left) content h before names stood j after law has js js' (subst (λ n. AreJobsOf (left_in left) content h.version names n js) number (are_jobs_of h.version)) (map came_of taken) came_named came_of_jobs
+            law_j stands.1 stands.0 stayed refused
+          where
+            stands_named : (h : Header) (before : List JournalEntry) (names : List (List ℕ)) (j : JournalState) → MayOpen j → HasNames h before names j
+                → IsLegal h (before ++ Files names ∷ []) × ((c : List ℕ) → j.disk.images c → StandsFor c h (before ++ Files names ∷ []))
+            stands_named h before names j may has =
+                let legal : IsLegal h (before ++ Files names ∷ []) = subst (λ x. IsLegal x (before ++ Files names ∷ [])) has.header (subst (IsLegal j.header) has.entries (of_told (is_some j.disk.seen) has.told may.legal)) in
+                (legal, λ c image. record { header = subst IsHeader has.header may.header; legal = legal; stands = go j.disk.seen has.told has.entries may.spelled may.ends.ends c image })
+              where
+                go : (told : Option (List ℕ)) → is_some told ≡ true → journal_in told j.count ≡ before ++ Files names ∷ [] → entries told j.count ≡ records_of (journal_in told j.count)
+                    → AtEnd (header_bytes j.header) j.place j.count told j.disk.images → (c : List ℕ) → j.disk.images c → Stands (header_bytes h) (records_of (before ++ Files names ∷ [])) c
+                go None some are spelled ends c image = absurd (cc (some))
+                go (Some b) some are spelled ends c image =
+                    subst (λ x. Stands (header_bytes x) (records_of (before ++ Files names ∷ [])) c) has.header
+                    (subst (λ rs. Stands (header_bytes j.header) rs c) (spelled ∙ ap records_of are) (subst (λ x. Stands (header_bytes j.header) (entries (Some b) j.count) x) (sym (ends.only c image)) ends.stands))

@@ -1,0 +1,39 @@
+-- What came of files, by the openings of their logs and by their jobs.
+use Rattle.std.specs.Prelude.{◌≡◌, ℕ, List, Option, Some, None, map, option_map, slice_get}
+use Rattle.log_seams.specs.declared.refusals.OpenRefused.{OpenRefused}
+use Rattle.ingest_workers.specs.declared.job.Job.{Job}
+use Rattle.ingest_workers.specs.declared.outcome.Cause.{Cause}
+use Rattle.clp_commands.specs.declared.refusal.Refusal.{Refusal}
+use Rattle.clp_commands.specs.declared.taken.TakenFile.{TakenFile}
+
+-- why a log was not opened, and why not all of it was taken in
+abbrev pub of_opening : OpenRefused → Refusal
+of_opening OpenRefused.Failed = Refusal.OpenFault
+of_opening OpenRefused.OutOfMemory = Refusal.OutOfMemory
+
+abbrev pub of_cause : Cause → Refusal
+of_cause Cause.ReadFault = Refusal.ReadFault
+of_cause (Cause.LineTooLong line) = Refusal.LineTooLong line
+of_cause Cause.TooManyLines = Refusal.TooManyLines
+of_cause (Cause.Full book count) = Refusal.Full book count
+of_cause (Cause.DiskFault opened now) = Refusal.DiskFault
+of_cause Cause.OutOfMemory = Refusal.OutOfMemory
+of_cause (Cause.ArchiveFull end need) = Refusal.ArchiveFull end need
+
+-- that a log could not be opened goes before what its job met
+abbrev pub refusal_by : Option OpenRefused → Option Cause → Option Refusal
+refusal_by (Some opening) cause = Some (of_opening opening)
+refusal_by None cause = option_map of_cause cause
+
+abbrev pub sources_of : {S : Type 0} → List (Job S) → List (Option S)
+sources_of jobs = map (λ job. job.source) jobs
+
+-- The file is told by its job when this was done, and by the opening of its log.
+pub record IsToldBy {S : Type 0} (openings : List (Option OpenRefused)) (jobs : List (Job S)) (i : ℕ) (file : TakenFile) : Type 0 where
+  pub job : Job S
+  pub at : slice_get jobs i ≡ Some job
+  pub opening : Option OpenRefused
+  pub opening_at : slice_get openings i ≡ Some opening
+  pub messages : file.messages ≡ job.outcome.messages
+  pub whole : file.whole ≡ job.outcome.whole
+  pub refusal : file.refusal ≡ refusal_by opening job.outcome.cause
