@@ -6,7 +6,6 @@
 
 mod append;
 mod check;
-
 mod file;
 mod files;
 mod ingest;
