@@ -1,4 +1,4 @@
-use Rattle.std.proofs.Common.{◌≡◌, ◌+◌, ◌≤◌, length, vec_len, vec_capacity}
+use Rattle.std.proofs.Common.{◌≡◌, ◌+◌, vec_len, vec_capacity}
 use Rattle.clp_commands.specs.Naming.{AreNumbered}
 use Rattle.clp_commands.proofs.ingest.begin_jobs.Given as goal
 

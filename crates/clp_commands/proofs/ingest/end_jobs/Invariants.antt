@@ -1,4 +1,4 @@
-use Rattle.std.proofs.Common.{◌≡◌, ◌+◌, ◌≤◌, length, map, take, string_bytes, vec_len, vec_capacity}
+use Rattle.std.proofs.Common.{◌≡◌, ◌+◌, length, map, take, string_bytes, vec_len, vec_capacity}
 use Rattle.clp_commands.specs.IngestPrints.{names_of}
 use Rattle.clp_commands.proofs.ingest.end_jobs.Given as goal
 
