@@ -66,12 +66,12 @@ returns-in-Err-clause-answers g c =
     (λ its is. search_refused _ _ _ _ _ _ c.in-Err.refusal refused (λ at lone. IsSearchPattern-not_lone _ its at is lone) (rw (← c.refusal_of_pattern.ensures) c.report-in-Err.ensures.status) (rw (← c.refusal_of_pattern.ensures) c.report-in-Err.ensures.said) refl refl)
 
 pub ingest_files-requires-clause-workers : goal.ingest_files-requires-clause-workers
-ingest_files-requires-clause-workers g c =
+ingest_files-requires-clause-workers g c κs within =
     let range = asked_in_range _ _ _ _ (rw (c.in-Ingest.is) at (rw c.in-Some.command-is at c.in-Some.ensures.some)) in
     range.workers_are
 
 pub ingest_files-requires-clause-segment : goal.ingest_files-requires-clause-segment
-ingest_files-requires-clause-segment g c =
+ingest_files-requires-clause-segment g c κs within =
     let range = asked_in_range _ _ _ _ (rw (c.in-Ingest.is) at (rw c.in-Some.command-is at c.in-Some.ensures.some)) in
     range.segment_is
 
