@@ -92,7 +92,7 @@ fn end_jobs<'a, S>(
 }
 
 /// Takes the logs in as the new files of a journal, which is given back. Without memory to begin nothing
-/// is taken in.
+/// is taken in, as `done` says. The journal alone is the result, so that the disk behind it stays known.
 fn take_in<'a, 'd, R: Threads + Wait + Sync, H: Shelf, D: Disk + Send>(
     rt: &R,
     alloc: Global,
@@ -101,7 +101,8 @@ fn take_in<'a, 'd, R: Threads + Wait + Sync, H: Shelf, D: Disk + Send>(
     named: Named,
     shelf: &mut H,
     taken: &mut Vec<TakenFile<'a>>,
-) -> (Journal<'d, D>, Result<(), AllocError>)
+    done: &mut Result<(), AllocError>,
+) -> Journal<'d, D>
 where
     H::Src: Send,
     requires workers { (1 ≤ asked.workers) × (asked.workers ≤ 64) }
@@ -112,10 +113,10 @@ where
     requires room { length asked.files.now ≤ vec_capacity taken.old }
 
     // the disk
-    ensures disk { HasGoneOn journal.entry result.0 }
+    ensures disk { HasGoneOn journal.entry result }
 
     // the files
-    ensures names { OnOk result.1
+    ensures names { OnOk done.new
         (names_of taken.new.items ≡ map string_bytes asked.entry.files.now) }
 
     // the logs
@@ -123,17 +124,18 @@ where
     ensures opens { (n : List ℕ) → H.open_faults shelf.old n ≤ H.open_faults shelf.new n }
     ensures reads { (n : List ℕ) → H.read_faults shelf.old n ≤ H.read_faults shelf.new n }
 {
+    *done = Err(AllocError);
     let Named {
         types,
         words,
         first,
     } = named;
     let Ok(mut sources) = open_logs(alloc, shelf, asked.files) else {
-        return (journal, Err(AllocError));
+        return journal;
     };
     let Ok(mut jobs) = Vec::with_capacity(alloc, sources.len()) else {
         close_logs(shelf, sources);
-        return (journal, Err(AllocError));
+        return journal;
     };
     begin_jobs(first, &mut sources, &mut jobs);
     // without memory the jobs say so
@@ -153,7 +155,8 @@ where
     end_jobs(asked.files, &mut jobs, &mut sources, taken);
     jobs.destroy_empty();
     close_logs(shelf, sources);
-    (journal, Ok(()))
+    *done = Ok(());
+    journal
 }
 
 /// Adds the logs to the archive of a disk. Answers the number of the first new file.
@@ -189,7 +192,8 @@ where
     let mut journal = Journal::begin(disk, header);
     let named = open_and_name(alloc, &mut journal, asked.files)?;
     let first = named.first;
-    let (_journal, done) = take_in(rt, alloc, asked, journal, named, shelf, taken);
+    let mut done = Err(AllocError);
+    let _journal = take_in(rt, alloc, asked, journal, named, shelf, taken, &mut done);
     done?;
     Ok(first)
 }
