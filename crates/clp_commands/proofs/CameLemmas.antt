@@ -38,11 +38,11 @@ module _ (names : List (List ℕ)) (seen : Around) (status first : ℕ) (files :
   printed_came printed = inr (record { came = map came_of files; first = first; names_are = names_came files ∙ named; printed = printed })
 
   -- all lines were printed
-  pub printed_all : Grew seen.out.0 seen.out.1 (directory_from first (map line_of_taken files)) → status ≡ status_of_taken files → SaysIn seen (flat_map error_of files) → Stayed seen.out_faults → PrintsIngest names seen status
-  printed_all grew is said sink = printed_came (inl (
-    is ∙ ap gravest (statuses_came files),
+  pub printed_all : (told : List TakenFile) → told ≡ files → Grew seen.out.0 seen.out.1 (directory_from first (map line_of_taken files)) → status ≡ status_of_taken told → SaysIn seen (flat_map error_of told) → Stayed seen.out_faults → PrintsIngest names seen status
+  printed_all told same grew is said sink = printed_came (inl (
+    is ∙ (ap status_of_taken same ∙ ap gravest (statuses_came files)),
     subst (λ (ls : List FileLine). Grew seen.out.0 seen.out.1 (directory_from first ls)) (lines_came files) grew,
-    subst (λ text. SaysIn seen text) (errors_came files) said,
+    subst (λ text. SaysIn seen text) (ap (λ (fs : List TakenFile). flat_map error_of fs) same ∙ errors_came files) said,
     sink,
   ))
 

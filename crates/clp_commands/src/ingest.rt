@@ -20,7 +20,7 @@ use log_seams::{Disk, OpenRefused, Shelf, Sink};
 use log_sources::{LogSource, close_logs, open_logs};
 use option_words::IngestWords;
 use sink_pieces::PrintRefusal;
-use std::alloc::Global;
+use std::alloc::{AllocError, Global};
 use std::sync::Wait;
 use std::thread::Threads;
 
@@ -91,7 +91,8 @@ fn end_jobs<'a, S>(
     }
 }
 
-/// Takes the logs in as the new files of a journal. Without memory to begin nothing is taken in.
+/// Takes the logs in as the new files of a journal, which is given back. Without memory to begin nothing
+/// is taken in, as `done` says. The journal alone is the result, so that the disk behind it stays known.
 fn take_in<'a, 'd, R: Threads + Wait + Sync, H: Shelf, D: Disk + Send>(
     rt: &R,
     alloc: Global,
@@ -100,7 +101,8 @@ fn take_in<'a, 'd, R: Threads + Wait + Sync, H: Shelf, D: Disk + Send>(
     named: Named,
     shelf: &mut H,
     taken: &mut Vec<TakenFile<'a>>,
-) -> Result<Journal<'d, D>, Journal<'d, D>>
+    done: &mut Result<(), AllocError>,
+) -> Journal<'d, D>
 where
     H::Src: Send,
     requires workers { (1 ≤ asked.workers) × (asked.workers ≤ 64) }
@@ -111,11 +113,10 @@ where
     requires room { length asked.files.now ≤ vec_capacity taken.old }
 
     // the disk
-    ensures ok { IfOk result (λ after. HasGoneOn journal.entry after) }
-    ensures err { IfErr result (λ after. HasGoneOn journal.entry after) }
+    ensures disk { HasGoneOn journal.entry result }
 
     // the files
-    ensures names { OnOk result
+    ensures names { OnOk done.new
         (names_of taken.new.items ≡ map string_bytes asked.entry.files.now) }
 
     // the logs
@@ -123,17 +124,18 @@ where
     ensures opens { (n : List ℕ) → H.open_faults shelf.old n ≤ H.open_faults shelf.new n }
     ensures reads { (n : List ℕ) → H.read_faults shelf.old n ≤ H.read_faults shelf.new n }
 {
+    *done = Err(AllocError);
     let Named {
         types,
         words,
         first,
     } = named;
     let Ok(mut sources) = open_logs(alloc, shelf, asked.files) else {
-        return Err(journal);
+        return journal;
     };
     let Ok(mut jobs) = Vec::with_capacity(alloc, sources.len()) else {
         close_logs(shelf, sources);
-        return Err(journal);
+        return journal;
     };
     begin_jobs(first, &mut sources, &mut jobs);
     // without memory the jobs say so
@@ -153,7 +155,8 @@ where
     end_jobs(asked.files, &mut jobs, &mut sources, taken);
     jobs.destroy_empty();
     close_logs(shelf, sources);
-    Ok(journal)
+    *done = Ok(());
+    journal
 }
 
 /// Adds the logs to the archive of a disk. Answers the number of the first new file.
@@ -189,10 +192,10 @@ where
     let mut journal = Journal::begin(disk, header);
     let named = open_and_name(alloc, &mut journal, asked.files)?;
     let first = named.first;
-    match take_in(rt, alloc, asked, journal, named, shelf, taken) {
-        Ok(_journal) => Ok(first),
-        Err(_journal) => Err(Refusal::OutOfMemory),
-    }
+    let mut done = Err(AllocError);
+    let _journal = take_in(rt, alloc, asked, journal, named, shelf, taken, &mut done);
+    done?;
+    Ok(first)
 }
 
 /// Adds logs to an archive, and tells what came of each.

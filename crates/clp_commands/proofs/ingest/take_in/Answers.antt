@@ -26,8 +26,8 @@ end_jobs-requires-clause-sources g c =
     let many = as_many _ (map string_bytes c.args.asked.files.now) c.in-Ok.sources.items c.in-Ok.ensures.came in
     omega (arith, many, length-map c.args.asked.files.now string_bytes, c.in-Ok.sources.ok.0, c.in-Ok.sources.ok.1, c.begin_jobs.ensures.room)
 
-pub returns-clause-ok : goal.returns-clause-ok
-returns-clause-ok g c = elim c.match-ingest.branch [
+pub returns-clause-disk : goal.returns-clause-disk
+returns-clause-disk g c = elim c.match-ingest.branch [
   | in-Ok-ingest w ↦ ingested_goes_on _ c.args.asked.segment _ _ c.args.journal _ c.match-ingest.journal w.journal-is w.in-Ok-ingest.ensures.done
   | in-Err w ↦ as_it_was_goes_on c.args.journal _ c.match-ingest.journal ((g.met.D.Disk g.world.𝓛 g.world.𝓜 g.world.𝓡 ((λ s x. x), (λ x. x), (λ x. x), λ x. x)).lawful c.args.journal.disk.now) w.journal-is w.in-Err.ensures.refused
 ]
