@@ -92,7 +92,7 @@ fn end_jobs<'a, S>(
 }
 
 /// Takes the logs in as the new files of a journal, which is given back. Without memory to begin nothing
-/// is taken in, as `done` says. The journal alone is the result, so that the disk behind it stays known.
+/// is taken in, and `done` says so: the journal alone is the result, so that its disk stays known.
 fn take_in<'a, 'd, R: Threads + Wait + Sync, H: Shelf, D: Disk + Send>(
     rt: &R,
     alloc: Global,
