@@ -294,7 +294,7 @@ fn many_messages(alloc: Global) -> Result<Text, AllocError> {
 // Whether the next message has so many bytes `a` in its first line, and a newline follows it.
 fn is_next<S: Source>(joiner: &mut Joiner<S, Stars>, len: usize) -> bool {
     joiner.advance() == Ok(Some(Mark { ended: true }))
-        && joiner.line().len() == len + 4
+        && joiner.line().len().checked_sub(4) == Some(len)
         && (joiner.line().ends_with(b"a\nb\n") || len == 0)
 }
 
