@@ -1,6 +1,7 @@
 -- Lists that are popped from their end on, which is their front since they were reversed.
-use Rattle.std.proofs.Common.{◌≡◌, ◌+◌, ◌<◌, refl, sym, ap, subst, ◌∙◌, ℕ, zero, suc, List, [], ◌∷◌, ◌++◌, length, map, drop, reverse, Option, Some, None, slice_get, arith, append_assoc, inl, inr, ⊎_elim, ◌⊎◌}
+use Rattle.std.proofs.Common.{◌≡◌, ◌+◌, ◌<◌, refl, sym, ap, subst, ◌∙◌, ℕ, zero, suc, List, [], ◌∷◌, ◌++◌, length, map, drop, get_or, reverse, Option, Some, None, slice_get, arith, append_assoc, inl, inr, ⊎_elim, ◌⊎◌}
 use Rattle.std.proofs.lemmas.List.{length-append, reverse-append}
+use Rattle.std.proofs.lemmas.Option.{slice_get-get_or, slice_get_read}
 
 -- one more was made of the next
 pub popped_next : {A B : Type 0} (f : A → B) (done done' : List B) (left left' : List A) (a : A) (b : B) (all : List B) → left ≡ left' ++ a ∷ [] → done' ≡ done ++ b ∷ [] → b ≡ f a → done ++ map f (reverse left) ≡ all → done' ++ map f (reverse left') ≡ all
@@ -33,3 +34,14 @@ each_next P done done' a pushed one each = subst (λ l. (i : ℕ) (x : _) → sl
     go P [] one each (suc i) x at = absurd (cc (at))
     go P (d ∷ done) one each zero x at = each 0 x at
     go P (d ∷ done) one each (suc i) x at = go (λ n. P (suc n)) done one (λ n y here. each (suc n) y here) i x at
+
+pub left_next : {A B : Type 0} (all behind : List A) (done done' : List B) (b : B) → done' ≡ done ++ b ∷ [] → drop (suc (length done)) all ≡ behind → drop (length done') all ≡ behind
+left_next all behind done done' b pushed is =
+    let more : length done' ≡ suc (length done) = ap length pushed ∙ (length-append done (b ∷ []) ∙ omega arith) in
+    ap (λ n. drop n all) more ∙ is
+
+pub at_place : {A : Type 0} (xs : List A) (i k : ℕ) (x : A) → i ≡ k → i < length xs → x ≡ get_or xs i x → slice_get xs k ≡ Some x
+at_place xs i k x place within is = subst (λ n. slice_get xs n ≡ Some x) place (slice_get_read xs (length xs) i x refl within is)
+
+pub read_place : {A : Type 0} (xs : List A) (i k : ℕ) (d : A) → i ≡ k → i < length xs → slice_get xs k ≡ Some (get_or xs i d)
+read_place xs i k d place within = subst (λ n. slice_get xs n ≡ Some (get_or xs i d)) place (slice_get-get_or xs i d within)

@@ -121,11 +121,12 @@ fn end_jobs<'a, S>(
     while let Some(job) = jobs.pop() {
         let outcome = job.outcome();
         let place = taken.len();
+        let opening = openings[place];
         taken.push_reserved(TakenFile {
             name: names[place].as_str(),
             messages: outcome.messages,
             whole: outcome.whole,
-            refusal: refusal_of_file(openings[place], outcome.cause),
+            refusal: refusal_of_file(opening, outcome.cause),
         });
         sources.push_reserved(job.into_source());
     }
