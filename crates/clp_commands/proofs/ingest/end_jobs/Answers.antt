@@ -1,4 +1,4 @@
-use Rattle.std.proofs.Common.{arith, ap, rules, sym, suc, string_bytes, ℕ, ◌≡◌, ◌∙◌, Some, drop, length, reverse}
+use Rattle.std.proofs.Common.{arith, ap, rules, sym, suc, string_bytes, ℕ, ◌≡◌, ◌∙◌, None, Some, drop, get_or, length, reverse}
 use Rattle.std.specs.Prelude.{slice_get}
 use Rattle.ingest_workers.specs.declared.outcome.Outcome.{Outcome}
 use Rattle.clp_commands.specs.Jobs.{IsToldBy, refusal_by}
@@ -23,11 +23,11 @@ loop-job-preserved g c =
           (record {
             job = c.in-Some.job;
             at = next.at;
-            opening = _;
-            opening_at = read_place c.args.openings.now c.len-place.result (length c.loop-job.taken.items) _ (omega (arith, c.len-place.ensures)) (omega (arith, c.len-place.ensures, c.in-Some.ensures.len, before.count, c.requires.count.1));
+            opening = get_or c.args.openings.now c.len-place.result None;
+            opening_at = read_place c.args.openings.now c.len-place.result (length c.loop-job.taken.items) None (omega (arith, c.len-place.ensures)) (omega (arith, c.len-place.ensures, c.in-Some.ensures.len, before.count, c.requires.count.1));
             messages = ap (λ (o : Outcome). o.messages) c.outcome-outcome.ensures;
             whole = ap (λ (o : Outcome). o.whole) c.outcome-outcome.ensures;
-            refusal = c.refusal_of_file.ensures ∙ ap (λ (o : Outcome). refusal_by _ o.cause) c.outcome-outcome.ensures;
+            refusal = c.refusal_of_file.ensures ∙ ap (λ (o : Outcome). refusal_by (get_or c.args.openings.now c.len-place.result None) o.cause) c.outcome-outcome.ensures;
           })
           before.told;
     }
