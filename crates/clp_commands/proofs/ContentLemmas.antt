@@ -60,7 +60,7 @@ front_of_told content version ps file c told = record {
   all = λ is. let full = told.all is in (
     full.0,
     subst (λ ms. IfSome (content c.name) (λ bytes. MessagesOf version bytes ms (is_ended file ps))) (sym told.holds.messages)
-    (subst (λ e. IfSome (content c.name) (λ bytes. MessagesOf version bytes told.covered e)) (sym (told.holds.ended_is ∙ ap (λ b. b && told.ended) full.0)) full.1),
+        (subst (λ e. IfSome (content c.name) (λ bytes. MessagesOf version bytes told.covered e)) (sym (told.holds.ended_is ∙ ap (λ b. b && told.ended) full.0)) full.1),
   );
 }
 
@@ -289,13 +289,13 @@ module _ {S D : Type 0} {d : DiskGhosts D} (left : S → Option (List ℕ)) (con
       all_of_names left content h.version names (length stood.legal.held.names) js of s.fresh s.others (subst (λ v. All (IsTypeGiven left v js) (types_of s.fresh)) version done.types) (subst (λ v. All (IsWordGiven left v js) (words_of s.fresh)) version done.words) in
       taken_in content h before names stood s.fresh legal new (d.state j.disk.now) (d.state after.disk.now) (left_leaves h before names j after law named done.store s.left_by s.fresh s.grown) came are
       (λ i c at.
-          let one = each i c at in
-          let its = s.files i one.old one.at in
-          let log = of.log i one.old one.at in
-          let same : its.0 ≡ one.done = some_is its.0 one.done (sym its.1 ∙ one.at_done) in
-          let name : log.0 ≡ c.name = some_is log.0 c.name (sym log.1 ∙ named_at came names are i c at) in
-          file_told content h before names stood s.fresh legal new left j named rows i c one.old one.done (slice_get_within names i log.0 log.1) (of.file i one.old one.at)
-          (subst (λ (x : Job S). IsFileOf left (plan_of rows j) j s.fresh one.old x) same its.2) one.messages one.whole (subst (λ n. IsLogOf (content n) (in_source left one.old.source)) name log.2) one.opened)
+      let one = each i c at in
+      let its = s.files i one.old one.at in
+      let log = of.log i one.old one.at in
+      let same : its.0 ≡ one.done = some_is its.0 one.done (sym its.1 ∙ one.at_done) in
+      let name : log.0 ≡ c.name = some_is log.0 c.name (sym log.1 ∙ named_at came names are i c at) in
+      file_told content h before names stood s.fresh legal new left j named rows i c one.old one.done (slice_get_within names i log.0 log.1) (of.file i one.old one.at)
+      (subst (λ (x : Job S). IsFileOf left (plan_of rows j) j s.fresh one.old x) same its.2) one.messages one.whole (subst (λ n. IsLogOf (content n) (in_source left one.old.source)) name log.2) one.opened)
     where
       some_is : {A : Type 0} (x y : A) → Some x ≡ Some y → x ≡ y
       some_is x y e = cc (e)
@@ -306,8 +306,8 @@ module _ {S D : Type 0} {d : DiskGhosts D} (left : S → Option (List ℕ)) (con
   refused_takes_in law_j only legal stayed refused =
       taken_in content h before names stood [] legal (All-nil (IsOfNew content h.version names (length stood.legal.held.names))) (d.state j.disk.now) (d.state after.disk.now) (same_leaves h before names j after law named law_j only stayed) came are
       (λ i c at.
-          let one = each i c at in
-          let none = refused.each i one.done one.at_done in
-          none_told content h before names stood [] legal (All-nil (IsOfNew content h.version names (length stood.legal.held.names))) i c (slice_get_within names i c.name (named_at came names are i c at)) refl
-          (one.messages ∙ ap (λ (o : Outcome). o.messages) none) (one.whole ∙ ap (λ (o : Outcome). o.whole) none)
-          (λ spared. absurd (cc (sym (ap (λ (o : Outcome). o.cause) none) ∙ (one.opened spared).1))))
+      let one = each i c at in
+      let none = refused.each i one.done one.at_done in
+      none_told content h before names stood [] legal (All-nil (IsOfNew content h.version names (length stood.legal.held.names))) i c (slice_get_within names i c.name (named_at came names are i c at)) refl
+      (one.messages ∙ ap (λ (o : Outcome). o.messages) none) (one.whole ∙ ap (λ (o : Outcome). o.whole) none)
+      (λ spared. absurd (cc (sym (ap (λ (o : Outcome). o.cause) none) ∙ (one.opened spared).1))))

@@ -219,7 +219,7 @@ module _ {D : Type 0} {d : DiskGhosts D} (h : Header) (before : List JournalEntr
       (store_leaves (state_by d.state store) left.kept (subst (λ (x : D). IsLawful (d.state x)) (sym left.disk) law)
       (ap (λ (x : D). is_some (d.state x).seen) left.opened ∙ named.told)
       (λ steady. (left.again (λ late. steady (subst (λ (x : D). Rose (d.state x).faults (d.state store.disk).faults) (sym left.opened)
-          (subst (λ (x : D). Rose (d.state j.disk.now).faults (d.state x).faults) (sym left.disk) late)))).0)
+      (subst (λ (x : D). Rose (d.state j.disk.now).faults (d.state x).faults) (sym left.disk) late)))).0)
       before (before ++ (Files names ∷ fresh)) (Files names ∷ fresh)
       (grown ∙ (ap (λ l. l ++ fresh) named.entries ∙ append_assoc before (Files names ∷ []) fresh))
       refl (subst (λ n. length before ≤ n) (sym left.first) length-named))))

@@ -61,18 +61,18 @@ module _ (old mid late : DiskState) (looked : Looked old mid late) where
   takes_sooner content names first came j new law counts goes names_added into =
       from_archive old late (λ h before bytes stood. AddsNamesTo h before stood names first late j) (λ h before bytes stood. TakesIn content h before stood names came old new) same_bytes no_more
       (λ h before bytes stood only adds.
-          let takes : TakesIn content h before stood names came j.disk new = into h before bytes stood adds.has adds.number in
-          let past : LeavesOnly old j.disk (StandsBetween h before (before ++ Files names ∷ [])) =
-          joined old late j.disk (StandsStill h before) (StandsBetween h before (before ++ Files names ∷ [])) (StandsBetween h before (before ++ Files names ∷ [])) law (looked_past old mid late looked h before only) adds.past
-          (λ c stands. still_between h before (before ++ Files names ∷ []) c (Files names ∷ [], refl) stands) (λ c stands. stands) in
-          record {
-            added = takes.added;
-            each = takes.each;
-            leaves = begun_sooner h before (before ++ Files names ∷ []) (before ++ (Files names ∷ takes.added)) old j.disk new past (behind_names before names takes.added) (omega (arith, looked.counts, counts)) goes.moments takes.leaves;
-            files = takes.files;
-            content_is = takes.content_is;
-            fronts = takes.fronts;
-          })
+      let takes : TakesIn content h before stood names came j.disk new = into h before bytes stood adds.has adds.number in
+      let past : LeavesOnly old j.disk (StandsBetween h before (before ++ Files names ∷ [])) =
+      joined old late j.disk (StandsStill h before) (StandsBetween h before (before ++ Files names ∷ [])) (StandsBetween h before (before ++ Files names ∷ [])) law (looked_past old mid late looked h before only) adds.past
+      (λ c stands. still_between h before (before ++ Files names ∷ []) c (Files names ∷ [], refl) stands) (λ c stands. stands) in
+      record {
+        added = takes.added;
+        each = takes.each;
+        leaves = begun_sooner h before (before ++ Files names ∷ []) (before ++ (Files names ∷ takes.added)) old j.disk new past (behind_names before names takes.added) (omega (arith, looked.counts, counts)) goes.moments takes.leaves;
+        files = takes.files;
+        content_is = takes.content_is;
+        fronts = takes.fronts;
+      })
       names_added
     where
       behind_names : (before : List JournalEntry) (names : List (List ℕ)) (added : List JournalEntry) → IsPrefix (before ++ Files names ∷ []) (before ++ (Files names ∷ added))

@@ -197,7 +197,13 @@ where
         Ok(journal) => journal,
         Err(refused) => refused.journal,
     };
-    end_jobs(asked.files, openings.as_slice(), &mut jobs, &mut sources, taken);
+    end_jobs(
+        asked.files,
+        openings.as_slice(),
+        &mut jobs,
+        &mut sources,
+        taken,
+    );
     jobs.destroy_empty();
     close_logs(shelf, sources);
     journal
