@@ -25,3 +25,4 @@ pub mod PopLemmas
 pub mod TakeInLemmas
 pub mod StepsLemmas
 pub mod JobLemmas
+pub mod CauseLemmas

@@ -1,15 +1,16 @@
 //! The command `ingest`: logs become the files of an archive.
-ghost use Rattle.std.specs.Prelude.{◌≡◌, ◌+◌, ◌≤◌, ℕ, List, [], length, map, slice_get, string_bytes, vec_len, vec_capacity, All, IfOk, IfErr, IfSome, OnOk, None, Some};
+ghost use Rattle.std.specs.Prelude.{◌≡◌, ◌+◌, ◌≤◌, ℕ, List, [], length, map, slice_get, string_bytes, vec_len, vec_capacity, All, IfErr, IfOk, OnErr, OnOk, None, Some};
 ghost use Rattle.disk_journal.specs.Journal.{state_of};
 ghost use Rattle.clp_commands.specs.Around.{around};
 ghost use Rattle.log_sources.specs.Sources.{refusal_of};
 ghost use Rattle.clp_commands.specs.Going.{DiskGoesOn, OutsideGoesOn};
-ghost use Rattle.clp_commands.specs.IngestPrints.{PrintsIngest, came_of, names_of};
+ghost use Rattle.clp_commands.specs.Ingested.{EndsIngest, FromArchive, HasCallCause, TakesIn, TakesNothing};
+ghost use Rattle.clp_commands.specs.IngestPrints.{came_of, names_of};
 ghost use Rattle.clp_commands.specs.Jobs.{IsNotBegun, IsToldBy, refusal_by, sources_of};
 ghost use Rattle.clp_commands.specs.Leaves.{TakesInto};
 ghost use Rattle.clp_commands.specs.Names.{RefusesNames};
 ghost use Rattle.clp_commands.specs.Naming.{AreNumbered, HasGoneOn, IsNamed};
-ghost use Rattle.clp_commands.specs.Reading.{IsArchive};
+ghost use Rattle.clp_commands.specs.Reading.{OverJournal};
 
 use crate::append::{Named, open_and_name};
 use crate::files::print_directory;
@@ -168,17 +169,17 @@ where
         words,
         first,
     } = named;
+    let count = asked.files.len();
+    let Ok(mut openings) = Vec::with_capacity(alloc, count) else {
+        refuse_all(asked.files, taken);
+        return journal;
+    };
+    let Ok(mut jobs) = Vec::with_capacity(alloc, count) else {
+        refuse_all(asked.files, taken);
+        return journal;
+    };
     let Ok(mut sources) = open_logs(alloc, shelf, asked.files) else {
-        refuse_all(asked.files, taken);
-        return journal;
-    };
-    let Ok(mut openings) = Vec::with_capacity(alloc, sources.len()) else {
-        close_logs(shelf, sources);
-        refuse_all(asked.files, taken);
-        return journal;
-    };
-    let Ok(mut jobs) = Vec::with_capacity(alloc, sources.len()) else {
-        close_logs(shelf, sources);
+        jobs.destroy_empty();
         refuse_all(asked.files, taken);
         return journal;
     };
@@ -227,9 +228,20 @@ where
     requires none { taken.old.items ≡ [] }
     requires room { length asked.files.now ≤ vec_capacity taken.old }
 
-    // the files
-    ensures taken { OnOk result
+    // taken in
+    ensures names { OnOk result
         (names_of taken.new.items ≡ map string_bytes asked.entry.files.now) }
+    ensures number { IfOk result (λ first.
+        OverJournal (D.state disk.old).seen (λ journal. first ≡ length journal.names)) }
+    ensures taken { OnOk result (FromArchive (D.state disk.old) (λ h before bytes stood.
+        TakesIn (H.content shelf.old) h before stood (map string_bytes asked.entry.files.now)
+        (map came_of taken.new.items) (D.state disk.old) (D.state disk.new))) }
+
+    // refused
+    ensures nothing { OnErr result (FromArchive (D.state disk.old) (λ h before bytes stood.
+        TakesNothing h before (D.state disk.old) (D.state disk.new))) }
+    ensures cause { IfErr result (HasCallCause (map string_bytes asked.entry.files.now)
+        (D.state disk.old) (D.state disk.new)) }
 
     // whatever the answer
     ensures goes_on { DiskGoesOn (D.state disk.old) (D.state disk.new) }
@@ -261,10 +273,10 @@ where
     requires workers { (1 ≤ asked.workers) × (asked.workers ≤ 64) }
     requires segment { (1 ≤ asked.segment) × (asked.segment ≤ 65536) }
     requires some { 1 ≤ length asked.files.now }
-    ensures prints { PrintsIngest (map string_bytes asked.entry.files.now)
+    ensures ends { EndsIngest (map string_bytes asked.entry.files.now)
         (around H.content H.unread H.open_faults H.read_faults K.written K.faults
         shelf.old shelf.new out.old out.new err.old err.new)
-        result }
+        (D.state disk.old) (D.state disk.new) result }
 
     // whatever the answer
     ensures outside { OutsideGoesOn
