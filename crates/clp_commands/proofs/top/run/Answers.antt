@@ -65,10 +65,20 @@ returns-in-Err-clause-answers g c =
     (λ at lone. RefusesPattern-from _ [] _ _ at c.in-Err.refusal refused lone (rw (← c.refusal_of_pattern.ensures) c.report-in-Err.ensures.status) (rw (← c.refusal_of_pattern.ensures) c.report-in-Err.ensures.said) refl refl)
     (λ its is. search_refused _ _ _ _ _ _ c.in-Err.refusal refused (λ at lone. IsSearchPattern-not_lone _ its at is lone) (rw (← c.refusal_of_pattern.ensures) c.report-in-Err.ensures.status) (rw (← c.refusal_of_pattern.ensures) c.report-in-Err.ensures.said) refl refl)
 
-pub ingest_files-requires : goal.ingest_files-requires
-ingest_files-requires g c =
+pub ingest_files-requires-clause-workers : goal.ingest_files-requires-clause-workers
+ingest_files-requires-clause-workers g c κs within =
     let range = asked_in_range _ _ _ _ (rw (c.in-Ingest.is) at (rw c.in-Some.command-is at c.in-Some.ensures.some)) in
-    record { workers = range.workers_are; segment = range.segment_is; some = omega (arith, range.some, length-map c.in-Ingest.asked.files.now string_bytes) }
+    range.workers_are
+
+pub ingest_files-requires-clause-segment : goal.ingest_files-requires-clause-segment
+ingest_files-requires-clause-segment g c κs within =
+    let range = asked_in_range _ _ _ _ (rw (c.in-Ingest.is) at (rw c.in-Some.command-is at c.in-Some.ensures.some)) in
+    range.segment_is
+
+pub ingest_files-requires-clause-some : goal.ingest_files-requires-clause-some
+ingest_files-requires-clause-some g c =
+    let range = asked_in_range _ _ _ _ (rw (c.in-Ingest.is) at (rw c.in-Some.command-is at c.in-Some.ensures.some)) in
+    omega (arith, range.some, length-map c.in-Ingest.asked.files.now string_bytes)
 
 pub returns-in-Ingest-clause-answers : goal.returns-in-Ingest-clause-answers
 returns-in-Ingest-clause-answers g c =
