@@ -6,6 +6,3 @@ mod segment;
 mod take;
 
 pub use checking::{CheckRefusal, Summary, check};
-
-#[cfg(test)]
-mod tests;

@@ -8,8 +8,6 @@ mod decoding;
 mod lines;
 mod refusal;
 mod segment;
-#[cfg(test)]
-mod tests;
 
 pub use decoding::decode;
 pub use refusal::DecodeRefusal;

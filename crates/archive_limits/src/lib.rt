@@ -6,7 +6,5 @@
 
 mod found;
 mod limit;
-#[cfg(test)]
-mod tests;
 
 pub use found::read_limits;

@@ -16,6 +16,3 @@ mod state;
 pub use event::{Event, EventList};
 pub use run::core_run;
 pub use state::{Core, Hand, HandList};
-
-#[cfg(test)]
-mod tests;

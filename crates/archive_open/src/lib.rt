@@ -11,8 +11,6 @@ mod open;
 mod plain;
 mod refusal;
 mod segments;
-#[cfg(test)]
-mod tests;
 mod walk;
 
 pub use archive::Archive;

@@ -1,5 +1,5 @@
 -- What the archive holds of files that were taken in.
-use Rattle.std.proofs.Common.{◌≡◌, ◌≢◌, not, ◌+◌, ◌<◌, ◌≤◌, ◌&&◌, ◌⊎◌, inl, inr, ⊎_elim, refl, sym, ap, ap₂, subst, ◌∙◌, ℕ, suc, Bool, true, false, List, [], ◌∷◌, ◌++◌, length, map, Option, Some, None, arith, append-nil, append_assoc}
+use Rattle.std.proofs.Common.{◌≡◌, ◌≢◌, not, ◌+◌, ◌<◌, ◌&&◌, ◌⊎◌, inl, inr, refl, sym, ap, ap₂, subst, ◌∙◌, ℕ, suc, Bool, true, false, List, [], ◌∷◌, ◌++◌, length, map, Option, Some, None, arith, append_assoc}
 use Rattle.std.specs.Prelude.{All, IfSome, is_some, option_map, slice_get}
 use Rattle.std.specs.List.{AllZip, Contains}
 use Rattle.std.proofs.lemmas.Option.{get_or_from_slice_get, slice_get-map, slice_get_within}
@@ -22,16 +22,15 @@ use Rattle.archive_meaning.specs.Spelled.{types_in, types_of}
 use Rattle.archive_meaning.specs.Stands.{IsLegal, StandsFor}
 use Rattle.archive_meaning.proofs.RunLemmas.{one_held, runs_split}
 use Rattle.archive_meaning.proofs.UniqueLemmas.{legal_front}
-use Rattle.disk_seal.specs.Told.{IfTold}
 use Rattle.disk_seal.specs.View.{journal_of, state_by, tells}
 use Rattle.disk_seal.specs.WordsIn.{words_in, words_of}
 use Rattle.ingest_workers.specs.declared.job.Job.{Job}
 use Rattle.ingest_workers.specs.declared.outcome.Outcome.{Outcome}
-use Rattle.ingest_workers.specs.Ingested.{AreRefused, HasIngested, HasStored, IsAsItWas, IsFileOf, IsOfJobs, IsTypeGiven, IsWordGiven, OfMessages, plan_of, told_entries}
+use Rattle.ingest_workers.specs.Ingested.{AreRefused, HasIngested, IsAsItWas, IsFileOf, IsOfJobs, IsTypeGiven, IsWordGiven, OfMessages, plan_of, told_entries}
 use Rattle.ingest_workers.specs.Journal.{FrontHolds}
 use Rattle.ingest_workers.specs.JobDone.{in_source}
 use Rattle.ingest_workers.specs.Worker.{IsGiven as IsGivenByJobs}
-use Rattle.clp_commands.specs.Ingested.{Came, IsFront, IsGiven, IsMessageIn, IsOfNew, LeavesJournal, TakesIn}
+use Rattle.clp_commands.specs.Ingested.{Came, IsFront, IsGiven, IsOfNew, LeavesJournal, TakesIn}
 use Rattle.clp_commands.specs.Leaves.{HasNames, IsLogOf}
 use Rattle.clp_commands.proofs.JoinLemmas.{HasNone, content_grows, new_file, with_names}
 use Rattle.clp_commands.proofs.LeavesLemmas.{left_leaves, of_told, same_leaves}

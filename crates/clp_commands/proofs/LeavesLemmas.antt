@@ -1,5 +1,5 @@
 -- What an ingest leaves of its disk, step by step.
-use Rattle.std.proofs.Common.{◌≡◌, ◌+◌, ◌≤◌, ◌⊎◌, inl, inr, refl, sym, ap, subst, ◌∙◌, ℕ, zero, suc, Bool, true, List, [], ◌∷◌, ◌++◌, length, map, take, drop, Option, Some, None, arith, append-nil, append_assoc, ⊎_elim}
+use Rattle.std.proofs.Common.{◌≡◌, ◌+◌, ◌≤◌, ◌⊎◌, inl, inr, refl, sym, ap, subst, ◌∙◌, ℕ, zero, suc, Bool, true, List, [], ◌∷◌, ◌++◌, length, take, drop, Option, Some, None, arith, append-nil, append_assoc, ⊎_elim}
 use Rattle.std.specs.Prelude.{IfSome, is_some}
 use Rattle.std.proofs.lemmas.List.{length-append, length-map, take-append-drop, take_all}
 use Rattle.std.proofs.lemmas.Option.{IfSome_then}
@@ -11,11 +11,11 @@ use mathlib.Core.List.{IsPrefix}
 use Rattle.log_seams.specs.declared.disk.Disk.{Ghosts as DiskGhosts}
 use Rattle.log_seams.specs.Disk.{DiskState, IsLawful, KeepsBytes, LeavesOnly, NoMore, Rests}
 use Rattle.log_seams.specs.Outside.{Rose}
-use Rattle.log_seams.proofs.MomentLemmas.{joined, keeps_leave, rests_leave, rose, started, weaker}
+use Rattle.log_seams.proofs.MomentLemmas.{joined, keeps_leave, rests_leave, rose, weaker}
 use Rattle.record_format.specs.declared.header.Header.{Header}
 use Rattle.record_format.specs.Header.{IsHeader, header_bytes}
 use Rattle.disk_journal.specs.Record.{Saved, Stands}
-use Rattle.disk_journal.specs.Place.{AtEnd, BeforeOrAfter, entries}
+use Rattle.disk_journal.specs.Place.{AtEnd, entries}
 use Rattle.disk_journal.specs.State.{JournalState}
 use Rattle.disk_journal.specs.declared.journal.Journal.{Journal}
 use Rattle.disk_journal.specs.Journal.{state_of}
@@ -27,7 +27,7 @@ use Rattle.archive_meaning.proofs.UniqueLemmas.{legal_front, one_journal}
 use Rattle.disk_seal.specs.Told.{IfTold, entry_of, journal_in}
 use Rattle.disk_seal.specs.View.{HasFirst, Image, Kept, StoreState, StoreView, journal_of, state_by, tells}
 use Rattle.disk_seal.proofs.ToldLemmas.{length-records}
-use Rattle.ingest_workers.specs.Ingested.{HasStayed, IsAsItWas, IsLeftBy, told_entries}
+use Rattle.ingest_workers.specs.Ingested.{IsAsItWas, IsLeftBy, told_entries}
 use Rattle.clp_commands.specs.Ingested.{FromArchive, LeavesJournal, StandsForEither}
 use Rattle.clp_commands.specs.Leaves.{HasNames, StandsBetween, StandsStill}
 

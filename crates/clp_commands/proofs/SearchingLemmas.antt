@@ -40,7 +40,7 @@ text_stopped h es held q stats a old new o0 o1 e0 e1 is stopped = record {
   took = λ f.
       let p = stopped.printed f.found f.are_found in
       let line : List ℕ = if stats then found_counts (report_of f.found f.tried f.opened a.segments) else [] in
-      (p.front, p.rest ++ line, ap (λ t. t ++ line) p.splits ∙ append_assoc p.front p.rest line, p.grew);
+      (p.0, p.1 ++ line, ap (λ t. t ++ line) p.2 ∙ append_assoc p.0 p.1 line, p.3);
 }
 
 -- a search that is done found what there is

@@ -1,6 +1,6 @@
 -- What the steps of an ingest leave, from the start of the call on.
-use Rattle.std.proofs.Common.{◌≡◌, ◌≤◌, arith, append_assoc, refl, sym, ap, subst, ◌∙◌, ℕ, List, [], ◌∷◌, ◌++◌, length, Option, Some, None}
-use Rattle.std.specs.Prelude.{IfSome, is_some}
+use Rattle.std.proofs.Common.{◌≡◌, ◌≤◌, arith, append_assoc, refl, sym, subst, ◌∙◌, ℕ, List, [], ◌∷◌, ◌++◌, length, Option, Some, None}
+use Rattle.std.specs.Prelude.{IfSome}
 use mathlib.Core.List.{IsPrefix}
 use Rattle.log_seams.specs.Disk.{DiskState, IsLawful, IsSynced, KeepsBytes, LeavesOnly, Only}
 use Rattle.log_seams.proofs.MomentLemmas.{joined, keeps_leave, weaker}
@@ -8,10 +8,9 @@ use Rattle.record_format.specs.declared.header.Header.{Header}
 use Rattle.disk_journal.specs.State.{JournalState}
 use Rattle.archive_meaning.specs.declared.entry.JournalEntry.{JournalEntry}
 use Rattle.archive_meaning.specs.declared.entry.JournalEntry.TheVariants.{Files}
-use Rattle.archive_meaning.specs.Held.{Held}
 use Rattle.archive_meaning.specs.Stands.{StandsFor}
 use Rattle.clp_commands.specs.Going.{DiskGoesOn}
-use Rattle.clp_commands.specs.Ingested.{Came, FromArchive, LeavesJournal, TakesIn, TakesNothing}
+use Rattle.clp_commands.specs.Ingested.{Came, FromArchive, TakesIn, TakesNothing}
 use Rattle.clp_commands.specs.Leaves.{AddsNamesTo, StandsBetween, StandsStill, TakesInto}
 use Rattle.clp_commands.specs.Reading.{OverJournal}
 use Rattle.clp_commands.proofs.GoingLemmas.{KeepsBytes-same}

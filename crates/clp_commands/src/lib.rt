@@ -6,31 +6,19 @@
 
 mod append;
 mod check;
-#[cfg(test)]
-mod create_tests;
-#[cfg(test)]
-mod directory_tests;
 mod file;
 mod files;
 mod ingest;
-#[cfg(test)]
-mod ingest_tests;
 mod log;
 mod names;
 mod outcome;
 mod refusal;
 mod scan;
 mod search;
-#[cfg(test)]
-mod search_tests;
 mod show;
 mod taken;
-#[cfg(test)]
-mod taken_tests;
 mod tell;
 mod telling;
-#[cfg(test)]
-mod tests;
 mod top;
 mod words;
 

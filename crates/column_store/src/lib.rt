@@ -17,6 +17,3 @@ pub use columns::Columns;
 pub use laws::one_list_of_rows;
 pub use range::Range;
 pub use row::{Row, RowList, RowRef};
-
-#[cfg(test)]
-mod tests;

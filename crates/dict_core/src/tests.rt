@@ -6,66 +6,93 @@ use turn_lock::Grows;
 
 /// Texts of one hash. The hasher multiplies by the last eight bytes, from each of which a fixed
 /// number is taken by exclusive or; at these bytes nothing is left.
-const ONE_HASH: [&[u8]; 3] = [
+static ONE_HASH: [&[u8]; 3] = [
     b"the one \x15\x7c\x4a\x7f\xb9\x79\x37\x9e",
     b"another \x15\x7c\x4a\x7f\xb9\x79\x37\x9e",
     b"the last\x15\x7c\x4a\x7f\xb9\x79\x37\x9e",
 ];
 
+/// A text, and what a book of two texts names it.
+const NAMED: &[(&[u8], Result<u32, BookRefusal>)] = &[
+    (b"\x11 \x12", Ok(0)),
+    (b"\x11 \x12", Ok(0)),
+    (b"x7", Ok(1)),
+    (b"z", Err(BookRefusal::Full { count: 2 })),
+    (b"", Err(BookRefusal::Full { count: 2 })),
+    (b"x7", Ok(1)),
+    (b"\x11 \x12", Ok(0)),
+];
+
+/// Whether the book names the text so, and has this number for it then.
+fn names(book: &mut Book, text: &[u8], want: Result<u32, BookRefusal>) -> bool {
+    book.intern(text) == want && book.number_of(text) == want.ok()
+}
+
 #[test]
-fn a_book_names_texts_up_to_its_limit(rt: HostRuntime) -> Result<(), Fail> {
+fn a_book_names_texts_up_to_its_limit(rt: HostRuntime) {
     let mut book = Book::new(rt.alloc(), 2);
-    let full = Err(BookRefusal::Full { count: 2 });
-    let rows: [(&[u8], Result<u32, BookRefusal>); 7] = [
-        (b"\x11 \x12", Ok(0)),
-        (b"\x11 \x12", Ok(0)),
-        (b"x7", Ok(1)),
-        (b"z", full),
-        (b"", full),
-        (b"x7", Ok(1)),
-        (b"\x11 \x12", Ok(0)),
-    ];
-    for (text, want) in rows {
-        assert_eq!(rt; book.intern(text), want);
-        assert_eq!(rt; book.number_of(text), want.ok());
+    for (text, want) in NAMED {
+        let well = names(&mut book, text, *want);
+        assert!(rt; well, "{text:?}");
     }
-    assert_eq!(rt; book.count(), 2);
-    assert_eq!(rt; book.text_of(1), Some(b"x7".as_slice()));
-    assert_eq!(rt; book.text_of(2), None);
+    assert!(rt; book.count() == 2 && book.len() == 2);
+    assert!(rt; book.text_of(1) == Some(b"x7".as_slice()) && book.text_of(2) == None);
+}
+
+#[test]
+fn a_book_is_copied_from_a_text_on(rt: HostRuntime) -> Result<(), Fail> {
+    let mut book = Book::new(rt.alloc(), 2);
+    assert!(rt; names(&mut book, b"\x11 \x12", Ok(0)) && names(&mut book, b"x7", Ok(1)));
     assert!(rt; book.len() == 2);
     let copied = book.copy_from(1)?;
-    assert_eq!(rt; copied.as_slice().len(), 1);
+    assert!(rt; copied.as_slice().len() == 1);
     for text in copied.as_slice() {
-        assert_eq!(rt; text.as_slice(), b"x7".as_slice());
+        assert!(rt; text.as_slice() == b"x7".as_slice());
     }
     Ok(())
 }
 
+/// Whether the book has no number for this text of one hash before it names it so, and this number
+/// then.
+fn names_anew(book: &mut Book, text: &[u8], number: u32) -> bool {
+    book.number_of(text).is_none() && names(book, text, Ok(number))
+}
+
+/// A book of the three texts of one hash.
+fn book_of_one_hash(alloc: Global) -> Result<Book, Fail> {
+    let mut book = Book::new(alloc, 8);
+    for (text, number) in ONE_HASH.iter().zip([0, 1, 2]) {
+        if !names_anew(&mut book, text, number) {
+            return Err(Fail::from("another number"));
+        }
+    }
+    Ok(book)
+}
+
 #[test]
 fn texts_of_one_hash_have_numbers_of_their_own(rt: HostRuntime) -> Result<(), Fail> {
-    let mut book = Book::new(rt.alloc(), 8);
+    let book = book_of_one_hash(rt.alloc())?;
     for (text, number) in ONE_HASH.iter().zip([0, 1, 2]) {
-        assert_eq!(rt; book.number_of(text), None);
-        assert_eq!(rt; book.intern(text), Ok(number));
+        assert!(rt; book.number_of(text) == Some(number), "{number}");
     }
-    for (text, number) in ONE_HASH.iter().zip([0, 1, 2]) {
-        assert_eq!(rt; book.number_of(text), Some(number));
-    }
+    Ok(())
+}
+
+/// Whether the book names the text so, and finds it by its number then.
+fn names_and_finds(book: &mut Book, text: &[u8], number: u32) -> bool {
+    names(book, text, Ok(number)) && book.text_of(number) == Some(text)
+}
+
+#[test]
+fn a_book_that_was_cut_short_goes_on(rt: HostRuntime) -> Result<(), Fail> {
+    let mut book = book_of_one_hash(rt.alloc())?;
     book.truncate(1);
-    let rows: [(&[u8], u32); 4] = [
-        (ONE_HASH[2], 1),
-        (ONE_HASH[0], 0),
-        (b"other", 2),
-        (ONE_HASH[1], 3),
-    ];
-    for (text, number) in rows {
-        assert_eq!(rt; book.intern(text), Ok(number));
-        assert_eq!(rt; book.number_of(text), Some(number));
-        assert_eq!(rt; book.text_of(number), Some(text));
-    }
+    assert!(rt; names_and_finds(&mut book, ONE_HASH[2], 1));
+    assert!(rt; names_and_finds(&mut book, ONE_HASH[0], 0));
+    assert!(rt; names_and_finds(&mut book, b"other", 2));
+    assert!(rt; names_and_finds(&mut book, ONE_HASH[1], 3));
     book.truncate(0);
-    assert_eq!(rt; book.number_of(ONE_HASH[0]), None);
-    assert_eq!(rt; book.intern(b"other"), Ok(0));
+    assert!(rt; book.number_of(ONE_HASH[0]) == None && book.intern(b"other") == Ok(0));
     Ok(())
 }
 
@@ -79,33 +106,50 @@ fn texts_of(alloc: Global, rows: &[&[u8]]) -> Result<Texts, AllocError> {
     Ok(texts)
 }
 
+const TEXTS: &[&[u8]] = &[b"aab", b"ab", b"", b"b", b"ab", b"abcab", b"cab"];
+
+/// A text, and its number among those.
+const NUMBERS: &[(&[u8], Option<u32>)] = &[
+    (b"aab", Some(0)),
+    (b"ab", Some(1)),
+    (b"", Some(2)),
+    (b"b", Some(3)),
+    (b"abcab", Some(5)),
+    (b"cab", Some(6)),
+    (b"a", None),
+    (b"ba", None),
+    (b"bab", None),
+    (b"abcabcab", None),
+];
+
+/// Whether the text has this number, by which it is found.
+fn has_number(texts: &Texts, text: &[u8], want: Option<u32>) -> bool {
+    let found = match want {
+        Some(number) => texts.text_of(number) == Some(text),
+        None => true,
+    };
+    found && texts.number_of(text) == want
+}
+
 #[test]
 fn texts_are_found_by_their_bytes(rt: HostRuntime) -> Result<(), Fail> {
-    let rows: [&[u8]; 7] = [b"aab", b"ab", b"", b"b", b"ab", b"abcab", b"cab"];
-    let texts = texts_of(rt.alloc(), &rows)?;
-    let found: [(&[u8], Option<u32>); 10] = [
-        (b"aab", Some(0)),
-        (b"ab", Some(1)),
-        (b"", Some(2)),
-        (b"b", Some(3)),
-        (b"abcab", Some(5)),
-        (b"cab", Some(6)),
-        (b"a", None),
-        (b"ba", None),
-        (b"bab", None),
-        (b"abcabcab", None),
-    ];
-    for (text, number) in found {
-        assert_eq!(rt; texts.number_of(text), number);
-        if let Some(number) = number {
-            assert_eq!(rt; texts.text_of(number), Some(text));
-        }
+    let texts = texts_of(rt.alloc(), TEXTS)?;
+    for (text, number) in NUMBERS {
+        let well = has_number(&texts, text, *number);
+        assert!(rt; well, "{text:?}");
     }
-    assert_eq!(rt; texts.text_of(7), None);
+    assert!(rt; texts.text_of(7) == None);
+    Ok(())
+}
+
+#[test]
+fn texts_with_a_repeated_one_are_no_book(rt: HostRuntime) -> Result<(), Fail> {
+    let texts = texts_of(rt.alloc(), TEXTS)?;
     assert!(rt; texts.len() == 7);
-    assert_eq!(rt; texts.copy_from(rt.alloc(), 4)?.as_slice().len(), 3);
+    let copied = texts.copy_from(rt.alloc(), 4)?;
+    assert!(rt; copied.as_slice().len() == 3);
     let repeated = Book::from_texts(rt.alloc(), texts, 7);
-    assert_eq!(rt; repeated.err(), Some(IndexRefusal::Repeated { number: 4 }));
+    assert!(rt; repeated.err() == Some(IndexRefusal::Repeated { number: 4 }));
     Ok(())
 }
 
@@ -116,15 +160,9 @@ fn a_book_of_texts_goes_on_with_them(rt: HostRuntime) -> Result<(), Fail> {
     let Ok(mut book) = Book::from_texts(rt.alloc(), texts, 4) else {
         return Err(Fail::from("no book of distinct texts"));
     };
-    let rows: [(&[u8], Result<u32, BookRefusal>); 5] = [
-        (ONE_HASH[1], Ok(1)),
-        (ONE_HASH[2], Ok(2)),
-        (b"new", Ok(3)),
-        (b"newer", Err(BookRefusal::Full { count: 4 })),
-        (ONE_HASH[0], Ok(0)),
-    ];
-    for (text, want) in rows {
-        assert_eq!(rt; book.intern(text), want);
-    }
+    assert!(rt; book.intern(ONE_HASH[1]) == Ok(1) && book.intern(ONE_HASH[2]) == Ok(2));
+    assert!(rt; book.intern(b"new") == Ok(3));
+    assert!(rt; book.intern(b"newer") == Err(BookRefusal::Full { count: 4 }));
+    assert!(rt; book.intern(ONE_HASH[0]) == Ok(0));
     Ok(())
 }

@@ -10,6 +10,3 @@ mod texts;
 pub use cached::CachedPass;
 pub use shared::{SharedBook, intern, unsaved};
 pub use texts::{LineSpans, TextSlice};
-
-#[cfg(test)]
-mod tests;

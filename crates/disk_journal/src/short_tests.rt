@@ -88,13 +88,10 @@ fn a_payload_that_is_cut_short_is_damaged(rt: HostRuntime) -> Result<(), Fail> {
     let first = journal.next_place()?.ok_or("no record")?;
     journal.disk.most = 7;
     let refused = journal.load(alloc, first.payload, first.length).err();
-    assert_eq!(rt; refused, Some(LoadRefusal::Damaged { at: 42 }));
+    assert!(rt; refused == Some(LoadRefusal::Damaged { at: 42 }));
     journal.disk.most = 13;
     let loaded = journal.load(alloc, first.payload, first.length)?;
-    assert_eq!(rt; loaded.as_slice(), &crate::tests::WORKED[42..55]);
-    assert_eq!(rt;
-        short.ranges.as_slice(),
-        [(0, 32), (32, 10), (42, 7), (42, 13)].as_slice()
-    );
+    assert!(rt; loaded.as_slice() == &crate::tests::WORKED[42..55]);
+    assert!(rt; short.ranges.as_slice() == [(0, 32), (32, 10), (42, 7), (42, 13)].as_slice());
     Ok(())
 }

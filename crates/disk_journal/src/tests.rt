@@ -21,7 +21,7 @@ const HEADER: Header = Header {
     length_limit: 1_099_511_627_776,
 };
 
-const EMPTY: [u8; 33] = [
+static EMPTY: [u8; 33] = [
     0x43, 0x4C, 0x50, 0x41, 0x52, 0x43, 0x48, 0x0A, 0x01, 0x00, 0x00, 0x00, 0x00, 0x00, 0x00, 0x01,
     0x00, 0x00, 0x00, 0x80, 0x00, 0x00, 0x00, 0x00, 0x00, 0x00, 0x00, 0x00, 0x00, 0x01, 0x00, 0x00,
     0x00,
@@ -29,7 +29,7 @@ const EMPTY: [u8; 33] = [
 
 // One file `a.log` with the bytes `a` and a line end: a record of its name, one of its log type, and
 // one of its rows.
-pub(crate) const WORKED: [u8; 155] = [
+pub(crate) static WORKED: [u8; 155] = [
     0x43, 0x4C, 0x50, 0x41, 0x52, 0x43, 0x48, 0x0A, 0x01, 0x00, 0x00, 0x00, 0x00, 0x00, 0x00, 0x01,
     0x00, 0x00, 0x00, 0x80, 0x00, 0x00, 0x00, 0x00, 0x00, 0x00, 0x00, 0x00, 0x00, 0x01, 0x00, 0x00,
     0x01, 0x01, 0x0D, 0x00, 0x00, 0x00, 0x00, 0x00, 0x00, 0x00, 0x01, 0x00, 0x00, 0x00, 0x05, 0x00,
@@ -54,7 +54,7 @@ fn disk(alloc: Global, bytes: &[u8], fails: &[u64]) -> Result<MemDisk, AllocErro
 
 // The empty journal with three records appended: `first` of kind 1, twelve bytes of kind 2, and nothing
 // of kind 3.
-const THREE: [u8; 80] = [
+static THREE: [u8; 80] = [
     0x43, 0x4C, 0x50, 0x41, 0x52, 0x43, 0x48, 0x0A, 0x01, 0x00, 0x00, 0x00, 0x00, 0x00, 0x00, 0x01,
     0x00, 0x00, 0x00, 0x80, 0x00, 0x00, 0x00, 0x00, 0x00, 0x00, 0x00, 0x00, 0x00, 0x01, 0x00, 0x00,
     0x01, 0x01, 0x05, 0x00, 0x00, 0x00, 0x00, 0x00, 0x00, 0x00, 0x66, 0x69, 0x72, 0x73, 0x74, 0x01,
@@ -63,7 +63,7 @@ const THREE: [u8; 80] = [
 ];
 
 // The gates of these bytes.
-const GATES: [usize; 4] = [32, 47, 69, 79];
+static GATES: [usize; 4] = [32, 47, 69, 79];
 
 // How many of the three records the bytes stand for: they begin with the header and these, and a
 // closed gate.
@@ -140,37 +140,54 @@ fn append_both<D: Disk>(
 
 #[test]
 fn an_empty_journal_has_its_33_bytes(rt: HostRuntime) -> Result<(), Fail> {
-    let alloc = rt.alloc();
-    let mut new = disk(alloc, &[], &[])?;
-    assert_eq!(rt; create(&mut new, &HEADER), Ok(()));
-    assert_eq!(rt; new.bytes(), EMPTY.as_slice());
-    let mut old = disk(alloc, &WORKED, &[])?;
-    assert_eq!(rt;
-        create(&mut old, &HEADER),
-        Err(CreateRefusal::NotEmpty { len: 155 })
-    );
-    assert_eq!(rt; old.bytes(), WORKED.as_slice());
+    let mut new = disk(rt.alloc(), &[], &[])?;
+    assert!(rt; create(&mut new, &HEADER).is_ok());
+    assert!(rt; new.bytes() == EMPTY.as_slice());
     Ok(())
 }
 
 #[test]
-fn each_call_of_the_disk_may_fail(rt: HostRuntime) -> Result<(), Fail> {
-    let alloc = rt.alloc();
+fn an_archive_that_is_there_is_left(rt: HostRuntime) -> Result<(), Fail> {
+    let mut old = disk(rt.alloc(), &WORKED, &[])?;
+    let refused = create(&mut old, &HEADER);
+    assert!(rt; refused == Err(CreateRefusal::NotEmpty { len: 155 }));
+    assert!(rt; old.bytes() == WORKED.as_slice());
+    Ok(())
+}
+
+#[test]
+fn each_call_of_creating_may_fail(rt: HostRuntime) -> Result<(), Fail> {
     for fault in 0..3 {
-        let mut new = disk(alloc, &[], &[fault])?;
-        assert_eq!(rt; create(&mut new, &HEADER), Err(CreateRefusal::DiskFault));
+        let mut new = disk(rt.alloc(), &[], &[fault])?;
+        let refused = create(&mut new, &HEADER) == Err(CreateRefusal::DiskFault);
+        assert!(rt; refused);
     }
+    Ok(())
+}
+
+#[test]
+fn each_call_of_opening_may_fail(rt: HostRuntime) -> Result<(), Fail> {
     for fault in 0..2 {
-        let mut old = disk(alloc, &EMPTY, &[fault])?;
-        let refused = Journal::open_journal(&mut old).map(|j| j.count());
-        assert_eq!(rt; refused, Err(StartRefusal::DiskFault));
+        let mut old = disk(rt.alloc(), &EMPTY, &[fault])?;
+        let refused = Journal::open_journal(&mut old).err() == Some(StartRefusal::DiskFault);
+        assert!(rt; refused);
     }
+    Ok(())
+}
+
+// Whether the next step of the walk fails, as the first fault of the disk.
+fn fails_first<D: Disk>(journal: &mut Journal<'_, D>) -> bool {
+    journal.faults() == 0
+        && journal.next_place() == Err(WalkRefusal::DiskFault)
+        && journal.faults() == 1
+}
+
+#[test]
+fn each_call_of_a_step_may_fail(rt: HostRuntime) -> Result<(), Fail> {
     for fault in 2..4 {
-        let mut old = disk(alloc, &EMPTY, &[fault])?;
+        let mut old = disk(rt.alloc(), &EMPTY, &[fault])?;
         let mut journal = Journal::open_journal(&mut old)?;
-        assert_eq!(rt; journal.faults(), 0);
-        assert_eq!(rt; journal.next_place(), Err(WalkRefusal::DiskFault));
-        assert_eq!(rt; journal.faults(), 1);
+        assert!(rt; fails_first(&mut journal));
     }
     Ok(())
 }
@@ -186,50 +203,69 @@ fn place(at: u64, kind: u8, length: u64) -> RecordPlace
     }
 }
 
+// Whether the walk comes to this place next.
+fn comes_to<D: Disk>(journal: &mut Journal<'_, D>, want: Option<RecordPlace>) -> bool {
+    journal.next_place() == Ok(want)
+}
+
 #[test]
-fn a_walk_finds_the_gates_and_loads_a_payload(rt: HostRuntime) -> Result<(), Fail> {
-    let alloc = rt.alloc();
-    let mut whole = disk(alloc, &WORKED, &[])?;
+fn a_walk_finds_the_gates(rt: HostRuntime) -> Result<(), Fail> {
+    let mut whole = disk(rt.alloc(), &WORKED, &[])?;
     let mut journal = Journal::open_journal(&mut whole)?;
-    assert_eq!(rt; *journal.header(), HEADER);
-    let first = journal.next_place()?.ok_or("no record")?;
-    assert_eq!(rt; first, place(32, 1, 13));
-    assert_eq!(rt; journal.next_place(), Ok(Some(place(55, 2, 13))));
-    assert_eq!(rt; journal.next_place(), Ok(Some(place(78, 4, 66))));
-    assert_eq!(rt; journal.next_place(), Ok(None));
-    assert!(rt; journal.at_end());
-    assert_eq!(rt; journal.end(), 155);
-    assert_eq!(rt; journal.count(), 3);
-    let names = journal.load(alloc, first.payload, first.length)?;
-    let want = [1, 0, 0, 0, 5, 0, 0, 0, 0x61, 0x2E, 0x6C, 0x6F, 0x67];
-    assert_eq!(rt; names.as_slice(), want.as_slice());
+    assert!(rt; *journal.header() == HEADER);
+    assert!(rt; comes_to(&mut journal, Some(place(32, 1, 13))));
+    assert!(rt; comes_to(&mut journal, Some(place(55, 2, 13))));
+    assert!(rt; comes_to(&mut journal, Some(place(78, 4, 66))));
+    assert!(rt; comes_to(&mut journal, None) && journal.at_end());
+    assert!(rt; journal.end() == 155 && journal.count() == 3);
     Ok(())
+}
+
+static NAMES: [u8; 13] = [1, 0, 0, 0, 5, 0, 0, 0, 0x61, 0x2E, 0x6C, 0x6F, 0x67];
+
+#[test]
+fn a_payload_is_loaded(rt: HostRuntime) -> Result<(), Fail> {
+    let mut whole = disk(rt.alloc(), &WORKED, &[])?;
+    let mut journal = Journal::open_journal(&mut whole)?;
+    let first = journal.next_place()?.ok_or("no record")?;
+    let names = journal.load(rt.alloc(), first.payload, first.length)?;
+    assert!(rt; names.as_slice() == NAMES.as_slice());
+    Ok(())
+}
+
+// How many of the worked archive's bytes are there, how many records a walk passes, and where the
+// journal is damaged.
+const CUTS: &[(usize, u64, u64)] = &[
+    (32, 0, 32),
+    (54, 0, 32),
+    (55, 1, 55),
+    (153, 2, 78),
+    (154, 3, 154),
+];
+
+// Whether a walk over the bytes passes so many records, and finds the journal damaged there.
+fn breaks_off(alloc: Global, bytes: &[u8], walked: u64, at: u64) -> Result<bool, Fail> {
+    let mut cut = disk(alloc, bytes, &[])?;
+    let mut journal = Journal::open_journal(&mut cut)?;
+    let refused = walk(&mut journal) == Err(WalkRefusal::Damaged { at });
+    Ok(refused && journal.count() == walked)
 }
 
 #[test]
 fn a_cut_journal_is_damaged_where_it_breaks_off(rt: HostRuntime) -> Result<(), Fail> {
-    let alloc = rt.alloc();
-    let mut short = disk(alloc, &WORKED[..31], &[])?;
-    let refused = Journal::open_journal(&mut short).map(|j| j.count());
-    assert_eq!(rt; refused, Err(StartRefusal::Damaged { at: 0 }));
-    let cuts = [
-        (32, 0, 32),
-        (54, 0, 32),
-        (55, 1, 55),
-        (153, 2, 78),
-        (154, 3, 154),
-    ];
-    for (size, walked, at) in cuts {
-        let bytes = WORKED.get(..size).ok_or("too few")?;
-        let mut cut = disk(alloc, bytes, &[])?;
-        let mut journal = Journal::open_journal(&mut cut)?;
-        assert_eq!(rt;
-            walk(&mut journal),
-            Err(WalkRefusal::Damaged { at }),
-            "{size}"
-        );
-        assert_eq!(rt; journal.count(), walked, "{size}");
+    for (size, walked, at) in CUTS {
+        let bytes = WORKED.get(..*size).ok_or("too few")?;
+        let well = breaks_off(rt.alloc(), bytes, *walked, *at)?;
+        assert!(rt; well, "{size}");
     }
+    Ok(())
+}
+
+#[test]
+fn a_cut_header_is_damaged(rt: HostRuntime) -> Result<(), Fail> {
+    let mut short = disk(rt.alloc(), &WORKED[..31], &[])?;
+    let refused = Journal::open_journal(&mut short).err();
+    assert!(rt; refused == Some(StartRefusal::Damaged { at: 0 }));
     Ok(())
 }
 
@@ -245,49 +281,75 @@ fn a_full_journal_calls_nothing(rt: HostRuntime) -> Result<(), Fail> {
     let framed = frame(alloc, 1, &[9; 13])?;
     let mut journal = end_of(&mut small)?;
     let full = AppendRefusal::ArchiveFull { end: 33, need: 23 };
-    assert_eq!(rt; journal.append(framed.as_slice()), Err(full));
+    assert!(rt; journal.append(framed.as_slice()) == Err(full));
     // a length, a write and a sync; a sync and a read; a length and a read
-    assert_eq!(rt; small.calls(), 7);
-    assert_eq!(rt; small.bytes().len(), 33);
+    assert!(rt; small.calls() == 7);
+    assert!(rt; small.bytes().len() == 33);
     Ok(())
+}
+
+// What stands on the disk up to the header's end, and these bytes behind it.
+fn behind_header(alloc: Global, bytes: &[u8]) -> Result<Vec<u8>, AllocError> {
+    let mut whole = EMPTY[..32].to_vec(alloc)?;
+    whole.extend_from_slice(bytes)?;
+    Ok(whole)
 }
 
 #[test]
 fn any_gate_but_1_is_closed_and_what_is_behind_it_stays(rt: HostRuntime) -> Result<(), Fail> {
     let alloc = rt.alloc();
-    let mut bytes = EMPTY.to_vec(alloc)?;
-    bytes.truncate(32);
-    bytes.extend_from_slice(&[7, 8, 8, 8, 8, 8, 8, 8, 8, 8, 8, 8, 8, 5, 6])?;
+    let bytes = behind_header(
+        alloc,
+        b"\x07\x08\x08\x08\x08\x08\x08\x08\x08\x08\x08\x08\x08\x05\x06",
+    )?;
     let mut odd = disk(alloc, &bytes, &[])?;
     let framed = frame(alloc, 3, &[2])?;
-    assert_eq!(rt;
-        framed.as_slice(),
-        [3, 1, 0, 0, 0, 0, 0, 0, 0, 2, 0].as_slice()
-    );
     let mut journal = end_of(&mut odd)?;
-    assert_eq!(rt; journal.append(framed.as_slice()), Ok(()));
-    bytes.truncate(32);
-    bytes.extend_from_slice(&[1, 3, 1, 0, 0, 0, 0, 0, 0, 0, 2, 0, 8, 5, 6])?;
-    assert_eq!(rt; odd.bytes(), bytes.as_slice());
-    assert_eq!(rt; count_of(&mut odd)?, Some(1));
+    assert!(rt; journal.append(framed.as_slice()).is_ok());
+    let bytes = behind_header(
+        alloc,
+        b"\x01\x03\x01\x00\x00\x00\x00\x00\x00\x00\x02\x00\x08\x05\x06",
+    )?;
+    assert!(rt; odd.bytes() == bytes.as_slice());
+    let count = count_of(&mut odd)?;
+    assert!(rt; count == Some(1));
+    Ok(())
+}
+
+#[test]
+fn a_frame_has_its_bytes(rt: HostRuntime) -> Result<(), Fail> {
+    let framed = frame(rt.alloc(), 3, &[2])?;
+    assert!(rt; framed.as_slice() == b"\x03\x01\x00\x00\x00\x00\x00\x00\x00\x02\x00".as_slice());
     frames_one();
     stand_for_one();
     Ok(())
 }
 
+// Appends two records to an empty journal: the answer, how many records it has then, and where it
+// ends.
+fn run_both(alloc: Global, run: &mut MemDisk) -> Result<(Result<(), Failed>, u64, u64), Fail> {
+    let one = frame(alloc, 1, b"first")?;
+    let two = frame(alloc, 2, &[1; 12])?;
+    let mut journal = end_of(run)?;
+    let answer = append_both(&mut journal, one, two)?;
+    Ok((answer, journal.count(), journal.end()))
+}
+
+#[test]
+fn several_appends_that_succeed(rt: HostRuntime) -> Result<(), Fail> {
+    let mut run = disk(rt.alloc(), &EMPTY, &[12])?;
+    let (answer, count, end) = run_both(rt.alloc(), &mut run)?;
+    assert!(rt; answer == Ok(()) && count == 2 && end == 70);
+    assert!(rt; records_in(run.bytes()) == Some(2));
+    Ok(())
+}
+
 #[test]
 fn several_appends_stop_at_the_first_that_fails(rt: HostRuntime) -> Result<(), Fail> {
-    let alloc = rt.alloc();
-    for (fault, answer, kept, end) in [(12, Ok(()), 2, 70), (8, Err(Failed), 1, 48)] {
-        let one = frame(alloc, 1, b"first")?;
-        let two = frame(alloc, 2, &[1; 12])?;
-        let mut run = disk(alloc, &EMPTY, &[fault])?;
-        let mut journal = end_of(&mut run)?;
-        assert_eq!(rt; append_both(&mut journal, one, two)?, answer);
-        assert_eq!(rt; journal.count(), kept);
-        assert_eq!(rt; journal.end(), end);
-        assert_eq!(rt; records_in(run.bytes()), Some(kept));
-    }
+    let mut run = disk(rt.alloc(), &EMPTY, &[8])?;
+    let (answer, count, end) = run_both(rt.alloc(), &mut run)?;
+    assert!(rt; answer == Err(Failed) && count == 1 && end == 48);
+    assert!(rt; records_in(run.bytes()) == Some(1));
     Ok(())
 }
 
@@ -306,7 +368,7 @@ fn run_three(alloc: Global, disk: &mut MemDisk) -> Result<(Result<(), AppendRefu
     Ok((answer, journal.count()))
 }
 
-const CRASHES: [Pending; 4] = [
+static CRASHES: [Pending; 4] = [
     Pending::All,
     Pending::Nothing,
     Pending::FirstHalf,
@@ -330,22 +392,35 @@ fn keeps(run: &MemDisk, after: usize, least: u64, most: u64) -> Result<bool, Fai
 
 #[test]
 fn every_crash_of_three_appends_leaves_a_journal(rt: HostRuntime) -> Result<(), Fail> {
-    let alloc = rt.alloc();
     // four calls of the opening and the walk, and four of each append
-    let mut run = disk(alloc, &EMPTY, &[])?;
-    assert_eq!(rt; run_three(alloc, &mut run)?, (Ok(()), 3));
-    assert_eq!(rt; run.calls(), 16);
-    assert_eq!(rt; run.bytes(), THREE.as_slice());
+    let mut run = disk(rt.alloc(), &EMPTY, &[])?;
+    let (answer, count) = run_three(rt.alloc(), &mut run)?;
+    assert!(rt; answer.is_ok() && count == 3 && run.calls() == 16);
+    assert!(rt; run.bytes() == THREE.as_slice());
     for after in 4..17 {
         let done = (after as u64 - 4) / 4;
         assert!(rt; keeps(&run, after, done, done + 1)?, "after {after}");
     }
+    Ok(())
+}
+
+// Whether three appends to an empty journal, of whose disk this call fails, are refused where it does,
+// and leave a journal of those before.
+fn keeps_at(alloc: Global, fault: u64) -> Result<bool, Fail>
+    requires { (4 ≤ fault) × (fault < 16) }
+{
+    let mut run = disk(alloc, &EMPTY, &[fault])?;
+    let done = (fault - 4) / 4;
+    let (answer, count) = run_three(alloc, &mut run)?;
+    let refused = answer == Err(AppendRefusal::DiskFault) && count == done;
+    Ok(refused && keeps(&run, run.calls(), done, done + 1)?)
+}
+
+#[test]
+fn a_fault_of_three_appends_leaves_a_journal(rt: HostRuntime) -> Result<(), Fail> {
     for fault in 4..16 {
-        let mut run = disk(alloc, &EMPTY, &[fault])?;
-        let done = (fault - 4) / 4;
-        let refused = Err(AppendRefusal::DiskFault);
-        assert_eq!(rt; run_three(alloc, &mut run)?, (refused, done));
-        assert!(rt; keeps(&run, run.calls(), done, done + 1)?, "fault {fault}");
+        let kept = keeps_at(rt.alloc(), fault)?;
+        assert!(rt; kept, "fault {fault}");
     }
     Ok(())
 }

@@ -3,7 +3,7 @@ ghost use Rattle.std.specs.Prelude.{◌≡◌, ◌+◌, ◌≤◌, ℕ, [], ◌�
 ghost use Rattle.log_seams.specs.Outside.{CountsOf};
 ghost use Rattle.disk_journal.specs.State.{IsAtEnd};
 ghost use Rattle.disk_journal.specs.Journal.{state_of};
-ghost use Rattle.disk_journal.specs.Calls.{GoesOn, HasAdded, LeavesBeforeOrAfter, StaysAt};
+ghost use Rattle.disk_journal.specs.Calls.{GoesOn, HasAdded, IsPast, LeavesBeforeOrAfter, StaysAt};
 ghost use Rattle.archive_meaning.specs.Sums.{AddsNames};
 ghost use Rattle.disk_seal.specs.Registered.{files_record, files_size, IsFullFor, StaysOpen};
 ghost use Rattle.disk_seal.specs.declared.files.RegisterRefusal.TheVariants.{OutOfMemory};
@@ -42,7 +42,7 @@ impl From<AllocError> for RegisterRefusal {
 
 /// Appends the names of further files to a journal at its end, and answers the number of the first of them,
 /// which is how many names the archive `held`. `ArchiveFull` exactly where the record goes past the limit
-/// of length.
+/// of length; the disk is left alone then.
 pub fn register<D: Disk>(
     alloc: Global,
     journal: &mut Journal<'_, D>,
@@ -70,6 +70,8 @@ pub fn register<D: Disk>(
     ensures full { (end need : ℕ) → IsErrOf result (RegisterRefusal.ArchiveFull end need)
         → IsFullFor names.now end need (state_of journal.old)
         × (journal.new.disk ≡ journal.old.disk) }
+    ensures past { IsPast (files_size names.now) (state_of journal.old)
+        → journal.new.disk ≡ journal.old.disk }
     ensures memory { IsErrOf result RegisterRefusal.OutOfMemory
         → journal.new.disk ≡ journal.old.disk }
     ensures counts { CountsOf RegisterRefusal.DiskFault

@@ -29,6 +29,3 @@ pub use plan::PrepareRefusal;
 pub use prepared::{Prepared, Receipt, prepare};
 pub use store::{Keeper, Store, StorePasses};
 pub use turns::Turns;
-
-#[cfg(test)]
-mod tests;

@@ -4,8 +4,6 @@
 
 mod laws;
 mod passes;
-#[cfg(test)]
-mod tests;
 mod works;
 
 pub use laws::{all_are_joined, each_was_added, picked_are_own};

@@ -1,23 +1,21 @@
 -- What the passes of a book added, once all ended.
-use Rattle.std.proofs.Common.{◌≡◌, ℕ, zero, suc, ◌+◌, ◌-◌, ◌<◌, ◌≤◌, Bool, true, false, List, [], ◌∷◌, ◌++◌, length, map, drop, take, get_or, sym, refl, ap, ◌∙◌, subst, ⊎_elim, inl, inr, arith, Option, None, Some, is_some, slice_get, All, append_assoc, take-append-drop}
+use Rattle.std.proofs.Common.{◌≡◌, ℕ, zero, suc, ◌+◌, ◌<◌, ◌≤◌, Bool, true, false, List, [], ◌∷◌, ◌++◌, length, map, drop, take, get_or, sym, refl, ap, ◌∙◌, subst, ⊎_elim, arith, Option, None, Some, is_some, slice_get, All, append_assoc, take-append-drop}
 use Rattle.std.proofs.lemmas.List.Elements.{All-nil}
 use Rattle.std.proofs.lemmas.Option.{slice_get_within, slice_get-get_or, get_or_from_slice_get}
-use mathlib.Core.List.{IsPrefix}
 use Rattle.turn_lock.specs.declared.board.About.{About}
 use Rattle.turn_lock.specs.declared.grows.Grows.{Ghosts}
 use Rattle.turn_lock.specs.History.{Has, StandsIn}
-use Rattle.turn_lock.specs.Words.{lock_by, lock_of, made_by, about_by, seen_by, ended_by, own_by, seen, own_list, about, number_of, IsReady, IsStill, IsStillBy, IsAllOwned, HasJoinedAll}
+use Rattle.turn_lock.specs.Words.{lock_by, lock_of, made_by, about_by, seen_by, ended_by, own_by, seen, own_list, number_of, IsReady, IsStill, IsStillBy, IsAllOwned}
 use Rattle.turn_lock.proofs.FrontLemmas.{prefix_get, prefix_trans}
-use Rattle.ingest_fork.specs.Passes.{Fresh, IsFresh, AreStill, Joined, IsOneOf, AreJoinable, OnlyThese}
-use Rattle.ingest_fork.specs.Picked.{NoneAdded, AddedByOne}
-use Rattle.ingest_fork.specs.Works.{AllWent, Went}
+use Rattle.ingest_fork.specs.Passes.{Fresh, AreStill, Joined, IsOneOf}
+use Rattle.ingest_fork.specs.Picked.{NoneAdded}
+use Rattle.ingest_fork.specs.Works.{AllWent}
 use Rattle.ingest_fork.proofs.PassLemmas.{all_joined, joined_none, joined_more, Joins}
 use Rattle.ingest_fork.proofs.PickLemmas.{each_added}
 use Rattle.ingest_fork.proofs.PlaceLemmas.{at_right, there_is}
 use Rattle.dict_core.specs.Books.{BookState}
 use Rattle.dict_core.specs.Fair.{IsFair}
 use Rattle.dict_lock.specs.Shared.{BookPass}
-use Rattle.row_codec.specs.Messages.{IsTypeOf, IsWordOf}
 use Rattle.logtype_text.specs.Fair.{IsFairType, IsFairWord}
 use Rattle.dict_core.specs.declared.grows.TheConstants.{WORDS_FIRST}
 use Rattle.log_seams.specs.declared.disk.Disk.{Ghosts as DiskGhosts}
@@ -32,10 +30,10 @@ use Rattle.ingest_workers.specs.declared.job.Job.{Job}
 use Rattle.ingest_workers.specs.declared.worker.Plan.{Plan}
 use Rattle.ingest_workers.specs.declared.worker.Worker.{Worker}
 use Rattle.ingest_workers.specs.Naming.{AddsOnly}
-use Rattle.ingest_workers.specs.Worker.{IsIdle, IsGiven, DidOnly, types_of, words_of, passes_of}
+use Rattle.ingest_workers.specs.Worker.{IsIdle, IsGiven, DidOnly, types_of, words_of}
 use Rattle.ingest_workers.specs.WorkerLaws.{given_wider}
-use Rattle.ingest_workers.specs.Crew.{BookMaker, HavePlan, HasEnrolled, MayDismiss, HasDismissed, HasEnded, EndsBook}
-use Rattle.ingest_workers.specs.Ingested.{HasBook, OpensBook, IsTypeGiven, IsWordGiven, HasStored, HasEndedBooks, HasIngested, told_entries}
+use Rattle.ingest_workers.specs.Crew.{BookMaker, HasEnrolled, MayDismiss, EndsBook}
+use Rattle.ingest_workers.specs.Ingested.{OpensBook, IsTypeGiven, IsWordGiven, HasEndedBooks, HasIngested, told_entries}
 use Rattle.ingest_workers.proofs.CrewLemmas.{map_at, map_back, map_count}
 
 module _ {G : Ghosts BookState (List ℕ) ℕ} where

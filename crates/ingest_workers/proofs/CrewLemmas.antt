@@ -1,21 +1,20 @@
 -- Workers that are enrolled one after the other, and dismissed one after the other from the last one on.
-use Rattle.std.proofs.Common.{◌≡◌, ℕ, zero, suc, ◌+◌, ◌-◌, ◌<◌, ◌≤◌, List, [], ◌∷◌, ◌++◌, length, map, sym, refl, ap, ◌∙◌, subst, ⊎_elim, arith, Some, slice_get, length-append}
+use Rattle.std.proofs.Common.{◌≡◌, ℕ, zero, suc, ◌+◌, ◌-◌, ◌<◌, ◌≤◌, List, [], ◌∷◌, ◌++◌, length, map, sym, refl, ap, ◌∙◌, subst, ⊎_elim, Some, slice_get, length-append}
 use Rattle.std.proofs.lemmas.Bool.{cases_lt}
 use Rattle.std.proofs.lemmas.List.{map-append}
-use mathlib.Core.List.{IsPrefix}
 use Rattle.turn_lock.specs.declared.grows.Grows.{Ghosts}
 use Rattle.turn_lock.specs.Words.{lock_by, lock_of, made_by, IsFreshOf, IsReady, IsStillBy}
 use Rattle.dict_core.specs.Books.{BookState}
 use Rattle.dict_lock.specs.Shared.{BookPass}
-use Rattle.ingest_fork.specs.Passes.{Fresh, Joined, AreJoinable}
+use Rattle.ingest_fork.specs.Passes.{Fresh, Joined}
 use Rattle.ingest_fork.proofs.PassLemmas.{fresh_none, fresh_more, joined_none, joined_more, Joins}
 use Rattle.ingest_fork.proofs.PlaceLemmas.{in_left, in_right}
 use Rattle.ingest_workers.specs.declared.worker.BookPasses.{BookPasses}
 use Rattle.ingest_workers.specs.declared.worker.Plan.{Plan}
 use Rattle.ingest_workers.specs.declared.worker.Worker.{Worker}
-use Rattle.ingest_workers.specs.Worker.{passes_of, types_of, words_of}
+use Rattle.ingest_workers.specs.Worker.{types_of, words_of}
 use Rattle.ingest_workers.specs.WorkerLaws.{passes_is}
-use Rattle.ingest_workers.specs.Crew.{BookMaker, HavePlan, HasEnrolled, MayDismiss, HasDismissed}
+use Rattle.ingest_workers.specs.Crew.{BookMaker, HasEnrolled, MayDismiss, HasDismissed}
 
 module _ {X Y : Type 0} (f : X → Y) where
   pub map_at : (xs : List X) (i : ℕ) (x : X) → slice_get xs i ≡ Some x → slice_get (map f xs) i ≡ Some (f x)

@@ -24,6 +24,11 @@ use Rattle.ingest_workers.specs.declared.outcome.Cause.{Cause}
 use Rattle.ingest_workers.specs.declared.stop.Stop.{Stop}
 use Rattle.ingest_workers.specs.declared.stop.Stop.TheVariants.{Part as PartStop, Lost}
 use Rattle.ingest_workers.specs.Stopping.{IsAtStop}
+use Rattle.row_codec.specs.declared.namer.Which.{Which}
+use Rattle.ingest_workers.specs.declared.outcome.Cause.TheVariants.{Full}
+use Rattle.ingest_workers.specs.Causes.{limit_of, limits_by}
+use Rattle.ingest_workers.specs.Stop.{IsNameStop}
+use Rattle.ingest_workers.proofs.CauseLemmas.{full_cause, lost_cause}
 use Rattle.ingest_workers.proofs.MaySealLemmas.{nothing_sealed}
 use Rattle.ingest_workers.specs.Doing.{Covering, Doing}
 use Rattle.ingest_workers.specs.Hand.{HasInHand, HasRoom, SameMarks, SameRows}
@@ -149,9 +154,10 @@ module _ {D R A B C : Type 0} (state : D → DiskState) (limit : ℕ) (start p :
 
   -- a message was not taken
   pub not_taken : (n : LockNamer R A B C) (new : Hand) (line : List ℕ) (y : Stop) → HasSamePasses m n → IsPrefix (types_seen m) (types_seen n) → IsPrefix (words_seen m) (words_seen n) → SameMarks hand new
-      → ((cause : Cause) → y ≡ PartStop cause → SameRows hand new) → IsAtStop state limit start p n new taken line y
-  not_taken n new line (PartStop cause) same a b marks rows = doing_kept n new same a b marks (rows cause refl)
-  not_taken n new line (Lost cause) same a b marks rows = covering p new line (nothing_sealed state p d.worker.ready) marks.first
+      → ((cause : Cause) → y ≡ PartStop cause → SameRows hand new) → IsNameStop y → ((book : Which) (count : ℕ) → y ≡ PartStop (Full book count) → count ≡ limit_of (limits_by (types_pass n) (words_pass n)) book)
+      → IsAtStop state limit start p n new taken line y
+  not_taken n new line (PartStop cause) same a b marks rows named full = (doing_kept n new same a b marks (rows cause refl), full_cause (limits_by (types_pass n) (words_pass n)) cause named (λ book count is. full book count (ap PartStop is)))
+  not_taken n new line (Lost cause) same a b marks rows named full = (covering p new line (nothing_sealed state p d.worker.ready) marks.first, lost_cause state start p cause named)
 
   module _ (n : LockNamer R A B C) (new : Hand) (row : Row) (line : List ℕ) (same : HasSamePasses m n) (marks : SameMarks hand new) (pushed : new.draft.columns.rows ≡ hand.draft.columns.rows ++ row ∷ [])
       (has : HasInHand m.version (types_seen n) (words_seen n) (d.messages ++ line ∷ []) new) (is_message : IsMessage m.version line) where

@@ -1,5 +1,5 @@
 -- The last segment of a file.
-use Rattle.std.proofs.Common.{◌≡◌, ℕ, zero, suc, ◌<◌, ◌≤◌, List, [], ◌∷◌, ◌++◌, Bool, true, false, length, refl, sym, ap, ap₂, ◌∙◌, subst, arith, append-nil, length-append, None, Some}
+use Rattle.std.proofs.Common.{◌≡◌, ◌⊎◌, ⊎_elim, inl, inr, ℕ, zero, suc, ◌<◌, ◌≤◌, List, [], ◌∷◌, ◌++◌, Bool, true, false, length, refl, sym, ap, ap₂, ◌∙◌, subst, arith, append-nil, length-append, Option, None, Some}
 use Rattle.std.specs.Prelude.{is_some, ◌&&◌}
 use Rattle.log_seams.specs.Disk.{DiskState}
 use Rattle.turn_lock.specs.Words.{seen, about, number_of}
@@ -15,6 +15,7 @@ use Rattle.disk_seal.specs.Fixed.{KeeperPass}
 use Rattle.disk_seal.specs.Planned.{segment_of}
 use Rattle.ingest_workers.specs.declared.hand.Hand.{Hand}
 use Rattle.ingest_workers.specs.declared.outcome.Cause.{Cause}
+use Rattle.ingest_workers.specs.Causes.{HasSealCause}
 use Rattle.ingest_workers.specs.Doing.{Covering, Doing}
 use Rattle.ingest_workers.specs.Done.{IsOutcome}
 use Rattle.ingest_workers.specs.Journal.{FrontHolds, Holds}
@@ -22,6 +23,8 @@ use Rattle.ingest_workers.specs.MaySeal.{MaySeal, IsEmptied}
 use Rattle.ingest_workers.specs.Namer.{types_seen, words_seen}
 use Rattle.ingest_workers.specs.Parts.{Part, columns_of, front, messages_in, rest_of, segments_from}
 use Rattle.ingest_workers.specs.Sealed.{HasNotSealed, HasSealed, NowHas}
+use Rattle.ingest_workers.proofs.CauseLemmas.{seal_cause}
+use Rattle.ingest_workers.proofs.MaySealLemmas.{nothing_sealed}
 use Rattle.ingest_workers.proofs.DoingLemmas.{covering, has_room, rows_same}
 use Rattle.ingest_workers.proofs.PartLemmas.{added_on, sealed_joined}
 use Rattle.ingest_workers.proofs.SealLemmas.{if_told, of_told}
@@ -58,12 +61,13 @@ module _ {D R A B C : Type 0} (state : D → DiskState) (limit : ℕ) (start p :
   told_now a is = d.added.still.about_is ∙ is
 
   pub all_done : (q : KeeperPass D) (new : Hand) → IsEmptied (marked ended hand) new → HasSealed state (marked ended hand).draft p q
-      → NowHas state (marked ended hand).draft m.version (types_seen m) (words_seen m) p q → IsOutcome state limit start q taken ended (record { messages = new.draft.first; whole = true; cause = None })
+      → NowHas state (marked ended hand).draft m.version (types_seen m) (words_seen m) p q → IsOutcome state limit start q taken ended None (record { messages = new.draft.first; whole = true; cause = None })
   all_done q new empty sealed has_now = record {
     covered = taken;
     front = prefix_self taken;
     all = λ is. refl;
     cause = refl;
+    caused = inl (refl, refl);
     count = omega (arith, empty.first, d.first, d.not_yet.even, ap length d.taken_is, length-append (messages_in d.closed) d.messages);
     done = record {
       closed = d.closed;
@@ -92,14 +96,18 @@ module _ {D R A B C : Type 0} (state : D → DiskState) (limit : ℕ) (start p :
       segment_is : segment_of (marked ended hand).draft ≡ record { file = number_of start; first = length (messages_in d.closed); last = true; ended = ended; rows = hand.draft.columns.rows }
       segment_is = λ i. record { file = (d.file ∙ d.added.still.number) i; first = d.first i; last = true; ended = ended; rows = hand.draft.columns.rows }
 
-  pub none_done : (q : KeeperPass D) (new : Hand) (cause : Cause) → HasNotSealed state p q → new.draft.first ≡ hand.draft.first → IsOutcome state limit start q taken ended (record { messages = new.draft.first; whole = false; cause = Some cause })
-  none_done q new cause none first =
+  pub none_done : (q : KeeperPass D) (new : Hand) (why : Option Cause) (cause : Cause) → HasNotSealed state p q → new.draft.first ≡ hand.draft.first
+      → ((Some cause ≡ why) × (messages_in d.closed ≡ taken)) ⊎ HasSealCause state p q cause
+      → IsOutcome state limit start q taken ended why (record { messages = new.draft.first; whole = false; cause = Some cause })
+  none_done q new why cause none first caused =
       let c : Covering state limit start q new (taken ++ [] ∷ []) = covering state limit start p m hand taken d q new [] none first in
       record {
         covered = messages_in c.closed;
         front = (d.messages, sym d.taken_is);
         all = λ is. absurd (cc (is));
         cause = refl;
+        caused = ⊎_elim (λ (all : (Some cause ≡ why) × (messages_in d.closed ≡ taken)). inl all)
+            (λ (has : HasSealCause state p q cause). inr (cause, refl, seal_cause state start p q d.added.still.about_is cause has)) caused;
         count = c.first;
         done = record {
           closed = c.closed;
@@ -121,6 +129,18 @@ module _ {D R A B C : Type 0} (state : D → DiskState) (limit : ℕ) (start p :
 
       nothing_full : (k : ℕ) → ¬ IsFull (columns_of (front k (record { rows = []; messages = [] }))) limit
       nothing_full k full = d.not_yet.not_yet 0 (omega arith) (subst (λ c. IsFull c limit) (none_in k) full)
+
+-- without rows in hand all messages are sealed
+none_left : (messages : Texts) → length messages ≡ 0 → messages ≡ []
+none_left [] is = refl
+none_left (m ∷ messages) is = absurd (omega (arith, is))
+
+module _ {D R A B C : Type 0} (state : D → DiskState) (limit : ℕ) (start p : KeeperPass D) (m : LockNamer R A B C) (hand : Hand) (taken : Texts) (ended : Bool) (d : Doing state limit start p m hand taken) where
+  pub all_sealed : length hand.draft.columns.rows ≡ 0 → messages_in d.closed ≡ taken
+  all_sealed none = sym (d.taken_is ∙ (ap (λ l. messages_in d.closed ++ l) (none_left d.messages (omega (arith, none, d.not_yet.even))) ∙ append-nil (messages_in d.closed)))
+
+  pub empty_done : (cause : Cause) → length hand.draft.columns.rows ≡ 0 → IsOutcome state limit start p taken ended (Some cause) (record { messages = hand.draft.first; whole = false; cause = Some cause })
+  empty_done cause none = none_done state limit start p m hand taken ended d p hand (Some cause) cause (nothing_sealed state p d.worker.ready) refl (inl (refl, all_sealed none))
 
 -- the segment of a rest with messages, in a file that is not whole
 rest_rows : (file first : ℕ) (ended : Bool) (rows : List Row) (messages : Texts) → 0 < length rows
@@ -147,12 +167,13 @@ module _ {D R A B C : Type 0} (state : D → DiskState) (limit : ℕ) (start p :
   }
 
   pub part_done : (q : KeeperPass D) (new : Hand) (cause : Cause) → IsEmptied hand new → HasSealed state hand.draft p q
-      → NowHas state hand.draft m.version (types_seen m) (words_seen m) p q → IsOutcome state limit start q taken ended (record { messages = new.draft.first; whole = false; cause = Some cause })
+      → NowHas state hand.draft m.version (types_seen m) (words_seen m) p q → IsOutcome state limit start q taken ended (Some cause) (record { messages = new.draft.first; whole = false; cause = Some cause })
   part_done q new cause empty sealed has_now = record {
     covered = taken;
     front = prefix_self taken;
     all = λ is. refl;
     cause = refl;
+    caused = inl (refl, refl);
     count = omega (arith, empty.first, d.first, d.not_yet.even, ap length d.taken_is, length-append (messages_in d.closed) d.messages);
     done = record {
       closed = d.closed;

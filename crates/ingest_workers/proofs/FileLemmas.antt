@@ -22,11 +22,12 @@ use Rattle.disk_seal.specs.Fixed.{KeeperPass}
 use Rattle.disk_seal.proofs.ToldLemmas.{told_map}
 use Rattle.ingest_workers.specs.declared.job.Job.{Job}
 use Rattle.ingest_workers.specs.declared.worker.Plan.{Plan}
-use Rattle.ingest_workers.specs.JobDone.{IsDone}
+use Rattle.ingest_workers.specs.Causes.{Limits}
+use Rattle.ingest_workers.specs.JobDone.{IsDone, in_source}
 use Rattle.ingest_workers.specs.Journal.{FrontHolds, segments_in, entries_at, sealed_by}
 use Rattle.ingest_workers.specs.Locked.{in_file}
 use Rattle.ingest_workers.specs.Parts.{Part, messages_in, rest_of, segments_from}
-use Rattle.ingest_workers.specs.Ingested.{IsFileOf, told_entries}
+use Rattle.ingest_workers.specs.Ingested.{IsFileOf, OfMessages, told_entries}
 
 -- all segments are of this file
 abbrev Mine : ℕ → List SegmentEntry → Type 0
@@ -64,18 +65,18 @@ entries_same : (l : List (ℕ × StoreEntry)) → entries_in l ≡ entries_at l
 entries_same [] = refl
 entries_same (x ∷ xs) = ap (λ l. x.1 ∷ l) (entries_same xs)
 
-module _ {S D : Type 0} {d : DiskGhosts D} (left : S → Option (List ℕ)) (plan : Plan) (before : Journal D d) where
-  pub file_of : (fresh : List JournalEntry) (old new : Job S) (p q : KeeperPass D) (over : About (StoreFixed D)) → IsDone d.state left plan.rows plan.version old p new q → number_of p ≡ old.file → about p ≡ Some over
+module _ {S D : Type 0} {d : DiskGhosts D} (left name : S → Option (List ℕ)) (faults : S → ℕ) (plan : Plan) (before : Journal D d) where
+  pub file_of : (fresh : List JournalEntry) (old new : Job S) (p q : KeeperPass D) (over : About (StoreFixed D)) (limits : Limits) → IsDone d.state left name faults plan.rows plan.version limits old p new q → number_of p ≡ old.file → about p ≡ Some over
       → over.fixed.opened ≡ before.disk.now → over.fixed.header ≡ before.header → own_list p ≡ []
       → filter_map (in_file old.file) fresh ≡ filter_map (in_file old.file) (journal_seen (entries_in (own_list q))) → IsPrefix (journal_seen (seen q)) (told_entries (state_of before) ++ fresh) → IsFileOf left plan before fresh old new
-  file_of fresh old new p q over done number known opened header own picked seen_on = let o = done.came in let h = o.done in record {
+  file_of fresh old new p q over limits done number known opened header own picked seen_on = let o = done.came in let h = o.done in record {
     file = done.file;
     covered = o.covered;
     ended = o.ended;
     count = o.count;
     cause = o.cause;
-    first = o.first;
-    all = o.all;
+    first = subst (λ s. OfMessages plan.version (in_source left s) (λ messages e. IsPrefix o.covered messages)) (sym done.source.had) o.first;
+    all = λ w. subst (λ s. OfMessages plan.version (in_source left s) (λ messages e. (o.covered ≡ messages) × (o.ended ≡ e))) (sym done.source.had) (o.all w);
     closed = h.closed;
     rest = h.rest;
     parts = h.covered_is;

@@ -1,22 +1,19 @@
 -- What an ingest leaves, from what its workers did over the store.
-use Rattle.std.proofs.Common.{◌≡◌, ◌⊎◌, ℕ, zero, suc, ◌+◌, ◌-◌, ◌<◌, ◌≤◌, Bool, true, false, List, [], ◌∷◌, ◌++◌, length, map, drop, take, sym, refl, ap, ◌∙◌, subst, ⊎_elim, inl, inr, arith, Option, None, Some, is_some, slice_get, All, append-nil}
+use Rattle.std.proofs.Common.{◌≡◌, ℕ, zero, suc, ◌+◌, ◌-◌, ◌^◌, ◌<◌, ◌≤◌, Bool, true, false, List, [], ◌∷◌, ◌++◌, length, map, drop, take, sym, refl, ap, ◌∙◌, subst, ⊎_elim, inl, inr, arith, Option, None, Some, is_some, slice_get, All, append-nil, append_assoc}
 use Rattle.std.specs.List.{filter_map, cons_option}
 use Rattle.std.proofs.lemmas.Option.{slice_get_within, slice_get-get_or}
 use Rattle.std.proofs.lemmas.Bool.{cases_lt}
 use mathlib.Core.List.{IsPrefix}
 use Rattle.log_seams.specs.declared.disk.Disk.{Ghosts as DiskGhosts}
-use Rattle.log_seams.specs.Disk.{DiskState}
 use Rattle.log_seams.specs.Outside.{Rose}
 use Rattle.record_format.specs.declared.header.Header.{Header}
 use Rattle.record_format.specs.Header.{IsHeader}
 use Rattle.archive_meaning.specs.Stands.{IsLegal}
-use Rattle.logtype_text.specs.Fair.{IsFairType, IsFairWord}
 use Rattle.turn_lock.specs.declared.board.About.{About}
 use Rattle.turn_lock.specs.declared.grows.Grows.{Ghosts}
-use Rattle.turn_lock.specs.Words.{lock_by, lock_of, made_by, about_by, seen_by, seen, own_list, about, number_of, IsReady, IsFreshOf, IsStillBy, IsOpening}
-use Rattle.ingest_fork.specs.Passes.{Fresh, IsFresh}
-use Rattle.ingest_fork.specs.Picked.{entries_in, AddedByOne}
-use Rattle.ingest_fork.specs.Works.{AllReady, AllFit, AllDone, Done}
+use Rattle.turn_lock.specs.Words.{lock_of, made_by, seen, own_list, about, number_of, IsReady, IsFreshOf, IsStillBy}
+use Rattle.ingest_fork.specs.Passes.{Fresh}
+use Rattle.ingest_fork.specs.Picked.{entries_in}
 use Rattle.ingest_fork.proofs.PlaceLemmas.{at_right, there_is}
 use Rattle.dict_core.specs.Books.{BookState}
 use Rattle.dict_core.specs.declared.grows.TheConstants.{WORDS_FIRST}
@@ -24,31 +21,31 @@ use Rattle.dict_lock.specs.Shared.{BookPass}
 use Rattle.disk_journal.specs.declared.journal.Journal.{Journal}
 use Rattle.disk_journal.specs.Journal.{state_of}
 use Rattle.disk_journal.specs.State.{JournalState}
-use Rattle.archive_meaning.specs.declared.entry.SegmentEntry.{SegmentEntry}
 use Rattle.archive_meaning.specs.declared.entry.JournalEntry.{JournalEntry}
 use Rattle.archive_meaning.specs.declared.entry.JournalEntry.TheVariants.{Files, Types, Words, Segment}
-use Rattle.archive_meaning.specs.Spelled.{types_of}
 use Rattle.disk_seal.specs.declared.entry.StoreEntry.{StoreEntry}
 use Rattle.disk_seal.specs.declared.entry.StoreEntry.TheVariants.{Entry, Blank, Stopped}
 use Rattle.disk_seal.specs.declared.fixed.StoreFixed.{StoreFixed}
 use Rattle.disk_seal.specs.Told.{IfTold, journal_in, recorded, blanks, mark}
-use Rattle.disk_seal.specs.WordsIn.{words_of}
-use Rattle.disk_seal.specs.View.{StoreView, StoreState, journal_state, state_by, store_entries, journal_of, journal_before, Kept, KnowsBook}
-use Rattle.disk_seal.specs.Opening.{MayName, MayOpen}
+use Rattle.disk_seal.specs.View.{StoreView, StoreState, journal_state, state_by, journal_of, Kept, KnowsBook}
+use Rattle.disk_seal.specs.Opening.{MayOpen}
 use Rattle.disk_seal.specs.Fixed.{fixed_of, KeeperPass}
 use Rattle.disk_seal.specs.May.{MayAdd}
 use Rattle.disk_seal.specs.Draft.{journal_seen}
 use Rattle.disk_seal.proofs.ToldLemmas.{told_map}
-use Rattle.disk_seal.proofs.NextLemmas.{told_always}
 use Rattle.ingest_workers.specs.declared.job.Job.{Job}
 use Rattle.ingest_workers.specs.declared.worker.Plan.{Plan}
 use Rattle.ingest_workers.specs.declared.worker.Worker.{Worker}
 use Rattle.ingest_workers.specs.JobDone.{IsDone}
 use Rattle.ingest_workers.specs.Journal.{Holds}
-use Rattle.ingest_workers.specs.Worker.{MayAddTexts, IsIdle, GoWith, IsNewJob, MayDo, DidJob, passes_of, types_of as types_pass, words_of as words_pass}
+use Rattle.ingest_workers.specs.Worker.{IsIdle, limits_in, types_of as types_pass, words_of as words_pass}
 use Rattle.ingest_workers.specs.Crew.{BookMaker, HavePlan, HasEnrolled}
 use Rattle.ingest_workers.specs.Locked.{in_file, file_segment, list_of, list_behind, IsPassOf, IsStillStore, MayDoAt, HasWorked}
-use Rattle.ingest_workers.specs.Ingested.{first_file, told_entries, IsNewFile, AreNew, IsOfJobs, HasBook, OpensBook, opened_over, IsLeftBy, HasStayed, IsAsItWas, IsFileOf, HasStored, HasEndedBooks, HasIngested, IsTypeGiven, IsWordGiven}
+use Rattle.ingest_workers.specs.Ingested.{first_file, told_entries, AreNew, IsOfJobs, OpensBook, opened_over, IsLeftBy, IsAsItWas, IsFileOf, HasStored, HasItsCause, HaveCauses, grounds_over, header_limits}
+use Rattle.disk_seal.specs.Known.{limit_in}
+use Rattle.turn_lock.proofs.FrontLemmas.{prefix_trans}
+use Rattle.ingest_workers.specs.Causes.{Limits, grounds_of, limit_of, log_of}
+use Rattle.ingest_workers.proofs.CauseLemmas.{cause_on}
 use Rattle.ingest_workers.specs.Closing.{IsJournalOf}
 use Rattle.ingest_workers.proofs.FileLemmas.{file_of}
 use Rattle.ingest_workers.proofs.JournalLemmas.{seen_front, seen_joined}
@@ -148,7 +145,7 @@ opens_as {D} {d} after store back may =
     At : ℕ → D → Header → ℕ → ℕ → Bool → Type 0
     At n x h p c b = MayOpen (record { name = n; disk = d.state x; header = h; place = p; count = c; closed = b })
 
-module _ {S D : Type 0} {d : DiskGhosts D} (left : S → Option (List ℕ)) where
+module _ {S D : Type 0} {d : DiskGhosts D} (left name : S → Option (List ℕ)) (faults : S → ℕ) where
   module _ (before after : Journal D d) (types words : BookPass) (t w : ℕ) (store : StoreView D) where
     abbrev opened : StoreView D
     opened = opened_over before types words t w
@@ -177,7 +174,7 @@ module _ {S D : Type 0} {d : DiskGhosts D} (left : S → Option (List ℕ)) wher
     list_now = seen_list (d.state store.disk).seen store.count store.stopped
 
     pub ingested : (first : ℕ) (plan : Plan) (ws ws' : List Worker) (js js' : List (Job S)) → AreNew first (state_of before) js → HavePlan plan ws
-        → HasWorked d.state left first ws ws' js js' opened store → IsJournalOf store after → Kept (state_by d.state store)
+        → HasWorked d.state left name faults first ws ws' js js' opened store → IsJournalOf store after → Kept (state_by d.state store)
         → HasStored left plan js js' before after store
     ingested first plan ws ws' js js' new planned h back kept = record {
       left_by = left_by h.fixed back kept;
@@ -193,7 +190,7 @@ module _ {S D : Type 0} {d : DiskGhosts D} (left : S → Option (List ℕ)) wher
         behind = ap (drop (length (list_of d.state opened))) (sym h.front.1) ∙ drop_front (list_of d.state opened) h.front.0
 
         number_at : (i : ℕ) (job : Job S) (q : KeeperPass D) → slice_get js i ≡ Some job → slice_get h.passes' i ≡ Some q → number_of q ≡ job.file
-        number_at i job q at is = let r = did_at d.state left ws js js' h.passes h.passes' h.counted h.done i q is in
+        number_at i job q at is = let r = did_at d.state left name faults ws js js' h.passes h.passes' h.counted h.done i q is in
             r.2.added.still.number ∙ ((h.opened i r.0 r.1).number ∙ sym (new i job at).file_is)
 
         each : (k : ℕ) (x : StoreEntry) → slice_get (list_behind d.state opened store) k ≡ Some x → OfEntry (IsOfJobs js) x
@@ -210,21 +207,90 @@ module _ {S D : Type 0} {d : DiskGhosts D} (left : S → Option (List ℕ)) wher
         file : (i : ℕ) (job : Job S) → slice_get js i ≡ Some job → (new : Job S) × (slice_get js' i ≡ Some new) × IsFileOf left plan before (journal_seen (list_behind d.state opened store)) job new
         file i job at = let even = h.counted in let lt = slice_get_within js i job at in let p = there_is h.passes i (omega arith) in
             let f = h.done.each i job p.0 at p.1 in let o = h.opened i p.0 p.1 in let n = number_at i job f.keeper at f.keeper_is in
-            let done : IsDone d.state left plan.rows plan.version job p.0 f.job f.keeper = subst (λ (x : Plan). IsDone d.state left x.rows x.version job p.0 f.job f.keeper) (planned f.place f.worker f.worker_is) f.did_it in
+            let done : IsDone d.state left name faults plan.rows plan.version (limits_in f.worker) job p.0 f.job f.keeper = subst (λ (x : Plan). IsDone d.state left name faults x.rows x.version (limits_in f.worker) job p.0 f.job f.keeper) (planned f.place f.worker f.worker_is) f.did_it in
             let number : number_of p.0 ≡ job.file = o.number ∙ sym (new i job at).file_is in (
               f.job,
               f.job_is,
-              file_of left plan before (journal_seen (list_behind d.state opened store)) job f.job p.0 f.keeper (record { first = first; start = length (list_of d.state opened); fixed = fixed_of opened }) done number o.about_is refl refl o.own_is
+              file_of left name faults plan before (journal_seen (list_behind d.state opened store)) job f.job p.0 f.keeper (record { first = first; start = length (list_of d.state opened); fixed = fixed_of opened }) (limits_in f.worker) done number o.about_is refl refl o.own_is
                   (subst (λ (x : ℕ). filter_map (in_file x) (journal_seen (list_behind d.state opened store)) ≡ filter_map (in_file x) (journal_seen (entries_in (own_list f.keeper)))) n
                   (sym (picked_seen (number_of f.keeper) (list_behind d.state opened store)) ∙ (h.files i f.keeper f.keeper_is ∙ picked_seen (number_of f.keeper) (entries_in (own_list f.keeper)))))
                   (subst (λ es. IsPrefix (journal_seen (seen f.keeper)) es) all_now (seen_front (seen f.keeper) (list_of d.state store) (h.seen_on i f.keeper f.keeper_is))),
             )
 
+    -- a list with the mark is of a store that was stopped
+    marked : (told : Option (List ℕ)) (n : ℕ) (o : Option ℕ) (front : List StoreEntry) → IsPrefix (front ++ Stopped ∷ []) (recorded told n ++ mark o) → (k : ℕ) × (o ≡ Some k)
+    marked told n (Some k) front on = (k, refl)
+    marked told n None front on = absurd (no_mark told n front on.0 (sym (append_assoc front (Stopped ∷ []) on.0) ∙ (on.1 ∙ append-nil (recorded told n))))
+      where
+        not_blank : (n : ℕ) (xs ys : List StoreEntry) → xs ++ Stopped ∷ ys ≡ blanks n → ⊥
+        not_blank zero [] ys is = cc (is)
+        not_blank zero (y ∷ xs) ys is = cc (is)
+        not_blank (suc n) [] ys is = cc (is)
+        not_blank (suc n) (y ∷ xs) ys is = not_blank n xs ys (cc (is))
+
+        not_entry : (es : List JournalEntry) (xs ys : List StoreEntry) → xs ++ Stopped ∷ ys ≡ map Entry es → ⊥
+        not_entry [] [] ys is = cc (is)
+        not_entry [] (y ∷ xs) ys is = cc (is)
+        not_entry (e ∷ es) [] ys is = cc (is)
+        not_entry (e ∷ es) (y ∷ xs) ys is = not_entry es xs ys (cc (is))
+
+        no_mark : (told : Option (List ℕ)) (n : ℕ) (xs ys : List StoreEntry) → xs ++ Stopped ∷ ys ≡ recorded told n → ⊥
+        no_mark None n xs ys is = not_blank n xs ys is
+        no_mark (Some bytes) n xs ys is = not_entry (journal_in (Some bytes) n) xs ys is
+
+    -- so the disk's count of faults rose
+    rose_by : Kept (state_by d.state store) → store.opened ≡ before.disk.now → store.disk ≡ after.disk.now → (front : List StoreEntry) → IsPrefix (front ++ Stopped ∷ []) (list_of d.state store)
+        → Rose (state_of before).disk.faults (state_of after).disk.faults
+    rose_by kept opened_is disk_is front on =
+        let stopped = marked (d.state store.disk).seen store.count store.stopped front on in
+        let fault = kept.fault stopped.0 stopped.1 in
+        subst (λ (x : D). Rose (d.state before.disk.now).faults (d.state x).faults) disk_is
+        (subst (λ (x : D). Rose (d.state x).faults (d.state store.disk).faults) opened_is
+        (⊎_elim
+        (λ (lt : (d.state store.opened).faults < stopped.0). let le = fault.1 in let more : Rose (d.state store.opened).faults (d.state store.disk).faults = inl (omega arith) in more)
+        (λ (most : 2 ^ 64 - 1 ≤ stopped.0). let le = fault.1 in let more : Rose (d.state store.opened).faults (d.state store.disk).faults = inr (omega arith) in more)
+        fault.0))
+
+    pub have_causes : (first : ℕ) (plan : Plan) (ws ws' : List Worker) (js js' : List (Job S)) → HavePlan plan ws
+        → ((n : ℕ) (v : Worker) → slice_get ws n ≡ Some v → IfTold (is_some (state_of before).disk.seen) (limits_in v ≡ header_limits before.header))
+        → HasWorked d.state left name faults first ws ws' js js' opened store → IsJournalOf store after → Kept (state_by d.state store) → HaveCauses left name faults plan before after js js'
+    have_causes first plan ws ws' js js' planned limits h back kept = record { counted = h.done.jobs; each = each }
+      where
+        each : (i : ℕ) (job : Job S) → slice_get js i ≡ Some job → (new : Job S) × (slice_get js' i ≡ Some new) × HasItsCause left name faults plan before after job new
+        each i job at = let even = h.counted in let lt = slice_get_within js i job at in let p = there_is h.passes i (omega arith) in
+            let f = h.done.each i job p.0 at p.1 in let o = h.opened i p.0 p.1 in
+            let done : IsDone d.state left name faults plan.rows plan.version (limits_in f.worker) job p.0 f.job f.keeper = subst (λ (x : Plan). IsDone d.state left name faults x.rows x.version (limits_in f.worker) job p.0 f.job f.keeper) (planned f.place f.worker f.worker_is) f.did_it in
+            let log = log_of left faults done.source.before done.source.after in (
+              f.job,
+              f.job_is,
+              record {
+                source = done.source;
+                sealed = done.came.covered;
+                count = done.came.count;
+                first = done.came.first;
+                cause = cause_on (grounds_of d.state (limits_in f.worker) p.0 f.keeper) (grounds_over before after) log plan.version done.came.covered f.job.outcome.cause
+                    (λ book count is. told_map (is_some (state_of before).disk.seen) (λ same. is ∙ ap (λ l. limit_of l book) same) (limits f.place f.worker f.worker_is))
+                    (λ end need has. has _ o.about_is)
+                    (λ since now has. (
+                      has.fault.opened _ o.about_is,
+                      subst (λ n. Rose n (state_of after).disk.faults) (sym (has.fault.opened _ o.about_is))
+                          (rose_by kept (ap (λ (x : StoreFixed D). x.opened) h.fixed) (sym back.disk) has.mark.0 (prefix_trans _ (seen f.keeper) (list_of d.state store) has.mark.1 (h.seen_on i f.keeper f.keeper_is))),
+                    ))
+                    done.came.caused;
+              },
+            )
+
+    pub causes_by : (o : StoreView D) (f first : ℕ) (plan : Plan) (ws ws' : List Worker) (js js' : List (Job S)) → o ≡ opened → f ≡ first → HavePlan plan ws
+        → ((n : ℕ) (v : Worker) → slice_get ws n ≡ Some v → IfTold (is_some (state_of before).disk.seen) (limits_in v ≡ header_limits before.header))
+        → HasWorked d.state left name faults f ws ws' js js' o store → IsJournalOf store after → Kept (state_by d.state store) → HaveCauses left name faults plan before after js js'
+    causes_by o f first plan ws ws' js js' is same planned limits h back kept = have_causes first plan ws ws' js js' planned limits
+        (subst (λ (n : ℕ). HasWorked d.state left name faults n ws ws' js js' opened store) same (subst (λ (x : StoreView D). HasWorked d.state left name faults f ws ws' js js' x store) is h)) back kept
+
     pub ingested_by : (o : StoreView D) (f first : ℕ) (plan : Plan) (ws ws' : List Worker) (js js' : List (Job S)) → o ≡ opened → f ≡ first → AreNew first (state_of before) js → HavePlan plan ws
-        → HasWorked d.state left f ws ws' js js' o store → IsJournalOf store after → Kept (state_by d.state store)
+        → HasWorked d.state left name faults f ws ws' js js' o store → IsJournalOf store after → Kept (state_by d.state store)
         → HasStored left plan js js' before after store
     ingested_by o f first plan ws ws' js js' is same new planned h back kept = ingested first plan ws ws' js js' new planned
-        (subst (λ (n : ℕ). HasWorked d.state left n ws ws' js js' opened store) same (subst (λ (x : StoreView D). HasWorked d.state left f ws ws' js js' x store) is h)) back kept
+        (subst (λ (n : ℕ). HasWorked d.state left name faults n ws ws' js js' opened store) same (subst (λ (x : StoreView D). HasWorked d.state left name faults f ws ws' js js' x store) is h)) back kept
 
     -- a list without the mark is of a store that runs
     unmarked : (told : Option (List ℕ)) (n : ℕ) (o : Option ℕ) → recorded told n ++ mark o ≡ list_of d.state opened → o ≡ None
@@ -362,3 +428,16 @@ module _ {G : Ghosts BookState (List ℕ) ℕ} where
         record { types_ready = t.2; words_ready = w.2; adds_types = omega arith; adds_words = omega arith },
         (t.0, w.0),
       )
+
+  -- and these have the limits of the books
+  pub crew_limits : (told : Bool) (t_limit w_limit : ℕ) (t_texts w_texts : List (List ℕ)) (t_saved w_saved : ℕ) (types t1 t2 words w1 w2 : BookMaker G) (plan : Plan) (vs : List Worker) (count : ℕ)
+      → OpensBook 0 told t_limit t_texts t_saved types → OpensBook WORDS_FIRST told w_limit w_texts w_saved words → IsStillBy types t1 → IsStillBy words w1 → HasEnrolled t1 t2 w1 w2 plan vs count
+      → (n : ℕ) (v : Worker) → slice_get vs n ≡ Some v → IfTold told (let limits : Limits = record { types = t_limit; words = w_limit } in limits_in v ≡ limits)
+  crew_limits told t_limit w_limit t_texts w_texts t_saved w_saved types t1 t2 words w1 w2 plan vs count to wo ts ws e n v at =
+      let t = ap limit_in ((e.of_types.each n (types_pass v) (map_at types_pass vs n v at)).about_is ∙ (ts.about_is ∙ to.opening.about_is)) in
+      let w = ap limit_in ((e.of_words.each n (words_pass v) (map_at words_pass vs n v at)).about_is ∙ (ws.about_is ∙ wo.opening.about_is)) in
+      both told (told_map told (λ b. t ∙ b.1) to.has.are) (told_map told (λ b. w ∙ b.1) wo.has.are)
+    where
+      both : (b : Bool) → IfTold b ((limits_in v).types ≡ t_limit) → IfTold b ((limits_in v).words ≡ w_limit) → IfTold b (let limits : Limits = record { types = t_limit; words = w_limit } in limits_in v ≡ limits)
+      both false t w = tt
+      both true t w = λ i. record { types = t i; words = w i }

@@ -1,3 +1,5 @@
+pub mod CauseLemmas
+pub mod RefuseLemmas
 pub mod JournalLemmas
 pub mod HandLemmas
 pub mod SealLemmas

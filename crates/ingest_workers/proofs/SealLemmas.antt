@@ -1,5 +1,5 @@
 -- What a pass has sealed.
-use Rattle.std.proofs.Common.{◌≡◌, ◌≢◌, ⊎_elim, ℕ, ◌+◌, ◌<◌, ◌≤◌, List, [], ◌∷◌, ◌++◌, Bool, true, false, length, take, map, refl, sym, ap, ap₂, ◌∙◌, subst, arith, append-nil, length-append, None, Some, Option, All}
+use Rattle.std.proofs.Common.{◌≡◌, ◌≢◌, ⊎_elim, ℕ, ◌+◌, ◌<◌, ◌≤◌, List, [], ◌∷◌, ◌++◌, Bool, true, false, length, take, map, refl, sym, ap, ap₂, ◌∙◌, subst, arith, append-nil, append_assoc, length-append, None, Some, Option, All}
 use Rattle.std.specs.Prelude.{is_some}
 use Rattle.std.proofs.lemmas.List.Elements.{All-nil, All-cons}
 use mathlib.Core.List.{IsPrefix}
@@ -26,10 +26,11 @@ use Rattle.disk_seal.specs.Draft.{journal_seen}
 use Rattle.disk_seal.specs.Adding.{front_of}
 use Rattle.disk_seal.specs.Planned.{segment_of, IsTextsThen}
 use Rattle.disk_seal.specs.Pieces.{added_by}
-use Rattle.disk_seal.specs.Prepare.{HasGivenBack, IsPrepared, IsFullAt, BookNote}
+use Rattle.disk_seal.specs.Prepare.{HasGivenBack, IsFaultOf, IsPrepared, IsFullAt, BookNote}
 use Rattle.disk_seal.specs.Sealing.{told_as, HasGrown, HasGrownSome}
 use Rattle.ingest_workers.specs.declared.outcome.Cause.{Cause}
 use Rattle.ingest_workers.specs.declared.outcome.Cause.TheVariants.{ArchiveFull}
+use Rattle.ingest_workers.specs.Causes.{HasFailed, HasSeenMark}
 use Rattle.ingest_workers.specs.Journal.{HasAdded, Holds, entries_at, sealed_by, segments_in}
 use Rattle.ingest_workers.specs.Namer.{HasNoRoom, HasOnlySeen, types_pass, words_pass, types_seen, words_seen}
 use Rattle.ingest_workers.specs.Sealed.{HasNotSealed, HasSealed, NowHas}
@@ -189,6 +190,26 @@ module _ {D : Type 0} (state : D → DiskState) where
           segments = λ a is. if_told (is_some (state a.fixed.opened).seen) _ (λ told. none_sealed a is told one.1.0 one.1.1 one.0);
         } in part)
         some
+
+    mark_in : (o : Option ℕ) → o ≢ None → (xs l : List StoreEntry) → xs ++ mark o ≡ l → (front : List StoreEntry) × IsPrefix (front ++ Stopped ∷ []) l
+    mark_in None some xs l is = absurd (some refl)
+    mark_in (Some n) some xs l is = (xs, ([], append-nil (xs ++ Stopped ∷ []) ∙ is))
+
+    has_mark : HasGrownSome es s q r → HasSeenMark r
+    has_mark some =
+        ⊎_elim
+        (λ (was : (s.stopped ≢ None) × HasGrown [] q r).
+        mark_in s.stopped was.0 (recorded s.disk.seen s.count) (seen r) (prep.may.hand.entries ∙ (sym (append-nil (seen q)) ∙ sym was.1.seen_is)))
+        (λ (one : (s.stopped ≡ None) × ((k : ℕ) × (k < length es) × HasGrown (told_as s (take k es) ++ Stopped ∷ []) q r)).
+        let front = told_as s (take one.1.0 es) in
+        let found : HasSeenMark r = (seen q ++ front, ([], append-nil ((seen q ++ front) ++ Stopped ∷ []) ∙ (append_assoc (seen q) front (Stopped ∷ []) ∙ sym one.1.2.seen_is))) in found)
+        some
+
+    pub has_failed : (opened now : ℕ) → IsFaultOf state (record { opened = opened; now = now }) q → HasGrownSome es s q r → HasFailed state p r opened now
+    has_failed opened now fault some = record {
+      fault = record { opened = λ a is. fault.opened a (prep.still.about_is ∙ is); rose = fault.rose };
+      mark = has_mark some;
+    }
 
     pub now_has : (version : ℕ) (types words : Texts) → d.file ≡ number_of p → IsPrefix types (seen v.types) → IsPrefix words (seen v.words) → v.stopped ≡ None → HasGrown (told_as s es) q r → NowHas state d version types words p r
     now_has version types words file types_on words_on runs grown covered messages at had rows a is =

@@ -1,22 +1,22 @@
 -- A worker that takes the messages of a source.
-use Rattle.std.proofs.Common.{◌≡◌, ◌≢◌, inl, inr, ℕ, zero, suc, ◌-◌, ◌<◌, ◌≤◌, List, [], ◌∷◌, ◌++◌, Bool, true, false, length, refl, sym, ap, ◌∙◌, subst, arith, append-nil, append_assoc, length-append, Option, None, Some, Result, Ok, Err}
-use Rattle.std.specs.Prelude.{IfSome, IfNone, IfErr, is_some, not}
+use Rattle.std.proofs.Common.{◌≡◌, ◌≢◌, ⊎_elim, inl, inr, ℕ, zero, suc, ◌-◌, ◌<◌, ◌≤◌, List, [], ◌∷◌, ◌++◌, Bool, true, false, length, refl, sym, ap, ◌∙◌, subst, arith, append-nil, append_assoc, length-append, Option, None, Some, Result, Ok, Err}
+use Rattle.std.specs.Prelude.{IfSome, IfNone, IfErr, IsErrOf, OnOk, is_some, not}
 use Rattle.std.specs.List.{Contains, flat_map}
 use Rattle.std.proofs.lemmas.Bool.{ne_eqb}
 use Rattle.std.proofs.lemmas.List.Elements.{All-nil}
 use mathlib.Core.List.{IsPrefix}
 use Rattle.log_seams.specs.Disk.{DiskState}
-use Rattle.turn_lock.specs.Words.{seen, number_of, IsReady}
+use Rattle.turn_lock.specs.Words.{about, seen, number_of, IsReady}
 use Rattle.turn_lock.proofs.FrontLemmas.{prefix_self, prefix_trans}
 use Rattle.column_store.specs.Columns.{IsFull}
 use Rattle.row_codec.specs.Means.{AreCanonical}
 use Rattle.row_codec.specs.Messages.{IsMessage}
 use Rattle.row_codec.specs.Numbers.{numbers_of_row}
-use Rattle.message_reader.specs.Reading.{HasOpenEnd, IsNewReader, ReadMessage, ReadToEnd, ReaderStays, ReaderState}
-use Rattle.message_reader.specs.Taken.{HasRead, IsFrontOf}
+use Rattle.message_reader.specs.Reading.{HasOpenEnd, IsNewReader, ReadMessage, ReadToEnd, ReaderStays, ReaderState, RefusedToRead, left_of}
+use Rattle.message_reader.specs.Taken.{HasRead, IsFrontOf, ToldFirst}
 use Rattle.message_reader.specs.Versions.{MessagesOf}
-use Rattle.message_reader.proofs.TakenLemmas.{reading_begins, reading_ends, reading_goes_on, reading_is_front}
-use Rattle.message_reader.proofs.VersionLawLemmas.{messages_agree}
+use Rattle.message_reader.proofs.TakenLemmas.{reading_before_refusal, reading_begins, reading_ends, reading_goes_on, reading_is_front}
+use Rattle.message_reader.proofs.VersionLawLemmas.{messages_agree, messages_exist, messages_join}
 use Rattle.archive_meaning.specs.declared.TheConstants.{MAX_MESSAGES}
 use Rattle.archive_meaning.specs.Held.{ends_open, last_is_open}
 use Rattle.disk_seal.specs.declared.namer.LockNamer.{LockNamer}
@@ -28,17 +28,26 @@ use Rattle.ingest_workers.specs.declared.outcome.Cause.TheVariants.{OutOfMemory}
 use Rattle.ingest_workers.specs.declared.outcome.Outcome.{Outcome}
 use Rattle.ingest_workers.specs.declared.stop.Stop.{Stop}
 use Rattle.ingest_workers.specs.declared.stop.Stop.TheVariants.{Part as PartStop, Lost}
+use Rattle.log_messages.specs.Laws.{file_text}
+use Rattle.log_seams.specs.Outside.{CountsOf}
+use Rattle.line_cut.specs.Length.{bytes_left}
+use Rattle.line_cut.specs.declared.cut.Cut.{Cut}
+use Rattle.line_cut.specs.declared.cut.Cut.TheVariants.{ReadFault, LineTooLong, TooManyLines, OutOfMemory as CutOutOfMemory}
+use Rattle.line_cut.specs.declared.cut.Mark.{Mark}
+use Rattle.ingest_workers.specs.Causes.{HasJobCause, HasSealCause, HaveMoreThan, Limits, Log, cause_by, grounds_of, log_from, log_of, limits_by}
+use Rattle.disk_seal.specs.Known.{limit_in}
 use Rattle.ingest_workers.specs.Doing.{Covering, Doing}
 use Rattle.ingest_workers.specs.Done.{IsOutcome}
 use Rattle.ingest_workers.specs.Hand.{IsEmptyHand}
 use Rattle.ingest_workers.specs.JobDone.{CameTo}
 use Rattle.ingest_workers.specs.Journal.{FrontHolds, HasSoFar}
 use Rattle.ingest_workers.specs.MaySeal.{IsWorker}
-use Rattle.ingest_workers.specs.Namer.{types_seen, words_seen}
+use Rattle.ingest_workers.specs.Namer.{types_pass, words_pass, types_seen, words_seen}
 use Rattle.ingest_workers.specs.Naming.{HasNamed}
 use Rattle.ingest_workers.specs.Parts.{Part, IsCut, IsOpen, columns_of, front, messages_in, segments_from}
 use Rattle.ingest_workers.specs.Stopping.{IsAtStop}
-use Rattle.ingest_workers.specs.Taking.{AreTaken, IsOneOf, StopsAt, Taking, Took, mark_of}
+use Rattle.ingest_workers.specs.Taking.{AreTaken, HasStopCause, IsOneOf, StopsAt, Taking, Took, mark_of, why_of}
+use Rattle.ingest_workers.proofs.CauseLemmas.{name_cause, of_log, of_seal}
 use Rattle.ingest_workers.proofs.MaySealLemmas.{nothing_added}
 use Rattle.ingest_workers.proofs.NamingLemmas.{named_then, named_wider}
 use Rattle.ingest_workers.proofs.SealLemmas.{if_told, of_told}
@@ -58,6 +67,9 @@ each_some (Some x) P f = f x
 
 pub err_at : {T E : Type 0} (r : Result T E) (y : E) (P : E → Type 0) → r ≡ Err y → IfErr r P → P y
 err_at r y P is p = subst (λ s. IfErr s P) is p
+
+pub ok_at : {T E : Type 0} (r : Result T E) (x : T) (P : Type 0) → r ≡ Ok x → OnOk r P → P
+ok_at r x P is p = subst (λ s. OnOk s P) is p
 
 pub some_at : {T : Type 0} (o : Option T) (x : T) (P : T → Type 0) → o ≡ Some x → IfSome o P → P x
 some_at o x P is p = subst (λ q. IfSome q P) is p
@@ -104,20 +116,68 @@ all_of : (version : ℕ) (bytes : Option (List ℕ)) (taken : Texts) (ended : Bo
 all_of version bytes taken ended told =
     if_some bytes (λ b. MessagesOf version b taken ended) (AreAll version taken ended) (λ b mine messages e m. messages_agree version b taken messages ended e mine m) told
 
+-- more is left than as many messages as the limit
+text_of : (version : ℕ) (rest : List ℕ) (messages : Texts) (ended : Bool) → MessagesOf version rest messages ended → messages ≡ [] → 0 < length rest → ⊥
+text_of version rest messages ended m none some =
+    let joined : file_text [] ended ≡ rest = subst (λ l. file_text l ended ≡ rest) none (messages_join version rest messages ended m) in no_text ended rest joined some
+  where
+    no_text : (e : Bool) (bytes : List ℕ) → file_text [] e ≡ bytes → 0 < length bytes → ⊥
+    no_text true bytes is some = let size = ap length is in omega (arith, size, some)
+    no_text false bytes is some = let size = ap length is in omega (arith, size, some)
+
+one_more : (messages : Texts) → (messages ≡ [] → ⊥) → 0 < length messages
+one_more [] some = absurd (some refl)
+one_more (m ∷ messages) some = omega arith
+
+more_than : (version : ℕ) (bytes : Option (List ℕ)) (taken : Texts) (rest : Option (List ℕ)) (held : List ℕ) (left : Option (List ℕ)) → ToldFirst version bytes taken rest → rest ≡ bytes_left held left → 0 < length held → length taken ≡ MAX_MESSAGES
+    → HaveMoreThan MAX_MESSAGES version bytes
+more_than version None taken rest held left told is some most = tt
+more_than version (Some b) taken None held left told is some most = absurd told
+more_than version (Some b) taken (Some r) held None told is some most = absurd (cc (is))
+more_than version (Some b) taken (Some r) held (Some x) told is some most = λ messages ended m.
+    let begins : r ≡ held ++ x = cc (is) in
+    let others = messages_exist version r in
+    let all : messages ≡ taken ++ others.0 = (messages_agree version b messages (taken ++ others.0) ended others.1 m (told.others others.0 others.1 others.2)).0 in
+    let long = ap length begins in let held_more = length-append held x in
+    let left_some : 0 < length others.0 = one_more others.0 (λ none. text_of version r others.0 others.1 others.2 none (omega (arith, long, held_more, some))) in
+    omega (arith, ap length all, length-append taken others.0, most, left_some)
+
 -- ---- the next message
 
 module _ {S D R A B C : Type 0} (state : D → DiskState) (left : S → Option (List ℕ)) (limit : ℕ) (bytes : Option (List ℕ)) (start p : KeeperPass D) (n : LockNamer R A B C) (hand : Hand) (old new : ReaderState S) (taken : Texts)
     (t : Taking state left limit bytes start p n hand old taken) where
-  pub took_all : ReadToEnd left old new → Took state limit n.version bytes start p n hand (Ok true)
-  took_all at_end = record {
+  pub took_all : (faults : S → ℕ) → faults new.source ≡ faults old.source → ReadToEnd left old new → Took state limit n.version (log_from bytes left faults old.source new.source) start p n hand (Ok true)
+  took_all faults steady at_end = record {
+    caused = steady;
     taken = taken;
     few = t.few;
     stops = (t.doing, λ e. absurd (cc (e)));
     told = all_of n.version bytes taken true ((reading_ends left n.version bytes taken old new t.read).1 at_end t.going);
   }
 
-  pub took_part : (cause : Cause) → Took state limit n.version bytes start p n hand (Err (PartStop cause))
-  took_part cause = record { taken = taken; few = t.few; stops = t.doing; told = front_of left n.version bytes taken old t.read }
+  -- the reader refused, and this is its cause
+  module _ (faults : S → ℕ) (result : Result (Option Mark) Cut) (counts : CountsOf ReadFault (faults old.source) (faults new.source) result) (limits : Limits) where
+    cut_cause : (cut : Cut) → IsErrOf result cut → RefusedToRead left faults old new cut → HasStopCause limits (log_from bytes left faults old.source new.source) n.version taken (Err (PartStop (cause_by cut)))
+    cut_cause ReadFault is r = (counts.failed is, reading_before_refusal left faults n.version bytes taken old new ReadFault t.read r t.going)
+    cut_cause (LineTooLong line) is r = let g = reading_before_refusal left faults n.version bytes taken old new (LineTooLong line) t.read r t.going in (counts.spared (LineTooLong line) is (λ e. cc (e)), g.0, g.1)
+    cut_cause TooManyLines is r = (
+      counts.spared TooManyLines is (λ e. cc (e)),
+      reading_before_refusal left faults n.version bytes taken old new TooManyLines t.read r t.going,
+      more_than n.version bytes taken (left_of left old) new.pending (left new.source) t.read.told (sym r.left_same) (r.cause t.going).some
+          (reading_before_refusal left faults n.version bytes taken old new TooManyLines t.read r t.going),
+    )
+    cut_cause CutOutOfMemory is r = absurd (r.cause t.going)
+
+    pub took_part : (cut : Cut) (cause : Cause) → cause ≡ cause_by cut → IsErrOf result cut → RefusedToRead left faults old new cut → limits ≡ limits_by (types_pass n) (words_pass n)
+        → Took state limit n.version (log_from bytes left faults old.source new.source) start p n hand (Err (PartStop cause))
+    took_part cut cause same is r by = record {
+      taken = taken;
+      few = t.few;
+      stops = t.doing;
+      told = front_of left n.version bytes taken old t.read;
+      caused = subst (λ x. HasStopCause (limits_by (types_pass n) (words_pass n)) (log_from bytes left faults old.source new.source) n.version taken (Err (PartStop x))) (sym same)
+          (subst (λ l. HasStopCause l (log_from bytes left faults old.source new.source) n.version taken (Err (PartStop (cause_by cut)))) by (cut_cause cut is r));
+    }
 
   pub room_for_one : (ended : Bool) → ReadMessage left ended old new → length taken < MAX_MESSAGES
   room_for_one ended m = omega (arith, m.within, t.read.given)
@@ -142,12 +202,19 @@ module _ {S D R A B C : Type 0} (state : D → DiskState) (left : S → Option (
       pub named_more : (ended : Bool) → ReadMessage left ended old new → HasNamed (λ x. x ≡ line) n o → HasNamed (IsOneOf n.version bytes) n o
       named_more ended m named = named_wider (λ x. x ≡ line) (IsOneOf n.version bytes) (λ x is. subst (IsOneOf n.version bytes) (sym (is ∙ same)) (is_one ended m)) n o named
 
-      pub took_stop : (ended : Bool) → ReadMessage left ended old new → (y : Stop) → IsAtStop state limit start q o next taken line y → Took state limit n.version bytes start q o next (Err y)
-      took_stop ended m (PartStop cause) d = record { taken = taken; few = t.few; stops = d; told = front_of left n.version bytes taken old t.read }
-      took_stop ended m (Lost cause) c = record {
+      pub took_stop : (ended : Bool) → ReadMessage left ended old new → faults new.source ≡ faults old.source → (y : Stop) → IsAtStop state limit start q o next taken line y → Took state limit n.version (log_from bytes left faults old.source new.source) start q o next (Err y)
+      took_stop ended m steady (PartStop cause) d = record {
+        taken = taken;
+        few = t.few;
+        stops = d.0;
+        told = front_of left n.version bytes taken old t.read;
+        caused = name_cause (limits_by (types_pass o) (words_pass o)) (log_from bytes left faults old.source new.source) n.version taken cause steady d.1;
+      }
+      took_stop ended m steady (Lost cause) c = record {
+        caused = tt;
         taken = taken ++ new.message ∷ [];
         few = few_more ended m;
-        stops = subst (λ l. Covering state limit start q next (taken ++ l ∷ [])) same c;
+        stops = (subst (λ l. Covering state limit start q next (taken ++ l ∷ [])) same c.0, c.1);
         told = front_more ended m;
       }
 
@@ -160,9 +227,10 @@ module _ {S D R A B C : Type 0} (state : D → DiskState) (left : S → Option (
             few = few_more true m';
           }
 
-      pub took_last : (ended : Bool) → ended ≡ false → ReadMessage left ended old new → Doing state limit start q o next (taken ++ line ∷ []) → Took state limit n.version bytes start q o next (Ok false)
-      took_last ended is m d =
+      pub took_last : (ended : Bool) → ended ≡ false → ReadMessage left ended old new → faults new.source ≡ faults old.source → Doing state limit start q o next (taken ++ line ∷ []) → Took state limit n.version (log_from bytes left faults old.source new.source) start q o next (Ok false)
+      took_last ended is m steady d =
           let m' = subst (λ e. ReadMessage left e old new) is m in record {
+            caused = steady;
             taken = taken ++ new.message ∷ [];
             few = few_more false m';
             stops = (subst (λ l. Doing state limit start q o next (taken ++ l ∷ [])) same d, λ e. last_open taken new.message (open_of new.message (m'.open_end refl)));
@@ -178,6 +246,10 @@ module _ {R A B C : Type 0} where
 module _ {S D R A B C : Type 0} (state : D → DiskState) (left : S → Option (List ℕ)) (limit : ℕ) (bytes : Option (List ℕ)) (start p q : KeeperPass D) (n o : LockNamer R A B C) (hand next : Hand) (old new : ReaderState S) (taken : Texts) (text : List ℕ) where
   pub one_less : Taking state left limit bytes start p n hand old taken → Taking state left limit bytes start q o next new (taken ++ text ∷ []) → MAX_MESSAGES - new.given < MAX_MESSAGES - old.given
   one_less a b = omega (arith, a.read.given, b.read.given, b.few, length-append taken (text ∷ []))
+
+-- told since an earlier moment, since when no read failed
+pub took_since : {S : Type 0} (bytes : Option (List ℕ)) (left : S → Option (List ℕ)) (faults : S → ℕ) (first old new : S) → faults old ≡ faults first → (P : Log → Type 0) → P (log_from bytes left faults old new) → P (log_from bytes left faults first new)
+took_since bytes left faults first old new steady P p = subst (λ n. P (record { bytes = bytes; behind = left new; faults = n; faults_now = faults new })) steady p
 
 -- ---- before the first message
 
@@ -227,8 +299,9 @@ module _ {D R A B C : Type 0} (state : D → DiskState) (limit : ℕ) (least : 1
       record { doing = doing_none n hand file worker is empty; read = reading_begins left n.version source r fresh; going = fresh.progress; few = omega arith }
 
 module _ {D : Type 0} (state : D → DiskState) (limit : ℕ) (least : 1 ≤ limit) (p : KeeperPass D) (so_far : HasSoFar state p []) where
-  pub came_none : (version : ℕ) (bytes : Option (List ℕ)) → IsReady p → CameTo state limit version bytes p p (record { messages = 0; whole = false; cause = Some OutOfMemory })
-  came_none version bytes ready = record {
+  pub came_none : (version : ℕ) (limits : Limits) (log : Log) → IsReady p → CameTo state limit version limits log p p (record { messages = 0; whole = false; cause = Some OutOfMemory })
+  came_none version limits log ready = record {
+    caused = tt;
     covered = [];
     ended = false;
     count = refl;
@@ -249,7 +322,7 @@ module _ {D : Type 0} (state : D → DiskState) (limit : ℕ) (least : 1 ≤ lim
             holds = of_told (is_some (state a.fixed.opened).seen) _ told (so_far a at);
           } in found);
     };
-    first = each_some bytes (AreFirst version []) (λ b messages e is. (messages, refl));
+    first = each_some log.bytes (AreFirst version []) (λ b messages e is. (messages, refl));
     all = λ w. absurd (cc (w));
   }
 
@@ -262,8 +335,9 @@ module _ {D R A B C : Type 0} (state : D → DiskState) (limit : ℕ) (start p :
   pub at_part : (answer : Result Bool Stop) (cause : Cause) → answer ≡ Err (PartStop cause) → StopsAt state limit start p n hand taken answer → Doing state limit start p n hand taken
   at_part answer cause is s = subst (StopsAt state limit start p n hand taken) is s
 
-  lost_done : 1 ≤ limit → Covering state limit start p hand taken → (cause : Cause) → IsOutcome state limit start p taken false (record { messages = hand.draft.first; whole = false; cause = Some cause })
-  lost_done least c cause = record {
+  lost_done : 1 ≤ limit → Covering state limit start p hand taken → (cause : Cause) → HasSealCause state start p cause → IsOutcome state limit start p taken false None (record { messages = hand.draft.first; whole = false; cause = Some cause })
+  lost_done least c cause has = record {
+    caused = inr (cause, refl, has);
     covered = messages_in c.closed;
     front = c.front;
     all = λ is. absurd (cc (is));
@@ -284,10 +358,10 @@ module _ {D R A B C : Type 0} (state : D → DiskState) (limit : ℕ) (start p :
   }
 
   pub lost_outcome : 1 ≤ limit → (answer : Result Bool Stop) (cause : Cause) → answer ≡ Err (Lost cause) → StopsAt state limit start p n hand taken answer
-      → IsOutcome state limit start p taken (mark_of answer) (record { messages = hand.draft.first; whole = false; cause = Some cause })
+      → IsOutcome state limit start p taken (mark_of answer) (why_of answer) (record { messages = hand.draft.first; whole = false; cause = Some cause })
   lost_outcome least answer cause is s =
-      subst (λ a. IsOutcome state limit start p taken (mark_of a) (record { messages = hand.draft.first; whole = false; cause = Some cause })) (sym is)
-      (lost_done least (subst (StopsAt state limit start p n hand taken) is s) cause)
+      let at = subst (StopsAt state limit start p n hand taken) is s in
+      subst (λ a. IsOutcome state limit start p taken (mark_of a) (why_of a) (record { messages = hand.draft.first; whole = false; cause = Some cause })) (sym is) (lost_done least at.0 cause at.1)
 
 first_of : (answer : Result Bool Stop) (taken covered messages : Texts) (e : Bool) → IsPrefix covered taken → AreTaken answer taken messages e → IsPrefix covered messages
 first_of (Ok ended) taken covered messages e front is = subst (IsPrefix covered) is.0 front
@@ -297,19 +371,59 @@ all_at_end : (answer : Result Bool Stop) (ended : Bool) → answer ≡ Ok ended 
 all_at_end (Ok x) ended is_end taken covered messages e same is = (same ∙ is.0, is.1)
 all_at_end (Err y) ended is_end taken covered messages e same is = absurd (cc (is_end))
 
-module _ {D R A B C : Type 0} (state : D → DiskState) (limit version : ℕ) (bytes : Option (List ℕ)) (start p : KeeperPass D) (n : LockNamer R A B C) (hand : Hand) (answer : Result Bool Stop) (t : Took state limit version bytes start p n hand answer) (q : KeeperPass D)
+module _ {D R A B C : Type 0} (state : D → DiskState) (limit version : ℕ) (log : Log) (start p : KeeperPass D) (n : LockNamer R A B C) (hand : Hand) (answer : Result Bool Stop) (t : Took state limit version log start p n hand answer) (q : KeeperPass D)
     (outcome : Outcome) where
-  pub came_to : IsOutcome state limit start q t.taken (mark_of answer) outcome → (outcome.whole ≡ true → (ended : Bool) × (answer ≡ Ok ended)) → CameTo state limit version bytes start q outcome
-  came_to o whole = record {
+  abbrev known : Limits
+  known = limits_by (types_pass n) (words_pass n)
+
+  -- the cause, where no further message was taken for it and all that were are sealed
+  stopped_by : (a : Result Bool Stop) (covered : Texts) (o : Option Cause) → HasStopCause known log version t.taken a → ((x : Cause) → a ≡ Err (Lost x) → o ≡ None → ⊥) → o ≡ why_of a → covered ≡ t.taken
+      → HasJobCause (grounds_of state known start q) log version covered o
+  stopped_by (Ok ended) covered o has lost is all = subst (HasJobCause (grounds_of state known start q) log version covered) (sym is) has
+  stopped_by (Err (PartStop cause)) covered o has lost is all =
+      subst (HasJobCause (grounds_of state known start q) log version covered) (sym is)
+      (subst (λ l. HasJobCause (grounds_of state known start q) log version l (Some cause)) (sym all) (of_log state known start q log version t.taken cause has))
+  stopped_by (Err (Lost cause)) covered o has lost is all = absurd (lost cause refl is)
+
+  not_lost : (o : IsOutcome state limit start q t.taken (mark_of answer) (why_of answer) outcome) → (outcome.whole ≡ true → (ended : Bool) × (answer ≡ Ok ended)) → (x : Cause) → answer ≡ Err (Lost x) → outcome.cause ≡ None → ⊥
+  not_lost o whole x is none =
+      let not_none : not outcome.whole ≡ false = sym o.cause ∙ ap is_some none in
+      let all : outcome.whole ≡ true = is_whole outcome.whole not_none in
+      let w = whole all in cc (w.1, is)
+    where
+      is_whole : (b : Bool) → not b ≡ false → b ≡ true
+      is_whole true is = refl
+      is_whole false is = absurd (cc (is))
+
+  caused_by : (o : IsOutcome state limit start q t.taken (mark_of answer) (why_of answer) outcome) → (outcome.whole ≡ true → (ended : Bool) × (answer ≡ Ok ended)) → HasJobCause (grounds_of state known start q) log version o.covered outcome.cause
+  caused_by o whole =
+      ⊎_elim
+      (λ (stop : (outcome.cause ≡ why_of answer) × (o.covered ≡ t.taken)). stopped_by answer o.covered outcome.cause t.caused (not_lost o whole) stop.0 stop.1)
+      (λ (seal : (c : Cause) × (outcome.cause ≡ Some c) × HasSealCause state start q c).
+      subst (HasJobCause (grounds_of state known start q) log version o.covered) (sym seal.1) (of_seal state known start q log version o.covered seal.0 seal.2))
+      o.caused
+
+  pub came_to : (limits : Limits) → limits_by (types_pass n) (words_pass n) ≡ limits → IsOutcome state limit start q t.taken (mark_of answer) (why_of answer) outcome → (outcome.whole ≡ true → (ended : Bool) × (answer ≡ Ok ended)) → CameTo state limit version limits log start q outcome
+  came_to limits by o whole = record {
     covered = o.covered;
     ended = mark_of answer;
     count = o.count;
     cause = o.cause;
+    caused = subst (λ l. HasJobCause (grounds_of state l start q) log version o.covered outcome.cause) by (caused_by o whole);
     done = o.done;
-    first = if_some bytes told (AreFirst version o.covered) (λ b tells messages e is. first_of answer t.taken o.covered messages e o.front (tells messages e is)) t.told;
-    all = λ w. if_some bytes told (AreAll version o.covered (mark_of answer)) (λ b tells messages e is.
+    first = if_some log.bytes told (AreFirst version o.covered) (λ b tells messages e is. first_of answer t.taken o.covered messages e o.front (tells messages e is)) t.told;
+    all = λ w. if_some log.bytes told (AreAll version o.covered (mark_of answer)) (λ b tells messages e is.
         all_at_end answer (whole w).0 (whole w).1 t.taken o.covered messages e (o.all w) (tells messages e is)) t.told;
   }
     where
       told : List ℕ → Type 0
       told b = (messages : Texts) (e : Bool) → MessagesOf version b messages e → AreTaken answer t.taken messages e
+
+module _ {R A B C : Type 0} where
+  -- naming leaves the limits of the books
+  pub same_limits : (m n : LockNamer R A B C) → about (types_pass n) ≡ about (types_pass m) → about (words_pass n) ≡ about (words_pass m) → limits_by (types_pass n) (words_pass n) ≡ limits_by (types_pass m) (words_pass m)
+  same_limits m n types words = λ i. record { types = limit_in (types i); words = limit_in (words i) }
+
+-- told of the source, which the reader had and gave back
+pub came_back : {S : Type 0} (left : S → Option (List ℕ)) (faults : S → ℕ) (source had has back : S) → had ≡ source → back ≡ has → (P : Log → Type 0) → P (log_from (left source) left faults had has) → P (log_of left faults source back)
+came_back left faults source had has back was is P p = subst (λ x. P (log_from (left source) left faults source x)) (sym is) (subst (λ x. P (log_from (left source) left faults x has)) was p)

@@ -4,7 +4,7 @@ use Rattle.turn_lock.specs.declared.grows.Grows.{Ghosts}
 use Rattle.turn_lock.specs.declared.maker.Maker.{Maker}
 use mathlib.Core.List.{IsPrefix}
 use Rattle.turn_lock.specs.History.{StandsIn}
-use Rattle.turn_lock.specs.Words.{about_by, lock_by, lock_of, own_list, seen, seen_by, HasJoinedAll, IsReady}
+use Rattle.turn_lock.specs.Words.{about_by, lock_by, own_list, seen, seen_by, HasJoinedAll}
 use Rattle.dict_core.specs.Books.{BookState}
 use Rattle.dict_lock.specs.Shared.{BookPass}
 use Rattle.ingest_fork.specs.Passes.{Fresh, Joined, AreJoinable}

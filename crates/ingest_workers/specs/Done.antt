@@ -1,12 +1,14 @@
 -- What is left of a job.
-use Rattle.std.specs.Prelude.{◌≡◌, ℕ, ◌&&◌, Bool, true, not, is_some, List, ◌++◌, length, All}
+use Rattle.std.specs.Prelude.{◌≡◌, ◌⊎◌, ℕ, ◌&&◌, Bool, true, not, is_some, List, ◌++◌, length, Option, Some, All}
 use mathlib.Core.List.{IsPrefix}
 use Rattle.log_seams.specs.Disk.{DiskState}
 use Rattle.turn_lock.specs.Words.{seen, number_of}
 use Rattle.disk_seal.specs.declared.entry.StoreEntry.{StoreEntry}
 use Rattle.disk_seal.specs.Draft.{journal_seen}
 use Rattle.disk_seal.specs.Fixed.{KeeperPass}
+use Rattle.ingest_workers.specs.declared.outcome.Cause.{Cause}
 use Rattle.ingest_workers.specs.declared.outcome.Outcome.{Outcome}
+use Rattle.ingest_workers.specs.Causes.{HasSealCause}
 use Rattle.ingest_workers.specs.Journal.{FrontHolds, HasAdded, WhereTold, sealed_by}
 use Rattle.ingest_workers.specs.Parts.{IsCut, IsOpen, Part, messages_in, rest_of, segments_from}
 
@@ -24,11 +26,13 @@ module _ {D : Type 0} where
     pub segments : WhereTold state start (λ h. sealed_by more ≡ segments_from (number_of start) 0 closed ++ rest_of (number_of start) (length (messages_in closed)) whole ended rest)
     pub held : WhereTold state start (λ h. FrontHolds h (journal_seen (seen p)) (number_of start) covered whole (whole && ended))
 
-  -- the outcome counts those of the messages taken that are sealed, and has a cause exactly where the file is not whole
-  pub record IsOutcome (state : D → DiskState) (limit : ℕ) (start p : KeeperPass D) (taken : List (List ℕ)) (ended : Bool) (o : Outcome) : Type 0 where
+  -- The outcome counts those of the messages taken that are sealed, and has a cause exactly where the file is not whole. It is the one for which no
+  -- further message was taken, and then all of them are sealed; or why a segment was not.
+  pub record IsOutcome (state : D → DiskState) (limit : ℕ) (start p : KeeperPass D) (taken : List (List ℕ)) (ended : Bool) (why : Option Cause) (o : Outcome) : Type 0 where
     pub covered : List (List ℕ)
     pub front : IsPrefix covered taken
     pub all : o.whole ≡ true → covered ≡ taken
     pub cause : is_some o.cause ≡ not o.whole
+    pub caused : ((o.cause ≡ why) × (covered ≡ taken)) ⊎ ((c : Cause) × (o.cause ≡ Some c) × HasSealCause state start p c)
     pub count : o.messages ≡ length covered
     pub done : HasDone state limit start p covered o.whole ended

@@ -1,17 +1,15 @@
 -- When an ingest may begin, and what it leaves.
-use Rattle.std.specs.Prelude.{◌≡◌, ◌⊎◌, ℕ, ◌+◌, ◌<◌, ◌≤◌, ◌&&◌, Bool, true, false, not, List, [], ◌∷◌, ◌++◌, length, is_some, Option, None, Some, IfSome, slice_get, All}
+use Rattle.std.specs.Prelude.{◌≡◌, ◌⊎◌, ℕ, ◌+◌, ◌<◌, ◌&&◌, Bool, true, false, not, List, [], ◌∷◌, ◌++◌, length, is_some, Option, None, Some, IfSome, slice_get, All}
 use Rattle.std.specs.List.{filter_map}
 use mathlib.Core.List.{IsPrefix}
 use Rattle.log_seams.specs.declared.disk.Disk.{Ghosts as DiskGhosts}
-use Rattle.log_seams.specs.Disk.{DiskState}
 use Rattle.log_seams.specs.Outside.{Rose}
-use Rattle.turn_lock.specs.declared.board.About.{About}
 use Rattle.turn_lock.specs.declared.grows.Grows.{Ghosts}
-use Rattle.turn_lock.specs.Words.{about, number_of, own_list, IsOpening}
-use Rattle.ingest_fork.specs.Picked.{entries_in}
+use Rattle.turn_lock.specs.Words.{IsOpening}
 use Rattle.dict_core.specs.Books.{BookState}
 use Rattle.dict_lock.specs.Shared.{BookPass}
 use Rattle.row_codec.specs.Messages.{IsTypeOf, IsWordOf}
+use Rattle.record_format.specs.declared.header.Header.{Header}
 use Rattle.disk_journal.specs.declared.journal.Journal.{Journal}
 use Rattle.disk_journal.specs.Journal.{state_of}
 use Rattle.disk_journal.specs.State.{JournalState}
@@ -19,13 +17,10 @@ use Rattle.archive_meaning.specs.declared.entry.JournalEntry.{JournalEntry}
 use Rattle.archive_meaning.specs.declared.entry.JournalEntry.TheVariants.{Files, Types, Words, Segment}
 use Rattle.archive_meaning.specs.Spelled.{types_of}
 use Rattle.message_reader.specs.Versions.{MessagesOf}
-use Rattle.disk_seal.specs.declared.fixed.StoreFixed.{StoreFixed}
 use Rattle.disk_seal.specs.Told.{IfTold, journal_in}
 use Rattle.disk_seal.specs.WordsIn.{words_of}
-use Rattle.disk_seal.specs.View.{StoreView, state_by, journal_of, journal_before, Kept}
-use Rattle.disk_seal.specs.Fixed.{KeeperPass}
+use Rattle.disk_seal.specs.View.{StoreView, state_by, journal_of, Kept}
 use Rattle.disk_seal.specs.Opening.{MayOpen}
-use Rattle.disk_seal.specs.Draft.{journal_seen}
 use Rattle.ingest_workers.specs.declared.job.Job.{Job}
 use Rattle.ingest_workers.specs.declared.worker.Plan.{Plan}
 use Rattle.ingest_workers.specs.declared.outcome.Outcome.{Outcome}
@@ -33,7 +28,8 @@ use Rattle.ingest_workers.specs.declared.outcome.Cause.TheVariants.{OutOfMemory}
 use Rattle.ingest_workers.specs.Outcome.{nothing_done}
 use Rattle.ingest_workers.specs.Journal.{FrontHolds, Holds}
 use Rattle.ingest_workers.specs.Parts.{IsCut, IsOpen, Part, messages_in, rest_of, segments_from}
-use Rattle.ingest_workers.specs.JobDone.{in_source}
+use Rattle.ingest_workers.specs.Causes.{Grounds, Limits, HasJobCause, limit_of, log_of}
+use Rattle.ingest_workers.specs.JobDone.{HasSourceBack, in_source}
 use Rattle.ingest_workers.specs.Crew.{BookMaker, EndsBook}
 use Rattle.ingest_workers.specs.Worker.{IsGiven}
 use Rattle.ingest_workers.specs.Locked.{in_file}
@@ -72,6 +68,7 @@ module _ {S : Type 0} where
   pub record AreRefused (js js' : List (Job S)) : Type 0 where
     pub counted : length js' ≡ length js
     pub each : (i : ℕ) (job : Job S) → slice_get js' i ≡ Some job → job.outcome ≡ not_begun
+    pub same : (i : ℕ) (job : Job S) → slice_get js i ≡ Some job → (new : Job S) × (slice_get js' i ≡ Some new) × (new.file ≡ job.file) × (new.source ≡ job.source)
 
   -- the text is one of the encoding of a message of one of the jobs' sources
   abbrev pub IsTypeGiven : (S → Option (List ℕ)) → ℕ → List (Job S) → List ℕ → Type 0
@@ -150,6 +147,35 @@ module _ {D : Type 0} {d : DiskGhosts D} where
 
   abbrev pub IsAsItWas : Journal D d → Journal D d → Type 0
   IsAsItWas before after = (after ≡ before) ⊎ ((store : StoreView D) × HasStayed store before after)
+
+-- the most texts of a book, by a header
+abbrev pub header_limits : Header → Limits
+header_limits h = record { types = h.types_limit; words = h.words_limit }
+
+module _ {D : Type 0} {d : DiskGhosts D} where
+  -- What causes say of the journal and its disk: where the journal is told, a book has as many texts as the header allows; the bytes go past the header's
+  -- limit of length; the disk's count of faults rose.
+  abbrev pub grounds_over : Journal D d → Journal D d → Grounds
+  grounds_over before after = record {
+    full = λ book count. IfTold (is_some (state_of before).disk.seen) (count ≡ limit_of (header_limits before.header) book);
+    no_room = λ end need. before.header.length_limit < end + need;
+    failed = λ opened now. (opened ≡ (state_of before).disk.faults) × Rose opened (state_of after).disk.faults;
+  }
+
+module _ {S D : Type 0} {d : DiskGhosts D} where
+  -- A job that was done has its source back, of the same name, whose count of faults did not fall. Of the first messages of the source, which the outcome
+  -- counts, the cause holds.
+  pub record HasItsCause (left name : S → Option (List ℕ)) (faults : S → ℕ) (plan : Plan) (before after : Journal D d) (old new : Job S) : Type 0 where
+    pub source : HasSourceBack name faults old new
+    pub sealed : List (List ℕ)
+    pub count : new.outcome.messages ≡ length sealed
+    pub first : OfMessages plan.version (left source.before) (λ messages e. IsPrefix sealed messages)
+    pub cause : HasJobCause (grounds_over before after) (log_of left faults source.before source.after) plan.version sealed new.outcome.cause
+
+  -- each job has
+  pub record HaveCauses (left name : S → Option (List ℕ)) (faults : S → ℕ) (plan : Plan) (before after : Journal D d) (js js' : List (Job S)) : Type 0 where
+    pub counted : length js' ≡ length js
+    pub each : (i : ℕ) (job : Job S) → slice_get js i ≡ Some job → (new : Job S) × (slice_get js' i ≡ Some new) × HasItsCause left name faults plan before after job new
 
 module _ {S D : Type 0} {d : DiskGhosts D} where
   -- A job was done. The messages that its outcome counts are the first ones of its source, and all of them where the file is whole; there is a cause

@@ -6,6 +6,7 @@ use Rattle.message_reader.specs.Versions.{MessagesOf}
 use Rattle.disk_seal.specs.Fixed.{KeeperPass}
 use Rattle.ingest_workers.specs.declared.job.Job.{Job}
 use Rattle.ingest_workers.specs.declared.outcome.Outcome.{Outcome}
+use Rattle.ingest_workers.specs.Causes.{Limits, Log, HasJobCause, grounds_of, log_of}
 use Rattle.ingest_workers.specs.Done.{HasDone}
 use Rattle.ingest_workers.specs.Taking.{IsOneOf, KeepsSource}
 
@@ -20,22 +21,17 @@ module _ {S : Type 0} where
   IsGivenBy left version j m = IsOneOf version (in_source left j.source) m
 
 module _ {D : Type 0} where
-  -- What came of a file, whose messages were those of these bytes where they are told. The pass has added the messages that the outcome counts, and they
-  -- are the first ones of the file. Where it is whole they are all, and its mark is that of the bytes. There is a cause exactly where it is not whole.
-  pub record CameTo (state : D → DiskState) (limit version : ℕ) (bytes : Option (List ℕ)) (start p : KeeperPass D) (o : Outcome) : Type 0 where
+  -- What came of a file, whose messages were those of this log where its bytes are told. The pass has added the messages that the outcome counts, and they
+  -- are the first ones of the file. Where it is whole they are all, and its mark is that of the bytes. There is a cause exactly where it is not whole, and it is a right one.
+  pub record CameTo (state : D → DiskState) (limit version : ℕ) (limits : Limits) (log : Log) (start p : KeeperPass D) (o : Outcome) : Type 0 where
     pub covered : List (List ℕ)
     pub ended : Bool
     pub count : o.messages ≡ length covered
     pub cause : is_some o.cause ≡ not o.whole
     pub done : HasDone state limit start p covered o.whole ended
-    pub first : IfSome bytes (λ b. (messages : List (List ℕ)) (e : Bool) → MessagesOf version b messages e → IsPrefix covered messages)
-    pub all : o.whole ≡ true → IfSome bytes (λ b. (messages : List (List ℕ)) (e : Bool) → MessagesOf version b messages e → (covered ≡ messages) × (ended ≡ e))
-
-module _ {S D : Type 0} where
-  -- the job was done with this pass, in segments of at most so many rows
-  pub record IsDone (state : D → DiskState) (left : S → Option (List ℕ)) (rows version : ℕ) (j : Job S) (p : KeeperPass D) (j' : Job S) (q : KeeperPass D) : Type 0 where
-    pub file : j'.file ≡ j.file
-    pub came : CameTo state rows version (in_source left j.source) p q j'.outcome
+    pub first : IfSome log.bytes (λ b. (messages : List (List ℕ)) (e : Bool) → MessagesOf version b messages e → IsPrefix covered messages)
+    pub all : o.whole ≡ true → IfSome log.bytes (λ b. (messages : List (List ℕ)) (e : Bool) → MessagesOf version b messages e → (covered ≡ messages) × (ended ≡ e))
+    pub caused : HasJobCause (grounds_of state limits start p) log version covered o.cause
 
 module _ {S : Type 0} where
   -- the job has its source back
@@ -45,3 +41,10 @@ module _ {S : Type 0} where
     pub had : j.source ≡ Some before
     pub has : j'.source ≡ Some after
     pub keeps : KeepsSource name faults before after
+
+module _ {S D : Type 0} where
+  -- the job was done with this pass, in segments of at most so many rows, with books of these limits, and has its source back
+  pub record IsDone (state : D → DiskState) (left name : S → Option (List ℕ)) (faults : S → ℕ) (rows version : ℕ) (limits : Limits) (j : Job S) (p : KeeperPass D) (j' : Job S) (q : KeeperPass D) : Type 0 where
+    pub file : j'.file ≡ j.file
+    pub source : HasSourceBack name faults j j'
+    pub came : CameTo state rows version limits (log_of left faults source.before source.after) p q j'.outcome

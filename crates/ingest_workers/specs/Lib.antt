@@ -1,4 +1,5 @@
 pub mod Outcome
+pub mod Causes
 pub mod Stop
 pub mod Parts
 pub mod Journal

@@ -1,12 +1,11 @@
 -- Jobs that workers do under the keeper's lock, and the store that comes back.
-use Rattle.std.specs.Prelude.{◌≡◌, ℕ, ◌+◌, ◌==◌, ◌<◌, ◌≤◌, if◌then◌else◌, List, [], length, drop, Option, None, Some, slice_get}
+use Rattle.std.specs.Prelude.{◌≡◌, ℕ, ◌+◌, ◌==◌, ◌≤◌, if◌then◌else◌, List, [], length, drop, Option, None, Some, slice_get}
 use Rattle.std.specs.List.{filter_map}
 use mathlib.Core.List.{IsPrefix}
 use Rattle.log_seams.specs.Disk.{DiskState}
-use Rattle.turn_lock.specs.declared.board.About.{About}
 use Rattle.turn_lock.specs.declared.grows.Grows.{Ghosts}
 use Rattle.turn_lock.specs.declared.maker.Maker.{Maker}
-use Rattle.turn_lock.specs.Words.{seen, own_list, about, number_of, IsReady, HasFixed, IsAllOwned, IsOpening, about_by, seen_by}
+use Rattle.turn_lock.specs.Words.{seen, own_list, about, number_of, IsReady, HasFixed, IsAllOwned, about_by, seen_by}
 use Rattle.ingest_fork.specs.Passes.{Fresh, Joined}
 use Rattle.ingest_fork.specs.Picked.{entries_in, AddedByOne}
 use Rattle.ingest_fork.specs.Works.{AllFit, AllDone, AllWent}
@@ -44,19 +43,19 @@ module _ {S D : Type 0} {G : Ghosts (StoreView D) StoreEntry (StoreFixed D)} (st
   MayDoAll m ws js = (m' : KeeperMaker D G) (ks : List (KeeperPass D)) → Fresh m m' ks (length js) → AllFit (MayDo state) ws js ks
 
   -- The maker made a pass for each job, the workers did the jobs with these, and the maker joined them.
-  pub record HasDoneAll (left : S → Option (List ℕ)) (m end : KeeperMaker D G) (ws ws' : List Worker) (js js' : List (Job S)) : Type 0 where
+  pub record HasDoneAll (left name : S → Option (List ℕ)) (faults : S → ℕ) (m end : KeeperMaker D G) (ws ws' : List Worker) (js js' : List (Job S)) : Type 0 where
     pub middle : KeeperMaker D G
     pub passes : List (KeeperPass D)
     pub passes' : List (KeeperPass D)
     pub fresh : Fresh m middle passes (length js)
     pub went : AllWent IsIdle (DidOnly left) js ws ws'
-    pub done : AllDone (DidJob state left) ws js passes js' passes'
+    pub done : AllDone (DidJob state left name faults) ws js passes js' passes'
     pub joined : Joined middle end passes' 0
 
   -- all was done, and the lock closed
-  pub record HasClosed (left : S → Option (List ℕ)) (m : KeeperMaker D G) (ws ws' : List Worker) (js js' : List (Job S)) (after : StoreView D) : Type 0 where
+  pub record HasClosed (left name : S → Option (List ℕ)) (faults : S → ℕ) (m : KeeperMaker D G) (ws ws' : List Worker) (js js' : List (Job S)) (after : StoreView D) : Type 0 where
     pub end : KeeperMaker D G
-    pub done : HasDoneAll left m end ws ws' js js'
+    pub done : HasDoneAll left name faults m end ws ws' js js'
     pub entries : store_entries (state_by state after) ≡ seen_by end
     pub fixed : HasFixed fixed_of (about_by end) after
     pub owned : IsAllOwned MayAdd end
@@ -95,7 +94,7 @@ module _ {S D : Type 0} (state : D → DiskState) where
 
   -- The workers did the jobs with passes over the store. What they added stands behind the store's list: each entry was added by one of the
   -- passes, which may add it, and the segments of a pass' file are those that it added, in order.
-  pub record HasWorked (left : S → Option (List ℕ)) (first : ℕ) (ws ws' : List Worker) (js js' : List (Job S)) (before after : StoreView D) : Type 0 where
+  pub record HasWorked (left name : S → Option (List ℕ)) (faults : S → ℕ) (first : ℕ) (ws ws' : List Worker) (js js' : List (Job S)) (before after : StoreView D) : Type 0 where
     pub fixed : fixed_of after ≡ fixed_of before
     pub front : IsPrefix (list_of state before) (list_of state after)
     pub passes : List (KeeperPass D)
@@ -103,7 +102,7 @@ module _ {S D : Type 0} (state : D → DiskState) where
     pub counted : length passes ≡ length js
     pub opened : (i : ℕ) (p : KeeperPass D) → slice_get passes i ≡ Some p → IsPassOf state first before i p
     pub went : AllWent IsIdle (DidOnly left) js ws ws'
-    pub done : AllDone (DidJob state left) ws js passes js' passes'
+    pub done : AllDone (DidJob state left name faults) ws js passes js' passes'
     pub files : (i : ℕ) (q : KeeperPass D) → slice_get passes' i ≡ Some q
         → filter_map (file_segment (number_of q)) (list_behind state before after) ≡ filter_map (file_segment (number_of q)) (entries_in (own_list q))
     pub seen_on : (i : ℕ) (q : KeeperPass D) → slice_get passes' i ≡ Some q → IsPrefix (seen q) (list_of state after)

@@ -8,3 +8,9 @@ use Rattle.ingest_workers.specs.declared.stop.Stop.TheVariants.{Part, Lost}
 abbrev pub stop_by : NameRefusal → Stop
 stop_by (NameFull book count) = Part (Full book count)
 stop_by NoMemory = Lost OutOfMemory
+
+-- a dictionary is full, or there was no memory
+abbrev pub IsNameStop : Stop → Type 0
+IsNameStop (Part (Full book count)) = Unit {0}
+IsNameStop (Lost OutOfMemory) = Unit {0}
+IsNameStop _ = ⊥

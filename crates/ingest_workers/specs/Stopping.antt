@@ -6,10 +6,13 @@ use Rattle.disk_seal.specs.Fixed.{KeeperPass}
 use Rattle.ingest_workers.specs.declared.hand.Hand.{Hand}
 use Rattle.ingest_workers.specs.declared.stop.Stop.{Stop}
 use Rattle.ingest_workers.specs.declared.stop.Stop.TheVariants.{Part, Lost}
+use Rattle.ingest_workers.specs.Causes.{HasSealCause, IsFullCause, limits_by}
 use Rattle.ingest_workers.specs.Doing.{Covering, Doing}
+use Rattle.ingest_workers.specs.Namer.{types_pass, words_pass}
 
 module _ {D R A B C : Type 0} where
-  -- behind these messages, of which a further one was met: what is in hand may still be sealed, or nothing more is
+  -- Behind these messages, of which a further one was met: a book is full, and what is in hand may still be sealed; or nothing more is, since a
+  -- segment was not.
   abbrev pub IsAtStop : (D → DiskState) → ℕ → KeeperPass D → KeeperPass D → LockNamer R A B C → Hand → List (List ℕ) → List ℕ → Stop → Type 0
-  IsAtStop state limit start p n hand taken line (Part cause) = Doing state limit start p n hand taken
-  IsAtStop state limit start p n hand taken line (Lost cause) = Covering state limit start p hand (taken ++ line ∷ [])
+  IsAtStop state limit start p n hand taken line (Part cause) = Doing state limit start p n hand taken × IsFullCause (limits_by (types_pass n) (words_pass n)) cause
+  IsAtStop state limit start p n hand taken line (Lost cause) = Covering state limit start p hand (taken ++ line ∷ []) × HasSealCause state start p cause

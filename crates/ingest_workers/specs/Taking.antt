@@ -1,5 +1,5 @@
 -- A worker that takes the messages of a source.
-use Rattle.std.specs.Prelude.{◌≡◌, ℕ, ◌≤◌, Bool, true, false, List, length, Option, Result, Ok, Err, IfSome}
+use Rattle.std.specs.Prelude.{◌≡◌, ℕ, ◌≤◌, Bool, true, false, List, length, Option, None, Some, Result, Ok, Err, IfSome}
 use Rattle.std.specs.List.{Contains}
 use mathlib.Core.List.{IsPrefix}
 use Rattle.log_seams.specs.Disk.{DiskState}
@@ -12,9 +12,12 @@ use Rattle.archive_meaning.specs.Held.{last_is_open}
 use Rattle.disk_seal.specs.declared.namer.LockNamer.{LockNamer}
 use Rattle.disk_seal.specs.Fixed.{KeeperPass}
 use Rattle.ingest_workers.specs.declared.hand.Hand.{Hand}
+use Rattle.ingest_workers.specs.declared.outcome.Cause.{Cause}
 use Rattle.ingest_workers.specs.declared.stop.Stop.{Stop}
 use Rattle.ingest_workers.specs.declared.stop.Stop.TheVariants.{Part, Lost}
+use Rattle.ingest_workers.specs.Causes.{Limits, Log, HasLogCause, HasSealCause, NoneFailed, limit_of, limits_by}
 use Rattle.ingest_workers.specs.Doing.{Covering, Doing}
+use Rattle.ingest_workers.specs.Namer.{types_pass, words_pass}
 
 -- The message is one of those that these bytes have in this version. Of a source that does not tell its bytes nothing is said.
 abbrev pub IsOneOf : ℕ → Option (List ℕ) → List ℕ → Type 0
@@ -38,22 +41,35 @@ abbrev pub mark_of : Result Bool Stop → Bool
 mark_of (Ok ended) = ended
 mark_of (Err stop) = false
 
+-- the cause for which no further message is taken, where the messages that were taken may be sealed
+abbrev pub why_of : Result Bool Stop → Option Cause
+why_of (Ok ended) = None
+why_of (Err (Part cause)) = Some cause
+why_of (Err (Lost cause)) = None
+
 -- What an answer says of the messages taken: at the end of the source they are all, and else the first ones.
 abbrev pub AreTaken : Result Bool Stop → List (List ℕ) → List (List ℕ) → Bool → Type 0
 AreTaken (Ok ended) taken messages e = (taken ≡ messages) × (ended ≡ e)
 AreTaken (Err stop) taken messages e = IsPrefix taken messages
 
+-- what the answer says of the log, where these messages of it were taken
+abbrev pub HasStopCause : Limits → Log → ℕ → List (List ℕ) → Result Bool Stop → Type 0
+HasStopCause limits log version taken (Ok ended) = NoneFailed log
+HasStopCause limits log version taken (Err (Part cause)) = HasLogCause (λ book count. count ≡ limit_of limits book) log version taken cause
+HasStopCause limits log version taken (Err (Lost cause)) = Unit {0}
+
 module _ {D R A B C : Type 0} where
   -- At the end of the source what is in hand may be sealed, and a last line without its newline has bytes; so it may be before a message that was not
-  -- taken. Else nothing more is sealed.
+  -- taken. Else nothing more is sealed, since a segment was not.
   abbrev pub StopsAt : (D → DiskState) → ℕ → KeeperPass D → KeeperPass D → LockNamer R A B C → Hand → List (List ℕ) → Result Bool Stop → Type 0
   StopsAt state limit start p n hand taken (Ok ended) = Doing state limit start p n hand taken × (ended ≡ false → last_is_open taken ≡ true)
   StopsAt state limit start p n hand taken (Err (Part cause)) = Doing state limit start p n hand taken
-  StopsAt state limit start p n hand taken (Err (Lost cause)) = Covering state limit start p hand taken
+  StopsAt state limit start p n hand taken (Err (Lost cause)) = Covering state limit start p hand taken × HasSealCause state start p cause
 
-  -- Since the pass was `start`, the worker took messages of a source that told these bytes, and stopped.
-  pub record Took (state : D → DiskState) (limit version : ℕ) (bytes : Option (List ℕ)) (start p : KeeperPass D) (n : LockNamer R A B C) (hand : Hand) (answer : Result Bool Stop) : Type 0 where
+  -- Since the pass was `start`, the worker took messages of a log, and stopped.
+  pub record Took (state : D → DiskState) (limit version : ℕ) (log : Log) (start p : KeeperPass D) (n : LockNamer R A B C) (hand : Hand) (answer : Result Bool Stop) : Type 0 where
     pub taken : List (List ℕ)
     pub few : length taken ≤ MAX_MESSAGES
     pub stops : StopsAt state limit start p n hand taken answer
-    pub told : IfSome bytes (λ b. (messages : List (List ℕ)) (ended : Bool) → MessagesOf version b messages ended → AreTaken answer taken messages ended)
+    pub told : IfSome log.bytes (λ b. (messages : List (List ℕ)) (ended : Bool) → MessagesOf version b messages ended → AreTaken answer taken messages ended)
+    pub caused : HasStopCause (limits_by (types_pass n) (words_pass n)) log version taken answer

@@ -1,23 +1,22 @@
 -- Laws of a worker, which its trait asks for.
-use Rattle.std.proofs.Common.{◌≡◌, ℕ, ◌+◌, ◌<◌, ◌≤◌, List, [], ◌∷◌, ◌++◌, length, sym, refl, ap, ◌∙◌, subst, Option, None, Some, IsSome, slice_get, All, map, append-nil, append_assoc}
+use Rattle.std.proofs.Common.{◌≡◌, ℕ, ◌+◌, ◌≤◌, List, [], ◌∷◌, ◌++◌, length, sym, refl, ap, ◌∙◌, subst, Option, None, Some, IsSome, append-nil, append_assoc}
 use Rattle.std.proofs.lemmas.List.Elements.{All-nil, All-append}
-use mathlib.Core.List.{IsPrefix}
 use Rattle.log_seams.specs.Disk.{DiskState}
-use Rattle.turn_lock.specs.Words.{about, lock_of, number_of, own_list, seen, IsReady, IsStill}
+use Rattle.turn_lock.specs.Words.{seen, IsReady}
 use Rattle.turn_lock.proofs.FrontLemmas.{prefix_self, prefix_trans}
 use Rattle.ingest_fork.proofs.PlaceLemmas.{at_left, at_right}
-use Rattle.dict_lock.specs.Shared.{BookPass, GoesOn}
-use Rattle.row_codec.specs.Messages.{IsTypeOf, IsWordOf}
+use Rattle.dict_lock.specs.Shared.{BookPass}
 use Rattle.row_codec.specs.Naming.{HasGrown, Known}
 use Rattle.disk_seal.specs.Fixed.{KeeperPass}
-use Rattle.disk_seal.specs.Known.{known_of}
+use Rattle.disk_seal.specs.Known.{known_of, limit_in}
 use Rattle.ingest_workers.specs.declared.job.Job.{Job}
 use Rattle.ingest_workers.specs.declared.worker.BookPasses.{BookPasses}
 use Rattle.ingest_workers.specs.declared.worker.Plan.{Plan}
 use Rattle.ingest_workers.specs.declared.worker.Worker.{Worker}
 use Rattle.ingest_workers.specs.Naming.{AddsOnly}
+use Rattle.ingest_workers.specs.Causes.{Limits}
 use Rattle.ingest_workers.specs.JobDone.{IsGivenBy, IsDone}
-use Rattle.ingest_workers.specs.Worker.{passes_in, passes_of, types_of, words_of, MayAddTexts, IsIdle, NamesOnly, IsGiven, DidOnly, GoWith, IsNewJob, MayDo, DidJob}
+use Rattle.ingest_workers.specs.Worker.{passes_in, passes_of, types_of, words_of, limits_in, MayAddTexts, IsIdle, NamesOnly, IsGiven, DidOnly, MayDo, DidJob}
 
 grows_self : (P : List ℕ → Type 0) (known : Known) → HasGrown P known known
 grows_self P known = record { limit = refl; front = prefix_self known.texts; more = []; added = sym (append-nil known.added); allowed = All-nil P }
@@ -124,5 +123,10 @@ module _ {S D : Type 0} (state : D → DiskState) (left : S → Option (List ℕ
     new = may.new;
   }
 
-  pub did_on : (js : List (Job S)) (a b : Worker) (j l : Job S) (k m : KeeperPass D) → DidOnly left js a b → DidJob state left b j k l m → DidJob state left a j k l m
-  did_on js a b j l k m one did = subst (λ (p : Plan). IsDone state left p.rows p.version j k l m) one.plan did
+module _ {S D : Type 0} (state : D → DiskState) (left name : S → Option (List ℕ)) (faults : S → ℕ) where
+  same_limits : (js : List (Job S)) (a b : Worker) → DidOnly left js a b → limits_in b ≡ limits_in a
+  same_limits js a b one = λ i. record { types = limit_in (one.names.types.goes.still.about_is i); words = limit_in (one.names.words.goes.still.about_is i) }
+
+  pub did_on : (js : List (Job S)) (a b : Worker) (j l : Job S) (k m : KeeperPass D) → DidOnly left js a b → DidJob state left name faults b j k l m → DidJob state left name faults a j k l m
+  did_on js a b j l k m one did = subst (λ (x : Limits). IsDone state left name faults a.plan.rows a.plan.version x j k l m) (same_limits js a b one)
+      (subst (λ (p : Plan). IsDone state left name faults p.rows p.version (limits_in b) j k l m) one.plan did)

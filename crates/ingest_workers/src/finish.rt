@@ -1,12 +1,12 @@
 //! The end of a file.
-ghost use Rattle.std.specs.Prelude.{◌≡◌, ◌≤◌, ℕ, Bool, List, Ok, false, true, length};
+ghost use Rattle.std.specs.Prelude.{◌≡◌, ◌≤◌, ℕ, Bool, List, None, Ok, Some, false, true, length};
 ghost use Rattle.archive_meaning.specs.declared.TheConstants.{MAX_ROWS, MAX_MESSAGES};
 ghost use Rattle.archive_meaning.specs.Held.{last_is_open};
 ghost use Rattle.disk_seal.specs.Fixed.{KeeperPass};
 ghost use Rattle.ingest_workers.specs.Doing.{Doing};
 ghost use Rattle.ingest_workers.specs.Done.{IsOutcome};
 ghost use Rattle.ingest_workers.specs.Namer.{HasOnlySeen};
-ghost use Rattle.ingest_workers.specs.Taking.{StopsAt, mark_of};
+ghost use Rattle.ingest_workers.specs.Taking.{StopsAt, mark_of, why_of};
 
 use crate::hand::Hand;
 use crate::outcome::{Cause, Outcome};
@@ -37,7 +37,7 @@ pub(crate) fn seal_last<'d, 'b, D: Disk, R: Wait, A: Ledger, B: Ledger, C: Ledge
     ensures namer { HasOnlySeen namer.old namer.new }
     ensures outcome { (start : KeeperPass _) (taken : List (List ℕ))
         → Doing D.state _rows start keeper.old namer.old hand.old taken
-        → IsOutcome D.state _rows start keeper.new taken ended result }
+        → IsOutcome D.state _rows start keeper.new taken ended None result }
 {
     hand.draft.last = true;
     hand.draft.ended = ended;
@@ -74,7 +74,7 @@ pub(crate) fn seal_part<'d, 'b, D: Disk, R: Wait, A: Ledger, B: Ledger, C: Ledge
     ensures part { result.whole ≡ false }
     ensures outcome { (start : KeeperPass _) (taken : List (List ℕ))
         → Doing D.state _rows start keeper.old namer.old hand.old taken
-        → IsOutcome D.state _rows start keeper.new taken false result }
+        → IsOutcome D.state _rows start keeper.new taken false (Some cause) result }
 {
     if hand.draft.columns.rows() == 0 {
         return Outcome {
@@ -116,7 +116,8 @@ pub(crate) fn finish<'d, 'b, D: Disk, R: Wait, A: Ledger, B: Ledger, C: Ledger>(
     ensures whole { result.whole ≡ true → (ended : Bool) × (stop ≡ Ok ended) }
     ensures outcome { (start : KeeperPass _) (taken : List (List ℕ))
         → StopsAt D.state rows start keeper.old namer.old hand.old taken stop
-        → IsOutcome D.state rows start keeper.new taken (mark_of stop) result }
+        → IsOutcome D.state rows start keeper.new taken (mark_of stop) (why_of stop)
+        result }
 {
     match stop {
         Ok(ended) => seal_last(rt, alloc, rows, ended, hand, namer, keeper),

@@ -1,5 +1,5 @@
 //! The messages of a file that a worker has in hand.
-ghost use Rattle.std.specs.Prelude.{◌≡◌, ◌+◌, ◌<◌, ◌≤◌, ◌↔◌, ◌∷◌, ◌++◌, List, [], ℕ, false, length, IsTrue, IsErrOf, OnOk, OnErr};
+ghost use Rattle.std.specs.Prelude.{◌≡◌, ◌+◌, ◌<◌, ◌≤◌, ◌↔◌, ◌∷◌, ◌++◌, List, [], ℕ, false, length, IsTrue, IfErr, IsErrOf, OnOk, OnErr};
 ghost use Rattle.column_store.specs.declared.row.Row.{Row};
 ghost use Rattle.row_codec.specs.declared.TheConstants.{MAX_MESSAGE_LEN};
 ghost use Rattle.row_codec.specs.Messages.{IsTypeOf, IsWordOf};
@@ -8,6 +8,7 @@ ghost use Rattle.column_store.specs.Columns.{IsFull};
 ghost use Rattle.ingest_workers.specs.declared.outcome.Cause.TheVariants.{Full};
 ghost use Rattle.ingest_workers.specs.declared.stop.Stop.TheVariants.{Part};
 ghost use Rattle.ingest_workers.specs.Hand.{HasInHand, IsEmptyHand, HasRoom, SameMarks, SameRows};
+ghost use Rattle.ingest_workers.specs.Stop.{IsNameStop};
 
 use crate::stop::Stop;
 use column_store::Columns;
@@ -71,6 +72,7 @@ impl Hand {
         ensures pushed { OnOk result ((row : Row)
             × (self.new.draft.columns.rows ≡ self.old.draft.columns.rows ++ row ∷ [])) }
         ensures kept { (cause : _) → IsErrOf result (Part cause) → SameRows self.old self.new }
+        ensures causes { IfErr result IsNameStop }
         ensures full { (book : _) (count : ℕ) → IsErrOf result (Part (Full book count))
             → MeetsLimit (N.version namer.old) line.now book count (N.types namer.new)
             (N.words namer.old) (N.words namer.new) }

@@ -6,7 +6,7 @@ ghost use Rattle.disk_journal.specs.Journal.{state_of};
 ghost use Rattle.archive_meaning.specs.Spelled.{types_of};
 ghost use Rattle.disk_seal.specs.WordsIn.{words_of};
 ghost use Rattle.disk_seal.specs.Opening.{MayOpen};
-ghost use Rattle.ingest_workers.specs.Ingested.{AreNew, AreRefused, HasBook, HasEndedBooks, HasIngested, HoldTexts, IsAsItWas, OpensBook, first_file, plan_of, told_entries};
+ghost use Rattle.ingest_workers.specs.Ingested.{AreNew, AreRefused, HasBook, HasEndedBooks, HasIngested, HaveCauses, HoldTexts, IsAsItWas, OpensBook, first_file, plan_of, told_entries};
 
 use crate::closing::{end, give_back};
 use crate::crew::enroll;
@@ -78,6 +78,8 @@ fn with_workers<'b, 'd, D: Disk + Send, S: Source + Send, R: Threads + Wait + Sy
     // by the answer
     ensures done { IfOk result (λ after. HasEndedBooks S.left order.plan jobs.old jobs.new
         journal.entry after types.old types.new words.old words.new) }
+    ensures causes { IfOk result (λ after. HaveCauses S.left S.name S.faults order.plan
+        journal.entry after jobs.old jobs.new) }
     ensures refused { IfErr result (λ after. IsAsItWas journal.entry after) }
     ensures jobs { OnErr result (jobs.new ≡ jobs.old) }
 {
@@ -143,6 +145,8 @@ fn over_locks<'d, D: Disk + Send, S: Source + Send, R: Threads + Wait + Sync>(
     // by the answer
     ensures done { IfOk result (λ after. HasIngested S.left order.plan jobs.old jobs.new
         journal.entry after) }
+    ensures causes { IfOk result (λ after. HaveCauses S.left S.name S.faults order.plan
+        journal.entry after jobs.old jobs.new) }
     ensures refused { IfErr result (λ after. IsAsItWas journal.entry after) }
     ensures jobs { OnErr result (jobs.new ≡ jobs.old) }
 {
@@ -197,6 +201,8 @@ fn over_types<'d, D: Disk + Send, S: Source + Send, R: Threads + Wait + Sync>(
     // by the answer
     ensures done { IfOk result (λ after. HasIngested S.left order.plan jobs.old jobs.new
         journal.entry after) }
+    ensures causes { IfOk result (λ after. HaveCauses S.left S.name S.faults order.plan
+        journal.entry after jobs.old jobs.new) }
     ensures refused { IfErr result (λ after. IsAsItWas journal.entry after) }
     ensures jobs { OnErr result (jobs.new ≡ jobs.old) }
 {
@@ -237,6 +243,8 @@ fn over_books<'d, D: Disk + Send, S: Source + Send, R: Threads + Wait + Sync>(
     // by the answer
     ensures done { IfOk result (λ after. HasIngested S.left order.plan jobs.old jobs.new
         journal.entry after) }
+    ensures causes { IfOk result (λ after. HaveCauses S.left S.name S.faults order.plan
+        journal.entry after jobs.old jobs.new) }
     ensures refused { IfErr result (λ after. IsAsItWas journal.entry after) }
     ensures jobs { OnErr result (jobs.new ≡ jobs.old) }
 {
@@ -293,6 +301,8 @@ pub fn ingest<'d, D: Disk + Send, S: Source + Send, R: Threads + Wait + Sync>(
     requires jobs { AreNew (first_file jobs.old) (state_of journal) jobs.old }
     ensures done { IfOk result (λ after. HasIngested S.left (plan_of rows journal.entry)
         jobs.old jobs.new journal.entry after) }
+    ensures causes { IfOk result (λ after. HaveCauses S.left S.name S.faults
+        (plan_of rows journal.entry) journal.entry after jobs.old jobs.new) }
     ensures refused { IfErr result (λ r. IsAsItWas journal.entry r.journal) }
     ensures jobs { OnErr result (AreRefused jobs.old jobs.new) }
 {

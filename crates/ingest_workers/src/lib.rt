@@ -22,6 +22,3 @@ pub use ingesting::{IngestRefused, ingest};
 pub use job::Job;
 pub use outcome::{Cause, Outcome};
 pub use run::run_job;
-
-#[cfg(test)]
-mod tests;

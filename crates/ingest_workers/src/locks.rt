@@ -32,7 +32,7 @@ fn under_lock<'k, 'b, 'd, D: Disk + Send, S: Source + Send, R: Threads + Wait + 
     requires first { made_by maker.old ≡ 0 }
     requires may { MayDoAll D.state maker.old workers.old.items jobs.old }
     ensures lock { lock_by maker.new ≡ lock_by maker.old }
-    ensures done { OnOk result (HasDoneAll D.state S.left maker.old maker.new
+    ensures done { OnOk result (HasDoneAll D.state S.left S.name S.faults maker.old maker.new
         workers.old.items workers.new.items jobs.old jobs.new) }
     ensures refused { OnErr result ((maker.new ≡ maker.old) × (jobs.new ≡ jobs.old)) }
 {
@@ -58,7 +58,7 @@ fn over_keeper<'b, 'd, D: Disk + Send, S: Source + Send, R: Threads + Wait + Syn
     requires lock { lock_by maker ≡ id_of lock }
     requires first { made_by maker ≡ 0 }
     requires may { MayDoAll D.state maker workers.old.items jobs.old }
-    ensures done { IfOk result (λ store. HasClosed D.state S.left maker.entry
+    ensures done { IfOk result (λ store. HasClosed D.state S.left S.name S.faults maker.entry
         workers.old.items workers.new.items jobs.old jobs.new store) }
     ensures refused { IfErr result (λ store. HasKept D.state maker.entry store) }
     ensures jobs { OnErr result (jobs.new ≡ jobs.old) }
@@ -84,7 +84,7 @@ pub(crate) fn over_store<'b, 'd, D: Disk + Send, S: Source + Send, R: Threads + 
     requires jobs { length jobs.old ≤ 4294967296 }
     requires first { first < 4294967296 }
     requires may { MayDoAt D.state first store workers.old.items jobs.old }
-    ensures done { IfOk result (λ after. HasWorked D.state S.left first
+    ensures done { IfOk result (λ after. HasWorked D.state S.left S.name S.faults first
         workers.old.items workers.new.items jobs.old jobs.new store.entry after) }
     ensures refused { IfErr result (λ after. IsStillStore D.state store.entry after) }
     ensures jobs { OnErr result (jobs.new ≡ jobs.old) }

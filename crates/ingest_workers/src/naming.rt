@@ -1,5 +1,5 @@
 //! A namer whose passes stay what they are.
-ghost use Rattle.std.specs.Prelude.{◌≡◌, ◌≤◌, ◌↔◌, ◌++◌, ◌∷◌, [], ℕ, All, List, None, Option, Some, length, IfOk, IsErrOf, IsTrue, OnOk, slice_get};
+ghost use Rattle.std.specs.Prelude.{◌≡◌, ◌≤◌, ◌↔◌, ◌++◌, ◌∷◌, [], ℕ, All, List, None, Option, Some, length, IfErr, IfOk, IsErrOf, IsTrue, OnOk, slice_get};
 ghost use Rattle.std.specs.List.{Contains};
 ghost use Rattle.atomic_table.specs.Seated.{TableId};
 ghost use Rattle.logtype_text.specs.Encoded.{AreWithin, texts_at};
@@ -18,6 +18,7 @@ ghost use Rattle.ingest_workers.specs.declared.outcome.Cause.TheVariants.{Full};
 ghost use Rattle.ingest_workers.specs.declared.stop.Stop.TheVariants.{Part};
 ghost use Rattle.ingest_workers.specs.Hand.{HasInHand, HasRoom, SameMarks, SameRows};
 ghost use Rattle.ingest_workers.specs.Keys.{no_table};
+ghost use Rattle.ingest_workers.specs.Stop.{IsNameStop};
 
 use crate::hand::Hand;
 use crate::stop::Stop;
@@ -265,6 +266,7 @@ fn take_by<'n, N: PassNamer, K: Keys>(
     ensures pushed { OnOk result.0 ((row : Row)
         × (hand.new.draft.columns.rows ≡ hand.old.draft.columns.rows ++ row ∷ [])) }
     ensures kept { (cause : _) → IsErrOf result.0 (Part cause) → SameRows hand.old hand.new }
+    ensures causes { IfErr result.0 IsNameStop }
     ensures full { (book : _) (count : ℕ) → IsErrOf result.0 (Part (Full book count))
         → MeetsLimit (N.version lent.entry.namer.now) line.now book count
         (known_of (N.types result.1.namer.now))
@@ -311,6 +313,7 @@ pub(crate) fn take_message<N: PassNamer>(
     ensures pushed { OnOk result ((row : Row)
         × (hand.new.draft.columns.rows ≡ hand.old.draft.columns.rows ++ row ∷ [])) }
     ensures kept { (cause : _) → IsErrOf result (Part cause) → SameRows hand.old hand.new }
+    ensures causes { IfErr result IsNameStop }
     ensures full { (book : _) (count : ℕ) → IsErrOf result (Part (Full book count))
         → MeetsLimit (N.version namer.old) line.now book count (known_of (N.types namer.new))
         (known_of (N.words namer.old)) (known_of (N.words namer.new)) }

@@ -2,6 +2,7 @@
 ghost use Rattle.std.specs.Prelude.{◌≡◌, ◌≤◌, ℕ, List, []};
 ghost use Rattle.turn_lock.specs.Words.{number_of, own_list};
 ghost use Rattle.row_codec.specs.Messages.{IsTypeOf, IsWordOf};
+ghost use Rattle.ingest_workers.specs.Causes.{limits_by, log_of};
 ghost use Rattle.ingest_workers.specs.Journal.{HasSoFar};
 ghost use Rattle.ingest_workers.specs.JobDone.{CameTo, HasSourceBack, IsDone, IsGivenBy};
 ghost use Rattle.ingest_workers.specs.MaySeal.{IsWorker};
@@ -44,8 +45,9 @@ fn take_source<'d, 'b, S: Source, D: Disk, R: Wait, A: Ledger, B: Ledger, C: Led
     ensures names { HasNamed (IsOneOf namer.old.version (S.left source)) namer.old namer.new }
 
     // the answer
-    ensures came { CameTo D.state rows namer.old.version (S.left source) keeper.old keeper.new
-        result.1 }
+    ensures came { CameTo D.state rows namer.old.version
+        (limits_by (types_pass namer.old) (words_pass namer.old))
+        (log_of S.left S.faults source result.0) keeper.old keeper.new result.1 }
 {
     let mut reader = match MessageReader::new(alloc, namer.version(), source) {
         Ok(reader) => reader,
@@ -94,7 +96,8 @@ pub fn run_job<'d, 'b, S: Source, D: Disk, R: Wait, A: Ledger, B: Ledger, C: Led
         × IsWordOf namer.old.version m t) (words_pass namer.old) (words_pass namer.new) }
 
     // what came of it
-    ensures done { IsDone D.state S.left rows namer.old.version job.old keeper.old
+    ensures done { IsDone D.state S.left S.name S.faults rows namer.old.version
+        (limits_by (types_pass namer.old) (words_pass namer.old)) job.old keeper.old
         job.new keeper.new }
 {
     let Some(source) = job.source.take() else {

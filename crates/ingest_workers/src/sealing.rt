@@ -1,9 +1,10 @@
 //! Sealing a draft.
-ghost use Rattle.std.specs.Prelude.{◌≡◌, ℕ, OnOk, OnErr, IsErrOf};
+ghost use Rattle.std.specs.Prelude.{◌≡◌, ℕ, IfErr, OnOk, OnErr, IsErrOf};
 ghost use Rattle.turn_lock.specs.Words.{number_of, IsReady};
 ghost use Rattle.disk_seal.specs.Planned.{HasNumbers};
 ghost use Rattle.disk_seal.specs.Prepare.{HasSeenOpening, IsFaultOf, MayBeNext};
 ghost use Rattle.ingest_workers.specs.declared.outcome.Cause.TheVariants.{ArchiveFull, DiskFault as disk_fault};
+ghost use Rattle.ingest_workers.specs.Causes.{HasSealCause};
 ghost use Rattle.ingest_workers.specs.Namer.{HasNoRoom, HasOnlySeen, IsNamerOf, types_seen, words_seen};
 ghost use Rattle.ingest_workers.specs.Hand.{SameMarks};
 ghost use Rattle.ingest_workers.specs.MaySeal.{HasNoRoomFor, IsEmptied, MaySeal};
@@ -53,6 +54,7 @@ pub(crate) fn seal_draft<'d, 'b, D: Disk, R: Wait, A: Ledger, B: Ledger, C: Ledg
     ensures refused { OnErr result (HasNotSealed D.state keeper.old keeper.new) }
 
     // causes
+    ensures causes { IfErr result (HasSealCause D.state keeper.old keeper.new) }
     ensures full { (end need : ℕ) → IsErrOf result (ArchiveFull end need)
         → HasNoRoom D.state draft.now end need keeper.old keeper.new namer.old namer.new }
     ensures fault { (opened now : ℕ) → IsErrOf result (disk_fault opened now)
@@ -107,6 +109,7 @@ impl Hand {
         ensures refused { OnErr result (HasNotSealed D.state keeper.old keeper.new) }
 
         // causes
+        ensures causes { IfErr result (HasSealCause D.state keeper.old keeper.new) }
         ensures full { (end need : ℕ) → IsErrOf result (ArchiveFull end need)
             → HasNoRoomFor D.state self.old end need keeper.old keeper.new namer.old namer.new }
         ensures fault { (opened now : ℕ) → IsErrOf result (disk_fault opened now)

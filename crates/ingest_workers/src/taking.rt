@@ -1,7 +1,8 @@
 //! The messages of a source, one behind the other.
-ghost use Rattle.std.specs.Prelude.{◌≤◌, ◌++◌, ◌∷◌, [], ℕ, List, Option, Ok, Err, IfErr, IfNone, IfOk, IfSome};
+ghost use Rattle.std.specs.Prelude.{◌≡◌, ◌≤◌, ◌++◌, ◌∷◌, [], ℕ, List, Option, Ok, Err, IfErr, IfNone, IfOk, IfSome, OnOk};
 ghost use Rattle.archive_meaning.specs.declared.TheConstants.{MAX_ROWS};
 ghost use Rattle.disk_seal.specs.Fixed.{KeeperPass};
+ghost use Rattle.ingest_workers.specs.Causes.{cause_by, log_from};
 ghost use Rattle.ingest_workers.specs.Naming.{HasNamed};
 ghost use Rattle.ingest_workers.specs.Taking.{IsOneOf, KeepsSource, Taking, Took};
 
@@ -18,7 +19,9 @@ use std::sync::ledger::Ledger;
 use turn_lock::Pass;
 
 /// The cause for which a reader gives no further message.
-fn cause_of(cut: Cut) -> Cause {
+fn cause_of(cut: Cut) -> Cause
+    ensures { result ≡ cause_by cut }
+{
     match cut {
         Cut::ReadFault => Cause::ReadFault,
         Cut::LineTooLong { line } => Cause::LineTooLong { line },
@@ -58,13 +61,16 @@ fn take_next<'d, 'b, S: Source, D: Disk, R: Wait, A: Ledger, B: Ledger, C: Ledge
         → Taking D.state S.left rows bytes start keeper.old namer.old hand.old reader.old taken
         → IfOk result (λ o. IfNone o (Taking D.state S.left rows bytes start keeper.new namer.new
         hand.new reader.new (taken ++ reader.new.message ∷ []))) }
+    ensures steady { OnOk result (S.faults reader.new.source ≡ S.faults reader.old.source) }
     ensures ended { (bytes : Option (List ℕ)) (start : KeeperPass _) (taken : List (List ℕ))
         → Taking D.state S.left rows bytes start keeper.old namer.old hand.old reader.old taken
-        → IfOk result (λ o. IfSome o (λ e. Took D.state rows namer.old.version bytes start
+        → IfOk result (λ o. IfSome o (λ e. Took D.state rows namer.old.version
+        (log_from bytes S.left S.faults reader.old.source reader.new.source) start
         keeper.new namer.new hand.new (Ok e))) }
     ensures stopped { (bytes : Option (List ℕ)) (start : KeeperPass _) (taken : List (List ℕ))
         → Taking D.state S.left rows bytes start keeper.old namer.old hand.old reader.old taken
-        → IfErr result (λ s. Took D.state rows namer.old.version bytes start
+        → IfErr result (λ s. Took D.state rows namer.old.version
+        (log_from bytes S.left S.faults reader.old.source reader.new.source) start
         keeper.new namer.new hand.new (Err s)) }
 {
     let mark = match reader.advance() {
@@ -108,7 +114,9 @@ pub(crate) fn take_messages<'d, 'b, S: Source, D: Disk, R: Wait, A: Ledger, B: L
     // the answer
     ensures took { (bytes : Option (List ℕ)) (start : KeeperPass _) (taken : List (List ℕ))
         → Taking D.state S.left rows bytes start keeper.old namer.old hand.old reader.old taken
-        → Took D.state rows namer.old.version bytes start keeper.new namer.new hand.new result }
+        → Took D.state rows namer.old.version
+        (log_from bytes S.left S.faults reader.old.source reader.new.source) start
+        keeper.new namer.new hand.new result }
 {
     'messages: loop {
         match take_next(rt, alloc, rows, reader, hand, namer, keeper) {

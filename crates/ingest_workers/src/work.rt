@@ -1,6 +1,7 @@
 //! What a worker does: jobs, with its passes of the two books.
 ghost use Rattle.std.specs.Prelude.{◌≡◌, ◌≤◌};
 ghost use Rattle.step_count.specs.Opens.{OpensFor};
+ghost use Rattle.ingest_workers.specs.Causes.{limits_by};
 ghost use Rattle.ingest_workers.specs.JobDone.{IsGivenBy, IsDone};
 ghost use Rattle.ingest_workers.specs.Worker.{DidJob, DidOnly, GoWith, IsIdle, IsNewJob, MayDo, MayAddTexts, NamesOnly};
 ghost use Rattle.ingest_workers.specs.WorkerLaws.{goes_on, wider, rests, fits_on, did_on};
@@ -39,7 +40,8 @@ fn do_with_blanks<'b, 'd, S: Source, D: Disk, R: Wait, A: Ledger, B: Ledger, C: 
     ensures may { MayAddTexts result }
     ensures names { NamesOnly plan.version (IsGivenBy S.left plan.version job.old)
         passes.entry result }
-    ensures done { IsDone D.state S.left plan.rows plan.version job.old keeper.old
+    ensures done { IsDone D.state S.left S.name S.faults plan.rows plan.version
+        (limits_by passes.entry.types passes.entry.words) job.old keeper.old
         job.new keeper.new }
 {
     let BookPasses { types, words } = passes;
@@ -76,7 +78,8 @@ fn do_job<'b, 'd, S: Source, D: Disk, R: Wait>(
     ensures may { MayAddTexts result }
     ensures names { NamesOnly plan.version (IsGivenBy S.left plan.version job.old)
         passes.entry result }
-    ensures done { IsDone D.state S.left plan.rows plan.version job.old keeper.old
+    ensures done { IsDone D.state S.left S.name S.faults plan.rows plan.version
+        (limits_by passes.entry.types passes.entry.words) job.old keeper.old
         job.new keeper.new }
 {
     let blanks = (Blank::new(1), Blank::new(1), Blank::new(1));
@@ -90,7 +93,7 @@ impl<'b, 'k, 'd, S: Source, D: Disk> Works<Job<S>, Pass<'k, Store<'d, 'b, D>>> f
 
     ghost went = { DidOnly S.left };
 
-    ghost did = { DidJob D.state S.left };
+    ghost did = { DidJob D.state S.left S.name S.faults };
 
     fn work<R: Wait>(&mut self, rt: &R, job: &mut Job<S>, keeper: &mut Pass<'k, Store<'d, 'b, D>>) {
         let Some(passes) = self.passes.take() else {
@@ -110,5 +113,5 @@ impl<'b, 'k, 'd, S: Source, D: Disk> Works<Job<S>, Pass<'k, Store<'d, 'b, D>>> f
 
     ghost fits_on = { fits_on D.state S.left };
 
-    ghost did_on = { did_on D.state S.left };
+    ghost did_on = { did_on D.state S.left S.name S.faults };
 }

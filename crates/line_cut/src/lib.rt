@@ -18,8 +18,3 @@ pub use cut::{Cut, CutterRefused, Mark, Piece, Progress};
 pub use cutter::{Cutter, MAX_LINE_LEN};
 pub use heads::Heads;
 pub use joiner::Joiner;
-
-#[cfg(test)]
-mod joiner_tests;
-#[cfg(test)]
-mod tests;

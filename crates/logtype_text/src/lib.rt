@@ -25,6 +25,3 @@ pub const MAX_TYPE_LEN: usize = 2 * MAX_WORD_LEN;
 
 /// The most bytes that a word of a dictionary may have: those of the longest message.
 pub const MAX_WORD_LEN: usize = 1_048_576;
-
-#[cfg(test)]
-mod tests;

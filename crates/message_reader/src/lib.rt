@@ -9,6 +9,3 @@ mod reader;
 pub use laws::{messages_follow, one_answer, version_one_has_lines};
 pub use line_cut::{Cut, CutterRefused, MAX_LINE_LEN, Mark, Progress};
 pub use reader::{MAX_MESSAGES, MessageReader};
-
-#[cfg(test)]
-mod tests;

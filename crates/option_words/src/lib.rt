@@ -7,7 +7,5 @@
 mod choice;
 mod found;
 mod read;
-#[cfg(test)]
-mod tests;
 
 pub use read::{IngestWords, SearchWords, read_decode, read_ingest, read_search};

@@ -14,3 +14,4 @@ mod SufficeLemmas
 mod NeedsLemmas
 mod BringLemmas
 mod TailLemmas
+mod TokenLemmas

@@ -1,11 +1,13 @@
 -- What holds of readings and of the pattern that a search is planned over.
-use Rattle.std.specs.Prelude.{◌↔◌, ◌≢◌, ℕ, ◌≤◌, List, [], ◌∷◌, ◌++◌, IsTrue}
-use Rattle.std.specs.List.{All, AllZip}
+use Rattle.std.specs.Prelude.{◌≡◌, ◌⊎◌, ◌↔◌, ◌≢◌, true, ℕ, ◌≤◌, List, [], ◌∷◌, ◌++◌, IsTrue}
+use Rattle.std.specs.List.{All, AllZip, Contains}
 use Rattle.time_patterns.specs.Laws.{is_stamp_byte}
 use Rattle.logtype_text.specs.Parts.{Part, AreParts, joined}
+use Rattle.query_plan.specs.declared.pieces.Piece.{Piece}
+use Rattle.query_plan.specs.declared.pieces.Piece.TheVariants.{Word}
 use Rattle.query_plan.specs.declared.pieces.TheConstants.{MAX_OPEN_TOKENS}
-use Rattle.query_plan.specs.Needs.{skeleton_of, constants, marked, needed_variables_of, Brings}
-use Rattle.query_plan.specs.Pieces.{Free, wide, wide_pieces, open_tokens, needed_of}
+use Rattle.query_plan.specs.Needs.{skeleton_of, constants, marked, needed_variables_of, Brings, HeldIn, around, is_foreign}
+use Rattle.query_plan.specs.Pieces.{Free, IsCut, flat, wide, wide_pieces, open_tokens, needed_of}
 use Rattle.query_plan.specs.Readings.{SomeReads, IsBodyBehind}
 use Rattle.wild_match.specs.Matches.{Match}
 use Rattle.wild_match.specs.Reading.{IsSearchPattern}
@@ -103,3 +105,17 @@ NeededWordsAreBrought =
     (p : List Item) (s body : List ℕ) (parts : List Part) → IsSearched p → All (λ b. IsTrue (is_stamp_byte b)) s
     → IsBodyBehind s body → AreParts body parts → Match (wide p) (s ++ body)
     → AllZip (λ t v. Brings parts t v) (needed_of Free (wide_pieces p)) (needed_variables_of Free (wide_pieces p))
+
+-- A message that pieces match has each of their tokens that can stand in no stamp: among its constant
+-- bytes, where a newline stands for each variable, or in a variable.
+abbrev pub TokensAreBrought : Type 0
+TokensAreBrought =
+    (ps : List Piece) (s body : List ℕ) (parts : List Part) (t : List ℕ) → IsCut ps → Contains ps (Word t) → is_foreign t ≡ true
+    → All (λ b. IsTrue (is_stamp_byte b)) s → IsBodyBehind s body → AreParts body parts → Match (flat ps) (s ++ body)
+    → Match (around t) (marked 10 parts) ⊎ HeldIn t parts
+
+-- and such a token stands in no text that has bytes of stamps alone
+abbrev pub ForeignStandsInNoStamp : Type 0
+ForeignStandsInNoStamp =
+    (ps : List Piece) (t s : List ℕ) → IsCut ps → Contains ps (Word t) → is_foreign t ≡ true → All (λ b. IsTrue (is_stamp_byte b)) s
+    → ¬ Match (around t) s

@@ -6,6 +6,7 @@ use Rattle.token_rules.specs.Tokens.{IsDelimiter, is_variable}
 use Rattle.time_patterns.specs.Laws.{is_stamp_byte}
 use Rattle.logtype_text.specs.Parts.{Part, Constant, Variable}
 use Rattle.logtype_text.specs.Cut.{plains}
+use Rattle.wild_match.specs.Matches.{Match}
 use Rattle.wild_match.specs.declared.pattern.Item.{Item}
 use Rattle.wild_match.specs.declared.pattern.Item.TheVariants.{Byte, Many}
 use Rattle.query_plan.specs.declared.pieces.Piece.{Piece}
@@ -102,3 +103,13 @@ pub record Shows (t : List ℕ) (parts : List Part) : Type 0 where
 abbrev pub Brings : List Part → List ℕ → Bool → Type 0
 Brings parts t true = Owns t parts
 Brings parts t false = Shows t parts
+
+-- the text with any bytes on both sides
+abbrev pub around : List ℕ → List Item
+around t = Many ∷ bytes t (Many ∷ [])
+
+-- the text stands in that of a variable
+abbrev pub HeldIn : List ℕ → List Part → Type 0
+HeldIn t [] = ⊥
+HeldIn t (Constant b ∷ parts) = HeldIn t parts
+HeldIn t (Variable kind text ∷ parts) = Match (around t) text ⊎ HeldIn t parts

@@ -2,6 +2,7 @@
 //! they promise holds of every pattern and every message.
 ghost use Rattle.query_plan.specs.Laws.{ConstantsSuffice, NeededWordsAreBrought, SkeletonIsNeeded};
 ghost use Rattle.query_plan.specs.Laws.{ReadingsAreExact, SearchesAreSearched, WideIsExact};
+ghost use Rattle.query_plan.specs.Laws.{ForeignStandsInNoStamp, TokensAreBrought};
 ghost use Rattle.query_plan.specs.Laws.{WideIsWidened, WideIsWider};
 
 use logtype_text::parts_are_cut;
@@ -39,3 +40,13 @@ pub fn needs_are_brought()
 pub fn constants_suffice()
     ensures { ConstantsSuffice }
 {}
+
+/// A message that a pattern matches has each token of the pattern that can stand in no stamp, because
+/// it has a byte that no stamp has: among its constant bytes, or in a variable. It does not lie across,
+/// since a variable is a whole token.
+pub fn tokens_are_brought()
+    ensures brought { TokensAreBrought }
+    ensures foreign { ForeignStandsInNoStamp }
+{
+    parts_are_cut();
+}

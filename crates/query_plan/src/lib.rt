@@ -9,10 +9,13 @@ mod planning;
 mod skeleton;
 mod symbols;
 
-pub use laws::{constants_suffice, needs_are_brought, readings_are_exact, wide_is_wider};
+pub use laws::{
+    constants_suffice, needs_are_brought, readings_are_exact, tokens_are_brought, wide_is_wider,
+};
 pub use letters::{Letters, matches_letters};
 pub use pieces::{MAX_OPEN_TOKENS, Piece};
 pub use planning::Plan;
+pub use skeleton::is_foreign;
 pub use symbols::{VarSymbol, VarSymbols};
 
 #[cfg(test)]

@@ -20,8 +20,8 @@ fn is_stamp_byte(byte: u8) -> bool
     )
 }
 
-/// Whether a text has a byte that no stamp has.
-fn is_foreign(text: &[u8]) -> bool
+/// Whether a text has a byte that no stamp has, so that it stands in no stamp.
+pub fn is_foreign(text: &[u8]) -> bool
     ensures { result ≡ is_foreign text.now }
 {
     text.iter().any(|byte| !is_stamp_byte(*byte))

@@ -6,7 +6,7 @@ use crate::{
     readings_are_exact, wide_is_wider,
 };
 use log_seams::{Text, TextList};
-use logtype_text::{Symbol, split};
+use logtype_text::{Kind, Span, Symbol, split};
 use std::alloc::{AllocError, Global};
 use std::test::Fail;
 use wild_match::{Item, matches, read_pattern};
@@ -82,64 +82,101 @@ fn spaced(alloc: Global, words: &TextList) -> Result<Vec<u8>, AllocError> {
     Ok(out)
 }
 
+/// A pattern's text, the pieces that its search is planned over, how many are open tokens, the
+/// needed words, a message, whether the planned pattern matches it.
+type PlannedRow = (
+    &'static [u8],
+    &'static [u8],
+    usize,
+    &'static [u8],
+    &'static [u8],
+    bool,
+);
+
+const PLANNED: &[PlannedRow] = &[
+    (b"oo1", b"*<oo1>*", 1, b"", b"xfoo1y", true),
+    (b"12*34", b"*<12>*<34>*", 2, b"", b"a12 x34", true),
+    (b"fo?", b"*<fo>*", 1, b"", b"x=foo", true),
+    (
+        b"41,123 INFO",
+        b"*<41>,<123> <INFO>*",
+        2,
+        b"",
+        b"5:41,123 INFO",
+        true,
+    ),
+    (
+        b"a*b*c*d*e",
+        b"*<a>*<b>*<c>*<d>*",
+        4,
+        b"",
+        b"a b c d x",
+        true,
+    ),
+    (
+        b" task_9 ",
+        b"* <task_9> *",
+        0,
+        b"task_9 ",
+        b"run task_1 done",
+        false,
+    ),
+    (
+        b"a b,c d e f",
+        b"*<a> <b>,<c> <d> <e> <f>*",
+        2,
+        b"b c d e ",
+        b"a b,c d e f",
+        true,
+    ),
+    (b"", b"*", 0, b"", b"", true),
+];
+
+/// The plan of a pattern's text.
+fn plan_of(alloc: Global, text: &[u8]) -> Result<Plan, Fail> {
+    let pattern = read_pattern(alloc, text).ok().ok_or("a pattern")?;
+    let plan = Plan::new(alloc, &pattern)?;
+    Ok(plan)
+}
+
+/// Whether the wide pattern ends open, and matches the message or not as wanted.
+fn is_wide(plan: &Plan, message: &[u8], fits: bool) -> bool {
+    matches(plan.wide(), message) == fits && plan.wide().as_slice().last() == Some(&Item::Many)
+}
+
+/// Whether the plan's pieces and needed words spell these texts.
+fn spells(alloc: Global, plan: &Plan, pieces: &[u8], needed: &[u8]) -> Result<bool, AllocError> {
+    let spelled = shown(alloc, plan.pieces())?;
+    let words = spaced(alloc, plan.needed())?;
+    Ok(spelled.as_slice() == pieces && words.as_slice() == needed)
+}
+
 #[test]
 fn patterns_and_their_pieces(rt: HostRuntime) -> Result<(), Fail> {
     let alloc = rt.alloc();
-    // a pattern's text, the pieces that its search is planned over, how many are open tokens, the
-    // needed words, a message, whether the planned pattern matches it
-    let rows: [(&[u8], &[u8], usize, &[u8], &[u8], bool); 8] = [
-        (b"oo1", b"*<oo1>*", 1, b"", b"xfoo1y", true),
-        (b"12*34", b"*<12>*<34>*", 2, b"", b"a12 x34", true),
-        (b"fo?", b"*<fo>*", 1, b"", b"x=foo", true),
-        (
-            b"41,123 INFO",
-            b"*<41>,<123> <INFO>*",
-            2,
-            b"",
-            b"5:41,123 INFO",
-            true,
-        ),
-        (
-            b"a*b*c*d*e",
-            b"*<a>*<b>*<c>*<d>*",
-            4,
-            b"",
-            b"a b c d x",
-            true,
-        ),
-        (
-            b" task_9 ",
-            b"* <task_9> *",
-            0,
-            b"task_9 ",
-            b"run task_1 done",
-            false,
-        ),
-        (
-            b"a b,c d e f",
-            b"*<a> <b>,<c> <d> <e> <f>*",
-            2,
-            b"b c d e ",
-            b"a b,c d e f",
-            true,
-        ),
-        (b"", b"*", 0, b"", b"", true),
-    ];
-    for (text, pieces, open, needed, message, fits) in rows {
-        let pattern = read_pattern(alloc, text).ok().ok_or("a pattern")?;
-        let plan = Plan::new(alloc, &pattern)?;
-        assert_eq!(rt; shown(alloc, plan.pieces())?.as_slice(), pieces, "{text:?}");
-        assert_eq!(rt; plan.open_tokens(), open, "{text:?}");
-        assert_eq!(rt;
-            spaced(alloc, plan.needed())?.as_slice(),
-            needed,
-            "{text:?}"
-        );
-        assert_eq!(rt; matches(plan.wide(), message), fits, "{text:?}");
-        let ends = plan.wide().as_slice().last() == Some(&Item::Many);
-        assert!(rt; ends, "{text:?}");
+    for (text, pieces, open, needed, message, fits) in PLANNED {
+        let plan = plan_of(alloc, text)?;
+        let well = spells(alloc, &plan, pieces, needed)?
+            && plan.open_tokens() == *open
+            && is_wide(&plan, message, *fits);
+        assert!(rt; well, "{text:?}");
     }
     Ok(())
+}
+
+/// The symbol of a variable whose bytes lie in this span of a body.
+fn variable_of(
+    alloc: Global,
+    body: &[u8],
+    kind: Kind,
+    span: Option<&Span>,
+) -> Result<VarSymbol, AllocError> {
+    let text = match span {
+        Some(span) => body.get(span.start..span.end).unwrap_or(b""),
+        None => b"",
+    };
+    let text = Text::new(Vec::from_slice(alloc, text)?);
+    Ok(VarSymbol::Var { kind, text })
 }
 
 /// The symbols of a body.
@@ -148,61 +185,66 @@ fn symbols_of(alloc: Global, body: &[u8]) -> Result<VarSymbols, AllocError> {
     let mut spans = split.spans.as_slice().iter();
     let mut symbols = Vec::new(alloc);
     for symbol in split.symbols.as_slice() {
-        match symbol {
-            Symbol::Byte(byte) => symbols.push(VarSymbol::Byte(*byte))?,
-            Symbol::Slot(kind) => {
-                let text = match spans.next() {
-                    Some(span) => body.get(span.start..span.end).unwrap_or(b""),
-                    None => b"",
-                };
-                let text = Text::new(Vec::from_slice(alloc, text)?);
-                symbols.push(VarSymbol::Var { kind: *kind, text })?;
-            }
-        }
+        let symbol = match symbol {
+            Symbol::Byte(byte) => VarSymbol::Byte(*byte),
+            Symbol::Slot(kind) => variable_of(alloc, body, *kind, spans.next())?,
+        };
+        symbols.push(symbol)?;
     }
     Ok(VarSymbols::new(symbols))
 }
 
+/// A pattern's text, a message's stamp and body, whether a reading accepts it.
+const READINGS: &[(&[u8], &[u8], &[u8], bool)] = &[
+    (b"oo1", b"", b"xfoo1y", true),
+    (b"12*34", b"", b"12534", true),
+    (b"12*34", b"", b"12 34", true),
+    (b"12*34", b"", b"a12*34", true),
+    (b"12\\*34", b"", b"a12*34", true),
+    (b"12\\*34", b"", b"12534", false),
+    (b"fo*", b"", b"x=foo", true),
+    (
+        b"41,123 INFO",
+        b"2015-03-23 05:38:41,123",
+        b" INFO boot",
+        true,
+    ),
+    (b"41,123 INFO", b"2015-03-23 05:38:41,123", b" WARN", false),
+    (
+        b"23*INFO*t",
+        b"2015-03-23 05:38:41,123",
+        b" INFO boot",
+        true,
+    ),
+    (b"38:4?,*", b"2015-03-23 05:38:41,123", b"", true),
+    (b"a*b*c*d*e", b"", b"a b c d x", true),
+    (b" task_9 ", b"", b"run task_1 done", false),
+    (b" task_1 ", b"", b"run task_1 done", true),
+    (b"", b"", b"", true),
+];
+
+/// Whether a reading of the pattern accepts the message of this stamp and body.
+fn accepts(alloc: Global, text: &[u8], stamp: &[u8], body: &[u8]) -> Result<bool, Fail> {
+    let plan = plan_of(alloc, text)?;
+    let symbols = symbols_of(alloc, body)?;
+    Ok(plan.reads(stamp, &symbols))
+}
+
 #[test]
 fn what_readings_accept(rt: HostRuntime) -> Result<(), Fail> {
-    let alloc = rt.alloc();
-    // a pattern's text, a message's stamp and body, whether a reading accepts it
-    let rows: [(&[u8], &[u8], &[u8], bool); 15] = [
-        (b"oo1", b"", b"xfoo1y", true),
-        (b"12*34", b"", b"12534", true),
-        (b"12*34", b"", b"12 34", true),
-        (b"12*34", b"", b"a12*34", true),
-        (b"12\\*34", b"", b"a12*34", true),
-        (b"12\\*34", b"", b"12534", false),
-        (b"fo*", b"", b"x=foo", true),
-        (
-            b"41,123 INFO",
-            b"2015-03-23 05:38:41,123",
-            b" INFO boot",
-            true,
-        ),
-        (b"41,123 INFO", b"2015-03-23 05:38:41,123", b" WARN", false),
-        (
-            b"23*INFO*t",
-            b"2015-03-23 05:38:41,123",
-            b" INFO boot",
-            true,
-        ),
-        (b"38:4?,*", b"2015-03-23 05:38:41,123", b"", true),
-        (b"a*b*c*d*e", b"", b"a b c d x", true),
-        (b" task_9 ", b"", b"run task_1 done", false),
-        (b" task_1 ", b"", b"run task_1 done", true),
-        (b"", b"", b"", true),
-    ];
-    for (text, stamp, body, want) in rows {
-        let pattern = read_pattern(alloc, text).ok().ok_or("a pattern")?;
-        let plan = Plan::new(alloc, &pattern)?;
-        let symbols = symbols_of(alloc, body)?;
-        assert_eq!(rt; plan.reads(stamp, &symbols), want, "{text:?} at {body:?}");
+    for (text, stamp, body, want) in READINGS {
+        let accepted = accepts(rt.alloc(), text, stamp, body)?;
+        assert!(rt; accepted == *want, "{text:?} at {body:?}");
     }
+    Ok(())
+}
+
+#[test]
+fn laws_of_plans_stand() {
     readings_are_exact();
     wide_is_wider();
-    Ok(())
+    needs_are_brought();
+    constants_suffice();
 }
 
 fn digit(code: u8) -> u8
@@ -224,20 +266,21 @@ fn bytes_of(alloc: Global, digits: &str) -> Result<Vec<u8>, AllocError> {
     Ok(bytes)
 }
 
+/// Whether the row's pattern matches its message as the row says.
+fn row_holds(alloc: Global, row: &str) -> Result<bool, Fail> {
+    let (text, rest) = row.split_once(' ').ok_or("a text")?;
+    let (message, want) = rest.split_once(' ').ok_or("a message")?;
+    let text = bytes_of(alloc, text)?;
+    let message = bytes_of(alloc, message)?;
+    let matched = accepts(alloc, text.as_slice(), b"", message.as_slice())?;
+    Ok(matched == (want == "1"))
+}
+
 #[test]
 fn answers_of_a_table(rt: HostRuntime) -> Result<(), Fail> {
-    let alloc = rt.alloc();
     for row in TABLE.lines() {
-        let (text, rest) = row.split_once(' ').ok_or("a text")?;
-        let (message, want) = rest.split_once(' ').ok_or("a message")?;
-        let text = bytes_of(alloc, text)?;
-        let message = bytes_of(alloc, message)?;
-        let pattern = read_pattern(alloc, text.as_slice())
-            .ok()
-            .ok_or("a pattern")?;
-        let plan = Plan::new(alloc, &pattern)?;
-        let symbols = symbols_of(alloc, message.as_slice())?;
-        assert_eq!(rt; plan.reads(b"", &symbols), want == "1", "at {row}");
+        let holds = row_holds(rt.alloc(), row)?;
+        assert!(rt; holds, "at {row}");
     }
     Ok(())
 }
@@ -264,62 +307,72 @@ fn flags_shown(alloc: Global, flags: &[bool]) -> Result<Vec<u8>, AllocError> {
     Ok(out)
 }
 
-#[test]
-fn what_a_message_must_bring(rt: HostRuntime) -> Result<(), Fail> {
-    let alloc = rt.alloc();
-    // a pattern's text, its needed words, which of them are variables, its skeleton
-    let rows: [(&[u8], &[u8], &[u8], &[u8]); 6] = [
-        (b" task_9 ", b"task_9 ", b"v", b"*  *"),
-        (b" INFO boot", b"INFO ", b"c", b"* INFO **"),
-        (b"41,123 INFO", b"", b"", b"* **"),
-        (
-            b"x=foo,bar=foo y ",
-            b"foo bar foo y ",
-            b"vcvc",
-            b"**=,bar= y *",
-        ),
-        (b"a 12 bad*b", b"", b"", b"**  ****"),
-        (b"", b"", b"", b"*"),
-    ];
-    for (text, words, flags, skeleton) in rows {
-        let pattern = read_pattern(alloc, text).ok().ok_or("a pattern")?;
-        let plan = Plan::new(alloc, &pattern)?;
-        let shown = spaced(alloc, plan.needed())?;
-        assert_eq!(rt; shown.as_slice(), words, "{text:?}");
-        let shown = flags_shown(alloc, plan.needed_variables())?;
-        assert_eq!(rt; shown.as_slice(), flags, "{text:?}");
-        let shown = items_shown(alloc, plan.skeleton().as_slice())?;
-        assert_eq!(rt; shown.as_slice(), skeleton, "{text:?}");
-    }
-    needs_are_brought();
-    constants_suffice();
-    Ok(())
+/// A pattern's text, its needed words, which of them are variables, its skeleton.
+const NEEDED: &[(&[u8], &[u8], &[u8], &[u8])] = &[
+    (b" task_9 ", b"task_9 ", b"v", b"*  *"),
+    (b" INFO boot", b"INFO ", b"c", b"* INFO **"),
+    (b"41,123 INFO", b"", b"", b"* **"),
+    (
+        b"x=foo,bar=foo y ",
+        b"foo bar foo y ",
+        b"vcvc",
+        b"**=,bar= y *",
+    ),
+    (b"a 12 bad*b", b"", b"", b"**  ****"),
+    (b"", b"", b"", b"*"),
+];
+
+/// Whether the plan's needed words, which of them are variables, and its skeleton spell these.
+fn needs(
+    alloc: Global,
+    plan: &Plan,
+    words: &[u8],
+    flags: &[u8],
+    skeleton: &[u8],
+) -> Result<bool, AllocError> {
+    let spelled = spaced(alloc, plan.needed())?;
+    let kinds = flags_shown(alloc, plan.needed_variables())?;
+    let bones = items_shown(alloc, plan.skeleton().as_slice())?;
+    Ok(spelled.as_slice() == words && kinds.as_slice() == flags && bones.as_slice() == skeleton)
 }
 
 #[test]
-fn letters_of_a_stamp_and_symbols(rt: HostRuntime) -> Result<(), Fail> {
+fn what_a_message_must_bring(rt: HostRuntime) -> Result<(), Fail> {
     let alloc = rt.alloc();
-    let symbols = symbols_of(alloc, b" x12 y")?;
+    for (text, words, flags, skeleton) in NEEDED {
+        let plan = plan_of(alloc, text)?;
+        let well = needs(alloc, &plan, words, flags, skeleton)?;
+        assert!(rt; well, "{text:?}");
+    }
+    Ok(())
+}
+
+/// Items, and whether they match the letters of a stamp and symbols.
+const LETTERS: &[(&[Item], bool)] = &[
+    (&[Item::Many, Item::Byte(b'3'), Item::One, Item::Many], true),
+    (
+        &[
+            Item::Many,
+            Item::Byte(b'2'),
+            Item::Byte(b' '),
+            Item::Byte(b'y'),
+        ],
+        true,
+    ),
+    (&[Item::Byte(b'2'), Item::Many, Item::Byte(b'1')], false),
+    (&[], false),
+];
+
+#[test]
+fn letters_of_a_stamp_and_symbols(rt: HostRuntime) -> Result<(), Fail> {
+    let symbols = symbols_of(rt.alloc(), b" x12 y")?;
     let text = SymbolLetters {
         head: b"22:13",
         symbols: symbols.as_slice(),
     };
-    let rows: [(&[Item], bool); 4] = [
-        (&[Item::Many, Item::Byte(b'3'), Item::One, Item::Many], true),
-        (
-            &[
-                Item::Many,
-                Item::Byte(b'2'),
-                Item::Byte(b' '),
-                Item::Byte(b'y'),
-            ],
-            true,
-        ),
-        (&[Item::Byte(b'2'), Item::Many, Item::Byte(b'1')], false),
-        (&[], false),
-    ];
-    for (items, want) in rows {
-        assert_eq!(rt; matches_letters(items, text), want, "{items:?}");
+    for (items, want) in LETTERS {
+        let matched = matches_letters(items, text);
+        assert!(rt; matched == *want, "{items:?}");
     }
     Ok(())
 }

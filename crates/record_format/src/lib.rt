@@ -20,6 +20,3 @@ pub use laws::{files_are_unique, headers_are_unique, texts_are_unique};
 pub use list::room_for;
 pub use refusal::FormatRefusal;
 pub use texts::{Texts, read_texts, write_texts};
-
-#[cfg(test)]
-mod tests;

@@ -1,6 +1,5 @@
 pub mod SofarLemmas
 pub mod RowLemmas
-pub mod OutputLemmas
 pub mod PageLemmas
 pub mod VerdictLemmas
 pub mod SegmentLemmas

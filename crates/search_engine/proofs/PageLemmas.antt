@@ -9,15 +9,15 @@ use Rattle.segment_pages.specs.Paged.{AreNextTold, HoldsNoneTold, Paged, ReadsCo
 use Rattle.segment_pages.specs.Laws.{NoneAreLeft}
 use Rattle.segment_pages.proofs.ReadLemmas.{none_within, reads_on}
 use Rattle.search_engine.specs.Scan.{Asked, numbered}
-use Rattle.search_engine.specs.Sofar.{GrewByFront, Moves, Passes, Sofar, Stops, TicksWithin}
+use Rattle.sink_pieces.specs.Output.{GrewByFront, Moves}
+use Rattle.search_engine.specs.Sofar.{Passes, Sofar, Stops, TicksWithin}
 use Rattle.search_engine.specs.Held.{AreRowsOf, Named, OfLeft}
 use Rattle.search_engine.specs.StepsPast.{PagesPast, PastTold}
-use Rattle.search_engine.proofs.SofarLemmas.{front_none, numbered_append, passes_moves, passes_none, passes_on, stops_behind, stops_here, stops_more, ticks_same}
+use Rattle.search_engine.proofs.SofarLemmas.{front_none, goes_moved, numbered_append, passes_moves, passes_none, passes_on, stops_behind, stops_here, stops_more, ticks_same}
 use Rattle.segment_pages.specs.declared.refusal.PageRefusal.{PageRefusal}
 use Rattle.search_engine.specs.declared.refusal.PrintRefusal.{PrintRefusal}
 use Rattle.search_engine.specs.declared.refusal.SearchRefusal.{SearchRefusal}
 use Rattle.search_engine.specs.Refused.{from_page, from_print}
-use Rattle.search_engine.proofs.OutputLemmas.{goes_moved}
 
 -- ---- rows in two parts
 

@@ -21,7 +21,8 @@ use Rattle.search_engine.specs.Sofar.{Passes, Sofar, TicksWithin, sofar}
 use Rattle.search_engine.specs.Held.{AreRowsOf, Named}
 use Rattle.search_engine.specs.Judged.{Judges, Keeps, label_of}
 use Rattle.search_engine.specs.StepsPast.{PastRows}
-use Rattle.search_engine.proofs.SofarLemmas.{grew_nothing, numbered_append, passes_none, passes_on, ticks_behind, ticks_same}
+use Rattle.sink_pieces.proofs.OutputLemmas.{Grew-nothing}
+use Rattle.search_engine.proofs.SofarLemmas.{numbered_append, passes_none, passes_on, ticks_behind, ticks_same}
 
 -- ---- one message
 
@@ -33,7 +34,7 @@ passed version q p w g h a b t u no_found no_tried same_g same_a same_t = record
   are_found = inr (no_found, refl);
   are_tried = inr (no_tried, refl);
   advances = record {
-    goes = record { front = []; splits = append-nil g ∙ sym same_g; grew = grew_nothing w };
+    goes = record { front = []; splits = append-nil g ∙ sym same_g; grew = Grew-nothing w };
     matched = λ fits. ap (λ (x : Tally). x.matched) same_a ∙ omega arith;
     expanded = λ fits. ap (λ (x : Tally). x.expanded) same_a ∙ omega arith;
     ticks = omega (arith, same_t);
@@ -48,7 +49,7 @@ tried version q p w g h a b t u no_found is_tried same_g matched expanded ticks 
   are_found = inr (no_found, refl);
   are_tried = inl ([], is_tried, refl, refl);
   advances = record {
-    goes = record { front = []; splits = append-nil g ∙ sym same_g; grew = grew_nothing w };
+    goes = record { front = []; splits = append-nil g ∙ sym same_g; grew = Grew-nothing w };
     matched = λ fits. matched ∙ omega arith;
     expanded = expanded;
     ticks = ticks;
@@ -64,7 +65,7 @@ found version q p w g h a b t u is_found is_tried more matched expanded ticks = 
   are_found = inl ([], is_found, refl, refl);
   are_tried = inl ([], is_tried, refl, refl);
   advances = record {
-    goes = record { front = []; splits = ap (λ (l : List ℕ). g ++ l) (append-nil (line_of p)) ∙ sym more; grew = grew_nothing w };
+    goes = record { front = []; splits = ap (λ (l : List ℕ). g ++ l) (append-nil (line_of p)) ∙ sym more; grew = Grew-nothing w };
     matched = matched;
     expanded = expanded;
     ticks = ticks;

@@ -1,6 +1,8 @@
 -- What was done over the segments of an archive is said of the journal that the bytes stand for.
 use Rattle.std.proofs.Common.{◌≡◌, inl, inr, refl, sym, ap, subst, ◌∙◌, ◌≤◌, ℕ, List, [], ◌∷◌, ◌++◌, Option, None, Some, length, arith}
+use Rattle.std.specs.Prelude.{option_map}
 use Rattle.std.proofs.lemmas.List.{append-nil}
+use Rattle.std.proofs.lemmas.List.Elements.{All-nil}
 use Rattle.record_format.specs.declared.header.Header.{Header}
 use Rattle.archive_meaning.specs.declared.entry.JournalEntry.{JournalEntry}
 use Rattle.archive_meaning.specs.Held.{Held, content_of, nothing_held}
@@ -13,12 +15,13 @@ use Rattle.column_store.specs.declared.range.Range.{Range}
 use Rattle.wild_match.specs.declared.pattern.Item.{Item}
 use Rattle.search_engine.specs.declared.tally.Tally.{Tally}
 use Rattle.search_engine.specs.Scan.{Asked, IsFound, IsTried, Picks, Placed, all_placed, lines_of}
-use Rattle.search_engine.specs.Sofar.{GrewByFront, Moves, Sofar, Stops, sofar}
+use Rattle.sink_pieces.specs.Output.{Grew, GrewByFront}
+use Rattle.sink_pieces.proofs.OutputLemmas.{Grew-nothing, Moves-all}
+use Rattle.search_engine.specs.Sofar.{Sofar, Stops, sofar}
 use Rattle.search_engine.specs.Held.{Named, OfSegments, named}
 use Rattle.search_engine.specs.Opened.{IsBarrenFor, Searched, Stopped}
-use Rattle.search_engine.specs.Searched.{HasSearched, HasStopped, OfJournal, asked, names_of}
-use Rattle.search_engine.proofs.SofarLemmas.{all_went, passes_moves, picks_once, stops_behind, stops_here, ticks_same}
-use Rattle.search_engine.proofs.OutputLemmas.{goes_moved}
+use Rattle.search_engine.specs.Searched.{HasSearched, HasStopped, MissesBarren, OfJournal, ReadsNoBarren, asked, names_of}
+use Rattle.search_engine.proofs.SofarLemmas.{all_went, goes_moved, passes_moves, picks_once, stops_behind, stops_here, ticks_same}
 use Rattle.search_engine.proofs.HeldLemmas.{nothing_distinct, run_distinct}
 use Rattle.search_engine.proofs.GroupLemmas.{content_small, shown_have}
 
@@ -69,15 +72,15 @@ picks_short P (x ∷ xs) ys (inl p) = omega (arith, picks_short P xs p.0 p.2, ap
 picks_short P (x ∷ xs) ys (inr p) = omega (arith, picks_short P xs ys p.1)
 
 pub has_searched : (bytes : List ℕ) (h : Header) (es : List JournalEntry) (q : Asked) (ps : List SegmentPlace) (tally : Tally) (count : ℕ) (w0 w1 w2 : Option (List ℕ)) (g0 g1 g2 : List ℕ) (o0 o1 e0 e1 : ℕ) (stood : StandsFor bytes h es)
-    → g0 ≡ [] → Searched (names_of h stood.legal.held) q ps (all_placed (content_of stood.legal.held)) (sofar w0 g0 (record { matched = 0; expanded = 0 }) e0) (sofar w1 g1 tally e1) o0 o1 count → Moves w1 w2 g1 g2 → g2 ≡ []
+    → g0 ≡ [] → Searched (names_of h stood.legal.held) q ps (all_placed (content_of stood.legal.held)) (sofar w0 g0 (record { matched = 0; expanded = 0 }) e0) (sofar w1 g1 tally e1) o0 o1 count → Grew w1 w2 g1 → g2 ≡ []
     → HasSearched h stood.legal.held q ps (record { matched = tally.matched; expanded = tally.expanded; opened = count; segments = length ps }) w0 w2 o0 o1 e0 e1
-has_searched bytes h es q ps tally count w0 w1 w2 g0 g1 g2 o0 o1 e0 e1 stood none searched moves done =
+has_searched bytes h es q ps tally count w0 w1 w2 g0 g1 g2 o0 o1 e0 e1 stood none searched grew done =
     let all : List Placed = all_placed (content_of stood.legal.held) in
     let small = content_small bytes h es stood in
     let a : Sofar = sofar w0 g0 (record { matched = 0; expanded = 0 }) e0 in
     let b : Sofar = sofar w1 g1 tally e1 in
     let c : Sofar = sofar w2 g2 tally e1 in
-    let p = passes_moves h.version q all a b c searched.passes (goes_moved b c moves) refl refl in
+    let p = passes_moves h.version q all a b c searched.passes (goes_moved b c (Moves-all w1 w2 g1 g2 grew done)) refl refl in
     let found_short = picks_short (λ x. IsFound h.version q x.message) all p.found p.are_found in
     let tried_short = picks_short (λ x. IsTried h.version q x.message) all p.tried p.are_tried in
     let m : tally.matched ≡ length p.found = p.advances.matched (omega (arith, found_short, small)) ∙ omega arith in
@@ -112,6 +115,29 @@ last_stopped n q ps all a b w o0 o1 count searched front = record {
   most = λ opened are.
       let same = picks_once (λ x. ¬ IsBarrenFor n q x) ps opened searched.opened are searched.are_opened in
       omega (arith, searched.ticked, ap (λ (l : List SegmentPlace). length l) same);
+}
+
+-- ---- nothing was done
+
+nothing_more : (old : Option (List (ℕ × ℕ))) → old ≡ option_map (λ (ranges : List (ℕ × ℕ)). ranges ++ []) old
+nothing_more None = refl
+nothing_more (Some ranges) = ap Some (sym (append-nil ranges))
+
+pub reads_nothing : (seen : Option (List ℕ)) (q : Asked) (old new : Option (List (ℕ × ℕ))) → new ≡ old → OfJournal seen (λ h es held. ReadsNoBarren h es held q old new)
+reads_nothing None q old new same = tt
+reads_nothing (Some bytes) q old new same = λ h es stood. record {
+  more = [];
+  added = same ∙ nothing_more old;
+  each = All-nil (λ r. MissesBarren h es stood.legal.held q r.0 r.1);
+}
+
+pub stopped_nothing : (seen : Option (List ℕ)) (q : Asked) (ps : List SegmentPlace) (old new : Option (List ℕ)) (o0 o1 e0 e1 : ℕ) → new ≡ old → o1 ≡ o0 → e1 ≡ e0
+    → OfJournal seen (λ h _ held. HasStopped h held q ps old new o0 o1 e0 e1)
+stopped_nothing None q ps old new o0 o1 e0 e1 same opened ticked = tt
+stopped_nothing (Some bytes) q ps old new o0 o1 e0 e1 same opened ticked = λ h es stood. record {
+  printed = λ found are. ([], lines_of found, refl, same ∙ Grew-nothing old);
+  opens = λ segments are. omega (arith, opened);
+  expands = λ tried are. omega (arith, ticked);
 }
 
 -- ---- before a search

@@ -1,7 +1,7 @@
 -- A segment that is searched, and one that is barren.
-use Rattle.std.proofs.Common.{◌≡◌, map, inl, inr, ℕ, ◌+◌, ◌<◌, ◌≤◌, Bool, false, List, [], ◌∷◌, ◌++◌, length, Option, Some, None, refl, sym, ◌∙◌, ap, ap₂, subst, arith}
+use Rattle.std.proofs.Common.{◌≡◌, map, inl, inr, ℕ, zero, suc, ◌+◌, ◌<◌, ◌≤◌, Bool, false, List, [], ◌∷◌, ◌++◌, length, Option, Some, None, refl, sym, ◌∙◌, ap, ap₂, subst, arith}
 use Rattle.std.specs.Prelude.{slice_get, IsTrue, ◌↔◌}
-use Rattle.std.specs.List.{Contains}
+use Rattle.std.specs.List.{Contains, flat_map}
 use Rattle.std.proofs.lemmas.List.{append-nil, length-map}
 use Rattle.std.proofs.Math.ListN.{get_or-map}
 use Rattle.std.proofs.lemmas.List.Elements.{All-nil, All-weaker, Contains-append_left, Contains-append_right, Contains-push}
@@ -26,12 +26,11 @@ use Rattle.search_engine.specs.Scan.{Asked, IsFound, IsTried, Picks, Placed, num
 use Rattle.search_engine.specs.Sofar.{Passes, Sofar, Stops}
 use Rattle.search_engine.specs.Held.{AreRowsOf, HasMessages, HaveMessages, Named, OfLeft, OfSegments}
 use Rattle.search_engine.specs.Opened.{AreOpened, IsBarrenFor, IsRead, ReadsOpened, Searched, Stopped, columns_at}
-use Rattle.search_engine.specs.Verdicts.{IsRejectedType}
-use Rattle.subquery_filter.specs.Verdicts.{RejectedNeverMatches}
+use Rattle.subquery_filter.specs.Filter.{HasNoMatch}
+use Rattle.row_codec.specs.Numbers.{numbers_of_row}
 use Rattle.segment_format.specs.declared.head.Head.{Head}
 use Rattle.segment_format.proofs.SetLemmas.{has_sorted_set}
-use Rattle.search_engine.proofs.VerdictLemmas.{rejected_tried}
-use Rattle.search_engine.proofs.SofarLemmas.{front_none, goes_none, picks_once, stops_here, ticks_same}
+use Rattle.search_engine.proofs.SofarLemmas.{goes_none, picks_once}
 use Rattle.search_engine.proofs.RowLemmas.{of_range}
 
 -- ---- told
@@ -136,16 +135,27 @@ type_listed rows r is =
     has_sorted_set (map (λ (x : Row). x.log_type) rows) r.log_type
     (is.0, omega (arith, is.1, length-map rows (λ (x : Row). x.log_type)), get_or-map (λ (x : Row). x.log_type) rows is.0 r ∙ ap (λ (x : Row). x.log_type) is.2)
 
--- one of whose log types no message is expanded
-pub rejected_done : (seen : Option (List ℕ)) (n : Named) (files : List FileEntry) (q : Asked) (p : SegmentPlace) (b : Bool) (a : Sofar) (t u : ℕ) → WideIsWider → RejectedNeverMatches → IsSearched q.pattern → Tells n q p b → b ≡ false
-    → ((k : ℕ) → Contains p.head.types k → IsRejectedType q n.types k) → u ≡ t + 1 → OfSegments seen n files (p ∷ []) (λ _ all. Searched n q (p ∷ []) all a a t u 1)
-rejected_done None n files q p b a t u wider law searched told shut rejected ticked = tt
-rejected_done (Some bytes) n files q p b a t u wider law searched told shut rejected ticked = λ all distinct have.
+contains_flat_map : {X Y : Type 0} (f : X → List Y) (xs : List X) (x : X) (y : Y) → Contains xs x → Contains (f x) y → Contains (flat_map f xs) y
+contains_flat_map f [] x y (k, lt, e) there = absurd (omega (arith, lt))
+contains_flat_map f (z ∷ xs) x y (zero, lt, e) there = Contains-append_left (f z) (flat_map f xs) y (subst (λ w. Contains (f w) y) (sym e) there)
+contains_flat_map f (z ∷ xs) x y (suc k, lt, e) there = Contains-append_right (f z) (flat_map f xs) y (contains_flat_map f xs x y (k, omega (arith, lt), e) there)
+
+number_listed : (types : List (List ℕ)) (rows : List Row) (r : Row) (k : ℕ) → Contains rows r → Contains (numbers_of_row types r) k → Contains (words_of types rows) k
+number_listed types rows r k is has = has_sorted_set (flat_map (numbers_of_row types) rows) k (contains_flat_map (numbers_of_row types) rows r k is has)
+
+-- one of whose rows none is matched, as its head's lists tell
+pub unmatched_done : (seen : Option (List ℕ)) (n : Named) (files : List FileEntry) (q : Asked) (p : SegmentPlace) (b : Bool) (a : Sofar) (t u : ℕ) → WideIsWider → Tells n q p b → b ≡ false
+    → (listed numbers : List ℕ) → listed ≡ p.head.types → numbers ≡ p.head.words → HasNoMatch (wide_pieces q.pattern) n.types n.words listed numbers → u ≡ t + 1
+    → OfSegments seen n files (p ∷ []) (λ _ all. Searched n q (p ∷ []) all a a t u 1)
+unmatched_done None n files q p b a t u wider told shut listed numbers of_types of_words unmatched ticked = tt
+unmatched_done (Some bytes) n files q p b a t u wider told shut listed numbers of_types of_words unmatched ticked = λ all distinct have.
     let one = single bytes n files have.0 p all have.3 have in
     let has = one.has in
-    let types : p.head.types ≡ sorted_set (map (λ (x : Row). x.log_type) has.rows) = ap (λ (h : Head). h.types) has.head in
+    let types : listed ≡ sorted_set (map (λ (x : Row). x.log_type) has.rows) = of_types ∙ ap (λ (h : Head). h.types) has.head in
+    let words : numbers ≡ words_of n.types has.rows = of_words ∙ ap (λ (h : Head). h.words) has.head in
     let none : (r : Row) (m : List ℕ) → Contains has.rows r → IsCanonical n.version r n.types n.words m → ¬ IsTried n.version q m =
-    λ r m here canonical. rejected_tried n.version q r n.types n.words m law searched (rejected r.log_type (subst (λ l. Contains l r.log_type) (sym types) (type_listed has.rows r here))) canonical in
+    λ r m here canonical f. unmatched n.version r m (subst (λ l. Contains l r.log_type) (sym types) (type_listed has.rows r here))
+    (λ k is. subst (λ l. Contains l k) (sym words) (number_listed n.types has.rows r k here is)) canonical f.matched in
     record {
       passes = record {
         found = [];
@@ -162,15 +172,6 @@ rejected_done (Some bytes) n files q p b a t u wider law searched told shut reje
       ticked = ticked;
       counted = refl;
     }
-
--- one that was not opened yet
-pub unopened_stops : (seen : Option (List ℕ)) (n : Named) (files : List FileEntry) (q : Asked) (p : SegmentPlace) (a : Sofar) (w : Option (List ℕ)) (k t u : ℕ) → w ≡ a.written → k ≡ a.ticks → u ≡ t
-    → OfSegments seen n files (p ∷ []) (λ _ all. Stopped n q (p ∷ []) all a w k t u)
-unopened_stops None n files q p a w k t u same ticks ticked = tt
-unopened_stops (Some bytes) n files q p a w k t u same ticks ticked = λ all distinct have. record {
-  stops = stops_here n.version q all a w k (front_none a.written w a.gathered same) (ticks_same n.version q all a.ticks k ticks);
-  most = λ opened are. omega (arith, ticked);
-}
 
 pub opened_done : (seen : Option (List ℕ)) (n : Named) (files : List FileEntry) (f : FileEntry) (q : Asked) (p : SegmentPlace) (b : Bool) (pages : Paged) (name : List ℕ) (number : ℕ) (a z : Sofar) (t u : ℕ) → Tells n q p b → b ≡ false
     → slice_get files p.head.file ≡ Some f → name ≡ f.name → number ≡ p.head.first + 1 → ((bytes : List ℕ) (rows : List Row) → HoldsSegment p.payload p.length p.head bytes rows → HoldsLeft pages bytes rows)

@@ -1,11 +1,13 @@
 -- A search that goes on over parts of a list goes on over the whole, and one that stops in a part stops in the whole.
-use Rattle.std.proofs.Common.{◌≡◌, inl, inr, ℕ, ◌+◌, List, [], ◌∷◌, ◌++◌, length, Option, Some, None, option_map, refl, sym, ◌∙◌, ap, subst, arith, length-append}
+use Rattle.std.proofs.Common.{◌≡◌, inl, inr, ℕ, ◌+◌, List, [], ◌∷◌, ◌++◌, length, Option, refl, sym, ◌∙◌, ap, subst, arith, length-append}
 use Rattle.std.specs.Prelude.{Result, Ok, Err, OnErr}
 use Rattle.std.proofs.lemmas.List.{append-nil, append_assoc}
 use Rattle.std.proofs.lemmas.List.Concat.{flat_map-append}
+use Rattle.sink_pieces.specs.Output.{Grew, GrewByFront, Moves}
+use Rattle.sink_pieces.proofs.OutputLemmas.{Grew-append, Grew-nothing}
 use Rattle.search_engine.specs.declared.tally.Tally.{Tally}
 use Rattle.search_engine.specs.Scan.{Asked, IsFound, IsTried, Picks, Placed, line_of, lines_of, numbered, placed}
-use Rattle.search_engine.specs.Sofar.{Advances, Counted, Goes, Grew, GrewByFront, Passes, Sofar, Stops, TicksWithin}
+use Rattle.search_engine.specs.Sofar.{Advances, Counted, Goes, Passes, Sofar, Stops, TicksWithin}
 
 pub on_err : {T E : Type 0} (r : Result T E) (P : Type 0) → P → OnErr r P
 on_err (Ok t) P p = tt
@@ -48,27 +50,17 @@ pub numbered_append : (name : List ℕ) (k : ℕ) (ms ns : List (List ℕ)) (n :
 numbered_append name k [] ns n is = ap (λ (j : ℕ). numbered name j ns) (sym (is ∙ omega arith))
 numbered_append name k (m ∷ ms) ns n is = ap (λ (l : List Placed). placed name k m ∷ l) (numbered_append name (k + 1) ms ns n (omega (arith, is)))
 
--- ---- the sink
-
-pub grew_on : (old mid new : Option (List ℕ)) (a b : List ℕ) → Grew old mid a → Grew mid new b → Grew old new (a ++ b)
-grew_on None mid new a b first then = then ∙ ap (option_map (λ w. w ++ b)) first
-grew_on (Some w) mid new a b first then = then ∙ (ap (option_map (λ w. w ++ b)) first ∙ ap Some (append_assoc w a b))
-
-pub grew_nothing : (old : Option (List ℕ)) → Grew old old []
-grew_nothing None = refl
-grew_nothing (Some w) = ap Some (sym (append-nil w))
-
 -- ---- going on
 
 pub goes_none : (a : Sofar) → Goes a a []
-goes_none a = record { front = []; splits = append-nil a.gathered; grew = grew_nothing a.written }
+goes_none a = record { front = []; splits = append-nil a.gathered; grew = Grew-nothing a.written }
 
 pub goes_on : (a b c : Sofar) (s t : List ℕ) → Goes a b s → Goes b c t → Goes a c (s ++ t)
 goes_on a b c s t one two = record {
   front = one.front ++ two.front;
   splits = sym (append_assoc a.gathered s t) ∙ ap (λ (l : List ℕ). l ++ t) one.splits ∙ append_assoc one.front b.gathered t
       ∙ ap (λ (l : List ℕ). one.front ++ l) two.splits ∙ sym (append_assoc one.front two.front c.gathered);
-  grew = grew_on a.written b.written c.written one.front two.front one.grew two.grew;
+  grew = Grew-append a.written b.written c.written one.front two.front one.grew two.grew;
 }
 
 counted_on : (a b c m n : ℕ) → Counted a b m → Counted b c n → Counted a c (m + n)
@@ -137,21 +129,17 @@ pub ticks_same : (version : ℕ) (q : Asked) (xs : List Placed) (old new : ℕ) 
 ticks_same version q xs old new same tried are = omega (arith, same)
 
 front_more : (old new : Option (List ℕ)) (text more : List ℕ) → GrewByFront old new text → GrewByFront old new (text ++ more)
-front_more old new text more f = record {
-  front = f.front;
-  rest = f.rest ++ more;
-  splits = ap (λ (l : List ℕ). l ++ more) f.splits ∙ append_assoc f.front f.rest more;
-  grew = f.grew;
-}
+front_more old new text more f =
+    (f.0, f.1 ++ more, ap (λ (l : List ℕ). l ++ more) f.2 ∙ append_assoc f.0 f.1 more, f.3)
 
 front_behind : (a b : Sofar) (w : Option (List ℕ)) (s t : List ℕ) → Goes a b s → GrewByFront b.written w (b.gathered ++ t) → GrewByFront a.written w (a.gathered ++ (s ++ t))
-front_behind a b w s t goes f = record {
-  front = goes.front ++ f.front;
-  rest = f.rest;
-  splits = sym (append_assoc a.gathered s t) ∙ ap (λ (l : List ℕ). l ++ t) goes.splits ∙ append_assoc goes.front b.gathered t
-      ∙ ap (λ (l : List ℕ). goes.front ++ l) f.splits ∙ sym (append_assoc goes.front f.front f.rest);
-  grew = grew_on a.written b.written w goes.front f.front goes.grew f.grew;
-}
+front_behind a b w s t goes f = (
+  goes.front ++ f.0,
+  f.1,
+  sym (append_assoc a.gathered s t) ∙ ap (λ (l : List ℕ). l ++ t) goes.splits ∙ append_assoc goes.front b.gathered t
+      ∙ ap (λ (l : List ℕ). goes.front ++ l) f.2 ∙ sym (append_assoc goes.front f.0 f.1),
+  Grew-append a.written b.written w goes.front f.0 goes.grew f.3,
+)
 
 pub stops_more : (version : ℕ) (q : Asked) (xs ys : List Placed) (a : Sofar) (w : Option (List ℕ)) (k : ℕ) → Stops version q xs a w k → Stops version q (xs ++ ys) a w k
 stops_more version q xs ys a w k stops = record {
@@ -182,10 +170,14 @@ stops_here version q xs a w k f within = record {
 }
 
 pub front_none : (old new : Option (List ℕ)) (text : List ℕ) → new ≡ old → GrewByFront old new text
-front_none old new text same = record { front = []; rest = text; splits = refl; grew = same ∙ grew_nothing old }
+front_none old new text same = ([], text, refl, same ∙ Grew-nothing old)
 
 -- the text that is left is none
 pub all_went : (a b : Sofar) (s : List ℕ) → Goes a b s → a.gathered ≡ [] → b.gathered ≡ [] → Grew a.written b.written s
 all_went a b s goes none done =
     let text : s ≡ goes.front = ap (λ (l : List ℕ). l ++ s) (sym none) ∙ goes.splits ∙ ap (λ (l : List ℕ). goes.front ++ l) done ∙ append-nil goes.front in
     subst (Grew a.written b.written) (sym text) goes.grew
+
+-- what was gathered went out in part
+pub goes_moved : (a b : Sofar) → Moves a.written b.written a.gathered b.gathered → Goes a b []
+goes_moved a b moves = record { front = moves.front; splits = append-nil a.gathered ∙ moves.splits; grew = moves.grew }

@@ -4,7 +4,6 @@ pub mod Held
 pub mod Refused
 pub mod Judged
 pub mod Opened
-pub mod Verdicts
 pub mod Searched
 pub mod Laws
 pub mod StepsPast

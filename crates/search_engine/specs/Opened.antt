@@ -6,10 +6,12 @@ use Rattle.segment_format.specs.Pages.{first_page}
 use Rattle.segment_pages.specs.Paged.{columns_size}
 use Rattle.query_plan.specs.Pieces.{wide_pieces}
 use Rattle.subquery_filter.specs.Barren.{IsBarren}
+use Rattle.log_seams.specs.Disk.{DiskState}
+use Rattle.archive_open.specs.declared.files.FileEntry.{FileEntry}
 use Rattle.archive_open.specs.declared.segments.SegmentPlace.{SegmentPlace}
 use Rattle.search_engine.specs.Scan.{Asked, Picks, Placed}
 use Rattle.search_engine.specs.Sofar.{Passes, Sofar, Stops}
-use Rattle.search_engine.specs.Held.{Named}
+use Rattle.search_engine.specs.Held.{Named, OfSegments}
 
 -- the segment's head tells that none of its rows is found
 abbrev pub IsBarrenFor : Named → Asked → SegmentPlace → Type 0
@@ -49,3 +51,17 @@ pub record Searched (n : Named) (q : Asked) (ps : List SegmentPlace) (all : List
 pub record Stopped (n : Named) (q : Asked) (ps : List SegmentPlace) (all : List Placed) (a : Sofar) (written : Option (List ℕ)) (expanded ticks later : ℕ) : Type 0 where
   pub stops : Stops n.version q all a written expanded
   pub most : (opened : List SegmentPlace) → AreOpened n q ps opened → later ≤ ticks + length opened
+
+-- What is said of segments where the bytes of the disk are told and hold their messages: what was read of them, that
+-- they were searched, that the search stopped among them, and that the bytes do not hold them.
+abbrev pub ReadsTold : DiskState → DiskState → Named → List FileEntry → Asked → List SegmentPlace → Type 0
+ReadsTold old new n files q ps = OfSegments old.seen n files ps (λ _ _. ReadsOpened n q ps old.ranges new.ranges)
+
+abbrev pub SearchedTold : Option (List ℕ) → Named → List FileEntry → Asked → List SegmentPlace → Sofar → Sofar → ℕ → ℕ → ℕ → Type 0
+SearchedTold seen n files q ps a b ticks later count = OfSegments seen n files ps (λ _ all. Searched n q ps all a b ticks later count)
+
+abbrev pub StoppedTold : Option (List ℕ) → Named → List FileEntry → Asked → List SegmentPlace → Sofar → Option (List ℕ) → ℕ → ℕ → ℕ → Type 0
+StoppedTold seen n files q ps a written expanded ticks later = OfSegments seen n files ps (λ _ all. Stopped n q ps all a written expanded ticks later)
+
+abbrev pub NoneTold : Option (List ℕ) → Named → List FileEntry → List SegmentPlace → Type 0
+NoneTold seen n files ps = OfSegments seen n files ps (λ _ _. ⊥)

@@ -15,7 +15,7 @@ use Rattle.archive_open.specs.declared.segments.SegmentPlace.{SegmentPlace}
 use Rattle.archive_open.specs.Shown.{columns_begin, columns_end, head_in}
 use Rattle.search_engine.specs.declared.report.Report.{Report}
 use Rattle.search_engine.specs.Scan.{AreFound, AreTried, Asked, Placed, all_placed, lines_of}
-use Rattle.search_engine.specs.Sofar.{Grew, GrewByFront}
+use Rattle.sink_pieces.specs.Output.{Grew, GrewByFront}
 use Rattle.search_engine.specs.Held.{Named, named}
 use Rattle.search_engine.specs.Opened.{AreOpened}
 

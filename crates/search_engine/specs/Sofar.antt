@@ -1,24 +1,8 @@
 -- How far a search has come, and how it goes on.
-use Rattle.std.specs.Prelude.{◌≡◌, ◌<◌, ◌≤◌, ◌+◌, ◌^◌, ℕ, List, ◌++◌, length, Option, option_map}
+use Rattle.std.specs.Prelude.{◌≡◌, ◌<◌, ◌≤◌, ◌+◌, ◌^◌, ℕ, List, ◌++◌, length, Option}
+use Rattle.sink_pieces.specs.Output.{Grew, GrewByFront}
 use Rattle.search_engine.specs.declared.tally.Tally.{Tally}
 use Rattle.search_engine.specs.Scan.{AreFound, AreTried, Asked, Placed, lines_of}
-
--- the sink took this text after what it had
-abbrev pub Grew : Option (List ℕ) → Option (List ℕ) → List ℕ → Type 0
-Grew old new text = new ≡ option_map (λ w. w ++ text) old
-
--- the sink took a front of this text
-pub record GrewByFront (old new : Option (List ℕ)) (text : List ℕ) : Type 0 where
-  pub front : List ℕ
-  pub rest : List ℕ
-  pub splits : text ≡ front ++ rest
-  pub grew : Grew old new front
-
--- the sink took a front of what was gathered, and the rest is still gathered
-pub record Moves (old new : Option (List ℕ)) (gathered rest : List ℕ) : Type 0 where
-  pub front : List ℕ
-  pub splits : gathered ≡ front ++ rest
-  pub grew : Grew old new front
 
 -- what the sink has taken, what is gathered for it, the counts, and the ticks of expanded messages
 pub record Sofar : Type 0 where

@@ -2,7 +2,6 @@
 #![tactic(auto)]
 
 mod laws;
-mod output;
 mod paging;
 mod printing;
 mod query;
@@ -11,12 +10,8 @@ mod report;
 mod searching;
 mod segments;
 mod tally;
-mod verdicts;
 
 pub use laws::{exact_expands_printed, one_is_found};
 pub use refusal::SearchRefusal;
 pub use report::Report;
 pub use searching::search;
-
-#[cfg(test)]
-mod tests;

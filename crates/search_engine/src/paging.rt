@@ -4,25 +4,26 @@ ghost use Rattle.log_seams.specs.Outside.{CountsOf};
 ghost use Rattle.segment_format.specs.Pages.{page_rows};
 ghost use Rattle.segment_pages.specs.Paged.{ReadsColumns, paged_after};
 ghost use Rattle.query_plan.specs.Laws.{IsSearched};
+ghost use Rattle.query_plan.specs.Pieces.{wide_pieces};
+ghost use Rattle.subquery_filter.specs.Filter.{IsFilter};
 ghost use Rattle.search_engine.specs.Held.{OfLeft, named};
 ghost use Rattle.search_engine.specs.Scan.{numbered};
 ghost use Rattle.search_engine.specs.Sofar.{Passes, Stops, sofar};
 ghost use Rattle.search_engine.specs.StepsPast.{PastTold};
-ghost use Rattle.search_engine.specs.Verdicts.{AreVerdicts};
 
-use crate::output::flush_piece;
 use crate::printing::search_page;
 use crate::query::Query;
 use crate::refusal::SearchRefusal;
 use crate::tally::Tally;
-use crate::verdicts::Verdicts;
 use column_store::Columns;
 use log_seams::{Disk, Sink};
 use row_codec::Names;
 use segment_pages::SegmentPages;
+use sink_pieces::flush_piece;
 use std::alloc::Global;
 use std::sync::ledger::Ledger;
 use step_count::Steps;
+use subquery_filter::Filter;
 
 /// Searches the next page, whose first message has this number. Its columns are handed back.
 fn search_next<N: Names, D: Disk, K: Sink, M: Ledger>(
@@ -32,7 +33,7 @@ fn search_next<N: Names, D: Disk, K: Sink, M: Ledger>(
     number: u64,
     pages: &mut SegmentPages,
     columns: Columns,
-    verdicts: &Verdicts,
+    filter: &Filter,
     disk: &mut D,
     out: &mut K,
     bytes: &mut Vec<u8>,
@@ -41,7 +42,8 @@ fn search_next<N: Names, D: Disk, K: Sink, M: Ledger>(
     expanded: &mut Steps<M>,
 ) -> Result<Columns, SearchRefusal>
     requires searched { IsSearched query.now.pattern }
-    requires verdicts { AreVerdicts query.now (N.types names.now) verdicts.now }
+    requires filter { IsFilter (wide_pieces query.now.pattern) (N.types names.now)
+        (N.words names.now) filter.now }
     requires left { pages.old.pages.row < pages.old.pages.rows }
     requires small { number + 4096 < 2 ^ 64 }
 
@@ -73,7 +75,7 @@ fn search_next<N: Names, D: Disk, K: Sink, M: Ledger>(
 {
     let page = pages.next_page(disk, bytes, columns)?;
     search_page(
-        query, names, name, number, &page, verdicts, gathered, tally, expanded,
+        query, names, name, number, &page, filter, gathered, tally, expanded,
     )?;
     flush_piece(out, gathered)?;
     Ok(page)
@@ -87,7 +89,7 @@ pub(crate) fn search_pages<N: Names, D: Disk, K: Sink, M: Ledger>(
     name: &[u8],
     number: u64,
     pages: SegmentPages,
-    verdicts: &Verdicts,
+    filter: &Filter,
     disk: &mut D,
     out: &mut K,
     bytes: &mut Vec<u8>,
@@ -96,7 +98,8 @@ pub(crate) fn search_pages<N: Names, D: Disk, K: Sink, M: Ledger>(
     expanded: &mut Steps<M>,
 ) -> Result<(), SearchRefusal>
     requires searched { IsSearched query.now.pattern }
-    requires verdicts { AreVerdicts query.now (N.types names.now) verdicts.now }
+    requires filter { IsFilter (wide_pieces query.now.pattern) (N.types names.now)
+        (N.words names.now) filter.now }
     requires first { pages.pages.row ≡ 0 }
     requires small { number + pages.pages.rows + 4096 < 2 ^ 64 }
 
@@ -129,8 +132,8 @@ pub(crate) fn search_pages<N: Names, D: Disk, K: Sink, M: Ledger>(
     let mut at = number;
     while pages.has_next() {
         columns = search_next(
-            query, names, name, at, &mut pages, columns, verdicts, disk, out, bytes, gathered,
-            tally, expanded,
+            query, names, name, at, &mut pages, columns, filter, disk, out, bytes, gathered, tally,
+            expanded,
         )?;
         at += u64::from(columns.rows());
     }

@@ -1,25 +1,25 @@
 //! Rows that are printed.
-ghost use Rattle.std.specs.Prelude.{◌≡◌, ◌<◌, ◌+◌, ◌^◌, ◌++◌, ◌∷◌, [], ℕ, List, Option, length, OnOk, OnErr, IsErrOf};
+ghost use Rattle.std.specs.Prelude.{◌≡◌, ◌<◌, ◌+◌, ◌^◌, ◌++◌, ◌∷◌, [], ℕ, List, Option, length, IsTrue, OnOk, OnErr, IsErrOf};
 ghost use Rattle.column_store.specs.Row.{row_of};
 ghost use Rattle.row_codec.specs.Means.{IsCanonical};
 ghost use Rattle.query_plan.specs.Laws.{IsSearched};
+ghost use Rattle.query_plan.specs.Pieces.{wide_pieces};
+ghost use Rattle.subquery_filter.specs.Filter.{IsFilter, IsRowVerdict};
 ghost use Rattle.search_engine.specs.Held.{AreRowsOf, named};
 ghost use Rattle.search_engine.specs.Judged.{Keeps, label_of};
 ghost use Rattle.search_engine.specs.Scan.{numbered, placed};
 ghost use Rattle.search_engine.specs.Sofar.{Passes, TicksWithin, sofar};
-ghost use Rattle.search_engine.specs.Verdicts.{AreVerdicts, IsVerdict};
 
 use crate::query::{Judgement, Query};
 use crate::refusal::PrintRefusal;
 use crate::tally::Tally;
-use crate::verdicts::{Verdicts, is_certain, is_rejected};
 use column_store::{Columns, RowRef};
 use query_plan::wide_is_wider;
 use row_codec::{Names, row_fits, write_onto};
 use std::alloc::AllocError;
 use std::sync::ledger::Ledger;
 use step_count::Steps;
-use subquery_filter::{Verdict, verdicts_hold};
+use subquery_filter::{Filter, Verdict};
 
 /// Appends what stands before a message in its line.
 fn put_label(gathered: &mut Vec<u8>, name: &[u8], number: u64) -> Result<(), AllocError>
@@ -61,10 +61,24 @@ fn keep<M: Ledger>(
     Ok(())
 }
 
+/// Whether it is known that a row's message is not expanded.
+fn is_rejected(verdict: Verdict) -> bool
+    ensures { IsTrue result → verdict ≡ Verdict.Rejected }
+{
+    matches!(verdict, Verdict::Rejected)
+}
+
+/// Whether it is known that a row's message is expanded, where it is in the range.
+fn is_certain(verdict: Verdict) -> bool
+    ensures { IsTrue result → verdict ≡ Verdict.Certain }
+{
+    matches!(verdict, Verdict::Certain)
+}
+
 /// Writes the line of a row behind what is gathered, where its message is found.
 ///
 /// A message in the range is written and then matched: one that is not found is taken back, which
-/// costs less than a match over the row as it is stored. Where its log type tells that it cannot be
+/// costs less than a match over the row as it is stored. Where the filter tells that it cannot be
 /// found it is not written, and where it tells that it is expanded it is not matched for that.
 fn search_row<N: Names, M: Ledger>(
     query: &Query,
@@ -72,13 +86,14 @@ fn search_row<N: Names, M: Ledger>(
     name: &[u8],
     number: u64,
     row: RowRef<'_>,
-    verdict: Option<Verdict>,
+    verdict: Verdict,
     gathered: &mut Vec<u8>,
     tally: &mut Tally,
     expanded: &mut Steps<M>,
 ) -> Result<(), PrintRefusal>
     requires searched { IsSearched query.now.pattern }
-    requires verdict { IsVerdict query.now (N.types names.now) row.log_type verdict }
+    requires verdict { IsRowVerdict (wide_pieces query.now.pattern) (N.types names.now)
+        (N.words names.now) (row_of row) verdict }
     ensures done { OnOk result ((w : Option (List ℕ)) (message : List ℕ)
         → IsCanonical (N.version names.now) (row_of row.entry) (N.types names.now)
         (N.words names.now) message
@@ -90,7 +105,6 @@ fn search_row<N: Names, M: Ledger>(
         → ¬ IsCanonical (N.version names.now) (row_of row.entry) (N.types names.now)
         (N.words names.now) message }
 {
-    verdicts_hold();
     wide_is_wider();
     if is_rejected(verdict) {
         return Ok(());
@@ -119,13 +133,14 @@ pub(crate) fn search_page<N: Names, M: Ledger>(
     name: &[u8],
     number: u64,
     page: &Columns,
-    verdicts: &Verdicts,
+    filter: &Filter,
     gathered: &mut Vec<u8>,
     tally: &mut Tally,
     expanded: &mut Steps<M>,
 ) -> Result<(), PrintRefusal>
     requires searched { IsSearched query.now.pattern }
-    requires verdicts { AreVerdicts query.now (N.types names.now) verdicts.now }
+    requires filter { IsFilter (wide_pieces query.now.pattern) (N.types names.now)
+        (N.words names.now) filter.now }
     requires small { number + length page.now.rows < 2 ^ 64 }
     ensures done { OnOk result ((w : Option (List ℕ)) (messages : List (List ℕ))
         → AreRowsOf (named (N.version names.now) (N.types names.now) (N.words names.now))
@@ -145,7 +160,7 @@ pub(crate) fn search_page<N: Names, M: Ledger>(
     for place in 0..page.rows() {
         let row = page.row(place);
         let at = number + u64::from(place);
-        let verdict = verdicts.of(row.log_type);
+        let verdict = filter.verdict(row);
         search_row(
             query, names, name, at, row, verdict, gathered, tally, expanded,
         )?;

@@ -2,12 +2,15 @@
 ghost use Rattle.std.specs.Prelude.{◌≡◌, IfOk, IsTrue};
 ghost use Rattle.query_plan.specs.Pieces.{wide, wide_pieces};
 ghost use Rattle.wild_match.specs.Matches.{Match};
+ghost use Rattle.subquery_filter.specs.Filter.{IsFilter};
 ghost use Rattle.search_engine.specs.Judged.{Judges};
 
 use column_store::Range;
 use query_plan::{Plan, wide_is_wider};
+use row_codec::Names;
 use std::alloc::{AllocError, Global};
 use std::marker::Model;
+use subquery_filter::Filter;
 use wild_match::{Item, Matcher, Pattern};
 
 /// What is told of a message.
@@ -87,6 +90,15 @@ impl Query {
         ensures { result.now ≡ wide_pieces self.now.pattern }
     {
         &self.plan
+    }
+
+    /// What an archive's log types and words tell of its rows.
+    pub(crate) fn filter<N: Names>(&self, alloc: Global, names: &N) -> Result<Filter, AllocError>
+        ensures { IfOk result (IsFilter (wide_pieces self.now.pattern) (N.types names.now)
+            (N.words names.now)) }
+    {
+        let filter = Filter::new(alloc, self.plan(), names)?;
+        Ok(filter)
     }
 
     /// The range.

@@ -7,7 +7,6 @@ ghost use Rattle.archive_open.specs.Archive.{shown};
 ghost use Rattle.archive_open.specs.Shown.{Opens};
 ghost use Rattle.search_engine.specs.Searched.{HasSearched, HasStopped, OfJournal, ReadsNoBarren, asked};
 
-use crate::output::flush;
 use crate::query::Query;
 use crate::refusal::SearchRefusal;
 use crate::report::Report;
@@ -16,6 +15,7 @@ use crate::tally::Tally;
 use archive_open::{Archive, KeepsTexts};
 use column_store::Range;
 use log_seams::{Disk, Sink};
+use sink_pieces::flush;
 use std::alloc::Global;
 use std::sync::ledger::Ledger;
 use step_count::Steps;
@@ -66,8 +66,10 @@ fn search_archive<T: KeepsTexts + Drop, D: Disk, K: Sink, L: Ledger, M: Ledger>(
     let files = archive.files().as_slice();
     let segments = archive.segments().as_slice();
     let names = archive.names();
+    let filter = query.filter(alloc, names)?;
     let count = search_segments(
-        alloc, query, names, files, segments, disk, out, gathered, &mut tally, opened, expanded,
+        alloc, query, names, files, segments, &filter, disk, out, gathered, &mut tally, opened,
+        expanded,
     )?;
     flush(out, gathered)?;
     Ok(Report {

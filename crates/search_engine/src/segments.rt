@@ -3,16 +3,16 @@ ghost use Rattle.std.specs.Prelude.{◌≡◌, ◌≤◌, [], ◌∷◌, length,
 ghost use Rattle.log_seams.specs.Disk.{Rests};
 ghost use Rattle.log_seams.specs.Outside.{CountsOf};
 ghost use Rattle.query_plan.specs.Laws.{IsSearched};
-ghost use Rattle.search_engine.specs.Held.{OfSegments, named};
-ghost use Rattle.search_engine.specs.Opened.{ReadsOpened, Searched, Stopped};
+ghost use Rattle.query_plan.specs.Pieces.{wide_pieces};
+ghost use Rattle.subquery_filter.specs.Filter.{IsFilter};
+ghost use Rattle.search_engine.specs.Held.{named};
+ghost use Rattle.search_engine.specs.Opened.{NoneTold, ReadsTold, SearchedTold, StoppedTold};
 ghost use Rattle.search_engine.specs.Sofar.{sofar};
-ghost use Rattle.search_engine.specs.Verdicts.{AreVerdicts};
 
 use crate::paging::search_pages;
 use crate::query::Query;
 use crate::refusal::SearchRefusal;
 use crate::tally::Tally;
-use crate::verdicts::Verdicts;
 use archive_meaning::MAX_MESSAGES;
 use archive_open::{FileEntry, SegmentPlace};
 use log_seams::{Disk, Sink};
@@ -22,7 +22,7 @@ use segment_pages::SegmentPages;
 use std::alloc::Global;
 use std::sync::ledger::Ledger;
 use step_count::Steps;
-use subquery_filter::{barren, barren_has_no_match, verdicts_hold};
+use subquery_filter::{Filter, barren, barren_has_no_match};
 
 /// The file with this number.
 fn file_of(files: &[FileEntry], number: u32) -> Option<&FileEntry>
@@ -39,7 +39,7 @@ fn search_segment<N: Names, D: Disk, K: Sink, L: Ledger, M: Ledger>(
     names: &N,
     files: &[FileEntry],
     segment: &SegmentPlace,
-    verdicts: &mut Verdicts,
+    filter: &Filter,
     disk: &mut D,
     out: &mut K,
     bytes: &mut Vec<u8>,
@@ -49,46 +49,38 @@ fn search_segment<N: Names, D: Disk, K: Sink, L: Ledger, M: Ledger>(
     expanded: &mut Steps<M>,
 ) -> Result<bool, SearchRefusal>
     requires searched { IsSearched query.now.pattern }
-    requires verdicts { AreVerdicts query.now (N.types names.now) verdicts.old }
+    requires filter { IsFilter (wide_pieces query.now.pattern) (N.types names.now)
+        (N.words names.now) filter.now }
 
     // what stays
-    ensures known { AreVerdicts query.now (N.types names.now) verdicts.new }
     ensures rests { Rests (D.state disk.old) (D.state disk.new) }
-    ensures reads { OfSegments (D.state disk.old).seen
+    ensures reads { ReadsTold (D.state disk.old) (D.state disk.new)
         (named (N.version names.now) (N.types names.now) (N.words names.now))
-        files.now (segment.now ∷ []) (λ _ _. ReadsOpened
-        (named (N.version names.now) (N.types names.now) (N.words names.now)) query.now
-        (segment.now ∷ []) (D.state disk.old).ranges (D.state disk.new).ranges) }
+        files.now query.now (segment.now ∷ []) }
 
     // by the answer
-    ensures done { IfOk result (λ yes. OfSegments (D.state disk.old).seen
+    ensures done { IfOk result (λ yes. SearchedTold (D.state disk.old).seen
         (named (N.version names.now) (N.types names.now) (N.words names.now))
-        files.now (segment.now ∷ []) (λ _ all. Searched
-        (named (N.version names.now) (N.types names.now) (N.words names.now)) query.now
-        (segment.now ∷ []) all
+        files.now query.now (segment.now ∷ [])
         (sofar (K.written out.old) gathered.old.items tally.old expanded.old)
         (sofar (K.written out.new) gathered.new.items tally.new expanded.new)
-        opened.old opened.new (cond yes 1 0))) }
-    ensures stopped { OnErr result (OfSegments (D.state disk.old).seen
+        opened.old opened.new (cond yes 1 0)) }
+    ensures stopped { OnErr result (StoppedTold (D.state disk.old).seen
         (named (N.version names.now) (N.types names.now) (N.words names.now))
-        files.now (segment.now ∷ []) (λ _ all. Stopped
-        (named (N.version names.now) (N.types names.now) (N.words names.now)) query.now
-        (segment.now ∷ []) all
+        files.now query.now (segment.now ∷ [])
         (sofar (K.written out.old) gathered.old.items tally.old expanded.old)
-        (K.written out.new) expanded.new opened.old opened.new)) }
+        (K.written out.new) expanded.new opened.old opened.new) }
 
     // causes
-    ensures damaged { IsErrOf result SearchRefusal.Damaged
-        → OfSegments (D.state disk.old).seen
+    ensures damaged { IsErrOf result SearchRefusal.Damaged → NoneTold (D.state disk.old).seen
         (named (N.version names.now) (N.types names.now) (N.words names.now))
-        files.now (segment.now ∷ []) (λ _ _. ⊥) }
+        files.now (segment.now ∷ []) }
     ensures disk_counts { CountsOf SearchRefusal.DiskFault
         (D.state disk.old).faults (D.state disk.new).faults result }
     ensures sink_counts { CountsOf SearchRefusal.SinkFault
         (K.faults out.old) (K.faults out.new) result }
 {
     barren_has_no_match();
-    verdicts_hold();
     wide_is_wider();
     if barren(&segment.head, query.plan(), query.range(), names) {
         return Ok(false);
@@ -99,18 +91,17 @@ fn search_segment<N: Names, D: Disk, K: Sink, L: Ledger, M: Ledger>(
     if segment.head.first > MAX_MESSAGES {
         return Err(SearchRefusal::Damaged);
     }
-    let some = verdicts.learn_all(query, names, segment.head.types.as_slice())?;
     let Some(pages) = SegmentPages::open(segment.payload, segment.length, &segment.head, opened)
     else {
         return Err(SearchRefusal::Damaged);
     };
-    if !some {
+    if !filter.may_match(segment.head.types.as_slice(), segment.head.words.as_slice()) {
         return Ok(true);
     }
     let name = file.name.as_slice();
     let number = segment.head.first + 1;
     search_pages(
-        alloc, query, names, name, number, pages, verdicts, disk, out, bytes, gathered, tally,
+        alloc, query, names, name, number, pages, filter, disk, out, bytes, gathered, tally,
         expanded,
     )?;
     Ok(true)
@@ -123,6 +114,7 @@ pub(crate) fn search_segments<N: Names, D: Disk, K: Sink, L: Ledger, M: Ledger>(
     names: &N,
     files: &[FileEntry],
     segments: &[SegmentPlace],
+    filter: &Filter,
     disk: &mut D,
     out: &mut K,
     gathered: &mut Vec<u8>,
@@ -130,61 +122,44 @@ pub(crate) fn search_segments<N: Names, D: Disk, K: Sink, L: Ledger, M: Ledger>(
     opened: &mut Steps<L>,
     expanded: &mut Steps<M>,
 ) -> Result<u64, SearchRefusal>
-    requires { IsSearched query.now.pattern }
+    requires searched { IsSearched query.now.pattern }
+    requires filter { IsFilter (wide_pieces query.now.pattern) (N.types names.now)
+        (N.words names.now) filter.now }
 
     // what stays
     ensures rests { Rests (D.state disk.old) (D.state disk.new) }
-    ensures reads { OfSegments (D.state disk.old).seen
+    ensures reads { ReadsTold (D.state disk.old) (D.state disk.new)
         (named (N.version names.now) (N.types names.now) (N.words names.now))
-        files.now segments.now (λ _ _. ReadsOpened
-        (named (N.version names.now) (N.types names.now) (N.words names.now)) query.now
-        segments.now (D.state disk.old).ranges (D.state disk.new).ranges) }
+        files.now query.now segments.now }
 
     // by the answer
-    ensures done { IfOk result (λ count. OfSegments (D.state disk.old).seen
+    ensures done { IfOk result (λ count. SearchedTold (D.state disk.old).seen
         (named (N.version names.now) (N.types names.now) (N.words names.now))
-        files.now segments.now (λ _ all. Searched
-        (named (N.version names.now) (N.types names.now) (N.words names.now)) query.now
-        segments.now all
+        files.now query.now segments.now
         (sofar (K.written out.old) gathered.old.items tally.old expanded.old)
         (sofar (K.written out.new) gathered.new.items tally.new expanded.new)
-        opened.old opened.new count)) }
-    ensures stopped { OnErr result (OfSegments (D.state disk.old).seen
+        opened.old opened.new count) }
+    ensures stopped { OnErr result (StoppedTold (D.state disk.old).seen
         (named (N.version names.now) (N.types names.now) (N.words names.now))
-        files.now segments.now (λ _ all. Stopped
-        (named (N.version names.now) (N.types names.now) (N.words names.now)) query.now
-        segments.now all
+        files.now query.now segments.now
         (sofar (K.written out.old) gathered.old.items tally.old expanded.old)
-        (K.written out.new) expanded.new opened.old opened.new)) }
+        (K.written out.new) expanded.new opened.old opened.new) }
 
     // causes
-    ensures damaged { IsErrOf result SearchRefusal.Damaged
-        → OfSegments (D.state disk.old).seen
+    ensures damaged { IsErrOf result SearchRefusal.Damaged → NoneTold (D.state disk.old).seen
         (named (N.version names.now) (N.types names.now) (N.words names.now))
-        files.now segments.now (λ _ _. ⊥) }
+        files.now segments.now }
     ensures disk_counts { CountsOf SearchRefusal.DiskFault
         (D.state disk.old).faults (D.state disk.new).faults result }
     ensures sink_counts { CountsOf SearchRefusal.SinkFault
         (K.faults out.old) (K.faults out.new) result }
 {
     let mut bytes = Vec::new(alloc);
-    let mut verdicts = Verdicts::new(alloc);
     let mut count = 0;
     for segment in segments {
         let yes = search_segment(
-            alloc,
-            query,
-            names,
-            files,
-            segment,
-            &mut verdicts,
-            disk,
-            out,
-            &mut bytes,
-            gathered,
-            tally,
-            opened,
-            expanded,
+            alloc, query, names, files, segment, filter, disk, out, &mut bytes, gathered, tally,
+            opened, expanded,
         )?;
         count += u64::from(yes);
     }

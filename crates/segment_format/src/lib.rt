@@ -23,6 +23,3 @@ pub use laws::{
 pub use pages::{PAGE_ROWS, PageReader, open_pages};
 pub use record_format::FormatRefusal;
 pub use segment::{set_of, write_segment};
-
-#[cfg(test)]
-mod tests;

@@ -13,6 +13,3 @@ mod refusal;
 pub use laws::{none_are_left, segments_are_held};
 pub use pages::SegmentPages;
 pub use refusal::PageRefusal;
-
-#[cfg(test)]
-mod tests;

@@ -48,17 +48,17 @@ use Rattle.subquery_filter.specs.Runs.{HoldsRun, IsRunEnd, ends_run, may_begin}
 
 -- ---- elements
 
-contains_cases : {X : Type 0} (x y : X) (xs : List X) → Contains (x ∷ xs) y → (x ≡ y) ⊎ Contains xs y
+pub contains_cases : {X : Type 0} (x y : X) (xs : List X) → Contains (x ∷ xs) y → (x ≡ y) ⊎ Contains xs y
 contains_cases x y xs (zero, lt, e) = inl e
 contains_cases x y xs (suc k, lt, e) = inr (k, omega (arith, lt), e)
 
-contains_none : {X : Type 0} (y : X) → Contains [] y → ⊥
+pub contains_none : {X : Type 0} (y : X) → Contains [] y → ⊥
 contains_none y (k, lt, e) = omega (arith, lt)
 
-contains_first : {X : Type 0} (x y : X) (xs : List X) → x ≡ y → Contains (x ∷ xs) y
+pub contains_first : {X : Type 0} (x y : X) (xs : List X) → x ≡ y → Contains (x ∷ xs) y
 contains_first x y xs e = (zero, omega arith, e)
 
-contains_rest : {X : Type 0} (x y : X) (xs : List X) → Contains xs y → Contains (x ∷ xs) y
+pub contains_rest : {X : Type 0} (x y : X) (xs : List X) → Contains xs y → Contains (x ∷ xs) y
 contains_rest x y xs (k, lt, e) = (suc k, omega (arith, lt), e)
 
 contains_map : {X Y : Type 0} (f : X → Y) (xs : List X) (x : X) → Contains xs x → Contains (map f xs) (f x)
@@ -79,7 +79,7 @@ contains_filter p (y ∷ xs) x passes has = elim (contains_cases y x xs has) [
   | inr rest ↦ contains_kept (p y) y x (filter p xs) (contains_filter p xs x passes rest)
 ]
 
-contains_flat_map : {X Y : Type 0} (f : X → List Y) (xs : List X) (x : X) (y : Y) → Contains xs x → Contains (f x) y → Contains (flat_map f xs) y
+pub contains_flat_map : {X Y : Type 0} (f : X → List Y) (xs : List X) (x : X) (y : Y) → Contains xs x → Contains (f x) y → Contains (flat_map f xs) y
 contains_flat_map f [] x y has there = absurd (contains_none x has)
 contains_flat_map f (z ∷ xs) x y has there = elim (contains_cases z x xs has) [
   | inl e ↦ Contains-append_left (f z) (flat_map f xs) y (subst (λ w. Contains (f w) y) (sym e) there)
@@ -242,7 +242,7 @@ brings_at parts words flags k t v all at flag =
     let found = subst (λ o. MatchOption o (Unit {0}) (λ x. IsSomeAnd (slice_get flags k) (λ y. Brings parts x y))) at here in
     subst (λ o. IsSomeAnd o (λ y. Brings parts t y)) flag found
 
-row_numbers : (types : List (List ℕ)) (row : Row) (parts : List Part) → slice_get types row.log_type ≡ Some (type_text (map symbol_of parts)) → numbers_of_row types row ≡ word_numbers (slots parts) row.words
+pub row_numbers : (types : List (List ℕ)) (row : Row) (parts : List Part) → slice_get types row.log_type ≡ Some (type_text (map symbol_of parts)) → numbers_of_row types row ≡ word_numbers (slots parts) row.words
 row_numbers types row parts typed =
     ap (λ text. word_numbers (kinds_from false text) row.words) (get_or_from_slice_get types row.log_type (type_text (map symbol_of parts)) [] typed)
     ∙ ap (λ kinds. word_numbers kinds row.words) (kinds_are parts)

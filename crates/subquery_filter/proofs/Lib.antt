@@ -3,3 +3,5 @@ mod RuleLemmas
 mod LetterLemmas
 mod BarrenLemmas
 mod VerdictLemmas
+mod TokenLemmas
+mod FilterLemmas

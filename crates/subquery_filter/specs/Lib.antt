@@ -3,3 +3,6 @@ pub mod Laws
 pub mod Runs
 pub mod StepsLetters
 pub mod Verdicts
+pub mod Tokens
+pub mod Filter
+pub mod StepsFilter

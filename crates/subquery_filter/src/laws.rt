@@ -1,8 +1,9 @@
 //! Laws of barren segments and of verdicts. The functions do nothing.
 ghost use Rattle.subquery_filter.specs.Laws.{BarrenHasNoMatch};
+ghost use Rattle.subquery_filter.specs.Tokens.{RowsBringTokens};
 ghost use Rattle.subquery_filter.specs.Verdicts.{CertainAlwaysMatches, RejectedNeverMatches};
 
-use query_plan::{constants_suffice, needs_are_brought};
+use query_plan::{constants_suffice, needs_are_brought, tokens_are_brought};
 use time_patterns::laws::stamp_texts_are_short;
 
 /// A barren segment has no message in the range that the pattern which a search is planned over
@@ -22,5 +23,14 @@ pub fn verdicts_hold()
 {
     needs_are_brought();
     constants_suffice();
+    stamp_texts_are_short();
+}
+
+/// A row whose message a pattern matches brings each token of the pattern that can stand in no stamp:
+/// among the constant bytes of its log type, or within a word of the dictionary that it names.
+pub fn rows_bring_tokens()
+    ensures { RowsBringTokens }
+{
+    tokens_are_brought();
     stamp_texts_are_short();
 }

@@ -7,14 +7,18 @@
 mod accepting;
 #[cfg(test)]
 mod books;
+mod filter;
 mod laws;
 mod letters;
 mod rules;
 mod runs;
+mod token;
+mod tokens;
 mod verdicts;
 
 pub use accepting::accepts;
-pub use laws::{barren_has_no_match, verdicts_hold};
+pub use filter::Filter;
+pub use laws::{barren_has_no_match, rows_bring_tokens, verdicts_hold};
 pub use rules::barren;
 pub use verdicts::{Verdict, verdict_of};
 

@@ -1,6 +1,6 @@
 use crate::books::Books;
 use crate::runs::holds_run;
-use crate::{Verdict, accepts, barren, verdict_of};
+use crate::{Filter, Verdict, accepts, barren, verdict_of};
 use column_store::{Range, RowRef};
 use log_seams::NumberList;
 use query_plan::Plan;
@@ -16,25 +16,26 @@ fn plan_of(alloc: Global, text: &[u8]) -> Result<Plan, Fail> {
     Ok(Plan::new(alloc, &pattern)?)
 }
 
-/// A `\` before another byte is no constant byte, and a constant `\` belongs to a token.
+/// A log type, a word, whether the log type holds it as a run. A `\` before another byte is no
+/// constant byte, and a constant `\` belongs to a token.
+const RUNS: &[(&[u8], &[u8], bool)] = &[
+    (b"run \x12 x", b"run", true),
+    (b"run \x12 x", b"x", true),
+    (b"runs \x12", b"run", false),
+    (b"rerun \x12", b"run", false),
+    (b"a\\\\b c", b"a\\b", true),
+    (b"a\\\\b c", b"a\\\\b", false),
+    (b"x\\\x12 y", b"x", true),
+    (b"x\x12 y", b"x", true),
+    (b"y \\", b"y", true),
+    (b"", b"x", false),
+];
+
 #[test]
-fn runs_of_log_types(rt: HostRuntime) -> Result<(), Fail> {
-    let rows: [(&[u8], &[u8], bool); 10] = [
-        (b"run \x12 x", b"run", true),
-        (b"run \x12 x", b"x", true),
-        (b"runs \x12", b"run", false),
-        (b"rerun \x12", b"run", false),
-        (b"a\\\\b c", b"a\\b", true),
-        (b"a\\\\b c", b"a\\\\b", false),
-        (b"x\\\x12 y", b"x", true),
-        (b"x\x12 y", b"x", true),
-        (b"y \\", b"y", true),
-        (b"", b"x", false),
-    ];
-    for (text, word, want) in rows {
-        assert_eq!(rt; holds_run(text, word), want, "{text:?} {word:?}");
+fn runs_of_log_types(rt: HostRuntime) {
+    for (text, word, want) in RUNS {
+        assert!(rt; holds_run(text, word) == *want, "{text:?} {word:?}");
     }
-    Ok(())
 }
 
 /// The head of a segment of one file.
@@ -60,80 +61,103 @@ fn head_of(
     })
 }
 
+const TYPES: &[&[u8]] = &[b"run \x12 x", b" INFO \x11 took \x13 s", b"a\\\\b \x12"];
+
+const WORDS: &[&[u8]] = &[b"task_1", b"task_2", b"xfoo1y"];
+
 /// Three log types and three words.
 fn some_books(alloc: Global) -> Result<Books, Fail> {
     let mut books = Books::new(alloc);
-    for text in [
-        b"run \x12 x".as_slice(),
-        b" INFO \x11 took \x13 s",
-        b"a\\\\b \x12",
-    ] {
+    for text in TYPES {
         books.add_type(text).ok().ok_or("a number")?;
     }
-    for text in [b"task_1".as_slice(), b"task_2", b"xfoo1y"] {
+    for text in WORDS {
         books.add_word(text).ok().ok_or("a number")?;
     }
     Ok(books)
+}
+
+/// A pattern's text, how many rows, log types, words, whether the segment is barren.
+const SEGMENTS: &[(&[u8], u32, &[u32], &[u32], bool)] = &[
+    (b" task_2 ", 1, &[0], &[1], false),
+    (b" task_2 ", 1, &[0], &[0, 2], true),
+    (b" task_9 ", 1, &[0], &[0, 1, 2], true),
+    (b"task_9", 1, &[0], &[0], false),
+    (b" 12 ", 1, &[0], &[0], false),
+    (b" took ", 1, &[0], &[], true),
+    (b" took ", 1, &[0, 1], &[], false),
+    (b" run  x ", 1, &[0], &[], false),
+    (b" a\\\\b ", 1, &[2], &[], false),
+    (b" \\*b ", 1, &[2], &[], true),
+    (b"", 0, &[0], &[], true),
+];
+
+/// Whether a segment without stamps, of these rows, log types and words, is barren of the pattern.
+fn barren_of(
+    books: &Books,
+    alloc: Global,
+    text: &[u8],
+    rows: u32,
+    types: &[u32],
+    words: &[u32],
+) -> Result<bool, Fail> {
+    let plan = plan_of(alloc, text)?;
+    let head = head_of(alloc, rows, false, types, words)?;
+    let range = Range {
+        from: None,
+        to: None,
+    };
+    Ok(barren(&head, &plan, &range, books))
 }
 
 #[test]
 fn segments_without_a_needed_text(rt: HostRuntime) -> Result<(), Fail> {
     let alloc = rt.alloc();
     let books = some_books(alloc)?;
-    let range = Range {
-        from: None,
-        to: None,
-    };
-    // a pattern's text, how many rows, log types, words, whether the segment is barren
-    let rows: [(&[u8], u32, &[u32], &[u32], bool); 11] = [
-        (b" task_2 ", 1, &[0], &[1], false),
-        (b" task_2 ", 1, &[0], &[0, 2], true),
-        (b" task_9 ", 1, &[0], &[0, 1, 2], true),
-        (b"task_9", 1, &[0], &[0], false),
-        (b" 12 ", 1, &[0], &[0], false),
-        (b" took ", 1, &[0], &[], true),
-        (b" took ", 1, &[0, 1], &[], false),
-        (b" run  x ", 1, &[0], &[], false),
-        (b" a\\\\b ", 1, &[2], &[], false),
-        (b" \\*b ", 1, &[2], &[], true),
-        (b"", 0, &[0], &[], true),
-    ];
-    for (text, count, types, words, want) in rows {
-        let plan = plan_of(alloc, text)?;
-        let head = head_of(alloc, count, false, types, words)?;
-        assert_eq!(rt;
-            barren(&head, &plan, &range, &books),
-            want,
-            "{text:?} {words:?}"
-        );
+    for (text, count, types, words, want) in SEGMENTS {
+        let is_barren = barren_of(&books, alloc, text, *count, types, words)?;
+        assert!(rt; is_barren == *want, "{text:?} {words:?}");
     }
     Ok(())
 }
 
-/// Each bound is tested for itself.
+/// Whether a segment has stamps, the bounds of a range, whether the segment is barren. Each bound
+/// is tested for itself.
+const RANGES: &[(bool, Option<i64>, Option<i64>, bool)] = &[
+    (true, None, None, false),
+    (false, None, None, false),
+    (false, Some(0), None, true),
+    (true, Some(40), None, false),
+    (true, Some(41), None, true),
+    (true, None, Some(10), false),
+    (true, None, Some(9), true),
+    (true, Some(30), Some(20), false),
+];
+
+/// Whether a segment of one row is barren of a plan in a range.
+fn outside(
+    alloc: Global,
+    books: &Books,
+    plan: &Plan,
+    stamped: bool,
+    range: &Range,
+) -> Result<bool, AllocError> {
+    let head = head_of(alloc, 1, stamped, &[0], &[])?;
+    Ok(barren(&head, plan, range, books))
+}
+
 #[test]
 fn segments_outside_a_range(rt: HostRuntime) -> Result<(), Fail> {
     let alloc = rt.alloc();
     let books = some_books(alloc)?;
     let plan = plan_of(alloc, b"x")?;
-    let rows = [
-        (true, None, None, false),
-        (false, None, None, false),
-        (false, Some(0), None, true),
-        (true, Some(40), None, false),
-        (true, Some(41), None, true),
-        (true, None, Some(10), false),
-        (true, None, Some(9), true),
-        (true, Some(30), Some(20), false),
-    ];
-    for (stamped, from, to, want) in rows {
-        let head = head_of(alloc, 1, stamped, &[0], &[])?;
-        let range = Range { from, to };
-        assert_eq!(rt;
-            barren(&head, &plan, &range, &books),
-            want,
-            "{from:?} {to:?}"
-        );
+    for (stamped, from, to, want) in RANGES {
+        let range = Range {
+            from: *from,
+            to: *to,
+        };
+        let is_barren = outside(alloc, &books, &plan, *stamped, &range)?;
+        assert!(rt; is_barren == *want, "{from:?} {to:?}");
     }
     Ok(())
 }
@@ -147,74 +171,111 @@ fn accepted(plan: &Plan, row: RowRef<'_>, books: &Books) -> Option<bool> {
     }
 }
 
+/// A pattern's text, a row's stamp, log type and words, whether it is accepted.
+const ROWS: &[(&[u8], u8, i64, u32, &[u64], Option<bool>)] = &[
+    (b" task_2 ", 0, 0, 0, &[1], Some(true)),
+    (b" task_2 ", 0, 0, 0, &[0], Some(false)),
+    (b"oo1", 0, 0, 0, &[2], Some(true)),
+    (b"o*y x", 0, 0, 0, &[2], Some(true)),
+    (
+        b"41,123] INFO",
+        5,
+        1427089121123,
+        1,
+        &[7, 0x14F32],
+        Some(true),
+    ),
+    (
+        b"-1 took 0.3",
+        5,
+        1427089121123,
+        1,
+        &[u64::MAX, 0x14F32],
+        Some(true),
+    ),
+    (
+        b"took 0.3 ",
+        5,
+        1427089121123,
+        1,
+        &[u64::MAX, 0x14F32],
+        Some(false),
+    ),
+    (b"a\\\\b t", 0, 0, 2, &[0], Some(true)),
+    (b"a\\\\\\\\b", 0, 0, 2, &[0], Some(false)),
+    (b"", 0, 0, 0, &[], None),
+    (b"", 0, 0, 3, &[], None),
+];
+
 #[test]
 fn rows_that_match(rt: HostRuntime) -> Result<(), Fail> {
     let alloc = rt.alloc();
     let books = some_books(alloc)?;
-    // a pattern's text, a row's stamp, log type and words, whether it is accepted
-    let rows: [(&[u8], u8, i64, u32, &[u64], Option<bool>); 11] = [
-        (b" task_2 ", 0, 0, 0, &[1], Some(true)),
-        (b" task_2 ", 0, 0, 0, &[0], Some(false)),
-        (b"oo1", 0, 0, 0, &[2], Some(true)),
-        (b"o*y x", 0, 0, 0, &[2], Some(true)),
-        (
-            b"41,123] INFO",
-            5,
-            1427089121123,
-            1,
-            &[7, 0x14F32],
-            Some(true),
-        ),
-        (
-            b"-1 took 0.3",
-            5,
-            1427089121123,
-            1,
-            &[u64::MAX, 0x14F32],
-            Some(true),
-        ),
-        (
-            b"took 0.3 ",
-            5,
-            1427089121123,
-            1,
-            &[u64::MAX, 0x14F32],
-            Some(false),
-        ),
-        (b"a\\\\b t", 0, 0, 2, &[0], Some(true)),
-        (b"a\\\\\\\\b", 0, 0, 2, &[0], Some(false)),
-        (b"", 0, 0, 0, &[], None),
-        (b"", 0, 0, 3, &[], None),
-    ];
-    for (text, pattern, moment, log_type, words, want) in rows {
+    for (text, pattern, moment, log_type, words, want) in ROWS {
         let plan = plan_of(alloc, text)?;
         let row = RowRef {
-            pattern,
-            moment,
-            log_type,
+            pattern: *pattern,
+            moment: *moment,
+            log_type: *log_type,
             words,
         };
-        assert_eq!(rt; accepted(&plan, row, &books), want, "{text:?} {words:?}");
+        let well = accepted(&plan, row, &books) == *want;
+        assert!(rt; well, "{text:?} {words:?}");
     }
     Ok(())
 }
 
+/// A pattern's text, a log type, its verdict.
+const VERDICTS: &[(&[u8], &[u8], Verdict)] = &[
+    (b"", b"run \x12 x", Verdict::Certain),
+    (b" x", b"run \x12 x", Verdict::Certain),
+    (b"run * x", b"run \x12 x", Verdict::Certain),
+    (b" task_2 ", b"run \x12 x", Verdict::Tried),
+    (b"task", b"run \x12 x", Verdict::Tried),
+    (b" run ", b"run \x12 x", Verdict::Rejected),
+    (b" took ", b"run \x12 x", Verdict::Rejected),
+    (b"\n", b"run \x12 x", Verdict::Rejected),
+];
+
 #[test]
 fn verdicts_of_log_types(rt: HostRuntime) -> Result<(), Fail> {
+    for (text, log_type, want) in VERDICTS {
+        let plan = plan_of(rt.alloc(), text)?;
+        let well = verdict_of(&plan, log_type) == *want;
+        assert!(rt; well, "{text:?}");
+    }
+    Ok(())
+}
+
+/// A row is told by what its words bring, and a segment by the words that its head lists. A number
+/// that happens to be that of a word counts as the word.
+#[test]
+fn rows_by_bits(rt: HostRuntime) -> Result<(), Fail> {
     let alloc = rt.alloc();
-    let rows: [(&[u8], &[u8], Verdict); 8] = [
-        (b"", b"run \x12 x", Verdict::Certain),
-        (b" x", b"run \x12 x", Verdict::Certain),
-        (b"run * x", b"run \x12 x", Verdict::Certain),
-        (b" task_2 ", b"run \x12 x", Verdict::Tried),
-        (b"task", b"run \x12 x", Verdict::Tried),
-        (b" run ", b"run \x12 x", Verdict::Rejected),
-        (b" took ", b"run \x12 x", Verdict::Rejected),
-        (b"\n", b"run \x12 x", Verdict::Rejected),
+    let books = some_books(alloc)?;
+    // a pattern's text, a row's log type and words, its verdict, whether its segment may match
+    let rows: [(&[u8], u32, &[u32], &[u64], Verdict, bool); 9] = [
+        (b"task", 0, &[0], &[0], Verdict::Tried, true),
+        (b"task", 0, &[2], &[2], Verdict::Rejected, false),
+        (b"run*oo", 0, &[1, 2], &[1], Verdict::Rejected, true),
+        (b"run*oo", 0, &[1, 2], &[2], Verdict::Tried, true),
+        (b"run", 0, &[1], &[1], Verdict::Certain, true),
+        (b"took", 1, &[], &[7, 0x14F32], Verdict::Certain, true),
+        (b"oo1", 1, &[], &[7, 0x14F32], Verdict::Rejected, false),
+        (b"oo1", 1, &[2], &[2, 0x14F32], Verdict::Tried, true),
+        (b"12", 0, &[0], &[0], Verdict::Tried, true),
     ];
-    for (text, log_type, want) in rows {
+    for (text, log_type, listed, words, verdict, may) in rows {
         let plan = plan_of(alloc, text)?;
-        assert_eq!(rt; verdict_of(&plan, log_type), want, "{text:?}");
+        let filter = Filter::new(alloc, &plan, &books)?;
+        let row = RowRef {
+            pattern: 0,
+            moment: 0,
+            log_type,
+            words,
+        };
+        assert_eq!(rt; filter.verdict(row), verdict, "{text:?} {words:?}");
+        assert_eq!(rt; filter.may_match(&[log_type], listed), may, "{text:?}");
     }
     Ok(())
 }

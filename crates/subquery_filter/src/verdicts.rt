@@ -75,20 +75,24 @@ fn begins_many(items: &[Item]) -> bool
     }
 }
 
+/// Whether items match the constant bytes of a log type, with the mark for each variable.
+pub(crate) fn matches_marked(items: &[Item], text: &[u8]) -> bool
+    ensures { IsTrue result
+        ↔ Match items.now (marked_from false (mark_of (Some 10)) text.now) }
+{
+    let letters = TypeLetters {
+        text,
+        mark: Some(MARK),
+    };
+    matches_letters(items, letters)
+}
+
 /// Whether the pattern matches each message of a log type.
 fn is_certain(items: &[Item], text: &[u8]) -> bool
     ensures { IsTrue result ↔ (BeginsMany items.now × HasNot 10 items.now
         × Match items.now (marked_from false (mark_of (Some 10)) text.now)) }
 {
-    begins_many(items)
-        && has_no_mark(items)
-        && matches_letters(
-            items,
-            TypeLetters {
-                text,
-                mark: Some(MARK),
-            },
-        )
+    begins_many(items) && has_no_mark(items) && matches_marked(items, text)
 }
 
 /// What a log type's text tells of its messages, so that it need be asked once a search. Takes no

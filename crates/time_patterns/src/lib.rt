@@ -13,7 +13,5 @@ pub mod laws;
 mod patterns;
 mod shape;
 mod stamps;
-#[cfg(test)]
-mod tests;
 
 pub use stamps::{Stamp, print_stamp, read_micro, read_stamp, stamp_ok};

@@ -9,6 +9,3 @@ mod tokens;
 pub use classes::is_delim;
 pub use laws::tokens_partition;
 pub use tokens::{Token, is_var, next_token};
-
-#[cfg(test)]
-mod tests;

@@ -8,8 +8,6 @@
 mod laws;
 mod printing;
 mod reading;
-#[cfg(test)]
-mod tests;
 
 pub use laws::{one_decimal_text, one_whole_text, one_word};
 pub use printing::{decimal_ok, decimal_text, whole_text};

@@ -11,8 +11,6 @@ mod matcher;
 mod pattern;
 mod read;
 mod runs;
-#[cfg(test)]
-mod tests;
 mod widening;
 
 pub use fixed::matches;

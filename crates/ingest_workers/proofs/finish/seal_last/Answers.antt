@@ -1,3 +1,4 @@
+use Rattle.std.proofs.Common.{None, inr}
 use Rattle.ingest_workers.proofs.DoneLemmas.{all_done, may_seal_last, none_done}
 use Rattle.ingest_workers.proofs.finish.seal_last.Goals as goal
 
@@ -11,4 +12,4 @@ returns-in-Ok-clause-outcome g c = λ start taken d.
 
 pub returns-in-Err-clause-outcome : goal.returns-in-Err-clause-outcome
 returns-in-Err-clause-outcome g c = λ start taken d.
-    none_done g.D.Disk.state c.args._rows start c.args.keeper.now c.args.namer.now c.args.hand.now taken c.args.ended d c.seal.new.keeper c.seal.new.self c.in-Err.cause c.in-Err.ensures.refused c.in-Err.ensures.marks.first
+    none_done g.D.Disk.state c.args._rows start c.args.keeper.now c.args.namer.now c.args.hand.now taken c.args.ended d c.seal.new.keeper c.seal.new.self None c.in-Err.cause c.in-Err.ensures.refused c.in-Err.ensures.marks.first (inr c.in-Err.ensures.causes)

@@ -1,4 +1,4 @@
-use Rattle.std.proofs.Common.{rules, ◌<◌, length}
+use Rattle.std.proofs.Common.{rules, ◌<◌, length, Some, inr}
 use Rattle.std.specs.Prelude.{false}
 use Rattle.ingest_workers.proofs.DoneLemmas.{may_seal_part, none_done, part_done}
 use Rattle.ingest_workers.proofs.finish.seal_part.Goals as goal
@@ -15,4 +15,4 @@ returns-in-Ok-clause-outcome g c = λ start taken d.
 
 pub returns-in-Err-clause-outcome : goal.returns-in-Err-clause-outcome
 returns-in-Err-clause-outcome g c = λ start taken d.
-    none_done g.D.Disk.state c.args._rows start c.args.keeper.now c.args.namer.now c.args.hand.now taken false d c.seal.new.keeper c.seal.new.self c.in-Err.refused c.in-Err.ensures.refused c.in-Err.ensures.marks.first
+    none_done g.D.Disk.state c.args._rows start c.args.keeper.now c.args.namer.now c.args.hand.now taken false d c.seal.new.keeper c.seal.new.self (Some c.args.cause) c.in-Err.refused c.in-Err.ensures.refused c.in-Err.ensures.marks.first (inr c.in-Err.ensures.causes)

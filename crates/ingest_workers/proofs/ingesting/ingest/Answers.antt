@@ -1,6 +1,6 @@
 use Rattle.std.proofs.Common.{◌<◌, sym, subst}
 use Rattle.disk_journal.specs.Journal.{state_of}
-use Rattle.ingest_workers.specs.Ingested.{AreNew, first_file}
+use Rattle.ingest_workers.specs.Ingested.{AreNew}
 use Rattle.ingest_workers.proofs.IngestLemmas.{few_jobs}
 use Rattle.ingest_workers.proofs.ingesting.ingest.Goals as goal
 

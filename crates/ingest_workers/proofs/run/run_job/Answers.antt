@@ -17,3 +17,12 @@ returns-clause-words g c =
     let is : c.args.job.now.source ≡ Some c.in-Some.source = search rules in
     subst (λ b. AddsOnly (λ t. (m : List ℕ) × IsOneOf c.args.namer.now.version b m × IsWordOf c.args.namer.now.version m t) (words_pass c.args.namer.now) (words_pass c.take_source-source.new.namer))
     (sym (ap (in_source g.S.Source.left) is)) c.take_source-source.ensures.names.words
+
+pub returns-clause-done : goal.returns-clause-done
+returns-clause-done g c =
+    let is : c.args.job.now.source ≡ Some c.in-Some.source = search rules in
+    record {
+      file = search rules;
+      source = record { before = c.in-Some.source; after = c.take_source-source.result.0; had = is; has = search rules; keeps = c.take_source-source.ensures.source };
+      came = c.take_source-source.ensures.came;
+    }

@@ -3,7 +3,7 @@ use Rattle.turn_lock.specs.History.{HasLearned}
 use mathlib.Core.List.{IsPrefix}
 use Rattle.turn_lock.specs.Words.{seen}
 use Rattle.ingest_workers.specs.Namer.{types_seen, words_seen}
-use Rattle.ingest_workers.proofs.SealLemmas.{given_back, has_sealed, halted, now_has, no_room, only_seen}
+use Rattle.ingest_workers.proofs.SealLemmas.{given_back, has_failed, has_sealed, halted, now_has, no_room, only_seen}
 use Rattle.ingest_workers.proofs.sealing.seal_draft.Goals as goal
 
 pub returns-in-Ok-commit-clause-namer : goal.returns-in-Ok-commit-clause-namer
@@ -30,6 +30,11 @@ returns-in-Err-clause-namer g c =
 pub returns-in-Err-clause-refused : goal.returns-in-Err-clause-refused
 returns-in-Err-clause-refused g c =
     halted g.D.Disk.state c.args.draft.now c.args.keeper.now c.prepare.new.pass c.commit.new.pass c.in-Ok.prepared.turn.value c.in-Ok.prepared.pieces.items c.in-Ok.ensures.prepared c.in-Ok.ensures.kept c.in-Err.ensures.halted
+
+pub returns-in-Err-clause-causes : goal.returns-in-Err-clause-causes
+returns-in-Err-clause-causes g c =
+    has_failed g.D.Disk.state c.args.draft.now c.args.keeper.now c.prepare.new.pass c.commit.new.pass c.in-Ok.prepared.turn.value c.in-Ok.prepared.pieces.items c.in-Ok.ensures.prepared c.in-Ok.ensures.kept
+    c.in-Err.field-0.opened c.in-Err.field-0.now c.in-Err.ensures.fault c.in-Err.ensures.halted
 
 pub returns-in-Err-OutOfMemory-clause-refused : goal.returns-in-Err-OutOfMemory-clause-refused
 returns-in-Err-OutOfMemory-clause-refused g c = given_back g.D.Disk.state c.args.keeper.now c.prepare.new.pass c.in-Err-OutOfMemory.ensures.refused

@@ -3,6 +3,10 @@ use Rattle.std.specs.Prelude.{IsErrOf}
 use Rattle.column_store.specs.Columns.{IsFull}
 use Rattle.ingest_workers.proofs.DoingLemmas.{covering, doing_more, doing_sealed, each_err, has_room, may_seal, not_taken, passes_of}
 use Rattle.ingest_workers.proofs.NamingLemmas.{named_one, named_only, named_then}
+use Rattle.ingest_workers.specs.Namer.{types_pass, words_pass}
+use Rattle.ingest_workers.specs.Stop.{IsNameStop}
+use Rattle.ingest_workers.proofs.CauseLemmas.{limit_met, seal_cause}
+use Rattle.ingest_workers.proofs.TakingLemmas.{err_at}
 use Rattle.ingest_workers.proofs.take.take_one.Goals as goal
 
 pub take_message-requires-clause-room : goal.take_message-requires-clause-room
@@ -15,7 +19,10 @@ returns-in_err-take_message-clause-stopped g c = λ start taken d.
     let there : IsErrOf c.take_message.result y = search rules in
     not_taken g.D.Disk.state c.args.rows start c.args.keeper.now c.args.namer.now c.args.hand.now taken d c.take_message.new.namer c.take_message.new.hand c.args.line.now y (passes_of c.args.namer.now c.take_message.new.namer c.take_message.ensures.version c.take_message.ensures.locks c.take_message.ensures.numbers)
     c.take_message.ensures.types.front c.take_message.ensures.words.front c.take_message.ensures.marks
-    (λ cause same. c.take_message.ensures.kept cause (subst (IsErrOf c.take_message.result) same there)))
+    (λ cause same. c.take_message.ensures.kept cause (subst (IsErrOf c.take_message.result) same there))
+    (err_at c.take_message.result y IsNameStop there c.take_message.ensures.causes)
+    (λ book count same. limit_met c.args.namer.now.version c.args.line.now book count (types_pass c.take_message.new.namer) (words_pass c.args.namer.now) (words_pass c.take_message.new.namer)
+    (c.take_message.ensures.full book count (subst (IsErrOf c.take_message.result) same there))))
 
 pub returns-then-not-is_full-clause-taken : goal.returns-then-not-is_full-clause-taken
 returns-then-not-is_full-clause-taken g c = λ start taken d.
@@ -40,9 +47,11 @@ returns-in-Ok-clause-taken g c = λ start taken d.
     c.in-Ok.ensures.emptied c.in-Ok.ensures.sealed c.in-Ok.ensures.holds full
 
 pub returns-in-Err-clause-stopped : goal.returns-in-Err-clause-stopped
-returns-in-Err-clause-stopped g c = λ start taken d.
-    covering g.D.Disk.state c.args.rows start c.args.keeper.now c.args.namer.now c.args.hand.now taken d c.seal.new.keeper c.seal.new.self c.args.line.now c.in-Err.ensures.refused
-    (c.in-Err.ensures.marks.first ∙ c.take_message.ensures.marks.first)
+returns-in-Err-clause-stopped g c = λ start taken d. (
+  covering g.D.Disk.state c.args.rows start c.args.keeper.now c.args.namer.now c.args.hand.now taken d c.seal.new.keeper c.seal.new.self c.args.line.now c.in-Err.ensures.refused
+      (c.in-Err.ensures.marks.first ∙ c.take_message.ensures.marks.first),
+  seal_cause g.D.Disk.state start c.args.keeper.now c.seal.new.keeper d.added.still.about_is c.in-Err.cause c.in-Err.ensures.causes,
+)
 
 pub returns-in_err-take_message-clause-names : goal.returns-in_err-take_message-clause-names
 returns-in_err-take_message-clause-names g c =

@@ -1,6 +1,7 @@
 use Rattle.std.proofs.Common.{rules, ◌++◌, ◌∷◌, [], Ok, Err, arith, subst, ◌∙◌}
 use Rattle.ingest_workers.specs.Taking.{Taking, Took}
-use Rattle.ingest_workers.proofs.TakingLemmas.{named_on, none_at, one_less, some_at}
+use Rattle.ingest_workers.proofs.TakingLemmas.{named_on, none_at, one_less, some_at, took_since}
+use Rattle.ingest_workers.specs.Causes.{log_from}
 use Rattle.ingest_workers.proofs.taking.take_messages.Goals as goal
 
 pub take_next-requires-clause-taking : goal.take_next-requires-clause-taking
@@ -15,8 +16,10 @@ returns-in-Err-clause-names g c = λ bytes start taken t.
 pub returns-in-Err-clause-took : goal.returns-in-Err-clause-took
 returns-in-Err-clause-took g c = λ bytes start taken t.
     let now = c.messages.invariant.taking bytes start taken t in
-    subst (λ v. Took g.D.Disk.state c.args.rows v bytes start c.take_next.new.keeper c.take_next.new.namer c.take_next.new.hand (Err c.in-Err.stop)) (c.messages.invariant.names bytes start taken t).version
-    (c.in-Err.ensures.stopped bytes start now.0 now.1)
+    took_since bytes g.S.Source.left g.S.Source.faults c.args.reader.now.source c.messages.reader.source c.take_next.new.reader.source c.messages.invariant.steady
+    (λ log. Took g.D.Disk.state c.args.rows c.args.namer.now.version log start c.take_next.new.keeper c.take_next.new.namer c.take_next.new.hand (Err c.in-Err.stop))
+    (subst (λ v. Took g.D.Disk.state c.args.rows v (log_from bytes g.S.Source.left g.S.Source.faults c.messages.reader.source c.take_next.new.reader.source) start c.take_next.new.keeper c.take_next.new.namer c.take_next.new.hand (Err c.in-Err.stop))
+    (c.messages.invariant.names bytes start taken t).version (c.in-Err.ensures.stopped bytes start now.0 now.1))
 
 pub returns-in-Ok-Some-clause-names : goal.returns-in-Ok-Some-clause-names
 returns-in-Ok-Some-clause-names g c = λ bytes start taken t.
@@ -26,9 +29,12 @@ returns-in-Ok-Some-clause-names g c = λ bytes start taken t.
 pub returns-in-Ok-Some-clause-took : goal.returns-in-Ok-Some-clause-took
 returns-in-Ok-Some-clause-took g c = λ bytes start taken t.
     let now = c.messages.invariant.taking bytes start taken t in
-    subst (λ v. Took g.D.Disk.state c.args.rows v bytes start c.take_next.new.keeper c.take_next.new.namer c.take_next.new.hand (Ok c.in-Ok-Some.ended)) (c.messages.invariant.names bytes start taken t).version
-    (some_at c.in-Ok-Some.field-0 c.in-Ok-Some.ended (λ e. Took g.D.Disk.state c.args.rows c.messages.namer.version bytes start c.take_next.new.keeper c.take_next.new.namer c.take_next.new.hand (Ok e))
-    (search rules) (c.in-Ok-Some.ensures.ended bytes start now.0 now.1))
+    took_since bytes g.S.Source.left g.S.Source.faults c.args.reader.now.source c.messages.reader.source c.take_next.new.reader.source c.messages.invariant.steady
+    (λ log. Took g.D.Disk.state c.args.rows c.args.namer.now.version log start c.take_next.new.keeper c.take_next.new.namer c.take_next.new.hand (Ok c.in-Ok-Some.ended))
+    (subst (λ v. Took g.D.Disk.state c.args.rows v (log_from bytes g.S.Source.left g.S.Source.faults c.messages.reader.source c.take_next.new.reader.source) start c.take_next.new.keeper c.take_next.new.namer c.take_next.new.hand (Ok c.in-Ok-Some.ended))
+    (c.messages.invariant.names bytes start taken t).version
+    (some_at c.in-Ok-Some.field-0 c.in-Ok-Some.ended (λ e. Took g.D.Disk.state c.args.rows c.messages.namer.version (log_from bytes g.S.Source.left g.S.Source.faults c.messages.reader.source c.take_next.new.reader.source) start c.take_next.new.keeper c.take_next.new.namer c.take_next.new.hand (Ok e))
+    (search rules) (c.in-Ok-Some.ensures.ended bytes start now.0 now.1)))
 
 pub messages-smaller : goal.messages-smaller
 messages-smaller g c =
@@ -39,6 +45,7 @@ messages-smaller g c =
 
 pub messages-preserved : goal.messages-preserved
 messages-preserved g c = record {
+  steady = c.in-Ok-None.ensures.steady ∙ c.messages.invariant.steady;
   source = record { named = c.take_next.ensures.source.named ∙ c.messages.invariant.source.named; later = omega (arith, c.take_next.ensures.source.later, c.messages.invariant.source.later) };
   names = λ bytes start taken t.
       let now = c.messages.invariant.taking bytes start taken t in

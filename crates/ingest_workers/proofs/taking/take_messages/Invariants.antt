@@ -1,4 +1,4 @@
-use Rattle.std.proofs.Common.{◌-◌, ℕ, List, Option}
+use Rattle.std.proofs.Common.{◌≡◌, ◌-◌, ℕ, List, Option}
 use Rattle.archive_meaning.specs.declared.TheConstants.{MAX_MESSAGES}
 use Rattle.disk_seal.specs.Fixed.{KeeperPass}
 use Rattle.ingest_workers.specs.Naming.{HasNamed}
@@ -8,6 +8,7 @@ use Rattle.ingest_workers.proofs.taking.take_messages.Given as goal
 abbrev pub invariant-messages : goal.invariant-messages
 invariant-messages g l = record {
   source : KeepsSource g.S.Source.name g.S.Source.faults l.initial.reader.source l.reader.source;
+  steady : g.S.Source.faults l.reader.source ≡ g.S.Source.faults l.initial.reader.source;
   names : (bytes : Option (List ℕ)) (start : KeeperPass _) (taken : List (List ℕ)) → Taking g.D.Disk.state g.S.Source.left l.rows bytes start l.initial.keeper l.initial.namer l.initial.hand l.initial.reader taken
       → HasNamed (IsOneOf l.initial.namer.version bytes) l.initial.namer l.namer;
   taking : (bytes : Option (List ℕ)) (start : KeeperPass _) (taken : List (List ℕ)) → Taking g.D.Disk.state g.S.Source.left l.rows bytes start l.initial.keeper l.initial.namer l.initial.hand l.initial.reader taken

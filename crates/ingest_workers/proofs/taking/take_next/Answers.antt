@@ -1,9 +1,12 @@
-use Rattle.std.proofs.Common.{rules, tests, ◌≡◌, true, false, Err}
+use Rattle.std.proofs.Common.{rules, tests, ◌≡◌, refl, true, false, Err}
+use Rattle.std.specs.Prelude.{IsErrOf}
+use Rattle.ingest_workers.specs.Causes.{limits_by}
+use Rattle.ingest_workers.specs.Namer.{types_pass, words_pass}
 use Rattle.message_reader.specs.Reading.{ReadMessage, ReadToEnd}
 use Rattle.ingest_workers.specs.Taking.{IsOneOf}
 use Rattle.ingest_workers.proofs.DoingLemmas.{each_err}
 use Rattle.ingest_workers.proofs.NamingLemmas.{named_self}
-use Rattle.ingest_workers.proofs.TakingLemmas.{err_at, named_more, none_at, room_for_one, some_at, taking_more, took_all, took_last, took_part, took_stop}
+use Rattle.ingest_workers.proofs.TakingLemmas.{err_at, named_more, none_at, ok_at, room_for_one, some_at, taking_more, took_all, took_last, took_part, took_stop}
 use Rattle.ingest_workers.proofs.taking.take_next.Goals as goal
 
 pub returns-in-Ok-None-clause-names : goal.returns-in-Ok-None-clause-names
@@ -11,14 +14,17 @@ returns-in-Ok-None-clause-names g c = λ bytes start taken t. named_self (IsOneO
 
 pub returns-in-Ok-None-clause-ended : goal.returns-in-Ok-None-clause-ended
 returns-in-Ok-None-clause-ended g c = λ bytes start taken t.
-    took_all g.D.Disk.state g.S.Source.left c.args.rows bytes start c.args.keeper.now c.args.namer.now c.args.hand.now c.args.reader.now c.advance.new.self taken t (none_at c.in-Ok-None.field-0 (ReadToEnd g.S.Source.left c.args.reader.now c.advance.new.self) (search rules) c.in-Ok-None.ensures.at_end)
+    took_all g.D.Disk.state g.S.Source.left c.args.rows bytes start c.args.keeper.now c.args.namer.now c.args.hand.now c.args.reader.now c.advance.new.self taken t g.S.Source.faults
+    (ok_at c.advance.result c.in-Ok-None.field-0 (g.S.Source.faults c.advance.new.self.source ≡ g.S.Source.faults c.args.reader.now.source) (search rules) (c.advance.ensures.counts t.going).steady) (none_at c.in-Ok-None.field-0 (ReadToEnd g.S.Source.left c.args.reader.now c.advance.new.self) (search rules) c.in-Ok-None.ensures.at_end)
 
 pub returns-in-Err-clause-names : goal.returns-in-Err-clause-names
 returns-in-Err-clause-names g c = λ bytes start taken t. named_self (IsOneOf c.args.namer.now.version bytes) c.args.namer.now
 
 pub returns-in-Err-clause-stopped : goal.returns-in-Err-clause-stopped
 returns-in-Err-clause-stopped g c = λ bytes start taken t.
-    took_part g.D.Disk.state g.S.Source.left c.args.rows bytes start c.args.keeper.now c.args.namer.now c.args.hand.now c.args.reader.now c.advance.new.self taken t c.cause_of.result
+    let is : IsErrOf c.advance.result c.in-Err.cut = search rules in
+    took_part g.D.Disk.state g.S.Source.left c.args.rows bytes start c.args.keeper.now c.args.namer.now c.args.hand.now c.args.reader.now c.advance.new.self taken t g.S.Source.faults c.advance.result (c.advance.ensures.counts t.going)
+    (limits_by (types_pass c.args.namer.now) (words_pass c.args.namer.now)) c.in-Err.cut c.cause_of.result c.cause_of.ensures is c.in-Err.ensures.refused refl
 
 pub take_one-requires-clause-doing : goal.take_one-requires-clause-doing
 take_one-requires-clause-doing g c =
@@ -35,7 +41,8 @@ returns-in_err-take_one-clause-stopped g c = λ bytes start taken t.
     each_err c.from_residual.result _ (λ y is.
     let there : c.take_one.result ≡ Err y = search rules in
     took_stop g.D.Disk.state g.S.Source.left c.args.rows bytes start c.args.keeper.now c.args.namer.now c.args.hand.now c.args.reader.now c.advance.new.self taken t g.S.Source.name g.S.Source.faults c.advance.ensures.stays
-    c.message.result.now c.message.ensures c.take_one.new.keeper c.take_one.new.namer c.take_one.new.hand c.in-Ok-Some.mark.ended (some_at c.in-Ok-Some.field-0 c.in-Ok-Some.mark (λ m. ReadMessage g.S.Source.left m.ended c.args.reader.now c.advance.new.self) (search rules) c.in-Ok-Some.ensures.message) y
+    c.message.result.now c.message.ensures c.take_one.new.keeper c.take_one.new.namer c.take_one.new.hand c.in-Ok-Some.mark.ended (some_at c.in-Ok-Some.field-0 c.in-Ok-Some.mark (λ m. ReadMessage g.S.Source.left m.ended c.args.reader.now c.advance.new.self) (search rules) c.in-Ok-Some.ensures.message)
+    (ok_at c.advance.result c.in-Ok-Some.field-0 (g.S.Source.faults c.advance.new.self.source ≡ g.S.Source.faults c.args.reader.now.source) (search rules) (c.advance.ensures.counts t.going).steady) y
     (err_at c.take_one.result y _ there (c.take_one.ensures.stopped start taken t.doing)))
 
 pub returns-then-mark-clause-names : goal.returns-then-mark-clause-names
@@ -60,4 +67,17 @@ returns-else-mark-clause-ended g c = λ bytes start taken t.
     let is : c.in-Ok-Some.mark.ended ≡ false = search (rules, tests) in
     took_last g.D.Disk.state g.S.Source.left c.args.rows bytes start c.args.keeper.now c.args.namer.now c.args.hand.now c.args.reader.now c.advance.new.self taken t g.S.Source.name g.S.Source.faults c.advance.ensures.stays
     c.message.result.now c.message.ensures c.take_one.new.keeper c.take_one.new.namer c.take_one.new.hand c.in-Ok-Some.mark.ended is (some_at c.in-Ok-Some.field-0 c.in-Ok-Some.mark (λ m. ReadMessage g.S.Source.left m.ended c.args.reader.now c.advance.new.self) (search rules) c.in-Ok-Some.ensures.message)
+    (ok_at c.advance.result c.in-Ok-Some.field-0 (g.S.Source.faults c.advance.new.self.source ≡ g.S.Source.faults c.args.reader.now.source) (search rules) (c.advance.ensures.counts t.going).steady)
     (c.in_ok-take_one.ensures.taken start taken t.doing)
+
+pub returns-in-Ok-None-clause-steady : goal.returns-in-Ok-None-clause-steady
+returns-in-Ok-None-clause-steady g c =
+    ok_at c.advance.result c.in-Ok-None.field-0 (g.S.Source.faults c.advance.new.self.source ≡ g.S.Source.faults c.args.reader.now.source) (search rules) (c.advance.ensures.counts c.requires.taking.3.going).steady
+
+pub returns-then-mark-clause-steady : goal.returns-then-mark-clause-steady
+returns-then-mark-clause-steady g c =
+    ok_at c.advance.result c.in-Ok-Some.field-0 (g.S.Source.faults c.advance.new.self.source ≡ g.S.Source.faults c.args.reader.now.source) (search rules) (c.advance.ensures.counts c.requires.taking.3.going).steady
+
+pub returns-else-mark-clause-steady : goal.returns-else-mark-clause-steady
+returns-else-mark-clause-steady g c =
+    ok_at c.advance.result c.in-Ok-Some.field-0 (g.S.Source.faults c.advance.new.self.source ≡ g.S.Source.faults c.args.reader.now.source) (search rules) (c.advance.ensures.counts c.requires.taking.3.going).steady

@@ -1,4 +1,4 @@
-use Rattle.std.proofs.Common.{rules, sym}
+use Rattle.std.proofs.Common.{sym}
 use Rattle.ingest_workers.proofs.work.do_with_blanks.Goals as goal
 
 pub returns-clause-names : goal.returns-clause-names

@@ -26,3 +26,6 @@ returns-in_err-search_row-clause-damaged g c = λ is messages are.
 pub returns-clause-done : goal.returns-clause-done
 returns-clause-done g c = λ w messages are.
     rows_end _ c.args.query.now c.args.name.now c.args.number c.args.page.now.rows c.loop-place.place messages _ _ (search rules) (c.loop-place.invariant messages are) w
+
+pub search_row-requires-clause-verdict : goal.search_row-requires-clause-verdict
+search_row-requires-clause-verdict g c = c.verdict-verdict.ensures c.args.query.now.pattern _ _ c.requires.searched c.requires.filter

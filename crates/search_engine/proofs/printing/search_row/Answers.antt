@@ -25,10 +25,10 @@ returns-clause-done g c = λ w message is.
 
 pub returns-then-is_rejected-clause-done : goal.returns-then-is_rejected-clause-done
 returns-then-is_rejected-clause-done g c = λ w message is.
-    rejected_passes _ c.args.query.now (row_of c.args.row) _ _ c.args.name.now c.args.number message w _ _ _ c.args.verdict c.wide_is_wider.ensures.wider c.verdicts_hold.ensures.rejected c.requires.searched (search rules) c.requires.verdict is
+    rejected_passes _ c.args.query.now (row_of c.args.row) _ _ c.args.name.now c.args.number message w _ _ _ c.args.verdict c.wide_is_wider.ensures.wider (search rules) c.requires.verdict is
 
 pub judge-judgement-requires : goal.judge-judgement-requires
 judge-judgement-requires g c = λ truly.
     let wrote = c.in_ok-write_onto.ensures.written in
-    certain_matches c.args.query.now (row_of c.args.row) _ _ wrote.0 _ _ c.split_at.result.1.now c.len-start.result c.args.verdict c.verdicts_hold.ensures.certain (search rules) c.requires.verdict wrote.1 (search rules) wrote.2
+    certain_matches c.args.query.now (row_of c.args.row) _ _ wrote.0 _ _ c.split_at.result.1.now c.len-start.result c.args.verdict (search rules) c.requires.verdict wrote.1 (search rules) wrote.2
     (c.split_at.ensures.back ∙ ap₂ (λ (n : ℕ) (l : List ℕ). drop n l) refl c.as_slice.ensures.value)

@@ -1,12 +1,18 @@
-use Rattle.std.proofs.Common.{◌∙◌, sym, subst, rules, length}
+use Rattle.std.proofs.Common.{◌∙◌, sym, subst, rules, refl, length}
 use Rattle.archive_open.specs.Archive.{shown}
 use Rattle.search_engine.specs.Opened.{ReadsOpened, Searched, Stopped}
 use Rattle.search_engine.specs.Searched.{HasSearched}
 use Rattle.search_engine.specs.Sofar.{sofar}
 use Rattle.search_engine.proofs.SofarLemmas.{on_err}
 use Rattle.search_engine.proofs.AsideLemmas.{reads_aside}
-use Rattle.search_engine.proofs.SearchLemmas.{has_searched, has_stopped, knows, last_stopped, of_journal}
+use Rattle.search_engine.proofs.SearchLemmas.{has_searched, has_stopped, knows, last_stopped, of_journal, reads_nothing, stopped_nothing}
 use Rattle.search_engine.proofs.searching.search_archive.Goals as goal
+
+pub returns-in_err-filter-clause-reads : goal.returns-in_err-filter-clause-reads
+returns-in_err-filter-clause-reads g c = reads_nothing _ c.args.query.now _ _ refl
+
+pub returns-in_err-filter-clause-stopped : goal.returns-in_err-filter-clause-stopped
+returns-in_err-filter-clause-stopped g c = on_err c.from_residual.result _ (stopped_nothing _ c.args.query.now _ _ _ _ _ _ _ refl refl refl)
 
 pub returns-in_err-count-clause-reads : goal.returns-in_err-count-clause-reads
 returns-in_err-count-clause-reads g c =
@@ -19,7 +25,7 @@ returns-in_err-count-clause-reads g c =
 pub returns-in_err-count-clause-stopped : goal.returns-in_err-count-clause-stopped
 returns-in_err-count-clause-stopped g c =
     let a = shown g.T.KeepsTexts.kept c.args.archive.now in
-    on_err c.from_residual.result _
+    on_err c.from_residual-in_err-count.result _
     (of_journal _ a _ _ _
     (λ m l _ all. Stopped m c.args.query.now l all (sofar (g.K.Sink.written c.args.out.now) c.args.gathered.now.items (record { matched = 0; expanded = 0 }) c.args.expanded.now) (g.K.Sink.written c.search_segments.new.out) c.search_segments.new.expanded c.args.opened.now c.search_segments.new.opened) _
     (c.as_slice-files.ensures ∙ c.files.ensures) (c.as_slice-segments.ensures ∙ c.segments.ensures) c.requires.opens

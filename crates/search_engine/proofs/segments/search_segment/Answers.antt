@@ -1,8 +1,7 @@
-use Rattle.std.specs.List.{Contains}
-use Rattle.std.proofs.Common.{◌≡◌, subst, sym, rules, refl}
+use Rattle.std.proofs.Common.{rules, refl}
 use Rattle.search_engine.specs.Held.{Named, named}
 use Rattle.search_engine.proofs.SofarLemmas.{on_err}
-use Rattle.search_engine.proofs.SegmentLemmas.{barren_done, columns_read, file_none, first_none, left_none, nothing_read, of_none, open_none, opened_done, opened_stops, rejected_done, unopened_stops, rests_none, tells}
+use Rattle.search_engine.proofs.SegmentLemmas.{barren_done, columns_read, file_none, first_none, left_none, nothing_read, of_none, open_none, opened_done, opened_stops, rests_none, tells, unmatched_done}
 use Rattle.search_engine.proofs.segments.search_segment.Goals as goal
 
 pub returns-then-barren-clause-reads : goal.returns-then-barren-clause-reads
@@ -63,7 +62,7 @@ pub returns-in_err-search_pages-clause-stopped : goal.returns-in_err-search_page
 returns-in_err-search_pages-clause-stopped g c =
     let n : Named = named (g.N.Names.version c.args.names.now) (g.N.Names.types c.args.names.now) (g.N.Names.words c.args.names.now) in
     let told = tells n c.args.query.now c.args.segment.now c.barren.result c.plan.result.now c.range.result.now c.plan.ensures c.range.ensures c.barren.ensures in
-    on_err c.from_residual-in_err-search_pages.result _
+    on_err c.from_residual.result _
     (opened_stops _ n c.args.files.now c.in-Some.file.now c.args.query.now c.args.segment.now c.barren.result c.in-Some-open.pages c.as_slice-name.result.now _ _ _ _ _ _ told (search rules) (search rules) (search rules) refl c.in-Some-open.ensures.holds
     c.in_err-search_pages.ensures.stopped c.in-Some-open.ensures.ticked)
 
@@ -84,26 +83,16 @@ returns-clause-done g c =
     opened_done _ n c.args.files.now c.in-Some.file.now c.args.query.now c.args.segment.now c.barren.result c.in-Some-open.pages c.as_slice-name.result.now _ _ _ _ _ told (search rules) (search rules) (search rules) refl c.in-Some-open.ensures.holds
     c.in_ok-search_pages.ensures.done c.in-Some-open.ensures.ticked
 
-pub returns-in_err-some-clause-reads : goal.returns-in_err-some-clause-reads
-returns-in_err-some-clause-reads g c = nothing_read _ _ c.args.files.now c.args.query.now _ _ _ (search rules)
+pub returns-then-not-may_match-clause-reads : goal.returns-then-not-may_match-clause-reads
+returns-then-not-may_match-clause-reads g c = nothing_read _ _ c.args.files.now c.args.query.now _ _ _ (search rules)
 
-pub returns-in_err-some-clause-rests : goal.returns-in_err-some-clause-rests
-returns-in_err-some-clause-rests g c = rests_none _
+pub returns-then-not-may_match-clause-rests : goal.returns-then-not-may_match-clause-rests
+returns-then-not-may_match-clause-rests g c = rests_none _
 
-pub returns-in_err-some-clause-stopped : goal.returns-in_err-some-clause-stopped
-returns-in_err-some-clause-stopped g c =
-    on_err c.from_residual.result _ (unopened_stops _ _ c.args.files.now c.args.query.now c.args.segment.now _ _ _ _ _ refl refl refl)
-
-pub returns-then-not-some-clause-reads : goal.returns-then-not-some-clause-reads
-returns-then-not-some-clause-reads g c = nothing_read _ _ c.args.files.now c.args.query.now _ _ _ (search rules)
-
-pub returns-then-not-some-clause-rests : goal.returns-then-not-some-clause-rests
-returns-then-not-some-clause-rests g c = rests_none _
-
-pub returns-then-not-some-clause-done : goal.returns-then-not-some-clause-done
-returns-then-not-some-clause-done g c =
+pub returns-then-not-may_match-clause-done : goal.returns-then-not-may_match-clause-done
+returns-then-not-may_match-clause-done g c =
     let n : Named = named (g.N.Names.version c.args.names.now) (g.N.Names.types c.args.names.now) (g.N.Names.words c.args.names.now) in
     let told = tells n c.args.query.now c.args.segment.now c.barren.result c.plan.result.now c.range.result.now c.plan.ensures c.range.ensures c.barren.ensures in
-    let listed : c.as_slice.result.now ≡ c.args.segment.now.head.types = c.as_slice.ensures in
-    rejected_done _ n c.args.files.now c.args.query.now c.args.segment.now c.barren.result _ _ _ c.wide_is_wider.ensures.wider c.verdicts_hold.ensures.rejected c.requires.searched told (search rules)
-    (λ k is. c.in_ok-some.ensures.rejected (search rules) k (subst (λ l. Contains l k) (sym listed) is)) c.in-Some-open.ensures.ticked
+    let none = c.may_match.ensures (search rules) c.args.query.now.pattern _ _ c.requires.searched c.requires.filter in
+    unmatched_done _ n c.args.files.now c.args.query.now c.args.segment.now c.barren.result _ _ _ c.wide_is_wider.ensures.wider told (search rules)
+    c.as_slice.result.now c.as_slice-2.result.now c.as_slice.ensures c.as_slice-2.ensures none c.in-Some-open.ensures.ticked

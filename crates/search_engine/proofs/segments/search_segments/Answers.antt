@@ -1,19 +1,17 @@
 use Rattle.std.proofs.Common.{rules, refl}
 use Rattle.log_seams.proofs.MomentLemmas.{rests_on}
 use Rattle.search_engine.proofs.SofarLemmas.{on_err}
-use Rattle.search_engine.proofs.VerdictLemmas.{fresh_known}
 use Rattle.search_engine.proofs.RunLemmas.{run_damaged, run_end, run_first, run_next, run_reads, run_stops}
 use Rattle.search_engine.proofs.segments.search_segments.Goals as goal
 
 pub loop-segment-init : goal.loop-segment-init
-loop-segment-init g c = (run_first (g.D.Disk.state c.args.disk.now) _ c.args.files.now c.args.query.now c.args.segments.now _ c.args.opened.now, refl, fresh_known c.args.query.now (g.N.Names.types c.args.names.now) _ (search rules))
+loop-segment-init g c = (run_first (g.D.Disk.state c.args.disk.now) _ c.args.files.now c.args.query.now c.args.segments.now _ c.args.opened.now, refl)
 
 pub loop-segment-preserved : goal.loop-segment-preserved
 loop-segment-preserved g c = (
   run_next _ (g.D.Disk.state c.loop-segment.disk) (g.D.Disk.state c.search_segment.new.disk) _ c.args.files.now c.args.query.now c.args.segments.now c.loop-segment.segment-index _ _ _ _ _ _ _ _ _ _ (search rules) c.segment-item.is (search rules) (search rules)
       c.loop-segment.invariant.0 c.search_segment.ensures.rests (search rules) c.search_segment.ensures.reads c.in_ok-yes.ensures.done,
   search rules,
-  c.search_segment.ensures.known,
 )
 
 pub returns-in_err-yes-clause-rests : goal.returns-in_err-yes-clause-rests

@@ -1,5 +1,4 @@
-use Rattle.std.proofs.Common.{refl, sym, ◌∙◌, ◌≡◌, Some}
-use Rattle.ingest_workers.specs.Worker.{MayAddTexts, GoWith, passes_of, NamesOnly}
+use Rattle.std.proofs.Common.{refl, sym, ◌≡◌, Some}
 use Rattle.ingest_workers.specs.WorkerLaws.{did_one, idle_with, passes_is}
 use Rattle.ingest_workers.proofs.work.WorkerWorksJobPassStore.work.Goals as goal
 

@@ -1,0 +1,107 @@
+//! A segment behind ten bytes of a disk, whole, changed and over a disk that fails.
+ghost use Rattle.step_count.specs.Opens.{OpensFor};
+
+use column_store::Columns;
+use log_seams::{MemDisk, Text};
+use segment_format::{Head, read_head};
+use segment_pages::{PageRefusal, SegmentPages, none_are_left, segments_are_held};
+use std::alloc::{AllocError, Global};
+use std::marker::Brand;
+use std::sync::ledger::{Blank, Ledger};
+use std::test::Fail;
+use step_count::Steps;
+
+/// Where the payload begins on the disk, and how many bytes its head and all of it have.
+const AT: usize = 10;
+
+const HEAD_LEN: usize = 61;
+
+const LEN: usize = 103;
+
+/// Rows 258 and 259 of file 1: one with pattern 8, moment -1500, log type 5 and the word 7, and one
+/// without stamp of log type 2 without words. The dictionary words are said to be 1 and 9.
+const TWO_ROWS: [u8; LEN] = [
+    1, 0, 0, 0, 2, 1, 0, 0, 0, 0, 0, 0, 2, 0, 0, 0, 4, 0x24, 0xFA, 0xFF, 0xFF, 0xFF, 0xFF, 0xFF,
+    0xFF, 0x24, 0xFA, 0xFF, 0xFF, 0xFF, 0xFF, 0xFF, 0xFF, 2, 0, 0, 0, 2, 0, 0, 0, 1, 0, 0, 0, 2, 0,
+    0, 0, 5, 0, 0, 0, 1, 0, 0, 0, 9, 0, 0, 0, 8, 0, 0x24, 0xFA, 0xFF, 0xFF, 0xFF, 0xFF, 0xFF, 0xFF,
+    0, 0, 0, 0, 0, 0, 0, 0, 5, 0, 0, 0, 2, 0, 0, 0, 1, 0, 0, 0, 0, 0, 0, 0, 7, 0, 0, 0, 0, 0, 0, 0,
+];
+
+/// A disk with the payload behind ten bytes, of which these calls fail.
+fn disk(alloc: Global, payload: &[u8], fails: &[u64]) -> Result<MemDisk, AllocError> {
+    let mut bytes = vec![in alloc; 3; AT]?;
+    bytes.extend_from_slice(payload)?;
+    MemDisk::new(alloc, Text::new(bytes), 200, 20, fails.to_vec(alloc)?)
+}
+
+/// The one page of a disk, for a caller that counts nothing.
+fn page_of<L: Ledger>(
+    alloc: Global,
+    head: &Head,
+    disk: &mut MemDisk,
+    blank: Blank,
+) -> Result<Columns, PageRefusal>
+    requires { OpensFor blank L.name L.parts }
+{
+    let mut steps: Steps<L> = Steps::new(blank);
+    let Some(mut pages) = SegmentPages::open(AT as u64, LEN as u64, head, &mut steps) else {
+        return Err(PageRefusal::Damaged);
+    };
+    let mut buffer = Vec::new(alloc);
+    let columns = Columns::new(alloc);
+    if !pages.has_next() {
+        return Err(PageRefusal::Damaged);
+    }
+    let page = pages.next_page(disk, &mut buffer, columns)?;
+    if pages.has_next() {
+        return Err(PageRefusal::Damaged);
+    }
+    Ok(page)
+}
+
+#[test]
+fn a_page_is_read_by_five_reads(rt: HostRuntime) -> Result<(), Fail> {
+    let alloc = rt.alloc();
+    let head = read_head(alloc, &TWO_ROWS[..HEAD_LEN])
+        .ok()
+        .ok_or("a head")?;
+    let mut disk = disk(alloc, &TWO_ROWS, &[])?;
+    let page = page_of::<Brand>(alloc, &head, &mut disk, Blank::new(1))
+        .ok()
+        .ok_or("a page")?;
+    assert_eq!(rt; page.moments(), [-1_500, 0].as_slice());
+    assert_eq!(rt; page.types(), [5, 2].as_slice());
+    assert_eq!(rt; page.words(), [7].as_slice());
+    assert_eq!(rt; disk.calls(), 5);
+    segments_are_held();
+    none_are_left();
+    Ok(())
+}
+
+/// Why the page of a disk with this payload is refused.
+fn refusal(
+    alloc: Global,
+    payload: &[u8],
+    fails: &[u64],
+) -> Result<Option<PageRefusal>, AllocError> {
+    let Ok(head) = read_head(alloc, &TWO_ROWS[..HEAD_LEN]) else {
+        return Err(AllocError);
+    };
+    let mut disk = disk(alloc, payload, fails)?;
+    Ok(page_of::<Brand>(alloc, &head, &mut disk, Blank::new(1)).err())
+}
+
+#[test]
+fn what_is_damaged_and_what_fails(rt: HostRuntime) -> Result<(), Fail> {
+    let alloc = rt.alloc();
+    let short = &TWO_ROWS[..LEN - 1];
+    assert!(rt; refusal(alloc, short, &[])? == Some(PageRefusal::Damaged));
+    let mut fewer = TWO_ROWS;
+    fewer[87] = 0;
+    assert!(rt; refusal(alloc, &fewer, &[])? == Some(PageRefusal::Damaged));
+    for call in 0..5 {
+        assert!(rt; refusal(alloc, &TWO_ROWS, &[call])? == Some(PageRefusal::DiskFault));
+    }
+    assert!(rt; refusal(alloc, &TWO_ROWS, &[5])?.is_none());
+    Ok(())
+}

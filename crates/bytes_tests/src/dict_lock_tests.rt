@@ -1,0 +1,252 @@
+//! Books shared by passes and by threads.
+ghost use Rattle.std.specs.Prelude.{◌≡◌, ℕ, IsTrue, IfSome, All, slice_get, Some};
+ghost use Rattle.step_count.specs.Opens.{OpensFor};
+ghost use Rattle.turn_lock.specs.Words.{number_of, IsReady, IsStill};
+ghost use Rattle.dict_core.specs.Fair.{IsFair};
+
+use dict_core::{Book, BookRefusal, WORDS_FIRST};
+use dict_lock::{CachedPass, SharedBook, intern, unsaved};
+use log_seams::{NumberList, Text, TextList};
+use logtype_text::{MAX_TYPE_LEN, MAX_WORD_LEN, text_ok};
+use std::alloc::Global;
+use std::marker::Brand;
+use std::sync::Wait;
+use std::sync::ledger::{Blank, Ledger};
+use std::test::Fail;
+use std::thread::{Threads, join_mut};
+use step_count::Steps;
+use turn_lock::Pass;
+
+/// Whether a pass of this number may add the text.
+fn is_fair(number: u64, text: &[u8]) -> bool
+    ensures { IsTrue result → IsFair number text.now }
+{
+    if number < WORDS_FIRST {
+        if text.len() > MAX_TYPE_LEN || !text_ok(text) {
+            return false;
+        }
+        return true;
+    }
+    number > WORDS_FIRST && !text.is_empty() && text.len() <= MAX_WORD_LEN
+}
+
+/// The number of the text. None where it was refused, or where the pass may not add it.
+fn named<R: Wait, L: Ledger>(
+    pass: &mut Pass<'_, Book>,
+    rt: &R,
+    text: &[u8],
+    turns: &mut Steps<L>,
+) -> Option<Result<u32, BookRefusal>>
+    requires { IsReady pass.old }
+    ensures { IsStill pass.old pass.new × IsReady pass.new }
+{
+    if !is_fair(pass.number(), text) {
+        return None;
+    }
+    Some(intern(pass, rt, text, turns))
+}
+
+/// Three texts, named by a worker that counts its own turns.
+fn three<R: Wait, L: Ledger>(
+    pass: &mut Pass<'_, Book>,
+    rt: &R,
+    texts: [&[u8]; 3],
+    blank: Blank,
+) -> [Option<Result<u32, BookRefusal>>; 3]
+    requires blank { OpensFor blank L.name L.parts }
+    requires ready { IsReady pass.old }
+    ensures { IsStill pass.old pass.new × IsReady pass.new }
+{
+    let mut turns: Steps<L> = Steps::new(blank);
+    let first = named(pass, rt, texts[0], &mut turns);
+    let second = named(pass, rt, texts[1], &mut turns);
+    let third = named(pass, rt, texts[2], &mut turns);
+    [first, second, third]
+}
+
+fn worker<R: Wait>(
+    pass: &mut Pass<'_, Book>,
+    rt: &R,
+    texts: [&[u8]; 3],
+) -> [Option<Result<u32, BookRefusal>>; 3]
+    requires { IsReady pass.old }
+    ensures { IsStill pass.old pass.new × IsReady pass.new }
+{
+    three::<R, Brand>(pass, rt, texts, Blank::new(1))
+}
+
+fn beside<R: Threads + Wait + Sync>(
+    rt: &R,
+    one: &mut Pass<'_, Book>,
+    two: &mut Pass<'_, Book>,
+) -> (
+    [Option<Result<u32, BookRefusal>>; 3],
+    [Option<Result<u32, BookRefusal>>; 3],
+)
+    requires { IsReady one.old × IsReady two.old }
+    ensures one { IsStill one.old one.new × IsReady one.new }
+    ensures two { IsStill two.old two.new × IsReady two.new }
+{
+    join_mut(
+        rt,
+        &mut || -> [Option<Result<u32, BookRefusal>>; 3]
+            requires { IsReady one.now }
+            ensures { IsStill one.entry.now one.exit.now × IsReady one.exit.now }
+        { worker(one, rt, [b"a", b"b", b"c"]) },
+        &mut || -> [Option<Result<u32, BookRefusal>>; 3]
+            requires { IsReady two.now }
+            ensures { IsStill two.entry.now two.exit.now × IsReady two.exit.now }
+        { worker(two, rt, [b"c", b"a", b"b"]) },
+    )
+}
+
+#[test]
+fn two_threads_share_one_book(rt: HostRuntime) -> Result<(), Fail> {
+    let alloc = rt.alloc();
+    let Ok((lock, mut maker)) = SharedBook::new(alloc, Book::new(alloc, 8), 0) else {
+        panic!(rt; "no memory");
+    };
+    let mut one = maker.pass(&lock);
+    let mut two = maker.pass(&lock);
+    let (mine, theirs) = beside(&rt, &mut one, &mut two);
+    maker.join(one);
+    maker.join(two);
+    let book = lock.close(maker);
+    assert_eq!(rt; book.len(), 3);
+    for (text, told) in [b"a", b"b", b"c"].iter().zip(&mine) {
+        assert_eq!(rt; *told, book.number_of(text.as_slice()).map(Ok));
+    }
+    for (text, told) in [b"c", b"a", b"b"].iter().zip(&theirs) {
+        assert_eq!(rt; *told, book.number_of(text.as_slice()).map(Ok));
+    }
+    Ok(())
+}
+
+/// The one text that a book with the limit 2 has from the second on, once it has refused a third.
+fn full<R: Wait, L: Ledger>(rt: &R, alloc: Global, blank: Blank) -> Option<TextList>
+    requires { OpensFor blank L.name L.parts }
+{
+    let mut turns: Steps<L> = Steps::new(blank);
+    let (lock, mut maker) = SharedBook::new(alloc, Book::new(alloc, 2), 0).ok()?;
+    let mut pass = maker.pass(&lock);
+    if !is_fair(pass.number(), b"a")
+        || !is_fair(pass.number(), b"b")
+        || !is_fair(pass.number(), b"c")
+    {
+        return None;
+    }
+    let first = intern(&mut pass, rt, b"a", &mut turns);
+    let second = intern(&mut pass, rt, b"b", &mut turns);
+    let third = intern(&mut pass, rt, b"c", &mut turns);
+    let again = intern(&mut pass, rt, b"a", &mut turns);
+    if (first, second, third, again) != (Ok(0), Ok(1), Err(BookRefusal::Full { count: 2 }), Ok(0)) {
+        return None;
+    }
+    let from = intern(&mut pass, rt, b"b", &mut turns).ok()?;
+    unsaved(&mut pass, rt, from, &mut turns).ok()
+}
+
+#[test]
+fn a_full_book_refuses_new_texts_alone(rt: HostRuntime) -> Result<(), Fail> {
+    let Some(texts) = full::<_, Brand>(&rt, rt.alloc(), Blank::new(1)) else {
+        panic!(rt; "another answer");
+    };
+    assert_eq!(rt; texts.len(), 1);
+    assert_eq!(rt; texts.as_slice()[0].as_slice(), b"b".as_slice());
+    Ok(())
+}
+
+/// Whether a pass of this number may add each of the texts.
+fn are_fair(number: u64, texts: &TextList) -> bool
+    ensures { IsTrue result → All (IsFair number) texts.now }
+{
+    for text in texts.as_slice() {
+        if !is_fair(number, text.as_slice()) {
+            return false;
+        }
+    }
+    true
+}
+
+/// The texts of one byte each.
+fn letters(alloc: Global, letters: &[u8]) -> Option<TextList> {
+    let mut texts = Vec::new(alloc);
+    for letter in letters {
+        texts
+            .push(Text::new(Vec::from_slice(alloc, &[*letter]).ok()?))
+            .ok()?;
+    }
+    Some(TextList::new(texts))
+}
+
+/// The texts that another pass sees behind the first, once it has learned a note of the pass that
+/// named it.
+fn noted<R: Wait, L: Ledger>(rt: &R, alloc: Global, blank: Blank) -> Option<TextList>
+    requires { OpensFor blank L.name L.parts }
+{
+    let mut turns: Steps<L> = Steps::new(blank);
+    let (lock, mut maker) = SharedBook::new(alloc, Book::new(alloc, 2), 0).ok()?;
+    let mut one = maker.pass(&lock);
+    let mut two = maker.pass(&lock);
+    if !is_fair(one.number(), b"a") {
+        return None;
+    }
+    let number = intern(&mut one, rt, b"a", &mut turns).ok()?;
+    if number != 0 {
+        return None;
+    }
+    let note = one.note();
+    two.join(note);
+    unsaved(&mut two, rt, 1, &mut turns).ok()
+}
+
+#[test]
+fn a_joined_note_is_seen(rt: HostRuntime) -> Result<(), Fail> {
+    let Some(texts) = noted::<_, Brand>(&rt, rt.alloc(), Blank::new(1)) else {
+        panic!(rt; "another answer");
+    };
+    assert_eq!(rt; texts.len(), 0);
+    Ok(())
+}
+
+/// Whether the numbers are these.
+fn are(numbers: Result<NumberList, BookRefusal>, want: &[u32]) -> bool {
+    match numbers {
+        Ok(numbers) => numbers.as_slice() == want,
+        Err(_) => false,
+    }
+}
+
+/// A pass with a cache over a book with the limit 2: whether it names what it should, and how many
+/// turns it took.
+fn cached<R: Wait, L: Ledger>(rt: &R, alloc: Global, blank: Blank) -> Option<bool>
+    requires { OpensFor blank L.name L.parts }
+{
+    let mut turns: Steps<L> = Steps::new(blank);
+    let (lock, mut maker) = SharedBook::new(alloc, Book::new(alloc, 2), 0).ok()?;
+    let pass = maker.pass(&lock);
+    let number = pass.number();
+    let first = letters(alloc, b"aba")?;
+    let second = letters(alloc, b"b")?;
+    let third = letters(alloc, b"ac")?;
+    if !are_fair(number, &first) || !are_fair(number, &second) || !are_fair(number, &third) {
+        return None;
+    }
+    let mut pass = CachedPass::new(alloc, pass);
+    let named = are(pass.name_all(rt, &first, &mut turns), &[0, 1, 0]);
+    let known = are(pass.name_all(rt, &second, &mut turns), &[1]);
+    let refused = match pass.name_all(rt, &third, &mut turns) {
+        Err(BookRefusal::Full { count }) => count == 2,
+        _ => false,
+    };
+    Some(named && known && refused && pass.knows(b"a") == Some(0) && pass.knows(b"c").is_none())
+}
+
+#[test]
+fn known_texts_are_numbered_by_the_cache(rt: HostRuntime) -> Result<(), Fail> {
+    assert_eq!(rt;
+        cached::<_, Brand>(&rt, rt.alloc(), Blank::new(1)),
+        Some(true)
+    );
+    Ok(())
+}

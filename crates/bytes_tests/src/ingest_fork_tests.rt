@@ -1,0 +1,121 @@
+//! Workers that write their number into the jobs, and passes that are made and ended together.
+ghost use Rattle.std.specs.Prelude.{◌≡◌, ℕ, ◌+◌, ◌<◌, [], IfOk};
+ghost use Rattle.std.proofs.Common.{◌∙◌, refl};
+ghost use Rattle.turn_lock.specs.Words.{id_of, lock_by, made_by, HasJoinedAll};
+
+use ingest_fork::{Works, all_are_joined, by_workers, fill, join_all};
+use std::alloc::{AllocError, Global};
+use std::sync::Wait;
+use std::test::Fail;
+use turn_lock::{Grows, Maker, TurnLock};
+
+/// A worker that writes its number into a job, and the number that the job had into the keeper.
+#[derive(Drop)]
+struct Numbering {
+    number: u32,
+}
+
+impl Works<u32, u32> for Numbering {
+    ghost ready = { λ w. Unit {0} };
+
+    ghost fits = { λ w j k. Unit {0} };
+
+    ghost went = { λ js w v. v.number ≡ w.number };
+
+    ghost did = { λ w j k l m. (l ≡ w.number) × (m ≡ j) };
+
+    fn work<R: Wait>(&mut self, _rt: &R, job: &mut u32, keeper: &mut u32) {
+        *keeper = *job;
+        *job = self.number;
+    }
+
+    ghost rests = { λ js w ready. refl };
+
+    ghost goes_on = { λ js a b c one two. two ∙ one };
+
+    ghost wider = { λ xs js ys a b went. went };
+
+    ghost fits_on = { λ js a b j k went fits. fits };
+
+    ghost did_on = { λ js a b j l k m went did. (did.0 ∙ went, did.1) };
+}
+
+/// With one worker, two and three: the worker of each of five jobs, and what its keeper got.
+#[test]
+fn each_worker_does_a_piece(rt: HostRuntime) -> Result<(), Fail> {
+    for (count, by) in [
+        (1, [1, 1, 1, 1, 1]),
+        (2, [1, 1, 2, 2, 2]),
+        (3, [1, 2, 2, 3, 3]),
+    ] {
+        let mut workers = [
+            Numbering { number: 1 },
+            Numbering { number: 2 },
+            Numbering { number: 3 },
+        ];
+        let mut jobs = [10, 20, 30, 40, 50];
+        let mut keepers = [0; 5];
+        by_workers(&rt, &mut workers[..count], &mut jobs, &mut keepers);
+        assert_eq!(rt; jobs, by, "with {count}");
+        assert_eq!(rt; keepers, [10, 20, 30, 40, 50], "with {count}");
+    }
+    Ok(())
+}
+
+/// Numbers in the order in which they were added.
+#[derive(Drop)]
+struct Numbers {
+    all: Vec<u64>,
+}
+
+impl Grows for Numbers {
+    type Entry = u64;
+
+    type Fixed = ();
+
+    ghost entries = { λ b. b.all.items };
+
+    ghost may_add = { λ n entry. entry ≡ n };
+
+    ghost fixed = { λ b. tt };
+
+    fn count(&self) -> u64 {
+        self.all.len() as u64
+    }
+}
+
+/// So many passes, which end without a turn.
+fn idle(
+    alloc: Global,
+    lock: &TurnLock<Numbers>,
+    maker: &mut Maker<Numbers>,
+    count: usize,
+) -> Result<(), AllocError>
+    requires lock { lock_by maker.old ≡ id_of lock.now }
+    requires first { (made_by maker.old ≡ 0) × (count < 4294967296) }
+    ensures lock { lock_by maker.new ≡ lock_by maker.old }
+    ensures joined { IfOk result (λ _. HasJoinedAll maker.new) }
+{
+    let mut passes = Vec::with_capacity(alloc, count)?;
+    fill(maker, lock, &mut passes, count);
+    join_all(maker, passes);
+    all_are_joined(maker);
+    Ok(())
+}
+
+#[test]
+fn a_lock_is_closed_after_its_passes(rt: HostRuntime) -> Result<(), Fail> {
+    let numbers = Numbers {
+        all: Vec::new(rt.alloc()),
+    };
+    let Ok((lock, mut maker)) = TurnLock::new(rt.alloc(), numbers, 7) else {
+        panic!(rt; "no memory");
+    };
+    let Ok(()) = idle(rt.alloc(), &lock, &mut maker, 3) else {
+        panic!(rt; "no memory");
+    };
+    assert_eq!(rt; maker.made(), 3);
+    let numbers = lock.close(maker);
+    assert_eq!(rt; numbers.all.len(), 0);
+    Ok(())
+}

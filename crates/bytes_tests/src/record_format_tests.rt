@@ -1,0 +1,177 @@
+ghost use Rattle.std.specs.Prelude.{◌≡◌, ◌<◌, ◌^◌, IfOk, length};
+
+use log_seams::{Text, TextList};
+use record_format::*;
+use std::alloc::{AllocError, Global};
+use std::process::Abort;
+use std::test::Fail;
+
+/// The header of an archive that was created with no limit named.
+static HEADER: [u8; 32] = [
+    0x43, 0x4C, 0x50, 0x41, 0x52, 0x43, 0x48, 0x0A, 1, 0, 0, 0, 0, 0, 0, 1, 0, 0, 0, 0x80, 0, 0, 0,
+    0, 0, 0, 0, 0, 0, 1, 0, 0,
+];
+
+/// The files of an archive that took in `a.log`.
+static FILES: [u8; 13] = [1, 0, 0, 0, 5, 0, 0, 0, b'a', b'.', b'l', b'o', b'g'];
+
+/// The types of an archive that took in the one line `a`.
+static TYPES: [u8; 13] = [0, 0, 0, 0, 1, 0, 0, 0, 1, 0, 0, 0, b'a'];
+
+/// Two words from number 258 on, `x1` and one of no bytes.
+static WORDS: [u8; 18] = [2, 1, 0, 0, 2, 0, 0, 0, 2, 0, 0, 0, b'x', b'1', 0, 0, 0, 0];
+
+fn is_refused(read: &Result<TextList, FormatRefusal>) -> bool {
+    matches!(read, Err(FormatRefusal::Malformed))
+}
+
+#[test]
+fn header_of_a_new_archive(rt: HostRuntime) -> Result<(), Fail> {
+    let header = Header {
+        version: 1,
+        types_limit: 16_777_216,
+        words_limit: 2_147_483_648,
+        length_limit: 1_099_511_627_776,
+    };
+    assert!(rt; write_header(&header) == HEADER);
+    assert!(rt; read_header(&HEADER).ok_or("a header")? == header);
+    Ok(())
+}
+
+/// A field's first byte, the bytes put there, and whether they make a header still.
+const FIELDS_OUT_OF_RANGE: &[(usize, [u8; 4], bool)] = &[
+    (0, [0x43, 0x4C, 0x50, 0x42], false),
+    (4, [0x52, 0x43, 0x48, 0x0D], false),
+    (8, [0, 0, 0, 0], false),
+    (8, [2, 0, 0, 0], true),
+    (8, [3, 0, 0, 0], true),
+    (8, [4, 0, 0, 0], false),
+    (8, [1, 0, 0, 1], false),
+    (12, [0, 0, 0, 0], false),
+    (12, [1, 0, 0, 0], true),
+    (12, [0, 0, 0, 0x80], true),
+    (12, [1, 0, 0, 0x80], false),
+    (16, [0, 0, 0, 0], false),
+    (16, [1, 0, 0, 0], true),
+    (16, [0, 0, 0, 0x80], true),
+    (16, [1, 0, 0, 0x80], false),
+    (20, [1, 0, 0, 0], false),
+    (20, [0, 0, 0, 1], false),
+    (24, [1, 0, 0, 0], false),
+    (28, [0, 0, 0, 0], false),
+    (28, [0, 2, 0, 0], false),
+];
+
+#[test]
+fn fields_out_of_range(rt: HostRuntime) {
+    for &(at, field, stays) in FIELDS_OUT_OF_RANGE {
+        let mut bytes = HEADER;
+        assert!(rt; at <= 28, "a field of four bytes at {at}");
+        bytes[at..at + 4].copy_from_slice(&field);
+        assert!(rt; read_header(&bytes).is_some() == stays, "{field:?} at {at}");
+    }
+    let mut least = HEADER;
+    least[28] = 0;
+    least[29] = 0;
+    least[24] = 33;
+    assert!(rt; read_header(&least).is_some(), "33 bytes");
+    least[24] = 32;
+    assert!(rt; read_header(&least).is_none(), "32 bytes");
+}
+
+#[test]
+fn files_both_ways(rt: HostRuntime) -> Result<(), Fail> {
+    let read = read_files(rt.alloc(), &FILES).ok().ok_or("names")?;
+    assert!(rt; read.as_slice().len() == 1);
+    for name in read.as_slice() {
+        assert!(rt; name.as_slice() == b"a.log".as_slice());
+    }
+    let written = write_files(rt.alloc(), &read)?;
+    assert!(rt; written.as_slice() == FILES.as_slice());
+    Ok(())
+}
+
+#[test]
+fn texts_both_ways(rt: HostRuntime) -> Result<(), Fail> {
+    for (payload, first, count) in [(TYPES.as_slice(), 0, 1), (WORDS.as_slice(), 258, 2)] {
+        let read = read_texts(rt.alloc(), payload).ok().ok_or("texts")?;
+        assert!(rt; read.first == first);
+        assert!(rt; read.texts.as_slice().len() == count);
+        let written = write_texts(rt.alloc(), read.first, &read.texts)?;
+        assert!(rt; written.as_slice() == payload);
+    }
+    Ok(())
+}
+
+#[test]
+fn cuts(rt: HostRuntime) {
+    for end in 0..FILES.len() {
+        assert!(rt;
+            is_refused(&read_files(rt.alloc(), &FILES[..end])),
+            "files cut at {end}"
+        );
+    }
+    for end in 0..WORDS.len() {
+        let cut = read_texts(rt.alloc(), &WORDS[..end]);
+        assert!(rt;
+            matches!(cut, Err(FormatRefusal::Malformed)),
+            "words cut at {end}"
+        );
+    }
+}
+
+const NAMES_BY_ONE_OFF: &[&[u8]] = &[
+    // a byte after the last name
+    b"\x01\0\0\0\x01\0\0\0a\0",
+    // the count one too high, and one too low
+    b"\x02\0\0\0\x05\0\0\0a.log",
+    b"\0\0\0\0\x05\0\0\0a.log",
+    // the length of the name one too high
+    b"\x01\0\0\0\x06\0\0\0a.log",
+    // more names than bytes
+    b"\xff\xff\xff\xff\x01\0\0\0a\0\0\0\0\0\0\0\0\0\0\0",
+];
+
+#[test]
+fn names_by_one_off(rt: HostRuntime) {
+    for &payload in NAMES_BY_ONE_OFF {
+        assert!(rt; is_refused(&read_files(rt.alloc(), payload)), "{payload:?}");
+    }
+    assert!(rt; read_files(rt.alloc(), b"\0\0\0\0").is_ok(), "no names");
+}
+
+const TEXTS_BY_ONE_OFF: &[&[u8]] = &[
+    // a byte after the last text
+    b"\0\0\0\0\x01\0\0\0\x01\0\0\0a\0",
+    // the count one too high, and one too low
+    b"\0\0\0\0\x02\0\0\0\x01\0\0\0a",
+    b"\0\0\0\0\x02\0\0\0\x05\0\0\0abcde",
+    b"\0\0\0\0\0\0\0\0\x01\0\0\0a",
+    // the length of a text one too high
+    b"\0\0\0\0\x01\0\0\0\x02\0\0\0a",
+    b"\x02\x01\0\0\x02\0\0\0\x03\0\0\0x1\0\0\0\0",
+    // more texts than bytes
+    b"\0\0\0\0\xff\xff\xff\xff\x01\0\0\0a",
+];
+
+#[test]
+fn texts_by_one_off(rt: HostRuntime) {
+    for &payload in TEXTS_BY_ONE_OFF {
+        let read = read_texts(rt.alloc(), payload);
+        assert!(rt;
+            matches!(read, Err(FormatRefusal::Malformed)),
+            "{payload:?}"
+        );
+    }
+    assert!(rt;
+        read_texts(rt.alloc(), b"\0\0\0\0\0\0\0\0").is_ok(),
+        "no texts"
+    );
+}
+
+#[test]
+fn laws_hold() {
+    headers_are_unique();
+    files_are_unique();
+    texts_are_unique();
+}

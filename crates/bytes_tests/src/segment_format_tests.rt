@@ -1,0 +1,299 @@
+ghost use Rattle.std.specs.Prelude.{◌≤◌, length, IfSome};
+ghost use Rattle.step_count.specs.Opens.{OpensFor};
+ghost use Rattle.segment_format.specs.Layout.{IsHead};
+
+use column_store::{Columns, RowRef};
+use log_seams::NumberList;
+use segment_format::*;
+use std::alloc::{AllocError, Global};
+use std::marker::Brand;
+use std::sync::ledger::{Blank, Ledger};
+use std::test::Fail;
+use step_count::Steps;
+
+/// The one segment of an archive that took in the one line `a`.
+static ONE_ROW: [u8; 66] = [
+    0, 0, 0, 0, 0, 0, 0, 0, 0, 0, 0, 0, 1, 0, 0, 0, 3, 0, 0, 0, 0, 0, 0, 0, 0, 0, 0, 0, 0, 0, 0, 0,
+    0, 1, 0, 0, 0, 0, 0, 0, 0, 0, 0, 0, 0, 0, 0, 0, 0, 0, 0, 0, 0, 0, 0, 0, 0, 0, 0, 0, 0, 0, 0, 0,
+    0, 0,
+];
+
+/// Rows 258 and 259 of file 1: one with pattern 8, moment -1500, log type 5 and the word 7, and one
+/// without stamp of log type 2 without words. The dictionary words are said to be 1 and 9.
+static TWO_ROWS: [u8; 103] = [
+    1, 0, 0, 0, 2, 1, 0, 0, 0, 0, 0, 0, 2, 0, 0, 0, 4, 0x24, 0xFA, 0xFF, 0xFF, 0xFF, 0xFF, 0xFF,
+    0xFF, 0x24, 0xFA, 0xFF, 0xFF, 0xFF, 0xFF, 0xFF, 0xFF, 2, 0, 0, 0, 2, 0, 0, 0, 1, 0, 0, 0, 2, 0,
+    0, 0, 5, 0, 0, 0, 1, 0, 0, 0, 9, 0, 0, 0, 8, 0, 0x24, 0xFA, 0xFF, 0xFF, 0xFF, 0xFF, 0xFF, 0xFF,
+    0, 0, 0, 0, 0, 0, 0, 0, 5, 0, 0, 0, 2, 0, 0, 0, 1, 0, 0, 0, 0, 0, 0, 0, 7, 0, 0, 0, 0, 0, 0, 0,
+];
+
+/// Adds a row of few words to few rows.
+fn add(columns: &mut Columns, row: RowRef<'_>) -> Result<(), AllocError>
+    requires { length row.words.now ≤ 2 }
+{
+    if columns.rows() < 10_000 && columns.variables() < 10_000 {
+        columns.push(row, 40)?;
+    }
+    Ok(())
+}
+
+/// So many rows without stamp, of log type 0 and without words.
+fn plain_rows(alloc: Global, count: u32) -> Result<Columns, AllocError> {
+    let mut columns = Columns::new(alloc);
+    for _ in 0..count {
+        let row = RowRef {
+            pattern: 0,
+            moment: 0,
+            log_type: 0,
+            words: &[],
+        };
+        add(&mut columns, row)?;
+    }
+    Ok(columns)
+}
+
+/// The rows of a head, for a caller that counts nothing.
+fn columns_of<L: Ledger>(
+    alloc: Global,
+    head: &Head,
+    payload: &[u8],
+    blank: Blank,
+) -> Result<Columns, FormatRefusal>
+    requires blank { OpensFor blank L.name L.parts }
+    requires head { IsHead head.now }
+{
+    let mut steps: Steps<L> = Steps::new(blank);
+    read_columns(alloc, head, payload, &mut steps)
+}
+
+/// The head in front of a payload, and none where none stands there.
+fn head_of(alloc: Global, payload: &[u8]) -> Option<Head>
+    ensures { IfSome result (λ h. IsHead h) }
+{
+    let fixed = payload.first_chunk::<FIXED_LEN>()?;
+    let len = head_len(fixed)? as usize;
+    if payload.len() < len {
+        return None;
+    }
+    read_head(alloc, &payload[..len]).ok()
+}
+
+/// How many rows and variables a payload is read as, and none where it is refused.
+fn sizes_of(alloc: Global, payload: &[u8]) -> Option<(u32, u32)> {
+    let head = head_of(alloc, payload)?;
+    let columns = columns_of::<Brand>(alloc, &head, payload, Blank::new(1)).ok()?;
+    Some((columns.rows(), columns.variables()))
+}
+
+#[test]
+fn one_row(rt: HostRuntime) -> Result<(), Fail> {
+    let alloc = rt.alloc();
+    let columns = plain_rows(alloc, 1)?;
+    let words = NumberList::new(Vec::new(alloc));
+    let segment = write_segment(alloc, 0, 0, true, true, &columns, &words)?;
+    assert!(rt; segment.as_slice() == ONE_ROW.as_slice());
+    let head = head_of(alloc, &ONE_ROW).ok_or("a head")?;
+    assert!(rt; (head.rows, head.last, head.ended, head.stamped) == (1, true, true, false));
+    assert!(rt; head.types.as_slice() == [0].as_slice());
+    assert!(rt; sizes_of(alloc, &ONE_ROW).ok_or("rows")? == (1, 0));
+    Ok(())
+}
+
+#[test]
+fn two_rows(rt: HostRuntime) -> Result<(), Fail> {
+    let alloc = rt.alloc();
+    let mut columns = Columns::new(alloc);
+    let rows: [(u8, i64, u32, &[u64]); 2] = [(8, -1_500, 5, &[7]), (0, 0, 2, &[])];
+    for (pattern, moment, log_type, words) in rows {
+        let row = RowRef {
+            pattern,
+            moment,
+            log_type,
+            words,
+        };
+        add(&mut columns, row)?;
+    }
+    let words = NumberList::new(vec![in alloc; 1, 9]?);
+    let segment = write_segment(alloc, 1, 258, false, false, &columns, &words)?;
+    assert!(rt; segment.as_slice() == TWO_ROWS.as_slice());
+    assert!(rt; sizes_of(alloc, &TWO_ROWS).ok_or("rows")? == (2, 1));
+    Ok(())
+}
+
+#[test]
+fn cuts_and_bytes_behind(rt: HostRuntime) -> Result<(), Fail> {
+    let alloc = rt.alloc();
+    for end in 0..TWO_ROWS.len() {
+        assert!(rt; sizes_of(alloc, &TWO_ROWS[..end]).is_none(), "cut at {end}");
+    }
+    let mut longer = Vec::from_slice(alloc, &TWO_ROWS)?;
+    longer.push(0)?;
+    assert!(rt;
+        sizes_of(alloc, longer.as_slice()).is_none(),
+        "a byte behind"
+    );
+    assert!(rt;
+        read_head(alloc, longer.as_slice()).is_err(),
+        "bytes behind a head"
+    );
+    Ok(())
+}
+
+/// A byte's place, its new value, and whether rows are read still.
+const CHANGED: &[(usize, u8, bool)] = &[
+    (0, 2, true),
+    (12, 3, false),
+    (12, 1, false),
+    (16, 2, true),
+    (16, 7, true),
+    (16, 8, false),
+    (16, 0x84, false),
+    (33, 3, false),
+    (37, 3, false),
+    (37, 1, false),
+    (41, 2, false),
+    (41, 0, false),
+    (45, 1, true),
+    (45, 5, false),
+    (45, 6, false),
+    (53, 10, false),
+    (61, 255, true),
+    (87, 2, false),
+    (87, 0, false),
+    (91, 1, false),
+];
+
+/// Whether rows are read still where the byte at this place is changed.
+fn stays_read(alloc: Global, at: usize, byte: u8) -> Result<bool, AllocError> {
+    let mut bytes = Vec::from_slice(alloc, &TWO_ROWS)?;
+    if let Some(changed) = bytes.get_mut(at) {
+        *changed = byte;
+    }
+    Ok(sizes_of(alloc, bytes.as_slice()).is_some())
+}
+
+#[test]
+fn changed_bytes(rt: HostRuntime) -> Result<(), Fail> {
+    for (at, byte, stays) in CHANGED {
+        let well = stays_read(rt.alloc(), *at, *byte)? == *stays;
+        assert!(rt; well, "{byte} at {at}");
+    }
+    Ok(())
+}
+
+/// A reader of the pages of a head, for a caller that counts nothing.
+fn pages_of<L: Ledger>(head: &Head, payload: u64, blank: Blank) -> Option<PageReader>
+    requires blank { OpensFor blank L.name L.parts }
+    requires head { IsHead head.now }
+{
+    let mut steps: Steps<L> = Steps::new(blank);
+    open_pages(head, payload, &mut steps)
+}
+
+/// Adds so many bytes of a payload from a place on, where they stand there.
+fn add_piece(out: &mut Vec<u8>, payload: &[u8], at: u64, len: u64) -> Result<(), AllocError> {
+    let end = at.saturating_add(len) as usize;
+    out.extend_from_slice(payload.get(at as usize..end).unwrap_or(&[]))
+}
+
+/// The next page out of a payload, in the memory of columns, and none where it is refused or the last
+/// page was read.
+fn page_in(
+    alloc: Global,
+    pages: &mut PageReader,
+    columns: Columns,
+    payload: &[u8],
+) -> Result<Option<Columns>, AllocError> {
+    let Some(ask) = pages.ask() else {
+        return Ok(None);
+    };
+    let rows = u64::from(ask.rows);
+    let mut bytes = Vec::new(alloc);
+    add_piece(&mut bytes, payload, ask.counts, 4 * rows)?;
+    if bytes.len() as u64 != 4 * rows {
+        return Ok(None);
+    }
+    let Some(words) = pages.variable_bytes(bytes.as_slice()) else {
+        return Ok(None);
+    };
+    bytes.clear();
+    add_piece(&mut bytes, payload, ask.patterns, rows)?;
+    add_piece(&mut bytes, payload, ask.moments, 8 * rows)?;
+    add_piece(&mut bytes, payload, ask.types, 4 * rows)?;
+    add_piece(&mut bytes, payload, ask.counts, 4 * rows)?;
+    add_piece(&mut bytes, payload, ask.variables, words)?;
+    Ok(pages.fill_page(columns, bytes.as_slice()).ok())
+}
+
+#[test]
+fn places_of_pages(rt: HostRuntime) -> Result<(), Fail> {
+    let alloc = rt.alloc();
+    let columns = plain_rows(alloc, 5_000)?;
+    let words = NumberList::new(Vec::new(alloc));
+    let segment = write_segment(alloc, 0, 0, true, true, &columns, &words)?;
+    let payload = segment.as_slice();
+    let head = head_of(alloc, payload).ok_or("a head")?;
+    assert!(rt;
+        pages_of::<Brand>(&head, 85_048, Blank::new(1)).is_none(),
+        "a byte less"
+    );
+    let mut pages = pages_of::<Brand>(&head, 85_049, Blank::new(1)).ok_or("pages")?;
+    let first = page_in(alloc, &mut pages, columns, payload)?.ok_or("a page")?;
+    assert!(rt; first.rows() == PAGE_ROWS);
+    let last = PageAsk {
+        rows: 904,
+        patterns: 4_145,
+        moments: 37_817,
+        types: 61_433,
+        counts: 81_433,
+        variables: 85_049,
+    };
+    assert!(rt; pages.ask().ok_or("a second page")? == last);
+    let second = page_in(alloc, &mut pages, first, payload)?.ok_or("a page")?;
+    assert!(rt; second.rows() == 904);
+    assert!(rt; pages.ask().is_none(), "two pages");
+    Ok(())
+}
+
+#[test]
+fn pages_with_words(rt: HostRuntime) -> Result<(), Fail> {
+    let alloc = rt.alloc();
+    let head = head_of(alloc, &TWO_ROWS).ok_or("a head")?;
+    let mut pages = pages_of::<Brand>(&head, 103, Blank::new(1)).ok_or("pages")?;
+    let page = page_in(alloc, &mut pages, Columns::new(alloc), &TWO_ROWS)?.ok_or("a page")?;
+    assert!(rt; page.moments() == [-1_500, 0].as_slice());
+    assert!(rt; page.words() == [7].as_slice());
+    // A count of the one page, and whether the page is read still.
+    for (at, byte, stays) in [
+        (87, 1, true),
+        (87, 0, false),
+        (87, 2, false),
+        (91, 1, false),
+    ] {
+        let mut bytes = TWO_ROWS;
+        assert!(rt; at < 103, "a byte at {at}");
+        bytes[at] = byte;
+        let mut pages = pages_of::<Brand>(&head, 103, Blank::new(1)).ok_or("pages")?;
+        let page = page_in(alloc, &mut pages, Columns::new(alloc), &bytes)?;
+        assert!(rt; page.is_some() == stays, "{byte} at {at}");
+    }
+    Ok(())
+}
+
+#[test]
+fn one_page(rt: HostRuntime) -> Result<(), Fail> {
+    let alloc = rt.alloc();
+    let head = head_of(alloc, &ONE_ROW).ok_or("a head")?;
+    let mut pages = pages_of::<Brand>(&head, 66, Blank::new(1)).ok_or("pages")?;
+    if pages.ask().is_some() {
+        let page = pages.next_page(alloc, &ONE_ROW[49..]).ok().ok_or("a page")?;
+        assert!(rt; page.rows() == 1);
+    }
+    assert!(rt; pages.ask().is_none(), "one page");
+    heads_are_unique();
+    columns_are_unique();
+    segments_are_unique();
+    segments_read_back();
+    pages_are_the_columns();
+    Ok(())
+}

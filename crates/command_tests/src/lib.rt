@@ -1,0 +1,13 @@
+//! Tests of the commands, over `run`, as a program calls it.
+#![tactic(auto)]
+
+#[cfg(test)]
+mod create_tests;
+#[cfg(test)]
+mod directory_tests;
+#[cfg(test)]
+mod ingest_tests;
+#[cfg(test)]
+mod log_tests;
+#[cfg(test)]
+mod search_tests;

@@ -1,0 +1,5 @@
+pub mod Values
+pub mod Forms
+pub mod Built
+pub mod Asked
+pub mod Spellings

@@ -1,0 +1,129 @@
+-- Why not all messages of a file were sealed.
+use Rattle.std.specs.Prelude.{◌≡◌, ℕ, ◌+◌, ◌<◌, Bool, List, [], ◌∷◌, ◌++◌, length, Option, None, Some, IfSome}
+use mathlib.Core.List.{IsPrefix}
+use Rattle.log_seams.specs.Disk.{DiskState}
+use Rattle.log_seams.specs.Outside.{Rose}
+use Rattle.turn_lock.specs.declared.board.About.{About}
+use Rattle.turn_lock.specs.Words.{about, seen}
+use Rattle.dict_lock.specs.Shared.{BookPass}
+use Rattle.row_codec.specs.declared.namer.Which.{Which}
+use Rattle.row_codec.specs.declared.namer.Which.TheVariants.{Types, Words}
+use Rattle.message_reader.specs.declared.reader.TheConstants.{MAX_MESSAGES}
+use Rattle.message_reader.specs.Taken.{IsBeforeLong, IsReadShort, lines_count}
+use Rattle.message_reader.specs.Versions.{MessagesOf}
+use Rattle.disk_seal.specs.declared.entry.StoreEntry.{StoreEntry}
+use Rattle.disk_seal.specs.declared.entry.StoreEntry.TheVariants.{Stopped}
+use Rattle.disk_seal.specs.declared.fixed.StoreFixed.{StoreFixed}
+use Rattle.disk_seal.specs.Fixed.{KeeperPass}
+use Rattle.disk_seal.specs.Known.{limit_in}
+use Rattle.disk_seal.specs.Prepare.{IsFaultOf}
+use Rattle.ingest_workers.specs.declared.outcome.Cause.{Cause}
+use Rattle.ingest_workers.specs.declared.outcome.Cause.TheVariants.{ReadFault, LineTooLong, TooManyLines, Full, DiskFault, ArchiveFull, OutOfMemory}
+use Rattle.line_cut.specs.declared.cut.Cut.{Cut}
+use Rattle.line_cut.specs.declared.cut.Cut.TheVariants.{ReadFault as CutReadFault, LineTooLong as CutLineTooLong, TooManyLines as CutTooManyLines, OutOfMemory as CutOutOfMemory}
+
+-- ---- the log
+
+-- a log before and after it was read: the bytes that are left of it, where they are told, and its count of faults
+pub record Log : Type 0 where
+  pub bytes : Option (List ℕ)
+  pub behind : Option (List ℕ)
+  pub faults : ℕ
+  pub faults_now : ℕ
+
+-- what a source tells of its log, which had these bytes
+abbrev pub log_from : {S : Type 0} → Option (List ℕ) → (S → Option (List ℕ)) → (S → ℕ) → S → S → Log
+log_from bytes left faults old new = record { bytes = bytes; behind = left new; faults = faults old; faults_now = faults new }
+
+abbrev pub log_of : {S : Type 0} → (S → Option (List ℕ)) → (S → ℕ) → S → S → Log
+log_of left faults old new = log_from (left old) left faults old new
+
+-- no read of it failed
+abbrev pub NoneFailed : Log → Type 0
+NoneFailed log = log.faults_now ≡ log.faults
+
+-- the cause for which a reader gives no further message
+abbrev pub cause_by : Cut → Cause
+cause_by CutReadFault = ReadFault
+cause_by (CutLineTooLong line) = LineTooLong line
+cause_by CutTooManyLines = TooManyLines
+cause_by CutOutOfMemory = OutOfMemory
+
+-- where the bytes are told, they have more messages than so many
+abbrev pub HaveMoreThan : ℕ → ℕ → Option (List ℕ) → Type 0
+HaveMoreThan count version told = IfSome told (λ bytes. (messages : List (List ℕ)) (ended : Bool) → MessagesOf version bytes messages ended → count < length messages)
+
+-- ---- the archive
+
+-- how many texts each of the two books may have
+pub record Limits : Type 0 where
+  pub types : ℕ
+  pub words : ℕ
+
+abbrev pub limit_of : Limits → Which → ℕ
+limit_of limits Types = limits.types
+limit_of limits Words = limits.words
+
+-- those of the books that two passes are over
+abbrev pub limits_by : BookPass → BookPass → Limits
+limits_by types words = record { types = limit_in (about types); words = limit_in (about words) }
+
+module _ {D : Type 0} where
+  -- the pass has seen the mark of a store that was stopped
+  abbrev pub HasSeenMark : KeeperPass D → Type 0
+  HasSeenMark p = (front : List StoreEntry) × IsPrefix (front ++ Stopped ∷ []) (seen p)
+
+  -- the archive has no room for so many bytes behind this end
+  abbrev pub HasNoRoomBy : KeeperPass D → ℕ → ℕ → Type 0
+  HasNoRoomBy p end need = (a : About (StoreFixed D)) → about p ≡ Some a → a.fixed.header.length_limit < end + need
+
+  -- a call of the disk failed since the opening, and the store was stopped
+  pub record HasFailed (state : D → DiskState) (p q : KeeperPass D) (opened now : ℕ) : Type 0 where
+    pub fault : IsFaultOf state (record { opened = opened; now = now }) p
+    pub mark : HasSeenMark q
+
+  -- Why a segment is not sealed. Want of memory is free.
+  abbrev pub HasSealCause : (D → DiskState) → KeeperPass D → KeeperPass D → Cause → Type 0
+  HasSealCause state p q (DiskFault opened now) = HasFailed state p q opened now
+  HasSealCause state p q (ArchiveFull end need) = HasNoRoomBy p end need
+  HasSealCause state p q OutOfMemory = Unit {0}
+  HasSealCause state p q _ = ⊥
+
+-- why a message gets no numbers, where these are the limits of the books
+abbrev pub IsFullCause : Limits → Cause → Type 0
+IsFullCause limits (Full book count) = count ≡ limit_of limits book
+IsFullCause limits _ = ⊥
+
+-- ---- a job
+
+-- What causes say of the archive: that a book is full at so many texts, that so many bytes more do not fit behind the end, that the disk failed.
+pub record Grounds : Type 1 where
+  pub full : Which → ℕ → Type 0
+  pub no_room : ℕ → ℕ → Type 0
+  pub failed : ℕ → ℕ → Type 0
+
+-- those that a worker knows by its passes
+abbrev pub grounds_of : {D : Type 0} → (D → DiskState) → Limits → KeeperPass D → KeeperPass D → Grounds
+grounds_of state limits p q = record {
+  full = λ book count. count ≡ limit_of limits book;
+  no_room = HasNoRoomBy p;
+  failed = HasFailed state p q;
+}
+
+-- Why no further message of a log is taken than these. A read that failed gave the lines that ended in the bytes taken; a line that is too long, and a
+-- message too many, come behind these messages. Where the cause is another, no read failed.
+abbrev pub HasLogCause : (Which → ℕ → Type 0) → Log → ℕ → List (List ℕ) → Cause → Type 0
+HasLogCause full log version taken ReadFault = Rose log.faults log.faults_now × IfSome log.bytes (λ bytes. IsReadShort version bytes taken log.behind)
+HasLogCause full log version taken (LineTooLong line) = NoneFailed log × (line ≡ lines_count taken + 1) × IfSome log.bytes (IsBeforeLong version taken)
+HasLogCause full log version taken TooManyLines = NoneFailed log × (length taken ≡ MAX_MESSAGES) × HaveMoreThan MAX_MESSAGES version log.bytes
+HasLogCause full log version taken (Full book count) = NoneFailed log × full book count
+HasLogCause full log version taken _ = ⊥
+
+-- What a cause says, where these messages of the log were sealed. Without a cause no read failed. Want of memory is free. A cause of the log says that all
+-- messages before it were sealed.
+abbrev pub HasJobCause : Grounds → Log → ℕ → List (List ℕ) → Option Cause → Type 0
+HasJobCause g log version sealed None = NoneFailed log
+HasJobCause g log version sealed (Some (DiskFault opened now)) = g.failed opened now
+HasJobCause g log version sealed (Some (ArchiveFull end need)) = g.no_room end need
+HasJobCause g log version sealed (Some OutOfMemory) = Unit {0}
+HasJobCause g log version sealed (Some cause) = HasLogCause g.full log version sealed cause

@@ -1,7 +1,0 @@
-use Rattle.search_engine.proofs.tests.searched.Given as goal
-
-abbrev pub ghosts-search_with-L-Ledger : goal.ghosts-search_with-L-Ledger
-ghosts-search_with-L-Ledger a = record { name = a.one.name; parts = a.one.parts }
-
-abbrev pub ghosts-search_with-M-Ledger : goal.ghosts-search_with-M-Ledger
-ghosts-search_with-M-Ledger a = record { name = a.two.name; parts = a.two.parts }

@@ -1,4 +1,0 @@
-use Rattle.segment_format.proofs.tests.sizes_of.Given as goal
-
-abbrev pub ghosts-columns_of : goal.ghosts-columns_of
-ghosts-columns_of a = record { name = a.blank.name; parts = a.blank.parts }

@@ -1,4 +1,0 @@
-use Rattle.segment_pages.proofs.tests.refusal.Given as goal
-
-abbrev pub ghosts-page_of : goal.ghosts-page_of
-ghosts-page_of a = record { name = a.blank.name; parts = a.blank.parts }

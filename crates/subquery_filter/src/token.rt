@@ -1,0 +1,16 @@
+//! A token that is looked for.
+ghost use Rattle.std.specs.Prelude.{◌≡◌};
+
+use wild_match::{Matcher, Pattern};
+
+/// A token of a pattern, made ready to be looked for, and its bit.
+#[derive(Debug, Drop)]
+pub(crate) struct Token {
+    /// Matches the texts that the token stands in.
+    pub(crate) matcher: Matcher,
+    /// The same as a pattern.
+    pub(crate) pattern: Pattern,
+    /// One of eight bits.
+    pub(crate) bit: u8,
+    pub(crate) ghost same: { matcher.items ≡ pattern },
+}

@@ -1,0 +1,313 @@
+use crate::line_cut_tests::{faulty, text};
+use line_cut::{Cut, Heads, Joiner, MAX_LINE_LEN, Mark};
+use log_seams::{MemSource, PlainSource, Source, Text};
+use std::alloc::{AllocError, Global};
+use std::process::Abort;
+use std::test::Fail;
+
+// Lines with a star in front begin a message.
+#[derive(Clone, Copy, Debug)]
+struct Stars;
+
+impl Heads for Stars {
+    ghost use Rattle.std.specs.Prelude.{[], ◌∷◌, IsTrue, nat_eq};
+    ghost use Rattle.std.specs.List.{starts_with};
+
+    ghost starts = { λ _ line. IsTrue (starts_with nat_eq line (42 ∷ [])) };
+
+    fn begins(&self, line: &[u8]) -> bool {
+        line.starts_with(b"*")
+    }
+}
+
+// The messages that are expected, each with whether a newline followed it, and then the end or an
+// error.
+#[derive(Drop)]
+struct Row<'a> {
+    bytes: &'a [u8],
+    max_line: usize,
+    max_messages: u64,
+    messages: &'a [(&'a [u8], bool)],
+    end: Result<(), Cut>,
+}
+
+// The next message by `next`.
+fn compare_piece<R: Abort, S: Source>(
+    rt: &R,
+    joiner: &mut Joiner<S, Stars>,
+    message: &[u8],
+    ended: bool,
+) {
+    match joiner.next() {
+        Ok(Some(piece)) => {
+            assert!(rt; piece.line.as_slice() == message);
+            assert!(rt; piece.ended == ended);
+        }
+        Ok(None) => assert!(rt; false, "the end, and no message"),
+        Err(cut) => assert!(rt; false, "no message: {cut:?}"),
+    }
+}
+
+// The end, or the error, by `next` and by `advance`.
+fn compare_end<R: Abort, S: Source>(rt: &R, joiner: &mut Joiner<S, Stars>, end: Result<(), Cut>) {
+    match joiner.next() {
+        Ok(Some(_)) => assert!(rt; false, "a message, and no end"),
+        Ok(None) => assert!(rt; end.is_ok()),
+        Err(cut) => assert!(rt; Err(cut) == end),
+    }
+    match joiner.advance() {
+        Ok(mark) => assert!(rt; mark.is_none() && end.is_ok()),
+        Err(cut) => assert!(rt; Err(cut) == end),
+    }
+    assert!(rt; joiner.line().is_empty());
+}
+
+// Takes all that a joiner gives, by `next` and by `advance` in turn, and asks twice more behind the
+// end.
+fn compare<R: Abort, S: Source>(
+    rt: &R,
+    joiner: &mut Joiner<S, Stars>,
+    messages: &[(&[u8], bool)],
+    end: Result<(), Cut>,
+) {
+    for (number, row) in messages.iter().enumerate() {
+        let (message, ended) = *row;
+        if number % 2 == 0 {
+            compare_piece(rt, joiner, message, ended);
+        } else {
+            assert!(rt; joiner.advance() == Ok(Some(Mark { ended })));
+        }
+        assert!(rt; joiner.line() == message);
+    }
+    compare_end(rt, joiner, end);
+    compare_end(rt, joiner, end);
+}
+
+// Inputs with limits, and what is joined.
+const ROWS: &[Row<'static>] = &[
+    Row {
+        bytes: b"",
+        max_line: 9,
+        max_messages: 9,
+        messages: &[],
+        end: Ok(()),
+    },
+    // lines without a star are messages of their own, also in front of all others
+    Row {
+        bytes: b"x\ny",
+        max_line: 9,
+        max_messages: 9,
+        messages: &[(b"x", true), (b"y", false)],
+        end: Ok(()),
+    },
+    Row {
+        bytes: b"x\n\n*a\n b\n\nc\n*d\n*\n",
+        max_line: 9,
+        max_messages: 9,
+        messages: &[
+            (b"x", true),
+            (b"", true),
+            (b"*a\n b\n\nc", true),
+            (b"*d", true),
+            (b"*", true),
+        ],
+        end: Ok(()),
+    },
+    // a last line without its newline goes on or begins, too
+    Row {
+        bytes: b"*a\nb",
+        max_line: 9,
+        max_messages: 9,
+        messages: &[(b"*a\nb", false)],
+        end: Ok(()),
+    },
+    Row {
+        bytes: b"*a\n*b",
+        max_line: 9,
+        max_messages: 9,
+        messages: &[(b"*a", true), (b"*b", false)],
+        end: Ok(()),
+    },
+    // a message has no more bytes than a line may; the lines behind it stand alone then
+    Row {
+        bytes: b"*a\nbc\nd\ne\n",
+        max_line: 5,
+        max_messages: 9,
+        messages: &[(b"*a\nbc", true), (b"d", true), (b"e", true)],
+        end: Ok(()),
+    },
+    Row {
+        bytes: b"*a\nbcd\ne\n",
+        max_line: 5,
+        max_messages: 9,
+        messages: &[(b"*a", true), (b"bcd", true), (b"e", true)],
+        end: Ok(()),
+    },
+    // a line more than allowed: the message before it is given
+    Row {
+        bytes: b"x\ny",
+        max_line: 9,
+        max_messages: 1,
+        messages: &[(b"x", true)],
+        end: Err(Cut::TooManyLines),
+    },
+    Row {
+        bytes: b"*a\nb\n*c\n",
+        max_line: 9,
+        max_messages: 1,
+        messages: &[(b"*a\nb", true)],
+        end: Err(Cut::TooManyLines),
+    },
+    Row {
+        bytes: b"*a\nb\nc\n",
+        max_line: 9,
+        max_messages: 1,
+        messages: &[(b"*a\nb\nc", true)],
+        end: Ok(()),
+    },
+    // a line that is too long: the same, and its length goes first
+    Row {
+        bytes: b"*a\nb\ncdefgh",
+        max_line: 5,
+        max_messages: 9,
+        messages: &[(b"*a\nb", true)],
+        end: Err(Cut::LineTooLong { line: 3 }),
+    },
+    Row {
+        bytes: b"*a\nbcdefg\n",
+        max_line: 5,
+        max_messages: 1,
+        messages: &[(b"*a", true)],
+        end: Err(Cut::LineTooLong { line: 2 }),
+    },
+    Row {
+        bytes: b"*bcdef",
+        max_line: 5,
+        max_messages: 0,
+        messages: &[],
+        end: Err(Cut::LineTooLong { line: 1 }),
+    },
+];
+
+#[test]
+fn messages_and_limits(rt: HostRuntime) -> Result<(), Fail> {
+    let alloc = rt.alloc();
+    for row in ROWS {
+        if row.max_line < 1 || row.max_line > MAX_LINE_LEN || row.max_messages > 9 {
+            continue;
+        }
+        let source = PlainSource::new(text(alloc, row.bytes)?);
+        let made = Joiner::new(alloc, source, Stars, row.max_line, row.max_messages);
+        let mut joiner = made.map_err(|_| "no memory")?;
+        compare(&rt, &mut joiner, row.messages, row.end);
+    }
+    Ok(())
+}
+
+const ONE: &[(&[u8], bool)] = &[(b"x", true)];
+
+const ALL: &[(&[u8], bool)] = &[(b"x", true), (b"*a\nb", true), (b"*c", false)];
+
+// What is joined of four lines: the number of the read that fails, from 0. Each read gives one of the
+// bytes, and the one behind them the end.
+type Faulty = (u64, &'static [(&'static [u8], bool)], Result<(), Cut>);
+
+const FAULTY: &[Faulty] = &[
+    (0, &[], Err(Cut::ReadFault)),
+    (1, &[], Err(Cut::ReadFault)),
+    // behind a line without a star nothing is looked at, and it is given
+    (2, ONE, Err(Cut::ReadFault)),
+    (3, ONE, Err(Cut::ReadFault)),
+    // behind one with a star the next line is not whole, and more might belong to it
+    (5, ONE, Err(Cut::ReadFault)),
+    (6, ONE, Err(Cut::ReadFault)),
+    (7, ONE, Err(Cut::ReadFault)),
+    (8, ONE, Err(Cut::ReadFault)),
+    (9, ONE, Err(Cut::ReadFault)),
+    // the end of the input was met once, and is not read for again
+    (10, ALL, Ok(())),
+];
+
+#[test]
+fn the_messages_before_a_fault(rt: HostRuntime) -> Result<(), Fail> {
+    for (fails, messages, end) in FAULTY {
+        let source = faulty(rt.alloc(), b"x\n*a\nb\n*c", *fails)?;
+        let made = Joiner::new(rt.alloc(), source, Stars, 4, 9);
+        let mut joiner = made.map_err(|_| "no memory")?;
+        compare(&rt, &mut joiner, messages, *end);
+        let failed = u64::from(*end == Err(Cut::ReadFault));
+        assert!(rt; joiner.into_source().log.faults() == failed);
+    }
+    Ok(())
+}
+
+// A first line of 1,048,570 bytes, and one with this line behind it.
+fn long_message(alloc: Global, second: &[u8]) -> Result<(Vec<u8>, Vec<u8>), AllocError> {
+    let mut first = b"*".to_vec(alloc)?;
+    first.extend_from_slice(&vec![in alloc; b'x'; 1_048_569]?)?;
+    let mut both = first.clone()?;
+    both.push(b'\n')?;
+    both.extend_from_slice(second)?;
+    Ok((first, both))
+}
+
+// Six bytes short of the limit, a newline and five bytes more are one message.
+#[test]
+fn a_message_of_the_greatest_limit(rt: HostRuntime) -> Result<(), Fail> {
+    let alloc = rt.alloc();
+    let (_, both) = long_message(alloc, b"12345")?;
+    let source = MemSource::new(Text::new(both.clone()?), Vec::new(alloc));
+    let made = Joiner::new(alloc, source, Stars, MAX_LINE_LEN, 4_294_967_294);
+    let mut joiner = made.map_err(|_| "no memory")?;
+    compare(&rt, &mut joiner, &[(&both, false)], Ok(()));
+    Ok(())
+}
+
+#[test]
+fn a_line_past_the_greatest_limit_stands_alone(rt: HostRuntime) -> Result<(), Fail> {
+    let alloc = rt.alloc();
+    let (first, both) = long_message(alloc, b"123456")?;
+    let source = MemSource::new(Text::new(both), Vec::new(alloc));
+    let made = Joiner::new(alloc, source, Stars, MAX_LINE_LEN, 4_294_967_294);
+    let mut joiner = made.map_err(|_| "no memory")?;
+    compare(
+        &rt,
+        &mut joiner,
+        &[(&first, true), (b"123456", false)],
+        Ok(()),
+    );
+    Ok(())
+}
+
+// A thousand messages of two lines, whose first is a star and as many bytes, below 997.
+fn many_messages(alloc: Global) -> Result<Text, AllocError> {
+    let mut bytes = Vec::new(alloc);
+    let longest = [b'a'; 997];
+    for number in 0..1000usize {
+        bytes.push(b'*')?;
+        bytes.extend_from_slice(&longest[..number % 997])?;
+        bytes.extend_from_slice(b"\nb\n\n")?;
+    }
+    Ok(Text::new(bytes))
+}
+
+// Whether the next message has so many bytes `a` in its first line, and a newline follows it.
+fn is_next<S: Source>(joiner: &mut Joiner<S, Stars>, len: usize) -> bool {
+    joiner.advance() == Ok(Some(Mark { ended: true }))
+        && joiner.line().len() == len + 4
+        && (joiner.line().ends_with(b"a\nb\n") || len == 0)
+}
+
+// Messages of many lengths, which go over the ends of what is read at once.
+#[test]
+fn messages_over_the_ends_of_reads(rt: HostRuntime) -> Result<(), Fail> {
+    let alloc = rt.alloc();
+    let source = PlainSource::new(many_messages(alloc)?);
+    let made = Joiner::new(alloc, source, Stars, 1001, 1000);
+    let mut joiner = made.map_err(|_| "no memory")?;
+    for number in 0..1000usize {
+        assert!(rt; is_next(&mut joiner, number % 997));
+    }
+    assert!(rt; joiner.advance() == Ok(None));
+    Ok(())
+}

@@ -1,0 +1,115 @@
+use std::alloc::{AllocError, Global};
+use token_rules::{Token, is_delim, is_var, next_token, tokens_partition};
+
+#[test]
+fn delimiters_by_the_table(rt: HostRuntime) {
+    let of_tokens = b"+-.0123456789ABCDEFGHIJKLMNOPQRSTUVWXYZ\\_abcdefghijklmnopqrstuvwxyz";
+    for byte in 0..=255u8 {
+        assert!(rt; is_delim(byte) == !of_tokens.contains(&byte), "at {byte}");
+    }
+    tokens_partition();
+}
+
+// Whether the bytes are a variable after the byte `prev`, where they may be a token.
+fn variable(prev: Option<u8>, token: &[u8]) -> Option<bool> {
+    if token.is_empty() || token.iter().any(|b| is_delim(*b)) {
+        return None;
+    }
+    Some(is_var(prev, token))
+}
+
+const VARIABLES_BY_THEIR: &[(Option<u8>, &[u8], Option<bool>)] = &[
+    (Some(b' '), b"a", Some(false)),
+    (Some(b' '), b"be", Some(true)),
+    (Some(b' '), b"foo", Some(false)),
+    (Some(b'='), b"foo", Some(true)),
+    (Some(b'='), b"_", Some(false)),
+    (Some(b'='), b"a", Some(true)),
+    (Some(b':'), b"foo", Some(false)),
+    (None, b"0", Some(true)),
+    (Some(b'='), b"-1", Some(true)),
+    (None, b"-0", Some(true)),
+    (None, b"007", Some(true)),
+    (None, b"+5", Some(true)),
+    (None, b"0.335", Some(true)),
+    (None, b"172.128.0.41", Some(true)),
+    (None, b"1.", Some(true)),
+    (None, b".", Some(false)),
+    (None, b"+-.\\_", Some(false)),
+    (Some(b'='), b"+-.\\_", Some(false)),
+    (None, b"bad", Some(true)),
+    (None, b"cafe", Some(true)),
+    (None, b"BeAD", Some(true)),
+    (None, b"f", Some(false)),
+    (Some(b'='), b"f", Some(true)),
+    (None, b"fg", Some(false)),
+    (None, b"be-", Some(false)),
+    (None, b"task_12", Some(true)),
+    (None, b"Task", Some(false)),
+    (None, b"ff", Some(true)),
+    (None, b"z9", Some(true)),
+    (None, b"", None),
+    (None, b"a b", None),
+    (None, b"\x80", None),
+];
+
+#[test]
+fn variables_by_their_bytes(rt: HostRuntime) {
+    for &(prev, token, want) in VARIABLES_BY_THEIR {
+        assert!(rt; variable(prev, token) == want, "at {token:?}");
+    }
+}
+
+// All tokens of a text.
+fn tokens_of(alloc: Global, body: &[u8]) -> Result<Vec<Token>, AllocError> {
+    let mut tokens = Vec::new(alloc);
+    let mut from = 0;
+    while let Some(token) = next_token(body, from) {
+        tokens.push(token)?;
+        from = token.end;
+    }
+    Ok(tokens)
+}
+
+const TOKENS_OF_TEXTS: &[(&[u8], &[(usize, usize, bool)])] = &[
+    (b"", &[]),
+    (b" \x80=\xFF", &[]),
+    (
+        b"x=foo foo bad to",
+        &[
+            (0, 1, false),
+            (2, 5, true),
+            (6, 9, false),
+            (10, 13, true),
+            (14, 16, false),
+        ],
+    ),
+    (b"=a", &[(1, 2, true)]),
+    (b"a==b", &[(0, 1, false), (3, 4, true)]),
+    (b"task_12", &[(0, 7, true)]),
+    (b"\xC3\xBC7\xFFf", &[(2, 3, true), (4, 5, false)]),
+    (
+        b"[Node:172.128.0.41, id=container_15]",
+        &[
+            (1, 5, false),
+            (6, 18, true),
+            (20, 22, false),
+            (23, 35, true),
+        ],
+    ),
+];
+
+#[test]
+fn tokens_of_texts(rt: HostRuntime) -> Result<(), AllocError> {
+    for &(body, wants) in TOKENS_OF_TEXTS {
+        let tokens = tokens_of(rt.alloc(), body)?;
+        assert!(rt; tokens.len() == wants.len(), "at {body:?}");
+        for (token, want) in tokens.iter().zip(wants) {
+            assert!(rt;
+                (token.start, token.end, token.variable) == *want,
+                "at {body:?}"
+            );
+        }
+    }
+    Ok(())
+}

@@ -1,5 +1,0 @@
-use Rattle.std.proofs.Common.{◌+◌, length}
-use Rattle.wild_match.proofs.tests.+slow.Given as goal
-
-abbrev pub decreases-slow : goal.decreases-slow
-decreases-slow l = length l.items.now + length l.bytes.now
