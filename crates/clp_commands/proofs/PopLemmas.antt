@@ -1,5 +1,6 @@
 -- Lists that are popped from their end on, which is their front since they were reversed.
-use Rattle.std.proofs.Common.{◌≡◌, ◌+◌, ◌<◌, refl, sym, ap, subst, ◌∙◌, ℕ, zero, suc, List, [], ◌∷◌, ◌++◌, length, map, drop, get_or, reverse, Option, Some, None, slice_get, arith, append_assoc, inl, inr, ⊎_elim, ◌⊎◌}
+use Rattle.std.proofs.Common.{◌≡◌, ◌+◌, ◌<◌, refl, sym, ap, subst, ◌∙◌, ℕ, zero, suc, List, [], ◌∷◌, ◌++◌, length, map, take, drop, get_or, reverse, Option, Some, None, slice_get, arith, append_assoc, inl, inr, ⊎_elim, ◌⊎◌}
+use Rattle.std.proofs.Math.Seq.{take-append_seam}
 use Rattle.std.proofs.lemmas.List.{length-append, reverse-append}
 use Rattle.std.proofs.lemmas.Option.{slice_get-get_or, slice_get_read}
 
@@ -45,3 +46,9 @@ at_place xs i k x place within is = subst (λ n. slice_get xs n ≡ Some x) plac
 
 pub read_place : {A : Type 0} (xs : List A) (i k : ℕ) (d : A) → i ≡ k → i < length xs → slice_get xs k ≡ Some (get_or xs i d)
 read_place xs i k d place within = subst (λ n. slice_get xs n ≡ Some (get_or xs i d)) place (slice_get-get_or xs i d within)
+
+-- what is told of a vector that was lent as a slice
+pub told_back : {A B : Type 0} (P : List A → ℕ → B → Type 0) (done : List B) (n : ℕ) (xs rest : List A) → n ≡ length xs → ((i : ℕ) (b : B) → slice_get done i ≡ Some b → P (take n (xs ++ rest)) i b)
+    → (i : ℕ) (b : B) → slice_get done i ≡ Some b → P xs i b
+told_back {A} {B} P done n xs rest is told =
+    subst (λ l. (i : ℕ) (b : B) → slice_get done i ≡ Some b → P l i b) (ap (λ k. take k (xs ++ rest)) is ∙ take-append_seam xs rest) told

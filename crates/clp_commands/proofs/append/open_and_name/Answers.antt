@@ -1,4 +1,4 @@
-use Rattle.std.proofs.Common.{refl, sym, ap, ◌∙◌, arith, rules, length, map, string_bytes}
+use Rattle.std.proofs.Common.{refl, sym, ap, ◌∙◌, ◌≡◌, arith, rules, length, map, string_bytes, MutBor}
 use Rattle.std.proofs.lemmas.List.{length-map}
 use Rattle.std.proofs.lemmas.Result.{err_from_is_err_and}
 use Rattle.archive_open.specs.Kept.{Kept}
@@ -87,6 +87,7 @@ pub returns-in_err-first-clause-nothing : goal.returns-in_err-first-clause-nothi
 returns-in_err-first-clause-nothing g c =
     let opened = c.open_for_append.ensures in
     let named = c.register.ensures in
+    let past = rw (c.in_ok-texts.ensures) at named.past in
     on_err c.from_residual-in_err-first.result
     (not_named (state_of c.args.journal.now) (state_of c.open_for_append.new.journal) (state_of c.register.new.journal) _
     (record { begins = c.requires.begins; archive = c.requires.archive; looks = opened.looks; opened = c.in_ok-archive.ensures.opened; header = c.in_ok-archive.ensures.header; ends = c.in_ok-archive.ensures.at_end })
@@ -94,7 +95,7 @@ returns-in_err-first-clause-nothing g c =
     (length c.as_slice.result.now) (ap length (c.as_slice.ensures ∙ c.files.ensures)) (map string_bytes c.args.names.now)
     (may_add (length c.as_slice.result.now) (map string_bytes c.args.names.now) c.requires.names (omega (arith, c.requires.some, length-map c.args.names.now string_bytes)) (omega (arith, c.in_default.ensures, length-map c.args.names.now string_bytes)))
     (rw (c.in_ok-texts.ensures) at named.moments)
-    ?
+    (λ far. ap (λ (x : MutBor g.row.D.Denot). g.D.Disk.state x.now) (past far))
     (ended_alone (state_of c.open_for_append.new.journal) (state_of c.register.new.journal) c.register.result c.in_err-first.field-0.0 c.in_err-first.was
     (λ e. ap (λ (x : MutBor g.row.D.Denot). g.D.Disk.state x.now) (named.memory e)) (λ end need e. ap (λ (x : MutBor g.row.D.Denot). g.D.Disk.state x.now) (named.full end need e).1) named.counts))
 
