@@ -16,6 +16,7 @@ use Rattle.archive_check.specs.Checked.{DamagedAt}
 use Rattle.archive_check.proofs.CheckLemmas.{no_header_told}
 use Rattle.archive_open.specs.Shown.{Opens, RefusedAt, Shown}
 use Rattle.archive_open.specs.declared.refusal.ArchiveRefusal.{ArchiveRefusal}
+use Rattle.disk_seal.specs.Opening.{MayOpen}
 use Rattle.disk_seal.specs.Registered.{IsFullFor, files_size}
 use Rattle.disk_seal.specs.declared.files.RegisterRefusal.{RegisterRefusal}
 use Rattle.disk_seal.proofs.NextLemmas.{gate_at}
@@ -58,7 +59,10 @@ register_cause names old now new a from result RegisterRefusal.OutOfMemory is ri
 register_cause names old now new a from result RegisterRefusal.DiskFault is risen full counts = rose old.disk.faults now.disk.faults new.disk.faults new.disk.faults risen (counts.failed is) (omega arith)
 register_cause names old now new a from result (RegisterRefusal.ArchiveFull end need) is risen full counts = go old.disk.seen refl
   where
+    may : MayOpen now
     may = may_append old now a from
+
+    past : IsFullFor names end need now
     past = full end need is
 
     go : (told : Option (List ℕ)) → old.disk.seen ≡ told

@@ -65,14 +65,14 @@ pub returns-in_err-archive-clause-cause : goal.returns-in_err-archive-clause-cau
 returns-in_err-archive-clause-cause g c =
     let p = err_from_is_err_and c.from_residual.result c.from_residual.ensures.1 in
     let opened = c.open_for_append.ensures in
-    refused_with _ _ _ c.from_residual.result p.0 _ p.1 p.2 (archive_cause (map string_bytes c.args.names.now) _ _ c.open_for_append.result c.in_err-archive.field-0.0 c.in_err-archive.was c.requires.archive opened.damaged opened.counts)
+    refused_with (map string_bytes c.args.names.now) (g.D.Disk.state c.args.journal.now.disk.now) (g.D.Disk.state c.open_for_append.new.journal.disk.now) c.from_residual.result p.0 _ p.1 p.2 (archive_cause (map string_bytes c.args.names.now) (g.D.Disk.state c.args.journal.now.disk.now) (g.D.Disk.state c.open_for_append.new.journal.disk.now) c.open_for_append.result c.in_err-archive.field-0.0 c.in_err-archive.was c.requires.archive opened.damaged opened.counts)
 
 pub returns-in-Some-clause-nothing : goal.returns-in-Some-clause-nothing
 returns-in-Some-clause-nothing g c = read_nothing _ _ (g.met.D.Disk.lawful c.args.journal.now.disk.now) (g.met.D.Disk.lawful c.open_for_append.new.journal.disk.now) c.open_for_append.ensures.looks.rests
 
 pub returns-in-Some-clause-cause : goal.returns-in-Some-clause-cause
 returns-in-Some-clause-cause g c =
-    many_cause (map string_bytes c.args.names.now) _ _ _ (length c.as_slice.result.now) (length c.args.names.now) c.in-Some.refusal c.in_ok-archive.ensures.opened (ap length (c.as_slice.ensures ∙ c.files.ensures)) (sym (length-map c.args.names.now string_bytes)) c.in-Some.ensures
+    many_cause (map string_bytes c.args.names.now) (g.D.Disk.state c.args.journal.now.disk.now) (g.D.Disk.state c.open_for_append.new.journal.disk.now) _ (length c.as_slice.result.now) (length c.args.names.now) c.in-Some.refusal c.in_ok-archive.ensures.opened (ap length (c.as_slice.ensures ∙ c.files.ensures)) (sym (length-map c.args.names.now string_bytes)) c.in-Some.ensures
 
 pub returns-in_err-texts-clause-nothing : goal.returns-in_err-texts-clause-nothing
 returns-in_err-texts-clause-nothing g c =
@@ -81,7 +81,7 @@ returns-in_err-texts-clause-nothing g c =
 pub returns-in_err-texts-clause-cause : goal.returns-in_err-texts-clause-cause
 returns-in_err-texts-clause-cause g c =
     let p = err_from_is_err_and c.from_residual-in_err-texts.result c.from_residual-in_err-texts.ensures.1 in
-    refused_with _ _ _ c.from_residual-in_err-texts.result p.0 _ p.1 p.2 tt
+    refused_with (map string_bytes c.args.names.now) (g.D.Disk.state c.args.journal.now.disk.now) (g.D.Disk.state c.open_for_append.new.journal.disk.now) c.from_residual-in_err-texts.result p.0 _ p.1 p.2 tt
 
 pub returns-in_err-first-clause-nothing : goal.returns-in_err-first-clause-nothing
 returns-in_err-first-clause-nothing g c =
@@ -104,7 +104,7 @@ returns-in_err-first-clause-cause g c =
     let p = err_from_is_err_and c.from_residual-in_err-first.result c.from_residual-in_err-first.ensures.1 in
     let opened = c.open_for_append.ensures in
     let named = c.register.ensures in
-    refused_with _ _ _ c.from_residual-in_err-first.result p.0 _ p.1 p.2
+    refused_with (map string_bytes c.args.names.now) (g.D.Disk.state c.args.journal.now.disk.now) (g.D.Disk.state c.register.new.journal.disk.now) c.from_residual-in_err-first.result p.0 _ p.1 p.2
     (register_cause (map string_bytes c.args.names.now) (state_of c.args.journal.now) (state_of c.open_for_append.new.journal) (state_of c.register.new.journal) _
     (record { begins = c.requires.begins; archive = c.requires.archive; looks = opened.looks; opened = c.in_ok-archive.ensures.opened; header = c.in_ok-archive.ensures.header; ends = c.in_ok-archive.ensures.at_end })
     c.register.result c.in_err-first.field-0.0 c.in_err-first.was opened.counts.later (λ end need e. rw (c.in_ok-texts.ensures) at (named.full end need e).0) named.counts)
