@@ -77,20 +77,20 @@ returns-clause-taken g c =
     let law = (g.met.D.Disk g.world.𝓛 g.world.𝓜 g.world.𝓡 ((λ s x. x), (λ x. x), (λ x. x), λ x. x)).lawful in
     let told = c.check_told.ensures in
     let begun = c.start.ensures in
-    let back = c.disk-2-1.given.1 (sym (c.take_in-_journal.ensures.goes_on.name ∙ (c.open_and_name.ensures.name ∙ c.begin-journal.ensures.name))) in
+    let back = c.disk-2-1.given.1 (sym (c.take_in-journal.ensures.goes_on.name ∙ (c.open_and_name.ensures.name ∙ c.begin-journal.ensures.name))) in
     let goes = (subst (λ d. DiskGoesOn (g.D.Disk.state d) (g.D.Disk.state c.open_and_name.new.journal.disk.now)) c.begin-journal.ensures.disk c.open_and_name.ensures.goes_on) in
-    subst (λ d. FromArchive (g.D.Disk.state c.args.disk.now) (λ h before bytes stood. TakesIn (g.H.Shelf.content c.args.shelf.now) h before stood (map string_bytes c.args.asked.files.now) (map came_of c.take_in-_journal.new.taken.items) (g.D.Disk.state c.args.disk.now) (g.D.Disk.state d))) (sym back)
-    (takes_sooner (g.D.Disk.state c.args.disk.now) (g.D.Disk.state c.check_told.new.disk) (g.D.Disk.state c.start.new.disk) (record { law_old = law _; law_mid = law _; law_new = law _; first = told.keeps; second = begun.keeps; counts = omega (arith, told.disk.later, begun.counts.later) }) (g.H.Shelf.content c.args.shelf.now) (map string_bytes c.args.asked.files.now) c.in_ok-named.named.first (map came_of c.take_in-_journal.new.taken.items) (state_of c.open_and_name.new.journal) _
-    (law _) goes.counts c.take_in-_journal.ensures.goes_on.disk
+    subst (λ d. FromArchive (g.D.Disk.state c.args.disk.now) (λ h before bytes stood. TakesIn (g.H.Shelf.content c.args.shelf.now) h before stood (map string_bytes c.args.asked.files.now) (map came_of c.take_in-journal.new.taken.items) (g.D.Disk.state c.args.disk.now) (g.D.Disk.state d))) (sym back)
+    (takes_sooner (g.D.Disk.state c.args.disk.now) (g.D.Disk.state c.check_told.new.disk) (g.D.Disk.state c.start.new.disk) (record { law_old = law _; law_mid = law _; law_new = law _; first = told.keeps; second = begun.keeps; counts = omega (arith, told.disk.later, begun.counts.later) }) (g.H.Shelf.content c.args.shelf.now) (map string_bytes c.args.asked.files.now) c.in_ok-named.named.first (map came_of c.take_in-journal.new.taken.items) (state_of c.open_and_name.new.journal) _
+    (law _) goes.counts c.take_in-journal.ensures.goes_on.disk
     (subst (λ d. FromArchive (g.D.Disk.state d) (λ h before bytes stood. AddsNamesTo h before stood (map string_bytes c.args.asked.files.now) c.in_ok-named.named.first (g.D.Disk.state d) (state_of c.open_and_name.new.journal))) c.begin-journal.ensures.disk c.in_ok-named.ensures.names)
-    c.take_in-_journal.ensures.taken)
+    c.take_in-journal.ensures.taken)
 
 pub returns-clause-goes_on : goal.returns-clause-goes_on
 returns-clause-goes_on g c =
     let law = (g.met.D.Disk g.world.𝓛 g.world.𝓜 g.world.𝓡 ((λ s x. x), (λ x. x), (λ x. x), λ x. x)).lawful in
     let told = c.check_told.ensures in
     let begun = c.start.ensures in
-    let back = c.disk-2-1.given.1 (sym (c.take_in-_journal.ensures.goes_on.name ∙ (c.open_and_name.ensures.name ∙ c.begin-journal.ensures.name))) in
+    let back = c.disk-2-1.given.1 (sym (c.take_in-journal.ensures.goes_on.name ∙ (c.open_and_name.ensures.name ∙ c.begin-journal.ensures.name))) in
     subst (λ d. DiskGoesOn (g.D.Disk.state c.args.disk.now) (g.D.Disk.state d)) (sym back)
     (DiskGoesOn-joined _ _ _ (law _) (DiskGoesOn-kept _ _ _ (law _) (law _) (law _) told.keeps told.disk.later begun.keeps begun.counts.later)
-    (DiskGoesOn-joined _ _ _ (law _) (subst (λ d. DiskGoesOn (g.D.Disk.state d) (g.D.Disk.state c.open_and_name.new.journal.disk.now)) c.begin-journal.ensures.disk c.open_and_name.ensures.goes_on) c.take_in-_journal.ensures.goes_on.disk))
+    (DiskGoesOn-joined _ _ _ (law _) (subst (λ d. DiskGoesOn (g.D.Disk.state d) (g.D.Disk.state c.open_and_name.new.journal.disk.now)) c.begin-journal.ensures.disk c.open_and_name.ensures.goes_on) c.take_in-journal.ensures.goes_on.disk))
