@@ -58,7 +58,7 @@ length-files k [] ps = refl
 length-files k (name ∷ names) ps = ap suc (length-files (k + 1) names ps)
 
 -- the archive has as many files as names
-files_counted : (h : Header) (es : List JournalEntry) (a : Shown) (held : Held) (count : ℕ) → IsArchiveOf a h es held → count ≡ length a.files → count ≡ length held.names
+pub files_counted : (h : Header) (es : List JournalEntry) (a : Shown) (held : Held) (count : ℕ) → IsArchiveOf a h es held → count ≡ length a.files → count ≡ length held.names
 files_counted h es a held count is same = same ∙ (ap length is.files ∙ (length-map (content_of held) _ ∙ length-files 0 held.names held.pieces))
 
 -- ---- the archive that was opened

@@ -21,6 +21,8 @@ pub mod LeavesLemmas
 pub mod PieceLemmas
 pub mod ContentLemmas
 pub mod RegisterLemmas
+pub mod PopLemmas
 pub mod TakeInLemmas
 pub mod StepsLemmas
 pub mod JobLemmas
+pub mod CauseLemmas

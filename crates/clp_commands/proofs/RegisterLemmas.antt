@@ -1,15 +1,18 @@
 -- What the appending of the names of new files leaves of the disk.
-use Rattle.std.proofs.Common.{◌≡◌, ◌+◌, ◌≤◌, inl, inr, refl, sym, ap, subst, ◌∙◌, ℕ, true, List, [], ◌∷◌, ◌++◌, length, Option, Some, None, arith}
-use Rattle.std.specs.Prelude.{IfSome, is_some}
-use Rattle.log_seams.specs.Disk.{IsLawful, LeavesOnly}
-use Rattle.log_seams.specs.Outside.{Rose}
-use Rattle.log_seams.proofs.MomentLemmas.{joined, rests_leave, weaker}
+use Rattle.std.proofs.Common.{◌≡◌, ◌+◌, ◌≤◌, ◌⊎◌, inl, inr, ⊎_elim, refl, sym, ap, subst, ◌∙◌, ℕ, true, List, [], ◌∷◌, ◌++◌, length, Option, Some, None, arith}
+use Rattle.std.specs.Prelude.{Err, IfSome, IsErrOf, Result, is_some}
+use Rattle.std.proofs.Math.Decide.{dec_le}
+use Rattle.std.proofs.Math.Logic.{dite}
+use Rattle.std.proofs.Math.Nat.{lt_of_not-le}
+use Rattle.log_seams.specs.Disk.{DiskState, IsLawful, LeavesOnly, Rests}
+use Rattle.log_seams.specs.Outside.{CountsOf, Rose}
+use Rattle.log_seams.proofs.MomentLemmas.{joined, rests_leave, rose, weaker}
 use Rattle.record_format.specs.declared.header.Header.{Header}
 use Rattle.record_format.specs.Header.{IsHeader, header_bytes}
 use Rattle.disk_journal.specs.Record.{Saved, Stands}
 use Rattle.disk_journal.specs.Place.{BeforeOrAfter, entries}
 use Rattle.disk_journal.specs.State.{JournalState}
-use Rattle.disk_journal.specs.Calls.{GoesOn, LeavesBeforeOrAfter}
+use Rattle.disk_journal.specs.Calls.{GoesOn, IsPast, LeavesBeforeOrAfter}
 use Rattle.disk_journal.proofs.SpellingLemmas.{length-frame}
 use Rattle.archive_meaning.specs.declared.entry.JournalEntry.{JournalEntry}
 use Rattle.archive_meaning.specs.declared.entry.JournalEntry.TheVariants.{Files}
@@ -22,9 +25,10 @@ use Rattle.archive_open.specs.Shown.{Shown}
 use Rattle.disk_seal.specs.Opening.{MayOpen}
 use Rattle.disk_seal.specs.Registered.{files_record, files_size}
 use Rattle.disk_seal.specs.Told.{IfTold, journal_in}
+use Rattle.disk_seal.specs.declared.files.RegisterRefusal.{RegisterRefusal}
 use Rattle.disk_seal.proofs.NextLemmas.{gate_at}
 use Rattle.ingest_workers.specs.Ingested.{told_entries}
-use Rattle.clp_commands.specs.Ingested.{FromArchive, LeavesJournal, StandsForEither}
+use Rattle.clp_commands.specs.Ingested.{FromArchive, LeavesJournal, StandsForEither, TakesNothing}
 use Rattle.clp_commands.specs.Leaves.{AddsNamesTo, StandsBetween, StandsStill}
 use Rattle.clp_commands.proofs.AppendLemmas.{AppendsNames, OpensFrom, holds_names, legal_with, may_append, told_named}
 use Rattle.clp_commands.proofs.LeavesLemmas.{either_leaves, of_told, opened_as, prefix_same, still_leaves}
@@ -119,3 +123,45 @@ from_named old now new a from law_old law_now law_new held same names appends mo
     go None told = tt
     go (Some bytes) told = λ h before stood only.
         named old now a from law_old law_now h before bytes told stood only new law_new held same names appends.adds appends.fits moments appends.goes (told_named old now new a from held same names appends) first number
+
+-- ---- where the names were not appended
+
+-- the archive was only read
+pub read_nothing : (old new : DiskState) → IsLawful old → IsLawful new → Rests old new → FromArchive old (λ h before bytes stood. TakesNothing h before old new)
+read_nothing old new law_old law_new rests = go old.seen
+  where
+    go : (told : Option (List ℕ)) → IfSome told (λ bytes. (h : Header) (before : List JournalEntry) (stood : StandsFor bytes h before) → ((c : List ℕ) → old.images c → StandsFor c h before) → TakesNothing h before old new)
+    go None = tt
+    go (Some bytes) = λ h before stood only. record { leaves = still_leaves h before old new law_new (weaker old new old.images (StandsStill h before) (rests_leave old new law_old law_new rests) (λ c image. only c image)) }
+
+-- the disk was left alone, or a call of it failed
+pub not_named : (old now new : JournalState) (a : Shown) (from : OpensFrom old now a) → IsLawful old.disk → IsLawful now.disk → IsLawful new.disk → old.disk.faults ≤ now.disk.faults
+    → (held : ℕ) → held ≡ length a.files → (names : List (List ℕ)) → AddsNames held names → LeavesBeforeOrAfter (files_record names) now new
+    → (IsPast (files_size names) now → new.disk ≡ now.disk) → (new.disk ≡ now.disk) ⊎ Rose now.disk.faults new.disk.faults
+    → FromArchive old.disk (λ h before bytes stood. TakesNothing h before old.disk new.disk)
+not_named old now new a from law_old law_now law_new counts held same names adds moments past end = ⊎_elim alone fault end
+  where
+    alone : new.disk ≡ now.disk → FromArchive old.disk (λ h before bytes stood. TakesNothing h before old.disk new.disk)
+    alone is = subst (λ d. FromArchive old.disk (λ h before bytes stood. TakesNothing h before old.disk d)) (sym is) (read_nothing old.disk now.disk law_old law_now from.looks.rests)
+
+    fault : Rose now.disk.faults new.disk.faults → FromArchive old.disk (λ h before bytes stood. TakesNothing h before old.disk new.disk)
+    fault rises =
+        dite (dec_le (now.place + 1 + files_size names) now.header.length_limit)
+        (λ fits. go fits old.disk.seen refl)
+        (λ far. alone (past (lt_of_not-le far)))
+      where
+        go : now.place + 1 + files_size names ≤ now.header.length_limit → (told : Option (List ℕ)) → old.disk.seen ≡ told
+            → IfSome told (λ bytes. (h : Header) (before : List JournalEntry) (stood : StandsFor bytes h before) → ((c : List ℕ) → old.disk.images c → StandsFor c h before) → TakesNothing h before old.disk new.disk)
+        go fits None told = tt
+        go fits (Some bytes) told = λ h before stood only. record {
+          leaves = failed old now a from law_old law_now h before bytes told stood only new law_new held same names adds fits moments
+              (rose old.disk.faults now.disk.faults new.disk.faults new.disk.faults counts rises (omega arith));
+        }
+
+-- an answer without a first number left the disk alone, or came of a fault
+pub ended_alone : {A : Type 0} (now new : JournalState) (result : Result A RegisterRefusal) (r : RegisterRefusal) → result ≡ Err r → (IsErrOf result RegisterRefusal.OutOfMemory → new.disk ≡ now.disk)
+    → ((end need : ℕ) → IsErrOf result (RegisterRefusal.ArchiveFull end need) → new.disk ≡ now.disk) → CountsOf RegisterRefusal.DiskFault now.disk.faults new.disk.faults result
+    → (new.disk ≡ now.disk) ⊎ Rose now.disk.faults new.disk.faults
+ended_alone now new result RegisterRefusal.OutOfMemory is memory full counts = inl (memory is)
+ended_alone now new result (RegisterRefusal.ArchiveFull end need) is memory full counts = inl (full end need is)
+ended_alone now new result RegisterRefusal.DiskFault is memory full counts = inr (counts.failed is)

@@ -13,6 +13,7 @@ use Rattle.clp_commands.specs.Going.{DiskGoesOn}
 use Rattle.clp_commands.specs.Ingested.{Came, FromArchive, TakesIn, TakesNothing}
 use Rattle.clp_commands.specs.Leaves.{AddsNamesTo, StandsBetween, StandsStill, TakesInto}
 use Rattle.clp_commands.specs.Reading.{OverJournal}
+use Rattle.clp_commands.proofs.GoingLemmas.{KeepsBytes-same}
 use Rattle.clp_commands.proofs.LeavesLemmas.{begun_sooner, from_archive, keeps_still, prefix_same, still_between, still_leaves}
 
 -- The bytes were looked at, and the header was read.
@@ -37,12 +38,21 @@ looked_nothing old mid new looked = go old.seen
     go None = tt
     go (Some bytes) = λ h before stood only. record { leaves = still_leaves h before old new looked.law_new (looked_past old mid new looked h before only) }
 
+-- the header was not read either
+pub kept_nothing : (old new : DiskState) → IsLawful old → IsLawful new → KeepsBytes old new → old.faults ≤ new.faults → FromArchive old (λ h before bytes stood. TakesNothing h before old new)
+kept_nothing old new law_old law_new keeps counts =
+    looked_nothing old old new (record { law_old = law_old; law_mid = law_old; law_new = law_new; first = KeepsBytes-same old; second = keeps; counts = counts })
+
+-- no call was made
+pub same_nothing : (d : DiskState) → IsLawful d → FromArchive d (λ h before bytes stood. TakesNothing h before d d)
+same_nothing d law = kept_nothing d d law law (KeepsBytes-same d) (omega arith)
+
 -- what was done after that, as from the start
 module _ (old mid late : DiskState) (looked : Looked old mid late) where
-  same_bytes : late.seen ≡ old.seen
+  pub same_bytes : late.seen ≡ old.seen
   same_bytes = looked.second.seen ∙ looked.first.seen
 
-  no_more : (c : List ℕ) → late.images c → old.images c
+  pub no_more : (c : List ℕ) → late.images c → old.images c
   no_more c image = looked.first.no_more c (looked.second.no_more c image)
 
   pub nothing_sooner : (new : DiskState) → DiskGoesOn late new → FromArchive late (λ h before bytes stood. TakesNothing h before late new) → FromArchive old (λ h before bytes stood. TakesNothing h before old new)

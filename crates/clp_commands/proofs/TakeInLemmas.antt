@@ -1,10 +1,12 @@
 -- From the logs that were opened, and their jobs, to what came of the files.
-use Rattle.std.proofs.Common.{◌≡◌, ◌+◌, inl, inr, refl, sym, ap, subst, ◌∙◌, ℕ, zero, suc, List, [], ◌∷◌, ◌++◌, true, map, Option, Some, None}
-use Rattle.std.specs.Prelude.{is_some, option_map, slice_get}
+use Rattle.std.proofs.Common.{◌≡◌, ◌+◌, ◌⊎◌, inl, inr, refl, sym, ap, subst, ◌∙◌, ℕ, zero, suc, List, [], ◌∷◌, ◌++◌, true, false, length, map, Option, Some, None, arith}
+use Rattle.std.specs.Prelude.{All, is_some, option_map, slice_get}
 use Rattle.std.specs.List.{AllZip}
-use Rattle.std.proofs.lemmas.Option.{slice_get-map}
+use Rattle.std.proofs.lemmas.List.Elements.{All-map, All-nil, All-weaker}
+use Rattle.std.proofs.lemmas.Option.{get_or_from_slice_get, slice_get-map, slice_get_within}
 use Rattle.log_seams.specs.declared.disk.Disk.{Ghosts as DiskGhosts}
 use Rattle.log_seams.specs.declared.refusals.OpenRefused.{OpenRefused}
+use Rattle.log_seams.specs.declared.refusals.OpenRefused.TheVariants.{Failed, OutOfMemory}
 use Rattle.log_seams.specs.Disk.{IsLawful}
 use Rattle.record_format.specs.Header.{IsHeader, header_bytes}
 use Rattle.record_format.specs.declared.header.Header.{Header}
@@ -18,24 +20,69 @@ use Rattle.archive_meaning.specs.declared.entry.JournalEntry.TheVariants.{Files}
 use Rattle.archive_meaning.specs.Spelled.{records_of}
 use Rattle.archive_meaning.specs.Stands.{IsLegal, StandsFor}
 use Rattle.disk_seal.specs.Opening.{MayOpen}
-use Rattle.disk_seal.specs.Told.{journal_in}
+use Rattle.disk_seal.specs.Told.{IfTold, journal_in}
 use Rattle.log_sources.specs.declared.source.LogSource.{LogSource}
 use Rattle.log_sources.specs.declared.source.LogSource.TheVariants.{Opened, Unopened}
 use Rattle.log_sources.specs.Sources.{CameOf, left_in, refusal_of}
 use Rattle.ingest_workers.specs.declared.job.Job.{Job}
 use Rattle.ingest_workers.specs.declared.outcome.Cause.{Cause}
-use Rattle.ingest_workers.specs.Ingested.{AreRefused, HasIngested, IsAsItWas, plan_of}
+use Rattle.ingest_workers.specs.Ingested.{AreRefused, HasIngested, IsAsItWas, plan_of, told_entries}
 use Rattle.ingest_workers.specs.JobDone.{in_source}
 use Rattle.clp_commands.specs.IngestPrints.{came_of, names_of}
-use Rattle.clp_commands.specs.Ingested.{Came}
-use Rattle.clp_commands.specs.Jobs.{IsToldBy, refusal_by, sources_of}
+use Rattle.clp_commands.specs.Ingested.{Came, IsOfNew}
+use Rattle.clp_commands.specs.Jobs.{IsNotBegun, IsToldBy, of_cause, refusal_by, sources_of}
 use Rattle.clp_commands.specs.Leaves.{HasNames, IsLogOf, TakesInto}
 use Rattle.clp_commands.specs.Naming.{AreNumbered}
+use Rattle.clp_commands.specs.declared.refusal.Refusal.{Refusal}
 use Rattle.clp_commands.specs.declared.taken.TakenFile.{TakenFile}
 use Rattle.clp_commands.proofs.CameLemmas.{names_came}
-use Rattle.clp_commands.proofs.ContentLemmas.{AreJobsOf, CameOfJob, ingested_takes_in, named_at, refused_takes_in}
+use Rattle.clp_commands.proofs.ContentLemmas.{AreJobsOf, CameOfJob, ingested_takes_in, named_at, none_told, refused_takes_in, taken_in}
 use Rattle.clp_commands.proofs.JobLemmas.{numbered_at}
-use Rattle.clp_commands.proofs.LeavesLemmas.{of_told}
+use Rattle.clp_commands.proofs.LeavesLemmas.{of_told, same_leaves}
+
+-- ---- the journal with the names
+
+-- it is legal, and each image of it stands for it
+stands_named : (h : Header) (before : List JournalEntry) (names : List (List ℕ)) (j : JournalState) → MayOpen j → HasNames h before names j
+    → IsLegal h (before ++ Files names ∷ []) × ((c : List ℕ) → j.disk.images c → StandsFor c h (before ++ Files names ∷ []))
+stands_named h before names j may has =
+    let legal : IsLegal h (before ++ Files names ∷ []) = subst (λ x. IsLegal x (before ++ Files names ∷ [])) has.header (subst (IsLegal j.header) has.entries (of_told (is_some j.disk.seen) has.told may.legal)) in
+    (legal, λ c image. record { header = subst IsHeader has.header may.header; legal = legal; stands = go j.disk.seen has.told has.entries may.spelled may.ends.ends c image })
+  where
+    go : (told : Option (List ℕ)) → is_some told ≡ true → journal_in told j.count ≡ before ++ Files names ∷ [] → entries told j.count ≡ records_of (journal_in told j.count)
+        → AtEnd (header_bytes j.header) j.place j.count told j.disk.images → (c : List ℕ) → j.disk.images c → Stands (header_bytes h) (records_of (before ++ Files names ∷ [])) c
+    go None some are spelled ends c image = absurd (cc (some))
+    go (Some b) some are spelled ends c image =
+        subst (λ x. Stands (header_bytes x) (records_of (before ++ Files names ∷ [])) c) has.header
+        (subst (λ rs. Stands (header_bytes j.header) rs c) (spelled ∙ ap records_of are) (subst (λ x. Stands (header_bytes j.header) (entries (Some b) j.count) x) (sym (ends.only c image)) ends.stands))
+
+-- ---- without memory to begin
+
+-- there was no memory to begin with the file
+abbrev IsRefused : Came → Type 0
+IsRefused c = (c.messages ≡ 0) × (c.whole ≡ false) × (c.refusal ≡ Some Refusal.OutOfMemory)
+
+-- nothing is added of files that were not begun
+pub none_takes_into : {D : Type 0} {d : DiskGhosts D} (content : List ℕ → Option (List ℕ)) (names : List (List ℕ)) (first : ℕ) (taken : List TakenFile) → names_of taken ≡ names → All IsNotBegun taken
+    → (j : Journal D d) → IsLawful (d.state j.disk.now) → MayOpen (state_of j) → TakesInto content names first (map came_of taken) (state_of j) (d.state j.disk.now)
+none_takes_into {D} {d} content names first taken named none j law may = λ h before bytes stood has number.
+    let stands = stands_named h before names (state_of j) may has in
+    let nothing = All-nil (IsOfNew content h.version names (length stood.legal.held.names)) in
+    taken_in content h before names stood [] stands.0 nothing (d.state j.disk.now) (d.state j.disk.now) (same_leaves h before names j j law has law stands.1 (inl refl)) came are
+    (λ i c at.
+    let refused = refused_at i c at in
+    none_told content h before names stood [] stands.0 nothing i c (slice_get_within names i c.name (named_at came names are i c at)) refl refused.0 refused.1 (λ spared. absurd (cc (sym refused.2 ∙ spared))))
+  where
+    came : List Came
+    came = map came_of taken
+
+    are : map (λ (c : Came). c.name) came ≡ names
+    are = names_came taken ∙ named
+
+    refused_at : (i : ℕ) (c : Came) → slice_get came i ≡ Some c → IsRefused c
+    refused_at i c at =
+        subst IsRefused (get_or_from_slice_get came i c c at)
+        (All-map IsRefused came_of taken (All-weaker IsNotBegun (λ (file : TakenFile). IsRefused (came_of file)) (λ file n. (n.messages, n.whole, n.refusal)) taken none) i c (slice_get_within came i c at))
 
 -- ---- each job has the source of its name
 
@@ -145,16 +192,3 @@ module _ {S : Type 0} (left name : S → Option (List ℕ)) (faults : S → ℕ)
             let stands = stands_named h before names (state_of j) may has in
             refused_takes_in (left_in left) content h before names stood j after law has js js' (subst (λ n. AreJobsOf (left_in left) content h.version names n js) number (are_jobs_of h.version)) (map came_of taken) came_named came_of_jobs
             law_j stands.1 stands.0 stayed refused
-          where
-            stands_named : (h : Header) (before : List JournalEntry) (names : List (List ℕ)) (j : JournalState) → MayOpen j → HasNames h before names j
-                → IsLegal h (before ++ Files names ∷ []) × ((c : List ℕ) → j.disk.images c → StandsFor c h (before ++ Files names ∷ []))
-            stands_named h before names j may has =
-                let legal : IsLegal h (before ++ Files names ∷ []) = subst (λ x. IsLegal x (before ++ Files names ∷ [])) has.header (subst (IsLegal j.header) has.entries (of_told (is_some j.disk.seen) has.told may.legal)) in
-                (legal, λ c image. record { header = subst IsHeader has.header may.header; legal = legal; stands = go j.disk.seen has.told has.entries may.spelled may.ends.ends c image })
-              where
-                go : (told : Option (List ℕ)) → is_some told ≡ true → journal_in told j.count ≡ before ++ Files names ∷ [] → entries told j.count ≡ records_of (journal_in told j.count)
-                    → AtEnd (header_bytes j.header) j.place j.count told j.disk.images → (c : List ℕ) → j.disk.images c → Stands (header_bytes h) (records_of (before ++ Files names ∷ [])) c
-                go None some are spelled ends c image = absurd (cc (some))
-                go (Some b) some are spelled ends c image =
-                    subst (λ x. Stands (header_bytes x) (records_of (before ++ Files names ∷ [])) c) has.header
-                    (subst (λ rs. Stands (header_bytes j.header) rs c) (spelled ∙ ap records_of are) (subst (λ x. Stands (header_bytes j.header) (entries (Some b) j.count) x) (sym (ends.only c image)) ends.stands))

@@ -156,23 +156,35 @@ pub record RefusesIngest (names : List (List ℕ)) (seen : Around) (old new : Di
   pub cause : HasCallCause names old new refusal
   pub disk : FromArchive old (λ h before bytes stood. TakesNothing h before old new)
 
--- The names were added. What came of each file is printed, in their order, from the first new number on; then a line on the error output for
--- each that is not whole. Where the output fails, or there is no memory for its lines, this alone is told.
-pub record TakesFiles (names : List (List ℕ)) (seen : Around) (old new : DiskState) (status : ℕ) : Type 0 where
+-- What came of each file is printed, in their order, numbered on from `first`; then a line on the error output for each that
+-- is not whole, and the status is the gravest. Where the output fails, or there is no memory for its lines, this alone is told.
+abbrev pub PrintsCame : List Came → ℕ → Around → ℕ → Type 0
+PrintsCame came first seen status =
+    ((status ≡ gravest (map (λ c. file_status c.refusal) came))
+    × Grew seen.out.0 seen.out.1 (directory_from first (map line_of_came came))
+    × SaysIn seen (flat_map (λ c. file_error c.name c.refusal) came) × Stayed seen.out_faults)
+    ⊎ (EndsWith seen [] status (Some SinkFault)
+    × GrewByFront seen.out.0 seen.out.1 (directory_from first (map line_of_came came)) × RoseIn seen.out_faults)
+    ⊎ (EndsWith seen [] status (Some OutOfMemory)
+    × GrewByFront seen.out.0 seen.out.1 (directory_from first (map line_of_came came)) × Stayed seen.out_faults)
+
+-- The names were added, from the first new number on, and the files taken in. What came of each is printed.
+pub record AddsFiles (names : List (List ℕ)) (seen : Around) (old new : DiskState) (status : ℕ) : Type 0 where
   pub came : List Came
   pub first : ℕ
   pub names_are : map (λ c. c.name) came ≡ names
   pub numbered : OverJournal old.seen (λ journal. first ≡ length journal.names)
-  pub each : All (CameOfFile seen old new) came
   pub disk : FromArchive old (λ h before bytes stood. TakesIn seen.content h before stood names came old new)
-  pub printed :
-      ((status ≡ gravest (map (λ c. file_status c.refusal) came))
-      × Grew seen.out.0 seen.out.1 (directory_from first (map line_of_came came))
-      × SaysIn seen (flat_map (λ c. file_error c.name c.refusal) came) × Stayed seen.out_faults)
-      ⊎ (EndsWith seen [] status (Some SinkFault)
-      × GrewByFront seen.out.0 seen.out.1 (directory_from first (map line_of_came came)) × RoseIn seen.out_faults)
-      ⊎ (EndsWith seen [] status (Some OutOfMemory)
-      × GrewByFront seen.out.0 seen.out.1 (directory_from first (map line_of_came came)) × Stayed seen.out_faults)
+  pub printed : PrintsCame came first seen status
+
+-- How `ingest` ends, whatever came of each file.
+abbrev pub EndsIngest : List (List ℕ) → Around → DiskState → DiskState → ℕ → Type 0
+EndsIngest names seen old new status = RefusesIngest names seen old new status ⊎ AddsFiles names seen old new status
+
+-- The same, and what came of each file has its cause.
+pub record TakesFiles (names : List (List ℕ)) (seen : Around) (old new : DiskState) (status : ℕ) : Type 0 where
+  pub adds : AddsFiles names seen old new status
+  pub each : All (CameOfFile seen old new) adds.came
 
 -- What `ingest` answers.
 abbrev pub AnswersIngest : List (List ℕ) → Around → DiskState → DiskState → ℕ → Type 0

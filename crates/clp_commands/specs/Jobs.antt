@@ -1,5 +1,5 @@
 -- What came of files, by the openings of their logs and by their jobs.
-use Rattle.std.specs.Prelude.{◌≡◌, ℕ, List, Option, Some, None, map, option_map, slice_get}
+use Rattle.std.specs.Prelude.{◌≡◌, ℕ, false, List, Option, Some, None, map, option_map, slice_get}
 use Rattle.log_seams.specs.declared.refusals.OpenRefused.{OpenRefused}
 use Rattle.ingest_workers.specs.declared.job.Job.{Job}
 use Rattle.ingest_workers.specs.declared.outcome.Cause.{Cause}
@@ -37,3 +37,9 @@ pub record IsToldBy {S : Type 0} (openings : List (Option OpenRefused)) (jobs : 
   pub messages : file.messages ≡ job.outcome.messages
   pub whole : file.whole ≡ job.outcome.whole
   pub refusal : file.refusal ≡ refusal_by opening job.outcome.cause
+
+-- there was no memory to begin with the file
+pub record IsNotBegun (file : TakenFile) : Type 0 where
+  pub messages : file.messages ≡ 0
+  pub whole : file.whole ≡ false
+  pub refusal : file.refusal ≡ Some Refusal.OutOfMemory

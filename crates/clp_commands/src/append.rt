@@ -1,9 +1,9 @@
 //! Opening an archive, and naming the files that are added to it.
-ghost use Rattle.std.specs.Prelude.{◌≡◌, ◌≤◌, length, map, string_bytes, IfOk, IfSome, None};
+ghost use Rattle.std.specs.Prelude.{◌≡◌, ◌≤◌, length, map, string_bytes, IfErr, IfOk, IfSome, None, OnErr};
 ghost use Rattle.disk_journal.specs.Journal.{state_of};
 ghost use Rattle.disk_journal.specs.State.{BeginsWith, IsAtFirst};
 ghost use Rattle.clp_commands.specs.Going.{DiskGoesOn};
-ghost use Rattle.clp_commands.specs.Ingested.{FromArchive};
+ghost use Rattle.clp_commands.specs.Ingested.{FromArchive, HasCallCause, TakesNothing};
 ghost use Rattle.clp_commands.specs.Leaves.{AddsNamesTo};
 ghost use Rattle.clp_commands.specs.Names.{RefusesNames};
 ghost use Rattle.clp_commands.specs.Naming.{IsNamed};
@@ -112,13 +112,24 @@ pub(crate) fn open_and_name<D: Disk>(
     requires archive { IfSome (D.state journal.old.disk.now).seen IsArchive }
     requires names { RefusesNames (map string_bytes names.now) None }
     requires some { 1 ≤ length names.now }
+
+    // the disk
     ensures name { journal.new.disk.ghost_name ≡ journal.old.disk.ghost_name }
     ensures goes_on { DiskGoesOn (D.state journal.old.disk.now) (D.state journal.new.disk.now) }
+
+    // named
     ensures named { IfOk result (λ n.
         IsNamed (state_of journal.new) n.types n.words n.first (length names.now)) }
     ensures names { IfOk result (λ n. FromArchive (D.state journal.old.disk.now)
         (λ h before bytes stood. AddsNamesTo h before stood (map string_bytes names.now) n.first
         (D.state journal.old.disk.now) (state_of journal.new))) }
+
+    // refused
+    ensures nothing { OnErr result (FromArchive (D.state journal.old.disk.now)
+        (λ h before bytes stood. TakesNothing h before
+        (D.state journal.old.disk.now) (D.state journal.new.disk.now))) }
+    ensures cause { IfErr result (HasCallCause (map string_bytes names.now)
+        (D.state journal.old.disk.now) (D.state journal.new.disk.now)) }
 {
     let archive: Archive<Books> = open_for_append(alloc, journal)?;
     let held = archive.files().as_slice().len() as u64;

@@ -1,12 +1,16 @@
 //! The command `ingest`: logs become the files of an archive.
-ghost use Rattle.std.specs.Prelude.{◌≡◌, ◌+◌, ◌≤◌, ℕ, List, [], length, map, string_bytes, vec_len, vec_capacity, IfOk, IfErr, IfSome, OnOk, None};
+ghost use Rattle.std.specs.Prelude.{◌≡◌, ◌+◌, ◌≤◌, ℕ, List, [], length, map, slice_get, string_bytes, vec_len, vec_capacity, All, IfErr, IfOk, OnErr, OnOk, None, Some};
 ghost use Rattle.disk_journal.specs.Journal.{state_of};
 ghost use Rattle.clp_commands.specs.Around.{around};
+ghost use Rattle.log_sources.specs.Sources.{refusal_of};
 ghost use Rattle.clp_commands.specs.Going.{DiskGoesOn, OutsideGoesOn};
-ghost use Rattle.clp_commands.specs.IngestPrints.{PrintsIngest, names_of};
+ghost use Rattle.clp_commands.specs.Ingested.{EndsIngest, FromArchive, HasCallCause, TakesIn, TakesNothing};
+ghost use Rattle.clp_commands.specs.IngestPrints.{came_of, names_of};
+ghost use Rattle.clp_commands.specs.Jobs.{IsNotBegun, IsToldBy, refusal_by, sources_of};
+ghost use Rattle.clp_commands.specs.Leaves.{TakesInto};
 ghost use Rattle.clp_commands.specs.Names.{RefusesNames};
 ghost use Rattle.clp_commands.specs.Naming.{AreNumbered, HasGoneOn, IsNamed};
-ghost use Rattle.clp_commands.specs.Reading.{IsArchive};
+ghost use Rattle.clp_commands.specs.Reading.{OverJournal};
 
 use crate::append::{Named, open_and_name};
 use crate::files::print_directory;
@@ -20,13 +24,15 @@ use log_seams::{Disk, OpenRefused, Shelf, Sink};
 use log_sources::{LogSource, close_logs, open_logs};
 use option_words::IngestWords;
 use sink_pieces::PrintRefusal;
-use std::alloc::{AllocError, Global};
+use std::alloc::Global;
 use std::sync::Wait;
 use std::thread::Threads;
 
 /// What is refused of a file, by what came of its opening and of its job: that a log could not be opened
 /// goes before what its job met.
-fn refusal_of_file(opening: Option<OpenRefused>, cause: Option<Cause>) -> Option<Refusal> {
+fn refusal_of_file(opening: Option<OpenRefused>, cause: Option<Cause>) -> Option<Refusal>
+    ensures { result ≡ refusal_by opening cause }
+{
     match opening {
         Some(OpenRefused::Failed) => return Some(Refusal::OpenFault),
         Some(OpenRefused::OutOfMemory) => return Some(Refusal::OutOfMemory),
@@ -43,13 +49,43 @@ fn refusal_of_file(opening: Option<OpenRefused>, cause: Option<Cause>) -> Option
     })
 }
 
-/// Makes a job of each source, in their order; the files are numbered on from `first`.
-fn begin_jobs<S>(first: u32, sources: &mut Vec<S>, jobs: &mut Vec<Job<S>>)
+/// Tells of each file that there was no memory to begin with it.
+fn refuse_all<'a>(names: &'a [String], taken: &mut Vec<TakenFile<'a>>)
+    requires none { taken.old.items ≡ [] }
+    requires room { length names.now ≤ vec_capacity taken.old }
+    ensures names { names_of taken.new.items ≡ map string_bytes names.now }
+    ensures begun { All IsNotBegun taken.new.items }
+{
+    for name in names {
+        taken.push_reserved(TakenFile {
+            name: name.as_str(),
+            messages: 0,
+            whole: false,
+            refusal: Some(Refusal::OutOfMemory),
+        });
+    }
+}
+
+/// Makes a job of each source, in their order; the files are numbered on from `first`. Tells of each why
+/// its log was not opened.
+fn begin_jobs<S>(
+    first: u32,
+    sources: &mut Vec<LogSource<S>>,
+    jobs: &mut Vec<Job<LogSource<S>>>,
+    openings: &mut Vec<Option<OpenRefused>>,
+)
     requires few { first + vec_len sources.old ≤ 1048576 }
-    requires none { jobs.old.items ≡ [] }
-    requires room { vec_len sources.old ≤ vec_capacity jobs.old }
+    requires none { (jobs.old.items ≡ []) × (openings.old.items ≡ []) }
+    requires room { (vec_len sources.old ≤ vec_capacity jobs.old)
+        × (vec_len sources.old ≤ vec_capacity openings.old) }
+
+    // the jobs
     ensures numbered { AreNumbered first jobs.new.items }
     ensures count { vec_len jobs.new ≡ vec_len sources.old }
+    ensures sourced { sources_of jobs.new.items ≡ map Some sources.old.items }
+    ensures openings { openings.new.items ≡ map refusal_of sources.old.items }
+
+    // what is left of the sources
     ensures sources { sources.new.items ≡ [] }
     ensures room { vec_capacity sources.new ≡ vec_capacity sources.old }
 {
@@ -57,6 +93,7 @@ fn begin_jobs<S>(first: u32, sources: &mut Vec<S>, jobs: &mut Vec<Job<S>>)
     sources.as_mut_slice().reverse();
     while let Some(source) = sources.pop() {
         let file = first + jobs.len() as u32;
+        openings.push_reserved(source.refusal());
         jobs.push_reserved(Job::new(file, source));
     }
 }
@@ -64,35 +101,39 @@ fn begin_jobs<S>(first: u32, sources: &mut Vec<S>, jobs: &mut Vec<Job<S>>)
 /// Ends the jobs: their sources are given back, and what came of each file is told in their order.
 fn end_jobs<'a, S>(
     names: &'a [String],
+    openings: &[Option<OpenRefused>],
     jobs: &mut Vec<Job<LogSource<S>>>,
     sources: &mut Vec<LogSource<S>>,
     taken: &mut Vec<TakenFile<'a>>,
 )
-    requires count { vec_len jobs.old ≡ length names.now }
+    requires count { (vec_len jobs.old ≡ length names.now)
+        × (length openings.now ≡ length names.now) }
     requires none { taken.old.items ≡ [] }
     requires room { length names.now ≤ vec_capacity taken.old }
     requires no_source { sources.old.items ≡ [] }
     requires sources { length names.now ≤ vec_capacity sources.old }
     ensures names { names_of taken.new.items ≡ map string_bytes names.now }
+    ensures told { (i : ℕ) (file : TakenFile) → slice_get taken.new.items i ≡ Some file
+        → IsToldBy openings.now jobs.old.items i file }
     ensures jobs { jobs.new.items ≡ [] }
 {
     // popped from the last on
     jobs.as_mut_slice().reverse();
     while let Some(job) = jobs.pop() {
         let outcome = job.outcome();
-        let source = job.into_source();
+        let place = taken.len();
+        let opening = openings[place];
         taken.push_reserved(TakenFile {
-            name: names[taken.len()].as_str(),
+            name: names[place].as_str(),
             messages: outcome.messages,
             whole: outcome.whole,
-            refusal: refusal_of_file(source.refusal(), outcome.cause),
+            refusal: refusal_of_file(opening, outcome.cause),
         });
-        sources.push_reserved(source);
+        sources.push_reserved(job.into_source());
     }
 }
 
-/// Takes the logs in as the new files of a journal, which is given back. Without memory to begin nothing
-/// is taken in, and `done` says so: the journal alone is the result, so that its disk stays known.
+/// Takes the logs in as the new files of a journal. Without memory to begin each file is told so.
 fn take_in<'a, 'd, R: Threads + Wait + Sync, H: Shelf, D: Disk + Send>(
     rt: &R,
     alloc: Global,
@@ -101,7 +142,6 @@ fn take_in<'a, 'd, R: Threads + Wait + Sync, H: Shelf, D: Disk + Send>(
     named: Named,
     shelf: &mut H,
     taken: &mut Vec<TakenFile<'a>>,
-    done: &mut Result<(), AllocError>,
 ) -> Journal<'d, D>
 where
     H::Src: Send,
@@ -112,32 +152,38 @@ where
     requires none { taken.old.items ≡ [] }
     requires room { length asked.files.now ≤ vec_capacity taken.old }
 
-    // the disk
-    ensures disk { HasGoneOn journal.entry result }
-
-    // the files
-    ensures names { OnOk done.new
-        (names_of taken.new.items ≡ map string_bytes asked.entry.files.now) }
+    // the disk, and the files
+    ensures goes_on { HasGoneOn journal.entry result }
+    ensures names { names_of taken.new.items ≡ map string_bytes asked.entry.files.now }
+    ensures taken { TakesInto (H.content shelf.old) (map string_bytes asked.entry.files.now)
+        named.first (map came_of taken.new.items) (state_of journal.entry)
+        (D.state result.disk.now) }
 
     // the logs
     ensures logs { (n : List ℕ) → H.content shelf.new n ≡ H.content shelf.old n }
     ensures opens { (n : List ℕ) → H.open_faults shelf.old n ≤ H.open_faults shelf.new n }
     ensures reads { (n : List ℕ) → H.read_faults shelf.old n ≤ H.read_faults shelf.new n }
 {
-    *done = Err(AllocError);
     let Named {
         types,
         words,
         first,
     } = named;
+    let count = asked.files.len();
+    let Ok(mut openings) = Vec::with_capacity(alloc, count) else {
+        refuse_all(asked.files, taken);
+        return journal;
+    };
+    let Ok(mut jobs) = Vec::with_capacity(alloc, count) else {
+        refuse_all(asked.files, taken);
+        return journal;
+    };
     let Ok(mut sources) = open_logs(alloc, shelf, asked.files) else {
+        jobs.destroy_empty();
+        refuse_all(asked.files, taken);
         return journal;
     };
-    let Ok(mut jobs) = Vec::with_capacity(alloc, sources.len()) else {
-        close_logs(shelf, sources);
-        return journal;
-    };
-    begin_jobs(first, &mut sources, &mut jobs);
+    begin_jobs(first, &mut sources, &mut jobs, &mut openings);
     // without memory the jobs say so
     let journal = match ingest(
         rt,
@@ -152,10 +198,15 @@ where
         Ok(journal) => journal,
         Err(refused) => refused.journal,
     };
-    end_jobs(asked.files, &mut jobs, &mut sources, taken);
+    end_jobs(
+        asked.files,
+        openings.as_slice(),
+        &mut jobs,
+        &mut sources,
+        taken,
+    );
     jobs.destroy_empty();
     close_logs(shelf, sources);
-    *done = Ok(());
     journal
 }
 
@@ -177,9 +228,20 @@ where
     requires none { taken.old.items ≡ [] }
     requires room { length asked.files.now ≤ vec_capacity taken.old }
 
-    // the files
-    ensures taken { OnOk result
+    // taken in
+    ensures names { OnOk result
         (names_of taken.new.items ≡ map string_bytes asked.entry.files.now) }
+    ensures number { IfOk result (λ first.
+        OverJournal (D.state disk.old).seen (λ journal. first ≡ length journal.names)) }
+    ensures taken { OnOk result (FromArchive (D.state disk.old) (λ h before bytes stood.
+        TakesIn (H.content shelf.old) h before stood (map string_bytes asked.entry.files.now)
+        (map came_of taken.new.items) (D.state disk.old) (D.state disk.new))) }
+
+    // refused
+    ensures nothing { OnErr result (FromArchive (D.state disk.old) (λ h before bytes stood.
+        TakesNothing h before (D.state disk.old) (D.state disk.new))) }
+    ensures cause { IfErr result (HasCallCause (map string_bytes asked.entry.files.now)
+        (D.state disk.old) (D.state disk.new)) }
 
     // whatever the answer
     ensures goes_on { DiskGoesOn (D.state disk.old) (D.state disk.new) }
@@ -192,9 +254,7 @@ where
     let mut journal = Journal::begin(disk, header);
     let named = open_and_name(alloc, &mut journal, asked.files)?;
     let first = named.first;
-    let mut done = Err(AllocError);
-    let _journal = take_in(rt, alloc, asked, journal, named, shelf, taken, &mut done);
-    done?;
+    let _journal = take_in(rt, alloc, asked, journal, named, shelf, taken);
     Ok(first)
 }
 
@@ -213,10 +273,10 @@ where
     requires workers { (1 ≤ asked.workers) × (asked.workers ≤ 64) }
     requires segment { (1 ≤ asked.segment) × (asked.segment ≤ 65536) }
     requires some { 1 ≤ length asked.files.now }
-    ensures prints { PrintsIngest (map string_bytes asked.entry.files.now)
+    ensures ends { EndsIngest (map string_bytes asked.entry.files.now)
         (around H.content H.unread H.open_faults H.read_faults K.written K.faults
         shelf.old shelf.new out.old out.new err.old err.new)
-        result }
+        (D.state disk.old) (D.state disk.new) result }
 
     // whatever the answer
     ensures outside { OutsideGoesOn

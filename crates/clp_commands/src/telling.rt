@@ -32,6 +32,7 @@ pub(crate) fn check_told<D: Telling>(alloc: Global, disk: &mut D) -> Result<(), 
     ensures archive { OnOk result (IfSome (D.state disk.old).seen IsArchive) }
     ensures damaged { (at : ℕ) → IsErrOf result (ReadRefusal.Damaged at)
         → IfSome (D.state disk.old).seen (DamagedAt at) }
+    ensures sink { ¬ IsErrOf result ReadRefusal.SinkFault }
     ensures disk { CountsOf ReadRefusal.DiskFault
         (D.state disk.old).faults (D.state disk.new).faults result }
 {

@@ -1,14 +1,33 @@
-use Rattle.std.proofs.Common.{arith, string_bytes, ◌∙◌}
+use Rattle.std.proofs.Common.{arith, ap, rules, sym, suc, string_bytes, ℕ, ◌≡◌, ◌∙◌, None, Some, drop, get_or, length, reverse}
+use Rattle.std.specs.Prelude.{slice_get}
+use Rattle.ingest_workers.specs.declared.outcome.Outcome.{Outcome}
+use Rattle.clp_commands.specs.Jobs.{IsToldBy, refusal_by}
 use Rattle.clp_commands.specs.declared.taken.TakenFile.{TakenFile}
 use Rattle.clp_commands.proofs.JobLemmas.{named_next}
+use Rattle.clp_commands.proofs.PopLemmas.{each_next, left_next, next_of, popped_of, read_place}
 use Rattle.clp_commands.proofs.ingest.end_jobs.Goals as goal
 
 pub loop-job-preserved : goal.loop-job-preserved
-loop-job-preserved g c = let before = c.loop-job.invariant in record {
-  named = named_next string_bytes (λ (file : TakenFile). file.name.now) c.args.names.now c.loop-job.taken.items _ c.len.result c.index-names-len.result _
-      (omega (arith, c.len.ensures)) (omega (arith, c.len.ensures, c.in-Some.ensures.len, before.count)) c.index-names-len.is c.as_str.ensures.value c.push_reserved.ensures.items before.named;
-  count = omega (arith, c.push_reserved.ensures.len, c.in-Some.ensures.len, before.count);
-  room = c.push_reserved.ensures.capacity ∙ before.room;
-  ended = omega (arith, c.push_reserved-in-Some.ensures.len, c.push_reserved.ensures.len, before.ended);
-  room_sources = c.push_reserved-in-Some.ensures.capacity ∙ before.room_sources;
-}
+loop-job-preserved g c =
+    let before = c.loop-job.invariant in
+    let next = next_of c.args.jobs.now.items (length c.loop-job.taken.items) c.in-Some.job _ (before.left ∙ popped_of _ _ _ c.in-Some.ensures.items) in
+    record {
+      named = named_next string_bytes (λ (file : TakenFile). file.name.now) c.args.names.now c.loop-job.taken.items _ c.len-place.result c.index-names-place.result _
+          (omega (arith, c.len-place.ensures)) (omega (arith, c.len-place.ensures, c.in-Some.ensures.len, before.count)) c.index-names-place.is c.as_str.ensures.value c.push_reserved.ensures.items before.named;
+      count = omega (arith, c.push_reserved.ensures.len, c.in-Some.ensures.len, before.count);
+      room = c.push_reserved.ensures.capacity ∙ before.room;
+      ended = omega (arith, c.push_reserved-in-Some.ensures.len, c.push_reserved.ensures.len, before.ended);
+      room_sources = c.push_reserved-in-Some.ensures.capacity ∙ before.room_sources;
+      left = left_next c.args.jobs.now.items _ c.loop-job.taken.items _ _ c.push_reserved.ensures.items next.rest;
+      told = each_next (λ (i : ℕ) (file : TakenFile). IsToldBy c.args.openings.now c.args.jobs.now.items i file) c.loop-job.taken.items _ _ c.push_reserved.ensures.items
+          (record {
+            job = c.in-Some.job;
+            at = next.at;
+            opening = get_or c.args.openings.now c.len-place.result None;
+            opening_at = read_place c.args.openings.now c.len-place.result (length c.loop-job.taken.items) None (omega (arith, c.len-place.ensures)) (omega (arith, c.len-place.ensures, c.in-Some.ensures.len, before.count, c.requires.count.1));
+            messages = ap (λ (o : Outcome). o.messages) c.outcome-outcome.ensures;
+            whole = ap (λ (o : Outcome). o.whole) c.outcome-outcome.ensures;
+            refusal = c.refusal_of_file.ensures ∙ ap (λ (o : Outcome). refusal_by (get_or c.args.openings.now c.len-place.result None) o.cause) c.outcome-outcome.ensures;
+          })
+          before.told;
+    }

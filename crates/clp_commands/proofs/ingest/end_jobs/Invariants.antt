@@ -1,5 +1,8 @@
-use Rattle.std.proofs.Common.{◌≡◌, ◌+◌, length, map, take, string_bytes, vec_len, vec_capacity}
+use Rattle.std.proofs.Common.{◌≡◌, ◌+◌, ℕ, Some, drop, length, map, reverse, take, string_bytes, vec_len, vec_capacity}
+use Rattle.std.specs.Prelude.{slice_get}
 use Rattle.clp_commands.specs.IngestPrints.{names_of}
+use Rattle.clp_commands.specs.Jobs.{IsToldBy}
+use Rattle.clp_commands.specs.declared.taken.TakenFile.{TakenFile}
 use Rattle.clp_commands.proofs.ingest.end_jobs.Given as goal
 
 abbrev pub invariant-loop-job : goal.invariant-loop-job
@@ -9,6 +12,8 @@ invariant-loop-job g l = record {
   room : vec_capacity l.taken ≡ vec_capacity l.fn.taken;
   ended : vec_len l.sources ≡ vec_len l.taken;
   room_sources : vec_capacity l.sources ≡ vec_capacity l.fn.sources;
+  left : drop (length l.taken.items) l.fn.jobs.items ≡ reverse l.jobs.items;
+  told : (i : ℕ) (file : TakenFile) → slice_get l.taken.items i ≡ Some file → IsToldBy l.openings l.fn.jobs.items i file;
 }
 
 abbrev pub decreases-loop-job : goal.decreases-loop-job
