@@ -82,15 +82,15 @@ returns-clause-taken g c =
     let openings = c.as_slice.ensures.value ∙ c.begin_jobs.ensures.openings in
     elim c.match-ingest.branch [
       | in-Ok-ingest w ↦ subst (λ (x : Journal _ _). TakesInto (g.H.Shelf.content c.args.shelf.now) (map string_bytes c.args.asked.files.now) c.args.named.first (map came_of c.end_jobs.new.taken.items) (state_of c.args.journal) (g.D.Disk.state x.disk.now)) (sym w.journal-is)
-      (done_takes_into g.H.Src.Source.left g.H.Src.Source.name g.H.Src.Source.faults (g.H.Shelf.content c.args.shelf.now) (g.H.Shelf.open_faults c.args.shelf.now) (g.H.Shelf.open_faults c.open_logs.new.shelf)
-      (map string_bytes c.args.asked.files.now) c.in-Ok-open_logs.sources.items c.in-Ok-open_logs.ensures.came c.args.named.first c.as_mut_slice.result.now sourced numbered c.as_slice.result.now openings
-      c.ingest.new.jobs c.end_jobs.new.taken.items c.end_jobs.ensures.names 
-      (told_back (λ (jobs : List (Job _)) (i : ℕ) (file : TakenFile). IsToldBy c.as_slice.result.now jobs i file) c.end_jobs.new.taken.items c.begin_jobs.new.jobs.len c.ingest.new.jobs _ (omega (arith, w.in-Ok-ingest.ensures.done.stored.counted, ap length is, c.begin_jobs.new.jobs.ok.0)) c.end_jobs.ensures.told)
-      c.args.journal _ (law _) c.args.asked.segment w.in-Ok-ingest.ensures.done)
+          (done_takes_into g.H.Src.Source.left g.H.Src.Source.name g.H.Src.Source.faults (g.H.Shelf.content c.args.shelf.now) (g.H.Shelf.open_faults c.args.shelf.now) (g.H.Shelf.open_faults c.open_logs.new.shelf)
+          (map string_bytes c.args.asked.files.now) c.in-Ok-open_logs.sources.items c.in-Ok-open_logs.ensures.came c.args.named.first c.as_mut_slice.result.now sourced numbered c.as_slice.result.now openings
+          c.ingest.new.jobs c.end_jobs.new.taken.items c.end_jobs.ensures.names
+          (told_back (λ (jobs : List (Job _)) (i : ℕ) (file : TakenFile). IsToldBy c.as_slice.result.now jobs i file) c.end_jobs.new.taken.items c.begin_jobs.new.jobs.len c.ingest.new.jobs _ (omega (arith, w.in-Ok-ingest.ensures.done.stored.counted, ap length is, c.begin_jobs.new.jobs.ok.0)) c.end_jobs.ensures.told)
+          c.args.journal _ (law _) c.args.asked.segment w.in-Ok-ingest.ensures.done)
       | in-Err w ↦ subst (λ (x : Journal _ _). TakesInto (g.H.Shelf.content c.args.shelf.now) (map string_bytes c.args.asked.files.now) c.args.named.first (map came_of c.end_jobs.new.taken.items) (state_of c.args.journal) (g.D.Disk.state x.disk.now)) (sym w.journal-is)
-      (refused_takes_into g.H.Src.Source.left g.H.Src.Source.name g.H.Src.Source.faults (g.H.Shelf.content c.args.shelf.now) (g.H.Shelf.open_faults c.args.shelf.now) (g.H.Shelf.open_faults c.open_logs.new.shelf)
-      (map string_bytes c.args.asked.files.now) c.in-Ok-open_logs.sources.items c.in-Ok-open_logs.ensures.came c.args.named.first c.as_mut_slice.result.now sourced numbered c.as_slice.result.now openings
-      c.ingest.new.jobs c.end_jobs.new.taken.items c.end_jobs.ensures.names 
-      (told_back (λ (jobs : List (Job _)) (i : ℕ) (file : TakenFile). IsToldBy c.as_slice.result.now jobs i file) c.end_jobs.new.taken.items c.begin_jobs.new.jobs.len c.ingest.new.jobs _ (omega (arith, w.in-Err.ensures.jobs.counted, ap length is, c.begin_jobs.new.jobs.ok.0)) c.end_jobs.ensures.told)
-      c.args.journal _ (law _) (law _) c.requires.named.opens w.in-Err.ensures.refused w.in-Err.ensures.jobs)
+          (refused_takes_into g.H.Src.Source.left g.H.Src.Source.name g.H.Src.Source.faults (g.H.Shelf.content c.args.shelf.now) (g.H.Shelf.open_faults c.args.shelf.now) (g.H.Shelf.open_faults c.open_logs.new.shelf)
+          (map string_bytes c.args.asked.files.now) c.in-Ok-open_logs.sources.items c.in-Ok-open_logs.ensures.came c.args.named.first c.as_mut_slice.result.now sourced numbered c.as_slice.result.now openings
+          c.ingest.new.jobs c.end_jobs.new.taken.items c.end_jobs.ensures.names
+          (told_back (λ (jobs : List (Job _)) (i : ℕ) (file : TakenFile). IsToldBy c.as_slice.result.now jobs i file) c.end_jobs.new.taken.items c.begin_jobs.new.jobs.len c.ingest.new.jobs _ (omega (arith, w.in-Err.ensures.jobs.counted, ap length is, c.begin_jobs.new.jobs.ok.0)) c.end_jobs.ensures.told)
+          c.args.journal _ (law _) (law _) c.requires.named.opens w.in-Err.ensures.refused w.in-Err.ensures.jobs)
     ]
