@@ -114,8 +114,8 @@ fn an_archive_has_these_bytes(rt: HostRuntime) -> Result<(), Fail> {
     let outcome = over(&rt, alloc, &["ingest", "c.log"], &mut archive)?;
     assert!(rt; outcome.status == 0);
     assert!(rt; archive.bytes().len() == 155);
-    assert!(rt; &archive.bytes()[..50] == &WORKED[..50]);
-    assert!(rt; &archive.bytes()[51..] == &WORKED[51..155]);
+    assert!(rt; Some(&WORKED[..50]) == archive.bytes().get(..50));
+    assert!(rt; Some(&WORKED[51..155]) == archive.bytes().get(51..));
     Ok(())
 }
 
