@@ -7,55 +7,56 @@ ghost use Rattle.turn_lock.specs.StepPlays.{waits, publishes, joined};
 use crate::board::{Board, LENGTH, NUMBERS, Place, SERVING, TICKET};
 use crate::grows::Grows;
 use crate::plays::{Both, Draw, Learn, Look, Number, Publish, Tells};
+use std::hint;
 use std::sync::Wait;
 use std::time::Duration;
-use std::{hint, thread};
 
-// The three limits of a wait are free to tune: no clause speaks of them. A turn is mostly short, so
-// the next in line spins before it yields. Nobody wakes a thread that sleeps: it looks again when
-// its nap is over, so that giving a turn back costs no system call.
+// Both limits of a wait are free to tune: no clause speaks of them. A turn is mostly shorter than it
+// takes to give the processor away and come back, so a thread spins first. Nobody wakes a thread that
+// sleeps: it looks again when its nap is over, so that giving a turn back costs no system call.
 
-/// Rounds in which the next in line stays on the processor.
-const SPINS: u64 = 200;
-
-/// Rounds after which a thread sleeps between two looks.
-const YIELDS: u64 = 2_000;
+/// Rounds in which a thread that finds the lock taken stays on the processor.
+const SPINS: u64 = 1_000;
 
 /// The longest sleep between two looks, in microseconds.
 const NAP: u64 = 50;
 
-/// Draws the next ticket. Once 2^64 - 1 tickets were drawn, it waits for good.
+/// Lets time pass between two looks at the ticket that is served, which was `served` last.
+fn pause<V: Grows, R: Wait>(board: &Board<V>, rt: &R, round: u64, served: u64)
+    requires { IsTable board.now.table_id }
+{
+    if round < SPINS {
+        hint::spin_loop();
+    } else {
+        let expected = (served % (1 << 32)) as u32;
+        board.park_timeout(rt, SERVING, expected, Duration::from_micros(NAP));
+    }
+}
+
+/// Draws the next ticket, once it is the one that is served. A thread that waits holds no ticket: so
+/// none has to wait for another that waits too and has lost its processor. Once 2^64 - 1 tickets
+/// were drawn, it waits for good.
 pub(crate) fn draw<V: Grows, R: Wait>(board: &Board<V>, rt: &R, seat: &mut Place<V>) -> u64
     requires table { SitsAt board.now.table_id seat.old.table_id }
     requires free { IsFree seat.old.me }
     ensures table { seat.new.table_id ≡ seat.old.table_id }
     ensures view { seat.new.me ≡ (waits seat.old.me.0 result, []) }
 {
+    let mut round = 0;
     for _ in rt.forever() {
+        let served = board.peek(SERVING);
         let next = board.peek(TICKET);
-        if next < u64::MAX {
+        if next == served && next < u64::MAX {
             let found = board.compare_exchange::<Draw>(seat, TICKET, next, next + 1);
             if found == next {
                 return next;
             }
+        } else {
+            pause(board, rt, round, served);
+            round = if round < SPINS { round + 1 } else { round };
         }
     }
     unreachable!()
-}
-
-/// Lets time pass between two looks at the ticket that is served, which was `found` last. `before`
-/// turns come before the thread's own.
-fn pause<V: Grows, R: Wait>(board: &Board<V>, rt: &R, round: u64, found: u64, before: u64)
-    requires { IsTable board.now.table_id }
-{
-    if round < SPINS && before <= 1 {
-        hint::spin_loop();
-    } else if round < YIELDS {
-        thread::yield_now();
-    } else {
-        let expected = (found % (1 << 32)) as u32;
-        board.park_timeout(rt, SERVING, expected, Duration::from_micros(NAP));
-    }
 }
 
 /// Waits until the ticket is served, and takes the value's slot.
@@ -65,14 +66,13 @@ pub(crate) fn wait<V: Grows, R: Wait>(board: &Board<V>, rt: &R, seat: &mut Place
     ensures table { seat.new.table_id ≡ seat.old.table_id }
     ensures came { Came V.entries V.fixed V.may_add seat.old.me seat.new.me }
 {
-    let mut round = 0;
+    // What is drawn is served by then, so this looks once. That it does is said by no clause.
     for _ in rt.forever() {
         let found = board.load::<Look<V>>(seat, SERVING);
         if found == ticket {
             return;
         }
-        pause(board, rt, round, found, ticket.wrapping_sub(found));
-        round = if round < YIELDS { round + 1 } else { round };
+        hint::spin_loop();
     }
     unreachable!()
 }
