@@ -2,8 +2,6 @@
 #![tactic(auto)]
 
 #[cfg(test)]
-mod archive_limits_tests;
-#[cfg(test)]
 mod column_store_tests;
 #[cfg(test)]
 mod dict_lock_tests;
@@ -11,8 +9,6 @@ mod dict_lock_tests;
 mod ingest_fork_tests;
 #[cfg(test)]
 mod message_reader_tests;
-#[cfg(test)]
-mod option_words_tests;
 #[cfg(test)]
 mod record_format_tests;
 #[cfg(test)]

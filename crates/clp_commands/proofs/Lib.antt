@@ -13,7 +13,6 @@ pub mod ReadingLemmas
 pub mod RefusalLemmas
 pub mod SearchingLemmas
 pub mod ShownLemmas
-pub mod WordLemmas
 pub mod TakenLemmas
 pub mod NameLemmas
 pub mod JoinLemmas

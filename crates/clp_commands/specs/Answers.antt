@@ -1,12 +1,12 @@
 -- What a call of the program answers, by what its words ask for.
 use Rattle.std.specs.Prelude.{◌≡◌, ◌≢◌, ◌⊎◌, ℕ, ℤ, Bool, List, [], Option, Some, None, option_map, Result}
-use Rattle.log_seams.specs.Disk.{DiskState}
+use Rattle.log_seams.specs.Disk.{DiskState, KeepsBytes}
 use Rattle.wild_match.specs.Reading.{IsSearchPattern, IsLoneBackslash}
 use Rattle.wild_match.specs.declared.pattern.Item.{Item}
 use Rattle.wild_match.specs.declared.read.PatternRefusal.{PatternRefusal}
 use Rattle.wild_match.specs.declared.read.PatternRefusal.TheVariants.{BadPattern as ReadBadPattern, OutOfMemory as ReadOutOfMemory}
 use Rattle.record_format.specs.declared.header.Header.{Header}
-use Rattle.option_words.specs.Asked.{AsksIngest, AsksSearch}
+use Rattle.command_words.specs.Asked.{AreTaken, Asked, Asks, HaveGoodNumbers, to_bench, to_check, to_create, to_decode, to_ingest, to_list, to_scan, to_search, to_show}
 use Rattle.search_engine.specs.Searched.{asked}
 use Rattle.disk_journal.specs.Created.{CreateLeaves}
 use Rattle.disk_journal.specs.declared.refusals.CreateRefusal.{CreateRefusal}
@@ -21,7 +21,7 @@ use Rattle.clp_commands.specs.Printing.{Printed}
 use Rattle.clp_commands.specs.Scanned.{Finds}
 use Rattle.clp_commands.specs.Searching.{AnswersSearch}
 use Rattle.clp_commands.specs.Shown.{Shows}
-use Rattle.clp_commands.specs.Words.{AsksShow, AsksScan, AsksCreate, AsksFiles, AsksCheck, AsksDecode, IsUsage}
+use Rattle.clp_commands.specs.Words.{AskSomething, IsUsage}
 use Rattle.clp_commands.specs.declared.outcome.LogRefusal.{LogRefusal}
 use Rattle.clp_commands.specs.declared.outcome.LogRefusal.TheVariants.{OpenFault, ReadFault, LineTooLong, TooManyLines, SinkFault, OutOfMemory as LogOutOfMemory}
 use Rattle.clp_commands.specs.declared.refusal.Refusal.{Refusal}
@@ -65,19 +65,47 @@ pub record AnswersCreate (header : Header) (seen : Around) (old new : DiskState)
   pub nothing : TookNothing seen.out
   pub sink : Stayed seen.out_faults
 
--- What the program answers: words that are no command, a pattern that ends in a lone backslash, and the commands.
-pub record Answers (words : List (List ℕ)) (seen : Around) (old new : DiskState) (status : ℕ) : Type 0 where
-  pub usage : IsUsage words → Refuses seen status Usage
-  pub show : (file : List ℕ) → AsksShow words file → AnswersLog (λ _ message text. Shows message text) seen file status
-  pub lone_backslash : (pattern file : List ℕ) (at : ℕ) → AsksScan words pattern file → IsLoneBackslash pattern at → RefusesPattern seen status at
-  pub scan : (pattern file : List ℕ) (items : List Item) → AsksScan words pattern file → IsSearchPattern pattern items → AnswersLog (Finds file items) seen file status
-  pub create : (header : Header) → AsksCreate words header → AnswersCreate header seen old new status
-  pub files : AsksFiles words → AnswersFiles seen old new status
-  pub check : AsksCheck words → AnswersCheck seen old new status
-  pub decode : (number : ℕ) → AsksDecode words number → AnswersDecode number seen old new status
-  pub bad_search : (from to : Option ℤ) (stats : Bool) (workers : ℕ) (pattern : List ℕ) (at : ℕ) → AsksSearch words from to stats workers pattern → IsLoneBackslash pattern at → RefusesPattern seen status at
-  pub search : (from to : Option ℤ) (stats : Bool) (workers : ℕ) (pattern : List ℕ) (items : List Item) → AsksSearch words from to stats workers pattern → IsSearchPattern pattern items → AnswersSearch (asked items (record { from = from; to = to })) stats seen old new status
-  pub ingest : (workers segment : ℕ) (files : List (List ℕ)) → AsksIngest words workers segment files → EndsIngest files seen old new status
+-- The call was refused before anything was touched: the disk, the outputs and the logs are as they were.
+pub record RefusesAtOnce (seen : Around) (old new : DiskState) (status : ℕ) (refusal : Refusal) : Type 0 where
+  pub refuses : Refuses seen status refusal
+  pub bytes : KeepsBytes old new
+  pub ranges : new.ranges ≡ old.ranges
+  pub faults : new.faults ≡ old.faults
+  pub opens : (name : List ℕ) → Stayed (seen.opens name)
+  pub reads : (name : List ℕ) → Stayed (seen.reads name)
+
+-- The messages of a log that a pattern matches were printed, or the pattern is refused.
+pub record AnswersScan (pattern file : List ℕ) (seen : Around) (status : ℕ) : Type 0 where
+  pub lone_backslash : (at : ℕ) → IsLoneBackslash pattern at → RefusesPattern seen status at
+  pub good : (items : List Item) → IsSearchPattern pattern items → AnswersLog (Finds file items) seen file status
+
+-- The messages of the archive that a pattern matches in a range were printed, or the pattern is refused.
+pub record AnswersPattern (from to : Option ℤ) (stats : Bool) (pattern : List ℕ) (seen : Around) (old new : DiskState) (status : ℕ) : Type 0 where
+  pub lone_backslash : (at : ℕ) → IsLoneBackslash pattern at → RefusesPattern seen status at
+  pub good : (items : List Item) → IsSearchPattern pattern items → AnswersSearch (asked items (record { from = from; to = to })) stats seen old new status
+
+-- What a command answers. `bench` is not built: it ends as words do that ask for nothing.
+abbrev pub AnswersAsked : Asked → Around → DiskState → DiskState → ℕ → Type 0
+AnswersAsked (to_show file) seen old new status = AnswersLog (λ _ message text. Shows message text) seen file status
+AnswersAsked (to_scan pattern file) seen old new status = AnswersScan pattern file seen status
+AnswersAsked (to_create header) seen old new status = AnswersCreate header seen old new status
+AnswersAsked (to_ingest workers segment files) seen old new status = EndsIngest files seen old new status
+AnswersAsked to_list seen old new status = AnswersFiles seen old new status
+AnswersAsked to_check seen old new status = AnswersCheck seen old new status
+AnswersAsked (to_decode number) seen old new status = AnswersDecode number seen old new status
+AnswersAsked (to_search from to stats workers pattern) seen old new status = AnswersPattern from to stats pattern seen old new status
+AnswersAsked (to_bench number lines workers) seen old new status = RefusesAtOnce seen old new status Usage
+
+-- What words answer that were read. Those that `clap` takes, and whose numbers are good, ask for something: so a usage error
+-- comes only where `clap` refuses them for another cause than memory, or where a number is not good.
+pub record AnswersWords (words : List (List ℕ)) (seen : Around) (old new : DiskState) (status : ℕ) : Type 0 where
+  pub usage : IsUsage words → RefusesAtOnce seen old new status Usage
+  pub asked_for : (a : Asked) → Asks words a → AnswersAsked a seen old new status
+  pub taken : AreTaken words → HaveGoodNumbers words → AskSomething words
+
+-- What the program answers: there was no memory to read the words and nothing was done, or they were read.
+abbrev pub Answers : List (List ℕ) → Around → DiskState → DiskState → ℕ → Type 0
+Answers words seen old new status = RefusesAtOnce seen old new status OutOfMemory ⊎ AnswersWords words seen old new status
 
 -- A pattern is refused with the place of its lone backslash, or for want of memory.
 abbrev pub IsPatternRefusal : List ℕ → PatternRefusal → Type 0

@@ -4,6 +4,8 @@ use Rattle.disk_journal.specs.declared.refusals.CreateRefusal.{CreateRefusal}
 use Rattle.disk_journal.specs.declared.refusals.CreateRefusal.TheVariants.{DiskFault as CreateDiskFault, NotEmpty as CreateNotEmpty}
 use Rattle.wild_match.specs.declared.read.PatternRefusal.{PatternRefusal}
 use Rattle.wild_match.specs.declared.read.PatternRefusal.TheVariants.{BadPattern as ReadBadPattern, OutOfMemory as ReadOutOfMemory}
+use Rattle.command_words.specs.declared.command.WordsRefusal.{WordsRefusal}
+use Rattle.command_words.specs.declared.command.WordsRefusal.TheVariants.{Usage as WordsUsage, OutOfMemory as WordsOutOfMemory}
 use Rattle.clp_commands.specs.declared.outcome.LogRefusal.{LogRefusal}
 use Rattle.clp_commands.specs.declared.outcome.LogRefusal.TheVariants.{OpenFault as LogOpenFault, ReadFault as LogReadFault, LineTooLong as LogLineTooLong, TooManyLines as LogTooManyLines, SinkFault as LogSinkFault, OutOfMemory as LogOutOfMemory}
 use Rattle.archive_open.specs.declared.refusal.ArchiveRefusal.{ArchiveRefusal}
@@ -16,7 +18,7 @@ use Rattle.search_engine.specs.declared.refusal.SearchRefusal.{SearchRefusal}
 use Rattle.clp_commands.specs.declared.outcome.FileRefusal.{FileRefusal}
 use Rattle.clp_commands.specs.declared.outcome.ReadRefusal.{ReadRefusal}
 use Rattle.clp_commands.specs.declared.refusal.Refusal.{Refusal}
-use Rattle.clp_commands.specs.declared.refusal.Refusal.TheVariants.{BadPattern, OpenFault, ReadFault, LineTooLong, TooManyLines, DiskFault, Damaged, SinkFault, NotEmpty, NoSuchFile, OutOfMemory, ArchiveFull}
+use Rattle.clp_commands.specs.declared.refusal.Refusal.TheVariants.{Usage, BadPattern, OpenFault, ReadFault, LineTooLong, TooManyLines, DiskFault, Damaged, SinkFault, NotEmpty, NoSuchFile, OutOfMemory, ArchiveFull}
 
 -- the answer of a call that may refuse, where no refusal is `None`
 abbrev pub answer_of : {E : Type 0} → Result Unit E → Option E
@@ -51,6 +53,11 @@ of_file FileRefusal.OutOfMemory = OutOfMemory
 abbrev pub of_create : CreateRefusal → Refusal
 of_create CreateDiskFault = DiskFault
 of_create (CreateNotEmpty len) = NotEmpty len
+
+-- of words
+abbrev pub of_words : WordsRefusal → Refusal
+of_words WordsUsage = Usage
+of_words WordsOutOfMemory = OutOfMemory
 
 -- of a pattern
 abbrev pub of_pattern : PatternRefusal → Refusal

@@ -1,5 +1,5 @@
 //! Opening an archive, and naming the files that are added to it.
-ghost use Rattle.std.specs.Prelude.{◌≡◌, ◌≤◌, length, map, string_bytes, IfErr, IfOk, IfSome, None, OnErr};
+ghost use Rattle.std.specs.Prelude.{◌≡◌, ◌≤◌, length, map, IfErr, IfOk, IfSome, None, OnErr};
 ghost use Rattle.disk_journal.specs.Journal.{state_of};
 ghost use Rattle.disk_journal.specs.State.{BeginsWith, IsAtFirst};
 ghost use Rattle.clp_commands.specs.Going.{DiskGoesOn};
@@ -9,6 +9,7 @@ ghost use Rattle.clp_commands.specs.Names.{RefusesNames};
 ghost use Rattle.clp_commands.specs.Naming.{IsNamed};
 ghost use Rattle.clp_commands.specs.Outcome.{of_read, of_register, of_start, of_archive};
 ghost use Rattle.clp_commands.specs.Reading.{IsArchive};
+ghost use Rattle.log_sources.specs.Sources.{str_bytes};
 ghost use Rattle.clp_commands.specs.declared.refusal.Refusal.TheVariants.{OutOfMemory};
 
 use crate::names::refuse_more;
@@ -90,8 +91,8 @@ impl From<ReadRefusal> for Refusal {
 }
 
 /// The names as texts.
-fn texts_of(alloc: Global, names: &[String]) -> Result<TextList, AllocError>
-    ensures { IfOk result (λ texts. texts ≡ map string_bytes names.now) }
+fn texts_of(alloc: Global, names: &[&str]) -> Result<TextList, AllocError>
+    ensures { IfOk result (λ texts. texts ≡ map str_bytes names.now) }
 {
     let mut texts = Vec::with_capacity(alloc, names.len())?;
     for name in names {
@@ -105,12 +106,12 @@ fn texts_of(alloc: Global, names: &[String]) -> Result<TextList, AllocError>
 pub(crate) fn open_and_name<D: Disk>(
     alloc: Global,
     journal: &mut Journal<'_, D>,
-    names: &[String],
+    names: &[&str],
 ) -> Result<Named, Refusal>
     requires first { IsAtFirst (state_of journal.old) }
     requires begins { BeginsWith journal.old.header (D.state journal.old.disk.now) }
     requires archive { IfSome (D.state journal.old.disk.now).seen IsArchive }
-    requires names { RefusesNames (map string_bytes names.now) None }
+    requires names { RefusesNames (map str_bytes names.now) None }
     requires some { 1 ≤ length names.now }
 
     // the disk
@@ -121,14 +122,14 @@ pub(crate) fn open_and_name<D: Disk>(
     ensures named { IfOk result (λ n.
         IsNamed (state_of journal.new) n.types n.words n.first (length names.now)) }
     ensures names { IfOk result (λ n. FromArchive (D.state journal.old.disk.now)
-        (λ h before bytes stood. AddsNamesTo h before stood (map string_bytes names.now) n.first
+        (λ h before bytes stood. AddsNamesTo h before stood (map str_bytes names.now) n.first
         (D.state journal.old.disk.now) (state_of journal.new))) }
 
     // refused
     ensures nothing { OnErr result (FromArchive (D.state journal.old.disk.now)
         (λ h before bytes stood. TakesNothing h before
         (D.state journal.old.disk.now) (D.state journal.new.disk.now))) }
-    ensures cause { IfErr result (HasCallCause (map string_bytes names.now)
+    ensures cause { IfErr result (HasCallCause (map str_bytes names.now)
         (D.state journal.old.disk.now) (D.state journal.new.disk.now)) }
 {
     let archive: Archive<Books> = open_for_append(alloc, journal)?;

@@ -1,8 +1,8 @@
 //! The command `ingest`: logs become the files of an archive.
-ghost use Rattle.std.specs.Prelude.{◌≡◌, ◌+◌, ◌≤◌, ℕ, List, [], length, map, slice_get, string_bytes, vec_len, vec_capacity, All, IfErr, IfOk, OnErr, OnOk, None, Some};
+ghost use Rattle.std.specs.Prelude.{◌≡◌, ◌+◌, ◌≤◌, ℕ, List, [], length, map, slice_get, vec_len, vec_capacity, All, IfErr, IfOk, OnErr, OnOk, None, Some};
 ghost use Rattle.disk_journal.specs.Journal.{state_of};
 ghost use Rattle.clp_commands.specs.Around.{around};
-ghost use Rattle.log_sources.specs.Sources.{refusal_of};
+ghost use Rattle.log_sources.specs.Sources.{refusal_of, str_bytes};
 ghost use Rattle.clp_commands.specs.Going.{DiskGoesOn, OutsideGoesOn};
 ghost use Rattle.clp_commands.specs.Ingested.{EndsIngest, FromArchive, HasCallCause, TakesIn, TakesNothing};
 ghost use Rattle.clp_commands.specs.IngestPrints.{came_of, names_of};
@@ -18,15 +18,41 @@ use crate::names::refuse_names;
 use crate::refusal::{Refusal, report};
 use crate::taken::{TakenFile, report_taken};
 use crate::telling::{Telling, check_told};
+use command_words::IngestWords;
 use disk_journal::{Journal, start};
 use ingest_workers::{Cause, Job, ingest};
 use log_seams::{Disk, OpenRefused, Shelf, Sink};
 use log_sources::{LogSource, close_logs, open_logs};
-use option_words::IngestWords;
 use sink_pieces::PrintRefusal;
 use std::alloc::Global;
 use std::sync::Wait;
 use std::thread::Threads;
+
+/// The logs that become files, and how they are taken in.
+#[derive(Clone, Copy, Debug)]
+pub(crate) struct NewLogs<'a> {
+    /// How many workers there are: 1 to 64.
+    pub(crate) workers: u32,
+    /// How many rows a segment has at most: 1 to 65,536.
+    pub(crate) segment: u32,
+    /// Their names.
+    pub(crate) files: &'a [&'a str],
+}
+
+impl<'a> NewLogs<'a> {
+    /// The logs that the words of `ingest` ask for.
+    pub(crate) fn of(asked: &'a IngestWords<'a>) -> NewLogs<'a>
+        ensures workers { result.workers ≡ asked.entry.now.workers }
+        ensures segment { result.segment ≡ asked.entry.now.segment }
+        ensures files { result.files.now ≡ asked.entry.now.files.items }
+    {
+        NewLogs {
+            workers: asked.workers,
+            segment: asked.segment,
+            files: asked.files.as_slice(),
+        }
+    }
+}
 
 /// What is refused of a file, by what came of its opening and of its job: that a log could not be opened
 /// goes before what its job met.
@@ -50,15 +76,15 @@ fn refusal_of_file(opening: Option<OpenRefused>, cause: Option<Cause>) -> Option
 }
 
 /// Tells of each file that there was no memory to begin with it.
-fn refuse_all<'a>(names: &'a [String], taken: &mut Vec<TakenFile<'a>>)
+fn refuse_all<'a>(names: &'a [&'a str], taken: &mut Vec<TakenFile<'a>>)
     requires none { taken.old.items ≡ [] }
     requires room { length names.now ≤ vec_capacity taken.old }
-    ensures names { names_of taken.new.items ≡ map string_bytes names.now }
+    ensures names { names_of taken.new.items ≡ map str_bytes names.now }
     ensures begun { All IsNotBegun taken.new.items }
 {
-    for name in names {
+    for &name in names {
         taken.push_reserved(TakenFile {
-            name: name.as_str(),
+            name,
             messages: 0,
             whole: false,
             refusal: Some(Refusal::OutOfMemory),
@@ -100,7 +126,7 @@ fn begin_jobs<S>(
 
 /// Ends the jobs: their sources are given back, and what came of each file is told in their order.
 fn end_jobs<'a, S>(
-    names: &'a [String],
+    names: &'a [&'a str],
     openings: &[Option<OpenRefused>],
     jobs: &mut Vec<Job<LogSource<S>>>,
     sources: &mut Vec<LogSource<S>>,
@@ -112,7 +138,7 @@ fn end_jobs<'a, S>(
     requires room { length names.now ≤ vec_capacity taken.old }
     requires no_source { sources.old.items ≡ [] }
     requires sources { length names.now ≤ vec_capacity sources.old }
-    ensures names { names_of taken.new.items ≡ map string_bytes names.now }
+    ensures names { names_of taken.new.items ≡ map str_bytes names.now }
     ensures told { (i : ℕ) (file : TakenFile) → slice_get taken.new.items i ≡ Some file
         → IsToldBy openings.now jobs.old.items i file }
     ensures jobs { jobs.new.items ≡ [] }
@@ -124,7 +150,7 @@ fn end_jobs<'a, S>(
         let place = taken.len();
         let opening = openings[place];
         taken.push_reserved(TakenFile {
-            name: names[place].as_str(),
+            name: names[place],
             messages: outcome.messages,
             whole: outcome.whole,
             refusal: refusal_of_file(opening, outcome.cause),
@@ -137,7 +163,7 @@ fn end_jobs<'a, S>(
 fn take_in<'a, 'd, R: Threads + Wait + Sync, H: Shelf, D: Disk + Send>(
     rt: &R,
     alloc: Global,
-    asked: IngestWords<'a>,
+    asked: NewLogs<'a>,
     journal: Journal<'d, D>,
     named: Named,
     shelf: &mut H,
@@ -154,8 +180,8 @@ where
 
     // the disk, and the files
     ensures goes_on { HasGoneOn journal.entry result }
-    ensures names { names_of taken.new.items ≡ map string_bytes asked.entry.files.now }
-    ensures taken { TakesInto (H.content shelf.old) (map string_bytes asked.entry.files.now)
+    ensures names { names_of taken.new.items ≡ map str_bytes asked.entry.files.now }
+    ensures taken { TakesInto (H.content shelf.old) (map str_bytes asked.entry.files.now)
         named.first (map came_of taken.new.items) (state_of journal.entry)
         (D.state result.disk.now) }
 
@@ -214,7 +240,7 @@ where
 fn add_files<'a, R: Threads + Wait + Sync, H: Shelf, D: Telling + Send>(
     rt: &R,
     alloc: Global,
-    asked: IngestWords<'a>,
+    asked: NewLogs<'a>,
     shelf: &mut H,
     disk: &mut D,
     taken: &mut Vec<TakenFile<'a>>,
@@ -223,24 +249,24 @@ where
     H::Src: Send,
     requires workers { (1 ≤ asked.workers) × (asked.workers ≤ 64) }
     requires segment { (1 ≤ asked.segment) × (asked.segment ≤ 65536) }
-    requires names { RefusesNames (map string_bytes asked.files.now) None }
+    requires names { RefusesNames (map str_bytes asked.files.now) None }
     requires some { 1 ≤ length asked.files.now }
     requires none { taken.old.items ≡ [] }
     requires room { length asked.files.now ≤ vec_capacity taken.old }
 
     // taken in
     ensures names { OnOk result
-        (names_of taken.new.items ≡ map string_bytes asked.entry.files.now) }
+        (names_of taken.new.items ≡ map str_bytes asked.entry.files.now) }
     ensures number { IfOk result (λ first.
         OverJournal (D.state disk.old).seen (λ journal. first ≡ length journal.names)) }
     ensures taken { OnOk result (FromArchive (D.state disk.old) (λ h before bytes stood.
-        TakesIn (H.content shelf.old) h before stood (map string_bytes asked.entry.files.now)
+        TakesIn (H.content shelf.old) h before stood (map str_bytes asked.entry.files.now)
         (map came_of taken.new.items) (D.state disk.old) (D.state disk.new))) }
 
     // refused
     ensures nothing { OnErr result (FromArchive (D.state disk.old) (λ h before bytes stood.
         TakesNothing h before (D.state disk.old) (D.state disk.new))) }
-    ensures cause { IfErr result (HasCallCause (map string_bytes asked.entry.files.now)
+    ensures cause { IfErr result (HasCallCause (map str_bytes asked.entry.files.now)
         (D.state disk.old) (D.state disk.new)) }
 
     // whatever the answer
@@ -262,7 +288,7 @@ where
 pub(crate) fn ingest_files<R: Threads + Wait + Sync, H: Shelf, D: Telling + Send, K: Sink>(
     rt: &R,
     alloc: Global,
-    asked: IngestWords<'_>,
+    asked: NewLogs<'_>,
     shelf: &mut H,
     disk: &mut D,
     out: &mut K,
@@ -273,7 +299,7 @@ where
     requires workers { (1 ≤ asked.workers) × (asked.workers ≤ 64) }
     requires segment { (1 ≤ asked.segment) × (asked.segment ≤ 65536) }
     requires some { 1 ≤ length asked.files.now }
-    ensures ends { EndsIngest (map string_bytes asked.entry.files.now)
+    ensures ends { EndsIngest (map str_bytes asked.entry.files.now)
         (around H.content H.unread H.open_faults H.read_faults K.written K.faults
         shelf.old shelf.new out.old out.new err.old err.new)
         (D.state disk.old) (D.state disk.new) result }

@@ -20,7 +20,6 @@ mod taken;
 mod tell;
 mod telling;
 mod top;
-mod words;
 
 pub use refusal::Refusal;
 pub use telling::Telling;

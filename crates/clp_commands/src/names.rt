@@ -1,5 +1,6 @@
 //! Which names of files are refused.
-ghost use Rattle.std.specs.Prelude.{◌≡◌, map, string_bytes};
+ghost use Rattle.std.specs.Prelude.{◌≡◌, map};
+ghost use Rattle.log_sources.specs.Sources.{str_bytes};
 ghost use Rattle.clp_commands.specs.Names.{RefusesMore, RefusesNames};
 
 use crate::refusal::Refusal;
@@ -15,11 +16,11 @@ const MOST_FILES: u64 = 1_048_576;
 
 /// What is refused of the names that are given, before the archive is looked at: the first one that is too
 /// long, or that they are too many.
-pub(crate) fn refuse_names(names: &[String]) -> Option<Refusal>
-    ensures { RefusesNames (map string_bytes names.now) result }
+pub(crate) fn refuse_names(names: &[&str]) -> Option<Refusal>
+    ensures { RefusesNames (map str_bytes names.now) result }
 {
     for (index, name) in names.iter().enumerate() {
-        if name.as_str().len() > MOST_NAME_BYTES {
+        if name.len() > MOST_NAME_BYTES {
             return Some(Refusal::NameTooLong { index });
         }
     }

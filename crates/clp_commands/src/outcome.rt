@@ -1,12 +1,13 @@
 //! How the commands of each kind end, and which refusal that is.
 ghost use Rattle.std.specs.Prelude.{◌≡◌, option_map};
 ghost use Rattle.clp_commands.specs.declared.outcome.ReadRefusal.TheVariants.{OutOfMemory, SinkFault};
-ghost use Rattle.clp_commands.specs.Outcome.{answer_of, file_from_archive, from_archive, from_check, from_decode, from_print, from_search, of_create, of_file, of_log, of_pattern, of_read};
+ghost use Rattle.clp_commands.specs.Outcome.{answer_of, file_from_archive, from_archive, from_check, from_decode, from_print, from_search, of_create, of_file, of_log, of_pattern, of_read, of_words};
 
 use crate::refusal::Refusal;
 use archive_check::CheckRefusal;
 use archive_decode::DecodeRefusal;
 use archive_open::ArchiveRefusal;
+use command_words::WordsRefusal;
 use disk_journal::CreateRefusal;
 use log_seams::Failed;
 use search_engine::SearchRefusal;
@@ -199,6 +200,16 @@ pub(crate) fn refusal_of_create(outcome: Result<(), CreateRefusal>) -> Option<Re
         Ok(()) => None,
         Err(CreateRefusal::DiskFault) => Some(Refusal::DiskFault),
         Err(CreateRefusal::NotEmpty { len }) => Some(Refusal::NotEmpty { len }),
+    }
+}
+
+/// The refusal of words.
+pub(crate) fn refusal_of_words(refusal: WordsRefusal) -> Refusal
+    ensures { result ≡ of_words refusal }
+{
+    match refusal {
+        WordsRefusal::Usage => Refusal::Usage,
+        WordsRefusal::OutOfMemory => Refusal::OutOfMemory,
     }
 }
 

@@ -1,25 +1,25 @@
 //! The top call.
 ghost use Rattle.std.specs.Prelude.{◌≡◌, ◌≤◌, ℕ, List, map, string_bytes, IfOk, IfErr};
-ghost use Rattle.record_format.specs.declared.header.Header.{Header};
 ghost use Rattle.wild_match.specs.Reading.{IsLoneBackslash, IsSearchPattern};
 ghost use Rattle.wild_match.specs.declared.pattern.Item.{Item};
-ghost use Rattle.clp_commands.specs.Answers.{Answers, AnswersLog, IsPatternRefusal, RefusesPattern};
+ghost use Rattle.clp_commands.specs.Answers.{Answers, AnswersAsked, AnswersLog, IsPatternRefusal, RefusesPattern};
 ghost use Rattle.clp_commands.specs.Around.{around};
 ghost use Rattle.clp_commands.specs.Ending.{error_line, exit_status};
 ghost use Rattle.clp_commands.specs.Going.{DiskGoesOn, OutsideGoesOn};
 ghost use Rattle.clp_commands.specs.Refusal.{Says};
 ghost use Rattle.clp_commands.specs.Scanned.{Finds};
-ghost use Rattle.clp_commands.specs.Words.{AskNoArchive, AsksCreate};
-ghost use Rattle.option_words.specs.Asked.{AsksIngest};
+ghost use Rattle.clp_commands.specs.Words.{AskNoArchive, AskNoWriting, MayWrite, UsesArchive};
+ghost use Rattle.command_words.specs.Asked.{IsInRange, asked_by};
 ghost use Rattle.log_seams.specs.Disk.{KeepsBytes};
 
 use crate::check::check;
 use crate::file::decode_file;
 use crate::files::files;
-use crate::ingest::ingest_files;
+use crate::ingest::{NewLogs, ingest_files};
 use crate::log::print_log;
 use crate::outcome::{
     refusal_of_create, refusal_of_file, refusal_of_log, refusal_of_pattern, refusal_of_read,
+    refusal_of_words,
 };
 use crate::refusal::{Refusal, report};
 use crate::scan::Scan;
@@ -27,8 +27,8 @@ use crate::search::search_archive;
 use crate::show::Show;
 use crate::tell::Tell;
 use crate::telling::Telling;
-use crate::words::{Command, read_words};
 use column_store::Range;
+use command_words::{Command, read_words};
 use disk_journal::create;
 use log_seams::{Shelf, Sink};
 use query_plan::wide_is_wider;
@@ -46,7 +46,8 @@ use wild_match::{Matcher, PatternRefusal, read_pattern};
 /// archive is legal, and prints what it has. `search` with its options prints the messages of the
 /// archive that a pattern matches, as `scan` prints those of a log. A refusal has its line on `err`.
 ///
-/// `ingest` adds logs to the archive, and prints of each what `files` prints. `disk` is the archive's.
+/// `ingest` adds logs to the archive, and prints of each what `files` prints. `bench` is not built, and
+/// ends as words do that ask for nothing. `disk` is the archive's.
 /// `rt` starts the threads of `ingest`. `second` is the disk beside the archive's for commands that
 /// write a new one; no command here needs it yet.
 pub fn run<R: Threads + Wait + Sync, H: Shelf, D: Telling + Send, K: Sink>(
@@ -75,22 +76,57 @@ where
 
     // what stays
     ensures logs { (name : List ℕ) → H.content shelf.new name ≡ H.content shelf.old name }
-    ensures keeps { ((header : Header) → ¬ AsksCreate (map string_bytes words.now) header)
-        → ((workers segment : ℕ) (files : List (List ℕ))
-        → ¬ AsksIngest (map string_bytes words.now) workers segment files)
+    ensures keeps { AskNoWriting (map string_bytes words.now)
         → KeepsBytes (D.state disk.old) (D.state disk.new) }
     ensures untouched { AskNoArchive (map string_bytes words.now) → disk.new ≡ disk.old }
     ensures second { second.new ≡ second.old }
 {
-    let Some(command) = read_words(words) else {
-        return report(err, "", Refusal::Usage);
+    let command = match read_words(alloc, words) {
+        Ok(command) => command,
+        Err(refusal) => return report(err, "", refusal_of_words(refusal)),
     };
+    carry_out(rt, alloc, &command, shelf, disk, out, err)
+}
+
+/// Does what a command asks for, and answers the status.
+fn carry_out<R: Threads + Wait + Sync, H: Shelf, D: Telling + Send, K: Sink>(
+    rt: &R,
+    alloc: Global,
+    command: &Command<'_>,
+    shelf: &mut H,
+    disk: &mut D,
+    out: &mut K,
+    err: &mut K,
+) -> u8
+where
+    H::Src: Send,
+    requires { IsInRange (asked_by command.now) }
+    ensures answers { AnswersAsked (asked_by command.now)
+        (around H.content H.unread H.open_faults H.read_faults K.written K.faults
+        shelf.old shelf.new out.old out.new err.old err.new)
+        (D.state disk.old) (D.state disk.new) result }
+
+    // whatever it asks for
+    ensures outside { OutsideGoesOn
+        (around H.content H.unread H.open_faults H.read_faults K.written K.faults
+        shelf.old shelf.new out.old out.new err.old err.new) }
+    ensures goes_on { DiskGoesOn (D.state disk.old) (D.state disk.new) }
+
+    // what stays
+    ensures logs { (name : List ℕ) → H.content shelf.new name ≡ H.content shelf.old name }
+    ensures keeps { ¬ MayWrite (asked_by command.now)
+        → KeepsBytes (D.state disk.old) (D.state disk.new) }
+    ensures untouched { ¬ UsesArchive (asked_by command.now) → disk.new ≡ disk.old }
+{
     match command {
         Command::Show { file } => print_and_report(alloc, &Show { alloc }, shelf, file, out, err),
         Command::Scan { pattern, file } => scan(alloc, pattern, file, shelf, out, err),
         Command::Create { header } => {
-            let outcome = create(disk, &header);
+            let outcome = create(disk, header);
             answer(refusal_of_create(outcome), "", err)
+        }
+        Command::Ingest { asked } => {
+            ingest_files(rt, alloc, NewLogs::of(asked), shelf, disk, out, err)
         }
         Command::Files => {
             let outcome = files(alloc, disk, out);
@@ -101,7 +137,7 @@ where
             answer(refusal_of_read(outcome), "", err)
         }
         Command::Decode { number } => {
-            let outcome = decode_file(alloc, number, disk, out);
+            let outcome = decode_file(alloc, *number, disk, out);
             answer(refusal_of_file(outcome), "", err)
         }
         Command::Search { asked } => match read_pattern(alloc, asked.pattern.as_bytes()) {
@@ -116,7 +152,7 @@ where
             }
             Err(refusal) => report(err, "", refusal_of_pattern(refusal)),
         },
-        Command::Ingest { asked } => ingest_files(rt, alloc, asked, shelf, disk, out, err),
+        Command::Bench { .. } => report(err, "", Refusal::Usage),
     }
 }
 

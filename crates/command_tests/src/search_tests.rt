@@ -26,6 +26,10 @@ const A_SEARCH_PRINTS: &[(&[&str], &[u8])] = &[
         b"a.log:1:12534\na.log:2:12 34\na.log:3:a12*34\nmatched 3 expanded 3 opened 1 segments 1\n",
     ),
     (&["search", "12\\*34"], b"a.log:3:a12*34\n"),
+    (
+        &["search", "y", "--stats"],
+        b"matched 0 expanded 0 opened 1 segments 1\n",
+    ),
     (&["search", "--workers=3", "--from=-5", "12"], b""),
     (
         &["search", "--stats", "y"],

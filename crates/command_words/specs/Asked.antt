@@ -1,9 +1,10 @@
 -- What words ask for.
-use Rattle.std.specs.Prelude.{◌≡◌, ◌≢◌, ℕ, ℤ, Bool, List, [], Option, Some, map, codes, Result, Ok, Err}
+use Rattle.std.specs.Prelude.{◌≡◌, ◌≢◌, ℕ, ℤ, Bool, true, List, [], Option, Some, map, codes, Result, Ok, Err}
 use Rattle.std.specs.Prelude.{◌↔◌, IsTrue, IfSome, IsSomeAnd}
 use Rattle.clap.specs.Walk.{Row, Text, all_of, first_of, rows_of}
 use Rattle.clap.specs.Matches.{found_of}
 use Rattle.clap.specs.Simple.{subcommand_of}
+use Rattle.clap.specs.Words.{takes}
 use Rattle.clap.specs.Faults.{fault_of}
 use Rattle.clap.specs.declared.parser.matches.ArgMatches.{ArgMatches}
 use Rattle.record_format.specs.Header.{IsHeader}
@@ -101,6 +102,10 @@ pub record Asks (words : List Text) (asked : Asked) : Type 0 where
   pub good : fault_of clpa words ≡ []
   pub found : subcommand_of clpa words ≡ Some (name_of asked, rows)
   pub given : Gives rows asked
+
+-- `clap` takes the words
+abbrev pub AreTaken : List Text → Type 0
+AreTaken words = takes clpa words ≡ true
 
 -- each number that was found is written as numbers are, and lies in its range
 pub record AreGood (rows : List Row) : Type 0 where

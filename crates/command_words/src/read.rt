@@ -1,7 +1,7 @@
 //! The reading of the words.
-ghost use Rattle.std.specs.Prelude.{◌≡◌, ◌≢◌, [], true, false, IfErr, IfOk, map, option_map, string_bytes};
+ghost use Rattle.std.specs.Prelude.{◌≡◌, ◌≢◌, [], false, IfErr, IfOk, map, option_map, string_bytes};
 ghost use Rattle.clap.specs.Words.{fault_of, kind_of, subcommand_of, subcommand_rows_of, takes};
-ghost use Rattle.command_words.specs.Asked.{Asked, Asks, HaveGoodNumbers, IsAnswer, IsFound, IsInRange, asked_by, refusal_by, rows_in};
+ghost use Rattle.command_words.specs.Asked.{AreTaken, Asked, Asks, HaveGoodNumbers, IsAnswer, IsFound, IsInRange, asked_by, refusal_by, rows_in};
 ghost use Rattle.command_words.specs.Forms.{clpa};
 ghost use Rattle.command_words.specs.declared.command.WordsRefusal.TheVariants.{OutOfMemory, Usage};
 
@@ -74,7 +74,7 @@ pub fn read_words<'a>(alloc: Global, words: &'a [String]) -> Result<Command<'a>,
     ensures asked { IfOk result (λ c. Asks (map string_bytes words.entry.now) (asked_by c)) }
     ensures range { IfOk result (λ c. IsInRange (asked_by c)) }
     ensures all { (a : Asked) → Asks (map string_bytes words.entry.now) a → IsAnswer a result }
-    ensures taken { takes clpa (map string_bytes words.entry.now) ≡ true
+    ensures taken { AreTaken (map string_bytes words.entry.now)
         → HaveGoodNumbers (map string_bytes words.entry.now)
         → IfErr result (λ r. r ≡ OutOfMemory) }
 {

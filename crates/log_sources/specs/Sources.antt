@@ -1,11 +1,16 @@
 -- The logs of a list of names, as sources, some of which could not be opened.
 use Rattle.std.specs.Prelude.{◌≡◌, ℕ, List, [], Option, Some, None, IfSome}
+use Rattle.std.specs.Borrow.{Bor}
 use Rattle.std.specs.List.{AllZip}
 use Rattle.log_seams.specs.Outside.{Rose}
 use Rattle.log_seams.specs.declared.refusals.OpenRefused.{OpenRefused}
 use Rattle.log_seams.specs.declared.refusals.OpenRefused.TheVariants.{Failed, OutOfMemory}
 use Rattle.log_sources.specs.declared.source.LogSource.{LogSource}
 use Rattle.log_sources.specs.declared.source.LogSource.TheVariants.{Opened, Unopened}
+
+-- the bytes of a borrowed text
+abbrev pub str_bytes : Bor (List ℕ) → List ℕ
+str_bytes text = text.now
 
 -- why it was not opened
 abbrev pub refusal_of : {S : Type 0} → LogSource S → Option OpenRefused

@@ -1,7 +1,7 @@
 //! The logs of a list of names.
-ghost use Rattle.std.specs.Prelude.{◌≡◌, ◌≤◌, ℕ, List, map, string_bytes, All, IfOk};
+ghost use Rattle.std.specs.Prelude.{◌≡◌, ◌≤◌, ℕ, List, map, All, IfOk};
 ghost use Rattle.std.specs.List.{AllZip};
-ghost use Rattle.log_sources.specs.Sources.{CameOf, IsCounted};
+ghost use Rattle.log_sources.specs.Sources.{CameOf, IsCounted, str_bytes};
 
 use crate::source::LogSource;
 use log_seams::Shelf;
@@ -27,7 +27,7 @@ fn open_one<H: Shelf>(shelf: &mut H, name: &str) -> LogSource<H::Src>
 pub fn open_logs<H: Shelf>(
     alloc: Global,
     shelf: &mut H,
-    names: &[String],
+    names: &[&str],
 ) -> Result<Vec<LogSource<H::Src>>, AllocError>
     // what stays
     ensures content { (n : List ℕ) → H.content shelf.new n ≡ H.content shelf.old n }
@@ -39,11 +39,11 @@ pub fn open_logs<H: Shelf>(
     ensures came { IfOk result (λ sources.
         AllZip (CameOf H.Src.left H.Src.name H.Src.faults (H.content shelf.old)
         (H.open_faults shelf.old) (H.open_faults shelf.new))
-        (map string_bytes names.now) sources.items) }
+        (map str_bytes names.now) sources.items) }
 {
     let mut sources = Vec::with_capacity(alloc, names.len())?;
     for name in names {
-        let source = open_one(shelf, name.as_str());
+        let source = open_one(shelf, name);
         sources.push_reserved(source);
     }
     Ok(sources)

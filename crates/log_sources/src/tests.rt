@@ -23,10 +23,7 @@ fn shelf_of(
 fn a_log_that_is_not_there_fails_at_each_read(rt: HostRuntime) -> Result<(), Fail> {
     let alloc = rt.alloc();
     let mut shelf = shelf_of(alloc, "a.log", b"xy", &[])?;
-    let mut names = Vec::new(alloc);
-    names.push(String::from_str(alloc, "gone.log")?)?;
-    names.push(String::from_str(alloc, "a.log")?)?;
-    let mut sources = open_logs(alloc, &mut shelf, names.as_slice())?;
+    let mut sources = open_logs(alloc, &mut shelf, &["gone.log", "a.log"])?;
     assert_eq!(rt; sources.len(), 2);
     let mut buf = [0; 4];
     let Some(mut there) = sources.pop() else {

@@ -1,9 +1,10 @@
-use Rattle.std.proofs.Common.{◌≡◌, map, string_bytes, take, length, vec_len, vec_capacity}
+use Rattle.std.proofs.Common.{◌≡◌, map, take, length, vec_len, vec_capacity}
+use Rattle.log_sources.specs.Sources.{str_bytes}
 use Rattle.clp_commands.proofs.append.texts_of.Given as goal
 
 abbrev pub invariant-loop-name : goal.invariant-loop-name
 invariant-loop-name l = record {
   room : vec_capacity l.texts ≡ length l.names;
   count : vec_len l.texts ≡ l.name-index;
-  these : l.texts.items ≡ take l.name-index (map string_bytes l.names);
+  these : l.texts.items ≡ take l.name-index (map str_bytes l.names);
 }

@@ -1,7 +1,8 @@
-use Rattle.std.proofs.Common.{arith, length, map, string_bytes, subst, sym, ◌≡◌, ◌∙◌}
+use Rattle.std.proofs.Common.{arith, length, map, subst, sym, ◌≡◌, ◌∙◌}
 use Rattle.std.specs.Prelude.{IfErr}
 use Rattle.std.proofs.lemmas.Result.{err_from_is_err_and}
 use Rattle.disk_journal.specs.Journal.{state_of}
+use Rattle.log_sources.specs.Sources.{str_bytes}
 use Rattle.clp_commands.specs.Going.{DiskGoesOn}
 use Rattle.clp_commands.specs.IngestPrints.{came_of}
 use Rattle.clp_commands.specs.Ingested.{FromArchive, HasCallCause, TakesIn, TakesNothing}
@@ -24,7 +25,7 @@ pub returns-in_err-check_told-clause-cause : goal.returns-in_err-check_told-clau
 returns-in_err-check_told-clause-cause g c =
     let told = c.check_told.ensures in
     let p = err_from_is_err_and c.from_residual.result c.from_residual.ensures.1 in
-    refused_with (map string_bytes c.args.asked.files.now) (g.D.Disk.state c.args.disk.now) (g.D.Disk.state c.check_told.new.disk) c.from_residual.result p.0 _ p.1 p.2 (told_cause (map string_bytes c.args.asked.files.now) (g.D.Disk.state c.args.disk.now) (g.D.Disk.state c.check_told.new.disk) c.check_told.result c.in_err-check_told.field-0.0 c.in_err-check_told.was told.sink told.damaged told.disk)
+    refused_with (map str_bytes c.args.asked.files.now) (g.D.Disk.state c.args.disk.now) (g.D.Disk.state c.check_told.new.disk) c.from_residual.result p.0 _ p.1 p.2 (told_cause (map str_bytes c.args.asked.files.now) (g.D.Disk.state c.args.disk.now) (g.D.Disk.state c.check_told.new.disk) c.check_told.result c.in_err-check_told.field-0.0 c.in_err-check_told.was told.sink told.damaged told.disk)
 
 pub returns-in_err-header-clause-nothing : goal.returns-in_err-header-clause-nothing
 returns-in_err-header-clause-nothing g c =
@@ -38,7 +39,7 @@ returns-in_err-header-clause-cause g c =
     let told = c.check_told.ensures in
     let begun = c.start.ensures in
     let p = err_from_is_err_and c.from_residual-in_err-header.result c.from_residual-in_err-header.ensures.1 in
-    refused_with (map string_bytes c.args.asked.files.now) (g.D.Disk.state c.args.disk.now) (g.D.Disk.state c.start.new.disk) c.from_residual-in_err-header.result p.0 _ p.1 p.2 (start_cause (map string_bytes c.args.asked.files.now) (g.D.Disk.state c.args.disk.now) (g.D.Disk.state c.check_told.new.disk) (g.D.Disk.state c.start.new.disk) c.start.result c.in_err-header.field-0.0 c.in_err-header.was told.disk.later told.keeps.seen begun.damaged begun.counts)
+    refused_with (map str_bytes c.args.asked.files.now) (g.D.Disk.state c.args.disk.now) (g.D.Disk.state c.start.new.disk) c.from_residual-in_err-header.result p.0 _ p.1 p.2 (start_cause (map str_bytes c.args.asked.files.now) (g.D.Disk.state c.args.disk.now) (g.D.Disk.state c.check_told.new.disk) (g.D.Disk.state c.start.new.disk) c.start.result c.in_err-header.field-0.0 c.in_err-header.was told.disk.later told.keeps.seen begun.damaged begun.counts)
 
 pub returns-in_err-named-clause-nothing : goal.returns-in_err-named-clause-nothing
 returns-in_err-named-clause-nothing g c =
@@ -58,10 +59,10 @@ returns-in_err-named-clause-cause g c =
     let begun = c.start.ensures in
     let back = c.in_err-named.disk-1-own.given.1 (sym (c.open_and_name.ensures.name ∙ c.begin-journal.ensures.name)) in
     let p = err_from_is_err_and c.from_residual-in_err-named.result c.from_residual-in_err-named.ensures.1 in
-    subst (λ d. IfErr c.from_residual-in_err-named.result (HasCallCause (map string_bytes c.args.asked.files.now) (g.D.Disk.state c.args.disk.now) (g.D.Disk.state d))) (sym back)
-    (refused_with (map string_bytes c.args.asked.files.now) (g.D.Disk.state c.args.disk.now) (g.D.Disk.state c.open_and_name.new.journal.disk.now) c.from_residual-in_err-named.result p.0 _ p.1 p.2
-    (cause_sooner (map string_bytes c.args.asked.files.now) (g.D.Disk.state c.args.disk.now) (g.D.Disk.state c.check_told.new.disk) (g.D.Disk.state c.start.new.disk) (g.D.Disk.state c.open_and_name.new.journal.disk.now) (record { law_old = law _; law_mid = law _; law_new = law _; first = told.keeps; second = begun.keeps; counts = omega (arith, told.disk.later, begun.counts.later) }) c.in_err-named.field-0.0
-    (subst (λ d. HasCallCause (map string_bytes c.args.asked.files.now) (g.D.Disk.state d) (g.D.Disk.state c.open_and_name.new.journal.disk.now) c.in_err-named.field-0.0) c.begin-journal.ensures.disk c.in_err-named.ensures.cause)))
+    subst (λ d. IfErr c.from_residual-in_err-named.result (HasCallCause (map str_bytes c.args.asked.files.now) (g.D.Disk.state c.args.disk.now) (g.D.Disk.state d))) (sym back)
+    (refused_with (map str_bytes c.args.asked.files.now) (g.D.Disk.state c.args.disk.now) (g.D.Disk.state c.open_and_name.new.journal.disk.now) c.from_residual-in_err-named.result p.0 _ p.1 p.2
+    (cause_sooner (map str_bytes c.args.asked.files.now) (g.D.Disk.state c.args.disk.now) (g.D.Disk.state c.check_told.new.disk) (g.D.Disk.state c.start.new.disk) (g.D.Disk.state c.open_and_name.new.journal.disk.now) (record { law_old = law _; law_mid = law _; law_new = law _; first = told.keeps; second = begun.keeps; counts = omega (arith, told.disk.later, begun.counts.later) }) c.in_err-named.field-0.0
+    (subst (λ d. HasCallCause (map str_bytes c.args.asked.files.now) (g.D.Disk.state d) (g.D.Disk.state c.open_and_name.new.journal.disk.now) c.in_err-named.field-0.0) c.begin-journal.ensures.disk c.in_err-named.ensures.cause)))
 
 -- ---- taken in
 
@@ -69,8 +70,8 @@ pub returns-clause-number : goal.returns-clause-number
 returns-clause-number g c =
     let told = c.check_told.ensures in
     let begun = c.start.ensures in
-    numbered_from (g.D.Disk.state c.args.disk.now) (g.D.Disk.state c.start.new.disk) (map string_bytes c.args.asked.files.now) c.in_ok-named.named.first (state_of c.open_and_name.new.journal) (begun.keeps.seen ∙ told.keeps.seen) c.in_ok-header.ensures.begins.synced
-    (subst (λ d. FromArchive (g.D.Disk.state d) (λ h before bytes stood. AddsNamesTo h before stood (map string_bytes c.args.asked.files.now) c.in_ok-named.named.first (g.D.Disk.state d) (state_of c.open_and_name.new.journal))) c.begin-journal.ensures.disk c.in_ok-named.ensures.names)
+    numbered_from (g.D.Disk.state c.args.disk.now) (g.D.Disk.state c.start.new.disk) (map str_bytes c.args.asked.files.now) c.in_ok-named.named.first (state_of c.open_and_name.new.journal) (begun.keeps.seen ∙ told.keeps.seen) c.in_ok-header.ensures.begins.synced
+    (subst (λ d. FromArchive (g.D.Disk.state d) (λ h before bytes stood. AddsNamesTo h before stood (map str_bytes c.args.asked.files.now) c.in_ok-named.named.first (g.D.Disk.state d) (state_of c.open_and_name.new.journal))) c.begin-journal.ensures.disk c.in_ok-named.ensures.names)
 
 pub returns-clause-taken : goal.returns-clause-taken
 returns-clause-taken g c =
@@ -79,10 +80,10 @@ returns-clause-taken g c =
     let begun = c.start.ensures in
     let back = c.disk-2-1.given.1 (sym (c.take_in-journal.ensures.goes_on.name ∙ (c.open_and_name.ensures.name ∙ c.begin-journal.ensures.name))) in
     let goes = (subst (λ d. DiskGoesOn (g.D.Disk.state d) (g.D.Disk.state c.open_and_name.new.journal.disk.now)) c.begin-journal.ensures.disk c.open_and_name.ensures.goes_on) in
-    subst (λ d. FromArchive (g.D.Disk.state c.args.disk.now) (λ h before bytes stood. TakesIn (g.H.Shelf.content c.args.shelf.now) h before stood (map string_bytes c.args.asked.files.now) (map came_of c.take_in-journal.new.taken.items) (g.D.Disk.state c.args.disk.now) (g.D.Disk.state d))) (sym back)
-    (takes_sooner (g.D.Disk.state c.args.disk.now) (g.D.Disk.state c.check_told.new.disk) (g.D.Disk.state c.start.new.disk) (record { law_old = law _; law_mid = law _; law_new = law _; first = told.keeps; second = begun.keeps; counts = omega (arith, told.disk.later, begun.counts.later) }) (g.H.Shelf.content c.args.shelf.now) (map string_bytes c.args.asked.files.now) c.in_ok-named.named.first (map came_of c.take_in-journal.new.taken.items) (state_of c.open_and_name.new.journal) _
+    subst (λ d. FromArchive (g.D.Disk.state c.args.disk.now) (λ h before bytes stood. TakesIn (g.H.Shelf.content c.args.shelf.now) h before stood (map str_bytes c.args.asked.files.now) (map came_of c.take_in-journal.new.taken.items) (g.D.Disk.state c.args.disk.now) (g.D.Disk.state d))) (sym back)
+    (takes_sooner (g.D.Disk.state c.args.disk.now) (g.D.Disk.state c.check_told.new.disk) (g.D.Disk.state c.start.new.disk) (record { law_old = law _; law_mid = law _; law_new = law _; first = told.keeps; second = begun.keeps; counts = omega (arith, told.disk.later, begun.counts.later) }) (g.H.Shelf.content c.args.shelf.now) (map str_bytes c.args.asked.files.now) c.in_ok-named.named.first (map came_of c.take_in-journal.new.taken.items) (state_of c.open_and_name.new.journal) _
     (law _) goes.counts c.take_in-journal.ensures.goes_on.disk
-    (subst (λ d. FromArchive (g.D.Disk.state d) (λ h before bytes stood. AddsNamesTo h before stood (map string_bytes c.args.asked.files.now) c.in_ok-named.named.first (g.D.Disk.state d) (state_of c.open_and_name.new.journal))) c.begin-journal.ensures.disk c.in_ok-named.ensures.names)
+    (subst (λ d. FromArchive (g.D.Disk.state d) (λ h before bytes stood. AddsNamesTo h before stood (map str_bytes c.args.asked.files.now) c.in_ok-named.named.first (g.D.Disk.state d) (state_of c.open_and_name.new.journal))) c.begin-journal.ensures.disk c.in_ok-named.ensures.names)
     c.take_in-journal.ensures.taken)
 
 pub returns-clause-goes_on : goal.returns-clause-goes_on

@@ -1,6 +1,9 @@
-use Rattle.std.proofs.Common.{arith, ap, rules, sym, suc, string_bytes, ℕ, ◌≡◌, ◌∙◌, None, Some, drop, get_or, length, reverse}
+use Rattle.std.proofs.Common.{arith, ap, refl, rules, sym, suc, ℕ, List, [], ◌≡◌, ◌<◌, ◌∙◌, None, Some, drop, get_or, length, reverse}
 use Rattle.std.specs.Prelude.{slice_get}
+use Rattle.std.specs.Borrow.{Bor}
+use Rattle.std.proofs.lemmas.List.{get_or_default}
 use Rattle.ingest_workers.specs.declared.outcome.Outcome.{Outcome}
+use Rattle.log_sources.specs.Sources.{str_bytes}
 use Rattle.clp_commands.specs.Jobs.{IsToldBy, refusal_by}
 use Rattle.clp_commands.specs.declared.taken.TakenFile.{TakenFile}
 use Rattle.clp_commands.proofs.JobLemmas.{named_next}
@@ -10,10 +13,13 @@ use Rattle.clp_commands.proofs.ingest.end_jobs.Goals as goal
 pub loop-job-preserved : goal.loop-job-preserved
 loop-job-preserved g c =
     let before = c.loop-job.invariant in
+    let none : Bor (List ℕ) = record { ref_ptr = (0, 0); now = [] } in
+    let name = get_or c.args.names.now c.len-place.result none in
+    let within : c.len-place.result < length c.args.names.now = omega (arith, c.len-place.ensures, c.in-Some.ensures.len, before.count) in
     let next = next_of c.args.jobs.now.items (length c.loop-job.taken.items) c.in-Some.job _ (before.left ∙ popped_of _ _ _ c.in-Some.ensures.items) in
     record {
-      named = named_next string_bytes (λ (file : TakenFile). file.name.now) c.args.names.now c.loop-job.taken.items _ c.len-place.result c.index-names-place.result _
-          (omega (arith, c.len-place.ensures)) (omega (arith, c.len-place.ensures, c.in-Some.ensures.len, before.count)) c.index-names-place.is c.as_str.ensures.value c.push_reserved.ensures.items before.named;
+      named = named_next str_bytes (λ (file : TakenFile). file.name.now) c.args.names.now c.loop-job.taken.items _ c.len-place.result name _
+          (omega (arith, c.len-place.ensures)) within (get_or_default c.args.names.now c.len-place.result none name within) refl c.push_reserved.ensures.items before.named;
       count = omega (arith, c.push_reserved.ensures.len, c.in-Some.ensures.len, before.count);
       room = c.push_reserved.ensures.capacity ∙ before.room;
       ended = omega (arith, c.push_reserved-in-Some.ensures.len, c.push_reserved.ensures.len, before.ended);

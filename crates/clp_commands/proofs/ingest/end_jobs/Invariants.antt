@@ -1,5 +1,6 @@
-use Rattle.std.proofs.Common.{◌≡◌, ◌+◌, ℕ, Some, drop, length, map, reverse, take, string_bytes, vec_len, vec_capacity}
+use Rattle.std.proofs.Common.{◌≡◌, ◌+◌, ℕ, Some, drop, length, map, reverse, take, vec_len, vec_capacity}
 use Rattle.std.specs.Prelude.{slice_get}
+use Rattle.log_sources.specs.Sources.{str_bytes}
 use Rattle.clp_commands.specs.IngestPrints.{names_of}
 use Rattle.clp_commands.specs.Jobs.{IsToldBy}
 use Rattle.clp_commands.specs.declared.taken.TakenFile.{TakenFile}
@@ -7,7 +8,7 @@ use Rattle.clp_commands.proofs.ingest.end_jobs.Given as goal
 
 abbrev pub invariant-loop-job : goal.invariant-loop-job
 invariant-loop-job g l = record {
-  named : names_of l.taken.items ≡ take (length l.taken.items) (map string_bytes l.names);
+  named : names_of l.taken.items ≡ take (length l.taken.items) (map str_bytes l.names);
   count : vec_len l.taken + vec_len l.jobs ≡ length l.names;
   room : vec_capacity l.taken ≡ vec_capacity l.fn.taken;
   ended : vec_len l.sources ≡ vec_len l.taken;

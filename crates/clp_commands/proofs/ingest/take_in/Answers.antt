@@ -1,6 +1,6 @@
-use Rattle.std.proofs.Common.{ap, arith, string_bytes, subst, sym, ◌≡◌, ◌∙◌, ℕ, List, length, map}
+use Rattle.std.proofs.Common.{ap, arith, subst, sym, ◌≡◌, ◌∙◌, ℕ, List, length, map}
 use Rattle.std.proofs.lemmas.List.{length-map}
-use Rattle.log_sources.specs.Sources.{refusal_of}
+use Rattle.log_sources.specs.Sources.{refusal_of, str_bytes}
 use Rattle.disk_journal.specs.declared.journal.Journal.{Journal}
 use Rattle.disk_journal.specs.Journal.{state_of}
 use Rattle.clp_commands.specs.IngestPrints.{came_of}
@@ -36,34 +36,34 @@ returns-in_default-open_logs-clause-taken g c =
 
 pub begin_jobs-requires-clause-few : goal.begin_jobs-requires-clause-few
 begin_jobs-requires-clause-few g c =
-    let many = as_many _ (map string_bytes c.args.asked.files.now) c.in-Ok-open_logs.sources.items c.in-Ok-open_logs.ensures.came in
-    omega (arith, many, length-map c.args.asked.files.now string_bytes, c.in-Ok-open_logs.sources.ok.0, c.requires.named.few)
+    let many = as_many _ (map str_bytes c.args.asked.files.now) c.in-Ok-open_logs.sources.items c.in-Ok-open_logs.ensures.came in
+    omega (arith, many, length-map c.args.asked.files.now str_bytes, c.in-Ok-open_logs.sources.ok.0, c.requires.named.few)
 
 pub begin_jobs-requires-clause-room : goal.begin_jobs-requires-clause-room
 begin_jobs-requires-clause-room g c =
-    let many = as_many _ (map string_bytes c.args.asked.files.now) c.in-Ok-open_logs.sources.items c.in-Ok-open_logs.ensures.came in (
-      omega (arith, many, length-map c.args.asked.files.now string_bytes, c.in-Ok-open_logs.sources.ok.0, c.in-Ok-with_capacity.ensures.capacity),
-      omega (arith, many, length-map c.args.asked.files.now string_bytes, c.in-Ok-open_logs.sources.ok.0, c.in-Ok.ensures.capacity),
+    let many = as_many _ (map str_bytes c.args.asked.files.now) c.in-Ok-open_logs.sources.items c.in-Ok-open_logs.ensures.came in (
+      omega (arith, many, length-map c.args.asked.files.now str_bytes, c.in-Ok-open_logs.sources.ok.0, c.in-Ok-with_capacity.ensures.capacity),
+      omega (arith, many, length-map c.args.asked.files.now str_bytes, c.in-Ok-open_logs.sources.ok.0, c.in-Ok.ensures.capacity),
     )
 
 pub ingest-requires-clause-jobs : goal.ingest-requires-clause-jobs
 ingest-requires-clause-jobs g c κs within =
-    let many = as_many _ (map string_bytes c.args.asked.files.now) c.in-Ok-open_logs.sources.items c.in-Ok-open_logs.ensures.came in
+    let many = as_many _ (map str_bytes c.args.asked.files.now) c.in-Ok-open_logs.sources.items c.in-Ok-open_logs.ensures.came in
     let counted : length c.begin_jobs.new.jobs.items ≡ length c.args.asked.files.now
-    = omega (arith, many, length-map c.args.asked.files.now string_bytes, c.in-Ok-open_logs.sources.ok.0, c.begin_jobs.ensures.count, c.begin_jobs.new.jobs.ok.0) in
+    = omega (arith, many, length-map c.args.asked.files.now str_bytes, c.in-Ok-open_logs.sources.ok.0, c.begin_jobs.ensures.count, c.begin_jobs.new.jobs.ok.0) in
     rw c.as_mut_slice.ensures.value (are_new _ _ _ _ _ c.begin_jobs.new.jobs.items c.requires.named c.begin_jobs.ensures.numbered counted)
 
 pub end_jobs-requires-clause-count : goal.end_jobs-requires-clause-count
 end_jobs-requires-clause-count g c =
-    let many = as_many _ (map string_bytes c.args.asked.files.now) c.in-Ok-open_logs.sources.items c.in-Ok-open_logs.ensures.came in (
-      omega (arith, many, length-map c.args.asked.files.now string_bytes, c.in-Ok-open_logs.sources.ok.0, c.begin_jobs.ensures.count),
-      ap length (c.as_slice.ensures.value ∙ c.begin_jobs.ensures.openings) ∙ (length-map c.in-Ok-open_logs.sources.items refusal_of ∙ (many ∙ length-map c.args.asked.files.now string_bytes)),
+    let many = as_many _ (map str_bytes c.args.asked.files.now) c.in-Ok-open_logs.sources.items c.in-Ok-open_logs.ensures.came in (
+      omega (arith, many, length-map c.args.asked.files.now str_bytes, c.in-Ok-open_logs.sources.ok.0, c.begin_jobs.ensures.count),
+      ap length (c.as_slice.ensures.value ∙ c.begin_jobs.ensures.openings) ∙ (length-map c.in-Ok-open_logs.sources.items refusal_of ∙ (many ∙ length-map c.args.asked.files.now str_bytes)),
     )
 
 pub end_jobs-requires-clause-sources : goal.end_jobs-requires-clause-sources
 end_jobs-requires-clause-sources g c =
-    let many = as_many _ (map string_bytes c.args.asked.files.now) c.in-Ok-open_logs.sources.items c.in-Ok-open_logs.ensures.came in
-    omega (arith, many, length-map c.args.asked.files.now string_bytes, c.in-Ok-open_logs.sources.ok.0, c.in-Ok-open_logs.sources.ok.1, c.begin_jobs.ensures.room)
+    let many = as_many _ (map str_bytes c.args.asked.files.now) c.in-Ok-open_logs.sources.items c.in-Ok-open_logs.ensures.came in
+    omega (arith, many, length-map c.args.asked.files.now str_bytes, c.in-Ok-open_logs.sources.ok.0, c.in-Ok-open_logs.sources.ok.1, c.begin_jobs.ensures.room)
 
 -- ---- what the journal is left with
 
@@ -81,15 +81,15 @@ returns-clause-taken g c =
     let numbered = subst (AreNumbered c.args.named.first) (sym is) c.begin_jobs.ensures.numbered in
     let openings = c.as_slice.ensures.value ∙ c.begin_jobs.ensures.openings in
     elim c.match-ingest.branch [
-      | in-Ok-ingest w ↦ subst (λ (x : Journal _ _). TakesInto (g.H.Shelf.content c.args.shelf.now) (map string_bytes c.args.asked.files.now) c.args.named.first (map came_of c.end_jobs.new.taken.items) (state_of c.args.journal) (g.D.Disk.state x.disk.now)) (sym w.journal-is)
+      | in-Ok-ingest w ↦ subst (λ (x : Journal _ _). TakesInto (g.H.Shelf.content c.args.shelf.now) (map str_bytes c.args.asked.files.now) c.args.named.first (map came_of c.end_jobs.new.taken.items) (state_of c.args.journal) (g.D.Disk.state x.disk.now)) (sym w.journal-is)
           (done_takes_into g.H.Src.Source.left g.H.Src.Source.name g.H.Src.Source.faults (g.H.Shelf.content c.args.shelf.now) (g.H.Shelf.open_faults c.args.shelf.now) (g.H.Shelf.open_faults c.open_logs.new.shelf)
-          (map string_bytes c.args.asked.files.now) c.in-Ok-open_logs.sources.items c.in-Ok-open_logs.ensures.came c.args.named.first c.as_mut_slice.result.now sourced numbered c.as_slice.result.now openings
+          (map str_bytes c.args.asked.files.now) c.in-Ok-open_logs.sources.items c.in-Ok-open_logs.ensures.came c.args.named.first c.as_mut_slice.result.now sourced numbered c.as_slice.result.now openings
           c.ingest.new.jobs c.end_jobs.new.taken.items c.end_jobs.ensures.names
           (told_back (λ (jobs : List (Job _)) (i : ℕ) (file : TakenFile). IsToldBy c.as_slice.result.now jobs i file) c.end_jobs.new.taken.items c.begin_jobs.new.jobs.len c.ingest.new.jobs _ (omega (arith, w.in-Ok-ingest.ensures.done.stored.counted, ap length is, c.begin_jobs.new.jobs.ok.0)) c.end_jobs.ensures.told)
           c.args.journal _ (law _) c.args.asked.segment w.in-Ok-ingest.ensures.done)
-      | in-Err w ↦ subst (λ (x : Journal _ _). TakesInto (g.H.Shelf.content c.args.shelf.now) (map string_bytes c.args.asked.files.now) c.args.named.first (map came_of c.end_jobs.new.taken.items) (state_of c.args.journal) (g.D.Disk.state x.disk.now)) (sym w.journal-is)
+      | in-Err w ↦ subst (λ (x : Journal _ _). TakesInto (g.H.Shelf.content c.args.shelf.now) (map str_bytes c.args.asked.files.now) c.args.named.first (map came_of c.end_jobs.new.taken.items) (state_of c.args.journal) (g.D.Disk.state x.disk.now)) (sym w.journal-is)
           (refused_takes_into g.H.Src.Source.left g.H.Src.Source.name g.H.Src.Source.faults (g.H.Shelf.content c.args.shelf.now) (g.H.Shelf.open_faults c.args.shelf.now) (g.H.Shelf.open_faults c.open_logs.new.shelf)
-          (map string_bytes c.args.asked.files.now) c.in-Ok-open_logs.sources.items c.in-Ok-open_logs.ensures.came c.args.named.first c.as_mut_slice.result.now sourced numbered c.as_slice.result.now openings
+          (map str_bytes c.args.asked.files.now) c.in-Ok-open_logs.sources.items c.in-Ok-open_logs.ensures.came c.args.named.first c.as_mut_slice.result.now sourced numbered c.as_slice.result.now openings
           c.ingest.new.jobs c.end_jobs.new.taken.items c.end_jobs.ensures.names
           (told_back (λ (jobs : List (Job _)) (i : ℕ) (file : TakenFile). IsToldBy c.as_slice.result.now jobs i file) c.end_jobs.new.taken.items c.begin_jobs.new.jobs.len c.ingest.new.jobs _ (omega (arith, w.in-Err.ensures.jobs.counted, ap length is, c.begin_jobs.new.jobs.ok.0)) c.end_jobs.ensures.told)
           c.args.journal _ (law _) (law _) c.requires.named.opens w.in-Err.ensures.refused w.in-Err.ensures.jobs)

@@ -1,0 +1,116 @@
+use Rattle.std.proofs.Common.{refl, rules, subst, []}
+use Rattle.log_sources.specs.Sources.{str_bytes}
+use Rattle.wild_match.specs.Reading.{IsSearchPattern}
+use Rattle.clp_commands.specs.Answers.{IsPatternRefusal}
+use Rattle.wild_match.proofs.Spelling.{IsSearchPattern-not_lone}
+use Rattle.clp_commands.proofs.AnswerLemmas.{RefusesPattern-from, pattern_refusal}
+use Rattle.clp_commands.proofs.GoingLemmas.{KeepsBytes-same}
+use Rattle.clp_commands.proofs.CommandLemmas.{some_of}
+use Rattle.clp_commands.proofs.CompleteLemmas.{check_answers, decode_answers, files_answers, search_answers, search_pattern, search_refused}
+use Rattle.clp_commands.proofs.top.carry_out.Goals as goal
+
+pub returns-in-Show-clause-answers : goal.returns-in-Show-clause-answers
+returns-in-Show-clause-answers g c =
+    rw (c.in-Show.is) c.print_and_report.ensures.answers
+
+pub returns-in-Scan-clause-answers : goal.returns-in-Scan-clause-answers
+returns-in-Scan-clause-answers g c =
+    rw (c.in-Scan.is) (record { lone_backslash = c.scan.ensures.lone; good = c.scan.ensures.good })
+
+pub returns-in-Create-clause-answers : goal.returns-in-Create-clause-answers
+returns-in-Create-clause-answers g c =
+    rw (c.in-Create.is) (record { answer = c.create-outcome.result; ends = rw (← c.refusal_of_create.ensures) (record { status_is = c.answer.ensures.status; said = c.answer.ensures.said }); leaves = c.create-outcome.ensures.leaves; nothing = refl; sink = refl })
+
+pub create-outcome-requires : goal.create-outcome-requires
+create-outcome-requires g c = rw (c.in-Create.is) at c.requires
+
+pub returns-in-Create-clause-keeps : goal.returns-in-Create-clause-keeps
+returns-in-Create-clause-keeps g c = λ none. absurd (none (rw (c.in-Create.is) tt))
+
+pub returns-in-Create-clause-untouched : goal.returns-in-Create-clause-untouched
+returns-in-Create-clause-untouched g c = λ none. absurd (none (rw (c.in-Create.is) tt))
+
+pub returns-in-Files-clause-answers : goal.returns-in-Files-clause-answers
+returns-in-Files-clause-answers g c =
+    let done = c.files-outcome.ensures in
+    rw (c.in-Files.is) (files_answers _ _ _ _ c.files-outcome.result (rw (← c.refusal_of_read.ensures) (record { status_is = c.answer-in-Files.ensures.status; said = c.answer-in-Files.ensures.said })) done.keeps done.disk done.sink done.prints (λ at is. done.damaged at (search (rules, is))))
+
+pub returns-in-Files-clause-untouched : goal.returns-in-Files-clause-untouched
+returns-in-Files-clause-untouched g c = λ none. absurd (none (rw (c.in-Files.is) tt))
+
+pub returns-in-Check-clause-answers : goal.returns-in-Check-clause-answers
+returns-in-Check-clause-answers g c =
+    let done = c.check-outcome.ensures in
+    rw (c.in-Check.is) (check_answers _ _ _ _ c.check-outcome.result (rw (← c.refusal_of_read-in-Check.ensures) (record { status_is = c.answer-in-Check.ensures.status; said = c.answer-in-Check.ensures.said })) done.keeps done.disk done.sink done.prints (λ at is. done.damaged at (search (rules, is))))
+
+pub returns-in-Check-clause-untouched : goal.returns-in-Check-clause-untouched
+returns-in-Check-clause-untouched g c = λ none. absurd (none (rw (c.in-Check.is) tt))
+
+pub returns-in-Decode-clause-answers : goal.returns-in-Decode-clause-answers
+returns-in-Decode-clause-answers g c =
+    let done = c.decode_file-outcome.ensures in
+    rw (c.in-Decode.is) (decode_answers c.in-Decode.number _ _ _ _ c.decode_file-outcome.result (rw (← c.refusal_of_file.ensures) (record { status_is = c.answer-in-Decode.ensures.status; said = c.answer-in-Decode.ensures.said })) done.keeps done.disk done.sink done.prints
+    (λ at is. done.damaged at (search (rules, is))) (λ told count is. done.lacks told count (search (rules, is))) done.there)
+
+pub returns-in-Decode-clause-untouched : goal.returns-in-Decode-clause-untouched
+returns-in-Decode-clause-untouched g c = λ none. absurd (none (rw (c.in-Decode.is) tt))
+
+pub search_archive-outcome-requires : goal.search_archive-outcome-requires
+search_archive-outcome-requires g c = record { searched = c.wide_is_wider.ensures.searched _ _ c.in-Ok.ensures.items }
+
+pub returns-in-Ok-clause-answers : goal.returns-in-Ok-clause-answers
+returns-in-Ok-clause-answers g c =
+    let done = c.search_archive-outcome.ensures in
+    let items = subst (λ t. IsSearchPattern t c.in-Ok.pattern) c.as_bytes.ensures.value c.in-Ok.ensures.items in
+    rw (c.in-Search.is) (record {
+      lone_backslash = λ at lone. absurd (IsSearchPattern-not_lone _ _ at items lone);
+      good = λ its is. search_pattern _ _ _ _ _ _ _ _ _ items is
+          (search_answers _ _ _ _ _ _ c.search_archive-outcome.result (rw (← c.refusal_of_read-in-Ok.ensures) (record { status_is = c.answer-in-Ok.ensures.status; said = c.answer-in-Ok.ensures.said })) done.keeps done.disk done.sink done.prints done.reads (λ at is. done.damaged at (search (rules, is))));
+    })
+
+pub returns-in-Ok-clause-untouched : goal.returns-in-Ok-clause-untouched
+returns-in-Ok-clause-untouched g c = λ none. absurd (none (rw (c.in-Search.is) tt))
+
+pub returns-in-Err-clause-answers : goal.returns-in-Err-clause-answers
+returns-in-Err-clause-answers g c =
+    let refused = subst (λ t. IsPatternRefusal t c.in-Err.refusal) c.as_bytes.ensures.value (pattern_refusal _ _ c.in-Err.refusal c.in-Err.is c.read_pattern.ensures.bad) in
+    rw (c.in-Search.is) (record {
+      lone_backslash = λ at lone. RefusesPattern-from _ [] _ _ at c.in-Err.refusal refused lone (rw (← c.refusal_of_pattern.ensures) c.report.ensures.status) (rw (← c.refusal_of_pattern.ensures) c.report.ensures.said) refl refl;
+      good = λ its is. search_refused _ _ _ _ _ _ c.in-Err.refusal refused (λ at lone. IsSearchPattern-not_lone _ its at is lone) (rw (← c.refusal_of_pattern.ensures) c.report.ensures.status) (rw (← c.refusal_of_pattern.ensures) c.report.ensures.said) refl refl;
+    })
+
+pub ingest_files-requires-clause-workers : goal.ingest_files-requires-clause-workers
+ingest_files-requires-clause-workers g c κs within =
+    let range = rw (c.in-Ingest.is) at c.requires in
+    rw (c.of.ensures.workers) (range.workers_are.low, range.workers_are.high)
+
+pub ingest_files-requires-clause-segment : goal.ingest_files-requires-clause-segment
+ingest_files-requires-clause-segment g c κs within =
+    let range = rw (c.in-Ingest.is) at c.requires in
+    rw (c.of.ensures.segment) (range.segment_is.low, range.segment_is.high)
+
+pub ingest_files-requires-clause-some : goal.ingest_files-requires-clause-some
+ingest_files-requires-clause-some g c κs within =
+    let range = rw (c.in-Ingest.is) at c.requires in
+    rw (c.of.ensures.files) (some_of str_bytes c.in-Ingest.asked.files.items range.some)
+
+pub returns-in-Ingest-clause-answers : goal.returns-in-Ingest-clause-answers
+returns-in-Ingest-clause-answers g c =
+    rw (c.in-Ingest.is) (rw (← c.of.ensures.files) c.ingest_files.ensures.ends)
+
+pub returns-in-Ingest-clause-keeps : goal.returns-in-Ingest-clause-keeps
+returns-in-Ingest-clause-keeps g c = λ none. absurd (none (rw (c.in-Ingest.is) tt))
+
+pub returns-in-Ingest-clause-untouched : goal.returns-in-Ingest-clause-untouched
+returns-in-Ingest-clause-untouched g c = λ none. absurd (none (rw (c.in-Ingest.is) tt))
+
+pub returns-in-Bench-clause-answers : goal.returns-in-Bench-clause-answers
+returns-in-Bench-clause-answers g c =
+    rw (c.in-Bench.is) (record {
+      refuses = record { ends = record { status_is = c.report-in-Bench.ensures.status; said = c.report-in-Bench.ensures.said }; nothing = refl; sink = refl };
+      bytes = KeepsBytes-same _;
+      ranges = refl;
+      faults = refl;
+      opens = λ name. refl;
+      reads = λ name. refl;
+    })
