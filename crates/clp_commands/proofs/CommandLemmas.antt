@@ -16,7 +16,7 @@ use Rattle.clp_commands.specs.Answers.{Answers, AnswersCreate, AnswersLog, Refus
 use Rattle.clp_commands.specs.Counted.{AnswersCheck}
 use Rattle.clp_commands.specs.Decoding.{AnswersDecode}
 use Rattle.clp_commands.specs.Directory.{AnswersFiles}
-use Rattle.clp_commands.specs.Ingested.{EndsIngest}
+use Rattle.clp_commands.specs.Ingested.{AnswersIngest}
 use Rattle.clp_commands.specs.declared.refusal.Refusal.TheVariants.{Usage}
 
 -- words whose first one is that of another command
@@ -288,7 +288,7 @@ Answers-usage words seen old new status none refuses = record {
 -- words that ask to ingest ask for one ingest alone
 pub Answers-ingest : (words : List (List ℕ)) (seen : Around) (old new : DiskState) (status workers segment : ℕ) (files : List (List ℕ)) → AsksIngest words workers segment files
     → ((w r : ℕ) (fs : List (List ℕ)) → AsksIngest words w r fs → (workers ≡ w) × (segment ≡ r) × (files ≡ fs))
-    → EndsIngest files seen old new status → Answers words seen old new status
+    → AnswersIngest files seen old new status → Answers words seen old new status
 Answers-ingest words seen old new status workers segment files asks one answers =
     let other = others words (codes "ingest") asks.options asks.are in
     record {
@@ -302,5 +302,5 @@ Answers-ingest words seen old new status workers segment files asks one answers 
       decode = λ n a. absurd (other.decode (λ e. decode_ingest (sym e)) n a);
       bad_search = λ f t st w p at a _. absurd (other.search (λ e. search_ingest (sym e)) f t st w p a);
       search = λ f t st w p items a _. absurd (other.search (λ e. search_ingest (sym e)) f t st w p a);
-      ingest = λ w r fs a. subst (λ x. EndsIngest x seen old new status) (one w r fs a).2 answers;
+      ingest = λ w r fs a. subst (λ x. AnswersIngest x seen old new status) (one w r fs a).2 answers;
     }

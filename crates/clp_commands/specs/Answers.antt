@@ -15,7 +15,7 @@ use Rattle.clp_commands.specs.Counted.{AnswersCheck}
 use Rattle.clp_commands.specs.Decoding.{AnswersDecode}
 use Rattle.clp_commands.specs.Directory.{AnswersFiles}
 use Rattle.clp_commands.specs.Ending.{EndsWith, NoneAdded, RoseIn, Stayed, TookNothing}
-use Rattle.clp_commands.specs.Ingested.{EndsIngest}
+use Rattle.clp_commands.specs.Ingested.{AnswersIngest}
 use Rattle.clp_commands.specs.Outcome.{answer_of, of_log, of_create}
 use Rattle.clp_commands.specs.Printing.{Printed}
 use Rattle.clp_commands.specs.Scanned.{Finds}
@@ -77,7 +77,7 @@ pub record Answers (words : List (List ℕ)) (seen : Around) (old new : DiskStat
   pub decode : (number : ℕ) → AsksDecode words number → AnswersDecode number seen old new status
   pub bad_search : (from to : Option ℤ) (stats : Bool) (workers : ℕ) (pattern : List ℕ) (at : ℕ) → AsksSearch words from to stats workers pattern → IsLoneBackslash pattern at → RefusesPattern seen status at
   pub search : (from to : Option ℤ) (stats : Bool) (workers : ℕ) (pattern : List ℕ) (items : List Item) → AsksSearch words from to stats workers pattern → IsSearchPattern pattern items → AnswersSearch (asked items (record { from = from; to = to })) stats seen old new status
-  pub ingest : (workers segment : ℕ) (files : List (List ℕ)) → AsksIngest words workers segment files → EndsIngest files seen old new status
+  pub ingest : (workers segment : ℕ) (files : List (List ℕ)) → AsksIngest words workers segment files → AnswersIngest files seen old new status
 
 -- A pattern is refused with the place of its lone backslash, or for want of memory.
 abbrev pub IsPatternRefusal : List ℕ → PatternRefusal → Type 0

@@ -1,5 +1,5 @@
 -- The logs of a list of names, as sources, some of which could not be opened.
-use Rattle.std.specs.Prelude.{◌≡◌, ℕ, List, [], Option, Some, None, IfSome}
+use Rattle.std.specs.Prelude.{◌≡◌, ℕ, List, [], ◌∷◌, Bool, true, false, Option, Some, None, IfSome}
 use Rattle.std.specs.List.{AllZip}
 use Rattle.log_seams.specs.Outside.{Rose}
 use Rattle.log_seams.specs.declared.refusals.OpenRefused.{OpenRefused}
@@ -12,14 +12,22 @@ abbrev pub refusal_of : {S : Type 0} → LogSource S → Option OpenRefused
 refusal_of (Opened s) = None
 refusal_of (Unopened cause faults) = Some cause
 
--- A log that was not opened has no bytes, and each read of it fails.
+abbrev pub is_opened : {S : Type 0} → LogSource S → Bool
+is_opened (Opened s) = true
+is_opened (Unopened cause faults) = false
+
+-- no log has this name: a name is text, which has no byte 255
+abbrev pub no_name : List ℕ
+no_name = 255 ∷ []
+
+-- A log that was not opened has no bytes, and each read of it fails. By its name it is told from those that were opened, also after reads.
 abbrev pub left_in : {S : Type 0} → (S → Option (List ℕ)) → LogSource S → Option (List ℕ)
 left_in left (Opened s) = left s
 left_in left (Unopened cause faults) = Some []
 
 abbrev pub name_in : {S : Type 0} → (S → Option (List ℕ)) → LogSource S → Option (List ℕ)
 name_in name (Opened s) = name s
-name_in name (Unopened cause faults) = None
+name_in name (Unopened cause faults) = Some no_name
 
 abbrev pub faults_in : {S : Type 0} → (S → ℕ) → LogSource S → ℕ
 faults_in faults (Opened s) = faults s

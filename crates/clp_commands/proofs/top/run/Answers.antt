@@ -84,7 +84,7 @@ pub returns-in-Ingest-clause-answers : goal.returns-in-Ingest-clause-answers
 returns-in-Ingest-clause-answers g c =
     Answers-ingest _ _ _ _ _ c.in-Ingest.asked.workers c.in-Ingest.asked.segment (map string_bytes c.in-Ingest.asked.files.now) (rw (c.in-Ingest.is) at (rw c.in-Some.command-is at c.in-Some.ensures.some))
     (λ w r fs asks. rw (c.in-Ingest.is) at (rw c.in-Some.command-is at (c.in-Some.ensures.ingest w r fs asks)))
-    c.ingest_files.ensures.ends
+    c.ingest_files.ensures.answers
 
 pub returns-in-Ingest-clause-keeps : goal.returns-in-Ingest-clause-keeps
 returns-in-Ingest-clause-keeps g c = λ create ingest. absurd (ingest _ _ _ (rw (c.in-Ingest.is) at (rw c.in-Some.command-is at c.in-Some.ensures.some)))
