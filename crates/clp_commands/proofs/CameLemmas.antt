@@ -6,14 +6,16 @@ use Rattle.sink_pieces.specs.Output.{Grew, GrewByFront}
 use Rattle.clp_commands.specs.Around.{Around}
 use Rattle.clp_commands.specs.Directory.{FileLine, directory_from}
 use Rattle.clp_commands.specs.Ending.{EndsWith, RoseIn, SaysIn, Stayed, TookNothing}
-use Rattle.clp_commands.specs.Ingested.{Came, EndsIngest, FromArchive, HasCallCause, PrintsCame, TakesIn, TakesNothing, line_of_came}
+use Rattle.clp_commands.specs.Ingested.{AnswersIngest, Came, FromArchive, HasCallCause, PrintsCame, TakesIn, TakesNothing, line_of_came}
 use Rattle.clp_commands.specs.IngestPrints.{came_of, names_of}
+use Rattle.clp_commands.specs.StepsCauses.{HaveFileCauses, logs_of}
 use Rattle.clp_commands.specs.Reading.{OverJournal}
 use Rattle.clp_commands.specs.Refusal.{line_of, status_of}
 use Rattle.clp_commands.specs.Taken.{error_of, file_error, file_status, gravest, line_of_taken, status_of_taken}
 use Rattle.clp_commands.specs.declared.refusal.Refusal.{Refusal}
 use Rattle.clp_commands.specs.declared.refusal.Refusal.TheVariants.{OutOfMemory, SinkFault}
 use Rattle.clp_commands.specs.declared.taken.TakenFile.{TakenFile}
+use Rattle.clp_commands.proofs.WholeLemmas.{file_causes}
 
 pub names_came : (files : List TakenFile) → map (λ (c : Came). c.name) (map came_of files) ≡ names_of files
 names_came [] = refl
@@ -33,18 +35,21 @@ errors_came (file ∷ files) = ap (λ text. error_of file ++ text) (errors_came 
 
 -- the call was refused as a whole
 pub refused_all : (names : List (List ℕ)) (seen : Around) (old new : DiskState) (status : ℕ) (refusal : Refusal) → status ≡ status_of refusal → SaysIn seen (line_of [] refusal) → TookNothing seen.out → Stayed seen.out_faults
-    → HasCallCause names old new refusal → FromArchive old (λ h before bytes stood. TakesNothing h before old new) → EndsIngest names seen old new status
+    → HasCallCause names old new refusal → FromArchive old (λ h before bytes stood. TakesNothing h before old new) → AnswersIngest names seen old new status
 refused_all names seen old new status refusal is said nothing sink cause disk =
     inl (record { refusal = refusal; ends = record { status_is = is; said = said }; nothing = nothing; sink = sink; cause = cause; disk = disk })
 
 module _ (names : List (List ℕ)) (seen : Around) (old new : DiskState) (status first : ℕ) (files : List TakenFile) (named : names_of files ≡ names)
-    (numbered : OverJournal old.seen (λ journal. first ≡ length journal.names)) (disk : FromArchive old (λ h before bytes stood. TakesIn seen.content h before stood names (map came_of files) old new)) where
-  printed_came : PrintsCame (map came_of files) first seen status → EndsIngest names seen old new status
-  printed_came printed = inr (record { came = map came_of files; first = first; names_are = names_came files ∙ named; numbered = numbered; disk = disk; printed = printed })
+    (numbered : OverJournal old.seen (λ journal. first ≡ length journal.names)) (disk : FromArchive old (λ h before bytes stood. TakesIn seen.content h before stood names (map came_of files) old new)) (caused : HaveFileCauses (logs_of seen) old new (map came_of files)) where
+  printed_came : PrintsCame (map came_of files) first seen status → AnswersIngest names seen old new status
+  printed_came printed = inr (record {
+    adds = record { came = map came_of files; first = first; names_are = names_came files ∙ named; numbered = numbered; disk = disk; printed = printed };
+    each = file_causes seen old new (map came_of files) caused;
+  })
 
   -- all lines were printed
   pub printed_all : (told : List TakenFile) → told ≡ files → Grew seen.out.0 seen.out.1 (directory_from first (map line_of_taken files)) → status ≡ status_of_taken told → SaysIn seen (flat_map error_of told) → Stayed seen.out_faults
-      → EndsIngest names seen old new status
+      → AnswersIngest names seen old new status
   printed_all told same grew is said sink = printed_came (inl (
     is ∙ (ap status_of_taken same ∙ ap gravest (statuses_came files)),
     subst (λ (ls : List FileLine). Grew seen.out.0 seen.out.1 (directory_from first ls)) (lines_came files) grew,
@@ -56,9 +61,9 @@ module _ (names : List (List ℕ)) (seen : Around) (old new : DiskState) (status
   front_came grew = subst (λ (ls : List FileLine). GrewByFront seen.out.0 seen.out.1 (directory_from first ls)) (lines_came files) grew
 
   -- the output failed
-  pub printed_some : GrewByFront seen.out.0 seen.out.1 (directory_from first (map line_of_taken files)) → status ≡ status_of SinkFault → SaysIn seen (line_of [] SinkFault) → RoseIn seen.out_faults → EndsIngest names seen old new status
+  pub printed_some : GrewByFront seen.out.0 seen.out.1 (directory_from first (map line_of_taken files)) → status ≡ status_of SinkFault → SaysIn seen (line_of [] SinkFault) → RoseIn seen.out_faults → AnswersIngest names seen old new status
   printed_some grew is said rose = printed_came (inr (inl (record { status_is = is; said = said }, front_came grew, rose)))
 
   -- there was no memory for the lines
-  pub printed_short : GrewByFront seen.out.0 seen.out.1 (directory_from first (map line_of_taken files)) → status ≡ status_of OutOfMemory → SaysIn seen (line_of [] OutOfMemory) → Stayed seen.out_faults → EndsIngest names seen old new status
+  pub printed_short : GrewByFront seen.out.0 seen.out.1 (directory_from first (map line_of_taken files)) → status ≡ status_of OutOfMemory → SaysIn seen (line_of [] OutOfMemory) → Stayed seen.out_faults → AnswersIngest names seen old new status
   printed_short grew is said sink = printed_came (inr (inr (record { status_is = is; said = said }, front_came grew, sink)))

@@ -25,3 +25,6 @@ pub mod TakeInLemmas
 pub mod StepsLemmas
 pub mod JobLemmas
 pub mod CauseLemmas
+pub mod LineLemmas
+pub mod FileCauseLemmas
+pub mod WholeLemmas

@@ -47,6 +47,10 @@ at_place xs i k x place within is = subst (λ n. slice_get xs n ≡ Some x) plac
 pub read_place : {A : Type 0} (xs : List A) (i k : ℕ) (d : A) → i ≡ k → i < length xs → slice_get xs k ≡ Some (get_or xs i d)
 read_place xs i k d place within = subst (λ n. slice_get xs n ≡ Some (get_or xs i d)) place (slice_get-get_or xs i d within)
 
+-- a vector that was lent as a slice
+pub lent_back : {A : Type 0} (n : ℕ) (xs rest : List A) → n ≡ length xs → take n (xs ++ rest) ≡ xs
+lent_back n xs rest is = ap (λ k. take k (xs ++ rest)) is ∙ take-append_seam xs rest
+
 -- what is told of a vector that was lent as a slice
 pub told_back : {A B : Type 0} (P : List A → ℕ → B → Type 0) (done : List B) (n : ℕ) (xs rest : List A) → n ≡ length xs → ((i : ℕ) (b : B) → slice_get done i ≡ Some b → P (take n (xs ++ rest)) i b)
     → (i : ℕ) (b : B) → slice_get done i ≡ Some b → P xs i b

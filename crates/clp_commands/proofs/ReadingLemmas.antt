@@ -150,16 +150,16 @@ first_is_long bytes messages false limit m more is = open_is_long m.1.front m.1.
     open_is_long [] last e f = record { first = last; others = []; are = e; long = omega (arith, ap length f) }
     open_is_long (first ∷ front) last e f = record { first = first; others = front ++ last ∷ []; are = e; long = line_is_long first (joined front ++ last) limit (subst (λ b. IsLine (take (limit + 1) b)) (f ∙ append_assoc first (10 ∷ joined front) last) is) }
 
--- the next line is too long
-pub Reads-long : (tells : ℕ → List ℕ → List ℕ → Type 0) (bytes left : List ℕ) (given : ℕ) (text : List ℕ) → Reads tells bytes left given text → most_bytes < length left → IsLine (take (most_bytes + 1) left) → IsLong bytes (given + 1)
-Reads-long tells bytes left given text r more is = record {
-  before = given;
+-- the line behind so many is too long
+pub Begins-long : (bytes left : List ℕ) (lines : List (List ℕ)) → Begins bytes lines left → most_bytes < length left → IsLine (take (most_bytes + 1) left) → IsLong bytes (length lines + 1)
+Begins-long bytes left lines begin more is = record {
+  before = length lines;
   follows = refl;
-  messages = r.lines ++ rest.messages;
+  messages = lines ++ rest.messages;
   ended = rest.ended;
-  are = Messages-after bytes r.lines left rest.messages rest.ended r.begin rest.are;
+  are = Messages-after bytes lines left rest.messages rest.ended begin rest.are;
   message = long.first;
-  stands = ap (λ n. slice_get (r.lines ++ rest.messages) n) (sym r.count) ∙ (ap (λ ms. slice_get (r.lines ++ ms) (length r.lines)) long.are ∙ slice_get-seam r.lines long.first long.others);
+  stands = ap (λ ms. slice_get (lines ++ ms) (length lines)) long.are ∙ slice_get-seam lines long.first long.others;
   long = long.long;
 }
   where
@@ -168,6 +168,10 @@ Reads-long tells bytes left given text r more is = record {
 
     long : FirstIsLong rest.messages most_bytes
     long = first_is_long left rest.messages rest.ended most_bytes rest.are more is
+
+-- the next line is too long
+pub Reads-long : (tells : ℕ → List ℕ → List ℕ → Type 0) (bytes left : List ℕ) (given : ℕ) (text : List ℕ) → Reads tells bytes left given text → most_bytes < length left → IsLine (take (most_bytes + 1) left) → IsLong bytes (given + 1)
+Reads-long tells bytes left given text r more is = subst (λ n. IsLong bytes (n + 1)) r.count (Begins-long bytes left r.lines r.begin more is)
 
 -- something has messages
 some_messages : (bytes : List ℕ) (messages : List (List ℕ)) (ended : Bool) → Messages bytes messages ended → 0 < length bytes → 0 < length messages

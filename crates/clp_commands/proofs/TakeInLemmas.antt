@@ -1,6 +1,6 @@
 -- From the logs that were opened, and their jobs, to what came of the files.
 use Rattle.std.proofs.Common.{◌≡◌, ◌+◌, ◌⊎◌, inl, inr, refl, sym, ap, subst, ◌∙◌, ℕ, zero, suc, List, [], ◌∷◌, ◌++◌, true, false, length, map, Option, Some, None, arith}
-use Rattle.std.specs.Prelude.{All, is_some, option_map, slice_get}
+use Rattle.std.specs.Prelude.{All, Bool, is_some, option_map, slice_get}
 use Rattle.std.specs.List.{AllZip}
 use Rattle.std.proofs.lemmas.List.Elements.{All-map, All-nil, All-weaker}
 use Rattle.std.proofs.lemmas.Option.{get_or_from_slice_get, slice_get-map, slice_get_within}
@@ -23,14 +23,14 @@ use Rattle.disk_seal.specs.Opening.{MayOpen}
 use Rattle.disk_seal.specs.Told.{IfTold, journal_in}
 use Rattle.log_sources.specs.declared.source.LogSource.{LogSource}
 use Rattle.log_sources.specs.declared.source.LogSource.TheVariants.{Opened, Unopened}
-use Rattle.log_sources.specs.Sources.{CameOf, left_in, refusal_of}
+use Rattle.log_sources.specs.Sources.{CameOf, is_opened, left_in, refusal_of}
 use Rattle.ingest_workers.specs.declared.job.Job.{Job}
 use Rattle.ingest_workers.specs.declared.outcome.Cause.{Cause}
 use Rattle.ingest_workers.specs.Ingested.{AreRefused, HasIngested, IsAsItWas, plan_of, told_entries}
 use Rattle.ingest_workers.specs.JobDone.{in_source}
 use Rattle.clp_commands.specs.IngestPrints.{came_of, names_of}
 use Rattle.clp_commands.specs.Ingested.{Came, IsOfNew}
-use Rattle.clp_commands.specs.Jobs.{IsNotBegun, IsToldBy, of_cause, refusal_by, sources_of}
+use Rattle.clp_commands.specs.Jobs.{IsNotBegun, IsToldBy, of_cause, opens_of, refusal_by, sources_of}
 use Rattle.clp_commands.specs.Leaves.{HasNames, IsLogOf, TakesInto}
 use Rattle.clp_commands.specs.Naming.{AreNumbered}
 use Rattle.clp_commands.specs.declared.refusal.Refusal.{Refusal}
@@ -117,6 +117,30 @@ module _ {A : Type 0} (R : List ℕ → A → Type 0) where
   job_at (n ∷ names) (s ∷ sources) (j ∷ js) zip same zero name at = (j, refl)
   job_at (n ∷ names) (s ∷ sources) (j ∷ js) zip same (suc i) name at = job_at names sources js zip.1 (cc (same)) i name at
 
+-- the job is to be read where its log was opened
+open_at : {S : Type 0} (sources : List (LogSource S)) (js : List (Job (LogSource S))) → opens_of js ≡ map is_opened sources → (i : ℕ) (job : Job (LogSource S)) (s : LogSource S) → slice_get js i ≡ Some job → slice_get sources i ≡ Some s
+    → job.is_open ≡ is_opened s
+open_at {S} sources js same i job s at source_at =
+    some_is (sym (slice_get-map (λ (x : Job (LogSource S)). x.is_open) js i ∙ ap (option_map (λ (x : Job (LogSource S)). x.is_open)) at)
+    ∙ (ap (λ (l : List Bool). slice_get l i) same ∙ (slice_get-map is_opened sources i ∙ ap (option_map is_opened) source_at)))
+  where
+    some_is : {x y : Bool} → Some x ≡ Some y → x ≡ y
+    some_is e = cc (e)
+
+-- What is told of a file: its job, before and after it was done, and the log of its name, of which this was made.
+pub record CameOfLog {S : Type 0} (R : List ℕ → LogSource S → Type 0) (js js' : List (Job (LogSource S))) (i : ℕ) (c : Came) : Type 0 where
+  pub source : LogSource S
+  pub old : Job (LogSource S)
+  pub done : Job (LogSource S)
+  pub at : slice_get js i ≡ Some old
+  pub at_done : slice_get js' i ≡ Some done
+  pub has : old.source ≡ Some source
+  pub opened : old.is_open ≡ is_opened source
+  pub came : R c.name source
+  pub messages : c.messages ≡ done.outcome.messages
+  pub whole : c.whole ≡ done.outcome.whole
+  pub refusal : c.refusal ≡ refusal_by (refusal_of source) done.outcome.cause
+
 module _ {S : Type 0} (left name : S → Option (List ℕ)) (faults : S → ℕ) (content : List ℕ → Option (List ℕ)) (opens opens_now : List ℕ → ℕ) where
   abbrev Came_of : List ℕ → LogSource S → Type 0
   Came_of = CameOf left name faults content opens opens_now
@@ -129,7 +153,11 @@ module _ {S : Type 0} (left name : S → Option (List ℕ)) (faults : S → ℕ)
   opened_log asked (Opened s) came none = came.left_is
   opened_log asked (Unopened cause n) came none = absurd (cc (none))
 
-  module _ (names : List (List ℕ)) (sources : List (LogSource S)) (opened : AllZip Came_of names sources) (first : ℕ) (js : List (Job (LogSource S))) (sourced : sources_of js ≡ map Some sources) (numbered : AreNumbered first js) where
+  is_open : (s : LogSource S) → refusal_of s ≡ None → is_opened s ≡ true
+  is_open (Opened s) none = refl
+  is_open (Unopened cause n) none = absurd (cc (none))
+
+  module _ (names : List (List ℕ)) (sources : List (LogSource S)) (opened : AllZip Came_of names sources) (first : ℕ) (js : List (Job (LogSource S))) (sourced : sources_of js ≡ map Some sources) (opening : opens_of js ≡ map is_opened sources) (numbered : AreNumbered first js) where
     pub are_jobs_of : (version : ℕ) → AreJobsOf (left_in left) content version names first js
     are_jobs_of version = record {
       file = λ i job at. (numbered_at first js i job numbered at).1;
@@ -144,10 +172,10 @@ module _ {S : Type 0} (left name : S → Option (List ℕ)) (faults : S → ℕ)
       pub came_named : map (λ (c : Came). c.name) (map came_of taken) ≡ names
       came_named = names_came taken ∙ named
 
-      pub came_of_jobs : (i : ℕ) (c : Came) → slice_get (map came_of taken) i ≡ Some c → CameOfJob (left_in left) content js js' i c
-      came_of_jobs i c at = by_file (slice_get taken i) refl
+      pub came_of_log : (i : ℕ) (c : Came) → slice_get (map came_of taken) i ≡ Some c → CameOfLog Came_of js js' i c
+      came_of_log i c at = by_file (slice_get taken i) refl
         where
-          by_file : (o : Option TakenFile) → slice_get taken i ≡ o → CameOfJob (left_in left) content js js' i c
+          by_file : (o : Option TakenFile) → slice_get taken i ≡ o → CameOfLog Came_of js js' i c
           by_file None none = absurd (cc (sym at ∙ (slice_get-map came_of taken i ∙ ap (option_map came_of) none)))
           by_file (Some file) here =
               let is : came_of file ≡ c = some_is (came_of file) c (sym (slice_get-map came_of taken i ∙ ap (option_map came_of) here) ∙ at) in
@@ -159,26 +187,41 @@ module _ {S : Type 0} (left name : S → Option (List ℕ)) (faults : S → ℕ)
               let opening_is : t.opening ≡ refusal_of p.source
               = some_is t.opening (refusal_of p.source) (sym t.opening_at ∙ (ap (λ (l : List (Option OpenRefused)). slice_get l i) openings_are ∙ (slice_get-map refusal_of sources i ∙ ap (option_map refusal_of) p.source_at))) in
               record {
+                source = p.source;
                 old = job.0;
                 done = t.job;
                 at = job.1;
                 at_done = t.at;
+                has = p.has;
+                opened = open_at sources js opening i job.0 p.source job.1 p.source_at;
+                came = subst (λ n. Came_of n p.source) same_name p.came;
                 messages = ap (λ (x : Came). x.messages) (sym is) ∙ t.messages;
                 whole = ap (λ (x : Came). x.whole) (sym is) ∙ t.whole;
-                opened = λ spared.
-                    let none = both_none t.opening t.job.outcome.cause (sym t.refusal ∙ (ap (λ (x : Came). x.refusal) is ∙ spared)) in (
-                      ap (in_source (left_in left)) p.has ∙ (opened_log p.name p.source p.came (sym opening_is ∙ none.0) ∙ ap content same_name),
-                      none.1,
-                    );
+                refusal = ap (λ (x : Came). x.refusal) (sym is) ∙ (t.refusal ∙ ap (λ (o : Option OpenRefused). refusal_by o t.job.outcome.cause) opening_is);
               }
             where
               some_is : {X : Type 0} (x y : X) → Some x ≡ Some y → x ≡ y
               some_is x y e = cc (e)
 
-              both_none : (opening : Option OpenRefused) (cause : Option Cause) → refusal_by opening cause ≡ None → (opening ≡ None) × (cause ≡ None)
-              both_none (Some o) cause is = absurd (cc (is))
-              both_none None (Some c) is = absurd (cc (is))
-              both_none None None is = (refl, refl)
+      came_of_jobs : (i : ℕ) (c : Came) → slice_get (map came_of taken) i ≡ Some c → CameOfJob (left_in left) content js js' i c
+      came_of_jobs i c at = let l = came_of_log i c at in record {
+        old = l.old;
+        done = l.done;
+        at = l.at;
+        at_done = l.at_done;
+        messages = l.messages;
+        whole = l.whole;
+        opened = λ spared. let none = both_none (refusal_of l.source) l.done.outcome.cause (sym l.refusal ∙ spared) in (
+          ap (in_source (left_in left)) l.has ∙ opened_log c.name l.source l.came none.0,
+          l.opened ∙ is_open l.source none.0,
+          none.1,
+        );
+      }
+        where
+          both_none : (opening : Option OpenRefused) (cause : Option Cause) → refusal_by opening cause ≡ None → (opening ≡ None) × (cause ≡ None)
+          both_none (Some o) cause is = absurd (cc (is))
+          both_none None (Some c) is = absurd (cc (is))
+          both_none None None is = (refl, refl)
 
       -- the jobs were done
       module _ {D : Type 0} {d : DiskGhosts D} (j after : Journal D d) (law : IsLawful (d.state after.disk.now)) where

@@ -15,7 +15,7 @@ use Rattle.clp_commands.specs.Counted.{AnswersCheck}
 use Rattle.clp_commands.specs.Decoding.{AnswersDecode}
 use Rattle.clp_commands.specs.Directory.{AnswersFiles}
 use Rattle.clp_commands.specs.Ending.{EndsWith, NoneAdded, RoseIn, Stayed, TookNothing}
-use Rattle.clp_commands.specs.Ingested.{EndsIngest}
+use Rattle.clp_commands.specs.Ingested.{AnswersIngest}
 use Rattle.clp_commands.specs.Outcome.{answer_of, of_log, of_create}
 use Rattle.clp_commands.specs.Printing.{Printed}
 use Rattle.clp_commands.specs.Scanned.{Finds}
@@ -89,7 +89,7 @@ abbrev pub AnswersAsked : Asked → Around → DiskState → DiskState → ℕ �
 AnswersAsked (to_show file) seen old new status = AnswersLog (λ _ message text. Shows message text) seen file status
 AnswersAsked (to_scan pattern file) seen old new status = AnswersScan pattern file seen status
 AnswersAsked (to_create header) seen old new status = AnswersCreate header seen old new status
-AnswersAsked (to_ingest workers segment files) seen old new status = EndsIngest files seen old new status
+AnswersAsked (to_ingest workers segment files) seen old new status = AnswersIngest files seen old new status
 AnswersAsked to_list seen old new status = AnswersFiles seen old new status
 AnswersAsked to_check seen old new status = AnswersCheck seen old new status
 AnswersAsked (to_decode number) seen old new status = AnswersDecode number seen old new status

@@ -177,10 +177,6 @@ pub record AddsFiles (names : List (List ℕ)) (seen : Around) (old new : DiskSt
   pub disk : FromArchive old (λ h before bytes stood. TakesIn seen.content h before stood names came old new)
   pub printed : PrintsCame came first seen status
 
--- How `ingest` ends, whatever came of each file.
-abbrev pub EndsIngest : List (List ℕ) → Around → DiskState → DiskState → ℕ → Type 0
-EndsIngest names seen old new status = RefusesIngest names seen old new status ⊎ AddsFiles names seen old new status
-
 -- The same, and what came of each file has its cause.
 pub record TakesFiles (names : List (List ℕ)) (seen : Around) (old new : DiskState) (status : ℕ) : Type 0 where
   pub adds : AddsFiles names seen old new status

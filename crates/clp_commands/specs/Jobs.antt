@@ -1,5 +1,5 @@
 -- What came of files, by the openings of their logs and by their jobs.
-use Rattle.std.specs.Prelude.{◌≡◌, ℕ, false, List, Option, Some, None, map, option_map, slice_get}
+use Rattle.std.specs.Prelude.{◌≡◌, ℕ, Bool, false, List, Option, Some, None, map, option_map, slice_get}
 use Rattle.log_seams.specs.declared.refusals.OpenRefused.{OpenRefused}
 use Rattle.ingest_workers.specs.declared.job.Job.{Job}
 use Rattle.ingest_workers.specs.declared.outcome.Cause.{Cause}
@@ -27,6 +27,10 @@ refusal_by None cause = option_map of_cause cause
 
 abbrev pub sources_of : {S : Type 0} → List (Job S) → List (Option S)
 sources_of jobs = map (λ job. job.source) jobs
+
+-- which of them are to be read
+abbrev pub opens_of : {S : Type 0} → List (Job S) → List Bool
+opens_of jobs = map (λ job. job.is_open) jobs
 
 -- The file is told by its job when this was done, and by the opening of its log.
 pub record IsToldBy {S : Type 0} (openings : List (Option OpenRefused)) (jobs : List (Job S)) (i : ℕ) (file : TakenFile) : Type 0 where

@@ -18,5 +18,6 @@ pub mod Refusal
 pub mod Scanned
 pub mod Searching
 pub mod Shown
+pub mod StepsCauses
 pub mod Taken
 pub mod Words

@@ -1,12 +1,14 @@
 //! The command `ingest`: logs become the files of an archive.
 ghost use Rattle.std.specs.Prelude.{◌≡◌, ◌+◌, ◌≤◌, ℕ, List, [], length, map, slice_get, vec_len, vec_capacity, All, IfErr, IfOk, OnErr, OnOk, None, Some};
 ghost use Rattle.disk_journal.specs.Journal.{state_of};
+ghost use Rattle.ingest_workers.specs.Outcome.{nothing_done};
 ghost use Rattle.clp_commands.specs.Around.{around};
-ghost use Rattle.log_sources.specs.Sources.{refusal_of, str_bytes};
+ghost use Rattle.log_sources.specs.Sources.{is_opened, refusal_of, str_bytes};
 ghost use Rattle.clp_commands.specs.Going.{DiskGoesOn, OutsideGoesOn};
-ghost use Rattle.clp_commands.specs.Ingested.{EndsIngest, FromArchive, HasCallCause, TakesIn, TakesNothing};
+ghost use Rattle.clp_commands.specs.Ingested.{AnswersIngest, FromArchive, HasCallCause, TakesIn, TakesNothing};
 ghost use Rattle.clp_commands.specs.IngestPrints.{came_of, names_of};
-ghost use Rattle.clp_commands.specs.Jobs.{IsNotBegun, IsToldBy, refusal_by, sources_of};
+ghost use Rattle.clp_commands.specs.Jobs.{IsNotBegun, IsToldBy, opens_of, refusal_by, sources_of};
+ghost use Rattle.clp_commands.specs.StepsCauses.{CameIn, HaveFileCauses, logs_around};
 ghost use Rattle.clp_commands.specs.Leaves.{TakesInto};
 ghost use Rattle.clp_commands.specs.Names.{RefusesNames};
 ghost use Rattle.clp_commands.specs.Naming.{AreNumbered, HasGoneOn, IsNamed};
@@ -92,6 +94,20 @@ fn refuse_all<'a>(names: &'a [&'a str], taken: &mut Vec<TakenFile<'a>>)
     }
 }
 
+/// Makes a job of a source. That of a log that was not opened is not read.
+fn begin_job<S>(file: u32, source: LogSource<S>) -> Job<LogSource<S>>
+    ensures file { result.file ≡ file }
+    ensures source { result.source ≡ Some source }
+    ensures opened { result.is_open ≡ is_opened source }
+    ensures new { result.outcome ≡ nothing_done }
+{
+    if source.is_open() {
+        Job::new(file, source)
+    } else {
+        Job::unopened(file, source)
+    }
+}
+
 /// Makes a job of each source, in their order; the files are numbered on from `first`. Tells of each why
 /// its log was not opened.
 fn begin_jobs<S>(
@@ -109,6 +125,7 @@ fn begin_jobs<S>(
     ensures numbered { AreNumbered first jobs.new.items }
     ensures count { vec_len jobs.new ≡ vec_len sources.old }
     ensures sourced { sources_of jobs.new.items ≡ map Some sources.old.items }
+    ensures opened { opens_of jobs.new.items ≡ map is_opened sources.old.items }
     ensures openings { openings.new.items ≡ map refusal_of sources.old.items }
 
     // what is left of the sources
@@ -120,7 +137,7 @@ fn begin_jobs<S>(
     while let Some(source) = sources.pop() {
         let file = first + jobs.len() as u32;
         openings.push_reserved(source.refusal());
-        jobs.push_reserved(Job::new(file, source));
+        jobs.push_reserved(begin_job(file, source));
     }
 }
 
@@ -141,6 +158,7 @@ fn end_jobs<'a, S>(
     ensures names { names_of taken.new.items ≡ map str_bytes names.now }
     ensures told { (i : ℕ) (file : TakenFile) → slice_get taken.new.items i ≡ Some file
         → IsToldBy openings.now jobs.old.items i file }
+    ensures sources { map Some sources.new.items ≡ sources_of jobs.old.items }
     ensures jobs { jobs.new.items ≡ [] }
 {
     // popped from the last on
@@ -184,6 +202,10 @@ where
     ensures taken { TakesInto (H.content shelf.old) (map str_bytes asked.entry.files.now)
         named.first (map came_of taken.new.items) (state_of journal.entry)
         (D.state result.disk.now) }
+    ensures causes { All (CameIn
+        (logs_around H.content H.open_faults H.read_faults shelf.old shelf.new)
+        journal.entry.header (state_of journal.entry).disk (D.state result.disk.now))
+        (map came_of taken.new.items) }
 
     // the logs
     ensures logs { (n : List ℕ) → H.content shelf.new n ≡ H.content shelf.old n }
@@ -262,6 +284,9 @@ where
     ensures taken { OnOk result (FromArchive (D.state disk.old) (λ h before bytes stood.
         TakesIn (H.content shelf.old) h before stood (map str_bytes asked.entry.files.now)
         (map came_of taken.new.items) (D.state disk.old) (D.state disk.new))) }
+    ensures causes { OnOk result (HaveFileCauses
+        (logs_around H.content H.open_faults H.read_faults shelf.old shelf.new)
+        (D.state disk.old) (D.state disk.new) (map came_of taken.new.items)) }
 
     // refused
     ensures nothing { OnErr result (FromArchive (D.state disk.old) (λ h before bytes stood.
@@ -299,7 +324,7 @@ where
     requires workers { (1 ≤ asked.workers) × (asked.workers ≤ 64) }
     requires segment { (1 ≤ asked.segment) × (asked.segment ≤ 65536) }
     requires some { 1 ≤ length asked.files.now }
-    ensures ends { EndsIngest (map str_bytes asked.entry.files.now)
+    ensures answers { AnswersIngest (map str_bytes asked.entry.files.now)
         (around H.content H.unread H.open_faults H.read_faults K.written K.faults
         shelf.old shelf.new out.old out.new err.old err.new)
         (D.state disk.old) (D.state disk.new) result }

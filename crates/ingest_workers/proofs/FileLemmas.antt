@@ -74,7 +74,8 @@ module _ {S D : Type 0} {d : DiskGhosts D} (left name : S → Option (List ℕ))
     covered = o.covered;
     ended = o.ended;
     count = o.count;
-    cause = o.cause;
+    cause = done.cause;
+    unopened = done.unopened;
     first = subst (λ s. OfMessages plan.version (in_source left s) (λ messages e. IsPrefix o.covered messages)) (sym done.source.had) o.first;
     all = λ w. subst (λ s. OfMessages plan.version (in_source left s) (λ messages e. (o.covered ≡ messages) × (o.ended ≡ e))) (sym done.source.had) (o.all w);
     closed = h.closed;

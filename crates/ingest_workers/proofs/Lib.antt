@@ -14,3 +14,4 @@ pub mod DoneLemmas
 pub mod FileLemmas
 pub mod NamingLemmas
 pub mod TakingLemmas
+pub mod UnopenedLemmas

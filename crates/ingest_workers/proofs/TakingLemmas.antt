@@ -299,13 +299,12 @@ module _ {D R A B C : Type 0} (state : D → DiskState) (limit : ℕ) (least : 1
       record { doing = doing_none n hand file worker is empty; read = reading_begins left n.version source r fresh; going = fresh.progress; few = omega arith }
 
 module _ {D : Type 0} (state : D → DiskState) (limit : ℕ) (least : 1 ≤ limit) (p : KeeperPass D) (so_far : HasSoFar state p []) where
-  pub came_none : (version : ℕ) (limits : Limits) (log : Log) → IsReady p → CameTo state limit version limits log p p (record { messages = 0; whole = false; cause = Some OutOfMemory })
-  came_none version limits log ready = record {
-    caused = tt;
+  pub came_none : (version : ℕ) (limits : Limits) (log : Log) → IsReady p → (why : Option Cause) → HasJobCause (grounds_of state limits p p) log version [] why → CameTo state limit version limits log p p (record { messages = 0; whole = false; cause = why })
+  came_none version limits log ready why right = record {
+    caused = right;
     covered = [];
     ended = false;
     count = refl;
-    cause = refl;
     done = record {
       closed = [];
       rest = none;
@@ -408,7 +407,6 @@ module _ {D R A B C : Type 0} (state : D → DiskState) (limit version : ℕ) (l
     covered = o.covered;
     ended = mark_of answer;
     count = o.count;
-    cause = o.cause;
     caused = subst (λ l. HasJobCause (grounds_of state l start q) log version o.covered outcome.cause) by (caused_by o whole);
     done = o.done;
     first = if_some log.bytes told (AreFirst version o.covered) (λ b tells messages e is. first_of answer t.taken o.covered messages e o.front (tells messages e is)) t.told;

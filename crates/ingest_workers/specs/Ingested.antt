@@ -179,14 +179,15 @@ module _ {S D : Type 0} {d : DiskGhosts D} where
 
 module _ {S D : Type 0} {d : DiskGhosts D} where
   -- A job was done. The messages that its outcome counts are the first ones of its source, and all of them where the file is whole; there is a cause
-  -- exactly where it is not. They are cut in parts. Where the journal is told, the file's segments among the new entries are exactly those of the parts, in order, and a front of the journal
+  -- exactly where it is not. Where its source was not opened nothing was done. They are cut in parts. Where the journal is told, the file's segments among the new entries are exactly those of the parts, in order, and a front of the journal
   -- holds exactly these messages of the file.
   pub record IsFileOf (left : S → Option (List ℕ)) (plan : Plan) (before : Journal D d) (fresh : List JournalEntry) (old new : Job S) : Type 0 where
     pub file : new.file ≡ old.file
     pub covered : List (List ℕ)
     pub ended : Bool
     pub count : new.outcome.messages ≡ length covered
-    pub cause : is_some new.outcome.cause ≡ not new.outcome.whole
+    pub cause : old.is_open ≡ true → is_some new.outcome.cause ≡ not new.outcome.whole
+    pub unopened : old.is_open ≡ false → new.outcome ≡ nothing_done
     pub first : OfMessages plan.version (in_source left old.source) (λ messages e. IsPrefix covered messages)
     pub all : new.outcome.whole ≡ true → OfMessages plan.version (in_source left old.source) (λ messages e. (covered ≡ messages) × (ended ≡ e))
     pub closed : List Part

@@ -1,5 +1,5 @@
 //! A file on its way into an archive.
-ghost use Rattle.std.specs.Prelude.{◌≡◌, Some, IsSome};
+ghost use Rattle.std.specs.Prelude.{◌≡◌, false, true, Some, IsSome};
 ghost use Rattle.ingest_workers.specs.Outcome.{nothing_done};
 
 use crate::outcome::Outcome;
@@ -10,6 +10,8 @@ pub struct Job<S> {
     pub(crate) file: u32,
     // None while a worker reads it.
     pub(crate) source: Option<S>,
+    // Where not, no worker reads it.
+    pub(crate) is_open: bool,
     pub(crate) outcome: Outcome,
     ghost full: { IsSome source },
 }
@@ -19,11 +21,13 @@ impl<S> Job<S> {
     pub fn new(file: u32, source: S) -> Job<S>
         ensures file { result.file ≡ file }
         ensures source { result.source ≡ Some source }
+        ensures opened { result.is_open ≡ true }
         ensures outcome { result.outcome ≡ nothing_done }
     {
         Job {
             file,
             source: Some(source),
+            is_open: true,
             outcome: Outcome {
                 messages: 0,
                 whole: false,
@@ -32,7 +36,27 @@ impl<S> Job<S> {
         }
     }
 
-    /// What came of it; before any work no message, not whole, and no cause.
+    /// The same of a source that was not opened: it is not read, and the file gets no message.
+    pub fn unopened(file: u32, source: S) -> Job<S>
+        ensures file { result.file ≡ file }
+        ensures source { result.source ≡ Some source }
+        ensures opened { result.is_open ≡ false }
+        ensures outcome { result.outcome ≡ nothing_done }
+    {
+        Job {
+            file,
+            source: Some(source),
+            is_open: false,
+            outcome: Outcome {
+                messages: 0,
+                whole: false,
+                cause: None,
+            },
+        }
+    }
+
+    /// What came of it; before any work no message, not whole, and no cause. So it stays where the
+    /// source was not opened.
     pub fn outcome(&self) -> Outcome
         ensures { result ≡ self.now.outcome }
     {
@@ -46,6 +70,7 @@ impl<S> Job<S> {
         let Job {
             file: _,
             source,
+            is_open: _,
             outcome: _,
         } = self;
         let Some(source) = source else { unreachable!() };

@@ -64,6 +64,6 @@ pub struct Outcome {
     pub messages: u64,
     /// Whether these are all messages of the source, and the file is marked whole.
     pub whole: bool,
-    /// Why it is not whole.
+    /// Why it is not whole; of a source that was not opened no cause is told.
     pub cause: Option<Cause>,
 }

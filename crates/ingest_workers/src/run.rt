@@ -1,5 +1,5 @@
 //! One worker's work on one file.
-ghost use Rattle.std.specs.Prelude.{◌≡◌, ◌≤◌, ℕ, List, []};
+ghost use Rattle.std.specs.Prelude.{◌≡◌, ◌≤◌, ℕ, List, [], is_some, not};
 ghost use Rattle.turn_lock.specs.Words.{number_of, own_list};
 ghost use Rattle.row_codec.specs.Messages.{IsTypeOf, IsWordOf};
 ghost use Rattle.ingest_workers.specs.Causes.{limits_by, log_of};
@@ -45,6 +45,7 @@ fn take_source<'d, 'b, S: Source, D: Disk, R: Wait, A: Ledger, B: Ledger, C: Led
     ensures names { HasNamed (IsOneOf namer.old.version (S.left source)) namer.old namer.new }
 
     // the answer
+    ensures cause { is_some result.1.cause ≡ not result.1.whole }
     ensures came { CameTo D.state rows namer.old.version
         (limits_by (types_pass namer.old) (words_pass namer.old))
         (log_of S.left S.faults source result.0) keeper.old keeper.new result.1 }
@@ -70,7 +71,8 @@ fn take_source<'d, 'b, S: Source, D: Disk, R: Wait, A: Ledger, B: Ledger, C: Led
 /// rows, and the texts that they name are named by the worker's namer.
 ///
 /// `keeper` is the pass over the store that has the file's number. What came of it is the job's
-/// outcome, and the job has its source back, read as far as it was.
+/// outcome, and the job has its source back, read as far as it was. Of a source that was not opened
+/// nothing is read, and the outcome stays as it was.
 pub fn run_job<'d, 'b, S: Source, D: Disk, R: Wait, A: Ledger, B: Ledger, C: Ledger>(
     job: &mut Job<S>,
     rt: &R,
@@ -100,6 +102,9 @@ pub fn run_job<'d, 'b, S: Source, D: Disk, R: Wait, A: Ledger, B: Ledger, C: Led
         (limits_by (types_pass namer.old) (words_pass namer.old)) job.old keeper.old
         job.new keeper.new }
 {
+    if !job.is_open {
+        return;
+    }
     let Some(source) = job.source.take() else {
         unreachable!()
     };

@@ -1,5 +1,5 @@
 -- What came of the opening of some first names, and of one more.
-use Rattle.std.proofs.Common.{◌≡◌, ◌+◌, ◌<◌, ◌≤◌, sym, ap, subst, ◌∙◌, ℕ, zero, suc, List, [], ◌∷◌, ◌++◌, map, take, get_or, length, Option, inl, inr, arith}
+use Rattle.std.proofs.Common.{◌≡◌, ◌+◌, ◌<◌, ◌≤◌, sym, ap, subst, ◌∙◌, ℕ, suc, List, [], ◌∷◌, ◌++◌, map, take, get_or, length, Option, inl, inr, arith}
 use Rattle.std.specs.List.{AllZip}
 use Rattle.std.proofs.Math.Seq.{take-suc}
 use Rattle.std.proofs.Math.ListN.{get_or-map}
@@ -8,7 +8,7 @@ use Rattle.log_seams.specs.Outside.{Rose}
 use Rattle.log_seams.specs.declared.refusals.OpenRefused.TheVariants.{Failed, OutOfMemory}
 use Rattle.log_sources.specs.declared.source.LogSource.{LogSource}
 use Rattle.log_sources.specs.declared.source.LogSource.TheVariants.{Opened, Unopened}
-use Rattle.log_sources.specs.Sources.{CameOf, IsOpened}
+use Rattle.log_sources.specs.Sources.{CameOf}
 
 -- a count that rose has risen since a count that was not above the first, and by one that is not below the second
 pub Rose-wider : (a b c d : ℕ) → a ≤ b → c ≤ d → Rose b c → Rose a d
@@ -19,7 +19,7 @@ module _ {S : Type 0} (left name : S → Option (List ℕ)) (faults : S → ℕ)
   -- what came of an opening does not change while counts go on
   came_on : (content content' : List ℕ → Option (List ℕ)) (old mid new later : List ℕ → ℕ) → ((n : List ℕ) → content' n ≡ content n) → ((n : List ℕ) → old n ≤ mid n) → ((n : List ℕ) → new n ≤ later n)
       → (asked : List ℕ) (s : LogSource S) → CameOf left name faults content' mid new asked s → CameOf left name faults content old later asked s
-  came_on content content' old mid new later same low high asked (Opened s) came = record { left_is = came.left_is ∙ same asked; named = came.named; fresh = came.fresh }
+  came_on content content' old mid new later same low high asked (Opened s) came = record { text = came.text; left_is = came.left_is ∙ same asked; named = came.named; fresh = came.fresh }
   came_on content content' old mid new later same low high asked (Unopened Failed n) came = (came.0, Rose-wider (old asked) (mid asked) (new asked) (later asked) (low asked) (high asked) came.1)
   came_on content content' old mid new later same low high asked (Unopened OutOfMemory n) came = came
 

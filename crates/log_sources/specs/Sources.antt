@@ -1,7 +1,7 @@
 -- The logs of a list of names, as sources, some of which could not be opened.
-use Rattle.std.specs.Prelude.{◌≡◌, ℕ, List, [], Option, Some, None, IfSome}
+use Rattle.std.specs.Prelude.{◌≡◌, ℕ, List, [], ◌∷◌, Bool, true, false, Option, Some, None, IfSome}
 use Rattle.std.specs.Borrow.{Bor}
-use Rattle.std.specs.List.{AllZip}
+use Rattle.std.specs.Str.{is_utf8}
 use Rattle.log_seams.specs.Outside.{Rose}
 use Rattle.log_seams.specs.declared.refusals.OpenRefused.{OpenRefused}
 use Rattle.log_seams.specs.declared.refusals.OpenRefused.TheVariants.{Failed, OutOfMemory}
@@ -17,21 +17,30 @@ abbrev pub refusal_of : {S : Type 0} → LogSource S → Option OpenRefused
 refusal_of (Opened s) = None
 refusal_of (Unopened cause faults) = Some cause
 
--- A log that was not opened has no bytes, and each read of it fails.
+abbrev pub is_opened : {S : Type 0} → LogSource S → Bool
+is_opened (Opened s) = true
+is_opened (Unopened cause faults) = false
+
+-- no log has this name: a name is text, which has no byte 255
+abbrev pub no_name : List ℕ
+no_name = 255 ∷ []
+
+-- A log that was not opened has no bytes, and each read of it fails. By its name it is told from those that were opened, also after reads.
 abbrev pub left_in : {S : Type 0} → (S → Option (List ℕ)) → LogSource S → Option (List ℕ)
 left_in left (Opened s) = left s
 left_in left (Unopened cause faults) = Some []
 
 abbrev pub name_in : {S : Type 0} → (S → Option (List ℕ)) → LogSource S → Option (List ℕ)
 name_in name (Opened s) = name s
-name_in name (Unopened cause faults) = None
+name_in name (Unopened cause faults) = Some no_name
 
 abbrev pub faults_in : {S : Type 0} → (S → ℕ) → LogSource S → ℕ
 faults_in faults (Opened s) = faults s
 faults_in faults (Unopened cause n) = n
 
--- an opened log: the bytes of its name are left, where they are told, and no read of it has failed
+-- an opened log: its name is text, the bytes of its name are left, where they are told, and no read of it has failed
 pub record IsOpened {S : Type 0} (left name : S → Option (List ℕ)) (faults : S → ℕ) (content : Option (List ℕ)) (asked : List ℕ) (s : S) : Type 0 where
+  pub text : is_utf8 asked ≡ true
   pub left_is : left s ≡ content
   pub named : IfSome (name s) (λ n. n ≡ asked)
   pub fresh : faults s ≡ 0

@@ -18,7 +18,7 @@ pub enum LogSource<S> {
 }
 
 impl<S> LogSource<S> {
-    ghost use Rattle.log_sources.specs.Sources.{refusal_of};
+    ghost use Rattle.log_sources.specs.Sources.{is_opened, refusal_of};
 
     /// Why it was not opened, where it was not.
     pub fn refusal(&self) -> Option<OpenRefused>
@@ -27,6 +27,16 @@ impl<S> LogSource<S> {
         match self {
             LogSource::Opened(_) => None,
             LogSource::Unopened { cause, .. } => Some(*cause),
+        }
+    }
+
+    /// Whether it was opened.
+    pub fn is_open(&self) -> bool
+        ensures { result ≡ is_opened self.now }
+    {
+        match self {
+            LogSource::Opened(_) => true,
+            LogSource::Unopened { .. } => false,
         }
     }
 }

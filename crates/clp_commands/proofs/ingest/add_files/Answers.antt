@@ -6,11 +6,13 @@ use Rattle.log_sources.specs.Sources.{str_bytes}
 use Rattle.clp_commands.specs.Going.{DiskGoesOn}
 use Rattle.clp_commands.specs.IngestPrints.{came_of}
 use Rattle.clp_commands.specs.Ingested.{FromArchive, HasCallCause, TakesIn, TakesNothing}
+use Rattle.clp_commands.specs.StepsCauses.{HaveFileCauses, logs_around}
 use Rattle.clp_commands.specs.Leaves.{AddsNamesTo}
 use Rattle.clp_commands.proofs.CauseLemmas.{cause_sooner, refused_with, start_cause, told_cause}
 use Rattle.clp_commands.proofs.DirectoryLemmas.{on_err}
 use Rattle.clp_commands.proofs.GoingLemmas.{DiskGoesOn-joined, DiskGoesOn-kept}
 use Rattle.clp_commands.proofs.StepsLemmas.{kept_nothing, looked_nothing, nothing_sooner, numbered_from, takes_sooner}
+use Rattle.clp_commands.proofs.WholeLemmas.{causes_sooner}
 use Rattle.clp_commands.proofs.ingest.add_files.Goals as goal
 
 -- ---- refused
@@ -85,6 +87,19 @@ returns-clause-taken g c =
     (law _) goes.counts c.take_in-journal.ensures.goes_on.disk
     (subst (λ d. FromArchive (g.D.Disk.state d) (λ h before bytes stood. AddsNamesTo h before stood (map str_bytes c.args.asked.files.now) c.in_ok-named.named.first (g.D.Disk.state d) (state_of c.open_and_name.new.journal))) c.begin-journal.ensures.disk c.in_ok-named.ensures.names)
     c.take_in-journal.ensures.taken)
+
+pub returns-clause-causes : goal.returns-clause-causes
+returns-clause-causes g c =
+    let law = (g.met.D.Disk g.world.𝓛 g.world.𝓜 g.world.𝓡 ((λ s x. x), (λ x. x), (λ x. x), λ x. x)).lawful in
+    let told = c.check_told.ensures in
+    let begun = c.start.ensures in
+    let back = c.disk-2-1.given.1 (sym (c.take_in-journal.ensures.goes_on.name ∙ (c.open_and_name.ensures.name ∙ c.begin-journal.ensures.name))) in
+    let goes = (subst (λ d. DiskGoesOn (g.D.Disk.state d) (g.D.Disk.state c.open_and_name.new.journal.disk.now)) c.begin-journal.ensures.disk c.open_and_name.ensures.goes_on) in
+    subst (λ d. HaveFileCauses (logs_around g.H.Shelf.content g.H.Shelf.open_faults g.H.Shelf.read_faults c.args.shelf.now c.take_in-journal.new.shelf) (g.D.Disk.state c.args.disk.now) (g.D.Disk.state d) (map came_of c.take_in-journal.new.taken.items)) (sym back)
+    (causes_sooner (g.D.Disk.state c.args.disk.now) (g.D.Disk.state c.check_told.new.disk) (g.D.Disk.state c.start.new.disk) (record { law_old = law _; law_mid = law _; law_new = law _; first = told.keeps; second = begun.keeps; counts = omega (arith, told.disk.later, begun.counts.later) }) _ (map str_bytes c.args.asked.files.now) c.in_ok-named.named.first (state_of c.open_and_name.new.journal) _ _
+    goes.counts
+    (subst (λ d. FromArchive (g.D.Disk.state d) (λ h before bytes stood. AddsNamesTo h before stood (map str_bytes c.args.asked.files.now) c.in_ok-named.named.first (g.D.Disk.state d) (state_of c.open_and_name.new.journal))) c.begin-journal.ensures.disk c.in_ok-named.ensures.names)
+    c.take_in-journal.ensures.causes)
 
 pub returns-clause-goes_on : goal.returns-clause-goes_on
 returns-clause-goes_on g c =

@@ -1,6 +1,6 @@
 use Rattle.std.proofs.Common.{◌≡◌, ◌+◌, ◌++◌, Some, map, reverse, vec_len, vec_capacity}
-use Rattle.log_sources.specs.Sources.{refusal_of}
-use Rattle.clp_commands.specs.Jobs.{sources_of}
+use Rattle.log_sources.specs.Sources.{is_opened, refusal_of}
+use Rattle.clp_commands.specs.Jobs.{opens_of, sources_of}
 use Rattle.clp_commands.specs.Naming.{AreNumbered}
 use Rattle.clp_commands.proofs.ingest.begin_jobs.Given as goal
 
@@ -13,6 +13,7 @@ invariant-loop-source g l = record {
   room_openings : vec_capacity l.openings ≡ vec_capacity l.fn.openings;
   room : vec_capacity l.sources ≡ vec_capacity l.fn.sources;
   sourced : sources_of l.jobs.items ++ map Some (reverse l.sources.items) ≡ map Some l.fn.sources.items;
+  opened_jobs : opens_of l.jobs.items ++ map is_opened (reverse l.sources.items) ≡ map is_opened l.fn.sources.items;
   openings : l.openings.items ++ map refusal_of (reverse l.sources.items) ≡ map refusal_of l.fn.sources.items;
 }
 

@@ -1,4 +1,5 @@
-use Rattle.std.proofs.Common.{arith, ap, refl, rules, sym, suc, ℕ, List, [], ◌≡◌, ◌<◌, ◌∙◌, None, Some, drop, get_or, length, reverse}
+use Rattle.std.proofs.Common.{arith, ap, refl, rules, sym, suc, ℕ, List, [], ◌≡◌, ◌<◌, ◌∙◌, ◌∷◌, None, Some, drop, get_or, length, map, reverse}
+use Rattle.std.proofs.lemmas.List.{map-append}
 use Rattle.std.specs.Prelude.{slice_get}
 use Rattle.std.specs.Borrow.{Bor}
 use Rattle.std.proofs.lemmas.List.{get_or_default}
@@ -7,7 +8,7 @@ use Rattle.log_sources.specs.Sources.{str_bytes}
 use Rattle.clp_commands.specs.Jobs.{IsToldBy, refusal_by}
 use Rattle.clp_commands.specs.declared.taken.TakenFile.{TakenFile}
 use Rattle.clp_commands.proofs.JobLemmas.{named_next}
-use Rattle.clp_commands.proofs.PopLemmas.{each_next, left_next, next_of, popped_of, read_place}
+use Rattle.clp_commands.proofs.PopLemmas.{each_next, left_next, next_of, popped_next, popped_of, read_place}
 use Rattle.clp_commands.proofs.ingest.end_jobs.Goals as goal
 
 pub loop-job-preserved : goal.loop-job-preserved
@@ -24,6 +25,7 @@ loop-job-preserved g c =
       room = c.push_reserved.ensures.capacity ∙ before.room;
       ended = omega (arith, c.push_reserved-in-Some.ensures.len, c.push_reserved.ensures.len, before.ended);
       room_sources = c.push_reserved-in-Some.ensures.capacity ∙ before.room_sources;
+      given = popped_next (λ job. job.source) (map Some c.loop-job.sources.items) _ _ _ _ _ _ c.in-Some.ensures.items (ap (map Some) c.push_reserved-in-Some.ensures.items ∙ map-append Some c.loop-job.sources.items (c.into_source.result ∷ [])) (sym c.into_source.ensures) before.given;
       left = left_next c.args.jobs.now.items _ c.loop-job.taken.items _ _ c.push_reserved.ensures.items next.rest;
       told = each_next (λ (i : ℕ) (file : TakenFile). IsToldBy c.args.openings.now c.args.jobs.now.items i file) c.loop-job.taken.items _ _ c.push_reserved.ensures.items
           (record {

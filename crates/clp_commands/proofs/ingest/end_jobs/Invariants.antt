@@ -1,8 +1,8 @@
-use Rattle.std.proofs.Common.{◌≡◌, ◌+◌, ℕ, Some, drop, length, map, reverse, take, vec_len, vec_capacity}
+use Rattle.std.proofs.Common.{◌≡◌, ◌+◌, ◌++◌, ℕ, Some, drop, length, map, reverse, take, vec_len, vec_capacity}
 use Rattle.std.specs.Prelude.{slice_get}
 use Rattle.log_sources.specs.Sources.{str_bytes}
 use Rattle.clp_commands.specs.IngestPrints.{names_of}
-use Rattle.clp_commands.specs.Jobs.{IsToldBy}
+use Rattle.clp_commands.specs.Jobs.{IsToldBy, sources_of}
 use Rattle.clp_commands.specs.declared.taken.TakenFile.{TakenFile}
 use Rattle.clp_commands.proofs.ingest.end_jobs.Given as goal
 
@@ -13,6 +13,7 @@ invariant-loop-job g l = record {
   room : vec_capacity l.taken ≡ vec_capacity l.fn.taken;
   ended : vec_len l.sources ≡ vec_len l.taken;
   room_sources : vec_capacity l.sources ≡ vec_capacity l.fn.sources;
+  given : map Some l.sources.items ++ sources_of (reverse l.jobs.items) ≡ sources_of l.fn.jobs.items;
   left : drop (length l.taken.items) l.fn.jobs.items ≡ reverse l.jobs.items;
   told : (i : ℕ) (file : TakenFile) → slice_get l.taken.items i ≡ Some file → IsToldBy l.openings l.fn.jobs.items i file;
 }

@@ -1,9 +1,11 @@
-use Rattle.std.proofs.Common.{rules, ◌≡◌, ℕ, List, Some, ap, subst, sym}
+use Rattle.std.proofs.Common.{rules, ◌≡◌, ℕ, List, Some, ap, subst, sym, true, false}
 use Rattle.row_codec.specs.Messages.{IsTypeOf, IsWordOf}
+use Rattle.ingest_workers.specs.Causes.{limits_by}
 use Rattle.ingest_workers.specs.JobDone.{in_source}
 use Rattle.ingest_workers.specs.Namer.{types_pass, words_pass}
 use Rattle.ingest_workers.specs.Naming.{AddsOnly}
 use Rattle.ingest_workers.specs.Taking.{IsOneOf}
+use Rattle.ingest_workers.proofs.UnopenedLemmas.{left_undone}
 use Rattle.ingest_workers.proofs.run.run_job.Goals as goal
 
 pub returns-clause-types : goal.returns-clause-types
@@ -21,8 +23,19 @@ returns-clause-words g c =
 pub returns-clause-done : goal.returns-clause-done
 returns-clause-done g c =
     let is : c.args.job.now.source ≡ Some c.in-Some.source = search rules in
+    let given : c.args.job.now.is_open ≡ true = search rules in
     record {
       file = search rules;
+      cause = λ some. c.take_source-source.ensures.cause;
+      unopened = λ closed. absurd (cc (given, closed));
       source = record { before = c.in-Some.source; after = c.take_source-source.result.0; had = is; has = search rules; keeps = c.take_source-source.ensures.source };
       came = c.take_source-source.ensures.came;
     }
+
+-- ---- a source that was not opened
+
+pub returns-then-not-job-clause-done : goal.returns-then-not-job-clause-done
+returns-then-not-job-clause-done g c =
+    let closed : c.args.job.now.is_open ≡ false = search rules in
+    left_undone g.D.Disk.state g.S.Source.left g.S.Source.name g.S.Source.faults c.args.rows c.args.namer.now.version (limits_by (types_pass c.args.namer.now) (words_pass c.args.namer.now)) c.args.job.now c.args.keeper.now
+    c.requires.rows.0 c.requires.so_far c.requires.worker.ready closed c.requires.new

@@ -1,4 +1,5 @@
-use Rattle.std.proofs.Common.{[], subst}
+use Rattle.std.proofs.Common.{[], subst, Some}
+use Rattle.ingest_workers.specs.declared.outcome.Cause.TheVariants.{OutOfMemory}
 use Rattle.message_reader.specs.Reading.{IsNewReader}
 use Rattle.ingest_workers.specs.Taking.{IsOneOf}
 use Rattle.ingest_workers.proofs.NamingLemmas.{named_only, named_then}
@@ -10,7 +11,7 @@ use Rattle.ingest_workers.proofs.run.take_source.Goals as goal
 
 pub returns-in-Err-clause-came : goal.returns-in-Err-clause-came
 returns-in-Err-clause-came g c =
-    came_none g.D.Disk.state c.args.rows c.requires.rows.0 c.args.keeper.now c.requires.so_far c.args.namer.now.version _ _ c.requires.worker.ready
+    came_none g.D.Disk.state c.args.rows c.requires.rows.0 c.args.keeper.now c.requires.so_far c.args.namer.now.version _ _ c.requires.worker.ready (Some OutOfMemory) tt
 
 pub take_messages-stop-requires-clause-taking : goal.take_messages-stop-requires-clause-taking
 take_messages-stop-requires-clause-taking g c = (
@@ -27,6 +28,13 @@ finish-outcome-requires-clause-stops g c =
     (taking_none g.D.Disk.state c.args.rows c.requires.rows.0 c.args.keeper.now c.requires.so_far g.S.Source.left c.args.source c.in-Ok.reader c.args.namer.now c.new-hand.result c.args.file c.requires.worker c.requires.file c.new-hand.ensures
     (subst (λ v. IsNewReader v c.args.source c.in-Ok.reader) c.version.ensures c.in-Ok.ensures.fresh)) in
     (c.args.keeper.now, took.taken, took.few, took.stops)
+
+pub returns-clause-cause : goal.returns-clause-cause
+returns-clause-cause g c =
+    let took = c.take_messages-stop.ensures.took (g.S.Source.left c.args.source) c.args.keeper.now []
+    (taking_none g.D.Disk.state c.args.rows c.requires.rows.0 c.args.keeper.now c.requires.so_far g.S.Source.left c.args.source c.in-Ok.reader c.args.namer.now c.new-hand.result c.args.file c.requires.worker c.requires.file c.new-hand.ensures
+    (subst (λ v. IsNewReader v c.args.source c.in-Ok.reader) c.version.ensures c.in-Ok.ensures.fresh)) in
+    (c.finish-outcome.ensures.outcome c.args.keeper.now took.taken took.stops).cause
 
 pub returns-clause-names : goal.returns-clause-names
 returns-clause-names g c =

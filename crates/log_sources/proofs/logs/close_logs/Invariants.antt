@@ -1,4 +1,4 @@
-use Rattle.std.proofs.Common.{◌≡◌, ◌≤◌, ℕ, List, vec_len}
+use Rattle.std.proofs.Common.{◌≡◌, ℕ, List, vec_len}
 use Rattle.log_sources.proofs.CloseLemmas.{Closed}
 use Rattle.log_sources.proofs.logs.close_logs.Given as goal
 
