@@ -1,0 +1,12 @@
+//! Logs that are made from a number, for measuring: four of them, each line made where it is read.
+#![tactic(auto)]
+
+mod line;
+mod shelf;
+mod source;
+#[cfg(test)]
+mod tests;
+mod text;
+
+pub use shelf::GeneratedShelf;
+pub use source::GeneratedSource;
