@@ -1,7 +1,7 @@
 -- Why files that were taken in are not whole.
 use Rattle.std.proofs.Common.{◌≡◌, ◌≢◌, ◌≤◌, refl, sym, ap, subst, ◌∙◌, ℕ, Bool, true, false, List, length, map, get_or, Option, Some, None, arith}
 use Rattle.std.specs.Prelude.{All, IfSome, is_some, not, option_map, slice_get}
-use Rattle.std.specs.Str.{is_utf8}
+use Rattle.std.specs.Str.{chars, is_utf8}
 use Rattle.std.proofs.lemmas.List.Elements.{All-map, All-weaker}
 use Rattle.std.proofs.lemmas.Option.{IfSome_then, get_or_from_slice_get, slice_get-get_or, slice_get-map, slice_get_within}
 use Rattle.log_seams.specs.declared.disk.Disk.{Ghosts as DiskGhosts}
@@ -20,7 +20,7 @@ use Rattle.ingest_workers.specs.declared.job.Job.{Job}
 use Rattle.ingest_workers.specs.declared.outcome.Cause.{Cause}
 use Rattle.ingest_workers.specs.declared.outcome.Outcome.{Outcome}
 use Rattle.ingest_workers.specs.Causes.{HasJobCause, Log, log_of}
-use Rattle.ingest_workers.specs.Ingested.{AreRefused, HasItsCause, HasStored, HaveCauses, grounds_over, not_begun, plan_of}
+use Rattle.ingest_workers.specs.Ingested.{AreRefused, HasItsCause, HasStored, HaveCauses, IsAsItWas, grounds_over, not_begun, plan_of}
 use Rattle.ingest_workers.specs.Outcome.{nothing_done}
 use Rattle.clp_commands.specs.IngestPrints.{came_of}
 use Rattle.clp_commands.specs.Ingested.{Came, HasMoreThan}
@@ -38,6 +38,11 @@ each_of P xs at = λ i d within. at i (get_or xs i d) (slice_get-get_or xs i d w
 
 at_of : {A : Type 0} (P : A → Type 0) (xs : List A) (i : ℕ) (x : A) → All P xs → slice_get xs i ≡ Some x → P x
 at_of P xs i x all at = subst P (get_or_from_slice_get xs i x x at) (all i x (slice_get_within xs i x at))
+
+-- the name that no log has is no text
+no_text : is_utf8 no_name ≡ false
+unfolding is_utf8 chars
+no_text = refl
 
 -- ---- one file
 
@@ -66,8 +71,8 @@ module _ {S : Type 0} (left name : S → Option (List ℕ)) (faults : S → ℕ)
       rose (logs.reads asked).0 (reads asked) (reads_now asked) (logs.reads asked).1 (reads_sooner asked) (counted asked (subst (λ (m : Option (List ℕ)). IfSome m (λ n. n ≡ asked)) (sym named) is.named) (subst (λ n. Rose n (faults t)) is.fresh up)) (reads_later asked)
   reads_rose asked s (Unopened cause n) is named counted up =
       let same : no_name ≡ asked = subst (λ (m : Option (List ℕ)). IfSome m (λ n. n ≡ asked)) (sym named) is.named in
-      let none : false ≡ true = subst (λ n. is_utf8 n ≡ true) (sym same) is.text in
-      absurd (cc (none))
+      let none : is_utf8 no_name ≡ true = subst (λ n. is_utf8 n ≡ true) (sym same) is.text in
+      absurd (cc (none, no_text))
 
   module _ {D : Type 0} {d : DiskGhosts D} (j after : Journal D d) (c : Came) where
     abbrev In : Type 0
@@ -155,8 +160,8 @@ module _ {S : Type 0} (left name : S → Option (List ℕ)) (faults : S → ℕ)
         some_is : (x y : Job (LogSource S)) → Some x ≡ Some y → x ≡ y
         some_is x y e = cc (e)
 
-    pub all_refused : AreRefused js js' → AllIn
-    all_refused refused = each_of (CameIn logs j.header (d.state j.disk.now) (d.state after.disk.now)) came (λ i c at.
+    pub all_refused : IsAsItWas j after → AreRefused js js' → AllIn
+    all_refused stayed refused = each_of (CameIn logs j.header (d.state j.disk.now) (d.state after.disk.now)) came (λ i c at.
         let one = each i c at in
         refused_in j after c one.source one.done one.came one.messages one.whole one.refusal (refused.each i one.done one.at_done))
 

@@ -47,11 +47,11 @@ other_byte b is same = grind (arith, nat_tests)
 
 lines_of : (message : List ℕ) → AreLines (message ++ 10 ∷ []) (line_count message)
 lines_of [] = record { lines = [] ∷ []; each = All-cons IsLine [] [] (All-nil (λ x. x ≢ 10)) (All-nil IsLine); are = refl; counted = refl }
-lines_of (b ∷ bytes) = by_test (b == 10) refl
+lines_of (b ∷ bytes) = by_test (b == 10) refl (lines_of bytes)
   where
-    by_test : (t : Bool) → b == 10 ≡ t → AreLines (b ∷ bytes ++ 10 ∷ []) ((if b == 10 then 1 else 0) + line_count bytes)
-    by_test true is = subst (λ (t : Bool). AreLines (b ∷ bytes ++ 10 ∷ []) ((if t then 1 else 0) + line_count bytes)) (sym is) (newline_more bytes b (same_byte b is) (lines_of bytes))
-    by_test false is = subst (λ (t : Bool). AreLines (b ∷ bytes ++ 10 ∷ []) ((if t then 1 else 0) + line_count bytes)) (sym is) (byte_more bytes b (other_byte b is) (lines_of bytes))
+    by_test : (t : Bool) → b == 10 ≡ t → AreLines (bytes ++ 10 ∷ []) (line_count bytes) → AreLines (b ∷ bytes ++ 10 ∷ []) ((if b == 10 then 1 else 0) + line_count bytes)
+    by_test true is rest = subst (λ (t : Bool). AreLines (b ∷ bytes ++ 10 ∷ []) ((if t then 1 else 0) + line_count bytes)) (sym is) (newline_more bytes b (same_byte b is) rest)
+    by_test false is rest = subst (λ (t : Bool). AreLines (b ∷ bytes ++ 10 ∷ []) ((if t then 1 else 0) + line_count bytes)) (sym is) (byte_more bytes b (other_byte b is) rest)
 
 lines_of_all : (messages : List (List ℕ)) → AreLines (joined messages) (lines_count messages)
 lines_of_all [] = record { lines = []; each = All-nil IsLine; are = refl; counted = refl }

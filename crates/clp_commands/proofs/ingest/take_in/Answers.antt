@@ -135,5 +135,5 @@ returns-clause-causes g c =
           c.args.journal _ c.as_mut_slice.result.now c.ingest.new.jobs (map came_of c.end_jobs.new.taken.items) (came_of_log g.H.Src.Source.left g.H.Src.Source.name g.H.Src.Source.faults (g.H.Shelf.content c.args.shelf.now) (g.H.Shelf.open_faults c.args.shelf.now) (g.H.Shelf.open_faults c.open_logs.new.shelf)
           (map str_bytes c.args.asked.files.now) c.in-Ok-open_logs.sources.items c.in-Ok-open_logs.ensures.came c.args.named.first c.as_mut_slice.result.now sourced opening numbered c.as_slice.result.now openings
           c.ingest.new.jobs c.end_jobs.new.taken.items c.end_jobs.ensures.names
-          (told_back (λ (jobs : List (Job _)) (i : ℕ) (file : TakenFile). IsToldBy c.as_slice.result.now jobs i file) c.end_jobs.new.taken.items c.begin_jobs.new.jobs.len c.ingest.new.jobs _ (omega (arith, w.in-Err.ensures.jobs.counted, ap length is, c.begin_jobs.new.jobs.ok.0)) c.end_jobs.ensures.told)) w.in-Err.ensures.jobs)
+          (told_back (λ (jobs : List (Job _)) (i : ℕ) (file : TakenFile). IsToldBy c.as_slice.result.now jobs i file) c.end_jobs.new.taken.items c.begin_jobs.new.jobs.len c.ingest.new.jobs _ (omega (arith, w.in-Err.ensures.jobs.counted, ap length is, c.begin_jobs.new.jobs.ok.0)) c.end_jobs.ensures.told)) w.in-Err.ensures.refused w.in-Err.ensures.jobs)
     ]
