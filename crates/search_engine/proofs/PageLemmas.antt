@@ -15,9 +15,6 @@ use Rattle.search_engine.specs.Held.{AreRowsOf, Named, OfLeft}
 use Rattle.search_engine.specs.StepsPast.{PageGone, PagesPast, PastTold}
 use Rattle.search_engine.proofs.SofarLemmas.{front_none, numbered_append}
 use Rattle.search_engine.proofs.WaitingLemmas.{halts_behind, halts_here, halts_more, reaches_none, reaches_on, reaches_page}
-use Rattle.segment_pages.specs.declared.refusal.PageRefusal.{PageRefusal}
-use Rattle.search_engine.specs.declared.refusal.SearchRefusal.{SearchRefusal}
-use Rattle.search_engine.specs.Refused.{from_page}
 
 -- ---- rows in two parts
 
@@ -171,13 +168,6 @@ rests_none d = record {
 
 pub reads_none : (at n : ℕ) (d : DiskState) → OnlyReadsIn at n d d
 reads_none at n d = record { rests = rests_none d; ranges = none_within at n d.ranges d.ranges refl }
-
--- ---- causes
-
-pub page_damaged_from : (e : PageRefusal) → from_page e ≡ SearchRefusal.Damaged → e ≡ PageRefusal.Damaged
-page_damaged_from PageRefusal.DiskFault is = absurd (cc (is))
-page_damaged_from PageRefusal.Damaged is = refl
-page_damaged_from PageRefusal.OutOfMemory is = absurd (cc (is))
 
 -- ---- the loop over pages
 
