@@ -10,6 +10,7 @@ use std::alloc::{AllocError, Global};
 use std::marker::Brand;
 use std::sync::ledger::{Blank, Ledger};
 use std::test::Fail;
+use std::thread::Threads;
 use step_count::Steps;
 use wild_match::read_pattern;
 
@@ -82,7 +83,9 @@ struct Outcome {
 }
 
 /// Searches an archive into an output with so much room, for a caller that counts nothing.
-fn search_with<L: Ledger, M: Ledger>(
+fn search_with<R: Threads + Sync, L: Ledger, M: Ledger>(
+    rt: &R,
+    workers: u32,
     alloc: Global,
     bytes: &[u8],
     text: &[u8],
@@ -109,6 +112,8 @@ fn search_with<L: Ledger, M: Ledger>(
     let mut opened: Steps<L> = Steps::new(one);
     let mut expanded: Steps<M> = Steps::new(two);
     let answer = search(
+        rt,
+        workers,
         alloc,
         &archive,
         &mut disk,
@@ -125,14 +130,18 @@ fn search_with<L: Ledger, M: Ledger>(
     })
 }
 
-fn searched(
+fn searched<R: Threads + Sync>(
+    rt: &R,
+    workers: u32,
     alloc: Global,
     bytes: &[u8],
     text: &[u8],
     range: Range,
     room: usize,
 ) -> Result<Outcome, AllocError> {
-    search_with::<Brand, Brand>(
+    search_with::<R, Brand, Brand>(
+        rt,
+        workers,
         alloc,
         bytes,
         text,
@@ -149,7 +158,9 @@ const ALL: Range = Range {
 };
 
 /// Whether a search prints that, and counts that: found, expanded, opened, all segments.
-fn finds(
+fn finds<R: Threads + Sync>(
+    rt: &R,
+    workers: u32,
     alloc: Global,
     bytes: &[u8],
     text: &[u8],
@@ -157,7 +168,7 @@ fn finds(
     printed: &[u8],
     counts: (u64, u64, u64, u64),
 ) -> Result<bool, AllocError> {
-    let outcome = searched(alloc, bytes, text, range, 1_000)?;
+    let outcome = searched(rt, workers, alloc, bytes, text, range, 1_000)?;
     let Some(report) = outcome.report else {
         return Ok(false);
     };
@@ -183,7 +194,7 @@ fn patterns_over_numbers(rt: HostRuntime) -> Result<(), Fail> {
     ];
     for (text, printed, counts) in cases {
         assert!(rt;
-            finds(alloc, &NUMBERS, text, ALL, printed, counts)?,
+            finds(&rt, 1, alloc, &NUMBERS, text, ALL, printed, counts)?,
             "{counts:?}"
         );
     }
@@ -219,7 +230,7 @@ fn stamps_and_ranges(rt: HostRuntime) -> Result<(), Fail> {
     for (text, from, to, printed, counts) in cases {
         let range = Range { from, to };
         assert!(rt;
-            finds(alloc, &STAMPS, text, range, printed, counts)?,
+            finds(&rt, 1, alloc, &STAMPS, text, range, printed, counts)?,
             "{counts:?}"
         );
     }
@@ -231,8 +242,19 @@ fn more_open_tokens_than_planned(rt: HostRuntime) -> Result<(), Fail> {
     let alloc = rt.alloc();
     let first: &[u8] = b"f.log:1:a b c d e\n";
     let both: &[u8] = b"f.log:1:a b c d e\nf.log:2:a b c d x\n";
-    assert!(rt; finds(alloc, &LETTERS, b"a*b*c*d*e", ALL, first, (1, 2, 1, 1))?);
-    assert!(rt; finds(alloc, &LETTERS, b"a*b*c*d", ALL, both, (2, 2, 1, 1))?);
+    assert!(rt;
+        finds(
+            &rt,
+            1,
+            alloc,
+            &LETTERS,
+            b"a*b*c*d*e",
+            ALL,
+            first,
+            (1, 2, 1, 1)
+        )?
+    );
+    assert!(rt; finds(&rt, 1, alloc, &LETTERS, b"a*b*c*d", ALL, both, (2, 2, 1, 1))?);
     Ok(())
 }
 
@@ -240,12 +262,21 @@ fn more_open_tokens_than_planned(rt: HostRuntime) -> Result<(), Fail> {
 fn columns_that_cannot_match_stay_unread(rt: HostRuntime) -> Result<(), Fail> {
     let alloc = rt.alloc();
     let second: &[u8] = b"a.log:2:run task_2 x\n";
-    assert!(rt; finds(alloc, &ROWS, b" task_2 ", ALL, second, (1, 1, 1, 4))?);
-    assert!(rt; finds(alloc, &ROWS, b" task_9 ", ALL, b"", (0, 0, 0, 4))?);
-    assert!(rt; finds(alloc, &ROWS, b"run;x", ALL, b"", (0, 0, 3, 4))?);
-    assert_eq!(rt; searched(alloc, &ROWS, b" task_2 ", ALL, 1_000)?.calls, 5);
-    assert_eq!(rt; searched(alloc, &ROWS, b" task_9 ", ALL, 1_000)?.calls, 0);
-    assert_eq!(rt; searched(alloc, &ROWS, b"run;x", ALL, 1_000)?.calls, 0);
+    assert!(rt; finds(&rt, 1, alloc, &ROWS, b" task_2 ", ALL, second, (1, 1, 1, 4))?);
+    assert!(rt; finds(&rt, 1, alloc, &ROWS, b" task_9 ", ALL, b"", (0, 0, 0, 4))?);
+    assert!(rt; finds(&rt, 1, alloc, &ROWS, b"run;x", ALL, b"", (0, 0, 3, 4))?);
+    assert_eq!(rt;
+        searched(&rt, 1, alloc, &ROWS, b" task_2 ", ALL, 1_000)?.calls,
+        5
+    );
+    assert_eq!(rt;
+        searched(&rt, 1, alloc, &ROWS, b" task_9 ", ALL, 1_000)?.calls,
+        0
+    );
+    assert_eq!(rt;
+        searched(&rt, 1, alloc, &ROWS, b"run;x", ALL, 1_000)?.calls,
+        0
+    );
     exact_expands_printed();
     one_is_found();
     Ok(())
@@ -254,8 +285,31 @@ fn columns_that_cannot_match_stay_unread(rt: HostRuntime) -> Result<(), Fail> {
 #[test]
 fn an_output_that_fails_has_a_front(rt: HostRuntime) -> Result<(), Fail> {
     let alloc = rt.alloc();
-    let stopped = searched(alloc, &NUMBERS, b"12*34", ALL, 20)?;
+    let stopped = searched(&rt, 1, alloc, &NUMBERS, b"12*34", ALL, 20)?;
     assert!(rt; stopped.report.is_none());
     assert!(rt; b"a.log:1:12534\na.log:2:12 34\n".starts_with(stopped.printed.as_slice()));
+    Ok(())
+}
+
+#[test]
+fn any_number_of_workers_prints_the_same(rt: HostRuntime) -> Result<(), Fail> {
+    let alloc = rt.alloc();
+    let all: &[u8] = b"a.log:1:run task_1 x\na.log:2:run task_2 x\na.log:3:run task_3 x\n";
+    let counts: [u32; 4] = [0, 1, 2, 5];
+    for workers in counts {
+        assert!(rt;
+            finds(
+                &rt,
+                workers,
+                alloc,
+                &ROWS,
+                b"run task_",
+                ALL,
+                all,
+                (3, 3, 3, 4)
+            )?,
+            "{workers}"
+        );
+    }
     Ok(())
 }

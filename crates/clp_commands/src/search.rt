@@ -18,6 +18,7 @@ use sink_pieces::write_all;
 use std::alloc::{AllocError, Global};
 use std::marker::Brand;
 use std::sync::ledger::{Blank, Ledger};
+use std::thread::Threads;
 use step_count::Steps;
 use wild_match::Pattern;
 
@@ -58,7 +59,9 @@ fn print_counts<K: Sink>(alloc: Global, report: &Report, out: &mut K) -> Result<
 }
 
 // The search, with counters that nobody reads.
-fn search_with<D: Disk, K: Sink, L: Ledger, M: Ledger>(
+fn search_with<R: Threads + Sync, D: Disk, K: Sink, L: Ledger, M: Ledger>(
+    rt: &R,
+    workers: u32,
     alloc: Global,
     pattern: &Pattern,
     range: &Range,
@@ -92,6 +95,8 @@ fn search_with<D: Disk, K: Sink, L: Ledger, M: Ledger>(
     let mut opened: Steps<L> = Steps::new(opened);
     let mut expanded: Steps<M> = Steps::new(expanded);
     let answer = search(
+        rt,
+        workers,
         alloc,
         &archive,
         disk,
@@ -113,8 +118,10 @@ fn search_with<D: Disk, K: Sink, L: Ledger, M: Ledger>(
 }
 
 /// Opens the archive of a disk, and prints the messages that a pattern matches in a range. With
-/// `stats` the line of the counts follows.
-pub(crate) fn search_archive<D: Disk, K: Sink>(
+/// `stats` the line of the counts follows. With any number of workers it is the same.
+pub(crate) fn search_archive<R: Threads + Sync, D: Disk, K: Sink>(
+    rt: &R,
+    workers: u32,
     alloc: Global,
     pattern: &Pattern,
     range: &Range,
@@ -140,7 +147,9 @@ pub(crate) fn search_archive<D: Disk, K: Sink>(
         (D.state disk.old).faults (D.state disk.new).faults result }
     ensures sink { CountsOf ReadRefusal.SinkFault (K.faults out.old) (K.faults out.new) result }
 {
-    search_with::<D, K, Brand, Brand>(
+    search_with::<R, D, K, Brand, Brand>(
+        rt,
+        workers,
         alloc,
         pattern,
         range,

@@ -147,7 +147,16 @@ where
                     from: asked.from,
                     to: asked.to,
                 };
-                let outcome = search_archive(alloc, &pattern, &range, asked.stats, disk, out);
+                let outcome = search_archive(
+                    rt,
+                    asked.workers,
+                    alloc,
+                    &pattern,
+                    &range,
+                    asked.stats,
+                    disk,
+                    out,
+                );
                 answer(refusal_of_read(outcome), "", err)
             }
             Err(refusal) => report(err, "", refusal_of_pattern(refusal)),

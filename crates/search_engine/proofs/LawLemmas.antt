@@ -1,7 +1,7 @@
 -- What is found and what is expanded.
-use Rattle.std.proofs.Common.{◌≡◌, ◌⊎◌, inl, inr, ℕ, List, [], ◌∷◌, sym, ◌∙◌, ap}
+use Rattle.std.proofs.Common.{◌≡◌, inl, inr, List, [], ◌∷◌, sym, ◌∙◌, ap}
 use Rattle.query_plan.specs.Laws.{WideIsExact, WideIsWider}
-use Rattle.search_engine.specs.Scan.{AreFound, AreTried, Asked, IsFound, IsTried, Picks, Placed}
+use Rattle.search_engine.specs.Scan.{IsFound, IsTried, Picks, Placed}
 use Rattle.search_engine.specs.Laws.{ExactExpandsPrinted, OneIsFound}
 use Rattle.search_engine.proofs.SofarLemmas.{picks_once}
 

@@ -1,4 +1,6 @@
 pub mod SofarLemmas
+pub mod WaitingLemmas
+pub mod SlotLemmas
 pub mod RowLemmas
 pub mod PageLemmas
 pub mod VerdictLemmas

@@ -10,11 +10,12 @@ use Rattle.log_seams.proofs.MomentLemmas.{rests_on}
 use Rattle.archive_open.specs.declared.files.FileEntry.{FileEntry}
 use Rattle.archive_open.specs.declared.segments.SegmentPlace.{SegmentPlace}
 use Rattle.search_engine.specs.Scan.{Asked, Placed, numbered}
-use Rattle.search_engine.specs.Sofar.{Sofar, Stops}
+use Rattle.search_engine.specs.Waiting.{Blames, Halts, State}
 use Rattle.search_engine.specs.Held.{HaveMessages, Named, OfSegments}
 use Rattle.search_engine.specs.Opened.{AreOpened, IsBarrenFor, IsRead, ReadsOpened, Searched, Stopped}
 use Rattle.search_engine.specs.StepsPast.{SegmentsPastTold, SegmentsRun}
-use Rattle.search_engine.proofs.SofarLemmas.{passes_none, passes_on, picks_append, picks_once, picks_split, stops_behind, stops_more}
+use Rattle.search_engine.proofs.SofarLemmas.{picks_append, picks_once, picks_split}
+use Rattle.search_engine.proofs.WaitingLemmas.{halts_behind, halts_more, reaches_none, reaches_on}
 use Rattle.search_engine.proofs.SegmentLemmas.{nothing_read, rests_none}
 
 -- ---- the next segment
@@ -80,17 +81,17 @@ reads_joined n q ps old mid new one two = record {
 
 -- ---- the loop
 
-past_none : (seen : Option (List ℕ)) (n : Named) (files : List FileEntry) (q : Asked) (ps : List SegmentPlace) (a : Sofar) (t : ℕ) → SegmentsPastTold seen n files q ps 0 a a t t 0
+past_none : (seen : Option (List ℕ)) (n : Named) (files : List FileEntry) (q : Asked) (ps : List SegmentPlace) (a : State) (t : ℕ) → SegmentsPastTold seen n files q ps 0 a a t t 0
 past_none None n files q ps a t = tt
 past_none (Some bytes) n files q ps a t = λ all distinct have. record {
   gone = [];
   left = all;
   parts = refl;
   have = have;
-  searched = record { passes = passes_none n.version q a; opened = []; are_opened = refl; ticked = omega arith; counted = refl };
+  searched = record { reaches = reaches_none n q a; opened = []; are_opened = refl; ticked = omega arith; counted = refl };
 }
 
-pub run_first : (d : DiskState) (n : Named) (files : List FileEntry) (q : Asked) (ps : List SegmentPlace) (a : Sofar) (t : ℕ) → SegmentsRun d d n files q ps 0 a a t t 0
+pub run_first : (d : DiskState) (n : Named) (files : List FileEntry) (q : Asked) (ps : List SegmentPlace) (a : State) (t : ℕ) → SegmentsRun d d n files q ps 0 a a t t 0
 run_first d n files q ps a t = record {
   rests = rests_none d;
   faults = refl;
@@ -99,7 +100,7 @@ run_first d n files q ps a t = record {
   few = omega arith;
 }
 
-past_next : (seen later : Option (List ℕ)) (n : Named) (files : List FileEntry) (q : Asked) (ps : List SegmentPlace) (k : ℕ) (p : SegmentPlace) (a b c : Sofar) (t u v count more all : ℕ) → later ≡ seen → k < length ps → p ≡ get_or ps k p
+past_next : (seen later : Option (List ℕ)) (n : Named) (files : List FileEntry) (q : Asked) (ps : List SegmentPlace) (k : ℕ) (p : SegmentPlace) (a b c : State) (t u v count more all : ℕ) → later ≡ seen → k < length ps → p ≡ get_or ps k p
     → all ≡ count + more → SegmentsPastTold seen n files q ps k a b t u count → OfSegments later n files (p ∷ []) (λ _ own. Searched n q (p ∷ []) own b c u v more)
     → SegmentsPastTold seen n files q ps (k + 1) a c t v all
 past_next None later n files q ps k p a b c t u v count more all same lt is total past one = tt
@@ -113,7 +114,7 @@ past_next (Some bytes) later n files q ps k p a b c t u v count more all same lt
       parts = before.parts ∙ ap (λ (l : List Placed). before.gone ++ l) next.parts ∙ sym (append_assoc before.gone next.own next.rest);
       have = next.have;
       searched = record {
-        passes = passes_on n.version q before.gone next.own a b c before.searched.passes step.passes;
+        reaches = reaches_on n q before.gone next.own a b c before.searched.reaches step.reaches;
         opened = before.searched.opened ++ step.opened;
         are_opened = subst (λ l. AreOpened n q l (before.searched.opened ++ step.opened)) (sym (take_one ps k p lt is))
             (picks_append (λ x. ¬ IsBarrenFor n q x) (take k ps) (p ∷ []) before.searched.opened step.opened before.searched.are_opened step.are_opened);
@@ -122,7 +123,7 @@ past_next (Some bytes) later n files q ps k p a b c t u v count more all same lt
       };
     }
 
-reads_next : (seen later : Option (List ℕ)) (n : Named) (files : List FileEntry) (q : Asked) (ps : List SegmentPlace) (k : ℕ) (p : SegmentPlace) (a b : Sofar) (t u count : ℕ) (old mid new : Option (List (ℕ × ℕ))) → later ≡ seen → k < length ps
+reads_next : (seen later : Option (List ℕ)) (n : Named) (files : List FileEntry) (q : Asked) (ps : List SegmentPlace) (k : ℕ) (p : SegmentPlace) (a b : State) (t u count : ℕ) (old mid new : Option (List (ℕ × ℕ))) → later ≡ seen → k < length ps
     → p ≡ get_or ps k p → SegmentsPastTold seen n files q ps k a b t u count → OfSegments seen n files ps (λ _ _. ReadsOpened n q ps old mid) → OfSegments later n files (p ∷ []) (λ _ _. ReadsOpened n q (p ∷ []) mid new)
     → OfSegments seen n files ps (λ _ _. ReadsOpened n q ps old new)
 reads_next None later n files q ps k p a b t u count old mid new same lt is past reads one = tt
@@ -132,12 +133,12 @@ reads_next (Some bytes) later n files q ps k p a b t u count old mid new same lt
     let step = subst (λ s. OfSegments s n files (p ∷ []) (λ _ _. ReadsOpened n q (p ∷ []) mid new)) same one next.own distinct next.one in
     reads_joined n q ps old mid new (reads every distinct have) (reads_one n q ps p mid new (contained ps k p lt is) step)
 
-pub run_reads : (old mid new : DiskState) (n : Named) (files : List FileEntry) (q : Asked) (ps : List SegmentPlace) (k : ℕ) (p : SegmentPlace) (a b : Sofar) (t u count : ℕ) → k < length ps → p ≡ get_or ps k p
+pub run_reads : (old mid new : DiskState) (n : Named) (files : List FileEntry) (q : Asked) (ps : List SegmentPlace) (k : ℕ) (p : SegmentPlace) (a b : State) (t u count : ℕ) → k < length ps → p ≡ get_or ps k p
     → SegmentsRun old mid n files q ps k a b t u count → OfSegments mid.seen n files (p ∷ []) (λ _ _. ReadsOpened n q (p ∷ []) mid.ranges new.ranges) → OfSegments old.seen n files ps (λ _ _. ReadsOpened n q ps old.ranges new.ranges)
 run_reads old mid new n files q ps k p a b t u count lt is run one =
     reads_next old.seen mid.seen n files q ps k p a b t u count old.ranges mid.ranges new.ranges run.rests.seen lt is run.past run.reads one
 
-pub run_next : (old mid new : DiskState) (n : Named) (files : List FileEntry) (q : Asked) (ps : List SegmentPlace) (k : ℕ) (p : SegmentPlace) (a b c : Sofar) (t u v count more all : ℕ) → k < length ps → p ≡ get_or ps k p → all ≡ count + more → more ≤ 1
+pub run_next : (old mid new : DiskState) (n : Named) (files : List FileEntry) (q : Asked) (ps : List SegmentPlace) (k : ℕ) (p : SegmentPlace) (a b c : State) (t u v count more all : ℕ) → k < length ps → p ≡ get_or ps k p → all ≡ count + more → more ≤ 1
     → SegmentsRun old mid n files q ps k a b t u count → Rests mid new → new.faults ≡ mid.faults → OfSegments mid.seen n files (p ∷ []) (λ _ _. ReadsOpened n q (p ∷ []) mid.ranges new.ranges)
     → OfSegments mid.seen n files (p ∷ []) (λ _ own. Searched n q (p ∷ []) own b c u v more) → SegmentsRun old new n files q ps (k + 1) a c t v all
 run_next old mid new n files q ps k p a b c t u v count more all lt is total few run rests faults reads one = record {
@@ -148,7 +149,7 @@ run_next old mid new n files q ps k p a b c t u v count more all lt is total few
   few = omega (arith, run.few, total, few);
 }
 
-pub run_end : (seen : Option (List ℕ)) (n : Named) (files : List FileEntry) (q : Asked) (ps : List SegmentPlace) (k : ℕ) (a b : Sofar) (t u count : ℕ) → length ps ≤ k → SegmentsPastTold seen n files q ps k a b t u count
+pub run_end : (seen : Option (List ℕ)) (n : Named) (files : List FileEntry) (q : Asked) (ps : List SegmentPlace) (k : ℕ) (a b : State) (t u count : ℕ) → length ps ≤ k → SegmentsPastTold seen n files q ps k a b t u count
     → OfSegments seen n files ps (λ _ all. Searched n q ps all a b t u count)
 run_end None n files q ps k a b t u count end past = tt
 run_end (Some bytes) n files q ps k a b t u count end past = λ every distinct have.
@@ -157,7 +158,7 @@ run_end (Some bytes) n files q ps k a b t u count end past = λ every distinct h
     let all : every ≡ before.gone = before.parts ∙ ap (λ (l : List Placed). before.gone ++ l) none ∙ append-nil before.gone in
     subst (λ l. Searched n q ps l a b t u count) (sym all) (subst (λ l. Searched n q l before.gone a b t u count) (take_all k ps end) before.searched)
 
-pub run_stops : (seen later : Option (List ℕ)) (n : Named) (files : List FileEntry) (q : Asked) (ps : List SegmentPlace) (k : ℕ) (p : SegmentPlace) (a b : Sofar) (w : Option (List ℕ)) (e t u v count : ℕ) → later ≡ seen → k < length ps
+pub run_stops : (seen later : Option (List ℕ)) (n : Named) (files : List FileEntry) (q : Asked) (ps : List SegmentPlace) (k : ℕ) (p : SegmentPlace) (a b : State) (w : Option (List ℕ)) (e t u v count : ℕ) → later ≡ seen → k < length ps
     → p ≡ get_or ps k p → SegmentsPastTold seen n files q ps k a b t u count → OfSegments later n files (p ∷ []) (λ _ own. Stopped n q (p ∷ []) own b w e u v) → OfSegments seen n files ps (λ _ all. Stopped n q ps all a w e t v)
 run_stops None later n files q ps k p a b w e t u v count same lt is past one = tt
 run_stops (Some bytes) later n files q ps k p a b w e t u v count same lt is past one = λ every distinct have.
@@ -167,8 +168,8 @@ run_stops (Some bytes) later n files q ps k p a b w e t u v count same lt is pas
     let cut : ps ≡ take k ps ++ (p ∷ drop (k + 1) ps) = sym (take-append-drop k ps) ∙ ap (λ (l : List SegmentPlace). take k ps ++ l) (drop_one ps k p lt is) in
     let all : every ≡ before.gone ++ (next.own ++ next.rest) = before.parts ∙ ap (λ (l : List Placed). before.gone ++ l) next.parts in
     record {
-      stops = subst (λ l. Stops n.version q l a w e) (sym all)
-          (stops_behind n.version q before.gone (next.own ++ next.rest) a b w e before.searched.passes (stops_more n.version q next.own next.rest b w e step.stops));
+      halts = subst (λ l. Halts n q l a w e) (sym all)
+          (halts_behind n q before.gone (next.own ++ next.rest) a b w e before.searched.reaches (halts_more n q next.own next.rest b w e step.halts));
       most = λ opened are.
           let s = picks_split (λ x. ¬ IsBarrenFor n q x) (take k ps) (p ∷ drop (k + 1) ps) opened (subst (λ l. AreOpened n q l opened) cut are) in
           let r = picks_split (λ x. ¬ IsBarrenFor n q x) (p ∷ []) (drop (k + 1) ps) s.b s.second in
@@ -185,10 +186,11 @@ run_stops (Some bytes) later n files q ps k p a b w e t u v count same lt is pas
           );
     }
 
-pub run_damaged : (seen later : Option (List ℕ)) (n : Named) (files : List FileEntry) (q : Asked) (ps : List SegmentPlace) (k : ℕ) (p : SegmentPlace) (a b : Sofar) (t u count : ℕ) → later ≡ seen → k < length ps
-    → p ≡ get_or ps k p → SegmentsPastTold seen n files q ps k a b t u count → OfSegments later n files (p ∷ []) (λ _ _. ⊥) → OfSegments seen n files ps (λ _ _. ⊥)
-run_damaged None later n files q ps k p a b t u count same lt is past one = tt
-run_damaged (Some bytes) later n files q ps k p a b t u count same lt is past one = λ every distinct have.
+pub run_damaged : (seen later : Option (List ℕ)) (n : Named) (files : List FileEntry) (q : Asked) (ps : List SegmentPlace) (k : ℕ) (p : SegmentPlace) (a b : State) (t u count : ℕ) → later ≡ seen → k < length ps
+    → p ≡ get_or ps k p → SegmentsPastTold seen n files q ps k a b t u count → Blames n b.pending.pages (OfSegments later n files (p ∷ []) (λ _ _. ⊥)) → Blames n a.pending.pages (OfSegments seen n files ps (λ _ _. ⊥))
+run_damaged None later n files q ps k p a b t u count same lt is past one = λ early waits. tt
+run_damaged (Some bytes) later n files q ps k p a b t u count same lt is past one = λ early waits every distinct have.
     let before = past every distinct have in
     let next = next_one bytes n files ps k p before.left lt is before.have in
-    subst (λ s. OfSegments s n files (p ∷ []) (λ _ _. ⊥)) same one next.own distinct next.one
+    let went = before.searched.reaches early waits in
+    subst (λ s. OfSegments s n files (p ∷ []) (λ _ _. ⊥)) same (one went.later went.waits) next.own distinct next.one

@@ -1,5 +1,5 @@
 -- What was done over the segments of an archive is said of the journal that the bytes stand for.
-use Rattle.std.proofs.Common.{◌≡◌, inl, inr, refl, sym, ap, subst, ◌∙◌, ◌≤◌, ℕ, List, [], ◌∷◌, ◌++◌, Option, None, Some, length, arith}
+use Rattle.std.proofs.Common.{◌≡◌, refl, sym, ap, subst, ◌∙◌, ℕ, List, [], ◌++◌, Option, None, Some, length, arith}
 use Rattle.std.specs.Prelude.{option_map}
 use Rattle.std.proofs.lemmas.List.{append-nil}
 use Rattle.std.proofs.lemmas.List.Elements.{All-nil}
@@ -14,14 +14,16 @@ use Rattle.archive_open.specs.Shown.{IsArchiveOf, Opens, Shown, kept_of}
 use Rattle.column_store.specs.declared.range.Range.{Range}
 use Rattle.wild_match.specs.declared.pattern.Item.{Item}
 use Rattle.search_engine.specs.declared.tally.Tally.{Tally}
-use Rattle.search_engine.specs.Scan.{Asked, IsFound, IsTried, Picks, Placed, all_placed, lines_of}
-use Rattle.sink_pieces.specs.Output.{Grew, GrewByFront}
-use Rattle.sink_pieces.proofs.OutputLemmas.{Grew-nothing, Moves-all}
-use Rattle.search_engine.specs.Sofar.{Sofar, Stops, sofar}
+use Rattle.search_engine.specs.Scan.{Asked, IsFound, IsTried, Placed, all_placed, lines_of}
+use Rattle.sink_pieces.specs.Output.{GrewByFront}
+use Rattle.sink_pieces.proofs.OutputLemmas.{Grew-nothing}
+use Rattle.search_engine.specs.Sofar.{Passes, Sofar, sofar}
+use Rattle.search_engine.specs.Waiting.{Blames, Halts, Pending, Reaches, State, WaitFor, no_tally, nothing_pending, state}
 use Rattle.search_engine.specs.Held.{Named, OfSegments, named}
 use Rattle.search_engine.specs.Opened.{IsBarrenFor, Searched, Stopped}
 use Rattle.search_engine.specs.Searched.{HasSearched, HasStopped, MissesBarren, OfJournal, ReadsNoBarren, asked, names_of}
-use Rattle.search_engine.proofs.SofarLemmas.{all_went, goes_moved, passes_moves, picks_once, stops_behind, stops_here, ticks_same}
+use Rattle.search_engine.proofs.SofarLemmas.{all_went, picks_once, picks_short}
+use Rattle.search_engine.proofs.WaitingLemmas.{halts_behind, reaches_end, reaches_on}
 use Rattle.search_engine.proofs.HeldLemmas.{nothing_distinct, run_distinct}
 use Rattle.search_engine.proofs.GroupLemmas.{content_small, shown_have}
 
@@ -66,21 +68,22 @@ asked_is q pattern range one two = λ i. record { pattern = one i; range = two i
 
 -- ---- what was done
 
-picks_short : {A : Type 0} (P : A → Type 0) (xs ys : List A) → Picks P xs ys → length ys ≤ length xs
-picks_short P [] ys is = omega (arith, ap length is)
-picks_short P (x ∷ xs) ys (inl p) = omega (arith, picks_short P xs p.0 p.2, ap length p.3)
-picks_short P (x ∷ xs) ys (inr p) = omega (arith, picks_short P xs ys p.1)
-
-pub has_searched : (bytes : List ℕ) (h : Header) (es : List JournalEntry) (q : Asked) (ps : List SegmentPlace) (tally : Tally) (count : ℕ) (w0 w1 w2 : Option (List ℕ)) (g0 g1 g2 : List ℕ) (o0 o1 e0 e1 : ℕ) (stood : StandsFor bytes h es)
-    → g0 ≡ [] → Searched (names_of h stood.legal.held) q ps (all_placed (content_of stood.legal.held)) (sofar w0 g0 (record { matched = 0; expanded = 0 }) e0) (sofar w1 g1 tally e1) o0 o1 count → Grew w1 w2 g1 → g2 ≡ []
-    → HasSearched h stood.legal.held q ps (record { matched = tally.matched; expanded = tally.expanded; opened = count; segments = length ps }) w0 w2 o0 o1 e0 e1
-has_searched bytes h es q ps tally count w0 w1 w2 g0 g1 g2 o0 o1 e0 e1 stood none searched grew done =
+pub has_searched : (bytes : List ℕ) (h : Header) (es : List JournalEntry) (q : Asked) (ps : List SegmentPlace) (tally : Tally) (count : ℕ) (w0 w2 : Option (List ℕ)) (y z : Pending) (b : State) (o0 o1 e0 e2 : ℕ) (stood : StandsFor bytes h es)
+    → y ≡ nothing_pending → tally ≡ z.tally → Searched (names_of h stood.legal.held) q ps (all_placed (content_of stood.legal.held)) (state w0 y e0) b o0 o1 count → Reaches (names_of h stood.legal.held) q [] b (state w2 z e2)
+    → (z.pages ≡ []) × (z.gathered ≡ [])
+    → HasSearched h stood.legal.held q ps (record { matched = tally.matched; expanded = tally.expanded; opened = count; segments = length ps }) w0 w2 o0 o1 e0 e2
+has_searched bytes h es q ps tally count w0 w2 y z b o0 o1 e0 e2 stood none counts started finished done =
+    let searched = subst (λ (x : Pending). Searched (names_of h stood.legal.held) q ps (all_placed (content_of stood.legal.held)) (state w0 x e0) b o0 o1 count) none started in
     let all : List Placed = all_placed (content_of stood.legal.held) in
     let small = content_small bytes h es stood in
-    let a : Sofar = sofar w0 g0 (record { matched = 0; expanded = 0 }) e0 in
-    let b : Sofar = sofar w1 g1 tally e1 in
-    let c : Sofar = sofar w2 g2 tally e1 in
-    let p = passes_moves h.version q all a b c searched.passes (goes_moved b c (Moves-all w1 w2 g1 g2 grew done)) refl refl in
+    let a : Sofar = sofar w0 [] no_tally e0 in
+    let c : Sofar = sofar w2 z.gathered tally e2 in
+    let whole : Reaches (names_of h stood.legal.held) q all (state w0 nothing_pending e0) (state w2 z e2) =
+    subst (λ l. Reaches (names_of h stood.legal.held) q l (state w0 nothing_pending e0) (state w2 z e2)) (append-nil all)
+    (reaches_on (names_of h stood.legal.held) q all [] (state w0 nothing_pending e0) b (state w2 z e2) searched.reaches finished) in
+    let p : Passes h.version q all a c =
+    subst (λ t. Passes h.version q all a (sofar w2 z.gathered t e2)) (sym counts)
+    (reaches_end (names_of h stood.legal.held) q all (state w0 nothing_pending e0) (state w2 z e2) refl done.0 whole) in
     let found_short = picks_short (λ x. IsFound h.version q x.message) all p.found p.are_found in
     let tried_short = picks_short (λ x. IsTried h.version q x.message) all p.tried p.are_tried in
     let m : tally.matched ≡ length p.found = p.advances.matched (omega (arith, found_short, small)) ∙ omega arith in
@@ -92,30 +95,40 @@ has_searched bytes h es q ps tally count w0 w1 w2 g0 g1 g2 o0 o1 e0 e1 stood non
       are_found = p.are_found;
       are_tried = p.are_tried;
       are_opened = searched.are_opened;
-      printed = all_went a c (lines_of p.found) p.advances.goes none done;
+      printed = all_went a c (lines_of p.found) p.advances.goes refl done.1;
       opens = searched.ticked;
       expands = p.advances.ticks;
       report = λ i. record { matched = m i; expanded = e i; opened = searched.counted i; segments = length ps };
     }
 
-pub has_stopped : (h : Header) (held : Held) (q : Asked) (ps : List SegmentPlace) (t : Tally) (w0 w : Option (List ℕ)) (g0 : List ℕ) (o0 o1 e0 e1 : ℕ) → g0 ≡ []
-    → Stopped (names_of h held) q ps (all_placed (content_of held)) (sofar w0 g0 t e0) w e1 o0 o1 → HasStopped h held q ps w0 w o0 o1 e0 e1
-has_stopped h held q ps t w0 w g0 o0 o1 e0 e1 none stopped = record {
-  printed = λ found are. subst (λ g. GrewByFront w0 w (g ++ lines_of found)) none (stopped.stops.front found are);
-  opens = stopped.most;
-  expands = stopped.stops.most;
-}
+pub has_stopped : (h : Header) (held : Held) (q : Asked) (ps : List SegmentPlace) (w0 w : Option (List ℕ)) (z : Pending) (o0 o1 e0 e1 : ℕ) → z ≡ nothing_pending
+    → Stopped (names_of h held) q ps (all_placed (content_of held)) (state w0 z e0) w e1 o0 o1 → HasStopped h held q ps w0 w o0 o1 e0 e1
+has_stopped h held q ps w0 w z o0 o1 e0 e1 none stopped =
+    let stops = stopped.halts [] (subst (λ p. WaitFor (names_of h held) p.pages []) (sym none) refl) in
+    record {
+      printed = λ found are. subst (λ p. GrewByFront w0 w (p.gathered ++ lines_of found)) none (stops.front found are);
+      opens = stopped.most;
+      expands = stops.most;
+    }
 
--- the last bytes did not all go out
-pub last_stopped : (n : Named) (q : Asked) (ps : List SegmentPlace) (all : List Placed) (a b : Sofar) (w : Option (List ℕ)) (o0 o1 count : ℕ) → Searched n q ps all a b o0 o1 count → GrewByFront b.written w b.gathered
-    → Stopped n q ps all a w b.ticks o0 o1
-last_stopped n q ps all a b w o0 o1 count searched front = record {
-  stops = subst (λ l. Stops n.version q l a w b.ticks) (append-nil all)
-      (stops_behind n.version q all [] a b w b.ticks searched.passes (stops_here n.version q [] b w b.ticks front (ticks_same n.version q [] b.ticks b.ticks refl)));
+-- the last pages did not all go out
+pub last_stopped : (n : Named) (q : Asked) (ps : List SegmentPlace) (all : List Placed) (a b : State) (w : Option (List ℕ)) (k o0 o1 count : ℕ) → Searched n q ps all a b o0 o1 count → Halts n q [] b w k
+    → Stopped n q ps all a w k o0 o1
+last_stopped n q ps all a b w k o0 o1 count searched halts = record {
+  halts = subst (λ l. Halts n q l a w k) (append-nil all) (halts_behind n q all [] a b w k searched.reaches halts);
   most = λ opened are.
       let same = picks_once (λ x. ¬ IsBarrenFor n q x) ps opened searched.opened are searched.are_opened in
       omega (arith, searched.ticked, ap (λ (l : List SegmentPlace). length l) same);
 }
+
+-- the last pages are no messages
+pub waits_none : (n : Named) (z : Pending) → z ≡ nothing_pending → WaitFor n z.pages []
+waits_none n z none = subst (λ (x : Pending). WaitFor n x.pages []) (sym none) refl
+
+pub last_damaged : (n : Named) (q : Asked) (ps : List SegmentPlace) (all : List Placed) (a b : State) (o0 o1 count : ℕ) → a.pending ≡ nothing_pending → Searched n q ps all a b o0 o1 count → Blames n b.pending.pages ⊥ → ⊥
+last_damaged n q ps all a b o0 o1 count none searched blames =
+    let p = searched.reaches [] (waits_none n a.pending none) in
+    blames p.later p.waits
 
 -- ---- nothing was done
 

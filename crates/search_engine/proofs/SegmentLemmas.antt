@@ -23,14 +23,15 @@ use Rattle.subquery_filter.specs.Laws.{BarrenHasNoMatch, words_of}
 use Rattle.archive_open.specs.declared.files.FileEntry.{FileEntry}
 use Rattle.archive_open.specs.declared.segments.SegmentPlace.{SegmentPlace}
 use Rattle.search_engine.specs.Scan.{Asked, IsFound, IsTried, Picks, Placed, numbered}
-use Rattle.search_engine.specs.Sofar.{Passes, Sofar, Stops}
+use Rattle.search_engine.specs.Waiting.{Halts, Reaches, State}
 use Rattle.search_engine.specs.Held.{AreRowsOf, HasMessages, HaveMessages, Named, OfLeft, OfSegments}
 use Rattle.search_engine.specs.Opened.{AreOpened, IsBarrenFor, IsRead, ReadsOpened, Searched, Stopped, columns_at}
 use Rattle.subquery_filter.specs.Filter.{HasNoMatch}
 use Rattle.row_codec.specs.Numbers.{numbers_of_row}
 use Rattle.segment_format.specs.declared.head.Head.{Head}
 use Rattle.segment_format.proofs.SetLemmas.{has_sorted_set}
-use Rattle.search_engine.proofs.SofarLemmas.{goes_none, picks_once}
+use Rattle.search_engine.proofs.SofarLemmas.{picks_once}
+use Rattle.search_engine.proofs.WaitingLemmas.{reaches_over}
 use Rattle.search_engine.proofs.RowLemmas.{of_range}
 
 -- ---- told
@@ -88,20 +89,17 @@ barren_found : (n : Named) (q : Asked) (p : SegmentPlace) (rows : List Row) → 
 barren_found n q p rows wider law searched barren head r m is canonical found =
     barren_tried n q p rows law searched barren head r m is canonical (record { matched = wider q.pattern m found.matched; inside = found.inside })
 
-barren_searched : (bytes : List ℕ) (n : Named) (f : FileEntry) (q : Asked) (p : SegmentPlace) (all : List Placed) (a : Sofar) (t : ℕ) → WideIsWider → BarrenHasNoMatch → IsSearched q.pattern → IsBarrenFor n q p
+barren_searched : (bytes : List ℕ) (n : Named) (f : FileEntry) (q : Asked) (p : SegmentPlace) (all : List Placed) (a : State) (t : ℕ) → WideIsWider → BarrenHasNoMatch → IsSearched q.pattern → IsBarrenFor n q p
     → Single bytes n f p all → Searched n q (p ∷ []) all a a t t 0
 barren_searched bytes n f q p all a t wider law searched barren one =
     let has = one.has in
     record {
-      passes = record {
-        found = [];
-        tried = [];
-        are_found = subst (λ l. Picks (λ (x : Placed). IsFound n.version q x.message) l []) (sym one.parts)
-            (nothing_picked n (IsFound n.version q) f.name (p.head.first + 1) has.rows has.rows one.messages has.are (λ r is. is) (barren_found n q p has.rows wider law searched barren has.head));
-        are_tried = subst (λ l. Picks (λ (x : Placed). IsTried n.version q x.message) l []) (sym one.parts)
-            (nothing_picked n (IsTried n.version q) f.name (p.head.first + 1) has.rows has.rows one.messages has.are (λ r is. is) (barren_tried n q p has.rows law searched barren has.head));
-        advances = record { goes = goes_none a; matched = λ fits. omega arith; expanded = λ fits. omega arith; ticks = omega arith };
-      };
+      reaches =
+          reaches_over n q all a
+          (subst (λ l. Picks (λ (x : Placed). IsFound n.version q x.message) l []) (sym one.parts)
+          (nothing_picked n (IsFound n.version q) f.name (p.head.first + 1) has.rows has.rows one.messages has.are (λ r is. is) (barren_found n q p has.rows wider law searched barren has.head)))
+          (subst (λ l. Picks (λ (x : Placed). IsTried n.version q x.message) l []) (sym one.parts)
+          (nothing_picked n (IsTried n.version q) f.name (p.head.first + 1) has.rows has.rows one.messages has.are (λ r is. is) (barren_tried n q p has.rows law searched barren has.head)));
       opened = [];
       are_opened = inr (λ no. no barren, refl);
       ticked = omega arith;
@@ -118,7 +116,7 @@ tells n q p b ps range same_ps same_range told =
     subst (λ r. IsHead p.head → AreDistinct n.words → IsTrue b ↔ IsBarren (wide_pieces q.pattern) r n.types n.words p.head) same_range
     (subst (λ l. IsHead p.head → AreDistinct n.words → IsTrue b ↔ IsBarren l range n.types n.words p.head) same_ps told)
 
-pub barren_done : (seen : Option (List ℕ)) (n : Named) (files : List FileEntry) (q : Asked) (p : SegmentPlace) (b : Bool) (a : Sofar) (t : ℕ) → WideIsWider → BarrenHasNoMatch → IsSearched q.pattern → Tells n q p b → IsTrue b
+pub barren_done : (seen : Option (List ℕ)) (n : Named) (files : List FileEntry) (q : Asked) (p : SegmentPlace) (b : Bool) (a : State) (t : ℕ) → WideIsWider → BarrenHasNoMatch → IsSearched q.pattern → Tells n q p b → IsTrue b
     → OfSegments seen n files (p ∷ []) (λ _ all. Searched n q (p ∷ []) all a a t t 0)
 barren_done None n files q p b a t wider law searched told truly = tt
 barren_done (Some bytes) n files q p b a t wider law searched told truly = λ all distinct have.
@@ -144,7 +142,7 @@ number_listed : (types : List (List ℕ)) (rows : List Row) (r : Row) (k : ℕ) 
 number_listed types rows r k is has = has_sorted_set (flat_map (numbers_of_row types) rows) k (contains_flat_map (numbers_of_row types) rows r k is has)
 
 -- one of whose rows none is matched, as its head's lists tell
-pub unmatched_done : (seen : Option (List ℕ)) (n : Named) (files : List FileEntry) (q : Asked) (p : SegmentPlace) (b : Bool) (a : Sofar) (t u : ℕ) → WideIsWider → Tells n q p b → b ≡ false
+pub unmatched_done : (seen : Option (List ℕ)) (n : Named) (files : List FileEntry) (q : Asked) (p : SegmentPlace) (b : Bool) (a : State) (t u : ℕ) → WideIsWider → Tells n q p b → b ≡ false
     → (listed numbers : List ℕ) → listed ≡ p.head.types → numbers ≡ p.head.words → HasNoMatch (wide_pieces q.pattern) n.types n.words listed numbers → u ≡ t + 1
     → OfSegments seen n files (p ∷ []) (λ _ all. Searched n q (p ∷ []) all a a t u 1)
 unmatched_done None n files q p b a t u wider told shut listed numbers of_types of_words unmatched ticked = tt
@@ -157,47 +155,44 @@ unmatched_done (Some bytes) n files q p b a t u wider told shut listed numbers o
     λ r m here canonical f. unmatched n.version r m (subst (λ l. Contains l r.log_type) (sym types) (type_listed has.rows r here))
     (λ k is. subst (λ l. Contains l k) (sym words) (number_listed n.types has.rows r k here is)) canonical f.matched in
     record {
-      passes = record {
-        found = [];
-        tried = [];
-        are_found = subst (λ l. Picks (λ (x : Placed). IsFound n.version q x.message) l []) (sym one.parts)
-            (nothing_picked n (IsFound n.version q) have.0.name (p.head.first + 1) has.rows has.rows one.messages has.are (λ r is. is)
-            (λ r m here canonical f. none r m here canonical (record { matched = wider q.pattern m f.matched; inside = f.inside })));
-        are_tried = subst (λ l. Picks (λ (x : Placed). IsTried n.version q x.message) l []) (sym one.parts)
-            (nothing_picked n (IsTried n.version q) have.0.name (p.head.first + 1) has.rows has.rows one.messages has.are (λ r is. is) none);
-        advances = record { goes = goes_none a; matched = λ fits. omega arith; expanded = λ fits. omega arith; ticks = omega arith };
-      };
+      reaches =
+          reaches_over n q all a
+          (subst (λ l. Picks (λ (x : Placed). IsFound n.version q x.message) l []) (sym one.parts)
+          (nothing_picked n (IsFound n.version q) have.0.name (p.head.first + 1) has.rows has.rows one.messages has.are (λ r is. is)
+          (λ r m here canonical f. none r m here canonical (record { matched = wider q.pattern m f.matched; inside = f.inside }))))
+          (subst (λ l. Picks (λ (x : Placed). IsTried n.version q x.message) l []) (sym one.parts)
+          (nothing_picked n (IsTried n.version q) have.0.name (p.head.first + 1) has.rows has.rows one.messages has.are (λ r is. is) none));
       opened = p ∷ [];
       are_opened = inl ([], not_barren n q p b told shut has.holds.is_head distinct, refl, refl);
       ticked = ticked;
       counted = refl;
     }
 
-pub opened_done : (seen : Option (List ℕ)) (n : Named) (files : List FileEntry) (f : FileEntry) (q : Asked) (p : SegmentPlace) (b : Bool) (pages : Paged) (name : List ℕ) (number : ℕ) (a z : Sofar) (t u : ℕ) → Tells n q p b → b ≡ false
+pub opened_done : (seen : Option (List ℕ)) (n : Named) (files : List FileEntry) (f : FileEntry) (q : Asked) (p : SegmentPlace) (b : Bool) (pages : Paged) (name : List ℕ) (number : ℕ) (a z : State) (t u : ℕ) → Tells n q p b → b ≡ false
     → slice_get files p.head.file ≡ Some f → name ≡ f.name → number ≡ p.head.first + 1 → ((bytes : List ℕ) (rows : List Row) → HoldsSegment p.payload p.length p.head bytes rows → HoldsLeft pages bytes rows)
-    → OfLeft seen pages n (λ messages. Passes n.version q (numbered name number messages) a z) → u ≡ t + 1 → OfSegments seen n files (p ∷ []) (λ _ all. Searched n q (p ∷ []) all a z t u 1)
+    → OfLeft seen pages n (λ messages. Reaches n q (numbered name number messages) a z) → u ≡ t + 1 → OfSegments seen n files (p ∷ []) (λ _ all. Searched n q (p ∷ []) all a z t u 1)
 opened_done None n files f q p b pages name number a z t u told shut file called first opens passes ticked = tt
 opened_done (Some bytes) n files f q p b pages name number a z t u told shut file called first opens passes ticked = λ all distinct have.
     let one = single bytes n files f p all file have in
     let rest = passes one.has.rows one.messages (opens bytes one.has.rows one.has.holds) one.has.are in
     record {
-      passes = subst (λ l. Passes n.version q l a z) (ap₂ (λ (x : List ℕ) (k : ℕ). numbered x k one.messages) called first ∙ sym one.parts) rest;
+      reaches = subst (λ l. Reaches n q l a z) (ap₂ (λ (x : List ℕ) (k : ℕ). numbered x k one.messages) called first ∙ sym one.parts) rest;
       opened = p ∷ [];
       are_opened = inl ([], not_barren n q p b told shut one.has.holds.is_head distinct, refl, refl);
       ticked = ticked;
       counted = refl;
     }
 
-pub opened_stops : (seen : Option (List ℕ)) (n : Named) (files : List FileEntry) (f : FileEntry) (q : Asked) (p : SegmentPlace) (b : Bool) (pages : Paged) (name : List ℕ) (number : ℕ) (a : Sofar) (w : Option (List ℕ)) (k t u : ℕ) → Tells n q p b → b ≡ false
+pub opened_stops : (seen : Option (List ℕ)) (n : Named) (files : List FileEntry) (f : FileEntry) (q : Asked) (p : SegmentPlace) (b : Bool) (pages : Paged) (name : List ℕ) (number : ℕ) (a : State) (w : Option (List ℕ)) (k t u : ℕ) → Tells n q p b → b ≡ false
     → slice_get files p.head.file ≡ Some f → name ≡ f.name → number ≡ p.head.first + 1 → ((bytes : List ℕ) (rows : List Row) → HoldsSegment p.payload p.length p.head bytes rows → HoldsLeft pages bytes rows)
-    → OfLeft seen pages n (λ messages. Stops n.version q (numbered name number messages) a w k) → u ≡ t + 1 → OfSegments seen n files (p ∷ []) (λ _ all. Stopped n q (p ∷ []) all a w k t u)
+    → OfLeft seen pages n (λ messages. Halts n q (numbered name number messages) a w k) → u ≡ t + 1 → OfSegments seen n files (p ∷ []) (λ _ all. Stopped n q (p ∷ []) all a w k t u)
 opened_stops None n files f q p b pages name number a w k t u told shut file called first opens stops ticked = tt
 opened_stops (Some bytes) n files f q p b pages name number a w k t u told shut file called first opens stops ticked = λ all distinct have.
     let one = single bytes n files f p all file have in
     let rest = stops one.has.rows one.messages (opens bytes one.has.rows one.has.holds) one.has.are in
     let own : AreOpened n q (p ∷ []) (p ∷ []) = inl ([], not_barren n q p b told shut one.has.holds.is_head distinct, refl, refl) in
     record {
-      stops = subst (λ l. Stops n.version q l a w k) (ap₂ (λ (x : List ℕ) (k : ℕ). numbered x k one.messages) called first ∙ sym one.parts) rest;
+      halts = subst (λ l. Halts n q l a w k) (ap₂ (λ (x : List ℕ) (k : ℕ). numbered x k one.messages) called first ∙ sym one.parts) rest;
       most = λ opened are.
           let same : opened ≡ p ∷ [] = picks_once (λ x. ¬ IsBarrenFor n q x) (p ∷ []) opened (p ∷ []) are own in
           omega (arith, ticked, ap (λ (l : List SegmentPlace). length l) same);

@@ -1,6 +1,6 @@
 -- A search that goes on over parts of a list goes on over the whole, and one that stops in a part stops in the whole.
-use Rattle.std.proofs.Common.{◌≡◌, inl, inr, ℕ, ◌+◌, List, [], ◌∷◌, ◌++◌, length, Option, refl, sym, ◌∙◌, ap, subst, arith, length-append}
-use Rattle.std.specs.Prelude.{Result, Ok, Err, OnErr}
+use Rattle.std.proofs.Common.{◌≡◌, inl, inr, ℕ, ◌+◌, ◌≤◌, List, [], ◌∷◌, ◌++◌, length, Option, refl, sym, ◌∙◌, ap, subst, arith, length-append}
+use Rattle.std.specs.Prelude.{Result, Ok, Err, OnErr, OnOk}
 use Rattle.std.proofs.lemmas.List.{append-nil, append_assoc}
 use Rattle.std.proofs.lemmas.List.Concat.{flat_map-append}
 use Rattle.sink_pieces.specs.Output.{Grew, GrewByFront, Moves}
@@ -8,6 +8,14 @@ use Rattle.sink_pieces.proofs.OutputLemmas.{Grew-append, Grew-nothing}
 use Rattle.search_engine.specs.declared.tally.Tally.{Tally}
 use Rattle.search_engine.specs.Scan.{Asked, IsFound, IsTried, Picks, Placed, line_of, lines_of, numbered, placed}
 use Rattle.search_engine.specs.Sofar.{Advances, Counted, Goes, Passes, Sofar, Stops, TicksWithin}
+
+pub on_ok_to : {T E : Type 0} (r : Result T E) (P Q : Type 0) → (P → Q) → OnOk r P → OnOk r Q
+on_ok_to (Ok t) P Q step p = step p
+on_ok_to (Err e) P Q step p = tt
+
+pub on_err_to : {T E : Type 0} (r : Result T E) (P Q : Type 0) → (P → Q) → OnErr r P → OnErr r Q
+on_err_to (Ok t) P Q step p = tt
+on_err_to (Err e) P Q step p = step p
 
 pub on_err : {T E : Type 0} (r : Result T E) (P : Type 0) → P → OnErr r P
 on_err (Ok t) P p = tt
@@ -36,6 +44,11 @@ picks_split {A} P (x ∷ xs) ys c (inl p) =
 picks_split P (x ∷ xs) ys c (inr p) =
     let r = picks_split P xs ys c p.1 in
     record { a = r.a; b = r.b; first = inr (p.0, r.first); second = r.second; both = r.both }
+
+pub picks_short : {A : Type 0} (P : A → Type 0) (xs ys : List A) → Picks P xs ys → length ys ≤ length xs
+picks_short P [] ys is = omega (arith, ap length is)
+picks_short P (x ∷ xs) ys (inl p) = omega (arith, picks_short P xs p.0 p.2, ap length p.3)
+picks_short P (x ∷ xs) ys (inr p) = omega (arith, picks_short P xs ys p.1)
 
 pub picks_once : {A : Type 0} (P : A → Type 0) (xs a b : List A) → Picks P xs a → Picks P xs b → a ≡ b
 picks_once P [] a b one two = one ∙ sym two
@@ -128,7 +141,7 @@ ticks_behind version q xs ys a b new one within tried are =
 pub ticks_same : (version : ℕ) (q : Asked) (xs : List Placed) (old new : ℕ) → new ≡ old → TicksWithin version q xs old new
 ticks_same version q xs old new same tried are = omega (arith, same)
 
-front_more : (old new : Option (List ℕ)) (text more : List ℕ) → GrewByFront old new text → GrewByFront old new (text ++ more)
+pub front_more : (old new : Option (List ℕ)) (text more : List ℕ) → GrewByFront old new text → GrewByFront old new (text ++ more)
 front_more old new text more f =
     (f.0, f.1 ++ more, ap (λ (l : List ℕ). l ++ more) f.2 ∙ append_assoc f.0 f.1 more, f.3)
 
@@ -181,3 +194,7 @@ all_went a b s goes none done =
 -- what was gathered went out in part
 pub goes_moved : (a b : Sofar) → Moves a.written b.written a.gathered b.gathered → Goes a b []
 goes_moved a b moves = record { front = moves.front; splits = append-nil a.gathered ∙ moves.splits; grew = moves.grew }
+
+-- a text of two parts, of which the first went out, and the second in part or whole
+pub front_second : (old mid new : Option (List ℕ)) (a b : List ℕ) → Grew old mid a → GrewByFront mid new b → GrewByFront old new (a ++ b)
+front_second old mid new a b grew f = (a ++ f.0, f.1, ap (λ (l : List ℕ). a ++ l) f.2 ∙ sym (append_assoc a f.0 f.1), Grew-append old mid new a f.0 grew f.3)

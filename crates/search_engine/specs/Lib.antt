@@ -1,6 +1,7 @@
 pub mod Scan
 pub mod Sofar
 pub mod Held
+pub mod Waiting
 pub mod Refused
 pub mod Judged
 pub mod Opened

@@ -10,8 +10,8 @@ use Rattle.log_seams.specs.Disk.{DiskState}
 use Rattle.archive_open.specs.declared.files.FileEntry.{FileEntry}
 use Rattle.archive_open.specs.declared.segments.SegmentPlace.{SegmentPlace}
 use Rattle.search_engine.specs.Scan.{Asked, Picks, Placed}
-use Rattle.search_engine.specs.Sofar.{Passes, Sofar, Stops}
 use Rattle.search_engine.specs.Held.{Named, OfSegments}
+use Rattle.search_engine.specs.Waiting.{Halts, Reaches, State}
 
 -- the segment's head tells that none of its rows is found
 abbrev pub IsBarrenFor : Named → Asked → SegmentPlace → Type 0
@@ -40,16 +40,16 @@ pub record ReadsOpened (n : Named) (q : Asked) (ps : List SegmentPlace) (old new
   pub each : All (IsRead n q ps) more
 
 -- the segments were searched, which have these messages; so many were opened
-pub record Searched (n : Named) (q : Asked) (ps : List SegmentPlace) (all : List Placed) (a b : Sofar) (ticks later count : ℕ) : Type 0 where
-  pub passes : Passes n.version q all a b
+pub record Searched (n : Named) (q : Asked) (ps : List SegmentPlace) (all : List Placed) (a b : State) (ticks later count : ℕ) : Type 0 where
+  pub reaches : Reaches n q all a b
   pub opened : List SegmentPlace
   pub are_opened : AreOpened n q ps opened
   pub ticked : later ≡ ticks + length opened
   pub counted : count ≡ length opened
 
 -- the search stopped among the segments, and opened no more
-pub record Stopped (n : Named) (q : Asked) (ps : List SegmentPlace) (all : List Placed) (a : Sofar) (written : Option (List ℕ)) (expanded ticks later : ℕ) : Type 0 where
-  pub stops : Stops n.version q all a written expanded
+pub record Stopped (n : Named) (q : Asked) (ps : List SegmentPlace) (all : List Placed) (a : State) (written : Option (List ℕ)) (expanded ticks later : ℕ) : Type 0 where
+  pub halts : Halts n q all a written expanded
   pub most : (opened : List SegmentPlace) → AreOpened n q ps opened → later ≤ ticks + length opened
 
 -- What is said of segments where the bytes of the disk are told and hold their messages: what was read of them, that
@@ -57,10 +57,10 @@ pub record Stopped (n : Named) (q : Asked) (ps : List SegmentPlace) (all : List 
 abbrev pub ReadsTold : DiskState → DiskState → Named → List FileEntry → Asked → List SegmentPlace → Type 0
 ReadsTold old new n files q ps = OfSegments old.seen n files ps (λ _ _. ReadsOpened n q ps old.ranges new.ranges)
 
-abbrev pub SearchedTold : Option (List ℕ) → Named → List FileEntry → Asked → List SegmentPlace → Sofar → Sofar → ℕ → ℕ → ℕ → Type 0
+abbrev pub SearchedTold : Option (List ℕ) → Named → List FileEntry → Asked → List SegmentPlace → State → State → ℕ → ℕ → ℕ → Type 0
 SearchedTold seen n files q ps a b ticks later count = OfSegments seen n files ps (λ _ all. Searched n q ps all a b ticks later count)
 
-abbrev pub StoppedTold : Option (List ℕ) → Named → List FileEntry → Asked → List SegmentPlace → Sofar → Option (List ℕ) → ℕ → ℕ → ℕ → Type 0
+abbrev pub StoppedTold : Option (List ℕ) → Named → List FileEntry → Asked → List SegmentPlace → State → Option (List ℕ) → ℕ → ℕ → ℕ → Type 0
 StoppedTold seen n files q ps a written expanded ticks later = OfSegments seen n files ps (λ _ all. Stopped n q ps all a written expanded ticks later)
 
 abbrev pub NoneTold : Option (List ℕ) → Named → List FileEntry → List SegmentPlace → Type 0

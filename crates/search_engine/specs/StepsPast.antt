@@ -2,13 +2,15 @@
 use Rattle.std.specs.Prelude.{◌≡◌, ◌≤◌, ◌+◌, ℕ, List, ◌++◌, length, take, drop, Option, Some, None}
 use Rattle.column_store.specs.declared.row.Row.{Row}
 use Rattle.log_seams.specs.Disk.{DiskState, Rests}
-use Rattle.segment_pages.specs.Paged.{HoldsLeft, Paged, ReadsColumns}
+use Rattle.segment_format.specs.Pages.{page_rows}
+use Rattle.segment_pages.specs.Paged.{HoldsLeft, Paged, ReadsColumns, paged_after}
 use Rattle.archive_open.specs.declared.files.FileEntry.{FileEntry}
 use Rattle.archive_open.specs.declared.segments.SegmentPlace.{SegmentPlace}
 use Rattle.search_engine.specs.Held.{AreRowsOf, HaveMessages, Named, OfSegments}
 use Rattle.search_engine.specs.Scan.{Asked, Placed, numbered}
 use Rattle.search_engine.specs.Opened.{ReadsOpened, Searched}
 use Rattle.search_engine.specs.Sofar.{Passes, Sofar}
+use Rattle.search_engine.specs.Waiting.{Reaches, State}
 
 -- past the first of a page's rows
 pub record PastRows (n : Named) (q : Asked) (name : List ℕ) (number : ℕ) (rows : List Row) (place : ℕ) (messages : List (List ℕ)) (a b : Option (List ℕ) → Sofar) : Type 0 where
@@ -20,7 +22,7 @@ pub record PastRows (n : Named) (q : Asked) (name : List ℕ) (number : ℕ) (ro
   pub passes : (w : Option (List ℕ)) → Passes n.version q (numbered name number gone) (a w) (b w)
 
 -- past so many messages of a segment, with the later pages left, where the bytes of the disk are these
-pub record Past (bytes : List ℕ) (n : Named) (q : Asked) (name : List ℕ) (number : ℕ) (now : Paged) (count : ℕ) (messages : List (List ℕ)) (a b : Sofar) : Type 0 where
+pub record Past (bytes : List ℕ) (n : Named) (q : Asked) (name : List ℕ) (number : ℕ) (now : Paged) (count : ℕ) (messages : List (List ℕ)) (a b : State) : Type 0 where
   pub gone : List (List ℕ)
   pub left : List (List ℕ)
   pub rows : List Row
@@ -28,15 +30,19 @@ pub record Past (bytes : List ℕ) (n : Named) (q : Asked) (name : List ℕ) (nu
   pub counted : length gone ≡ count
   pub holds : HoldsLeft now bytes rows
   pub are : AreRowsOf n rows left
-  pub passes : Passes n.version q (numbered name number gone) a b
+  pub reaches : Reaches n q (numbered name number gone) a b
 
-abbrev pub PastTold : Option (List ℕ) → Paged → Named → Asked → List ℕ → ℕ → Paged → ℕ → Sofar → Sofar → Type 0
+abbrev pub PastTold : Option (List ℕ) → Paged → Named → Asked → List ℕ → ℕ → Paged → ℕ → State → State → Type 0
 PastTold None start n q name number now count a b = Unit {0}
 PastTold (Some bytes) start n q name number now count a b =
     (rows : List Row) (messages : List (List ℕ)) → HoldsLeft start bytes rows → AreRowsOf n rows messages → Past bytes n q name number now count messages a b
 
+-- the reader went on by a page of so many rows
+abbrev pub PageGone : Paged → Paged → ℕ → Type 0
+PageGone old new count = (rows : List Row) × (new ≡ paged_after old rows) × (length rows ≡ page_rows old.pages) × (count ≡ length rows)
+
 -- what a search of pages has done so far
-pub record PagesPast (seen : Option (List ℕ)) (old new : DiskState) (start now : Paged) (n : Named) (q : Asked) (name : List ℕ) (number at : ℕ) (a b : Sofar) : Type 0 where
+pub record PagesPast (seen : Option (List ℕ)) (old new : DiskState) (start now : Paged) (n : Named) (q : Asked) (name : List ℕ) (number at : ℕ) (a b : State) : Type 0 where
   pub reads : ReadsColumns start old new
   pub faults : new.faults ≡ old.faults
   pub place : at ≡ number + now.pages.row
@@ -44,19 +50,19 @@ pub record PagesPast (seen : Option (List ℕ)) (old new : DiskState) (start now
   pub past : PastTold seen start n q name number now now.pages.row a b
 
 -- past the first of the segments
-pub record SegmentsPast (bytes : List ℕ) (n : Named) (files : List FileEntry) (q : Asked) (ps : List SegmentPlace) (place : ℕ) (all : List Placed) (a b : Sofar) (ticks later count : ℕ) : Type 0 where
+pub record SegmentsPast (bytes : List ℕ) (n : Named) (files : List FileEntry) (q : Asked) (ps : List SegmentPlace) (place : ℕ) (all : List Placed) (a b : State) (ticks later count : ℕ) : Type 0 where
   pub gone : List Placed
   pub left : List Placed
   pub parts : all ≡ gone ++ left
   pub have : HaveMessages bytes n files (drop place ps) left
   pub searched : Searched n q (take place ps) gone a b ticks later count
 
-abbrev pub SegmentsPastTold : Option (List ℕ) → Named → List FileEntry → Asked → List SegmentPlace → ℕ → Sofar → Sofar → ℕ → ℕ → ℕ → Type 0
+abbrev pub SegmentsPastTold : Option (List ℕ) → Named → List FileEntry → Asked → List SegmentPlace → ℕ → State → State → ℕ → ℕ → ℕ → Type 0
 SegmentsPastTold seen n files q ps place a b ticks later count =
     OfSegments seen n files ps (λ bytes all. SegmentsPast bytes n files q ps place all a b ticks later count)
 
 -- what a search of segments has done so far
-pub record SegmentsRun (old new : DiskState) (n : Named) (files : List FileEntry) (q : Asked) (ps : List SegmentPlace) (place : ℕ) (a b : Sofar) (ticks later count : ℕ) : Type 0 where
+pub record SegmentsRun (old new : DiskState) (n : Named) (files : List FileEntry) (q : Asked) (ps : List SegmentPlace) (place : ℕ) (a b : State) (ticks later count : ℕ) : Type 0 where
   pub rests : Rests old new
   pub faults : new.faults ≡ old.faults
   pub reads : OfSegments old.seen n files ps (λ _ _. ReadsOpened n q ps old.ranges new.ranges)

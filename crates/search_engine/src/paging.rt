@@ -1,46 +1,42 @@
-//! The pages of a segment, searched one after the other.
+//! The pages of a segment, read one after the other.
 ghost use Rattle.std.specs.Prelude.{◌≡◌, ◌≤◌, ◌<◌, ◌+◌, ◌^◌, ℕ, List, length, IfOk, OnOk, OnErr, IsErrOf};
 ghost use Rattle.log_seams.specs.Outside.{CountsOf};
-ghost use Rattle.segment_format.specs.Pages.{page_rows};
-ghost use Rattle.segment_pages.specs.Paged.{ReadsColumns, paged_after};
+ghost use Rattle.segment_pages.specs.Paged.{ReadsColumns};
 ghost use Rattle.query_plan.specs.Laws.{IsSearched};
 ghost use Rattle.query_plan.specs.Pieces.{wide_pieces};
 ghost use Rattle.subquery_filter.specs.Filter.{IsFilter};
 ghost use Rattle.search_engine.specs.Held.{OfLeft, named};
 ghost use Rattle.search_engine.specs.Scan.{numbered};
-ghost use Rattle.search_engine.specs.Sofar.{Passes, Stops, sofar};
-ghost use Rattle.search_engine.specs.StepsPast.{PastTold};
+ghost use Rattle.search_engine.specs.StepsPast.{PageGone, PastTold};
+ghost use Rattle.search_engine.specs.Waiting.{Blames, Halts, Reaches, state};
 
-use crate::printing::search_page;
 use crate::query::Query;
 use crate::refusal::SearchRefusal;
-use crate::tally::Tally;
-use column_store::Columns;
+use crate::round::Round;
 use log_seams::{Disk, Sink};
 use row_codec::Names;
 use segment_pages::SegmentPages;
-use sink_pieces::flush_piece;
-use std::alloc::Global;
 use std::sync::ledger::Ledger;
+use std::thread::Threads;
 use step_count::Steps;
 use subquery_filter::Filter;
 
-/// Searches the next page, whose first message has this number. Its columns are handed back.
-fn search_next<N: Names, D: Disk, K: Sink, M: Ledger>(
+/// Reads the next page, whose first message has this number, and lets it wait. Once a round is full it
+/// is searched.
+fn search_next<R: Threads + Sync, N: Names + Sync, D: Disk, K: Sink, M: Ledger>(
+    rt: &R,
     query: &Query,
     names: &N,
     name: &[u8],
     number: u64,
     pages: &mut SegmentPages,
-    columns: Columns,
     filter: &Filter,
     disk: &mut D,
     out: &mut K,
     bytes: &mut Vec<u8>,
-    gathered: &mut Vec<u8>,
-    tally: &mut Tally,
+    round: &mut Round,
     expanded: &mut Steps<M>,
-) -> Result<Columns, SearchRefusal>
+) -> Result<u32, SearchRefusal>
     requires searched { IsSearched query.now.pattern }
     requires filter { IsFilter (wide_pieces query.now.pattern) (N.types names.now)
         (N.words names.now) filter.now }
@@ -51,39 +47,41 @@ fn search_next<N: Names, D: Disk, K: Sink, M: Ledger>(
     ensures reads { ReadsColumns pages.old (D.state disk.old) (D.state disk.new) }
 
     // by the answer
-    ensures after { IfOk result (λ c. pages.new ≡ paged_after pages.old c.rows) }
-    ensures count { IfOk result (λ c. length c.rows ≡ page_rows pages.old.pages) }
-    ensures done { IfOk result (λ c. PastTold (D.state disk.old).seen pages.old
+    ensures gone { IfOk result (λ rows. PageGone pages.old pages.new rows) }
+    ensures done { IfOk result (λ rows. PastTold (D.state disk.old).seen pages.old
         (named (N.version names.now) (N.types names.now) (N.words names.now)) query.now
-        name.now number pages.new (length c.rows)
-        (sofar (K.written out.old) gathered.old.items tally.old expanded.old)
-        (sofar (K.written out.new) gathered.new.items tally.new expanded.new)) }
+        name.now number pages.new rows
+        (state (K.written out.old) round.old expanded.old)
+        (state (K.written out.new) round.new expanded.new)) }
     ensures stopped { OnErr result (OfLeft (D.state disk.old).seen pages.old
         (named (N.version names.now) (N.types names.now) (N.words names.now))
-        (λ messages. Stops (N.version names.now) query.now (numbered name.now number messages)
-        (sofar (K.written out.old) gathered.old.items tally.old expanded.old)
-        (K.written out.new) expanded.new)) }
+        (λ messages. Halts (named (N.version names.now) (N.types names.now) (N.words names.now))
+        query.now (numbered name.now number messages)
+        (state (K.written out.old) round.old expanded.old) (K.written out.new) expanded.new)) }
 
     // causes
-    ensures damaged { IsErrOf result SearchRefusal.Damaged
-        → OfLeft (D.state disk.old).seen pages.old
-        (named (N.version names.now) (N.types names.now) (N.words names.now)) (λ _. ⊥) }
+    ensures damaged { IsErrOf result SearchRefusal.Damaged → Blames
+        (named (N.version names.now) (N.types names.now) (N.words names.now)) round.old.pages
+        (OfLeft (D.state disk.old).seen pages.old
+        (named (N.version names.now) (N.types names.now) (N.words names.now)) (λ _. ⊥)) }
     ensures disk_counts { CountsOf SearchRefusal.DiskFault
         (D.state disk.old).faults (D.state disk.new).faults result }
     ensures sink_counts { CountsOf SearchRefusal.SinkFault
         (K.faults out.old) (K.faults out.new) result }
 {
-    let page = pages.next_page(disk, bytes, columns)?;
-    search_page(
-        query, names, name, number, &page, filter, gathered, tally, expanded,
-    )?;
-    flush_piece(out, gathered)?;
-    Ok(page)
+    let slot = round.take_spare().read(name, number, pages, disk, bytes)?;
+    let rows = slot.rows();
+    round.push(slot)?;
+    if !round.is_full() {
+        return Ok(rows);
+    }
+    round.run(rt, query, names, filter, out, expanded)?;
+    Ok(rows)
 }
 
-/// Searches the pages of a segment, whose first message has this number.
-pub(crate) fn search_pages<N: Names, D: Disk, K: Sink, M: Ledger>(
-    alloc: Global,
+/// Reads the pages of a segment, whose first message has this number.
+pub(crate) fn search_pages<R: Threads + Sync, N: Names + Sync, D: Disk, K: Sink, M: Ledger>(
+    rt: &R,
     query: &Query,
     names: &N,
     name: &[u8],
@@ -93,8 +91,7 @@ pub(crate) fn search_pages<N: Names, D: Disk, K: Sink, M: Ledger>(
     disk: &mut D,
     out: &mut K,
     bytes: &mut Vec<u8>,
-    gathered: &mut Vec<u8>,
-    tally: &mut Tally,
+    round: &mut Round,
     expanded: &mut Steps<M>,
 ) -> Result<(), SearchRefusal>
     requires searched { IsSearched query.now.pattern }
@@ -109,33 +106,34 @@ pub(crate) fn search_pages<N: Names, D: Disk, K: Sink, M: Ledger>(
     // by the answer
     ensures done { OnOk result (OfLeft (D.state disk.old).seen pages
         (named (N.version names.now) (N.types names.now) (N.words names.now))
-        (λ messages. Passes (N.version names.now) query.now (numbered name.now number messages)
-        (sofar (K.written out.old) gathered.old.items tally.old expanded.old)
-        (sofar (K.written out.new) gathered.new.items tally.new expanded.new))) }
+        (λ messages. Reaches
+        (named (N.version names.now) (N.types names.now) (N.words names.now)) query.now
+        (numbered name.now number messages)
+        (state (K.written out.old) round.old expanded.old)
+        (state (K.written out.new) round.new expanded.new))) }
     ensures stopped { OnErr result (OfLeft (D.state disk.old).seen pages
         (named (N.version names.now) (N.types names.now) (N.words names.now))
-        (λ messages. Stops (N.version names.now) query.now (numbered name.now number messages)
-        (sofar (K.written out.old) gathered.old.items tally.old expanded.old)
-        (K.written out.new) expanded.new)) }
+        (λ messages. Halts (named (N.version names.now) (N.types names.now) (N.words names.now))
+        query.now (numbered name.now number messages)
+        (state (K.written out.old) round.old expanded.old) (K.written out.new) expanded.new)) }
 
     // causes
-    ensures damaged { IsErrOf result SearchRefusal.Damaged
-        → OfLeft (D.state disk.old).seen pages
-        (named (N.version names.now) (N.types names.now) (N.words names.now)) (λ _. ⊥) }
+    ensures damaged { IsErrOf result SearchRefusal.Damaged → Blames
+        (named (N.version names.now) (N.types names.now) (N.words names.now)) round.old.pages
+        (OfLeft (D.state disk.old).seen pages
+        (named (N.version names.now) (N.types names.now) (N.words names.now)) (λ _. ⊥)) }
     ensures disk_counts { CountsOf SearchRefusal.DiskFault
         (D.state disk.old).faults (D.state disk.new).faults result }
     ensures sink_counts { CountsOf SearchRefusal.SinkFault
         (K.faults out.old) (K.faults out.new) result }
 {
     let mut pages = pages;
-    let mut columns = Columns::new(alloc);
     let mut at = number;
     while pages.has_next() {
-        columns = search_next(
-            query, names, name, at, &mut pages, columns, filter, disk, out, bytes, gathered, tally,
-            expanded,
+        let rows = search_next(
+            rt, query, names, name, at, &mut pages, filter, disk, out, bytes, round, expanded,
         )?;
-        at += u64::from(columns.rows());
+        at += u64::from(rows);
     }
     Ok(())
 }

@@ -5,36 +5,45 @@ ghost use Rattle.log_seams.specs.Outside.{CountsOf};
 ghost use Rattle.query_plan.specs.Laws.{IsSearched};
 ghost use Rattle.archive_open.specs.Archive.{shown};
 ghost use Rattle.archive_open.specs.Shown.{Opens};
+ghost use Rattle.search_engine.specs.Waiting.{nothing_pending};
 ghost use Rattle.search_engine.specs.Searched.{HasSearched, HasStopped, OfJournal, ReadsNoBarren, asked};
 
 use crate::query::Query;
 use crate::refusal::SearchRefusal;
 use crate::report::Report;
+use crate::round::Round;
 use crate::segments::search_segments;
-use crate::tally::Tally;
 use archive_open::{Archive, KeepsTexts};
 use column_store::Range;
 use log_seams::{Disk, Sink};
-use sink_pieces::flush;
 use std::alloc::Global;
 use std::sync::ledger::Ledger;
+use std::thread::Threads;
 use step_count::Steps;
 use wild_match::Pattern;
 
 /// Searches the segments of an archive, with nothing gathered, and sends out what is left.
-fn search_archive<T: KeepsTexts + Drop, D: Disk, K: Sink, L: Ledger, M: Ledger>(
+fn search_archive<
+    R: Threads + Sync,
+    T: KeepsTexts + Drop + Sync,
+    D: Disk,
+    K: Sink,
+    L: Ledger,
+    M: Ledger,
+>(
+    rt: &R,
     alloc: Global,
     query: &Query,
     archive: &Archive<T>,
     disk: &mut D,
     out: &mut K,
-    gathered: &mut Vec<u8>,
+    round: &mut Round,
     opened: &mut Steps<L>,
     expanded: &mut Steps<M>,
 ) -> Result<Report, SearchRefusal>
     requires searched { IsSearched query.now.pattern }
     requires opens { Opens (D.state disk.old).seen (shown T.kept archive.now) }
-    requires empty { gathered.old.items ≡ [] }
+    requires empty { round.old ≡ nothing_pending }
 
     // what stays
     ensures rests { Rests (D.state disk.old) (D.state disk.new) }
@@ -59,19 +68,15 @@ fn search_archive<T: KeepsTexts + Drop, D: Disk, K: Sink, L: Ledger, M: Ledger>(
     ensures sink_counts { CountsOf SearchRefusal.SinkFault
         (K.faults out.old) (K.faults out.new) result }
 {
-    let mut tally = Tally {
-        matched: 0,
-        expanded: 0,
-    };
     let files = archive.files().as_slice();
     let segments = archive.segments().as_slice();
     let names = archive.names();
     let filter = query.filter(alloc, names)?;
     let count = search_segments(
-        alloc, query, names, files, segments, &filter, disk, out, gathered, &mut tally, opened,
-        expanded,
+        rt, alloc, query, names, files, segments, &filter, disk, out, round, opened, expanded,
     )?;
-    flush(out, gathered)?;
+    round.finish(rt, query, names, &filter, out, expanded)?;
+    let tally = round.tally();
     Ok(Report {
         matched: tally.matched,
         expanded: tally.expanded,
@@ -84,6 +89,9 @@ fn search_archive<T: KeepsTexts + Drop, D: Disk, K: Sink, L: Ledger, M: Ledger>(
 /// file and its number in the file, by file and then by number. The pattern is one that
 /// [`read_pattern`](wild_match::read_pattern) read, and the archive the one of the disk.
 ///
+/// As many pages as four for each of the `workers` are searched in as many threads, and one thread reads
+/// and prints. With any number of workers the same is printed and counted.
+///
 /// A barren segment is not read: its head tells that no message of it in the range matches. Of the
 /// others `opened` counts each, and `expanded` counts the messages in the range that the widened
 /// pattern matches.
@@ -93,7 +101,16 @@ fn search_archive<T: KeepsTexts + Drop, D: Disk, K: Sink, L: Ledger, M: Ledger>(
 /// `DiskFault` or `SinkFault`, where the count of faults of the disk or of the output rose; `Damaged`,
 /// where the disk's bytes are no archive; or `OutOfMemory`. The output then has a front of what is
 /// to be printed.
-pub fn search<T: KeepsTexts + Drop, D: Disk, K: Sink, L: Ledger, M: Ledger>(
+pub fn search<
+    R: Threads + Sync,
+    T: KeepsTexts + Drop + Sync,
+    D: Disk,
+    K: Sink,
+    L: Ledger,
+    M: Ledger,
+>(
+    rt: &R,
+    workers: u32,
     alloc: Global,
     archive: &Archive<T>,
     disk: &mut D,
@@ -130,15 +147,8 @@ pub fn search<T: KeepsTexts + Drop, D: Disk, K: Sink, L: Ledger, M: Ledger>(
         (K.faults out.old) (K.faults out.new) result }
 {
     let query = Query::new(alloc, pattern, range)?;
-    let mut gathered = Vec::new(alloc);
+    let mut round = Round::new(alloc, workers);
     search_archive(
-        alloc,
-        &query,
-        archive,
-        disk,
-        out,
-        &mut gathered,
-        opened,
-        expanded,
+        rt, alloc, &query, archive, disk, out, &mut round, opened, expanded,
     )
 }

@@ -7,12 +7,12 @@ ghost use Rattle.query_plan.specs.Pieces.{wide_pieces};
 ghost use Rattle.subquery_filter.specs.Filter.{IsFilter};
 ghost use Rattle.search_engine.specs.Held.{named};
 ghost use Rattle.search_engine.specs.Opened.{NoneTold, ReadsTold, SearchedTold, StoppedTold};
-ghost use Rattle.search_engine.specs.Sofar.{sofar};
+ghost use Rattle.search_engine.specs.Waiting.{Blames, state};
 
 use crate::paging::search_pages;
 use crate::query::Query;
 use crate::refusal::SearchRefusal;
-use crate::tally::Tally;
+use crate::round::Round;
 use archive_meaning::MAX_MESSAGES;
 use archive_open::{FileEntry, SegmentPlace};
 use log_seams::{Disk, Sink};
@@ -21,6 +21,7 @@ use row_codec::Names;
 use segment_pages::SegmentPages;
 use std::alloc::Global;
 use std::sync::ledger::Ledger;
+use std::thread::Threads;
 use step_count::Steps;
 use subquery_filter::{Filter, barren, barren_has_no_match};
 
@@ -33,8 +34,8 @@ fn file_of(files: &[FileEntry], number: u32) -> Option<&FileEntry>
 }
 
 /// Searches a segment, and tells whether it was opened: a barren one is not.
-fn search_segment<N: Names, D: Disk, K: Sink, L: Ledger, M: Ledger>(
-    alloc: Global,
+fn search_segment<R: Threads + Sync, N: Names + Sync, D: Disk, K: Sink, L: Ledger, M: Ledger>(
+    rt: &R,
     query: &Query,
     names: &N,
     files: &[FileEntry],
@@ -43,8 +44,7 @@ fn search_segment<N: Names, D: Disk, K: Sink, L: Ledger, M: Ledger>(
     disk: &mut D,
     out: &mut K,
     bytes: &mut Vec<u8>,
-    gathered: &mut Vec<u8>,
-    tally: &mut Tally,
+    round: &mut Round,
     opened: &mut Steps<L>,
     expanded: &mut Steps<M>,
 ) -> Result<bool, SearchRefusal>
@@ -62,19 +62,21 @@ fn search_segment<N: Names, D: Disk, K: Sink, L: Ledger, M: Ledger>(
     ensures done { IfOk result (λ yes. SearchedTold (D.state disk.old).seen
         (named (N.version names.now) (N.types names.now) (N.words names.now))
         files.now query.now (segment.now ∷ [])
-        (sofar (K.written out.old) gathered.old.items tally.old expanded.old)
-        (sofar (K.written out.new) gathered.new.items tally.new expanded.new)
+        (state (K.written out.old) round.old expanded.old)
+        (state (K.written out.new) round.new expanded.new)
         opened.old opened.new (cond yes 1 0)) }
     ensures stopped { OnErr result (StoppedTold (D.state disk.old).seen
         (named (N.version names.now) (N.types names.now) (N.words names.now))
         files.now query.now (segment.now ∷ [])
-        (sofar (K.written out.old) gathered.old.items tally.old expanded.old)
+        (state (K.written out.old) round.old expanded.old)
         (K.written out.new) expanded.new opened.old opened.new) }
 
     // causes
-    ensures damaged { IsErrOf result SearchRefusal.Damaged → NoneTold (D.state disk.old).seen
+    ensures damaged { IsErrOf result SearchRefusal.Damaged → Blames
+        (named (N.version names.now) (N.types names.now) (N.words names.now)) round.old.pages
+        (NoneTold (D.state disk.old).seen
         (named (N.version names.now) (N.types names.now) (N.words names.now))
-        files.now (segment.now ∷ []) }
+        files.now (segment.now ∷ [])) }
     ensures disk_counts { CountsOf SearchRefusal.DiskFault
         (D.state disk.old).faults (D.state disk.new).faults result }
     ensures sink_counts { CountsOf SearchRefusal.SinkFault
@@ -101,14 +103,21 @@ fn search_segment<N: Names, D: Disk, K: Sink, L: Ledger, M: Ledger>(
     let name = file.name.as_slice();
     let number = segment.head.first + 1;
     search_pages(
-        alloc, query, names, name, number, pages, filter, disk, out, bytes, gathered, tally,
-        expanded,
+        rt, query, names, name, number, pages, filter, disk, out, bytes, round, expanded,
     )?;
     Ok(true)
 }
 
 /// Searches the segments in their order, and answers how many were opened.
-pub(crate) fn search_segments<N: Names, D: Disk, K: Sink, L: Ledger, M: Ledger>(
+pub(crate) fn search_segments<
+    R: Threads + Sync,
+    N: Names + Sync,
+    D: Disk,
+    K: Sink,
+    L: Ledger,
+    M: Ledger,
+>(
+    rt: &R,
     alloc: Global,
     query: &Query,
     names: &N,
@@ -117,8 +126,7 @@ pub(crate) fn search_segments<N: Names, D: Disk, K: Sink, L: Ledger, M: Ledger>(
     filter: &Filter,
     disk: &mut D,
     out: &mut K,
-    gathered: &mut Vec<u8>,
-    tally: &mut Tally,
+    round: &mut Round,
     opened: &mut Steps<L>,
     expanded: &mut Steps<M>,
 ) -> Result<u64, SearchRefusal>
@@ -136,19 +144,21 @@ pub(crate) fn search_segments<N: Names, D: Disk, K: Sink, L: Ledger, M: Ledger>(
     ensures done { IfOk result (λ count. SearchedTold (D.state disk.old).seen
         (named (N.version names.now) (N.types names.now) (N.words names.now))
         files.now query.now segments.now
-        (sofar (K.written out.old) gathered.old.items tally.old expanded.old)
-        (sofar (K.written out.new) gathered.new.items tally.new expanded.new)
+        (state (K.written out.old) round.old expanded.old)
+        (state (K.written out.new) round.new expanded.new)
         opened.old opened.new count) }
     ensures stopped { OnErr result (StoppedTold (D.state disk.old).seen
         (named (N.version names.now) (N.types names.now) (N.words names.now))
         files.now query.now segments.now
-        (sofar (K.written out.old) gathered.old.items tally.old expanded.old)
+        (state (K.written out.old) round.old expanded.old)
         (K.written out.new) expanded.new opened.old opened.new) }
 
     // causes
-    ensures damaged { IsErrOf result SearchRefusal.Damaged → NoneTold (D.state disk.old).seen
+    ensures damaged { IsErrOf result SearchRefusal.Damaged → Blames
+        (named (N.version names.now) (N.types names.now) (N.words names.now)) round.old.pages
+        (NoneTold (D.state disk.old).seen
         (named (N.version names.now) (N.types names.now) (N.words names.now))
-        files.now segments.now }
+        files.now segments.now) }
     ensures disk_counts { CountsOf SearchRefusal.DiskFault
         (D.state disk.old).faults (D.state disk.new).faults result }
     ensures sink_counts { CountsOf SearchRefusal.SinkFault
@@ -158,8 +168,8 @@ pub(crate) fn search_segments<N: Names, D: Disk, K: Sink, L: Ledger, M: Ledger>(
     let mut count = 0;
     for segment in segments {
         let yes = search_segment(
-            alloc, query, names, files, segment, filter, disk, out, &mut bytes, gathered, tally,
-            opened, expanded,
+            rt, query, names, files, segment, filter, disk, out, &mut bytes, round, opened,
+            expanded,
         )?;
         count += u64::from(yes);
     }

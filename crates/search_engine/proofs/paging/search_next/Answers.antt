@@ -1,35 +1,50 @@
 use Rattle.std.proofs.Common.{rules, refl}
-use Rattle.std.proofs.lemmas.Result.{err_from_is_err_and}
-use Rattle.search_engine.specs.Sofar.{sofar}
+use Rattle.search_engine.specs.Waiting.{state}
 use Rattle.search_engine.proofs.SofarLemmas.{on_err}
-use Rattle.search_engine.proofs.PageLemmas.{flush_stops, none_damaged, page_damaged, page_damaged_from, page_past, page_stops, print_damaged_from}
+use Rattle.search_engine.proofs.PageLemmas.{left_nothing, none_damaged, page_past, past_damaged, past_run, past_stops, run_halts, unread_halts}
 use Rattle.search_engine.proofs.paging.search_next.Goals as goal
 
-pub returns-in_err-page-clause-damaged : goal.returns-in_err-page-clause-damaged
-returns-in_err-page-clause-damaged g c = λ is.
-    let p = err_from_is_err_and c.from_residual.result c.from_residual.ensures.1 in
-    none_damaged _ c.args.pages.now _ (c.in_err-page.ensures.damaged (search (rules, is, p.1, p.2, page_damaged_from)))
+pub returns-in_err-slot-clause-stopped : goal.returns-in_err-slot-clause-stopped
+returns-in_err-slot-clause-stopped g c = on_err c.from_residual.result _ (unread_halts _ c.args.pages.now _ c.args.query.now c.args.name.now c.args.number (state _ c.args.round.now _) _ _ refl refl)
 
-pub returns-in_err-search_page-clause-stopped : goal.returns-in_err-search_page-clause-stopped
-returns-in_err-search_page-clause-stopped g c =
-    on_err c.from_residual-in_err-search_page.result _
-    (page_stops _ c.args.pages.now c.next_page.new.self _ c.args.query.now c.args.name.now c.args.number c.in_ok-page.page.rows _ _ c.search_page.new.expanded c.in_ok-page.ensures.page refl c.in_err-search_page.ensures.ticks)
+pub returns-in_err-slot-clause-damaged : goal.returns-in_err-slot-clause-damaged
+returns-in_err-slot-clause-damaged g c = λ is early waits. none_damaged _ c.args.pages.now _ (c.in_err-slot.ensures.damaged (search rules))
 
-pub returns-in_err-search_page-clause-damaged : goal.returns-in_err-search_page-clause-damaged
-returns-in_err-search_page-clause-damaged g c = λ is.
-    let p = err_from_is_err_and c.from_residual-in_err-search_page.result c.from_residual-in_err-search_page.ensures.1 in
-    page_damaged _ c.args.pages.now c.next_page.new.self _ c.in_ok-page.page.rows c.in_ok-page.ensures.page
-    (c.in_err-search_page.ensures.damaged (search (rules, is, p.1, p.2, print_damaged_from)))
+pub returns-in_err-push-clause-stopped : goal.returns-in_err-push-clause-stopped
+returns-in_err-push-clause-stopped g c = on_err c.from_residual-in_err-push.result _ (unread_halts _ c.args.pages.now _ c.args.query.now c.args.name.now c.args.number (state _ c.args.round.now _) _ _ refl refl)
 
-pub returns-in_err-flush_piece-clause-stopped : goal.returns-in_err-flush_piece-clause-stopped
-returns-in_err-flush_piece-clause-stopped g c =
-    on_err c.from_residual-in_err-flush_piece.result _
-    (flush_stops _ c.args.pages.now c.next_page.new.self _ c.args.query.now c.args.name.now c.args.number c.in_ok-page.page.rows _
-    (sofar (g.K.Sink.written c.args.out.now) c.search_page.new.gathered.items c.search_page.new.tally c.search_page.new.expanded) _ c.search_page.new.expanded c.in_ok-page.ensures.page
-    (c.in_ok-search_page.ensures.done (g.K.Sink.written c.args.out.now)) c.in_err-flush_piece.ensures.err refl)
+pub returns-then-not-is_full-clause-gone : goal.returns-then-not-is_full-clause-gone
+returns-then-not-is_full-clause-gone g c = (c.in_ok-slot.slot.page.rows, c.in_ok-slot.ensures.after, c.in_ok-slot.ensures.count, c.rows-rows.ensures)
+
+pub returns-clause-gone : goal.returns-clause-gone
+returns-clause-gone g c = (c.in_ok-slot.slot.page.rows, c.in_ok-slot.ensures.after, c.in_ok-slot.ensures.count, c.rows-rows.ensures)
+
+pub returns-then-not-is_full-clause-done : goal.returns-then-not-is_full-clause-done
+returns-then-not-is_full-clause-done g c =
+    page_past _ c.args.pages.now c.read.new.pages _ c.args.query.now c.args.name.now c.args.number _ c.in_ok-slot.slot.page.rows _ c.args.round.now c.take_spare.new.self c.push.new.self _ c.in_ok-slot.slot.page
+    c.in_ok-slot.ensures.next c.rows-rows.ensures c.take_spare.ensures c.in_ok-slot.ensures.page c.in_ok-push.ensures.done
+
+pub returns-in_err-run-clause-stopped : goal.returns-in_err-run-clause-stopped
+returns-in_err-run-clause-stopped g c =
+    on_err c.from_residual-in_err-run.result _
+    (past_stops _ _ c.args.pages.now c.read.new.pages _ c.args.query.now c.args.name.now c.args.number _ c.rows-rows.result (state (g.K.Sink.written c.args.out.now) c.args.round.now c.args.expanded.now)
+    (state (g.K.Sink.written c.args.out.now) c.push.new.self c.args.expanded.now) _ _ refl refl
+    (page_past _ c.args.pages.now c.read.new.pages _ c.args.query.now c.args.name.now c.args.number _ c.in_ok-slot.slot.page.rows _ c.args.round.now c.take_spare.new.self c.push.new.self _ c.in_ok-slot.slot.page
+    c.in_ok-slot.ensures.next c.rows-rows.ensures c.take_spare.ensures c.in_ok-slot.ensures.page c.in_ok-push.ensures.done)
+    (run_halts _ c.read.new.pages _ c.args.query.now c.args.name.now _ (state (g.K.Sink.written c.args.out.now) c.push.new.self c.args.expanded.now) _ _ c.in_err-run.ensures.stopped))
+
+pub returns-in_err-run-clause-damaged : goal.returns-in_err-run-clause-damaged
+returns-in_err-run-clause-damaged g c = λ is.
+    past_damaged _ _ c.args.pages.now c.read.new.pages _ c.args.query.now c.args.name.now c.args.number c.rows-rows.result (state (g.K.Sink.written c.args.out.now) c.args.round.now c.args.expanded.now)
+    (state (g.K.Sink.written c.args.out.now) c.push.new.self c.args.expanded.now) refl
+    (page_past _ c.args.pages.now c.read.new.pages _ c.args.query.now c.args.name.now c.args.number _ c.in_ok-slot.slot.page.rows _ c.args.round.now c.take_spare.new.self c.push.new.self _ c.in_ok-slot.slot.page
+    c.in_ok-slot.ensures.next c.rows-rows.ensures c.take_spare.ensures c.in_ok-slot.ensures.page c.in_ok-push.ensures.done)
+    (λ early waits. left_nothing _ c.read.new.pages _ (c.in_err-run.ensures.damaged (search rules) early waits))
 
 pub returns-clause-done : goal.returns-clause-done
 returns-clause-done g c =
-    page_past _ c.args.pages.now c.next_page.new.self _ c.args.query.now c.args.name.now c.args.number _ c.in_ok-page.page.rows _
-    (sofar (g.K.Sink.written c.args.out.now) c.search_page.new.gathered.items c.search_page.new.tally c.search_page.new.expanded) _ c.in_ok-page.ensures.page refl
-    (c.in_ok-search_page.ensures.done (g.K.Sink.written c.args.out.now)) c.in_ok-flush_piece.ensures.ok refl refl
+    past_run _ c.args.pages.now c.read.new.pages _ c.args.query.now c.args.name.now c.args.number _ (state (g.K.Sink.written c.args.out.now) c.args.round.now c.args.expanded.now)
+    (state (g.K.Sink.written c.args.out.now) c.push.new.self c.args.expanded.now) _
+    (page_past _ c.args.pages.now c.read.new.pages _ c.args.query.now c.args.name.now c.args.number _ c.in_ok-slot.slot.page.rows _ c.args.round.now c.take_spare.new.self c.push.new.self _ c.in_ok-slot.slot.page
+    c.in_ok-slot.ensures.next c.rows-rows.ensures c.take_spare.ensures c.in_ok-slot.ensures.page c.in_ok-push.ensures.done)
+    c.in_ok-run.ensures.done

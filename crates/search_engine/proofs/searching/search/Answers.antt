@@ -1,7 +1,7 @@
-use Rattle.std.proofs.Common.{subst}
+use Rattle.std.proofs.Common.{refl, subst}
 use Rattle.std.specs.Prelude.{IfOk, OnErr}
-use Rattle.search_engine.specs.Searched.{HasSearched, HasStopped, OfJournal, ReadsNoBarren}
-use Rattle.search_engine.proofs.SearchLemmas.{asked_is}
+use Rattle.search_engine.specs.Searched.{HasSearched, HasStopped, OfJournal, ReadsNoBarren, asked}
+use Rattle.search_engine.proofs.SearchLemmas.{asked_is, reads_nothing}
 use Rattle.search_engine.proofs.searching.search.Goals as goal
 
 pub returns-clause-reads : goal.returns-clause-reads
@@ -22,3 +22,6 @@ returns-clause-stopped g c =
     (λ q. OnErr c.search_archive.result (OfJournal (g.D.Disk.state c.args.disk.now).seen (λ h _ held. HasStopped h held q c.args.archive.now.segments (g.K.Sink.written c.args.out.now) (g.K.Sink.written c.search_archive.new.out)
     c.args.opened.now c.search_archive.new.opened c.args.expanded.now c.search_archive.new.expanded)))
     (asked_is c.in_ok-query.query c.args.pattern.now c.args.range.now c.in_ok-query.ensures.pattern c.in_ok-query.ensures.range) c.search_archive.ensures.stopped
+
+pub returns-in_err-query-clause-reads : goal.returns-in_err-query-clause-reads
+returns-in_err-query-clause-reads g c = reads_nothing _ (asked c.args.pattern.now c.args.range.now) _ _ refl

@@ -1,11 +1,12 @@
-use Rattle.std.proofs.Common.{◌∙◌, sym, subst, rules, refl, length}
+use Rattle.std.proofs.Common.{◌∙◌, sym, subst, rules, refl, length, []}
 use Rattle.archive_open.specs.Archive.{shown}
 use Rattle.search_engine.specs.Opened.{ReadsOpened, Searched, Stopped}
 use Rattle.search_engine.specs.Searched.{HasSearched}
-use Rattle.search_engine.specs.Sofar.{sofar}
+use Rattle.search_engine.specs.Waiting.{Halts, Reaches, state}
 use Rattle.search_engine.proofs.SofarLemmas.{on_err}
 use Rattle.search_engine.proofs.AsideLemmas.{reads_aside}
-use Rattle.search_engine.proofs.SearchLemmas.{has_searched, has_stopped, knows, last_stopped, of_journal, reads_nothing, stopped_nothing}
+use Rattle.search_engine.proofs.SegmentLemmas.{of_all}
+use Rattle.search_engine.proofs.SearchLemmas.{has_searched, has_stopped, knows, last_damaged, last_stopped, of_journal, reads_nothing, stopped_nothing, waits_none}
 use Rattle.search_engine.proofs.searching.search_archive.Goals as goal
 
 pub returns-in_err-filter-clause-reads : goal.returns-in_err-filter-clause-reads
@@ -19,7 +20,7 @@ returns-in_err-count-clause-reads g c =
     let a = shown g.T.KeepsTexts.kept c.args.archive.now in
     of_journal _ a _ _ _ (λ m l _ _. ReadsOpened m c.args.query.now l (g.D.Disk.state c.args.disk.now).ranges (g.D.Disk.state c.search_segments.new.disk).ranges) _
     (c.as_slice-files.ensures ∙ c.files.ensures) (c.as_slice-segments.ensures ∙ c.segments.ensures) c.requires.opens
-    (knows _ _ _ _ _ c.names-names.ensures (g.met.T.KeepsTexts.named c.names-names.result.now)) c.search_segments.ensures.reads
+    (knows _ _ _ _ _ c.names-names.ensures ((g.met.T.KeepsTexts g.world.𝓛 g.world.𝓜 g.world.𝓡 ((λ s x. x), (λ x. x), (λ x. x), λ x. x)).named c.names-names.result.now)) c.search_segments.ensures.reads
     (λ bytes h es stood is has. reads_aside bytes h es a c.args.query.now _ _ stood is has)
 
 pub returns-in_err-count-clause-stopped : goal.returns-in_err-count-clause-stopped
@@ -27,45 +28,56 @@ returns-in_err-count-clause-stopped g c =
     let a = shown g.T.KeepsTexts.kept c.args.archive.now in
     on_err c.from_residual-in_err-count.result _
     (of_journal _ a _ _ _
-    (λ m l _ all. Stopped m c.args.query.now l all (sofar (g.K.Sink.written c.args.out.now) c.args.gathered.now.items (record { matched = 0; expanded = 0 }) c.args.expanded.now) (g.K.Sink.written c.search_segments.new.out) c.search_segments.new.expanded c.args.opened.now c.search_segments.new.opened) _
+    (λ m l _ all. Stopped m c.args.query.now l all (state (g.K.Sink.written c.args.out.now) c.args.round.now c.args.expanded.now) (g.K.Sink.written c.search_segments.new.out) c.search_segments.new.expanded c.args.opened.now c.search_segments.new.opened) _
     (c.as_slice-files.ensures ∙ c.files.ensures) (c.as_slice-segments.ensures ∙ c.segments.ensures) c.requires.opens
-    (knows _ _ _ _ _ c.names-names.ensures (g.met.T.KeepsTexts.named c.names-names.result.now)) c.in_err-count.ensures.stopped
-    (λ bytes h es stood is has. has_stopped h stood.legal.held c.args.query.now a.segments _ _ _ _ _ _ _ _ c.requires.empty has))
+    (knows _ _ _ _ _ c.names-names.ensures ((g.met.T.KeepsTexts g.world.𝓛 g.world.𝓜 g.world.𝓡 ((λ s x. x), (λ x. x), (λ x. x), λ x. x)).named c.names-names.result.now)) c.in_err-count.ensures.stopped
+    (λ bytes h es stood is has. has_stopped h stood.legal.held c.args.query.now a.segments _ _ _ _ _ _ _ c.requires.empty has))
 
 pub returns-in_err-count-clause-damaged : goal.returns-in_err-count-clause-damaged
 returns-in_err-count-clause-damaged g c = λ is.
     let a = shown g.T.KeepsTexts.kept c.args.archive.now in
     of_journal _ a _ _ _ (λ _ _ _ _. ⊥) _
     (c.as_slice-files.ensures ∙ c.files.ensures) (c.as_slice-segments.ensures ∙ c.segments.ensures) c.requires.opens
-    (knows _ _ _ _ _ c.names-names.ensures (g.met.T.KeepsTexts.named c.names-names.result.now)) (c.in_err-count.ensures.damaged (search rules))
+    (knows _ _ _ _ _ c.names-names.ensures ((g.met.T.KeepsTexts g.world.𝓛 g.world.𝓜 g.world.𝓡 ((λ s x. x), (λ x. x), (λ x. x), λ x. x)).named c.names-names.result.now)) (c.in_err-count.ensures.damaged (search rules) [] (waits_none _ c.args.round.now c.requires.empty))
     (λ bytes h es stood is has. has)
 
-pub returns-in_err-flush-clause-reads : goal.returns-in_err-flush-clause-reads
-returns-in_err-flush-clause-reads g c =
+pub returns-in_err-finish-clause-reads : goal.returns-in_err-finish-clause-reads
+returns-in_err-finish-clause-reads g c =
     let a = shown g.T.KeepsTexts.kept c.args.archive.now in
     of_journal _ a _ _ _ (λ m l _ _. ReadsOpened m c.args.query.now l (g.D.Disk.state c.args.disk.now).ranges (g.D.Disk.state c.search_segments.new.disk).ranges) _
     (c.as_slice-files.ensures ∙ c.files.ensures) (c.as_slice-segments.ensures ∙ c.segments.ensures) c.requires.opens
-    (knows _ _ _ _ _ c.names-names.ensures (g.met.T.KeepsTexts.named c.names-names.result.now)) c.search_segments.ensures.reads
+    (knows _ _ _ _ _ c.names-names.ensures ((g.met.T.KeepsTexts g.world.𝓛 g.world.𝓜 g.world.𝓡 ((λ s x. x), (λ x. x), (λ x. x), λ x. x)).named c.names-names.result.now)) c.search_segments.ensures.reads
     (λ bytes h es stood is has. reads_aside bytes h es a c.args.query.now _ _ stood is has)
 
-pub returns-in_err-flush-clause-stopped : goal.returns-in_err-flush-clause-stopped
-returns-in_err-flush-clause-stopped g c =
+pub returns-in_err-finish-clause-stopped : goal.returns-in_err-finish-clause-stopped
+returns-in_err-finish-clause-stopped g c =
     let a = shown g.T.KeepsTexts.kept c.args.archive.now in
-    on_err c.from_residual-in_err-flush.result _
+    on_err c.from_residual-in_err-finish.result _
     (of_journal _ a _ _ _
-    (λ m l _ all. Searched m c.args.query.now l all (sofar (g.K.Sink.written c.args.out.now) c.args.gathered.now.items (record { matched = 0; expanded = 0 }) c.args.expanded.now)
-    (sofar (g.K.Sink.written c.search_segments.new.out) c.search_segments.new.gathered.items c.search_segments.new.tally c.search_segments.new.expanded) c.args.opened.now c.search_segments.new.opened c.in_ok-count.count) _
+    (λ m l _ all. Searched m c.args.query.now l all (state (g.K.Sink.written c.args.out.now) c.args.round.now c.args.expanded.now)
+    (state (g.K.Sink.written c.search_segments.new.out) c.search_segments.new.round c.search_segments.new.expanded) c.args.opened.now c.search_segments.new.opened c.in_ok-count.count
+    × Halts m c.args.query.now [] (state (g.K.Sink.written c.search_segments.new.out) c.search_segments.new.round c.search_segments.new.expanded) (g.K.Sink.written c.finish.new.out) c.finish.new.expanded) _
     (c.as_slice-files.ensures ∙ c.files.ensures) (c.as_slice-segments.ensures ∙ c.segments.ensures) c.requires.opens
-    (knows _ _ _ _ _ c.names-names.ensures (g.met.T.KeepsTexts.named c.names-names.result.now)) c.in_ok-count.ensures.done
-    (λ bytes h es stood is has. has_stopped h stood.legal.held c.args.query.now a.segments _ _ _ _ _ _ _ _ c.requires.empty
-    (last_stopped _ c.args.query.now a.segments _ _ _ _ _ _ _ has c.in_err-flush.ensures.err)))
+    (knows _ _ _ _ _ c.names-names.ensures ((g.met.T.KeepsTexts g.world.𝓛 g.world.𝓜 g.world.𝓡 ((λ s x. x), (λ x. x), (λ x. x), λ x. x)).named c.names-names.result.now))
+    (of_all _ _ _ _ _ _ (λ bytes all has. (has, c.in_err-finish.ensures.stopped)) c.in_ok-count.ensures.done)
+    (λ bytes h es stood is has. has_stopped h stood.legal.held c.args.query.now a.segments _ _ _ _ _ _ _ c.requires.empty
+    (last_stopped _ c.args.query.now a.segments _ _ _ _ _ _ _ _ has.0 has.1)))
+
+pub returns-in_err-finish-clause-damaged : goal.returns-in_err-finish-clause-damaged
+returns-in_err-finish-clause-damaged g c = λ is.
+    let a = shown g.T.KeepsTexts.kept c.args.archive.now in
+    of_journal _ a _ _ _ (λ _ _ _ _. ⊥) _
+    (c.as_slice-files.ensures ∙ c.files.ensures) (c.as_slice-segments.ensures ∙ c.segments.ensures) c.requires.opens
+    (knows _ _ _ _ _ c.names-names.ensures ((g.met.T.KeepsTexts g.world.𝓛 g.world.𝓜 g.world.𝓡 ((λ s x. x), (λ x. x), (λ x. x), λ x. x)).named c.names-names.result.now))
+    (of_all _ _ _ _ _ _ (λ bytes all has. last_damaged _ c.args.query.now _ all (state (g.K.Sink.written c.args.out.now) c.args.round.now c.args.expanded.now) (state (g.K.Sink.written c.search_segments.new.out) c.search_segments.new.round c.search_segments.new.expanded) _ _ _ c.requires.empty has (c.in_err-finish.ensures.damaged (search rules))) c.in_ok-count.ensures.done)
+    (λ bytes h es stood is has. has)
 
 pub returns-clause-reads : goal.returns-clause-reads
 returns-clause-reads g c =
     let a = shown g.T.KeepsTexts.kept c.args.archive.now in
     of_journal _ a _ _ _ (λ m l _ _. ReadsOpened m c.args.query.now l (g.D.Disk.state c.args.disk.now).ranges (g.D.Disk.state c.search_segments.new.disk).ranges) _
     (c.as_slice-files.ensures ∙ c.files.ensures) (c.as_slice-segments.ensures ∙ c.segments.ensures) c.requires.opens
-    (knows _ _ _ _ _ c.names-names.ensures (g.met.T.KeepsTexts.named c.names-names.result.now)) c.search_segments.ensures.reads
+    (knows _ _ _ _ _ c.names-names.ensures ((g.met.T.KeepsTexts g.world.𝓛 g.world.𝓜 g.world.𝓡 ((λ s x. x), (λ x. x), (λ x. x), λ x. x)).named c.names-names.result.now)) c.search_segments.ensures.reads
     (λ bytes h es stood is has. reads_aside bytes h es a c.args.query.now _ _ stood is has)
 
 pub returns-clause-done : goal.returns-clause-done
@@ -73,14 +85,16 @@ returns-clause-done g c =
     let a = shown g.T.KeepsTexts.kept c.args.archive.now in
     let ps = c.as_slice-segments.ensures ∙ c.segments.ensures in
     of_journal _ a _ _ _
-    (λ m l _ all. Searched m c.args.query.now l all (sofar (g.K.Sink.written c.args.out.now) c.args.gathered.now.items (record { matched = 0; expanded = 0 }) c.args.expanded.now)
-    (sofar (g.K.Sink.written c.search_segments.new.out) c.search_segments.new.gathered.items c.search_segments.new.tally c.search_segments.new.expanded) c.args.opened.now c.search_segments.new.opened c.in_ok-count.count) _
+    (λ m l _ all. Searched m c.args.query.now l all (state (g.K.Sink.written c.args.out.now) c.args.round.now c.args.expanded.now)
+    (state (g.K.Sink.written c.search_segments.new.out) c.search_segments.new.round c.search_segments.new.expanded) c.args.opened.now c.search_segments.new.opened c.in_ok-count.count
+    × Reaches m c.args.query.now [] (state (g.K.Sink.written c.search_segments.new.out) c.search_segments.new.round c.search_segments.new.expanded) (state (g.K.Sink.written c.finish.new.out) c.finish.new.self c.finish.new.expanded)) _
     (c.as_slice-files.ensures ∙ c.files.ensures) ps c.requires.opens
-    (knows _ _ _ _ _ c.names-names.ensures (g.met.T.KeepsTexts.named c.names-names.result.now)) c.in_ok-count.ensures.done
+    (knows _ _ _ _ _ c.names-names.ensures ((g.met.T.KeepsTexts g.world.𝓛 g.world.𝓜 g.world.𝓡 ((λ s x. x), (λ x. x), (λ x. x), λ x. x)).named c.names-names.result.now))
+    (of_all _ _ _ _ _ _ (λ bytes all has. (has, c.in_ok-finish.ensures.done)) c.in_ok-count.ensures.done)
     (λ bytes h es stood is has.
     subst
     (λ l. HasSearched h stood.legal.held c.args.query.now a.segments
-    (record { matched = c.search_segments.new.tally.matched; expanded = c.search_segments.new.tally.expanded; opened = c.in_ok-count.count; segments = length l }) (g.K.Sink.written c.args.out.now) (g.K.Sink.written c.flush.new.out) c.args.opened.now
-    c.search_segments.new.opened c.args.expanded.now c.search_segments.new.expanded)
+    (record { matched = c.tally-tally.result.matched; expanded = c.tally-tally.result.expanded; opened = c.in_ok-count.count; segments = length l }) (g.K.Sink.written c.args.out.now) (g.K.Sink.written c.finish.new.out) c.args.opened.now
+    c.search_segments.new.opened c.args.expanded.now c.finish.new.expanded)
     (sym ps)
-    (has_searched bytes h es c.args.query.now a.segments c.search_segments.new.tally c.in_ok-count.count _ _ _ _ _ _ _ _ _ _ stood c.requires.empty has c.in_ok-flush.ensures.ok c.in_ok-flush.ensures.empty))
+    (has_searched bytes h es c.args.query.now a.segments c.tally-tally.result c.in_ok-count.count _ _ c.args.round.now c.finish.new.self _ _ _ _ _ stood c.requires.empty c.tally-tally.ensures has.0 has.1 c.in_ok-finish.ensures.empty))

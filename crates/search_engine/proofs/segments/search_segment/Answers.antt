@@ -26,7 +26,7 @@ pub returns-in_default-clause-stopped : goal.returns-in_default-clause-stopped
 returns-in_default-clause-stopped g c = of_none _ _ c.args.files.now _ _ (file_none _ _ c.args.files.now c.args.segment.now (search rules))
 
 pub returns-in_default-clause-damaged : goal.returns-in_default-clause-damaged
-returns-in_default-clause-damaged g c = λ _. file_none _ _ c.args.files.now c.args.segment.now (search rules)
+returns-in_default-clause-damaged g c = λ _ early waits. file_none _ _ c.args.files.now c.args.segment.now (search rules)
 
 pub returns-then-segment-gt-MAX_MESSAGES-clause-rests : goal.returns-then-segment-gt-MAX_MESSAGES-clause-rests
 returns-then-segment-gt-MAX_MESSAGES-clause-rests g c = rests_none _
@@ -38,7 +38,7 @@ pub returns-then-segment-gt-MAX_MESSAGES-clause-stopped : goal.returns-then-segm
 returns-then-segment-gt-MAX_MESSAGES-clause-stopped g c = of_none _ _ c.args.files.now _ _ (first_none _ _ c.args.files.now c.args.segment.now (search rules))
 
 pub returns-then-segment-gt-MAX_MESSAGES-clause-damaged : goal.returns-then-segment-gt-MAX_MESSAGES-clause-damaged
-returns-then-segment-gt-MAX_MESSAGES-clause-damaged g c = λ _. first_none _ _ c.args.files.now c.args.segment.now (search rules)
+returns-then-segment-gt-MAX_MESSAGES-clause-damaged g c = λ _ early waits. first_none _ _ c.args.files.now c.args.segment.now (search rules)
 
 pub returns-in_default-open-clause-rests : goal.returns-in_default-open-clause-rests
 returns-in_default-open-clause-rests g c = rests_none _
@@ -50,7 +50,7 @@ pub returns-in_default-open-clause-stopped : goal.returns-in_default-open-clause
 returns-in_default-open-clause-stopped g c = of_none _ _ c.args.files.now _ _ (open_none _ _ c.args.files.now c.args.segment.now (c.in_default-open.ensures.none refl))
 
 pub returns-in_default-open-clause-damaged : goal.returns-in_default-open-clause-damaged
-returns-in_default-open-clause-damaged g c = λ _. open_none _ _ c.args.files.now c.args.segment.now (c.in_default-open.ensures.none refl)
+returns-in_default-open-clause-damaged g c = λ _ early waits. open_none _ _ c.args.files.now c.args.segment.now (c.in_default-open.ensures.none refl)
 
 pub returns-in_err-search_pages-clause-reads : goal.returns-in_err-search_pages-clause-reads
 returns-in_err-search_pages-clause-reads g c =
@@ -67,8 +67,8 @@ returns-in_err-search_pages-clause-stopped g c =
     c.in_err-search_pages.ensures.stopped c.in-Some-open.ensures.ticked)
 
 pub returns-in_err-search_pages-clause-damaged : goal.returns-in_err-search_pages-clause-damaged
-returns-in_err-search_pages-clause-damaged g c = λ is.
-    left_none _ _ c.args.files.now c.args.segment.now c.in-Some-open.pages c.in-Some-open.ensures.holds (c.in_err-search_pages.ensures.damaged (search rules))
+returns-in_err-search_pages-clause-damaged g c = λ is early waits.
+    left_none _ _ c.args.files.now c.args.segment.now c.in-Some-open.pages c.in-Some-open.ensures.holds (c.in_err-search_pages.ensures.damaged (search rules) early waits)
 
 pub returns-clause-reads : goal.returns-clause-reads
 returns-clause-reads g c =

@@ -1,11 +1,11 @@
 use Rattle.std.proofs.Common.{◌≡◌}
 use Rattle.search_engine.specs.Held.{named}
-use Rattle.search_engine.specs.Sofar.{sofar}
+use Rattle.search_engine.specs.Waiting.{state}
 use Rattle.search_engine.specs.StepsPast.{SegmentsRun}
 use Rattle.search_engine.proofs.segments.search_segments.Given as goal
 
 abbrev pub invariant-loop-segment : goal.invariant-loop-segment
 invariant-loop-segment g l =
     SegmentsRun (g.D.Disk.state l.fn.disk) (g.D.Disk.state l.disk) (named (g.N.Names.version l.names) (g.N.Names.types l.names) (g.N.Names.words l.names)) l.files l.query l.segments l.segment-index
-    (sofar (g.K.Sink.written l.fn.out) l.fn.gathered.items l.fn.tally l.fn.expanded) (sofar (g.K.Sink.written l.out) l.gathered.items l.tally l.expanded) l.fn.opened l.opened l.count
+    (state (g.K.Sink.written l.fn.out) l.fn.round l.fn.expanded) (state (g.K.Sink.written l.out) l.round l.expanded) l.fn.opened l.opened l.count
     × (g.K.Sink.faults l.out ≡ g.K.Sink.faults l.fn.out)

@@ -1,0 +1,27 @@
+use Rattle.std.proofs.Common.{◌++◌, rules, refl, subst}
+use Rattle.std.proofs.lemmas.Result.{err_from_is_err_and}
+use Rattle.sink_pieces.specs.Output.{GrewByFront, Moves}
+use Rattle.search_engine.proofs.SofarLemmas.{on_err}
+use Rattle.search_engine.proofs.SlotLemmas.{on_ok, print_damaged_from, slot_passes, slot_refused, slot_stops}
+use Rattle.search_engine.proofs.gathering.gather.Goals as goal
+
+pub returns-in_err-answer-clause-stopped : goal.returns-in_err-answer-clause-stopped
+returns-in_err-answer-clause-stopped g c = on_err c.from_residual.result _ (λ n q messages worked are. slot_refused c.args.slot.now _ _ _ _ _ _ n q messages refl refl)
+
+pub returns-in_err-answer-clause-damaged : goal.returns-in_err-answer-clause-damaged
+returns-in_err-answer-clause-damaged g c = λ is n q messages worked are.
+    let p = err_from_is_err_and c.from_residual.result c.from_residual.ensures.1 in
+    worked.damaged (search (rules, is, p.1, p.2, print_damaged_from)) messages are
+
+pub returns-in_err-put_text-clause-stopped : goal.returns-in_err-put_text-clause-stopped
+returns-in_err-put_text-clause-stopped g c =
+    on_err c.from_residual-in_err-put_text.result _
+    (λ n q messages worked are.
+    slot_stops c.args.slot.now _ _ _ _ _ _ n q messages (on_ok c.args.slot.now.answer tt _ (search rules) worked.done)
+    (subst (λ l. GrewByFront (g.K.Sink.written c.args.out.now) (g.K.Sink.written c.put_text.new.out) (c.args.gathered.now.items ++ l)) c.text.ensures c.in_err-put_text.ensures.stopped) refl are)
+
+pub returns-clause-done : goal.returns-clause-done
+returns-clause-done g c = λ n q messages worked are.
+    slot_passes c.args.slot.now _ _ _ _ _ _ _ _ n q messages (on_ok c.args.slot.now.answer tt _ (search rules) worked.done)
+    (subst (λ l. Moves (g.K.Sink.written c.args.out.now) (g.K.Sink.written c.put_text.new.out) (c.args.gathered.now.items ++ l) c.put_text.new.gathered.items) c.text.ensures c.in_ok-put_text.ensures.done)
+    (λ fits. search (rules, fits)) (λ fits. search (rules, fits)) (search rules) are

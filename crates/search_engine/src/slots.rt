@@ -1,0 +1,233 @@
+//! Pages in memory: each is searched into a buffer of its own.
+ghost use Rattle.std.specs.Prelude.{◌≡◌, ◌<◌, ◌+◌, ◌^◌, ℕ, List, All, length, IfOk, OnOk, IsErrOf, slice_index_or};
+ghost use Rattle.log_seams.specs.Outside.{CountsOf};
+ghost use Rattle.step_count.specs.Opens.{OpensFor};
+ghost use Rattle.segment_format.specs.Pages.{page_rows};
+ghost use Rattle.segment_pages.specs.Paged.{AreNextTold, HoldsNoneTold, ReadsColumns, paged_after};
+ghost use Rattle.query_plan.specs.Laws.{IsSearched};
+ghost use Rattle.query_plan.specs.Pieces.{wide_pieces};
+ghost use Rattle.subquery_filter.specs.Filter.{IsFilter};
+ghost use Rattle.search_engine.specs.Held.{AreRowsOf, named};
+ghost use Rattle.search_engine.specs.Waiting.{IsWorked, PrintsPage, Slotted, page};
+
+use crate::printing::search_page;
+use crate::query::Query;
+use crate::refusal::{PrintRefusal, SearchRefusal};
+use crate::tally::Tally;
+use column_store::Columns;
+use log_seams::Disk;
+use row_codec::Names;
+use segment_pages::SegmentPages;
+use std::alloc::Global;
+use std::marker::{Brand, Model};
+use std::sync::ledger::{Blank, Ledger};
+use std::thread;
+use std::thread::Threads;
+use step_count::Steps;
+use subquery_filter::Filter;
+
+/// The counts of no search.
+pub(crate) const NO_TALLY: Tally = Tally {
+    matched: 0,
+    expanded: 0,
+};
+
+/// A page in memory, and what its search left: the lines of the messages that are found, the counts,
+/// and whether it went through.
+#[derive(Drop)]
+pub(crate) struct Slot {
+    /// The name of the file.
+    name: Vec<u8>,
+    /// The number of the first message.
+    number: u64,
+    columns: Columns,
+    text: Vec<u8>,
+    tally: Tally,
+    answer: Result<(), PrintRefusal>,
+}
+
+impl Model for Slot {
+    ghost use Rattle.std.specs.Prelude.{◌<◌, ◌+◌, ◌^◌, length};
+    ghost use Rattle.search_engine.specs.Waiting.{Slotted, page};
+
+    ghost Value = { Slotted };
+
+    ghost view = { λ s. record {
+      page = page s.name.items s.number s.columns.rows;
+      text = s.text.items;
+      tally = s.tally;
+      answer = s.answer;
+    } };
+
+    ghost invariant = { λ s. s.number + length s.columns.rows < 2 ^ 64 };
+}
+
+impl Slot {
+    /// A page without rows. Takes no memory.
+    pub(crate) fn new(alloc: Global) -> Slot {
+        Slot {
+            name: Vec::new(alloc),
+            number: 0,
+            columns: Columns::new(alloc),
+            text: Vec::new(alloc),
+            tally: NO_TALLY,
+            answer: Ok(()),
+        }
+    }
+
+    /// How many rows it has.
+    pub(crate) fn rows(&self) -> u32
+        ensures { result ≡ length self.now.page.rows }
+    {
+        self.columns.rows()
+    }
+
+    /// The lines that its search left.
+    pub(crate) fn text(&self) -> &[u8]
+        ensures { result.now ≡ self.now.text }
+    {
+        self.text.as_slice()
+    }
+
+    /// The counts that its search left.
+    pub(crate) fn tally(&self) -> Tally
+        ensures { result ≡ self.now.tally }
+    {
+        self.tally
+    }
+
+    /// Whether its search went through.
+    pub(crate) fn answer(&self) -> Result<(), PrintRefusal>
+        ensures { result ≡ self.now.answer }
+    {
+        self.answer
+    }
+
+    /// Reads the next page in the place of the one that it has.
+    pub(crate) fn read<D: Disk>(
+        self,
+        name: &[u8],
+        number: u64,
+        pages: &mut SegmentPages,
+        disk: &mut D,
+        bytes: &mut Vec<u8>,
+    ) -> Result<Slot, SearchRefusal>
+        requires left { pages.old.pages.row < pages.old.pages.rows }
+        requires small { number + 4096 < 2 ^ 64 }
+
+        // what stays
+        ensures reads { ReadsColumns pages.old (D.state disk.old) (D.state disk.new) }
+
+        // by the answer
+        ensures page { IfOk result (λ s. s.page ≡ page name.now number s.page.rows) }
+        ensures next { IfOk result (λ s.
+            AreNextTold (D.state disk.old).seen pages.old pages.new s.page.rows) }
+        ensures after { IfOk result (λ s. pages.new ≡ paged_after pages.old s.page.rows) }
+        ensures count { IfOk result (λ s. length s.page.rows ≡ page_rows pages.old.pages) }
+
+        // causes
+        ensures damaged { IsErrOf result SearchRefusal.Damaged
+            → HoldsNoneTold (D.state disk.old).seen pages.old }
+        ensures counts { CountsOf SearchRefusal.DiskFault
+            (D.state disk.old).faults (D.state disk.new).faults result }
+        ensures sink { ¬ IsErrOf result SearchRefusal.SinkFault }
+    {
+        let Slot {
+            name: mut kept,
+            number: _,
+            columns,
+            text,
+            tally,
+            answer,
+        } = self;
+        kept.clear();
+        kept.extend_from_slice(name)?;
+        let columns = pages.next_page(disk, bytes, columns)?;
+        Ok(Slot {
+            name: kept,
+            number,
+            columns,
+            text,
+            tally,
+            answer,
+        })
+    }
+}
+
+// Searches a page, with a counter of its own. What it counts in the tally is exact, as a page is small.
+fn search_with<N: Names, M: Ledger>(
+    query: &Query,
+    names: &N,
+    filter: &Filter,
+    slot: &mut Slot,
+    blank: Blank,
+) -> Result<(), PrintRefusal>
+    requires blank { OpensFor blank M.name M.parts }
+    requires searched { IsSearched query.now.pattern }
+    requires filter { IsFilter (wide_pieces query.now.pattern) (N.types names.now)
+        (N.words names.now) filter.now }
+    ensures page { slot.new.page ≡ slot.old.page }
+    ensures done { OnOk result (PrintsPage
+        (named (N.version names.now) (N.types names.now) (N.words names.now)) query.now
+        slot.old.page slot.new.text slot.new.tally) }
+    ensures damaged { IsErrOf result PrintRefusal.Damaged → (messages : List (List ℕ))
+        → ¬ AreRowsOf (named (N.version names.now) (N.types names.now) (N.words names.now))
+        slot.old.page.rows messages }
+{
+    let mut expanded: Steps<M> = Steps::new(blank);
+    slot.text.clear();
+    slot.tally = NO_TALLY;
+    search_page(
+        query,
+        names,
+        slot.name.as_slice(),
+        slot.number,
+        &slot.columns,
+        filter,
+        &mut slot.text,
+        &mut slot.tally,
+        &mut expanded,
+    )
+}
+
+/// Searches a page that is in memory.
+pub(crate) fn match_page<N: Names>(query: &Query, names: &N, filter: &Filter, slot: &mut Slot)
+    requires searched { IsSearched query.now.pattern }
+    requires filter { IsFilter (wide_pieces query.now.pattern) (N.types names.now)
+        (N.words names.now) filter.now }
+    ensures page { slot.new.page ≡ slot.old.page }
+    ensures worked { IsWorked
+        (named (N.version names.now) (N.types names.now) (N.words names.now))
+        query.now slot.new }
+{
+    let answer = search_with::<N, Brand>(query, names, filter, slot, Blank::new(1));
+    slot.answer = answer;
+}
+
+/// Searches pages that are in memory, in at most so many threads.
+pub(crate) fn match_pages<R: Threads + Sync, N: Names + Sync>(
+    rt: &R,
+    workers: usize,
+    query: &Query,
+    names: &N,
+    filter: &Filter,
+    slots: &mut [Slot],
+)
+    requires workers { 0 < workers }
+    requires searched { IsSearched query.now.pattern }
+    requires filter { IsFilter (wide_pieces query.now.pattern) (N.types names.now)
+        (N.words names.now) filter.now }
+    ensures len { length slots.new ≡ length slots.old }
+    ensures pages { (k : ℕ) (d : Slotted) → k < length slots.old
+        → (slice_index_or slots.new k d).page ≡ (slice_index_or slots.old k d).page }
+    ensures worked { All (IsWorked
+        (named (N.version names.now) (N.types names.now) (N.words names.now)) query.now)
+        slots.new }
+{
+    thread::for_each_mut(
+        rt,
+        slots,
+        workers,
+        &|_place: usize, slot: &mut Slot| { match_page(query, names, filter, slot) },
+    );
+}
