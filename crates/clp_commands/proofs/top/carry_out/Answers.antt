@@ -55,8 +55,8 @@ returns-in-Decode-clause-answers g c =
 pub returns-in-Decode-clause-untouched : goal.returns-in-Decode-clause-untouched
 returns-in-Decode-clause-untouched g c = λ none. absurd (none (rw (c.in-Decode.is) tt))
 
-pub search_archive-outcome-requires : goal.search_archive-outcome-requires
-search_archive-outcome-requires g c = record { searched = c.wide_is_wider.ensures.searched _ _ c.in-Ok.ensures.items }
+pub search_archive-outcome-requires-clause-searched : goal.search_archive-outcome-requires-clause-searched
+search_archive-outcome-requires-clause-searched g c κs within = c.wide_is_wider.ensures.searched _ _ c.in-Ok.ensures.items
 
 pub returns-in-Ok-clause-answers : goal.returns-in-Ok-clause-answers
 returns-in-Ok-clause-answers g c =
