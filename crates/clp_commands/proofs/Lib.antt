@@ -26,3 +26,6 @@ pub mod TakeInLemmas
 pub mod StepsLemmas
 pub mod JobLemmas
 pub mod CauseLemmas
+pub mod SummaryLemmas
+pub mod BenchLemmas
+pub mod MadeLemmas
