@@ -15,7 +15,11 @@ use Rattle.clp_commands.specs.Benched.{AddsLogs, EndsLogs, IsTakenWhole, PrintsS
 use Rattle.clp_commands.specs.Ending.{EndsWith, SaysIn, Stayed, TookNothing}
 use Rattle.clp_commands.specs.Going.{DiskGoesOn}
 use Rattle.clp_commands.specs.IngestPrints.{came_of, names_of}
-use Rattle.clp_commands.specs.Ingested.{Came, FromArchive, LeavesJournal, StandsForEither, TakesIn}
+use Rattle.clp_commands.specs.Ingested.{Came, FromArchive, HasCallCause, LeavesJournal, StandsForEither, TakesIn, TakesNothing}
+use Rattle.clp_commands.specs.Refusal.{line_of, status_of}
+use Rattle.clp_commands.specs.declared.refusal.Refusal.{Refusal}
+use Rattle.sink_pieces.specs.Output.{Grew}
+use Rattle.sink_pieces.proofs.OutputLemmas.{Grew-nothing}
 use Rattle.clp_commands.specs.Outcome.{answer_of, of_read}
 use Rattle.clp_commands.specs.Taken.{error_of, file_error, file_status, gravest, status_of_taken}
 use Rattle.clp_commands.specs.declared.outcome.ReadRefusal.{ReadRefusal}
@@ -60,6 +64,18 @@ summed_up files seen old new status messages answer whole is ends prints keeps d
   sink = sink;
   damaged = λ at e. subst (λ s. IfSome s StandsForNone) (sym keeps.seen) (damaged at e);
 }
+
+-- how it ends
+pub ends_none : (seen : Around) (told : Option Refusal) → told ≡ None → seen.err.1 ≡ seen.err.0 → EndsWith seen [] 0 told
+ends_none seen told is same = subst (λ t. EndsWith seen [] 0 t) (sym is) (record { status_is = refl; said = inl (subst (λ e. Grew seen.err.0 e []) (sym same) (Grew-nothing seen.err.0)) })
+
+pub ends_some : (seen : Around) (told : Option Refusal) (refusal : Refusal) (status : ℕ) → told ≡ Some refusal → status ≡ status_of refusal → SaysIn seen (line_of [] refusal) → EndsWith seen [] status told
+ends_some seen told refusal status is status_is said = subst (λ t. EndsWith seen [] status t) (sym is) (record { status_is = status_is; said = said })
+
+pub refused_logs : (content : List ℕ → Option (List ℕ)) (seen : Around) (old new : DiskState) (status : ℕ) (refusal : Refusal) → status ≡ status_of refusal → SaysIn seen (line_of [] refusal) → TookNothing seen.out → Stayed seen.out_faults
+    → HasCallCause generated_names old new refusal → FromArchive old (λ h before bytes stood. TakesNothing h before old new) → EndsLogs content seen old new status
+refused_logs content seen old new status refusal is said nothing sink cause disk =
+    inl (record { refusal = refusal; ends = record { status_is = is; said = said }; nothing = nothing; sink = sink; cause = cause; disk = disk })
 
 -- ---- the disk, where nothing more is written
 
