@@ -3,6 +3,7 @@ use Rattle.std.proofs.Common.{◌≡◌, ◌⊎◌, ◌<◌, ◌≤◌, inl, inr
 use Rattle.std.specs.Prelude.{IfSome, is_ok}
 use Rattle.std.specs.List.{All, flat_map, sum_by}
 use Rattle.std.proofs.lemmas.List.Elements.{All-cons, All-head, All-map, All-nil, All-tail}
+use Rattle.std.proofs.lemmas.List.Sums.{sum_by-cons}
 use Rattle.log_seams.specs.Disk.{DiskState, IsLawful, KeepsBytes}
 use Rattle.log_seams.specs.Outside.{CountsOf, Rose}
 use Rattle.log_seams.proofs.MomentLemmas.{rose}
@@ -35,7 +36,8 @@ none_refused file = file.refusal ≡ None
 
 messages_came : (files : List TakenFile) → sum_by (λ (file : TakenFile). file.messages) files ≡ sum_by (λ (c : Came). c.messages) (map came_of files)
 messages_came [] = refl
-messages_came (file ∷ files) = ap (λ n. file.messages + n) (messages_came files)
+messages_came (file ∷ files) =
+    sum_by-cons (λ (f : TakenFile). f.messages) file files ∙ (ap (λ n. file.messages + n) (messages_came files) ∙ sym (sum_by-cons (λ (c : Came). c.messages) (came_of file) (map came_of files)))
 
 whole_back : (files : List TakenFile) → All IsTakenWhole (map came_of files) → All none_refused files
 whole_back [] all = All-nil none_refused

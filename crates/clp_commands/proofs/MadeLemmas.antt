@@ -1,5 +1,5 @@
 -- What `bench` answers, on the archive that it made.
-use Rattle.std.proofs.Common.{◌≡◌, ◌⊎◌, ◌<◌, ◌≤◌, inl, inr, ⊎_elim, refl, sym, ap, subst, ◌∙◌, ℕ, ◌+◌, List, [], ◌∷◌, ◌++◌, Option, None, Some, Result, Ok, Err, option_map, length, arith}
+use Rattle.std.proofs.Common.{◌≡◌, ◌⊎◌, ◌<◌, ◌≤◌, inl, inr, ⊎_elim, refl, sym, ap, subst, ◌∙◌, ℕ, ◌+◌, List, [], ◌∷◌, ◌++◌, Option, None, Some, Result, Ok, Err, option_map, length, append-nil, arith}
 use Rattle.std.specs.Prelude.{IfSome, is_some}
 use Rattle.std.specs.List.{All}
 use Rattle.std.proofs.lemmas.List.{length-append}
@@ -50,7 +50,7 @@ empty_stands : StandsFor (header_bytes default_header ++ CLOSED_GATE ∷ []) def
 empty_stands = record {
   header = default_is;
   legal = record { held = nothing_held; run = refl; named = tt; short = omega (arith, empty_size) };
-  stands = record { gate = CLOSED_GATE; rest = []; spells = refl; closed = λ e. absurd (cc (e)) };
+  stands = record { gate = CLOSED_GATE; rest = []; spells = ap (λ bytes. bytes ++ CLOSED_GATE ∷ []) (sym (append-nil (header_bytes default_header))); closed = λ e. absurd (cc (e)) };
 }
 
 -- the names of the four logs take few bytes
@@ -137,7 +137,7 @@ module _ (old mid : DiskState) (made : MakesEmpty default_header old mid) (tells
 
   none_seen : (told : Option (List ℕ)) → IfSome told (λ w. (w ≡ []) × ((t : ℕ) × (old.clock ≤ t) × ((bytes : List ℕ) × (StandsFor bytes default_header [] × ⊥)))) → IfSome told (λ _. ⊥)
   none_seen None holds = tt
-  none_seen (Some was) (none, (t, (low, (bytes, (stood, bad))))) = bad
+  none_seen (Some was) (none, (t, low, (bytes, (stood, bad)))) = bad
 
   over_told : (P : Held → Type 0) (told : Option (List ℕ)) → OverJournal told P → IfSome told (λ bytes. (h : Header) (es : List JournalEntry) (stood : StandsFor bytes h es) → P stood.legal.held)
   over_told P None over = tt
