@@ -1,4 +1,4 @@
-use Rattle.std.proofs.Common.{ap, arith, subst, sym, ◌≡◌, ◌≤◌, ◌∙◌, ℕ, List, length, map}
+use Rattle.std.proofs.Common.{All, ap, arith, subst, sym, ◌≡◌, ◌≤◌, ◌∙◌, ℕ, List, length, map}
 use Rattle.std.proofs.lemmas.List.{length-map}
 use Rattle.log_sources.specs.Sources.{is_opened, refusal_of, str_bytes}
 use Rattle.disk_journal.specs.declared.journal.Journal.{Journal}

@@ -4,7 +4,6 @@ use Rattle.wild_match.specs.Reading.{IsSearchPattern}
 use Rattle.clp_commands.specs.Answers.{IsPatternRefusal}
 use Rattle.wild_match.proofs.Spelling.{IsSearchPattern-not_lone}
 use Rattle.clp_commands.proofs.AnswerLemmas.{RefusesPattern-from, pattern_refusal}
-use Rattle.clp_commands.proofs.GoingLemmas.{KeepsBytes-same}
 use Rattle.clp_commands.proofs.CommandLemmas.{some_of}
 use Rattle.clp_commands.proofs.CompleteLemmas.{check_answers, decode_answers, files_answers, search_answers, search_pattern, search_refused}
 use Rattle.clp_commands.proofs.top.carry_out.Goals as goal
@@ -55,8 +54,8 @@ returns-in-Decode-clause-answers g c =
 pub returns-in-Decode-clause-untouched : goal.returns-in-Decode-clause-untouched
 returns-in-Decode-clause-untouched g c = λ none. absurd (none (rw (c.in-Decode.is) tt))
 
-pub search_archive-outcome-requires : goal.search_archive-outcome-requires
-search_archive-outcome-requires g c = record { searched = c.wide_is_wider.ensures.searched _ _ c.in-Ok.ensures.items }
+pub search_archive-outcome-requires-clause-searched : goal.search_archive-outcome-requires-clause-searched
+search_archive-outcome-requires-clause-searched g c κs within = c.wide_is_wider.ensures.searched _ _ c.in-Ok.ensures.items
 
 pub returns-in-Ok-clause-answers : goal.returns-in-Ok-clause-answers
 returns-in-Ok-clause-answers g c =
@@ -96,7 +95,7 @@ ingest_files-requires-clause-some g c κs within =
 
 pub returns-in-Ingest-clause-answers : goal.returns-in-Ingest-clause-answers
 returns-in-Ingest-clause-answers g c =
-    rw (c.in-Ingest.is) (rw (← c.of.ensures.files) c.ingest_files.ensures.ends)
+    rw (c.in-Ingest.is) (rw (← c.of.ensures.files) c.ingest_files.ensures.answers)
 
 pub returns-in-Ingest-clause-keeps : goal.returns-in-Ingest-clause-keeps
 returns-in-Ingest-clause-keeps g c = λ none. absurd (none (rw (c.in-Ingest.is) tt))
@@ -104,13 +103,22 @@ returns-in-Ingest-clause-keeps g c = λ none. absurd (none (rw (c.in-Ingest.is) 
 pub returns-in-Ingest-clause-untouched : goal.returns-in-Ingest-clause-untouched
 returns-in-Ingest-clause-untouched g c = λ none. absurd (none (rw (c.in-Ingest.is) tt))
 
+pub bench-requires-clause-lines : goal.bench-requires-clause-lines
+bench-requires-clause-lines g c κs within =
+    let range = rw (c.in-Bench.is) at c.requires in
+    range.lines_are.high
+
+pub bench-requires-clause-workers : goal.bench-requires-clause-workers
+bench-requires-clause-workers g c κs within =
+    let range = rw (c.in-Bench.is) at c.requires in
+    (range.workers_are.low, range.workers_are.high)
+
 pub returns-in-Bench-clause-answers : goal.returns-in-Bench-clause-answers
 returns-in-Bench-clause-answers g c =
-    rw (c.in-Bench.is) (record {
-      refuses = record { ends = record { status_is = c.report-in-Bench.ensures.status; said = c.report-in-Bench.ensures.said }; nothing = refl; sink = refl };
-      bytes = KeepsBytes-same _;
-      ranges = refl;
-      faults = refl;
-      opens = λ name. refl;
-      reads = λ name. refl;
-    })
+    rw (c.in-Bench.is) (c.bench.ensures.answers _ _ _ _)
+
+pub returns-in-Bench-clause-keeps : goal.returns-in-Bench-clause-keeps
+returns-in-Bench-clause-keeps g c = λ none. absurd (none (rw (c.in-Bench.is) tt))
+
+pub returns-in-Bench-clause-untouched : goal.returns-in-Bench-clause-untouched
+returns-in-Bench-clause-untouched g c = λ none. absurd (none (rw (c.in-Bench.is) tt))
