@@ -5,7 +5,7 @@ _clpa() {
     COMPREPLY=()
     case $COMP_CWORD:$command in
         1:*) compopt -o default ;;
-        2:*) mapfile -t COMPREPLY < <(compgen -W 'check create decode files ingest scan search show' -- "$word") ;;
+        2:*) mapfile -t COMPREPLY < <(compgen -W 'bench check create decode files ingest scan search show' -- "$word") ;;
         3:show | 4:scan) compopt -o default ;;
         *:create)
             mapfile -t COMPREPLY < <(compgen -W '--bytes= --format= --types= --words=' -- "$word")

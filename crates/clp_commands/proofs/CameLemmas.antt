@@ -25,11 +25,11 @@ lines_came : (files : List TakenFile) → map line_of_taken files ≡ map line_o
 lines_came [] = refl
 lines_came (file ∷ files) = ap (λ (ls : List FileLine). line_of_taken file ∷ ls) (lines_came files)
 
-statuses_came : (files : List TakenFile) → map (λ (file : TakenFile). file_status file.refusal) files ≡ map (λ (c : Came). file_status c.refusal) (map came_of files)
+pub statuses_came : (files : List TakenFile) → map (λ (file : TakenFile). file_status file.refusal) files ≡ map (λ (c : Came). file_status c.refusal) (map came_of files)
 statuses_came [] = refl
 statuses_came (file ∷ files) = ap (λ ns. file_status file.refusal ∷ ns) (statuses_came files)
 
-errors_came : (files : List TakenFile) → flat_map error_of files ≡ flat_map (λ (c : Came). file_error c.name c.refusal) (map came_of files)
+pub errors_came : (files : List TakenFile) → flat_map error_of files ≡ flat_map (λ (c : Came). file_error c.name c.refusal) (map came_of files)
 errors_came [] = refl
 errors_came (file ∷ files) = ap (λ text. error_of file ++ text) (errors_came files)
 

@@ -28,3 +28,6 @@ pub mod CauseLemmas
 pub mod LineLemmas
 pub mod FileCauseLemmas
 pub mod WholeLemmas
+pub mod SummaryLemmas
+pub mod BenchLemmas
+pub mod MadeLemmas

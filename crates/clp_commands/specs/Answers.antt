@@ -11,6 +11,7 @@ use Rattle.search_engine.specs.Searched.{asked}
 use Rattle.disk_journal.specs.Created.{CreateLeaves}
 use Rattle.disk_journal.specs.declared.refusals.CreateRefusal.{CreateRefusal}
 use Rattle.clp_commands.specs.Around.{Around}
+use Rattle.clp_commands.specs.Benched.{AnswersBench}
 use Rattle.clp_commands.specs.Counted.{AnswersCheck}
 use Rattle.clp_commands.specs.Decoding.{AnswersDecode}
 use Rattle.clp_commands.specs.Directory.{AnswersFiles}
@@ -84,7 +85,7 @@ pub record AnswersPattern (from to : Option ℤ) (stats : Bool) (pattern : List 
   pub lone_backslash : (at : ℕ) → IsLoneBackslash pattern at → RefusesPattern seen status at
   pub good : (items : List Item) → IsSearchPattern pattern items → AnswersSearch (asked items (record { from = from; to = to })) stats seen old new status
 
--- What a command answers. `bench` is not built: it ends as words do that ask for nothing.
+-- What a command answers.
 abbrev pub AnswersAsked : Asked → Around → DiskState → DiskState → ℕ → Type 0
 AnswersAsked (to_show file) seen old new status = AnswersLog (λ _ message text. Shows message text) seen file status
 AnswersAsked (to_scan pattern file) seen old new status = AnswersScan pattern file seen status
@@ -94,7 +95,7 @@ AnswersAsked to_list seen old new status = AnswersFiles seen old new status
 AnswersAsked to_check seen old new status = AnswersCheck seen old new status
 AnswersAsked (to_decode number) seen old new status = AnswersDecode number seen old new status
 AnswersAsked (to_search from to stats workers pattern) seen old new status = AnswersPattern from to stats pattern seen old new status
-AnswersAsked (to_bench number lines workers) seen old new status = RefusesAtOnce seen old new status Usage
+AnswersAsked (to_bench number lines workers) seen old new status = AnswersBench number lines seen old new status
 
 -- What words answer that were read. Those that `clap` takes, and whose numbers are good, ask for something: so a usage error
 -- comes only where `clap` refuses them for another cause than memory, or where a number is not good.

@@ -1,5 +1,6 @@
 pub mod Answers
 pub mod Around
+pub mod Benched
 pub mod Counted
 pub mod Directory
 pub mod Decoding

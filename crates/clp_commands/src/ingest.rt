@@ -259,7 +259,7 @@ where
 }
 
 /// Adds the logs to the archive of a disk. Answers the number of the first new file.
-fn add_files<'a, R: Threads + Wait + Sync, H: Shelf, D: Telling + Send>(
+pub(crate) fn add_files<'a, R: Threads + Wait + Sync, H: Shelf, D: Telling + Send>(
     rt: &R,
     alloc: Global,
     asked: NewLogs<'a>,

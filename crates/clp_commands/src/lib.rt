@@ -5,6 +5,7 @@
 #![tactic(auto)]
 
 mod append;
+mod bench;
 mod check;
 mod file;
 mod files;
@@ -16,6 +17,7 @@ mod refusal;
 mod scan;
 mod search;
 mod show;
+mod summary;
 mod taken;
 mod tell;
 mod telling;

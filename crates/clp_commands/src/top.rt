@@ -12,6 +12,7 @@ ghost use Rattle.clp_commands.specs.Words.{AskNoArchive, AskNoWriting, MayWrite,
 ghost use Rattle.command_words.specs.Asked.{IsInRange, asked_by};
 ghost use Rattle.log_seams.specs.Disk.{KeepsBytes};
 
+use crate::bench::bench;
 use crate::check::check;
 use crate::file::decode_file;
 use crate::files::files;
@@ -46,8 +47,8 @@ use wild_match::{Matcher, PatternRefusal, read_pattern};
 /// archive is legal, and prints what it has. `search` with its options prints the messages of the
 /// archive that a pattern matches, as `scan` prints those of a log. A refusal has its line on `err`.
 ///
-/// `ingest` adds logs to the archive, and prints of each what `files` prints. `bench` is not built, and
-/// ends as words do that ask for nothing. `disk` is the archive's.
+/// `ingest` adds logs to the archive, and prints of each what `files` prints. `bench` makes an archive of
+/// generated logs, and prints a summary of it. `disk` is the archive's.
 /// `rt` starts the threads of `ingest`. `second` is the disk beside the archive's for commands that
 /// write a new one; no command here needs it yet.
 pub fn run<R: Threads + Wait + Sync, H: Shelf, D: Telling + Send, K: Sink>(
@@ -161,7 +162,7 @@ where
             }
             Err(refusal) => report(err, "", refusal_of_pattern(refusal)),
         },
-        Command::Bench { .. } => report(err, "", Refusal::Usage),
+        Command::Bench { asked } => bench(rt, alloc, *asked, disk, out, err),
     }
 }
 

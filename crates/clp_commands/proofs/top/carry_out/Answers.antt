@@ -4,7 +4,6 @@ use Rattle.wild_match.specs.Reading.{IsSearchPattern}
 use Rattle.clp_commands.specs.Answers.{IsPatternRefusal}
 use Rattle.wild_match.proofs.Spelling.{IsSearchPattern-not_lone}
 use Rattle.clp_commands.proofs.AnswerLemmas.{RefusesPattern-from, pattern_refusal}
-use Rattle.clp_commands.proofs.GoingLemmas.{KeepsBytes-same}
 use Rattle.clp_commands.proofs.CommandLemmas.{some_of}
 use Rattle.clp_commands.proofs.CompleteLemmas.{check_answers, decode_answers, files_answers, search_answers, search_pattern, search_refused}
 use Rattle.clp_commands.proofs.top.carry_out.Goals as goal
@@ -104,13 +103,22 @@ returns-in-Ingest-clause-keeps g c = λ none. absurd (none (rw (c.in-Ingest.is) 
 pub returns-in-Ingest-clause-untouched : goal.returns-in-Ingest-clause-untouched
 returns-in-Ingest-clause-untouched g c = λ none. absurd (none (rw (c.in-Ingest.is) tt))
 
+pub bench-requires-clause-lines : goal.bench-requires-clause-lines
+bench-requires-clause-lines g c κs within =
+    let range = rw (c.in-Bench.is) at c.requires in
+    range.lines_are.high
+
+pub bench-requires-clause-workers : goal.bench-requires-clause-workers
+bench-requires-clause-workers g c κs within =
+    let range = rw (c.in-Bench.is) at c.requires in
+    (range.workers_are.low, range.workers_are.high)
+
 pub returns-in-Bench-clause-answers : goal.returns-in-Bench-clause-answers
 returns-in-Bench-clause-answers g c =
-    rw (c.in-Bench.is) (record {
-      refuses = record { ends = record { status_is = c.report-in-Bench.ensures.status; said = c.report-in-Bench.ensures.said }; nothing = refl; sink = refl };
-      bytes = KeepsBytes-same _;
-      ranges = refl;
-      faults = refl;
-      opens = λ name. refl;
-      reads = λ name. refl;
-    })
+    rw (c.in-Bench.is) (c.bench.ensures.answers _ _ _ _)
+
+pub returns-in-Bench-clause-keeps : goal.returns-in-Bench-clause-keeps
+returns-in-Bench-clause-keeps g c = λ none. absurd (none (rw (c.in-Bench.is) tt))
+
+pub returns-in-Bench-clause-untouched : goal.returns-in-Bench-clause-untouched
+returns-in-Bench-clause-untouched g c = λ none. absurd (none (rw (c.in-Bench.is) tt))
