@@ -8,7 +8,7 @@ use std::test::Fail;
 use std::thread::Threads;
 
 /// A disk with these bytes and room for the archives here, whose call of this number fails.
-fn disk(alloc: Global, bytes: &[u8], fault: u64) -> Result<MemDisk, AllocError> {
+pub(crate) fn disk(alloc: Global, bytes: &[u8], fault: u64) -> Result<MemDisk, AllocError> {
     MemDisk::new(
         alloc,
         Text::new(bytes.to_vec(alloc)?),

@@ -2,6 +2,8 @@
 #![tactic(auto)]
 
 #[cfg(test)]
+mod bench_tests;
+#[cfg(test)]
 mod create_tests;
 #[cfg(test)]
 mod directory_tests;

@@ -202,7 +202,7 @@ const REFUSALS_HAVE_THEIR: &[(&[&str], u8, &[u8])] = &[
     (&["create", "--types", "0"], 2, USAGE),
     (&["create", "--bytes=33", "--bytes=33"], 2, USAGE),
     (&["--help"], 2, USAGE),
-    (&["bench", "1", "10", "1"], 2, USAGE),
+    (&["bench", "1", "0", "1"], 2, USAGE),
     (&["show", "gone.log"], 4, b"clpa: gone.log: cannot open\n"),
     (&["show", "-"], 4, b"clpa: -: cannot open\n"),
     (&["show", "--", "-a.log"], 4, b"clpa: -a.log: cannot open\n"),
