@@ -1,11 +1,13 @@
 #!/usr/bin/env python3
-"""Writes a log as services write it: make_log.py MEGABYTES SEED FILE.
+"""Writes a log as services write it: make_log.py MEGABYTES SEED FILE [SHAPE].
 
-The same size and seed give the same bytes. Most lines begin with a stamp, of one of several
+The same size, seed and shape give the same bytes. Of the shape `service`, which is the default, most lines begin with a stamp, of one of several
 kinds; each service keeps to one kind. The messages hold levels, task and container numbers,
 addresses, decimals, paths and `key=value` pairs; some are followed by a stack trace of lines
 without a stamp. Two words stand in it for the searches: `quorum-lost` in about one line of fifty
-thousand, and `heartbeat` in about one line of twenty.
+thousand, and `heartbeat` in about one line of twenty. Of the shape `requests` each line has an
+identifier of 32 digits that no other line has, so that words are many. Of the shape `daemon` a few
+dozen texts come again and again with small numbers in them, so that words are few.
 """
 import random
 import sys
@@ -79,11 +81,34 @@ def lines_of(r):
             yield from trace(r)
 
 
+def requests(r):
+    now = datetime(2025, 3, 1, 0, 0, 0)
+    while True:
+        now += timedelta(milliseconds=r.randrange(1, 40))
+        yield "%s %s request=%032x user=user%d %s /api/v2/%s/%d %d %.3f ms" % (
+            STAMPS[2](now), r.choice(LEVELS), r.getrandbits(128), r.randrange(200_000), r.choice(("GET", "GET", "GET", "POST", "PUT")),
+            r.choice(("accounts", "orders", "carts", "items")), r.randrange(1_000_000), r.choice((200, 200, 204, 404, 500)), r.random() * 200)
+
+
+def daemon(r):
+    now = datetime(2025, 3, 1, 0, 0, 0)
+    texts = ["%s %s of %s" % (verb, what, whom) for verb in ("started", "stopped", "checked", "reloaded") for what in ("timer", "socket", "unit", "mount")
+             for whom in ("cron", "network", "storage")]
+    while True:
+        now += timedelta(milliseconds=r.randrange(1, 900))
+        yield "%s host systemd[%d]: %s, %d of %d done in %d ms" % (
+            STAMPS[7](now), r.choice((1, 1, 1, 612, 733)), r.choice(texts), r.randrange(1, 5), 5, r.randrange(1, 400))
+
+
+SHAPES = {"service": lines_of, "requests": requests, "daemon": daemon}
+
+
 def main():
     size, seed, path = int(sys.argv[1]) * 1_000_000, int(sys.argv[2]), sys.argv[3]
+    lines = SHAPES[sys.argv[4] if len(sys.argv) > 4 else "service"]
     written, batch = 0, []
     with open(path, "w", encoding="ascii", newline="\n") as out:
-        for line in lines_of(random.Random(seed)):
+        for line in lines(random.Random(seed)):
             batch.append(line)
             written += len(line) + 1
             if written >= size or len(batch) == 20_000:

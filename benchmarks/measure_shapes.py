@@ -1,0 +1,95 @@
+#!/usr/bin/env python3
+"""What an archive costs: measure_shapes.py ROUNDS FOLDER MEGABYTES SEED CLPA.
+
+For each shape of log and each of two sizes: the bytes of the archive and of its dictionaries and heads
+for a byte of log, the speed of `ingest` and `decode`, the time of opening (`files`) and of a search for
+a word that is in one line alone, and the most memory of each. Times are processor seconds, the least
+of the rounds; the last column of a shape's second row has how each grew.
+"""
+import os
+import struct
+import subprocess
+import sys
+
+from measure import run
+
+KINDS = {1: "names", 2: "types", 3: "words", 4: "segments"}
+HEADER, FRAME, SEGMENT_HEAD = 32, 10, 33
+
+
+def records(path):
+    """The bytes of each kind of record, with the eleven bytes and more around its contents."""
+    sizes = dict.fromkeys(KINDS.values(), 0)
+    with open(path, "rb") as archive:
+        at = archive.seek(HEADER)
+        while frame := archive.read(FRAME):
+            size = struct.unpack("<Q", frame[2:])[0]
+            sizes[KINDS[frame[1]]] += FRAME + size
+            at += FRAME + size
+            archive.seek(at)
+    return sizes
+
+
+def cost(words):
+    """Processor seconds, and peak memory in MiB."""
+    before = os.times()
+    _, peak, _, status = run(words)
+    after = os.times()
+    if status != 0:
+        sys.exit(f"{words} ended with {status}")
+    return after.children_user - before.children_user + after.children_system - before.children_system, peak / 1024
+
+
+def least(rounds, words, before=lambda: None):
+    found = []
+    for _ in range(rounds):
+        before()
+        found.append(cost(words))
+    return min(it[0] for it in found), max(it[1] for it in found)
+
+
+def figures(clpa, log, rounds):
+    """The figures of one log."""
+    archive = f"{log}.clp"
+
+    def anew():
+        if os.path.exists(archive):
+            os.remove(archive)
+        subprocess.run([clpa, archive, "create"], check=True)
+
+    size = os.path.getsize(log)
+    into = least(rounds, [clpa, archive, "ingest", log], anew)
+    kinds = records(archive)
+    return {
+        "archive": os.path.getsize(archive) / size,
+        "dictionaries": (kinds["types"] + kinds["words"]) / size,
+        "into": size / into[0] / 1e6,
+        "into memory": into[1],
+        "back": size / least(rounds, [clpa, archive, "decode", "0"])[0] / 1e6,
+        "check": least(rounds, [clpa, archive, "check"])[0],
+        "open": least(rounds, [clpa, archive, "files"])[0],
+        "search": least(rounds, [clpa, archive, "search", "there-is-no-such-word"])[0],
+        "search memory": least(1, [clpa, archive, "search", "there-is-no-such-word"])[1],
+    }
+
+
+def main():
+    rounds, folder, megabytes, seed, clpa = int(sys.argv[1]), sys.argv[2], int(sys.argv[3]), sys.argv[4], sys.argv[5]
+    print("| shape | MB | archive / log | dictionaries / log | zstd -3 / log | ingest MB/s | peak MiB | decode MB/s | check s | files s | search s | peak MiB |")
+    print("| --- | --- | --- | --- | --- | --- | --- | --- | --- | --- | --- | --- |")
+    for shape in ("service", "requests", "daemon"):
+        for size in (megabytes // 10, megabytes):
+            log = f"{folder}/clpa-{shape}-{size}-{seed}.log"
+            f = figures(clpa, log, rounds)
+            subprocess.run(["zstd", "-q", "-f", "-3", log, "-o", f"{log}.zst"], check=True)
+            packed = os.path.getsize(f"{log}.zst") / os.path.getsize(log)
+            print("| %s | %d | %.3f | %.3f | %.3f | %.0f | %.0f | %.0f | %.2f | %.3f | %.3f | %.0f |" % (
+                shape, size, f["archive"], f["dictionaries"], packed, f["into"], f["into memory"], f["back"], f["check"], f["open"], f["search"], f["search memory"]))
+            os.remove(f"{log}.clp")
+            os.remove(f"{log}.zst")
+    print()
+    print("seconds and MB/s: of processor time; search: for a word that no line has")
+
+
+if __name__ == "__main__":
+    main()
