@@ -14,15 +14,16 @@ import sys
 from measure import run
 
 KINDS = {1: "names", 2: "types", 3: "words", 4: "segments"}
-HEADER, FRAME, SEGMENT_HEAD = 32, 10, 33
+HEADER, FRAME = 32, 10
 
 
 def records(path):
-    """The bytes of each kind of record, with the eleven bytes and more around its contents."""
+    """The bytes of each kind of record, with its gate, kind and length."""
     sizes = dict.fromkeys(KINDS.values(), 0)
     with open(path, "rb") as archive:
         at = archive.seek(HEADER)
-        while frame := archive.read(FRAME):
+        # behind the last record stands one byte, a closed gate
+        while len(frame := archive.read(FRAME)) == FRAME:
             size = struct.unpack("<Q", frame[2:])[0]
             sizes[KINDS[frame[1]]] += FRAME + size
             at += FRAME + size
