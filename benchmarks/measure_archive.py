@@ -1,5 +1,5 @@
 #!/usr/bin/env python3
-"""Times the commands over an archive in interleaved rounds: measure_archive.py ROUNDS LOG CLPA.
+"""Times the commands over an archive in interleaved rounds: measure_archive.py ROUNDS LOG CLPA [SHAPE].
 
 The archives stand beside the log and are made anew in each round of `ingest`. What `decode` gives back
 is held against the log, and the count of lines that `search` finds against that of `grep`; a difference
@@ -7,13 +7,37 @@ fails the run. Times, ratios and memory are as in measure.py.
 """
 import filecmp
 import os
+import re
+import shutil
 import statistics
 import subprocess
 import sys
 
 from measure import run
 
-RARE, PART, COMMON, WILD = "quorum-lost", "task_1734", "heartbeat", "Task*SECONDS"
+# Of each shape of log: a word in few lines of each segment, a part of a word, a common word, a wildcard,
+# and what a word looks like that stands in one line.
+TEXTS = {
+    "service": ("quorum-lost", "task_1734", "heartbeat", "Task*SECONDS", rb"blk_\d{9,}"),
+    "requests": ("user1234", "user199", "orders", "GET*orders", rb"[0-9a-f]{32}"),
+    "daemon": ("612", "reload", "reloaded", "started*network", None),
+}
+MINUTE = ("--from", "1740790800000", "--to", "1740790859999")
+
+
+def single(path, form):
+    """A word of this form from the middle of the log."""
+    with open(path, "rb") as log:
+        log.seek(os.path.getsize(path) // 2)
+        return re.search(form, log.read(1 << 20)).group().decode()
+
+
+def bytes_read(words):
+    """How many bytes a command reads of files, by strace; None where that is not there."""
+    if not shutil.which("strace"):
+        return None
+    traced = subprocess.run(["strace", "-f", "-e", "trace=read,pread64", *words], check=False, stdout=subprocess.DEVNULL, stderr=subprocess.PIPE, text=True)
+    return sum(int(it) for it in re.findall(r"= (\d+)$", traced.stderr, re.M))
 
 
 def quarters(path):
@@ -62,6 +86,7 @@ def table(what, commands, rounds, size, before=None):
 def main():
     rounds, path, clpa = int(sys.argv[1]), sys.argv[2], sys.argv[3]
     size, failed = os.path.getsize(path), False
+    rare, part, common, wild, form = TEXTS[sys.argv[4] if len(sys.argv) > 4 else "service"]
     files = quarters(path)
     one, four, packed = f"{path}.one.clp", f"{path}.four.clp", f"{path}.zst"
     print("| what | command | seconds | MB/s | ratio | peak MiB | lines out |")
@@ -88,7 +113,10 @@ def main():
     os.remove(f"{path}.back")
     wrong, _ = table("out of it", [("clpa decode", [clpa, one, "decode", "0"]), ("zstd -dc", ["zstd", "-dc", packed])], rounds, size)
     failed = failed or wrong
-    for name, text, beside in (("rare word", RARE, "-aFc"), ("part of a word", PART, "-aFc"), ("common word", COMMON, "-aFn")):
+    sought = [("rare word", rare, "-aFc"), ("part of a word", part, "-aFc"), ("common word", common, "-aFn")]
+    if form:
+        sought.insert(0, ("word in one segment", single(path, form), "-aFc"))
+    for name, text, beside in sought:
         wrong, counts = table(f"{name} `{text}`", [
             ("clpa search", [clpa, one, "search", text]),
             (f"grep {beside}", ["grep", beside, text, path]),
@@ -97,13 +125,19 @@ def main():
         found = subprocess.run(["grep", "-aFc", text, path], check=False, capture_output=True, env=dict(os.environ, LC_ALL="C"))
         wrong = wrong or counts["clpa search"] != int(found.stdout)
         failed = failed or wrong
-    wrong, counts = table(f"wildcard `{WILD}`", [
-        ("clpa search", [clpa, one, "search", WILD]),
-        ("grep -an", ["grep", "-an", WILD.replace("*", ".*"), path]),
+    wrong, counts = table(f"wildcard `{wild}`", [
+        ("clpa search", [clpa, one, "search", wild]),
+        ("grep -an", ["grep", "-an", wild.replace("*", ".*"), path]),
+        ("clpa search, 4 workers", [clpa, one, "search", "--workers", "4", wild]),
     ], rounds, size)
     failed = failed or wrong or len(set(counts.values())) > 1
+    wrong, _ = table("one minute", [("clpa search --from --to", [clpa, one, "search", *MINUTE, ""]), ("grep -aFc", ["grep", "-aFc", common, path])], rounds, size)
+    failed = failed or wrong
     wrong, _ = table("whole archive", [("clpa check", [clpa, one, "check"]), ("zstd -t", ["zstd", "-q", "-t", packed]), ("clpa files", [clpa, one, "files"])], rounds, os.path.getsize(one))
     failed = failed or wrong
+    opened = bytes_read([clpa, one, "files"])
+    if opened:
+        print(f"\n`files` reads {opened} bytes: {opened / 1e9:.3f} s at 1 GB/s")
     print()
     print(f"archive: {os.path.getsize(one)} bytes of {size}, {os.path.getsize(one) / size:.2f}; zstd -3: {os.path.getsize(packed) / size:.2f}")
     print("ratio: the speed beside the second command of the group in the same run; above 1 is faster")
