@@ -1,6 +1,6 @@
 -- What the text of a log type is written as with words in its slots, symbol by symbol.
 use Rattle.std.proofs.Common.{◌≡◌, ℕ, ◌-◌, ◌<◌, ◌≤◌, ◌^◌, Bool, true, false, cond, List, [], ◌∷◌, ◌++◌, length, get_or, take, drop, map, refl, sym, ◌∙◌, ap, subst, arith, append_assoc}
-use Rattle.std.specs.Prelude.{◌≢◌, ◌↔◌, ◌==◌, All, Option, None, Some, MatchOption, IsTrue, is_some, slice_get}
+use Rattle.std.specs.Prelude.{◌≢◌, ◌↔◌, ◌==◌, All, Option, None, Some, MatchOption, IfNone, IfSome, IsTrue, is_some, slice_get}
 use mathlib.Core.List.{IsPrefix}
 use Rattle.std.proofs.lemmas.List.{append-nil, take_rest}
 use Rattle.std.proofs.lemmas.Bool.Decides.{nat_tests}
@@ -21,6 +21,15 @@ use Rattle.row_codec.proofs.MeansLemmas.{one_writing}
 use Rattle.column_store.specs.declared.row.Row.{Row}
 use Rattle.row_codec.specs.Means.{EachWord, HasSpelling, HasStampText, IsSpelling, IsWritten}
 use Rattle.row_codec.specs.StepsBody.{HasBody, HasNoText, HasStampWriting, HasWriting, IsBody, Puts}
+
+-- what an option that is known says
+pub at_none : {A P : Type 0} (o : Option A) → IfNone o P → o ≡ None → P
+at_none None h is = h
+at_none (Some x) h is = absurd (cc)
+
+pub at_some : {A : Type 0} (o : Option A) (P : A → Type 0) (x : A) → IfSome o P → o ≡ Some x → P x
+at_some None P x h is = absurd (cc)
+at_some (Some y) P x h is = let same : y ≡ x = cc in subst P same h
 
 no_parts : (words : List (List ℕ)) (parts : List Part) (row body : List ℕ) → [] ≡ type_text (map symbol_of parts) → EachWord (IsWritten words) parts row → body ≡ joined parts → (row ≡ []) × (body ≡ [])
 no_parts words [] [] body typed written is = (refl, is)
@@ -184,6 +193,7 @@ puts_then words text row rest left end last old mid new a b = record {
       let first = a.leads body is in
       let more = b.leads first.0 first.1 in
       (more.0, more.1, first.2 ∙ ap (λ l. a.bytes ++ l) more.2 ∙ sym (append_assoc a.bytes b.bytes more.0));
+  fits = λ has. a.fits (b.fits has);
 }
 
 pub puts_plain : (words : List (List ℕ)) (text row bytes rest old new : List ℕ) → text ≡ bytes ++ rest → All IsPlain bytes → new ≡ old ++ bytes → Puts words text row rest row old new
@@ -191,6 +201,7 @@ puts_plain words text row bytes rest old new cut plain appended = record {
   bytes = bytes;
   appended = appended;
   leads = λ body is. body_plain words bytes rest row body plain (subst (λ t. IsBody words t row body) cut is);
+  fits = λ has. subst (λ t. HasBody words t row) (sym cut) ((has_plain words bytes rest row plain).1 has);
 }
 
 pub puts_byte : (words : List (List ℕ)) (text row : List ℕ) (b : ℕ) (after old new : List ℕ) → text ≡ text_of_symbol (Byte b) ++ after → new ≡ old ++ b ∷ [] → Puts words text row after row old new
@@ -198,6 +209,7 @@ puts_byte words text row b after old new cut appended = record {
   bytes = b ∷ [];
   appended = appended;
   leads = λ body is. body_byte words b after row body (subst (λ t. IsBody words t row body) cut is);
+  fits = λ has. subst (λ t. HasBody words t row) (sym cut) ((has_byte words b after row).1 has);
 }
 
 pub puts_slot : (words : List (List ℕ)) (text row : List ℕ) (kind : Kind) (after : List ℕ) (word : ℕ) (left shown old new : List ℕ) → text ≡ text_of_symbol (Slot kind) ++ after → row ≡ word ∷ left → IsWritten words kind shown word → new ≡ old ++ shown → Puts words text row after left old new
@@ -211,6 +223,7 @@ puts_slot words text row kind after word left shown old new cut row_is written a
       let others : slot.left ≡ left = cc in
       let texts : slot.text ≡ shown = one_writing words kind slot.text shown word (subst (λ w. IsWritten words kind slot.text w) first slot.written) written in
       (slot.tail, subst (λ l. IsBody words after l slot.tail) others slot.rest, slot.is ∙ ap (λ l. l ++ slot.tail) texts);
+  fits = λ has. subst (λ t. HasBody words t row) (sym cut) (subst (λ l. HasBody words (text_of_symbol (Slot kind) ++ after) l) (sym row_is) ((has_slot words kind after word left).1 ((shown, written), has)));
 }
 
 -- all of the text was written
@@ -220,6 +233,23 @@ puts_all words text row rest left old new (body, is) none puts =
     let end = body_end words rest left more.0 none more.1 in
     let whole : body ≡ puts.bytes = more.2 ∙ ap (λ l. puts.bytes ++ l) end.2 ∙ append-nil puts.bytes in
     (body, is, puts.appended ∙ ap (λ l. old ++ l) (sym whole))
+
+-- what is left can be written where the whole can
+pub puts_has : (words : List (List ℕ)) (text row rest left old new : List ℕ) → Puts words text row rest left old new → HasBody words text row → HasBody words rest left
+puts_has words text row rest left old new puts (body, is) = let more = puts.leads body is in (more.0, more.1)
+
+-- nothing is left: it can be written, and all of it was
+pub puts_end : (words : List (List ℕ)) (text row rest left old new : List ℕ) → (rest ≡ []) × (left ≡ []) → Puts words text row rest left old new → (body : List ℕ) × IsBody words text row body × (new ≡ old ++ body)
+puts_end words text row rest left old new (ends, none) puts =
+    let has : HasBody words rest left = subst (λ t. HasBody words t left) (sym ends) (subst (λ l. HasBody words [] l) (sym none) ([], empty_body words)) in
+    let stuck : (symbol : Symbol) (after : List ℕ) → rest ≢ text_of_symbol symbol ++ after = λ symbol after is. some_byte symbol after (sym is ∙ ends) in
+    puts_all words text row rest left old new (puts.fits has) stuck puts
+
+-- no symbol is at the front of what is left: where the whole can be written, nothing is left
+pub puts_stuck : (words : List (List ℕ)) (text row rest left old new : List ℕ) → ((symbol : Symbol) (after : List ℕ) → rest ≢ text_of_symbol symbol ++ after) → Puts words text row rest left old new → HasBody words text row → (rest ≡ []) × (left ≡ [])
+puts_stuck words text row rest left old new none puts has =
+    let more = puts_has words text row rest left old new puts has in
+    let end = body_end words rest left more.0 none more.1 in (end.0, end.1)
 
 -- a whole number of each word can be written
 pub whole_writing : (words : List (List ℕ)) (word : ℕ) → word < 2 ^ 64 → HasWriting words Whole word
@@ -332,6 +362,3 @@ pub puts_more : (words : List (List ℕ)) (text row rest left : List ℕ) (symbo
 puts_more words text row rest left symbol after others end old mid new last cut so_far one plain =
     puts_then words text row after others end others old new last
     (puts_then words text row rest left after others old mid new so_far (subst (λ t. Puts words t left after others mid new) (sym cut) one)) plain
-
-pub puts_has : (words : List (List ℕ)) (text row rest left old new : List ℕ) → Puts words text row rest left old new → HasBody words text row → HasBody words rest left
-puts_has words text row rest left old new puts (body, is) = let more = puts.leads body is in (more.0, more.1)

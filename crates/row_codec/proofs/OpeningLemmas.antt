@@ -30,7 +30,7 @@ fill_over at old bytes long low =
 pub fills_self : (words : List (List ℕ)) (text row old : List ℕ) → length old ≤ 32 → Fills words text row text row old old
 fills_self words text row old few = record {
   whole = old;
-  puts = record { bytes = []; appended = sym (append-nil old); leads = λ body is. (body, is, refl) };
+  puts = record { bytes = []; appended = sym (append-nil old); leads = λ body is. (body, is, refl); fits = λ has. has };
   held = sym (take_all 32 old few);
 }
 
@@ -39,7 +39,7 @@ fills_then words text row rest left end last old mid new a b =
     let more = b.puts.bytes in
     record {
       whole = a.whole ++ more;
-      puts = puts_then words text row rest left end last old a.whole (a.whole ++ more) a.puts (record { bytes = more; appended = refl; leads = b.puts.leads });
+      puts = puts_then words text row rest left end last old a.whole (a.whole ++ more) a.puts (record { bytes = more; appended = refl; leads = b.puts.leads; fits = b.puts.fits });
       held = b.held ∙ ap (λ l. take 32 l) (b.puts.appended ∙ ap (λ l. l ++ more) a.held) ∙ take_front 32 a.whole more;
     }
 

@@ -35,8 +35,10 @@ Leads words text row rest left bytes =
     (body : List ℕ) → IsBody words text row body
     → (tail : List ℕ) × IsBody words rest left tail × (body ≡ bytes ++ tail)
 
--- bytes were appended, and what a text is written as begins with them and goes on as the rest of it
+-- Bytes were appended, and what a text is written as begins with them and goes on as the rest of it.
+-- Where the rest can be written, the whole can.
 pub record Puts (words : List (List ℕ)) (text row rest left old new : List ℕ) : Type 0 where
   pub bytes : List ℕ
   pub appended : new ≡ old ++ bytes
   pub leads : Leads words text row rest left bytes
+  pub fits : HasBody words rest left → HasBody words text row

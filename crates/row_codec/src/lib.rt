@@ -20,7 +20,7 @@ mod opening;
 
 pub use canonical::row_ok;
 pub use encoder::Encoder;
-pub use expanding::{expand, expand_onto, write_onto};
+pub use expanding::{expand, expand_onto, write_fitting, write_onto};
 pub use fitting::row_fits;
 pub use laws::{canonical_stays, means_one, one_row};
 use logtype_text::MAX_WORD_LEN;
