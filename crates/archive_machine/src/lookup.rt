@@ -64,6 +64,8 @@ impl Namer for Lookup<'_> {
 
     ghost version = { λ l. l.version };
 
+    ghost naming = { λ _ _ _ _ _. Unit {0} };
+
     fn micro(&self) -> bool {
         self.version >= 3
     }

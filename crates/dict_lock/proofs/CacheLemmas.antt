@@ -1,8 +1,9 @@
 -- What a cache holds after a text more.
-use Rattle.std.proofs.Common.{◌≡◌, ◌≢◌, ◌⊎◌, ⊎_elim, inl, inr, ℕ, zero, suc, ◌<◌, List, [], ◌∷◌, ◌++◌, length, refl, sym, ap, subst, ◌∙◌, arith, Some, slice_get}
+use Rattle.std.proofs.Common.{◌≡◌, ◌≢◌, ◌⊎◌, ⊎_elim, inl, inr, ℕ, zero, suc, ◌+◌, ◌<◌, List, [], ◌∷◌, ◌++◌, length, refl, sym, ap, subst, ◌∙◌, arith, Some, slice_get}
+use Rattle.std.proofs.lemmas.List.{length_push}
 use Rattle.std.proofs.lemmas.Option.{slice_get_within, none-some}
-use Rattle.dict_core.specs.Books.{BookState, IsNew, Names}
-use Rattle.dict_lock.specs.Cache.{CacheState, Remembers, Keeps, StaysSeen}
+use Rattle.dict_core.specs.Books.{AreDistinct, BookState, IsNew, Names}
+use Rattle.dict_lock.specs.Cache.{CacheState, GrowsBy, IsEven, IsSeen, Remembers, Keeps, StaysSeen}
 use Rattle.dict_lock.proofs.SharedLemmas.{slice_get-last}
 
 pub slice_get-front : {A : Type 0} (xs ys : List A) (k : ℕ) (x : A) → slice_get xs k ≡ Some x → slice_get (xs ++ ys) k ≡ Some x
@@ -73,3 +74,39 @@ pub named_before : (old new : BookState) (text : List ℕ) (place : ℕ) → Nam
 named_before old new text place names not_last = ⊎_elim
     (λ (known : (slice_get old.texts place ≡ Some text) × (new ≡ old)). known)
     (λ (added : IsNew old.texts text × (length old.texts < old.limit) × (place ≡ length old.texts) × (new.texts ≡ old.texts ++ text ∷ []) × (new.limit ≡ old.limit)). absurd (not_last added.2)) names
+
+-- the texts stay distinct
+pub distinct_push : (xs : List (List ℕ)) (t : List ℕ) → AreDistinct xs → IsNew xs t → AreDistinct (xs ++ t ∷ [])
+distinct_push xs t distinct absent i j u at_i at_j = ⊎_elim
+    (λ (a : slice_get xs i ≡ Some u). ⊎_elim
+    (λ (b : slice_get xs j ≡ Some u). distinct i j u a b)
+    (λ (b : (j ≡ length xs) × (Some t ≡ Some u)). absurd (absent i (a ∙ sym b.1)))
+    (slice_get-push xs t u j at_j))
+    (λ (a : (i ≡ length xs) × (Some t ≡ Some u)). ⊎_elim
+    (λ (b : slice_get xs j ≡ Some u). absurd (absent j (b ∙ sym a.1)))
+    (λ (b : (j ≡ length xs) × (Some t ≡ Some u)). a.0 ∙ sym b.0)
+    (slice_get-push xs t u j at_j))
+    (slice_get-push xs t u i at_i)
+
+pub grows_distinct : (old new : CacheState) (text : List ℕ) → GrowsBy old new text → AreDistinct old.texts → AreDistinct new.texts
+grows_distinct old new text grows distinct = ⊎_elim
+    (λ (same : new ≡ old). subst (λ (c : CacheState). AreDistinct c.texts) (sym same) distinct)
+    (λ (more : IsNew old.texts text × (new.texts ≡ old.texts ++ text ∷ []) × (length new.numbers ≡ length old.numbers + 1)). subst AreDistinct (sym more.1) (distinct_push old.texts text distinct more.0))
+    grows
+
+pub grows_even : (old new : CacheState) (text : List ℕ) → GrowsBy old new text → IsEven old → IsEven new
+grows_even old new text grows even = ⊎_elim
+    (λ (same : new ≡ old). subst IsEven (sym same) even)
+    (λ (more : IsNew old.texts text × (new.texts ≡ old.texts ++ text ∷ []) × (length new.numbers ≡ length old.numbers + 1)).
+    omega (arith, more.2, even, ap length more.1, length_push old.texts text))
+    grows
+
+-- a text that was not seen is not held
+pub not_held : (c : CacheState) (seen : List (List ℕ)) (text : List ℕ) → IsEven c → IsSeen c seen → IsNew seen text → IsNew c.texts text
+not_held c seen text even there absent i at = let held = held_at c text i even at in absent held.0 (there text held.0 held.1)
+
+-- what a naming added to a cache's book
+pub named_new : (old new : BookState) (text : List ℕ) (place : ℕ) → Names old new text place → place ≡ length old.texts → IsNew old.texts text
+named_new old new text place names last = ⊎_elim
+    (λ (known : (slice_get old.texts place ≡ Some text) × (new ≡ old)). let lt = slice_get_within old.texts place text known.0 in absurd (omega arith))
+    (λ (added : IsNew old.texts text × (length old.texts < old.limit) × (place ≡ length old.texts) × (new.texts ≡ old.texts ++ text ∷ []) × (new.limit ≡ old.limit)). added.0) names

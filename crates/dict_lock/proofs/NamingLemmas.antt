@@ -1,6 +1,6 @@
 -- How a naming goes on by one text.
 use Rattle.std.proofs.Common.{◌≡◌, ◌≢◌, ◌⊎◌, ⊎_elim, inl, inr, ℕ, zero, suc, ◌+◌, ◌<◌, ◌≤◌, Bool, true, false, List, [], ◌∷◌, ◌++◌, length, refl, sym, ap, subst, ◌∙◌, arith, append-nil, append_assoc, Some, All, slice_get, slice_set, slice_index, slice_index_or}
-use Rattle.std.specs.Prelude.{MatchBool, Result, Ok, Err, OnOk}
+use Rattle.std.specs.Prelude.{MatchBool, Result, Ok, Err, IsOk, OnOk}
 use Rattle.std.specs.Result.{is_err}
 use mathlib.Core.List.{IsPrefix}
 use Rattle.turn_lock.specs.Words.{seen, own_list, IsReady}
@@ -12,12 +12,12 @@ use Rattle.std.proofs.lemmas.List.Elements.{All-push}
 use mathlib.Core.Logic.{dite}
 use native.Mathlib.Decide.{ℕ_discrete}
 use Rattle.dict_core.specs.Books.{BookState, IsNew, Names}
-use Rattle.dict_lock.specs.Cache.{CacheState, Remembers, HoldsAll, HoldsFront, Keeps, IsSeen}
-use Rattle.dict_lock.specs.Naming.{AreNumbers, NamesMore}
-use Rattle.dict_lock.specs.StepsOfNaming.{AreHeld, FoundAll, NamesFront, AddsAmong}
+use Rattle.dict_lock.specs.Cache.{CacheState, GrowsBy, Remembers, HoldsAll, HoldsFront, Keeps, IsSeen}
+use Rattle.dict_lock.specs.Naming.{AreNumbers, Learns, NamesMore}
+use Rattle.dict_lock.specs.StepsOfNaming.{AreHeld, FoundAll, Grows, NamesFront, AddsAmong}
 use Rattle.dict_lock.specs.declared.naming.TheConstants.{UNKNOWN}
 use Rattle.dict_lock.proofs.SharedLemmas.{names_rest, names_at}
-use Rattle.dict_lock.proofs.CacheLemmas.{slice_get-front, slice_get-push, slice_get-some}
+use Rattle.dict_lock.proofs.CacheLemmas.{grows_distinct, grows_even, slice_get-front, slice_get-push, slice_get-some}
 
 abbrev Texts : Type 0
 Texts = List (List ℕ)
@@ -160,3 +160,59 @@ one_number known (n ∷ m ∷ ns) text are = absurd are.1
 pub all_one : (P : List ℕ → Type 0) (text : List ℕ) → P text → All P (text ∷ [])
 all_one P text p zero d lt = p
 all_one P text p (suc k) d lt = absurd (omega arith)
+
+-- A cache that grows
+
+pub grows_none : (c : CacheState) (texts : Texts) → Grows c c texts
+grows_none c texts = record {
+  more = [];
+  behind = sym (append-nil c.texts);
+  among = λ k d lt. absurd (omega arith);
+  same = λ _. refl;
+  distinct = λ was. was;
+  even = λ was. was;
+}
+
+push_not_nil : {A : Type 0} (xs : List A) (x : A) → xs ++ x ∷ [] ≡ [] → ⊥
+push_not_nil [] x same = absurd (cc (same))
+push_not_nil (y ∷ ys) x same = absurd (cc (same))
+
+pub grows_more : (first old new : CacheState) (texts : Texts) (text : List ℕ) (place : ℕ) → slice_get texts place ≡ Some text → Grows first old texts → GrowsBy old new text → Grows first new texts
+grows_more first old new texts text place at grows by = ⊎_elim
+    (λ (same : new ≡ old). subst (λ c. Grows first c texts) (sym same) grows)
+    (λ (more : IsNew old.texts text × (new.texts ≡ old.texts ++ text ∷ []) × (length new.numbers ≡ length old.numbers + 1)). record {
+      more = grows.more ++ text ∷ [];
+      behind = more.1 ∙ (ap (λ l. l ++ text ∷ []) grows.behind ∙ append_assoc first.texts grows.more (text ∷ []));
+      among = All-push (Contains texts) grows.more text grows.among (place, slice_get_within texts place text at, get_or_from_slice_get texts place text text at);
+      same = λ none. absurd (push_not_nil grows.more text none);
+      distinct = λ was. grows_distinct old new text by (grows.distinct was);
+      even = λ was. grows_even old new text by (grows.even was);
+    }) by
+
+some_more : (old new : CacheState) (texts : Texts) (more : Texts) → (more ≡ [] → new ≡ old) → ¬ HoldsAll old texts → HoldsAll new texts → 0 < length more
+some_more old new texts [] same unknown held = absurd (unknown (subst (λ c. HoldsAll c texts) (same refl) held))
+some_more old new texts (t ∷ ts) same unknown held = omega arith
+
+few_turns : (r : Result (Unit {0}) BookRefusal) (old new : CacheState) (texts more : Texts) (turns now : ℕ) → (more ≡ [] → new ≡ old) → ¬ HoldsAll old texts → now ≡ turns + 1
+    → OnOk r (HoldsAll new texts) → IsOk r → now ≤ turns + length more
+few_turns (Ok u) old new texts more turns now same unknown one held is = let some = some_more old new texts more same unknown held in omega arith
+few_turns (Err e) old new texts more turns now same unknown one held is = absurd (cc (is))
+
+-- where a turn was taken since not all was known
+pub learns_in_turn : (r : Result (Unit {0}) BookRefusal) (old new : CacheState) (texts : Texts) (turns now : ℕ) → Grows old new texts → ¬ HoldsAll old texts → now ≡ turns + 1
+    → OnOk r (HoldsAll new texts) → Learns (IsOk r) old new texts turns now
+learns_in_turn r old new texts turns now grows unknown one held = record {
+  more = grows.more;
+  behind = grows.behind;
+  among = grows.among;
+  few = few_turns r old new texts grows.more turns now grows.same unknown one held;
+}
+
+-- where none was taken
+pub learns_nothing : (answered : Type 0) (c : CacheState) (texts : Texts) (turns : ℕ) → Learns answered c c texts turns turns
+learns_nothing answered c texts turns = record {
+  more = [];
+  behind = sym (append-nil c.texts);
+  among = λ k d lt. absurd (omega arith);
+  few = λ _. omega arith;
+}

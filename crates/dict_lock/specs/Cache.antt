@@ -1,9 +1,14 @@
 -- What a cache holds: texts, each with the number that it was given.
-use Rattle.std.specs.Prelude.{◌≡◌, ℕ, ◌<◌, List, Some, slice_get}
+use Rattle.std.specs.Prelude.{◌≡◌, ◌⊎◌, ℕ, ◌+◌, ◌<◌, List, [], ◌∷◌, ◌++◌, length, Some, slice_get}
+use Rattle.dict_core.specs.Books.{IsNew}
 
 pub record CacheState : Type 0 where
   pub texts : List (List ℕ)
   pub numbers : List ℕ
+
+-- each text has a number
+abbrev pub IsEven : CacheState → Type 0
+IsEven cache = length cache.numbers ≡ length cache.texts
 
 -- the cache holds the text with this number
 pub record Remembers (cache : CacheState) (text : List ℕ) (number : ℕ) : Type 0 where
@@ -24,6 +29,11 @@ HoldsFront cache texts count = (k : ℕ) (text : List ℕ) → k < count → sli
 -- what was held is held with the same number
 abbrev pub Keeps : CacheState → CacheState → Type 0
 Keeps old new = (text : List ℕ) (number : ℕ) → Remembers old text number → Remembers new text number
+
+-- nothing changes, or the text is held last, which was not held
+abbrev pub GrowsBy : CacheState → CacheState → List ℕ → Type 0
+GrowsBy old new text = (new ≡ old)
+    ⊎ (IsNew old.texts text × (new.texts ≡ old.texts ++ text ∷ []) × (length new.numbers ≡ length old.numbers + 1))
 
 -- each text that is held was seen at its number
 abbrev pub IsSeen : CacheState → List (List ℕ) → Type 0

@@ -31,6 +31,13 @@ pub record MeetsLimit (pass : BookPass) (cache : CacheState) (texts : List (List
   pub before : HoldsFront cache texts at
   pub full : IsFull pass count
 
+-- The cache holds some of these texts more, behind the others. Where there was an answer, there were no more turns than such texts.
+pub record Learns (answered : Type 0) (old new : CacheState) (texts : List (List ℕ)) (turns now : ℕ) : Type 0 where
+  pub more : List (List ℕ)
+  pub behind : new.texts ≡ old.texts ++ more
+  pub among : All (Contains texts) more
+  pub few : answered → now ≤ turns + length more
+
 -- no turn where all is known; else one, or none where there was no answer
 pub record TakesOneTurn (known answered : Type 0) (old new : ℕ) : Type 0 where
   pub none : known → new ≡ old

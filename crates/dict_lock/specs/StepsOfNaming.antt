@@ -1,9 +1,9 @@
 -- How far a naming has come, for its proof alone.
-use Rattle.std.specs.Prelude.{◌≡◌, ◌≢◌, ℕ, ◌≤◌, List, ◌++◌, length, Some, slice_get, All}
+use Rattle.std.specs.Prelude.{◌≡◌, ◌≢◌, ℕ, ◌≤◌, List, [], ◌++◌, length, Some, slice_get, All}
 use Rattle.std.specs.List.{Contains}
-use Rattle.dict_core.specs.Books.{BookState, IsNew}
+use Rattle.dict_core.specs.Books.{AreDistinct, BookState, IsNew}
 use Rattle.turn_lock.specs.Words.{seen}
-use Rattle.dict_lock.specs.Cache.{CacheState, Remembers, HoldsAll}
+use Rattle.dict_lock.specs.Cache.{CacheState, IsEven, Remembers, HoldsAll}
 use Rattle.dict_lock.specs.Shared.{BookPass, IsFull}
 use Rattle.dict_lock.specs.declared.naming.TheConstants.{UNKNOWN}
 
@@ -33,6 +33,15 @@ pub record AddsAmong (old new : BookState) (texts : List (List ℕ)) : Type 0 wh
   pub joins : new.texts ≡ old.texts ++ rest
   pub among : All (Contains texts) rest
   pub limit : new.limit ≡ old.limit
+
+-- the cache holds some of these texts more, behind the others
+pub record Grows (old new : CacheState) (texts : List (List ℕ)) : Type 0 where
+  pub more : List (List ℕ)
+  pub behind : new.texts ≡ old.texts ++ more
+  pub among : All (Contains texts) more
+  pub same : more ≡ [] → new ≡ old
+  pub distinct : AreDistinct old.texts → AreDistinct new.texts
+  pub even : IsEven old → IsEven new
 
 -- the text at the place is not in the book, which is full
 pub record IsRefusedAt (book : BookState) (texts : List (List ℕ)) (place count : ℕ) : Type 0 where

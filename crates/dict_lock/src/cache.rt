@@ -1,7 +1,7 @@
 //! Texts with the numbers that they were given.
 ghost use Rattle.std.specs.Prelude.{◌≡◌, ℕ, [], IfSome, IfNone, OnOk};
 ghost use Rattle.dict_core.specs.Books.{IsNew};
-ghost use Rattle.dict_lock.specs.Cache.{Remembers, Keeps, StaysSeen};
+ghost use Rattle.dict_lock.specs.Cache.{GrowsBy, Remembers, Keeps, StaysSeen};
 
 use dict_core::{Book, MAX_TEXTS};
 use std::alloc::{AllocError, Global};
@@ -30,7 +30,8 @@ impl Model for Cache {
 impl Cache {
     /// A cache that holds nothing. Takes no memory.
     pub(crate) fn new(alloc: Global) -> Cache
-        ensures { result.texts ≡ [] }
+        ensures texts { result.texts ≡ [] }
+        ensures numbers { result.numbers ≡ [] }
     {
         Cache {
             known: Book::new(alloc, MAX_TEXTS),
@@ -52,6 +53,7 @@ impl Cache {
         ensures kept { Keeps self.old self.new }
         ensures held { OnOk result ((n : ℕ) × Remembers self.new text.now n) }
         ensures seen { StaysSeen self.old self.new text.now number }
+        ensures grows { GrowsBy self.old self.new text.now }
     {
         self.numbers.reserve(1)?;
         // A cache is never full: it has no more texts than the shared book.

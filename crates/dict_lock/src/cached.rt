@@ -1,5 +1,6 @@
 //! A pass that remembers the numbers that it was given.
-ghost use Rattle.dict_lock.specs.Cache.{IsSeen};
+ghost use Rattle.dict_core.specs.Books.{AreDistinct};
+ghost use Rattle.dict_lock.specs.Cache.{IsEven, IsSeen};
 ghost use Rattle.turn_lock.specs.Words.{seen, IsReady};
 
 use crate::cache::Cache;
@@ -22,6 +23,8 @@ pub struct CachedPass<'l> {
     cache: Cache,
     ghost ready: { IsReady pass },
     ghost remembered: { IsSeen cache (seen pass) },
+    ghost distinct: { AreDistinct cache.texts },
+    ghost even: { IsEven cache },
 }
 
 impl<'l> CachedPass<'l> {
@@ -33,7 +36,7 @@ impl<'l> CachedPass<'l> {
     ghost use Rattle.dict_core.specs.declared.refusals.BookRefusal.TheVariants.{Full};
     ghost use Rattle.dict_lock.specs.Cache.{Remembers, HoldsAll, Keeps};
     ghost use Rattle.dict_lock.specs.Shared.{GoesOn};
-    ghost use Rattle.dict_lock.specs.Naming.{AreNumbers, NamesMore, MeetsLimit, TakesOneTurn};
+    ghost use Rattle.dict_lock.specs.Naming.{AreNumbers, Learns, NamesMore, MeetsLimit, TakesOneTurn};
     ghost use Rattle.dict_lock.specs.Cached.{pass_in, cache_of};
 
     /// The pass with a cache that holds nothing yet. Takes no memory.
@@ -109,6 +112,8 @@ impl<'l> CachedPass<'l> {
         ensures cache { Keeps (cache_of self.old) (cache_of self.new) }
         ensures turns { TakesOneTurn (HoldsAll (cache_of self.old) (T.texts texts.now))
             (IsOk result) turns.old turns.new }
+        ensures learned { Learns (IsOk result) (cache_of self.old) (cache_of self.new)
+            (T.texts texts.now) turns.old turns.new }
 
         // by the answer
         ensures named { OnOk result (AreNumbers (seen (pass_in self.new)) numbers.new.items
@@ -139,6 +144,8 @@ impl<'l> CachedPass<'l> {
         ensures cache { Keeps (cache_of self.old) (cache_of self.new) }
         ensures turns { TakesOneTurn (HoldsAll (cache_of self.old) (T.texts texts.now))
             (IsOk result) turns.old turns.new }
+        ensures learned { Learns (IsOk result) (cache_of self.old) (cache_of self.new)
+            (T.texts texts.now) turns.old turns.new }
 
         // by the answer
         ensures named { IfOk result (λ ns. AreNumbers (seen (pass_in self.new)) ns
@@ -168,6 +175,8 @@ impl<'l> CachedPass<'l> {
         ensures cache { Keeps (cache_of self.old) (cache_of self.new) }
         ensures turns { TakesOneTurn (HoldsAll (cache_of self.old) (text.now ∷ [])) (IsOk result)
             turns.old turns.new }
+        ensures learned { Learns (IsOk result) (cache_of self.old) (cache_of self.new)
+            (text.now ∷ []) turns.old turns.new }
 
         // by the answer
         ensures named { IfOk result (λ n. slice_get (seen (pass_in self.new)) n ≡ Some text.now) }

@@ -6,7 +6,7 @@ ghost use Rattle.dict_core.specs.Fair.{IsFair};
 ghost use Rattle.dict_core.specs.declared.refusals.BookRefusal.TheVariants.{Full};
 ghost use Rattle.dict_lock.specs.Cache.{Remembers, HoldsAll, HoldsFront, Keeps, IsSeen};
 ghost use Rattle.dict_lock.specs.Naming.{AreNumbers, NamesMore, MeetsLimit};
-ghost use Rattle.dict_lock.specs.StepsOfNaming.{IsMarked, FoundAll, NamesFront, AddsAmong, IsRefusedAt, IsRefusedTo};
+ghost use Rattle.dict_lock.specs.StepsOfNaming.{IsMarked, FoundAll, Grows, NamesFront, AddsAmong, IsRefusedAt, IsRefusedTo};
 
 use crate::cache::Cache;
 use crate::texts::TextSlice;
@@ -113,6 +113,7 @@ fn name_marked<T: TextSlice, R: Wait, L: Ledger>(
 fn remember<T: TextSlice>(cache: &mut Cache, texts: &T, numbers: &[u32]) -> Result<(), AllocError>
     requires { length numbers.now ≤ length (T.texts texts.now) }
     ensures kept { Keeps cache.old cache.new }
+    ensures grows { Grows cache.old cache.new (T.texts texts.now) }
     ensures seen { (seen : List (List ℕ)) → IsSeen cache.old seen
         → NamesFront seen numbers.now (T.texts texts.now) → IsSeen cache.new seen }
     ensures held { OnOk result (HoldsFront cache.new (T.texts texts.now) (length numbers.now)) }
@@ -140,6 +141,7 @@ pub(crate) fn name_in_turn<T: TextSlice, R: Wait, L: Ledger>(
     // whatever the answer
     ensures pass { NamesMore pass.old pass.new (T.texts texts.now) }
     ensures kept { Keeps cache.old cache.new }
+    ensures grows { Grows cache.old cache.new (T.texts texts.now) }
     ensures cache { IsSeen cache.new (seen pass.new) }
     ensures turns { turns.new ≡ turns.old + 1 }
 

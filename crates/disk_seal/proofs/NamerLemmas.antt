@@ -1,6 +1,7 @@
 -- What naming texts through a pass with a cache is to a namer.
-use Rattle.std.proofs.Common.{◌≡◌, ℕ, zero, suc, ◌<◌, List, [], ◌∷◌, ◌++◌, length, map, refl, sym, ap, ◌∙◌, subst, Some, slice_get, All, arith, append-nil, ◌+◌}
+use Rattle.std.proofs.Common.{◌≡◌, ℕ, zero, suc, ◌<◌, ◌≤◌, None, Option, List, [], ◌∷◌, ◌++◌, length, map, refl, sym, ap, ◌∙◌, subst, Some, slice_get, All, arith, append-nil, ◌+◌}
 use Rattle.std.specs.List.{Contains}
+use Rattle.std.proofs.lemmas.Option.{slice_get_within, get_or_from_slice_get}
 use Rattle.std.proofs.lemmas.List.{map-append}
 use Rattle.std.proofs.lemmas.List.Elements.{All-weaker, All-head}
 use Rattle.logtype_text.specs.Fair.{IsFairType, IsFairWord}
@@ -10,11 +11,16 @@ use Rattle.dict_core.specs.Books.{IsNew}
 use Rattle.dict_core.specs.Fair.{IsFair}
 use Rattle.dict_core.specs.declared.grows.TheConstants.{WORDS_FIRST}
 use Rattle.dict_lock.specs.Shared.{BookPass}
-use Rattle.dict_lock.specs.Cache.{CacheState, IsSeen}
-use Rattle.dict_lock.specs.Naming.{NamesMore, MeetsLimit}
+use Rattle.dict_lock.specs.Cache.{CacheState, IsEven, IsSeen}
+use Rattle.dict_lock.specs.Naming.{Learns, NamesMore, MeetsLimit}
+use Rattle.dict_lock.proofs.CacheLemmas.{not_held}
 use Rattle.dict_lock.proofs.SharedLemmas.{some_about}
+use Rattle.row_codec.specs.declared.namer.NameRefusal.{NameRefusal}
+use Rattle.row_codec.specs.declared.namer.NameRefusal.TheVariants.{Full, OutOfMemory}
+use Rattle.row_codec.specs.declared.namer.Which.{Which}
 use Rattle.row_codec.specs.Naming.{HasGrown, MetLimit}
 use Rattle.disk_seal.specs.Known.{known_of, limit_in}
+use Rattle.disk_seal.specs.Naming.{Named, TookTurns}
 
 abbrev Texts : Type 0
 Texts = List (List ℕ)
@@ -89,3 +95,33 @@ none_added t old new cache count names m =
     let absent : IsNew (seen new) t = subst (λ u. IsNew (seen new) u) (sym (the_text t m.text m.at m.given)) m.absent in
     let none : names.rest ≡ [] = nothing t names.before names.rest names.among (subst (λ l. IsNew l t) names.joins absent) in
     ap (map text_in) (names.own ∙ (ap (λ l. own_list old ++ places (length names.before) l) none ∙ append-nil (own_list old)))
+
+-- ---- turns
+
+module _ (old new : CacheState) (texts : Texts) (turns now : ℕ) where
+  -- all of the texts were named
+  pub named_all : (answered : Type 0) → answered → Learns answered old new texts turns now
+      → Named texts None (record { held = old.texts; turns = turns }) (record { held = new.texts; turns = now })
+  named_all answered there l = record { more = l.more; behind = l.behind; among = l.among; took = l.few there }
+
+  -- one of them was refused
+  took_one : (refusal : NameRefusal) (more : Texts) → now ≤ turns + 1
+      → ((book : Which) (count : ℕ) → refusal ≡ Full book count → (t : List ℕ) × Contains texts t × IsNew new.texts t)
+      → TookTurns texts (Some refusal) more (record { held = old.texts; turns = turns }) (record { held = new.texts; turns = now })
+  took_one (Full book count) more once full = (omega (arith, once), full book count refl)
+  took_one OutOfMemory more once full = omega (arith, once)
+
+  pub named_some : (answered : Type 0) (refusal : NameRefusal) → now ≤ turns + 1
+      → ((book : Which) (count : ℕ) → refusal ≡ Full book count → (t : List ℕ) × Contains texts t × IsNew new.texts t)
+      → Learns answered old new texts turns now
+      → Named texts (Some refusal) (record { held = old.texts; turns = turns }) (record { held = new.texts; turns = now })
+  named_some answered refusal once full l = record { more = l.more; behind = l.behind; among = l.among; took = took_one refusal l.more once full }
+
+-- a text at which a limit is met is not held
+pub unheld : (p : BookPass) (cache : CacheState) (texts : Texts) (count : ℕ) → IsEven cache → IsSeen cache (seen p) → MeetsLimit p cache texts count
+    → (t : List ℕ) × Contains texts t × IsNew cache.texts t
+unheld p cache texts count even there m = (
+  m.text,
+  (m.at, slice_get_within texts m.at m.text m.given, get_or_from_slice_get texts m.at m.text m.text m.given),
+  not_held cache (seen p) m.text even there m.absent,
+)

@@ -1,4 +1,5 @@
 pub mod Known
+pub mod Naming
 pub mod Told
 pub mod WordsIn
 pub mod View

@@ -178,16 +178,19 @@ impl<R: Wait, A: Ledger, B: Ledger, C: Ledger> Namer for LockNamer<'_, '_, R, A,
     ghost use Rattle.logtype_text.specs.Fair.{IsFairType, IsFairWord};
     ghost use Rattle.turn_lock.specs.Words.{seen};
     ghost use Rattle.row_codec.specs.declared.namer.Which.TheVariants.{Types, Words};
-    ghost use Rattle.row_codec.specs.Naming.{AreNumbers, HasGrown, MetLimit};
+    ghost use Rattle.row_codec.specs.Naming.{AreNumbers, HasGrown, MetLimit, refusal_of};
     ghost use Rattle.dict_lock.specs.Shared.{GoesOn};
     ghost use Rattle.dict_lock.specs.Cached.{pass_in};
     ghost use Rattle.disk_seal.specs.Known.{known_of};
+    ghost use Rattle.disk_seal.specs.Naming.{NamesIn};
 
     ghost types = { λ n. known_of (pass_in n.types) };
 
     ghost words = { λ n. known_of (pass_in n.words) };
 
     ghost version = { λ n. n.version };
+
+    ghost naming = { NamesIn };
 
     fn micro(&self) -> bool {
         self.version >= 3
@@ -206,6 +209,7 @@ impl<R: Wait, A: Ledger, B: Ledger, C: Ledger> Namer for LockNamer<'_, '_, R, A,
             × ((known_of (pass_in self.new.types)).added
             ≡ (known_of (pass_in self.old.types)).added) }
         ensures still { GoesOn (pass_in self.old.types) (pass_in self.new.types) }
+        ensures naming { NamesIn Types (text.now ∷ []) (refusal_of result) self.old self.new }
     {
         match self.types.name(self.rt, text, &mut self.turns.types) {
             Ok(number) => Ok(number),
@@ -224,6 +228,7 @@ impl<R: Wait, A: Ledger, B: Ledger, C: Ledger> Namer for LockNamer<'_, '_, R, A,
         ensures full { (book : _) (count : ℕ) → IsErrOf result (name_full book count)
             → (book ≡ Words) × MetLimit (known_of (pass_in self.new.words)) texts.now count }
         ensures still { GoesOn (pass_in self.old.words) (pass_in self.new.words) }
+        ensures naming { NamesIn Words texts.now (refusal_of result) self.old self.new }
     {
         match self.words.name_all(self.rt, texts, &mut self.turns.words) {
             Ok(numbers) => Ok(numbers),
@@ -249,6 +254,8 @@ impl<R: Wait, A: Ledger, B: Ledger, C: Ledger> Namer for LockNamer<'_, '_, R, A,
             → (book ≡ Words) × MetLimit (known_of (pass_in self.new.words))
             (texts_at line.now spans.now) count }
         ensures still { GoesOn (pass_in self.old.words) (pass_in self.new.words) }
+        ensures naming { NamesIn Words (texts_at line.now spans.now) (refusal_of result)
+            self.old self.new }
     {
         let texts = LineSpans::new(line, spans);
         match self

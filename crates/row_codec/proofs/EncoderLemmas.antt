@@ -1,12 +1,12 @@
 -- What an encoder read and named is the row of its message.
 use Rattle.std.proofs.Common.{◌≡◌, ℕ, ◌+◌, ◌-◌, ◌*◌, ◌<◌, ◌≤◌, Bool, true, false, cond, List, [], ◌∷◌, ◌++◌, length, map, take, drop, get_or, refl, sym, ◌∙◌, ap, subst, arith, inl, inr, length-append, length-take-le, take-append-drop}
-use Rattle.std.specs.Prelude.{ℤ, pos, Option, None, Some, All, IfNone, IfSome, IsTrue, ◌↔◌, slice_get, slice_range}
+use Rattle.std.specs.Prelude.{ℤ, pos, Option, None, Some, All, IfNone, IfSome, IsTrue, ◌↔◌, slice_get, slice_index_or, slice_range}
 use Rattle.std.proofs.lemmas.List.{take_rest}
 use Rattle.std.specs.List.{Contains}
 use Rattle.std.proofs.lemmas.Bool.{both_ways, cases_lt}
 use Rattle.std.proofs.lemmas.Bool.Decides.{nat_tests}
 use Rattle.std.proofs.lemmas.List.Elements.{All-map, All-weaker}
-use Rattle.std.proofs.lemmas.Option.{get_or_from_slice_get}
+use Rattle.std.proofs.lemmas.Option.{get_or_from_slice_get, slice_get-get_or}
 use Rattle.var_codec.specs.declared.Coded.{Coded}
 use Rattle.var_codec.specs.declared.Coded.TheVariants.{Whole as WholeWord, Decimal as DecimalWord, Word as DictionaryWord}
 use Rattle.logtype_text.specs.declared.symbols.Kind.{Kind}
@@ -189,6 +189,19 @@ pub words_full : (version : ℕ) (line : List ℕ) (pattern : ℕ) (moment : ℤ
 words_full version line pattern moment n parts text texts book count number types before words has typed same is named met =
     subst (λ b. MeetsLimit version line b count types before words) (sym is)
     (parts, cut_into version line pattern moment n parts has, (number, named ∙ ap (λ (t : List ℕ). Some t) typed), subst (λ l. MetLimit words l count) same met)
+
+-- the texts that are asked for
+pub type_asked : (version : ℕ) (line : List ℕ) (pattern : ℕ) (moment : ℤ) (n : ℕ) (parts : List Part) (text : List ℕ)
+    → HasParts version line pattern moment n parts → text ≡ type_text (map symbol_of parts) → IsTypeOf version line text
+type_asked version line pattern moment n parts text has typed = (parts, cut_into version line pattern moment n parts has, typed)
+
+contains_at : (texts : List (List ℕ)) (k : ℕ) (d : List ℕ) → k < length texts → Contains texts (slice_index_or texts k d)
+contains_at texts k d lt = let x = slice_index_or texts k d in (k, lt, get_or_from_slice_get texts k x x (slice_get-get_or texts k d lt))
+
+pub words_asked : (version : ℕ) (line : List ℕ) (pattern : ℕ) (moment : ℤ) (n : ℕ) (parts : List Part) (texts : List (List ℕ))
+    → HasParts version line pattern moment n parts → texts ≡ word_texts parts → All (IsWordOf version line) texts
+words_asked version line pattern moment n parts texts has same k d lt =
+    (parts, cut_into version line pattern moment n parts has, subst (λ ts. Contains ts (slice_index_or texts k d)) same (contains_at texts k d lt))
 
 -- the types that are known once the words were named too
 pub types_stay : (version : ℕ) (line : List ℕ) (pattern : ℕ) (moment : ℤ) (n : ℕ) (parts : List Part) (text : List ℕ) (old mid new : Known)

@@ -1,13 +1,14 @@
 -- What is known of a dictionary, and how naming texts changes it.
-use Rattle.std.specs.Prelude.{◌≡◌, ◌≢◌, ℕ, ◌<◌, List, [], ◌∷◌, ◌++◌, length, map, Some, slice_get, All}
+use Rattle.std.specs.Prelude.{◌≡◌, ◌≢◌, ℕ, ◌<◌, List, [], ◌∷◌, ◌++◌, length, map, Option, None, Some, Result, Ok, Err, slice_get, All}
 use Rattle.std.specs.List.{AllZip}
 use mathlib.Core.List.{IsPrefix}
 use Rattle.logtype_text.specs.Parts.{Part, symbol_of}
 use Rattle.logtype_text.specs.TypeText.{type_text}
 use Rattle.logtype_text.specs.Encoded.{word_texts}
+use Rattle.row_codec.specs.declared.namer.NameRefusal.{NameRefusal}
 use Rattle.row_codec.specs.declared.namer.Which.{Which}
 use Rattle.row_codec.specs.declared.namer.Which.TheVariants.{Types, Words}
-use Rattle.row_codec.specs.Messages.{IsCutInto}
+use Rattle.row_codec.specs.Messages.{IsCutInto, IsTypeOf, IsWordOf}
 
 -- no text has two numbers
 abbrev pub AreDistinct : List (List ℕ) → Type 0
@@ -58,3 +59,31 @@ MeetsLimit version message Words count types words_before words =
     (parts : List Part) × IsCutInto version message parts
     × ((number : ℕ) × (slice_get types.texts number ≡ Some (type_text (map symbol_of parts))))
     × MetLimit words (word_texts parts) count
+
+-- why texts were not named, where they were not
+abbrev pub refusal_of : {T : Type 0} → Result T NameRefusal → Option NameRefusal
+refusal_of (Ok named) = None
+refusal_of (Err refusal) = Some refusal
+
+module _ {N : Type 0} (naming : Which → List (List ℕ) → Option NameRefusal → N → N → Type 0) (version : ℕ) (message : List ℕ) (answer : Option NameRefusal) where
+  -- words of the message were named once, or one of them was refused, and the answer tells that
+  pub record AsksForWords (old new : N) : Type 0 where
+    pub texts : List (List ℕ)
+    pub are : All (IsWordOf version message) texts
+    pub refusal : Option NameRefusal
+    pub named : naming Words texts refusal old new
+    pub told : (r : NameRefusal) → refusal ≡ Some r → answer ≡ Some r
+
+  -- that was done where the log type was named, and where it was refused nothing
+  abbrev pub GoesOnWith : Option NameRefusal → N → N → Type 0
+  GoesOnWith None old new = AsksForWords old new
+  GoesOnWith (Some refusal) old new = (new ≡ old) × (answer ≡ Some refusal)
+
+  -- The log type of the message was named once, and then its words. With a refusal it ends, and that is the answer.
+  pub record AsksFor (old new : N) : Type 0 where
+    pub text : List ℕ
+    pub is_type : IsTypeOf version message text
+    pub refusal : Option NameRefusal
+    pub middle : N
+    pub named : naming Types (text ∷ []) refusal old middle
+    pub rest : GoesOnWith refusal middle new

@@ -88,6 +88,8 @@ impl Namer for Books {
 
     ghost version = { λ b. b.version };
 
+    ghost naming = { λ _ _ _ _ _. Unit {0} };
+
     fn micro(&self) -> bool {
         self.version >= 3
     }

@@ -8,7 +8,7 @@ ghost use Rattle.row_codec.specs.declared.TheConstants.{MAX_MESSAGE_LEN};
 ghost use Rattle.row_codec.specs.Encoding.{HasRead, row_held};
 ghost use Rattle.row_codec.specs.Means.{IsCanonical};
 ghost use Rattle.row_codec.specs.Messages.{IsTypeOf, IsWordOf};
-ghost use Rattle.row_codec.specs.Naming.{HasGrown, MeetsLimit};
+ghost use Rattle.row_codec.specs.Naming.{AsksFor, HasGrown, MeetsLimit, refusal_of};
 ghost use Rattle.row_codec.specs.Numbers.{numbers_of_row};
 
 use crate::{Encoded, NameRefusal, Namer};
@@ -132,6 +132,8 @@ impl Encoder {
             (N.types namer.old) (N.types namer.new) }
         ensures words { HasGrown (IsWordOf (N.version namer.old) line.now)
             (N.words namer.old) (N.words namer.new) }
+        ensures asked { AsksFor N.naming (N.version namer.old) line.now (refusal_of result)
+            namer.old namer.new }
 
         // The row.
         ensures row { OnOk result (IsCanonical (N.version namer.old) (row_held self.new)

@@ -1,11 +1,13 @@
 //! Giving texts their numbers.
-ghost use Rattle.std.specs.Prelude.{◌≡◌, ℕ, ◌≤◌, ◌↔◌, [], ◌∷◌, All, IfOk, IsErrOf, IsTrue, OnOk, Some, slice_get};
+ghost use Rattle.std.specs.Prelude.{◌≡◌, ℕ, ◌≤◌, ◌↔◌, List, [], ◌∷◌, All, IfOk, IsErrOf, IsTrue, OnOk, Option, Some, slice_get};
 ghost use Rattle.std.specs.List.{Contains};
 ghost use Rattle.logtype_text.specs.Encoded.{AreWithin, texts_at};
 ghost use Rattle.logtype_text.specs.Fair.{IsFairType, IsFairWord};
+ghost use Rattle.row_codec.specs.declared.namer.NameRefusal.{NameRefusal};
 ghost use Rattle.row_codec.specs.declared.namer.NameRefusal.TheVariants.{OutOfMemory};
+ghost use Rattle.row_codec.specs.declared.namer.Which.{Which};
 ghost use Rattle.row_codec.specs.declared.namer.Which.TheVariants.{Types, Words};
-ghost use Rattle.row_codec.specs.Naming.{AreNumbers, HasGrown, Known, MetLimit};
+ghost use Rattle.row_codec.specs.Naming.{AreNumbers, HasGrown, Known, MetLimit, refusal_of};
 
 use log_seams::{NumberList, TextList};
 use logtype_text::Span;
@@ -67,6 +69,10 @@ pub trait Namer {
     /// The archive's version.
     ghost version: { Self → ℕ };
 
+    /// What else it does to the namer that these texts of a dictionary are named, or that one of
+    /// them is refused.
+    ghost naming: { Which → List (List ℕ) → Option NameRefusal → Self → Self → Type 0 };
+
     /// Whether moments count microseconds: in version 3.
     fn micro(&self) -> bool
         ensures { IsTrue result ↔ (3 ≤ version self.now) };
@@ -78,6 +84,7 @@ pub trait Namer {
         // What stays and what grows.
         ensures others { (version self.new ≡ version self.old) × (words self.new ≡ words self.old) }
         ensures grown { HasGrown (λ t. t ≡ text.now) (types self.old) (types self.new) }
+        ensures naming { naming Types (text.now ∷ []) (refusal_of result) self.old self.new }
 
         // The answers.
         ensures named { IfOk result (λ n. slice_get (types self.new).texts n ≡ Some text.now) }
@@ -93,6 +100,7 @@ pub trait Namer {
         // What stays and what grows.
         ensures others { (version self.new ≡ version self.old) × (types self.new ≡ types self.old) }
         ensures grown { HasGrown (Contains texts.now) (words self.old) (words self.new) }
+        ensures naming { naming Words texts.now (refusal_of result) self.old self.new }
 
         // The answers.
         ensures named { IfOk result (λ ns. AreNumbers (words self.new).texts ns texts.now) }
@@ -114,6 +122,8 @@ pub trait Namer {
         ensures others { (version self.new ≡ version self.old) × (types self.new ≡ types self.old) }
         ensures grown { HasGrown (Contains (texts_at line.now spans.now))
             (words self.old) (words self.new) }
+        ensures naming { naming Words (texts_at line.now spans.now) (refusal_of result)
+            self.old self.new }
 
         // The answers.
         ensures named { OnOk result (AreNumbers (words self.new).texts numbers.new.items

@@ -1,8 +1,8 @@
-use Rattle.std.proofs.Common.{◌++◌, ◌∷◌, [], ℕ, List, length, ap, subst, ◌∙◌, arith}
+use Rattle.std.proofs.Common.{inl, inr, ◌+◌, ◌++◌, ◌∷◌, [], ℕ, List, length, ap, subst, ◌∙◌, arith}
 use Rattle.std.proofs.lemmas.List.{length_push}
 use Rattle.dict_core.specs.Books.{BookState}
-use Rattle.dict_lock.specs.Cache.{CacheState, Keeps, StaysSeen}
-use Rattle.dict_lock.proofs.CacheLemmas.{same_stays, held_at, more_keeps, more_holds, more_seen, named_last, named_before}
+use Rattle.dict_lock.specs.Cache.{CacheState, GrowsBy, Keeps, StaysSeen}
+use Rattle.dict_lock.proofs.CacheLemmas.{same_stays, held_at, more_keeps, more_holds, more_seen, named_last, named_before, named_new}
 use Rattle.dict_lock.proofs.cache.Cache.keep.Goals as goal
 
 abbrev state : BookState → List ℕ → CacheState
@@ -50,3 +50,21 @@ pub returns-else-place-len-clause-seen : goal.returns-else-place-len-clause-seen
 returns-else-place-len-clause-seen c =
     let known = named_before c.self.inside.known c.intern.new.self c.args.text.now c.in-Ok.place c.in-Ok.ensures.ok (λ last. c.if-place-len.false (omega (arith, last, ap length c.reserve.ensures.items, c.self.invariant))) in
     same_stays _ _ _ _ (ap (λ (b : BookState). state b c.reserve.new.self.items) known.1 ∙ (ap (λ (items : List ℕ). state c.self.inside.known items) c.reserve.ensures.items ∙ c.self.view_is))
+
+pub returns-in_err-reserve-clause-grows : goal.returns-in_err-reserve-clause-grows
+returns-in_err-reserve-clause-grows c = inl (ap (λ (items : List ℕ). state c.self.inside.known items) c.reserve.ensures.items ∙ c.self.view_is)
+
+pub returns-in_default-clause-grows : goal.returns-in_default-clause-grows
+returns-in_default-clause-grows c = inl (ap (λ (b : BookState). state b c.reserve.new.self.items) c.in_default.ensures.err ∙ (ap (λ (items : List ℕ). state c.self.inside.known items) c.reserve.ensures.items ∙ c.self.view_is))
+
+pub returns-then-place-len-clause-grows : goal.returns-then-place-len-clause-grows
+returns-then-place-len-clause-grows c =
+    let texts_are = named_last c.self.inside.known c.intern.new.self c.args.text.now c.in-Ok.place c.in-Ok.ensures.ok (omega (arith, ap length c.reserve.ensures.items, c.self.invariant)) in
+    let absent = named_new c.self.inside.known c.intern.new.self c.args.text.now c.in-Ok.place c.in-Ok.ensures.ok (omega (arith, ap length c.reserve.ensures.items, c.self.invariant)) in
+    subst (λ old. GrowsBy old (state c.intern.new.self c.push_reserved.new.self.items) c.args.text.now) c.self.view_is
+    (inr (absent, texts_are, ap length c.push_reserved.ensures.items ∙ (length_push c.reserve.new.self.items c.args.number ∙ ap (λ (l : List ℕ). length l + 1) c.reserve.ensures.items)))
+
+pub returns-else-place-len-clause-grows : goal.returns-else-place-len-clause-grows
+returns-else-place-len-clause-grows c =
+    let known = named_before c.self.inside.known c.intern.new.self c.args.text.now c.in-Ok.place c.in-Ok.ensures.ok (λ last. c.if-place-len.false (omega (arith, last, ap length c.reserve.ensures.items, c.self.invariant))) in
+    inl (ap (λ (b : BookState). state b c.reserve.new.self.items) known.1 ∙ (ap (λ (items : List ℕ). state c.self.inside.known items) c.reserve.ensures.items ∙ c.self.view_is))

@@ -1,7 +1,7 @@
 use Rattle.std.proofs.Common.{refl, arith, ap, ◌∙◌, ℕ, List, length, slice_get, slice_index}
 use Rattle.dict_core.specs.Fair.{IsFair}
 use Rattle.turn_lock.specs.Words.{number_of, seen}
-use Rattle.dict_lock.proofs.NamingLemmas.{names_nothing, holds_one, one_number, all_one}
+use Rattle.dict_lock.proofs.NamingLemmas.{names_nothing, learns_nothing, holds_one, one_number, all_one}
 use Rattle.dict_lock.proofs.cached.CachedPass.name.Goals as goal
 
 pub returns-in-Some-clause-pass : goal.returns-in-Some-clause-pass
@@ -26,3 +26,6 @@ bounds-as_slice-0 g c = let one = one_number (seen c.name_all.new.self.pass) c.i
 pub returns-in-Ok-clause-named : goal.returns-in-Ok-clause-named
 returns-in-Ok-clause-named g c = let one = one_number (seen c.name_all.new.self.pass) c.in-Ok.numbers c.args.text.now c.in-Ok.ensures.named in
     ap (λ (l : List ℕ). slice_get (seen c.name_all.new.self.pass) (slice_index l 0)) c.as_slice.ensures ∙ one.1
+
+pub returns-in-Some-clause-learned : goal.returns-in-Some-clause-learned
+returns-in-Some-clause-learned g c = learns_nothing _ _ _ _

@@ -1,5 +1,5 @@
-use Rattle.std.proofs.Common.{◌≡◌, ℕ, ◌-◌, ◌≤◌, false, List, [], length, get_or, map, take, drop, sym, ◌∙◌, ap, ap₂, subst, arith, length-drop}
-use Rattle.std.specs.Prelude.{All, Err, IsErrOf, Some, slice_get}
+use Rattle.std.proofs.Common.{◌≡◌, ℕ, ◌-◌, ◌≤◌, false, List, [], length, get_or, map, take, drop, refl, sym, ◌∙◌, ap, ap₂, subst, arith, length-drop}
+use Rattle.std.specs.Prelude.{◌∷◌, All, Err, IsErrOf, None, Ok, Option, Result, Some, slice_get}
 use Rattle.std.proofs.lemmas.List.{take_rest}
 use Rattle.std.proofs.lemmas.Result.{err_from_is_err_and}
 use Rattle.logtype_text.specs.declared.TheConstants.{MAX_WORD_LEN}
@@ -13,10 +13,12 @@ use Rattle.row_codec.specs.declared.namer.NameRefusal.TheVariants.{Full}
 use Rattle.row_codec.specs.Encoding.{HasRead}
 use Rattle.row_codec.specs.declared.encoder.Encoder.{Encoder}
 use Rattle.row_codec.specs.Means.{EachWord, HasWord}
-use Rattle.row_codec.specs.Naming.{AreNumbers, Known}
+use Rattle.row_codec.specs.declared.namer.NameRefusal.{NameRefusal}
+use Rattle.row_codec.specs.declared.namer.Which.TheVariants.{Types, Words}
+use Rattle.row_codec.specs.Naming.{AreNumbers, Known, refusal_of}
 use Rattle.row_codec.specs.Numbers.{kinds_from, word_numbers}
 use Rattle.row_codec.specs.Steps.{words_of}
-use Rattle.row_codec.proofs.EncoderLemmas.{HasParts, canonical, fair_type, fair_words, lent_texts, row_numbers, types_full, types_grown, types_stay, words_are, words_came, words_full}
+use Rattle.row_codec.proofs.EncoderLemmas.{HasParts, canonical, fair_type, fair_words, lent_texts, row_numbers, type_asked, types_full, types_grown, types_stay, words_are, words_asked, words_came, words_full}
 use Rattle.row_codec.proofs.encoder.Encoder.name.Goals as goal
 
 -- the parts of the line that was read
@@ -149,3 +151,93 @@ returns-clause-used g c =
     let made : c.put_words.new.words.items ≡ words_of e.codes.items c.name_spans.new.numbers.items = c.in_ok-put_words.ensures ∙ ap₂ words_of c.as_slice-3.ensures.value c.as_slice-4.ensures.value in
     ap (λ l. word_numbers (kinds_from false (get_or types c.in_ok-self.field-0 [])) l) made
     ∙ row_numbers types c.in_ok-self.field-0 parts words e.codes.items c.name_spans.new.numbers.items typed read.encoded.coded named
+
+-- ---- what was asked
+
+pub returns-in_err-self-clause-asked : goal.returns-in_err-self-clause-asked
+returns-in_err-self-clause-asked g c =
+    let e = c.args.self.now in
+    let line = c.args.line.now in
+    let read = c.requires.read in
+    let p = err_from_is_err_and c.from_residual.result c.from_residual.ensures.1 in
+    let was : c.name_type.result ≡ Err c.in_err-self.field-0.0 = c.in_err-self.was in
+    let answer : c.from_residual.result ≡ Err c.in_err-self.field-0.0 = cc (p.1, p.2) in
+    record {
+      text = c.as_slice.result.now;
+      is_type = type_asked _ line e.front.pattern e.front.moment e.front.len read.encoded.parts c.as_slice.result.now (parts_of e _ line read) (c.as_slice.ensures.value ∙ read.encoded.typed);
+      refusal = Some c.in_err-self.field-0.0;
+      middle = c.name_type.new.self;
+      named = subst (λ (r : Option NameRefusal). g.N.Namer.naming Types (c.as_slice.result.now ∷ []) r c.args.namer.now c.name_type.new.self) (ap (λ (r : Result ℕ NameRefusal). refusal_of r) was) c.name_type.ensures.naming;
+      rest = (refl, ap (λ (r : Result (Unit {0}) NameRefusal). refusal_of r) answer);
+    }
+
+pub returns-in_err-name_spans-clause-asked : goal.returns-in_err-name_spans-clause-asked
+returns-in_err-name_spans-clause-asked g c =
+    let e = c.args.self.now in
+    let line = c.args.line.now in
+    let read = c.requires.read in
+    let typed : c.name_type.result ≡ Ok c.in_ok-self.field-0 = c.in_ok-self.was in
+    let p = err_from_is_err_and c.from_residual-in_err-name_spans.result c.from_residual-in_err-name_spans.ensures.1 in
+    let was : c.name_spans.result ≡ Err c.in_err-name_spans.field-0.0 = c.in_err-name_spans.was in
+    let answer : c.from_residual-in_err-name_spans.result ≡ Err c.in_err-name_spans.field-0.0 = cc (p.1, p.2) in
+    record {
+      text = c.as_slice.result.now;
+      is_type = type_asked _ line e.front.pattern e.front.moment e.front.len read.encoded.parts c.as_slice.result.now (parts_of e _ line read) (c.as_slice.ensures.value ∙ read.encoded.typed);
+      refusal = None;
+      middle = c.name_type.new.self;
+      named = subst (λ (r : Option NameRefusal). g.N.Namer.naming Types (c.as_slice.result.now ∷ []) r c.args.namer.now c.name_type.new.self) (ap (λ (r : Result ℕ NameRefusal). refusal_of r) typed) c.name_type.ensures.naming;
+      rest = record {
+        texts = texts_at (take (length line - e.front.len) (drop e.front.len line)) c.as_slice-2.result.now;
+        are = words_asked _ line e.front.pattern e.front.moment e.front.len read.encoded.parts _ (parts_of e _ line read)
+            (lent_texts line e.front.len e.places.items c.as_slice-2.result.now _ c.as_slice-2.ensures.value read.encoded.words_are);
+        refusal = refusal_of c.name_spans.result;
+        named = c.name_spans.ensures.naming;
+        told = λ r is. ap (λ (x : Result (Unit {0}) NameRefusal). refusal_of x) (answer ∙ sym was) ∙ is;
+      };
+    }
+
+pub returns-in_err-put_words-clause-asked : goal.returns-in_err-put_words-clause-asked
+returns-in_err-put_words-clause-asked g c =
+    let e = c.args.self.now in
+    let line = c.args.line.now in
+    let read = c.requires.read in
+    let typed : c.name_type.result ≡ Ok c.in_ok-self.field-0 = c.in_ok-self.was in
+    let spans : c.name_spans.result ≡ Ok c.in_ok-name_spans.field-0 = c.in_ok-name_spans.was in
+    record {
+      text = c.as_slice.result.now;
+      is_type = type_asked _ line e.front.pattern e.front.moment e.front.len read.encoded.parts c.as_slice.result.now (parts_of e _ line read) (c.as_slice.ensures.value ∙ read.encoded.typed);
+      refusal = None;
+      middle = c.name_type.new.self;
+      named = subst (λ (r : Option NameRefusal). g.N.Namer.naming Types (c.as_slice.result.now ∷ []) r c.args.namer.now c.name_type.new.self) (ap (λ (r : Result ℕ NameRefusal). refusal_of r) typed) c.name_type.ensures.naming;
+      rest = record {
+        texts = texts_at (take (length line - e.front.len) (drop e.front.len line)) c.as_slice-2.result.now;
+        are = words_asked _ line e.front.pattern e.front.moment e.front.len read.encoded.parts _ (parts_of e _ line read)
+            (lent_texts line e.front.len e.places.items c.as_slice-2.result.now _ c.as_slice-2.ensures.value read.encoded.words_are);
+        refusal = refusal_of c.name_spans.result;
+        named = c.name_spans.ensures.naming;
+        told = λ r is. let none : None ≡ Some r = sym (ap (λ (x : Result (Unit {0}) NameRefusal). refusal_of x) spans) ∙ is in absurd (cc (none));
+      };
+    }
+
+pub returns-clause-asked : goal.returns-clause-asked
+returns-clause-asked g c =
+    let e = c.args.self.now in
+    let line = c.args.line.now in
+    let read = c.requires.read in
+    let typed : c.name_type.result ≡ Ok c.in_ok-self.field-0 = c.in_ok-self.was in
+    let spans : c.name_spans.result ≡ Ok c.in_ok-name_spans.field-0 = c.in_ok-name_spans.was in
+    record {
+      text = c.as_slice.result.now;
+      is_type = type_asked _ line e.front.pattern e.front.moment e.front.len read.encoded.parts c.as_slice.result.now (parts_of e _ line read) (c.as_slice.ensures.value ∙ read.encoded.typed);
+      refusal = None;
+      middle = c.name_type.new.self;
+      named = subst (λ (r : Option NameRefusal). g.N.Namer.naming Types (c.as_slice.result.now ∷ []) r c.args.namer.now c.name_type.new.self) (ap (λ (r : Result ℕ NameRefusal). refusal_of r) typed) c.name_type.ensures.naming;
+      rest = record {
+        texts = texts_at (take (length line - e.front.len) (drop e.front.len line)) c.as_slice-2.result.now;
+        are = words_asked _ line e.front.pattern e.front.moment e.front.len read.encoded.parts _ (parts_of e _ line read)
+            (lent_texts line e.front.len e.places.items c.as_slice-2.result.now _ c.as_slice-2.ensures.value read.encoded.words_are);
+        refusal = refusal_of c.name_spans.result;
+        named = c.name_spans.ensures.naming;
+        told = λ r is. let none : None ≡ Some r = sym (ap (λ (x : Result (Unit {0}) NameRefusal). refusal_of x) spans) ∙ is in absurd (cc (none));
+      };
+    }
