@@ -5,7 +5,7 @@ use native.Mathlib.Decide.{ℕ_discrete}
 use Rattle.std.proofs.lemmas.List.{get_or_default}
 use Rattle.search_engine.specs.Scan.{Asked}
 use Rattle.search_engine.specs.Held.{Named}
-use Rattle.search_engine.specs.Waiting.{AreMatched, IsWorked, Page, Slotted}
+use Rattle.search_engine.specs.Waiting.{AreMatched, IsWorked, Slotted}
 
 -- ---- one after the other
 
