@@ -5,7 +5,7 @@ use archive_open::{Archive, PlainBooks, open_archive};
 use column_store::Range;
 use log_seams::{MemDisk, MemSink, Text};
 use query_plan::wide_is_wider;
-use search_engine::{Report, exact_expands_printed, one_is_found, search};
+use search_engine::{Report, SearchRefusal, exact_expands_printed, one_is_found, search};
 use std::alloc::{AllocError, Global};
 use std::marker::Brand;
 use std::sync::ledger::{Blank, Ledger};
@@ -74,11 +74,11 @@ const LETTERS: [u8; 197] = [
     0, 0, 0, 0, 0, 0, 0, 0, 0, 1, 0, 0, 0, 0, 0, 0, 0, 0, 0, 0, 0, 0,
 ];
 
-/// What a search printed, its counts where it was not stopped, and how many calls of the disk it made.
+/// What a search printed and answered, and how many calls of the disk it made.
 #[derive(Drop)]
 struct Outcome {
     printed: Text,
-    report: Option<Report>,
+    answer: Result<Report, SearchRefusal>,
     calls: u64,
 }
 
@@ -125,7 +125,7 @@ fn search_with<R: Threads + Sync, L: Ledger, M: Ledger>(
     );
     Ok(Outcome {
         printed: Text::new(out.bytes().to_vec(alloc)?),
-        report: answer.ok(),
+        answer,
         calls: (disk.calls() as u64).wrapping_sub(before),
     })
 }
@@ -169,7 +169,7 @@ fn finds<R: Threads + Sync>(
     counts: (u64, u64, u64, u64),
 ) -> Result<bool, AllocError> {
     let outcome = searched(rt, workers, alloc, bytes, text, range, 1_000)?;
-    let Some(report) = outcome.report else {
+    let Ok(report) = outcome.answer else {
         return Ok(false);
     };
     let told = (
@@ -286,7 +286,7 @@ fn columns_that_cannot_match_stay_unread(rt: HostRuntime) -> Result<(), Fail> {
 fn an_output_that_fails_has_a_front(rt: HostRuntime) -> Result<(), Fail> {
     let alloc = rt.alloc();
     let stopped = searched(&rt, 1, alloc, &NUMBERS, b"12*34", ALL, 20)?;
-    assert!(rt; stopped.report.is_none());
+    assert!(rt; stopped.answer.err() == Some(SearchRefusal::SinkFault));
     assert!(rt; b"a.log:1:12534\na.log:2:12 34\n".starts_with(stopped.printed.as_slice()));
     Ok(())
 }
@@ -308,6 +308,42 @@ fn any_number_of_workers_prints_the_same(rt: HostRuntime) -> Result<(), Fail> {
                 all,
                 (3, 3, 3, 4)
             )?,
+            "{workers}"
+        );
+    }
+    Ok(())
+}
+
+/// Whether with so many workers a search of damaged rows prints that, and tells the damage.
+fn is_damaged<R: Threads + Sync>(
+    rt: &R,
+    workers: u32,
+    alloc: Global,
+    bytes: &[u8],
+    printed: &[u8],
+) -> Result<bool, AllocError> {
+    let outcome = searched(rt, workers, alloc, bytes, b"run task_", ALL, 1_000)?;
+    Ok(
+        outcome.printed.as_slice() == printed
+            && outcome.answer.err() == Some(SearchRefusal::Damaged),
+    )
+}
+
+#[test]
+fn damage_is_met_alike_by_any_number_of_workers(rt: HostRuntime) -> Result<(), Fail> {
+    let alloc = rt.alloc();
+    let two: &[u8] = b"a.log:1:run task_1 x\na.log:2:run task_2 x\n";
+    let counts: [u32; 3] = [1, 2, 5];
+    for workers in counts {
+        // In the third segment the count of the variables is wrong, so that its page cannot be read.
+        let mut unread = ROWS;
+        unread[421] = 9;
+        assert!(rt; is_damaged(&rt, workers, alloc, &unread, two)?, "{workers}");
+        // There is no such log type, so that the row cannot be written.
+        let mut unwritten = ROWS;
+        unwritten[417] = 9;
+        assert!(rt;
+            is_damaged(&rt, workers, alloc, &unwritten, b"")?,
             "{workers}"
         );
     }

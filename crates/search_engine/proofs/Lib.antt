@@ -1,6 +1,7 @@
 pub mod SofarLemmas
 pub mod WaitingLemmas
 pub mod SlotLemmas
+pub mod ChunkLemmas
 pub mod RowLemmas
 pub mod PageLemmas
 pub mod VerdictLemmas

@@ -85,6 +85,12 @@ pub unread_halts : (seen : Option (List ℕ)) (start : Paged) (n : Named) (q : A
     → OfLeft seen start n (λ messages. Halts n q (numbered name number messages) a w k)
 unread_halts seen start n q name number a w k same ticks = run_halts seen start n q name number a w k (halts_here n q [] a w k (front_none a.written w a.pending.gathered same) ticks)
 
+-- the same behind pages that were searched
+pub unread_sent : (seen : Option (List ℕ)) (start : Paged) (n : Named) (q : Asked) (name : List ℕ) (number : ℕ) (a b : State) (w : Option (List ℕ)) (k : ℕ) → Reaches n q [] a b → w ≡ b.written → k ≡ b.ticks
+    → OfLeft seen start n (λ messages. Halts n q (numbered name number messages) a w k)
+unread_sent seen start n q name number a b w k reaches same ticks =
+    run_halts seen start n q name number a w k (halts_behind n q [] [] a b w k reaches (halts_here n q [] b w k (front_none b.written w b.pending.gathered same) ticks))
+
 pub none_damaged : (seen : Option (List ℕ)) (start : Paged) (n : Named) → HoldsNoneTold seen start → OfLeft seen start n (λ _. ⊥)
 none_damaged None start n none = tt
 none_damaged (Some bytes) start n none = λ rows messages holds are. none rows holds

@@ -1,9 +1,11 @@
 -- Which segments a search opens, and what it reads of them.
-use Rattle.std.specs.Prelude.{◌≡◌, ◌≤◌, ◌+◌, ℕ, List, ◌++◌, length, Option, option_map, All}
+use Rattle.std.specs.Prelude.{◌≡◌, ◌≤◌, ◌+◌, ℕ, List, ◌++◌, length, slice_get, Option, Some, option_map, All}
 use Rattle.std.specs.List.{Contains}
 use Rattle.segment_format.specs.Layout.{fixed_of, head_length}
 use Rattle.segment_format.specs.Pages.{first_page}
-use Rattle.segment_pages.specs.Paged.{columns_size}
+use Rattle.column_store.specs.declared.row.Row.{Row}
+use Rattle.segment_pages.specs.Paged.{HoldsLeft, HoldsSegment, Paged, columns_size, paged_first}
+use Rattle.archive_meaning.specs.declared.TheConstants.{MAX_MESSAGES}
 use Rattle.query_plan.specs.Pieces.{wide_pieces}
 use Rattle.subquery_filter.specs.Barren.{IsBarren}
 use Rattle.log_seams.specs.Disk.{DiskState}
@@ -38,6 +40,14 @@ pub record ReadsOpened (n : Named) (q : Asked) (ps : List SegmentPlace) (old new
   pub more : List (ℕ × ℕ)
   pub added : new ≡ option_map (λ ranges. ranges ++ more) old
   pub each : All (IsRead n q ps) more
+
+-- this is the file of the segment, the reader stands before the first page, and the opening was counted
+pub record IsOpened (files : List FileEntry) (p : SegmentPlace) (f : FileEntry) (pages : Paged) (old new : ℕ) : Type 0 where
+  pub file : slice_get files p.head.file ≡ Some f
+  pub first : p.head.first ≤ MAX_MESSAGES
+  pub starts : pages ≡ paged_first p.payload p.head
+  pub holds : (bytes : List ℕ) (rows : List Row) → HoldsSegment p.payload p.length p.head bytes rows → HoldsLeft pages bytes rows
+  pub ticked : new ≡ old + 1
 
 -- the segments were searched, which have these messages; so many were opened
 pub record Searched (n : Named) (q : Asked) (ps : List SegmentPlace) (all : List Placed) (a b : State) (ticks later count : ℕ) : Type 0 where

@@ -1,5 +1,5 @@
 -- Pages that were read and wait to be searched, and how far a search has come that has some.
-use Rattle.std.specs.Prelude.{◌≡◌, ◌↔◌, ℕ, List, [], ◌∷◌, ◌++◌, map, Option, Result, OnOk, IsErrOf, All}
+use Rattle.std.specs.Prelude.{◌≡◌, ◌↔◌, ◌<◌, ℕ, List, [], ◌∷◌, ◌++◌, length, slice_index_or, map, Option, Result, OnOk, IsErrOf, All}
 use Rattle.column_store.specs.declared.row.Row.{Row}
 use Rattle.search_engine.specs.declared.refusal.PrintRefusal.{PrintRefusal}
 use Rattle.search_engine.specs.declared.tally.Tally.{Tally}
@@ -52,6 +52,12 @@ pub record IsWorked (n : Named) (q : Asked) (s : Slotted) : Type 0 where
 
 abbrev pub pages_of : List Slotted → List Page
 pages_of slots = map (λ s. s.page) slots
+
+-- the slots have the pages that they had, and these were searched
+pub record AreMatched (n : Named) (q : Asked) (old new : List Slotted) : Type 0 where
+  pub len : length new ≡ length old
+  pub pages : (k : ℕ) (d : Slotted) → k < length old → (slice_index_or new k d).page ≡ (slice_index_or old k d).page
+  pub worked : All (IsWorked n q) new
 
 -- P holds of the messages of a page that was searched
 abbrev pub OfWorked : Slotted → (Named → Asked → List Placed → Type 0) → Type 0

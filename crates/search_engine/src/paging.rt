@@ -22,7 +22,8 @@ use step_count::Steps;
 use subquery_filter::Filter;
 
 /// Reads the next page, whose first message has this number, and lets it wait. Once a round is full it
-/// is searched.
+/// is searched. Where a page cannot be read, the pages before it are searched and sent out first, but
+/// not after a fault of the disk.
 fn search_next<R: Threads + Sync, N: Names + Sync, D: Disk, K: Sink, M: Ledger>(
     rt: &R,
     query: &Query,
@@ -69,7 +70,15 @@ fn search_next<R: Threads + Sync, N: Names + Sync, D: Disk, K: Sink, M: Ledger>(
     ensures sink_counts { CountsOf SearchRefusal.SinkFault
         (K.faults out.old) (K.faults out.new) result }
 {
-    let slot = round.take_spare().read(name, number, pages, disk, bytes)?;
+    let slot = match round.take_spare().read(name, number, pages, disk, bytes) {
+        Ok(slot) => slot,
+        // An output that fails too would be a second fault.
+        Err(SearchRefusal::DiskFault) => return Err(SearchRefusal::DiskFault),
+        Err(refusal) => {
+            round.finish(rt, query, names, filter, out, expanded)?;
+            return Err(refusal);
+        }
+    };
     let rows = slot.rows();
     round.push(slot)?;
     if !round.is_full() {

@@ -1,12 +1,12 @@
 //! The segments of an archive, searched one after the other.
-ghost use Rattle.std.specs.Prelude.{◌≡◌, ◌≤◌, [], ◌∷◌, length, slice_get, Some, MatchOption, IfOk, OnErr, IsErrOf, cond};
+ghost use Rattle.std.specs.Prelude.{◌≡◌, ◌≤◌, ℕ, List, [], ◌∷◌, length, slice_get, Option, Some, IfSome, IsNone, MatchOption, IfOk, OnErr, IsErrOf, cond};
 ghost use Rattle.log_seams.specs.Disk.{Rests};
 ghost use Rattle.log_seams.specs.Outside.{CountsOf};
 ghost use Rattle.query_plan.specs.Laws.{IsSearched};
 ghost use Rattle.query_plan.specs.Pieces.{wide_pieces};
 ghost use Rattle.subquery_filter.specs.Filter.{IsFilter};
-ghost use Rattle.search_engine.specs.Held.{named};
-ghost use Rattle.search_engine.specs.Opened.{NoneTold, ReadsTold, SearchedTold, StoppedTold};
+ghost use Rattle.search_engine.specs.Held.{Named, named};
+ghost use Rattle.search_engine.specs.Opened.{IsOpened, NoneTold, ReadsTold, SearchedTold, StoppedTold};
 ghost use Rattle.search_engine.specs.Waiting.{Blames, state};
 
 use crate::paging::search_pages;
@@ -33,7 +33,27 @@ fn file_of(files: &[FileEntry], number: u32) -> Option<&FileEntry>
     files.get(number as usize)
 }
 
-/// Searches a segment, and tells whether it was opened: a barren one is not.
+/// The file of a segment, and a reader of its pages. None where no archive has such a segment.
+fn open_segment<'a, L: Ledger>(
+    files: &'a [FileEntry],
+    segment: &SegmentPlace,
+    opened: &mut Steps<L>,
+) -> Option<(&'a FileEntry, SegmentPages)>
+    ensures some { IfSome result (λ r.
+        IsOpened files.now segment.now r.0.now r.1 opened.old opened.new) }
+    ensures none { IsNone result → (seen : Option (List ℕ)) (n : Named)
+        → NoneTold seen n files.now (segment.now ∷ []) }
+{
+    let file = file_of(files, segment.head.file)?;
+    if segment.head.first > MAX_MESSAGES {
+        return None;
+    }
+    let pages = SegmentPages::open(segment.payload, segment.length, &segment.head, opened)?;
+    Some((file, pages))
+}
+
+/// Searches a segment, and tells whether it was opened: a barren one is not. Where it cannot be opened,
+/// the pages before it are searched and sent out first.
 fn search_segment<R: Threads + Sync, N: Names + Sync, D: Disk, K: Sink, L: Ledger, M: Ledger>(
     rt: &R,
     query: &Query,
@@ -87,14 +107,8 @@ fn search_segment<R: Threads + Sync, N: Names + Sync, D: Disk, K: Sink, L: Ledge
     if barren(&segment.head, query.plan(), query.range(), names) {
         return Ok(false);
     }
-    let Some(file) = file_of(files, segment.head.file) else {
-        return Err(SearchRefusal::Damaged);
-    };
-    if segment.head.first > MAX_MESSAGES {
-        return Err(SearchRefusal::Damaged);
-    }
-    let Some(pages) = SegmentPages::open(segment.payload, segment.length, &segment.head, opened)
-    else {
+    let Some((file, pages)) = open_segment(files, segment, opened) else {
+        round.finish(rt, query, names, filter, out, expanded)?;
         return Err(SearchRefusal::Damaged);
     };
     if !filter.may_match(segment.head.types.as_slice(), segment.head.words.as_slice()) {

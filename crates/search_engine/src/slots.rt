@@ -8,7 +8,7 @@ ghost use Rattle.query_plan.specs.Laws.{IsSearched};
 ghost use Rattle.query_plan.specs.Pieces.{wide_pieces};
 ghost use Rattle.subquery_filter.specs.Filter.{IsFilter};
 ghost use Rattle.search_engine.specs.Held.{AreRowsOf, named};
-ghost use Rattle.search_engine.specs.Waiting.{IsWorked, PrintsPage, Slotted, page};
+ghost use Rattle.search_engine.specs.Waiting.{AreMatched, IsWorked, PrintsPage, Slotted, page};
 
 use crate::printing::search_page;
 use crate::query::Query;
@@ -16,12 +16,12 @@ use crate::refusal::{PrintRefusal, SearchRefusal};
 use crate::tally::Tally;
 use column_store::Columns;
 use log_seams::Disk;
+use rayon::prelude::par_chunks_mut_for_each;
 use row_codec::Names;
 use segment_pages::SegmentPages;
 use std::alloc::Global;
 use std::marker::{Brand, Model};
 use std::sync::ledger::{Blank, Ledger};
-use std::thread;
 use std::thread::Threads;
 use step_count::Steps;
 use subquery_filter::Filter;
@@ -204,7 +204,22 @@ pub(crate) fn match_page<N: Names>(query: &Query, names: &N, filter: &Filter, sl
     slot.answer = answer;
 }
 
-/// Searches pages that are in memory, in at most so many threads.
+/// Searches pages that are in memory, one after the other.
+fn match_chunk<N: Names>(query: &Query, names: &N, filter: &Filter, slots: &mut [Slot])
+    requires searched { IsSearched query.now.pattern }
+    requires filter { IsFilter (wide_pieces query.now.pattern) (N.types names.now)
+        (N.words names.now) filter.now }
+    ensures { AreMatched
+        (named (N.version names.now) (N.types names.now) (N.words names.now)) query.now
+        slots.old slots.new }
+{
+    for slot in slots.iter_mut() {
+        match_page(query, names, filter, slot);
+    }
+}
+
+/// Searches pages that are in memory, in at most so many threads. Each has as many pages, but for the
+/// last.
 pub(crate) fn match_pages<R: Threads + Sync, N: Names + Sync>(
     rt: &R,
     workers: usize,
@@ -224,10 +239,23 @@ pub(crate) fn match_pages<R: Threads + Sync, N: Names + Sync>(
         (named (N.version names.now) (N.types names.now) (N.words names.now)) query.now)
         slots.new }
 {
-    thread::for_each_mut(
+    let size = slots.len().div_ceil(workers).max(1);
+    // One chunk needs no other thread, and no look at how many processors there are.
+    if slots.len() <= size {
+        match_chunk(query, names, filter, slots);
+        return;
+    }
+    par_chunks_mut_for_each(
         rt,
         slots,
-        workers,
-        &|_place: usize, slot: &mut Slot| { match_page(query, names, filter, slot) },
+        size,
+        |_start: usize, chunk: &mut [Slot]|
+            requires { IsSearched query.now.pattern
+                × IsFilter (wide_pieces query.now.pattern) (N.types names.now)
+                (N.words names.now) filter.now }
+            ensures { AreMatched
+                (named (N.version names.entry.now) (N.types names.entry.now)
+                (N.words names.entry.now)) query.entry.now chunk.entry.now chunk.exit.now }
+        { match_chunk(query, names, filter, chunk) },
     );
 }
