@@ -21,6 +21,7 @@ use log_seams::Sink;
 use place::FilePath;
 use std::alloc::AllocError;
 use std::env;
+use std::io::ErrorKind;
 use std::process::ExitCode;
 use stream::{Standard, Stream};
 
@@ -41,13 +42,17 @@ struct CommandLine {
 fn command_line(rt: &HostRuntime) -> Result<CommandLine, AllocError> {
     let mut archive = String::new(rt.alloc());
     let mut words = Vec::new(rt.alloc());
-    if let Ok(mut args) = env::args(rt) {
-        if let Some(path) = args.nth(1) {
-            archive = path;
+    match env::args(rt) {
+        Ok(mut args) => {
+            if let Some(path) = args.nth(1) {
+                archive = path;
+            }
+            for word in args {
+                words.push(word)?;
+            }
         }
-        for word in args {
-            words.push(word)?;
-        }
+        Err(error) if error.kind() == ErrorKind::OutOfMemory => return Err(AllocError),
+        Err(_) => {}
     }
     let second = format!(in rt.alloc(); "{archive}.new")?;
     Ok(CommandLine {
