@@ -14,4 +14,5 @@ pub mod DoneLemmas
 pub mod FileLemmas
 pub mod NamingLemmas
 pub mod TakingLemmas
+pub mod TurnsLemmas
 pub mod UnopenedLemmas

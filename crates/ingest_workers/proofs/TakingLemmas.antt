@@ -51,6 +51,8 @@ use Rattle.ingest_workers.proofs.CauseLemmas.{name_cause, of_log, of_seal}
 use Rattle.ingest_workers.proofs.MaySealLemmas.{nothing_added}
 use Rattle.ingest_workers.proofs.NamingLemmas.{named_then, named_wider}
 use Rattle.ingest_workers.proofs.SealLemmas.{if_told, of_told}
+use Rattle.ingest_workers.specs.Turns.{LearnBoth}
+use Rattle.ingest_workers.proofs.TurnsLemmas.{learn_wider}
 
 abbrev Texts : Type 0
 Texts = List (List ℕ)
@@ -201,6 +203,9 @@ module _ {S D R A B C : Type 0} (state : D → DiskState) (left : S → Option (
     module _ (line : List ℕ) (same : line ≡ new.message) (q : KeeperPass D) (o : LockNamer R A B C) (next : Hand) where
       pub named_more : (ended : Bool) → ReadMessage left ended old new → HasNamed (λ x. x ≡ line) n o → HasNamed (IsOneOf n.version bytes) n o
       named_more ended m named = named_wider (λ x. x ≡ line) (IsOneOf n.version bytes) (λ x is. subst (IsOneOf n.version bytes) (sym (is ∙ same)) (is_one ended m)) n o named
+
+      pub learned_more : (ended : Bool) → ReadMessage left ended old new → (stop : Option Stop) → LearnBoth state (λ x. x ≡ line) stop p q n o → LearnBoth state (IsOneOf n.version bytes) stop p q n o
+      learned_more ended m stop l = learn_wider state (λ x. x ≡ line) (IsOneOf n.version bytes) (λ x is. subst (IsOneOf n.version bytes) (sym (is ∙ same)) (is_one ended m)) stop p q n o l
 
       pub took_stop : (ended : Bool) → ReadMessage left ended old new → faults new.source ≡ faults old.source → (y : Stop) → IsAtStop state limit start q o next taken line y → Took state limit n.version (log_from bytes left faults old.source new.source) start q o next (Err y)
       took_stop ended m steady (PartStop cause) d = record {

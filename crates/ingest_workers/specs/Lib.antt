@@ -13,6 +13,7 @@ pub mod Doing
 pub mod Stopping
 pub mod Done
 pub mod Taking
+pub mod Turns
 pub mod JobDone
 pub mod Worker
 pub mod WorkerLaws

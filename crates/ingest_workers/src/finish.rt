@@ -7,6 +7,7 @@ ghost use Rattle.ingest_workers.specs.Doing.{Doing};
 ghost use Rattle.ingest_workers.specs.Done.{IsOutcome};
 ghost use Rattle.ingest_workers.specs.Namer.{HasOnlySeen};
 ghost use Rattle.ingest_workers.specs.Taking.{StopsAt, mark_of, why_of};
+ghost use Rattle.ingest_workers.specs.Turns.{EndBoth, spare_of, stop_in};
 
 use crate::hand::Hand;
 use crate::outcome::{Cause, Outcome};
@@ -35,6 +36,7 @@ pub(crate) fn seal_last<'d, 'b, D: Disk, R: Wait, A: Ledger, B: Ledger, C: Ledge
         × (ended ≡ false → last_is_open taken ≡ true)
         × Doing D.state _rows start keeper.old namer.old hand.old taken }
     ensures namer { HasOnlySeen namer.old namer.new }
+    ensures turns { EndBoth D.state 1 keeper.old keeper.new namer.old namer.new }
     ensures outcome { (start : KeeperPass _) (taken : List (List ℕ))
         → Doing D.state _rows start keeper.old namer.old hand.old taken
         → IsOutcome D.state _rows start keeper.new taken ended None result }
@@ -71,6 +73,7 @@ pub(crate) fn seal_part<'d, 'b, D: Disk, R: Wait, A: Ledger, B: Ledger, C: Ledge
         × (length taken ≤ MAX_MESSAGES)
         × Doing D.state _rows start keeper.old namer.old hand.old taken }
     ensures namer { HasOnlySeen namer.old namer.new }
+    ensures turns { EndBoth D.state 1 keeper.old keeper.new namer.old namer.new }
     ensures part { result.whole ≡ false }
     ensures outcome { (start : KeeperPass _) (taken : List (List ℕ))
         → Doing D.state _rows start keeper.old namer.old hand.old taken
@@ -113,6 +116,8 @@ pub(crate) fn finish<'d, 'b, D: Disk, R: Wait, A: Ledger, B: Ledger, C: Ledger>(
         × (length taken ≤ MAX_MESSAGES)
         × StopsAt D.state rows start keeper.old namer.old hand.old taken stop }
     ensures namer { HasOnlySeen namer.old namer.new }
+    ensures turns { EndBoth D.state (spare_of (stop_in stop)) keeper.old keeper.new
+        namer.old namer.new }
     ensures whole { result.whole ≡ true → (ended : Bool) × (stop ≡ Ok ended) }
     ensures outcome { (start : KeeperPass _) (taken : List (List ℕ))
         → StopsAt D.state rows start keeper.old namer.old hand.old taken stop

@@ -9,6 +9,7 @@ ghost use Rattle.ingest_workers.specs.declared.outcome.Cause.TheVariants.{Full};
 ghost use Rattle.ingest_workers.specs.declared.stop.Stop.TheVariants.{Part};
 ghost use Rattle.ingest_workers.specs.Hand.{HasInHand, IsEmptyHand, HasRoom, SameMarks, SameRows};
 ghost use Rattle.ingest_workers.specs.Stop.{IsNameStop};
+ghost use Rattle.ingest_workers.specs.Turns.{MayAsk, stop_in};
 
 use crate::stop::Stop;
 use column_store::Columns;
@@ -63,6 +64,8 @@ impl Hand {
             (N.types namer.old) (N.types namer.new) }
         ensures words { HasGrown (IsWordOf (N.version namer.old) line.now)
             (N.words namer.old) (N.words namer.new) }
+        ensures asked { MayAsk N.naming (N.version namer.old) line.now (stop_in result)
+            namer.old namer.new }
 
         // by the answer
         ensures taken { (messages : List (List ℕ)) → HasInHand (N.version namer.old)

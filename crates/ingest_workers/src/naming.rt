@@ -10,15 +10,18 @@ ghost use Rattle.dict_lock.specs.Shared.{BookPass, GoesOn};
 ghost use Rattle.column_store.specs.declared.row.Row.{Row};
 ghost use Rattle.row_codec.specs.declared.TheConstants.{MAX_MESSAGE_LEN};
 ghost use Rattle.row_codec.specs.declared.namer.NameRefusal.TheVariants.{Full as name_full};
+ghost use Rattle.row_codec.specs.declared.namer.NameRefusal.{NameRefusal};
+ghost use Rattle.row_codec.specs.declared.namer.Which.{Which};
 ghost use Rattle.row_codec.specs.declared.namer.Which.TheVariants.{Types, Words};
 ghost use Rattle.row_codec.specs.Messages.{IsTypeOf, IsWordOf};
-ghost use Rattle.row_codec.specs.Naming.{AreNumbers, HasGrown, MeetsLimit, MetLimit};
+ghost use Rattle.row_codec.specs.Naming.{AreNumbers, HasGrown, MeetsLimit, MetLimit, refusal_of};
 ghost use Rattle.disk_seal.specs.Known.{known_of};
 ghost use Rattle.ingest_workers.specs.declared.outcome.Cause.TheVariants.{Full};
 ghost use Rattle.ingest_workers.specs.declared.stop.Stop.TheVariants.{Part};
 ghost use Rattle.ingest_workers.specs.Hand.{HasInHand, HasRoom, SameMarks, SameRows};
 ghost use Rattle.ingest_workers.specs.Keys.{no_table};
 ghost use Rattle.ingest_workers.specs.Stop.{IsNameStop};
+ghost use Rattle.ingest_workers.specs.Turns.{MayAsk, stop_in};
 
 use crate::hand::Hand;
 use crate::stop::Stop;
@@ -42,6 +45,9 @@ pub(crate) trait PassNamer {
     /// The archive's version.
     ghost version: { Self → ℕ };
 
+    /// As that of [`Namer`].
+    ghost naming: { Which → List (List ℕ) → Option NameRefusal → Self → Self → Type 0 };
+
     /// As [`Namer::micro`].
     fn is_micro(&self) -> bool
         ensures { IsTrue result ↔ (3 ≤ version self.now) };
@@ -53,6 +59,7 @@ pub(crate) trait PassNamer {
         ensures grown { HasGrown (λ t. t ≡ text.now) (known_of (types self.old))
             (known_of (types self.new)) }
         ensures still { GoesOn (types self.old) (types self.new) }
+        ensures naming { naming Types (text.now ∷ []) (refusal_of result) self.old self.new }
         ensures named { IfOk result (λ n. slice_get (seen (types self.new)) n ≡ Some text.now) }
         ensures full { (book : _) (count : ℕ) → IsErrOf result (name_full book count)
             → (book ≡ Types) × MetLimit (known_of (types self.new)) (text.now ∷ []) count
@@ -65,6 +72,7 @@ pub(crate) trait PassNamer {
         ensures grown { HasGrown (Contains texts.now) (known_of (words self.old))
             (known_of (words self.new)) }
         ensures still { GoesOn (words self.old) (words self.new) }
+        ensures naming { naming Words texts.now (refusal_of result) self.old self.new }
         ensures named { IfOk result (λ ns. AreNumbers (seen (words self.new)) ns texts.now) }
         ensures full { (book : _) (count : ℕ) → IsErrOf result (name_full book count)
             → (book ≡ Words) × MetLimit (known_of (words self.new)) texts.now count };
@@ -83,6 +91,8 @@ pub(crate) trait PassNamer {
             (known_of (words self.old))
             (known_of (words self.new)) }
         ensures still { GoesOn (words self.old) (words self.new) }
+        ensures naming { naming Words (texts_at line.now spans.now) (refusal_of result)
+            self.old self.new }
         ensures named { OnOk result (AreNumbers (seen (words self.new)) numbers.new.items
             (texts_at line.now spans.now)) }
         ensures full { (book : _) (count : ℕ) → IsErrOf result (name_full book count)
@@ -92,12 +102,15 @@ pub(crate) trait PassNamer {
 
 impl<R: Wait, A: Ledger, B: Ledger, C: Ledger> PassNamer for LockNamer<'_, '_, R, A, B, C> {
     ghost use Rattle.dict_lock.specs.Cached.{pass_in};
+    ghost use Rattle.disk_seal.specs.Naming.{NamesIn};
 
     ghost types = { λ n. pass_in n.types };
 
     ghost words = { λ n. pass_in n.words };
 
     ghost version = { λ n. n.version };
+
+    ghost naming = { NamesIn };
 
     fn is_micro(&self) -> bool {
         self.micro()
@@ -177,6 +190,9 @@ impl<N: PassNamer, K: Keys> Namer for Kept<'_, N, K> {
 
     ghost version = { λ k. N.version k.namer.now };
 
+    ghost naming = { λ book texts refusal k l.
+        N.naming book texts refusal k.namer.now l.namer.now };
+
     fn micro(&self) -> bool {
         self.namer.is_micro()
     }
@@ -255,6 +271,8 @@ fn take_by<'n, N: PassNamer, K: Keys>(
         (known_of (N.types lent.entry.namer.now)) (known_of (N.types result.1.namer.now)) }
     ensures words { HasGrown (IsWordOf (N.version lent.entry.namer.now) line.now)
         (known_of (N.words lent.entry.namer.now)) (known_of (N.words result.1.namer.now)) }
+    ensures asked { MayAsk N.naming (N.version lent.entry.namer.now) line.now (stop_in result.0)
+        lent.entry.namer.now result.1.namer.now }
 
     // by the answer
     ensures taken { (messages : List (List ℕ)) → HasInHand (N.version lent.entry.namer.now)
@@ -304,6 +322,8 @@ pub(crate) fn take_message<N: PassNamer>(
         (known_of (N.types namer.old)) (known_of (N.types namer.new)) }
     ensures words { HasGrown (IsWordOf (N.version namer.old) line.now)
         (known_of (N.words namer.old)) (known_of (N.words namer.new)) }
+    ensures asked { MayAsk N.naming (N.version namer.old) line.now (stop_in result)
+        namer.old namer.new }
 
     // by the answer
     ensures taken { (messages : List (List ℕ)) → HasInHand (N.version namer.old)

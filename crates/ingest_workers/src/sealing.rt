@@ -9,6 +9,7 @@ ghost use Rattle.ingest_workers.specs.Namer.{HasNoRoom, HasOnlySeen, IsNamerOf, 
 ghost use Rattle.ingest_workers.specs.Hand.{SameMarks};
 ghost use Rattle.ingest_workers.specs.MaySeal.{HasNoRoomFor, IsEmptied, MaySeal};
 ghost use Rattle.ingest_workers.specs.Sealed.{HasNotSealed, HasSealed, NowHas};
+ghost use Rattle.ingest_workers.specs.Turns.{OneTurn};
 
 use crate::hand::Hand;
 use crate::outcome::Cause;
@@ -46,6 +47,7 @@ pub(crate) fn seal_draft<'d, 'b, D: Disk, R: Wait, A: Ledger, B: Ledger, C: Ledg
 
     // what stays
     ensures namer { HasOnlySeen namer.old namer.new }
+    ensures turns { OneTurn namer.old namer.new }
 
     // by the answer
     ensures sealed { OnOk result (HasSealed D.state draft.now keeper.old keeper.new) }
@@ -99,6 +101,7 @@ impl Hand {
 
         // what stays
         ensures namer { HasOnlySeen namer.old namer.new }
+        ensures turns { OneTurn namer.old namer.new }
         ensures marks { OnErr result (SameMarks self.old self.new) }
 
         // by the answer

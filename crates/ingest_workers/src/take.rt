@@ -6,6 +6,7 @@ ghost use Rattle.disk_seal.specs.Fixed.{KeeperPass};
 ghost use Rattle.ingest_workers.specs.Doing.{Doing};
 ghost use Rattle.ingest_workers.specs.Stopping.{IsAtStop};
 ghost use Rattle.ingest_workers.specs.Naming.{HasNamed};
+ghost use Rattle.ingest_workers.specs.Turns.{LearnBoth, stop_in};
 
 use crate::hand::Hand;
 use crate::naming::take_message;
@@ -40,6 +41,8 @@ pub(crate) fn take_one<'d, 'b, D: Disk, R: Wait, A: Ledger, B: Ledger, C: Ledger
 
     // what the namer has learned
     ensures names { HasNamed (λ m. m ≡ line.now) namer.old namer.new }
+    ensures turns { LearnBoth D.state (λ m. m ≡ line.now) (stop_in result) keeper.old keeper.new
+        namer.old namer.new }
 
     // by the answer
     ensures taken { (start : KeeperPass _) (taken : List (List ℕ))

@@ -5,6 +5,7 @@ ghost use Rattle.disk_seal.specs.Fixed.{KeeperPass};
 ghost use Rattle.ingest_workers.specs.Causes.{cause_by, log_from};
 ghost use Rattle.ingest_workers.specs.Naming.{HasNamed};
 ghost use Rattle.ingest_workers.specs.Taking.{IsOneOf, KeepsSource, Taking, Took};
+ghost use Rattle.ingest_workers.specs.Turns.{LearnBoth, stop_in};
 
 use crate::hand::Hand;
 use crate::outcome::Cause;
@@ -55,6 +56,10 @@ fn take_next<'d, 'b, S: Source, D: Disk, R: Wait, A: Ledger, B: Ledger, C: Ledge
     ensures names { (bytes : Option (List ℕ)) (start : KeeperPass _) (taken : List (List ℕ))
         → Taking D.state S.left rows bytes start keeper.old namer.old hand.old reader.old taken
         → HasNamed (IsOneOf namer.old.version bytes) namer.old namer.new }
+    ensures turns { (bytes : Option (List ℕ)) (start : KeeperPass _) (taken : List (List ℕ))
+        → Taking D.state S.left rows bytes start keeper.old namer.old hand.old reader.old taken
+        → LearnBoth D.state (IsOneOf namer.old.version bytes) (stop_in result)
+        keeper.old keeper.new namer.old namer.new }
 
     // by the answer
     ensures taken { (bytes : Option (List ℕ)) (start : KeeperPass _) (taken : List (List ℕ))
@@ -110,6 +115,10 @@ pub(crate) fn take_messages<'d, 'b, S: Source, D: Disk, R: Wait, A: Ledger, B: L
     ensures names { (bytes : Option (List ℕ)) (start : KeeperPass _) (taken : List (List ℕ))
         → Taking D.state S.left rows bytes start keeper.old namer.old hand.old reader.old taken
         → HasNamed (IsOneOf namer.old.version bytes) namer.old namer.new }
+    ensures turns { (bytes : Option (List ℕ)) (start : KeeperPass _) (taken : List (List ℕ))
+        → Taking D.state S.left rows bytes start keeper.old namer.old hand.old reader.old taken
+        → LearnBoth D.state (IsOneOf namer.old.version bytes) (stop_in result)
+        keeper.old keeper.new namer.old namer.new }
 
     // the answer
     ensures took { (bytes : Option (List ℕ)) (start : KeeperPass _) (taken : List (List ℕ))

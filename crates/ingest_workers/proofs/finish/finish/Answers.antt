@@ -1,4 +1,8 @@
-use Rattle.std.proofs.Common.{rules, ◌≡◌, Ok, Err}
+use Rattle.std.proofs.Common.{rules, ◌≡◌, Ok, Err, subst, sym}
+use Rattle.std.specs.Prelude.{Bool, Result}
+use Rattle.ingest_workers.specs.declared.stop.Stop.{Stop}
+use Rattle.ingest_workers.specs.Turns.{EndBoth, spare_of, stop_in}
+use Rattle.ingest_workers.proofs.TurnsLemmas.{end_self}
 use Rattle.ingest_workers.specs.declared.stop.Stop.TheVariants.{Part, Lost}
 use Rattle.ingest_workers.proofs.TakingLemmas.{at_end, at_part, lost_outcome}
 use Rattle.ingest_workers.proofs.finish.finish.Goals as goal
@@ -20,3 +24,16 @@ pub returns-in-Err-Lost-clause-outcome : goal.returns-in-Err-Lost-clause-outcome
 returns-in-Err-Lost-clause-outcome g c = λ start taken s.
     let is : c.args.stop ≡ Err (Lost c.in-Err-Lost.cause) = search rules in
     lost_outcome g.D.Disk.state c.args.rows start c.args.keeper.now c.args.namer.now c.args.hand.now taken c.requires.limit.0 c.args.stop c.in-Err-Lost.cause is s
+
+pub returns-in-Ok-clause-turns : goal.returns-in-Ok-clause-turns
+returns-in-Ok-clause-turns g c =
+    let is : c.args.stop ≡ Ok c.in-Ok.ended = search rules in
+    subst (λ (s : Result Bool Stop). EndBoth g.D.Disk.state (spare_of (stop_in s)) c.args.keeper.now c.seal_last.new.keeper c.args.namer.now c.seal_last.new.namer) (sym is) c.seal_last.ensures.turns
+
+pub returns-in-Err-Part-clause-turns : goal.returns-in-Err-Part-clause-turns
+returns-in-Err-Part-clause-turns g c =
+    let is : c.args.stop ≡ Err (Part c.in-Err-Part.cause) = search rules in
+    subst (λ (s : Result Bool Stop). EndBoth g.D.Disk.state (spare_of (stop_in s)) c.args.keeper.now c.seal_part.new.keeper c.args.namer.now c.seal_part.new.namer) (sym is) c.seal_part.ensures.turns
+
+pub returns-in-Err-Lost-clause-turns : goal.returns-in-Err-Lost-clause-turns
+returns-in-Err-Lost-clause-turns g c = end_self g.D.Disk.state (spare_of (stop_in c.args.stop)) c.args.keeper.now c.args.namer.now

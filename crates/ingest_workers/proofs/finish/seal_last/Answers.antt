@@ -1,5 +1,6 @@
 use Rattle.std.proofs.Common.{None, inr}
 use Rattle.ingest_workers.proofs.DoneLemmas.{all_done, may_seal_last, none_done}
+use Rattle.ingest_workers.proofs.TurnsLemmas.{end_refused, end_sealed}
 use Rattle.ingest_workers.proofs.finish.seal_last.Goals as goal
 
 pub seal-requires : goal.seal-requires
@@ -13,3 +14,9 @@ returns-in-Ok-clause-outcome g c = λ start taken d.
 pub returns-in-Err-clause-outcome : goal.returns-in-Err-clause-outcome
 returns-in-Err-clause-outcome g c = λ start taken d.
     none_done g.D.Disk.state c.args._rows start c.args.keeper.now c.args.namer.now c.args.hand.now taken c.args.ended d c.seal.new.keeper c.seal.new.self None c.in-Err.cause c.in-Err.ensures.refused c.in-Err.ensures.marks.first (inr c.in-Err.ensures.causes)
+
+pub returns-in-Ok-clause-turns : goal.returns-in-Ok-clause-turns
+returns-in-Ok-clause-turns g c = end_sealed g.D.Disk.state _ c.args.keeper.now c.seal.new.keeper c.args.namer.now c.seal.new.namer c.in-Ok.ensures.sealed c.seal.ensures.turns
+
+pub returns-in-Err-clause-turns : goal.returns-in-Err-clause-turns
+returns-in-Err-clause-turns g c = end_refused g.D.Disk.state c.args.keeper.now c.seal.new.keeper c.args.namer.now c.seal.new.namer c.in-Err.ensures.refused c.seal.ensures.turns

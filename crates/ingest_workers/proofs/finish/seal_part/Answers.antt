@@ -1,6 +1,7 @@
 use Rattle.std.proofs.Common.{rules, ◌<◌, length, Some, inr}
 use Rattle.std.specs.Prelude.{false}
 use Rattle.ingest_workers.proofs.DoneLemmas.{may_seal_part, none_done, part_done}
+use Rattle.ingest_workers.proofs.TurnsLemmas.{end_refused, end_sealed, end_self}
 use Rattle.ingest_workers.proofs.finish.seal_part.Goals as goal
 
 pub seal-requires : goal.seal-requires
@@ -16,3 +17,9 @@ returns-in-Ok-clause-outcome g c = λ start taken d.
 pub returns-in-Err-clause-outcome : goal.returns-in-Err-clause-outcome
 returns-in-Err-clause-outcome g c = λ start taken d.
     none_done g.D.Disk.state c.args._rows start c.args.keeper.now c.args.namer.now c.args.hand.now taken false d c.seal.new.keeper c.seal.new.self (Some c.args.cause) c.in-Err.refused c.in-Err.ensures.refused c.in-Err.ensures.marks.first (inr c.in-Err.ensures.causes)
+
+pub returns-in-Ok-clause-turns : goal.returns-in-Ok-clause-turns
+returns-in-Ok-clause-turns g c = end_sealed g.D.Disk.state _ c.args.keeper.now c.seal.new.keeper c.args.namer.now c.seal.new.namer c.in-Ok.ensures.sealed c.seal.ensures.turns
+
+pub returns-in-Err-clause-turns : goal.returns-in-Err-clause-turns
+returns-in-Err-clause-turns g c = end_refused g.D.Disk.state c.args.keeper.now c.seal.new.keeper c.args.namer.now c.seal.new.namer c.in-Err.ensures.refused c.seal.ensures.turns

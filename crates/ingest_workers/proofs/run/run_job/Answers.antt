@@ -6,6 +6,9 @@ use Rattle.ingest_workers.specs.Namer.{types_pass, words_pass}
 use Rattle.ingest_workers.specs.Naming.{AddsOnly}
 use Rattle.ingest_workers.specs.Taking.{IsOneOf}
 use Rattle.ingest_workers.proofs.UnopenedLemmas.{left_undone}
+use Rattle.disk_seal.specs.Naming.{types_side, words_side}
+use Rattle.ingest_workers.specs.Turns.{TakesFew}
+use Rattle.ingest_workers.proofs.TurnsLemmas.{take_none}
 use Rattle.ingest_workers.proofs.run.run_job.Goals as goal
 
 pub returns-clause-types : goal.returns-clause-types
@@ -39,3 +42,23 @@ returns-then-not-job-clause-done g c =
     let closed : c.args.job.now.is_open ≡ false = search rules in
     left_undone g.D.Disk.state g.S.Source.left g.S.Source.name g.S.Source.faults c.args.rows c.args.namer.now.version (limits_by (types_pass c.args.namer.now) (words_pass c.args.namer.now)) c.args.job.now c.args.keeper.now
     c.requires.rows.0 c.requires.so_far c.requires.worker.ready closed c.requires.new
+
+-- ---- turns
+
+pub returns-clause-types_turns : goal.returns-clause-types_turns
+returns-clause-types_turns g c =
+    let is : c.args.job.now.source ≡ Some c.in-Some.source = search rules in
+    subst (λ b. TakesFew g.D.Disk.state (λ t. (m : List ℕ) × IsOneOf c.args.namer.now.version b m × IsTypeOf c.args.namer.now.version m t) c.args.keeper.now c.take_source-source.new.keeper (types_side c.args.namer.now) (types_side c.take_source-source.new.namer))
+    (sym (ap (in_source g.S.Source.left) is)) c.take_source-source.ensures.turns.types
+
+pub returns-clause-words_turns : goal.returns-clause-words_turns
+returns-clause-words_turns g c =
+    let is : c.args.job.now.source ≡ Some c.in-Some.source = search rules in
+    subst (λ b. TakesFew g.D.Disk.state (λ t. (m : List ℕ) × IsOneOf c.args.namer.now.version b m × IsWordOf c.args.namer.now.version m t) c.args.keeper.now c.take_source-source.new.keeper (words_side c.args.namer.now) (words_side c.take_source-source.new.namer))
+    (sym (ap (in_source g.S.Source.left) is)) c.take_source-source.ensures.turns.words
+
+pub returns-then-not-job-clause-types_turns : goal.returns-then-not-job-clause-types_turns
+returns-then-not-job-clause-types_turns g c = (take_none g.D.Disk.state (IsOneOf c.args.namer.now.version (in_source g.S.Source.left c.args.job.now.source)) c.args.keeper.now c.args.namer.now).types
+
+pub returns-then-not-job-clause-words_turns : goal.returns-then-not-job-clause-words_turns
+returns-then-not-job-clause-words_turns g c = (take_none g.D.Disk.state (IsOneOf c.args.namer.now.version (in_source g.S.Source.left c.args.job.now.source)) c.args.keeper.now c.args.namer.now).words

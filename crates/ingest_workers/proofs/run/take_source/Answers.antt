@@ -7,6 +7,8 @@ use Rattle.ingest_workers.proofs.TakingLemmas.{came_back, came_none, came_to, sa
 use Rattle.ingest_workers.specs.Causes.{limits_by, log_from}
 use Rattle.ingest_workers.specs.JobDone.{CameTo}
 use Rattle.ingest_workers.specs.Namer.{types_pass, words_pass}
+use Rattle.ingest_workers.specs.Turns.{stop_in}
+use Rattle.ingest_workers.proofs.TurnsLemmas.{take_few, take_none}
 use Rattle.ingest_workers.proofs.run.take_source.Goals as goal
 
 pub returns-in-Err-clause-came : goal.returns-in-Err-clause-came
@@ -58,3 +60,17 @@ returns-clause-came g c =
     (came_to g.D.Disk.state c.args.rows c.args.namer.now.version (log_from (g.S.Source.left c.args.source) g.S.Source.left g.S.Source.faults c.in-Ok.reader.source c.take_messages-stop.new.reader.source) c.args.keeper.now c.take_messages-stop.new.keeper c.take_messages-stop.new.namer c.take_messages-stop.new.hand c.take_messages-stop.result took c.finish-outcome.new.keeper c.finish-outcome.result
     (limits_by (types_pass c.args.namer.now) (words_pass c.args.namer.now)) (same_limits c.args.namer.now c.take_messages-stop.new.namer named.types.goes.still.about_is named.words.goes.still.about_is)
     (c.finish-outcome.ensures.outcome c.args.keeper.now took.taken took.stops) c.finish-outcome.ensures.whole)
+
+-- ---- turns
+
+pub returns-in-Err-clause-turns : goal.returns-in-Err-clause-turns
+returns-in-Err-clause-turns g c = take_none g.D.Disk.state (IsOneOf c.args.namer.now.version (g.S.Source.left c.args.source)) c.args.keeper.now c.args.namer.now
+
+pub returns-clause-turns : goal.returns-clause-turns
+returns-clause-turns g c =
+    let fresh = subst (λ v. IsNewReader v c.args.source c.in-Ok.reader) c.version.ensures c.in-Ok.ensures.fresh in
+    take_few g.D.Disk.state (IsOneOf c.args.namer.now.version (g.S.Source.left c.args.source)) (stop_in c.take_messages-stop.result) c.args.keeper.now c.take_messages-stop.new.keeper c.finish-outcome.new.keeper
+    c.args.namer.now c.take_messages-stop.new.namer c.finish-outcome.new.namer
+    (c.take_messages-stop.ensures.turns (g.S.Source.left c.args.source) c.args.keeper.now []
+    (taking_none g.D.Disk.state c.args.rows c.requires.rows.0 c.args.keeper.now c.requires.so_far g.S.Source.left c.args.source c.in-Ok.reader c.args.namer.now c.new-hand.result c.args.file c.requires.worker c.requires.file c.new-hand.ensures fresh))
+    c.finish-outcome.ensures.turns

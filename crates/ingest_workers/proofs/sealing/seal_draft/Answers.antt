@@ -4,6 +4,8 @@ use mathlib.Core.List.{IsPrefix}
 use Rattle.turn_lock.specs.Words.{seen}
 use Rattle.ingest_workers.specs.Namer.{types_seen, words_seen}
 use Rattle.ingest_workers.proofs.SealLemmas.{given_back, has_failed, has_sealed, halted, now_has, no_room, only_seen}
+use Rattle.std.proofs.Common.{◌∙◌, ap}
+use Rattle.ingest_workers.proofs.TurnsLemmas.{one_turn}
 use Rattle.ingest_workers.proofs.sealing.seal_draft.Goals as goal
 
 pub returns-in-Ok-commit-clause-namer : goal.returns-in-Ok-commit-clause-namer
@@ -50,3 +52,24 @@ returns-in-Err-ArchiveFull-clause-full g c = λ end need is.
   where
     learned : {x y n z : List (List ℕ)} → y ≡ x → HasLearned y n z → HasLearned x n z
     learned {x} {y} {n} {z} same has = subst (λ l. HasLearned l n z) same has
+
+pub returns-in-Ok-commit-clause-turns : goal.returns-in-Ok-commit-clause-turns
+returns-in-Ok-commit-clause-turns g c =
+    let noted = c.notes-types.ensures in let turns = c.prepare.ensures.turns in
+    one_turn c.args.namer.now _ c.notes-types.new.self.turns.types c.notes-types.new.self.turns.words noted.caches (λ i. (noted.turns i).types) (λ i. (noted.turns i).words) turns.0 turns.1
+
+pub returns-in-Err-clause-turns : goal.returns-in-Err-clause-turns
+returns-in-Err-clause-turns g c =
+    let noted = c.notes-types.ensures in let turns = c.prepare.ensures.turns in
+    one_turn c.args.namer.now _ c.notes-types.new.self.turns.types c.notes-types.new.self.turns.words noted.caches (λ i. (noted.turns i).types) (λ i. (noted.turns i).words) turns.0 turns.1
+
+pub returns-in-Err-OutOfMemory-clause-turns : goal.returns-in-Err-OutOfMemory-clause-turns
+returns-in-Err-OutOfMemory-clause-turns g c =
+    let noted = c.notes-types.ensures in let turns = c.prepare.ensures.turns in
+    one_turn c.args.namer.now _ c.notes-types.new.self.turns.types c.notes-types.new.self.turns.words noted.caches (λ i. (noted.turns i).types) (λ i. (noted.turns i).words) turns.0 turns.1
+
+pub returns-in-Err-ArchiveFull-clause-turns : goal.returns-in-Err-ArchiveFull-clause-turns
+returns-in-Err-ArchiveFull-clause-turns g c =
+    let noted = c.notes-types.ensures in let turns = c.prepare.ensures.turns in let joined = c.join.ensures in
+    one_turn c.args.namer.now c.join.new.self c.notes-types.new.self.turns.types c.notes-types.new.self.turns.words (joined.caches.0 ∙ noted.caches.0, joined.caches.1 ∙ noted.caches.1)
+    (λ i. (noted.turns i).types) (λ i. (noted.turns i).words) ((λ i. (joined.turns i).types) ∙ turns.0) ((λ i. (joined.turns i).words) ∙ turns.1)

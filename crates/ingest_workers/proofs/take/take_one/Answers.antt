@@ -1,4 +1,11 @@
-use Rattle.std.proofs.Common.{rules, ◌≡◌, ◌∙◌, subst}
+use Rattle.std.proofs.Common.{rules, ◌≡◌, ◌∙◌, refl, subst}
+use Rattle.std.specs.Prelude.{Err, None, Ok, Option, Some}
+use Rattle.std.proofs.lemmas.Result.{err_from_is_err_and}
+use Rattle.disk_seal.specs.Naming.{NamesIn}
+use Rattle.ingest_workers.specs.declared.stop.Stop.{Stop}
+use Rattle.ingest_workers.specs.declared.stop.Stop.TheVariants.{Lost}
+use Rattle.ingest_workers.specs.Turns.{MayAsk, stop_in}
+use Rattle.ingest_workers.proofs.TurnsLemmas.{learn_message, learn_refused, learn_sealed, learn_then, stop_none, stop_same}
 use Rattle.std.specs.Prelude.{IsErrOf}
 use Rattle.column_store.specs.Columns.{IsFull}
 use Rattle.ingest_workers.proofs.DoingLemmas.{covering, doing_more, doing_sealed, each_err, has_room, may_seal, not_taken, passes_of}
@@ -72,3 +79,35 @@ returns-in-Err-clause-names g c =
     named_then (λ m. m ≡ c.args.line.now) c.args.namer.now c.take_message.new.namer c.seal.new.namer
     (named_one c.args.line.now c.args.namer.now c.take_message.new.namer c.take_message.ensures.version c.take_message.ensures.locks c.take_message.ensures.numbers c.take_message.ensures.abouts c.take_message.ensures.types c.take_message.ensures.words)
     (named_only (λ m. m ≡ c.args.line.now) c.take_message.new.namer c.seal.new.namer c.seal.ensures.namer)
+
+-- ---- turns
+
+pub returns-in_err-take_message-clause-turns : goal.returns-in_err-take_message-clause-turns
+returns-in_err-take_message-clause-turns g c =
+    let p = err_from_is_err_and c.from_residual.result c.from_residual.ensures.1 in
+    let is : c.from_residual.result ≡ Err p.0 = p.1 in
+    let there : c.take_message.result ≡ Err p.0 = search rules in
+    learn_message g.D.Disk.state (λ m. m ≡ c.args.line.now) c.args.keeper.now c.args.namer.now c.take_message.new.namer c.args.line.now refl (stop_in c.from_residual.result)
+    (subst (λ (s : Option Stop). MayAsk NamesIn c.args.namer.now.version c.args.line.now s c.args.namer.now c.take_message.new.namer) (stop_same c.take_message.result c.from_residual.result p.0 there is) c.take_message.ensures.asked)
+
+pub returns-then-not-is_full-clause-turns : goal.returns-then-not-is_full-clause-turns
+returns-then-not-is_full-clause-turns g c =
+    let taken : c.take_message.result ≡ Ok c.in_ok-take_message.field-0 = c.in_ok-take_message.was in
+    learn_message g.D.Disk.state (λ m. m ≡ c.args.line.now) c.args.keeper.now c.args.namer.now c.take_message.new.namer c.args.line.now refl None
+    (subst (λ (s : Option Stop). MayAsk NamesIn c.args.namer.now.version c.args.line.now s c.args.namer.now c.take_message.new.namer) (stop_none c.take_message.result c.in_ok-take_message.field-0 taken) c.take_message.ensures.asked)
+
+pub returns-in-Ok-clause-turns : goal.returns-in-Ok-clause-turns
+returns-in-Ok-clause-turns g c =
+    let taken : c.take_message.result ≡ Ok c.in_ok-take_message.field-0 = c.in_ok-take_message.was in
+    learn_then g.D.Disk.state (λ m. m ≡ c.args.line.now) None c.args.keeper.now c.args.keeper.now c.seal.new.keeper c.args.namer.now c.take_message.new.namer c.seal.new.namer c.take_message.ensures.version
+    (learn_message g.D.Disk.state (λ m. m ≡ c.args.line.now) c.args.keeper.now c.args.namer.now c.take_message.new.namer c.args.line.now refl None
+    (subst (λ (s : Option Stop). MayAsk NamesIn c.args.namer.now.version c.args.line.now s c.args.namer.now c.take_message.new.namer) (stop_none c.take_message.result c.in_ok-take_message.field-0 taken) c.take_message.ensures.asked))
+    (learn_sealed g.D.Disk.state (λ m. m ≡ c.args.line.now) None c.take_message.new.hand.draft c.args.keeper.now c.seal.new.keeper c.take_message.new.namer c.seal.new.namer c.in-Ok.ensures.sealed c.seal.ensures.turns)
+
+pub returns-in-Err-clause-turns : goal.returns-in-Err-clause-turns
+returns-in-Err-clause-turns g c =
+    let taken : c.take_message.result ≡ Ok c.in_ok-take_message.field-0 = c.in_ok-take_message.was in
+    learn_then g.D.Disk.state (λ m. m ≡ c.args.line.now) (Some (Lost c.in-Err.cause)) c.args.keeper.now c.args.keeper.now c.seal.new.keeper c.args.namer.now c.take_message.new.namer c.seal.new.namer c.take_message.ensures.version
+    (learn_message g.D.Disk.state (λ m. m ≡ c.args.line.now) c.args.keeper.now c.args.namer.now c.take_message.new.namer c.args.line.now refl None
+    (subst (λ (s : Option Stop). MayAsk NamesIn c.args.namer.now.version c.args.line.now s c.args.namer.now c.take_message.new.namer) (stop_none c.take_message.result c.in_ok-take_message.field-0 taken) c.take_message.ensures.asked))
+    (learn_refused g.D.Disk.state (λ m. m ≡ c.args.line.now) c.in-Err.cause c.args.keeper.now c.seal.new.keeper c.take_message.new.namer c.seal.new.namer c.in-Err.ensures.refused c.seal.ensures.turns)

@@ -1,7 +1,13 @@
 use Rattle.std.proofs.Common.{rules, ◌++◌, ◌∷◌, [], Ok, Err, arith, subst, ◌∙◌}
-use Rattle.ingest_workers.specs.Taking.{Taking, Took}
+use Rattle.ingest_workers.specs.Taking.{IsOneOf, Taking, Took}
 use Rattle.ingest_workers.proofs.TakingLemmas.{named_on, none_at, one_less, some_at, took_since}
 use Rattle.ingest_workers.specs.Causes.{log_from}
+use Rattle.std.proofs.Common.{◌≡◌, ap, refl}
+use Rattle.std.specs.Prelude.{Bool, None, Option, Result, Some}
+use Rattle.ingest_workers.specs.declared.stop.Stop.{Stop}
+use Rattle.ingest_workers.specs.Turns.{stop_in}
+use Rattle.ingest_workers.proofs.TurnsLemmas.{learn_on, learn_self, stop_none}
+use Rattle.ingest_workers.proofs.NamingLemmas.{named_self}
 use Rattle.ingest_workers.proofs.taking.take_messages.Goals as goal
 
 pub take_next-requires-clause-taking : goal.take_next-requires-clause-taking
@@ -50,10 +56,42 @@ messages-preserved g c = record {
   names = λ bytes start taken t.
       let now = c.messages.invariant.taking bytes start taken t in
       named_on bytes c.args.namer.now c.messages.namer c.take_next.new.namer (c.messages.invariant.names bytes start taken t) (c.take_next.ensures.names bytes start now.0 now.1);
+  turns = λ bytes start taken t.
+      let now = c.messages.invariant.taking bytes start taken t in
+      let went : c.take_next.result ≡ Ok c.in-Ok-None.field-0 = search rules in
+      learn_on g.D.Disk.state bytes None (stop_in c.take_next.result) c.args.keeper.now c.messages.keeper c.take_next.new.keeper c.args.namer.now c.messages.namer c.take_next.new.namer (stop_none c.take_next.result c.in-Ok-None.field-0 went)
+      (c.messages.invariant.names bytes start taken t).version (c.messages.invariant.turns bytes start taken t) (c.take_next.ensures.turns bytes start now.0 now.1);
   taking = λ bytes start taken t.
       let now = c.messages.invariant.taking bytes start taken t in let text = c.take_next.new.reader.message in (
         now.0 ++ text ∷ [],
         none_at c.in-Ok-None.field-0 (Taking g.D.Disk.state g.S.Source.left c.args.rows bytes start c.take_next.new.keeper c.take_next.new.namer c.take_next.new.hand c.take_next.new.reader (now.0 ++ text ∷ []))
             (search rules) (c.in-Ok-None.ensures.taken bytes start now.0 now.1),
       );
+}
+
+-- ---- turns
+
+pub returns-in-Err-clause-turns : goal.returns-in-Err-clause-turns
+returns-in-Err-clause-turns g c = λ bytes start taken t.
+    let now = c.messages.invariant.taking bytes start taken t in
+    let went : c.take_next.result ≡ Err c.in-Err.stop = search rules in
+    learn_on g.D.Disk.state bytes (Some c.in-Err.stop) (stop_in c.take_next.result) c.args.keeper.now c.messages.keeper c.take_next.new.keeper c.args.namer.now c.messages.namer c.take_next.new.namer
+    (ap (λ (r : Result (Option Bool) Stop). stop_in r) went)
+    (c.messages.invariant.names bytes start taken t).version (c.messages.invariant.turns bytes start taken t) (c.take_next.ensures.turns bytes start now.0 now.1)
+
+pub returns-in-Ok-Some-clause-turns : goal.returns-in-Ok-Some-clause-turns
+returns-in-Ok-Some-clause-turns g c = λ bytes start taken t.
+    let now = c.messages.invariant.taking bytes start taken t in
+    let went : c.take_next.result ≡ Ok c.in-Ok-Some.field-0 = search rules in
+    learn_on g.D.Disk.state bytes None (stop_in c.take_next.result) c.args.keeper.now c.messages.keeper c.take_next.new.keeper c.args.namer.now c.messages.namer c.take_next.new.namer
+    (stop_none c.take_next.result c.in-Ok-Some.field-0 went)
+    (c.messages.invariant.names bytes start taken t).version (c.messages.invariant.turns bytes start taken t) (c.take_next.ensures.turns bytes start now.0 now.1)
+
+pub messages-init : goal.messages-init
+messages-init g c = record {
+  source = record { named = refl; later = omega arith };
+  steady = refl;
+  names = λ bytes start taken t. named_self (IsOneOf c.args.namer.now.version bytes) c.args.namer.now;
+  turns = λ bytes start taken t. learn_self g.D.Disk.state (IsOneOf c.args.namer.now.version bytes) None c.args.keeper.now c.args.namer.now;
+  taking = λ bytes start taken t. (taken, t);
 }

@@ -6,7 +6,13 @@ use Rattle.message_reader.specs.Reading.{ReadMessage, ReadToEnd}
 use Rattle.ingest_workers.specs.Taking.{IsOneOf}
 use Rattle.ingest_workers.proofs.DoingLemmas.{each_err}
 use Rattle.ingest_workers.proofs.NamingLemmas.{named_self}
-use Rattle.ingest_workers.proofs.TakingLemmas.{err_at, named_more, none_at, ok_at, room_for_one, some_at, taking_more, took_all, took_last, took_part, took_stop}
+use Rattle.ingest_workers.proofs.TakingLemmas.{err_at, learned_more, named_more, none_at, ok_at, room_for_one, some_at, taking_more, took_all, took_last, took_part, took_stop}
+use Rattle.std.proofs.Common.{subst}
+use Rattle.std.specs.Prelude.{None, Ok, Option, Some}
+use Rattle.std.proofs.lemmas.Result.{err_from_is_err_and}
+use Rattle.ingest_workers.specs.declared.stop.Stop.{Stop}
+use Rattle.ingest_workers.specs.Turns.{LearnBoth, stop_in}
+use Rattle.ingest_workers.proofs.TurnsLemmas.{learn_self, stop_none, stop_same}
 use Rattle.ingest_workers.proofs.taking.take_next.Goals as goal
 
 pub returns-in-Ok-None-clause-names : goal.returns-in-Ok-None-clause-names
@@ -81,3 +87,40 @@ returns-then-mark-clause-steady g c =
 pub returns-else-mark-clause-steady : goal.returns-else-mark-clause-steady
 returns-else-mark-clause-steady g c =
     ok_at c.advance.result c.in-Ok-Some.field-0 (g.S.Source.faults c.advance.new.self.source ≡ g.S.Source.faults c.args.reader.now.source) (search rules) (c.advance.ensures.counts c.requires.taking.3.going).steady
+
+-- ---- turns
+
+pub returns-in-Ok-None-clause-turns : goal.returns-in-Ok-None-clause-turns
+returns-in-Ok-None-clause-turns g c = λ bytes start taken t. learn_self g.D.Disk.state (IsOneOf c.args.namer.now.version bytes) None c.args.keeper.now c.args.namer.now
+
+pub returns-in-Err-clause-turns : goal.returns-in-Err-clause-turns
+returns-in-Err-clause-turns g c = λ bytes start taken t. learn_self g.D.Disk.state (IsOneOf c.args.namer.now.version bytes) _ c.args.keeper.now c.args.namer.now
+
+pub returns-in_err-take_one-clause-turns : goal.returns-in_err-take_one-clause-turns
+returns-in_err-take_one-clause-turns g c = λ bytes start taken t.
+    let p = err_from_is_err_and c.from_residual.result c.from_residual.ensures.1 in
+    let is : c.from_residual.result ≡ Err p.0 = p.1 in
+    let there : c.take_one.result ≡ Err p.0 = search rules in
+    learned_more g.D.Disk.state g.S.Source.left c.args.rows bytes start c.args.keeper.now c.args.namer.now c.args.hand.now c.args.reader.now c.advance.new.self taken t g.S.Source.name g.S.Source.faults c.advance.ensures.stays
+    c.message.result.now c.message.ensures c.take_one.new.keeper c.take_one.new.namer c.take_one.new.hand c.in-Ok-Some.mark.ended (some_at c.in-Ok-Some.field-0 c.in-Ok-Some.mark (λ m. ReadMessage g.S.Source.left m.ended c.args.reader.now c.advance.new.self) (search rules) c.in-Ok-Some.ensures.message)
+    (stop_in c.from_residual.result)
+    (subst (λ (s : Option Stop). LearnBoth g.D.Disk.state (λ m. m ≡ c.message.result.now) s c.args.keeper.now c.take_one.new.keeper c.args.namer.now c.take_one.new.namer)
+    (stop_same c.take_one.result c.from_residual.result p.0 there is) c.take_one.ensures.turns)
+
+pub returns-then-mark-clause-turns : goal.returns-then-mark-clause-turns
+returns-then-mark-clause-turns g c = λ bytes start taken t.
+    let went : c.take_one.result ≡ Ok c.in_ok-take_one.field-0 = c.in_ok-take_one.was in
+    learned_more g.D.Disk.state g.S.Source.left c.args.rows bytes start c.args.keeper.now c.args.namer.now c.args.hand.now c.args.reader.now c.advance.new.self taken t g.S.Source.name g.S.Source.faults c.advance.ensures.stays
+    c.message.result.now c.message.ensures c.take_one.new.keeper c.take_one.new.namer c.take_one.new.hand c.in-Ok-Some.mark.ended (some_at c.in-Ok-Some.field-0 c.in-Ok-Some.mark (λ m. ReadMessage g.S.Source.left m.ended c.args.reader.now c.advance.new.self) (search rules) c.in-Ok-Some.ensures.message)
+    None
+    (subst (λ (s : Option Stop). LearnBoth g.D.Disk.state (λ m. m ≡ c.message.result.now) s c.args.keeper.now c.take_one.new.keeper c.args.namer.now c.take_one.new.namer)
+    (stop_none c.take_one.result c.in_ok-take_one.field-0 went) c.take_one.ensures.turns)
+
+pub returns-else-mark-clause-turns : goal.returns-else-mark-clause-turns
+returns-else-mark-clause-turns g c = λ bytes start taken t.
+    let went : c.take_one.result ≡ Ok c.in_ok-take_one.field-0 = c.in_ok-take_one.was in
+    learned_more g.D.Disk.state g.S.Source.left c.args.rows bytes start c.args.keeper.now c.args.namer.now c.args.hand.now c.args.reader.now c.advance.new.self taken t g.S.Source.name g.S.Source.faults c.advance.ensures.stays
+    c.message.result.now c.message.ensures c.take_one.new.keeper c.take_one.new.namer c.take_one.new.hand c.in-Ok-Some.mark.ended (some_at c.in-Ok-Some.field-0 c.in-Ok-Some.mark (λ m. ReadMessage g.S.Source.left m.ended c.args.reader.now c.advance.new.self) (search rules) c.in-Ok-Some.ensures.message)
+    None
+    (subst (λ (s : Option Stop). LearnBoth g.D.Disk.state (λ m. m ≡ c.message.result.now) s c.args.keeper.now c.take_one.new.keeper c.args.namer.now c.take_one.new.namer)
+    (stop_none c.take_one.result c.in_ok-take_one.field-0 went) c.take_one.ensures.turns)

@@ -5,6 +5,7 @@ use Rattle.archive_meaning.proofs.FormLemmas.{rows_numbers_few}
 use Rattle.ingest_workers.specs.declared.outcome.Cause.TheVariants.{ArchiveFull}
 use Rattle.ingest_workers.specs.Namer.{types_seen}
 use Rattle.ingest_workers.proofs.MaySealLemmas.{next_of, nothing_sealed, on_err, numbers_of, room_for}
+use Rattle.ingest_workers.proofs.TurnsLemmas.{one_self}
 use Rattle.ingest_workers.proofs.hand.Hand.seal.Goals as goal
 
 pub returns-in_err-words-clause-refused : goal.returns-in_err-words-clause-refused
@@ -33,3 +34,6 @@ returns-in_err-seal_draft-clause-full g c = λ end need is.
     let there : IsErrOf c.seal_draft.result (ArchiveFull end need) = search rules in
     room_for g.D.Disk.state c.args.self.now (record c.args.self.now.draft { words = c.new.result }) end need c.args.keeper.now c.seal_draft.new.keeper c.args.namer.now c.seal_draft.new.namer refl
     (c.new.ensures ∙ (c.in_ok-words.ensures.is ∙ ap sorted_set c.as_slice.ensures.value)) (c.seal_draft.ensures.full end need there)
+
+pub returns-in_err-words-clause-turns : goal.returns-in_err-words-clause-turns
+returns-in_err-words-clause-turns g c = one_self c.args.namer.now

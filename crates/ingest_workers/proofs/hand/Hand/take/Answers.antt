@@ -1,4 +1,11 @@
-use Rattle.std.proofs.Common.{◌++◌, ◌∷◌, [], length, arith, ap, ◌∙◌}
+use Rattle.std.proofs.Common.{◌≡◌, inl, inr, ◌++◌, ◌∷◌, [], length, arith, refl, sym, ap, ◌∙◌}
+use Rattle.std.specs.Prelude.{Err, None, Ok, Result, Some}
+use Rattle.std.proofs.lemmas.Result.{err_from_is_err_and}
+use Rattle.row_codec.specs.declared.namer.NameRefusal.{NameRefusal}
+use Rattle.row_codec.specs.Naming.{refusal_of}
+use Rattle.ingest_workers.specs.declared.stop.Stop.{Stop}
+use Rattle.ingest_workers.specs.Stop.{stop_by}
+use Rattle.ingest_workers.specs.Turns.{stop_in}
 use Rattle.column_store.specs.declared.row.Row.{Row}
 use Rattle.row_codec.specs.Encoding.{row_held}
 use Rattle.ingest_workers.proofs.HandLemmas.{row_short, in_hand_more}
@@ -20,3 +27,45 @@ returns-clause-taken g c = λ messages has.
     (row_held c.name.new.self) c.name.new.self.used.items _ _ c.name.ensures.types.front c.name.ensures.words.front c.in_ok-name.ensures.row c.in_ok-name.ensures.used
     (c.in_ok-push.ensures.rows ∙ ap (λ r. c.args.self.now.draft.columns.rows ++ r ∷ []) c.row.ensures) c.in_ok-push.ensures.bytes
     (c.in_ok-extend_from_slice.ensures.items ∙ ap (λ l. c.args.self.now.used.items ++ l) c.used.ensures) has
+
+-- ---- what was asked
+
+pub returns-in_err-read-clause-asked : goal.returns-in_err-read-clause-asked
+returns-in_err-read-clause-asked g c = inl refl
+
+pub returns-in_err-name-clause-asked : goal.returns-in_err-name-clause-asked
+returns-in_err-name-clause-asked g c =
+    let p = err_from_is_err_and c.from_residual-in_err-name.result c.from_residual-in_err-name.ensures.1 in
+    let was : c.name.result ≡ Err c.in_err-name.field-0.0 = c.in_err-name.was in
+    let answer : c.from_residual-in_err-name.result ≡ Err (stop_by c.in_err-name.field-0.0) = cc (p.1, p.2) in inr (record {
+      refusal = refusal_of c.name.result;
+      asked = c.name.ensures.asked;
+      told = λ r is.
+          let given : Some c.in_err-name.field-0.0 ≡ Some r = sym (ap (λ (x : Result (Unit {0}) NameRefusal). refusal_of x) was) ∙ is in
+          let same : c.in_err-name.field-0.0 ≡ r = cc (given) in
+          ap (λ (x : Result (Unit {0}) Stop). stop_in x) answer ∙ ap (λ (x : NameRefusal). Some (stop_by x)) same;
+    })
+
+pub returns-in_err-extend_from_slice-clause-asked : goal.returns-in_err-extend_from_slice-clause-asked
+returns-in_err-extend_from_slice-clause-asked g c =
+    let named : c.name.result ≡ Ok c.in_ok-name.field-0 = c.in_ok-name.was in inr (record {
+      refusal = refusal_of c.name.result;
+      asked = c.name.ensures.asked;
+      told = λ r is. let none : None ≡ Some r = sym (ap (λ (x : Result (Unit {0}) NameRefusal). refusal_of x) named) ∙ is in absurd (cc (none));
+    })
+
+pub returns-in_err-push-clause-asked : goal.returns-in_err-push-clause-asked
+returns-in_err-push-clause-asked g c =
+    let named : c.name.result ≡ Ok c.in_ok-name.field-0 = c.in_ok-name.was in inr (record {
+      refusal = refusal_of c.name.result;
+      asked = c.name.ensures.asked;
+      told = λ r is. let none : None ≡ Some r = sym (ap (λ (x : Result (Unit {0}) NameRefusal). refusal_of x) named) ∙ is in absurd (cc (none));
+    })
+
+pub returns-clause-asked : goal.returns-clause-asked
+returns-clause-asked g c =
+    let named : c.name.result ≡ Ok c.in_ok-name.field-0 = c.in_ok-name.was in inr (record {
+      refusal = refusal_of c.name.result;
+      asked = c.name.ensures.asked;
+      told = λ r is. let none : None ≡ Some r = sym (ap (λ (x : Result (Unit {0}) NameRefusal). refusal_of x) named) ∙ is in absurd (cc (none));
+    })
