@@ -1,4 +1,5 @@
 pub mod Outcome
+pub mod Full
 pub mod Causes
 pub mod Stop
 pub mod Parts
@@ -15,6 +16,7 @@ pub mod Done
 pub mod Taking
 pub mod JobDone
 pub mod Worker
+pub mod Desk
 pub mod WorkerLaws
 pub mod Crew
 pub mod Locked
