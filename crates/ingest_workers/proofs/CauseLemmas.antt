@@ -2,18 +2,15 @@
 use Rattle.std.proofs.Common.{◌≡◌, ℕ, List, refl, ◌∙◌, Option, None, Some}
 use Rattle.log_seams.specs.Disk.{DiskState}
 use Rattle.turn_lock.specs.Words.{about}
-use Rattle.dict_lock.specs.Shared.{BookPass}
 use Rattle.row_codec.specs.declared.namer.Which.{Which}
-use Rattle.row_codec.specs.declared.namer.Which.TheVariants.{Types, Words}
 use Rattle.row_codec.specs.declared.namer.NameRefusal.{NameRefusal}
 use Rattle.row_codec.specs.declared.namer.NameRefusal.TheVariants.{Full as NameFull, OutOfMemory as NoMemory}
-use Rattle.row_codec.specs.Naming.{MeetsLimit}
 use Rattle.disk_seal.specs.Fixed.{KeeperPass}
-use Rattle.disk_seal.specs.Known.{known_of}
 use Rattle.ingest_workers.specs.declared.outcome.Cause.{Cause}
 use Rattle.ingest_workers.specs.declared.outcome.Cause.TheVariants.{ReadFault, LineTooLong, TooManyLines, Full, DiskFault, ArchiveFull, OutOfMemory}
 use Rattle.ingest_workers.specs.declared.stop.Stop.TheVariants.{Part as PartStop, Lost}
-use Rattle.ingest_workers.specs.Causes.{Grounds, Limits, Log, HasJobCause, HasLogCause, HasSealCause, IsFullCause, NoneFailed, grounds_of, limit_of, limits_by}
+use Rattle.ingest_workers.specs.Causes.{Grounds, Log, HasJobCause, HasLogCause, HasSealCause, IsFullCause, NoneFailed, grounds_of}
+use Rattle.ingest_workers.specs.Full.{Books, IsOneOf, WasFullFor}
 use Rattle.ingest_workers.specs.Stop.{IsNameStop, stop_by}
 
 -- ---- a message that is not named
@@ -22,18 +19,14 @@ pub name_stop : (r : NameRefusal) → IsNameStop (stop_by r)
 name_stop (NameFull book count) = tt
 name_stop NoMemory = tt
 
-pub full_cause : (limits : Limits) (cause : Cause) → IsNameStop (PartStop cause) → ((book : Which) (count : ℕ) → cause ≡ Full book count → count ≡ limit_of limits book) → IsFullCause limits cause
-full_cause limits ReadFault named full = absurd named
-full_cause limits (LineTooLong line) named full = absurd named
-full_cause limits TooManyLines named full = absurd named
-full_cause limits (Full book count) named full = full book count refl
-full_cause limits (DiskFault opened now) named full = absurd named
-full_cause limits OutOfMemory named full = absurd named
-full_cause limits (ArchiveFull end need) named full = absurd named
-
-pub limit_met : (version : ℕ) (message : List ℕ) (book : Which) (count : ℕ) (types before words : BookPass) → MeetsLimit version message book count (known_of types) (known_of before) (known_of words) → count ≡ limit_of (limits_by types words) book
-limit_met version message Types count types before words met = met.2.most
-limit_met version message Words count types before words met = met.3.most
+pub full_cause : (fills : Which → ℕ → Type 0) (cause : Cause) → IsNameStop (PartStop cause) → ((book : Which) (count : ℕ) → cause ≡ Full book count → fills book count) → IsFullCause fills cause
+full_cause fills ReadFault named full = absurd named
+full_cause fills (LineTooLong line) named full = absurd named
+full_cause fills TooManyLines named full = absurd named
+full_cause fills (Full book count) named full = full book count refl
+full_cause fills (DiskFault opened now) named full = absurd named
+full_cause fills OutOfMemory named full = absurd named
+full_cause fills (ArchiveFull end need) named full = absurd named
 
 module _ {D : Type 0} (state : D → DiskState) (start p : KeeperPass D) where
   pub lost_cause : (cause : Cause) → IsNameStop (Lost cause) → HasSealCause state start p cause
@@ -46,14 +39,14 @@ module _ {D : Type 0} (state : D → DiskState) (start p : KeeperPass D) where
   lost_cause (ArchiveFull end need) named = absurd named
 
 -- no read failed before it
-pub name_cause : (limits : Limits) (log : Log) (version : ℕ) (taken : List (List ℕ)) (cause : Cause) → NoneFailed log → IsFullCause limits cause → HasLogCause (λ book count. count ≡ limit_of limits book) log version taken cause
-name_cause limits log version taken ReadFault steady full = absurd full
-name_cause limits log version taken (LineTooLong line) steady full = absurd full
-name_cause limits log version taken TooManyLines steady full = absurd full
-name_cause limits log version taken (Full book count) steady full = (steady, full)
-name_cause limits log version taken (DiskFault opened now) steady full = absurd full
-name_cause limits log version taken OutOfMemory steady full = absurd full
-name_cause limits log version taken (ArchiveFull end need) steady full = absurd full
+pub name_cause : (fills full : Which → ℕ → Type 0) → ((book : Which) (count : ℕ) → fills book count → full book count) → (log : Log) (version : ℕ) (taken : List (List ℕ)) (cause : Cause) → NoneFailed log → IsFullCause fills cause → HasLogCause full log version taken cause
+name_cause fills full f log version taken ReadFault steady is = absurd is
+name_cause fills full f log version taken (LineTooLong line) steady is = absurd is
+name_cause fills full f log version taken TooManyLines steady is = absurd is
+name_cause fills full f log version taken (Full book count) steady is = (steady, f book count is)
+name_cause fills full f log version taken (DiskFault opened now) steady is = absurd is
+name_cause fills full f log version taken OutOfMemory steady is = absurd is
+name_cause fills full f log version taken (ArchiveFull end need) steady is = absurd is
 
 -- ---- a segment that is not sealed
 
@@ -70,9 +63,9 @@ module _ {D : Type 0} (state : D → DiskState) (start p q : KeeperPass D) (same
 
 -- ---- a job
 
-module _ {D : Type 0} (state : D → DiskState) (limits : Limits) (start q : KeeperPass D) (log : Log) (version : ℕ) (sealed : List (List ℕ)) where
+module _ {D : Type 0} (state : D → DiskState) (books : Books) (start q : KeeperPass D) (log : Log) (version : ℕ) (sealed : List (List ℕ)) where
   abbrev grounds : Grounds
-  grounds = grounds_of state limits start q
+  grounds = grounds_of state version books log.bytes start q
 
   pub of_seal : (cause : Cause) → HasSealCause state start q cause → HasJobCause grounds log version sealed (Some cause)
   of_seal ReadFault has = absurd has
@@ -83,7 +76,7 @@ module _ {D : Type 0} (state : D → DiskState) (limits : Limits) (start q : Kee
   of_seal OutOfMemory has = tt
   of_seal (ArchiveFull end need) has = has
 
-  pub of_log : (cause : Cause) → HasLogCause (λ book count. count ≡ limit_of limits book) log version sealed cause → HasJobCause grounds log version sealed (Some cause)
+  pub of_log : (cause : Cause) → HasLogCause (WasFullFor version (IsOneOf version log.bytes) books) log version sealed cause → HasJobCause grounds log version sealed (Some cause)
   of_log ReadFault has = has
   of_log (LineTooLong line) has = has
   of_log TooManyLines has = has

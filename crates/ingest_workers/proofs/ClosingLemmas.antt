@@ -30,10 +30,14 @@ use Rattle.ingest_workers.specs.declared.job.Job.{Job}
 use Rattle.ingest_workers.specs.declared.worker.Plan.{Plan}
 use Rattle.ingest_workers.specs.declared.worker.Worker.{Worker}
 use Rattle.ingest_workers.specs.Naming.{AddsOnly}
-use Rattle.ingest_workers.specs.Worker.{IsIdle, IsGiven, DidOnly, types_of, words_of}
+use Rattle.ingest_workers.specs.Worker.{IsIdle, IsGiven, DidOnly, books_in, types_of, words_of}
 use Rattle.ingest_workers.specs.WorkerLaws.{given_wider}
-use Rattle.ingest_workers.specs.Crew.{BookMaker, HasEnrolled, MayDismiss, EndsBook}
-use Rattle.ingest_workers.specs.Ingested.{OpensBook, IsTypeGiven, IsWordGiven, HasEndedBooks, HasIngested, told_entries}
+use Rattle.ingest_workers.specs.Crew.{BookMaker, HasEnded, HasEnrolled, MayDismiss, EndsBook}
+use Rattle.ingest_workers.specs.Ingested.{OpensBook, IsTypeGiven, IsWordGiven, HasEndedBooks, HasIngested, books_at, told_entries}
+use Rattle.disk_seal.specs.Known.{limit_in}
+use Rattle.row_codec.specs.declared.namer.Which.{Which}
+use Rattle.row_codec.specs.declared.namer.Which.TheVariants.{Types as WhichTypes, Words as WhichWords}
+use Rattle.ingest_workers.specs.Full.{IsMore, book_of}
 use Rattle.ingest_workers.proofs.CrewLemmas.{map_at, map_back, map_count}
 
 module _ {G : Ghosts BookState (List ℕ) ℕ} where
@@ -126,6 +130,18 @@ module _ {S : Type 0} (left : S → Option (List ℕ)) {G : Ghosts BookState (Li
         subst (λ (x : BookPass). IsStill p x) v.2 (subst (λ (x : BookPass). IsStill x (words_of v.0)) same r.3.4.names.words.goes.still);
   }
 
+  -- once the makers have joined all, they know what each worker does of the books
+  pub books_known : (types' words' : BookMaker G) (types_reader words_reader : BookPass) → HasEnded t2 types' w2 words' types_reader words_reader ws' → (i : ℕ) (v : Worker) → slice_get ws' i ≡ Some v
+      → (book : Which) → IsMore (book_of (books_in v) book) (book_of (books_at types' words') book)
+  books_known types' words' types_reader words_reader ended i v at WhichTypes = let r = worker_at i v at in let f = e.of_types.each i (types_of r.0) (map_at types_of ws i r.0 r.1) in let joined = ended.dismissed.of_types in record {
+    front = (joined.each i (types_of v) (omega arith) (map_at types_of ws' i v at)).seen_on;
+    limit = ap limit_in ((joined.about_is ∙ (ended.types_read.about_is ∙ e.of_types.still.about_is)) ∙ (sym f.about_is ∙ sym r.3.4.names.types.goes.still.about_is));
+  }
+  books_known types' words' types_reader words_reader ended i v at WhichWords = let r = worker_at i v at in let f = e.of_words.each i (words_of r.0) (map_at words_of ws i r.0 r.1) in let joined = ended.dismissed.of_words in record {
+    front = (joined.each i (words_of v) (omega arith) (map_at words_of ws' i v at)).seen_on;
+    limit = ap limit_in ((joined.about_is ∙ (ended.words_read.about_is ∙ e.of_words.still.about_is)) ∙ (sym f.about_is ∙ sym r.3.4.names.words.goes.still.about_is));
+  }
+
   given_all : (version : ℕ) (before piece behind : List (Job S)) (m : List ℕ) → js ≡ before ++ (piece ++ behind) → IsGiven left version piece m → IsGiven left version js m
   given_all version before piece behind m cut g = subst (λ l. IsGiven left version l m) (sym cut) (given_wider left version before piece behind m g)
 
@@ -150,11 +166,11 @@ by_told : (b : Bool) (X : Type 0) → IfTold b X → (b ≡ false → X) → X
 by_told true X x f = x
 by_told false X x f = f refl
 
-types_joined : (xs ys : List JournalEntry) → texts_of_types (xs ++ ys) ≡ texts_of_types xs ++ texts_of_types ys
+pub types_joined : (xs ys : List JournalEntry) → texts_of_types (xs ++ ys) ≡ texts_of_types xs ++ texts_of_types ys
 types_joined [] ys = refl
 types_joined (x ∷ xs) ys = ap (λ l. types_in x ++ l) (types_joined xs ys) ∙ sym (append_assoc (types_in x) (texts_of_types xs) (texts_of_types ys))
 
-words_joined : (xs ys : List JournalEntry) → texts_of_words (xs ++ ys) ≡ texts_of_words xs ++ texts_of_words ys
+pub words_joined : (xs ys : List JournalEntry) → texts_of_words (xs ++ ys) ≡ texts_of_words xs ++ texts_of_words ys
 words_joined [] ys = refl
 words_joined (x ∷ xs) ys = ap (λ l. words_in x ++ l) (words_joined xs ys) ∙ sym (append_assoc (words_in x) (texts_of_words xs) (texts_of_words ys))
 

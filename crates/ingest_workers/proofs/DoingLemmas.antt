@@ -26,7 +26,7 @@ use Rattle.ingest_workers.specs.declared.stop.Stop.TheVariants.{Part as PartStop
 use Rattle.ingest_workers.specs.Stopping.{IsAtStop}
 use Rattle.row_codec.specs.declared.namer.Which.{Which}
 use Rattle.ingest_workers.specs.declared.outcome.Cause.TheVariants.{Full}
-use Rattle.ingest_workers.specs.Causes.{limit_of, limits_by}
+use Rattle.ingest_workers.specs.Full.{WasFullFor, books_by}
 use Rattle.ingest_workers.specs.Stop.{IsNameStop}
 use Rattle.ingest_workers.proofs.CauseLemmas.{full_cause, lost_cause}
 use Rattle.ingest_workers.proofs.MaySealLemmas.{nothing_sealed}
@@ -154,9 +154,9 @@ module _ {D R A B C : Type 0} (state : D → DiskState) (limit : ℕ) (start p :
 
   -- a message was not taken
   pub not_taken : (n : LockNamer R A B C) (new : Hand) (line : List ℕ) (y : Stop) → HasSamePasses m n → IsPrefix (types_seen m) (types_seen n) → IsPrefix (words_seen m) (words_seen n) → SameMarks hand new
-      → ((cause : Cause) → y ≡ PartStop cause → SameRows hand new) → IsNameStop y → ((book : Which) (count : ℕ) → y ≡ PartStop (Full book count) → count ≡ limit_of (limits_by (types_pass n) (words_pass n)) book)
+      → ((cause : Cause) → y ≡ PartStop cause → SameRows hand new) → IsNameStop y → ((book : Which) (count : ℕ) → y ≡ PartStop (Full book count) → WasFullFor n.version (λ m. m ≡ line) (books_by (types_pass n) (words_pass n)) book count)
       → IsAtStop state limit start p n new taken line y
-  not_taken n new line (PartStop cause) same a b marks rows named full = (doing_kept n new same a b marks (rows cause refl), full_cause (limits_by (types_pass n) (words_pass n)) cause named (λ book count is. full book count (ap PartStop is)))
+  not_taken n new line (PartStop cause) same a b marks rows named full = (doing_kept n new same a b marks (rows cause refl), full_cause (WasFullFor n.version (λ m. m ≡ line) (books_by (types_pass n) (words_pass n))) cause named (λ book count is. full book count (ap PartStop is)))
   not_taken n new line (Lost cause) same a b marks rows named full = (covering p new line (nothing_sealed state p d.worker.ready) marks.first, lost_cause state start p cause named)
 
   module _ (n : LockNamer R A B C) (new : Hand) (row : Row) (line : List ℕ) (same : HasSamePasses m n) (marks : SameMarks hand new) (pushed : new.draft.columns.rows ≡ hand.draft.columns.rows ++ row ∷ [])

@@ -22,7 +22,7 @@ use Rattle.disk_seal.specs.Fixed.{KeeperPass}
 use Rattle.disk_seal.proofs.ToldLemmas.{told_map}
 use Rattle.ingest_workers.specs.declared.job.Job.{Job}
 use Rattle.ingest_workers.specs.declared.worker.Plan.{Plan}
-use Rattle.ingest_workers.specs.Causes.{Limits}
+use Rattle.ingest_workers.specs.Full.{Books}
 use Rattle.ingest_workers.specs.JobDone.{IsDone, in_source}
 use Rattle.ingest_workers.specs.Journal.{FrontHolds, segments_in, entries_at, sealed_by}
 use Rattle.ingest_workers.specs.Locked.{in_file}
@@ -66,10 +66,10 @@ entries_same [] = refl
 entries_same (x ∷ xs) = ap (λ l. x.1 ∷ l) (entries_same xs)
 
 module _ {S D : Type 0} {d : DiskGhosts D} (left name : S → Option (List ℕ)) (faults : S → ℕ) (plan : Plan) (before : Journal D d) where
-  pub file_of : (fresh : List JournalEntry) (old new : Job S) (p q : KeeperPass D) (over : About (StoreFixed D)) (limits : Limits) → IsDone d.state left name faults plan.rows plan.version limits old p new q → number_of p ≡ old.file → about p ≡ Some over
+  pub file_of : (fresh : List JournalEntry) (old new : Job S) (p q : KeeperPass D) (over : About (StoreFixed D)) (books : Books) → IsDone d.state left name faults plan.rows plan.version books old p new q → number_of p ≡ old.file → about p ≡ Some over
       → over.fixed.opened ≡ before.disk.now → over.fixed.header ≡ before.header → own_list p ≡ []
       → filter_map (in_file old.file) fresh ≡ filter_map (in_file old.file) (journal_seen (entries_in (own_list q))) → IsPrefix (journal_seen (seen q)) (told_entries (state_of before) ++ fresh) → IsFileOf left plan before fresh old new
-  file_of fresh old new p q over limits done number known opened header own picked seen_on = let o = done.came in let h = o.done in record {
+  file_of fresh old new p q over books done number known opened header own picked seen_on = let o = done.came in let h = o.done in record {
     file = done.file;
     covered = o.covered;
     ended = o.ended;

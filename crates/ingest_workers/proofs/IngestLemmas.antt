@@ -36,15 +36,18 @@ use Rattle.disk_seal.proofs.ToldLemmas.{told_map}
 use Rattle.ingest_workers.specs.declared.job.Job.{Job}
 use Rattle.ingest_workers.specs.declared.worker.Plan.{Plan}
 use Rattle.ingest_workers.specs.declared.worker.Worker.{Worker}
-use Rattle.ingest_workers.specs.JobDone.{IsDone}
+use Rattle.ingest_workers.specs.JobDone.{IsDone, in_source}
 use Rattle.ingest_workers.specs.Journal.{Holds}
-use Rattle.ingest_workers.specs.Worker.{IsIdle, limits_in, types_of as types_pass, words_of as words_pass}
+use Rattle.ingest_workers.specs.Worker.{IsGiven, IsIdle, books_in, types_of as types_pass, words_of as words_pass}
 use Rattle.ingest_workers.specs.Crew.{BookMaker, HavePlan, HasEnrolled}
 use Rattle.ingest_workers.specs.Locked.{in_file, file_segment, list_of, list_behind, IsPassOf, IsStillStore, MayDoAt, HasWorked}
-use Rattle.ingest_workers.specs.Ingested.{first_file, told_entries, AreNew, IsOfJobs, OpensBook, opened_over, IsLeftBy, IsAsItWas, IsFileOf, HasStored, HasItsCause, HaveCauses, grounds_over, header_limits}
-use Rattle.disk_seal.specs.Known.{limit_in}
+use Rattle.ingest_workers.specs.Ingested.{first_file, told_entries, AreNew, IsOfJobs, OpensBook, opened_over, IsLeftBy, IsAsItWas, IsFileOf, HasStored, HasItsCause, HaveCausesIn, grounds_over}
+use Rattle.row_codec.specs.declared.namer.Which.{Which}
 use Rattle.turn_lock.proofs.FrontLemmas.{prefix_trans}
-use Rattle.ingest_workers.specs.Causes.{Limits, grounds_of, limit_of, log_of}
+use Rattle.ingest_workers.specs.Causes.{grounds_of, log_of}
+use Rattle.ingest_workers.specs.Desk.{AreAlike}
+use Rattle.ingest_workers.specs.Full.{Books, IsMore, IsOneOf, WasFullFor, book_of}
+use Rattle.ingest_workers.proofs.FullLemmas.{full_wider}
 use Rattle.ingest_workers.proofs.CauseLemmas.{cause_on}
 use Rattle.ingest_workers.specs.Closing.{IsJournalOf}
 use Rattle.ingest_workers.proofs.FileLemmas.{file_of}
@@ -190,7 +193,7 @@ module _ {S D : Type 0} {d : DiskGhosts D} (left name : S → Option (List ℕ))
         behind = ap (drop (length (list_of d.state opened))) (sym h.front.1) ∙ drop_front (list_of d.state opened) h.front.0
 
         number_at : (i : ℕ) (job : Job S) (q : KeeperPass D) → slice_get js i ≡ Some job → slice_get h.passes' i ≡ Some q → number_of q ≡ job.file
-        number_at i job q at is = let r = did_at d.state left name faults ws js js' h.passes h.passes' h.counted h.done i q is in
+        number_at i job q at is = let r = did_at d.state left name faults (books_in h.knows) ws js js' h.passes h.passes' h.counted h.done i q is in
             r.2.added.still.number ∙ ((h.opened i r.0 r.1).number ∙ sym (new i job at).file_is)
 
         each : (k : ℕ) (x : StoreEntry) → slice_get (list_behind d.state opened store) k ≡ Some x → OfEntry (IsOfJobs js) x
@@ -207,11 +210,11 @@ module _ {S D : Type 0} {d : DiskGhosts D} (left name : S → Option (List ℕ))
         file : (i : ℕ) (job : Job S) → slice_get js i ≡ Some job → (new : Job S) × (slice_get js' i ≡ Some new) × IsFileOf left plan before (journal_seen (list_behind d.state opened store)) job new
         file i job at = let even = h.counted in let lt = slice_get_within js i job at in let p = there_is h.passes i (omega arith) in
             let f = h.done.each i job p.0 at p.1 in let o = h.opened i p.0 p.1 in let n = number_at i job f.keeper at f.keeper_is in
-            let done : IsDone d.state left name faults plan.rows plan.version (limits_in f.worker) job p.0 f.job f.keeper = subst (λ (x : Plan). IsDone d.state left name faults x.rows x.version (limits_in f.worker) job p.0 f.job f.keeper) (planned f.place f.worker f.worker_is) f.did_it in
+            let done : IsDone d.state left name faults plan.rows plan.version (books_in h.knows) job p.0 f.job f.keeper = subst (λ (x : Plan). IsDone d.state left name faults x.rows x.version (books_in h.knows) job p.0 f.job f.keeper) (planned f.place f.worker f.worker_is) f.did_it in
             let number : number_of p.0 ≡ job.file = o.number ∙ sym (new i job at).file_is in (
               f.job,
               f.job_is,
-              file_of left name faults plan before (journal_seen (list_behind d.state opened store)) job f.job p.0 f.keeper (record { first = first; start = length (list_of d.state opened); fixed = fixed_of opened }) (limits_in f.worker) done number o.about_is refl refl o.own_is
+              file_of left name faults plan before (journal_seen (list_behind d.state opened store)) job f.job p.0 f.keeper (record { first = first; start = length (list_of d.state opened); fixed = fixed_of opened }) (books_in h.knows) done number o.about_is refl refl o.own_is
                   (subst (λ (x : ℕ). filter_map (in_file x) (journal_seen (list_behind d.state opened store)) ≡ filter_map (in_file x) (journal_seen (entries_in (own_list f.keeper)))) n
                   (sym (picked_seen (number_of f.keeper) (list_behind d.state opened store)) ∙ (h.files i f.keeper f.keeper_is ∙ picked_seen (number_of f.keeper) (entries_in (own_list f.keeper)))))
                   (subst (λ es. IsPrefix (journal_seen (seen f.keeper)) es) all_now (seen_front (seen f.keeper) (list_of d.state store) (h.seen_on i f.keeper f.keeper_is))),
@@ -251,15 +254,18 @@ module _ {S D : Type 0} {d : DiskGhosts D} (left name : S → Option (List ℕ))
         (λ (most : 2 ^ 64 - 1 ≤ stopped.0). let le = fault.1 in let more : Rose (d.state store.opened).faults (d.state store.disk).faults = inr (omega arith) in more)
         fault.0))
 
-    pub have_causes : (first : ℕ) (plan : Plan) (ws ws' : List Worker) (js js' : List (Job S)) → HavePlan plan ws
-        → ((n : ℕ) (v : Worker) → slice_get ws n ≡ Some v → IfTold (is_some (state_of before).disk.seen) (limits_in v ≡ header_limits before.header))
-        → HasWorked d.state left name faults first ws ws' js js' opened store → IsJournalOf store after → Kept (state_by d.state store) → HaveCauses left name faults plan before after js js'
-    have_causes first plan ws ws' js js' planned limits h back kept = record { counted = h.done.jobs; each = each }
+    pub have_causes : (books : Books) (first : ℕ) (plan : Plan) (ws ws' : List Worker) (js js' : List (Job S)) → HavePlan plan ws
+        → ((i : ℕ) (v : Worker) → slice_get ws' i ≡ Some v → (book : Which) → IsMore (book_of (books_in v) book) (book_of books book))
+        → HasWorked d.state left name faults first ws ws' js js' opened store → IsJournalOf store after → Kept (state_by d.state store) → HaveCausesIn books left name faults plan before after js js'
+    have_causes books first plan ws ws' js js' planned more h back kept = record { counted = h.done.jobs; each = each }
       where
-        each : (i : ℕ) (job : Job S) → slice_get js i ≡ Some job → (new : Job S) × (slice_get js' i ≡ Some new) × HasItsCause left name faults plan before after job new
+        full : Which → ℕ → Type 0
+        full = WasFullFor plan.version (IsGiven left plan.version js) books
+
+        each : (i : ℕ) (job : Job S) → slice_get js i ≡ Some job → (new : Job S) × (slice_get js' i ≡ Some new) × HasItsCause full left name faults plan before after job new
         each i job at = let even = h.counted in let lt = slice_get_within js i job at in let p = there_is h.passes i (omega arith) in
             let f = h.done.each i job p.0 at p.1 in let o = h.opened i p.0 p.1 in
-            let done : IsDone d.state left name faults plan.rows plan.version (limits_in f.worker) job p.0 f.job f.keeper = subst (λ (x : Plan). IsDone d.state left name faults x.rows x.version (limits_in f.worker) job p.0 f.job f.keeper) (planned f.place f.worker f.worker_is) f.did_it in
+            let done : IsDone d.state left name faults plan.rows plan.version (books_in h.knows) job p.0 f.job f.keeper = subst (λ (x : Plan). IsDone d.state left name faults x.rows x.version (books_in h.knows) job p.0 f.job f.keeper) (planned f.place f.worker f.worker_is) f.did_it in
             let log = log_of left faults done.source.before done.source.after in (
               f.job,
               f.job_is,
@@ -268,8 +274,9 @@ module _ {S D : Type 0} {d : DiskGhosts D} (left name : S → Option (List ℕ))
                 sealed = done.came.covered;
                 count = done.came.count;
                 first = done.came.first;
-                cause = cause_on (grounds_of d.state (limits_in f.worker) p.0 f.keeper) (grounds_over before after) log plan.version done.came.covered f.job.outcome.cause
-                    (λ book count is. told_map (is_some (state_of before).disk.seen) (λ same. is ∙ ap (λ l. limit_of l book) same) (limits f.place f.worker f.worker_is))
+                cause = cause_on (grounds_of d.state plan.version (books_in h.knows) (left done.source.before) p.0 f.keeper) (grounds_over full before after) log plan.version done.came.covered f.job.outcome.cause
+                    (full_wider plan.version (IsOneOf plan.version (left done.source.before)) (IsGiven left plan.version js)
+                    (λ m one. (i, job, at, subst (λ b. IsOneOf plan.version b m) (sym (ap (in_source left) done.source.had)) one)) (books_in h.knows) books (more h.place h.knows h.knows_is))
                     (λ end need has. has _ o.about_is)
                     (λ since now has. (
                       has.fault.opened _ o.about_is,
@@ -280,10 +287,10 @@ module _ {S D : Type 0} {d : DiskGhosts D} (left name : S → Option (List ℕ))
               },
             )
 
-    pub causes_by : (o : StoreView D) (f first : ℕ) (plan : Plan) (ws ws' : List Worker) (js js' : List (Job S)) → o ≡ opened → f ≡ first → HavePlan plan ws
-        → ((n : ℕ) (v : Worker) → slice_get ws n ≡ Some v → IfTold (is_some (state_of before).disk.seen) (limits_in v ≡ header_limits before.header))
-        → HasWorked d.state left name faults f ws ws' js js' o store → IsJournalOf store after → Kept (state_by d.state store) → HaveCauses left name faults plan before after js js'
-    causes_by o f first plan ws ws' js js' is same planned limits h back kept = have_causes first plan ws ws' js js' planned limits
+    pub causes_by : (books : Books) (o : StoreView D) (f first : ℕ) (plan : Plan) (ws ws' : List Worker) (js js' : List (Job S)) → o ≡ opened → f ≡ first → HavePlan plan ws
+        → ((i : ℕ) (v : Worker) → slice_get ws' i ≡ Some v → (book : Which) → IsMore (book_of (books_in v) book) (book_of books book))
+        → HasWorked d.state left name faults f ws ws' js js' o store → IsJournalOf store after → Kept (state_by d.state store) → HaveCausesIn books left name faults plan before after js js'
+    causes_by books o f first plan ws ws' js js' is same planned more h back kept = have_causes books first plan ws ws' js js' planned more
         (subst (λ (n : ℕ). HasWorked d.state left name faults n ws ws' js js' opened store) same (subst (λ (x : StoreView D). HasWorked d.state left name faults f ws ws' js js' x store) is h)) back kept
 
     pub ingested_by : (o : StoreView D) (f first : ℕ) (plan : Plan) (ws ws' : List Worker) (js js' : List (Job S)) → o ≡ opened → f ≡ first → AreNew first (state_of before) js → HavePlan plan ws
@@ -429,15 +436,13 @@ module _ {G : Ghosts BookState (List ℕ) ℕ} where
         (t.0, w.0),
       )
 
-  -- and these have the limits of the books
-  pub crew_limits : (told : Bool) (t_limit w_limit : ℕ) (t_texts w_texts : List (List ℕ)) (t_saved w_saved : ℕ) (types t1 t2 words w1 w2 : BookMaker G) (plan : Plan) (vs : List Worker) (count : ℕ)
-      → OpensBook 0 told t_limit t_texts t_saved types → OpensBook WORDS_FIRST told w_limit w_texts w_saved words → IsStillBy types t1 → IsStillBy words w1 → HasEnrolled t1 t2 w1 w2 plan vs count
-      → (n : ℕ) (v : Worker) → slice_get vs n ≡ Some v → IfTold told (let limits : Limits = record { types = t_limit; words = w_limit } in limits_in v ≡ limits)
-  crew_limits told t_limit w_limit t_texts w_texts t_saved w_saved types t1 t2 words w1 w2 plan vs count to wo ts ws e n v at =
-      let t = ap limit_in ((e.of_types.each n (types_pass v) (map_at types_pass vs n v at)).about_is ∙ (ts.about_is ∙ to.opening.about_is)) in
-      let w = ap limit_in ((e.of_words.each n (words_pass v) (map_at words_pass vs n v at)).about_is ∙ (ws.about_is ∙ wo.opening.about_is)) in
-      both told (told_map told (λ b. t ∙ b.1) to.has.are) (told_map told (λ b. w ∙ b.1) wo.has.are)
-    where
-      both : (b : Bool) → IfTold b ((limits_in v).types ≡ t_limit) → IfTold b ((limits_in v).words ≡ w_limit) → IfTold b (let limits : Limits = record { types = t_limit; words = w_limit } in limits_in v ≡ limits)
-      both false t w = tt
-      both true t w = λ i. record { types = t i; words = w i }
+  -- and all are of the same locks
+  pub crew_alike : (t1 t2 w1 w2 : BookMaker G) (plan : Plan) (vs : List Worker) (count : ℕ) → HasEnrolled t1 t2 w1 w2 plan vs count → AreAlike vs
+  crew_alike t1 t2 w1 w2 plan vs count e n k v u at_v at_u =
+      let t = e.of_types.each n (types_pass v) (map_at types_pass vs n v at_v) in let x = e.of_types.each k (types_pass u) (map_at types_pass vs k u at_u) in
+      let w = e.of_words.each n (words_pass v) (map_at words_pass vs n v at_v) in let y = e.of_words.each k (words_pass u) (map_at words_pass vs k u at_u) in record {
+        types = t.lock ∙ sym x.lock;
+        words = w.lock ∙ sym y.lock;
+        types_about = t.about_is ∙ sym x.about_is;
+        words_about = w.about_is ∙ sym y.about_is;
+      }

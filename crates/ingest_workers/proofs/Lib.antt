@@ -1,4 +1,5 @@
 pub mod CauseLemmas
+pub mod FullLemmas
 pub mod RefuseLemmas
 pub mod JournalLemmas
 pub mod HandLemmas
@@ -6,8 +7,10 @@ pub mod SealLemmas
 pub mod MaySealLemmas
 pub mod CrewLemmas
 pub mod LockLemmas
+pub mod DeskLemmas
 pub mod IngestLemmas
 pub mod ClosingLemmas
+pub mod GivenLemmas
 pub mod PartLemmas
 pub mod DoingLemmas
 pub mod DoneLemmas

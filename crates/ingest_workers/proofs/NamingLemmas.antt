@@ -32,13 +32,13 @@ adds_self P p ready = record {
   grown = grows_self P (known_of p);
 }
 
-adds_then : (P : List ℕ → Type 0) (p q r : BookPass) → AddsOnly P p q → AddsOnly P q r → AddsOnly P p r
+pub adds_then : (P : List ℕ → Type 0) (p q r : BookPass) → AddsOnly P p q → AddsOnly P q r → AddsOnly P p r
 adds_then P p q r one two = record { goes = goes_then p q r one.goes two.goes; grown = grows_then P (known_of p) (known_of q) (known_of r) one.grown two.grown }
 
 adds_wider : (P Q : List ℕ → Type 0) → ((t : List ℕ) → P t → Q t) → (p q : BookPass) → AddsOnly P p q → AddsOnly Q p q
 adds_wider P Q wider p q adds = record { goes = adds.goes; grown = grown_wider P Q wider (known_of p) (known_of q) adds.grown }
 
-adds_none : (P : List ℕ → Type 0) (p q : BookPass) → GoesOn p q → own_list q ≡ own_list p → AddsOnly P p q
+pub adds_none : (P : List ℕ → Type 0) (p q : BookPass) → GoesOn p q → own_list q ≡ own_list p → AddsOnly P p q
 adds_none P p q goes own = record {
   goes = goes;
   grown = record {

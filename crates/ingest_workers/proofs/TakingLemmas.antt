@@ -34,8 +34,11 @@ use Rattle.line_cut.specs.Length.{bytes_left}
 use Rattle.line_cut.specs.declared.cut.Cut.{Cut}
 use Rattle.line_cut.specs.declared.cut.Cut.TheVariants.{ReadFault, LineTooLong, TooManyLines, OutOfMemory as CutOutOfMemory}
 use Rattle.line_cut.specs.declared.cut.Mark.{Mark}
-use Rattle.ingest_workers.specs.Causes.{HasJobCause, HasSealCause, HaveMoreThan, Limits, Log, cause_by, grounds_of, log_from, log_of, limits_by}
-use Rattle.disk_seal.specs.Known.{limit_in}
+use Rattle.ingest_workers.specs.Causes.{HasJobCause, HasSealCause, HaveMoreThan, Log, cause_by, grounds_of, log_from, log_of}
+use Rattle.row_codec.specs.declared.namer.Which.{Which}
+use Rattle.ingest_workers.specs.Full.{Books, IsMore, WasFullFor, book_of, books_by}
+use Rattle.ingest_workers.specs.Namer.{HasOnlySeen}
+use Rattle.ingest_workers.proofs.FullLemmas.{books_on, full_wider, more_self}
 use Rattle.ingest_workers.specs.Doing.{Covering, Doing}
 use Rattle.ingest_workers.specs.Done.{IsOutcome}
 use Rattle.ingest_workers.specs.Hand.{IsEmptyHand}
@@ -47,7 +50,7 @@ use Rattle.ingest_workers.specs.Naming.{HasNamed}
 use Rattle.ingest_workers.specs.Parts.{Part, IsCut, IsOpen, columns_of, front, messages_in, segments_from}
 use Rattle.ingest_workers.specs.Stopping.{IsAtStop}
 use Rattle.ingest_workers.specs.Taking.{AreTaken, HasStopCause, IsOneOf, StopsAt, Taking, Took, mark_of, why_of}
-use Rattle.ingest_workers.proofs.CauseLemmas.{name_cause, of_log, of_seal}
+use Rattle.ingest_workers.proofs.CauseLemmas.{cause_on, name_cause, of_log, of_seal}
 use Rattle.ingest_workers.proofs.MaySealLemmas.{nothing_added}
 use Rattle.ingest_workers.proofs.NamingLemmas.{named_then, named_wider}
 use Rattle.ingest_workers.proofs.SealLemmas.{if_told, of_told}
@@ -158,8 +161,8 @@ module _ {S D R A B C : Type 0} (state : D → DiskState) (left : S → Option (
   }
 
   -- the reader refused, and this is its cause
-  module _ (faults : S → ℕ) (result : Result (Option Mark) Cut) (counts : CountsOf ReadFault (faults old.source) (faults new.source) result) (limits : Limits) where
-    cut_cause : (cut : Cut) → IsErrOf result cut → RefusedToRead left faults old new cut → HasStopCause limits (log_from bytes left faults old.source new.source) n.version taken (Err (PartStop (cause_by cut)))
+  module _ (faults : S → ℕ) (result : Result (Option Mark) Cut) (counts : CountsOf ReadFault (faults old.source) (faults new.source) result) (full : Which → ℕ → Type 0) where
+    cut_cause : (cut : Cut) → IsErrOf result cut → RefusedToRead left faults old new cut → HasStopCause full (log_from bytes left faults old.source new.source) n.version taken (Err (PartStop (cause_by cut)))
     cut_cause ReadFault is r = (counts.failed is, reading_before_refusal left faults n.version bytes taken old new ReadFault t.read r t.going)
     cut_cause (LineTooLong line) is r = let g = reading_before_refusal left faults n.version bytes taken old new (LineTooLong line) t.read r t.going in (counts.spared (LineTooLong line) is (λ e. cc (e)), g.0, g.1)
     cut_cause TooManyLines is r = (
@@ -170,16 +173,15 @@ module _ {S D R A B C : Type 0} (state : D → DiskState) (left : S → Option (
     )
     cut_cause CutOutOfMemory is r = absurd (r.cause t.going)
 
-    pub took_part : (cut : Cut) (cause : Cause) → cause ≡ cause_by cut → IsErrOf result cut → RefusedToRead left faults old new cut → limits ≡ limits_by (types_pass n) (words_pass n)
-        → Took state limit n.version (log_from bytes left faults old.source new.source) start p n hand (Err (PartStop cause))
-    took_part cut cause same is r by = record {
-      taken = taken;
-      few = t.few;
-      stops = t.doing;
-      told = front_of left n.version bytes taken old t.read;
-      caused = subst (λ x. HasStopCause (limits_by (types_pass n) (words_pass n)) (log_from bytes left faults old.source new.source) n.version taken (Err (PartStop x))) (sym same)
-          (subst (λ l. HasStopCause l (log_from bytes left faults old.source new.source) n.version taken (Err (PartStop (cause_by cut)))) by (cut_cause cut is r));
-    }
+  pub took_part : (faults : S → ℕ) (result : Result (Option Mark) Cut) → CountsOf ReadFault (faults old.source) (faults new.source) result → (cut : Cut) (cause : Cause) → cause ≡ cause_by cut → IsErrOf result cut → RefusedToRead left faults old new cut
+      → Took state limit n.version (log_from bytes left faults old.source new.source) start p n hand (Err (PartStop cause))
+  took_part faults result counts cut cause same is r = let full = WasFullFor n.version (IsOneOf n.version bytes) (books_by (types_pass n) (words_pass n)) in record {
+    taken = taken;
+    few = t.few;
+    stops = t.doing;
+    told = front_of left n.version bytes taken old t.read;
+    caused = subst (λ x. HasStopCause full (log_from bytes left faults old.source new.source) n.version taken (Err (PartStop x))) (sym same) (cut_cause faults result counts full cut is r);
+  }
 
   pub room_for_one : (ended : Bool) → ReadMessage left ended old new → length taken < MAX_MESSAGES
   room_for_one ended m = omega (arith, m.within, t.read.given)
@@ -207,15 +209,18 @@ module _ {S D R A B C : Type 0} (state : D → DiskState) (left : S → Option (
       pub learned_more : (ended : Bool) → ReadMessage left ended old new → (stop : Option Stop) → LearnBoth state (λ x. x ≡ line) stop p q n o → LearnBoth state (IsOneOf n.version bytes) stop p q n o
       learned_more ended m stop l = learn_wider state (λ x. x ≡ line) (IsOneOf n.version bytes) (λ x is. subst (IsOneOf n.version bytes) (sym (is ∙ same)) (is_one ended m)) stop p q n o l
 
-      pub took_stop : (ended : Bool) → ReadMessage left ended old new → faults new.source ≡ faults old.source → (y : Stop) → IsAtStop state limit start q o next taken line y → Took state limit n.version (log_from bytes left faults old.source new.source) start q o next (Err y)
-      took_stop ended m steady (PartStop cause) d = record {
+      pub took_stop : (ended : Bool) → ReadMessage left ended old new → faults new.source ≡ faults old.source → o.version ≡ n.version → (y : Stop) → IsAtStop state limit start q o next taken line y → Took state limit n.version (log_from bytes left faults old.source new.source) start q o next (Err y)
+      took_stop ended m steady version (PartStop cause) d = record {
         taken = taken;
         few = t.few;
         stops = d.0;
         told = front_of left n.version bytes taken old t.read;
-        caused = name_cause (limits_by (types_pass o) (words_pass o)) (log_from bytes left faults old.source new.source) n.version taken cause steady d.1;
+        caused = let known = books_by (types_pass o) (words_pass o) in
+            name_cause (WasFullFor o.version (λ x. x ≡ line) known) (WasFullFor n.version (IsOneOf n.version bytes) known) (λ book count is.
+            full_wider n.version (λ x. x ≡ line) (IsOneOf n.version bytes) (λ x at. subst (IsOneOf n.version bytes) (sym (at ∙ same)) (is_one ended m)) known known (λ b. more_self (book_of known b)) book count
+            (subst (λ v. WasFullFor v (λ x. x ≡ line) known book count) version is)) (log_from bytes left faults old.source new.source) n.version taken cause steady d.1;
       }
-      took_stop ended m steady (Lost cause) c = record {
+      took_stop ended m steady version (Lost cause) c = record {
         caused = tt;
         taken = taken ++ new.message ∷ [];
         few = few_more ended m;
@@ -304,8 +309,8 @@ module _ {D R A B C : Type 0} (state : D → DiskState) (limit : ℕ) (least : 1
       record { doing = doing_none n hand file worker is empty; read = reading_begins left n.version source r fresh; going = fresh.progress; few = omega arith }
 
 module _ {D : Type 0} (state : D → DiskState) (limit : ℕ) (least : 1 ≤ limit) (p : KeeperPass D) (so_far : HasSoFar state p []) where
-  pub came_none : (version : ℕ) (limits : Limits) (log : Log) → IsReady p → (why : Option Cause) → HasJobCause (grounds_of state limits p p) log version [] why → CameTo state limit version limits log p p (record { messages = 0; whole = false; cause = why })
-  came_none version limits log ready why right = record {
+  pub came_none : (version : ℕ) (books : Books) (log : Log) → IsReady p → (why : Option Cause) → HasJobCause (grounds_of state version books log.bytes p p) log version [] why → CameTo state limit version books log p p (record { messages = 0; whole = false; cause = why })
+  came_none version books log ready why right = record {
     caused = right;
     covered = [];
     ended = false;
@@ -377,16 +382,16 @@ all_at_end (Err y) ended is_end taken covered messages e same is = absurd (cc (i
 
 module _ {D R A B C : Type 0} (state : D → DiskState) (limit version : ℕ) (log : Log) (start p : KeeperPass D) (n : LockNamer R A B C) (hand : Hand) (answer : Result Bool Stop) (t : Took state limit version log start p n hand answer) (q : KeeperPass D)
     (outcome : Outcome) where
-  abbrev known : Limits
-  known = limits_by (types_pass n) (words_pass n)
+  abbrev known : Books
+  known = books_by (types_pass n) (words_pass n)
 
   -- the cause, where no further message was taken for it and all that were are sealed
-  stopped_by : (a : Result Bool Stop) (covered : Texts) (o : Option Cause) → HasStopCause known log version t.taken a → ((x : Cause) → a ≡ Err (Lost x) → o ≡ None → ⊥) → o ≡ why_of a → covered ≡ t.taken
-      → HasJobCause (grounds_of state known start q) log version covered o
-  stopped_by (Ok ended) covered o has lost is all = subst (HasJobCause (grounds_of state known start q) log version covered) (sym is) has
+  stopped_by : (a : Result Bool Stop) (covered : Texts) (o : Option Cause) → HasStopCause (WasFullFor version (IsOneOf version log.bytes) known) log version t.taken a → ((x : Cause) → a ≡ Err (Lost x) → o ≡ None → ⊥) → o ≡ why_of a → covered ≡ t.taken
+      → HasJobCause (grounds_of state version known log.bytes start q) log version covered o
+  stopped_by (Ok ended) covered o has lost is all = subst (HasJobCause (grounds_of state version known log.bytes start q) log version covered) (sym is) has
   stopped_by (Err (PartStop cause)) covered o has lost is all =
-      subst (HasJobCause (grounds_of state known start q) log version covered) (sym is)
-      (subst (λ l. HasJobCause (grounds_of state known start q) log version l (Some cause)) (sym all) (of_log state known start q log version t.taken cause has))
+      subst (HasJobCause (grounds_of state version known log.bytes start q) log version covered) (sym is)
+      (subst (λ l. HasJobCause (grounds_of state version known log.bytes start q) log version l (Some cause)) (sym all) (of_log state known start q log version t.taken cause has))
   stopped_by (Err (Lost cause)) covered o has lost is all = absurd (lost cause refl is)
 
   not_lost : (o : IsOutcome state limit start q t.taken (mark_of answer) (why_of answer) outcome) → (outcome.whole ≡ true → (ended : Bool) × (answer ≡ Ok ended)) → (x : Cause) → answer ≡ Err (Lost x) → outcome.cause ≡ None → ⊥
@@ -399,20 +404,23 @@ module _ {D R A B C : Type 0} (state : D → DiskState) (limit version : ℕ) (l
       is_whole true is = refl
       is_whole false is = absurd (cc (is))
 
-  caused_by : (o : IsOutcome state limit start q t.taken (mark_of answer) (why_of answer) outcome) → (outcome.whole ≡ true → (ended : Bool) × (answer ≡ Ok ended)) → HasJobCause (grounds_of state known start q) log version o.covered outcome.cause
+  caused_by : (o : IsOutcome state limit start q t.taken (mark_of answer) (why_of answer) outcome) → (outcome.whole ≡ true → (ended : Bool) × (answer ≡ Ok ended)) → HasJobCause (grounds_of state version known log.bytes start q) log version o.covered outcome.cause
   caused_by o whole =
       ⊎_elim
       (λ (stop : (outcome.cause ≡ why_of answer) × (o.covered ≡ t.taken)). stopped_by answer o.covered outcome.cause t.caused (not_lost o whole) stop.0 stop.1)
       (λ (seal : (c : Cause) × (outcome.cause ≡ Some c) × HasSealCause state start q c).
-      subst (HasJobCause (grounds_of state known start q) log version o.covered) (sym seal.1) (of_seal state known start q log version o.covered seal.0 seal.2))
+      subst (HasJobCause (grounds_of state version known log.bytes start q) log version o.covered) (sym seal.1) (of_seal state known start q log version o.covered seal.0 seal.2))
       o.caused
 
-  pub came_to : (limits : Limits) → limits_by (types_pass n) (words_pass n) ≡ limits → IsOutcome state limit start q t.taken (mark_of answer) (why_of answer) outcome → (outcome.whole ≡ true → (ended : Bool) × (answer ≡ Ok ended)) → CameTo state limit version limits log start q outcome
-  came_to limits by o whole = record {
+  pub came_to : (m : LockNamer R A B C) → HasOnlySeen n m → IsOutcome state limit start q t.taken (mark_of answer) (why_of answer) outcome → (outcome.whole ≡ true → (ended : Bool) × (answer ≡ Ok ended))
+      → CameTo state limit version (books_by (types_pass m) (words_pass m)) log start q outcome
+  came_to m seen o whole = record {
     covered = o.covered;
     ended = mark_of answer;
     count = o.count;
-    caused = subst (λ l. HasJobCause (grounds_of state l start q) log version o.covered outcome.cause) by (caused_by o whole);
+    caused = cause_on (grounds_of state version known log.bytes start q) (grounds_of state version (books_by (types_pass m) (words_pass m)) log.bytes start q) log version o.covered outcome.cause
+        (full_wider version (IsOneOf version log.bytes) (IsOneOf version log.bytes) (λ x is. is) known (books_by (types_pass m) (words_pass m)) (books_on (types_pass n) (types_pass m) (words_pass n) (words_pass m) seen.types seen.words))
+        (λ end need has. has) (λ opened now has. has) (caused_by o whole);
     done = o.done;
     first = if_some log.bytes told (AreFirst version o.covered) (λ b tells messages e is. first_of answer t.taken o.covered messages e o.front (tells messages e is)) t.told;
     all = λ w. if_some log.bytes told (AreAll version o.covered (mark_of answer)) (λ b tells messages e is.
@@ -421,11 +429,6 @@ module _ {D R A B C : Type 0} (state : D → DiskState) (limit version : ℕ) (l
     where
       told : List ℕ → Type 0
       told b = (messages : Texts) (e : Bool) → MessagesOf version b messages e → AreTaken answer t.taken messages e
-
-module _ {R A B C : Type 0} where
-  -- naming leaves the limits of the books
-  pub same_limits : (m n : LockNamer R A B C) → about (types_pass n) ≡ about (types_pass m) → about (words_pass n) ≡ about (words_pass m) → limits_by (types_pass n) (words_pass n) ≡ limits_by (types_pass m) (words_pass m)
-  same_limits m n types words = λ i. record { types = limit_in (types i); words = limit_in (words i) }
 
 -- told of the source, which the reader had and gave back
 pub came_back : {S : Type 0} (left : S → Option (List ℕ)) (faults : S → ℕ) (source had has back : S) → had ≡ source → back ≡ has → (P : Log → Type 0) → P (log_from (left source) left faults had has) → P (log_of left faults source back)

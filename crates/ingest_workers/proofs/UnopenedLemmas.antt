@@ -6,7 +6,8 @@ use Rattle.turn_lock.specs.Words.{IsReady}
 use Rattle.disk_seal.specs.Fixed.{KeeperPass}
 use Rattle.ingest_workers.specs.declared.job.Job.{Job}
 use Rattle.ingest_workers.specs.declared.outcome.Outcome.{Outcome}
-use Rattle.ingest_workers.specs.Causes.{Limits, log_of}
+use Rattle.ingest_workers.specs.Causes.{log_of}
+use Rattle.ingest_workers.specs.Full.{Books}
 use Rattle.ingest_workers.specs.JobDone.{CameTo, HasSourceBack, IsDone}
 use Rattle.ingest_workers.specs.Journal.{HasSoFar}
 use Rattle.ingest_workers.specs.Outcome.{nothing_done}
@@ -23,13 +24,13 @@ module _ {S : Type 0} (name : S → Option (List ℕ)) (faults : S → ℕ) wher
 
 module _ {S D : Type 0} (state : D → DiskState) (left name : S → Option (List ℕ)) (faults : S → ℕ) where
   -- nothing was done of it
-  pub left_undone : (rows version : ℕ) (limits : Limits) (j : Job S) (p : KeeperPass D) → 1 ≤ rows → HasSoFar state p [] → IsReady p → j.is_open ≡ false → j.outcome ≡ nothing_done → IsDone state left name faults rows version limits j p j p
+  pub left_undone : (rows version : ℕ) (books : Books) (j : Job S) (p : KeeperPass D) → 1 ≤ rows → HasSoFar state p [] → IsReady p → j.is_open ≡ false → j.outcome ≡ nothing_done → IsDone state left name faults rows version books j p j p
   unfolding source_stays
-  left_undone rows version limits j p least so_far ready closed new = let source = source_stays name faults j in record {
+  left_undone rows version books j p least so_far ready closed new = let source = source_stays name faults j in record {
     file = refl;
     cause = λ given. absurd (cc (given, closed));
     unopened = λ is. new;
     source = source;
-    came = subst (λ (o : Outcome). CameTo state rows version limits (log_of left faults source.before source.after) p p o) (sym new)
-        (came_none state rows least p so_far version limits (log_of left faults source.before source.after) ready None refl);
+    came = subst (λ (o : Outcome). CameTo state rows version books (log_of left faults source.before source.after) p p o) (sym new)
+        (came_none state rows least p so_far version books (log_of left faults source.before source.after) ready None refl);
   }

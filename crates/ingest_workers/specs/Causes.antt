@@ -5,7 +5,6 @@ use Rattle.log_seams.specs.Disk.{DiskState}
 use Rattle.log_seams.specs.Outside.{Rose}
 use Rattle.turn_lock.specs.declared.board.About.{About}
 use Rattle.turn_lock.specs.Words.{about, seen}
-use Rattle.dict_lock.specs.Shared.{BookPass}
 use Rattle.row_codec.specs.declared.namer.Which.{Which}
 use Rattle.row_codec.specs.declared.namer.Which.TheVariants.{Types, Words}
 use Rattle.message_reader.specs.declared.reader.TheConstants.{MAX_MESSAGES}
@@ -15,8 +14,8 @@ use Rattle.disk_seal.specs.declared.entry.StoreEntry.{StoreEntry}
 use Rattle.disk_seal.specs.declared.entry.StoreEntry.TheVariants.{Stopped}
 use Rattle.disk_seal.specs.declared.fixed.StoreFixed.{StoreFixed}
 use Rattle.disk_seal.specs.Fixed.{KeeperPass}
-use Rattle.disk_seal.specs.Known.{limit_in}
 use Rattle.disk_seal.specs.Prepare.{IsFaultOf}
+use Rattle.ingest_workers.specs.Full.{Books, IsOneOf, WasFullFor}
 use Rattle.ingest_workers.specs.declared.outcome.Cause.{Cause}
 use Rattle.ingest_workers.specs.declared.outcome.Cause.TheVariants.{ReadFault, LineTooLong, TooManyLines, Full, DiskFault, ArchiveFull, OutOfMemory}
 use Rattle.line_cut.specs.declared.cut.Cut.{Cut}
@@ -64,10 +63,6 @@ abbrev pub limit_of : Limits → Which → ℕ
 limit_of limits Types = limits.types
 limit_of limits Words = limits.words
 
--- those of the books that two passes are over
-abbrev pub limits_by : BookPass → BookPass → Limits
-limits_by types words = record { types = limit_in (about types); words = limit_in (about words) }
-
 module _ {D : Type 0} where
   -- the pass has seen the mark of a store that was stopped
   abbrev pub HasSeenMark : KeeperPass D → Type 0
@@ -89,10 +84,10 @@ module _ {D : Type 0} where
   HasSealCause state p q OutOfMemory = Unit {0}
   HasSealCause state p q _ = ⊥
 
--- why a message gets no numbers, where these are the limits of the books
-abbrev pub IsFullCause : Limits → Cause → Type 0
-IsFullCause limits (Full book count) = count ≡ limit_of limits book
-IsFullCause limits _ = ⊥
+-- why a message gets no numbers
+abbrev pub IsFullCause : (Which → ℕ → Type 0) → Cause → Type 0
+IsFullCause full (Full book count) = full book count
+IsFullCause full _ = ⊥
 
 -- ---- a job
 
@@ -102,10 +97,10 @@ pub record Grounds : Type 1 where
   pub no_room : ℕ → ℕ → Type 0
   pub failed : ℕ → ℕ → Type 0
 
--- those that a worker knows by its passes
-abbrev pub grounds_of : {D : Type 0} → (D → DiskState) → Limits → KeeperPass D → KeeperPass D → Grounds
-grounds_of state limits p q = record {
-  full = λ book count. count ≡ limit_of limits book;
+-- those that a worker knows by its passes, where this is known of the books, and the messages are those of these bytes
+abbrev pub grounds_of : {D : Type 0} → (D → DiskState) → ℕ → Books → Option (List ℕ) → KeeperPass D → KeeperPass D → Grounds
+grounds_of state version books bytes p q = record {
+  full = WasFullFor version (IsOneOf version bytes) books;
   no_room = HasNoRoomBy p;
   failed = HasFailed state p q;
 }

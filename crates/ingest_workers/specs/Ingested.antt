@@ -1,14 +1,17 @@
 -- When an ingest may begin, and what it leaves.
 use Rattle.std.specs.Prelude.{◌≡◌, ◌⊎◌, ℕ, ◌+◌, ◌<◌, ◌&&◌, Bool, true, false, not, List, [], ◌∷◌, ◌++◌, length, is_some, Option, None, Some, IfSome, slice_get, All}
-use Rattle.std.specs.List.{filter_map}
+use Rattle.std.specs.List.{Contains, filter_map}
 use mathlib.Core.List.{IsPrefix}
 use Rattle.log_seams.specs.declared.disk.Disk.{Ghosts as DiskGhosts}
 use Rattle.log_seams.specs.Outside.{Rose}
 use Rattle.turn_lock.specs.declared.grows.Grows.{Ghosts}
-use Rattle.turn_lock.specs.Words.{IsOpening}
+use Rattle.turn_lock.specs.Words.{about_by, seen_by, IsOpening}
 use Rattle.dict_core.specs.Books.{BookState}
 use Rattle.dict_lock.specs.Shared.{BookPass}
+use Rattle.row_codec.specs.declared.namer.Which.{Which}
+use Rattle.row_codec.specs.declared.namer.Which.TheVariants.{Types as WhichTypes, Words as WhichWords}
 use Rattle.row_codec.specs.Messages.{IsTypeOf, IsWordOf}
+use Rattle.row_codec.specs.Naming.{Known}
 use Rattle.record_format.specs.declared.header.Header.{Header}
 use Rattle.disk_journal.specs.declared.journal.Journal.{Journal}
 use Rattle.disk_journal.specs.Journal.{state_of}
@@ -17,6 +20,7 @@ use Rattle.archive_meaning.specs.declared.entry.JournalEntry.{JournalEntry}
 use Rattle.archive_meaning.specs.declared.entry.JournalEntry.TheVariants.{Files, Types, Words, Segment}
 use Rattle.archive_meaning.specs.Spelled.{types_of}
 use Rattle.message_reader.specs.Versions.{MessagesOf}
+use Rattle.disk_seal.specs.Known.{limit_in}
 use Rattle.disk_seal.specs.Told.{IfTold, journal_in}
 use Rattle.disk_seal.specs.WordsIn.{words_of}
 use Rattle.disk_seal.specs.View.{StoreView, state_by, journal_of, Kept}
@@ -29,6 +33,7 @@ use Rattle.ingest_workers.specs.Outcome.{nothing_done}
 use Rattle.ingest_workers.specs.Journal.{FrontHolds, Holds}
 use Rattle.ingest_workers.specs.Parts.{IsCut, IsOpen, Part, messages_in, rest_of, segments_from}
 use Rattle.ingest_workers.specs.Causes.{Grounds, Limits, HasJobCause, limit_of, log_of}
+use Rattle.ingest_workers.specs.Full.{Books, IsTextOf, ThereAreMore, WasFullFor}
 use Rattle.ingest_workers.specs.JobDone.{HasSourceBack, in_source}
 use Rattle.ingest_workers.specs.Crew.{BookMaker, EndsBook}
 use Rattle.ingest_workers.specs.Worker.{IsGiven}
@@ -153,29 +158,55 @@ abbrev pub header_limits : Header → Limits
 header_limits h = record { types = h.types_limit; words = h.words_limit }
 
 module _ {D : Type 0} {d : DiskGhosts D} where
-  -- What causes say of the journal and its disk: where the journal is told, a book has as many texts as the header allows; the bytes go past the header's
-  -- limit of length; the disk's count of faults rose.
-  abbrev pub grounds_over : Journal D d → Journal D d → Grounds
-  grounds_over before after = record {
-    full = λ book count. IfTold (is_some (state_of before).disk.seen) (count ≡ limit_of (header_limits before.header) book);
+  -- What causes say of the journal and its disk: when a book is full; the bytes go past the header's limit of length; the disk's count of faults rose.
+  abbrev pub grounds_over : (Which → ℕ → Type 0) → Journal D d → Journal D d → Grounds
+  grounds_over full before after = record {
+    full = full;
     no_room = λ end need. before.header.length_limit < end + need;
     failed = λ opened now. (opened ≡ (state_of before).disk.faults) × Rose opened (state_of after).disk.faults;
   }
 
+-- what makers know of the two books
+abbrev pub known_at : {G : Ghosts BookState (List ℕ) ℕ} → BookMaker G → Known
+known_at m = record { texts = seen_by m; added = []; limit = limit_in (about_by m) }
+
+abbrev pub books_at : {G H : Ghosts BookState (List ℕ) ℕ} → BookMaker G → BookMaker H → Books
+books_at types words = record { types = known_at types; words = known_at words }
+
+-- the texts of a book that entries add
+abbrev pub book_texts : Which → List JournalEntry → List (List ℕ)
+book_texts WhichTypes es = types_of es
+book_texts WhichWords es = words_of es
+
 module _ {S D : Type 0} {d : DiskGhosts D} where
+  -- the text is one of the book in the journal, or one of the encoding of a message of one of the jobs' sources
+  abbrev pub IsThereOrGiven : (S → Option (List ℕ)) → Plan → List (Job S) → Journal D d → Which → List ℕ → Type 0
+  IsThereOrGiven left plan js before book t = Contains (book_texts book (told_entries (state_of before))) t ⊎ IsTextOf plan.version (IsGiven left plan.version js) book t
+
+  -- Where the journal is told, a book may have so many texts by the header, and the journal and the jobs' sources have more.
+  abbrev pub IsFullByGiven : (S → Option (List ℕ)) → Plan → List (Job S) → Journal D d → Which → ℕ → Type 0
+  IsFullByGiven left plan js before book count = IfTold (is_some (state_of before).disk.seen) ((count ≡ limit_of (header_limits before.header) book) × ThereAreMore (IsThereOrGiven left plan js before book) count)
+
   -- A job that was done has its source back, of the same name, whose count of faults did not fall. Of the first messages of the source, which the outcome
   -- counts, the cause holds.
-  pub record HasItsCause (left name : S → Option (List ℕ)) (faults : S → ℕ) (plan : Plan) (before after : Journal D d) (old new : Job S) : Type 0 where
+  pub record HasItsCause (full : Which → ℕ → Type 0) (left name : S → Option (List ℕ)) (faults : S → ℕ) (plan : Plan) (before after : Journal D d) (old new : Job S) : Type 0 where
     pub source : HasSourceBack name faults old new
     pub sealed : List (List ℕ)
     pub count : new.outcome.messages ≡ length sealed
     pub first : OfMessages plan.version (left source.before) (λ messages e. IsPrefix sealed messages)
-    pub cause : HasJobCause (grounds_over before after) (log_of left faults source.before source.after) plan.version sealed new.outcome.cause
+    pub cause : HasJobCause (grounds_over full before after) (log_of left faults source.before source.after) plan.version sealed new.outcome.cause
 
-  -- each job has
-  pub record HaveCauses (left name : S → Option (List ℕ)) (faults : S → ℕ) (plan : Plan) (before after : Journal D d) (js js' : List (Job S)) : Type 0 where
+  -- each job has, where a book is full by this
+  pub record HaveCausesBy (full : Which → ℕ → Type 0) (left name : S → Option (List ℕ)) (faults : S → ℕ) (plan : Plan) (before after : Journal D d) (js js' : List (Job S)) : Type 0 where
     pub counted : length js' ≡ length js
-    pub each : (i : ℕ) (job : Job S) → slice_get js i ≡ Some job → (new : Job S) × (slice_get js' i ≡ Some new) × HasItsCause left name faults plan before after job new
+    pub each : (i : ℕ) (job : Job S) → slice_get js i ≡ Some job → (new : Job S) × (slice_get js' i ≡ Some new) × HasItsCause full left name faults plan before after job new
+
+  abbrev pub HaveCauses : (S → Option (List ℕ)) → (S → Option (List ℕ)) → (S → ℕ) → Plan → Journal D d → Journal D d → List (Job S) → List (Job S) → Type 0
+  HaveCauses left name faults plan before after js js' = HaveCausesBy (IsFullByGiven left plan js before) left name faults plan before after js js'
+
+  -- the same where a book was full for a message of one of the jobs' sources
+  abbrev pub HaveCausesIn : Books → (S → Option (List ℕ)) → (S → Option (List ℕ)) → (S → ℕ) → Plan → Journal D d → Journal D d → List (Job S) → List (Job S) → Type 0
+  HaveCausesIn books left name faults plan before after js js' = HaveCausesBy (WasFullFor plan.version (IsGiven left plan.version js) books) left name faults plan before after js js'
 
 module _ {S D : Type 0} {d : DiskGhosts D} where
   -- A job was done. The messages that its outcome counts are the first ones of its source, and all of them where the file is whole; there is a cause

@@ -6,8 +6,9 @@ use Rattle.message_reader.specs.Versions.{MessagesOf}
 use Rattle.disk_seal.specs.Fixed.{KeeperPass}
 use Rattle.ingest_workers.specs.declared.job.Job.{Job}
 use Rattle.ingest_workers.specs.declared.outcome.Outcome.{Outcome}
-use Rattle.ingest_workers.specs.Causes.{Limits, Log, HasJobCause, grounds_of, log_of}
+use Rattle.ingest_workers.specs.Causes.{Log, HasJobCause, grounds_of, log_of}
 use Rattle.ingest_workers.specs.Done.{HasDone}
+use Rattle.ingest_workers.specs.Full.{Books}
 use Rattle.ingest_workers.specs.Outcome.{nothing_done}
 use Rattle.ingest_workers.specs.Taking.{IsOneOf, KeepsSource}
 
@@ -23,15 +24,15 @@ module _ {S : Type 0} where
 
 module _ {D : Type 0} where
   -- What came of a file, whose messages were those of this log where its bytes are told. The pass has added the messages that the outcome counts, and they
-  -- are the first ones of the file. Where it is whole they are all, and its mark is that of the bytes. A cause is a right one.
-  pub record CameTo (state : D → DiskState) (limit version : ℕ) (limits : Limits) (log : Log) (start p : KeeperPass D) (o : Outcome) : Type 0 where
+  -- are the first ones of the file. Where it is whole they are all, and its mark is that of the bytes. A cause is a right one, where this is known of the books.
+  pub record CameTo (state : D → DiskState) (limit version : ℕ) (books : Books) (log : Log) (start p : KeeperPass D) (o : Outcome) : Type 0 where
     pub covered : List (List ℕ)
     pub ended : Bool
     pub count : o.messages ≡ length covered
     pub done : HasDone state limit start p covered o.whole ended
     pub first : IfSome log.bytes (λ b. (messages : List (List ℕ)) (e : Bool) → MessagesOf version b messages e → IsPrefix covered messages)
     pub all : o.whole ≡ true → IfSome log.bytes (λ b. (messages : List (List ℕ)) (e : Bool) → MessagesOf version b messages e → (covered ≡ messages) × (ended ≡ e))
-    pub caused : HasJobCause (grounds_of state limits start p) log version covered o.cause
+    pub caused : HasJobCause (grounds_of state version books log.bytes start p) log version covered o.cause
 
 module _ {S : Type 0} where
   -- the job has its source back
@@ -43,11 +44,11 @@ module _ {S : Type 0} where
     pub keeps : KeepsSource name faults before after
 
 module _ {S D : Type 0} where
-  -- The job was done with this pass, in segments of at most so many rows, with books of these limits, and has its source back. There is a cause exactly
+  -- The job was done with this pass, in segments of at most so many rows, where this is known of the books then, and has its source back. There is a cause exactly
   -- where the file is not whole; where the source was not opened nothing was done.
-  pub record IsDone (state : D → DiskState) (left name : S → Option (List ℕ)) (faults : S → ℕ) (rows version : ℕ) (limits : Limits) (j : Job S) (p : KeeperPass D) (j' : Job S) (q : KeeperPass D) : Type 0 where
+  pub record IsDone (state : D → DiskState) (left name : S → Option (List ℕ)) (faults : S → ℕ) (rows version : ℕ) (books : Books) (j : Job S) (p : KeeperPass D) (j' : Job S) (q : KeeperPass D) : Type 0 where
     pub file : j'.file ≡ j.file
     pub cause : j.is_open ≡ true → is_some j'.outcome.cause ≡ not j'.outcome.whole
     pub unopened : j.is_open ≡ false → j'.outcome ≡ nothing_done
     pub source : HasSourceBack name faults j j'
-    pub came : CameTo state rows version limits (log_of left faults source.before source.after) p q j'.outcome
+    pub came : CameTo state rows version books (log_of left faults source.before source.after) p q j'.outcome

@@ -1,4 +1,5 @@
 pub mod Outcome
+pub mod Full
 pub mod Causes
 pub mod Stop
 pub mod Parts
@@ -16,6 +17,7 @@ pub mod Taking
 pub mod Turns
 pub mod JobDone
 pub mod Worker
+pub mod Desk
 pub mod WorkerLaws
 pub mod Crew
 pub mod Locked

@@ -1,12 +1,12 @@
 -- A worker that takes the messages of a source.
 use Rattle.std.specs.Prelude.{◌≡◌, ℕ, ◌≤◌, Bool, true, false, List, length, Option, None, Some, Result, Ok, Err, IfSome}
-use Rattle.std.specs.List.{Contains}
 use mathlib.Core.List.{IsPrefix}
 use Rattle.log_seams.specs.Disk.{DiskState}
 use Rattle.line_cut.specs.declared.cut.Progress.TheVariants.{Open}
 use Rattle.message_reader.specs.Reading.{ReaderState}
 use Rattle.message_reader.specs.Taken.{HasRead}
 use Rattle.message_reader.specs.Versions.{MessagesOf}
+use Rattle.row_codec.specs.declared.namer.Which.{Which}
 use Rattle.archive_meaning.specs.declared.TheConstants.{MAX_MESSAGES}
 use Rattle.archive_meaning.specs.Held.{last_is_open}
 use Rattle.disk_seal.specs.declared.namer.LockNamer.{LockNamer}
@@ -15,13 +15,11 @@ use Rattle.ingest_workers.specs.declared.hand.Hand.{Hand}
 use Rattle.ingest_workers.specs.declared.outcome.Cause.{Cause}
 use Rattle.ingest_workers.specs.declared.stop.Stop.{Stop}
 use Rattle.ingest_workers.specs.declared.stop.Stop.TheVariants.{Part, Lost}
-use Rattle.ingest_workers.specs.Causes.{Limits, Log, HasLogCause, HasSealCause, NoneFailed, limit_of, limits_by}
+use Rattle.ingest_workers.specs.Causes.{Log, HasLogCause, HasSealCause, NoneFailed}
+pub use Rattle.ingest_workers.specs.Full.{IsOneOf}
+use Rattle.ingest_workers.specs.Full.{WasFullFor, books_by}
 use Rattle.ingest_workers.specs.Doing.{Covering, Doing}
 use Rattle.ingest_workers.specs.Namer.{types_pass, words_pass}
-
--- The message is one of those that these bytes have in this version. Of a source that does not tell its bytes nothing is said.
-abbrev pub IsOneOf : ℕ → Option (List ℕ) → List ℕ → Type 0
-IsOneOf version bytes m = IfSome bytes (λ b. (messages : List (List ℕ)) (ended : Bool) → MessagesOf version b messages ended → Contains messages m)
 
 -- what became of the source: its name is the same, and its count of faults did not fall
 pub record KeepsSource {S : Type 0} (name : S → Option (List ℕ)) (faults : S → ℕ) (old new : S) : Type 0 where
@@ -53,10 +51,10 @@ AreTaken (Ok ended) taken messages e = (taken ≡ messages) × (ended ≡ e)
 AreTaken (Err stop) taken messages e = IsPrefix taken messages
 
 -- what the answer says of the log, where these messages of it were taken
-abbrev pub HasStopCause : Limits → Log → ℕ → List (List ℕ) → Result Bool Stop → Type 0
-HasStopCause limits log version taken (Ok ended) = NoneFailed log
-HasStopCause limits log version taken (Err (Part cause)) = HasLogCause (λ book count. count ≡ limit_of limits book) log version taken cause
-HasStopCause limits log version taken (Err (Lost cause)) = Unit {0}
+abbrev pub HasStopCause : (Which → ℕ → Type 0) → Log → ℕ → List (List ℕ) → Result Bool Stop → Type 0
+HasStopCause full log version taken (Ok ended) = NoneFailed log
+HasStopCause full log version taken (Err (Part cause)) = HasLogCause full log version taken cause
+HasStopCause full log version taken (Err (Lost cause)) = Unit {0}
 
 module _ {D R A B C : Type 0} where
   -- At the end of the source what is in hand may be sealed, and a last line without its newline has bytes; so it may be before a message that was not
@@ -72,4 +70,4 @@ module _ {D R A B C : Type 0} where
     pub few : length taken ≤ MAX_MESSAGES
     pub stops : StopsAt state limit start p n hand taken answer
     pub told : IfSome log.bytes (λ b. (messages : List (List ℕ)) (ended : Bool) → MessagesOf version b messages ended → AreTaken answer taken messages ended)
-    pub caused : HasStopCause (limits_by (types_pass n) (words_pass n)) log version taken answer
+    pub caused : HasStopCause (WasFullFor version (IsOneOf version log.bytes) (books_by (types_pass n) (words_pass n))) log version taken answer

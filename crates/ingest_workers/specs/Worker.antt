@@ -16,7 +16,7 @@ use Rattle.ingest_workers.specs.declared.worker.Worker.{Worker}
 use Rattle.ingest_workers.specs.Outcome.{nothing_done}
 use Rattle.ingest_workers.specs.Journal.{HasSoFar}
 use Rattle.ingest_workers.specs.Naming.{AddsOnly}
-use Rattle.ingest_workers.specs.Causes.{Limits, limits_by}
+use Rattle.ingest_workers.specs.Full.{Books, books_by}
 use Rattle.ingest_workers.specs.JobDone.{IsGivenBy, IsDone}
 
 pub no_passes : IsSome {T = BookPasses} None → ⊥
@@ -36,9 +36,9 @@ types_of w = (passes_of w).types
 abbrev pub words_of : Worker → BookPass
 words_of w = (passes_of w).words
 
--- the limits of the books that its passes are over
-abbrev pub limits_in : Worker → Limits
-limits_in w = limits_by (types_of w) (words_of w)
+-- what its passes know of the two books
+abbrev pub books_in : Worker → Books
+books_in w = books_by (types_of w) (words_of w)
 
 -- both passes are between two turns, one may add log types and one words
 pub record MayAddTexts (b : BookPasses) : Type 0 where
@@ -91,6 +91,6 @@ module _ {S D : Type 0} (state : D → DiskState) where
     pub fits : GoWith w.plan (passes_of w) k
     pub new : IsNewJob j k
 
-  -- what became of a job that the worker did
-  abbrev pub DidJob : (S → Option (List ℕ)) → (S → Option (List ℕ)) → (S → ℕ) → Worker → Job S → KeeperPass D → Job S → KeeperPass D → Type 0
-  DidJob left name faults w j k l m = IsDone state left name faults w.plan.rows w.plan.version (limits_in w) j k l m
+  -- what became of a job that the worker did, where this is known of the books
+  abbrev pub DidJob : (S → Option (List ℕ)) → (S → Option (List ℕ)) → (S → ℕ) → Books → Worker → Job S → KeeperPass D → Job S → KeeperPass D → Type 0
+  DidJob left name faults books w j k l m = IsDone state left name faults w.plan.rows w.plan.version books j k l m

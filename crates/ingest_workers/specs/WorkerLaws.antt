@@ -2,21 +2,23 @@
 use Rattle.std.proofs.Common.{◌≡◌, ℕ, ◌+◌, ◌≤◌, List, [], ◌∷◌, ◌++◌, length, sym, refl, ap, ◌∙◌, subst, Option, None, Some, IsSome, append-nil, append_assoc}
 use Rattle.std.proofs.lemmas.List.Elements.{All-nil, All-append}
 use Rattle.log_seams.specs.Disk.{DiskState}
-use Rattle.turn_lock.specs.Words.{seen, IsReady}
+use Rattle.turn_lock.specs.Words.{seen, IsReady, IsStill}
 use Rattle.turn_lock.proofs.FrontLemmas.{prefix_self, prefix_trans}
 use Rattle.ingest_fork.proofs.PlaceLemmas.{at_left, at_right}
 use Rattle.dict_lock.specs.Shared.{BookPass}
 use Rattle.row_codec.specs.Naming.{HasGrown, Known}
 use Rattle.disk_seal.specs.Fixed.{KeeperPass}
-use Rattle.disk_seal.specs.Known.{known_of, limit_in}
+use Rattle.disk_seal.specs.Known.{known_of}
+use Rattle.disk_seal.specs.Prepare.{BookNote}
+use Rattle.ingest_workers.specs.declared.desk.Desk.{Desk}
 use Rattle.ingest_workers.specs.declared.job.Job.{Job}
 use Rattle.ingest_workers.specs.declared.worker.BookPasses.{BookPasses}
 use Rattle.ingest_workers.specs.declared.worker.Plan.{Plan}
 use Rattle.ingest_workers.specs.declared.worker.Worker.{Worker}
 use Rattle.ingest_workers.specs.Naming.{AddsOnly}
-use Rattle.ingest_workers.specs.Causes.{Limits}
+use Rattle.ingest_workers.specs.Desk.{DidThere, IsNoteBy, MayDoThere, books_noted}
 use Rattle.ingest_workers.specs.JobDone.{IsGivenBy, IsDone}
-use Rattle.ingest_workers.specs.Worker.{passes_in, passes_of, types_of, words_of, limits_in, MayAddTexts, IsIdle, NamesOnly, IsGiven, DidOnly, MayDo, DidJob}
+use Rattle.ingest_workers.specs.Worker.{passes_in, passes_of, types_of, words_of, MayAddTexts, IsIdle, NamesOnly, IsGiven, DidOnly, MayDo}
 
 grows_self : (P : List ℕ → Type 0) (known : Known) → HasGrown P known known
 grows_self P known = record { limit = refl; front = prefix_self known.texts; more = []; added = sym (append-nil known.added); allowed = All-nil P }
@@ -123,10 +125,21 @@ module _ {S D : Type 0} (state : D → DiskState) (left : S → Option (List ℕ
     new = may.new;
   }
 
-module _ {S D : Type 0} (state : D → DiskState) (left name : S → Option (List ℕ)) (faults : S → ℕ) where
-  same_limits : (js : List (Job S)) (a b : Worker) → DidOnly left js a b → limits_in b ≡ limits_in a
-  same_limits js a b one = λ i. record { types = limit_in (one.names.types.goes.still.about_is i); words = limit_in (one.names.words.goes.still.about_is i) }
+  -- the same at a desk
+  pub fits_on_there : (js : List (Job S)) (a b : Worker) (j : Job S) (k : Desk D) → DidOnly left js a b → MayDoThere state a j k → MayDoThere state b j k
+  fits_on_there js a b j k one may = fits_on js a b j k.keeper one may
 
-  pub did_on : (js : List (Job S)) (a b : Worker) (j l : Job S) (k m : KeeperPass D) → DidOnly left js a b → DidJob state left name faults b j k l m → DidJob state left name faults a j k l m
-  did_on js a b j l k m one did = subst (λ (x : Limits). IsDone state left name faults a.plan.rows a.plan.version x j k l m) (same_limits js a b one)
-      (subst (λ (p : Plan). IsDone state left name faults p.rows p.version (limits_in b) j k l m) one.plan did)
+note_before : (p q : BookPass) (n : BookNote) → IsStill p q → IsNoteBy q n → IsNoteBy p n
+note_before p q n still by = record { lock = by.lock ∙ still.lock; about_is = by.about_is ∙ still.about_is }
+
+module _ {S D : Type 0} (state : D → DiskState) (left name : S → Option (List ℕ)) (faults : S → ℕ) where
+  pub did_on : (js : List (Job S)) (a b : Worker) (j l : Job S) (k m : Desk D) → DidOnly left js a b → DidThere state left name faults b j k l m → DidThere state left name faults a j k l m
+  did_on js a b j l k m one did = record {
+    notes = did.notes;
+    left_there = did.left_there;
+    by_worker = record {
+      types = note_before (types_of a) (types_of b) did.notes.types one.names.types.goes.still did.by_worker.types;
+      words = note_before (words_of a) (words_of b) did.notes.words one.names.words.goes.still did.by_worker.words;
+    };
+    done = subst (λ (p : Plan). IsDone state left name faults p.rows p.version (books_noted did.notes) j k.keeper l m.keeper) one.plan did.done;
+  }

@@ -6,7 +6,7 @@ ghost use Rattle.disk_journal.specs.Journal.{state_of};
 ghost use Rattle.archive_meaning.specs.Spelled.{types_of};
 ghost use Rattle.disk_seal.specs.WordsIn.{words_of};
 ghost use Rattle.disk_seal.specs.Opening.{MayOpen};
-ghost use Rattle.ingest_workers.specs.Ingested.{AreNew, AreRefused, HasBook, HasEndedBooks, HasIngested, HaveCauses, HoldTexts, IsAsItWas, OpensBook, first_file, plan_of, told_entries};
+ghost use Rattle.ingest_workers.specs.Ingested.{AreNew, AreRefused, HasBook, HasEndedBooks, HasIngested, HaveCauses, HaveCausesIn, HoldTexts, IsAsItWas, OpensBook, books_at, first_file, plan_of, told_entries};
 
 use crate::closing::{end, give_back};
 use crate::crew::enroll;
@@ -78,8 +78,8 @@ fn with_workers<'b, 'd, D: Disk + Send, S: Source + Send, R: Threads + Wait + Sy
     // by the answer
     ensures done { IfOk result (λ after. HasEndedBooks S.left order.plan jobs.old jobs.new
         journal.entry after types.old types.new words.old words.new) }
-    ensures causes { IfOk result (λ after. HaveCauses S.left S.name S.faults order.plan
-        journal.entry after jobs.old jobs.new) }
+    ensures causes { IfOk result (λ after. HaveCausesIn (books_at types.new words.new) S.left S.name
+        S.faults order.plan journal.entry after jobs.old jobs.new) }
     ensures refused { IfErr result (λ after. IsAsItWas journal.entry after) }
     ensures jobs { OnErr result (jobs.new ≡ jobs.old) }
 {
@@ -162,8 +162,9 @@ fn over_locks<'d, D: Disk + Send, S: Source + Send, R: Threads + Wait + Sync>(
         &mut words,
     ) {
         Ok(journal) => {
-            let _types = types_lock.close(types);
-            let _words = words_lock.close(words);
+            let types = types_lock.close(types);
+            let words = words_lock.close(words);
+            let _counts = (types.len(), words.len());
             Ok(journal)
         }
         Err(journal) => Err(journal),

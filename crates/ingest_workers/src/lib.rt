@@ -3,6 +3,8 @@
 
 mod closing;
 mod crew;
+mod desk;
+mod desks;
 mod finish;
 mod hand;
 mod ingesting;

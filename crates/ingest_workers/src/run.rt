@@ -3,7 +3,8 @@ ghost use Rattle.std.specs.Prelude.{◌≡◌, ◌≤◌, ℕ, List, [], is_some
 ghost use Rattle.turn_lock.specs.Words.{number_of, own_list};
 ghost use Rattle.row_codec.specs.Messages.{IsTypeOf, IsWordOf};
 ghost use Rattle.disk_seal.specs.Naming.{types_side, words_side};
-ghost use Rattle.ingest_workers.specs.Causes.{limits_by, log_of};
+ghost use Rattle.ingest_workers.specs.Causes.{log_of};
+ghost use Rattle.ingest_workers.specs.Full.{books_by};
 ghost use Rattle.ingest_workers.specs.Journal.{HasSoFar};
 ghost use Rattle.ingest_workers.specs.JobDone.{CameTo, HasSourceBack, IsDone, IsGivenBy};
 ghost use Rattle.ingest_workers.specs.MaySeal.{IsWorker};
@@ -51,7 +52,7 @@ fn take_source<'d, 'b, S: Source, D: Disk, R: Wait, A: Ledger, B: Ledger, C: Led
     // the answer
     ensures cause { is_some result.1.cause ≡ not result.1.whole }
     ensures came { CameTo D.state rows namer.old.version
-        (limits_by (types_pass namer.old) (words_pass namer.old))
+        (books_by (types_pass namer.new) (words_pass namer.new))
         (log_of S.left S.faults source result.0) keeper.old keeper.new result.1 }
 {
     let mut reader = match MessageReader::new(alloc, namer.version(), source) {
@@ -111,7 +112,7 @@ pub fn run_job<'d, 'b, S: Source, D: Disk, R: Wait, A: Ledger, B: Ledger, C: Led
 
     // what came of it
     ensures done { IsDone D.state S.left S.name S.faults rows namer.old.version
-        (limits_by (types_pass namer.old) (words_pass namer.old)) job.old keeper.old
+        (books_by (types_pass namer.new) (words_pass namer.new)) job.old keeper.old
         job.new keeper.new }
 {
     if !job.is_open {

@@ -1,6 +1,6 @@
 use Rattle.std.proofs.Common.{refl}
-use Rattle.ingest_workers.proofs.ClosingLemmas.{ends_book, may_dismiss, types_each, types_still, words_each, words_still}
-use Rattle.ingest_workers.proofs.IngestLemmas.{causes_by, crew, crew_limits, ingested_by, may_do_by, stayed_by}
+use Rattle.ingest_workers.proofs.ClosingLemmas.{books_known, ends_book, may_dismiss, types_each, types_still, words_each, words_still}
+use Rattle.ingest_workers.proofs.IngestLemmas.{causes_by, crew, crew_alike, ingested_by, may_do_by, stayed_by}
 use Rattle.ingest_workers.proofs.ingesting.with_workers.Goals as goal
 
 pub over_store-requires-clause-idle : goal.over_store-requires-clause-idle
@@ -32,7 +32,10 @@ returns-in-Ok-over_store-clause-done g c = let left = g.S.Source.left in let pla
 }
 
 pub returns-in-Ok-over_store-clause-causes : goal.returns-in-Ok-over_store-clause-causes
-returns-in-Ok-over_store-clause-causes g c = causes_by g.S.Source.left g.S.Source.name g.S.Source.faults c.args.journal c.end.result c.pass-types_reader.result c.pass-words_reader.result c.args.order.types_saved c.args.order.words_saved c.in-Ok-over_store.store
-    _ _ _ c.args.order.plan _ _ _ _ c.open_store-store.ensures c.from.ensures c.enroll.ensures.enrolled.planned
-    (crew_limits _ _ _ _ _ _ _ _ _ _ _ _ _ _ _ _ c.requires.types c.requires.words c.pass-types_reader.ensures.still c.pass-words_reader.ensures.still c.enroll.ensures.enrolled)
+returns-in-Ok-over_store-clause-causes g c = let e = c.enroll.ensures.enrolled in causes_by g.S.Source.left g.S.Source.name g.S.Source.faults c.args.journal c.end.result c.pass-types_reader.result c.pass-words_reader.result c.args.order.types_saved c.args.order.words_saved c.in-Ok-over_store.store
+    _ _ _ _ c.args.order.plan _ _ _ _ c.open_store-store.ensures c.from.ensures e.planned
+    (books_known g.S.Source.left c.args.order.plan _ _ _ _ _ _ _ _ e c.in-Ok-over_store.ensures.done.went _ _ _ _ c.end.ensures.ended)
     c.in-Ok-over_store.ensures.done c.end.ensures.journal c.end.ensures.kept
+
+pub over_store-requires-clause-alike : goal.over_store-requires-clause-alike
+over_store-requires-clause-alike g c κs within = crew_alike _ _ _ _ _ _ _ c.enroll.ensures.enrolled

@@ -1,6 +1,6 @@
 use Rattle.std.proofs.Common.{rules, ◌≡◌, ℕ, List, Some, ap, subst, sym, true, false}
 use Rattle.row_codec.specs.Messages.{IsTypeOf, IsWordOf}
-use Rattle.ingest_workers.specs.Causes.{limits_by}
+use Rattle.ingest_workers.specs.Full.{books_by}
 use Rattle.ingest_workers.specs.JobDone.{in_source}
 use Rattle.ingest_workers.specs.Namer.{types_pass, words_pass}
 use Rattle.ingest_workers.specs.Naming.{AddsOnly}
@@ -40,7 +40,7 @@ returns-clause-done g c =
 pub returns-then-not-job-clause-done : goal.returns-then-not-job-clause-done
 returns-then-not-job-clause-done g c =
     let closed : c.args.job.now.is_open ≡ false = search rules in
-    left_undone g.D.Disk.state g.S.Source.left g.S.Source.name g.S.Source.faults c.args.rows c.args.namer.now.version (limits_by (types_pass c.args.namer.now) (words_pass c.args.namer.now)) c.args.job.now c.args.keeper.now
+    left_undone g.D.Disk.state g.S.Source.left g.S.Source.name g.S.Source.faults c.args.rows c.args.namer.now.version (books_by (types_pass c.args.namer.now) (words_pass c.args.namer.now)) c.args.job.now c.args.keeper.now
     c.requires.rows.0 c.requires.so_far c.requires.worker.ready closed c.requires.new
 
 -- ---- turns

@@ -1,4 +1,4 @@
-use Rattle.std.proofs.Common.{rules, ◌≡◌, ◌∙◌, refl, subst}
+use Rattle.std.proofs.Common.{rules, ◌≡◌, ◌∙◌, refl, sym, subst}
 use Rattle.std.specs.Prelude.{Err, None, Ok, Option, Some}
 use Rattle.std.proofs.lemmas.Result.{err_from_is_err_and}
 use Rattle.disk_seal.specs.Naming.{NamesIn}
@@ -12,7 +12,9 @@ use Rattle.ingest_workers.proofs.DoingLemmas.{covering, doing_more, doing_sealed
 use Rattle.ingest_workers.proofs.NamingLemmas.{named_one, named_only, named_then}
 use Rattle.ingest_workers.specs.Namer.{types_pass, words_pass}
 use Rattle.ingest_workers.specs.Stop.{IsNameStop}
-use Rattle.ingest_workers.proofs.CauseLemmas.{limit_met, seal_cause}
+use Rattle.ingest_workers.proofs.CauseLemmas.{seal_cause}
+use Rattle.ingest_workers.proofs.FullLemmas.{was_full}
+use Rattle.ingest_workers.specs.Full.{WasFullFor, books_by}
 use Rattle.ingest_workers.proofs.TakingLemmas.{err_at}
 use Rattle.ingest_workers.proofs.take.take_one.Goals as goal
 
@@ -28,8 +30,9 @@ returns-in_err-take_message-clause-stopped g c = λ start taken d.
     c.take_message.ensures.types.front c.take_message.ensures.words.front c.take_message.ensures.marks
     (λ cause same. c.take_message.ensures.kept cause (subst (IsErrOf c.take_message.result) same there))
     (err_at c.take_message.result y IsNameStop there c.take_message.ensures.causes)
-    (λ book count same. limit_met c.args.namer.now.version c.args.line.now book count (types_pass c.take_message.new.namer) (words_pass c.args.namer.now) (words_pass c.take_message.new.namer)
-    (c.take_message.ensures.full book count (subst (IsErrOf c.take_message.result) same there))))
+    (λ book count same. subst (λ v. WasFullFor v (λ m. m ≡ c.args.line.now) (books_by (types_pass c.take_message.new.namer) (words_pass c.take_message.new.namer)) book count) (sym c.take_message.ensures.version)
+    (was_full c.args.namer.now.version c.args.line.now book count (types_pass c.take_message.new.namer) (words_pass c.args.namer.now) (words_pass c.take_message.new.namer)
+    (c.take_message.ensures.full book count (subst (IsErrOf c.take_message.result) same there)))))
 
 pub returns-then-not-is_full-clause-taken : goal.returns-then-not-is_full-clause-taken
 returns-then-not-is_full-clause-taken g c = λ start taken d.

@@ -1,7 +1,5 @@
-use Rattle.std.proofs.Common.{rules, tests, ◌≡◌, refl, true, false, Err}
+use Rattle.std.proofs.Common.{rules, tests, ◌≡◌, true, false, Err}
 use Rattle.std.specs.Prelude.{IsErrOf}
-use Rattle.ingest_workers.specs.Causes.{limits_by}
-use Rattle.ingest_workers.specs.Namer.{types_pass, words_pass}
 use Rattle.message_reader.specs.Reading.{ReadMessage, ReadToEnd}
 use Rattle.ingest_workers.specs.Taking.{IsOneOf}
 use Rattle.ingest_workers.proofs.DoingLemmas.{each_err}
@@ -30,7 +28,7 @@ pub returns-in-Err-clause-stopped : goal.returns-in-Err-clause-stopped
 returns-in-Err-clause-stopped g c = λ bytes start taken t.
     let is : IsErrOf c.advance.result c.in-Err.cut = search rules in
     took_part g.D.Disk.state g.S.Source.left c.args.rows bytes start c.args.keeper.now c.args.namer.now c.args.hand.now c.args.reader.now c.advance.new.self taken t g.S.Source.faults c.advance.result (c.advance.ensures.counts t.going)
-    (limits_by (types_pass c.args.namer.now) (words_pass c.args.namer.now)) c.in-Err.cut c.cause_of.result c.cause_of.ensures is c.in-Err.ensures.refused refl
+    c.in-Err.cut c.cause_of.result c.cause_of.ensures is c.in-Err.ensures.refused
 
 pub take_one-requires-clause-doing : goal.take_one-requires-clause-doing
 take_one-requires-clause-doing g c =
@@ -48,7 +46,7 @@ returns-in_err-take_one-clause-stopped g c = λ bytes start taken t.
     let there : c.take_one.result ≡ Err y = search rules in
     took_stop g.D.Disk.state g.S.Source.left c.args.rows bytes start c.args.keeper.now c.args.namer.now c.args.hand.now c.args.reader.now c.advance.new.self taken t g.S.Source.name g.S.Source.faults c.advance.ensures.stays
     c.message.result.now c.message.ensures c.take_one.new.keeper c.take_one.new.namer c.take_one.new.hand c.in-Ok-Some.mark.ended (some_at c.in-Ok-Some.field-0 c.in-Ok-Some.mark (λ m. ReadMessage g.S.Source.left m.ended c.args.reader.now c.advance.new.self) (search rules) c.in-Ok-Some.ensures.message)
-    (ok_at c.advance.result c.in-Ok-Some.field-0 (g.S.Source.faults c.advance.new.self.source ≡ g.S.Source.faults c.args.reader.now.source) (search rules) (c.advance.ensures.counts t.going).steady) y
+    (ok_at c.advance.result c.in-Ok-Some.field-0 (g.S.Source.faults c.advance.new.self.source ≡ g.S.Source.faults c.args.reader.now.source) (search rules) (c.advance.ensures.counts t.going).steady) c.take_one.ensures.names.version y
     (err_at c.take_one.result y _ there (c.take_one.ensures.stopped start taken t.doing)))
 
 pub returns-then-mark-clause-names : goal.returns-then-mark-clause-names
