@@ -10,31 +10,46 @@ use Rattle.dict_core.specs.Chains.{latest, place_at, IsChained, InChain, IsBook}
 use Rattle.dict_core.proofs.ChainLemmas.{latest_low, in_chain, chained_more, latest_last, chained_less}
 
 -- there is a link for each text
+pub chained_long : (hash : List ℕ → ℕ) (texts : List (List ℕ)) {befores : List ℕ} {newest : ℕ → ℕ} → IsChained (map hash texts) befores newest → length befores ≡ length texts
+chained_long hash texts c = c.long ∙ length-map texts hash
+
 pub book_long : {hash : List ℕ → ℕ} {texts : List (List ℕ)} {befores : List ℕ} {newest : ℕ → ℕ} {limit : ℕ} → IsBook hash texts befores newest limit → length befores ≡ length texts
 book_long {hash} {texts} b = b.chained.long ∙ length-map texts hash
 
 -- a link leads back
+pub chained_back : (hash : List ℕ → ℕ) (texts : List (List ℕ)) {befores : List ℕ} {newest : ℕ → ℕ} → IsChained (map hash texts) befores newest →
+    (j : ℕ) → j < length befores → slice_index befores j ≤ j
+chained_back hash texts c j l =
+    let hashes = map hash texts in
+    omega (arith, c.befores_are j (omega (arith, l, c.long)), latest_low hashes (slice_index hashes j) j)
+
 pub book_back : {hash : List ℕ → ℕ} {texts : List (List ℕ)} {befores : List ℕ} {newest : ℕ → ℕ} {limit : ℕ} → IsBook hash texts befores newest limit →
     (j : ℕ) → j < length befores → slice_index befores j ≤ j
-book_back {hash} {texts} b j l =
-    let hashes = map hash texts in
-    omega (arith, b.chained.befores_are j (omega (arith, l, b.chained.long)), latest_low hashes (slice_index hashes j) j)
+book_back {hash} {texts} b = chained_back hash texts b.chained
 
 -- the newest text is one of the texts
+pub chained_newest : (hash : List ℕ → ℕ) (texts : List (List ℕ)) {befores : List ℕ} {newest : ℕ → ℕ} → IsChained (map hash texts) befores newest →
+    (h : ℕ) → newest h ≤ length befores
+chained_newest hash texts c h =
+    let hashes = map hash texts in omega (arith, c.newest_are h, latest_low hashes h (length hashes), c.long)
+
 pub book_newest : {hash : List ℕ → ℕ} {texts : List (List ℕ)} {befores : List ℕ} {newest : ℕ → ℕ} {limit : ℕ} → IsBook hash texts befores newest limit →
     (h : ℕ) → newest h ≤ length befores
-book_newest {hash} {texts} b h =
-    let hashes = map hash texts in omega (arith, b.chained.newest_are h, latest_low hashes h (length hashes), b.chained.long)
+book_newest {hash} {texts} b = chained_newest hash texts b.chained
 
 -- a text that is not in the chain of its hash is new
-pub book_new : {hash : List ℕ → ℕ} {texts : List (List ℕ)} {befores : List ℕ} {newest : ℕ → ℕ} {limit : ℕ} → IsBook hash texts befores newest limit →
+pub chained_new : (hash : List ℕ → ℕ) (texts : List (List ℕ)) {befores : List ℕ} {newest : ℕ → ℕ} → IsChained (map hash texts) befores newest →
     (text : List ℕ) (place : ℕ) → place ≡ newest (hash text) → ((k : ℕ) → InChain befores place (suc k) → slice_get texts k ≢ Some text) → IsNew texts text
-book_new {hash} {texts} {befores} b text place is absent k found =
+chained_new hash texts {befores} c text place is absent k found =
     let hashes = map hash texts in
     let below : k < length texts = slice_get_within texts k text found in
     let hashed : slice_index hashes k ≡ hash text = get_or-map hash texts k text 0 below ∙ ap hash (get_or_from_slice_get texts k text text found) in
-    let chain = in_chain hashes (hash text) k (length hashes) b.chained.befores_are (omega arith) (omega (arith, below, length-map texts hash)) hashed in
-    absent k (subst (λ p. InChain befores p (suc k)) (sym (is ∙ b.chained.newest_are (hash text))) chain) found
+    let chain = in_chain hashes (hash text) k (length hashes) c.befores_are (omega arith) (omega (arith, below, length-map texts hash)) hashed in
+    absent k (subst (λ p. InChain befores p (suc k)) (sym (is ∙ c.newest_are (hash text))) chain) found
+
+pub book_new : {hash : List ℕ → ℕ} {texts : List (List ℕ)} {befores : List ℕ} {newest : ℕ → ℕ} {limit : ℕ} → IsBook hash texts befores newest limit →
+    (text : List ℕ) (place : ℕ) → place ≡ newest (hash text) → ((k : ℕ) → InChain befores place (suc k) → slice_get texts k ≢ Some text) → IsNew texts text
+book_new {hash} {texts} b = chained_new hash texts b.chained
 
 -- an element of a list with one more at the end is that one or an old one
 last_or_old : (texts : List (List ℕ)) (text found : List ℕ) (k : ℕ) → slice_get (texts ++ text ∷ []) k ≡ Some found → ((k ≡ length texts) × (found ≡ text)) ⊎ (slice_get texts k ≡ Some found)

@@ -2,3 +2,4 @@ pub mod Books
 pub mod Buffer
 pub mod Chains
 pub mod Fair
+pub mod Lookups

@@ -3,10 +3,12 @@ ghost use Rattle.std.specs.Prelude.{◌≡◌, ℕ, ◌+◌, ◌-◌, ◌<◌, �
 ghost use Rattle.indexmap.specs.IndexMap.{spare, IsUnchanged};
 ghost use Rattle.dict_core.specs.Books.{AreDistinct, StandsTwice};
 ghost use Rattle.dict_core.specs.Chains.{hash_by, place_at, Puts, IsChained};
+ghost use Rattle.dict_core.specs.Lookups.{Fits, IsNumberOf, IsPlaceOf};
 ghost use Rattle.dict_core.specs.declared.refusals.IndexRefusal.TheVariants.{Repeated};
 
-use crate::chains::find;
+use crate::chains::{find, find_or_none};
 use crate::refusals::IndexRefusal;
+use crate::text_slice::TextSlice;
 use crate::texts::Texts;
 use indexmap::IndexMap;
 use std::alloc::{AllocError, Global};
@@ -54,6 +56,37 @@ impl<H: Hasher + Copy> Index<H> {
         ensures { result ≡ place_at self.now.newest hash }
     {
         self.newest.get(&hash).copied().unwrap_or(0)
+    }
+
+    /// The place of the newest text with its hash for each of these texts. No step of the loop needs
+    /// what another one reads, so that a processor waits for the memory of several at once.
+    pub(crate) fn places_of<T: TextSlice>(&self, texts: &T, places: &mut Vec<u32>)
+        requires empty { places.old.items ≡ [] }
+        requires room { length (T.texts texts.now) ≤ vec_capacity places.old }
+        ensures { let hash = hash_by H.write H.finish self.now.hasher in
+            Fits (IsPlaceOf hash (place_at self.now.newest)) places.new.items (T.texts texts.now) }
+    {
+        for next in 0..texts.count() {
+            places.push_reserved(self.newest(self.hash(texts.at(next))));
+        }
+    }
+
+    /// The number among `known` of each of these texts, or [`NO_NUMBER`], where `numbers` has the
+    /// place of the newest one with its hash. Its loop is as that of [`Index::places_of`].
+    ///
+    /// [`NO_NUMBER`]: crate::chains::NO_NUMBER
+    pub(crate) fn find_each<T: TextSlice>(&self, known: &Texts, texts: &T, numbers: &mut Vec<u32>)
+        requires chained { let hash = hash_by H.write H.finish self.now.hasher in
+            IsChained (map hash known.now) self.now.befores.items (place_at self.now.newest) }
+        requires places { let hash = hash_by H.write H.finish self.now.hasher in
+            Fits (IsPlaceOf hash (place_at self.now.newest)) numbers.old.items (T.texts texts.now) }
+        ensures { Fits (IsNumberOf known.now) numbers.new.items (T.texts texts.now) }
+    {
+        let _most = known.len();
+        let befores = self.befores.as_slice();
+        for next in 0..texts.count() {
+            numbers[next] = find_or_none(known, befores, numbers[next], texts.at(next));
+        }
     }
 
     /// Takes room for so many texts more.

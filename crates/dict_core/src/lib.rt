@@ -13,9 +13,12 @@ mod refusals;
 mod search;
 #[cfg(test)]
 mod tests;
+mod text_slice;
 mod texts;
 
 pub use book::Book;
+pub use chains::NO_NUMBER;
 pub use grows::WORDS_FIRST;
 pub use refusals::{BookRefusal, IndexRefusal};
+pub use text_slice::TextSlice;
 pub use texts::{MAX_TEXTS, Texts};
