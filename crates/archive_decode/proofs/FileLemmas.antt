@@ -12,9 +12,9 @@ use Rattle.archive_meaning.specs.Held.{File, content_of, file_text, messages_of,
 use Rattle.archive_meaning.specs.Stands.{StandsFor}
 use Rattle.archive_open.specs.declared.files.FileEntry.{FileEntry}
 use Rattle.archive_open.specs.declared.segments.SegmentPlace.{SegmentPlace}
-use Rattle.archive_open.specs.Shown.{Opens, Shown, counted}
+use Rattle.archive_open.specs.Shown.{Opens, Shown, StandsForNone, counted}
 use Rattle.archive_decode.specs.declared.lines.Lines.{Lines}
-use Rattle.archive_decode.specs.Decoded.{Decodes, StandsForNone}
+use Rattle.archive_decode.specs.Decoded.{Decodes}
 use Rattle.archive_decode.specs.StepsHeld.{HoldAll, HoldsMessages, is_of}
 use Rattle.archive_decode.specs.StepsLines.{Adds, AddsFront, HasLines}
 use Rattle.archive_decode.proofs.HeldLemmas.{entry_of, file_held, file_messages}

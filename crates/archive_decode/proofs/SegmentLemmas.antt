@@ -117,7 +117,7 @@ module _ (types words : List (List ℕ)) where
 pub rests_none : (d : DiskState) → Rests d d
 rests_none d = record { seen = refl; no_more = λ c left. left; no_fewer = λ c left. left; time = record { later = omega arith; nothing_else = λ t c le left. inl left; keeps = λ t c le left. left } }
 
-pub page_damaged : {T : Type 0} (place at : ℕ) (refusal : PageRefusal) (r : DecodeRefusal) (x : Result T DecodeRefusal) → r ≡ from_page place refusal → x ≡ Err r → x ≡ Err (DecodeRefusal.Damaged at) → refusal ≡ PageRefusal.Damaged
-page_damaged place at PageRefusal.DiskFault r x e is was = absurd cc
-page_damaged place at PageRefusal.Damaged r x e is was = refl
-page_damaged place at PageRefusal.OutOfMemory r x e is was = absurd cc
+pub page_damaged : {T : Type 0} (refusal : PageRefusal) (r : DecodeRefusal) (x : Result T DecodeRefusal) → r ≡ from_page refusal → x ≡ Err r → x ≡ Err DecodeRefusal.Damaged → refusal ≡ PageRefusal.Damaged
+page_damaged PageRefusal.DiskFault r x e is was = absurd cc
+page_damaged PageRefusal.Damaged r x e is was = refl
+page_damaged PageRefusal.OutOfMemory r x e is was = absurd cc

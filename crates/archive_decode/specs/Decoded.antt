@@ -6,10 +6,6 @@ use Rattle.archive_meaning.specs.declared.entry.JournalEntry.{JournalEntry}
 use Rattle.archive_meaning.specs.Held.{File, content_of, file_text}
 use Rattle.archive_meaning.specs.Stands.{StandsFor}
 
--- the bytes stand for no journal
-abbrev pub StandsForNone : List ℕ → Type 0
-StandsForNone bytes = (h : Header) (es : List JournalEntry) → ¬ StandsFor bytes h es
-
 -- Where the bytes are told and stand for a journal, the sink took the bytes of the file of a number in it, or a front of
 -- them where it is not done.
 abbrev pub Decodes : Bool → ℕ → Option (List ℕ) → Option (List ℕ) → Option (List ℕ) → Type 0

@@ -5,8 +5,8 @@ ghost use Rattle.log_seams.specs.Disk.{Rests};
 ghost use Rattle.log_seams.specs.Outside.{CountsOf};
 ghost use Rattle.step_count.specs.Opens.{OpensFor};
 ghost use Rattle.archive_open.specs.Archive.{shown};
-ghost use Rattle.archive_open.specs.Shown.{Opens};
-ghost use Rattle.archive_decode.specs.Decoded.{Decodes, StandsForNone};
+ghost use Rattle.archive_open.specs.Shown.{Opens, StandsForNone};
+ghost use Rattle.archive_decode.specs.Decoded.{Decodes};
 ghost use Rattle.archive_decode.specs.StepsHeld.{HoldAll, is_of};
 ghost use Rattle.archive_decode.specs.StepsLines.{Adds, AddsFront};
 
@@ -57,8 +57,8 @@ fn write_segments<N: Names, D: Disk, K: Sink, L: Ledger>(
         → AddsFront (K.written out.old) (K.written out.new) lines.old messages) }
 
     // causes
-    ensures damaged { (at : ℕ) → IsErrOf result (DecodeRefusal.Damaged at) → (bytes : List ℕ)
-        (messages : List (List ℕ)) → (D.state disk.old).seen ≡ Some bytes
+    ensures damaged { IsErrOf result DecodeRefusal.Damaged
+        → (bytes : List ℕ) (messages : List (List ℕ)) → (D.state disk.old).seen ≡ Some bytes
         → ¬ HoldAll (N.types names.now) (N.words names.now)
         (filter (is_of number) places.now) bytes messages }
     ensures disk { CountsOf DecodeRefusal.DiskFault
@@ -93,7 +93,7 @@ fn decode_with<N: KeepsTexts + Drop, D: Disk, K: Sink, L: Ledger>(
     ensures rests { Rests (D.state disk.old) (D.state disk.new) }
     ensures decoded { Decodes (is_ok result) number
         (D.state disk.old).seen (K.written out.old) (K.written out.new) }
-    ensures damaged { (at : ℕ) → IsErrOf result (DecodeRefusal.Damaged at)
+    ensures damaged { IsErrOf result DecodeRefusal.Damaged
         → IfSome (D.state disk.old).seen StandsForNone }
     ensures disk { CountsOf DecodeRefusal.DiskFault
         (D.state disk.old).faults (D.state disk.new).faults result }
@@ -145,7 +145,7 @@ pub fn decode<N: KeepsTexts + Drop, D: Disk, K: Sink>(
         (D.state disk.old).seen (K.written out.old) (K.written out.new) }
 
     // causes
-    ensures damaged { (at : ℕ) → IsErrOf result (DecodeRefusal.Damaged at)
+    ensures damaged { IsErrOf result DecodeRefusal.Damaged
         → IfSome (D.state disk.old).seen StandsForNone }
     ensures disk { CountsOf DecodeRefusal.DiskFault
         (D.state disk.old).faults (D.state disk.new).faults result }

@@ -12,9 +12,9 @@ pub enum DecodeRefusal {
     /// A call of the disk failed: its count of faults rose.
     #[error("the disk failed")]
     DiskFault,
-    /// The bytes are no archive, by what stands behind the gate at this place.
-    #[error("damaged at {at}")]
-    Damaged { at: u64 },
+    /// The bytes are no archive.
+    #[error("damaged")]
+    Damaged,
     /// The sink cannot be written: its count of faults rose.
     #[error("the output failed")]
     SinkFault,
@@ -34,13 +34,13 @@ impl From<PrintRefusal> for DecodeRefusal {
     }
 }
 
-/// The refusal of a page of a segment whose record's gate is at a place.
-pub(crate) fn of_page(refusal: PageRefusal, at: u64) -> DecodeRefusal
-    ensures { result ≡ from_page at refusal }
+/// The refusal of a page of a segment.
+pub(crate) fn of_page(refusal: PageRefusal) -> DecodeRefusal
+    ensures { result ≡ from_page refusal }
 {
     match refusal {
         PageRefusal::DiskFault => DecodeRefusal::DiskFault,
-        PageRefusal::Damaged => DecodeRefusal::Damaged { at },
+        PageRefusal::Damaged => DecodeRefusal::Damaged,
         PageRefusal::OutOfMemory => DecodeRefusal::OutOfMemory,
     }
 }

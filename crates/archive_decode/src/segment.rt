@@ -24,9 +24,8 @@ pub(crate) struct PageRoom {
     pub(crate) columns: Columns,
 }
 
-/// Writes the messages of a page, in a segment whose record's gate is at a place.
+/// Writes the messages of a page.
 fn write_page<N: Names, K: Sink, L: Ledger>(
-    at: u64,
     columns: &Columns,
     names: &N,
     lines: &mut Lines,
@@ -43,8 +42,7 @@ fn write_page<N: Names, K: Sink, L: Ledger>(
         → AddsFront (K.written out.old) (K.written out.new) lines.old messages) }
 
     // causes
-    ensures damaged { (place : ℕ) → IsErrOf result (DecodeRefusal.Damaged place)
-        → (messages : List (List ℕ))
+    ensures damaged { IsErrOf result DecodeRefusal.Damaged → (messages : List (List ℕ))
         → ¬ AreMeant (N.types names.now) (N.words names.now) columns.now.rows messages }
     ensures disk { ¬ IsErrOf result DecodeRefusal.DiskFault }
     ensures sink { CountsOf DecodeRefusal.SinkFault (K.faults out.old) (K.faults out.new) result }
@@ -52,7 +50,7 @@ fn write_page<N: Names, K: Sink, L: Ledger>(
     for place in 0..columns.rows() {
         let row = columns.row(place);
         if !row_fits(row, names) {
-            return Err(DecodeRefusal::Damaged { at });
+            return Err(DecodeRefusal::Damaged);
         }
         lines.push(row, names, out, steps)?;
     }
@@ -84,23 +82,23 @@ pub(crate) fn write_segment<N: Names, D: Disk, K: Sink, L: Ledger>(
         → AddsFront (K.written out.old) (K.written out.new) lines.old messages) }
 
     // causes
-    ensures damaged { (at : ℕ) → IsErrOf result (DecodeRefusal.Damaged at) → (bytes : List ℕ)
-        (messages : List (List ℕ)) → (D.state disk.old).seen ≡ Some bytes
+    ensures damaged { IsErrOf result DecodeRefusal.Damaged
+        → (bytes : List ℕ) (messages : List (List ℕ)) → (D.state disk.old).seen ≡ Some bytes
         → ¬ HoldsMessages (N.types names.now) (N.words names.now) place.now bytes messages }
     ensures disk { CountsOf DecodeRefusal.DiskFault
         (D.state disk.old).faults (D.state disk.new).faults result }
     ensures sink { CountsOf DecodeRefusal.SinkFault (K.faults out.old) (K.faults out.new) result }
 {
     let Some(mut pages) = SegmentPages::open(place.payload, place.length, &place.head, steps) else {
-        return Err(DecodeRefusal::Damaged { at: place.at });
+        return Err(DecodeRefusal::Damaged);
     };
     while pages.has_next() {
         let columns = mem::replace(&mut room.columns, Columns::new(alloc));
         room.columns = match pages.next_page(disk, &mut room.bytes, columns) {
             Ok(columns) => columns,
-            Err(refusal) => return Err(of_page(refusal, place.at)),
+            Err(refusal) => return Err(of_page(refusal)),
         };
-        write_page(place.at, &room.columns, names, lines, out, steps)?;
+        write_page(&room.columns, names, lines, out, steps)?;
     }
     none_are_left();
     Ok(())

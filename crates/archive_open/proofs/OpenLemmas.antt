@@ -1,5 +1,6 @@
 -- How opening begins and ends.
-use Rattle.std.proofs.Common.{◌≡◌, ℕ, ◌+◌, ◌≤◌, List, [], ◌∷◌, ◌++◌, length, Option, Some, None, refl, sym, ◌∙◌, ap, subst, arith}
+use Rattle.std.proofs.Common.{◌≡◌, inr, ℕ, ◌+◌, ◌-◌, ◌≤◌, List, [], ◌∷◌, ◌++◌, length, Option, Some, None, refl, sym, ◌∙◌, ap, subst, arith}
+use Rattle.std.specs.Prelude.{IfSome}
 use Rattle.std.specs.List.Sorted.{IsPermutation, IsNonDecreasingBy}
 use Rattle.std.proofs.lemmas.List.{append-nil}
 use Rattle.log_seams.specs.Disk.{DiskState, KeepsBytes, ReadsOnly}
@@ -14,8 +15,8 @@ use Rattle.archive_meaning.specs.Legal.{Run}
 use Rattle.archive_meaning.specs.Stands.{StandsFor}
 use Rattle.archive_open.specs.declared.segments.SegmentPlace.{SegmentPlace}
 use Rattle.archive_open.specs.Kept.{none_of}
-use Rattle.archive_open.specs.Shown.{IsArchiveOf, Misses, Opens, RefusedAt, Shown, Spares, kept_of, order_of}
-use Rattle.archive_open.specs.StepsNext.{AreOpening, AreWhole, Builds, Built, EndsWith, GoesWith, IsBuilt, Looks}
+use Rattle.archive_open.specs.Shown.{HasLastGate, IsArchiveOf, IsLastGate, Misses, Opens, RefusedAt, Shown, Spares, StandsForNone, kept_of, order_of}
+use Rattle.archive_open.specs.StepsNext.{AreOpening, AreWhole, Builds, Built, EndsWith, GoesWith, IsBuilt, LastGateTold, Looks}
 use Rattle.disk_journal.proofs.JournalLemmas.{walk_starts}
 use Rattle.archive_open.proofs.AsideLemmas.{header_aside, spares_on, within_aside}
 use Rattle.archive_open.proofs.ReadLemmas.{Ranges, read_within}
@@ -65,6 +66,22 @@ opens b old new a looks ends is_header kept files same sorted entries end =
     opens_told old.disk.seen b new.header new.place new.count a (subst (λ s. AreWhole b new.header new.place new.count s) looks.rests.seen ends.whole)
     (is_header ∙ sym looks.header) kept files same sorted entries end
 
+last_gate_told : (seen : Option (List ℕ)) (place : ℕ) (a : Shown) → LastGateTold place seen → a.end ≡ place + 1 → HasLastGate seen a
+last_gate_told None place a last end = tt
+last_gate_told (Some bytes) place a last end =
+    let same : place ≡ a.end - 1 = omega (arith, end) in
+    subst (λ n. IsLastGate n bytes) same last
+
+pub has_last_gate : (b : Built) (old new : JournalState) (a : Shown) → Looks old new → EndsWith b new → a.end ≡ new.place + 1 → HasLastGate old.disk.seen a
+has_last_gate b old new a looks ends end =
+    last_gate_told old.disk.seen new.place a (subst (λ s. LastGateTold new.place s) looks.rests.seen ends.last) end
+
+-- where it turns out later that the bytes stand for no journal, the last gate may be told
+pub refused_at_last : (seen later : Option (List ℕ)) (a : Shown) (at : ℕ) → later ≡ seen → HasLastGate seen a → at ≡ a.end - 1 → IfSome later StandsForNone → RefusedAt at seen
+refused_at_last None later a at same last is none = tt
+refused_at_last (Some bytes) later a at same last is none =
+    subst (λ n. RefusedAt n (Some bytes)) (sym is) (record { none = subst (λ s. IfSome s StandsForNone) same none; behind = last.behind; gate = inr last.gate })
+
 -- ---- the header
 
 header_told : (seen : Option (List ℕ)) (old new : DiskState) → ReadsOnly 0 32 old new → Spares seen old.ranges new.ranges
@@ -83,6 +100,9 @@ start_refused at d none = no_header at d.seen none.damaged none.first
 
 pub opens_before : (old mid : DiskState) (a : Shown) → KeepsBytes old mid → Opens mid.seen a → Opens old.seen a
 opens_before old mid a keeps is = subst (λ s. Opens s a) keeps.seen is
+
+pub last_gate_before : (old mid : DiskState) (a : Shown) → KeepsBytes old mid → HasLastGate mid.seen a → HasLastGate old.seen a
+last_gate_before old mid a keeps is = subst (λ s. HasLastGate s a) keeps.seen is
 
 pub refused_before : (old mid : DiskState) (at : ℕ) → KeepsBytes old mid → RefusedAt at mid.seen → RefusedAt at old.seen
 refused_before old mid at keeps is = subst (λ s. RefusedAt at s) keeps.seen is

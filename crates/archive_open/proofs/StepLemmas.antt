@@ -11,11 +11,11 @@ use Rattle.disk_journal.specs.declared.walk.RecordPlace.{RecordPlace}
 use Rattle.archive_meaning.specs.declared.entry.JournalEntry.{JournalEntry}
 use Rattle.archive_meaning.specs.Stands.{StandsFor}
 use Rattle.archive_open.specs.Shown.{RefusedAt, Spares}
-use Rattle.archive_open.specs.StepsNext.{AreOpening, AreWhole, BuildsTold, Built, EndsWith, GoesOnTo, GoesWith, Looks, NoneTold, ReadsOf, StandsWhole}
+use Rattle.archive_open.specs.StepsNext.{AreOpening, AreWhole, BuildsTold, Built, EndsWith, GoesOnTo, GoesWith, LastGateTold, Looks, NoneTold, ReadsOf, StandsWhole}
 use Rattle.archive_open.proofs.AsideLemmas.{gate_spared, record_spared, spares_none, spares_on}
 use Rattle.archive_open.proofs.ReadLemmas.{Ranges, looks, looks_on}
 use Rattle.disk_journal.proofs.JournalLemmas.{walk_halts, walk_passes}
-use Rattle.archive_open.proofs.WalkLemmas.{Refuses, damaged_here, opening_on, refused_here, whole_here}
+use Rattle.archive_open.proofs.WalkLemmas.{Refuses, damaged_here, last_here, opening_on, refused_here, whole_here}
 
 -- ---- told or not
 
@@ -36,6 +36,11 @@ on_told (Some bytes) b new header place count p o here payload found builds = op
 end_told : (seen : Option (List ℕ)) (b : Built) (header : Header) (place count : ℕ) → AreOpening b header place count seen → ClosedAt place seen → AreWhole b header place count seen
 end_told None b header place count o shut = tt
 end_told (Some bytes) b header place count o shut = whole_here b header place count bytes o shut
+
+last_told : (seen : Option (List ℕ)) (b : Built) (header : Header) (place count : ℕ) → AreOpening b header place count seen → IsHeader header → Walked (header_bytes header) place count seen
+    → ClosedAt place seen → LastGateTold place seen
+last_told None b header place count o is walked shut = tt
+last_told (Some bytes) b header place count o is walked shut = last_here b header place count bytes o is walked shut
 
 damaged_told : (seen : Option (List ℕ)) (b : Built) (header : Header) (place count : ℕ) → AreOpening b header place count seen → IsDamaged place seen → RefusesTold place seen
 damaged_told None b header place count o damage = tt
@@ -92,6 +97,10 @@ module _ (b : Built) (old mid : JournalState) (goes : GoesWith b old) (reads : O
   walk_ended ended = record {
     closed = ended.closed;
     ends = λ synced. walk_halts old.place 10 old mid reads ended goes.walked (synced_before old.disk mid.disk reads.rests synced);
+    last =
+        subst (λ n. LastGateTold n mid.disk.seen) (sym ended.place)
+        (subst (λ s. LastGateTold old.place s) (sym reads.rests.seen)
+        (last_told old.disk.seen b old.header old.place old.count goes.built goes.header goes.walked ended.gate));
     whole =
         subst (λ h. AreWhole b h mid.place mid.count mid.disk.seen) (sym reads.header)
         (subst (λ n. AreWhole b old.header n mid.count mid.disk.seen) (sym ended.place)

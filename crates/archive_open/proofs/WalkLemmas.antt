@@ -3,7 +3,7 @@ use Rattle.std.proofs.Common.{◌≡◌, ◌≢◌, ◌⊎◌, inl, inr, ℕ, ze
 use Rattle.std.proofs.lemmas.List.{append-nil, append_assoc, drop_at, take_at, take_all, get_or-drop, length-drop, length-take-le}
 use Rattle.std.proofs.lemmas.Bool.{cases_lt}
 use Rattle.disk_journal.specs.Record.{Saved, Fits, body, payload_len, spelled}
-use Rattle.disk_journal.specs.Place.{HasClosedGate, HasRecord, IsDamaged, NoHeader}
+use Rattle.disk_journal.specs.Place.{HasClosedGate, HasRecord, HasWalked, IsDamaged, NoHeader}
 use Rattle.disk_journal.proofs.SpellingLemmas.{length-body, payload_len-body}
 use Rattle.disk_journal.specs.declared.walk.RecordPlace.{RecordPlace}
 use Rattle.record_format.specs.declared.header.Header.{Header}
@@ -16,7 +16,7 @@ use Rattle.archive_meaning.specs.StepsForms.{HaveForms}
 use Rattle.archive_meaning.proofs.JudgeLemmas.{end_more}
 use Rattle.archive_meaning.proofs.SpellingLemmas.{one_body}
 use Rattle.archive_meaning.proofs.UniqueLemmas.{front_joined, legal_forms, legal_front, stands_begins}
-use Rattle.archive_open.specs.Shown.{RefusedAt}
+use Rattle.archive_open.specs.Shown.{IsLastGate, RefusedAt}
 use Rattle.archive_open.specs.StepsNext.{Builds, BuildsNext, Built, IsNext, IsOpening, IsWhole, NoneNext, payload_in}
 
 -- the bytes stand for no journal, and their first damage is not behind this place
@@ -116,26 +116,33 @@ module _ (b : Built) (header : Header) (place count : ℕ) (bytes : List ℕ) (o
   at_end h es begins all =
       o.stood h es begins (omega (arith, all)) ∙ ap (λ l. length (front_of h l)) (take_all count es (omega (arith, all)))
 
-  -- where no journal has a further entry, and none ends here, there is damage
-  refused : ((h : Header) (es : List JournalEntry) → Begins bytes h es → count < length es → ⊥) → ((h : Header) (es : List JournalEntry) → StandsFor bytes h es → count ≡ length es → ⊥)
-      → Refuses place bytes
+  -- no journal has a further entry
+  abbrev NoneFurther : Type 0
+  NoneFurther = (h : Header) (es : List JournalEntry) → Begins bytes h es → count < length es → ⊥
+
+  -- then the first damage is not behind
+  not_behind : NoneFurther → (first : ℕ) → IsFirstDamage bytes first → first ≤ place
+  not_behind past first damage = elim damage as (λ x. first ≤ place) [
+    | inl none ↦ omega (arith, none.0)
+    | inr bad ↦ elim (cases_lt count (length bad.es)) as (λ x. first ≤ place) [
+      | inl less ↦ absurd (past bad.h bad.es bad.begins less)
+      | inr few ↦ omega (arith, bad.gate, o.behind bad.h bad.es bad.begins (omega (arith, few)))
+    ]
+  ]
+
+  -- and where none ends here, there is damage
+  refused : NoneFurther → ((h : Header) (es : List JournalEntry) → StandsFor bytes h es → count ≡ length es → ⊥) → Refuses place bytes
   refused past ends = (
     λ h es stood. elim (cases_lt count (length es)) as (λ x. ⊥) [
       | inl less ↦ past h es (stands_begins bytes h es stood) less
       | inr few ↦ ends h es stood (omega (arith, few, o.far h es stood))
     ],
-    λ first damage. elim damage as (λ x. first ≤ place) [
-      | inl none ↦ omega (arith, none.0)
-      | inr bad ↦ elim (cases_lt count (length bad.es)) as (λ x. first ≤ place) [
-        | inl less ↦ absurd (past bad.h bad.es bad.begins less)
-        | inr few ↦ omega (arith, bad.gate, o.behind bad.h bad.es bad.begins (omega (arith, few)))
-      ]
-    ],
+    not_behind past,
   )
 
   pub damaged_here : IsDamaged place (Some bytes) → Refuses place bytes
   damaged_here damage = refused past ends where
-    past : (h : Header) (es : List JournalEntry) → Begins bytes h es → count < length es → ⊥
+    past : NoneFurther
     past h es begins less =
         let has = entry_at es count less in
         let s = stands_next bytes h es count place begins has (o.stood h es begins (omega (arith, less))) in
@@ -156,14 +163,25 @@ module _ (b : Built) (header : Header) (place count : ℕ) (bytes : List ℕ) (o
           | inr cut ↦ stood.stands.closed (sym gate.1 ∙ cut.0)
         ]
 
+  -- a closed gate is behind the last entry
+  none_further : HasClosedGate place bytes → NoneFurther
+  none_further shut h es begins less =
+      let has = entry_at es count less in
+      let s = stands_next bytes h es count place begins has (o.stood h es begins (omega (arith, less))) in
+      shut.shut (gate_at bytes place 1 _ s.spells).1
+
+  pub last_here : IsHeader header → HasWalked (header_bytes header) place count bytes → HasClosedGate place bytes → IsLastGate place bytes
+  last_here is walked shut = record {
+    gate = (header, (is, (count, walked)));
+    closed = shut;
+    behind = not_behind (none_further shut);
+  }
+
   pub whole_here : HasClosedGate place bytes → (h : Header) (es : List JournalEntry) → StandsFor bytes h es → IsWhole b header place count h es
   whole_here shut h es stood =
       let begins = stands_begins bytes h es stood in
       let all : count ≡ length es = elim (cases_lt count (length es)) as (λ x. count ≡ length es) [
-        | inl less ↦
-            let has = entry_at es count less in
-            let s = stands_next bytes h es count place begins has (o.stood h es begins (omega (arith, less))) in
-            absurd (shut.shut (gate_at bytes place 1 _ s.spells).1)
+        | inl less ↦ absurd (none_further shut h es begins less)
         | inr few ↦ omega (arith, few, o.far h es stood)
       ] in record {
         one = o.one h es begins;

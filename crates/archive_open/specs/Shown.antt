@@ -1,10 +1,10 @@
 -- What an opened archive shows of its journal.
-use Rattle.std.specs.Prelude.{◌≡◌, ◌⊎◌, ◌≤◌, ◌^◌, ℕ, ◌+◌, ◌*◌, List, [], ◌∷◌, ◌++◌, length, map, false, Option, Some, None, option_map, IfSome, All}
+use Rattle.std.specs.Prelude.{◌≡◌, ◌⊎◌, ◌≤◌, ◌^◌, ℕ, ◌+◌, ◌-◌, ◌*◌, List, [], ◌∷◌, ◌++◌, length, map, false, Option, Some, None, option_map, IfSome, All}
 use Rattle.std.specs.List.Sorted.{IsPermutation, IsNonDecreasingBy}
 use Rattle.log_seams.specs.Disk.{Rests}
 use Rattle.record_format.specs.declared.header.Header.{Header}
 use Rattle.record_format.specs.Header.{IsHeader, header_bytes}
-use Rattle.disk_journal.specs.Place.{HasWalked}
+use Rattle.disk_journal.specs.Place.{HasClosedGate, HasWalked}
 use Rattle.disk_journal.specs.State.{JournalState}
 use Rattle.segment_format.specs.declared.head.Head.{Head}
 use Rattle.segment_format.specs.Layout.{head_bytes, head_of}
@@ -76,13 +76,28 @@ abbrev pub Opens : Option (List ℕ) → Shown → Type 0
 Opens None a = Unit {0}
 Opens (Some bytes) a = (h : Header) (es : List JournalEntry) (stood : StandsFor bytes h es) → IsArchiveOf a h es stood.legal.held
 
+-- the bytes stand for no journal
+abbrev pub StandsForNone : List ℕ → Type 0
+StandsForNone bytes = (h : Header) (es : List JournalEntry) → ¬ StandsFor bytes h es
+
 -- a walk past whole records comes to this gate
 abbrev pub IsGate : ℕ → List ℕ → Type 0
 IsGate at bytes = (h : Header) × (IsHeader h × ((n : ℕ) × HasWalked (header_bytes h) at n bytes))
 
+-- a walk comes to this gate, which is closed, and the first damage is not behind it
+pub record IsLastGate (at : ℕ) (bytes : List ℕ) : Type 0 where
+  pub gate : IsGate at bytes
+  pub closed : HasClosedGate at bytes
+  pub behind : (first : ℕ) → IsFirstDamage bytes first → first ≤ at
+
+-- where the bytes are told, the archive's last byte is such a gate
+abbrev pub HasLastGate : Option (List ℕ) → Shown → Type 0
+HasLastGate None a = Unit {0}
+HasLastGate (Some bytes) a = IsLastGate (a.end - 1) bytes
+
 -- The bytes stand for no journal. The place is a gate that is not before the first damage, or 0 where there is no header.
 pub record IsRefused (at : ℕ) (bytes : List ℕ) : Type 0 where
-  pub none : (h : Header) (es : List JournalEntry) → ¬ StandsFor bytes h es
+  pub none : StandsForNone bytes
   pub behind : (first : ℕ) → IsFirstDamage bytes first → first ≤ at
   pub gate : ((at ≡ 0) × ¬ HasHeader bytes) ⊎ IsGate at bytes
 

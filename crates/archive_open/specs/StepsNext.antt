@@ -19,7 +19,7 @@ use Rattle.archive_open.specs.declared.files.FileEntry.{FileEntry}
 use Rattle.archive_open.specs.declared.segments.SegmentPlace.{SegmentPlace}
 use Rattle.archive_open.specs.Kept.{Kept}
 pub use Rattle.archive_open.specs.Shown.{Looks}
-use Rattle.archive_open.specs.Shown.{files_of, head_in, kept_of, places_of}
+use Rattle.archive_open.specs.Shown.{IsLastGate, files_of, head_in, kept_of, places_of}
 
 -- a file without messages
 abbrev pub new_file : List ℕ → FileEntry
@@ -141,9 +141,15 @@ abbrev pub AreWhole : Built → Header → ℕ → ℕ → Option (List ℕ) →
 AreWhole b header place count None = Unit {0}
 AreWhole b header place count (Some bytes) = (h : Header) (es : List JournalEntry) → StandsFor bytes h es → IsWhole b header place count h es
 
+-- where the bytes are told, this is their last gate
+abbrev pub LastGateTold : ℕ → Option (List ℕ) → Type 0
+LastGateTold at None = Unit {0}
+LastGateTold at (Some bytes) = IsLastGate at bytes
+
 pub record EndsWith (b : Built) (j : JournalState) : Type 0 where
   pub closed : j.closed ≡ true
   pub ends : IsSynced j.disk → IsAtEnd j
+  pub last : LastGateTold j.place j.disk.seen
   pub whole : AreWhole b j.header j.place j.count j.disk.seen
 
 -- ---- what of a record is read

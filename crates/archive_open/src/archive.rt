@@ -1,5 +1,5 @@
 //! An opened archive.
-ghost use Rattle.std.specs.Prelude.{◌≡◌};
+ghost use Rattle.std.specs.Prelude.{◌≡◌, ◌-◌};
 ghost use Rattle.archive_open.specs.Archive.{shown};
 
 use crate::files::FileList;
@@ -66,5 +66,12 @@ impl<K: KeepsTexts + Drop> Archive<K> {
         ensures { result ≡ (shown K.kept self.now).end }
     {
         self.end
+    }
+
+    /// The place of the closed gate, which is the last of these bytes.
+    pub fn last_gate(&self) -> u64
+        ensures { result ≡ (shown K.kept self.now).end - 1 }
+    {
+        self.end.saturating_sub(1)
     }
 }

@@ -5,7 +5,7 @@ ghost use Rattle.log_seams.specs.Outside.{CountsOf};
 ghost use Rattle.disk_journal.specs.Journal.{state_of};
 ghost use Rattle.disk_journal.specs.State.{BeginsWith, IsAtEnd, IsAtFirst};
 ghost use Rattle.archive_open.specs.Archive.{shown};
-ghost use Rattle.archive_open.specs.Shown.{Looks, Opens, RefusedAt, Spares};
+ghost use Rattle.archive_open.specs.Shown.{HasLastGate, Looks, Opens, RefusedAt, Spares};
 
 use crate::archive::Archive;
 use crate::files::FileList;
@@ -36,6 +36,8 @@ pub fn open_for_append<D: Disk, K: KeepsTexts + Drop>(
         Opens (D.state journal.old.disk.now).seen (shown K.kept archive)) }
     ensures header { IfOk result (λ archive.
         (shown K.kept archive).header ≡ journal.old.header) }
+    ensures last { IfOk result (λ archive.
+        HasLastGate (D.state journal.old.disk.now).seen (shown K.kept archive)) }
     ensures at_end { OnOk result (IsAtEnd (state_of journal.new)) }
     ensures damaged { (at : ℕ) → IsErrOf result (ArchiveRefusal.Damaged at)
         → RefusedAt at (D.state journal.old.disk.now).seen }
@@ -83,6 +85,8 @@ pub fn open_archive<D: Disk, K: KeepsTexts + Drop>(
     // by the answer, and causes
     ensures opened { IfOk result (λ archive.
         Opens (D.state disk.old).seen (shown K.kept archive)) }
+    ensures last { IfOk result (λ archive.
+        HasLastGate (D.state disk.old).seen (shown K.kept archive)) }
     ensures damaged { (at : ℕ) → IsErrOf result (ArchiveRefusal.Damaged at)
         → RefusedAt at (D.state disk.old).seen }
     ensures counts { CountsOf ArchiveRefusal.DiskFault

@@ -10,7 +10,7 @@ use Rattle.log_seams.proofs.MomentLemmas.{rose}
 use Rattle.record_format.specs.declared.header.Header.{Header}
 use Rattle.archive_meaning.specs.declared.entry.JournalEntry.{JournalEntry}
 use Rattle.archive_meaning.specs.Stands.{StandsFor}
-use Rattle.archive_decode.specs.Decoded.{StandsForNone}
+use Rattle.archive_open.specs.Shown.{RefusedAt}
 use Rattle.clp_commands.specs.Around.{Around}
 use Rattle.clp_commands.specs.Benched.{AddsLogs, EndsLogs, IsTakenWhole, PrintsSummary, SumsUp, TellsParts, generated_names}
 use Rattle.clp_commands.specs.Ending.{EndsWith, SaysIn, Stayed, TookNothing}
@@ -56,7 +56,7 @@ parts_told files seen status part is said nothing sink = record {
 
 pub summed_up : (files : List TakenFile) (seen : Around) (old new : DiskState) (status messages : ℕ) (answer : Result Unit ReadRefusal) → All none_refused files → messages ≡ sum_by (λ (file : TakenFile). file.messages) files
     → EndsWith seen [] status (option_map of_read (answer_of answer)) → PrintsSummary (is_ok answer) messages old.seen seen.out.0 seen.out.1 → KeepsBytes old new → CountsOf DiskFault old.faults new.faults answer
-    → CountsOf SinkFault seen.out_faults.0 seen.out_faults.1 answer → ((at : ℕ) → answer ≡ Err (Damaged at) → IfSome old.seen StandsForNone) → SumsUp (map came_of files) seen old new status
+    → CountsOf SinkFault seen.out_faults.0 seen.out_faults.1 answer → ((at : ℕ) → answer ≡ Err (Damaged at) → RefusedAt at old.seen) → SumsUp (map came_of files) seen old new status
 summed_up files seen old new status messages answer whole is ends prints keeps disk sink damaged = record {
   whole = All-map IsTakenWhole came_of files whole;
   answer = answer;
@@ -64,7 +64,7 @@ summed_up files seen old new status messages answer whole is ends prints keeps d
   prints = subst (λ n. PrintsSummary (is_ok answer) n new.seen seen.out.0 seen.out.1) (is ∙ messages_came files) (subst (λ s. PrintsSummary (is_ok answer) messages s seen.out.0 seen.out.1) (sym keeps.seen) prints);
   disk = disk.failed;
   sink = sink;
-  damaged = λ at e. subst (λ s. IfSome s StandsForNone) (sym keeps.seen) (damaged at e);
+  damaged = λ at e. subst (RefusedAt at) (sym keeps.seen) (damaged at e);
 }
 
 -- how it ends

@@ -8,7 +8,6 @@ use Rattle.archive_meaning.specs.declared.entry.JournalEntry.{JournalEntry}
 use Rattle.archive_meaning.specs.Stands.{StandsFor}
 use Rattle.archive_meaning.proofs.UniqueLemmas.{journals_are_whole}
 use Rattle.archive_meaning.specs.Held.{content_of}
-use Rattle.archive_decode.specs.Decoded.{StandsForNone}
 use Rattle.archive_check.specs.Checked.{DamagedAt}
 use Rattle.archive_open.specs.Shown.{RefusedAt}
 use Rattle.search_engine.specs.Scan.{Asked}
@@ -67,11 +66,11 @@ check_answers seen old new status answer ends keeps disk sink prints damaged = r
 }
 
 file_complete : (number : ℕ) (seen : Around) (old new : DiskState) (answer : Result Unit FileRefusal) → CountsOf FileRefusal.DiskFault old.faults new.faults answer → CountsOf FileRefusal.SinkFault seen.out_faults.0 seen.out_faults.1 answer
-    → ((at : ℕ) → answer ≡ Err (FileRefusal.Damaged at) → IfSome old.seen StandsForNone)
+    → ((at : ℕ) → answer ≡ Err (FileRefusal.Damaged at) → RefusedAt at old.seen)
     → ((told count : ℕ) → answer ≡ Err (FileRefusal.NoSuchFile told count) → LacksFile number told count old.seen seen.out.0 seen.out.1) → IsCompleteFile number seen old new answer
 file_complete number seen old new (Ok tt) disk sink damaged lacks bytes h es stood told within steady sent = inl refl
 file_complete number seen old new (Err FileRefusal.DiskFault) disk sink damaged lacks bytes h es stood told within steady sent = absurd (steady (disk.failed refl))
-file_complete number seen old new (Err (FileRefusal.Damaged at)) disk sink damaged lacks bytes h es stood told within steady sent = absurd ((subst (λ s. IfSome s StandsForNone) told (damaged at refl)) h es stood)
+file_complete number seen old new (Err (FileRefusal.Damaged at)) disk sink damaged lacks bytes h es stood told within steady sent = absurd ((subst (RefusedAt at) told (damaged at refl)).none h es stood)
 file_complete number seen old new (Err (FileRefusal.NoSuchFile n count)) disk sink damaged lacks bytes h es stood told within steady sent =
     let lack = lacks n count refl in
     absurd (omega (arith, lack.absent, within, (subst (λ s. OverJournal s (λ held. count ≡ length (content_of held))) told lack.all) h es stood))
@@ -80,7 +79,7 @@ file_complete number seen old new (Err FileRefusal.OutOfMemory) disk sink damage
 
 pub decode_answers : (number : ℕ) (seen : Around) (old new : DiskState) (status : ℕ) (answer : Result Unit FileRefusal) → EndsWith seen [] status (option_map of_file (answer_of answer)) → KeepsBytes old new
     → CountsOf FileRefusal.DiskFault old.faults new.faults answer → CountsOf FileRefusal.SinkFault seen.out_faults.0 seen.out_faults.1 answer → PrintsFile answer number old.seen seen.out.0 seen.out.1
-    → ((at : ℕ) → answer ≡ Err (FileRefusal.Damaged at) → IfSome old.seen StandsForNone)
+    → ((at : ℕ) → answer ≡ Err (FileRefusal.Damaged at) → RefusedAt at old.seen)
     → ((told count : ℕ) → answer ≡ Err (FileRefusal.NoSuchFile told count) → LacksFile number told count old.seen seen.out.0 seen.out.1)
     → ((answer ≡ Ok tt) ⊎ (answer ≡ Err FileRefusal.SinkFault) → OverJournal old.seen (λ held. number < length (content_of held))) → AnswersDecode number seen old new status
 decode_answers number seen old new status answer ends keeps disk sink prints damaged lacks there = record {
@@ -98,14 +97,14 @@ decode_answers number seen old new status answer ends keeps disk sink prints dam
 
 pub search_answers : (q : Asked) (stats : Bool) (seen : Around) (old new : DiskState) (status : ℕ) (answer : Result Unit ReadRefusal) → EndsWith seen [] status (option_map of_read (answer_of answer)) → KeepsBytes old new
     → CountsOf DiskFault old.faults new.faults answer → CountsOf SinkFault seen.out_faults.0 seen.out_faults.1 answer → PrintsFound (is_ok answer) q stats old.seen seen.out.0 seen.out.1 → SparesBarren q old.seen old.ranges new.ranges
-    → ((at : ℕ) → answer ≡ Err (Damaged at) → IfSome old.seen StandsForNone) → AnswersSearch q stats seen old new status
+    → ((at : ℕ) → answer ≡ Err (Damaged at) → RefusedAt at old.seen) → AnswersSearch q stats seen old new status
 search_answers q stats seen old new status answer ends keeps disk sink prints reads damaged = record {
   answer = answer;
   ends = record { ends = ends; keeps = keeps; disk = disk; sink = sink };
   prints = prints;
   reads = reads;
   damaged = damaged;
-  complete = complete seen old new answer disk sink (λ at bytes h es e told stood. (subst (λ s. IfSome s StandsForNone) told (damaged at e)) h es stood);
+  complete = complete seen old new answer disk sink (λ at bytes h es e told stood. (subst (RefusedAt at) told (damaged at e)).none h es stood);
 }
 
 -- a pattern that was refused, and has no lone backslash: memory ended before the archive was touched

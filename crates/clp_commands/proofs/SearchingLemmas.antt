@@ -1,5 +1,5 @@
 -- The command that searches an archive, from opening, searching and the line of the counts.
-use Rattle.std.proofs.Common.{◌≡◌, refl, sym, ap, ap₂, subst, ◌∙◌, ℕ, ℤ, Bool, true, false, List, [], ◌++◌, Option, None, Some, Result, Ok, Err, append_assoc, append-nil, arith, option_map, All}
+use Rattle.std.proofs.Common.{◌≡◌, refl, sym, ap, ap₂, subst, ◌∙◌, ◌-◌, ℕ, ℤ, Bool, true, false, List, [], ◌++◌, Option, None, Some, Result, Ok, Err, append_assoc, append-nil, arith, option_map, All}
 use Rattle.std.specs.Prelude.{IfSome, if◌then◌else◌}
 use Rattle.std.proofs.lemmas.List.Elements.{All-append, All-nil, All-weaker}
 use Rattle.std.proofs.lemmas.List.Sorted.{IsPermutation-refl}
@@ -9,8 +9,8 @@ use Rattle.record_format.specs.declared.header.Header.{Header}
 use Rattle.archive_meaning.specs.declared.entry.JournalEntry.{JournalEntry}
 use Rattle.archive_meaning.specs.Held.{Held}
 use Rattle.archive_open.specs.declared.segments.SegmentPlace.{SegmentPlace}
-use Rattle.archive_open.specs.Shown.{IsArchiveOf, Misses, Opens, ReadsAside, Shown, Spares, places_of}
-use Rattle.archive_decode.specs.Decoded.{StandsForNone}
+use Rattle.archive_open.specs.Shown.{HasLastGate, IsArchiveOf, Misses, Opens, ReadsAside, RefusedAt, Shown, Spares, StandsForNone, places_of}
+use Rattle.archive_open.proofs.OpenLemmas.{refused_at_last}
 use Rattle.search_engine.specs.declared.refusal.SearchRefusal.{SearchRefusal}
 use Rattle.search_engine.specs.declared.report.Report.{Report}
 use Rattle.search_engine.specs.Scan.{Asked, lines_of}
@@ -156,12 +156,19 @@ spares_searched q (Some bytes) later old mid new same spares reads =
 
 -- ---- damage
 
-pub found_none : (seen later : Option (List ℕ)) → later ≡ seen → OfJournal later (λ _ _ _. ⊥) → IfSome seen StandsForNone
-found_none None later same none = tt
-found_none (Some bytes) later same none = subst (λ x. OfJournal x (λ _ _ _. ⊥)) same none
-
-pub search_damaged : (told : ReadRefusal) (r : SearchRefusal) (place at : ℕ) → told ≡ from_search place r → told ≡ ReadRefusal.Damaged at → r ≡ SearchRefusal.Damaged
+search_damaged : (told : ReadRefusal) (r : SearchRefusal) (place at : ℕ) → told ≡ from_search place r → told ≡ ReadRefusal.Damaged at → (r ≡ SearchRefusal.Damaged) × (place ≡ at)
 search_damaged told SearchRefusal.DiskFault place at is damaged = absurd (cc (is, damaged))
 search_damaged told SearchRefusal.SinkFault place at is damaged = absurd (cc (is, damaged))
-search_damaged told SearchRefusal.Damaged place at is damaged = refl
+search_damaged told SearchRefusal.Damaged place at is damaged = (refl, cc (is, damaged))
 search_damaged told SearchRefusal.OutOfMemory place at is damaged = absurd (cc (is, damaged))
+
+none_found : (seen : Option (List ℕ)) → OfJournal seen (λ _ _ _. ⊥) → IfSome seen StandsForNone
+none_found None none = tt
+none_found (Some bytes) none = none
+
+-- a search in an archive that was opened, whose last gate is told
+pub search_refused_at : (told : ReadRefusal) (r : SearchRefusal) (place at : ℕ) (seen later : Option (List ℕ)) (a : Shown) → told ≡ from_search place r → told ≡ ReadRefusal.Damaged at
+    → later ≡ seen → HasLastGate seen a → place ≡ a.end - 1 → (r ≡ SearchRefusal.Damaged → OfJournal later (λ _ _ _. ⊥)) → RefusedAt at seen
+search_refused_at told r place at seen later a is damaged same last place_is none =
+    let here = search_damaged told r place at is damaged in
+    refused_at_last seen later a at same last (sym here.1 ∙ place_is) (none_found later (none here.0))

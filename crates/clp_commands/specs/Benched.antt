@@ -11,8 +11,7 @@ use Rattle.record_format.specs.declared.header.Header.{Header}
 use Rattle.archive_meaning.specs.declared.entry.JournalEntry.{JournalEntry}
 use Rattle.archive_meaning.specs.Held.{Held, content_of}
 use Rattle.archive_meaning.specs.Stands.{StandsFor}
-use Rattle.archive_open.specs.Shown.{places_of}
-use Rattle.archive_decode.specs.Decoded.{StandsForNone}
+use Rattle.archive_open.specs.Shown.{RefusedAt, places_of}
 use Rattle.search_engine.specs.Scan.{AreFound, Placed, all_placed}
 use Rattle.search_engine.specs.Searched.{OfJournal, asked}
 use Rattle.disk_journal.specs.Created.{CreateLeaves}
@@ -82,7 +81,7 @@ pub record SumsUp (came : List Came) (seen : Around) (old new : DiskState) (stat
   pub prints : PrintsSummary (is_ok answer) (sum_by (λ c. c.messages) came) new.seen seen.out.0 seen.out.1
   pub disk : answer ≡ Err ReadDiskFault → Rose old.faults new.faults
   pub sink : CountsOf ReadSinkFault seen.out_faults.0 seen.out_faults.1 answer
-  pub damaged : (at : ℕ) → answer ≡ Err (ReadDamaged at) → IfSome new.seen StandsForNone
+  pub damaged : (at : ℕ) → answer ≡ Err (ReadDamaged at) → RefusedAt at new.seen
 
 -- The names were added to the archive and the logs taken in, and it was told what came of them.
 pub record AddsLogs (content : List ℕ → Option (List ℕ)) (names : List (List ℕ)) (seen : Around) (old new : DiskState) (status : ℕ) : Type 0 where

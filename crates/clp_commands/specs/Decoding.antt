@@ -1,5 +1,5 @@
 -- What `decode` prints: the bytes of a file.
-use Rattle.std.specs.Prelude.{◌≡◌, ◌⊎◌, ◌<◌, ◌≤◌, ℕ, List, [], Option, Some, option_map, IfSome, Result, Ok, Err, length, slice_get, is_ok}
+use Rattle.std.specs.Prelude.{◌≡◌, ◌⊎◌, ◌<◌, ◌≤◌, ℕ, List, [], Option, Some, option_map, Result, Ok, Err, length, slice_get, is_ok}
 use Rattle.log_seams.specs.Disk.{DiskState, KeepsBytes}
 use Rattle.log_seams.specs.Outside.{CountsOf, Rose}
 use Rattle.sink_pieces.specs.Output.{Took}
@@ -7,7 +7,7 @@ use Rattle.record_format.specs.declared.header.Header.{Header}
 use Rattle.archive_meaning.specs.declared.entry.JournalEntry.{JournalEntry}
 use Rattle.archive_meaning.specs.Held.{File, content_of, file_text}
 use Rattle.archive_meaning.specs.Stands.{StandsFor}
-use Rattle.archive_decode.specs.Decoded.{StandsForNone}
+use Rattle.archive_open.specs.Shown.{RefusedAt}
 use Rattle.clp_commands.specs.Around.{Around}
 use Rattle.clp_commands.specs.Ending.{EndsWith, RoseIn}
 use Rattle.clp_commands.specs.Outcome.{answer_of, of_file}
@@ -43,7 +43,7 @@ pub record AnswersDecode (number : ℕ) (seen : Around) (old new : DiskState) (s
   pub keeps : KeepsBytes old new
   pub prints : PrintsFile answer number old.seen seen.out.0 seen.out.1
   -- causes
-  pub damaged : (at : ℕ) → answer ≡ Err (Damaged at) → IfSome old.seen StandsForNone
+  pub damaged : (at : ℕ) → answer ≡ Err (Damaged at) → RefusedAt at old.seen
   pub lacks : (told count : ℕ) → answer ≡ Err (NoSuchFile told count) → LacksFile number told count old.seen seen.out.0 seen.out.1
   pub there : (answer ≡ Ok tt) ⊎ (answer ≡ Err SinkFault) → OverJournal old.seen (λ held. number < length (content_of held))
   pub disk : CountsOf DiskFault old.faults new.faults answer

@@ -86,17 +86,18 @@ from_search at SearchRefusal.SinkFault = ReadRefusal.SinkFault
 from_search at SearchRefusal.Damaged = ReadRefusal.Damaged at
 from_search at SearchRefusal.OutOfMemory = ReadRefusal.OutOfMemory
 
--- why the bytes of a file were not printed where opening was refused, and where decoding was
+-- why the bytes of a file were not printed where opening was refused
 abbrev pub file_from_archive : ArchiveRefusal → FileRefusal
 file_from_archive ArchiveRefusal.DiskFault = FileRefusal.DiskFault
 file_from_archive (ArchiveRefusal.Damaged at) = FileRefusal.Damaged at
 file_from_archive ArchiveRefusal.OutOfMemory = FileRefusal.OutOfMemory
 
-abbrev pub from_decode : DecodeRefusal → FileRefusal
-from_decode DecodeRefusal.DiskFault = FileRefusal.DiskFault
-from_decode (DecodeRefusal.Damaged at) = FileRefusal.Damaged at
-from_decode DecodeRefusal.SinkFault = FileRefusal.SinkFault
-from_decode DecodeRefusal.OutOfMemory = FileRefusal.OutOfMemory
+-- and where decoding was, in an archive that is told as damaged at this place
+abbrev pub from_decode : ℕ → DecodeRefusal → FileRefusal
+from_decode at DecodeRefusal.DiskFault = FileRefusal.DiskFault
+from_decode at DecodeRefusal.Damaged = FileRefusal.Damaged at
+from_decode at DecodeRefusal.SinkFault = FileRefusal.SinkFault
+from_decode at DecodeRefusal.OutOfMemory = FileRefusal.OutOfMemory
 
 -- of what comes before logs are taken in: the reading of the header, the opening, and the naming of the files
 abbrev pub of_start : StartRefusal → Refusal

@@ -1,5 +1,5 @@
 -- What `search` prints: the messages of an archive that a pattern matches in a range, and with `--stats` the counts.
-use Rattle.std.specs.Prelude.{◌≡◌, ℕ, List, [], ◌∷◌, ◌++◌, Bool, true, if◌then◌else◌, Option, Result, Ok, Err, IfSome, codes, is_ok, length}
+use Rattle.std.specs.Prelude.{◌≡◌, ℕ, List, [], ◌∷◌, ◌++◌, Bool, true, if◌then◌else◌, Option, Result, Ok, Err, codes, is_ok, length}
 use Rattle.std.specs.Fmt.{decimal}
 use Rattle.std.specs.List.Sorted.{IsPermutation}
 use Rattle.log_seams.specs.Disk.{DiskState}
@@ -8,8 +8,7 @@ use Rattle.record_format.specs.declared.header.Header.{Header}
 use Rattle.archive_meaning.specs.declared.entry.JournalEntry.{JournalEntry}
 use Rattle.archive_meaning.specs.Held.{Held, content_of}
 use Rattle.archive_open.specs.declared.segments.SegmentPlace.{SegmentPlace}
-use Rattle.archive_open.specs.Shown.{places_of}
-use Rattle.archive_decode.specs.Decoded.{StandsForNone}
+use Rattle.archive_open.specs.Shown.{RefusedAt, places_of}
 use Rattle.search_engine.specs.declared.report.Report.{Report}
 use Rattle.search_engine.specs.Opened.{AreOpened}
 use Rattle.search_engine.specs.Scan.{AreFound, AreTried, Asked, Placed, all_placed, lines_of}
@@ -64,5 +63,5 @@ pub record AnswersSearch (q : Asked) (stats : Bool) (seen : Around) (old new : D
   pub ends : EndsReading seen old new status answer
   pub prints : PrintsFound (is_ok answer) q stats old.seen seen.out.0 seen.out.1
   pub reads : SparesBarren q old.seen old.ranges new.ranges
-  pub damaged : (at : ℕ) → answer ≡ Err (Damaged at) → IfSome old.seen StandsForNone
+  pub damaged : (at : ℕ) → answer ≡ Err (Damaged at) → RefusedAt at old.seen
   pub complete : IsComplete seen old new answer

@@ -1,13 +1,13 @@
 //! The command `decode`: the bytes of a file of an archive.
-ghost use Rattle.std.specs.Prelude.{◌≡◌, ◌<◌, ◌⊎◌, ℕ, Ok, Err, length, IfSome, IsErrOf};
+ghost use Rattle.std.specs.Prelude.{◌≡◌, ◌<◌, ◌⊎◌, ℕ, Ok, Err, length, IsErrOf};
 ghost use Rattle.log_seams.specs.Disk.{KeepsBytes};
 ghost use Rattle.log_seams.specs.Outside.{CountsOf};
 ghost use Rattle.archive_meaning.specs.Held.{content_of};
-ghost use Rattle.archive_decode.specs.Decoded.{StandsForNone};
+ghost use Rattle.archive_open.specs.Shown.{RefusedAt};
 ghost use Rattle.clp_commands.specs.Decoding.{LacksFile, PrintsFile};
 ghost use Rattle.clp_commands.specs.Reading.{OverJournal};
 
-use crate::outcome::FileRefusal;
+use crate::outcome::{FileRefusal, of_decode};
 use archive_decode::decode;
 use archive_open::{Archive, PlainBooks, open_archive};
 use log_seams::{Disk, Sink};
@@ -34,7 +34,7 @@ pub(crate) fn decode_file<D: Disk, K: Sink>(
 
     // causes
     ensures damaged { (at : ℕ) → IsErrOf result (FileRefusal.Damaged at)
-        → IfSome (D.state disk.old).seen StandsForNone }
+        → RefusedAt at (D.state disk.old).seen }
     ensures disk { CountsOf FileRefusal.DiskFault
         (D.state disk.old).faults (D.state disk.new).faults result }
     ensures sink { CountsOf FileRefusal.SinkFault (K.faults out.old) (K.faults out.new) result }
@@ -47,6 +47,9 @@ pub(crate) fn decode_file<D: Disk, K: Sink>(
             count: count as u64,
         });
     }
-    decode(alloc, &archive, number, disk, out)?;
-    Ok(())
+    match decode(alloc, &archive, number, disk, out) {
+        Ok(()) => Ok(()),
+        // The decoding tells no place. The first damage is not behind the last gate.
+        Err(refusal) => Err(of_decode(refusal, archive.last_gate())),
+    }
 }

@@ -135,16 +135,15 @@ impl From<ArchiveRefusal> for FileRefusal {
     }
 }
 
-impl From<DecodeRefusal> for FileRefusal {
-    ghost from_gives = { λ r e. e ≡ from_decode r };
-
-    fn from(refusal: DecodeRefusal) -> Self {
-        match refusal {
-            DecodeRefusal::DiskFault => FileRefusal::DiskFault,
-            DecodeRefusal::Damaged { at } => FileRefusal::Damaged { at },
-            DecodeRefusal::SinkFault => FileRefusal::SinkFault,
-            DecodeRefusal::OutOfMemory => FileRefusal::OutOfMemory,
-        }
+/// The refusal of a decoding, in an archive that is told as damaged at this place.
+pub(crate) fn of_decode(refusal: DecodeRefusal, at: u64) -> FileRefusal
+    ensures { result ≡ from_decode at refusal }
+{
+    match refusal {
+        DecodeRefusal::DiskFault => FileRefusal::DiskFault,
+        DecodeRefusal::Damaged => FileRefusal::Damaged { at },
+        DecodeRefusal::SinkFault => FileRefusal::SinkFault,
+        DecodeRefusal::OutOfMemory => FileRefusal::OutOfMemory,
     }
 }
 

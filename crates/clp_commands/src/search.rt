@@ -1,11 +1,11 @@
 //! The command `search`: the messages of an archive that a pattern matches.
-ghost use Rattle.std.specs.Prelude.{◌≡◌, ◌++◌, ℕ, is_ok, IfOk, IfSome, IsErrOf, OnErr, OnOk};
+ghost use Rattle.std.specs.Prelude.{◌≡◌, ◌++◌, ℕ, is_ok, IfOk, IsErrOf, OnErr, OnOk};
 ghost use Rattle.log_seams.specs.Disk.{KeepsBytes};
 ghost use Rattle.log_seams.specs.Outside.{CountsOf};
 ghost use Rattle.sink_pieces.specs.Output.{Grew, GrewByFront};
 ghost use Rattle.step_count.specs.Opens.{OpensFor};
 ghost use Rattle.query_plan.specs.Laws.{IsSearched};
-ghost use Rattle.archive_decode.specs.Decoded.{StandsForNone};
+ghost use Rattle.archive_open.specs.Shown.{RefusedAt};
 ghost use Rattle.search_engine.specs.Searched.{asked};
 ghost use Rattle.clp_commands.specs.Searching.{PrintsFound, SparesBarren, found_counts};
 
@@ -86,7 +86,7 @@ fn search_with<R: Threads + Sync, D: Disk, K: Sink, L: Ledger, M: Ledger>(
 
     // causes
     ensures damaged { (at : ℕ) → IsErrOf result (ReadRefusal.Damaged at)
-        → IfSome (D.state disk.old).seen StandsForNone }
+        → RefusedAt at (D.state disk.old).seen }
     ensures disk { CountsOf ReadRefusal.DiskFault
         (D.state disk.old).faults (D.state disk.new).faults result }
     ensures sink { CountsOf ReadRefusal.SinkFault (K.faults out.old) (K.faults out.new) result }
@@ -108,8 +108,8 @@ fn search_with<R: Threads + Sync, D: Disk, K: Sink, L: Ledger, M: Ledger>(
     );
     let report = match answer {
         Ok(report) => report,
-        // The search tells no place. Damage stands before the gate that closes the archive.
-        Err(refusal) => return Err(of_search(refusal, archive.end().saturating_sub(1))),
+        // The search tells no place. The first damage is not behind the last gate.
+        Err(refusal) => return Err(of_search(refusal, archive.last_gate())),
     };
     if stats {
         print_counts(alloc, &report, out)?;
@@ -142,7 +142,7 @@ pub(crate) fn search_archive<R: Threads + Sync, D: Disk, K: Sink>(
 
     // causes
     ensures damaged { (at : ℕ) → IsErrOf result (ReadRefusal.Damaged at)
-        → IfSome (D.state disk.old).seen StandsForNone }
+        → RefusedAt at (D.state disk.old).seen }
     ensures disk { CountsOf ReadRefusal.DiskFault
         (D.state disk.old).faults (D.state disk.new).faults result }
     ensures sink { CountsOf ReadRefusal.SinkFault (K.faults out.old) (K.faults out.new) result }

@@ -1,11 +1,11 @@
 //! The summary of an archive: how many messages it has, how many of them are found, and how many
 //! segments there are.
-ghost use Rattle.std.specs.Prelude.{◌≡◌, ◌<◌, ◌^◌, ◌⊎◌, ℕ, None, codes, is_ok, IfErr, IfOk, IfSome, IsErrOf};
+ghost use Rattle.std.specs.Prelude.{◌≡◌, ◌<◌, ◌^◌, ◌⊎◌, ℕ, None, codes, is_ok, IfErr, IfOk, IsErrOf};
 ghost use Rattle.log_seams.specs.Disk.{KeepsBytes};
 ghost use Rattle.log_seams.specs.Outside.{CountsOf};
 ghost use Rattle.step_count.specs.Opens.{OpensFor};
 ghost use Rattle.wild_match.specs.Reading.{IsSearchPattern};
-ghost use Rattle.archive_decode.specs.Decoded.{StandsForNone};
+ghost use Rattle.archive_open.specs.Shown.{RefusedAt};
 ghost use Rattle.search_engine.specs.Searched.{OfJournal};
 ghost use Rattle.clp_commands.specs.Benched.{AreCounted, PrintsSummary, sought, summary};
 
@@ -66,7 +66,7 @@ fn count_with<R: Threads + Sync, D: Disk, L: Ledger, M: Ledger>(
 
     // causes
     ensures damaged { (at : ℕ) → IsErrOf result (ReadRefusal.Damaged at)
-        → IfSome (D.state disk.old).seen StandsForNone }
+        → RefusedAt at (D.state disk.old).seen }
     ensures disk { CountsOf ReadRefusal.DiskFault
         (D.state disk.old).faults (D.state disk.new).faults result }
     ensures sink { ¬ IsErrOf result ReadRefusal.SinkFault }
@@ -94,7 +94,7 @@ fn count_with<R: Threads + Sync, D: Disk, L: Ledger, M: Ledger>(
     );
     match answer {
         Ok(report) => Ok(report),
-        Err(refusal) => Err(of_search(refusal, archive.end().saturating_sub(1))),
+        Err(refusal) => Err(of_search(refusal, archive.last_gate())),
     }
 }
 
@@ -110,7 +110,7 @@ fn count<R: Threads + Sync, D: Disk>(
 
     // causes
     ensures damaged { (at : ℕ) → IsErrOf result (ReadRefusal.Damaged at)
-        → IfSome (D.state disk.old).seen StandsForNone }
+        → RefusedAt at (D.state disk.old).seen }
     ensures disk { CountsOf ReadRefusal.DiskFault
         (D.state disk.old).faults (D.state disk.new).faults result }
     ensures sink { ¬ IsErrOf result ReadRefusal.SinkFault }
@@ -149,7 +149,7 @@ pub(crate) fn summarize<R: Threads + Sync, D: Disk, K: Sink>(
 
     // causes
     ensures damaged { (at : ℕ) → IsErrOf result (ReadRefusal.Damaged at)
-        → IfSome (D.state disk.old).seen StandsForNone }
+        → RefusedAt at (D.state disk.old).seen }
     ensures disk { CountsOf ReadRefusal.DiskFault
         (D.state disk.old).faults (D.state disk.new).faults result }
     ensures sink { CountsOf ReadRefusal.SinkFault (K.faults out.old) (K.faults out.new) result }

@@ -19,11 +19,11 @@ returns-in_err-write_segments-clause-decoded g c =
     (c.in_err-write_segments.ensures.err bytes messages told (held_in _ _ c.args.number _ _ bytes messages (c.as_slice-2.ensures ∙ c.segments.ensures) hold))))
 
 pub returns-in_err-write_segments-clause-damaged : goal.returns-in_err-write_segments-clause-damaged
-returns-in_err-write_segments-clause-damaged g c = λ at is.
+returns-in_err-write_segments-clause-damaged g c = λ is.
     let p = err_from_is_err_and c.from_residual.result c.from_residual.ensures.1 in
     let named = g.met.N.KeepsTexts.named c.names.result.now in
     none_stands (g.D.Disk.state c.args.disk.now).seen (shown g.N.KeepsTexts.kept c.args.archive.now) c.args.number _ _ c.segments_are_held.ensures c.requires.opened (named.0 ∙ ap (λ (k : Kept). k.types) c.names.ensures) (named.1 ∙ ap (λ (k : Kept). k.words) c.names.ensures)
-    (λ bytes messages told hold. c.in_err-write_segments.ensures.damaged at (search (rules, is, p.1, p.2)) bytes messages told (held_in _ _ c.args.number _ _ bytes messages (c.as_slice-2.ensures ∙ c.segments.ensures) hold))
+    (λ bytes messages told hold. c.in_err-write_segments.ensures.damaged (search (rules, is, p.1, p.2)) bytes messages told (held_in _ _ c.args.number _ _ bytes messages (c.as_slice-2.ensures ∙ c.segments.ensures) hold))
 
 pub returns-in_err-finish-clause-decoded : goal.returns-in_err-finish-clause-decoded
 returns-in_err-finish-clause-decoded g c =

@@ -12,10 +12,10 @@ returns-in_err-write_segment-clause-err g c =
     (λ ms here. c.in_err-write_segment.ensures.err bytes ms (c.loop-place.invariant.rests.seen ∙ told) here) (c.loop-place.invariant.going bytes messages told has))
 
 pub returns-in_err-write_segment-clause-damaged : goal.returns-in_err-write_segment-clause-damaged
-returns-in_err-write_segment-clause-damaged g c = λ at is bytes messages told has.
+returns-in_err-write_segment-clause-damaged g c = λ is bytes messages told has.
     let p = err_from_is_err_and c.from_residual.result c.from_residual.ensures.1 in
     all_not _ _ c.args.number _ c.loop-place.place-index c.place-item.result bytes _ _ c.args.lines.now c.loop-place.lines messages c.loop-place-test.true c.place-item.is (search rules)
-    (λ ms here. c.in_err-write_segment.ensures.damaged at (search (rules, is, p.1, p.2)) bytes ms (c.loop-place.invariant.rests.seen ∙ told) here) (c.loop-place.invariant.going bytes messages told has)
+    (λ ms here. c.in_err-write_segment.ensures.damaged (search (rules, is, p.1, p.2)) bytes ms (c.loop-place.invariant.rests.seen ∙ told) here) (c.loop-place.invariant.going bytes messages told has)
 
 pub loop-place-preserved : goal.loop-place-preserved
 loop-place-preserved g c = record {

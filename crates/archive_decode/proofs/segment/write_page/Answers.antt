@@ -7,7 +7,7 @@ pub returns-then-not-row_fits-clause-err : goal.returns-then-not-row_fits-clause
 returns-then-not-row_fits-clause-err g c = λ messages all. absurd (page_unspelled _ _ _ c.loop-place.place _ messages c.row-row.ensures (λ spelled. search rules) all)
 
 pub returns-then-not-row_fits-clause-damaged : goal.returns-then-not-row_fits-clause-damaged
-returns-then-not-row_fits-clause-damaged g c = λ place is messages all. page_unspelled _ _ _ c.loop-place.place _ messages c.row-row.ensures (λ spelled. search rules) all
+returns-then-not-row_fits-clause-damaged g c = λ is messages all. page_unspelled _ _ _ c.loop-place.place _ messages c.row-row.ensures (λ spelled. search rules) all
 
 pub returns-in_err-push-clause-err : goal.returns-in_err-push-clause-err
 returns-in_err-push-clause-err g c =

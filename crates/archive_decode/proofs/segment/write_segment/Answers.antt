@@ -9,7 +9,7 @@ pub returns-in_default-clause-err : goal.returns-in_default-clause-err
 returns-in_default-clause-err g c = λ bytes messages told has. absurd (c.in_default.ensures.none refl bytes has.rows has.holds)
 
 pub returns-in_default-clause-damaged : goal.returns-in_default-clause-damaged
-returns-in_default-clause-damaged g c = λ at is bytes messages told has. c.in_default.ensures.none refl bytes has.rows has.holds
+returns-in_default-clause-damaged g c = λ is bytes messages told has. c.in_default.ensures.none refl bytes has.rows has.holds
 
 pub loop-alloc-init : goal.loop-alloc-init
 loop-alloc-init g c = record {
@@ -24,8 +24,8 @@ returns-in-Err-clause-err g c = λ bytes messages told has.
     going_kept _ _ c.loop-alloc.pages bytes _ _ c.args.lines.now c.loop-alloc.lines messages (c.loop-alloc.invariant.going bytes messages told has)
 
 pub returns-in-Err-clause-damaged : goal.returns-in-Err-clause-damaged
-returns-in-Err-clause-damaged g c = λ at is bytes messages told has.
-    let why = page_damaged c.args.place.now.at at c.in-Err.refusal c.of_page.result _ c.of_page.ensures refl is in
+returns-in-Err-clause-damaged g c = λ is bytes messages told has.
+    let why = page_damaged c.in-Err.refusal c.of_page.result _ c.of_page.ensures refl is in
     going_none _ _ _ c.loop-alloc.pages bytes _ _ c.args.lines.now c.loop-alloc.lines messages (c.loop-alloc.invariant.rests.seen ∙ told) (c.in-Err.ensures.damaged (search (rules, why))) (c.loop-alloc.invariant.going bytes messages told has)
 
 pub loop-alloc-preserved : goal.loop-alloc-preserved
@@ -45,9 +45,9 @@ returns-in_err-write_page-clause-err g c =
     (c.loop-alloc.invariant.going bytes messages told has))
 
 pub returns-in_err-write_page-clause-damaged : goal.returns-in_err-write_page-clause-damaged
-returns-in_err-write_page-clause-damaged g c = λ at is bytes messages told has.
+returns-in_err-write_page-clause-damaged g c = λ is bytes messages told has.
     let p = err_from_is_err_and c.from_residual.result c.from_residual.ensures.1 in
-    going_not _ _ _ c.loop-alloc.pages c.next_page.new.self c.in-Ok.columns.rows bytes _ _ c.args.lines.now c.loop-alloc.lines messages (c.loop-alloc.invariant.rests.seen ∙ told) c.in-Ok.ensures.page (c.in_err-write_page.ensures.damaged at (search (rules, is, p.1, p.2)))
+    going_not _ _ _ c.loop-alloc.pages c.next_page.new.self c.in-Ok.columns.rows bytes _ _ c.args.lines.now c.loop-alloc.lines messages (c.loop-alloc.invariant.rests.seen ∙ told) c.in-Ok.ensures.page (c.in_err-write_page.ensures.damaged (search (rules, is, p.1, p.2)))
     (c.loop-alloc.invariant.going bytes messages told has)
 
 pub returns-clause-ok : goal.returns-clause-ok

@@ -1,9 +1,8 @@
 use Rattle.std.proofs.Common.{◌≡◌, ap, false, refl, Err}
 use Rattle.std.specs.Prelude.{is_ok}
 use Rattle.std.proofs.lemmas.Result.{err_from_is_err_and}
-use Rattle.search_engine.specs.declared.refusal.SearchRefusal.{SearchRefusal}
 use Rattle.clp_commands.specs.declared.outcome.ReadRefusal.{ReadRefusal}
-use Rattle.clp_commands.proofs.SearchingLemmas.{found_done, found_none, found_stopped, found_uncounted, found_unopened, grew_bare, grew_counted, search_damaged, spares_opened, spares_searched}
+use Rattle.clp_commands.proofs.SearchingLemmas.{found_done, found_stopped, found_uncounted, found_unopened, grew_bare, grew_counted, search_refused_at, spares_opened, spares_searched}
 use Rattle.clp_commands.proofs.search.search_with.Goals.{then-stats+in_ok-print_counts, else-stats}
 use Rattle.clp_commands.proofs.search.search_with.Goals as goal
 
@@ -24,8 +23,8 @@ returns-in-Err-clause-prints g c = found_stopped false _ _ _ _ _ _ _ _ _ _ _ ref
 pub returns-in-Err-clause-damaged : goal.returns-in-Err-clause-damaged
 returns-in-Err-clause-damaged g c = λ at is.
     let told : c.of_search.result ≡ ReadRefusal.Damaged at = cc (is) in
-    let refusal : c.in-Err.refusal ≡ SearchRefusal.Damaged = search_damaged _ c.in-Err.refusal c.saturating_sub.result at c.of_search.ensures told in
-    found_none _ _ c.in_ok-archive.ensures.keeps.seen (c.in-Err.ensures.damaged (ap Err refusal))
+    search_refused_at _ c.in-Err.refusal c.last_gate.result at _ _ _ c.of_search.ensures told c.in_ok-archive.ensures.keeps.seen c.in_ok-archive.ensures.last c.last_gate.ensures
+    (λ refusal. c.in-Err.ensures.damaged (ap Err refusal))
 
 pub returns-in_err-print_counts-clause-reads : goal.returns-in_err-print_counts-clause-reads
 returns-in_err-print_counts-clause-reads g c = spares_searched _ _ _ _ _ _ c.in_ok-archive.ensures.keeps.seen c.in_ok-archive.ensures.ranges c.search-answer.ensures.reads

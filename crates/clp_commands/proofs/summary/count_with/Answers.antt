@@ -1,7 +1,6 @@
 use Rattle.std.proofs.Common.{◌≡◌, ap, Err}
-use Rattle.search_engine.specs.declared.refusal.SearchRefusal.{SearchRefusal}
 use Rattle.clp_commands.specs.declared.outcome.ReadRefusal.{ReadRefusal}
-use Rattle.clp_commands.proofs.SearchingLemmas.{found_none, search_damaged}
+use Rattle.clp_commands.proofs.SearchingLemmas.{search_refused_at}
 use Rattle.clp_commands.proofs.SummaryLemmas.{counted_done}
 use Rattle.clp_commands.proofs.summary.count_with.Goals as goal
 
@@ -15,5 +14,5 @@ returns-in-Ok-clause-counted g c =
 pub returns-clause-damaged : goal.returns-clause-damaged
 returns-clause-damaged g c = λ at is.
     let told : c.of_search.result ≡ ReadRefusal.Damaged at = cc (is) in
-    let refusal : c.in-Err.refusal ≡ SearchRefusal.Damaged = search_damaged _ c.in-Err.refusal c.saturating_sub.result at c.of_search.ensures told in
-    found_none _ _ c.in_ok-archive.ensures.keeps.seen (c.in-Err.ensures.damaged (ap Err refusal))
+    search_refused_at _ c.in-Err.refusal c.last_gate.result at _ _ _ c.of_search.ensures told c.in_ok-archive.ensures.keeps.seen c.in_ok-archive.ensures.last c.last_gate.ensures
+    (λ refusal. c.in-Err.ensures.damaged (ap Err refusal))
