@@ -12,12 +12,13 @@ use Rattle.archive_meaning.specs.declared.entry.JournalEntry.{JournalEntry}
 use Rattle.archive_meaning.specs.Stands.{StandsFor}
 use Rattle.archive_open.specs.Shown.{RefusedAt}
 use Rattle.clp_commands.specs.Around.{Around}
-use Rattle.clp_commands.specs.Benched.{AddsLogs, EndsLogs, IsTakenWhole, PrintsSummary, SumsUp, TellsParts, generated_names}
+use Rattle.clp_commands.specs.Benched.{AddsLogs, EndsLogs, IsSpared, IsTakenWhole, PrintsSummary, SumsUp, TellsParts, generated_names, with_logs}
 use Rattle.clp_commands.specs.Ending.{EndsWith, SaysIn, Stayed, TookNothing}
 use Rattle.clp_commands.specs.Going.{DiskGoesOn}
 use Rattle.clp_commands.specs.IngestPrints.{came_of, names_of}
 use Rattle.clp_commands.specs.Ingested.{Came, FromArchive, HasCallCause, LeavesJournal, StandsForEither, TakesIn, TakesNothing}
 use Rattle.clp_commands.specs.Refusal.{line_of, status_of}
+use Rattle.clp_commands.specs.StepsCauses.{HaveFileCauses, logs_of}
 use Rattle.clp_commands.specs.declared.refusal.Refusal.{Refusal}
 use Rattle.sink_pieces.specs.Output.{Grew}
 use Rattle.sink_pieces.proofs.OutputLemmas.{Grew-nothing}
@@ -81,7 +82,7 @@ refused_logs content seen old new status refusal is said nothing sink cause disk
 
 -- ---- the disk, where nothing more is written
 
-rose_on : (before mid now : ℕ) → mid ≤ now → Rose before mid → Rose before now
+pub rose_on : (before mid now : ℕ) → mid ≤ now → Rose before mid → Rose before now
 rose_on before mid now low (inl more) = inl (omega (arith, low, more))
 rose_on before mid now low (inr full) = inr (omega (arith, low, full))
 
@@ -120,13 +121,16 @@ sums_sooner came seen old mid new status low sums = record {
 }
 
 pub logs_added : (content : List ℕ → Option (List ℕ)) (names : List (List ℕ)) (files : List TakenFile) (seen : Around) (old mid new : DiskState) (status : ℕ) → names ≡ generated_names → names_of files ≡ names → IsLawful mid → DiskGoesOn old mid
-    → KeepsBytes mid new → mid.faults ≤ new.faults → FromArchive old (λ h before bytes stood. TakesIn content h before stood names (map came_of files) old mid) → TellsParts (map came_of files) seen status ⊎ SumsUp (map came_of files) seen mid new status
+    → KeepsBytes mid new → mid.faults ≤ new.faults → FromArchive old (λ h before bytes stood. TakesIn content h before stood names (map came_of files) old mid)
+    → HaveFileCauses (logs_of (with_logs content seen)) old new (map came_of files) → All IsSpared (map came_of files) → TellsParts (map came_of files) seen status ⊎ SumsUp (map came_of files) seen mid new status
     → EndsLogs content seen old new status
-logs_added content names files seen old mid new status four named law goes keeps counts takes told =
+logs_added content names files seen old mid new status four named law goes keeps counts takes causes spared told =
     let adds : AddsLogs content names seen old new status = record {
       came = map came_of files;
       names_are = names_came files ∙ named;
       disk = takes_later content names (map came_of files) old mid new law goes.moments.later keeps counts takes;
+      causes = causes;
+      spared = spared;
       told = ⊎_elim (λ parts. inl parts) (λ sums. inr (sums_sooner (map came_of files) seen old mid new status goes.counts sums)) told;
     } in
     inr (subst (λ ns. AddsLogs content ns seen old new status) four adds)

@@ -31,3 +31,5 @@ pub mod WholeLemmas
 pub mod SummaryLemmas
 pub mod BenchLemmas
 pub mod MadeLemmas
+pub mod LogCauseLemmas
+pub mod BenchedLemmas

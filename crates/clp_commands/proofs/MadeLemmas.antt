@@ -1,10 +1,11 @@
 -- What `bench` answers, on the archive that it made.
-use Rattle.std.proofs.Common.{◌≡◌, ◌⊎◌, ◌<◌, ◌≤◌, inl, inr, ⊎_elim, refl, sym, ap, subst, ◌∙◌, ℕ, ◌+◌, List, [], ◌∷◌, ◌++◌, Option, None, Some, Result, Ok, Err, option_map, length, append-nil, arith}
+use Rattle.std.proofs.Common.{◌≡◌, ◌⊎◌, ◌<◌, ◌≤◌, inl, inr, ⊎_elim, refl, sym, ap, subst, ◌∙◌, ℕ, ◌*◌, ◌+◌, map, List, [], ◌∷◌, ◌++◌, Option, None, Some, Result, Ok, Err, option_map, length, append-nil, arith}
 use Rattle.std.specs.Prelude.{IfSome, is_some}
-use Rattle.std.specs.List.{All}
+use Rattle.std.specs.List.{All, sum_by}
 use Rattle.std.proofs.lemmas.List.{length-append}
 use Rattle.std.proofs.lemmas.List.Concat.{length-flat_map}
-use Rattle.std.proofs.lemmas.List.Elements.{All-cons, All-head, All-nil, All-tail}
+use Rattle.std.proofs.lemmas.Option.{IfSome_then}
+use Rattle.std.proofs.lemmas.List.Elements.{All-cons, All-head, All-nil, All-tail, All-weaker}
 use Rattle.log_seams.specs.Disk.{DiskState, Only}
 use Rattle.log_seams.specs.Outside.{CountsOf, Rose}
 use Rattle.record_format.specs.declared.header.Header.{Header}
@@ -26,17 +27,21 @@ use Rattle.archive_meaning.proofs.RunLemmas.{one_held}
 use Rattle.archive_check.specs.Checked.{DamagedAt}
 use Rattle.archive_meaning.proofs.UniqueLemmas.{journals_are_whole}
 use Rattle.clp_commands.specs.Around.{Around}
-use Rattle.clp_commands.specs.Benched.{AnswersBench, EndsLogs, FromEmpty, HasLogsCause, RefusesLogs, RefusesMaking, TakesLogs, at_moment, default_header, generated_names}
+use Rattle.clp_commands.specs.Benched.{AnswersBench, EndsLogs, FromEmpty, HasLogsCause, IsTakenWhole, RefusesLogs, RefusesMaking, TakesLogs, as_made, at_moment, default_header, generated_names, made_bytes, with_logs}
 use Rattle.clp_commands.specs.Ending.{SaysIn, Stayed, TookNothing}
 use Rattle.clp_commands.specs.Outcome.{answer_of, of_create}
 use Rattle.clp_commands.specs.Reading.{OverJournal}
 use Rattle.clp_commands.specs.Refusal.{line_of, status_of}
 use Rattle.clp_commands.specs.Ingested.{Came, FromArchive, HasCallCause, LeavesJournal, TakesIn, TakesNothing}
 use Rattle.clp_commands.specs.Names.{IsFirstTooLong, IsShortName}
+use Rattle.clp_commands.specs.StepsCauses.{CameIn, HaveFileCauses, Logs, logs_of}
 use Rattle.clp_commands.specs.declared.refusal.Refusal.{Refusal}
 use Rattle.clp_commands.specs.declared.refusal.Refusal.TheVariants.{Usage, BadPattern, OpenFault, ReadFault, LineTooLong, TooManyLines, DiskFault, Damaged, SinkFault, NotEmpty, NoSuchFile, OutOfMemory, NameTooLong, TooManyFiles, Full, ArchiveFull}
 use Rattle.generated_logs.specs.Logs.{content_of as generated, name_of}
 use Rattle.clp_commands.proofs.BenchLemmas.{sums_sooner}
+use Rattle.clp_commands.proofs.BenchedLemmas.{bench_answers, making_answers}
+use Rattle.clp_commands.proofs.LogCauseLemmas.{all_counted}
+use Rattle.clp_commands.proofs.WholeLemmas.{came_on, file_causes}
 
 -- ---- the empty archive
 
@@ -46,7 +51,7 @@ default_is = record { least_version = omega arith; most_version = omega arith; l
 empty_size : end_of default_header [] ≡ 33
 empty_size = omega (arith, length-append (header_bytes default_header) [], length-header_bytes default_header)
 
-empty_stands : StandsFor (header_bytes default_header ++ CLOSED_GATE ∷ []) default_header []
+empty_stands : StandsFor made_bytes default_header []
 empty_stands = record {
   header = default_is;
   legal = record { held = nothing_held; run = refl; named = tt; short = omega (arith, empty_size) };
@@ -171,10 +176,37 @@ module _ (old mid : DiskState) (made : MakesEmpty default_header old mid) (tells
   cause_made new (NoSuchFile number count) cause = cause
   cause_made new (Full book count) cause = cause
 
+  -- ---- what came of the logs
+
+  -- what holds from the archive on holds from the bytes that it was made of
+  made_from : (P : (h : Header) (before : List JournalEntry) (bytes : List ℕ) → StandsFor bytes h before → Type 0) → FromArchive mid P → FromArchive (as_made old) P
+  made_from P from = go old.seen mid.seen made.made tells made.synced from
+    where
+      go : (was now : Option (List ℕ)) → IfSome now (λ told. told ≡ made_bytes) → is_some now ≡ is_some was → Only now mid.images
+          → IfSome now (λ bytes. (h : Header) (before : List JournalEntry) (stood : StandsFor bytes h before) → ((c : List ℕ) → mid.images c → StandsFor c h before) → P h before bytes stood)
+          → IfSome (option_map (λ _. made_bytes) was) (λ bytes. (h : Header) (before : List JournalEntry) (stood : StandsFor bytes h before) → ((c : List ℕ) → c ≡ made_bytes → StandsFor c h before) → P h before bytes stood)
+      go None now made tells only from = tt
+      go (Some was) None made tells only from = absurd (cc (tells))
+      go (Some was) (Some bytes) made tells only from = λ h before stood each.
+          subst (λ b. (s : StandsFor b h before) → ((c : List ℕ) → mid.images c → StandsFor c h before) → P h before b s) made (from h before) stood (λ c image. each c (only c image ∙ made))
+
+  causes_from : (logs : Logs) (came : List Came) (new : DiskState) → HaveFileCauses logs mid new came → HaveFileCauses logs (as_made old) new came
+  causes_from logs came new have =
+      let low : old.faults ≤ mid.faults = omega (arith, steady) in
+      record {
+        header = have.header;
+        told = made_from (λ h before bytes stood. have.header ≡ h) have.told;
+        each = All-weaker (CameIn logs have.header mid new) (CameIn logs have.header (as_made old) new) (came_on logs have.header (as_made old) mid new low) came have.each;
+      }
+
+  all_taken : (number lines : ℕ) (came : List Came) (new : DiskState) → map (λ (c : Came). c.name) came ≡ generated_names → FromEmpty old (λ from bytes stood. TakesIn (generated number lines) default_header [] stood generated_names came from new)
+      → All IsTakenWhole came → IfSome old.seen (λ _. sum_by (λ (c : Came). c.messages) came ≡ 4 * lines)
+  all_taken number lines came new are takes whole = IfSome_then old.seen takes (λ was took. all_counted number lines came took.1.2.1.1.files are took.1.2.1.1.fronts whole)
+
   -- ---- the answer
 
-  pub answers_made : (number lines : ℕ) (seen : Around) (new : DiskState) (status : ℕ) → EndsLogs (generated number lines) seen mid new status → AnswersBench number lines seen old new status
-  answers_made number lines seen new status (inl refused) =
+  pub answers_made : (number lines : ℕ) (seen : Around) (new : DiskState) (status : ℕ) → is_some new.seen ≡ is_some mid.seen → EndsLogs (generated number lines) seen mid new status → AnswersBench number lines seen old new status
+  answers_made number lines seen new status told (inl refused) =
       let refuses : RefusesLogs seen old new status = record {
         refusal = refused.refusal;
         ends = refused.ends;
@@ -183,15 +215,19 @@ module _ (old mid : DiskState) (made : MakesEmpty default_header old mid) (tells
         cause = cause_made new refused.refusal refused.cause;
         disk = nothing_from new refused.disk;
       } in
-      inr (inl refuses)
-  answers_made number lines seen new status (inr adds) =
+      bench_answers number lines seen old new status (told ∙ tells) (inr (inl refuses))
+  answers_made number lines seen new status told (inr adds) =
+      let disk = takes_from (generated number lines) adds.came new adds.disk in
       let takes : TakesLogs number lines seen old new status = record {
         came = adds.came;
         names_are = adds.names_are;
-        disk = takes_from (generated number lines) adds.came new adds.disk;
+        disk = disk;
+        each = file_causes (with_logs (generated number lines) seen) (as_made old) new adds.came (causes_from (logs_of (with_logs (generated number lines) seen)) adds.came new adds.causes);
+        spared = adds.spared;
+        all = all_taken number lines adds.came new adds.names_are disk;
         told = ⊎_elim (λ parts. inl parts) (λ sums. inr (sums_sooner adds.came seen old mid new status (omega (arith, steady)) sums)) adds.told;
       } in
-      inr (inr takes)
+      bench_answers number lines seen old new status (told ∙ tells) (inr (inr takes))
 
 -- the archive was not made
 refused_by : (seen : Around) (old new : DiskState) (status : ℕ) (outcome : Result Unit CreateRefusal) (refusal : Refusal) → Some refusal ≡ option_map of_create (answer_of outcome) → status ≡ status_of refusal → SaysIn seen (line_of [] refusal)
@@ -209,7 +245,7 @@ refused_by seen old new status (Err r) refusal is status_is said leaves nothing 
 
 pub refused_making : (number lines : ℕ) (seen : Around) (old new : DiskState) (status : ℕ) (outcome : Result Unit CreateRefusal) (refusal : Refusal) → Some refusal ≡ option_map of_create (answer_of outcome) → status ≡ status_of refusal → SaysIn seen (line_of [] refusal)
     → CreateLeaves outcome default_header old new → TookNothing seen.out → Stayed seen.out_faults → AnswersBench number lines seen old new status
-refused_making number lines seen old new status outcome refusal is status_is said leaves nothing sink = inl (refused_by seen old new status outcome refusal is status_is said leaves nothing sink)
+refused_making number lines seen old new status outcome refusal is status_is said leaves nothing sink = making_answers number lines seen old new status (refused_by seen old new status outcome refusal is status_is said leaves nothing sink)
 
 pub made_whole : (old new : DiskState) (outcome : Result Unit CreateRefusal) → None ≡ option_map of_create (answer_of outcome) → CreateLeaves outcome default_header old new → MakesEmpty default_header old new
 made_whole old new (Ok done) is leaves = leaves

@@ -37,7 +37,7 @@ module _ (logs : Logs) (h : Header) (old mid new : DiskState) (risen : old.fault
   cause_on c (Some (Refusal.NameTooLong index)) cause = absurd cause
   cause_on c (Some (Refusal.TooManyFiles held more)) cause = absurd cause
 
-  came_on : (c : Came) → CameIn logs h mid new c → CameIn logs h old new c
+  pub came_on : (c : Came) → CameIn logs h mid new c → CameIn logs h old new c
   came_on c is = record { cause = cause_on c c.refusal is.cause; part = is.part }
 
 pub causes_sooner : (old mid late : DiskState) → Looked old mid late → (logs : Logs) (names : List (List ℕ)) (first : ℕ) (j : JournalState) (new : DiskState) (came : List Came) → late.faults ≤ j.disk.faults

@@ -1,5 +1,6 @@
 -- What `bench` leaves and prints: an archive of the four generated logs, and how many of its messages a pattern matches.
-use Rattle.std.specs.Prelude.{◌≡◌, ◌⊎◌, ◌≤◌, ℕ, Bool, true, false, List, [], ◌∷◌, ◌++◌, length, map, All, codes, is_ok, Option, Some, None, option_map, Result, Ok, Err, IfSome}
+use Rattle.std.proofs.Common.{inl, inr}
+use Rattle.std.specs.Prelude.{◌≡◌, ◌⊎◌, ◌*◌, ◌≤◌, ℕ, Bool, true, false, List, [], ◌∷◌, ◌++◌, length, map, All, codes, is_ok, Option, Some, None, option_map, Result, Ok, Err, IfSome}
 use Rattle.std.specs.Fmt.{decimal}
 use Rattle.std.specs.List.{flat_map, sum_by}
 use Rattle.log_seams.specs.Disk.{DiskState}
@@ -7,6 +8,7 @@ use Rattle.log_seams.specs.Outside.{CountsOf, Rose}
 use Rattle.sink_pieces.specs.Output.{Grew, GrewByFront}
 use Rattle.wild_match.specs.Reading.{IsSearchPattern}
 use Rattle.wild_match.specs.declared.pattern.Item.{Item}
+use Rattle.record_format.specs.Header.{header_bytes}
 use Rattle.record_format.specs.declared.header.Header.{Header}
 use Rattle.archive_meaning.specs.declared.entry.JournalEntry.{JournalEntry}
 use Rattle.archive_meaning.specs.Held.{Held, content_of}
@@ -15,17 +17,20 @@ use Rattle.archive_open.specs.Shown.{RefusedAt, places_of}
 use Rattle.search_engine.specs.Scan.{AreFound, Placed, all_placed}
 use Rattle.search_engine.specs.Searched.{OfJournal, asked}
 use Rattle.disk_journal.specs.Created.{CreateLeaves}
+use Rattle.disk_journal.specs.declared.record.TheConstants.{CLOSED_GATE}
 use Rattle.disk_journal.specs.declared.refusals.CreateRefusal.{CreateRefusal}
 use Rattle.generated_logs.specs.Logs.{content_of as generated, name_of}
 use Rattle.clp_commands.specs.Around.{Around}
-use Rattle.clp_commands.specs.Ending.{EndsWith, SaysIn, Stayed, TookNothing}
-use Rattle.clp_commands.specs.Ingested.{Came, FromArchive, RefusesIngest, TakesIn, TakesNothing}
+use Rattle.clp_commands.specs.Ending.{EndsWith, RoseIn, SaysIn, Stayed, TookNothing}
+use Rattle.clp_commands.specs.Ingested.{Came, CameOfFile, FromArchive, RefusesIngest, TakesIn, TakesNothing}
 use Rattle.clp_commands.specs.Outcome.{answer_of, of_create, of_read}
+use Rattle.clp_commands.specs.Refusal.{status_of}
+use Rattle.clp_commands.specs.StepsCauses.{HaveFileCauses, logs_of}
 use Rattle.clp_commands.specs.Taken.{file_error, file_status, gravest}
 use Rattle.clp_commands.specs.declared.outcome.ReadRefusal.{ReadRefusal}
 use Rattle.clp_commands.specs.declared.outcome.ReadRefusal.TheVariants.{Damaged as ReadDamaged, DiskFault as ReadDiskFault, SinkFault as ReadSinkFault}
 use Rattle.clp_commands.specs.declared.refusal.Refusal.{Refusal}
-use Rattle.clp_commands.specs.declared.refusal.Refusal.TheVariants.{ArchiveFull, Damaged, DiskFault, OutOfMemory, TooManyFiles}
+use Rattle.clp_commands.specs.declared.refusal.Refusal.TheVariants.{ArchiveFull, Damaged, DiskFault, Full, OutOfMemory, TooManyFiles}
 
 -- ---- the summary
 
@@ -61,6 +66,23 @@ PrintsSummary false messages bytes old new = (new ≡ old) ⊎ TellsSummary (Gre
 
 -- ---- what came of the logs
 
+-- the same around with these logs, of which no opening and no read fails
+abbrev pub with_logs : (List ℕ → Option (List ℕ)) → Around → Around
+with_logs content seen = record seen { content = content; opens = λ name. (0, 0); reads = λ name. (0, 0) }
+
+-- why a generated log is not whole: a dictionary or the archive is full, a call of the disk failed, or memory ended
+abbrev pub MayRefuseLog : Option Refusal → Type 0
+MayRefuseLog None = Unit {0}
+MayRefuseLog (Some (Full book count)) = Unit {0}
+MayRefuseLog (Some (ArchiveFull end need)) = Unit {0}
+MayRefuseLog (Some DiskFault) = Unit {0}
+MayRefuseLog (Some OutOfMemory) = Unit {0}
+MayRefuseLog (Some _) = ⊥
+
+-- nothing else is refused of the file
+abbrev pub IsSpared : Came → Type 0
+IsSpared c = MayRefuseLog c.refusal
+
 -- nothing was refused of the file
 abbrev pub IsTakenWhole : Came → Type 0
 IsTakenWhole c = c.refusal ≡ None
@@ -83,11 +105,14 @@ pub record SumsUp (came : List Came) (seen : Around) (old new : DiskState) (stat
   pub sink : CountsOf ReadSinkFault seen.out_faults.0 seen.out_faults.1 answer
   pub damaged : (at : ℕ) → answer ≡ Err (ReadDamaged at) → RefusedAt at new.seen
 
--- The names were added to the archive and the logs taken in, and it was told what came of them.
+-- The names were added to the archive and the logs taken in, with the causes for which they are not whole, and it was told
+-- what came of them.
 pub record AddsLogs (content : List ℕ → Option (List ℕ)) (names : List (List ℕ)) (seen : Around) (old new : DiskState) (status : ℕ) : Type 0 where
   pub came : List Came
   pub names_are : map (λ c. c.name) came ≡ names
   pub disk : FromArchive old (λ h before bytes stood. TakesIn content h before stood names came old new)
+  pub causes : HaveFileCauses (logs_of (with_logs content seen)) old new came
+  pub spared : All IsSpared came
   pub told : TellsParts came seen status ⊎ SumsUp came seen old new status
 
 -- the names of the four generated logs
@@ -109,6 +134,21 @@ AroundSinks written faults out out_after err err_after P =
 -- the limits of the archive that is made, which are those of `create` without options
 abbrev pub default_header : Header
 default_header = record { version = 1; types_limit = 16777216; words_limit = 2147483648; length_limit = 1099511627776 }
+
+-- the bytes of the archive that is made
+abbrev pub made_bytes : List ℕ
+made_bytes = header_bytes default_header ++ CLOSED_GATE ∷ []
+
+-- the disk with these bytes, where it tells its bytes; a crash leaves these and no others
+abbrev pub as_made : DiskState → DiskState
+as_made d = record {
+  seen = option_map (λ _. made_bytes) d.seen;
+  images = λ c. c ≡ made_bytes;
+  clock = d.clock;
+  since = d.since;
+  ranges = d.ranges;
+  faults = d.faults;
+}
 
 -- the same with the clock at another moment, from which on what a crash may leave is told
 abbrev pub at_moment : ℕ → DiskState → DiskState
@@ -146,13 +186,40 @@ pub record RefusesLogs (seen : Around) (old new : DiskState) (status : ℕ) : Ty
   pub cause : HasLogsCause old new refusal
   pub disk : FromEmpty old (λ from bytes stood. TakesNothing default_header [] from new)
 
--- The four logs were taken into the archive that was made, and it was told what came of them.
+-- The four logs were taken into the archive that was made, and it was told what came of them. Of each the cause is told as
+-- `ingest` tells it. Where all are whole, each has as many messages as lines.
 pub record TakesLogs (number lines : ℕ) (seen : Around) (old new : DiskState) (status : ℕ) : Type 0 where
   pub came : List Came
   pub names_are : map (λ c. c.name) came ≡ generated_names
   pub disk : FromEmpty old (λ from bytes stood. TakesIn (generated number lines) default_header [] stood generated_names came from new)
+  pub each : All (CameOfFile (with_logs (generated number lines) seen) (as_made old) new) came
+  pub spared : All IsSpared came
+  pub all : All IsTakenWhole came → IfSome old.seen (λ _. sum_by (λ c. c.messages) came ≡ 4 * lines)
   pub told : TellsParts came seen status ⊎ SumsUp came seen old new status
 
--- What `bench` answers.
-abbrev pub AnswersBench : ℕ → ℕ → Around → DiskState → DiskState → ℕ → Type 0
-AnswersBench number lines seen old new status = RefusesMaking seen old new status ⊎ RefusesLogs seen old new status ⊎ TakesLogs number lines seen old new status
+-- How `bench` ends.
+abbrev pub EndsBench : ℕ → ℕ → Around → DiskState → DiskState → ℕ → Type 0
+EndsBench number lines seen old new status = RefusesMaking seen old new status ⊎ RefusesLogs seen old new status ⊎ TakesLogs number lines seen old new status
+
+-- no dictionary was full at the file, nor the archive
+abbrev pub MeetsNoLimit : Option Refusal → Type 0
+MeetsNoLimit (Some (Full book count)) = ⊥
+MeetsNoLimit (Some (ArchiveFull end need)) = ⊥
+MeetsNoLimit _ = Unit {0}
+
+-- so it was at each log that was taken in
+abbrev pub MetNoLimit : {number lines : ℕ} {seen : Around} {old new : DiskState} {status : ℕ} → EndsBench number lines seen old new status → Type 0
+MetNoLimit (inl making) = Unit {0}
+MetNoLimit (inr (inl refused)) = Unit {0}
+MetNoLimit (inr (inr takes)) = All (λ c. MeetsNoLimit c.refusal) takes.came
+
+-- the summary was printed, with all messages of the four logs, or memory ended
+abbrev pub SumsUpAll : ℕ → Around → DiskState → ℕ → Type 0
+SumsUpAll lines seen new status =
+    ((status ≡ 0) × TellsSummary (Grew seen.out.0 seen.out.1) (4 * lines) new.seen) ⊎ (status ≡ status_of OutOfMemory)
+
+-- What `bench` answers. On an empty disk, where no call of the disk and no write to the output failed and no limit was met, all
+-- is summed up, or memory ended.
+pub record AnswersBench (number lines : ℕ) (seen : Around) (old new : DiskState) (status : ℕ) : Type 0 where
+  pub ends : EndsBench number lines seen old new status
+  pub complete : old.seen ≡ Some [] → ¬ Rose old.faults new.faults → ¬ RoseIn seen.out_faults → MetNoLimit ends → SumsUpAll lines seen new status

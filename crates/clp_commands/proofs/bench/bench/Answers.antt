@@ -8,7 +8,7 @@ returns-in-None-clause-answers g c = λ content unread opens reads.
     let created = c.create-outcome.ensures in
     let none = sym c.in-None.is ∙ c.refusal_of_create.ensures in
     answers_made (g.D.Disk.state c.args.disk.now) (g.D.Disk.state c.create-outcome.new.disk) (made_whole _ _ c.create-outcome.result none created.leaves) created.tells created.moments.later
-    (made_steady _ _ c.create-outcome.result none created.counts) c.args.asked.number c.args.asked.lines _ _ _ (c.add_logs.ensures.ends content unread opens reads)
+    (made_steady _ _ c.create-outcome.result none created.counts) c.args.asked.number c.args.asked.lines _ _ _ c.add_logs.ensures.goes_on.tells (c.add_logs.ensures.ends content unread opens reads)
 
 pub returns-in-None-clause-goes_on : goal.returns-in-None-clause-goes_on
 returns-in-None-clause-goes_on g c =
