@@ -86,16 +86,15 @@ module _ (types words : List (List ℕ)) where
       adds-then old mid new lines some more last.before (last.message ∷ []) messages last.are (so_far last.before last.meant)
       (subst (λ m. Adds mid new some more (m ∷ [])) same (lines-more mid new some more text moves begun))
 
-  pub page_failed : (rows : List Row) (place : ℕ) (row : Row) (old mid new : Option (List ℕ)) (lines some : Lines) (text : List ℕ)
-      → slice_get rows place ≡ Some row → IsSpelling row types words text
+  pub page_failed : (rows : List Row) (place : ℕ) (row : Row) (old mid new : Option (List ℕ)) (lines some : Lines)
+      → slice_get rows place ≡ Some row
       → ((messages : List (List ℕ)) → AreMeant types words (take place rows) messages → Adds old mid lines some messages)
-      → GrewByFront mid new (some.gathered.items ++ behind some.begun text)
+      → ((text : List ℕ) → IsSpelling row types words text → GrewByFront mid new (some.gathered.items ++ behind some.begun text))
       → (messages : List (List ℕ)) → AreMeant types words rows messages → AddsFront old new lines messages
-  page_failed rows place row old mid new lines some text e spelling so_far front messages all =
+  page_failed rows place row old mid new lines some e so_far front messages all =
       let at = meant_at rows place row messages e all in
-      let same = spelled_as row text at.message spelling at.means in
       let failed = adds-failed old mid new lines some at.before (at.message ∷ []) (at.before ++ at.message ∷ []) refl (so_far at.before at.meant)
-      (subst (λ m. AddsFront mid new some (m ∷ [])) same (lines-failed mid new some text front)) in
+      (lines-failed mid new some at.message (front at.message (meaning_is_spelling row types words at.message at.means))) in
       adds-longer old new lines (at.before ++ at.message ∷ []) at.after messages (at.are ∙ sym (append_assoc at.before (at.message ∷ []) at.after)) failed
 
   pub page_done : (rows : List Row) (place : ℕ) (old new : Option (List ℕ)) (lines more : Lines) → length rows ≤ place

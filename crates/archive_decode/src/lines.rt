@@ -1,5 +1,5 @@
 //! The messages of a file on their way to a sink.
-ghost use Rattle.std.specs.Prelude.{◌≡◌, ◌++◌, ℕ, List, [], true, false, Option, OnErr, OnOk};
+ghost use Rattle.std.specs.Prelude.{◌≡◌, ◌++◌, ℕ, List, [], true, false, Option, IfOk, IsFalse, IsTrue, OnErr, OnOk};
 ghost use Rattle.log_seams.specs.Outside.{CountsOf};
 ghost use Rattle.column_store.specs.Row.{row_of};
 ghost use Rattle.row_codec.specs.Means.{HasSpelling, IsSpelling};
@@ -9,7 +9,7 @@ ghost use Rattle.archive_decode.specs.StepsLines.{HasLines, behind, ending, sepa
 
 use column_store::RowRef;
 use log_seams::Sink;
-use row_codec::{Names, expand_onto};
+use row_codec::{Names, write_fitting};
 use sink_pieces::{PrintRefusal, flush, flush_piece};
 use std::alloc::{AllocError, Global};
 use std::sync::ledger::Ledger;
@@ -59,25 +59,26 @@ impl Lines {
         Ok(())
     }
 
-    /// Adds what a row is written as, and sends what was gathered once it is enough for a piece.
+    /// Adds what a row is written as, where it can be written, and sends what was gathered once it
+    /// is enough for a piece; tells whether it can be. The lines serve no more where it cannot.
     pub(crate) fn push<N: Names, K: Sink, L: Ledger>(
         &mut self,
         row: RowRef<'_>,
         names: &N,
         out: &mut K,
         steps: &mut Steps<L>,
-    ) -> Result<(), PrintRefusal>
-        requires { HasSpelling (row_of row) (N.types names.now) (N.words names.now) }
-
+    ) -> Result<bool, PrintRefusal>
         // by the answer
-        ensures begun { OnOk result (self.new.begun ≡ true) }
-        ensures ok { OnOk result ((text : List ℕ)
+        ensures begun { IfOk result (λ fits. IsTrue fits → self.new.begun ≡ true) }
+        ensures ok { IfOk result (λ fits. IsTrue fits → ((text : List ℕ)
             × IsSpelling (row_of row.entry) (N.types names.now) (N.words names.now) text
             × Moves (K.written out.old) (K.written out.new)
-            (self.old.gathered.items ++ behind self.old.begun text) self.new.gathered.items) }
+            (self.old.gathered.items ++ behind self.old.begun text) self.new.gathered.items)) }
+        ensures misfit { IfOk result (λ fits. IsFalse fits
+            → ¬ HasSpelling (row_of row.entry) (N.types names.now) (N.words names.now)) }
         ensures err { OnErr result ((text : List ℕ)
-            × IsSpelling (row_of row.entry) (N.types names.now) (N.words names.now) text
-            × GrewByFront (K.written out.old) (K.written out.new)
+            → IsSpelling (row_of row.entry) (N.types names.now) (N.words names.now) text
+            → GrewByFront (K.written out.old) (K.written out.new)
             (self.old.gathered.items ++ behind self.old.begun text)) }
 
         // causes
@@ -85,10 +86,13 @@ impl Lines {
             (K.faults out.old) (K.faults out.new) result }
     {
         self.separate()?;
-        expand_onto(row, names, &mut self.gathered, steps)?;
+        if !write_fitting(row, names, &mut self.gathered)? {
+            return Ok(false);
+        }
+        steps.tick();
         self.begun = true;
         flush_piece(out, &mut self.gathered)?;
-        Ok(())
+        Ok(true)
     }
 
     /// Sends all that was gathered, with a newline behind the last message unless its end is open.

@@ -10,7 +10,7 @@ use crate::refusal::{DecodeRefusal, of_page};
 use archive_open::SegmentPlace;
 use column_store::Columns;
 use log_seams::{Disk, Sink};
-use row_codec::{Names, row_fits};
+use row_codec::Names;
 use segment_pages::{SegmentPages, none_are_left};
 use std::alloc::Global;
 use std::mem;
@@ -49,10 +49,9 @@ fn write_page<N: Names, K: Sink, L: Ledger>(
 {
     for place in 0..columns.rows() {
         let row = columns.row(place);
-        if !row_fits(row, names) {
+        if !lines.push(row, names, out, steps)? {
             return Err(DecodeRefusal::Damaged);
         }
-        lines.push(row, names, out, steps)?;
     }
     Ok(())
 }

@@ -15,7 +15,7 @@ use crate::refusal::PrintRefusal;
 use crate::tally::Tally;
 use column_store::{Columns, RowRef};
 use query_plan::wide_is_wider;
-use row_codec::{Names, row_fits, write_onto};
+use row_codec::{Names, write_fitting};
 use std::alloc::AllocError;
 use std::sync::ledger::Ledger;
 use step_count::Steps;
@@ -112,13 +112,12 @@ fn search_row<N: Names, M: Ledger>(
     if !query.range().holds(row.pattern, row.moment) {
         return Ok(());
     }
-    if !row_fits(row, names) {
-        return Err(PrintRefusal::Damaged);
-    }
     let len = gathered.len();
     put_label(gathered, name, number)?;
     let start = gathered.len();
-    write_onto(row, names, gathered)?;
+    if !write_fitting(row, names, gathered)? {
+        return Err(PrintRefusal::Damaged);
+    }
     let (_, text) = gathered.as_slice().split_at(start);
     let judgement = query.judge(is_certain(verdict), text);
     keep(judgement, len, gathered, tally, expanded)?;

@@ -10,15 +10,14 @@ returns-then-not-holds-clause-done g c = λ w message is.
     outside_passes _ c.args.query.now c.range.result.now (row_of c.args.row) _ _ c.args.name.now c.args.number message w _ _ _ c.range.ensures
     (λ inside. search (rules, inside)) is
 
-pub returns-then-not-row_fits-clause-damaged : goal.returns-then-not-row_fits-clause-damaged
-returns-then-not-row_fits-clause-damaged g c = λ _ message is.
-    let has = has_spelling (g.N.Names.version c.args.names.now) (row_of c.args.row) _ _ message is in
-    search (rules, has)
+pub returns-then-not-branch-clause-damaged : goal.returns-then-not-branch-clause-damaged
+returns-then-not-branch-clause-damaged g c = λ _ message is.
+    c.in_ok-write_fitting.ensures.misfit (search rules) (has_spelling (g.N.Names.version c.args.names.now) (row_of c.args.row) _ _ message is)
 
 pub returns-clause-done : goal.returns-clause-done
 returns-clause-done g c = λ w message is.
     let holds : Holds c.range.result.now c.args.row.pattern c.args.row.moment = search rules in
-    let wrote = c.in_ok-write_onto.ensures.written in
+    let wrote = c.in_ok-write_fitting.ensures.written (search rules) in
     row_passes _ c.args.query.now c.range.result.now (row_of c.args.row) _ _ c.args.name.now c.args.number message wrote.0 w _ _ _ _ _ _ _ _ c.judge-judgement.result c.len-len.result c.split_at.result.1.now
     c.range.ensures holds is wrote.1 (search rules) c.in_ok-put_label.ensures wrote.2
     (c.split_at.ensures.back ∙ ap₂ (λ (n : ℕ) (l : List ℕ). drop n l) (search rules) c.as_slice.ensures.value) c.judge-judgement.ensures c.in_ok-keep.ensures.kept
@@ -29,6 +28,6 @@ returns-then-is_rejected-clause-done g c = λ w message is.
 
 pub judge-judgement-requires : goal.judge-judgement-requires
 judge-judgement-requires g c = λ truly.
-    let wrote = c.in_ok-write_onto.ensures.written in
+    let wrote = c.in_ok-write_fitting.ensures.written (search rules) in
     certain_matches c.args.query.now (row_of c.args.row) _ _ wrote.0 _ _ c.split_at.result.1.now c.len-start.result c.args.verdict (search rules) c.requires.verdict wrote.1 (search rules) wrote.2
     (c.split_at.ensures.back ∙ ap₂ (λ (n : ℕ) (l : List ℕ). drop n l) refl c.as_slice.ensures.value)
