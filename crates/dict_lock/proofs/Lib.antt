@@ -1,3 +1,4 @@
 pub mod CacheLemmas
 pub mod NamingLemmas
 pub mod SharedLemmas
+pub mod LookUpLemmas

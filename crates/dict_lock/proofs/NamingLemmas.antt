@@ -35,29 +35,10 @@ slice_get-set (y ∷ ys) (suc i) (suc k) v x at = ⊎_elim (λ (e : (k ≡ i) ×
 
 -- Looking up
 
--- a number more, or a mark
-pub marked_push : (Named : List ℕ → ℕ → Type 0) (numbers : List ℕ) (texts : Texts) (m place : ℕ) (given : List ℕ) → length numbers ≡ place → slice_get texts place ≡ Some given → (m ≢ UNKNOWN → Named given m)
-    → ((k n : ℕ) (text : List ℕ) → slice_get numbers k ≡ Some n → slice_get texts k ≡ Some text → n ≢ UNKNOWN → Named text n)
-    → (k n : ℕ) (text : List ℕ) → slice_get (numbers ++ m ∷ []) k ≡ Some n → slice_get texts k ≡ Some text → n ≢ UNKNOWN → Named text n
-marked_push Named numbers texts m place given long here mine old k n text at there real = ⊎_elim (λ (e : slice_get numbers k ≡ Some n). old k n text e there real)
-    (λ (e : (k ≡ length numbers) × (Some m ≡ Some n)).
-    let n_is : m ≡ n = cc (e.1) in let k_is : k ≡ place = e.0 ∙ long in let text_is : given ≡ text = cc (same_text texts place given text here (sym (ap (slice_get texts) k_is) ∙ there)) in
-    subst (λ t. Named t n) text_is (subst (Named given) n_is (mine (λ same. real (sym n_is ∙ same)))))
-    (slice_get-push numbers m n k at)
-
 pub front_more : (cache : CacheState) (texts : Texts) (place : ℕ) (given : List ℕ) → slice_get texts place ≡ Some given → (n : ℕ) × Remembers cache given n → HoldsFront cache texts place → HoldsFront cache texts (place + 1)
 front_more cache texts place given here held front k text lt at = dite (ℕ_discrete k place)
     (λ same. let text_is : given ≡ text = cc (same_text texts place given text here (sym (ap (slice_get texts) same) ∙ at)) in subst (λ t. (n : ℕ) × Remembers cache t n) text_is held)
     (λ ne. front k text (omega arith) at)
-
-pub held_push : (cache : CacheState) (texts : Texts) (numbers : List ℕ) (m place : ℕ) (given : List ℕ) (N : Type 0) (b : Bool) → length numbers ≡ place → slice_get texts place ≡ Some given → Remembers cache given m
-    → MatchBool b (AreHeld cache numbers texts) N → MatchBool b (AreHeld cache (numbers ++ m ∷ []) texts) N
-held_push cache texts numbers m place given N true long here mine old = λ k n text at there. ⊎_elim (λ (e : slice_get numbers k ≡ Some n). old k n text e there)
-    (λ (e : (k ≡ length numbers) × (Some m ≡ Some n)).
-    let n_is : m ≡ n = cc (e.1) in let k_is : k ≡ place = e.0 ∙ long in let text_is : given ≡ text = cc (same_text texts place given text here (sym (ap (slice_get texts) k_is) ∙ there)) in
-    subst (λ t. Remembers cache t n) text_is (subst (Remembers cache given) n_is mine))
-    (slice_get-push numbers m n k at)
-held_push cache texts numbers m place given N false long here mine old = old
 
 pub holds_not : (cache : CacheState) (texts : Texts) (place : ℕ) (given : List ℕ) → slice_get texts place ≡ Some given → IsNew cache.texts given → ¬ HoldsAll cache texts
 holds_not cache texts place given here absent holds = let r = (holds place given here).1 in absent r.place r.text_is

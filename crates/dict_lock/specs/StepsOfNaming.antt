@@ -12,6 +12,15 @@ pub record IsMarked (Named : List ℕ → ℕ → Type 0) (numbers : List ℕ) (
   pub long : length numbers ≡ length texts
   pub known : (k n : ℕ) (text : List ℕ) → slice_get numbers k ≡ Some n → slice_get texts k ≡ Some text → n ≢ UNKNOWN → Named text n
 
+-- none of the numbers is a mark
+abbrev pub HasNoMark : List ℕ → Type 0
+HasNoMark numbers = (k : ℕ) → slice_get numbers k ≢ Some UNKNOWN
+
+-- the cache holds the text with this number: where it is no mark, and where there was none before
+pub record IsHeldAs (NoMark : Type 0) (cache : CacheState) (number : ℕ) (text : List ℕ) : Type 0 where
+  pub known : number ≢ UNKNOWN → Remembers cache text number
+  pub all : NoMark → Remembers cache text number
+
 -- these are the numbers that the cache holds the texts with
 abbrev pub AreHeld : CacheState → List ℕ → List (List ℕ) → Type 0
 AreHeld cache numbers texts =

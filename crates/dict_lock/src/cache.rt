@@ -1,9 +1,11 @@
 //! Texts with the numbers that they were given.
-ghost use Rattle.std.specs.Prelude.{◌≡◌, ℕ, [], IfSome, IfNone, OnOk};
+ghost use Rattle.std.specs.Prelude.{◌≡◌, ◌≢◌, ◌<◌, ◌≤◌, ℕ, [], length, slice_get, vec_capacity, Some, IfSome, IfNone, OnOk};
 ghost use Rattle.dict_core.specs.Books.{IsNew};
+ghost use Rattle.dict_core.specs.Lookups.{Fits, IsNumberOf};
 ghost use Rattle.dict_lock.specs.Cache.{GrowsBy, Remembers, Keeps, StaysSeen};
+ghost use Rattle.dict_lock.specs.StepsOfNaming.{IsHeldAs, HasNoMark};
 
-use dict_core::{Book, MAX_TEXTS};
+use dict_core::{Book, MAX_TEXTS, NO_NUMBER, TextSlice};
 use std::alloc::{AllocError, Global};
 use std::marker::Model;
 
@@ -46,6 +48,39 @@ impl Cache {
     {
         let place = self.known.number_of(text)?;
         Some(self.numbers[place as usize])
+    }
+
+    /// The place of each of these texts, and a mark for one that the cache does not hold. Takes no
+    /// memory: `places` has room.
+    pub(crate) fn places_of<T: TextSlice>(&self, texts: &T, places: &mut Vec<u32>)
+        requires empty { places.old.items ≡ [] }
+        requires room { length (T.texts texts.now) ≤ vec_capacity places.old }
+        ensures { Fits (IsNumberOf self.now.texts) places.new.items (T.texts texts.now) }
+    {
+        self.known.numbers_of(texts, places);
+    }
+
+    /// The number at a place. A mark stays.
+    fn number_at(&self, place: u32) -> u32
+        requires { place ≢ NO_NUMBER → place < length self.now.texts }
+        ensures held { place ≢ NO_NUMBER → slice_get self.now.numbers place ≡ Some result }
+        ensures mark { place ≡ NO_NUMBER → result ≡ NO_NUMBER }
+    {
+        if place == NO_NUMBER {
+            return NO_NUMBER;
+        }
+        self.numbers[place as usize]
+    }
+
+    /// The number of each of these texts, in place of its place. Marks stay.
+    pub(crate) fn numbers_at<T: TextSlice>(&self, texts: &T, numbers: &mut Vec<u32>)
+        requires { Fits (IsNumberOf self.now.texts) numbers.old.items (T.texts texts.now) }
+        ensures { Fits (IsHeldAs (HasNoMark numbers.old.items) self.now) numbers.new.items
+            (T.texts texts.now) }
+    {
+        for next in 0..texts.count() {
+            numbers[next] = self.number_at(numbers[next]);
+        }
     }
 
     /// Holds a text with its number from now on. A text that it holds keeps its number.

@@ -6,11 +6,11 @@ ghost use Rattle.dict_core.specs.Fair.{IsFair};
 ghost use Rattle.dict_core.specs.declared.refusals.BookRefusal.TheVariants.{Full};
 ghost use Rattle.dict_lock.specs.Cache.{Remembers, HoldsAll, HoldsFront, Keeps, IsSeen};
 ghost use Rattle.dict_lock.specs.Naming.{AreNumbers, NamesMore, MeetsLimit};
-ghost use Rattle.dict_lock.specs.StepsOfNaming.{IsMarked, FoundAll, Grows, NamesFront, AddsAmong, IsRefusedAt, IsRefusedTo};
+ghost use Rattle.dict_lock.specs.StepsOfNaming.{HasNoMark, IsMarked, FoundAll, Grows, NamesFront, AddsAmong, IsRefusedAt, IsRefusedTo};
 
 use crate::cache::Cache;
 use crate::texts::TextSlice;
-use dict_core::{Book, BookRefusal};
+use dict_core::{Book, BookRefusal, NO_NUMBER};
 use std::alloc::AllocError;
 use std::sync::Wait;
 use std::sync::ledger::Ledger;
@@ -18,10 +18,21 @@ use step_count::Steps;
 use turn_lock::Pass;
 
 /// The mark of a text that the cache does not hold. No text has this number: a book has fewer.
-pub(crate) const UNKNOWN: u32 = u32::MAX;
+pub(crate) const UNKNOWN: u32 = NO_NUMBER;
+
+/// Whether none of the numbers is a mark.
+fn has_no_mark(numbers: &[u32]) -> bool
+    ensures { MatchBool result (HasNoMark numbers.now)
+        ((k : ℕ) × (slice_get numbers.now k ≡ Some UNKNOWN)) }
+{
+    !numbers.contains(&UNKNOWN)
+}
 
 /// The numbers of the texts that the cache holds, and a mark for each of the others. Whether it
 /// holds them all.
+///
+/// All are looked up in stages, and not one after the other: their places first, and then the
+/// numbers at those. Within a stage no text waits for the memory that another one needs.
 pub(crate) fn look_up<T: TextSlice>(cache: &Cache, texts: &T, numbers: &mut Vec<u32>) -> bool
     requires empty { numbers.old.items ≡ [] }
     requires room { length (T.texts texts.now) ≤ vec_capacity numbers.old }
@@ -29,16 +40,9 @@ pub(crate) fn look_up<T: TextSlice>(cache: &Cache, texts: &T, numbers: &mut Vec<
     ensures all { MatchBool result (FoundAll cache.now numbers.new.items (T.texts texts.now))
         (¬ HoldsAll cache.now (T.texts texts.now)) }
 {
-    let mut all = true;
-    for place in 0..texts.count() {
-        match cache.number_of(texts.at(place)) {
-            Some(number) => numbers.push_reserved(number),
-            None => {
-                numbers.push_reserved(UNKNOWN);
-                all = false;
-            }
-        }
-    }
+    cache.places_of(texts, numbers);
+    let all = has_no_mark(numbers.as_slice());
+    cache.numbers_at(texts, numbers);
     all
 }
 

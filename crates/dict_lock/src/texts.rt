@@ -1,36 +1,9 @@
-//! Texts that are read by their places.
-ghost use Rattle.std.specs.Prelude.{◌≡◌, ◌<◌, ◌∷◌, [], ℕ, List, length, slice_get, Some};
+//! Texts that are read by their places: one text, and spans of a line.
+ghost use Rattle.std.specs.Prelude.{◌≡◌, ◌∷◌, []};
 ghost use Rattle.logtype_text.specs.Encoded.{AreWithin, texts_at};
 
-use log_seams::TextList;
+pub use dict_core::TextSlice;
 use logtype_text::Span;
-
-/// Texts in order, lent for reading: a list of texts, or spans of a line.
-pub trait TextSlice {
-    // The texts.
-    ghost texts: { Self → List (List ℕ) };
-
-    /// How many there are.
-    fn count(&self) -> usize
-        ensures { result ≡ length (texts self.now) };
-
-    /// The text at a place.
-    fn at(&self, place: usize) -> &[u8]
-        requires { place < length (texts self.now) }
-        ensures { slice_get (texts self.now) place ≡ Some result.now };
-}
-
-impl TextSlice for TextList {
-    ghost texts = { λ list. list };
-
-    fn count(&self) -> usize {
-        self.len()
-    }
-
-    fn at(&self, place: usize) -> &[u8] {
-        self.as_slice()[place].as_slice()
-    }
-}
 
 /// One text.
 #[derive(Clone, Copy)]
