@@ -23,7 +23,7 @@ pub use entry::StoreEntry;
 pub use faults::DiskFault;
 pub use files::{RegisterRefusal, register};
 pub use fixed::{LockId, StoreFixed};
-pub use namer::{LockNamer, Notes, Passes};
+pub use namer::{CachedPasses, LockNamer, Notes, Passes};
 pub use opened::Opened;
 pub use plan::PrepareRefusal;
 pub use prepared::{Prepared, Receipt, prepare};

@@ -37,6 +37,17 @@ pub struct Passes<'l, A: Ledger, B: Ledger, C: Ledger> {
     pub turns: Turns<A, B, C>,
 }
 
+/// A namer's two passes with the texts that they named, and its counters, at its end.
+#[derive(Drop)]
+pub struct CachedPasses<'l, A: Ledger, B: Ledger, C: Ledger> {
+    /// The pass over the log types.
+    pub types: CachedPass<'l>,
+    /// The pass over the words.
+    pub words: CachedPass<'l>,
+    /// How many turns were taken.
+    pub turns: Turns<A, B, C>,
+}
+
 /// It names texts in two shared books, and remembers the numbers that it was given.
 #[derive(Drop)]
 pub struct LockNamer<'r, 'l, R: Wait, A: Ledger, B: Ledger, C: Ledger> {
@@ -97,6 +108,30 @@ impl<'r, 'l, R: Wait, A: Ledger, B: Ledger, C: Ledger> LockNamer<'r, 'l, R, A, B
         }
     }
 
+    /// A namer over passes that have named texts already, which it remembers. Takes no memory.
+    pub fn with_caches(
+        rt: &'r R,
+        version: u32,
+        types: CachedPass<'l>,
+        words: CachedPass<'l>,
+        turns: Turns<A, B, C>,
+    ) -> LockNamer<'r, 'l, R, A, B, C>
+        requires types { number_of (pass_in types) < WORDS_FIRST }
+        requires words { WORDS_FIRST < number_of (pass_in words) }
+        ensures version { result.version ≡ version }
+        ensures types { result.types ≡ types.entry }
+        ensures words { result.words ≡ words.entry }
+        ensures turns { result.turns ≡ turns }
+    {
+        LockNamer {
+            rt,
+            version,
+            types,
+            words,
+            turns,
+        }
+    }
+
     /// The version that it was made for.
     pub fn version(&self) -> u32
         ensures { result ≡ self.now.version }
@@ -147,6 +182,26 @@ impl<'r, 'l, R: Wait, A: Ledger, B: Ledger, C: Ledger> LockNamer<'r, 'l, R, A, B
         let Notes { types, words } = notes;
         self.types.join(types);
         self.words.join(words);
+    }
+
+    /// Its passes with the texts that they named, and its counters.
+    pub fn into_caches(self) -> CachedPasses<'l, A, B, C>
+        ensures types { result.types ≡ self.entry.types }
+        ensures words { result.words ≡ self.entry.words }
+        ensures turns { result.turns ≡ self.entry.turns }
+    {
+        let LockNamer {
+            rt: _,
+            version: _,
+            types,
+            words,
+            turns,
+        } = self;
+        CachedPasses {
+            types,
+            words,
+            turns,
+        }
     }
 
     /// Its passes and counters.
