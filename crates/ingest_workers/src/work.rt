@@ -1,6 +1,7 @@
 //! What a worker does: jobs, with its passes of the two books.
 ghost use Rattle.std.specs.Prelude.{◌≡◌, ◌≤◌};
 ghost use Rattle.step_count.specs.Opens.{OpensFor};
+ghost use Rattle.dict_lock.specs.Cached.{pass_in};
 ghost use Rattle.ingest_workers.specs.Causes.{limits_by};
 ghost use Rattle.ingest_workers.specs.JobDone.{IsGivenBy, IsDone};
 ghost use Rattle.ingest_workers.specs.Worker.{DidJob, DidOnly, GoWith, IsIdle, IsNewJob, MayDo, MayAddTexts, NamesOnly};
@@ -9,7 +10,7 @@ ghost use Rattle.ingest_workers.specs.WorkerLaws.{goes_on, wider, rests, fits_on
 use crate::job::Job;
 use crate::run::run_job;
 use crate::worker::{BookPasses, Plan, Worker};
-use disk_seal::{LockNamer, Passes, Store, Turns};
+use disk_seal::{CachedPasses, LockNamer, Store, Turns};
 use ingest_fork::Works;
 use log_seams::{Disk, Source};
 use std::alloc::Global;
@@ -41,7 +42,7 @@ fn do_with_blanks<'b, 'd, S: Source, D: Disk, R: Wait, A: Ledger, B: Ledger, C: 
     ensures names { NamesOnly plan.version (IsGivenBy S.left plan.version job.old)
         passes.entry result }
     ensures done { IsDone D.state S.left S.name S.faults plan.rows plan.version
-        (limits_by passes.entry.types passes.entry.words) job.old keeper.old
+        (limits_by (pass_in passes.entry.types) (pass_in passes.entry.words)) job.old keeper.old
         job.new keeper.new }
 {
     let BookPasses { types, words } = passes;
@@ -51,13 +52,13 @@ fn do_with_blanks<'b, 'd, S: Source, D: Disk, R: Wait, A: Ledger, B: Ledger, C: 
         words: Steps::new(of_words),
         store: Steps::new(of_store),
     };
-    let mut namer = LockNamer::new(rt, alloc, plan.version, types, words, turns);
+    let mut namer = LockNamer::with_caches(rt, plan.version, types, words, turns);
     run_job(job, rt, alloc, plan.rows, &mut namer, keeper);
-    let Passes {
+    let CachedPasses {
         types,
         words,
         turns: _,
-    } = namer.into_passes();
+    } = namer.into_caches();
     BookPasses { types, words }
 }
 
@@ -79,7 +80,7 @@ fn do_job<'b, 'd, S: Source, D: Disk, R: Wait>(
     ensures names { NamesOnly plan.version (IsGivenBy S.left plan.version job.old)
         passes.entry result }
     ensures done { IsDone D.state S.left S.name S.faults plan.rows plan.version
-        (limits_by passes.entry.types passes.entry.words) job.old keeper.old
+        (limits_by (pass_in passes.entry.types) (pass_in passes.entry.words)) job.old keeper.old
         job.new keeper.new }
 {
     let blanks = (Blank::new(1), Blank::new(1), Blank::new(1));
