@@ -17,6 +17,7 @@ use Rattle.ingest_fork.proofs.PassLemmas.{fresh_none, fresh_more, joined_none, j
 use Rattle.ingest_fork.proofs.PlaceLemmas.{in_left, in_right, there_is}
 use Rattle.dict_core.specs.declared.grows.TheConstants.{WORDS_FIRST}
 use Rattle.dict_lock.specs.Shared.{BookPass, GoesOn}
+use Rattle.dict_lock.specs.Cached.{pass_in}
 use Rattle.row_codec.specs.declared.namer.Which.{Which}
 use Rattle.row_codec.specs.declared.namer.Which.TheVariants.{Types, Words}
 use Rattle.disk_seal.specs.declared.entry.StoreEntry.{StoreEntry}
@@ -66,10 +67,10 @@ module _ {D : Type 0} {G : Ghosts (StoreView D) StoreEntry (StoreFixed D)} where
 
 -- ---- passes learn notes
 
-pub only_self : (b : BookPasses) → IsReady b.types → IsReady b.words → HaveOnlySeen b b
+pub only_self : (b : BookPasses) → IsReady (pass_in b.types) → IsReady (pass_in b.words) → HaveOnlySeen b b
 only_self b types words = record {
-  types = record { still = record { lock = refl; number = refl; about_is = refl }; ready = types; seen_on = prefix_self (seen b.types) };
-  words = record { still = record { lock = refl; number = refl; about_is = refl }; ready = words; seen_on = prefix_self (seen b.words) };
+  types = record { still = record { lock = refl; number = refl; about_is = refl }; ready = types; seen_on = prefix_self (seen (pass_in b.types)) };
+  words = record { still = record { lock = refl; number = refl; about_is = refl }; ready = words; seen_on = prefix_self (seen (pass_in b.words)) };
   own_types = refl;
   own_words = refl;
 }
@@ -87,8 +88,8 @@ goes_then p q r one two = record {
 
 pub only_then : (b c d : BookPasses) → HaveOnlySeen b c → HaveOnlySeen c d → HaveOnlySeen b d
 only_then b c d one two = record {
-  types = goes_then b.types c.types d.types one.types two.types;
-  words = goes_then b.words c.words d.words one.words two.words;
+  types = goes_then (pass_in b.types) (pass_in c.types) (pass_in d.types) one.types two.types;
+  words = goes_then (pass_in b.words) (pass_in c.words) (pass_in d.words) one.words two.words;
   own_types = two.own_types ∙ one.own_types;
   own_words = two.own_words ∙ one.own_words;
 }
@@ -98,12 +99,12 @@ note_on p q n goes by = record { lock = by.lock ∙ sym goes.still.lock; about_i
 
 -- the notes are of the locks of passes that have seen more
 pub notes_on : (b c : BookPasses) (n : Notes) → HaveOnlySeen b c → AreNotesBy b n → AreNotesBy c n
-notes_on b c n only by = record { types = note_on b.types c.types n.types only.types by.types; words = note_on b.words c.words n.words only.words by.words }
+notes_on b c n only by = record { types = note_on (pass_in b.types) (pass_in c.types) n.types only.types by.types; words = note_on (pass_in b.words) (pass_in c.words) n.words only.words by.words }
 
 seen_on : (b c : BookPasses) (n : Notes) → HaveOnlySeen b c → HaveSeen b n → HaveSeen c n
 seen_on b c n only has = record {
-  types = prefix_trans (noted n.types) (seen b.types) (seen c.types) has.types only.types.seen_on;
-  words = prefix_trans (noted n.words) (seen b.words) (seen c.words) has.words only.words.seen_on;
+  types = prefix_trans (noted n.types) (seen (pass_in b.types)) (seen (pass_in c.types)) has.types only.types.seen_on;
+  words = prefix_trans (noted n.words) (seen (pass_in b.words)) (seen (pass_in c.words)) has.words only.words.seen_on;
 }
 
 -- ---- they are cleared
@@ -305,7 +306,7 @@ module _ {S D : Type 0} {G : Ghosts (StoreView D) StoreEntry (StoreFixed D)} (st
       some_is : (x y : Desk D) → Some x ≡ Some y → x ≡ y
       some_is x y e = cc (e)
 
-  pub last_ready : IsReady b.types × IsReady b.words
+  pub last_ready : IsReady (pass_in b.types) × IsReady (pass_in b.words)
   last_ready = let idle = subst MayAddTexts (passes_is v b has) (last_idle left js ws front v went) in (idle.types_ready, idle.words_ready)
 
   same_locks : (n : ℕ) (w : Worker) → slice_get ws n ≡ Some w → AreOfSameLocks (passes_of w) b

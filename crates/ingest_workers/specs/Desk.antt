@@ -4,6 +4,7 @@ use mathlib.Core.List.{IsPrefix}
 use Rattle.log_seams.specs.Disk.{DiskState}
 use Rattle.turn_lock.specs.Words.{about, about_noted, lock_noted, lock_of, noted, own_list, seen}
 use Rattle.dict_lock.specs.Shared.{BookPass, GoesOn}
+use Rattle.dict_lock.specs.Cached.{pass_in}
 use Rattle.disk_seal.specs.declared.namer.Notes.{Notes}
 use Rattle.disk_seal.specs.Fixed.{KeeperPass}
 use Rattle.disk_seal.specs.Prepare.{BookNote}
@@ -21,8 +22,8 @@ pub record IsNoteBy (p : BookPass) (n : BookNote) : Type 0 where
 
 -- the notes are of passes of the locks that these are of
 pub record AreNotesBy (b : BookPasses) (n : Notes) : Type 0 where
-  pub types : IsNoteBy b.types n.types
-  pub words : IsNoteBy b.words n.words
+  pub types : IsNoteBy (pass_in b.types) n.types
+  pub words : IsNoteBy (pass_in b.words) n.words
 
 -- what is known of the two books by notes
 abbrev pub books_noted : Notes → Books
@@ -30,10 +31,10 @@ books_noted n = record { types = known_by n.types; words = known_by n.words }
 
 -- the passes are of the same two locks
 pub record AreOfSameLocks (b c : BookPasses) : Type 0 where
-  pub types : lock_of b.types ≡ lock_of c.types
-  pub words : lock_of b.words ≡ lock_of c.words
-  pub types_about : about b.types ≡ about c.types
-  pub words_about : about b.words ≡ about c.words
+  pub types : lock_of (pass_in b.types) ≡ lock_of (pass_in c.types)
+  pub words : lock_of (pass_in b.words) ≡ lock_of (pass_in c.words)
+  pub types_about : about (pass_in b.types) ≡ about (pass_in c.types)
+  pub words_about : about (pass_in b.words) ≡ about (pass_in c.words)
 
 -- so are those of all workers
 abbrev pub AreAlike : List Worker → Type 0
@@ -41,15 +42,15 @@ AreAlike ws = (n k : ℕ) (w v : Worker) → slice_get ws n ≡ Some w → slice
 
 -- the passes have seen more, and added nothing
 pub record HaveOnlySeen (b c : BookPasses) : Type 0 where
-  pub types : GoesOn b.types c.types
-  pub words : GoesOn b.words c.words
-  pub own_types : own_list c.types ≡ own_list b.types
-  pub own_words : own_list c.words ≡ own_list b.words
+  pub types : GoesOn (pass_in b.types) (pass_in c.types)
+  pub words : GoesOn (pass_in b.words) (pass_in c.words)
+  pub own_types : own_list (pass_in c.types) ≡ own_list (pass_in b.types)
+  pub own_words : own_list (pass_in c.words) ≡ own_list (pass_in b.words)
 
 -- they have seen what the notes have
 pub record HaveSeen (b : BookPasses) (n : Notes) : Type 0 where
-  pub types : IsPrefix (noted n.types) (seen b.types)
-  pub words : IsPrefix (noted n.words) (seen b.words)
+  pub types : IsPrefix (noted n.types) (seen (pass_in b.types))
+  pub words : IsPrefix (noted n.words) (seen (pass_in b.words))
 
 module _ {D : Type 0} where
   abbrev pub keeper_at : Desk D → KeeperPass D

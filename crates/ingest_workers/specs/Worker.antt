@@ -5,6 +5,7 @@ use Rattle.turn_lock.specs.declared.board.About.{About}
 use Rattle.turn_lock.specs.Words.{about, lock_of, number_of, own_list, IsReady}
 use Rattle.dict_core.specs.declared.grows.TheConstants.{WORDS_FIRST}
 use Rattle.dict_lock.specs.Shared.{BookPass}
+use Rattle.dict_lock.specs.Cached.{pass_in}
 use Rattle.row_codec.specs.Messages.{IsTypeOf, IsWordOf}
 use Rattle.disk_seal.specs.declared.fixed.StoreFixed.{StoreFixed}
 use Rattle.disk_seal.specs.Fixed.{KeeperPass}
@@ -31,10 +32,10 @@ abbrev pub passes_of : Worker → BookPasses
 passes_of w = passes_in w.passes w.full
 
 abbrev pub types_of : Worker → BookPass
-types_of w = (passes_of w).types
+types_of w = pass_in (passes_of w).types
 
 abbrev pub words_of : Worker → BookPass
-words_of w = (passes_of w).words
+words_of w = pass_in (passes_of w).words
 
 -- what its passes know of the two books
 abbrev pub books_in : Worker → Books
@@ -42,10 +43,10 @@ books_in w = books_by (types_of w) (words_of w)
 
 -- both passes are between two turns, one may add log types and one words
 pub record MayAddTexts (b : BookPasses) : Type 0 where
-  pub types_ready : IsReady b.types
-  pub words_ready : IsReady b.words
-  pub adds_types : number_of b.types < WORDS_FIRST
-  pub adds_words : WORDS_FIRST < number_of b.words
+  pub types_ready : IsReady (pass_in b.types)
+  pub words_ready : IsReady (pass_in b.words)
+  pub adds_types : number_of (pass_in b.types) < WORDS_FIRST
+  pub adds_words : WORDS_FIRST < number_of (pass_in b.words)
 
 -- the worker is between two jobs
 abbrev pub IsIdle : Worker → Type 0
@@ -53,8 +54,8 @@ IsIdle w = MayAddTexts (passes_of w)
 
 -- what both passes added meanwhile are texts of the encodings of these messages
 pub record NamesOnly (version : ℕ) (P : List ℕ → Type 0) (b c : BookPasses) : Type 0 where
-  pub types : AddsOnly (λ t. (m : List ℕ) × P m × IsTypeOf version m t) b.types c.types
-  pub words : AddsOnly (λ t. (m : List ℕ) × P m × IsWordOf version m t) b.words c.words
+  pub types : AddsOnly (λ t. (m : List ℕ) × P m × IsTypeOf version m t) (pass_in b.types) (pass_in c.types)
+  pub words : AddsOnly (λ t. (m : List ℕ) × P m × IsWordOf version m t) (pass_in b.words) (pass_in c.words)
 
 module _ {S : Type 0} (left : S → Option (List ℕ)) where
   -- the message is one of a job's source
@@ -69,8 +70,8 @@ module _ {S : Type 0} (left : S → Option (List ℕ)) where
 module _ {D : Type 0} where
   -- the passes are of the locks of the store that the keeper is of, and the version is its header's
   pub record GoWith (plan : Plan) (b : BookPasses) (k : KeeperPass D) : Type 0 where
-    pub types : (a : About (StoreFixed D)) → about k ≡ Some a → lock_of b.types ≡ a.fixed.types
-    pub words : (a : About (StoreFixed D)) → about k ≡ Some a → lock_of b.words ≡ a.fixed.words
+    pub types : (a : About (StoreFixed D)) → about k ≡ Some a → lock_of (pass_in b.types) ≡ a.fixed.types
+    pub words : (a : About (StoreFixed D)) → about k ≡ Some a → lock_of (pass_in b.words) ≡ a.fixed.words
     pub version : (a : About (StoreFixed D)) → about k ≡ Some a → plan.version ≡ a.fixed.header.version
 
 module _ {S D : Type 0} (state : D → DiskState) where

@@ -6,6 +6,7 @@ use Rattle.turn_lock.specs.Words.{seen, IsReady, IsStill}
 use Rattle.turn_lock.proofs.FrontLemmas.{prefix_self, prefix_trans}
 use Rattle.ingest_fork.proofs.PlaceLemmas.{at_left, at_right}
 use Rattle.dict_lock.specs.Shared.{BookPass}
+use Rattle.dict_lock.specs.Cached.{pass_in}
 use Rattle.row_codec.specs.Naming.{HasGrown, Known}
 use Rattle.disk_seal.specs.Fixed.{KeeperPass}
 use Rattle.disk_seal.specs.Known.{known_of}
@@ -60,14 +61,14 @@ adds_wider P Q p q f one = record { goes = one.goes; grown = grows_wider P Q (kn
 
 pub names_wider : (version : ℕ) (P Q : List ℕ → Type 0) (b c : BookPasses) → ((m : List ℕ) → P m → Q m) → NamesOnly version P b c → NamesOnly version Q b c
 names_wider version P Q b c f one = record {
-  types = adds_wider _ _ b.types c.types (λ t has. (has.0, f has.0 has.1, has.2)) one.types;
-  words = adds_wider _ _ b.words c.words (λ t has. (has.0, f has.0 has.1, has.2)) one.words;
+  types = adds_wider _ _ (pass_in b.types) (pass_in c.types) (λ t has. (has.0, f has.0 has.1, has.2)) one.types;
+  words = adds_wider _ _ (pass_in b.words) (pass_in c.words) (λ t has. (has.0, f has.0 has.1, has.2)) one.words;
 }
 
 names_then : (version : ℕ) (P : List ℕ → Type 0) (b c d : BookPasses) → NamesOnly version P b c → NamesOnly version P c d → NamesOnly version P b d
 names_then version P b c d one two = record {
-  types = adds_then _ b.types c.types d.types one.types two.types;
-  words = adds_then _ b.words c.words d.words one.words two.words;
+  types = adds_then _ (pass_in b.types) (pass_in c.types) (pass_in d.types) one.types two.types;
+  words = adds_then _ (pass_in b.words) (pass_in c.words) (pass_in d.words) one.words two.words;
 }
 
 passes_in_is : (o : Option BookPasses) (some : IsSome o) (b : BookPasses) → o ≡ Some b → passes_in o some ≡ b

@@ -31,10 +31,9 @@ pub(crate) fn enroll<'b>(
         workers.new.items count }
 {
     for _made in 0..count {
-        let passes = BookPasses {
-            types: types.pass(types_lock),
-            words: words.pass(words_lock),
-        };
+        let of_types = types.pass(types_lock);
+        let of_words = words.pass(words_lock);
+        let passes = BookPasses::new(alloc, of_types, of_words);
         workers.push_reserved(Worker::new(alloc, plan, passes));
     }
 }
@@ -50,10 +49,8 @@ pub(crate) fn dismiss(
         workers.entry.items 0 }
 {
     while let Some(worker) = workers.pop() {
-        let BookPasses {
-            types: of_types,
-            words: of_words,
-        } = worker.into_passes();
+        let passes = worker.into_passes();
+        let (of_types, of_words) = passes.into_both();
         types.join(of_types);
         words.join(of_words);
     }

@@ -1,6 +1,7 @@
 //! The desks of the jobs, before and after the workers' work.
 ghost use Rattle.std.specs.Prelude.{◌≡◌, ◌+◌, ◌≤◌, [], IfSome, map, vec_capacity};
 ghost use Rattle.turn_lock.specs.Words.{id_of, lock_by, made_by, IsReady};
+ghost use Rattle.dict_lock.specs.Cached.{pass_in};
 ghost use Rattle.ingest_fork.specs.Passes.{AreJoinable, Fresh, Joined};
 ghost use Rattle.ingest_workers.specs.Desk.{AllNoted, AreNotesBy, HaveOnlySeen, HaveSeen, HaveSeenFrom, keeper_at};
 
@@ -34,8 +35,8 @@ pub(crate) fn set_out<'k, 'b, 'd, D: Disk>(
 
 /// The passes, which have learned the notes.
 fn learn<'b>(passes: BookPasses<'b>, notes: Option<Notes<'_>>) -> BookPasses<'b>
-    requires types { IsReady passes.types }
-    requires words { IsReady passes.words }
+    requires types { IsReady (pass_in passes.types) }
+    requires words { IsReady (pass_in passes.words) }
     requires of { IfSome notes (AreNotesBy passes) }
     ensures only { HaveOnlySeen passes.entry result }
     ensures seen { IfSome notes.entry (HaveSeen result) }
@@ -59,8 +60,8 @@ pub(crate) fn clear<'b, 'd, D: Disk>(
     mut desks: Vec<Desk<'_, 'b, 'd, D>>,
 ) -> BookPasses<'b>
     requires keepers { AreJoinable maker.old (map keeper_at desks.items) }
-    requires types { IsReady passes.types }
-    requires words { IsReady passes.words }
+    requires types { IsReady (pass_in passes.types) }
+    requires words { IsReady (pass_in passes.words) }
     requires noted { AllNoted passes desks.items }
     ensures joined { Joined maker.old maker.new (map keeper_at desks.entry.items) 0 }
     ensures only { HaveOnlySeen passes.entry result }

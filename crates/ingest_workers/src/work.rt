@@ -2,6 +2,7 @@
 ghost use Rattle.std.specs.Prelude.{◌≡◌, ◌≤◌};
 ghost use Rattle.step_count.specs.Opens.{OpensFor};
 ghost use Rattle.ingest_workers.specs.Desk.{AreNotesBy, DidThere, MayDoThere, books_noted};
+ghost use Rattle.dict_lock.specs.Cached.{pass_in};
 ghost use Rattle.ingest_workers.specs.JobDone.{IsGivenBy, IsDone};
 ghost use Rattle.ingest_workers.specs.Worker.{DidOnly, GoWith, IsIdle, IsNewJob, MayAddTexts, NamesOnly};
 ghost use Rattle.ingest_workers.specs.WorkerLaws.{goes_on, wider, rests, fits_on_there, did_on};
@@ -10,7 +11,7 @@ use crate::desk::Desk;
 use crate::job::Job;
 use crate::run::run_job;
 use crate::worker::{BookPasses, Plan, Worker};
-use disk_seal::{LockNamer, Notes, Passes, Store, Turns};
+use disk_seal::{CachedPasses, LockNamer, Notes, Store, Turns};
 use ingest_fork::Works;
 use log_seams::{Disk, Source};
 use std::alloc::Global;
@@ -53,14 +54,14 @@ fn do_with_blanks<'b, 'd, S: Source, D: Disk, R: Wait, A: Ledger, B: Ledger, C: 
         words: Steps::new(of_words),
         store: Steps::new(of_store),
     };
-    let mut namer = LockNamer::new(rt, alloc, plan.version, types, words, turns);
+    let mut namer = LockNamer::with_caches(rt, plan.version, types, words, turns);
     run_job(job, rt, alloc, plan.rows, &mut namer, keeper);
     let notes = namer.notes();
-    let Passes {
+    let CachedPasses {
         types,
         words,
         turns: _,
-    } = namer.into_passes();
+    } = namer.into_caches();
     (BookPasses { types, words }, notes)
 }
 
