@@ -71,9 +71,13 @@ names_then version P b c d one two = record {
   words = adds_then _ (pass_in b.words) (pass_in c.words) (pass_in d.words) one.words two.words;
 }
 
+or_these : BookPasses → Option BookPasses → BookPasses
+or_these c None = c
+or_these c (Some b) = b
+
 passes_in_is : (o : Option BookPasses) (some : IsSome o) (b : BookPasses) → o ≡ Some b → passes_in o some ≡ b
 passes_in_is None none b is = absurd (cc (is))
-passes_in_is (Some c) some b is = cc (is)
+passes_in_is (Some c) some b is = ap (or_these c) is
 
 pub passes_is : (w : Worker) (b : BookPasses) → w.passes ≡ Some b → passes_of w ≡ b
 passes_is w b is = passes_in_is w.passes w.full b is
