@@ -34,31 +34,31 @@ IsFree r = (r ≡ None) ⊎ (r ≡ Some OutOfMemory)
 abbrev IsFreeOf : Came → Type 0
 IsFreeOf c = IsFree c.refusal
 
-one_free : (seen : Around) (old new : DiskState) (c : Came) (r : Option Refusal) → HasFileCause seen old new c r → MayRefuseLog r → MeetsNoLimit r → ¬ Rose old.faults new.faults → IsFree r
-one_free seen old new c None cause may met steady = inl refl
-one_free seen old new c (Some Refusal.OutOfMemory) cause may met steady = inr refl
-one_free seen old new c (Some Refusal.DiskFault) cause may met steady = absurd (steady cause)
-one_free seen old new c (Some (Refusal.Full book count)) cause may met steady = absurd met
-one_free seen old new c (Some (Refusal.ArchiveFull end need)) cause may met steady = absurd met
-one_free seen old new c (Some Refusal.OpenFault) cause may met steady = absurd may
-one_free seen old new c (Some Refusal.ReadFault) cause may met steady = absurd may
-one_free seen old new c (Some (Refusal.LineTooLong line)) cause may met steady = absurd may
-one_free seen old new c (Some Refusal.TooManyLines) cause may met steady = absurd may
-one_free seen old new c (Some Refusal.Usage) cause may met steady = absurd may
-one_free seen old new c (Some (Refusal.BadPattern at)) cause may met steady = absurd may
-one_free seen old new c (Some (Refusal.Damaged at)) cause may met steady = absurd may
-one_free seen old new c (Some Refusal.SinkFault) cause may met steady = absurd may
-one_free seen old new c (Some (Refusal.NotEmpty len)) cause may met steady = absurd may
-one_free seen old new c (Some (Refusal.NoSuchFile number count)) cause may met steady = absurd may
-one_free seen old new c (Some (Refusal.NameTooLong index)) cause may met steady = absurd may
-one_free seen old new c (Some (Refusal.TooManyFiles held more)) cause may met steady = absurd may
+one_free : (names : List (List ℕ)) (seen : Around) (old new : DiskState) (c : Came) (r : Option Refusal) → HasFileCause names seen old new c r → MayRefuseLog r → MeetsNoLimit r → ¬ Rose old.faults new.faults → IsFree r
+one_free names seen old new c None cause may met steady = inl refl
+one_free names seen old new c (Some Refusal.OutOfMemory) cause may met steady = inr refl
+one_free names seen old new c (Some Refusal.DiskFault) cause may met steady = absurd (steady cause)
+one_free names seen old new c (Some (Refusal.Full book count)) cause may met steady = absurd met
+one_free names seen old new c (Some (Refusal.ArchiveFull end need)) cause may met steady = absurd met
+one_free names seen old new c (Some Refusal.OpenFault) cause may met steady = absurd may
+one_free names seen old new c (Some Refusal.ReadFault) cause may met steady = absurd may
+one_free names seen old new c (Some (Refusal.LineTooLong line)) cause may met steady = absurd may
+one_free names seen old new c (Some Refusal.TooManyLines) cause may met steady = absurd may
+one_free names seen old new c (Some Refusal.Usage) cause may met steady = absurd may
+one_free names seen old new c (Some (Refusal.BadPattern at)) cause may met steady = absurd may
+one_free names seen old new c (Some (Refusal.Damaged at)) cause may met steady = absurd may
+one_free names seen old new c (Some Refusal.SinkFault) cause may met steady = absurd may
+one_free names seen old new c (Some (Refusal.NotEmpty len)) cause may met steady = absurd may
+one_free names seen old new c (Some (Refusal.NoSuchFile number count)) cause may met steady = absurd may
+one_free names seen old new c (Some (Refusal.NameTooLong index)) cause may met steady = absurd may
+one_free names seen old new c (Some (Refusal.TooManyFiles held more)) cause may met steady = absurd may
 
-all_free : (seen : Around) (old new : DiskState) (came : List Came) → All (CameOfFile seen old new) came → All IsSpared came → All (λ (c : Came). MeetsNoLimit c.refusal) came → ¬ Rose old.faults new.faults → All IsFreeOf came
-all_free seen old new [] each spared met steady = All-nil IsFreeOf
-all_free seen old new (c ∷ came) each spared met steady =
-    let one : CameOfFile seen old new c = All-head (CameOfFile seen old new) c came each in
-    All-cons IsFreeOf c came (one_free seen old new c c.refusal one.cause (All-head IsSpared c came spared) (All-head (λ (x : Came). MeetsNoLimit x.refusal) c came met) steady)
-    (all_free seen old new came (All-tail (CameOfFile seen old new) c came each) (All-tail IsSpared c came spared) (All-tail (λ (x : Came). MeetsNoLimit x.refusal) c came met) steady)
+all_free : (names : List (List ℕ)) (seen : Around) (old new : DiskState) (came : List Came) → All (CameOfFile names seen old new) came → All IsSpared came → All (λ (c : Came). MeetsNoLimit c.refusal) came → ¬ Rose old.faults new.faults → All IsFreeOf came
+all_free names seen old new [] each spared met steady = All-nil IsFreeOf
+all_free names seen old new (c ∷ came) each spared met steady =
+    let one : CameOfFile names seen old new c = All-head (CameOfFile names seen old new) c came each in
+    All-cons IsFreeOf c came (one_free names seen old new c c.refusal one.cause (All-head IsSpared c came spared) (All-head (λ (x : Came). MeetsNoLimit x.refusal) c came met) steady)
+    (all_free names seen old new came (All-tail (CameOfFile names seen old new) c came each) (All-tail IsSpared c came spared) (All-tail (λ (x : Came). MeetsNoLimit x.refusal) c came met) steady)
 
 abbrev statuses : List Came → List ℕ
 statuses came = map (λ (c : Came). file_status c.refusal) came

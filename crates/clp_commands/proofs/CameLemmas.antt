@@ -44,7 +44,7 @@ module _ (names : List (List ℕ)) (seen : Around) (old new : DiskState) (status
   printed_came : PrintsCame (map came_of files) first seen status → AnswersIngest names seen old new status
   printed_came printed = inr (record {
     adds = record { came = map came_of files; first = first; names_are = names_came files ∙ named; numbered = numbered; disk = disk; printed = printed };
-    each = file_causes seen old new (map came_of files) caused;
+    each = file_causes names seen old new (map came_of files) (names_came files ∙ named) caused;
   })
 
   -- all lines were printed

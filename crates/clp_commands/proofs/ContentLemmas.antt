@@ -94,7 +94,7 @@ module _ {S : Type 0} (left : S → Option (List ℕ)) (content : List ℕ → O
       none_in : Contains [] m → ⊥
       none_in c = absurd (omega (arith, c.1))
 
-  given_of_names : AreJobsOf → (m : List ℕ) → IsGivenByJobs left version js m → IsGiven content version names m
+  pub given_of_names : AreJobsOf → (m : List ℕ) → IsGivenByJobs left version js m → IsGiven content version names m
   given_of_names of m given =
       let log = of.log given.0 given.1 given.2 in (
         log.0,

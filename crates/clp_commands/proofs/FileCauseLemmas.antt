@@ -1,5 +1,5 @@
 -- Why files that were taken in are not whole.
-use Rattle.std.proofs.Common.{◌≡◌, ◌≢◌, ◌≤◌, refl, sym, ap, subst, ◌∙◌, ℕ, Bool, true, false, List, length, map, get_or, Option, Some, None, arith}
+use Rattle.std.proofs.Common.{◌≡◌, ◌≢◌, ◌≤◌, inl, inr, refl, sym, ap, subst, ◌∙◌, ℕ, Bool, true, false, List, length, map, get_or, Option, Some, None, arith}
 use Rattle.std.specs.Prelude.{All, IfSome, is_some, not, option_map, slice_get}
 use Rattle.std.specs.Str.{chars, is_utf8}
 use Rattle.std.proofs.lemmas.List.Elements.{All-map, All-weaker}
@@ -15,17 +15,23 @@ use Rattle.log_sources.specs.declared.source.LogSource.TheVariants.{Opened, Unop
 use Rattle.log_sources.specs.Sources.{CameOf, IsCounted, IsOpened, faults_in, is_opened, left_in, name_in, no_name, refusal_of}
 use Rattle.record_format.specs.declared.header.Header.{Header}
 use Rattle.disk_journal.specs.declared.journal.Journal.{Journal}
+use Rattle.disk_journal.specs.Journal.{state_of}
 use Rattle.disk_seal.specs.View.{StoreView}
+use Rattle.disk_seal.proofs.ToldLemmas.{told_map}
+use Rattle.row_codec.specs.declared.namer.Which.{Which}
+use Rattle.row_codec.specs.declared.namer.Which.TheVariants.{Types as WhichTypes, Words as WhichWords}
+use Rattle.ingest_workers.proofs.FullLemmas.{more_wider}
+use Rattle.clp_commands.proofs.ContentLemmas.{AreJobsOf, given_of_names}
 use Rattle.ingest_workers.specs.declared.job.Job.{Job}
 use Rattle.ingest_workers.specs.declared.outcome.Cause.{Cause}
 use Rattle.ingest_workers.specs.declared.outcome.Outcome.{Outcome}
 use Rattle.ingest_workers.specs.Causes.{HasJobCause, Log, log_of}
-use Rattle.ingest_workers.specs.Ingested.{AreRefused, HasItsCause, HasStored, HaveCauses, IsAsItWas, grounds_over, not_begun, plan_of}
+use Rattle.ingest_workers.specs.Ingested.{AreRefused, HasItsCause, HasStored, HaveCauses, IsAsItWas, IsFullByGiven as IsFullByJobs, IsThereOrGiven as IsThereOrGivenByJobs, grounds_over, not_begun, plan_of, told_entries}
 use Rattle.ingest_workers.specs.Outcome.{nothing_done}
 use Rattle.clp_commands.specs.IngestPrints.{came_of}
-use Rattle.clp_commands.specs.Ingested.{Came, HasMoreThan}
+use Rattle.clp_commands.specs.Ingested.{Came, HasMoreThan, IsThereOrGiven}
 use Rattle.clp_commands.specs.Jobs.{IsNotBegun, of_cause, of_opening, refusal_by, sources_of}
-use Rattle.clp_commands.specs.StepsCauses.{CameIn, HasCauseIn, Logs}
+use Rattle.clp_commands.specs.StepsCauses.{CameIn, HasCauseIn, Logs, Target, into_journal}
 use Rattle.clp_commands.specs.Printing.{IsLong, most_messages}
 use Rattle.clp_commands.specs.declared.refusal.Refusal.{Refusal}
 use Rattle.clp_commands.specs.declared.taken.TakenFile.{TakenFile}
@@ -46,12 +52,12 @@ no_text = refl
 
 -- ---- one file
 
-module _ (logs : Logs) (h : Header) (old new : DiskState) (c : Came) where
-  came_in : (r : Option Refusal) → c.refusal ≡ r → HasCauseIn logs h old new c r → (r ≢ None → c.whole ≡ false) → CameIn logs h old new c
-  came_in r is cause part = record { cause = subst (HasCauseIn logs h old new c) (sym is) cause; part = λ some. part (λ none. some (is ∙ none)) }
+module _ (logs : Logs) (into : Target) (old new : DiskState) (c : Came) where
+  came_in : (r : Option Refusal) → c.refusal ≡ r → HasCauseIn logs into old new c r → (r ≢ None → c.whole ≡ false) → CameIn logs into old new c
+  came_in r is cause part = record { cause = subst (HasCauseIn logs into old new c) (sym is) cause; part = λ some. part (λ none. some (is ∙ none)) }
 
   -- there was no memory
-  no_memory : c.refusal ≡ Some Refusal.OutOfMemory → c.whole ≡ false → CameIn logs h old new c
+  no_memory : c.refusal ≡ Some Refusal.OutOfMemory → c.whole ≡ false → CameIn logs into old new c
   no_memory is part = came_in (Some Refusal.OutOfMemory) is tt (λ some. part)
 
 module _ {S : Type 0} (left name : S → Option (List ℕ)) (faults : S → ℕ) (logs : Logs) (opens_now reads reads_now : List ℕ → ℕ) (opens_later : (n : List ℕ) → opens_now n ≤ (logs.opens n).1)
@@ -60,9 +66,9 @@ module _ {S : Type 0} (left name : S → Option (List ℕ)) (faults : S → ℕ)
   CameFrom = CameOf left name faults logs.content (λ n. (logs.opens n).0) opens_now
 
   -- the log was not opened
-  opening_in : (h : Header) (old new : DiskState) (c : Came) (cause : OpenRefused) (n : ℕ) → CameFrom c.name (Unopened cause n) → c.messages ≡ 0 → c.whole ≡ false → c.refusal ≡ Some (of_opening cause) → CameIn logs h old new c
-  opening_in h old new c Failed n came none part is = came_in logs h old new c (Some Refusal.OpenFault) is (rose (logs.opens c.name).0 (logs.opens c.name).0 (opens_now c.name) (logs.opens c.name).1 (omega arith) came.1 (opens_later c.name), none) (λ some. part)
-  opening_in h old new c OutOfMemory n came none part is = no_memory logs h old new c is part
+  opening_in : (into : Target) (old new : DiskState) (c : Came) (cause : OpenRefused) (n : ℕ) → CameFrom c.name (Unopened cause n) → c.messages ≡ 0 → c.whole ≡ false → c.refusal ≡ Some (of_opening cause) → CameIn logs into old new c
+  opening_in into old new c Failed n came none part is = came_in logs into old new c (Some Refusal.OpenFault) is (rose (logs.opens c.name).0 (logs.opens c.name).0 (opens_now c.name) (logs.opens c.name).1 (omega arith) came.1 (opens_later c.name), none) (λ some. part)
+  opening_in into old new c OutOfMemory n came none part is = no_memory logs into old new c is part
 
   -- reads of it failed
   reads_rose : (asked : List ℕ) (s : S) (t : LogSource S) → IsOpened left name faults (logs.content asked) asked s → name_in name t ≡ name s → IsCounted name faults reads reads_now t → Rose (faults s) (faults_in faults t)
@@ -74,15 +80,28 @@ module _ {S : Type 0} (left name : S → Option (List ℕ)) (faults : S → ℕ)
       let none : is_utf8 no_name ≡ true = subst (λ n. is_utf8 n ≡ true) (sym same) is.text in
       absurd (cc (none, no_text))
 
-  module _ {D : Type 0} {d : DiskGhosts D} (j after : Journal D d) (c : Came) where
+  module _ {D : Type 0} {d : DiskGhosts D} (j after : Journal D d) (names : List (List ℕ)) (rows first : ℕ) (js : List (Job (LogSource S))) (of : AreJobsOf (left_in left) logs.content j.header.version names first js) (c : Came) where
+    abbrev into : Target
+    into = into_journal (state_of j) names
+
+    abbrev full : Which → ℕ → Type 0
+    full = IsFullByJobs (left_in left) (plan_of rows j) js j
+
     abbrev In : Type 0
-    In = CameIn logs j.header (d.state j.disk.now) (d.state after.disk.now) c
+    In = CameIn logs into (d.state j.disk.now) (d.state after.disk.now) c
 
     abbrev CauseIn : Option Refusal → Type 0
-    CauseIn = HasCauseIn logs j.header (d.state j.disk.now) (d.state after.disk.now) c
+    CauseIn = HasCauseIn logs into (d.state j.disk.now) (d.state after.disk.now) c
+
+    -- a text of the encoding of a message of a job is one of a message of a given file
+    of_given : (book : Which) (t : List ℕ) → IsThereOrGivenByJobs (left_in left) (plan_of rows j) js j book t → IsThereOrGiven logs.content j.header.version names (told_entries (state_of j)) book t
+    of_given WhichTypes t (inl there) = inl there
+    of_given WhichTypes t (inr given) = inr (given.0, given_of_names (left_in left) logs.content j.header.version names first js of given.0 given.1, given.2)
+    of_given WhichWords t (inl there) = inl there
+    of_given WhichWords t (inr given) = inr (given.0, given_of_names (left_in left) logs.content j.header.version names first js of given.0 given.1, given.2)
 
     -- the cause of a job
-    job_cause : (log : Log) (sealed : List (List ℕ)) (o : Option Cause) → HasJobCause (grounds_over j after) log j.header.version sealed o → is_some o ≡ not c.whole → c.messages ≡ length sealed → log.bytes ≡ logs.content c.name
+    job_cause : (log : Log) (sealed : List (List ℕ)) (o : Option Cause) → HasJobCause (grounds_over full j after) log j.header.version sealed o → is_some o ≡ not c.whole → c.messages ≡ length sealed → log.bytes ≡ logs.content c.name
         → (Rose log.faults log.faults_now → Rose (logs.reads c.name).0 (logs.reads c.name).1) → CauseIn (option_map of_cause o)
     job_cause log sealed None has whole count bytes up = not_false c.whole whole
       where
@@ -93,7 +112,7 @@ module _ {S : Type 0} (left name : S → Option (List ℕ)) (faults : S → ℕ)
     job_cause log sealed (Some (Cause.LineTooLong line)) has whole count bytes up =
         subst (λ (o : Option (List ℕ)). IfSome o (λ b. IsLong b line)) bytes (IfSome_then log.bytes has.2 (λ b before. long_behind j.header.version sealed b line has.1 before))
     job_cause log sealed (Some Cause.TooManyLines) has whole count bytes up = (count ∙ has.1, subst (λ (o : Option (List ℕ)). HasMoreThan most_messages j.header.version o) bytes has.2)
-    job_cause log sealed (Some (Cause.Full book n)) has whole count bytes up = tt
+    job_cause log sealed (Some (Cause.Full book n)) has whole count bytes up = told_map (is_some (state_of j).disk.seen) (λ is. (is.0, more_wider _ _ (of_given book) n is.1)) has.1
     job_cause log sealed (Some (Cause.DiskFault opened now)) has whole count bytes up = subst (λ n. Rose n (d.state after.disk.now).faults) has.0 has.1
     job_cause log sealed (Some Cause.OutOfMemory) has whole count bytes up = tt
     job_cause log sealed (Some (Cause.ArchiveFull end need)) has whole count bytes up = has
@@ -104,17 +123,17 @@ module _ {S : Type 0} (left name : S → Option (List ℕ)) (faults : S → ℕ)
     not_whole (Some cause) false is some = refl
 
     -- the job was done
-    done_in : (rows : ℕ) (s : LogSource S) (old done : Job (LogSource S)) → CameFrom c.name s → old.source ≡ Some s → old.is_open ≡ is_opened s
+    done_in : (s : LogSource S) (old done : Job (LogSource S)) → CameFrom c.name s → old.source ≡ Some s → old.is_open ≡ is_opened s
         → c.messages ≡ done.outcome.messages → c.whole ≡ done.outcome.whole → c.refusal ≡ refusal_by (refusal_of s) done.outcome.cause
-        → HasItsCause (left_in left) (name_in name) (faults_in faults) (plan_of rows j) j after old done → (old.is_open ≡ true → is_some done.outcome.cause ≡ not done.outcome.whole) → (old.is_open ≡ false → done.outcome ≡ nothing_done)
+        → HasItsCause full (left_in left) (name_in name) (faults_in faults) (plan_of rows j) j after old done → (old.is_open ≡ true → is_some done.outcome.cause ≡ not done.outcome.whole) → (old.is_open ≡ false → done.outcome ≡ nothing_done)
         → ((t : LogSource S) → done.source ≡ Some t → IsCounted name faults reads reads_now t) → In
-    done_in rows (Unopened cause n) old done came has as_opened messages whole refusal its opened unopened counted =
+    done_in (Unopened cause n) old done came has as_opened messages whole refusal its opened unopened counted =
         let none = unopened as_opened in
-        opening_in j.header (d.state j.disk.now) (d.state after.disk.now) c cause n came (messages ∙ ap (λ (o : Outcome). o.messages) none) (whole ∙ ap (λ (o : Outcome). o.whole) none) refusal
-    done_in rows (Opened s) old done came has as_opened messages whole refusal its opened unopened counted =
+        opening_in into (d.state j.disk.now) (d.state after.disk.now) c cause n came (messages ∙ ap (λ (o : Outcome). o.messages) none) (whole ∙ ap (λ (o : Outcome). o.whole) none) refusal
+    done_in (Opened s) old done came has as_opened messages whole refusal its opened unopened counted =
         let is : its.source.before ≡ Opened s = some_is its.source.before (Opened s) (sym its.source.had ∙ has) in
         let either : is_some done.outcome.cause ≡ not c.whole = opened as_opened ∙ ap not (sym whole) in
-        came_in logs j.header (d.state j.disk.now) (d.state after.disk.now) c (option_map of_cause done.outcome.cause) refusal
+        came_in logs into (d.state j.disk.now) (d.state after.disk.now) c (option_map of_cause done.outcome.cause) refusal
         (job_cause (log_of (left_in left) (faults_in faults) its.source.before its.source.after) its.sealed done.outcome.cause its.cause either (messages ∙ its.count) (ap (left_in left) is ∙ came.left_is)
         (λ up. reads_rose c.name s its.source.after came (its.source.keeps.named ∙ ap (name_in name) is) (counted its.source.after its.source.has) (subst (λ n. Rose n (faults_in faults its.source.after)) (ap (faults_in faults) is) up)))
         (not_whole done.outcome.cause c.whole either)
@@ -125,15 +144,15 @@ module _ {S : Type 0} (left name : S → Option (List ℕ)) (faults : S → ℕ)
     -- it was not begun
     refused_in : (s : LogSource S) (done : Job (LogSource S)) → CameFrom c.name s → c.messages ≡ done.outcome.messages → c.whole ≡ done.outcome.whole → c.refusal ≡ refusal_by (refusal_of s) done.outcome.cause → done.outcome ≡ not_begun → In
     refused_in (Unopened cause n) done came messages whole refusal none =
-        opening_in j.header (d.state j.disk.now) (d.state after.disk.now) c cause n came (messages ∙ ap (λ (o : Outcome). o.messages) none) (whole ∙ ap (λ (o : Outcome). o.whole) none) refusal
+        opening_in into (d.state j.disk.now) (d.state after.disk.now) c cause n came (messages ∙ ap (λ (o : Outcome). o.messages) none) (whole ∙ ap (λ (o : Outcome). o.whole) none) refusal
     refused_in (Opened s) done came messages whole refusal none =
-        no_memory logs j.header (d.state j.disk.now) (d.state after.disk.now) c (refusal ∙ ap (λ (o : Outcome). option_map of_cause o.cause) none) (whole ∙ ap (λ (o : Outcome). o.whole) none)
+        no_memory logs into (d.state j.disk.now) (d.state after.disk.now) c (refusal ∙ ap (λ (o : Outcome). option_map of_cause o.cause) none) (whole ∙ ap (λ (o : Outcome). o.whole) none)
 
   -- ---- all files
 
-  module _ {D : Type 0} {d : DiskGhosts D} (j after : Journal D d) (js js' : List (Job (LogSource S))) (came : List Came) (each : (i : ℕ) (c : Came) → slice_get came i ≡ Some c → CameOfLog CameFrom js js' i c) where
+  module _ {D : Type 0} {d : DiskGhosts D} (j after : Journal D d) (names : List (List ℕ)) (rows first : ℕ) (js js' : List (Job (LogSource S))) (of : AreJobsOf (left_in left) logs.content j.header.version names first js) (came : List Came) (each : (i : ℕ) (c : Came) → slice_get came i ≡ Some c → CameOfLog CameFrom js js' i c) where
     abbrev AllIn : Type 0
-    AllIn = All (CameIn logs j.header (d.state j.disk.now) (d.state after.disk.now)) came
+    AllIn = All (CameIn logs (into_journal (state_of j) names) (d.state j.disk.now) (d.state after.disk.now)) came
 
     source_at : (given : List (LogSource S)) → map Some given ≡ sources_of js' → (i : ℕ) (done : Job (LogSource S)) (t : LogSource S) → slice_get js' i ≡ Some done → done.source ≡ Some t → slice_get given i ≡ Some t
     source_at given are i done t at has = go (slice_get given i)
@@ -143,16 +162,16 @@ module _ {S : Type 0} (left name : S → Option (List ℕ)) (faults : S → ℕ)
         go None is = absurd (cc (is))
         go (Some u) is = cc (is, has)
 
-    pub all_done : (rows : ℕ) (store : StoreView D) → HasStored (left_in left) (plan_of rows j) js js' j after store → HaveCauses (left_in left) (name_in name) (faults_in faults) (plan_of rows j) j after js js'
+    pub all_done : (store : StoreView D) → HasStored (left_in left) (plan_of rows j) js js' j after store → HaveCauses (left_in left) (name_in name) (faults_in faults) (plan_of rows j) j after js js'
         → (given : List (LogSource S)) → map Some given ≡ sources_of js' → All (IsCounted name faults reads reads_now) given → AllIn
-    all_done rows store stored causes given are counted = each_of (CameIn logs j.header (d.state j.disk.now) (d.state after.disk.now)) came (λ i c at.
+    all_done store stored causes given are counted = each_of (CameIn logs (into_journal (state_of j) names) (d.state j.disk.now) (d.state after.disk.now)) came (λ i c at.
         let one = each i c at in
         let file = stored.files i one.old one.at in
         let same : file.0 ≡ one.done = some_is file.0 one.done (sym file.1 ∙ one.at_done) in
         let cause = causes.each i one.old one.at in
         let alike : cause.0 ≡ one.done = some_is cause.0 one.done (sym cause.1 ∙ one.at_done) in
-        let its = subst (λ (x : Job (LogSource S)). HasItsCause (left_in left) (name_in name) (faults_in faults) (plan_of rows j) j after one.old x) alike cause.2 in
-        done_in j after c rows one.source one.old one.done one.came one.has one.opened one.messages one.whole one.refusal its
+        let its = subst (λ (x : Job (LogSource S)). HasItsCause (IsFullByJobs (left_in left) (plan_of rows j) js j) (left_in left) (name_in name) (faults_in faults) (plan_of rows j) j after one.old x) alike cause.2 in
+        done_in j after names rows first js of c one.source one.old one.done one.came one.has one.opened one.messages one.whole one.refusal its
         (subst (λ (x : Job (LogSource S)). one.old.is_open ≡ true → is_some x.outcome.cause ≡ not x.outcome.whole) same file.2.cause)
         (subst (λ (x : Job (LogSource S)). one.old.is_open ≡ false → x.outcome ≡ nothing_done) same file.2.unopened)
         (λ t has. at_of (IsCounted name faults reads reads_now) given i t counted (source_at given are i one.done t one.at_done has)))
@@ -161,11 +180,11 @@ module _ {S : Type 0} (left name : S → Option (List ℕ)) (faults : S → ℕ)
         some_is x y e = cc (e)
 
     pub all_refused : IsAsItWas j after → AreRefused js js' → AllIn
-    all_refused stayed refused = each_of (CameIn logs j.header (d.state j.disk.now) (d.state after.disk.now)) came (λ i c at.
+    all_refused stayed refused = each_of (CameIn logs (into_journal (state_of j) names) (d.state j.disk.now) (d.state after.disk.now)) came (λ i c at.
         let one = each i c at in
-        refused_in j after c one.source one.done one.came one.messages one.whole one.refusal (refused.each i one.done one.at_done))
+        refused_in j after names rows first js of c one.source one.done one.came one.messages one.whole one.refusal (refused.each i one.done one.at_done))
 
 -- without memory to begin
-pub all_unbegun : (logs : Logs) (h : Header) (old new : DiskState) (taken : List TakenFile) → All IsNotBegun taken → All (CameIn logs h old new) (map came_of taken)
-all_unbegun logs h old new taken none =
-    All-map (CameIn logs h old new) came_of taken (All-weaker IsNotBegun (λ (file : TakenFile). CameIn logs h old new (came_of file)) (λ file n. no_memory logs h old new (came_of file) n.refusal n.whole) taken none)
+pub all_unbegun : (logs : Logs) (into : Target) (old new : DiskState) (taken : List TakenFile) → All IsNotBegun taken → All (CameIn logs into old new) (map came_of taken)
+all_unbegun logs into old new taken none =
+    All-map (CameIn logs into old new) came_of taken (All-weaker IsNotBegun (λ (file : TakenFile). CameIn logs into old new (came_of file)) (λ file n. no_memory logs into old new (came_of file) n.refusal n.whole) taken none)

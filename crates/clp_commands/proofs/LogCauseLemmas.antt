@@ -21,7 +21,7 @@ use Rattle.clp_commands.specs.Benched.{IsSpared, IsTakenWhole, MayRefuseLog, gen
 use Rattle.clp_commands.specs.Ending.{RoseIn}
 use Rattle.clp_commands.specs.Ingested.{Came, HasMoreThan, IsFront}
 use Rattle.clp_commands.specs.Printing.{IsLong, most_messages}
-use Rattle.clp_commands.specs.StepsCauses.{CameIn, HasCauseIn, HaveFileCauses, Logs}
+use Rattle.clp_commands.specs.StepsCauses.{CameIn, HasCauseIn, HaveFileCauses, Logs, Target}
 use Rattle.clp_commands.specs.declared.refusal.Refusal.{Refusal}
 use Rattle.clp_commands.proofs.BenchLemmas.{rose_on}
 use Rattle.clp_commands.proofs.FileCauseLemmas.{at_of}
@@ -136,16 +136,16 @@ module _ (number lines : ℕ) where
   abbrev told_with : (List ℕ → ℕ × ℕ) → Logs
   told_with opens = record { content = generated number lines; opens = opens; reads = λ name. (0, 0) }
 
-  module _ (most : lines ≤ 1000000) (opens : List ℕ → ℕ × ℕ) (none : (name : List ℕ) → IsGenerated name → opens name ≡ (0, 0)) (h : Header) (old mid new : DiskState) (later : mid.faults ≤ new.faults) where
+  module _ (most : lines ≤ 1000000) (opens : List ℕ → ℕ × ℕ) (none : (name : List ℕ) → IsGenerated name → opens name ≡ (0, 0)) (into : Target) (old mid new : DiskState) (later : mid.faults ≤ new.faults) where
     abbrev Spares : Came → Option Refusal → Type 0
-    Spares c r = HasCauseIn (told_with (λ name. (0, 0))) h old new c r × MayRefuseLog r
+    Spares c r = HasCauseIn (told_with (λ name. (0, 0))) into old new c r × MayRefuseLog r
 
-    spares : (c : Came) → IsGenerated c.name → (r : Option Refusal) → HasCauseIn (told_with opens) h old mid c r → Spares c r
+    spares : (c : Came) → IsGenerated c.name → (r : Option Refusal) → HasCauseIn (told_with opens) into old mid c r → Spares c r
     spares c is None cause = (cause, tt)
     spares c is (Some Refusal.OpenFault) cause = absurd (not_risen (subst RoseIn (none c.name is) cause.0))
     spares c is (Some Refusal.ReadFault) cause = absurd (not_risen cause)
     spares c is (Some (Refusal.LineTooLong line)) cause = absurd (none_long c.name is line cause)
-    spares c is (Some Refusal.TooManyLines) cause = absurd (none_many most h.version c.name is cause.1)
+    spares c is (Some Refusal.TooManyLines) cause = absurd (none_many most into.header.version c.name is cause.1)
     spares c is (Some (Refusal.Full book count)) cause = (cause, tt)
     spares c is (Some (Refusal.ArchiveFull end need)) cause = (cause, tt)
     spares c is (Some Refusal.DiskFault) cause = (rose_on old.faults mid.faults new.faults later cause, tt)
@@ -160,10 +160,10 @@ module _ (number lines : ℕ) where
     spares c is (Some (Refusal.TooManyFiles held more)) cause = absurd cause
 
     abbrev Before : Came → Type 0
-    Before = CameIn (told_with opens) h old mid
+    Before = CameIn (told_with opens) into old mid
 
     abbrev After : Came → Type 0
-    After = CameIn (told_with (λ name. (0, 0))) h old new
+    After = CameIn (told_with (λ name. (0, 0))) into old new
 
     each_after : (came : List Came) → All IsGenerated (names_in came) → All Before came → All After came
     each_after [] are all = All-nil After
@@ -185,7 +185,7 @@ module _ (number lines : ℕ) where
     opens_in name = (open_faults_of s name, open_faults_of later name)
 
     pub log_causes : HaveFileCauses (told_with opens_in) old mid came → HaveFileCauses (told_with (λ name. (0, 0))) old new came
-    log_causes have = record { header = have.header; told = have.told; each = each_after most opens_in (calm s later) have.header old mid new counts came (all_named came are) have.each }
+    log_causes have = record { into = have.into; names = have.names; told = have.told; each = each_after most opens_in (calm s later) have.into old mid new counts came (all_named came are) have.each }
 
     pub logs_spared : HaveFileCauses (told_with opens_in) old mid came → All IsSpared came
-    logs_spared have = each_spared most opens_in (calm s later) have.header old mid new counts came (all_named came are) have.each
+    logs_spared have = each_spared most opens_in (calm s later) have.into old mid new counts came (all_named came are) have.each

@@ -34,7 +34,7 @@ use Rattle.clp_commands.specs.Reading.{OverJournal}
 use Rattle.clp_commands.specs.Refusal.{line_of, status_of}
 use Rattle.clp_commands.specs.Ingested.{Came, FromArchive, HasCallCause, LeavesJournal, TakesIn, TakesNothing}
 use Rattle.clp_commands.specs.Names.{IsFirstTooLong, IsShortName}
-use Rattle.clp_commands.specs.StepsCauses.{CameIn, HaveFileCauses, Logs, logs_of}
+use Rattle.clp_commands.specs.StepsCauses.{CameIn, HaveFileCauses, IsTarget, Logs, logs_of}
 use Rattle.clp_commands.specs.declared.refusal.Refusal.{Refusal}
 use Rattle.clp_commands.specs.declared.refusal.Refusal.TheVariants.{Usage, BadPattern, OpenFault, ReadFault, LineTooLong, TooManyLines, DiskFault, Damaged, SinkFault, NotEmpty, NoSuchFile, OutOfMemory, NameTooLong, TooManyFiles, Full, ArchiveFull}
 use Rattle.generated_logs.specs.Logs.{content_of as generated, name_of}
@@ -194,9 +194,10 @@ module _ (old mid : DiskState) (made : MakesEmpty default_header old mid) (tells
   causes_from logs came new have =
       let low : old.faults ≤ mid.faults = omega (arith, steady) in
       record {
-        header = have.header;
-        told = made_from (λ h before bytes stood. have.header ≡ h) have.told;
-        each = All-weaker (CameIn logs have.header mid new) (CameIn logs have.header (as_made old) new) (came_on logs have.header (as_made old) mid new low) came have.each;
+        into = have.into;
+        names = have.names;
+        told = made_from (λ h before bytes stood. IsTarget have.into h before) have.told;
+        each = All-weaker (CameIn logs have.into mid new) (CameIn logs have.into (as_made old) new) (came_on logs have.into (as_made old) mid new low) came have.each;
       }
 
   all_taken : (number lines : ℕ) (came : List Came) (new : DiskState) → map (λ (c : Came). c.name) came ≡ generated_names → FromEmpty old (λ from bytes stood. TakesIn (generated number lines) default_header [] stood generated_names came from new)
@@ -222,7 +223,7 @@ module _ (old mid : DiskState) (made : MakesEmpty default_header old mid) (tells
         came = adds.came;
         names_are = adds.names_are;
         disk = disk;
-        each = file_causes (with_logs (generated number lines) seen) (as_made old) new adds.came (causes_from (logs_of (with_logs (generated number lines) seen)) adds.came new adds.causes);
+        each = file_causes generated_names (with_logs (generated number lines) seen) (as_made old) new adds.came adds.names_are (causes_from (logs_of (with_logs (generated number lines) seen)) adds.came new adds.causes);
         spared = adds.spared;
         all = all_taken number lines adds.came new adds.names_are disk;
         told = ⊎_elim (λ parts. inl parts) (λ sums. inr (sums_sooner adds.came seen old mid new status (omega (arith, steady)) sums)) adds.told;

@@ -1,24 +1,36 @@
 -- Why files are not whole, from the start of the call, and as it is told.
-use Rattle.std.proofs.Common.{◌≡◌, ◌<◌, ◌≤◌, ◌+◌, refl, subst, ℕ, List, Option, Some, None, arith}
+use Rattle.std.proofs.Common.{◌≡◌, ◌<◌, ◌≤◌, ◌+◌, ◌++◌, ◌∷◌, [], ◌⊎◌, refl, sym, ap, ◌∙◌, subst, ℕ, List, map, append-nil, Option, Some, None, arith}
 use Rattle.std.specs.Prelude.{All}
+use Rattle.std.specs.List.{Contains}
+use Rattle.row_codec.specs.declared.namer.Which.{Which}
+use Rattle.row_codec.specs.declared.namer.Which.TheVariants.{Types as WhichTypes, Words as WhichWords}
+use Rattle.archive_meaning.specs.declared.entry.JournalEntry.{JournalEntry}
+use Rattle.archive_meaning.specs.declared.entry.JournalEntry.TheVariants.{Files}
+use Rattle.archive_meaning.specs.Spelled.{types_of}
+use Rattle.disk_seal.specs.Told.{IfTold}
+use Rattle.disk_seal.specs.WordsIn.{words_of}
+use Rattle.ingest_workers.specs.Causes.{limit_of}
+use Rattle.ingest_workers.specs.Full.{IsTextOf, ThereAreMore}
+use Rattle.ingest_workers.specs.Ingested.{book_texts, header_limits, told_entries}
+use Rattle.ingest_workers.proofs.ClosingLemmas.{types_joined, words_joined}
 use Rattle.std.proofs.lemmas.List.Elements.{All-weaker}
 use Rattle.log_seams.specs.Disk.{DiskState}
 use Rattle.log_seams.proofs.MomentLemmas.{rose}
 use Rattle.record_format.specs.declared.header.Header.{Header}
 use Rattle.disk_journal.specs.State.{JournalState}
 use Rattle.clp_commands.specs.Around.{Around}
-use Rattle.clp_commands.specs.Ingested.{Came, CameOfFile, FromArchive, HasFileCause, HasMoreThan}
-use Rattle.clp_commands.specs.StepsCauses.{CameIn, HasCauseIn, HaveFileCauses, Logs, logs_of}
-use Rattle.clp_commands.specs.Leaves.{AddsNamesTo}
+use Rattle.clp_commands.specs.Ingested.{Came, CameOfFile, FromArchive, HasFileCause, HasMoreThan, IsFullByGiven, IsGiven}
+use Rattle.clp_commands.specs.StepsCauses.{CameIn, HasCauseIn, HaveFileCauses, IsTarget, Logs, Target, into_journal, logs_of}
+use Rattle.clp_commands.specs.Leaves.{AddsNamesTo, HasNames}
 use Rattle.clp_commands.specs.Printing.{most_messages}
 use Rattle.clp_commands.specs.declared.refusal.Refusal.{Refusal}
-use Rattle.clp_commands.proofs.LeavesLemmas.{from_archive}
+use Rattle.clp_commands.proofs.LeavesLemmas.{from_archive, of_told}
 use Rattle.clp_commands.proofs.StepsLemmas.{Looked, no_more, same_bytes}
 
 -- ---- from the start of the call
 
-module _ (logs : Logs) (h : Header) (old mid new : DiskState) (risen : old.faults ≤ mid.faults) where
-  cause_on : (c : Came) (r : Option Refusal) → HasCauseIn logs h mid new c r → HasCauseIn logs h old new c r
+module _ (logs : Logs) (into : Target) (old mid new : DiskState) (risen : old.faults ≤ mid.faults) where
+  cause_on : (c : Came) (r : Option Refusal) → HasCauseIn logs into mid new c r → HasCauseIn logs into old new c r
   cause_on c None cause = cause
   cause_on c (Some Refusal.OpenFault) cause = cause
   cause_on c (Some Refusal.ReadFault) cause = cause
@@ -37,30 +49,48 @@ module _ (logs : Logs) (h : Header) (old mid new : DiskState) (risen : old.fault
   cause_on c (Some (Refusal.NameTooLong index)) cause = absurd cause
   cause_on c (Some (Refusal.TooManyFiles held more)) cause = absurd cause
 
-  pub came_on : (c : Came) → CameIn logs h mid new c → CameIn logs h old new c
+  pub came_on : (c : Came) → CameIn logs into mid new c → CameIn logs into old new c
   came_on c is = record { cause = cause_on c c.refusal is.cause; part = is.part }
 
-pub causes_sooner : (old mid late : DiskState) → Looked old mid late → (logs : Logs) (names : List (List ℕ)) (first : ℕ) (j : JournalState) (new : DiskState) (came : List Came) → late.faults ≤ j.disk.faults
-    → FromArchive late (λ h before bytes stood. AddsNamesTo h before stood names first late j) → All (CameIn logs j.header j.disk new) came → HaveFileCauses logs old new came
-causes_sooner old mid late looked logs names first j new came risen added each = record {
-  header = j.header;
-  told = from_archive old late (λ h before bytes stood. AddsNamesTo h before stood names first late j) (λ h before bytes stood. j.header ≡ h) (same_bytes old mid late looked) (no_more old mid late looked) (λ h before bytes stood only adds. adds.has.header) added;
-  each = All-weaker (CameIn logs j.header j.disk new) (CameIn logs j.header old new) (came_on logs j.header old j.disk new (omega (arith, looked.counts, risen))) came each;
+texts_named : (names : List (List ℕ)) (es before : List JournalEntry) → es ≡ before ++ Files names ∷ [] → (book : Which) → book_texts book es ≡ book_texts book before
+texts_named names es before is WhichTypes = ap types_of is ∙ (types_joined before (Files names ∷ []) ∙ append-nil (types_of before))
+texts_named names es before is WhichWords = ap words_of is ∙ (words_joined before (Files names ∷ []) ∙ append-nil (words_of before))
+
+pub causes_sooner : (old mid late : DiskState) → Looked old mid late → (logs : Logs) (names : List (List ℕ)) (first : ℕ) (j : JournalState) (new : DiskState) (came : List Came) → late.faults ≤ j.disk.faults → map (λ (c : Came). c.name) came ≡ names
+    → FromArchive late (λ h before bytes stood. AddsNamesTo h before stood names first late j) → All (CameIn logs (into_journal j names) j.disk new) came → HaveFileCauses logs old new came
+causes_sooner old mid late looked logs names first j new came risen named added each = let into = into_journal j names in record {
+  into = into;
+  names = sym named;
+  told = from_archive old late (λ h before bytes stood. AddsNamesTo h before stood names first late j) (λ h before bytes stood. IsTarget into h before) (same_bytes old mid late looked) (no_more old mid late looked)
+      (λ h before bytes stood only adds. is_target h before adds.has) added;
+  each = All-weaker (CameIn logs into j.disk new) (CameIn logs into old new) (came_on logs into old j.disk new (omega (arith, looked.counts, risen))) came each;
 }
+  where
+    is_target : (h : Header) (before : List JournalEntry) → HasNames h before names j → IsTarget (into_journal j names) h before
+    is_target h before has = record { told = has.told; header = has.header; texts = texts_named names (told_entries j) before has.entries }
 
 -- ---- as it is told
 
-module _ (seen : Around) (old new : DiskState) (header : Header) (told : FromArchive old (λ h before bytes stood. header ≡ h)) where
-  from_header : (P : Header → Type 0) → P header → FromArchive old (λ h before bytes stood. P h)
-  from_header P p = from_archive old old (λ h before bytes stood. header ≡ h) (λ h before bytes stood. P h) refl (λ c image. image) (λ h before bytes stood only same. subst P same p) told
+module _ (seen : Around) (old new : DiskState) (into : Target) (told : FromArchive old (λ h before bytes stood. IsTarget into h before)) where
+  from_header : (P : Header → Type 0) → P into.header → FromArchive old (λ h before bytes stood. P h)
+  from_header P p = from_archive old old (λ h before bytes stood. IsTarget into h before) (λ h before bytes stood. P h) refl (λ c image. image) (λ h before bytes stood only is. subst P is.header p) told
 
-  file_cause : (c : Came) (r : Option Refusal) → HasCauseIn (logs_of seen) header old new c r → HasFileCause seen old new c r
+  full_of : (h : Header) (before : List JournalEntry) (book : Which) (count : ℕ) → IsTarget into h before → IsFullByGiven seen.content into.names into.header into.entries book count → IsFullByGiven seen.content into.names h before book count
+  full_of h before book count is full =
+      subst (λ (x : Header). (count ≡ limit_of (header_limits x) book) × ThereAreMore (λ t. Contains (book_texts book before) t ⊎ IsTextOf x.version (IsGiven seen.content x.version into.names) book t) count) is.header
+      (subst (λ (texts : List (List ℕ)). (count ≡ limit_of (header_limits into.header) book) × ThereAreMore (λ t. Contains texts t ⊎ IsTextOf into.header.version (IsGiven seen.content into.header.version into.names) book t) count) (is.texts book) full)
+
+  from_full : (book : Which) (count : ℕ) → IfTold into.told (IsFullByGiven seen.content into.names into.header into.entries book count) → FromArchive old (λ h before bytes stood. IsFullByGiven seen.content into.names h before book count)
+  from_full book count cause = from_archive old old (λ h before bytes stood. IsTarget into h before) (λ h before bytes stood. IsFullByGiven seen.content into.names h before book count) refl (λ c image. image)
+      (λ h before bytes stood only is. full_of h before book count is (of_told into.told is.told cause)) told
+
+  file_cause : (c : Came) (r : Option Refusal) → HasCauseIn (logs_of seen) into old new c r → HasFileCause into.names seen old new c r
   file_cause c None cause = cause
   file_cause c (Some Refusal.OpenFault) cause = cause
   file_cause c (Some Refusal.ReadFault) cause = cause
   file_cause c (Some (Refusal.LineTooLong line)) cause = cause
   file_cause c (Some Refusal.TooManyLines) cause = (cause.0, from_header (λ h. HasMoreThan most_messages h.version (seen.content c.name)) cause.1)
-  file_cause c (Some (Refusal.Full book count)) cause = cause
+  file_cause c (Some (Refusal.Full book count)) cause = from_full book count cause
   file_cause c (Some (Refusal.ArchiveFull end need)) cause = from_header (λ h. h.length_limit < end + need) cause
   file_cause c (Some Refusal.DiskFault) cause = cause
   file_cause c (Some Refusal.OutOfMemory) cause = cause
@@ -73,6 +103,6 @@ module _ (seen : Around) (old new : DiskState) (header : Header) (told : FromArc
   file_cause c (Some (Refusal.NameTooLong index)) cause = absurd cause
   file_cause c (Some (Refusal.TooManyFiles held more)) cause = absurd cause
 
-pub file_causes : (seen : Around) (old new : DiskState) (came : List Came) → HaveFileCauses (logs_of seen) old new came → All (CameOfFile seen old new) came
-file_causes seen old new came have =
-    All-weaker (CameIn (logs_of seen) have.header old new) (CameOfFile seen old new) (λ c is. record { cause = file_cause seen old new have.header have.told c c.refusal is.cause; part = is.part }) came have.each
+pub file_causes : (names : List (List ℕ)) (seen : Around) (old new : DiskState) (came : List Came) → map (λ (c : Came). c.name) came ≡ names → HaveFileCauses (logs_of seen) old new came → All (CameOfFile names seen old new) came
+file_causes names seen old new came named have = subst (λ ns. All (CameOfFile ns seen old new) came) (have.names ∙ named)
+    (All-weaker (CameIn (logs_of seen) have.into old new) (CameOfFile have.into.names seen old new) (λ c is. record { cause = file_cause seen old new have.into have.told c c.refusal is.cause; part = is.part }) came have.each)

@@ -192,7 +192,7 @@ pub record TakesLogs (number lines : ℕ) (seen : Around) (old new : DiskState) 
   pub came : List Came
   pub names_are : map (λ c. c.name) came ≡ generated_names
   pub disk : FromEmpty old (λ from bytes stood. TakesIn (generated number lines) default_header [] stood generated_names came from new)
-  pub each : All (CameOfFile (with_logs (generated number lines) seen) (as_made old) new) came
+  pub each : All (CameOfFile generated_names (with_logs (generated number lines) seen) (as_made old) new) came
   pub spared : All IsSpared came
   pub all : All IsTakenWhole came → IfSome old.seen (λ _. sum_by (λ c. c.messages) came ≡ 4 * lines)
   pub told : TellsParts came seen status ⊎ SumsUp came seen old new status

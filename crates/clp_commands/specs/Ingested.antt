@@ -15,6 +15,10 @@ use Rattle.archive_meaning.specs.Spelled.{end_of}
 use Rattle.archive_check.specs.Checked.{DamagedAt}
 use Rattle.archive_open.specs.Shown.{RefusedAt}
 use Rattle.disk_seal.specs.Registered.{files_size}
+use Rattle.row_codec.specs.declared.namer.Which.{Which}
+use Rattle.ingest_workers.specs.Causes.{limit_of}
+use Rattle.ingest_workers.specs.Full.{IsTextOf, ThereAreMore}
+use Rattle.ingest_workers.specs.Ingested.{book_texts, header_limits}
 use Rattle.message_reader.specs.Versions.{MessagesOf}
 use Rattle.sink_pieces.specs.Output.{Grew, GrewByFront}
 use Rattle.clp_commands.specs.Around.{Around}
@@ -112,23 +116,31 @@ abbrev pub HasMoreThan : ℕ → ℕ → Option (List ℕ) → Type 0
 HasMoreThan count version told =
     IfSome told (λ bytes. (messages : List (List ℕ)) (ended : Bool) → MessagesOf version bytes messages ended → count < length messages)
 
--- What a refusal that came of a file rests on. Want of memory is free.
-abbrev pub HasFileCause : Around → DiskState → DiskState → Came → Option Refusal → Type 0
-HasFileCause seen old new c None = c.whole ≡ true
-HasFileCause seen old new c (Some OpenFault) = RoseIn (seen.opens c.name) × (c.messages ≡ 0)
-HasFileCause seen old new c (Some ReadFault) = RoseIn (seen.reads c.name)
-HasFileCause seen old new c (Some (LineTooLong line)) = IfSome (seen.content c.name) (λ bytes. IsLong bytes line)
-HasFileCause seen old new c (Some TooManyLines) =
+-- the text is one of the book in the journal, or one of the encoding of a message of these files
+abbrev pub IsThereOrGiven : (List ℕ → Option (List ℕ)) → ℕ → List (List ℕ) → List JournalEntry → Which → List ℕ → Type 0
+IsThereOrGiven content version names es book text = Contains (book_texts book es) text ⊎ IsTextOf version (IsGiven content version names) book text
+
+-- a book may have so many texts, and the journal and these files have more
+abbrev pub IsFullByGiven : (List ℕ → Option (List ℕ)) → List (List ℕ) → Header → List JournalEntry → Which → ℕ → Type 0
+IsFullByGiven content names h es book count = (count ≡ limit_of (header_limits h) book) × ThereAreMore (IsThereOrGiven content h.version names es book) count
+
+-- What a refusal that came of a file rests on, where these files were given. Want of memory is free.
+abbrev pub HasFileCause : List (List ℕ) → Around → DiskState → DiskState → Came → Option Refusal → Type 0
+HasFileCause names seen old new c None = c.whole ≡ true
+HasFileCause names seen old new c (Some OpenFault) = RoseIn (seen.opens c.name) × (c.messages ≡ 0)
+HasFileCause names seen old new c (Some ReadFault) = RoseIn (seen.reads c.name)
+HasFileCause names seen old new c (Some (LineTooLong line)) = IfSome (seen.content c.name) (λ bytes. IsLong bytes line)
+HasFileCause names seen old new c (Some TooManyLines) =
     (c.messages ≡ most_messages) × FromArchive old (λ h before bytes stood. HasMoreThan most_messages h.version (seen.content c.name))
-HasFileCause seen old new c (Some (Full book count)) = Unit {0}
-HasFileCause seen old new c (Some (ArchiveFull end need)) = FromArchive old (λ h before bytes stood. h.length_limit < end + need)
-HasFileCause seen old new c (Some DiskFault) = Rose old.faults new.faults
-HasFileCause seen old new c (Some OutOfMemory) = Unit {0}
-HasFileCause seen old new c (Some _) = ⊥
+HasFileCause names seen old new c (Some (Full book count)) = FromArchive old (λ h before bytes stood. IsFullByGiven seen.content names h before book count)
+HasFileCause names seen old new c (Some (ArchiveFull end need)) = FromArchive old (λ h before bytes stood. h.length_limit < end + need)
+HasFileCause names seen old new c (Some DiskFault) = Rose old.faults new.faults
+HasFileCause names seen old new c (Some OutOfMemory) = Unit {0}
+HasFileCause names seen old new c (Some _) = ⊥
 
 -- A file is whole exactly where nothing was refused of it, and a refusal has its cause.
-pub record CameOfFile (seen : Around) (old new : DiskState) (c : Came) : Type 0 where
-  pub cause : HasFileCause seen old new c c.refusal
+pub record CameOfFile (names : List (List ℕ)) (seen : Around) (old new : DiskState) (c : Came) : Type 0 where
+  pub cause : HasFileCause names seen old new c c.refusal
   pub part : c.refusal ≢ None → c.whole ≡ false
 
 -- What a refusal of the whole call rests on.
@@ -180,7 +192,7 @@ pub record AddsFiles (names : List (List ℕ)) (seen : Around) (old new : DiskSt
 -- The same, and what came of each file has its cause.
 pub record TakesFiles (names : List (List ℕ)) (seen : Around) (old new : DiskState) (status : ℕ) : Type 0 where
   pub adds : AddsFiles names seen old new status
-  pub each : All (CameOfFile seen old new) adds.came
+  pub each : All (CameOfFile names seen old new) adds.came
 
 -- What `ingest` answers.
 abbrev pub AnswersIngest : List (List ℕ) → Around → DiskState → DiskState → ℕ → Type 0

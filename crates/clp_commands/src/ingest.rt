@@ -8,7 +8,7 @@ ghost use Rattle.clp_commands.specs.Going.{DiskGoesOn, OutsideGoesOn};
 ghost use Rattle.clp_commands.specs.Ingested.{AnswersIngest, FromArchive, HasCallCause, TakesIn, TakesNothing};
 ghost use Rattle.clp_commands.specs.IngestPrints.{came_of, names_of};
 ghost use Rattle.clp_commands.specs.Jobs.{IsNotBegun, IsToldBy, opens_of, refusal_by, sources_of};
-ghost use Rattle.clp_commands.specs.StepsCauses.{CameIn, HaveFileCauses, logs_around};
+ghost use Rattle.clp_commands.specs.StepsCauses.{CameIn, HaveFileCauses, into_journal, logs_around};
 ghost use Rattle.clp_commands.specs.Leaves.{TakesInto};
 ghost use Rattle.clp_commands.specs.Names.{RefusesNames};
 ghost use Rattle.clp_commands.specs.Naming.{AreNumbered, HasGoneOn, IsNamed};
@@ -204,7 +204,8 @@ where
         (D.state result.disk.now) }
     ensures causes { All (CameIn
         (logs_around H.content H.open_faults H.read_faults shelf.old shelf.new)
-        journal.entry.header (state_of journal.entry).disk (D.state result.disk.now))
+        (into_journal (state_of journal.entry) (map str_bytes asked.entry.files.now))
+        (state_of journal.entry).disk (D.state result.disk.now))
         (map came_of taken.new.items) }
 
     // the logs

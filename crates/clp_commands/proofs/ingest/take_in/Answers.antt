@@ -5,7 +5,7 @@ use Rattle.disk_journal.specs.declared.journal.Journal.{Journal}
 use Rattle.disk_journal.specs.Journal.{state_of}
 use Rattle.clp_commands.specs.IngestPrints.{came_of}
 use Rattle.clp_commands.specs.Jobs.{IsToldBy, opens_of, sources_of}
-use Rattle.clp_commands.specs.StepsCauses.{CameIn, logs_around}
+use Rattle.clp_commands.specs.StepsCauses.{CameIn, into_journal, logs_around}
 use Rattle.clp_commands.specs.Leaves.{TakesInto}
 use Rattle.clp_commands.specs.Naming.{AreNumbered}
 use Rattle.clp_commands.specs.declared.taken.TakenFile.{TakenFile}
@@ -14,7 +14,7 @@ use Rattle.clp_commands.proofs.JobLemmas.{are_new, as_it_was_goes_on, as_many, i
 use Rattle.clp_commands.proofs.PopLemmas.{lent_back, told_back}
 use Rattle.clp_commands.proofs.CameLemmas.{names_came}
 use Rattle.clp_commands.proofs.FileCauseLemmas.{all_done, all_refused, all_unbegun}
-use Rattle.clp_commands.proofs.TakeInLemmas.{came_of_log, done_takes_into, none_takes_into, refused_takes_into}
+use Rattle.clp_commands.proofs.TakeInLemmas.{are_jobs_of, came_of_log, done_takes_into, none_takes_into, refused_takes_into}
 use Rattle.clp_commands.proofs.ingest.take_in.Goals.{in-Ok-ingest, in-Err}
 use Rattle.clp_commands.proofs.ingest.take_in.Goals as goal
 
@@ -121,18 +121,20 @@ returns-clause-causes g c =
     let opens_later : (n : List ℕ) → g.H.Shelf.open_faults c.open_logs.new.shelf n ≤ g.H.Shelf.open_faults c.close_logs.new.shelf n = λ n. omega (arith, c.close_logs.ensures.opens n) in
     let reads_sooner : (n : List ℕ) → g.H.Shelf.read_faults c.args.shelf.now n ≤ g.H.Shelf.read_faults c.open_logs.new.shelf n = λ n. omega (arith, c.open_logs.ensures.reads n) in
     let reads_later : (n : List ℕ) → g.H.Shelf.read_faults c.close_logs.new.shelf n ≤ g.H.Shelf.read_faults c.close_logs.new.shelf n = λ n. omega arith in
+    let of = are_jobs_of g.H.Src.Source.left g.H.Src.Source.name g.H.Src.Source.faults (g.H.Shelf.content c.args.shelf.now) (g.H.Shelf.open_faults c.args.shelf.now) (g.H.Shelf.open_faults c.open_logs.new.shelf)
+    (map str_bytes c.args.asked.files.now) c.in-Ok-open_logs.sources.items c.in-Ok-open_logs.ensures.came c.args.named.first c.as_mut_slice.result.now sourced opening numbered c.args.journal.header.version in
     elim c.match-ingest.branch [
-      | in-Ok-ingest w ↦ subst (λ (x : Journal _ _). All (CameIn logs c.args.journal.header (state_of c.args.journal).disk (g.D.Disk.state x.disk.now)) (map came_of c.end_jobs.new.taken.items)) (sym w.journal-is)
+      | in-Ok-ingest w ↦ subst (λ (x : Journal _ _). All (CameIn logs (into_journal (state_of c.args.journal) (map str_bytes c.args.asked.files.now)) (state_of c.args.journal).disk (g.D.Disk.state x.disk.now)) (map came_of c.end_jobs.new.taken.items)) (sym w.journal-is)
           (all_done g.H.Src.Source.left g.H.Src.Source.name g.H.Src.Source.faults logs (g.H.Shelf.open_faults c.open_logs.new.shelf) (g.H.Shelf.read_faults c.open_logs.new.shelf) (g.H.Shelf.read_faults c.close_logs.new.shelf) opens_later reads_sooner reads_later
-          c.args.journal _ c.as_mut_slice.result.now c.ingest.new.jobs (map came_of c.end_jobs.new.taken.items) (came_of_log g.H.Src.Source.left g.H.Src.Source.name g.H.Src.Source.faults (g.H.Shelf.content c.args.shelf.now) (g.H.Shelf.open_faults c.args.shelf.now) (g.H.Shelf.open_faults c.open_logs.new.shelf)
+          c.args.journal _ (map str_bytes c.args.asked.files.now) c.args.asked.segment c.args.named.first c.as_mut_slice.result.now c.ingest.new.jobs of (map came_of c.end_jobs.new.taken.items) (came_of_log g.H.Src.Source.left g.H.Src.Source.name g.H.Src.Source.faults (g.H.Shelf.content c.args.shelf.now) (g.H.Shelf.open_faults c.args.shelf.now) (g.H.Shelf.open_faults c.open_logs.new.shelf)
           (map str_bytes c.args.asked.files.now) c.in-Ok-open_logs.sources.items c.in-Ok-open_logs.ensures.came c.args.named.first c.as_mut_slice.result.now sourced opening numbered c.as_slice.result.now openings
           c.ingest.new.jobs c.end_jobs.new.taken.items c.end_jobs.ensures.names
           (told_back (λ (jobs : List (Job _)) (i : ℕ) (file : TakenFile). IsToldBy c.as_slice.result.now jobs i file) c.end_jobs.new.taken.items c.begin_jobs.new.jobs.len c.ingest.new.jobs _ (omega (arith, w.in-Ok-ingest.ensures.done.stored.counted, ap length is, c.begin_jobs.new.jobs.ok.0)) c.end_jobs.ensures.told))
-          c.args.asked.segment w.in-Ok-ingest.ensures.done.store w.in-Ok-ingest.ensures.done.stored w.in-Ok-ingest.ensures.causes c.end_jobs.new.sources.items
+          w.in-Ok-ingest.ensures.done.store w.in-Ok-ingest.ensures.done.stored w.in-Ok-ingest.ensures.causes c.end_jobs.new.sources.items
           (c.end_jobs.ensures.sources ∙ ap sources_of (lent_back c.begin_jobs.new.jobs.len c.ingest.new.jobs _ (omega (arith, w.in-Ok-ingest.ensures.done.stored.counted, ap length is, c.begin_jobs.new.jobs.ok.0)))) c.close_logs.ensures.counted)
-      | in-Err w ↦ subst (λ (x : Journal _ _). All (CameIn logs c.args.journal.header (state_of c.args.journal).disk (g.D.Disk.state x.disk.now)) (map came_of c.end_jobs.new.taken.items)) (sym w.journal-is)
+      | in-Err w ↦ subst (λ (x : Journal _ _). All (CameIn logs (into_journal (state_of c.args.journal) (map str_bytes c.args.asked.files.now)) (state_of c.args.journal).disk (g.D.Disk.state x.disk.now)) (map came_of c.end_jobs.new.taken.items)) (sym w.journal-is)
           (all_refused g.H.Src.Source.left g.H.Src.Source.name g.H.Src.Source.faults logs (g.H.Shelf.open_faults c.open_logs.new.shelf) (g.H.Shelf.read_faults c.open_logs.new.shelf) (g.H.Shelf.read_faults c.close_logs.new.shelf) opens_later reads_sooner reads_later
-          c.args.journal _ c.as_mut_slice.result.now c.ingest.new.jobs (map came_of c.end_jobs.new.taken.items) (came_of_log g.H.Src.Source.left g.H.Src.Source.name g.H.Src.Source.faults (g.H.Shelf.content c.args.shelf.now) (g.H.Shelf.open_faults c.args.shelf.now) (g.H.Shelf.open_faults c.open_logs.new.shelf)
+          c.args.journal _ (map str_bytes c.args.asked.files.now) c.args.asked.segment c.args.named.first c.as_mut_slice.result.now c.ingest.new.jobs of (map came_of c.end_jobs.new.taken.items) (came_of_log g.H.Src.Source.left g.H.Src.Source.name g.H.Src.Source.faults (g.H.Shelf.content c.args.shelf.now) (g.H.Shelf.open_faults c.args.shelf.now) (g.H.Shelf.open_faults c.open_logs.new.shelf)
           (map str_bytes c.args.asked.files.now) c.in-Ok-open_logs.sources.items c.in-Ok-open_logs.ensures.came c.args.named.first c.as_mut_slice.result.now sourced opening numbered c.as_slice.result.now openings
           c.ingest.new.jobs c.end_jobs.new.taken.items c.end_jobs.ensures.names
           (told_back (λ (jobs : List (Job _)) (i : ℕ) (file : TakenFile). IsToldBy c.as_slice.result.now jobs i file) c.end_jobs.new.taken.items c.begin_jobs.new.jobs.len c.ingest.new.jobs _ (omega (arith, w.in-Err.ensures.jobs.counted, ap length is, c.begin_jobs.new.jobs.ok.0)) c.end_jobs.ensures.told)) w.in-Err.ensures.refused w.in-Err.ensures.jobs)
