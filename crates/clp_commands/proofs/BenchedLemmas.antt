@@ -15,7 +15,7 @@ use Rattle.disk_journal.specs.declared.refusals.CreateRefusal.{CreateRefusal}
 use Rattle.disk_journal.specs.declared.refusals.CreateRefusal.TheVariants.{DiskFault as CreateDiskFault, NotEmpty as CreateNotEmpty}
 use Rattle.generated_logs.specs.Logs.{content_of as generated}
 use Rattle.clp_commands.specs.Around.{Around}
-use Rattle.clp_commands.specs.Benched.{AnswersBench, EndsBench, FromEmpty, HasLogsCause, IsSpared, IsTakenWhole, MayRefuseLog, MeetsNoLimit, MetNoLimit, PrintsSummary, RefusesLogs, RefusesMaking, SumsUp, SumsUpAll, TakesLogs, TellsParts, TellsSummary, as_made, at_moment, default_header, generated_names, with_logs}
+use Rattle.clp_commands.specs.Benched.{AnswersBench, EndsBench, FromEmpty, HasLogsCause, IsSpared, IsTakenWhole, MayRefuseLog, MeetsNoLimit, MetNoLimit, PrintsSummary, RefusesLogs, RefusesMaking, SumsUp, SumsUpAll, TakesLogs, TellsParts, TellsSummary, as_made, at_moment, default_header, generated_names, with_logs, generated_names}
 use Rattle.clp_commands.specs.Ending.{EndsWith, RoseIn}
 use Rattle.clp_commands.specs.Ingested.{Came, CameOfFile, HasFileCause, StandsForEither, TakesIn}
 use Rattle.clp_commands.specs.Outcome.{answer_of, of_read}
@@ -141,7 +141,7 @@ module _ (number lines : ℕ) (seen : Around) (old new : DiskState) (status : �
 
   logs_taken : ¬ Rose old.faults new.faults → ¬ RoseIn seen.out_faults → All (λ (c : Came). MeetsNoLimit c.refusal) takes.came → TellsParts takes.came seen status ⊎ SumsUp takes.came seen old new status → SumsUpAll lines seen new status
   logs_taken steady sent met (inl parts) =
-      inr (parts.status_is ∙ parts_free takes.came (all_free (with_logs (generated number lines) seen) (as_made old) new takes.came takes.each takes.spared met steady) parts.part)
+      inr (parts.status_is ∙ parts_free takes.came (all_free generated_names (with_logs (generated number lines) seen) (as_made old) new takes.came takes.each takes.spared met steady) parts.part)
   logs_taken steady sent met (inr sums) =
       let same : sum_by (λ (c : Came). c.messages) takes.came ≡ 4 * lines = subst (λ (o : Option (List ℕ)). IfSome o (λ _. sum_by (λ (c : Came). c.messages) takes.came ≡ 4 * lines)) none (takes.all sums.whole) in
       sums_complete lines seen old new status _ steady sent same sums.answer sums.ends sums.prints sums.disk sums.sink (λ at e. none_damaged (sums.damaged at e))
