@@ -15,7 +15,7 @@ use Rattle.disk_journal.specs.declared.refusals.CreateRefusal.{CreateRefusal}
 use Rattle.disk_journal.specs.declared.refusals.CreateRefusal.TheVariants.{DiskFault as CreateDiskFault, NotEmpty as CreateNotEmpty}
 use Rattle.generated_logs.specs.Logs.{content_of as generated}
 use Rattle.clp_commands.specs.Around.{Around}
-use Rattle.clp_commands.specs.Benched.{AnswersBench, EndsBench, FromEmpty, HasLogsCause, IsSpared, IsTakenWhole, MayRefuseLog, MeetsNoLimit, MetNoLimit, PrintsSummary, RefusesLogs, RefusesMaking, SumsUp, SumsUpAll, TakesLogs, TellsParts, TellsSummary, as_made, at_moment, default_header, generated_names, with_logs, generated_names}
+use Rattle.clp_commands.specs.Benched.{AnswersBench, EndsBench, FromEmpty, HasLogsCause, IsSpared, IsTakenWhole, MayRefuseLog, MeetsNoLimit, MetNoLimit, PrintsSummary, RefusesLogs, RefusesMaking, SumsUp, SumsUpAll, TakesLogs, TellsParts, TellsSummary, as_made, at_moment, default_header, generated_names, with_logs}
 use Rattle.clp_commands.specs.Ending.{EndsWith, RoseIn}
 use Rattle.clp_commands.specs.Ingested.{Came, CameOfFile, HasFileCause, StandsForEither, TakesIn}
 use Rattle.clp_commands.specs.Outcome.{answer_of, of_read}
