@@ -41,14 +41,15 @@ fn learn<'b>(passes: BookPasses<'b>, notes: Option<Notes<'_>>) -> BookPasses<'b>
     ensures only { HaveOnlySeen passes.entry result }
     ensures seen { IfSome notes.entry (HaveSeen result) }
 {
+    let Some(notes) = notes else {
+        return passes;
+    };
     let BookPasses {
         mut types,
         mut words,
     } = passes;
-    if let Some(notes) = notes {
-        types.join(notes.types);
-        words.join(notes.words);
-    }
+    types.join(notes.types);
+    words.join(notes.words);
     BookPasses { types, words }
 }
 

@@ -19,11 +19,7 @@ impl<'b> BookPasses<'b> {
     ghost use Rattle.dict_lock.specs.Cached.{pass_in};
 
     /// Two passes that have named nothing yet. Takes no memory.
-    pub(crate) fn new(
-        alloc: Global,
-        types: Pass<'b, Book>,
-        words: Pass<'b, Book>,
-    ) -> BookPasses<'b>
+    pub(crate) fn new(alloc: Global, types: Pass<'b, Book>, words: Pass<'b, Book>) -> BookPasses<'b>
         requires types { IsReady types }
         requires words { IsReady words }
         ensures types { pass_in result.types ≡ types.entry }

@@ -32,6 +32,6 @@ pub returns-clause-may : goal.returns-clause-may
 returns-clause-may g c = let out = c.into_caches-types.ensures in record {
   types_ready = c.into_caches-types.result.types.ready;
   words_ready = c.into_caches-types.result.words.ready;
-  adds_types = subst (λ p. number_of (pass_in p) < WORDS_FIRST) (sym out.types) c.run_job.new.namer.adds_types;
-  adds_words = subst (λ p. WORDS_FIRST < number_of (pass_in p)) (sym out.words) c.run_job.new.namer.adds_words;
+  adds_types = subst (λ p. number_of (pass_in p) < WORDS_FIRST) (sym out.types) c.notes-notes.new.self.adds_types;
+  adds_words = subst (λ p. WORDS_FIRST < number_of (pass_in p)) (sym out.words) c.notes-notes.new.self.adds_words;
 }
