@@ -71,7 +71,7 @@ names_then version P b c d one two = record {
   words = adds_then _ (pass_in b.words) (pass_in c.words) (pass_in d.words) one.words two.words;
 }
 
-or_these : BookPasses → Option BookPasses → BookPasses
+abbrev or_these : BookPasses → Option BookPasses → BookPasses
 or_these c None = c
 or_these c (Some b) = b
 
