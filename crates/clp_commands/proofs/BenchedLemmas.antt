@@ -7,7 +7,7 @@ use Rattle.log_seams.specs.Disk.{DiskState}
 use Rattle.log_seams.specs.Outside.{CountsOf, Rose}
 use Rattle.sink_pieces.specs.Output.{Grew}
 use Rattle.record_format.specs.declared.header.Header.{Header}
-use Rattle.archive_decode.specs.Decoded.{StandsForNone}
+use Rattle.archive_open.specs.Shown.{RefusedAt}
 use Rattle.archive_meaning.specs.Stands.{StandsFor}
 use Rattle.archive_meaning.specs.declared.entry.JournalEntry.{JournalEntry}
 use Rattle.disk_journal.specs.Created.{CreateLeaves}
@@ -124,27 +124,27 @@ module _ (lines : ℕ) (seen : Around) (old new : DiskState) (status messages : 
   sums_complete (Err ReadOutOfMemory) ends prints disk sink damaged = inr ends.status_is
 
 -- bytes that stand for a journal, or for it and one record more, stand for some
-stands : (h : Header) (es tail : List JournalEntry) (now : Option (List ℕ)) → is_some now ≡ true → IfSome now (StandsForEither h es tail) → IfSome now StandsForNone → ⊥
-stands h es tail None told reads none = absurd (cc (told))
-stands h es tail (Some bytes) told (inl stood) none = none h es stood
-stands h es tail (Some bytes) told (inr stood) none = none h (es ++ tail) stood
+stands : (h : Header) (es tail : List JournalEntry) (at : ℕ) (now : Option (List ℕ)) → is_some now ≡ true → IfSome now (StandsForEither h es tail) → RefusedAt at now → ⊥
+stands h es tail at None told reads refused = absurd (cc (told))
+stands h es tail at (Some bytes) told (inl stood) refused = refused.none h es stood
+stands h es tail at (Some bytes) told (inr stood) refused = refused.none h (es ++ tail) stood
 
 module _ (number lines : ℕ) (seen : Around) (old new : DiskState) (status : ℕ) (takes : TakesLogs number lines seen old new status) (told : is_some new.seen ≡ is_some old.seen) (none : old.seen ≡ Some []) where
   abbrev Leaves : DiskState → (bytes : List ℕ) → StandsFor bytes default_header [] → Type 0
   Leaves from bytes stood = TakesIn (generated number lines) default_header [] stood generated_names takes.came from new
 
-  none_damaged : IfSome new.seen StandsForNone → ⊥
-  none_damaged damaged =
+  none_damaged : (at : ℕ) → RefusedAt at new.seen → ⊥
+  none_damaged at damaged =
       let from = subst (λ (o : Option (List ℕ)). IfSome o (λ was. (was ≡ []) × ((t : ℕ) × (old.clock ≤ t) × ((bytes : List ℕ) × ((stood : StandsFor bytes default_header []) × Leaves (at_moment t old) bytes stood))))) none takes.disk in
       let leaves = from.1.2.1.1.leaves in
-      stands default_header _ leaves.tail new.seen (told ∙ ap is_some none) leaves.reads damaged
+      stands default_header _ leaves.tail at new.seen (told ∙ ap is_some none) leaves.reads damaged
 
   logs_taken : ¬ Rose old.faults new.faults → ¬ RoseIn seen.out_faults → All (λ (c : Came). MeetsNoLimit c.refusal) takes.came → TellsParts takes.came seen status ⊎ SumsUp takes.came seen old new status → SumsUpAll lines seen new status
   logs_taken steady sent met (inl parts) =
       inr (parts.status_is ∙ parts_free takes.came (all_free generated_names (with_logs (generated number lines) seen) (as_made old) new takes.came takes.each takes.spared met steady) parts.part)
   logs_taken steady sent met (inr sums) =
       let same : sum_by (λ (c : Came). c.messages) takes.came ≡ 4 * lines = subst (λ (o : Option (List ℕ)). IfSome o (λ _. sum_by (λ (c : Came). c.messages) takes.came ≡ 4 * lines)) none (takes.all sums.whole) in
-      sums_complete lines seen old new status _ steady sent same sums.answer sums.ends sums.prints sums.disk sums.sink (λ at e. none_damaged (sums.damaged at e))
+      sums_complete lines seen old new status _ steady sent same sums.answer sums.ends sums.prints sums.disk sums.sink (λ at e. none_damaged at (sums.damaged at e))
 
 complete : (number lines : ℕ) (seen : Around) (old new : DiskState) (status : ℕ) → is_some new.seen ≡ is_some old.seen → (ends : EndsBench number lines seen old new status) → old.seen ≡ Some [] → ¬ Rose old.faults new.faults → ¬ RoseIn seen.out_faults → MetNoLimit ends
     → SumsUpAll lines seen new status
