@@ -100,7 +100,7 @@ read_all bytes count texts rest read len e =
     ∙ ap (λ (n : ℕ). four_bytes n ++ flat_map text_bytes texts) (sym len)
 
 -- what follows if the bytes spell a list
-read_front : (bytes : List ℕ) (count : ℕ) (texts all : List (List ℕ)) (rest : List ℕ) → IsReadTo bytes count texts rest → count < 2 ^ 32 → length texts ≤ count → AreTexts all
+pub read_front : (bytes : List ℕ) (count : ℕ) (texts all : List (List ℕ)) (rest : List ℕ) → IsReadTo bytes count texts rest → count < 2 ^ 32 → length texts ≤ count → AreTexts all
     → bytes ≡ list_bytes all → (length all ≡ count) × ((others : List (List ℕ)) × (all ≡ texts ++ others) × (rest ≡ flat_map text_bytes others))
 read_front bytes count texts all rest read lt le are e =
     let found = same_number count (length all) (flat_map text_bytes texts ++ rest) (flat_map text_bytes all) lt are.count (sym read.parts ∙ e) in
@@ -178,6 +178,11 @@ no_text_long bytes len rest parts lt less t after fits e =
 pub no_first : (bytes : List ℕ) → length bytes < 4 → (first : ℕ) (texts : List (List ℕ)) → bytes ≢ texts_payload first texts
 no_first bytes less first texts e =
     absurd (omega (arith, ap (λ (l : List ℕ). length l) e, length-append (four_bytes first) (list_bytes texts), length-four_bytes first, less))
+
+-- texts need eight bytes for that number and their count
+pub no_front : (bytes : List ℕ) → length bytes < 8 → (first : ℕ) (texts : List (List ℕ)) → bytes ≢ texts_payload first texts
+no_front bytes less first texts e =
+    absurd (omega (arith, ap (λ (l : List ℕ). length l) e, length-append (four_bytes first) (list_bytes texts), length-four_bytes first, length-append (four_bytes (length texts)) (flat_map text_bytes texts), length-four_bytes (length texts), less))
 
 -- texts need a list behind that number
 pub not_behind_first : (bytes : List ℕ) (n : ℕ) (rest : List ℕ) → bytes ≡ four_bytes n ++ rest → n < 2 ^ 32 → ((all : List (List ℕ)) → AreTexts all → rest ≢ list_bytes all)

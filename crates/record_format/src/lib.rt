@@ -17,6 +17,6 @@ pub use header::{
     read_header, write_header,
 };
 pub use laws::{files_are_unique, headers_are_unique, texts_are_unique};
-pub use list::room_for;
+pub use list::{next_text, room_for};
 pub use refusal::FormatRefusal;
-pub use texts::{Texts, read_texts, write_texts};
+pub use texts::{Texts, TextsFront, read_texts, texts_front, write_texts};

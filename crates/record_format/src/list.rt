@@ -30,8 +30,9 @@ pub fn number_at(bytes: &[u8]) -> Option<(u32, &[u8])>
     Some((LittleEndian::read_u32(front), rest))
 }
 
-/// The text that the bytes begin with, and the bytes after it.
-fn text_at(bytes: &[u8]) -> Option<(&[u8], &[u8])>
+/// The text that the bytes begin with, and the bytes after it: the next step of a walk along the
+/// texts of a payload. `None` where no text stands in front, whatever follows it. Takes no memory.
+pub fn next_text(bytes: &[u8]) -> Option<(&[u8], &[u8])>
     ensures fits { IfSome result (λ x. length x.0.now < 2 ^ 32) }
     ensures some { IfSome result (λ x. bytes.now ≡ text_bytes x.0.now ++ x.1.now) }
     ensures none { IsNone result → (t rest : List ℕ) → length t < 2 ^ 32
@@ -86,7 +87,7 @@ pub fn list_of(alloc: Global, bytes: &[u8]) -> Result<TextList, FormatRefusal>
     }
     let mut texts = Vec::with_capacity(alloc, count as usize)?;
     for _ in 0..count {
-        let Some((text, after)) = text_at(rest) else {
+        let Some((text, after)) = next_text(rest) else {
             return Err(FormatRefusal::Malformed);
         };
         texts.push_reserved(Text::new(Vec::from_slice(alloc, text)?));

@@ -1,7 +1,7 @@
 //! The records of types and of words: texts that a dictionary has numbered one after the other.
 
-ghost use Rattle.std.specs.Prelude.{◌≡◌, ◌≢◌, ◌<◌, ◌^◌, ℕ, List, IfOk, IsErrOf};
-ghost use Rattle.record_format.specs.Lists.{texts_payload, AreTexts};
+ghost use Rattle.std.specs.Prelude.{◌≡◌, ◌≢◌, ◌<◌, ◌++◌, ◌^◌, ℕ, List, length, IfSome, IsNone, IfOk, IsErrOf};
+ghost use Rattle.record_format.specs.Lists.{four_bytes, texts_payload, AreTexts};
 
 use crate::list::{list_of, number_at, put_list, put_number, room_for};
 use crate::refusal::FormatRefusal;
@@ -15,6 +15,32 @@ pub struct Texts {
     pub first: u32,
     /// The texts, in the order of their numbers.
     pub texts: TextList,
+}
+
+/// What stands before the texts of a record of types or of words, and the bytes behind it.
+#[derive(Clone, Copy, Debug)]
+pub struct TextsFront<'p> {
+    /// The number of the first text.
+    pub first: u32,
+    /// How many texts there are to be.
+    pub count: u32,
+    /// The bytes of the texts, one after the other: [`next_text`](crate::next_text) walks them.
+    pub rest: &'p [u8],
+}
+
+/// The front of the payload of a record of types or of words. A walk of `count` steps by
+/// [`next_text`](crate::next_text) that leaves no bytes gives the texts. The payload spells none
+/// where a step gives `None`, or bytes are left. Takes no memory.
+pub fn texts_front(payload: &[u8]) -> Option<TextsFront<'_>>
+    ensures first { IfSome result (λ front. front.first < 2 ^ 32) }
+    ensures count { IfSome result (λ front. front.count < 2 ^ 32) }
+    ensures some { IfSome result (λ front. payload.now
+        ≡ four_bytes front.first ++ (four_bytes front.count ++ front.rest.now)) }
+    ensures none { IsNone result → length payload.now < 8 }
+{
+    let (first, rest) = number_at(payload)?;
+    let (count, rest) = number_at(rest)?;
+    Some(TextsFront { first, count, rest })
 }
 
 /// The payload of a record of types or of words: the number of the first text, the count of
