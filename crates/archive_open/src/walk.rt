@@ -1,7 +1,7 @@
 //! The walk along an archive's records, and what is kept of each.
 ghost use Rattle.std.specs.Prelude.{◌≡◌, ◌≢◌, ◌≤◌, ◌<◌, ◌+◌, ◌⊎◌, ◌∷◌, [], ◌++◌, ◌^◌, ℕ, List, length, map, IfOk, OnOk, IsTrue, IsFalse, IsErrOf, IsNone};
 ghost use Rattle.log_seams.specs.Outside.{CountsOf};
-ghost use Rattle.record_format.specs.Lists.{AreTexts, files_payload, texts_payload};
+ghost use Rattle.record_format.specs.Lists.{AreTexts, files_payload, four_bytes, list_bytes, texts_payload};
 ghost use Rattle.disk_journal.specs.Calls.{StaysAt};
 ghost use Rattle.disk_journal.specs.Journal.{state_of};
 ghost use Rattle.archive_open.specs.Kept.{MayHold, limit_of, texts_of, with_texts};
@@ -14,8 +14,8 @@ use crate::keeps::KeepsTexts;
 use crate::refusal::ArchiveRefusal;
 use crate::segments::{SegmentPlace, add_segment, load_head};
 use disk_journal::{Journal, RecordPlace};
-use log_seams::{Disk, Text};
-use record_format::{FormatRefusal, read_files, read_texts};
+use log_seams::Disk;
+use record_format::{FormatRefusal, next_text, read_files, texts_front};
 use row_codec::Which;
 use std::alloc::{AllocError, Global};
 
@@ -57,35 +57,40 @@ fn keep_names(alloc: Global, files: &mut Vec<FileEntry>, payload: &[u8]) -> Resu
     }
 }
 
-// Adds the texts behind those of a dictionary, and tells whether it may have them.
+// Adds texts behind those of a dictionary, each straight from the bytes. Tells whether these are so
+// many texts and no more, and it may have them. Where not, some may have been added.
 fn add_texts<K: KeepsTexts + Drop>(
     names: &mut K,
     kind: Which,
-    first: u32,
-    texts: &[Text],
+    count: u32,
+    bytes: &[u8],
 ) -> Result<bool, AllocError>
     ensures added { IfOk result (λ yes. IsTrue yes
-        → K.kept names.new ≡ with_texts kind texts.now (K.kept names.old)) }
+        → (texts : List (List ℕ)) × AreTexts texts
+        × (four_bytes count ++ bytes.now ≡ list_bytes texts)
+        × (K.kept names.new ≡ with_texts kind texts (K.kept names.old))) }
     ensures refused { IfOk result (λ yes. IsFalse yes
-        → first ≡ length (texts_of kind (K.kept names.old))
+        → (texts : List (List ℕ)) → AreTexts texts
+        → four_bytes count ++ bytes.now ≡ list_bytes texts
         → ¬ MayHold (limit_of kind (K.kept names.old))
-        (texts_of kind (K.kept names.old) ++ texts.now)) }
+        (texts_of kind (K.kept names.old) ++ texts)) }
 {
-    if first != names.count(kind) {
-        return Ok(false);
-    }
-    for text in texts {
-        if !names.add(kind, text.as_slice())? {
+    let mut rest = bytes;
+    for _ in 0..count {
+        let Some((text, after)) = next_text(rest) else {
+            return Ok(false);
+        };
+        if !names.add(kind, text)? {
             return Ok(false);
         }
+        rest = after;
     }
-    Ok(true)
+    Ok(rest.is_empty())
 }
 
 // Keeps texts of a dictionary, and tells whether the payload has such, and the dictionary may have
 // them.
 fn keep_texts<K: KeepsTexts + Drop>(
-    alloc: Global,
     names: &mut K,
     kind: Which,
     payload: &[u8],
@@ -101,11 +106,13 @@ fn keep_texts<K: KeepsTexts + Drop>(
         → ¬ MayHold (limit_of kind (K.kept names.old))
         (texts_of kind (K.kept names.old) ++ texts)) }
 {
-    match read_texts(alloc, payload) {
-        Ok(read) => add_texts(names, kind, read.first, read.texts.as_slice()),
-        Err(FormatRefusal::Malformed) => Ok(false),
-        Err(FormatRefusal::OutOfMemory) => Err(AllocError),
+    let Some(front) = texts_front(payload) else {
+        return Ok(false);
+    };
+    if front.first != names.count(kind) {
+        return Ok(false);
     }
+    add_texts(names, kind, front.count, front.rest)
 }
 
 // Keeps what a record that is no segment has, and tells whether it may follow.
@@ -124,8 +131,8 @@ fn keep_listed<K: KeepsTexts + Drop>(
 {
     match kind {
         FILES => keep_names(alloc, &mut opening.files, payload),
-        TYPES => keep_texts(alloc, &mut opening.names, Which::Types, payload),
-        WORDS => keep_texts(alloc, &mut opening.names, Which::Words, payload),
+        TYPES => keep_texts(&mut opening.names, Which::Types, payload),
+        WORDS => keep_texts(&mut opening.names, Which::Words, payload),
         _ => Ok(false),
     }
 }

@@ -169,6 +169,45 @@ fn texts_by_one_off(rt: HostRuntime) {
     );
 }
 
+/// Whether a walk along the payload gives the first number, and texts with these bytes together.
+fn walks_to(payload: &[u8], first: u32, joined: &[u8]) -> bool {
+    let Some(front) = texts_front(payload) else {
+        return false;
+    };
+    let mut rest = front.rest;
+    let mut left = joined;
+    for _ in 0..front.count {
+        let Some((text, after)) = next_text(rest) else {
+            return false;
+        };
+        let Some(behind) = left.strip_prefix(text) else {
+            return false;
+        };
+        left = behind;
+        rest = after;
+    }
+    front.first == first && rest.is_empty() && left.is_empty()
+}
+
+/// A payload, the number of its first text, and the bytes of its texts.
+const WALKS: &[(&[u8], u32, &[u8])] = &[
+    // those of `TYPES` and `WORDS`
+    (b"\0\0\0\0\x01\0\0\0\x01\0\0\0a", 0, b"a"),
+    (b"\x02\x01\0\0\x02\0\0\0\x02\0\0\0x1\0\0\0\0", 258, b"x1"),
+    // no texts
+    (b"\0\0\0\0\0\0\0\0", 0, b""),
+];
+
+#[test]
+fn walks(rt: HostRuntime) {
+    for &(payload, first, joined) in WALKS {
+        assert!(rt; walks_to(payload, first, joined), "{payload:?}");
+    }
+    for &payload in TEXTS_BY_ONE_OFF {
+        assert!(rt; !walks_to(payload, 0, b"a"), "{payload:?}");
+    }
+}
+
 #[test]
 fn laws_hold() {
     headers_are_unique();

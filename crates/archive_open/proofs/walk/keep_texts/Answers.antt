@@ -1,9 +1,24 @@
-use Rattle.std.proofs.Common.{rules}
+use Rattle.std.proofs.Common.{rules, ◌++◌, ◌∙◌, ap}
 use Rattle.std.proofs.lemmas.Result.{IfOk-weaker}
-use Rattle.archive_open.proofs.KeptLemmas.{read_refused}
+use Rattle.record_format.specs.Lists.{four_bytes}
+use Rattle.record_format.proofs.ListLemmas.{no_front}
+use Rattle.archive_open.proofs.KeptLemmas.{list_behind, other_first}
 use Rattle.archive_open.proofs.walk.keep_texts.Goals as goal
 
-pub returns-in-Ok-clause-refused : goal.returns-in-Ok-clause-refused
-returns-in-Ok-clause-refused g c =
-    IfOk-weaker c.add_texts.result _ _ (λ yes r no. read_refused c.args.kind (g.K.KeepsTexts.kept c.args.names.now) c.args.payload.now c.in-Ok.read.first c.as_slice.result.now
-    (search rules) (search rules) (search rules) (r no)) c.add_texts.ensures.refused
+pub returns-in_default-clause-refused : goal.returns-in_default-clause-refused
+returns-in_default-clause-refused g c = λ no first texts fits are is same may. no_front c.args.payload.now (c.in_default.ensures.none (search rules)) first texts is
+
+pub returns-then-front-count-clause-refused : goal.returns-then-front-count-clause-refused
+returns-then-front-count-clause-refused g c = λ no n texts fits are is same may.
+    other_first c.args.payload.now c.in-Some.front.first (four_bytes c.in-Some.front.count ++ c.in-Some.front.rest.now) _ c.in-Some.ensures.some c.in-Some.ensures.first (search rules) n texts fits is same
+
+pub returns-clause-kept : goal.returns-clause-kept
+returns-clause-kept g c =
+    IfOk-weaker c.add_texts.result _ _ (λ yes r is.
+    let added = r is in
+    (c.in-Some.front.first, (added.0, c.in-Some.ensures.first, added.1, c.in-Some.ensures.some ∙ ap (λ l. four_bytes c.in-Some.front.first ++ l) added.2, added.3))) c.add_texts.ensures.added
+
+pub returns-clause-refused : goal.returns-clause-refused
+returns-clause-refused g c =
+    IfOk-weaker c.add_texts.result _ _ (λ yes r no n texts fits are is same.
+    r no texts are (list_behind c.args.payload.now c.in-Some.front.first _ c.in-Some.ensures.some c.in-Some.ensures.first n texts fits is)) c.add_texts.ensures.refused
