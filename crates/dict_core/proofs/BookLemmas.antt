@@ -1,6 +1,5 @@
 -- What a book keeps: look-ups are exact, and one text more.
-use Rattle.std.proofs.Common.{◌≡◌, ◌≢◌, ◌⊎◌, ⊎_elim, inl, inr, ℕ, zero, suc, nat_eq, unwrap_or, Option, None, ◌+◌, ◌<◌, ◌≤◌, ◌==◌, if◌then◌else◌, List, [], ◌∷◌, ◌++◌, length, map, take, ◌-◌, refl, sym, ap, subst, ◌∙◌, arith, Some, slice_get, slice_index}
-use Rattle.std.specs.Option.{IfNone}
+use Rattle.std.proofs.Common.{◌≡◌, ◌≢◌, ◌⊎◌, ⊎_elim, inl, inr, ℕ, zero, suc, nat_eq, unwrap_or, ◌+◌, ◌<◌, ◌≤◌, ◌==◌, if◌then◌else◌, List, [], ◌∷◌, ◌++◌, length, map, take, ◌-◌, refl, sym, ap, subst, ◌∙◌, arith, Some, slice_get, slice_index}
 use Rattle.std.proofs.lemmas.List.{length_push, length-map, get_or-map, map_push, take-map, length-take}
 use Rattle.std.proofs.lemmas.Option.{slice_get_within, get_or_from_slice_get, same_Some, none-some}
 use Rattle.dict_core.specs.Books.{AreDistinct, IsNew}
@@ -76,12 +75,6 @@ book_more {hash} {texts} {befores} {newest} {limit} b text h befores' newest' is
   within = omega (arith, room, length_push texts text);
   most = b.most;
 }
-
--- where the chain of its hash does not have a text, it is new
-pub book_unfound : {hash : List ℕ → ℕ} {texts : List (List ℕ)} {befores : List ℕ} {newest : ℕ → ℕ} {limit : ℕ} → IsBook hash texts befores newest limit →
-    (text : List ℕ) (h place : ℕ) (found : Option ℕ) → h ≡ hash text → place ≡ newest h → IfNone found ((k : ℕ) → InChain befores place (suc k) → slice_get texts k ≢ Some text) → IfNone found (IsNew texts text)
-book_unfound {newest = newest} b text h place None hashed is absent = book_new b text place (is ∙ ap newest hashed) absent
-book_unfound b text h place (Some n) hashed is absent = absent
 
 -- a map that has the same entries has the same places
 pub same_places : {S : Type 0} (old new : IndexMap ℕ ℕ S) → IsUnchanged old new → (h : ℕ) → place_at new h ≡ place_at old h

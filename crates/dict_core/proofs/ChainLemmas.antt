@@ -34,6 +34,11 @@ in_chain hashes {befores} h k (suc n) befores_are l below is =
     (λ apart. in_chain hashes h k n befores_are (omega (arith, l)) (omega (arith, below, apart)) is)
     (cases_eq k n))
 
+-- no chain begins at no place
+pub chain_starts : (befores : List ℕ) (from to : ℕ) → InChain befores from to → 0 < to → 0 < from
+chain_starts befores from to (here place) some = some
+chain_starts befores from to (there number place rest) some = omega arith
+
 -- one text more, which is the newest with its hash
 pub chained_more : {hashes befores : List ℕ} {newest newest' : ℕ → ℕ} (h : ℕ) → IsChained hashes befores newest →
     ((g : ℕ) → newest' g ≡ (if g == h then length befores + 1 else newest g)) → IsChained (hashes ++ h ∷ []) (befores ++ newest h ∷ []) newest'

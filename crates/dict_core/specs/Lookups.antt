@@ -12,7 +12,3 @@ pub record Fits (Fact : ℕ → List ℕ → Type 0) (numbers : List ℕ) (texts
 pub record IsNumberOf (known : List (List ℕ)) (number : ℕ) (text : List ℕ) : Type 0 where
   pub here : number ≢ NO_NUMBER → slice_get known number ≡ Some text
   pub new : number ≡ NO_NUMBER → IsNew known text
-
--- the place that the hash of the text leads to
-abbrev pub IsPlaceOf : (List ℕ → ℕ) → (ℕ → ℕ) → ℕ → List ℕ → Type 0
-IsPlaceOf hash newest place text = place ≡ newest (hash text)

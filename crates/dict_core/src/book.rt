@@ -5,7 +5,7 @@ ghost use Rattle.dict_core.specs.Lookups.{Fits, IsNumberOf};
 ghost use Rattle.dict_core.specs.declared.refusals.BookRefusal.TheVariants.{Full};
 ghost use Rattle.dict_core.specs.declared.refusals.IndexRefusal.TheVariants.{Repeated};
 
-use crate::chains::find;
+use crate::chains::NO_NUMBER;
 use crate::index::Index;
 use crate::refusals::{BookRefusal, IndexRefusal};
 use crate::text_slice::TextSlice;
@@ -96,13 +96,20 @@ impl Book {
         ensures some { IfSome result (λ n. slice_get self.now.texts n ≡ Some text.now) }
         ensures none { IfNone result (IsNew self.now.texts text.now) }
     {
-        let newest = self.index.newest(self.index.hash(text));
-        find(&self.texts, self.index.befores.as_slice(), newest, text)
+        let hash = self.index.hash(text);
+        self.index.find_in(&self.texts, hash, text).ok()
+    }
+
+    /// The same, and [`NO_NUMBER`] where it is not in the book.
+    fn number_or_none(&self, text: &[u8]) -> u32
+        ensures { IsNumberOf self.now.texts result text.now }
+    {
+        let _limit = self.limit;
+        self.number_of(text).unwrap_or(NO_NUMBER)
     }
 
     /// The number of each of these texts, and [`NO_NUMBER`] for one that is not in the book. Takes
-    /// no memory: `numbers` has room. The texts are looked up beside each other, which takes less
-    /// time than one after the other where the book is larger than the processor's caches.
+    /// no memory: `numbers` has room.
     ///
     /// [`NO_NUMBER`]: crate::NO_NUMBER
     pub fn numbers_of<T: TextSlice>(&self, texts: &T, numbers: &mut Vec<u32>)
@@ -110,8 +117,9 @@ impl Book {
         requires room { length (T.texts texts.now) ≤ vec_capacity numbers.old }
         ensures { Fits (IsNumberOf self.now.texts) numbers.new.items (T.texts texts.now) }
     {
-        self.index.places_of(texts, numbers);
-        self.index.find_each(&self.texts, texts, numbers);
+        for next in 0..texts.count() {
+            numbers.push_reserved(self.number_or_none(texts.at(next)));
+        }
     }
 
     /// The text at a number, or `None` where there are fewer texts. Takes no memory.
@@ -140,10 +148,10 @@ impl Book {
             → IsErrOf result (Full self.old.limit) }
     {
         let hash = self.index.hash(text);
-        let newest = self.index.newest(hash);
-        if let Some(number) = find(&self.texts, self.index.befores.as_slice(), newest, text) {
-            return Ok(number);
-        }
+        let newest = match self.index.find_in(&self.texts, hash, text) {
+            Ok(number) => return Ok(number),
+            Err(newest) => newest,
+        };
         let count = self.texts.len();
         if count >= self.limit {
             return Err(BookRefusal::Full { count });

@@ -1,7 +1,6 @@
 //! Chains of texts with one hash.
 ghost use Rattle.std.specs.Prelude.{◌≡◌, ◌≢◌, ℕ, suc, ◌<◌, ◌≤◌, length, slice_get, slice_index, Some, IfSome, IfNone};
 ghost use Rattle.dict_core.specs.Chains.{InChain};
-ghost use Rattle.dict_core.specs.declared.texts.TheConstants.{MAX_TEXTS};
 
 use crate::texts::Texts;
 
@@ -28,20 +27,4 @@ pub(crate) fn find(texts: &Texts, befores: &[u32], newest: u32, text: &[u8]) -> 
         place = befores[number as usize];
     }
     None
-}
-
-/// The same, and [`NO_NUMBER`] where there is none.
-pub(crate) fn find_or_none(texts: &Texts, befores: &[u32], newest: u32, text: &[u8]) -> u32
-    requires back { (j : ℕ) → j < length befores.now → slice_index befores.now j ≤ j }
-    requires within { newest ≤ length befores.now }
-    requires linked { length befores.now ≤ length texts.now }
-    requires few { length befores.now ≤ MAX_TEXTS }
-    ensures here { result ≢ NO_NUMBER → slice_get texts.now result ≡ Some text.now }
-    ensures none { result ≡ NO_NUMBER → (k : ℕ) → InChain befores.now newest (suc k)
-        → slice_get texts.now k ≢ Some text.now }
-{
-    match find(texts, befores, newest, text) {
-        Some(number) => number,
-        None => NO_NUMBER,
-    }
 }

@@ -1,14 +1,12 @@
 //! The index of a book: from a text's hash to the texts that have it.
-ghost use Rattle.std.specs.Prelude.{◌≡◌, ℕ, ◌+◌, ◌-◌, ◌<◌, ◌≤◌, [], ◌∷◌, ◌++◌, length, take, map, nat_eq, slice_index, vec_len, vec_capacity, OnOk, IsErrOf};
+ghost use Rattle.std.specs.Prelude.{◌≡◌, ℕ, ◌+◌, ◌-◌, ◌<◌, ◌≤◌, [], ◌∷◌, ◌++◌, length, take, map, nat_eq, slice_get, slice_index, vec_len, vec_capacity, Some, IfOk, IfErr, OnOk, OnErr, IsErrOf};
 ghost use Rattle.indexmap.specs.IndexMap.{spare, IsUnchanged};
-ghost use Rattle.dict_core.specs.Books.{AreDistinct, StandsTwice};
+ghost use Rattle.dict_core.specs.Books.{AreDistinct, IsNew, StandsTwice};
 ghost use Rattle.dict_core.specs.Chains.{hash_by, place_at, Puts, IsChained};
-ghost use Rattle.dict_core.specs.Lookups.{Fits, IsNumberOf, IsPlaceOf};
 ghost use Rattle.dict_core.specs.declared.refusals.IndexRefusal.TheVariants.{Repeated};
 
-use crate::chains::{find, find_or_none};
+use crate::chains::find;
 use crate::refusals::IndexRefusal;
-use crate::text_slice::TextSlice;
 use crate::texts::Texts;
 use indexmap::IndexMap;
 use std::alloc::{AllocError, Global};
@@ -58,34 +56,29 @@ impl<H: Hasher + Copy> Index<H> {
         self.newest.get(&hash).copied().unwrap_or(0)
     }
 
-    /// The place of the newest text with its hash for each of these texts. No step of the loop needs
-    /// what another one reads, so that a processor waits for the memory of several at once.
-    pub(crate) fn places_of<T: TextSlice>(&self, texts: &T, places: &mut Vec<u32>)
-        requires empty { places.old.items ≡ [] }
-        requires room { length (T.texts texts.now) ≤ vec_capacity places.old }
-        ensures { let hash = hash_by H.write H.finish self.now.hasher in
-            Fits (IsPlaceOf hash (place_at self.now.newest)) places.new.items (T.texts texts.now) }
-    {
-        for next in 0..texts.count() {
-            places.push_reserved(self.newest(self.hash(texts.at(next))));
-        }
-    }
-
-    /// The number among `known` of each of these texts, or [`NO_NUMBER`], where `numbers` has the
-    /// place of the newest one with its hash. Its loop is as that of [`Index::places_of`].
+    /// The number among `known` of a text, whose hash this is, or else the place of the newest text
+    /// with this hash.
     ///
-    /// [`NO_NUMBER`]: crate::chains::NO_NUMBER
-    pub(crate) fn find_each<T: TextSlice>(&self, known: &Texts, texts: &T, numbers: &mut Vec<u32>)
-        requires chained { let hash = hash_by H.write H.finish self.now.hasher in
-            IsChained (map hash known.now) self.now.befores.items (place_at self.now.newest) }
-        requires places { let hash = hash_by H.write H.finish self.now.hasher in
-            Fits (IsPlaceOf hash (place_at self.now.newest)) numbers.old.items (T.texts texts.now) }
-        ensures { Fits (IsNumberOf known.now) numbers.new.items (T.texts texts.now) }
+    /// The text at the index of the hash's entry is tried first. As long as no two texts have one
+    /// hash, and none was taken out, it is the one, and its bytes are read without a wait for what
+    /// the entry holds.
+    pub(crate) fn find_in(&self, known: &Texts, hash: u64, text: &[u8]) -> Result<u32, u32>
+        requires chained { let hash_of = hash_by H.write H.finish self.now.hasher in
+            IsChained (map hash_of known.now) self.now.befores.items (place_at self.now.newest) }
+        requires hashed { hash ≡ hash_by H.write H.finish self.now.hasher text.now }
+        ensures some { IfOk result (λ n. slice_get known.now n ≡ Some text.now) }
+        ensures newest { IfErr result (λ place. place ≡ place_at self.now.newest hash) }
+        ensures none { OnErr result (IsNew known.now text.now) }
     {
-        let _most = known.len();
-        let befores = self.befores.as_slice();
-        for next in 0..texts.count() {
-            numbers[next] = find_or_none(known, befores, numbers[next], texts.at(next));
+        let Some((index, _hash, newest)) = self.newest.get_full(&hash) else {
+            return Err(0);
+        };
+        if index < known.len() as usize && known.at(index as u32) == text {
+            return Ok(index as u32);
+        }
+        match find(known, self.befores.as_slice(), *newest, text) {
+            Some(number) => Ok(number),
+            None => Err(*newest),
         }
     }
 

@@ -1,5 +1,6 @@
 //! Books at their limit and with texts of one hash, and texts without an index.
-use crate::{Book, BookRefusal, IndexRefusal, MAX_TEXTS, Texts};
+use crate::{Book, BookRefusal, IndexRefusal, MAX_TEXTS, NO_NUMBER, TextSlice, Texts};
+use log_seams::{Text, TextList};
 use std::alloc::{AllocError, Global};
 use std::test::Fail;
 use turn_lock::Grows;
@@ -11,6 +12,9 @@ static ONE_HASH: [&[u8]; 3] = [
     b"another \x15\x7c\x4a\x7f\xb9\x79\x37\x9e",
     b"the last\x15\x7c\x4a\x7f\xb9\x79\x37\x9e",
 ];
+
+/// One more text of that hash, which is put in no book.
+const NOT_THERE: &[u8] = b"nowhere \x15\x7c\x4a\x7f\xb9\x79\x37\x9e";
 
 /// A text, and what a book of two texts names it.
 const NAMED: &[(&[u8], Result<u32, BookRefusal>)] = &[
@@ -75,6 +79,28 @@ fn texts_of_one_hash_have_numbers_of_their_own(rt: HostRuntime) -> Result<(), Fa
     for (text, number) in ONE_HASH.iter().zip([0, 1, 2]) {
         assert!(rt; book.number_of(text) == Some(number), "{number}");
     }
+    assert!(rt; book.number_of(NOT_THERE) == None && book.number_of(b"other") == None);
+    Ok(())
+}
+
+/// These texts without a book.
+fn list_of(alloc: Global, rows: &[&[u8]]) -> Result<TextList, AllocError> {
+    let mut list = Vec::with_capacity(alloc, rows.len())?;
+    for row in rows {
+        list.push(Text::new(Vec::from_slice(alloc, row)?))?;
+    }
+    Ok(TextList::new(list))
+}
+
+#[test]
+fn many_texts_are_looked_up_in_order(rt: HostRuntime) -> Result<(), Fail> {
+    let book = book_of_one_hash(rt.alloc())?;
+    let [first, second, third] = ONE_HASH;
+    let rows = [third, NOT_THERE, first, b"other", second, third];
+    let texts = list_of(rt.alloc(), &rows)?;
+    let mut numbers = Vec::with_capacity(rt.alloc(), texts.count())?;
+    book.numbers_of(&texts, &mut numbers);
+    assert!(rt; numbers.as_slice() == [2, NO_NUMBER, 0, NO_NUMBER, 1, 2].as_slice());
     Ok(())
 }
 
