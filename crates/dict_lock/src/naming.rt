@@ -31,8 +31,7 @@ fn has_no_mark(numbers: &[u32]) -> bool
 /// The numbers of the texts that the cache holds, and a mark for each of the others. Whether it
 /// holds them all.
 ///
-/// All are looked up in stages, and not one after the other: their places first, and then the
-/// numbers at those. Within a stage no text waits for the memory that another one needs.
+/// Their places in the cache are looked up first, and then the numbers at those.
 pub(crate) fn look_up<T: TextSlice>(cache: &Cache, texts: &T, numbers: &mut Vec<u32>) -> bool
     requires empty { numbers.old.items ≡ [] }
     requires room { length (T.texts texts.now) ≤ vec_capacity numbers.old }
