@@ -95,11 +95,13 @@ module _ {D R A B C : Type 0} (state : D → DiskState) (limit : ℕ) (start p :
   columns_are : hand.draft.columns ≡ columns_of part
   columns_are = λ i. record { rows = hand.draft.columns.rows; bytes = d.has.bytes i }
 
+  pub few_in_hand : length hand.draft.columns.rows < limit
+  few_in_hand = lt_of (length hand.draft.columns.rows) limit (λ le. open_all limit part d.not_yet (inl le))
+
   pub has_room : limit ≤ MAX_ROWS → HasRoom hand
   has_room most =
-      let few : length hand.draft.columns.rows < limit = lt_of (length hand.draft.columns.rows) limit (λ le. open_all limit part d.not_yet (inl le)) in
       record {
-        rows = omega (arith, few, most);
+        rows = omega (arith, few_in_hand, most);
         variables = lt_of (variable_count hand.draft.columns.rows) 1048576 (λ le. open_all limit part d.not_yet (inr (inl le)));
       }
 
@@ -120,6 +122,7 @@ module _ {D R A B C : Type 0} (state : D → DiskState) (limit : ℕ) (start p :
     closed = d.closed;
     more = d.more ++ none.more;
     front = (d.messages ++ line ∷ [], sym (append_assoc (messages_in d.closed) d.messages (line ∷ [])) ∙ ap (λ l. l ++ line ∷ []) (sym d.taken_is));
+    few = omega (arith, few_in_hand, d.not_yet.even, ap length d.taken_is, length-append (messages_in d.closed) d.messages, length-append taken (line ∷ []));
     cut = d.cut;
     first = first ∙ d.first;
     added = added_on start p q d.more none.more d.added none.added;

@@ -15,6 +15,7 @@ use Rattle.disk_seal.specs.Fixed.{KeeperPass}
 use Rattle.disk_seal.specs.Planned.{segment_of}
 use Rattle.ingest_workers.specs.declared.hand.Hand.{Hand}
 use Rattle.ingest_workers.specs.declared.outcome.Cause.{Cause}
+use Rattle.ingest_workers.specs.declared.outcome.Cause.TheVariants.{ReadFault, LineTooLong, TooManyLines, Full, DiskFault, ArchiveFull, OutOfMemory}
 use Rattle.ingest_workers.specs.Causes.{HasSealCause}
 use Rattle.ingest_workers.specs.Doing.{Covering, Doing}
 use Rattle.ingest_workers.specs.Done.{IsOutcome}
@@ -23,14 +24,25 @@ use Rattle.ingest_workers.specs.MaySeal.{MaySeal, IsEmptied}
 use Rattle.ingest_workers.specs.Namer.{types_seen, words_seen}
 use Rattle.ingest_workers.specs.Parts.{Part, columns_of, front, messages_in, rest_of, segments_from}
 use Rattle.ingest_workers.specs.Sealed.{HasNotSealed, HasSealed, NowHas}
+use Rattle.ingest_workers.specs.Stop.{refused_by}
 use Rattle.ingest_workers.proofs.CauseLemmas.{seal_cause}
 use Rattle.ingest_workers.proofs.MaySealLemmas.{nothing_sealed}
-use Rattle.ingest_workers.proofs.DoingLemmas.{covering, has_room, rows_same}
+use Rattle.ingest_workers.proofs.DoingLemmas.{covering, few_in_hand, has_room, rows_same}
 use Rattle.ingest_workers.proofs.PartLemmas.{added_on, sealed_joined}
 use Rattle.ingest_workers.proofs.SealLemmas.{if_told, of_told}
 
 abbrev Texts : Type 0
 Texts = List (List ℕ)
+
+at_most_one : (why : Option Cause) → refused_by why ≤ 1
+at_most_one None = omega arith
+at_most_one (Some ReadFault) = omega arith
+at_most_one (Some (LineTooLong line)) = omega arith
+at_most_one (Some TooManyLines) = omega arith
+at_most_one (Some (Full book count)) = omega arith
+at_most_one (Some (DiskFault opened now)) = omega arith
+at_most_one (Some (ArchiveFull end need)) = omega arith
+at_most_one (Some OutOfMemory) = omega arith
 
 -- the hand with the marks of the last segment
 abbrev pub marked : Bool → Hand → Hand
@@ -65,6 +77,7 @@ module _ {D R A B C : Type 0} (state : D → DiskState) (limit : ℕ) (start p :
   all_done q new empty sealed has_now = record {
     covered = taken;
     front = prefix_self taken;
+    few = omega arith;
     all = λ is. refl;
     cause = refl;
     caused = inl (refl, refl);
@@ -104,6 +117,7 @@ module _ {D R A B C : Type 0} (state : D → DiskState) (limit : ℕ) (start p :
       record {
         covered = messages_in c.closed;
         front = (d.messages, sym d.taken_is);
+        few = omega (arith, c.few, length-append taken ([] ∷ []), at_most_one why);
         all = λ is. absurd (cc (is));
         cause = refl;
         caused = ⊎_elim (λ (all : (Some cause ≡ why) × (messages_in d.closed ≡ taken)). inl all)
@@ -171,6 +185,7 @@ module _ {D R A B C : Type 0} (state : D → DiskState) (limit : ℕ) (start p :
   part_done q new cause empty sealed has_now = record {
     covered = taken;
     front = prefix_self taken;
+    few = omega (arith, few_in_hand state limit start p m hand taken d, at_most_one (Some cause));
     all = λ is. refl;
     cause = refl;
     caused = inl (refl, refl);

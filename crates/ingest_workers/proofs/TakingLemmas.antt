@@ -1,9 +1,9 @@
 -- A worker that takes the messages of a source.
-use Rattle.std.proofs.Common.{◌≡◌, ◌≢◌, ⊎_elim, inl, inr, ℕ, zero, suc, ◌-◌, ◌<◌, ◌≤◌, List, [], ◌∷◌, ◌++◌, Bool, true, false, length, refl, sym, ap, ◌∙◌, subst, arith, append-nil, append_assoc, length-append, Option, None, Some, Result, Ok, Err}
+use Rattle.std.proofs.Common.{◌≡◌, ◌≢◌, ⊎_elim, inl, inr, ℕ, zero, suc, ◌+◌, ◌-◌, ◌<◌, ◌≤◌, List, [], ◌∷◌, ◌++◌, Bool, true, false, length, refl, sym, ap, ◌∙◌, subst, arith, append-nil, append_assoc, length-append, Option, None, Some, Result, Ok, Err}
 use Rattle.std.specs.Prelude.{IfSome, IfNone, IfErr, IsErrOf, OnOk, is_some, not}
 use Rattle.std.specs.List.{Contains, flat_map}
 use Rattle.std.proofs.lemmas.Bool.{ne_eqb}
-use Rattle.std.proofs.lemmas.List.Elements.{All-nil}
+use Rattle.std.proofs.lemmas.List.Elements.{All-nil, Contains-append_left, Contains-push}
 use mathlib.Core.List.{IsPrefix}
 use Rattle.log_seams.specs.Disk.{DiskState}
 use Rattle.turn_lock.specs.Words.{about, seen, number_of, IsReady}
@@ -24,7 +24,7 @@ use Rattle.disk_seal.specs.Draft.{journal_seen}
 use Rattle.disk_seal.specs.Fixed.{KeeperPass}
 use Rattle.ingest_workers.specs.declared.hand.Hand.{Hand}
 use Rattle.ingest_workers.specs.declared.outcome.Cause.{Cause}
-use Rattle.ingest_workers.specs.declared.outcome.Cause.TheVariants.{OutOfMemory}
+use Rattle.ingest_workers.specs.declared.outcome.Cause.TheVariants.{ReadFault as WasReadFault, LineTooLong as WasTooLong, TooManyLines as WereTooMany, Full, DiskFault, ArchiveFull, OutOfMemory}
 use Rattle.ingest_workers.specs.declared.outcome.Outcome.{Outcome}
 use Rattle.ingest_workers.specs.declared.stop.Stop.{Stop}
 use Rattle.ingest_workers.specs.declared.stop.Stop.TheVariants.{Part as PartStop, Lost}
@@ -34,7 +34,7 @@ use Rattle.line_cut.specs.Length.{bytes_left}
 use Rattle.line_cut.specs.declared.cut.Cut.{Cut}
 use Rattle.line_cut.specs.declared.cut.Cut.TheVariants.{ReadFault, LineTooLong, TooManyLines, OutOfMemory as CutOutOfMemory}
 use Rattle.line_cut.specs.declared.cut.Mark.{Mark}
-use Rattle.ingest_workers.specs.Causes.{HasJobCause, HasSealCause, HaveMoreThan, Log, cause_by, grounds_of, log_from, log_of}
+use Rattle.ingest_workers.specs.Causes.{HasJobCause, HasSealCause, HaveMoreThan, IsFullCause, Log, cause_by, grounds_of, log_from, log_of}
 use Rattle.row_codec.specs.declared.namer.Which.{Which}
 use Rattle.ingest_workers.specs.Full.{Books, IsMore, WasFullFor, book_of, books_by}
 use Rattle.ingest_workers.specs.Namer.{HasOnlySeen}
@@ -49,13 +49,14 @@ use Rattle.ingest_workers.specs.Namer.{types_pass, words_pass, types_seen, words
 use Rattle.ingest_workers.specs.Naming.{HasNamed}
 use Rattle.ingest_workers.specs.Parts.{Part, IsCut, IsOpen, columns_of, front, messages_in, segments_from}
 use Rattle.ingest_workers.specs.Stopping.{IsAtStop}
-use Rattle.ingest_workers.specs.Taking.{AreTaken, HasStopCause, IsOneOf, StopsAt, Taking, Took, mark_of, why_of}
+use Rattle.ingest_workers.specs.Taking.{AreTaken, HasLearned, HasStopCause, IsOneOf, StopsAt, Taking, Took, mark_of, why_of}
 use Rattle.ingest_workers.proofs.CauseLemmas.{cause_on, name_cause, of_log, of_seal}
 use Rattle.ingest_workers.proofs.MaySealLemmas.{nothing_added}
 use Rattle.ingest_workers.proofs.NamingLemmas.{named_then, named_wider}
 use Rattle.ingest_workers.proofs.SealLemmas.{if_told, of_told}
-use Rattle.ingest_workers.specs.Turns.{LearnBoth}
-use Rattle.ingest_workers.proofs.TurnsLemmas.{learn_wider}
+use Rattle.ingest_workers.specs.Stop.{refused_by}
+use Rattle.ingest_workers.specs.Turns.{AreFirstOf, LearnBoth, TakesFewOf, EndBoth, spare_of, stop_in, unsealed_by}
+use Rattle.ingest_workers.proofs.TurnsLemmas.{learn_self, learn_then, learn_wider, take_few, take_none}
 
 abbrev Texts : Type 0
 Texts = List (List ℕ)
@@ -147,17 +148,58 @@ more_than version (Some b) taken (Some r) held (Some x) told is some most = λ m
     let left_some : 0 < length others.0 = one_more others.0 (λ none. text_of version r others.0 others.1 others.2 none (omega (arith, long, held_more, some))) in
     omega (arith, ap length all, length-append taken others.0, most, left_some)
 
+-- ---- causes, by what was met
+
+one_refused : (full : Which → ℕ → Type 0) (cause : Cause) → IsFullCause full cause → refused_by (Some cause) ≡ 1
+one_refused full (Full book count) is = refl
+one_refused full WasReadFault is = absurd is
+one_refused full (WasTooLong line) is = absurd is
+one_refused full WereTooMany is = absurd is
+one_refused full (DiskFault opened now) is = absurd is
+one_refused full (ArchiveFull end need) is = absurd is
+one_refused full OutOfMemory is = absurd is
+
+one_unsealed : (rows : ℕ) (cause : Option Cause) → refused_by cause ≤ unsealed_by rows cause
+one_unsealed rows None = omega arith
+one_unsealed rows (Some (Full book count)) = omega arith
+one_unsealed rows (Some WasReadFault) = omega arith
+one_unsealed rows (Some (WasTooLong line)) = omega arith
+one_unsealed rows (Some WereTooMany) = omega arith
+one_unsealed rows (Some (DiskFault opened now)) = omega arith
+one_unsealed rows (Some (ArchiveFull end need)) = omega arith
+one_unsealed rows (Some OutOfMemory) = omega arith
+
+all_in_hand : {D : Type 0} (state : D → DiskState) (rows : ℕ) (p q : KeeperPass D) (cause : Cause) → HasSealCause state p q cause → unsealed_by rows (Some cause) ≡ rows
+all_in_hand state rows p q (DiskFault opened now) has = refl
+all_in_hand state rows p q (ArchiveFull end need) has = refl
+all_in_hand state rows p q OutOfMemory has = refl
+all_in_hand state rows p q WasReadFault has = absurd has
+all_in_hand state rows p q (WasTooLong line) has = absurd has
+all_in_hand state rows p q WereTooMany has = absurd has
+all_in_hand state rows p q (Full book count) has = absurd has
+
 -- ---- the next message
 
-module _ {S D R A B C : Type 0} (state : D → DiskState) (left : S → Option (List ℕ)) (limit : ℕ) (bytes : Option (List ℕ)) (start p : KeeperPass D) (n : LockNamer R A B C) (hand : Hand) (old new : ReaderState S) (taken : Texts)
-    (t : Taking state left limit bytes start p n hand old taken) where
-  pub took_all : (faults : S → ℕ) → faults new.source ≡ faults old.source → ReadToEnd left old new → Took state limit n.version (log_from bytes left faults old.source new.source) start p n hand (Ok true)
+module _ {S D R A B C : Type 0} (state : D → DiskState) (left : S → Option (List ℕ)) (limit : ℕ) (bytes : Option (List ℕ)) (start p : KeeperPass D) (m n : LockNamer R A B C) (hand : Hand) (old new : ReaderState S) (taken : Texts)
+    (t : Taking state left limit bytes start p m n hand old taken) where
+  -- no text was named since
+  learned_none : (answer : Result Bool Stop) → HasLearned state n.version bytes start p m n answer taken
+  learned_none answer = record {
+    met = taken;
+    front = prefix_self taken;
+    few = omega arith;
+    first = front_of left n.version bytes taken old t.read;
+    learned = learn_then state (Contains taken) (stop_in answer) start p p m n n t.version t.learned (learn_self state (Contains taken) (stop_in answer) p n);
+  }
+
+  pub took_all : (faults : S → ℕ) → faults new.source ≡ faults old.source → ReadToEnd left old new → Took state limit n.version (log_from bytes left faults old.source new.source) start p m n hand (Ok true)
   took_all faults steady at_end = record {
     caused = steady;
     taken = taken;
     few = t.few;
     stops = (t.doing, λ e. absurd (cc (e)));
     told = all_of n.version bytes taken true ((reading_ends left n.version bytes taken old new t.read).1 at_end t.going);
+    learned = learned_none (Ok true);
   }
 
   -- the reader refused, and this is its cause
@@ -174,12 +216,13 @@ module _ {S D R A B C : Type 0} (state : D → DiskState) (left : S → Option (
     cut_cause CutOutOfMemory is r = absurd (r.cause t.going)
 
   pub took_part : (faults : S → ℕ) (result : Result (Option Mark) Cut) → CountsOf ReadFault (faults old.source) (faults new.source) result → (cut : Cut) (cause : Cause) → cause ≡ cause_by cut → IsErrOf result cut → RefusedToRead left faults old new cut
-      → Took state limit n.version (log_from bytes left faults old.source new.source) start p n hand (Err (PartStop cause))
+      → Took state limit n.version (log_from bytes left faults old.source new.source) start p m n hand (Err (PartStop cause))
   took_part faults result counts cut cause same is r = let full = WasFullFor n.version (IsOneOf n.version bytes) (books_by (types_pass n) (words_pass n)) in record {
     taken = taken;
     few = t.few;
     stops = t.doing;
     told = front_of left n.version bytes taken old t.read;
+    learned = learned_none (Err (PartStop cause));
     caused = subst (λ x. HasStopCause full (log_from bytes left faults old.source new.source) n.version taken (Err (PartStop x))) (sym same) (cut_cause faults result counts full cut is r);
   }
 
@@ -206,45 +249,74 @@ module _ {S D R A B C : Type 0} (state : D → DiskState) (left : S → Option (
       pub named_more : (ended : Bool) → ReadMessage left ended old new → HasNamed (λ x. x ≡ line) n o → HasNamed (IsOneOf n.version bytes) n o
       named_more ended m named = named_wider (λ x. x ≡ line) (IsOneOf n.version bytes) (λ x is. subst (IsOneOf n.version bytes) (sym (is ∙ same)) (is_one ended m)) n o named
 
-      pub learned_more : (ended : Bool) → ReadMessage left ended old new → (stop : Option Stop) → LearnBoth state (λ x. x ≡ line) stop p q n o → LearnBoth state (IsOneOf n.version bytes) stop p q n o
-      learned_more ended m stop l = learn_wider state (λ x. x ≡ line) (IsOneOf n.version bytes) (λ x is. subst (IsOneOf n.version bytes) (sym (is ∙ same)) (is_one ended m)) stop p q n o l
+      learned_more : (stop : Option Stop) → LearnBoth state (λ x. x ≡ line) stop p q n o → LearnBoth state (Contains (taken ++ new.message ∷ [])) stop start q m o
+      learned_more stop l =
+          let all : List ℕ → Type 0 = Contains (taken ++ new.message ∷ []) in
+          learn_then state all stop start p q m n o t.version
+          (learn_wider state (Contains taken) all (λ x is. Contains-append_left taken (new.message ∷ []) x is) None start p m n t.learned)
+          (learn_wider state (λ x. x ≡ line) all (λ x is. subst all (sym (is ∙ same)) (Contains-push taken new.message)) stop p q n o l)
 
-      pub took_stop : (ended : Bool) → ReadMessage left ended old new → faults new.source ≡ faults old.source → o.version ≡ n.version → (y : Stop) → IsAtStop state limit start q o next taken line y → Took state limit n.version (log_from bytes left faults old.source new.source) start q o next (Err y)
-      took_stop ended m steady version (PartStop cause) d = record {
+      pub took_stop : (ended : Bool) → ReadMessage left ended old new → faults new.source ≡ faults old.source → o.version ≡ n.version → (y : Stop) → LearnBoth state (λ x. x ≡ line) (Some y) p q n o → IsAtStop state limit start q o next taken line y
+          → Took state limit n.version (log_from bytes left faults old.source new.source) start q m o next (Err y)
+      took_stop ended message steady version (PartStop cause) l d = record {
         taken = taken;
         few = t.few;
         stops = d.0;
         told = front_of left n.version bytes taken old t.read;
+        learned = record {
+          met = taken ++ new.message ∷ [];
+          front = (new.message ∷ [], refl);
+          few = let one = one_refused (WasFullFor o.version (λ x. x ≡ line) (books_by (types_pass o) (words_pass o))) cause d.1 in omega (arith, one, length-append taken (new.message ∷ []));
+          first = front_more ended message;
+          learned = learned_more (Some (PartStop cause)) l;
+        };
         caused = let known = books_by (types_pass o) (words_pass o) in
             name_cause (WasFullFor o.version (λ x. x ≡ line) known) (WasFullFor n.version (IsOneOf n.version bytes) known) (λ book count is.
-            full_wider n.version (λ x. x ≡ line) (IsOneOf n.version bytes) (λ x at. subst (IsOneOf n.version bytes) (sym (at ∙ same)) (is_one ended m)) known known (λ b. more_self (book_of known b)) book count
+            full_wider n.version (λ x. x ≡ line) (IsOneOf n.version bytes) (λ x at. subst (IsOneOf n.version bytes) (sym (at ∙ same)) (is_one ended message)) known known (λ b. more_self (book_of known b)) book count
             (subst (λ v. WasFullFor v (λ x. x ≡ line) known book count) version is)) (log_from bytes left faults old.source new.source) n.version taken cause steady d.1;
       }
-      took_stop ended m steady version (Lost cause) c = record {
+      took_stop ended message steady version (Lost cause) l c = record {
         caused = tt;
         taken = taken ++ new.message ∷ [];
-        few = few_more ended m;
+        few = few_more ended message;
         stops = (subst (λ l. Covering state limit start q next (taken ++ l ∷ [])) same c.0, c.1);
-        told = front_more ended m;
+        told = front_more ended message;
+        learned = record {
+          met = taken ++ new.message ∷ [];
+          front = prefix_self (taken ++ new.message ∷ []);
+          few = omega arith;
+          first = front_more ended message;
+          learned = learned_more (Some (Lost cause)) l;
+        };
       }
 
-      pub taking_more : (ended : Bool) → ended ≡ true → ReadMessage left ended old new → o.version ≡ n.version → Doing state limit start q o next (taken ++ line ∷ []) → Taking state left limit bytes start q o next new (taken ++ new.message ∷ [])
-      taking_more ended is m version d =
-          let m' = subst (λ e. ReadMessage left e old new) is m in record {
+      pub taking_more : (ended : Bool) → ended ≡ true → ReadMessage left ended old new → o.version ≡ n.version → LearnBoth state (λ x. x ≡ line) None p q n o → Doing state limit start q o next (taken ++ line ∷ []) → Taking state left limit bytes start q m o next new (taken ++ new.message ∷ [])
+      taking_more ended is message version l d =
+          let m' = subst (λ e. ReadMessage left e old new) is message in record {
             doing = subst (λ l. Doing state limit start q o next (taken ++ l ∷ [])) same d;
             read = subst (λ v. HasRead left v bytes (taken ++ new.message ∷ []) new) (sym version) (reading_goes_on left name faults n.version bytes taken old new t.read stays m');
             going = m'.progress;
             few = few_more true m';
+            version = version ∙ t.version;
+            learned = learned_more None l;
           }
 
-      pub took_last : (ended : Bool) → ended ≡ false → ReadMessage left ended old new → faults new.source ≡ faults old.source → Doing state limit start q o next (taken ++ line ∷ []) → Took state limit n.version (log_from bytes left faults old.source new.source) start q o next (Ok false)
-      took_last ended is m steady d =
-          let m' = subst (λ e. ReadMessage left e old new) is m in record {
+      pub took_last : (ended : Bool) → ended ≡ false → ReadMessage left ended old new → faults new.source ≡ faults old.source → LearnBoth state (λ x. x ≡ line) None p q n o → Doing state limit start q o next (taken ++ line ∷ [])
+          → Took state limit n.version (log_from bytes left faults old.source new.source) start q m o next (Ok false)
+      took_last ended is message steady l d =
+          let m' = subst (λ e. ReadMessage left e old new) is message in record {
             caused = steady;
             taken = taken ++ new.message ∷ [];
             few = few_more false m';
             stops = (subst (λ l. Doing state limit start q o next (taken ++ l ∷ [])) same d, λ e. last_open taken new.message (open_of new.message (m'.open_end refl)));
             told = all_of n.version bytes (taken ++ new.message ∷ []) false ((reading_ends left n.version bytes taken old new t.read).0 m');
+            learned = record {
+              met = taken ++ new.message ∷ [];
+              front = prefix_self (taken ++ new.message ∷ []);
+              few = omega arith;
+              first = front_more false m';
+              learned = learned_more None l;
+            };
           }
 
 -- ---- over several messages
@@ -253,8 +325,8 @@ module _ {R A B C : Type 0} where
   pub named_on : (bytes : Option (List ℕ)) (m n o : LockNamer R A B C) → HasNamed (IsOneOf m.version bytes) m n → HasNamed (IsOneOf n.version bytes) n o → HasNamed (IsOneOf m.version bytes) m o
   named_on bytes m n o one two = named_then (IsOneOf m.version bytes) m n o one (subst (λ v. HasNamed (IsOneOf v bytes) n o) one.version two)
 
-module _ {S D R A B C : Type 0} (state : D → DiskState) (left : S → Option (List ℕ)) (limit : ℕ) (bytes : Option (List ℕ)) (start p q : KeeperPass D) (n o : LockNamer R A B C) (hand next : Hand) (old new : ReaderState S) (taken : Texts) (text : List ℕ) where
-  pub one_less : Taking state left limit bytes start p n hand old taken → Taking state left limit bytes start q o next new (taken ++ text ∷ []) → MAX_MESSAGES - new.given < MAX_MESSAGES - old.given
+module _ {S D R A B C : Type 0} (state : D → DiskState) (left : S → Option (List ℕ)) (limit : ℕ) (bytes : Option (List ℕ)) (start p q : KeeperPass D) (m n o : LockNamer R A B C) (hand next : Hand) (old new : ReaderState S) (taken : Texts) (text : List ℕ) where
+  pub one_less : Taking state left limit bytes start p m n hand old taken → Taking state left limit bytes start q m o next new (taken ++ text ∷ []) → MAX_MESSAGES - new.given < MAX_MESSAGES - old.given
   one_less a b = omega (arith, a.read.given, b.read.given, b.few, length-append taken (text ∷ []))
 
 -- told since an earlier moment, since when no read failed
@@ -304,9 +376,16 @@ module _ {D R A B C : Type 0} (state : D → DiskState) (limit : ℕ) (least : 1
   }
 
   pub taking_none : {S : Type 0} (left : S → Option (List ℕ)) (source : S) (r : ReaderState S) (n : LockNamer R A B C) (hand : Hand) (file : ℕ) → IsWorker p n → file ≡ number_of p → IsEmptyHand file 0 hand → IsNewReader n.version source r
-      → Taking state left limit (left source) p p n hand r []
+      → Taking state left limit (left source) p p n n hand r []
   taking_none left source r n hand file worker is empty fresh =
-      record { doing = doing_none n hand file worker is empty; read = reading_begins left n.version source r fresh; going = fresh.progress; few = omega arith }
+      record {
+        doing = doing_none n hand file worker is empty;
+        read = reading_begins left n.version source r fresh;
+        going = fresh.progress;
+        few = omega arith;
+        version = refl;
+        learned = learn_self state (Contains []) None p n;
+      }
 
 module _ {D : Type 0} (state : D → DiskState) (limit : ℕ) (least : 1 ≤ limit) (p : KeeperPass D) (so_far : HasSoFar state p []) where
   pub came_none : (version : ℕ) (books : Books) (log : Log) → IsReady p → (why : Option Cause) → HasJobCause (grounds_of state version books log.bytes p p) log version [] why → CameTo state limit version books log p p (record { messages = 0; whole = false; cause = why })
@@ -349,6 +428,7 @@ module _ {D R A B C : Type 0} (state : D → DiskState) (limit : ℕ) (start p :
     caused = inr (cause, refl, has);
     covered = messages_in c.closed;
     front = c.front;
+    few = omega (arith, c.few);
     all = λ is. absurd (cc (is));
     cause = refl;
     count = c.first;
@@ -380,7 +460,7 @@ all_at_end : (answer : Result Bool Stop) (ended : Bool) → answer ≡ Ok ended 
 all_at_end (Ok x) ended is_end taken covered messages e same is = (same ∙ is.0, is.1)
 all_at_end (Err y) ended is_end taken covered messages e same is = absurd (cc (is_end))
 
-module _ {D R A B C : Type 0} (state : D → DiskState) (limit version : ℕ) (log : Log) (start p : KeeperPass D) (n : LockNamer R A B C) (hand : Hand) (answer : Result Bool Stop) (t : Took state limit version log start p n hand answer) (q : KeeperPass D)
+module _ {D R A B C : Type 0} (state : D → DiskState) (limit version : ℕ) (log : Log) (start p : KeeperPass D) (m n : LockNamer R A B C) (hand : Hand) (answer : Result Bool Stop) (t : Took state limit version log start p m n hand answer) (q : KeeperPass D)
     (outcome : Outcome) where
   abbrev known : Books
   known = books_by (types_pass n) (words_pass n)
@@ -412,14 +492,14 @@ module _ {D R A B C : Type 0} (state : D → DiskState) (limit version : ℕ) (l
       subst (HasJobCause (grounds_of state version known log.bytes start q) log version o.covered) (sym seal.1) (of_seal state known start q log version o.covered seal.0 seal.2))
       o.caused
 
-  pub came_to : (m : LockNamer R A B C) → HasOnlySeen n m → IsOutcome state limit start q t.taken (mark_of answer) (why_of answer) outcome → (outcome.whole ≡ true → (ended : Bool) × (answer ≡ Ok ended))
-      → CameTo state limit version (books_by (types_pass m) (words_pass m)) log start q outcome
-  came_to m seen o whole = record {
+  pub came_to : (o : LockNamer R A B C) → HasOnlySeen n o → IsOutcome state limit start q t.taken (mark_of answer) (why_of answer) outcome → (outcome.whole ≡ true → (ended : Bool) × (answer ≡ Ok ended))
+      → CameTo state limit version (books_by (types_pass o) (words_pass o)) log start q outcome
+  came_to end seen o whole = record {
     covered = o.covered;
     ended = mark_of answer;
     count = o.count;
-    caused = cause_on (grounds_of state version known log.bytes start q) (grounds_of state version (books_by (types_pass m) (words_pass m)) log.bytes start q) log version o.covered outcome.cause
-        (full_wider version (IsOneOf version log.bytes) (IsOneOf version log.bytes) (λ x is. is) known (books_by (types_pass m) (words_pass m)) (books_on (types_pass n) (types_pass m) (words_pass n) (words_pass m) seen.types seen.words))
+    caused = cause_on (grounds_of state version known log.bytes start q) (grounds_of state version (books_by (types_pass end) (words_pass end)) log.bytes start q) log version o.covered outcome.cause
+        (full_wider version (IsOneOf version log.bytes) (IsOneOf version log.bytes) (λ x is. is) known (books_by (types_pass end) (words_pass end)) (books_on (types_pass n) (types_pass end) (words_pass n) (words_pass end) seen.types seen.words))
         (λ end need has. has) (λ opened now has. has) (caused_by o whole);
     done = o.done;
     first = if_some log.bytes told (AreFirst version o.covered) (λ b tells messages e is. first_of answer t.taken o.covered messages e o.front (tells messages e is)) t.told;
@@ -429,6 +509,52 @@ module _ {D R A B C : Type 0} (state : D → DiskState) (limit version : ℕ) (l
     where
       told : List ℕ → Type 0
       told b = (messages : Texts) (e : Bool) → MessagesOf version b messages e → AreTaken answer t.taken messages e
+
+  -- what was met, where these messages are sealed
+  few_met : (o : IsOutcome state limit start q t.taken (mark_of answer) (why_of answer) outcome) → length t.learned.met ≤ outcome.messages + unsealed_by limit outcome.cause
+  few_met o =
+      ⊎_elim
+      (λ (stop : (outcome.cause ≡ why_of answer) × (o.covered ≡ t.taken)). few_stopped outcome.cause stop.0 (ap length stop.1))
+      (λ (seal : (c : Cause) × (outcome.cause ≡ Some c) × HasSealCause state start q c).
+      let rows : unsealed_by limit outcome.cause ≡ limit = ap (unsealed_by limit) seal.1 ∙ all_in_hand state limit start q seal.0 seal.2 in omega (arith, rows, t.learned.few, o.few, o.count))
+      o.caused
+    where
+      few_stopped : (c : Option Cause) → c ≡ why_of answer → length o.covered ≡ length t.taken → length t.learned.met ≤ outcome.messages + unsealed_by limit c
+      few_stopped c is size =
+          let le : refused_by c ≤ unsealed_by limit c = one_unsealed limit c in let same : refused_by c ≡ refused_by (why_of answer) = ap refused_by is in omega (arith, le, same, size, t.learned.few, o.count)
+
+  -- the whole job
+  pub took_few : (end : LockNamer R A B C) → version ≡ m.version → EndBoth state (spare_of (stop_in answer)) p q n end → IsOutcome state limit start q t.taken (mark_of answer) (why_of answer) outcome
+      → TakesFewOf state limit log.bytes outcome start q m end
+  took_few end same ends o = record {
+    met = t.learned.met;
+    are = record {
+      first = subst (λ v. AreFirstOf v log.bytes t.learned.met) same t.learned.first;
+      covered = o.covered;
+      ended = mark_of answer;
+      done = o.done;
+      count = o.count;
+      front = prefix_trans o.covered t.taken t.learned.met o.front t.learned.front;
+      few = few_met o;
+    };
+    few = take_few state (Contains t.learned.met) (stop_in answer) start p q m n end t.learned.learned ends;
+  }
+
+-- before any message, all that were met are sealed
+pub met_none : {D R A B C : Type 0} (state : D → DiskState) (limit : ℕ) (books : Books) (log : Log) (p : KeeperPass D) (m : LockNamer R A B C) (o : Outcome) → CameTo state limit m.version books log p p o → TakesFewOf state limit log.bytes o p p m m
+met_none state limit books log p m o came = record {
+  met = came.covered;
+  are = record {
+    first = came.first;
+    covered = came.covered;
+    ended = came.ended;
+    done = came.done;
+    count = came.count;
+    front = prefix_self came.covered;
+    few = omega (arith, came.count);
+  };
+  few = take_none state (Contains came.covered) p m;
+}
 
 -- told of the source, which the reader had and gave back
 pub came_back : {S : Type 0} (left : S → Option (List ℕ)) (faults : S → ℕ) (source had has back : S) → had ≡ source → back ≡ has → (P : Log → Type 0) → P (log_from (left source) left faults had has) → P (log_of left faults source back)

@@ -33,7 +33,6 @@ use Rattle.ingest_workers.specs.declared.stop.Stop.TheVariants.{Part, Lost}
 use Rattle.ingest_workers.specs.Journal.{HasAdded, WhereTold, sealed_by}
 use Rattle.ingest_workers.specs.Sealed.{HasNotSealed, HasSealed}
 use Rattle.ingest_workers.specs.Stop.{stop_by}
-use Rattle.ingest_workers.specs.Taking.{IsOneOf}
 use Rattle.ingest_workers.specs.Turns.{Ends, EndBoth, FewTurns, HasAsked, LearnBoth, Learns, MayAsk, OneTurn, TakeFew, TakesFew, TurnsBy, sealed_in, spare_of, stop_in, type_by, word_by}
 use Rattle.ingest_workers.proofs.PartLemmas.{sealed_joined}
 use Rattle.ingest_workers.proofs.SealLemmas.{if_told, of_told}
@@ -282,12 +281,6 @@ module _ {D R A B C : Type 0} (state : D → DiskState) (P : List ℕ → Type 0
     types = takes_few state (type_by P m.version) p q r (types_side m) (types_side n) (types_side o) n.types.distinct stop l.types e.types;
     words = takes_few state (word_by P m.version) p q r (words_side m) (words_side n) (words_side o) n.words.distinct stop l.words e.words;
   }
-
--- with messages that are some of the bytes
-pub learn_on : {D R A B C : Type 0} (state : D → DiskState) (bytes : Option (List ℕ)) (stop s : Option Stop) (p q r : KeeperPass D) (m n o : LockNamer R A B C) → s ≡ stop → n.version ≡ m.version
-    → LearnBoth state (IsOneOf m.version bytes) None p q m n → LearnBoth state (IsOneOf n.version bytes) s q r n o → LearnBoth state (IsOneOf m.version bytes) stop p r m o
-learn_on state bytes stop s p q r m n o same version one two = learn_then state (IsOneOf m.version bytes) stop p q r m n o version one
-    (subst (λ (x : Option Stop). LearnBoth state (IsOneOf m.version bytes) x q r n o) same (subst (λ v. LearnBoth state (IsOneOf v bytes) s q r n o) version two))
 
 pub learn_wider : {D R A B C : Type 0} (state : D → DiskState) (P Q : List ℕ → Type 0) → ((x : List ℕ) → P x → Q x) → (stop : Option Stop) (p q : KeeperPass D) (m n : LockNamer R A B C) → LearnBoth state P stop p q m n → LearnBoth state Q stop p q m n
 learn_wider state P Q f stop p q m n l = record {

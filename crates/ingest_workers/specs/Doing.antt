@@ -1,5 +1,5 @@
 -- A worker at its file.
-use Rattle.std.specs.Prelude.{◌≡◌, ℕ, false, List, ◌++◌, length, All}
+use Rattle.std.specs.Prelude.{◌≡◌, ℕ, ◌+◌, ◌≤◌, false, List, ◌++◌, length, All}
 use mathlib.Core.List.{IsPrefix}
 use Rattle.log_seams.specs.Disk.{DiskState}
 use Rattle.turn_lock.specs.Words.{seen, number_of}
@@ -36,11 +36,12 @@ module _ {D R A B C : Type 0} where
     pub so_far : HasSoFar state p (messages_in closed)
 
 module _ {D : Type 0} where
-  -- Nothing more of the file is sealed: of the messages that were taken the first ones are.
+  -- Nothing more of the file is sealed: of the messages that were taken the first ones are, all but as many as the limit of rows.
   pub record Covering (state : D → DiskState) (limit : ℕ) (start p : KeeperPass D) (hand : Hand) (taken : List (List ℕ)) : Type 0 where
     pub closed : List Part
     pub more : List (ℕ × StoreEntry)
     pub front : IsPrefix (messages_in closed) taken
+    pub few : length taken ≤ length (messages_in closed) + limit
     pub cut : All (IsCut limit) closed
     pub first : hand.draft.first ≡ length (messages_in closed)
     pub added : HasAdded start p more

@@ -1,8 +1,13 @@
-use Rattle.std.proofs.Common.{rules, ◌<◌, length, Some, inr}
+use Rattle.std.proofs.Common.{rules, ◌≡◌, ◌<◌, length, Some, inr}
 use Rattle.std.specs.Prelude.{false}
-use Rattle.ingest_workers.proofs.DoneLemmas.{may_seal_part, none_done, part_done}
+use Rattle.ingest_workers.proofs.DoneLemmas.{empty_done, may_seal_part, none_done, part_done}
 use Rattle.ingest_workers.proofs.TurnsLemmas.{end_refused, end_sealed, end_self}
 use Rattle.ingest_workers.proofs.finish.seal_part.Goals as goal
+
+pub returns-then-rows-eq0-clause-outcome : goal.returns-then-rows-eq0-clause-outcome
+returns-then-rows-eq0-clause-outcome g c = λ start taken d.
+    let none : length c.args.hand.now.draft.columns.rows ≡ 0 = search rules in
+    empty_done g.D.Disk.state c.args._rows start c.args.keeper.now c.args.namer.now c.args.hand.now taken false d c.args.cause none
 
 pub seal-requires : goal.seal-requires
 seal-requires g c =
