@@ -6,7 +6,7 @@ use Rattle.std.proofs.lemmas.Bool.{ne_eqb}
 use Rattle.std.proofs.lemmas.List.Elements.{All-nil, Contains-append_left, Contains-push}
 use mathlib.Core.List.{IsPrefix}
 use Rattle.log_seams.specs.Disk.{DiskState}
-use Rattle.turn_lock.specs.Words.{about, seen, number_of, IsReady}
+use Rattle.turn_lock.specs.Words.{seen, number_of, IsReady}
 use Rattle.turn_lock.proofs.FrontLemmas.{prefix_self, prefix_trans}
 use Rattle.column_store.specs.Columns.{IsFull}
 use Rattle.row_codec.specs.Means.{AreCanonical}
@@ -36,7 +36,7 @@ use Rattle.line_cut.specs.declared.cut.Cut.TheVariants.{ReadFault, LineTooLong, 
 use Rattle.line_cut.specs.declared.cut.Mark.{Mark}
 use Rattle.ingest_workers.specs.Causes.{HasJobCause, HasSealCause, HaveMoreThan, IsFullCause, Log, cause_by, grounds_of, log_from, log_of}
 use Rattle.row_codec.specs.declared.namer.Which.{Which}
-use Rattle.ingest_workers.specs.Full.{Books, IsMore, WasFullFor, book_of, books_by}
+use Rattle.ingest_workers.specs.Full.{Books, WasFullFor, book_of, books_by}
 use Rattle.ingest_workers.specs.Namer.{HasOnlySeen}
 use Rattle.ingest_workers.proofs.FullLemmas.{books_on, full_wider, more_self}
 use Rattle.ingest_workers.specs.Doing.{Covering, Doing}

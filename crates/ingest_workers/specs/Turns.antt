@@ -146,7 +146,7 @@ module _ {D : Type 0} where
     pub few : length met ≤ o.messages + unsealed_by rows o.cause
 
 module _ {D R A B C : Type 0} where
-  -- a job took few turns for texts of the messages that it met alone
+  -- The job, of which this came, took few turns with the two books, and these for texts of the messages that it met alone.
   pub record TakesFewOf (state : D → DiskState) (rows : ℕ) (bytes : Option (List ℕ)) (o : Outcome) (p q : KeeperPass D) (m n : LockNamer R A B C) : Type 0 where
     pub met : List (List ℕ)
     pub are : HasMet state rows m.version bytes o p q met

@@ -1,7 +1,7 @@
 use Rattle.std.proofs.Common.{rules, ◌≡◌, ◌<◌, length, Some, inr}
 use Rattle.std.specs.Prelude.{false}
 use Rattle.ingest_workers.proofs.DoneLemmas.{empty_done, may_seal_part, none_done, part_done}
-use Rattle.ingest_workers.proofs.TurnsLemmas.{end_refused, end_sealed, end_self}
+use Rattle.ingest_workers.proofs.TurnsLemmas.{end_refused, end_sealed}
 use Rattle.ingest_workers.proofs.finish.seal_part.Goals as goal
 
 pub returns-then-rows-eq0-clause-outcome : goal.returns-then-rows-eq0-clause-outcome
