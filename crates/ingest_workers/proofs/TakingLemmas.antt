@@ -35,11 +35,12 @@ use Rattle.line_cut.specs.declared.cut.Cut.{Cut}
 use Rattle.line_cut.specs.declared.cut.Cut.TheVariants.{ReadFault, LineTooLong, TooManyLines, OutOfMemory as CutOutOfMemory}
 use Rattle.line_cut.specs.declared.cut.Mark.{Mark}
 use Rattle.ingest_workers.specs.Causes.{HasJobCause, HasSealCause, HaveMoreThan, Log, cause_by, grounds_of, log_from, log_of}
+use Rattle.ingest_workers.specs.NoRoom.{FoundNoRoom}
 use Rattle.row_codec.specs.declared.namer.Which.{Which}
-use Rattle.ingest_workers.specs.Full.{Books, IsMore, WasFullFor, book_of, books_by}
+use Rattle.ingest_workers.specs.Full.{AreFirstOf, Books, IsMore, WasFullFor, book_of, books_by}
 use Rattle.ingest_workers.specs.Namer.{HasOnlySeen}
 use Rattle.ingest_workers.proofs.FullLemmas.{books_on, full_wider, more_self}
-use Rattle.ingest_workers.specs.Doing.{Covering, Doing}
+use Rattle.ingest_workers.specs.Doing.{Doing, NotSealed}
 use Rattle.ingest_workers.specs.Done.{IsOutcome}
 use Rattle.ingest_workers.specs.Hand.{IsEmptyHand}
 use Rattle.ingest_workers.specs.JobDone.{CameTo}
@@ -53,6 +54,7 @@ use Rattle.ingest_workers.specs.Taking.{AreTaken, HasStopCause, IsOneOf, StopsAt
 use Rattle.ingest_workers.proofs.CauseLemmas.{cause_on, name_cause, of_log, of_seal}
 use Rattle.ingest_workers.proofs.MaySealLemmas.{nothing_added}
 use Rattle.ingest_workers.proofs.NamingLemmas.{named_then, named_wider}
+use Rattle.ingest_workers.proofs.NoRoomLemmas.{found_on}
 use Rattle.ingest_workers.proofs.SealLemmas.{if_told, of_told}
 use Rattle.ingest_workers.specs.Turns.{LearnBoth}
 use Rattle.ingest_workers.proofs.TurnsLemmas.{learn_wider}
@@ -224,7 +226,7 @@ module _ {S D R A B C : Type 0} (state : D → DiskState) (left : S → Option (
         caused = tt;
         taken = taken ++ new.message ∷ [];
         few = few_more ended m;
-        stops = (subst (λ l. Covering state limit start q next (taken ++ l ∷ [])) same c.0, c.1);
+        stops = subst (λ l. NotSealed state limit start q o next (taken ++ l ∷ []) cause) same c;
         told = front_more ended m;
       }
 
@@ -309,7 +311,7 @@ module _ {D R A B C : Type 0} (state : D → DiskState) (limit : ℕ) (least : 1
       record { doing = doing_none n hand file worker is empty; read = reading_begins left n.version source r fresh; going = fresh.progress; few = omega arith }
 
 module _ {D : Type 0} (state : D → DiskState) (limit : ℕ) (least : 1 ≤ limit) (p : KeeperPass D) (so_far : HasSoFar state p []) where
-  pub came_none : (version : ℕ) (books : Books) (log : Log) → IsReady p → (why : Option Cause) → HasJobCause (grounds_of state version books log.bytes p p) log version [] why → CameTo state limit version books log p p (record { messages = 0; whole = false; cause = why })
+  pub came_none : (version : ℕ) (books : Books) (log : Log) → IsReady p → (why : Option Cause) → HasJobCause (grounds_of state limit version books log.bytes p p) log version [] why → CameTo state limit version books log p p (record { messages = 0; whole = false; cause = why })
   came_none version books log ready why right = record {
     caused = right;
     covered = [];
@@ -344,9 +346,9 @@ module _ {D R A B C : Type 0} (state : D → DiskState) (limit : ℕ) (start p :
   pub at_part : (answer : Result Bool Stop) (cause : Cause) → answer ≡ Err (PartStop cause) → StopsAt state limit start p n hand taken answer → Doing state limit start p n hand taken
   at_part answer cause is s = subst (StopsAt state limit start p n hand taken) is s
 
-  lost_done : 1 ≤ limit → Covering state limit start p hand taken → (cause : Cause) → HasSealCause state start p cause → IsOutcome state limit start p taken false None (record { messages = hand.draft.first; whole = false; cause = Some cause })
-  lost_done least c cause has = record {
-    caused = inr (cause, refl, has);
+  lost_done : 1 ≤ limit → (cause : Cause) → NotSealed state limit start p n hand taken cause → IsOutcome state limit n.version (books_by (types_pass n) (words_pass n)) start p taken false None (record { messages = hand.draft.first; whole = false; cause = Some cause })
+  lost_done least cause s = let c = s.covering in record {
+    caused = inr (cause, refl, s.caused);
     covered = messages_in c.closed;
     front = c.front;
     all = λ is. absurd (cc (is));
@@ -367,10 +369,10 @@ module _ {D R A B C : Type 0} (state : D → DiskState) (limit : ℕ) (start p :
   }
 
   pub lost_outcome : 1 ≤ limit → (answer : Result Bool Stop) (cause : Cause) → answer ≡ Err (Lost cause) → StopsAt state limit start p n hand taken answer
-      → IsOutcome state limit start p taken (mark_of answer) (why_of answer) (record { messages = hand.draft.first; whole = false; cause = Some cause })
+      → IsOutcome state limit n.version (books_by (types_pass n) (words_pass n)) start p taken (mark_of answer) (why_of answer) (record { messages = hand.draft.first; whole = false; cause = Some cause })
   lost_outcome least answer cause is s =
       let at = subst (StopsAt state limit start p n hand taken) is s in
-      subst (λ a. IsOutcome state limit start p taken (mark_of a) (why_of a) (record { messages = hand.draft.first; whole = false; cause = Some cause })) (sym is) (lost_done least at.0 cause at.1)
+      subst (λ a. IsOutcome state limit n.version (books_by (types_pass n) (words_pass n)) start p taken (mark_of a) (why_of a) (record { messages = hand.draft.first; whole = false; cause = Some cause })) (sym is) (lost_done least cause at)
 
 first_of : (answer : Result Bool Stop) (taken covered messages : Texts) (e : Bool) → IsPrefix covered taken → AreTaken answer taken messages e → IsPrefix covered messages
 first_of (Ok ended) taken covered messages e front is = subst (IsPrefix covered) is.0 front
@@ -387,48 +389,59 @@ module _ {D R A B C : Type 0} (state : D → DiskState) (limit version : ℕ) (l
 
   -- the cause, where no further message was taken for it and all that were are sealed
   stopped_by : (a : Result Bool Stop) (covered : Texts) (o : Option Cause) → HasStopCause (WasFullFor version (IsOneOf version log.bytes) known) log version t.taken a → ((x : Cause) → a ≡ Err (Lost x) → o ≡ None → ⊥) → o ≡ why_of a → covered ≡ t.taken
-      → HasJobCause (grounds_of state version known log.bytes start q) log version covered o
-  stopped_by (Ok ended) covered o has lost is all = subst (HasJobCause (grounds_of state version known log.bytes start q) log version covered) (sym is) has
+      → HasJobCause (grounds_of state limit version known log.bytes start q) log version covered o
+  stopped_by (Ok ended) covered o has lost is all = subst (HasJobCause (grounds_of state limit version known log.bytes start q) log version covered) (sym is) has
   stopped_by (Err (PartStop cause)) covered o has lost is all =
-      subst (HasJobCause (grounds_of state version known log.bytes start q) log version covered) (sym is)
-      (subst (λ l. HasJobCause (grounds_of state version known log.bytes start q) log version l (Some cause)) (sym all) (of_log state known start q log version t.taken cause has))
+      subst (HasJobCause (grounds_of state limit version known log.bytes start q) log version covered) (sym is)
+      (subst (λ l. HasJobCause (grounds_of state limit version known log.bytes start q) log version l (Some cause)) (sym all) (of_log state limit known start q log version t.taken cause has))
   stopped_by (Err (Lost cause)) covered o has lost is all = absurd (lost cause refl is)
 
-  not_lost : (o : IsOutcome state limit start q t.taken (mark_of answer) (why_of answer) outcome) → (outcome.whole ≡ true → (ended : Bool) × (answer ≡ Ok ended)) → (x : Cause) → answer ≡ Err (Lost x) → outcome.cause ≡ None → ⊥
-  not_lost o whole x is none =
-      let not_none : not outcome.whole ≡ false = sym o.cause ∙ ap is_some none in
-      let all : outcome.whole ≡ true = is_whole outcome.whole not_none in
-      let w = whole all in cc (w.1, is)
-    where
-      is_whole : (b : Bool) → not b ≡ false → b ≡ true
-      is_whole true is = refl
-      is_whole false is = absurd (cc (is))
+  abbrev told : List ℕ → Type 0
+  told b = (messages : Texts) (e : Bool) → MessagesOf version b messages e → AreTaken answer t.taken messages e
 
-  caused_by : (o : IsOutcome state limit start q t.taken (mark_of answer) (why_of answer) outcome) → (outcome.whole ≡ true → (ended : Bool) × (answer ≡ Ok ended)) → HasJobCause (grounds_of state version known log.bytes start q) log version o.covered outcome.cause
-  caused_by o whole =
-      ⊎_elim
-      (λ (stop : (outcome.cause ≡ why_of answer) × (o.covered ≡ t.taken)). stopped_by answer o.covered outcome.cause t.caused (not_lost o whole) stop.0 stop.1)
-      (λ (seal : (c : Cause) × (outcome.cause ≡ Some c) × HasSealCause state start q c).
-      subst (HasJobCause (grounds_of state version known log.bytes start q) log version o.covered) (sym seal.1) (of_seal state known start q log version o.covered seal.0 seal.2))
-      o.caused
+  -- the first of the messages taken are the first of the log
+  first_taken : (first : Texts) → IsPrefix first t.taken → AreFirstOf version log.bytes first
+  first_taken first front = if_some log.bytes told (AreFirst version first) (λ b tells messages e is. first_of answer t.taken first messages e front (tells messages e is)) t.told
 
-  pub came_to : (m : LockNamer R A B C) → HasOnlySeen n m → IsOutcome state limit start q t.taken (mark_of answer) (why_of answer) outcome → (outcome.whole ≡ true → (ended : Bool) × (answer ≡ Ok ended))
+  module _ (books : Books) (o : IsOutcome state limit version books start q t.taken (mark_of answer) (why_of answer) outcome) (whole : outcome.whole ≡ true → (ended : Bool) × (answer ≡ Ok ended)) where
+    not_lost : (x : Cause) → answer ≡ Err (Lost x) → outcome.cause ≡ None → ⊥
+    not_lost x is none =
+        let not_none : not outcome.whole ≡ false = sym o.cause ∙ ap is_some none in
+        let all : outcome.whole ≡ true = is_whole outcome.whole not_none in
+        let w = whole all in cc (w.1, is)
+      where
+        is_whole : (b : Bool) → not b ≡ false → b ≡ true
+        is_whole true is = refl
+        is_whole false is = absurd (cc (is))
+
+    caused_by : ((book : Which) → IsMore (book_of known book) (book_of books book)) → HasJobCause (grounds_of state limit version books log.bytes start q) log version o.covered outcome.cause
+    caused_by more =
+        ⊎_elim
+        (λ (stop : (outcome.cause ≡ why_of answer) × (o.covered ≡ t.taken)).
+        cause_on (grounds_of state limit version known log.bytes start q) (grounds_of state limit version books log.bytes start q) log version o.covered outcome.cause
+        (full_wider version (IsOneOf version log.bytes) (IsOneOf version log.bytes) (λ x is. is) known books more)
+        (found_on state limit version known books (AreFirstOf version log.bytes) (AreFirstOf version log.bytes) start q more (λ ms first. first) o.covered) (λ opened now has. has)
+        (stopped_by answer o.covered outcome.cause t.caused not_lost stop.0 stop.1))
+        (λ (seal : (c : Cause) × (outcome.cause ≡ Some c) × HasSealCause state (FoundNoRoom state limit version books (λ first. IsPrefix first t.taken) start q o.covered) start q c).
+        subst (HasJobCause (grounds_of state limit version books log.bytes start q) log version o.covered) (sym seal.1)
+        (of_seal state limit books start q log version o.covered _
+        (found_on state limit version books books (λ first. IsPrefix first t.taken) (AreFirstOf version log.bytes) start q (λ book. more_self (book_of books book)) first_taken o.covered) seal.0 seal.2))
+        o.caused
+
+  pub came_to : (m : LockNamer R A B C) → HasOnlySeen n m → (v : ℕ) → v ≡ version → IsOutcome state limit v (books_by (types_pass m) (words_pass m)) start q t.taken (mark_of answer) (why_of answer) outcome → (outcome.whole ≡ true → (ended : Bool) × (answer ≡ Ok ended))
       → CameTo state limit version (books_by (types_pass m) (words_pass m)) log start q outcome
-  came_to m seen o whole = record {
+  came_to m seen v same at_v whole =
+      let o : IsOutcome state limit version (books_by (types_pass m) (words_pass m)) start q t.taken (mark_of answer) (why_of answer) outcome
+      = subst (λ x. IsOutcome state limit x (books_by (types_pass m) (words_pass m)) start q t.taken (mark_of answer) (why_of answer) outcome) same at_v in record {
     covered = o.covered;
     ended = mark_of answer;
     count = o.count;
-    caused = cause_on (grounds_of state version known log.bytes start q) (grounds_of state version (books_by (types_pass m) (words_pass m)) log.bytes start q) log version o.covered outcome.cause
-        (full_wider version (IsOneOf version log.bytes) (IsOneOf version log.bytes) (λ x is. is) known (books_by (types_pass m) (words_pass m)) (books_on (types_pass n) (types_pass m) (words_pass n) (words_pass m) seen.types seen.words))
-        (λ end need has. has) (λ opened now has. has) (caused_by o whole);
+    caused = caused_by (books_by (types_pass m) (words_pass m)) o whole (books_on (types_pass n) (types_pass m) (words_pass n) (words_pass m) seen.types seen.words);
     done = o.done;
     first = if_some log.bytes told (AreFirst version o.covered) (λ b tells messages e is. first_of answer t.taken o.covered messages e o.front (tells messages e is)) t.told;
     all = λ w. if_some log.bytes told (AreAll version o.covered (mark_of answer)) (λ b tells messages e is.
         all_at_end answer (whole w).0 (whole w).1 t.taken o.covered messages e (o.all w) (tells messages e is)) t.told;
   }
-    where
-      told : List ℕ → Type 0
-      told b = (messages : Texts) (e : Bool) → MessagesOf version b messages e → AreTaken answer t.taken messages e
 
 -- told of the source, which the reader had and gave back
 pub came_back : {S : Type 0} (left : S → Option (List ℕ)) (faults : S → ℕ) (source had has back : S) → had ≡ source → back ≡ has → (P : Log → Type 0) → P (log_from (left source) left faults had has) → P (log_of left faults source back)

@@ -15,10 +15,10 @@ use Rattle.ingest_workers.specs.declared.hand.Hand.{Hand}
 use Rattle.ingest_workers.specs.declared.outcome.Cause.{Cause}
 use Rattle.ingest_workers.specs.declared.stop.Stop.{Stop}
 use Rattle.ingest_workers.specs.declared.stop.Stop.TheVariants.{Part, Lost}
-use Rattle.ingest_workers.specs.Causes.{Log, HasLogCause, HasSealCause, NoneFailed}
+use Rattle.ingest_workers.specs.Causes.{Log, HasLogCause, NoneFailed}
 pub use Rattle.ingest_workers.specs.Full.{IsOneOf}
 use Rattle.ingest_workers.specs.Full.{WasFullFor, books_by}
-use Rattle.ingest_workers.specs.Doing.{Covering, Doing}
+use Rattle.ingest_workers.specs.Doing.{Doing, NotSealed}
 use Rattle.ingest_workers.specs.Namer.{types_pass, words_pass}
 
 -- what became of the source: its name is the same, and its count of faults did not fall
@@ -62,7 +62,7 @@ module _ {D R A B C : Type 0} where
   abbrev pub StopsAt : (D → DiskState) → ℕ → KeeperPass D → KeeperPass D → LockNamer R A B C → Hand → List (List ℕ) → Result Bool Stop → Type 0
   StopsAt state limit start p n hand taken (Ok ended) = Doing state limit start p n hand taken × (ended ≡ false → last_is_open taken ≡ true)
   StopsAt state limit start p n hand taken (Err (Part cause)) = Doing state limit start p n hand taken
-  StopsAt state limit start p n hand taken (Err (Lost cause)) = Covering state limit start p hand taken × HasSealCause state start p cause
+  StopsAt state limit start p n hand taken (Err (Lost cause)) = NotSealed state limit start p n hand taken cause
 
   -- Since the pass was `start`, the worker took messages of a log, and stopped.
   pub record Took (state : D → DiskState) (limit version : ℕ) (log : Log) (start p : KeeperPass D) (n : LockNamer R A B C) (hand : Hand) (answer : Result Bool Stop) : Type 0 where
