@@ -433,15 +433,15 @@ module _ {D R A B C : Type 0} (state : D → DiskState) (limit version : ℕ) (l
   came_to m seen v same at_v whole =
       let o : IsOutcome state limit version (books_by (types_pass m) (words_pass m)) start q t.taken (mark_of answer) (why_of answer) outcome
       = subst (λ x. IsOutcome state limit x (books_by (types_pass m) (words_pass m)) start q t.taken (mark_of answer) (why_of answer) outcome) same at_v in record {
-    covered = o.covered;
-    ended = mark_of answer;
-    count = o.count;
-    caused = caused_by (books_by (types_pass m) (words_pass m)) o whole (books_on (types_pass n) (types_pass m) (words_pass n) (words_pass m) seen.types seen.words);
-    done = o.done;
-    first = if_some log.bytes told (AreFirst version o.covered) (λ b tells messages e is. first_of answer t.taken o.covered messages e o.front (tells messages e is)) t.told;
-    all = λ w. if_some log.bytes told (AreAll version o.covered (mark_of answer)) (λ b tells messages e is.
-        all_at_end answer (whole w).0 (whole w).1 t.taken o.covered messages e (o.all w) (tells messages e is)) t.told;
-  }
+        covered = o.covered;
+        ended = mark_of answer;
+        count = o.count;
+        caused = caused_by (books_by (types_pass m) (words_pass m)) o whole (books_on (types_pass n) (types_pass m) (words_pass n) (words_pass m) seen.types seen.words);
+        done = o.done;
+        first = if_some log.bytes told (AreFirst version o.covered) (λ b tells messages e is. first_of answer t.taken o.covered messages e o.front (tells messages e is)) t.told;
+        all = λ w. if_some log.bytes told (AreAll version o.covered (mark_of answer)) (λ b tells messages e is.
+            all_at_end answer (whole w).0 (whole w).1 t.taken o.covered messages e (o.all w) (tells messages e is)) t.told;
+      }
 
 -- told of the source, which the reader had and gave back
 pub came_back : {S : Type 0} (left : S → Option (List ℕ)) (faults : S → ℕ) (source had has back : S) → had ≡ source → back ≡ has → (P : Log → Type 0) → P (log_from (left source) left faults had has) → P (log_of left faults source back)

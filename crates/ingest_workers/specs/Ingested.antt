@@ -192,6 +192,11 @@ pub record HasTextsBehind (P : List ℕ → Type 0) (first texts : List (List �
   pub distinct : AreDistinct texts
   pub others : All P (drop (length first) texts)
 
+module _ {S : Type 0} where
+  -- The texts of a book are those of the entries, and others of the encodings of messages of the jobs' sources.
+  abbrev pub WereGiven : (S → Option (List ℕ)) → Plan → List (Job S) → List JournalEntry → Which → List (List ℕ) → Type 0
+  WereGiven left plan js front book texts = HasTextsBehind (IsTextOf plan.version (IsGiven left plan.version js) book) (book_texts book front) texts
+
 module _ {S D : Type 0} {d : DiskGhosts D} where
   -- the text is one of the book in the journal, or one of the encoding of a message of one of the jobs' sources
   abbrev pub IsThereOrGiven : (S → Option (List ℕ)) → Plan → List (Job S) → Journal D d → Which → List ℕ → Type 0
@@ -200,10 +205,6 @@ module _ {S D : Type 0} {d : DiskGhosts D} where
   -- Where the journal is told, a book may have so many texts by the header, and the journal and the jobs' sources have more.
   abbrev pub IsFullByGiven : (S → Option (List ℕ)) → Plan → List (Job S) → Journal D d → Which → ℕ → Type 0
   IsFullByGiven left plan js before book count = IfTold (is_some (state_of before).disk.seen) ((count ≡ limit_of (header_limits before.header) book) × ThereAreMore (IsThereOrGiven left plan js before book) count)
-
-  -- The texts of a book are those of the entries, and others of the encodings of messages of the jobs' sources.
-  abbrev pub WereGiven : (S → Option (List ℕ)) → Plan → List (Job S) → List JournalEntry → Which → List (List ℕ) → Type 0
-  WereGiven left plan js front book texts = HasTextsBehind (IsTextOf plan.version (IsGiven left plan.version js) book) (book_texts book front) texts
 
   -- A job that was done has its source back, of the same name, whose count of faults did not fall. Of the first messages of the source, which the outcome
   -- counts, the cause holds.
