@@ -35,11 +35,12 @@ use Rattle.line_cut.specs.declared.cut.Cut.{Cut}
 use Rattle.line_cut.specs.declared.cut.Cut.TheVariants.{ReadFault, LineTooLong, TooManyLines, OutOfMemory as CutOutOfMemory}
 use Rattle.line_cut.specs.declared.cut.Mark.{Mark}
 use Rattle.ingest_workers.specs.Causes.{HasJobCause, HasSealCause, HaveMoreThan, IsFullCause, Log, cause_by, grounds_of, log_from, log_of}
+use Rattle.ingest_workers.specs.NoRoom.{FoundNoRoom}
 use Rattle.row_codec.specs.declared.namer.Which.{Which}
-use Rattle.ingest_workers.specs.Full.{Books, WasFullFor, book_of, books_by}
+use Rattle.ingest_workers.specs.Full.{AreFirstOf, Books, IsMore, WasFullFor, book_of, books_by}
 use Rattle.ingest_workers.specs.Namer.{HasOnlySeen}
 use Rattle.ingest_workers.proofs.FullLemmas.{books_on, full_wider, more_self}
-use Rattle.ingest_workers.specs.Doing.{Covering, Doing}
+use Rattle.ingest_workers.specs.Doing.{Doing, NotSealed}
 use Rattle.ingest_workers.specs.Done.{IsOutcome}
 use Rattle.ingest_workers.specs.Hand.{IsEmptyHand}
 use Rattle.ingest_workers.specs.JobDone.{CameTo}
@@ -53,9 +54,10 @@ use Rattle.ingest_workers.specs.Taking.{AreTaken, HasLearned, HasStopCause, IsOn
 use Rattle.ingest_workers.proofs.CauseLemmas.{cause_on, name_cause, of_log, of_seal}
 use Rattle.ingest_workers.proofs.MaySealLemmas.{nothing_added}
 use Rattle.ingest_workers.proofs.NamingLemmas.{named_then, named_wider}
+use Rattle.ingest_workers.proofs.NoRoomLemmas.{found_on}
 use Rattle.ingest_workers.proofs.SealLemmas.{if_told, of_told}
 use Rattle.ingest_workers.specs.Stop.{refused_by}
-use Rattle.ingest_workers.specs.Turns.{AreFirstOf, LearnBoth, TakesFewOf, EndBoth, spare_of, stop_in, unsealed_by}
+use Rattle.ingest_workers.specs.Turns.{LearnBoth, TakesFewOf, EndBoth, spare_of, stop_in, unsealed_by}
 use Rattle.ingest_workers.proofs.TurnsLemmas.{learn_self, learn_then, learn_wider, take_few, take_none}
 
 abbrev Texts : Type 0
@@ -169,14 +171,14 @@ one_unsealed rows (Some (DiskFault opened now)) = omega arith
 one_unsealed rows (Some (ArchiveFull end need)) = omega arith
 one_unsealed rows (Some OutOfMemory) = omega arith
 
-all_in_hand : {D : Type 0} (state : D → DiskState) (rows : ℕ) (p q : KeeperPass D) (cause : Cause) → HasSealCause state p q cause → unsealed_by rows (Some cause) ≡ rows
-all_in_hand state rows p q (DiskFault opened now) has = refl
-all_in_hand state rows p q (ArchiveFull end need) has = refl
-all_in_hand state rows p q OutOfMemory has = refl
-all_in_hand state rows p q WasReadFault has = absurd has
-all_in_hand state rows p q (WasTooLong line) has = absurd has
-all_in_hand state rows p q WereTooMany has = absurd has
-all_in_hand state rows p q (Full book count) has = absurd has
+all_in_hand : {D : Type 0} (state : D → DiskState) (no_room : ℕ → ℕ → Type 0) (rows : ℕ) (p q : KeeperPass D) (cause : Cause) → HasSealCause state no_room p q cause → unsealed_by rows (Some cause) ≡ rows
+all_in_hand state no_room rows p q (DiskFault opened now) has = refl
+all_in_hand state no_room rows p q (ArchiveFull end need) has = refl
+all_in_hand state no_room rows p q OutOfMemory has = refl
+all_in_hand state no_room rows p q WasReadFault has = absurd has
+all_in_hand state no_room rows p q (WasTooLong line) has = absurd has
+all_in_hand state no_room rows p q WereTooMany has = absurd has
+all_in_hand state no_room rows p q (Full book count) has = absurd has
 
 -- ---- the next message
 
@@ -279,7 +281,7 @@ module _ {S D R A B C : Type 0} (state : D → DiskState) (left : S → Option (
         caused = tt;
         taken = taken ++ new.message ∷ [];
         few = few_more ended message;
-        stops = (subst (λ l. Covering state limit start q next (taken ++ l ∷ [])) same c.0, c.1);
+        stops = subst (λ l. NotSealed state limit start q o next (taken ++ l ∷ []) cause) same c;
         told = front_more ended message;
         learned = record {
           met = taken ++ new.message ∷ [];
@@ -388,7 +390,7 @@ module _ {D R A B C : Type 0} (state : D → DiskState) (limit : ℕ) (least : 1
       }
 
 module _ {D : Type 0} (state : D → DiskState) (limit : ℕ) (least : 1 ≤ limit) (p : KeeperPass D) (so_far : HasSoFar state p []) where
-  pub came_none : (version : ℕ) (books : Books) (log : Log) → IsReady p → (why : Option Cause) → HasJobCause (grounds_of state version books log.bytes p p) log version [] why → CameTo state limit version books log p p (record { messages = 0; whole = false; cause = why })
+  pub came_none : (version : ℕ) (books : Books) (log : Log) → IsReady p → (why : Option Cause) → HasJobCause (grounds_of state limit version books log.bytes p p) log version [] why → CameTo state limit version books log p p (record { messages = 0; whole = false; cause = why })
   came_none version books log ready why right = record {
     caused = right;
     covered = [];
@@ -423,9 +425,9 @@ module _ {D R A B C : Type 0} (state : D → DiskState) (limit : ℕ) (start p :
   pub at_part : (answer : Result Bool Stop) (cause : Cause) → answer ≡ Err (PartStop cause) → StopsAt state limit start p n hand taken answer → Doing state limit start p n hand taken
   at_part answer cause is s = subst (StopsAt state limit start p n hand taken) is s
 
-  lost_done : 1 ≤ limit → Covering state limit start p hand taken → (cause : Cause) → HasSealCause state start p cause → IsOutcome state limit start p taken false None (record { messages = hand.draft.first; whole = false; cause = Some cause })
-  lost_done least c cause has = record {
-    caused = inr (cause, refl, has);
+  lost_done : 1 ≤ limit → (cause : Cause) → NotSealed state limit start p n hand taken cause → IsOutcome state limit n.version (books_by (types_pass n) (words_pass n)) start p taken false None (record { messages = hand.draft.first; whole = false; cause = Some cause })
+  lost_done least cause s = let c = s.covering in record {
+    caused = inr (cause, refl, s.caused);
     covered = messages_in c.closed;
     front = c.front;
     few = omega (arith, c.few);
@@ -447,10 +449,10 @@ module _ {D R A B C : Type 0} (state : D → DiskState) (limit : ℕ) (start p :
   }
 
   pub lost_outcome : 1 ≤ limit → (answer : Result Bool Stop) (cause : Cause) → answer ≡ Err (Lost cause) → StopsAt state limit start p n hand taken answer
-      → IsOutcome state limit start p taken (mark_of answer) (why_of answer) (record { messages = hand.draft.first; whole = false; cause = Some cause })
+      → IsOutcome state limit n.version (books_by (types_pass n) (words_pass n)) start p taken (mark_of answer) (why_of answer) (record { messages = hand.draft.first; whole = false; cause = Some cause })
   lost_outcome least answer cause is s =
       let at = subst (StopsAt state limit start p n hand taken) is s in
-      subst (λ a. IsOutcome state limit start p taken (mark_of a) (why_of a) (record { messages = hand.draft.first; whole = false; cause = Some cause })) (sym is) (lost_done least at.0 cause at.1)
+      subst (λ a. IsOutcome state limit n.version (books_by (types_pass n) (words_pass n)) start p taken (mark_of a) (why_of a) (record { messages = hand.draft.first; whole = false; cause = Some cause })) (sym is) (lost_done least cause at)
 
 first_of : (answer : Result Bool Stop) (taken covered messages : Texts) (e : Bool) → IsPrefix covered taken → AreTaken answer taken messages e → IsPrefix covered messages
 first_of (Ok ended) taken covered messages e front is = subst (IsPrefix covered) is.0 front
@@ -467,78 +469,89 @@ module _ {D R A B C : Type 0} (state : D → DiskState) (limit version : ℕ) (l
 
   -- the cause, where no further message was taken for it and all that were are sealed
   stopped_by : (a : Result Bool Stop) (covered : Texts) (o : Option Cause) → HasStopCause (WasFullFor version (IsOneOf version log.bytes) known) log version t.taken a → ((x : Cause) → a ≡ Err (Lost x) → o ≡ None → ⊥) → o ≡ why_of a → covered ≡ t.taken
-      → HasJobCause (grounds_of state version known log.bytes start q) log version covered o
-  stopped_by (Ok ended) covered o has lost is all = subst (HasJobCause (grounds_of state version known log.bytes start q) log version covered) (sym is) has
+      → HasJobCause (grounds_of state limit version known log.bytes start q) log version covered o
+  stopped_by (Ok ended) covered o has lost is all = subst (HasJobCause (grounds_of state limit version known log.bytes start q) log version covered) (sym is) has
   stopped_by (Err (PartStop cause)) covered o has lost is all =
-      subst (HasJobCause (grounds_of state version known log.bytes start q) log version covered) (sym is)
-      (subst (λ l. HasJobCause (grounds_of state version known log.bytes start q) log version l (Some cause)) (sym all) (of_log state known start q log version t.taken cause has))
+      subst (HasJobCause (grounds_of state limit version known log.bytes start q) log version covered) (sym is)
+      (subst (λ l. HasJobCause (grounds_of state limit version known log.bytes start q) log version l (Some cause)) (sym all) (of_log state limit known start q log version t.taken cause has))
   stopped_by (Err (Lost cause)) covered o has lost is all = absurd (lost cause refl is)
 
-  not_lost : (o : IsOutcome state limit start q t.taken (mark_of answer) (why_of answer) outcome) → (outcome.whole ≡ true → (ended : Bool) × (answer ≡ Ok ended)) → (x : Cause) → answer ≡ Err (Lost x) → outcome.cause ≡ None → ⊥
-  not_lost o whole x is none =
-      let not_none : not outcome.whole ≡ false = sym o.cause ∙ ap is_some none in
-      let all : outcome.whole ≡ true = is_whole outcome.whole not_none in
-      let w = whole all in cc (w.1, is)
-    where
-      is_whole : (b : Bool) → not b ≡ false → b ≡ true
-      is_whole true is = refl
-      is_whole false is = absurd (cc (is))
+  abbrev told : List ℕ → Type 0
+  told b = (messages : Texts) (e : Bool) → MessagesOf version b messages e → AreTaken answer t.taken messages e
 
-  caused_by : (o : IsOutcome state limit start q t.taken (mark_of answer) (why_of answer) outcome) → (outcome.whole ≡ true → (ended : Bool) × (answer ≡ Ok ended)) → HasJobCause (grounds_of state version known log.bytes start q) log version o.covered outcome.cause
-  caused_by o whole =
-      ⊎_elim
-      (λ (stop : (outcome.cause ≡ why_of answer) × (o.covered ≡ t.taken)). stopped_by answer o.covered outcome.cause t.caused (not_lost o whole) stop.0 stop.1)
-      (λ (seal : (c : Cause) × (outcome.cause ≡ Some c) × HasSealCause state start q c).
-      subst (HasJobCause (grounds_of state version known log.bytes start q) log version o.covered) (sym seal.1) (of_seal state known start q log version o.covered seal.0 seal.2))
-      o.caused
+  -- the first of the messages taken are the first of the log
+  first_taken : (first : Texts) → IsPrefix first t.taken → AreFirstOf version log.bytes first
+  first_taken first front = if_some log.bytes told (AreFirst version first) (λ b tells messages e is. first_of answer t.taken first messages e front (tells messages e is)) t.told
 
-  pub came_to : (o : LockNamer R A B C) → HasOnlySeen n o → IsOutcome state limit start q t.taken (mark_of answer) (why_of answer) outcome → (outcome.whole ≡ true → (ended : Bool) × (answer ≡ Ok ended))
-      → CameTo state limit version (books_by (types_pass o) (words_pass o)) log start q outcome
-  came_to end seen o whole = record {
-    covered = o.covered;
-    ended = mark_of answer;
-    count = o.count;
-    caused = cause_on (grounds_of state version known log.bytes start q) (grounds_of state version (books_by (types_pass end) (words_pass end)) log.bytes start q) log version o.covered outcome.cause
-        (full_wider version (IsOneOf version log.bytes) (IsOneOf version log.bytes) (λ x is. is) known (books_by (types_pass end) (words_pass end)) (books_on (types_pass n) (types_pass end) (words_pass n) (words_pass end) seen.types seen.words))
-        (λ end need has. has) (λ opened now has. has) (caused_by o whole);
-    done = o.done;
-    first = if_some log.bytes told (AreFirst version o.covered) (λ b tells messages e is. first_of answer t.taken o.covered messages e o.front (tells messages e is)) t.told;
-    all = λ w. if_some log.bytes told (AreAll version o.covered (mark_of answer)) (λ b tells messages e is.
-        all_at_end answer (whole w).0 (whole w).1 t.taken o.covered messages e (o.all w) (tells messages e is)) t.told;
-  }
-    where
-      told : List ℕ → Type 0
-      told b = (messages : Texts) (e : Bool) → MessagesOf version b messages e → AreTaken answer t.taken messages e
+  module _ (books : Books) (o : IsOutcome state limit version books start q t.taken (mark_of answer) (why_of answer) outcome) (whole : outcome.whole ≡ true → (ended : Bool) × (answer ≡ Ok ended)) where
+    not_lost : (x : Cause) → answer ≡ Err (Lost x) → outcome.cause ≡ None → ⊥
+    not_lost x is none =
+        let not_none : not outcome.whole ≡ false = sym o.cause ∙ ap is_some none in
+        let all : outcome.whole ≡ true = is_whole outcome.whole not_none in
+        let w = whole all in cc (w.1, is)
+      where
+        is_whole : (b : Bool) → not b ≡ false → b ≡ true
+        is_whole true is = refl
+        is_whole false is = absurd (cc (is))
 
-  -- what was met, where these messages are sealed
-  few_met : (o : IsOutcome state limit start q t.taken (mark_of answer) (why_of answer) outcome) → length t.learned.met ≤ outcome.messages + unsealed_by limit outcome.cause
-  few_met o =
-      ⊎_elim
-      (λ (stop : (outcome.cause ≡ why_of answer) × (o.covered ≡ t.taken)). few_stopped outcome.cause stop.0 (ap length stop.1))
-      (λ (seal : (c : Cause) × (outcome.cause ≡ Some c) × HasSealCause state start q c).
-      let rows : unsealed_by limit outcome.cause ≡ limit = ap (unsealed_by limit) seal.1 ∙ all_in_hand state limit start q seal.0 seal.2 in omega (arith, rows, t.learned.few, o.few, o.count))
-      o.caused
-    where
-      few_stopped : (c : Option Cause) → c ≡ why_of answer → length o.covered ≡ length t.taken → length t.learned.met ≤ outcome.messages + unsealed_by limit c
-      few_stopped c is size =
-          let le : refused_by c ≤ unsealed_by limit c = one_unsealed limit c in let same : refused_by c ≡ refused_by (why_of answer) = ap refused_by is in omega (arith, le, same, size, t.learned.few, o.count)
+    caused_by : ((book : Which) → IsMore (book_of known book) (book_of books book)) → HasJobCause (grounds_of state limit version books log.bytes start q) log version o.covered outcome.cause
+    caused_by more =
+        ⊎_elim
+        (λ (stop : (outcome.cause ≡ why_of answer) × (o.covered ≡ t.taken)).
+        cause_on (grounds_of state limit version known log.bytes start q) (grounds_of state limit version books log.bytes start q) log version o.covered outcome.cause
+        (full_wider version (IsOneOf version log.bytes) (IsOneOf version log.bytes) (λ x is. is) known books more)
+        (found_on state limit version known books (AreFirstOf version log.bytes) (AreFirstOf version log.bytes) start q more (λ ms first. first) o.covered) (λ opened now has. has)
+        (stopped_by answer o.covered outcome.cause t.caused not_lost stop.0 stop.1))
+        (λ (seal : (c : Cause) × (outcome.cause ≡ Some c) × HasSealCause state (FoundNoRoom state limit version books (λ first. IsPrefix first t.taken) start q o.covered) start q c).
+        subst (HasJobCause (grounds_of state limit version books log.bytes start q) log version o.covered) (sym seal.1)
+        (of_seal state limit books start q log version o.covered _
+        (found_on state limit version books books (λ first. IsPrefix first t.taken) (AreFirstOf version log.bytes) start q (λ book. more_self (book_of books book)) first_taken o.covered) seal.0 seal.2))
+        o.caused
 
-  -- the whole job
-  pub took_few : (end : LockNamer R A B C) → version ≡ m.version → EndBoth state (spare_of (stop_in answer)) p q n end → IsOutcome state limit start q t.taken (mark_of answer) (why_of answer) outcome
-      → TakesFewOf state limit log.bytes outcome start q m end
-  took_few end same ends o = record {
-    met = t.learned.met;
-    are = record {
-      first = subst (λ v. AreFirstOf v log.bytes t.learned.met) same t.learned.first;
-      covered = o.covered;
-      ended = mark_of answer;
-      done = o.done;
-      count = o.count;
-      front = prefix_trans o.covered t.taken t.learned.met o.front t.learned.front;
-      few = few_met o;
-    };
-    few = take_few state (Contains t.learned.met) (stop_in answer) start p q m n end t.learned.learned ends;
-  }
+  pub came_to : (m : LockNamer R A B C) → HasOnlySeen n m → (v : ℕ) → v ≡ version → IsOutcome state limit v (books_by (types_pass m) (words_pass m)) start q t.taken (mark_of answer) (why_of answer) outcome → (outcome.whole ≡ true → (ended : Bool) × (answer ≡ Ok ended))
+      → CameTo state limit version (books_by (types_pass m) (words_pass m)) log start q outcome
+  came_to m seen v same at_v whole =
+      let o : IsOutcome state limit version (books_by (types_pass m) (words_pass m)) start q t.taken (mark_of answer) (why_of answer) outcome
+      = subst (λ x. IsOutcome state limit x (books_by (types_pass m) (words_pass m)) start q t.taken (mark_of answer) (why_of answer) outcome) same at_v in record {
+        covered = o.covered;
+        ended = mark_of answer;
+        count = o.count;
+        caused = caused_by (books_by (types_pass m) (words_pass m)) o whole (books_on (types_pass n) (types_pass m) (words_pass n) (words_pass m) seen.types seen.words);
+        done = o.done;
+        first = if_some log.bytes told (AreFirst version o.covered) (λ b tells messages e is. first_of answer t.taken o.covered messages e o.front (tells messages e is)) t.told;
+        all = λ w. if_some log.bytes told (AreAll version o.covered (mark_of answer)) (λ b tells messages e is.
+            all_at_end answer (whole w).0 (whole w).1 t.taken o.covered messages e (o.all w) (tells messages e is)) t.told;
+      }
+
+  module _ (v : ℕ) (books : Books) (o : IsOutcome state limit v books start q t.taken (mark_of answer) (why_of answer) outcome) where
+    -- what was met, where these messages are sealed
+    few_met : length t.learned.met ≤ outcome.messages + unsealed_by limit outcome.cause
+    few_met =
+        ⊎_elim
+        (λ (stop : (outcome.cause ≡ why_of answer) × (o.covered ≡ t.taken)). few_stopped outcome.cause stop.0 (ap length stop.1))
+        (λ (seal : (c : Cause) × (outcome.cause ≡ Some c) × HasSealCause state (FoundNoRoom state limit v books (λ first. IsPrefix first t.taken) start q o.covered) start q c).
+        let rows : unsealed_by limit outcome.cause ≡ limit = ap (unsealed_by limit) seal.1 ∙ all_in_hand state _ limit start q seal.0 seal.2 in omega (arith, rows, t.learned.few, o.few, o.count))
+        o.caused
+      where
+        few_stopped : (c : Option Cause) → c ≡ why_of answer → length o.covered ≡ length t.taken → length t.learned.met ≤ outcome.messages + unsealed_by limit c
+        few_stopped c is size =
+            let le : refused_by c ≤ unsealed_by limit c = one_unsealed limit c in let same : refused_by c ≡ refused_by (why_of answer) = ap refused_by is in omega (arith, le, same, size, t.learned.few, o.count)
+
+    -- the whole job
+    pub took_few : (end : LockNamer R A B C) → version ≡ m.version → EndBoth state (spare_of (stop_in answer)) p q n end → TakesFewOf state limit log.bytes outcome start q m end
+    took_few end same ends = record {
+      met = t.learned.met;
+      are = record {
+        first = subst (λ v. AreFirstOf v log.bytes t.learned.met) same t.learned.first;
+        covered = o.covered;
+        ended = mark_of answer;
+        done = o.done;
+        count = o.count;
+        front = prefix_trans o.covered t.taken t.learned.met o.front t.learned.front;
+        few = few_met;
+      };
+      few = take_few state (Contains t.learned.met) (stop_in answer) start p q m n end t.learned.learned ends;
+    }
 
 -- before any message, all that were met are sealed
 pub met_none : {D R A B C : Type 0} (state : D → DiskState) (limit : ℕ) (books : Books) (log : Log) (p : KeeperPass D) (m : LockNamer R A B C) (o : Outcome) → CameTo state limit m.version books log p p o → TakesFewOf state limit log.bytes o p p m m

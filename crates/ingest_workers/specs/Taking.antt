@@ -16,13 +16,13 @@ use Rattle.ingest_workers.specs.declared.hand.Hand.{Hand}
 use Rattle.ingest_workers.specs.declared.outcome.Cause.{Cause}
 use Rattle.ingest_workers.specs.declared.stop.Stop.{Stop}
 use Rattle.ingest_workers.specs.declared.stop.Stop.TheVariants.{Part, Lost}
-use Rattle.ingest_workers.specs.Causes.{Log, HasLogCause, HasSealCause, NoneFailed}
+use Rattle.ingest_workers.specs.Causes.{Log, HasLogCause, NoneFailed}
 pub use Rattle.ingest_workers.specs.Full.{IsOneOf}
-use Rattle.ingest_workers.specs.Full.{WasFullFor, books_by}
-use Rattle.ingest_workers.specs.Doing.{Covering, Doing}
+use Rattle.ingest_workers.specs.Full.{AreFirstOf, WasFullFor, books_by}
+use Rattle.ingest_workers.specs.Doing.{Doing, NotSealed}
 use Rattle.ingest_workers.specs.Namer.{types_pass, words_pass}
 use Rattle.ingest_workers.specs.Stop.{refused_by}
-use Rattle.ingest_workers.specs.Turns.{AreFirstOf, LearnBoth, stop_in}
+use Rattle.ingest_workers.specs.Turns.{LearnBoth, stop_in}
 
 -- what became of the source: its name is the same, and its count of faults did not fall
 pub record KeepsSource {S : Type 0} (name : S → Option (List ℕ)) (faults : S → ℕ) (old new : S) : Type 0 where
@@ -68,7 +68,7 @@ module _ {D R A B C : Type 0} where
   abbrev pub StopsAt : (D → DiskState) → ℕ → KeeperPass D → KeeperPass D → LockNamer R A B C → Hand → List (List ℕ) → Result Bool Stop → Type 0
   StopsAt state limit start p n hand taken (Ok ended) = Doing state limit start p n hand taken × (ended ≡ false → last_is_open taken ≡ true)
   StopsAt state limit start p n hand taken (Err (Part cause)) = Doing state limit start p n hand taken
-  StopsAt state limit start p n hand taken (Err (Lost cause)) = Covering state limit start p hand taken × HasSealCause state start p cause
+  StopsAt state limit start p n hand taken (Err (Lost cause)) = NotSealed state limit start p n hand taken cause
 
   -- Since the pass was `start` and the namer `m`, the worker met the first messages of these bytes: those that it took, and the one that a full dictionary
   -- stopped. What the caches learned meanwhile are texts of them.

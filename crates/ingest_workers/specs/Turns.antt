@@ -1,5 +1,5 @@
 -- How many turns a worker takes with the two books.
-use Rattle.std.specs.Prelude.{◌≡◌, ◌⊎◌, ℕ, ◌+◌, ◌≤◌, Bool, List, ◌++◌, length, Option, None, Some, Result, Ok, Err, All, IfSome}
+use Rattle.std.specs.Prelude.{◌≡◌, ◌⊎◌, ℕ, ◌+◌, ◌≤◌, Bool, List, ◌++◌, length, Option, None, Some, Result, Ok, Err, All}
 use Rattle.std.specs.List.{Contains}
 use mathlib.Core.List.{IsPrefix}
 use Rattle.log_seams.specs.Disk.{DiskState}
@@ -9,7 +9,6 @@ use Rattle.row_codec.specs.declared.namer.NameRefusal.{NameRefusal}
 use Rattle.row_codec.specs.declared.namer.Which.{Which}
 use Rattle.row_codec.specs.Messages.{IsTypeOf, IsWordOf}
 use Rattle.row_codec.specs.Naming.{AsksFor}
-use Rattle.message_reader.specs.Versions.{MessagesOf}
 use Rattle.disk_seal.specs.declared.namer.LockNamer.{LockNamer}
 use Rattle.disk_seal.specs.Fixed.{KeeperPass}
 use Rattle.disk_seal.specs.Naming.{Side, types_side, words_side}
@@ -19,6 +18,7 @@ use Rattle.ingest_workers.specs.declared.outcome.Outcome.{Outcome}
 use Rattle.ingest_workers.specs.declared.stop.Stop.{Stop}
 use Rattle.ingest_workers.specs.declared.stop.Stop.TheVariants.{Part, Lost}
 use Rattle.ingest_workers.specs.Done.{HasDone}
+use Rattle.ingest_workers.specs.Full.{AreFirstOf}
 use Rattle.ingest_workers.specs.Journal.{WhereTold, sealed_by}
 use Rattle.ingest_workers.specs.Stop.{stop_by}
 
@@ -118,10 +118,6 @@ module _ {R A B C : Type 0} where
     pub words : (words_side n).turns ≤ (words_side m).turns + 1
 
 -- ---- a job
-
--- the messages are the first ones that these bytes have in this version, where they are told
-abbrev pub AreFirstOf : ℕ → Option (List ℕ) → List (List ℕ) → Type 0
-AreFirstOf version bytes met = IfSome bytes (λ b. (messages : List (List ℕ)) (ended : Bool) → MessagesOf version b messages ended → IsPrefix met messages)
 
 -- How many messages of a job may have been met that are not sealed. A log that cannot be read on leaves none, a full dictionary the one that it stops, and a
 -- segment that was refused, or want of memory, those that were in hand.
