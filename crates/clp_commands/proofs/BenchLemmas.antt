@@ -12,7 +12,7 @@ use Rattle.archive_meaning.specs.declared.entry.JournalEntry.{JournalEntry}
 use Rattle.archive_meaning.specs.Stands.{StandsFor}
 use Rattle.archive_open.specs.Shown.{RefusedAt}
 use Rattle.clp_commands.specs.Around.{Around}
-use Rattle.clp_commands.specs.Benched.{AddsLogs, EndsLogs, IsSpared, IsTakenWhole, PrintsSummary, SumsUp, TellsParts, generated_names, with_logs}
+use Rattle.clp_commands.specs.Benched.{AddsLogs, EndsLogs, IsSpared, IsTakenWhole, PrintsSummary, SumsUp, TellsParts, generated_names, segment_rows, with_logs}
 use Rattle.clp_commands.specs.Ending.{EndsWith, SaysIn, Stayed, TookNothing}
 use Rattle.clp_commands.specs.Going.{DiskGoesOn}
 use Rattle.clp_commands.specs.IngestPrints.{came_of, names_of}
@@ -122,7 +122,7 @@ sums_sooner came seen old mid new status low sums = record {
 
 pub logs_added : (content : List ℕ → Option (List ℕ)) (names : List (List ℕ)) (files : List TakenFile) (seen : Around) (old mid new : DiskState) (status : ℕ) → names ≡ generated_names → names_of files ≡ names → IsLawful mid → DiskGoesOn old mid
     → KeepsBytes mid new → mid.faults ≤ new.faults → FromArchive old (λ h before bytes stood. TakesIn content h before stood names (map came_of files) old mid)
-    → HaveFileCauses (logs_of (with_logs content seen)) old new (map came_of files) → All IsSpared (map came_of files) → TellsParts (map came_of files) seen status ⊎ SumsUp (map came_of files) seen mid new status
+    → HaveFileCauses (logs_of (with_logs content seen)) segment_rows old new (map came_of files) → All IsSpared (map came_of files) → TellsParts (map came_of files) seen status ⊎ SumsUp (map came_of files) seen mid new status
     → EndsLogs content seen old new status
 logs_added content names files seen old mid new status four named law goes keeps counts takes causes spared told =
     let adds : AddsLogs content names seen old new status = record {

@@ -15,7 +15,7 @@ use Rattle.disk_journal.specs.declared.refusals.CreateRefusal.{CreateRefusal}
 use Rattle.disk_journal.specs.declared.refusals.CreateRefusal.TheVariants.{DiskFault as CreateDiskFault, NotEmpty as CreateNotEmpty}
 use Rattle.generated_logs.specs.Logs.{content_of as generated}
 use Rattle.clp_commands.specs.Around.{Around}
-use Rattle.clp_commands.specs.Benched.{AnswersBench, EndsBench, FromEmpty, HasLogsCause, IsSpared, IsTakenWhole, MayRefuseLog, MeetsNoLimit, MetNoLimit, PrintsSummary, RefusesLogs, RefusesMaking, SumsUp, SumsUpAll, TakesLogs, TellsParts, TellsSummary, as_made, at_moment, default_header, generated_names, with_logs}
+use Rattle.clp_commands.specs.Benched.{AnswersBench, EndsBench, FromEmpty, HasLogsCause, IsSpared, IsTakenWhole, MayRefuseLog, MeetsNoLimit, MetNoLimit, PrintsSummary, RefusesLogs, RefusesMaking, SumsUp, SumsUpAll, TakesLogs, TellsParts, TellsSummary, as_made, at_moment, default_header, generated_names, with_logs, segment_rows}
 use Rattle.clp_commands.specs.Ending.{EndsWith, RoseIn}
 use Rattle.clp_commands.specs.Ingested.{Came, CameOfFile, HasFileCause, StandsForEither, TakesIn}
 use Rattle.clp_commands.specs.Outcome.{answer_of, of_read}
@@ -34,31 +34,31 @@ IsFree r = (r ≡ None) ⊎ (r ≡ Some OutOfMemory)
 abbrev IsFreeOf : Came → Type 0
 IsFreeOf c = IsFree c.refusal
 
-one_free : (names : List (List ℕ)) (seen : Around) (old new : DiskState) (c : Came) (r : Option Refusal) → HasFileCause names seen old new c r → MayRefuseLog r → MeetsNoLimit r → ¬ Rose old.faults new.faults → IsFree r
-one_free names seen old new c None cause may met steady = inl refl
-one_free names seen old new c (Some Refusal.OutOfMemory) cause may met steady = inr refl
-one_free names seen old new c (Some Refusal.DiskFault) cause may met steady = absurd (steady cause)
-one_free names seen old new c (Some (Refusal.Full book count)) cause may met steady = absurd met
-one_free names seen old new c (Some (Refusal.ArchiveFull end need)) cause may met steady = absurd met
-one_free names seen old new c (Some Refusal.OpenFault) cause may met steady = absurd may
-one_free names seen old new c (Some Refusal.ReadFault) cause may met steady = absurd may
-one_free names seen old new c (Some (Refusal.LineTooLong line)) cause may met steady = absurd may
-one_free names seen old new c (Some Refusal.TooManyLines) cause may met steady = absurd may
-one_free names seen old new c (Some Refusal.Usage) cause may met steady = absurd may
-one_free names seen old new c (Some (Refusal.BadPattern at)) cause may met steady = absurd may
-one_free names seen old new c (Some (Refusal.Damaged at)) cause may met steady = absurd may
-one_free names seen old new c (Some Refusal.SinkFault) cause may met steady = absurd may
-one_free names seen old new c (Some (Refusal.NotEmpty len)) cause may met steady = absurd may
-one_free names seen old new c (Some (Refusal.NoSuchFile number count)) cause may met steady = absurd may
-one_free names seen old new c (Some (Refusal.NameTooLong index)) cause may met steady = absurd may
-one_free names seen old new c (Some (Refusal.TooManyFiles held more)) cause may met steady = absurd may
+one_free : (rows : ℕ) (names : List (List ℕ)) (seen : Around) (old new : DiskState) (c : Came) (r : Option Refusal) → HasFileCause rows names seen old new c r → MayRefuseLog r → MeetsNoLimit r → ¬ Rose old.faults new.faults → IsFree r
+one_free rows names seen old new c None cause may met steady = inl refl
+one_free rows names seen old new c (Some Refusal.OutOfMemory) cause may met steady = inr refl
+one_free rows names seen old new c (Some Refusal.DiskFault) cause may met steady = absurd (steady cause)
+one_free rows names seen old new c (Some (Refusal.Full book count)) cause may met steady = absurd met
+one_free rows names seen old new c (Some (Refusal.ArchiveFull end need)) cause may met steady = absurd met
+one_free rows names seen old new c (Some Refusal.OpenFault) cause may met steady = absurd may
+one_free rows names seen old new c (Some Refusal.ReadFault) cause may met steady = absurd may
+one_free rows names seen old new c (Some (Refusal.LineTooLong line)) cause may met steady = absurd may
+one_free rows names seen old new c (Some Refusal.TooManyLines) cause may met steady = absurd may
+one_free rows names seen old new c (Some Refusal.Usage) cause may met steady = absurd may
+one_free rows names seen old new c (Some (Refusal.BadPattern at)) cause may met steady = absurd may
+one_free rows names seen old new c (Some (Refusal.Damaged at)) cause may met steady = absurd may
+one_free rows names seen old new c (Some Refusal.SinkFault) cause may met steady = absurd may
+one_free rows names seen old new c (Some (Refusal.NotEmpty len)) cause may met steady = absurd may
+one_free rows names seen old new c (Some (Refusal.NoSuchFile number count)) cause may met steady = absurd may
+one_free rows names seen old new c (Some (Refusal.NameTooLong index)) cause may met steady = absurd may
+one_free rows names seen old new c (Some (Refusal.TooManyFiles held more)) cause may met steady = absurd may
 
-all_free : (names : List (List ℕ)) (seen : Around) (old new : DiskState) (came : List Came) → All (CameOfFile names seen old new) came → All IsSpared came → All (λ (c : Came). MeetsNoLimit c.refusal) came → ¬ Rose old.faults new.faults → All IsFreeOf came
-all_free names seen old new [] each spared met steady = All-nil IsFreeOf
-all_free names seen old new (c ∷ came) each spared met steady =
-    let one : CameOfFile names seen old new c = All-head (CameOfFile names seen old new) c came each in
-    All-cons IsFreeOf c came (one_free names seen old new c c.refusal one.cause (All-head IsSpared c came spared) (All-head (λ (x : Came). MeetsNoLimit x.refusal) c came met) steady)
-    (all_free names seen old new came (All-tail (CameOfFile names seen old new) c came each) (All-tail IsSpared c came spared) (All-tail (λ (x : Came). MeetsNoLimit x.refusal) c came met) steady)
+all_free : (rows : ℕ) (names : List (List ℕ)) (seen : Around) (old new : DiskState) (came : List Came) → All (CameOfFile rows names seen old new) came → All IsSpared came → All (λ (c : Came). MeetsNoLimit c.refusal) came → ¬ Rose old.faults new.faults → All IsFreeOf came
+all_free rows names seen old new [] each spared met steady = All-nil IsFreeOf
+all_free rows names seen old new (c ∷ came) each spared met steady =
+    let one : CameOfFile rows names seen old new c = All-head (CameOfFile rows names seen old new) c came each in
+    All-cons IsFreeOf c came (one_free rows names seen old new c c.refusal one.cause (All-head IsSpared c came spared) (All-head (λ (x : Came). MeetsNoLimit x.refusal) c came met) steady)
+    (all_free rows names seen old new came (All-tail (CameOfFile rows names seen old new) c came each) (All-tail IsSpared c came spared) (All-tail (λ (x : Came). MeetsNoLimit x.refusal) c came met) steady)
 
 abbrev statuses : List Came → List ℕ
 statuses came = map (λ (c : Came). file_status c.refusal) came
@@ -141,7 +141,7 @@ module _ (number lines : ℕ) (seen : Around) (old new : DiskState) (status : �
 
   logs_taken : ¬ Rose old.faults new.faults → ¬ RoseIn seen.out_faults → All (λ (c : Came). MeetsNoLimit c.refusal) takes.came → TellsParts takes.came seen status ⊎ SumsUp takes.came seen old new status → SumsUpAll lines seen new status
   logs_taken steady sent met (inl parts) =
-      inr (parts.status_is ∙ parts_free takes.came (all_free generated_names (with_logs (generated number lines) seen) (as_made old) new takes.came takes.each takes.spared met steady) parts.part)
+      inr (parts.status_is ∙ parts_free takes.came (all_free segment_rows generated_names (with_logs (generated number lines) seen) (as_made old) new takes.came takes.each takes.spared met steady) parts.part)
   logs_taken steady sent met (inr sums) =
       let same : sum_by (λ (c : Came). c.messages) takes.came ≡ 4 * lines = subst (λ (o : Option (List ℕ)). IfSome o (λ _. sum_by (λ (c : Came). c.messages) takes.came ≡ 4 * lines)) none (takes.all sums.whole) in
       sums_complete lines seen old new status _ steady sent same sums.answer sums.ends sums.prints sums.disk sums.sink (λ at e. none_damaged at (sums.damaged at e))

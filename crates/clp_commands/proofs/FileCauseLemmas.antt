@@ -7,7 +7,7 @@ use Rattle.std.proofs.lemmas.Option.{IfSome_then, get_or_from_slice_get, slice_g
 use Rattle.log_seams.specs.declared.disk.Disk.{Ghosts as DiskGhosts}
 use Rattle.log_seams.specs.declared.refusals.OpenRefused.{OpenRefused}
 use Rattle.log_seams.specs.declared.refusals.OpenRefused.TheVariants.{Failed, OutOfMemory}
-use Rattle.log_seams.specs.Disk.{DiskState}
+use Rattle.log_seams.specs.Disk.{DiskState, IsLawful}
 use Rattle.log_seams.specs.Outside.{Rose}
 use Rattle.log_seams.proofs.MomentLemmas.{rose}
 use Rattle.log_sources.specs.declared.source.LogSource.{LogSource}
@@ -16,6 +16,7 @@ use Rattle.log_sources.specs.Sources.{CameOf, IsCounted, IsOpened, faults_in, is
 use Rattle.record_format.specs.declared.header.Header.{Header}
 use Rattle.disk_journal.specs.declared.journal.Journal.{Journal}
 use Rattle.disk_journal.specs.Journal.{state_of}
+use Rattle.archive_meaning.specs.declared.entry.JournalEntry.{JournalEntry}
 use Rattle.disk_seal.specs.View.{StoreView}
 use Rattle.disk_seal.proofs.ToldLemmas.{told_map}
 use Rattle.row_codec.specs.declared.namer.Which.{Which}
@@ -26,7 +27,7 @@ use Rattle.ingest_workers.specs.declared.job.Job.{Job}
 use Rattle.ingest_workers.specs.declared.outcome.Cause.{Cause}
 use Rattle.ingest_workers.specs.declared.outcome.Outcome.{Outcome}
 use Rattle.ingest_workers.specs.Causes.{HasJobCause, Log, log_of}
-use Rattle.ingest_workers.specs.Ingested.{AreRefused, HasItsCause, HasStored, HaveCauses, IsAsItWas, IsFullByGiven as IsFullByJobs, IsThereOrGiven as IsThereOrGivenByJobs, grounds_over, not_begun, plan_of, told_entries}
+use Rattle.ingest_workers.specs.Ingested.{AreRefused, HadNoRoomOver, HasItsCause, HasStored, HaveCauses, IsAsItWas, IsFullByGiven as IsFullByJobs, IsThereOrGiven as IsThereOrGivenByJobs, WereGiven as WereGivenByJobs, grounds_over, not_begun, plan_of, told_entries}
 use Rattle.ingest_workers.specs.Outcome.{nothing_done}
 use Rattle.clp_commands.specs.IngestPrints.{came_of}
 use Rattle.clp_commands.specs.Ingested.{Came, HasMoreThan, IsThereOrGiven}
@@ -35,6 +36,7 @@ use Rattle.clp_commands.specs.StepsCauses.{CameIn, HasCauseIn, Logs, Target, int
 use Rattle.clp_commands.specs.Printing.{IsLong, most_messages}
 use Rattle.clp_commands.specs.declared.refusal.Refusal.{Refusal}
 use Rattle.clp_commands.specs.declared.taken.TakenFile.{TakenFile}
+use Rattle.clp_commands.proofs.FitLemmas.{fit_of_job}
 use Rattle.clp_commands.proofs.LineLemmas.{long_behind}
 use Rattle.clp_commands.proofs.TakeInLemmas.{CameOfLog}
 
@@ -82,10 +84,13 @@ module _ {S : Type 0} (left name : S → Option (List ℕ)) (faults : S → ℕ)
 
   module _ {D : Type 0} {d : DiskGhosts D} (j after : Journal D d) (names : List (List ℕ)) (rows first : ℕ) (js : List (Job (LogSource S))) (of : AreJobsOf (left_in left) logs.content j.header.version names first js) (c : Came) where
     abbrev into : Target
-    into = into_journal (state_of j) names
+    into = into_journal (state_of j) rows first names
 
     abbrev full : Which → ℕ → Type 0
     full = IsFullByJobs (left_in left) (plan_of rows j) js j
+
+    abbrev has_texts : List JournalEntry → Which → List (List ℕ) → Type 0
+    has_texts = WereGivenByJobs (left_in left) (plan_of rows j) js
 
     abbrev In : Type 0
     In = CameIn logs into (d.state j.disk.now) (d.state after.disk.now) c
@@ -101,21 +106,22 @@ module _ {S : Type 0} (left name : S → Option (List ℕ)) (faults : S → ℕ)
     of_given WhichWords t (inr given) = inr (given.0, given_of_names (left_in left) logs.content j.header.version names first js of given.0 given.1, given.2)
 
     -- the cause of a job
-    job_cause : (log : Log) (sealed : List (List ℕ)) (o : Option Cause) → HasJobCause (grounds_over full j after) log j.header.version sealed o → is_some o ≡ not c.whole → c.messages ≡ length sealed → log.bytes ≡ logs.content c.name
+    job_cause : (file : ℕ) (log : Log) (sealed : List (List ℕ)) (o : Option Cause) → HasJobCause (grounds_over full has_texts (plan_of rows j) file log.bytes j after) log j.header.version sealed o
+        → ((end need : ℕ) → HadNoRoomOver has_texts (plan_of rows j) file log.bytes j after sealed end need → CauseIn (Some (Refusal.ArchiveFull end need))) → is_some o ≡ not c.whole → c.messages ≡ length sealed → log.bytes ≡ logs.content c.name
         → (Rose log.faults log.faults_now → Rose (logs.reads c.name).0 (logs.reads c.name).1) → CauseIn (option_map of_cause o)
-    job_cause log sealed None has whole count bytes up = not_false c.whole whole
+    job_cause file log sealed None has fits whole count bytes up = not_false c.whole whole
       where
         not_false : (b : Bool) → false ≡ not b → b ≡ true
         not_false true is = refl
         not_false false is = absurd (cc (is))
-    job_cause log sealed (Some Cause.ReadFault) has whole count bytes up = up has.0
-    job_cause log sealed (Some (Cause.LineTooLong line)) has whole count bytes up =
+    job_cause file log sealed (Some Cause.ReadFault) has fits whole count bytes up = up has.0
+    job_cause file log sealed (Some (Cause.LineTooLong line)) has fits whole count bytes up =
         subst (λ (o : Option (List ℕ)). IfSome o (λ b. IsLong b line)) bytes (IfSome_then log.bytes has.2 (λ b before. long_behind j.header.version sealed b line has.1 before))
-    job_cause log sealed (Some Cause.TooManyLines) has whole count bytes up = (count ∙ has.1, subst (λ (o : Option (List ℕ)). HasMoreThan most_messages j.header.version o) bytes has.2)
-    job_cause log sealed (Some (Cause.Full book n)) has whole count bytes up = told_map (is_some (state_of j).disk.seen) (λ is. (is.0, more_wider _ _ (of_given book) n is.1)) has.1
-    job_cause log sealed (Some (Cause.DiskFault opened now)) has whole count bytes up = subst (λ n. Rose n (d.state after.disk.now).faults) has.0 has.1
-    job_cause log sealed (Some Cause.OutOfMemory) has whole count bytes up = tt
-    job_cause log sealed (Some (Cause.ArchiveFull end need)) has whole count bytes up = has
+    job_cause file log sealed (Some Cause.TooManyLines) has fits whole count bytes up = (count ∙ has.1, subst (λ (o : Option (List ℕ)). HasMoreThan most_messages j.header.version o) bytes has.2)
+    job_cause file log sealed (Some (Cause.Full book n)) has fits whole count bytes up = told_map (is_some (state_of j).disk.seen) (λ is. (is.0, more_wider _ _ (of_given book) n is.1)) has.1
+    job_cause file log sealed (Some (Cause.DiskFault opened now)) has fits whole count bytes up = subst (λ n. Rose n (d.state after.disk.now).faults) has.0 has.1
+    job_cause file log sealed (Some Cause.OutOfMemory) has fits whole count bytes up = tt
+    job_cause file log sealed (Some (Cause.ArchiveFull end need)) has fits whole count bytes up = fits end need has
 
     not_whole : (o : Option Cause) (w : Bool) → is_some o ≡ not w → option_map of_cause o ≢ None → w ≡ false
     not_whole None w is some = absurd (some refl)
@@ -125,16 +131,19 @@ module _ {S : Type 0} (left name : S → Option (List ℕ)) (faults : S → ℕ)
     -- the job was done
     done_in : (s : LogSource S) (old done : Job (LogSource S)) → CameFrom c.name s → old.source ≡ Some s → old.is_open ≡ is_opened s
         → c.messages ≡ done.outcome.messages → c.whole ≡ done.outcome.whole → c.refusal ≡ refusal_by (refusal_of s) done.outcome.cause
-        → HasItsCause full (left_in left) (name_in name) (faults_in faults) (plan_of rows j) j after old done → (old.is_open ≡ true → is_some done.outcome.cause ≡ not done.outcome.whole) → (old.is_open ≡ false → done.outcome ≡ nothing_done)
+        → HasItsCause full has_texts (left_in left) (name_in name) (faults_in faults) (plan_of rows j) j after old done
+        → ((bytes : Option (List ℕ)) → bytes ≡ logs.content c.name → (sealed : List (List ℕ)) → c.messages ≡ length sealed → (end need : ℕ) → HadNoRoomOver has_texts (plan_of rows j) old.file bytes j after sealed end need → CauseIn (Some (Refusal.ArchiveFull end need)))
+        → (old.is_open ≡ true → is_some done.outcome.cause ≡ not done.outcome.whole) → (old.is_open ≡ false → done.outcome ≡ nothing_done)
         → ((t : LogSource S) → done.source ≡ Some t → IsCounted name faults reads reads_now t) → In
-    done_in (Unopened cause n) old done came has as_opened messages whole refusal its opened unopened counted =
+    done_in (Unopened cause n) old done came has as_opened messages whole refusal its fits opened unopened counted =
         let none = unopened as_opened in
         opening_in into (d.state j.disk.now) (d.state after.disk.now) c cause n came (messages ∙ ap (λ (o : Outcome). o.messages) none) (whole ∙ ap (λ (o : Outcome). o.whole) none) refusal
-    done_in (Opened s) old done came has as_opened messages whole refusal its opened unopened counted =
+    done_in (Opened s) old done came has as_opened messages whole refusal its fits opened unopened counted =
         let is : its.source.before ≡ Opened s = some_is its.source.before (Opened s) (sym its.source.had ∙ has) in
         let either : is_some done.outcome.cause ≡ not c.whole = opened as_opened ∙ ap not (sym whole) in
         came_in logs into (d.state j.disk.now) (d.state after.disk.now) c (option_map of_cause done.outcome.cause) refusal
-        (job_cause (log_of (left_in left) (faults_in faults) its.source.before its.source.after) its.sealed done.outcome.cause its.cause either (messages ∙ its.count) (ap (left_in left) is ∙ came.left_is)
+        (job_cause old.file (log_of (left_in left) (faults_in faults) its.source.before its.source.after) its.sealed done.outcome.cause its.cause
+        (fits (left_in left its.source.before) (ap (left_in left) is ∙ came.left_is) its.sealed (messages ∙ its.count)) either (messages ∙ its.count) (ap (left_in left) is ∙ came.left_is)
         (λ up. reads_rose c.name s its.source.after came (its.source.keeps.named ∙ ap (name_in name) is) (counted its.source.after its.source.has) (subst (λ n. Rose n (faults_in faults its.source.after)) (ap (faults_in faults) is) up)))
         (not_whole done.outcome.cause c.whole either)
       where
@@ -152,7 +161,7 @@ module _ {S : Type 0} (left name : S → Option (List ℕ)) (faults : S → ℕ)
 
   module _ {D : Type 0} {d : DiskGhosts D} (j after : Journal D d) (names : List (List ℕ)) (rows first : ℕ) (js js' : List (Job (LogSource S))) (of : AreJobsOf (left_in left) logs.content j.header.version names first js) (came : List Came) (each : (i : ℕ) (c : Came) → slice_get came i ≡ Some c → CameOfLog CameFrom js js' i c) where
     abbrev AllIn : Type 0
-    AllIn = All (CameIn logs (into_journal (state_of j) names) (d.state j.disk.now) (d.state after.disk.now)) came
+    AllIn = All (CameIn logs (into_journal (state_of j) rows first names) (d.state j.disk.now) (d.state after.disk.now)) came
 
     source_at : (given : List (LogSource S)) → map Some given ≡ sources_of js' → (i : ℕ) (done : Job (LogSource S)) (t : LogSource S) → slice_get js' i ≡ Some done → done.source ≡ Some t → slice_get given i ≡ Some t
     source_at given are i done t at has = go (slice_get given i)
@@ -162,16 +171,17 @@ module _ {S : Type 0} (left name : S → Option (List ℕ)) (faults : S → ℕ)
         go None is = absurd (cc (is))
         go (Some u) is = cc (is, has)
 
-    pub all_done : (store : StoreView D) → HasStored (left_in left) (plan_of rows j) js js' j after store → HaveCauses (left_in left) (name_in name) (faults_in faults) (plan_of rows j) j after js js'
+    pub all_done : IsLawful (d.state after.disk.now) → map (λ (c : Came). c.name) came ≡ names → (store : StoreView D) → HasStored (left_in left) (plan_of rows j) js js' j after store → HaveCauses (left_in left) (name_in name) (faults_in faults) (plan_of rows j) j after js js'
         → (given : List (LogSource S)) → map Some given ≡ sources_of js' → All (IsCounted name faults reads reads_now) given → AllIn
-    all_done store stored causes given are counted = each_of (CameIn logs (into_journal (state_of j) names) (d.state j.disk.now) (d.state after.disk.now)) came (λ i c at.
+    all_done law named store stored causes given are counted = each_of (CameIn logs (into_journal (state_of j) rows first names) (d.state j.disk.now) (d.state after.disk.now)) came (λ i c at.
         let one = each i c at in
         let file = stored.files i one.old one.at in
         let same : file.0 ≡ one.done = some_is file.0 one.done (sym file.1 ∙ one.at_done) in
         let cause = causes.each i one.old one.at in
         let alike : cause.0 ≡ one.done = some_is cause.0 one.done (sym cause.1 ∙ one.at_done) in
-        let its = subst (λ (x : Job (LogSource S)). HasItsCause (IsFullByJobs (left_in left) (plan_of rows j) js j) (left_in left) (name_in name) (faults_in faults) (plan_of rows j) j after one.old x) alike cause.2 in
+        let its = subst (λ (x : Job (LogSource S)). HasItsCause (IsFullByJobs (left_in left) (plan_of rows j) js j) (WereGivenByJobs (left_in left) (plan_of rows j) js) (left_in left) (name_in name) (faults_in faults) (plan_of rows j) j after one.old x) alike cause.2 in
         done_in j after names rows first js of c one.source one.old one.done one.came one.has one.opened one.messages one.whole one.refusal its
+        (fit_of_job (left_in left) logs.content j after names rows first js of law store stored.left_by i one.old one.at c (name_at i c at))
         (subst (λ (x : Job (LogSource S)). one.old.is_open ≡ true → is_some x.outcome.cause ≡ not x.outcome.whole) same file.2.cause)
         (subst (λ (x : Job (LogSource S)). one.old.is_open ≡ false → x.outcome ≡ nothing_done) same file.2.unopened)
         (λ t has. at_of (IsCounted name faults reads reads_now) given i t counted (source_at given are i one.done t one.at_done has)))
@@ -179,8 +189,11 @@ module _ {S : Type 0} (left name : S → Option (List ℕ)) (faults : S → ℕ)
         some_is : (x y : Job (LogSource S)) → Some x ≡ Some y → x ≡ y
         some_is x y e = cc (e)
 
+        name_at : (i : ℕ) (c : Came) → slice_get came i ≡ Some c → slice_get names i ≡ Some c.name
+        name_at i c at = ap (λ (l : List (List ℕ)). slice_get l i) (sym named) ∙ (slice_get-map (λ (x : Came). x.name) came i ∙ ap (option_map (λ (x : Came). x.name)) at)
+
     pub all_refused : IsAsItWas j after → AreRefused js js' → AllIn
-    all_refused stayed refused = each_of (CameIn logs (into_journal (state_of j) names) (d.state j.disk.now) (d.state after.disk.now)) came (λ i c at.
+    all_refused stayed refused = each_of (CameIn logs (into_journal (state_of j) rows first names) (d.state j.disk.now) (d.state after.disk.now)) came (λ i c at.
         let one = each i c at in
         refused_in j after names rows first js of c one.source one.done one.came one.messages one.whole one.refusal (refused.each i one.done one.at_done))
 

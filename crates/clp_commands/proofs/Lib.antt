@@ -26,6 +26,7 @@ pub mod StepsLemmas
 pub mod JobLemmas
 pub mod CauseLemmas
 pub mod LineLemmas
+pub mod FitLemmas
 pub mod FileCauseLemmas
 pub mod WholeLemmas
 pub mod SummaryLemmas

@@ -17,6 +17,7 @@ use Rattle.generated_logs.specs.States.{GeneratedState, faults_of_log, open_faul
 use Rattle.generated_logs.proofs.LineLemmas.{logs_have_lines}
 use Rattle.record_format.specs.declared.header.Header.{Header}
 use Rattle.archive_meaning.specs.Held.{File}
+use Rattle.disk_seal.proofs.ToldLemmas.{told_map}
 use Rattle.clp_commands.specs.Benched.{IsSpared, IsTakenWhole, MayRefuseLog, generated_names}
 use Rattle.clp_commands.specs.Ending.{RoseIn}
 use Rattle.clp_commands.specs.Ingested.{Came, HasMoreThan, IsFront}
@@ -25,6 +26,7 @@ use Rattle.clp_commands.specs.StepsCauses.{CameIn, HasCauseIn, HaveFileCauses, L
 use Rattle.clp_commands.specs.declared.refusal.Refusal.{Refusal}
 use Rattle.clp_commands.proofs.BenchLemmas.{rose_on}
 use Rattle.clp_commands.proofs.FileCauseLemmas.{at_of}
+use Rattle.clp_commands.proofs.FitLemmas.{fit_later}
 
 -- ---- the names
 
@@ -136,7 +138,7 @@ module _ (number lines : ℕ) where
   abbrev told_with : (List ℕ → ℕ × ℕ) → Logs
   told_with opens = record { content = generated number lines; opens = opens; reads = λ name. (0, 0) }
 
-  module _ (most : lines ≤ 1000000) (opens : List ℕ → ℕ × ℕ) (none : (name : List ℕ) → IsGenerated name → opens name ≡ (0, 0)) (into : Target) (old mid new : DiskState) (later : mid.faults ≤ new.faults) where
+  module _ (most : lines ≤ 1000000) (opens : List ℕ → ℕ × ℕ) (none : (name : List ℕ) → IsGenerated name → opens name ≡ (0, 0)) (into : Target) (old mid new : DiskState) (same : new.seen ≡ mid.seen) (later : mid.faults ≤ new.faults) where
     abbrev Spares : Came → Option Refusal → Type 0
     Spares c r = HasCauseIn (told_with (λ name. (0, 0))) into old new c r × MayRefuseLog r
 
@@ -147,7 +149,7 @@ module _ (number lines : ℕ) where
     spares c is (Some (Refusal.LineTooLong line)) cause = absurd (none_long c.name is line cause)
     spares c is (Some Refusal.TooManyLines) cause = absurd (none_many most into.header.version c.name is cause.1)
     spares c is (Some (Refusal.Full book count)) cause = (cause, tt)
-    spares c is (Some (Refusal.ArchiveFull end need)) cause = (cause, tt)
+    spares c is (Some (Refusal.ArchiveFull end need)) cause = ((cause.0, told_map into.told (fit_later (generated number lines) into.rows into.first into.names into.header into.entries mid new same c end need) cause.1), tt)
     spares c is (Some Refusal.DiskFault) cause = (rose_on old.faults mid.faults new.faults later cause, tt)
     spares c is (Some Refusal.OutOfMemory) cause = (tt, tt)
     spares c is (Some Refusal.Usage) cause = absurd cause
@@ -180,12 +182,12 @@ module _ (number lines : ℕ) where
         (each_spared came (All-tail IsGenerated c.name (names_in came) are) (All-tail Before c came all))
 
   -- the causes of the four logs
-  module _ (most : lines ≤ 1000000) (s later : GeneratedState) (old mid new : DiskState) (counts : mid.faults ≤ new.faults) (came : List Came) (are : names_in came ≡ generated_names) where
+  module _ (most : lines ≤ 1000000) (s later : GeneratedState) (rows : ℕ) (old mid new : DiskState) (same : new.seen ≡ mid.seen) (counts : mid.faults ≤ new.faults) (came : List Came) (are : names_in came ≡ generated_names) where
     abbrev opens_in : List ℕ → ℕ × ℕ
     opens_in name = (open_faults_of s name, open_faults_of later name)
 
-    pub log_causes : HaveFileCauses (told_with opens_in) old mid came → HaveFileCauses (told_with (λ name. (0, 0))) old new came
-    log_causes have = record { into = have.into; names = have.names; told = have.told; each = each_after most opens_in (calm s later) have.into old mid new counts came (all_named came are) have.each }
+    pub log_causes : HaveFileCauses (told_with opens_in) rows old mid came → HaveFileCauses (told_with (λ name. (0, 0))) rows old new came
+    log_causes have = record { into = have.into; names = have.names; rows_are = have.rows_are; told = have.told; each = each_after most opens_in (calm s later) have.into old mid new same counts came (all_named came are) have.each }
 
-    pub logs_spared : HaveFileCauses (told_with opens_in) old mid came → All IsSpared came
-    logs_spared have = each_spared most opens_in (calm s later) have.into old mid new counts came (all_named came are) have.each
+    pub logs_spared : HaveFileCauses (told_with opens_in) rows old mid came → All IsSpared came
+    logs_spared have = each_spared most opens_in (calm s later) have.into old mid new same counts came (all_named came are) have.each

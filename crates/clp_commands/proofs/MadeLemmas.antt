@@ -27,7 +27,7 @@ use Rattle.archive_meaning.proofs.RunLemmas.{one_held}
 use Rattle.archive_check.specs.Checked.{DamagedAt}
 use Rattle.archive_meaning.proofs.UniqueLemmas.{journals_are_whole}
 use Rattle.clp_commands.specs.Around.{Around}
-use Rattle.clp_commands.specs.Benched.{AnswersBench, EndsLogs, FromEmpty, HasLogsCause, IsTakenWhole, RefusesLogs, RefusesMaking, TakesLogs, as_made, at_moment, default_header, generated_names, made_bytes, with_logs}
+use Rattle.clp_commands.specs.Benched.{AnswersBench, EndsLogs, FromEmpty, HasLogsCause, IsTakenWhole, RefusesLogs, RefusesMaking, TakesLogs, as_made, at_moment, default_header, generated_names, made_bytes, segment_rows, with_logs}
 use Rattle.clp_commands.specs.Ending.{SaysIn, Stayed, TookNothing}
 use Rattle.clp_commands.specs.Outcome.{answer_of, of_create}
 use Rattle.clp_commands.specs.Reading.{OverJournal}
@@ -190,13 +190,14 @@ module _ (old mid : DiskState) (made : MakesEmpty default_header old mid) (tells
       go (Some was) (Some bytes) made tells only from = λ h before stood each.
           subst (λ b. (s : StandsFor b h before) → ((c : List ℕ) → mid.images c → StandsFor c h before) → P h before b s) made (from h before) stood (λ c image. each c (only c image ∙ made))
 
-  causes_from : (logs : Logs) (came : List Came) (new : DiskState) → HaveFileCauses logs mid new came → HaveFileCauses logs (as_made old) new came
-  causes_from logs came new have =
+  causes_from : (logs : Logs) (rows : ℕ) (came : List Came) (new : DiskState) → HaveFileCauses logs rows mid new came → HaveFileCauses logs rows (as_made old) new came
+  causes_from logs rows came new have =
       let low : old.faults ≤ mid.faults = omega (arith, steady) in
       record {
         into = have.into;
         names = have.names;
-        told = made_from (λ h before bytes stood. IsTarget have.into h before) have.told;
+        rows_are = have.rows_are;
+        told = made_from (λ h before bytes stood. IsTarget have.into h before (length stood.legal.held.names)) have.told;
         each = All-weaker (CameIn logs have.into mid new) (CameIn logs have.into (as_made old) new) (came_on logs have.into (as_made old) mid new low) came have.each;
       }
 
@@ -223,7 +224,7 @@ module _ (old mid : DiskState) (made : MakesEmpty default_header old mid) (tells
         came = adds.came;
         names_are = adds.names_are;
         disk = disk;
-        each = file_causes generated_names (with_logs (generated number lines) seen) (as_made old) new adds.came adds.names_are (causes_from (logs_of (with_logs (generated number lines) seen)) adds.came new adds.causes);
+        each = file_causes segment_rows generated_names (with_logs (generated number lines) seen) (as_made old) new adds.came adds.names_are (causes_from (logs_of (with_logs (generated number lines) seen)) segment_rows adds.came new adds.causes);
         spared = adds.spared;
         all = all_taken number lines adds.came new adds.names_are disk;
         told = ⊎_elim (λ parts. inl parts) (λ sums. inr (sums_sooner adds.came seen old mid new status (omega (arith, steady)) sums)) adds.told;

@@ -1,5 +1,5 @@
 -- Why files are not whole, from the start of the call, and as it is told.
-use Rattle.std.proofs.Common.{◌≡◌, ◌<◌, ◌≤◌, ◌+◌, ◌++◌, ◌∷◌, [], ◌⊎◌, refl, sym, ap, ◌∙◌, subst, ℕ, List, map, append-nil, Option, Some, None, arith}
+use Rattle.std.proofs.Common.{◌≡◌, ◌<◌, ◌≤◌, ◌+◌, ◌++◌, ◌∷◌, [], ◌⊎◌, refl, sym, ap, ◌∙◌, subst, ℕ, List, length, map, append-nil, Option, Some, None, arith}
 use Rattle.std.specs.Prelude.{All}
 use Rattle.std.specs.List.{Contains}
 use Rattle.row_codec.specs.declared.namer.Which.{Which}
@@ -19,11 +19,12 @@ use Rattle.log_seams.proofs.MomentLemmas.{rose}
 use Rattle.record_format.specs.declared.header.Header.{Header}
 use Rattle.disk_journal.specs.State.{JournalState}
 use Rattle.clp_commands.specs.Around.{Around}
-use Rattle.clp_commands.specs.Ingested.{Came, CameOfFile, FromArchive, HasFileCause, HasMoreThan, IsFullByGiven, IsGiven}
+use Rattle.clp_commands.specs.Ingested.{Came, CameOfFile, DidNotFit, FromArchive, HasFileCause, HasMoreThan, IsFullByGiven, IsGiven}
 use Rattle.clp_commands.specs.StepsCauses.{CameIn, HasCauseIn, HaveFileCauses, IsTarget, Logs, Target, into_journal, logs_of}
 use Rattle.clp_commands.specs.Leaves.{AddsNamesTo, HasNames}
 use Rattle.clp_commands.specs.Printing.{most_messages}
 use Rattle.clp_commands.specs.declared.refusal.Refusal.{Refusal}
+use Rattle.clp_commands.proofs.FitLemmas.{fit_into}
 use Rattle.clp_commands.proofs.LeavesLemmas.{from_archive, of_told}
 use Rattle.clp_commands.proofs.StepsLemmas.{Looked, no_more, same_bytes}
 
@@ -56,42 +57,49 @@ texts_named : (names : List (List ℕ)) (es before : List JournalEntry) → es �
 texts_named names es before is WhichTypes = ap types_of is ∙ (types_joined before (Files names ∷ []) ∙ append-nil (types_of before))
 texts_named names es before is WhichWords = ap words_of is ∙ (words_joined before (Files names ∷ []) ∙ append-nil (words_of before))
 
-pub causes_sooner : (old mid late : DiskState) → Looked old mid late → (logs : Logs) (names : List (List ℕ)) (first : ℕ) (j : JournalState) (new : DiskState) (came : List Came) → late.faults ≤ j.disk.faults → map (λ (c : Came). c.name) came ≡ names
-    → FromArchive late (λ h before bytes stood. AddsNamesTo h before stood names first late j) → All (CameIn logs (into_journal j names) j.disk new) came → HaveFileCauses logs old new came
-causes_sooner old mid late looked logs names first j new came risen named added each = let into = into_journal j names in record {
+pub causes_sooner : (old mid late : DiskState) → Looked old mid late → (logs : Logs) (rows : ℕ) (names : List (List ℕ)) (first : ℕ) (j : JournalState) (new : DiskState) (came : List Came) → late.faults ≤ j.disk.faults → map (λ (c : Came). c.name) came ≡ names
+    → FromArchive late (λ h before bytes stood. AddsNamesTo h before stood names first late j) → All (CameIn logs (into_journal j rows first names) j.disk new) came → HaveFileCauses logs rows old new came
+causes_sooner old mid late looked logs rows names first j new came risen named added each = let into = into_journal j rows first names in record {
   into = into;
   names = sym named;
-  told = from_archive old late (λ h before bytes stood. AddsNamesTo h before stood names first late j) (λ h before bytes stood. IsTarget into h before) (same_bytes old mid late looked) (no_more old mid late looked)
-      (λ h before bytes stood only adds. is_target h before adds.has) added;
+  rows_are = refl;
+  told = from_archive old late (λ h before bytes stood. AddsNamesTo h before stood names first late j) (λ h before bytes stood. IsTarget into h before (length stood.legal.held.names)) (same_bytes old mid late looked) (no_more old mid late looked)
+      (λ h before bytes stood only adds. is_target h before (length stood.legal.held.names) adds.has adds.number) added;
   each = All-weaker (CameIn logs into j.disk new) (CameIn logs into old new) (came_on logs into old j.disk new (omega (arith, looked.counts, risen))) came each;
 }
   where
-    is_target : (h : Header) (before : List JournalEntry) → HasNames h before names j → IsTarget (into_journal j names) h before
-    is_target h before has = record { told = has.told; header = has.header; texts = texts_named names (told_entries j) before has.entries }
+    is_target : (h : Header) (before : List JournalEntry) (held : ℕ) → HasNames h before names j → first ≡ held → IsTarget (into_journal j rows first names) h before held
+    is_target h before held has numbered = record { told = has.told; header = has.header; entries = has.entries; first = numbered }
 
 -- ---- as it is told
 
-module _ (seen : Around) (old new : DiskState) (into : Target) (told : FromArchive old (λ h before bytes stood. IsTarget into h before)) where
+module _ (seen : Around) (old new : DiskState) (into : Target) (told : FromArchive old (λ h before bytes stood. IsTarget into h before (length stood.legal.held.names))) where
   from_header : (P : Header → Type 0) → P into.header → FromArchive old (λ h before bytes stood. P h)
-  from_header P p = from_archive old old (λ h before bytes stood. IsTarget into h before) (λ h before bytes stood. P h) refl (λ c image. image) (λ h before bytes stood only is. subst P is.header p) told
+  from_header P p = from_archive old old (λ h before bytes stood. IsTarget into h before (length stood.legal.held.names)) (λ h before bytes stood. P h) refl (λ c image. image) (λ h before bytes stood only is. subst P is.header p) told
 
-  full_of : (h : Header) (before : List JournalEntry) (book : Which) (count : ℕ) → IsTarget into h before → IsFullByGiven seen.content into.names into.header into.entries book count → IsFullByGiven seen.content into.names h before book count
-  full_of h before book count is full =
+  full_of : (h : Header) (before : List JournalEntry) (held : ℕ) (book : Which) (count : ℕ) → IsTarget into h before held → IsFullByGiven seen.content into.names into.header into.entries book count → IsFullByGiven seen.content into.names h before book count
+  full_of h before held book count is full =
       subst (λ (x : Header). (count ≡ limit_of (header_limits x) book) × ThereAreMore (λ t. Contains (book_texts book before) t ⊎ IsTextOf x.version (IsGiven seen.content x.version into.names) book t) count) is.header
-      (subst (λ (texts : List (List ℕ)). (count ≡ limit_of (header_limits into.header) book) × ThereAreMore (λ t. Contains texts t ⊎ IsTextOf into.header.version (IsGiven seen.content into.header.version into.names) book t) count) (is.texts book) full)
+      (subst (λ (texts : List (List ℕ)). (count ≡ limit_of (header_limits into.header) book) × ThereAreMore (λ t. Contains texts t ⊎ IsTextOf into.header.version (IsGiven seen.content into.header.version into.names) book t) count) (texts_named into.names into.entries before is.entries book) full)
 
   from_full : (book : Which) (count : ℕ) → IfTold into.told (IsFullByGiven seen.content into.names into.header into.entries book count) → FromArchive old (λ h before bytes stood. IsFullByGiven seen.content into.names h before book count)
-  from_full book count cause = from_archive old old (λ h before bytes stood. IsTarget into h before) (λ h before bytes stood. IsFullByGiven seen.content into.names h before book count) refl (λ c image. image)
-      (λ h before bytes stood only is. full_of h before book count is (of_told into.told is.told cause)) told
+  from_full book count cause = from_archive old old (λ h before bytes stood. IsTarget into h before (length stood.legal.held.names)) (λ h before bytes stood. IsFullByGiven seen.content into.names h before book count) refl (λ c image. image)
+      (λ h before bytes stood only is. full_of h before (length stood.legal.held.names) book count is (of_told into.told is.told cause)) told
 
-  file_cause : (c : Came) (r : Option Refusal) → HasCauseIn (logs_of seen) into old new c r → HasFileCause into.names seen old new c r
+  from_fit : (c : Came) (end need : ℕ) → IfTold into.told (DidNotFit seen.content into.rows into.first into.names into.header into.entries new c end need)
+      → FromArchive old (λ h before bytes stood. DidNotFit seen.content into.rows (length stood.legal.held.names) into.names h (before ++ Files into.names ∷ []) new c end need)
+  from_fit c end need cause = from_archive old old (λ h before bytes stood. IsTarget into h before (length stood.legal.held.names))
+      (λ h before bytes stood. DidNotFit seen.content into.rows (length stood.legal.held.names) into.names h (before ++ Files into.names ∷ []) new c end need) refl (λ c image. image)
+      (λ h before bytes stood only is. fit_into seen.content into h before (length stood.legal.held.names) is new c end need (of_told into.told is.told cause)) told
+
+  file_cause : (c : Came) (r : Option Refusal) → HasCauseIn (logs_of seen) into old new c r → HasFileCause into.rows into.names seen old new c r
   file_cause c None cause = cause
   file_cause c (Some Refusal.OpenFault) cause = cause
   file_cause c (Some Refusal.ReadFault) cause = cause
   file_cause c (Some (Refusal.LineTooLong line)) cause = cause
   file_cause c (Some Refusal.TooManyLines) cause = (cause.0, from_header (λ h. HasMoreThan most_messages h.version (seen.content c.name)) cause.1)
   file_cause c (Some (Refusal.Full book count)) cause = from_full book count cause
-  file_cause c (Some (Refusal.ArchiveFull end need)) cause = from_header (λ h. h.length_limit < end + need) cause
+  file_cause c (Some (Refusal.ArchiveFull end need)) cause = from_fit c end need cause.1
   file_cause c (Some Refusal.DiskFault) cause = cause
   file_cause c (Some Refusal.OutOfMemory) cause = cause
   file_cause c (Some Refusal.Usage) cause = absurd cause
@@ -103,6 +111,7 @@ module _ (seen : Around) (old new : DiskState) (into : Target) (told : FromArchi
   file_cause c (Some (Refusal.NameTooLong index)) cause = absurd cause
   file_cause c (Some (Refusal.TooManyFiles held more)) cause = absurd cause
 
-pub file_causes : (names : List (List ℕ)) (seen : Around) (old new : DiskState) (came : List Came) → map (λ (c : Came). c.name) came ≡ names → HaveFileCauses (logs_of seen) old new came → All (CameOfFile names seen old new) came
-file_causes names seen old new came named have = subst (λ ns. All (CameOfFile ns seen old new) came) (have.names ∙ named)
-    (All-weaker (CameIn (logs_of seen) have.into old new) (CameOfFile have.into.names seen old new) (λ c is. record { cause = file_cause seen old new have.into have.told c c.refusal is.cause; part = is.part }) came have.each)
+pub file_causes : (rows : ℕ) (names : List (List ℕ)) (seen : Around) (old new : DiskState) (came : List Came) → map (λ (c : Came). c.name) came ≡ names → HaveFileCauses (logs_of seen) rows old new came → All (CameOfFile rows names seen old new) came
+file_causes rows names seen old new came named have = subst (λ ns. All (CameOfFile rows ns seen old new) came) (have.names ∙ named)
+    (subst (λ n. All (CameOfFile n have.into.names seen old new) came) have.rows_are
+    (All-weaker (CameIn (logs_of seen) have.into old new) (CameOfFile have.into.rows have.into.names seen old new) (λ c is. record { cause = file_cause seen old new have.into have.told c c.refusal is.cause; part = is.part }) came have.each))

@@ -90,7 +90,7 @@ abbrev pub AnswersAsked : Asked → Around → DiskState → DiskState → ℕ �
 AnswersAsked (to_show file) seen old new status = AnswersLog (λ _ message text. Shows message text) seen file status
 AnswersAsked (to_scan pattern file) seen old new status = AnswersScan pattern file seen status
 AnswersAsked (to_create header) seen old new status = AnswersCreate header seen old new status
-AnswersAsked (to_ingest workers segment files) seen old new status = AnswersIngest files seen old new status
+AnswersAsked (to_ingest workers segment files) seen old new status = AnswersIngest segment files seen old new status
 AnswersAsked to_list seen old new status = AnswersFiles seen old new status
 AnswersAsked to_check seen old new status = AnswersCheck seen old new status
 AnswersAsked (to_decode number) seen old new status = AnswersDecode number seen old new status

@@ -105,13 +105,17 @@ pub record SumsUp (came : List Came) (seen : Around) (old new : DiskState) (stat
   pub sink : CountsOf ReadSinkFault seen.out_faults.0 seen.out_faults.1 answer
   pub damaged : (at : ℕ) → answer ≡ Err (ReadDamaged at) → RefusedAt at new.seen
 
+-- how many rows a segment has at most
+abbrev pub segment_rows : ℕ
+segment_rows = 65536
+
 -- The names were added to the archive and the logs taken in, with the causes for which they are not whole, and it was told
 -- what came of them.
 pub record AddsLogs (content : List ℕ → Option (List ℕ)) (names : List (List ℕ)) (seen : Around) (old new : DiskState) (status : ℕ) : Type 0 where
   pub came : List Came
   pub names_are : map (λ c. c.name) came ≡ names
   pub disk : FromArchive old (λ h before bytes stood. TakesIn content h before stood names came old new)
-  pub causes : HaveFileCauses (logs_of (with_logs content seen)) old new came
+  pub causes : HaveFileCauses (logs_of (with_logs content seen)) segment_rows old new came
   pub spared : All IsSpared came
   pub told : TellsParts came seen status ⊎ SumsUp came seen old new status
 
@@ -192,7 +196,7 @@ pub record TakesLogs (number lines : ℕ) (seen : Around) (old new : DiskState) 
   pub came : List Came
   pub names_are : map (λ c. c.name) came ≡ generated_names
   pub disk : FromEmpty old (λ from bytes stood. TakesIn (generated number lines) default_header [] stood generated_names came from new)
-  pub each : All (CameOfFile generated_names (with_logs (generated number lines) seen) (as_made old) new) came
+  pub each : All (CameOfFile segment_rows generated_names (with_logs (generated number lines) seen) (as_made old) new) came
   pub spared : All IsSpared came
   pub all : All IsTakenWhole came → IfSome old.seen (λ _. sum_by (λ c. c.messages) came ≡ 4 * lines)
   pub told : TellsParts came seen status ⊎ SumsUp came seen old new status

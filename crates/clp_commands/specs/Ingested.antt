@@ -17,8 +17,9 @@ use Rattle.archive_open.specs.Shown.{RefusedAt}
 use Rattle.disk_seal.specs.Registered.{files_size}
 use Rattle.row_codec.specs.declared.namer.Which.{Which}
 use Rattle.ingest_workers.specs.Causes.{limit_of}
-use Rattle.ingest_workers.specs.Full.{IsTextOf, ThereAreMore}
-use Rattle.ingest_workers.specs.Ingested.{book_texts, header_limits}
+use Rattle.ingest_workers.specs.Full.{AreFirstOf, IsTextOf, ThereAreMore}
+use Rattle.ingest_workers.specs.Ingested.{HasTextsBehind, book_texts, header_limits}
+use Rattle.ingest_workers.specs.NoRoom.{HadNoRoom}
 use Rattle.message_reader.specs.Versions.{MessagesOf}
 use Rattle.sink_pieces.specs.Output.{Grew, GrewByFront}
 use Rattle.clp_commands.specs.Around.{Around}
@@ -124,23 +125,41 @@ IsThereOrGiven content version names es book text = Contains (book_texts book es
 abbrev pub IsFullByGiven : (List ℕ → Option (List ℕ)) → List (List ℕ) → Header → List JournalEntry → Which → ℕ → Type 0
 IsFullByGiven content names h es book count = (count ≡ limit_of (header_limits h) book) × ThereAreMore (IsThereOrGiven content h.version names es book) count
 
--- What a refusal that came of a file rests on, where these files were given. Want of memory is free.
-abbrev pub HasFileCause : List (List ℕ) → Around → DiskState → DiskState → Came → Option Refusal → Type 0
-HasFileCause names seen old new c None = c.whole ≡ true
-HasFileCause names seen old new c (Some OpenFault) = RoseIn (seen.opens c.name) × (c.messages ≡ 0)
-HasFileCause names seen old new c (Some ReadFault) = RoseIn (seen.reads c.name)
-HasFileCause names seen old new c (Some (LineTooLong line)) = IfSome (seen.content c.name) (λ bytes. IsLong bytes line)
-HasFileCause names seen old new c (Some TooManyLines) =
+-- The texts of a book are those of the entries, and others of the encodings of messages of these files.
+abbrev pub WereGiven : (List ℕ → Option (List ℕ)) → ℕ → List (List ℕ) → List JournalEntry → Which → List (List ℕ) → Type 0
+WereGiven content version names front book texts = HasTextsBehind (IsTextOf version (IsGiven content version names) book) (book_texts book front) texts
+
+-- the entries begin with these ones, and where the disk's bytes are told and stand for a journal, it begins with the entries
+abbrev pub StandFirst : Header → List JournalEntry → DiskState → List JournalEntry → Type 0
+StandFirst h named new front = IsPrefix named front × IfSome new.seen (λ bytes. (es : List JournalEntry) → StandsFor bytes h es → IsPrefix front es)
+
+-- Behind the messages of a file that were taken in, its next segment of at most so many rows did not fit. The archive's end is that of entries which begin
+-- with the names of these files, numbered on from `first`, and the bytes are those of the segment and of the texts before it.
+pub record DidNotFit (content : List ℕ → Option (List ℕ)) (rows first : ℕ) (names : List (List ℕ)) (h : Header) (named : List JournalEntry) (new : DiskState) (c : Came) (end need : ℕ) : Type 0 where
+  pub place : ℕ
+  pub at : slice_get names place ≡ Some c.name
+  pub sealed : List (List ℕ)
+  pub count : c.messages ≡ length sealed
+  pub room : HadNoRoom h rows h.version (first + place) (StandFirst h named new) (WereGiven content h.version names) (AreFirstOf h.version (content c.name)) sealed end need
+
+-- What a refusal that came of a file rests on, where these files were given, in segments of at most so many rows. Want of memory is free.
+abbrev pub HasFileCause : ℕ → List (List ℕ) → Around → DiskState → DiskState → Came → Option Refusal → Type 0
+HasFileCause rows names seen old new c None = c.whole ≡ true
+HasFileCause rows names seen old new c (Some OpenFault) = RoseIn (seen.opens c.name) × (c.messages ≡ 0)
+HasFileCause rows names seen old new c (Some ReadFault) = RoseIn (seen.reads c.name)
+HasFileCause rows names seen old new c (Some (LineTooLong line)) = IfSome (seen.content c.name) (λ bytes. IsLong bytes line)
+HasFileCause rows names seen old new c (Some TooManyLines) =
     (c.messages ≡ most_messages) × FromArchive old (λ h before bytes stood. HasMoreThan most_messages h.version (seen.content c.name))
-HasFileCause names seen old new c (Some (Full book count)) = FromArchive old (λ h before bytes stood. IsFullByGiven seen.content names h before book count)
-HasFileCause names seen old new c (Some (ArchiveFull end need)) = FromArchive old (λ h before bytes stood. h.length_limit < end + need)
-HasFileCause names seen old new c (Some DiskFault) = Rose old.faults new.faults
-HasFileCause names seen old new c (Some OutOfMemory) = Unit {0}
-HasFileCause names seen old new c (Some _) = ⊥
+HasFileCause rows names seen old new c (Some (Full book count)) = FromArchive old (λ h before bytes stood. IsFullByGiven seen.content names h before book count)
+HasFileCause rows names seen old new c (Some (ArchiveFull end need)) =
+    FromArchive old (λ h before bytes stood. DidNotFit seen.content rows (length stood.legal.held.names) names h (before ++ Files names ∷ []) new c end need)
+HasFileCause rows names seen old new c (Some DiskFault) = Rose old.faults new.faults
+HasFileCause rows names seen old new c (Some OutOfMemory) = Unit {0}
+HasFileCause rows names seen old new c (Some _) = ⊥
 
 -- A file is whole exactly where nothing was refused of it, and a refusal has its cause.
-pub record CameOfFile (names : List (List ℕ)) (seen : Around) (old new : DiskState) (c : Came) : Type 0 where
-  pub cause : HasFileCause names seen old new c c.refusal
+pub record CameOfFile (rows : ℕ) (names : List (List ℕ)) (seen : Around) (old new : DiskState) (c : Came) : Type 0 where
+  pub cause : HasFileCause rows names seen old new c c.refusal
   pub part : c.refusal ≢ None → c.whole ≡ false
 
 -- What a refusal of the whole call rests on.
@@ -190,10 +209,10 @@ pub record AddsFiles (names : List (List ℕ)) (seen : Around) (old new : DiskSt
   pub printed : PrintsCame came first seen status
 
 -- The same, and what came of each file has its cause.
-pub record TakesFiles (names : List (List ℕ)) (seen : Around) (old new : DiskState) (status : ℕ) : Type 0 where
+pub record TakesFiles (rows : ℕ) (names : List (List ℕ)) (seen : Around) (old new : DiskState) (status : ℕ) : Type 0 where
   pub adds : AddsFiles names seen old new status
-  pub each : All (CameOfFile names seen old new) adds.came
+  pub each : All (CameOfFile rows names seen old new) adds.came
 
--- What `ingest` answers.
-abbrev pub AnswersIngest : List (List ℕ) → Around → DiskState → DiskState → ℕ → Type 0
-AnswersIngest names seen old new status = RefusesIngest names seen old new status ⊎ TakesFiles names seen old new status
+-- What `ingest` answers, which cuts files into segments of at most so many rows.
+abbrev pub AnswersIngest : ℕ → List (List ℕ) → Around → DiskState → DiskState → ℕ → Type 0
+AnswersIngest rows names seen old new status = RefusesIngest names seen old new status ⊎ TakesFiles rows names seen old new status

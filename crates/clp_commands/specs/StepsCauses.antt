@@ -1,16 +1,16 @@
 -- Why files are not whole, in the steps of an ingest.
-use Rattle.std.specs.Prelude.{◌≡◌, ◌≢◌, ◌<◌, ◌+◌, ℕ, Bool, false, true, List, map, is_some, Option, Some, None, IfSome, All}
+use Rattle.std.specs.Prelude.{◌≡◌, ◌≢◌, ◌<◌, ◌+◌, ℕ, Bool, false, true, List, [], ◌∷◌, ◌++◌, length, map, is_some, Option, Some, None, IfSome, All}
 use Rattle.log_seams.specs.Disk.{DiskState}
 use Rattle.log_seams.specs.Outside.{Rose}
 use Rattle.record_format.specs.declared.header.Header.{Header}
-use Rattle.row_codec.specs.declared.namer.Which.{Which}
 use Rattle.archive_meaning.specs.declared.entry.JournalEntry.{JournalEntry}
+use Rattle.archive_meaning.specs.declared.entry.JournalEntry.TheVariants.{Files}
 use Rattle.disk_journal.specs.State.{JournalState}
 use Rattle.disk_seal.specs.Told.{IfTold}
-use Rattle.ingest_workers.specs.Ingested.{book_texts, told_entries}
+use Rattle.ingest_workers.specs.Ingested.{told_entries}
 use Rattle.clp_commands.specs.Around.{Around}
 use Rattle.clp_commands.specs.Ending.{RoseIn}
-use Rattle.clp_commands.specs.Ingested.{Came, FromArchive, HasMoreThan, IsFullByGiven}
+use Rattle.clp_commands.specs.Ingested.{Came, DidNotFit, FromArchive, HasMoreThan, IsFullByGiven}
 use Rattle.clp_commands.specs.Printing.{IsLong, most_messages}
 use Rattle.clp_commands.specs.declared.refusal.Refusal.{Refusal}
 
@@ -31,21 +31,25 @@ logs_around content open_faults read_faults shelf shelf_after = record {
   reads = λ name. (read_faults shelf name, read_faults shelf_after name);
 }
 
--- what files are taken into, where it is told: an archive with this header and these entries; and their names
+-- What files are taken into, where it is told: an archive with this header and these entries, which have their names. They are numbered on from `first`, and
+-- cut into segments of at most so many rows.
 pub record Target : Type 0 where
   pub told : Bool
   pub header : Header
   pub entries : List JournalEntry
+  pub rows : ℕ
+  pub first : ℕ
   pub names : List (List ℕ)
 
-abbrev pub into_journal : JournalState → List (List ℕ) → Target
-into_journal j names = record { told = is_some j.disk.seen; header = j.header; entries = told_entries j; names = names }
+abbrev pub into_journal : JournalState → ℕ → ℕ → List (List ℕ) → Target
+into_journal j rows first names = record { told = is_some j.disk.seen; header = j.header; entries = told_entries j; rows = rows; first = first; names = names }
 
--- it is told, and is this archive, but for the names
-pub record IsTarget (into : Target) (h : Header) (before : List JournalEntry) : Type 0 where
+-- it is told, and is this archive of so many files, with the names
+pub record IsTarget (into : Target) (h : Header) (before : List JournalEntry) (held : ℕ) : Type 0 where
   pub told : into.told ≡ true
   pub header : into.header ≡ h
-  pub texts : (book : Which) → book_texts book into.entries ≡ book_texts book before
+  pub entries : into.entries ≡ before ++ Files into.names ∷ []
+  pub first : into.first ≡ held
 
 -- What a refusal of a file rests on.
 abbrev pub HasCauseIn : Logs → Target → DiskState → DiskState → Came → Option Refusal → Type 0
@@ -55,7 +59,8 @@ HasCauseIn logs into old new c (Some Refusal.ReadFault) = RoseIn (logs.reads c.n
 HasCauseIn logs into old new c (Some (Refusal.LineTooLong line)) = IfSome (logs.content c.name) (λ bytes. IsLong bytes line)
 HasCauseIn logs into old new c (Some Refusal.TooManyLines) = (c.messages ≡ most_messages) × HasMoreThan most_messages into.header.version (logs.content c.name)
 HasCauseIn logs into old new c (Some (Refusal.Full book count)) = IfTold into.told (IsFullByGiven logs.content into.names into.header into.entries book count)
-HasCauseIn logs into old new c (Some (Refusal.ArchiveFull end need)) = into.header.length_limit < end + need
+HasCauseIn logs into old new c (Some (Refusal.ArchiveFull end need)) =
+    (into.header.length_limit < end + need) × IfTold into.told (DidNotFit logs.content into.rows into.first into.names into.header into.entries new c end need)
 HasCauseIn logs into old new c (Some Refusal.DiskFault) = Rose old.faults new.faults
 HasCauseIn logs into old new c (Some Refusal.OutOfMemory) = Unit {0}
 HasCauseIn logs into old new c (Some _) = ⊥
@@ -66,8 +71,9 @@ pub record CameIn (logs : Logs) (into : Target) (old new : DiskState) (c : Came)
   pub part : c.refusal ≢ None → c.whole ≡ false
 
 -- so it is of each file, by the archive where the disk tells it
-pub record HaveFileCauses (logs : Logs) (old new : DiskState) (came : List Came) : Type 0 where
+pub record HaveFileCauses (logs : Logs) (rows : ℕ) (old new : DiskState) (came : List Came) : Type 0 where
   pub into : Target
   pub names : into.names ≡ map (λ c. c.name) came
-  pub told : FromArchive old (λ h before bytes stood. IsTarget into h before)
+  pub rows_are : into.rows ≡ rows
+  pub told : FromArchive old (λ h before bytes stood. IsTarget into h before (length stood.legal.held.names))
   pub each : All (CameIn logs into old new) came

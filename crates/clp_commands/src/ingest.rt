@@ -204,7 +204,8 @@ where
         (D.state result.disk.now) }
     ensures causes { All (CameIn
         (logs_around H.content H.open_faults H.read_faults shelf.old shelf.new)
-        (into_journal (state_of journal.entry) (map str_bytes asked.entry.files.now))
+        (into_journal (state_of journal.entry) asked.entry.segment named.first
+        (map str_bytes asked.entry.files.now))
         (state_of journal.entry).disk (D.state result.disk.now))
         (map came_of taken.new.items) }
 
@@ -287,7 +288,7 @@ where
         (map came_of taken.new.items) (D.state disk.old) (D.state disk.new))) }
     ensures causes { OnOk result (HaveFileCauses
         (logs_around H.content H.open_faults H.read_faults shelf.old shelf.new)
-        (D.state disk.old) (D.state disk.new) (map came_of taken.new.items)) }
+        asked.entry.segment (D.state disk.old) (D.state disk.new) (map came_of taken.new.items)) }
 
     // refused
     ensures nothing { OnErr result (FromArchive (D.state disk.old) (λ h before bytes stood.
@@ -325,7 +326,7 @@ where
     requires workers { (1 ≤ asked.workers) × (asked.workers ≤ 64) }
     requires segment { (1 ≤ asked.segment) × (asked.segment ≤ 65536) }
     requires some { 1 ≤ length asked.files.now }
-    ensures answers { AnswersIngest (map str_bytes asked.entry.files.now)
+    ensures answers { AnswersIngest asked.entry.segment (map str_bytes asked.entry.files.now)
         (around H.content H.unread H.open_faults H.read_faults K.written K.faults
         shelf.old shelf.new out.old out.new err.old err.new)
         (D.state disk.old) (D.state disk.new) result }

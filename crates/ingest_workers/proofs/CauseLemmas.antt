@@ -29,14 +29,14 @@ full_cause fills OutOfMemory named full = absurd named
 full_cause fills (ArchiveFull end need) named full = absurd named
 
 module _ {D : Type 0} (state : D → DiskState) (start p : KeeperPass D) where
-  pub lost_cause : (cause : Cause) → IsNameStop (Lost cause) → HasSealCause state start p cause
-  lost_cause ReadFault named = absurd named
-  lost_cause (LineTooLong line) named = absurd named
-  lost_cause TooManyLines named = absurd named
-  lost_cause (Full book count) named = absurd named
-  lost_cause (DiskFault opened now) named = absurd named
-  lost_cause OutOfMemory named = tt
-  lost_cause (ArchiveFull end need) named = absurd named
+  pub lost_cause : (room : ℕ → ℕ → Type 0) (cause : Cause) → IsNameStop (Lost cause) → HasSealCause state room start p cause
+  lost_cause room ReadFault named = absurd named
+  lost_cause room (LineTooLong line) named = absurd named
+  lost_cause room TooManyLines named = absurd named
+  lost_cause room (Full book count) named = absurd named
+  lost_cause room (DiskFault opened now) named = absurd named
+  lost_cause room OutOfMemory named = tt
+  lost_cause room (ArchiveFull end need) named = absurd named
 
 -- no read failed before it
 pub name_cause : (fills full : Which → ℕ → Type 0) → ((book : Which) (count : ℕ) → fills book count → full book count) → (log : Log) (version : ℕ) (taken : List (List ℕ)) (cause : Cause) → NoneFailed log → IsFullCause fills cause → HasLogCause full log version taken cause
@@ -51,30 +51,30 @@ name_cause fills full f log version taken (ArchiveFull end need) steady is = abs
 -- ---- a segment that is not sealed
 
 module _ {D : Type 0} (state : D → DiskState) (start p q : KeeperPass D) (same : about p ≡ about start) where
-  -- told of the pass at the start of the file
-  pub seal_cause : (cause : Cause) → HasSealCause state p q cause → HasSealCause state start q cause
-  seal_cause ReadFault has = absurd has
-  seal_cause (LineTooLong line) has = absurd has
-  seal_cause TooManyLines has = absurd has
-  seal_cause (Full book count) has = absurd has
-  seal_cause (DiskFault opened now) has = record { fault = record { opened = λ a is. has.fault.opened a (same ∙ is); rose = has.fault.rose }; mark = has.mark }
-  seal_cause OutOfMemory has = tt
-  seal_cause (ArchiveFull end need) has = λ a is. has a (same ∙ is)
+  -- told of the pass at the start of the file, and of what had no room
+  pub seal_cause : (was room : ℕ → ℕ → Type 0) (cause : Cause) → ((end need : ℕ) → cause ≡ ArchiveFull end need → room end need) → HasSealCause state was p q cause → HasSealCause state room start q cause
+  seal_cause was room ReadFault found has = absurd has
+  seal_cause was room (LineTooLong line) found has = absurd has
+  seal_cause was room TooManyLines found has = absurd has
+  seal_cause was room (Full book count) found has = absurd has
+  seal_cause was room (DiskFault opened now) found has = record { fault = record { opened = λ a is. has.fault.opened a (same ∙ is); rose = has.fault.rose }; mark = has.mark }
+  seal_cause was room OutOfMemory found has = tt
+  seal_cause was room (ArchiveFull end need) found has = found end need refl
 
 -- ---- a job
 
-module _ {D : Type 0} (state : D → DiskState) (books : Books) (start q : KeeperPass D) (log : Log) (version : ℕ) (sealed : List (List ℕ)) where
+module _ {D : Type 0} (state : D → DiskState) (limit : ℕ) (books : Books) (start q : KeeperPass D) (log : Log) (version : ℕ) (sealed : List (List ℕ)) where
   abbrev grounds : Grounds
-  grounds = grounds_of state version books log.bytes start q
+  grounds = grounds_of state limit version books log.bytes start q
 
-  pub of_seal : (cause : Cause) → HasSealCause state start q cause → HasJobCause grounds log version sealed (Some cause)
-  of_seal ReadFault has = absurd has
-  of_seal (LineTooLong line) has = absurd has
-  of_seal TooManyLines has = absurd has
-  of_seal (Full book count) has = absurd has
-  of_seal (DiskFault opened now) has = has
-  of_seal OutOfMemory has = tt
-  of_seal (ArchiveFull end need) has = has
+  pub of_seal : (room : ℕ → ℕ → Type 0) → ((end need : ℕ) → room end need → grounds.no_room sealed end need) → (cause : Cause) → HasSealCause state room start q cause → HasJobCause grounds log version sealed (Some cause)
+  of_seal room found ReadFault has = absurd has
+  of_seal room found (LineTooLong line) has = absurd has
+  of_seal room found TooManyLines has = absurd has
+  of_seal room found (Full book count) has = absurd has
+  of_seal room found (DiskFault opened now) has = has
+  of_seal room found OutOfMemory has = tt
+  of_seal room found (ArchiveFull end need) has = found end need has
 
   pub of_log : (cause : Cause) → HasLogCause (WasFullFor version (IsOneOf version log.bytes) books) log version sealed cause → HasJobCause grounds log version sealed (Some cause)
   of_log ReadFault has = has
@@ -87,7 +87,7 @@ module _ {D : Type 0} (state : D → DiskState) (books : Books) (start q : Keepe
 
 -- a cause says the same on other grounds
 pub cause_on : (g h : Grounds) (log : Log) (version : ℕ) (sealed : List (List ℕ)) (o : Option Cause)
-    → ((book : Which) (count : ℕ) → g.full book count → h.full book count) → ((end need : ℕ) → g.no_room end need → h.no_room end need) → ((opened now : ℕ) → g.failed opened now → h.failed opened now)
+    → ((book : Which) (count : ℕ) → g.full book count → h.full book count) → ((end need : ℕ) → g.no_room sealed end need → h.no_room sealed end need) → ((opened now : ℕ) → g.failed opened now → h.failed opened now)
     → HasJobCause g log version sealed o → HasJobCause h log version sealed o
 cause_on g h log version sealed None full room failed has = has
 cause_on g h log version sealed (Some ReadFault) full room failed has = has

@@ -7,7 +7,7 @@ use Rattle.std.proofs.lemmas.List.Elements.{All-nil, All-push}
 use mathlib.Core.List.{IsPrefix}
 use Rattle.log_seams.specs.Disk.{DiskState}
 use Rattle.turn_lock.specs.Words.{seen, about, lock_of, number_of}
-use Rattle.turn_lock.proofs.FrontLemmas.{prefix_length}
+use Rattle.turn_lock.proofs.FrontLemmas.{prefix_length, prefix_trans}
 use Rattle.column_store.specs.declared.row.Row.{Row}
 use Rattle.column_store.specs.Row.{variable_count}
 use Rattle.column_store.specs.Columns.{ColumnsState, IsFull}
@@ -30,15 +30,17 @@ use Rattle.ingest_workers.specs.Full.{WasFullFor, books_by}
 use Rattle.ingest_workers.specs.Stop.{IsNameStop}
 use Rattle.ingest_workers.proofs.CauseLemmas.{full_cause, lost_cause}
 use Rattle.ingest_workers.proofs.MaySealLemmas.{nothing_sealed}
-use Rattle.ingest_workers.specs.Doing.{Covering, Doing}
+use Rattle.ingest_workers.specs.Doing.{Covering, Doing, NotSealed}
 use Rattle.ingest_workers.specs.Hand.{HasInHand, HasRoom, SameMarks, SameRows}
 use Rattle.ingest_workers.specs.Journal.{FrontHolds, HasAdded, Holds, WhereTold}
-use Rattle.ingest_workers.specs.MaySeal.{IsEmptied, IsWorker, MaySeal}
+use Rattle.ingest_workers.specs.MaySeal.{HasNoRoomFor, IsEmptied, IsWorker, MaySeal}
 use Rattle.ingest_workers.specs.Namer.{HasOnlySeen, HasSamePasses, types_pass, words_pass, types_seen, words_seen}
+use Rattle.ingest_workers.specs.NoRoom.{FoundNoRoom}
 use Rattle.ingest_workers.specs.Parts.{Part, IsCut, IsOpen, columns_of, front, messages_in, segments_from}
 use Rattle.ingest_workers.specs.Sealed.{HasNotSealed, HasSealed, NowHas}
 use Rattle.ingest_workers.proofs.JournalLemmas.{seen_front}
 use Rattle.ingest_workers.proofs.HandLemmas.{in_hand_on}
+use Rattle.ingest_workers.proofs.NoRoomLemmas.{found_room}
 use Rattle.ingest_workers.proofs.PartLemmas.{added_on, segment_at, cut_more, messages_more, open_all, open_more, sealed_joined, segments_more}
 use Rattle.ingest_workers.proofs.SealLemmas.{if_told, of_told}
 
@@ -95,11 +97,13 @@ module _ {D R A B C : Type 0} (state : D → DiskState) (limit : ℕ) (start p :
   columns_are : hand.draft.columns ≡ columns_of part
   columns_are = λ i. record { rows = hand.draft.columns.rows; bytes = d.has.bytes i }
 
+  pub few_in_hand : length hand.draft.columns.rows < limit
+  few_in_hand = lt_of (length hand.draft.columns.rows) limit (λ le. open_all limit part d.not_yet (inl le))
+
   pub has_room : limit ≤ MAX_ROWS → HasRoom hand
   has_room most =
-      let few : length hand.draft.columns.rows < limit = lt_of (length hand.draft.columns.rows) limit (λ le. open_all limit part d.not_yet (inl le)) in
       record {
-        rows = omega (arith, few, most);
+        rows = omega (arith, few_in_hand, most);
         variables = lt_of (variable_count hand.draft.columns.rows) 1048576 (λ le. open_all limit part d.not_yet (inr (inl le)));
       }
 
@@ -120,6 +124,7 @@ module _ {D R A B C : Type 0} (state : D → DiskState) (limit : ℕ) (start p :
     closed = d.closed;
     more = d.more ++ none.more;
     front = (d.messages ++ line ∷ [], sym (append_assoc (messages_in d.closed) d.messages (line ∷ [])) ∙ ap (λ l. l ++ line ∷ []) (sym d.taken_is));
+    few = omega (arith, few_in_hand, d.not_yet.even, ap length d.taken_is, length-append (messages_in d.closed) d.messages, length-append taken (line ∷ []));
     cut = d.cut;
     first = first ∙ d.first;
     added = added_on start p q d.more none.more d.added none.added;
@@ -157,7 +162,7 @@ module _ {D R A B C : Type 0} (state : D → DiskState) (limit : ℕ) (start p :
       → ((cause : Cause) → y ≡ PartStop cause → SameRows hand new) → IsNameStop y → ((book : Which) (count : ℕ) → y ≡ PartStop (Full book count) → WasFullFor n.version (λ m. m ≡ line) (books_by (types_pass n) (words_pass n)) book count)
       → IsAtStop state limit start p n new taken line y
   not_taken n new line (PartStop cause) same a b marks rows named full = (doing_kept n new same a b marks (rows cause refl), full_cause (WasFullFor n.version (λ m. m ≡ line) (books_by (types_pass n) (words_pass n))) cause named (λ book count is. full book count (ap PartStop is)))
-  not_taken n new line (Lost cause) same a b marks rows named full = (covering p new line (nothing_sealed state p d.worker.ready) marks.first, lost_cause state start p cause named)
+  not_taken n new line (Lost cause) same a b marks rows named full = record { covering = covering p new line (nothing_sealed state p d.worker.ready) marks.first; caused = lost_cause state start p _ cause named }
 
   module _ (n : LockNamer R A B C) (new : Hand) (row : Row) (line : List ℕ) (same : HasSamePasses m n) (marks : SameMarks hand new) (pushed : new.draft.columns.rows ≡ hand.draft.columns.rows ++ row ∷ [])
       (has : HasInHand m.version (types_seen n) (words_seen n) (d.messages ++ line ∷ []) new) (is_message : IsMessage m.version line) where
@@ -230,6 +235,15 @@ module _ {D R A B C : Type 0} (state : D → DiskState) (limit : ℕ) (start p :
           ended = (marks.ended ∙ d.not_ended) i;
           rows = pushed i;
         }
+
+    -- it is full, and its segment does not fit
+    pub full_found : (q : KeeperPass D) (now : LockNamer R A B C) (end need : ℕ) → HasOnlySeen n now → HasNotSealed state p q → IsFull new.draft.columns limit → HasNoRoomFor state new end need p q n now
+        → FoundNoRoom state limit now.version (books_by (types_pass now) (words_pass now)) (λ first. IsPrefix first (taken ++ line ∷ [])) start q (messages_in d.closed) end need
+    full_found q now end need only none full room =
+        found_room state limit now.version start p q n now new (messages_in d.closed) (d.messages ++ line ∷ []) (taken ++ line ∷ []) end need (new_file ∙ d.added.still.number) (marks.first ∙ d.first) d.added.still.about_is
+        (prefix_trans (seen start) (seen p) (seen q) d.added.seen_on none.added.seen_on) ([], append-nil (messages_in d.closed ++ (d.messages ++ line ∷ [])) ∙ sym taken_now)
+        (inl (subst (λ rows. IsCut limit (record { rows = rows; messages = d.messages ++ line ∷ [] })) (sym pushed) (cut_more limit part row line d.not_yet (subst (λ c. IsFull c limit) columns_now full))))
+        (subst (λ v. HasInHand v (types_seen n) (words_seen n) (d.messages ++ line ∷ []) new) (sym only.version) now_has_it) room
 
     pub doing_sealed : (q : KeeperPass D) (now : LockNamer R A B C) (emptied : Hand) → HasOnlySeen n now → IsEmptied new emptied → HasSealed state new.draft p q
         → NowHas state new.draft n.version (types_seen n) (words_seen n) p q → IsFull new.draft.columns limit → Doing state limit start q now emptied (taken ++ line ∷ [])

@@ -3,8 +3,9 @@ use Rattle.std.proofs.Common.{◌≡◌, ◌⊎◌, ⊎_elim, inl, inr, ℕ, zer
 use Rattle.std.specs.Prelude.{is_some, ◌&&◌}
 use Rattle.log_seams.specs.Disk.{DiskState}
 use Rattle.turn_lock.specs.Words.{seen, about, number_of}
-use Rattle.turn_lock.proofs.FrontLemmas.{prefix_self}
-use Rattle.column_store.specs.Columns.{IsFull}
+use mathlib.Core.List.{IsPrefix}
+use Rattle.turn_lock.proofs.FrontLemmas.{prefix_self, prefix_trans}
+use Rattle.column_store.specs.Columns.{ColumnsState, IsFull}
 use Rattle.column_store.specs.declared.row.Row.{Row}
 use Rattle.archive_meaning.specs.declared.entry.SegmentEntry.{SegmentEntry}
 use Rattle.archive_meaning.specs.declared.TheConstants.{MAX_ROWS, MAX_MESSAGES}
@@ -15,22 +16,38 @@ use Rattle.disk_seal.specs.Fixed.{KeeperPass}
 use Rattle.disk_seal.specs.Planned.{segment_of}
 use Rattle.ingest_workers.specs.declared.hand.Hand.{Hand}
 use Rattle.ingest_workers.specs.declared.outcome.Cause.{Cause}
+use Rattle.ingest_workers.specs.declared.outcome.Cause.TheVariants.{ReadFault, LineTooLong, TooManyLines, Full, DiskFault, ArchiveFull, OutOfMemory}
 use Rattle.ingest_workers.specs.Causes.{HasSealCause}
 use Rattle.ingest_workers.specs.Doing.{Covering, Doing}
 use Rattle.ingest_workers.specs.Done.{IsOutcome}
+use Rattle.ingest_workers.specs.Full.{Books, books_by}
+use Rattle.ingest_workers.specs.Hand.{SameRows}
 use Rattle.ingest_workers.specs.Journal.{FrontHolds, Holds}
-use Rattle.ingest_workers.specs.MaySeal.{MaySeal, IsEmptied}
-use Rattle.ingest_workers.specs.Namer.{types_seen, words_seen}
-use Rattle.ingest_workers.specs.Parts.{Part, columns_of, front, messages_in, rest_of, segments_from}
+use Rattle.ingest_workers.specs.MaySeal.{HasNoRoomFor, MaySeal, IsEmptied}
+use Rattle.ingest_workers.specs.Namer.{types_pass, types_seen, words_pass, words_seen}
+use Rattle.ingest_workers.specs.NoRoom.{FoundNoRoom, HasNoRoomBy}
+use Rattle.ingest_workers.specs.Parts.{IsOpen, Part, columns_of, front, messages_in, rest_of, segments_from}
 use Rattle.ingest_workers.specs.Sealed.{HasNotSealed, HasSealed, NowHas}
+use Rattle.ingest_workers.specs.Stop.{refused_by}
 use Rattle.ingest_workers.proofs.CauseLemmas.{seal_cause}
 use Rattle.ingest_workers.proofs.MaySealLemmas.{nothing_sealed}
-use Rattle.ingest_workers.proofs.DoingLemmas.{covering, has_room, rows_same}
+use Rattle.ingest_workers.proofs.DoingLemmas.{covering, few_in_hand, has_room, rows_same}
+use Rattle.ingest_workers.proofs.NoRoomLemmas.{found_room}
 use Rattle.ingest_workers.proofs.PartLemmas.{added_on, sealed_joined}
 use Rattle.ingest_workers.proofs.SealLemmas.{if_told, of_told}
 
 abbrev Texts : Type 0
 Texts = List (List ℕ)
+
+at_most_one : (why : Option Cause) → refused_by why ≤ 1
+at_most_one None = omega arith
+at_most_one (Some ReadFault) = omega arith
+at_most_one (Some (LineTooLong line)) = omega arith
+at_most_one (Some TooManyLines) = omega arith
+at_most_one (Some (Full book count)) = omega arith
+at_most_one (Some (DiskFault opened now)) = omega arith
+at_most_one (Some (ArchiveFull end need)) = omega arith
+at_most_one (Some OutOfMemory) = omega arith
 
 -- the hand with the marks of the last segment
 abbrev pub marked : Bool → Hand → Hand
@@ -57,14 +74,25 @@ module _ {D R A B C : Type 0} (state : D → DiskState) (limit : ℕ) (start p :
     end = λ last open_end. ap last_is_open (sym d.taken_is) ∙ at_end open_end;
   }
 
+  -- the rest does not fit
+  pub rest_found : (at : Hand) (q : KeeperPass D) (now : LockNamer R A B C) (cause : Cause) → SameRows hand at → at.draft.file ≡ hand.draft.file → at.draft.first ≡ hand.draft.first → HasNotSealed state p q
+      → ((end need : ℕ) → cause ≡ ArchiveFull end need → HasNoRoomFor state at end need p q m now) → HasSealCause state (HasNoRoomBy p) p q cause
+      → HasSealCause state (FoundNoRoom state limit m.version (books_by (types_pass now) (words_pass now)) (λ first. IsPrefix first taken) start q (messages_in d.closed)) start q cause
+  rest_found at q now cause same file first none room has = seal_cause state start p q d.added.still.about_is _ _ cause
+      (λ end need is. found_room state limit m.version start p q m now at (messages_in d.closed) d.messages taken end need (file ∙ (d.file ∙ d.added.still.number)) (first ∙ d.first) d.added.still.about_is
+      (prefix_trans (seen start) (seen p) (seen q) d.added.seen_on none.added.seen_on) ([], append-nil (messages_in d.closed ++ d.messages) ∙ sym d.taken_is)
+      (inr (subst (λ (c : ColumnsState). IsOpen limit (record { rows = c.rows; messages = d.messages })) (sym same.columns) d.not_yet))
+      (rows_same m.version (types_seen m) (words_seen m) d.messages hand at same d.has) (room end need is)) has
+
   told_now : (a : _) → about start ≡ Some a → about p ≡ Some a
   told_now a is = d.added.still.about_is ∙ is
 
-  pub all_done : (q : KeeperPass D) (new : Hand) → IsEmptied (marked ended hand) new → HasSealed state (marked ended hand).draft p q
-      → NowHas state (marked ended hand).draft m.version (types_seen m) (words_seen m) p q → IsOutcome state limit start q taken ended None (record { messages = new.draft.first; whole = true; cause = None })
-  all_done q new empty sealed has_now = record {
+  pub all_done : (version : ℕ) (books : Books) (q : KeeperPass D) (new : Hand) → IsEmptied (marked ended hand) new → HasSealed state (marked ended hand).draft p q
+      → NowHas state (marked ended hand).draft m.version (types_seen m) (words_seen m) p q → IsOutcome state limit version books start q taken ended None (record { messages = new.draft.first; whole = true; cause = None })
+  all_done version books q new empty sealed has_now = record {
     covered = taken;
     front = prefix_self taken;
+    few = omega arith;
     all = λ is. refl;
     cause = refl;
     caused = inl (refl, refl);
@@ -96,18 +124,19 @@ module _ {D R A B C : Type 0} (state : D → DiskState) (limit : ℕ) (start p :
       segment_is : segment_of (marked ended hand).draft ≡ record { file = number_of start; first = length (messages_in d.closed); last = true; ended = ended; rows = hand.draft.columns.rows }
       segment_is = λ i. record { file = (d.file ∙ d.added.still.number) i; first = d.first i; last = true; ended = ended; rows = hand.draft.columns.rows }
 
-  pub none_done : (q : KeeperPass D) (new : Hand) (why : Option Cause) (cause : Cause) → HasNotSealed state p q → new.draft.first ≡ hand.draft.first
-      → ((Some cause ≡ why) × (messages_in d.closed ≡ taken)) ⊎ HasSealCause state p q cause
-      → IsOutcome state limit start q taken ended why (record { messages = new.draft.first; whole = false; cause = Some cause })
-  none_done q new why cause none first caused =
+  pub none_done : (version : ℕ) (books : Books) (q : KeeperPass D) (new : Hand) (why : Option Cause) (cause : Cause) → HasNotSealed state p q → new.draft.first ≡ hand.draft.first
+      → ((Some cause ≡ why) × (messages_in d.closed ≡ taken)) ⊎ HasSealCause state (FoundNoRoom state limit version books (λ first. IsPrefix first taken) start q (messages_in d.closed)) start q cause
+      → IsOutcome state limit version books start q taken ended why (record { messages = new.draft.first; whole = false; cause = Some cause })
+  none_done version books q new why cause none first caused =
       let c : Covering state limit start q new (taken ++ [] ∷ []) = covering state limit start p m hand taken d q new [] none first in
       record {
         covered = messages_in c.closed;
         front = (d.messages, sym d.taken_is);
+        few = omega (arith, c.few, length-append taken ([] ∷ []), at_most_one why);
         all = λ is. absurd (cc (is));
         cause = refl;
         caused = ⊎_elim (λ (all : (Some cause ≡ why) × (messages_in d.closed ≡ taken)). inl all)
-            (λ (has : HasSealCause state p q cause). inr (cause, refl, seal_cause state start p q d.added.still.about_is cause has)) caused;
+            (λ (has : HasSealCause state (FoundNoRoom state limit version books (λ first. IsPrefix first taken) start q (messages_in d.closed)) start q cause). inr (cause, refl, has)) caused;
         count = c.first;
         done = record {
           closed = c.closed;
@@ -139,8 +168,8 @@ module _ {D R A B C : Type 0} (state : D → DiskState) (limit : ℕ) (start p :
   pub all_sealed : length hand.draft.columns.rows ≡ 0 → messages_in d.closed ≡ taken
   all_sealed none = sym (d.taken_is ∙ (ap (λ l. messages_in d.closed ++ l) (none_left d.messages (omega (arith, none, d.not_yet.even))) ∙ append-nil (messages_in d.closed)))
 
-  pub empty_done : (cause : Cause) → length hand.draft.columns.rows ≡ 0 → IsOutcome state limit start p taken ended (Some cause) (record { messages = hand.draft.first; whole = false; cause = Some cause })
-  empty_done cause none = none_done state limit start p m hand taken ended d p hand (Some cause) cause (nothing_sealed state p d.worker.ready) refl (inl (refl, all_sealed none))
+  pub empty_done : (version : ℕ) (books : Books) (cause : Cause) → length hand.draft.columns.rows ≡ 0 → IsOutcome state limit version books start p taken ended (Some cause) (record { messages = hand.draft.first; whole = false; cause = Some cause })
+  empty_done version books cause none = none_done state limit start p m hand taken ended d version books p hand (Some cause) cause (nothing_sealed state p d.worker.ready) refl (inl (refl, all_sealed none))
 
 -- the segment of a rest with messages, in a file that is not whole
 rest_rows : (file first : ℕ) (ended : Bool) (rows : List Row) (messages : Texts) → 0 < length rows
@@ -166,11 +195,12 @@ module _ {D R A B C : Type 0} (state : D → DiskState) (limit : ℕ) (start p :
     end = λ last open_end. absurd (cc (last, d.not_last));
   }
 
-  pub part_done : (q : KeeperPass D) (new : Hand) (cause : Cause) → IsEmptied hand new → HasSealed state hand.draft p q
-      → NowHas state hand.draft m.version (types_seen m) (words_seen m) p q → IsOutcome state limit start q taken ended (Some cause) (record { messages = new.draft.first; whole = false; cause = Some cause })
-  part_done q new cause empty sealed has_now = record {
+  pub part_done : (version : ℕ) (books : Books) (q : KeeperPass D) (new : Hand) (cause : Cause) → IsEmptied hand new → HasSealed state hand.draft p q
+      → NowHas state hand.draft m.version (types_seen m) (words_seen m) p q → IsOutcome state limit version books start q taken ended (Some cause) (record { messages = new.draft.first; whole = false; cause = Some cause })
+  part_done version books q new cause empty sealed has_now = record {
     covered = taken;
     front = prefix_self taken;
+    few = omega (arith, few_in_hand state limit start p m hand taken d, at_most_one (Some cause));
     all = λ is. refl;
     cause = refl;
     caused = inl (refl, refl);

@@ -14,9 +14,10 @@ use Rattle.disk_seal.specs.Fixed.{KeeperPass}
 use Rattle.disk_seal.specs.Known.{known_of, limit_in}
 use Rattle.ingest_workers.specs.declared.job.Job.{Job}
 use Rattle.ingest_workers.specs.Causes.{grounds_of, log_of}
-use Rattle.ingest_workers.specs.Full.{Books, IsMore, IsOneOf, IsTextOf, ThereAreMore, WasFull, WasFullFor, book_of, books_by}
+use Rattle.ingest_workers.specs.Full.{AreFirstOf, Books, IsMore, IsOneOf, IsTextOf, ThereAreMore, WasFull, WasFullFor, book_of, books_by}
 use Rattle.ingest_workers.specs.JobDone.{IsDone}
 use Rattle.ingest_workers.proofs.CauseLemmas.{cause_on}
+use Rattle.ingest_workers.proofs.NoRoomLemmas.{found_on}
 
 -- ---- it is met in naming a message
 
@@ -95,8 +96,9 @@ module _ {S D : Type 0} (state : D → DiskState) (left name : S → Option (Lis
       done = d.came.done;
       first = d.came.first;
       all = d.came.all;
-      caused = cause_on (grounds_of state version old bytes p q) (grounds_of state version new bytes p q) log version d.came.covered j'.outcome.cause
-          (full_wider version (IsOneOf version bytes) (IsOneOf version bytes) (λ m is. is) old new more) (λ end need has. has) (λ opened now has. has) d.came.caused;
+      caused = cause_on (grounds_of state rows version old bytes p q) (grounds_of state rows version new bytes p q) log version d.came.covered j'.outcome.cause
+          (full_wider version (IsOneOf version bytes) (IsOneOf version bytes) (λ m is. is) old new more)
+          (found_on state rows version old new (AreFirstOf version bytes) (AreFirstOf version bytes) p q more (λ ms first. first) d.came.covered) (λ opened now has. has) d.came.caused;
     };
   }
 

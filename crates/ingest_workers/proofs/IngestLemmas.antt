@@ -1,5 +1,5 @@
 -- What an ingest leaves, from what its workers did over the store.
-use Rattle.std.proofs.Common.{◌≡◌, ℕ, zero, suc, ◌+◌, ◌-◌, ◌^◌, ◌<◌, ◌≤◌, Bool, true, false, List, [], ◌∷◌, ◌++◌, length, map, drop, take, sym, refl, ap, ◌∙◌, subst, ⊎_elim, inl, inr, arith, Option, None, Some, is_some, slice_get, All, append-nil, append_assoc}
+use Rattle.std.proofs.Common.{◌≡◌, ℕ, zero, suc, ◌+◌, ◌-◌, ◌^◌, ◌<◌, ◌≤◌, Bool, true, false, List, [], ◌∷◌, ◌++◌, length, map, drop, take, sym, refl, ap, ap₂, ◌∙◌, subst, ⊎_elim, inl, inr, arith, Option, None, Some, is_some, slice_get, All, append-nil, append_assoc}
 use Rattle.std.specs.List.{filter_map, cons_option}
 use Rattle.std.proofs.lemmas.Option.{slice_get_within, slice_get-get_or}
 use Rattle.std.proofs.lemmas.Bool.{cases_lt}
@@ -41,12 +41,14 @@ use Rattle.ingest_workers.specs.Journal.{Holds}
 use Rattle.ingest_workers.specs.Worker.{IsGiven, IsIdle, books_in, types_of as types_pass, words_of as words_pass}
 use Rattle.ingest_workers.specs.Crew.{BookMaker, HavePlan, HasEnrolled}
 use Rattle.ingest_workers.specs.Locked.{in_file, file_segment, list_of, list_behind, IsPassOf, IsStillStore, MayDoAt, HasWorked}
-use Rattle.ingest_workers.specs.Ingested.{first_file, told_entries, AreNew, IsOfJobs, OpensBook, opened_over, IsLeftBy, IsAsItWas, IsFileOf, HasStored, HasItsCause, HaveCausesIn, grounds_over}
+use Rattle.ingest_workers.specs.Ingested.{first_file, told_entries, AreNew, IsOfJobs, OpensBook, opened_over, IsLeftBy, IsAsItWas, IsFileOf, HadNoRoomOver, HasStored, HasItsCause, HaveCausesIn, grounds_over}
+use Rattle.ingest_workers.specs.NoRoom.{FoundNoRoom, HadNoRoom, IsBetween, WereKnown}
+use Rattle.ingest_workers.proofs.NoRoomLemmas.{no_room_on}
 use Rattle.row_codec.specs.declared.namer.Which.{Which}
 use Rattle.turn_lock.proofs.FrontLemmas.{prefix_trans}
 use Rattle.ingest_workers.specs.Causes.{grounds_of, log_of}
 use Rattle.ingest_workers.specs.Desk.{AreAlike}
-use Rattle.ingest_workers.specs.Full.{Books, IsMore, IsOneOf, WasFullFor, book_of}
+use Rattle.ingest_workers.specs.Full.{AreFirstOf, Books, IsMore, IsOneOf, WasFullFor, book_of}
 use Rattle.ingest_workers.proofs.FullLemmas.{full_wider}
 use Rattle.ingest_workers.proofs.CauseLemmas.{cause_on}
 use Rattle.ingest_workers.specs.Closing.{IsJournalOf}
@@ -254,15 +256,33 @@ module _ {S D : Type 0} {d : DiskGhosts D} (left name : S → Option (List ℕ))
         (λ (most : 2 ^ 64 - 1 ≤ stopped.0). let le = fault.1 in let more : Rose (d.state store.opened).faults (d.state store.disk).faults = inr (omega arith) in more)
         fault.0))
 
-    pub have_causes : (books : Books) (first : ℕ) (plan : Plan) (ws ws' : List Worker) (js js' : List (Job S)) → HavePlan plan ws
+    -- the journal afterwards has what a pass has seen
+    seen_after : (q : KeeperPass D) → IsPrefix (seen q) (list_of d.state store) → IsJournalOf store after → IsPrefix (journal_seen (seen q)) (told_entries (state_of after))
+    seen_after q on back = subst (IsPrefix (journal_seen (seen q))) (list_now ∙ ap₂ (λ (x : D) n. journal_in (d.state x).seen n) (sym back.disk) (sym back.count)) (seen_front (seen q) (list_of d.state store) on)
+
+    -- what had no room, told of the journals
+    room_over : (first : ℕ) (plan : Plan) (i file : ℕ) (bytes : Option (List ℕ)) (known books : Books) (p q : KeeperPass D) → IsPassOf d.state first opened i p → number_of p ≡ file → IsPrefix (seen q) (list_of d.state store) → IsJournalOf store after
+        → ((book : Which) → IsMore (book_of known book) (book_of books book)) → (sealed : List (List ℕ)) (end need : ℕ) → FoundNoRoom d.state plan.rows plan.version known (AreFirstOf plan.version bytes) p q sealed end need
+        → HadNoRoomOver (WereKnown books) plan file bytes before after sealed end need
+    room_over first plan i file bytes known books p q o number on back more sealed end need found = (
+      found.0 _ o.about_is,
+      told_map (is_some (d.state before.disk.now).seen)
+          (λ (room : HadNoRoom before.header plan.rows plan.version (number_of p) (IsBetween (journal_seen (seen p)) (journal_seen (seen q))) (WereKnown known) (AreFirstOf plan.version bytes) sealed end need).
+          subst (λ n. HadNoRoom before.header plan.rows plan.version n (IsBetween (told_entries (state_of before)) (told_entries (state_of after))) (WereKnown books) (AreFirstOf plan.version bytes) sealed end need) number
+          (no_room_on before.header plan.rows plan.version (number_of p) _ _ (WereKnown known) (WereKnown books) (AreFirstOf plan.version bytes) (AreFirstOf plan.version bytes) sealed end need
+          (λ es between. (subst (λ l. IsPrefix l es) (ap journal_seen o.seen_is ∙ list_before) between.0, prefix_trans es (journal_seen (seen q)) (told_entries (state_of after)) between.1 (seen_after q on back)))
+          (λ es book texts has. prefix_trans texts (book_of known book).texts (book_of books book).texts has (more book).front) (λ ms first. first) room)) (found.1 _ o.about_is),
+    )
+
+    pub have_causes : (books : Books) (first : ℕ) (plan : Plan) (ws ws' : List Worker) (js js' : List (Job S)) → AreNew first (state_of before) js → HavePlan plan ws
         → ((i : ℕ) (v : Worker) → slice_get ws' i ≡ Some v → (book : Which) → IsMore (book_of (books_in v) book) (book_of books book))
         → HasWorked d.state left name faults first ws ws' js js' opened store → IsJournalOf store after → Kept (state_by d.state store) → HaveCausesIn books left name faults plan before after js js'
-    have_causes books first plan ws ws' js js' planned more h back kept = record { counted = h.done.jobs; each = each }
+    have_causes books first plan ws ws' js js' new planned more h back kept = record { counted = h.done.jobs; each = each }
       where
         full : Which → ℕ → Type 0
         full = WasFullFor plan.version (IsGiven left plan.version js) books
 
-        each : (i : ℕ) (job : Job S) → slice_get js i ≡ Some job → (new : Job S) × (slice_get js' i ≡ Some new) × HasItsCause full left name faults plan before after job new
+        each : (i : ℕ) (job : Job S) → slice_get js i ≡ Some job → (new : Job S) × (slice_get js' i ≡ Some new) × HasItsCause full (WereKnown books) left name faults plan before after job new
         each i job at = let even = h.counted in let lt = slice_get_within js i job at in let p = there_is h.passes i (omega arith) in
             let f = h.done.each i job p.0 at p.1 in let o = h.opened i p.0 p.1 in
             let done : IsDone d.state left name faults plan.rows plan.version (books_in h.knows) job p.0 f.job f.keeper = subst (λ (x : Plan). IsDone d.state left name faults x.rows x.version (books_in h.knows) job p.0 f.job f.keeper) (planned f.place f.worker f.worker_is) f.did_it in
@@ -274,10 +294,10 @@ module _ {S D : Type 0} {d : DiskGhosts D} (left name : S → Option (List ℕ))
                 sealed = done.came.covered;
                 count = done.came.count;
                 first = done.came.first;
-                cause = cause_on (grounds_of d.state plan.version (books_in h.knows) (left done.source.before) p.0 f.keeper) (grounds_over full before after) log plan.version done.came.covered f.job.outcome.cause
+                cause = cause_on (grounds_of d.state plan.rows plan.version (books_in h.knows) (left done.source.before) p.0 f.keeper) (grounds_over full (WereKnown books) plan job.file (left done.source.before) before after) log plan.version done.came.covered f.job.outcome.cause
                     (full_wider plan.version (IsOneOf plan.version (left done.source.before)) (IsGiven left plan.version js)
                     (λ m one. (i, job, at, subst (λ b. IsOneOf plan.version b m) (sym (ap (in_source left) done.source.had)) one)) (books_in h.knows) books (more h.place h.knows h.knows_is))
-                    (λ end need has. has _ o.about_is)
+                    (room_over first plan i job.file (left done.source.before) (books_in h.knows) books p.0 f.keeper o (o.number ∙ sym (new i job at).file_is) (h.seen_on i f.keeper f.keeper_is) back (more h.place h.knows h.knows_is) done.came.covered)
                     (λ since now has. (
                       has.fault.opened _ o.about_is,
                       subst (λ n. Rose n (state_of after).disk.faults) (sym (has.fault.opened _ o.about_is))
@@ -287,10 +307,10 @@ module _ {S D : Type 0} {d : DiskGhosts D} (left name : S → Option (List ℕ))
               },
             )
 
-    pub causes_by : (books : Books) (o : StoreView D) (f first : ℕ) (plan : Plan) (ws ws' : List Worker) (js js' : List (Job S)) → o ≡ opened → f ≡ first → HavePlan plan ws
+    pub causes_by : (books : Books) (o : StoreView D) (f first : ℕ) (plan : Plan) (ws ws' : List Worker) (js js' : List (Job S)) → o ≡ opened → f ≡ first → AreNew first (state_of before) js → HavePlan plan ws
         → ((i : ℕ) (v : Worker) → slice_get ws' i ≡ Some v → (book : Which) → IsMore (book_of (books_in v) book) (book_of books book))
         → HasWorked d.state left name faults f ws ws' js js' o store → IsJournalOf store after → Kept (state_by d.state store) → HaveCausesIn books left name faults plan before after js js'
-    causes_by books o f first plan ws ws' js js' is same planned more h back kept = have_causes books first plan ws ws' js js' planned more
+    causes_by books o f first plan ws ws' js js' is same new planned more h back kept = have_causes books first plan ws ws' js js' new planned more
         (subst (λ (n : ℕ). HasWorked d.state left name faults n ws ws' js js' opened store) same (subst (λ (x : StoreView D). HasWorked d.state left name faults f ws ws' js js' x store) is h)) back kept
 
     pub ingested_by : (o : StoreView D) (f first : ℕ) (plan : Plan) (ws ws' : List Worker) (js js' : List (Job S)) → o ≡ opened → f ≡ first → AreNew first (state_of before) js → HavePlan plan ws

@@ -5,6 +5,7 @@ pub mod JournalLemmas
 pub mod HandLemmas
 pub mod SealLemmas
 pub mod MaySealLemmas
+pub mod NoRoomLemmas
 pub mod CrewLemmas
 pub mod LockLemmas
 pub mod DeskLemmas

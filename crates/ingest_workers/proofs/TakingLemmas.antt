@@ -1,12 +1,12 @@
 -- A worker that takes the messages of a source.
-use Rattle.std.proofs.Common.{◌≡◌, ◌≢◌, ⊎_elim, inl, inr, ℕ, zero, suc, ◌-◌, ◌<◌, ◌≤◌, List, [], ◌∷◌, ◌++◌, Bool, true, false, length, refl, sym, ap, ◌∙◌, subst, arith, append-nil, append_assoc, length-append, Option, None, Some, Result, Ok, Err}
+use Rattle.std.proofs.Common.{◌≡◌, ◌≢◌, ⊎_elim, inl, inr, ℕ, zero, suc, ◌+◌, ◌-◌, ◌<◌, ◌≤◌, List, [], ◌∷◌, ◌++◌, Bool, true, false, length, refl, sym, ap, ◌∙◌, subst, arith, append-nil, append_assoc, length-append, Option, None, Some, Result, Ok, Err}
 use Rattle.std.specs.Prelude.{IfSome, IfNone, IfErr, IsErrOf, OnOk, is_some, not}
 use Rattle.std.specs.List.{Contains, flat_map}
 use Rattle.std.proofs.lemmas.Bool.{ne_eqb}
-use Rattle.std.proofs.lemmas.List.Elements.{All-nil}
+use Rattle.std.proofs.lemmas.List.Elements.{All-nil, Contains-append_left, Contains-push}
 use mathlib.Core.List.{IsPrefix}
 use Rattle.log_seams.specs.Disk.{DiskState}
-use Rattle.turn_lock.specs.Words.{about, seen, number_of, IsReady}
+use Rattle.turn_lock.specs.Words.{seen, number_of, IsReady}
 use Rattle.turn_lock.proofs.FrontLemmas.{prefix_self, prefix_trans}
 use Rattle.column_store.specs.Columns.{IsFull}
 use Rattle.row_codec.specs.Means.{AreCanonical}
@@ -24,7 +24,7 @@ use Rattle.disk_seal.specs.Draft.{journal_seen}
 use Rattle.disk_seal.specs.Fixed.{KeeperPass}
 use Rattle.ingest_workers.specs.declared.hand.Hand.{Hand}
 use Rattle.ingest_workers.specs.declared.outcome.Cause.{Cause}
-use Rattle.ingest_workers.specs.declared.outcome.Cause.TheVariants.{OutOfMemory}
+use Rattle.ingest_workers.specs.declared.outcome.Cause.TheVariants.{ReadFault as WasReadFault, LineTooLong as WasTooLong, TooManyLines as WereTooMany, Full, DiskFault, ArchiveFull, OutOfMemory}
 use Rattle.ingest_workers.specs.declared.outcome.Outcome.{Outcome}
 use Rattle.ingest_workers.specs.declared.stop.Stop.{Stop}
 use Rattle.ingest_workers.specs.declared.stop.Stop.TheVariants.{Part as PartStop, Lost}
@@ -34,12 +34,13 @@ use Rattle.line_cut.specs.Length.{bytes_left}
 use Rattle.line_cut.specs.declared.cut.Cut.{Cut}
 use Rattle.line_cut.specs.declared.cut.Cut.TheVariants.{ReadFault, LineTooLong, TooManyLines, OutOfMemory as CutOutOfMemory}
 use Rattle.line_cut.specs.declared.cut.Mark.{Mark}
-use Rattle.ingest_workers.specs.Causes.{HasJobCause, HasSealCause, HaveMoreThan, Log, cause_by, grounds_of, log_from, log_of}
+use Rattle.ingest_workers.specs.Causes.{HasJobCause, HasSealCause, HaveMoreThan, IsFullCause, Log, cause_by, grounds_of, log_from, log_of}
+use Rattle.ingest_workers.specs.NoRoom.{FoundNoRoom}
 use Rattle.row_codec.specs.declared.namer.Which.{Which}
-use Rattle.ingest_workers.specs.Full.{Books, IsMore, WasFullFor, book_of, books_by}
+use Rattle.ingest_workers.specs.Full.{AreFirstOf, Books, IsMore, WasFullFor, book_of, books_by}
 use Rattle.ingest_workers.specs.Namer.{HasOnlySeen}
 use Rattle.ingest_workers.proofs.FullLemmas.{books_on, full_wider, more_self}
-use Rattle.ingest_workers.specs.Doing.{Covering, Doing}
+use Rattle.ingest_workers.specs.Doing.{Doing, NotSealed}
 use Rattle.ingest_workers.specs.Done.{IsOutcome}
 use Rattle.ingest_workers.specs.Hand.{IsEmptyHand}
 use Rattle.ingest_workers.specs.JobDone.{CameTo}
@@ -49,13 +50,15 @@ use Rattle.ingest_workers.specs.Namer.{types_pass, words_pass, types_seen, words
 use Rattle.ingest_workers.specs.Naming.{HasNamed}
 use Rattle.ingest_workers.specs.Parts.{Part, IsCut, IsOpen, columns_of, front, messages_in, segments_from}
 use Rattle.ingest_workers.specs.Stopping.{IsAtStop}
-use Rattle.ingest_workers.specs.Taking.{AreTaken, HasStopCause, IsOneOf, StopsAt, Taking, Took, mark_of, why_of}
+use Rattle.ingest_workers.specs.Taking.{AreTaken, HasLearned, HasStopCause, IsOneOf, StopsAt, Taking, Took, mark_of, why_of}
 use Rattle.ingest_workers.proofs.CauseLemmas.{cause_on, name_cause, of_log, of_seal}
 use Rattle.ingest_workers.proofs.MaySealLemmas.{nothing_added}
 use Rattle.ingest_workers.proofs.NamingLemmas.{named_then, named_wider}
+use Rattle.ingest_workers.proofs.NoRoomLemmas.{found_on}
 use Rattle.ingest_workers.proofs.SealLemmas.{if_told, of_told}
-use Rattle.ingest_workers.specs.Turns.{LearnBoth}
-use Rattle.ingest_workers.proofs.TurnsLemmas.{learn_wider}
+use Rattle.ingest_workers.specs.Stop.{refused_by}
+use Rattle.ingest_workers.specs.Turns.{LearnBoth, TakesFewOf, EndBoth, spare_of, stop_in, unsealed_by}
+use Rattle.ingest_workers.proofs.TurnsLemmas.{learn_self, learn_then, learn_wider, take_few, take_none}
 
 abbrev Texts : Type 0
 Texts = List (List ℕ)
@@ -147,17 +150,58 @@ more_than version (Some b) taken (Some r) held (Some x) told is some most = λ m
     let left_some : 0 < length others.0 = one_more others.0 (λ none. text_of version r others.0 others.1 others.2 none (omega (arith, long, held_more, some))) in
     omega (arith, ap length all, length-append taken others.0, most, left_some)
 
+-- ---- causes, by what was met
+
+one_refused : (full : Which → ℕ → Type 0) (cause : Cause) → IsFullCause full cause → refused_by (Some cause) ≡ 1
+one_refused full (Full book count) is = refl
+one_refused full WasReadFault is = absurd is
+one_refused full (WasTooLong line) is = absurd is
+one_refused full WereTooMany is = absurd is
+one_refused full (DiskFault opened now) is = absurd is
+one_refused full (ArchiveFull end need) is = absurd is
+one_refused full OutOfMemory is = absurd is
+
+one_unsealed : (rows : ℕ) (cause : Option Cause) → refused_by cause ≤ unsealed_by rows cause
+one_unsealed rows None = omega arith
+one_unsealed rows (Some (Full book count)) = omega arith
+one_unsealed rows (Some WasReadFault) = omega arith
+one_unsealed rows (Some (WasTooLong line)) = omega arith
+one_unsealed rows (Some WereTooMany) = omega arith
+one_unsealed rows (Some (DiskFault opened now)) = omega arith
+one_unsealed rows (Some (ArchiveFull end need)) = omega arith
+one_unsealed rows (Some OutOfMemory) = omega arith
+
+all_in_hand : {D : Type 0} (state : D → DiskState) (no_room : ℕ → ℕ → Type 0) (rows : ℕ) (p q : KeeperPass D) (cause : Cause) → HasSealCause state no_room p q cause → unsealed_by rows (Some cause) ≡ rows
+all_in_hand state no_room rows p q (DiskFault opened now) has = refl
+all_in_hand state no_room rows p q (ArchiveFull end need) has = refl
+all_in_hand state no_room rows p q OutOfMemory has = refl
+all_in_hand state no_room rows p q WasReadFault has = absurd has
+all_in_hand state no_room rows p q (WasTooLong line) has = absurd has
+all_in_hand state no_room rows p q WereTooMany has = absurd has
+all_in_hand state no_room rows p q (Full book count) has = absurd has
+
 -- ---- the next message
 
-module _ {S D R A B C : Type 0} (state : D → DiskState) (left : S → Option (List ℕ)) (limit : ℕ) (bytes : Option (List ℕ)) (start p : KeeperPass D) (n : LockNamer R A B C) (hand : Hand) (old new : ReaderState S) (taken : Texts)
-    (t : Taking state left limit bytes start p n hand old taken) where
-  pub took_all : (faults : S → ℕ) → faults new.source ≡ faults old.source → ReadToEnd left old new → Took state limit n.version (log_from bytes left faults old.source new.source) start p n hand (Ok true)
+module _ {S D R A B C : Type 0} (state : D → DiskState) (left : S → Option (List ℕ)) (limit : ℕ) (bytes : Option (List ℕ)) (start p : KeeperPass D) (m n : LockNamer R A B C) (hand : Hand) (old new : ReaderState S) (taken : Texts)
+    (t : Taking state left limit bytes start p m n hand old taken) where
+  -- no text was named since
+  learned_none : (answer : Result Bool Stop) → HasLearned state n.version bytes start p m n answer taken
+  learned_none answer = record {
+    met = taken;
+    front = prefix_self taken;
+    few = omega arith;
+    first = front_of left n.version bytes taken old t.read;
+    learned = learn_then state (Contains taken) (stop_in answer) start p p m n n t.version t.learned (learn_self state (Contains taken) (stop_in answer) p n);
+  }
+
+  pub took_all : (faults : S → ℕ) → faults new.source ≡ faults old.source → ReadToEnd left old new → Took state limit n.version (log_from bytes left faults old.source new.source) start p m n hand (Ok true)
   took_all faults steady at_end = record {
     caused = steady;
     taken = taken;
     few = t.few;
     stops = (t.doing, λ e. absurd (cc (e)));
     told = all_of n.version bytes taken true ((reading_ends left n.version bytes taken old new t.read).1 at_end t.going);
+    learned = learned_none (Ok true);
   }
 
   -- the reader refused, and this is its cause
@@ -174,12 +218,13 @@ module _ {S D R A B C : Type 0} (state : D → DiskState) (left : S → Option (
     cut_cause CutOutOfMemory is r = absurd (r.cause t.going)
 
   pub took_part : (faults : S → ℕ) (result : Result (Option Mark) Cut) → CountsOf ReadFault (faults old.source) (faults new.source) result → (cut : Cut) (cause : Cause) → cause ≡ cause_by cut → IsErrOf result cut → RefusedToRead left faults old new cut
-      → Took state limit n.version (log_from bytes left faults old.source new.source) start p n hand (Err (PartStop cause))
+      → Took state limit n.version (log_from bytes left faults old.source new.source) start p m n hand (Err (PartStop cause))
   took_part faults result counts cut cause same is r = let full = WasFullFor n.version (IsOneOf n.version bytes) (books_by (types_pass n) (words_pass n)) in record {
     taken = taken;
     few = t.few;
     stops = t.doing;
     told = front_of left n.version bytes taken old t.read;
+    learned = learned_none (Err (PartStop cause));
     caused = subst (λ x. HasStopCause full (log_from bytes left faults old.source new.source) n.version taken (Err (PartStop x))) (sym same) (cut_cause faults result counts full cut is r);
   }
 
@@ -206,45 +251,74 @@ module _ {S D R A B C : Type 0} (state : D → DiskState) (left : S → Option (
       pub named_more : (ended : Bool) → ReadMessage left ended old new → HasNamed (λ x. x ≡ line) n o → HasNamed (IsOneOf n.version bytes) n o
       named_more ended m named = named_wider (λ x. x ≡ line) (IsOneOf n.version bytes) (λ x is. subst (IsOneOf n.version bytes) (sym (is ∙ same)) (is_one ended m)) n o named
 
-      pub learned_more : (ended : Bool) → ReadMessage left ended old new → (stop : Option Stop) → LearnBoth state (λ x. x ≡ line) stop p q n o → LearnBoth state (IsOneOf n.version bytes) stop p q n o
-      learned_more ended m stop l = learn_wider state (λ x. x ≡ line) (IsOneOf n.version bytes) (λ x is. subst (IsOneOf n.version bytes) (sym (is ∙ same)) (is_one ended m)) stop p q n o l
+      learned_more : (stop : Option Stop) → LearnBoth state (λ x. x ≡ line) stop p q n o → LearnBoth state (Contains (taken ++ new.message ∷ [])) stop start q m o
+      learned_more stop l =
+          let all : List ℕ → Type 0 = Contains (taken ++ new.message ∷ []) in
+          learn_then state all stop start p q m n o t.version
+          (learn_wider state (Contains taken) all (λ x is. Contains-append_left taken (new.message ∷ []) x is) None start p m n t.learned)
+          (learn_wider state (λ x. x ≡ line) all (λ x is. subst all (sym (is ∙ same)) (Contains-push taken new.message)) stop p q n o l)
 
-      pub took_stop : (ended : Bool) → ReadMessage left ended old new → faults new.source ≡ faults old.source → o.version ≡ n.version → (y : Stop) → IsAtStop state limit start q o next taken line y → Took state limit n.version (log_from bytes left faults old.source new.source) start q o next (Err y)
-      took_stop ended m steady version (PartStop cause) d = record {
+      pub took_stop : (ended : Bool) → ReadMessage left ended old new → faults new.source ≡ faults old.source → o.version ≡ n.version → (y : Stop) → LearnBoth state (λ x. x ≡ line) (Some y) p q n o → IsAtStop state limit start q o next taken line y
+          → Took state limit n.version (log_from bytes left faults old.source new.source) start q m o next (Err y)
+      took_stop ended message steady version (PartStop cause) l d = record {
         taken = taken;
         few = t.few;
         stops = d.0;
         told = front_of left n.version bytes taken old t.read;
+        learned = record {
+          met = taken ++ new.message ∷ [];
+          front = (new.message ∷ [], refl);
+          few = let one = one_refused (WasFullFor o.version (λ x. x ≡ line) (books_by (types_pass o) (words_pass o))) cause d.1 in omega (arith, one, length-append taken (new.message ∷ []));
+          first = front_more ended message;
+          learned = learned_more (Some (PartStop cause)) l;
+        };
         caused = let known = books_by (types_pass o) (words_pass o) in
             name_cause (WasFullFor o.version (λ x. x ≡ line) known) (WasFullFor n.version (IsOneOf n.version bytes) known) (λ book count is.
-            full_wider n.version (λ x. x ≡ line) (IsOneOf n.version bytes) (λ x at. subst (IsOneOf n.version bytes) (sym (at ∙ same)) (is_one ended m)) known known (λ b. more_self (book_of known b)) book count
+            full_wider n.version (λ x. x ≡ line) (IsOneOf n.version bytes) (λ x at. subst (IsOneOf n.version bytes) (sym (at ∙ same)) (is_one ended message)) known known (λ b. more_self (book_of known b)) book count
             (subst (λ v. WasFullFor v (λ x. x ≡ line) known book count) version is)) (log_from bytes left faults old.source new.source) n.version taken cause steady d.1;
       }
-      took_stop ended m steady version (Lost cause) c = record {
+      took_stop ended message steady version (Lost cause) l c = record {
         caused = tt;
         taken = taken ++ new.message ∷ [];
-        few = few_more ended m;
-        stops = (subst (λ l. Covering state limit start q next (taken ++ l ∷ [])) same c.0, c.1);
-        told = front_more ended m;
+        few = few_more ended message;
+        stops = subst (λ l. NotSealed state limit start q o next (taken ++ l ∷ []) cause) same c;
+        told = front_more ended message;
+        learned = record {
+          met = taken ++ new.message ∷ [];
+          front = prefix_self (taken ++ new.message ∷ []);
+          few = omega arith;
+          first = front_more ended message;
+          learned = learned_more (Some (Lost cause)) l;
+        };
       }
 
-      pub taking_more : (ended : Bool) → ended ≡ true → ReadMessage left ended old new → o.version ≡ n.version → Doing state limit start q o next (taken ++ line ∷ []) → Taking state left limit bytes start q o next new (taken ++ new.message ∷ [])
-      taking_more ended is m version d =
-          let m' = subst (λ e. ReadMessage left e old new) is m in record {
+      pub taking_more : (ended : Bool) → ended ≡ true → ReadMessage left ended old new → o.version ≡ n.version → LearnBoth state (λ x. x ≡ line) None p q n o → Doing state limit start q o next (taken ++ line ∷ []) → Taking state left limit bytes start q m o next new (taken ++ new.message ∷ [])
+      taking_more ended is message version l d =
+          let m' = subst (λ e. ReadMessage left e old new) is message in record {
             doing = subst (λ l. Doing state limit start q o next (taken ++ l ∷ [])) same d;
             read = subst (λ v. HasRead left v bytes (taken ++ new.message ∷ []) new) (sym version) (reading_goes_on left name faults n.version bytes taken old new t.read stays m');
             going = m'.progress;
             few = few_more true m';
+            version = version ∙ t.version;
+            learned = learned_more None l;
           }
 
-      pub took_last : (ended : Bool) → ended ≡ false → ReadMessage left ended old new → faults new.source ≡ faults old.source → Doing state limit start q o next (taken ++ line ∷ []) → Took state limit n.version (log_from bytes left faults old.source new.source) start q o next (Ok false)
-      took_last ended is m steady d =
-          let m' = subst (λ e. ReadMessage left e old new) is m in record {
+      pub took_last : (ended : Bool) → ended ≡ false → ReadMessage left ended old new → faults new.source ≡ faults old.source → LearnBoth state (λ x. x ≡ line) None p q n o → Doing state limit start q o next (taken ++ line ∷ [])
+          → Took state limit n.version (log_from bytes left faults old.source new.source) start q m o next (Ok false)
+      took_last ended is message steady l d =
+          let m' = subst (λ e. ReadMessage left e old new) is message in record {
             caused = steady;
             taken = taken ++ new.message ∷ [];
             few = few_more false m';
             stops = (subst (λ l. Doing state limit start q o next (taken ++ l ∷ [])) same d, λ e. last_open taken new.message (open_of new.message (m'.open_end refl)));
             told = all_of n.version bytes (taken ++ new.message ∷ []) false ((reading_ends left n.version bytes taken old new t.read).0 m');
+            learned = record {
+              met = taken ++ new.message ∷ [];
+              front = prefix_self (taken ++ new.message ∷ []);
+              few = omega arith;
+              first = front_more false m';
+              learned = learned_more None l;
+            };
           }
 
 -- ---- over several messages
@@ -253,8 +327,8 @@ module _ {R A B C : Type 0} where
   pub named_on : (bytes : Option (List ℕ)) (m n o : LockNamer R A B C) → HasNamed (IsOneOf m.version bytes) m n → HasNamed (IsOneOf n.version bytes) n o → HasNamed (IsOneOf m.version bytes) m o
   named_on bytes m n o one two = named_then (IsOneOf m.version bytes) m n o one (subst (λ v. HasNamed (IsOneOf v bytes) n o) one.version two)
 
-module _ {S D R A B C : Type 0} (state : D → DiskState) (left : S → Option (List ℕ)) (limit : ℕ) (bytes : Option (List ℕ)) (start p q : KeeperPass D) (n o : LockNamer R A B C) (hand next : Hand) (old new : ReaderState S) (taken : Texts) (text : List ℕ) where
-  pub one_less : Taking state left limit bytes start p n hand old taken → Taking state left limit bytes start q o next new (taken ++ text ∷ []) → MAX_MESSAGES - new.given < MAX_MESSAGES - old.given
+module _ {S D R A B C : Type 0} (state : D → DiskState) (left : S → Option (List ℕ)) (limit : ℕ) (bytes : Option (List ℕ)) (start p q : KeeperPass D) (m n o : LockNamer R A B C) (hand next : Hand) (old new : ReaderState S) (taken : Texts) (text : List ℕ) where
+  pub one_less : Taking state left limit bytes start p m n hand old taken → Taking state left limit bytes start q m o next new (taken ++ text ∷ []) → MAX_MESSAGES - new.given < MAX_MESSAGES - old.given
   one_less a b = omega (arith, a.read.given, b.read.given, b.few, length-append taken (text ∷ []))
 
 -- told since an earlier moment, since when no read failed
@@ -304,12 +378,19 @@ module _ {D R A B C : Type 0} (state : D → DiskState) (limit : ℕ) (least : 1
   }
 
   pub taking_none : {S : Type 0} (left : S → Option (List ℕ)) (source : S) (r : ReaderState S) (n : LockNamer R A B C) (hand : Hand) (file : ℕ) → IsWorker p n → file ≡ number_of p → IsEmptyHand file 0 hand → IsNewReader n.version source r
-      → Taking state left limit (left source) p p n hand r []
+      → Taking state left limit (left source) p p n n hand r []
   taking_none left source r n hand file worker is empty fresh =
-      record { doing = doing_none n hand file worker is empty; read = reading_begins left n.version source r fresh; going = fresh.progress; few = omega arith }
+      record {
+        doing = doing_none n hand file worker is empty;
+        read = reading_begins left n.version source r fresh;
+        going = fresh.progress;
+        few = omega arith;
+        version = refl;
+        learned = learn_self state (Contains []) None p n;
+      }
 
 module _ {D : Type 0} (state : D → DiskState) (limit : ℕ) (least : 1 ≤ limit) (p : KeeperPass D) (so_far : HasSoFar state p []) where
-  pub came_none : (version : ℕ) (books : Books) (log : Log) → IsReady p → (why : Option Cause) → HasJobCause (grounds_of state version books log.bytes p p) log version [] why → CameTo state limit version books log p p (record { messages = 0; whole = false; cause = why })
+  pub came_none : (version : ℕ) (books : Books) (log : Log) → IsReady p → (why : Option Cause) → HasJobCause (grounds_of state limit version books log.bytes p p) log version [] why → CameTo state limit version books log p p (record { messages = 0; whole = false; cause = why })
   came_none version books log ready why right = record {
     caused = right;
     covered = [];
@@ -344,11 +425,12 @@ module _ {D R A B C : Type 0} (state : D → DiskState) (limit : ℕ) (start p :
   pub at_part : (answer : Result Bool Stop) (cause : Cause) → answer ≡ Err (PartStop cause) → StopsAt state limit start p n hand taken answer → Doing state limit start p n hand taken
   at_part answer cause is s = subst (StopsAt state limit start p n hand taken) is s
 
-  lost_done : 1 ≤ limit → Covering state limit start p hand taken → (cause : Cause) → HasSealCause state start p cause → IsOutcome state limit start p taken false None (record { messages = hand.draft.first; whole = false; cause = Some cause })
-  lost_done least c cause has = record {
-    caused = inr (cause, refl, has);
+  lost_done : 1 ≤ limit → (cause : Cause) → NotSealed state limit start p n hand taken cause → IsOutcome state limit n.version (books_by (types_pass n) (words_pass n)) start p taken false None (record { messages = hand.draft.first; whole = false; cause = Some cause })
+  lost_done least cause s = let c = s.covering in record {
+    caused = inr (cause, refl, s.caused);
     covered = messages_in c.closed;
     front = c.front;
+    few = omega (arith, c.few);
     all = λ is. absurd (cc (is));
     cause = refl;
     count = c.first;
@@ -367,10 +449,10 @@ module _ {D R A B C : Type 0} (state : D → DiskState) (limit : ℕ) (start p :
   }
 
   pub lost_outcome : 1 ≤ limit → (answer : Result Bool Stop) (cause : Cause) → answer ≡ Err (Lost cause) → StopsAt state limit start p n hand taken answer
-      → IsOutcome state limit start p taken (mark_of answer) (why_of answer) (record { messages = hand.draft.first; whole = false; cause = Some cause })
+      → IsOutcome state limit n.version (books_by (types_pass n) (words_pass n)) start p taken (mark_of answer) (why_of answer) (record { messages = hand.draft.first; whole = false; cause = Some cause })
   lost_outcome least answer cause is s =
       let at = subst (StopsAt state limit start p n hand taken) is s in
-      subst (λ a. IsOutcome state limit start p taken (mark_of a) (why_of a) (record { messages = hand.draft.first; whole = false; cause = Some cause })) (sym is) (lost_done least at.0 cause at.1)
+      subst (λ a. IsOutcome state limit n.version (books_by (types_pass n) (words_pass n)) start p taken (mark_of a) (why_of a) (record { messages = hand.draft.first; whole = false; cause = Some cause })) (sym is) (lost_done least cause at)
 
 first_of : (answer : Result Bool Stop) (taken covered messages : Texts) (e : Bool) → IsPrefix covered taken → AreTaken answer taken messages e → IsPrefix covered messages
 first_of (Ok ended) taken covered messages e front is = subst (IsPrefix covered) is.0 front
@@ -380,55 +462,112 @@ all_at_end : (answer : Result Bool Stop) (ended : Bool) → answer ≡ Ok ended 
 all_at_end (Ok x) ended is_end taken covered messages e same is = (same ∙ is.0, is.1)
 all_at_end (Err y) ended is_end taken covered messages e same is = absurd (cc (is_end))
 
-module _ {D R A B C : Type 0} (state : D → DiskState) (limit version : ℕ) (log : Log) (start p : KeeperPass D) (n : LockNamer R A B C) (hand : Hand) (answer : Result Bool Stop) (t : Took state limit version log start p n hand answer) (q : KeeperPass D)
+module _ {D R A B C : Type 0} (state : D → DiskState) (limit version : ℕ) (log : Log) (start p : KeeperPass D) (m n : LockNamer R A B C) (hand : Hand) (answer : Result Bool Stop) (t : Took state limit version log start p m n hand answer) (q : KeeperPass D)
     (outcome : Outcome) where
   abbrev known : Books
   known = books_by (types_pass n) (words_pass n)
 
   -- the cause, where no further message was taken for it and all that were are sealed
   stopped_by : (a : Result Bool Stop) (covered : Texts) (o : Option Cause) → HasStopCause (WasFullFor version (IsOneOf version log.bytes) known) log version t.taken a → ((x : Cause) → a ≡ Err (Lost x) → o ≡ None → ⊥) → o ≡ why_of a → covered ≡ t.taken
-      → HasJobCause (grounds_of state version known log.bytes start q) log version covered o
-  stopped_by (Ok ended) covered o has lost is all = subst (HasJobCause (grounds_of state version known log.bytes start q) log version covered) (sym is) has
+      → HasJobCause (grounds_of state limit version known log.bytes start q) log version covered o
+  stopped_by (Ok ended) covered o has lost is all = subst (HasJobCause (grounds_of state limit version known log.bytes start q) log version covered) (sym is) has
   stopped_by (Err (PartStop cause)) covered o has lost is all =
-      subst (HasJobCause (grounds_of state version known log.bytes start q) log version covered) (sym is)
-      (subst (λ l. HasJobCause (grounds_of state version known log.bytes start q) log version l (Some cause)) (sym all) (of_log state known start q log version t.taken cause has))
+      subst (HasJobCause (grounds_of state limit version known log.bytes start q) log version covered) (sym is)
+      (subst (λ l. HasJobCause (grounds_of state limit version known log.bytes start q) log version l (Some cause)) (sym all) (of_log state limit known start q log version t.taken cause has))
   stopped_by (Err (Lost cause)) covered o has lost is all = absurd (lost cause refl is)
 
-  not_lost : (o : IsOutcome state limit start q t.taken (mark_of answer) (why_of answer) outcome) → (outcome.whole ≡ true → (ended : Bool) × (answer ≡ Ok ended)) → (x : Cause) → answer ≡ Err (Lost x) → outcome.cause ≡ None → ⊥
-  not_lost o whole x is none =
-      let not_none : not outcome.whole ≡ false = sym o.cause ∙ ap is_some none in
-      let all : outcome.whole ≡ true = is_whole outcome.whole not_none in
-      let w = whole all in cc (w.1, is)
-    where
-      is_whole : (b : Bool) → not b ≡ false → b ≡ true
-      is_whole true is = refl
-      is_whole false is = absurd (cc (is))
+  abbrev told : List ℕ → Type 0
+  told b = (messages : Texts) (e : Bool) → MessagesOf version b messages e → AreTaken answer t.taken messages e
 
-  caused_by : (o : IsOutcome state limit start q t.taken (mark_of answer) (why_of answer) outcome) → (outcome.whole ≡ true → (ended : Bool) × (answer ≡ Ok ended)) → HasJobCause (grounds_of state version known log.bytes start q) log version o.covered outcome.cause
-  caused_by o whole =
-      ⊎_elim
-      (λ (stop : (outcome.cause ≡ why_of answer) × (o.covered ≡ t.taken)). stopped_by answer o.covered outcome.cause t.caused (not_lost o whole) stop.0 stop.1)
-      (λ (seal : (c : Cause) × (outcome.cause ≡ Some c) × HasSealCause state start q c).
-      subst (HasJobCause (grounds_of state version known log.bytes start q) log version o.covered) (sym seal.1) (of_seal state known start q log version o.covered seal.0 seal.2))
-      o.caused
+  -- the first of the messages taken are the first of the log
+  first_taken : (first : Texts) → IsPrefix first t.taken → AreFirstOf version log.bytes first
+  first_taken first front = if_some log.bytes told (AreFirst version first) (λ b tells messages e is. first_of answer t.taken first messages e front (tells messages e is)) t.told
 
-  pub came_to : (m : LockNamer R A B C) → HasOnlySeen n m → IsOutcome state limit start q t.taken (mark_of answer) (why_of answer) outcome → (outcome.whole ≡ true → (ended : Bool) × (answer ≡ Ok ended))
+  module _ (books : Books) (o : IsOutcome state limit version books start q t.taken (mark_of answer) (why_of answer) outcome) (whole : outcome.whole ≡ true → (ended : Bool) × (answer ≡ Ok ended)) where
+    not_lost : (x : Cause) → answer ≡ Err (Lost x) → outcome.cause ≡ None → ⊥
+    not_lost x is none =
+        let not_none : not outcome.whole ≡ false = sym o.cause ∙ ap is_some none in
+        let all : outcome.whole ≡ true = is_whole outcome.whole not_none in
+        let w = whole all in cc (w.1, is)
+      where
+        is_whole : (b : Bool) → not b ≡ false → b ≡ true
+        is_whole true is = refl
+        is_whole false is = absurd (cc (is))
+
+    caused_by : ((book : Which) → IsMore (book_of known book) (book_of books book)) → HasJobCause (grounds_of state limit version books log.bytes start q) log version o.covered outcome.cause
+    caused_by more =
+        ⊎_elim
+        (λ (stop : (outcome.cause ≡ why_of answer) × (o.covered ≡ t.taken)).
+        cause_on (grounds_of state limit version known log.bytes start q) (grounds_of state limit version books log.bytes start q) log version o.covered outcome.cause
+        (full_wider version (IsOneOf version log.bytes) (IsOneOf version log.bytes) (λ x is. is) known books more)
+        (found_on state limit version known books (AreFirstOf version log.bytes) (AreFirstOf version log.bytes) start q more (λ ms first. first) o.covered) (λ opened now has. has)
+        (stopped_by answer o.covered outcome.cause t.caused not_lost stop.0 stop.1))
+        (λ (seal : (c : Cause) × (outcome.cause ≡ Some c) × HasSealCause state (FoundNoRoom state limit version books (λ first. IsPrefix first t.taken) start q o.covered) start q c).
+        subst (HasJobCause (grounds_of state limit version books log.bytes start q) log version o.covered) (sym seal.1)
+        (of_seal state limit books start q log version o.covered _
+        (found_on state limit version books books (λ first. IsPrefix first t.taken) (AreFirstOf version log.bytes) start q (λ book. more_self (book_of books book)) first_taken o.covered) seal.0 seal.2))
+        o.caused
+
+  pub came_to : (m : LockNamer R A B C) → HasOnlySeen n m → (v : ℕ) → v ≡ version → IsOutcome state limit v (books_by (types_pass m) (words_pass m)) start q t.taken (mark_of answer) (why_of answer) outcome → (outcome.whole ≡ true → (ended : Bool) × (answer ≡ Ok ended))
       → CameTo state limit version (books_by (types_pass m) (words_pass m)) log start q outcome
-  came_to m seen o whole = record {
-    covered = o.covered;
-    ended = mark_of answer;
-    count = o.count;
-    caused = cause_on (grounds_of state version known log.bytes start q) (grounds_of state version (books_by (types_pass m) (words_pass m)) log.bytes start q) log version o.covered outcome.cause
-        (full_wider version (IsOneOf version log.bytes) (IsOneOf version log.bytes) (λ x is. is) known (books_by (types_pass m) (words_pass m)) (books_on (types_pass n) (types_pass m) (words_pass n) (words_pass m) seen.types seen.words))
-        (λ end need has. has) (λ opened now has. has) (caused_by o whole);
-    done = o.done;
-    first = if_some log.bytes told (AreFirst version o.covered) (λ b tells messages e is. first_of answer t.taken o.covered messages e o.front (tells messages e is)) t.told;
-    all = λ w. if_some log.bytes told (AreAll version o.covered (mark_of answer)) (λ b tells messages e is.
-        all_at_end answer (whole w).0 (whole w).1 t.taken o.covered messages e (o.all w) (tells messages e is)) t.told;
-  }
-    where
-      told : List ℕ → Type 0
-      told b = (messages : Texts) (e : Bool) → MessagesOf version b messages e → AreTaken answer t.taken messages e
+  came_to m seen v same at_v whole =
+      let o : IsOutcome state limit version (books_by (types_pass m) (words_pass m)) start q t.taken (mark_of answer) (why_of answer) outcome
+      = subst (λ x. IsOutcome state limit x (books_by (types_pass m) (words_pass m)) start q t.taken (mark_of answer) (why_of answer) outcome) same at_v in record {
+        covered = o.covered;
+        ended = mark_of answer;
+        count = o.count;
+        caused = caused_by (books_by (types_pass m) (words_pass m)) o whole (books_on (types_pass n) (types_pass m) (words_pass n) (words_pass m) seen.types seen.words);
+        done = o.done;
+        first = if_some log.bytes told (AreFirst version o.covered) (λ b tells messages e is. first_of answer t.taken o.covered messages e o.front (tells messages e is)) t.told;
+        all = λ w. if_some log.bytes told (AreAll version o.covered (mark_of answer)) (λ b tells messages e is.
+            all_at_end answer (whole w).0 (whole w).1 t.taken o.covered messages e (o.all w) (tells messages e is)) t.told;
+      }
+
+  module _ (v : ℕ) (books : Books) (o : IsOutcome state limit v books start q t.taken (mark_of answer) (why_of answer) outcome) where
+    -- what was met, where these messages are sealed
+    few_met : length t.learned.met ≤ outcome.messages + unsealed_by limit outcome.cause
+    few_met =
+        ⊎_elim
+        (λ (stop : (outcome.cause ≡ why_of answer) × (o.covered ≡ t.taken)). few_stopped outcome.cause stop.0 (ap length stop.1))
+        (λ (seal : (c : Cause) × (outcome.cause ≡ Some c) × HasSealCause state (FoundNoRoom state limit v books (λ first. IsPrefix first t.taken) start q o.covered) start q c).
+        let rows : unsealed_by limit outcome.cause ≡ limit = ap (unsealed_by limit) seal.1 ∙ all_in_hand state _ limit start q seal.0 seal.2 in omega (arith, rows, t.learned.few, o.few, o.count))
+        o.caused
+      where
+        few_stopped : (c : Option Cause) → c ≡ why_of answer → length o.covered ≡ length t.taken → length t.learned.met ≤ outcome.messages + unsealed_by limit c
+        few_stopped c is size =
+            let le : refused_by c ≤ unsealed_by limit c = one_unsealed limit c in let same : refused_by c ≡ refused_by (why_of answer) = ap refused_by is in omega (arith, le, same, size, t.learned.few, o.count)
+
+    -- the whole job
+    pub took_few : (end : LockNamer R A B C) → version ≡ m.version → EndBoth state (spare_of (stop_in answer)) p q n end → TakesFewOf state limit log.bytes outcome start q m end
+    took_few end same ends = record {
+      met = t.learned.met;
+      are = record {
+        first = subst (λ v. AreFirstOf v log.bytes t.learned.met) same t.learned.first;
+        covered = o.covered;
+        ended = mark_of answer;
+        done = o.done;
+        count = o.count;
+        front = prefix_trans o.covered t.taken t.learned.met o.front t.learned.front;
+        few = few_met;
+      };
+      few = take_few state (Contains t.learned.met) (stop_in answer) start p q m n end t.learned.learned ends;
+    }
+
+-- before any message, all that were met are sealed
+pub met_none : {D R A B C : Type 0} (state : D → DiskState) (limit : ℕ) (books : Books) (log : Log) (p : KeeperPass D) (m : LockNamer R A B C) (o : Outcome) → CameTo state limit m.version books log p p o → TakesFewOf state limit log.bytes o p p m m
+met_none state limit books log p m o came = record {
+  met = came.covered;
+  are = record {
+    first = came.first;
+    covered = came.covered;
+    ended = came.ended;
+    done = came.done;
+    count = came.count;
+    front = prefix_self came.covered;
+    few = omega (arith, came.count);
+  };
+  few = take_none state (Contains came.covered) p m;
+}
 
 -- told of the source, which the reader had and gave back
 pub came_back : {S : Type 0} (left : S → Option (List ℕ)) (faults : S → ℕ) (source had has back : S) → had ≡ source → back ≡ has → (P : Log → Type 0) → P (log_from (left source) left faults had has) → P (log_of left faults source back)

@@ -1,12 +1,11 @@
 -- How many turns a worker takes, over several calls.
-use Rattle.std.proofs.Common.{◌≡◌, ◌⊎◌, ⊎_elim, inl, inr, ℕ, ◌+◌, ◌<◌, ◌≤◌, List, [], ◌∷◌, ◌++◌, length, refl, sym, ap, ◌∙◌, subst, arith, append-nil, append_assoc, length-append, Option, None, Some, All, slice_get, slice_index_or}
+use Rattle.std.proofs.Common.{◌≡◌, ⊎_elim, inl, inr, ℕ, ◌+◌, ◌<◌, ◌≤◌, List, [], ◌∷◌, ◌++◌, length, refl, sym, ap, ◌∙◌, subst, arith, append-nil, append_assoc, length-append, Option, None, Some, All, slice_index_or}
 use Rattle.std.specs.Prelude.{is_some, Result, Ok, Err}
 use Rattle.std.specs.List.{Contains}
 use Rattle.std.proofs.lemmas.List.{length_push}
 use Rattle.std.proofs.lemmas.List.Elements.{All-nil, All-append, All-push, All-weaker}
 use Rattle.std.proofs.lemmas.Option.{slice_get_within, slice_get-get_or}
 use Rattle.log_seams.specs.Disk.{DiskState}
-use Rattle.turn_lock.specs.declared.board.About.{About}
 use Rattle.turn_lock.specs.Words.{about, own_list}
 use Rattle.ingest_fork.proofs.PlaceLemmas.{at_left, at_right}
 use Rattle.dict_core.specs.Books.{AreDistinct, IsNew}
@@ -17,12 +16,11 @@ use Rattle.archive_meaning.specs.declared.entry.SegmentEntry.{SegmentEntry}
 use Rattle.row_codec.specs.declared.namer.NameRefusal.{NameRefusal}
 use Rattle.row_codec.specs.declared.namer.NameRefusal.TheVariants.{Full, OutOfMemory}
 use Rattle.row_codec.specs.declared.namer.Which.{Which}
-use Rattle.row_codec.specs.declared.namer.Which.TheVariants.{Types, Words}
+use Rattle.row_codec.specs.declared.namer.Which.TheVariants.{Types}
 use Rattle.row_codec.specs.Messages.{IsTypeOf, IsWordOf}
-use Rattle.row_codec.specs.Naming.{AsksFor, AsksForWords, GoesOnWith}
+use Rattle.row_codec.specs.Naming.{GoesOnWith}
 use Rattle.disk_seal.specs.declared.draft.Draft.{Draft}
 use Rattle.disk_seal.specs.declared.entry.StoreEntry.{StoreEntry}
-use Rattle.disk_seal.specs.declared.fixed.StoreFixed.{StoreFixed}
 use Rattle.disk_seal.specs.declared.namer.LockNamer.{LockNamer}
 use Rattle.disk_seal.specs.Fixed.{KeeperPass}
 use Rattle.disk_seal.specs.Planned.{segment_of}
@@ -33,7 +31,6 @@ use Rattle.ingest_workers.specs.declared.stop.Stop.TheVariants.{Part, Lost}
 use Rattle.ingest_workers.specs.Journal.{HasAdded, WhereTold, sealed_by}
 use Rattle.ingest_workers.specs.Sealed.{HasNotSealed, HasSealed}
 use Rattle.ingest_workers.specs.Stop.{stop_by}
-use Rattle.ingest_workers.specs.Taking.{IsOneOf}
 use Rattle.ingest_workers.specs.Turns.{Ends, EndBoth, FewTurns, HasAsked, LearnBoth, Learns, MayAsk, OneTurn, TakeFew, TakesFew, TurnsBy, sealed_in, spare_of, stop_in, type_by, word_by}
 use Rattle.ingest_workers.proofs.PartLemmas.{sealed_joined}
 use Rattle.ingest_workers.proofs.SealLemmas.{if_told, of_told}
@@ -282,12 +279,6 @@ module _ {D R A B C : Type 0} (state : D → DiskState) (P : List ℕ → Type 0
     types = takes_few state (type_by P m.version) p q r (types_side m) (types_side n) (types_side o) n.types.distinct stop l.types e.types;
     words = takes_few state (word_by P m.version) p q r (words_side m) (words_side n) (words_side o) n.words.distinct stop l.words e.words;
   }
-
--- with messages that are some of the bytes
-pub learn_on : {D R A B C : Type 0} (state : D → DiskState) (bytes : Option (List ℕ)) (stop s : Option Stop) (p q r : KeeperPass D) (m n o : LockNamer R A B C) → s ≡ stop → n.version ≡ m.version
-    → LearnBoth state (IsOneOf m.version bytes) None p q m n → LearnBoth state (IsOneOf n.version bytes) s q r n o → LearnBoth state (IsOneOf m.version bytes) stop p r m o
-learn_on state bytes stop s p q r m n o same version one two = learn_then state (IsOneOf m.version bytes) stop p q r m n o version one
-    (subst (λ (x : Option Stop). LearnBoth state (IsOneOf m.version bytes) x q r n o) same (subst (λ v. LearnBoth state (IsOneOf v bytes) s q r n o) version two))
 
 pub learn_wider : {D R A B C : Type 0} (state : D → DiskState) (P Q : List ℕ → Type 0) → ((x : List ℕ) → P x → Q x) → (stop : Option Stop) (p q : KeeperPass D) (m n : LockNamer R A B C) → LearnBoth state P stop p q m n → LearnBoth state Q stop p q m n
 learn_wider state P Q f stop p q m n l = record {

@@ -3,8 +3,7 @@ use Rattle.std.specs.Prelude.{◌≡◌, ℕ, ◌+◌, ◌<◌, Bool, List, [], 
 use mathlib.Core.List.{IsPrefix}
 use Rattle.log_seams.specs.Disk.{DiskState}
 use Rattle.log_seams.specs.Outside.{Rose}
-use Rattle.turn_lock.specs.declared.board.About.{About}
-use Rattle.turn_lock.specs.Words.{about, seen}
+use Rattle.turn_lock.specs.Words.{seen}
 use Rattle.row_codec.specs.declared.namer.Which.{Which}
 use Rattle.row_codec.specs.declared.namer.Which.TheVariants.{Types, Words}
 use Rattle.message_reader.specs.declared.reader.TheConstants.{MAX_MESSAGES}
@@ -12,10 +11,10 @@ use Rattle.message_reader.specs.Taken.{IsBeforeLong, IsReadShort, lines_count}
 use Rattle.message_reader.specs.Versions.{MessagesOf}
 use Rattle.disk_seal.specs.declared.entry.StoreEntry.{StoreEntry}
 use Rattle.disk_seal.specs.declared.entry.StoreEntry.TheVariants.{Stopped}
-use Rattle.disk_seal.specs.declared.fixed.StoreFixed.{StoreFixed}
 use Rattle.disk_seal.specs.Fixed.{KeeperPass}
 use Rattle.disk_seal.specs.Prepare.{IsFaultOf}
-use Rattle.ingest_workers.specs.Full.{Books, IsOneOf, WasFullFor}
+use Rattle.ingest_workers.specs.Full.{AreFirstOf, Books, IsOneOf, WasFullFor}
+use Rattle.ingest_workers.specs.NoRoom.{FoundNoRoom}
 use Rattle.ingest_workers.specs.declared.outcome.Cause.{Cause}
 use Rattle.ingest_workers.specs.declared.outcome.Cause.TheVariants.{ReadFault, LineTooLong, TooManyLines, Full, DiskFault, ArchiveFull, OutOfMemory}
 use Rattle.line_cut.specs.declared.cut.Cut.{Cut}
@@ -68,21 +67,17 @@ module _ {D : Type 0} where
   abbrev pub HasSeenMark : KeeperPass D → Type 0
   HasSeenMark p = (front : List StoreEntry) × IsPrefix (front ++ Stopped ∷ []) (seen p)
 
-  -- the archive has no room for so many bytes behind this end
-  abbrev pub HasNoRoomBy : KeeperPass D → ℕ → ℕ → Type 0
-  HasNoRoomBy p end need = (a : About (StoreFixed D)) → about p ≡ Some a → a.fixed.header.length_limit < end + need
-
   -- a call of the disk failed since the opening, and the store was stopped
   pub record HasFailed (state : D → DiskState) (p q : KeeperPass D) (opened now : ℕ) : Type 0 where
     pub fault : IsFaultOf state (record { opened = opened; now = now }) p
     pub mark : HasSeenMark q
 
-  -- Why a segment is not sealed. Want of memory is free.
-  abbrev pub HasSealCause : (D → DiskState) → KeeperPass D → KeeperPass D → Cause → Type 0
-  HasSealCause state p q (DiskFault opened now) = HasFailed state p q opened now
-  HasSealCause state p q (ArchiveFull end need) = HasNoRoomBy p end need
-  HasSealCause state p q OutOfMemory = Unit {0}
-  HasSealCause state p q _ = ⊥
+  -- Why a segment is not sealed, where there was no room as this says. Want of memory is free.
+  abbrev pub HasSealCause : (D → DiskState) → (ℕ → ℕ → Type 0) → KeeperPass D → KeeperPass D → Cause → Type 0
+  HasSealCause state no_room p q (DiskFault opened now) = HasFailed state p q opened now
+  HasSealCause state no_room p q (ArchiveFull end need) = no_room end need
+  HasSealCause state no_room p q OutOfMemory = Unit {0}
+  HasSealCause state no_room p q _ = ⊥
 
 -- why a message gets no numbers
 abbrev pub IsFullCause : (Which → ℕ → Type 0) → Cause → Type 0
@@ -91,17 +86,18 @@ IsFullCause full _ = ⊥
 
 -- ---- a job
 
--- What causes say of the archive: that a book is full at so many texts, that so many bytes more do not fit behind the end, that the disk failed.
+-- What causes say of the archive: that a book is full at so many texts, that behind these messages of the file so many bytes more do not fit behind the end,
+-- that the disk failed.
 pub record Grounds : Type 1 where
   pub full : Which → ℕ → Type 0
-  pub no_room : ℕ → ℕ → Type 0
+  pub no_room : List (List ℕ) → ℕ → ℕ → Type 0
   pub failed : ℕ → ℕ → Type 0
 
 -- those that a worker knows by its passes, where this is known of the books, and the messages are those of these bytes
-abbrev pub grounds_of : {D : Type 0} → (D → DiskState) → ℕ → Books → Option (List ℕ) → KeeperPass D → KeeperPass D → Grounds
-grounds_of state version books bytes p q = record {
+abbrev pub grounds_of : {D : Type 0} → (D → DiskState) → ℕ → ℕ → Books → Option (List ℕ) → KeeperPass D → KeeperPass D → Grounds
+grounds_of state limit version books bytes p q = record {
   full = WasFullFor version (IsOneOf version bytes) books;
-  no_room = HasNoRoomBy p;
+  no_room = FoundNoRoom state limit version books (AreFirstOf version bytes) p q;
   failed = HasFailed state p q;
 }
 
@@ -119,6 +115,6 @@ HasLogCause full log version taken _ = ⊥
 abbrev pub HasJobCause : Grounds → Log → ℕ → List (List ℕ) → Option Cause → Type 0
 HasJobCause g log version sealed None = NoneFailed log
 HasJobCause g log version sealed (Some (DiskFault opened now)) = g.failed opened now
-HasJobCause g log version sealed (Some (ArchiveFull end need)) = g.no_room end need
+HasJobCause g log version sealed (Some (ArchiveFull end need)) = g.no_room sealed end need
 HasJobCause g log version sealed (Some OutOfMemory) = Unit {0}
 HasJobCause g log version sealed (Some cause) = HasLogCause g.full log version sealed cause

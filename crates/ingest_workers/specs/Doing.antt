@@ -1,5 +1,5 @@
 -- A worker at its file.
-use Rattle.std.specs.Prelude.{◌≡◌, ℕ, false, List, ◌++◌, length, All}
+use Rattle.std.specs.Prelude.{◌≡◌, ℕ, ◌+◌, ◌≤◌, false, List, ◌++◌, length, All}
 use mathlib.Core.List.{IsPrefix}
 use Rattle.log_seams.specs.Disk.{DiskState}
 use Rattle.turn_lock.specs.Words.{seen, number_of}
@@ -9,10 +9,14 @@ use Rattle.disk_seal.specs.declared.namer.LockNamer.{LockNamer}
 use Rattle.disk_seal.specs.Draft.{journal_seen}
 use Rattle.disk_seal.specs.Fixed.{KeeperPass}
 use Rattle.ingest_workers.specs.declared.hand.Hand.{Hand}
+use Rattle.ingest_workers.specs.declared.outcome.Cause.{Cause}
+use Rattle.ingest_workers.specs.Causes.{HasSealCause}
+use Rattle.ingest_workers.specs.Full.{books_by}
 use Rattle.ingest_workers.specs.Hand.{HasInHand}
 use Rattle.ingest_workers.specs.Journal.{FrontHolds, HasAdded, HasSoFar, WhereTold, sealed_by}
 use Rattle.ingest_workers.specs.MaySeal.{IsWorker}
-use Rattle.ingest_workers.specs.Namer.{types_seen, words_seen}
+use Rattle.ingest_workers.specs.Namer.{types_pass, types_seen, words_pass, words_seen}
+use Rattle.ingest_workers.specs.NoRoom.{FoundNoRoom}
 use Rattle.ingest_workers.specs.Parts.{IsCut, IsOpen, Part, messages_in, segments_from}
 
 module _ {D R A B C : Type 0} where
@@ -36,13 +40,20 @@ module _ {D R A B C : Type 0} where
     pub so_far : HasSoFar state p (messages_in closed)
 
 module _ {D : Type 0} where
-  -- Nothing more of the file is sealed: of the messages that were taken the first ones are.
+  -- Nothing more of the file is sealed: of the messages that were taken the first ones are, all but as many as the limit of rows.
   pub record Covering (state : D → DiskState) (limit : ℕ) (start p : KeeperPass D) (hand : Hand) (taken : List (List ℕ)) : Type 0 where
     pub closed : List Part
     pub more : List (ℕ × StoreEntry)
     pub front : IsPrefix (messages_in closed) taken
+    pub few : length taken ≤ length (messages_in closed) + limit
     pub cut : All (IsCut limit) closed
     pub first : hand.draft.first ≡ length (messages_in closed)
     pub added : HasAdded start p more
     pub segments : WhereTold state start (λ h. sealed_by more ≡ segments_from (number_of start) 0 closed)
     pub held : WhereTold state start (λ h. FrontHolds h (journal_seen (seen p)) (number_of start) (messages_in closed) false false)
+
+module _ {D R A B C : Type 0} where
+  -- So it is since a segment was not sealed, for this cause.
+  pub record NotSealed (state : D → DiskState) (limit : ℕ) (start p : KeeperPass D) (n : LockNamer R A B C) (hand : Hand) (taken : List (List ℕ)) (cause : Cause) : Type 0 where
+    pub covering : Covering state limit start p hand taken
+    pub caused : HasSealCause state (FoundNoRoom state limit n.version (books_by (types_pass n) (words_pass n)) (λ first. IsPrefix first taken) start p (messages_in covering.closed)) start p cause

@@ -1,5 +1,5 @@
 -- What is left of a job.
-use Rattle.std.specs.Prelude.{◌≡◌, ◌⊎◌, ℕ, ◌&&◌, Bool, true, not, is_some, List, ◌++◌, length, Option, Some, All}
+use Rattle.std.specs.Prelude.{◌≡◌, ◌⊎◌, ℕ, ◌+◌, ◌≤◌, ◌&&◌, Bool, true, not, is_some, List, ◌++◌, length, Option, Some, All}
 use mathlib.Core.List.{IsPrefix}
 use Rattle.log_seams.specs.Disk.{DiskState}
 use Rattle.turn_lock.specs.Words.{seen, number_of}
@@ -9,8 +9,11 @@ use Rattle.disk_seal.specs.Fixed.{KeeperPass}
 use Rattle.ingest_workers.specs.declared.outcome.Cause.{Cause}
 use Rattle.ingest_workers.specs.declared.outcome.Outcome.{Outcome}
 use Rattle.ingest_workers.specs.Causes.{HasSealCause}
+use Rattle.ingest_workers.specs.Full.{Books}
 use Rattle.ingest_workers.specs.Journal.{FrontHolds, HasAdded, WhereTold, sealed_by}
+use Rattle.ingest_workers.specs.NoRoom.{FoundNoRoom}
 use Rattle.ingest_workers.specs.Parts.{IsCut, IsOpen, Part, messages_in, rest_of, segments_from}
+use Rattle.ingest_workers.specs.Stop.{refused_by}
 
 module _ {D : Type 0} where
   -- Since the pass was `start` it has added these messages of its file, in full segments and one of the rest. The journal that it has seen begins
@@ -27,12 +30,14 @@ module _ {D : Type 0} where
     pub held : WhereTold state start (λ h. FrontHolds h (journal_seen (seen p)) (number_of start) covered whole (whole && ended))
 
   -- The outcome counts those of the messages taken that are sealed, and has a cause exactly where the file is not whole. It is the one for which no
-  -- further message was taken, and then all of them are sealed; or why a segment was not.
-  pub record IsOutcome (state : D → DiskState) (limit : ℕ) (start p : KeeperPass D) (taken : List (List ℕ)) (ended : Bool) (why : Option Cause) (o : Outcome) : Type 0 where
+  -- further message was taken, and then all of them are sealed; or why a segment was not, where this is known of the books. Of those that were met no more
+  -- than the limit of rows are not.
+  pub record IsOutcome (state : D → DiskState) (limit version : ℕ) (books : Books) (start p : KeeperPass D) (taken : List (List ℕ)) (ended : Bool) (why : Option Cause) (o : Outcome) : Type 0 where
     pub covered : List (List ℕ)
     pub front : IsPrefix covered taken
+    pub few : length taken + refused_by why ≤ length covered + limit
     pub all : o.whole ≡ true → covered ≡ taken
     pub cause : is_some o.cause ≡ not o.whole
-    pub caused : ((o.cause ≡ why) × (covered ≡ taken)) ⊎ ((c : Cause) × (o.cause ≡ Some c) × HasSealCause state start p c)
+    pub caused : ((o.cause ≡ why) × (covered ≡ taken)) ⊎ ((c : Cause) × (o.cause ≡ Some c) × HasSealCause state (FoundNoRoom state limit version books (λ first. IsPrefix first taken) start p covered) start p c)
     pub count : o.messages ≡ length covered
     pub done : HasDone state limit start p covered o.whole ended

@@ -16,6 +16,10 @@ use Rattle.disk_seal.specs.Prepare.{BookNote}
 abbrev pub IsOneOf : ℕ → Option (List ℕ) → List ℕ → Type 0
 IsOneOf version bytes m = IfSome bytes (λ b. (messages : List (List ℕ)) (ended : Bool) → MessagesOf version b messages ended → Contains messages m)
 
+-- These are the first of the messages that these bytes have in this version. Of a source that does not tell its bytes nothing is said.
+abbrev pub AreFirstOf : ℕ → Option (List ℕ) → List (List ℕ) → Type 0
+AreFirstOf version bytes first = IfSome bytes (λ b. (messages : List (List ℕ)) (ended : Bool) → MessagesOf version b messages ended → IsPrefix first messages)
+
 -- a text of the encoding of such a message, which goes to this dictionary
 abbrev pub IsTextOf : ℕ → (List ℕ → Type 0) → Which → List ℕ → Type 0
 IsTextOf version P Types text = (m : List ℕ) × P m × IsTypeOf version m text

@@ -1,5 +1,5 @@
 -- When an ingest may begin, and what it leaves.
-use Rattle.std.specs.Prelude.{◌≡◌, ◌⊎◌, ℕ, ◌+◌, ◌<◌, ◌&&◌, Bool, true, false, not, List, [], ◌∷◌, ◌++◌, length, is_some, Option, None, Some, IfSome, slice_get, All}
+use Rattle.std.specs.Prelude.{◌≡◌, ◌⊎◌, ℕ, ◌+◌, ◌<◌, ◌&&◌, Bool, true, false, not, List, [], ◌∷◌, ◌++◌, drop, length, is_some, Option, None, Some, IfSome, slice_get, All}
 use Rattle.std.specs.List.{Contains, filter_map}
 use mathlib.Core.List.{IsPrefix}
 use Rattle.log_seams.specs.declared.disk.Disk.{Ghosts as DiskGhosts}
@@ -11,7 +11,7 @@ use Rattle.dict_lock.specs.Shared.{BookPass}
 use Rattle.row_codec.specs.declared.namer.Which.{Which}
 use Rattle.row_codec.specs.declared.namer.Which.TheVariants.{Types as WhichTypes, Words as WhichWords}
 use Rattle.row_codec.specs.Messages.{IsTypeOf, IsWordOf}
-use Rattle.row_codec.specs.Naming.{Known}
+use Rattle.row_codec.specs.Naming.{AreDistinct, Known}
 use Rattle.record_format.specs.declared.header.Header.{Header}
 use Rattle.disk_journal.specs.declared.journal.Journal.{Journal}
 use Rattle.disk_journal.specs.Journal.{state_of}
@@ -33,7 +33,8 @@ use Rattle.ingest_workers.specs.Outcome.{nothing_done}
 use Rattle.ingest_workers.specs.Journal.{FrontHolds, Holds}
 use Rattle.ingest_workers.specs.Parts.{IsCut, IsOpen, Part, messages_in, rest_of, segments_from}
 use Rattle.ingest_workers.specs.Causes.{Grounds, Limits, HasJobCause, limit_of, log_of}
-use Rattle.ingest_workers.specs.Full.{Books, IsTextOf, ThereAreMore, WasFullFor}
+use Rattle.ingest_workers.specs.Full.{AreFirstOf, Books, IsTextOf, ThereAreMore, WasFullFor}
+use Rattle.ingest_workers.specs.NoRoom.{HadNoRoom, IsBetween, WereKnown}
 use Rattle.ingest_workers.specs.JobDone.{HasSourceBack, in_source}
 use Rattle.ingest_workers.specs.Crew.{BookMaker, EndsBook}
 use Rattle.ingest_workers.specs.Worker.{IsGiven}
@@ -158,11 +159,18 @@ abbrev pub header_limits : Header → Limits
 header_limits h = record { types = h.types_limit; words = h.words_limit }
 
 module _ {D : Type 0} {d : DiskGhosts D} where
-  -- What causes say of the journal and its disk: when a book is full; the bytes go past the header's limit of length; the disk's count of faults rose.
-  abbrev pub grounds_over : (Which → ℕ → Type 0) → Journal D d → Journal D d → Grounds
-  grounds_over full before after = record {
+  -- So many bytes behind an end go past the header's limit of length. Where the journal is told, they are those of the next segment of a file, whose messages are
+  -- those of these bytes, and of the texts before it; and it is the end of entries that begin with those of before and stand first in the journal afterwards.
+  abbrev pub HadNoRoomOver : (List JournalEntry → Which → List (List ℕ) → Type 0) → Plan → ℕ → Option (List ℕ) → Journal D d → Journal D d → List (List ℕ) → ℕ → ℕ → Type 0
+  HadNoRoomOver has plan file bytes before after sealed end need =
+      (before.header.length_limit < end + need)
+      × IfTold (is_some (state_of before).disk.seen) (HadNoRoom before.header plan.rows plan.version file (IsBetween (told_entries (state_of before)) (told_entries (state_of after))) has (AreFirstOf plan.version bytes) sealed end need)
+
+  -- What causes say of the journal and its disk, of a file with these bytes: when a book is full; what had no room; the disk's count of faults rose.
+  abbrev pub grounds_over : (Which → ℕ → Type 0) → (List JournalEntry → Which → List (List ℕ) → Type 0) → Plan → ℕ → Option (List ℕ) → Journal D d → Journal D d → Grounds
+  grounds_over full has plan file bytes before after = record {
     full = full;
-    no_room = λ end need. before.header.length_limit < end + need;
+    no_room = HadNoRoomOver has plan file bytes before after;
     failed = λ opened now. (opened ≡ (state_of before).disk.faults) × Rose opened (state_of after).disk.faults;
   }
 
@@ -178,6 +186,17 @@ abbrev pub book_texts : Which → List JournalEntry → List (List ℕ)
 book_texts WhichTypes es = types_of es
 book_texts WhichWords es = words_of es
 
+-- The texts of a book, where a journal had these: theirs are the first ones, all are distinct, and each of the others is such a text.
+pub record HasTextsBehind (P : List ℕ → Type 0) (first texts : List (List ℕ)) : Type 0 where
+  pub begins : IsPrefix first texts
+  pub distinct : AreDistinct texts
+  pub others : All P (drop (length first) texts)
+
+module _ {S : Type 0} where
+  -- The texts of a book are those of the entries, and others of the encodings of messages of the jobs' sources.
+  abbrev pub WereGiven : (S → Option (List ℕ)) → Plan → List (Job S) → List JournalEntry → Which → List (List ℕ) → Type 0
+  WereGiven left plan js front book texts = HasTextsBehind (IsTextOf plan.version (IsGiven left plan.version js) book) (book_texts book front) texts
+
 module _ {S D : Type 0} {d : DiskGhosts D} where
   -- the text is one of the book in the journal, or one of the encoding of a message of one of the jobs' sources
   abbrev pub IsThereOrGiven : (S → Option (List ℕ)) → Plan → List (Job S) → Journal D d → Which → List ℕ → Type 0
@@ -189,24 +208,24 @@ module _ {S D : Type 0} {d : DiskGhosts D} where
 
   -- A job that was done has its source back, of the same name, whose count of faults did not fall. Of the first messages of the source, which the outcome
   -- counts, the cause holds.
-  pub record HasItsCause (full : Which → ℕ → Type 0) (left name : S → Option (List ℕ)) (faults : S → ℕ) (plan : Plan) (before after : Journal D d) (old new : Job S) : Type 0 where
+  pub record HasItsCause (full : Which → ℕ → Type 0) (has : List JournalEntry → Which → List (List ℕ) → Type 0) (left name : S → Option (List ℕ)) (faults : S → ℕ) (plan : Plan) (before after : Journal D d) (old new : Job S) : Type 0 where
     pub source : HasSourceBack name faults old new
     pub sealed : List (List ℕ)
     pub count : new.outcome.messages ≡ length sealed
     pub first : OfMessages plan.version (left source.before) (λ messages e. IsPrefix sealed messages)
-    pub cause : HasJobCause (grounds_over full before after) (log_of left faults source.before source.after) plan.version sealed new.outcome.cause
+    pub cause : HasJobCause (grounds_over full has plan old.file (left source.before) before after) (log_of left faults source.before source.after) plan.version sealed new.outcome.cause
 
-  -- each job has, where a book is full by this
-  pub record HaveCausesBy (full : Which → ℕ → Type 0) (left name : S → Option (List ℕ)) (faults : S → ℕ) (plan : Plan) (before after : Journal D d) (js js' : List (Job S)) : Type 0 where
+  -- each job has, where a book is full by this, and had texts by that
+  pub record HaveCausesBy (full : Which → ℕ → Type 0) (has : List JournalEntry → Which → List (List ℕ) → Type 0) (left name : S → Option (List ℕ)) (faults : S → ℕ) (plan : Plan) (before after : Journal D d) (js js' : List (Job S)) : Type 0 where
     pub counted : length js' ≡ length js
-    pub each : (i : ℕ) (job : Job S) → slice_get js i ≡ Some job → (new : Job S) × (slice_get js' i ≡ Some new) × HasItsCause full left name faults plan before after job new
+    pub each : (i : ℕ) (job : Job S) → slice_get js i ≡ Some job → (new : Job S) × (slice_get js' i ≡ Some new) × HasItsCause full has left name faults plan before after job new
 
   abbrev pub HaveCauses : (S → Option (List ℕ)) → (S → Option (List ℕ)) → (S → ℕ) → Plan → Journal D d → Journal D d → List (Job S) → List (Job S) → Type 0
-  HaveCauses left name faults plan before after js js' = HaveCausesBy (IsFullByGiven left plan js before) left name faults plan before after js js'
+  HaveCauses left name faults plan before after js js' = HaveCausesBy (IsFullByGiven left plan js before) (WereGiven left plan js) left name faults plan before after js js'
 
-  -- the same where a book was full for a message of one of the jobs' sources
+  -- the same where a book was full for a message of one of the jobs' sources, and its texts are known
   abbrev pub HaveCausesIn : Books → (S → Option (List ℕ)) → (S → Option (List ℕ)) → (S → ℕ) → Plan → Journal D d → Journal D d → List (Job S) → List (Job S) → Type 0
-  HaveCausesIn books left name faults plan before after js js' = HaveCausesBy (WasFullFor plan.version (IsGiven left plan.version js) books) left name faults plan before after js js'
+  HaveCausesIn books left name faults plan before after js js' = HaveCausesBy (WasFullFor plan.version (IsGiven left plan.version js) books) (WereKnown books) left name faults plan before after js js'
 
 module _ {S D : Type 0} {d : DiskGhosts D} where
   -- A job was done. The messages that its outcome counts are the first ones of its source, and all of them where the file is whole; there is a cause

@@ -32,7 +32,7 @@ module _ {D : Type 0} where
     pub done : HasDone state limit start p covered o.whole ended
     pub first : IfSome log.bytes (λ b. (messages : List (List ℕ)) (e : Bool) → MessagesOf version b messages e → IsPrefix covered messages)
     pub all : o.whole ≡ true → IfSome log.bytes (λ b. (messages : List (List ℕ)) (e : Bool) → MessagesOf version b messages e → (covered ≡ messages) × (ended ≡ e))
-    pub caused : HasJobCause (grounds_of state version books log.bytes start p) log version covered o.cause
+    pub caused : HasJobCause (grounds_of state limit version books log.bytes start p) log version covered o.cause
 
 module _ {S : Type 0} where
   -- the job has its source back

@@ -1,9 +1,10 @@
 pub mod Outcome
 pub mod Full
-pub mod Causes
-pub mod Stop
 pub mod Parts
 pub mod Journal
+pub mod NoRoom
+pub mod Causes
+pub mod Stop
 pub mod Hand
 pub mod Namer
 pub mod Naming

@@ -6,8 +6,8 @@ use Rattle.disk_seal.specs.Fixed.{KeeperPass}
 use Rattle.ingest_workers.specs.declared.hand.Hand.{Hand}
 use Rattle.ingest_workers.specs.declared.stop.Stop.{Stop}
 use Rattle.ingest_workers.specs.declared.stop.Stop.TheVariants.{Part, Lost}
-use Rattle.ingest_workers.specs.Causes.{HasSealCause, IsFullCause}
-use Rattle.ingest_workers.specs.Doing.{Covering, Doing}
+use Rattle.ingest_workers.specs.Causes.{IsFullCause}
+use Rattle.ingest_workers.specs.Doing.{Doing, NotSealed}
 use Rattle.ingest_workers.specs.Full.{WasFullFor, books_by}
 use Rattle.ingest_workers.specs.Namer.{types_pass, words_pass}
 
@@ -16,4 +16,4 @@ module _ {D R A B C : Type 0} where
   -- segment was not.
   abbrev pub IsAtStop : (D → DiskState) → ℕ → KeeperPass D → KeeperPass D → LockNamer R A B C → Hand → List (List ℕ) → List ℕ → Stop → Type 0
   IsAtStop state limit start p n hand taken line (Part cause) = Doing state limit start p n hand taken × IsFullCause (WasFullFor n.version (λ m. m ≡ line) (books_by (types_pass n) (words_pass n))) cause
-  IsAtStop state limit start p n hand taken line (Lost cause) = Covering state limit start p hand (taken ++ line ∷ []) × HasSealCause state start p cause
+  IsAtStop state limit start p n hand taken line (Lost cause) = NotSealed state limit start p n hand (taken ++ line ∷ []) cause

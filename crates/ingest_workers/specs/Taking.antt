@@ -1,5 +1,6 @@
 -- A worker that takes the messages of a source.
-use Rattle.std.specs.Prelude.{◌≡◌, ℕ, ◌≤◌, Bool, true, false, List, length, Option, None, Some, Result, Ok, Err, IfSome}
+use Rattle.std.specs.Prelude.{◌≡◌, ℕ, ◌+◌, ◌≤◌, Bool, true, false, List, length, Option, None, Some, Result, Ok, Err, IfSome}
+use Rattle.std.specs.List.{Contains}
 use mathlib.Core.List.{IsPrefix}
 use Rattle.log_seams.specs.Disk.{DiskState}
 use Rattle.line_cut.specs.declared.cut.Progress.TheVariants.{Open}
@@ -15,11 +16,13 @@ use Rattle.ingest_workers.specs.declared.hand.Hand.{Hand}
 use Rattle.ingest_workers.specs.declared.outcome.Cause.{Cause}
 use Rattle.ingest_workers.specs.declared.stop.Stop.{Stop}
 use Rattle.ingest_workers.specs.declared.stop.Stop.TheVariants.{Part, Lost}
-use Rattle.ingest_workers.specs.Causes.{Log, HasLogCause, HasSealCause, NoneFailed}
+use Rattle.ingest_workers.specs.Causes.{Log, HasLogCause, NoneFailed}
 pub use Rattle.ingest_workers.specs.Full.{IsOneOf}
-use Rattle.ingest_workers.specs.Full.{WasFullFor, books_by}
-use Rattle.ingest_workers.specs.Doing.{Covering, Doing}
+use Rattle.ingest_workers.specs.Full.{AreFirstOf, WasFullFor, books_by}
+use Rattle.ingest_workers.specs.Doing.{Doing, NotSealed}
 use Rattle.ingest_workers.specs.Namer.{types_pass, words_pass}
+use Rattle.ingest_workers.specs.Stop.{refused_by}
+use Rattle.ingest_workers.specs.Turns.{LearnBoth, stop_in}
 
 -- what became of the source: its name is the same, and its count of faults did not fall
 pub record KeepsSource {S : Type 0} (name : S → Option (List ℕ)) (faults : S → ℕ) (old new : S) : Type 0 where
@@ -27,12 +30,15 @@ pub record KeepsSource {S : Type 0} (name : S → Option (List ℕ)) (faults : S
   pub later : faults old ≤ faults new
 
 module _ {S D R A B C : Type 0} where
-  -- Since the pass was `start`, the worker took these messages, which the reader gave of a source that told these bytes.
-  pub record Taking (state : D → DiskState) (left : S → Option (List ℕ)) (limit : ℕ) (bytes : Option (List ℕ)) (start p : KeeperPass D) (n : LockNamer R A B C) (hand : Hand) (r : ReaderState S) (taken : List (List ℕ)) : Type 0 where
+  -- Since the pass was `start` and the namer `m`, the worker took these messages, which the reader gave of a source that told these bytes. What the caches
+  -- learned meanwhile are texts of them.
+  pub record Taking (state : D → DiskState) (left : S → Option (List ℕ)) (limit : ℕ) (bytes : Option (List ℕ)) (start p : KeeperPass D) (m n : LockNamer R A B C) (hand : Hand) (r : ReaderState S) (taken : List (List ℕ)) : Type 0 where
     pub doing : Doing state limit start p n hand taken
     pub read : HasRead left n.version bytes taken r
     pub going : r.progress ≡ Open
     pub few : length taken ≤ MAX_MESSAGES
+    pub version : n.version ≡ m.version
+    pub learned : LearnBoth state (Contains taken) None start p m n
 
 -- whether the last line had its newline, where the source has ended
 abbrev pub mark_of : Result Bool Stop → Bool
@@ -62,12 +68,22 @@ module _ {D R A B C : Type 0} where
   abbrev pub StopsAt : (D → DiskState) → ℕ → KeeperPass D → KeeperPass D → LockNamer R A B C → Hand → List (List ℕ) → Result Bool Stop → Type 0
   StopsAt state limit start p n hand taken (Ok ended) = Doing state limit start p n hand taken × (ended ≡ false → last_is_open taken ≡ true)
   StopsAt state limit start p n hand taken (Err (Part cause)) = Doing state limit start p n hand taken
-  StopsAt state limit start p n hand taken (Err (Lost cause)) = Covering state limit start p hand taken × HasSealCause state start p cause
+  StopsAt state limit start p n hand taken (Err (Lost cause)) = NotSealed state limit start p n hand taken cause
 
-  -- Since the pass was `start`, the worker took messages of a log, and stopped.
-  pub record Took (state : D → DiskState) (limit version : ℕ) (log : Log) (start p : KeeperPass D) (n : LockNamer R A B C) (hand : Hand) (answer : Result Bool Stop) : Type 0 where
+  -- Since the pass was `start` and the namer `m`, the worker met the first messages of these bytes: those that it took, and the one that a full dictionary
+  -- stopped. What the caches learned meanwhile are texts of them.
+  pub record HasLearned (state : D → DiskState) (version : ℕ) (bytes : Option (List ℕ)) (start p : KeeperPass D) (m n : LockNamer R A B C) (answer : Result Bool Stop) (taken : List (List ℕ)) : Type 0 where
+    pub met : List (List ℕ)
+    pub front : IsPrefix taken met
+    pub few : length met ≤ length taken + refused_by (why_of answer)
+    pub first : AreFirstOf version bytes met
+    pub learned : LearnBoth state (Contains met) (stop_in answer) start p m n
+
+  -- Since the pass was `start` and the namer `m`, the worker took messages of a log, and stopped.
+  pub record Took (state : D → DiskState) (limit version : ℕ) (log : Log) (start p : KeeperPass D) (m n : LockNamer R A B C) (hand : Hand) (answer : Result Bool Stop) : Type 0 where
     pub taken : List (List ℕ)
     pub few : length taken ≤ MAX_MESSAGES
     pub stops : StopsAt state limit start p n hand taken answer
     pub told : IfSome log.bytes (λ b. (messages : List (List ℕ)) (ended : Bool) → MessagesOf version b messages ended → AreTaken answer taken messages ended)
+    pub learned : HasLearned state version log.bytes start p m n answer taken
     pub caused : HasStopCause (WasFullFor version (IsOneOf version log.bytes) (books_by (types_pass n) (words_pass n))) log version taken answer

@@ -1,5 +1,7 @@
 -- How many turns a worker takes with the two books.
-use Rattle.std.specs.Prelude.{◌≡◌, ◌⊎◌, ℕ, ◌+◌, ◌≤◌, List, ◌++◌, length, Option, None, Some, Result, Ok, Err, All}
+use Rattle.std.specs.Prelude.{◌≡◌, ◌⊎◌, ℕ, ◌+◌, ◌≤◌, Bool, List, ◌++◌, length, Option, None, Some, Result, Ok, Err, All}
+use Rattle.std.specs.List.{Contains}
+use mathlib.Core.List.{IsPrefix}
 use Rattle.log_seams.specs.Disk.{DiskState}
 use Rattle.turn_lock.specs.Words.{about, own_list}
 use Rattle.dict_core.specs.Books.{AreDistinct, IsNew}
@@ -10,8 +12,13 @@ use Rattle.row_codec.specs.Naming.{AsksFor}
 use Rattle.disk_seal.specs.declared.namer.LockNamer.{LockNamer}
 use Rattle.disk_seal.specs.Fixed.{KeeperPass}
 use Rattle.disk_seal.specs.Naming.{Side, types_side, words_side}
+use Rattle.ingest_workers.specs.declared.outcome.Cause.{Cause}
+use Rattle.ingest_workers.specs.declared.outcome.Cause.TheVariants.{ReadFault, LineTooLong, TooManyLines, Full}
+use Rattle.ingest_workers.specs.declared.outcome.Outcome.{Outcome}
 use Rattle.ingest_workers.specs.declared.stop.Stop.{Stop}
 use Rattle.ingest_workers.specs.declared.stop.Stop.TheVariants.{Part, Lost}
+use Rattle.ingest_workers.specs.Done.{HasDone}
+use Rattle.ingest_workers.specs.Full.{AreFirstOf}
 use Rattle.ingest_workers.specs.Journal.{WhereTold, sealed_by}
 use Rattle.ingest_workers.specs.Stop.{stop_by}
 
@@ -109,3 +116,34 @@ module _ {R A B C : Type 0} where
     pub words_held : (words_side n).held ≡ (words_side m).held
     pub types : (types_side n).turns ≤ (types_side m).turns + 1
     pub words : (words_side n).turns ≤ (words_side m).turns + 1
+
+-- ---- a job
+
+-- How many messages of a job may have been met that are not sealed. A log that cannot be read on leaves none, a full dictionary the one that it stops, and a
+-- segment that was refused, or want of memory, those that were in hand.
+abbrev pub unsealed_by : ℕ → Option Cause → ℕ
+unsealed_by rows None = 0
+unsealed_by rows (Some ReadFault) = 0
+unsealed_by rows (Some (LineTooLong line)) = 0
+unsealed_by rows (Some TooManyLines) = 0
+unsealed_by rows (Some (Full book count)) = 1
+unsealed_by rows (Some _) = rows
+
+module _ {D : Type 0} where
+  -- The messages that a job met, of which this came, are the first ones of these bytes. They begin with those that the pass has added, as many as the outcome
+  -- counts; behind them are only those that were met and not sealed.
+  pub record HasMet (state : D → DiskState) (rows version : ℕ) (bytes : Option (List ℕ)) (o : Outcome) (start p : KeeperPass D) (met : List (List ℕ)) : Type 0 where
+    pub first : AreFirstOf version bytes met
+    pub covered : List (List ℕ)
+    pub ended : Bool
+    pub done : HasDone state rows start p covered o.whole ended
+    pub count : o.messages ≡ length covered
+    pub front : IsPrefix covered met
+    pub few : length met ≤ o.messages + unsealed_by rows o.cause
+
+module _ {D R A B C : Type 0} where
+  -- The job, of which this came, took few turns with the two books, and these for texts of the messages that it met alone.
+  pub record TakesFewOf (state : D → DiskState) (rows : ℕ) (bytes : Option (List ℕ)) (o : Outcome) (p q : KeeperPass D) (m n : LockNamer R A B C) : Type 0 where
+    pub met : List (List ℕ)
+    pub are : HasMet state rows m.version bytes o p q met
+    pub few : TakeFew state (Contains met) p q m n

@@ -5,7 +5,8 @@ ghost use Rattle.archive_meaning.specs.Held.{last_is_open};
 ghost use Rattle.disk_seal.specs.Fixed.{KeeperPass};
 ghost use Rattle.ingest_workers.specs.Doing.{Doing};
 ghost use Rattle.ingest_workers.specs.Done.{IsOutcome};
-ghost use Rattle.ingest_workers.specs.Namer.{HasOnlySeen};
+ghost use Rattle.ingest_workers.specs.Full.{books_by};
+ghost use Rattle.ingest_workers.specs.Namer.{HasOnlySeen, types_pass, words_pass};
 ghost use Rattle.ingest_workers.specs.Taking.{StopsAt, mark_of, why_of};
 ghost use Rattle.ingest_workers.specs.Turns.{EndBoth, spare_of, stop_in};
 
@@ -39,7 +40,8 @@ pub(crate) fn seal_last<'d, 'b, D: Disk, R: Wait, A: Ledger, B: Ledger, C: Ledge
     ensures turns { EndBoth D.state 1 keeper.old keeper.new namer.old namer.new }
     ensures outcome { (start : KeeperPass _) (taken : List (List ℕ))
         → Doing D.state _rows start keeper.old namer.old hand.old taken
-        → IsOutcome D.state _rows start keeper.new taken ended None result }
+        → IsOutcome D.state _rows namer.old.version (books_by (types_pass namer.new)
+        (words_pass namer.new)) start keeper.new taken ended None result }
 {
     hand.draft.last = true;
     hand.draft.ended = ended;
@@ -77,7 +79,8 @@ pub(crate) fn seal_part<'d, 'b, D: Disk, R: Wait, A: Ledger, B: Ledger, C: Ledge
     ensures part { result.whole ≡ false }
     ensures outcome { (start : KeeperPass _) (taken : List (List ℕ))
         → Doing D.state _rows start keeper.old namer.old hand.old taken
-        → IsOutcome D.state _rows start keeper.new taken false (Some cause) result }
+        → IsOutcome D.state _rows namer.old.version (books_by (types_pass namer.new)
+        (words_pass namer.new)) start keeper.new taken false (Some cause) result }
 {
     if hand.draft.columns.rows() == 0 {
         return Outcome {
@@ -121,8 +124,8 @@ pub(crate) fn finish<'d, 'b, D: Disk, R: Wait, A: Ledger, B: Ledger, C: Ledger>(
     ensures whole { result.whole ≡ true → (ended : Bool) × (stop ≡ Ok ended) }
     ensures outcome { (start : KeeperPass _) (taken : List (List ℕ))
         → StopsAt D.state rows start keeper.old namer.old hand.old taken stop
-        → IsOutcome D.state rows start keeper.new taken (mark_of stop) (why_of stop)
-        result }
+        → IsOutcome D.state rows namer.old.version (books_by (types_pass namer.new)
+        (words_pass namer.new)) start keeper.new taken (mark_of stop) (why_of stop) result }
 {
     match stop {
         Ok(ended) => seal_last(rt, alloc, rows, ended, hand, namer, keeper),

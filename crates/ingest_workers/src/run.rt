@@ -2,17 +2,16 @@
 ghost use Rattle.std.specs.Prelude.{◌≡◌, ◌≤◌, ℕ, List, [], is_some, not};
 ghost use Rattle.turn_lock.specs.Words.{number_of, own_list};
 ghost use Rattle.row_codec.specs.Messages.{IsTypeOf, IsWordOf};
-ghost use Rattle.disk_seal.specs.Naming.{types_side, words_side};
 ghost use Rattle.ingest_workers.specs.Causes.{log_of};
 ghost use Rattle.ingest_workers.specs.Full.{books_by};
 ghost use Rattle.ingest_workers.specs.Journal.{HasSoFar};
-ghost use Rattle.ingest_workers.specs.JobDone.{CameTo, HasSourceBack, IsDone, IsGivenBy};
+ghost use Rattle.ingest_workers.specs.JobDone.{CameTo, HasSourceBack, IsDone, IsGivenBy, in_source};
 ghost use Rattle.ingest_workers.specs.MaySeal.{IsWorker};
 ghost use Rattle.ingest_workers.specs.Namer.{types_pass, words_pass};
 ghost use Rattle.ingest_workers.specs.Naming.{AddsOnly, HasNamed};
 ghost use Rattle.ingest_workers.specs.Outcome.{nothing_done};
 ghost use Rattle.ingest_workers.specs.Taking.{IsOneOf, KeepsSource};
-ghost use Rattle.ingest_workers.specs.Turns.{TakeFew, TakesFew};
+ghost use Rattle.ingest_workers.specs.Turns.{TakesFewOf};
 
 use crate::finish::finish;
 use crate::hand::Hand;
@@ -46,10 +45,10 @@ fn take_source<'d, 'b, S: Source, D: Disk, R: Wait, A: Ledger, B: Ledger, C: Led
     // what stays, and what the namer has named
     ensures source { KeepsSource S.name S.faults source result.0 }
     ensures names { HasNamed (IsOneOf namer.old.version (S.left source)) namer.old namer.new }
-    ensures turns { TakeFew D.state (IsOneOf namer.old.version (S.left source))
-        keeper.old keeper.new namer.old namer.new }
 
     // the answer
+    ensures turns { TakesFewOf D.state rows (S.left source) result.1
+        keeper.old keeper.new namer.old namer.new }
     ensures cause { is_some result.1.cause ≡ not result.1.whole }
     ensures came { CameTo D.state rows namer.old.version
         (books_by (types_pass namer.new) (words_pass namer.new))
@@ -103,12 +102,8 @@ pub fn run_job<'d, 'b, S: Source, D: Disk, R: Wait, A: Ledger, B: Ledger, C: Led
         × IsWordOf namer.old.version m t) (words_pass namer.old) (words_pass namer.new) }
 
     // how many turns it took
-    ensures types_turns { TakesFew D.state (λ t. (m : List ℕ)
-        × IsGivenBy S.left namer.old.version job.old m × IsTypeOf namer.old.version m t)
-        keeper.old keeper.new (types_side namer.old) (types_side namer.new) }
-    ensures words_turns { TakesFew D.state (λ t. (m : List ℕ)
-        × IsGivenBy S.left namer.old.version job.old m × IsWordOf namer.old.version m t)
-        keeper.old keeper.new (words_side namer.old) (words_side namer.new) }
+    ensures turns { TakesFewOf D.state rows (in_source S.left job.old.source) job.new.outcome
+        keeper.old keeper.new namer.old namer.new }
 
     // what came of it
     ensures done { IsDone D.state S.left S.name S.faults rows namer.old.version

@@ -6,6 +6,7 @@ ghost use Rattle.disk_seal.specs.Prepare.{HasSeenOpening, IsFaultOf, MayBeNext};
 ghost use Rattle.ingest_workers.specs.declared.outcome.Cause.TheVariants.{ArchiveFull, DiskFault as disk_fault};
 ghost use Rattle.ingest_workers.specs.Causes.{HasSealCause};
 ghost use Rattle.ingest_workers.specs.Namer.{HasNoRoom, HasOnlySeen, IsNamerOf, types_seen, words_seen};
+ghost use Rattle.ingest_workers.specs.NoRoom.{HasNoRoomBy};
 ghost use Rattle.ingest_workers.specs.Hand.{SameMarks};
 ghost use Rattle.ingest_workers.specs.MaySeal.{HasNoRoomFor, IsEmptied, MaySeal};
 ghost use Rattle.ingest_workers.specs.Sealed.{HasNotSealed, HasSealed, NowHas};
@@ -56,7 +57,8 @@ pub(crate) fn seal_draft<'d, 'b, D: Disk, R: Wait, A: Ledger, B: Ledger, C: Ledg
     ensures refused { OnErr result (HasNotSealed D.state keeper.old keeper.new) }
 
     // causes
-    ensures causes { IfErr result (HasSealCause D.state keeper.old keeper.new) }
+    ensures causes { IfErr result (HasSealCause D.state (HasNoRoomBy keeper.old)
+        keeper.old keeper.new) }
     ensures full { (end need : ℕ) → IsErrOf result (ArchiveFull end need)
         → HasNoRoom D.state draft.now end need keeper.old keeper.new namer.old namer.new }
     ensures fault { (opened now : ℕ) → IsErrOf result (disk_fault opened now)
@@ -112,7 +114,8 @@ impl Hand {
         ensures refused { OnErr result (HasNotSealed D.state keeper.old keeper.new) }
 
         // causes
-        ensures causes { IfErr result (HasSealCause D.state keeper.old keeper.new) }
+        ensures causes { IfErr result (HasSealCause D.state (HasNoRoomBy keeper.old)
+            keeper.old keeper.new) }
         ensures full { (end need : ℕ) → IsErrOf result (ArchiveFull end need)
             → HasNoRoomFor D.state self.old end need keeper.old keeper.new namer.old namer.new }
         ensures fault { (opened now : ℕ) → IsErrOf result (disk_fault opened now)

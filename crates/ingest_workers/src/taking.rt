@@ -1,11 +1,11 @@
 //! The messages of a source, one behind the other.
 ghost use Rattle.std.specs.Prelude.{◌≡◌, ◌≤◌, ◌++◌, ◌∷◌, [], ℕ, List, Option, Ok, Err, IfErr, IfNone, IfOk, IfSome, OnOk};
 ghost use Rattle.archive_meaning.specs.declared.TheConstants.{MAX_ROWS};
+ghost use Rattle.disk_seal.specs.declared.namer.LockNamer.{LockNamer};
 ghost use Rattle.disk_seal.specs.Fixed.{KeeperPass};
 ghost use Rattle.ingest_workers.specs.Causes.{cause_by, log_from};
 ghost use Rattle.ingest_workers.specs.Naming.{HasNamed};
 ghost use Rattle.ingest_workers.specs.Taking.{IsOneOf, KeepsSource, Taking, Took};
-ghost use Rattle.ingest_workers.specs.Turns.{LearnBoth, stop_in};
 
 use crate::hand::Hand;
 use crate::outcome::Cause;
@@ -48,35 +48,36 @@ fn take_next<'d, 'b, S: Source, D: Disk, R: Wait, A: Ledger, B: Ledger, C: Ledge
     keeper: &mut Pass<'_, Store<'d, 'b, D>>,
 ) -> Result<Option<bool>, Stop>
     requires limit { rows ≤ MAX_ROWS }
-    requires taking { (bytes : Option (List ℕ)) × (start : KeeperPass _) × (taken : List (List ℕ))
-        × Taking D.state S.left rows bytes start keeper.old namer.old hand.old reader.old taken }
+    requires taking { (bytes : Option (List ℕ)) × (start : KeeperPass _)
+        × (begin : LockNamer _ _ _ _) × (taken : List (List ℕ)) × Taking D.state S.left rows
+        bytes start keeper.old begin namer.old hand.old reader.old taken }
 
     // what stays, and what the namer has named
     ensures source { KeepsSource S.name S.faults reader.old.source reader.new.source }
-    ensures names { (bytes : Option (List ℕ)) (start : KeeperPass _) (taken : List (List ℕ))
-        → Taking D.state S.left rows bytes start keeper.old namer.old hand.old reader.old taken
+    ensures names { (bytes : Option (List ℕ)) (start : KeeperPass _)
+        (begin : LockNamer _ _ _ _) (taken : List (List ℕ)) → Taking D.state S.left rows
+        bytes start keeper.old begin namer.old hand.old reader.old taken
         → HasNamed (IsOneOf namer.old.version bytes) namer.old namer.new }
-    ensures turns { (bytes : Option (List ℕ)) (start : KeeperPass _) (taken : List (List ℕ))
-        → Taking D.state S.left rows bytes start keeper.old namer.old hand.old reader.old taken
-        → LearnBoth D.state (IsOneOf namer.old.version bytes) (stop_in result)
-        keeper.old keeper.new namer.old namer.new }
 
     // by the answer
-    ensures taken { (bytes : Option (List ℕ)) (start : KeeperPass _) (taken : List (List ℕ))
-        → Taking D.state S.left rows bytes start keeper.old namer.old hand.old reader.old taken
-        → IfOk result (λ o. IfNone o (Taking D.state S.left rows bytes start keeper.new namer.new
-        hand.new reader.new (taken ++ reader.new.message ∷ []))) }
+    ensures taken { (bytes : Option (List ℕ)) (start : KeeperPass _)
+        (begin : LockNamer _ _ _ _) (taken : List (List ℕ)) → Taking D.state S.left rows
+        bytes start keeper.old begin namer.old hand.old reader.old taken
+        → IfOk result (λ o. IfNone o (Taking D.state S.left rows bytes start keeper.new begin
+        namer.new hand.new reader.new (taken ++ reader.new.message ∷ []))) }
     ensures steady { OnOk result (S.faults reader.new.source ≡ S.faults reader.old.source) }
-    ensures ended { (bytes : Option (List ℕ)) (start : KeeperPass _) (taken : List (List ℕ))
-        → Taking D.state S.left rows bytes start keeper.old namer.old hand.old reader.old taken
+    ensures ended { (bytes : Option (List ℕ)) (start : KeeperPass _)
+        (begin : LockNamer _ _ _ _) (taken : List (List ℕ)) → Taking D.state S.left rows
+        bytes start keeper.old begin namer.old hand.old reader.old taken
         → IfOk result (λ o. IfSome o (λ e. Took D.state rows namer.old.version
         (log_from bytes S.left S.faults reader.old.source reader.new.source) start
-        keeper.new namer.new hand.new (Ok e))) }
-    ensures stopped { (bytes : Option (List ℕ)) (start : KeeperPass _) (taken : List (List ℕ))
-        → Taking D.state S.left rows bytes start keeper.old namer.old hand.old reader.old taken
+        keeper.new begin namer.new hand.new (Ok e))) }
+    ensures stopped { (bytes : Option (List ℕ)) (start : KeeperPass _)
+        (begin : LockNamer _ _ _ _) (taken : List (List ℕ)) → Taking D.state S.left rows
+        bytes start keeper.old begin namer.old hand.old reader.old taken
         → IfErr result (λ s. Took D.state rows namer.old.version
         (log_from bytes S.left S.faults reader.old.source reader.new.source) start
-        keeper.new namer.new hand.new (Err s)) }
+        keeper.new begin namer.new hand.new (Err s)) }
 {
     let mark = match reader.advance() {
         Ok(Some(mark)) => mark,
@@ -107,25 +108,24 @@ pub(crate) fn take_messages<'d, 'b, S: Source, D: Disk, R: Wait, A: Ledger, B: L
     keeper: &mut Pass<'_, Store<'d, 'b, D>>,
 ) -> Result<bool, Stop>
     requires limit { rows ≤ MAX_ROWS }
-    requires taking { (bytes : Option (List ℕ)) × (start : KeeperPass _) × (taken : List (List ℕ))
-        × Taking D.state S.left rows bytes start keeper.old namer.old hand.old reader.old taken }
+    requires taking { (bytes : Option (List ℕ)) × (start : KeeperPass _)
+        × (begin : LockNamer _ _ _ _) × (taken : List (List ℕ)) × Taking D.state S.left rows
+        bytes start keeper.old begin namer.old hand.old reader.old taken }
 
     // what stays, and what the namer has named
     ensures source { KeepsSource S.name S.faults reader.old.source reader.new.source }
-    ensures names { (bytes : Option (List ℕ)) (start : KeeperPass _) (taken : List (List ℕ))
-        → Taking D.state S.left rows bytes start keeper.old namer.old hand.old reader.old taken
+    ensures names { (bytes : Option (List ℕ)) (start : KeeperPass _)
+        (begin : LockNamer _ _ _ _) (taken : List (List ℕ)) → Taking D.state S.left rows
+        bytes start keeper.old begin namer.old hand.old reader.old taken
         → HasNamed (IsOneOf namer.old.version bytes) namer.old namer.new }
-    ensures turns { (bytes : Option (List ℕ)) (start : KeeperPass _) (taken : List (List ℕ))
-        → Taking D.state S.left rows bytes start keeper.old namer.old hand.old reader.old taken
-        → LearnBoth D.state (IsOneOf namer.old.version bytes) (stop_in result)
-        keeper.old keeper.new namer.old namer.new }
 
     // the answer
-    ensures took { (bytes : Option (List ℕ)) (start : KeeperPass _) (taken : List (List ℕ))
-        → Taking D.state S.left rows bytes start keeper.old namer.old hand.old reader.old taken
+    ensures took { (bytes : Option (List ℕ)) (start : KeeperPass _)
+        (begin : LockNamer _ _ _ _) (taken : List (List ℕ)) → Taking D.state S.left rows
+        bytes start keeper.old begin namer.old hand.old reader.old taken
         → Took D.state rows namer.old.version
         (log_from bytes S.left S.faults reader.old.source reader.new.source) start
-        keeper.new namer.new hand.new result }
+        keeper.new begin namer.new hand.new result }
 {
     'messages: loop {
         match take_next(rt, alloc, rows, reader, hand, namer, keeper) {

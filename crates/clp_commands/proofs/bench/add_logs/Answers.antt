@@ -2,7 +2,7 @@ use Rattle.std.proofs.Common.{◌∙◌, ap, ap₂, refl, subst, sym, List, Some
 use Rattle.log_sources.specs.Sources.{str_bytes}
 use Rattle.generated_logs.specs.Logs.{content_of}
 use Rattle.generated_logs.specs.States.{open_faults_of}
-use Rattle.clp_commands.specs.Benched.{generated_names}
+use Rattle.clp_commands.specs.Benched.{generated_names, segment_rows}
 use Rattle.clp_commands.specs.IngestPrints.{came_of, names_of}
 use Rattle.clp_commands.specs.Ingested.{Came, FromArchive, TakesIn}
 use Rattle.clp_commands.specs.Names.{RefusesNames}
@@ -42,10 +42,10 @@ returns-in-Ok-add_files-clause-ends g c = λ content unread opens reads.
     let takes = subst (λ (fs : List TakenFile). FromArchive old (λ h before bytes stood. TakesIn (content_of c.args.asked.number c.args.asked.lines) h before stood names (map came_of fs) old mid)) (sym files) told in
     let same = ap names_of files ∙ c.in-Ok-add_files.ensures.names in
     let named : map (λ (x : Came). x.name) (map came_of c.as_slice.result.now) ≡ generated_names = names_came c.as_slice.result.now ∙ (same ∙ c.log_names-names.ensures) in
-    let were = subst (λ k. HaveFileCauses (record { content = k; opens = λ name. (open_faults_of c.new-shelf.result name, open_faults_of c.add_files.new.shelf name); reads = λ name. (0, 0) }) old mid (map came_of c.add_files.new.taken.items)) logs c.in-Ok-add_files.ensures.causes in
-    let causes = subst (λ (fs : List TakenFile). HaveFileCauses (record { content = content_of c.args.asked.number c.args.asked.lines; opens = λ name. (open_faults_of c.new-shelf.result name, open_faults_of c.add_files.new.shelf name); reads = λ name. (0, 0) }) old mid (map came_of fs)) (sym files) were in
+    let were = subst (λ k. HaveFileCauses (record { content = k; opens = λ name. (open_faults_of c.new-shelf.result name, open_faults_of c.add_files.new.shelf name); reads = λ name. (0, 0) }) segment_rows old mid (map came_of c.add_files.new.taken.items)) logs c.in-Ok-add_files.ensures.causes in
+    let causes = subst (λ (fs : List TakenFile). HaveFileCauses (record { content = content_of c.args.asked.number c.args.asked.lines; opens = λ name. (open_faults_of c.new-shelf.result name, open_faults_of c.add_files.new.shelf name); reads = λ name. (0, 0) }) segment_rows old mid (map came_of fs)) (sym files) were in
     logs_added (content_of c.args.asked.number c.args.asked.lines) names c.as_slice.result.now _ old mid new _ c.log_names-names.ensures same (law _)
     c.add_files.ensures.goes_on c.sum_up.ensures.keeps c.sum_up.ensures.disk takes
-    (log_causes c.args.asked.number c.args.asked.lines c.requires.lines c.new-shelf.result c.add_files.new.shelf old mid new c.sum_up.ensures.disk (map came_of c.as_slice.result.now) named causes)
-    (logs_spared c.args.asked.number c.args.asked.lines c.requires.lines c.new-shelf.result c.add_files.new.shelf old mid new c.sum_up.ensures.disk (map came_of c.as_slice.result.now) named causes)
+    (log_causes c.args.asked.number c.args.asked.lines c.requires.lines c.new-shelf.result c.add_files.new.shelf segment_rows old mid new c.sum_up.ensures.keeps.seen c.sum_up.ensures.disk (map came_of c.as_slice.result.now) named causes)
+    (logs_spared c.args.asked.number c.args.asked.lines c.requires.lines c.new-shelf.result c.add_files.new.shelf segment_rows old mid new c.sum_up.ensures.keeps.seen c.sum_up.ensures.disk (map came_of c.as_slice.result.now) named causes)
     (c.sum_up.ensures.told content unread opens reads)

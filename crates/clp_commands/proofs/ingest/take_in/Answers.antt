@@ -112,6 +112,7 @@ returns-clause-taken g c =
 
 pub returns-clause-causes : goal.returns-clause-causes
 returns-clause-causes g c =
+    let law = (g.met.D.Disk g.world.𝓛 g.world.𝓜 g.world.𝓡 ((λ s x. x), (λ x. x), (λ x. x), λ x. x)).lawful in
     let is = c.as_mut_slice.ensures.value in
     let sourced = ap sources_of is ∙ c.begin_jobs.ensures.sourced in
     let opening = ap opens_of is ∙ c.begin_jobs.ensures.opened in
@@ -124,15 +125,15 @@ returns-clause-causes g c =
     let of = are_jobs_of g.H.Src.Source.left g.H.Src.Source.name g.H.Src.Source.faults (g.H.Shelf.content c.args.shelf.now) (g.H.Shelf.open_faults c.args.shelf.now) (g.H.Shelf.open_faults c.open_logs.new.shelf)
     (map str_bytes c.args.asked.files.now) c.in-Ok-open_logs.sources.items c.in-Ok-open_logs.ensures.came c.args.named.first c.as_mut_slice.result.now sourced opening numbered c.args.journal.header.version in
     elim c.match-ingest.branch [
-      | in-Ok-ingest w ↦ subst (λ (x : Journal _ _). All (CameIn logs (into_journal (state_of c.args.journal) (map str_bytes c.args.asked.files.now)) (state_of c.args.journal).disk (g.D.Disk.state x.disk.now)) (map came_of c.end_jobs.new.taken.items)) (sym w.journal-is)
+      | in-Ok-ingest w ↦ subst (λ (x : Journal _ _). All (CameIn logs (into_journal (state_of c.args.journal) c.args.asked.segment c.args.named.first (map str_bytes c.args.asked.files.now)) (state_of c.args.journal).disk (g.D.Disk.state x.disk.now)) (map came_of c.end_jobs.new.taken.items)) (sym w.journal-is)
           (all_done g.H.Src.Source.left g.H.Src.Source.name g.H.Src.Source.faults logs (g.H.Shelf.open_faults c.open_logs.new.shelf) (g.H.Shelf.read_faults c.open_logs.new.shelf) (g.H.Shelf.read_faults c.close_logs.new.shelf) opens_later reads_sooner reads_later
           c.args.journal _ (map str_bytes c.args.asked.files.now) c.args.asked.segment c.args.named.first c.as_mut_slice.result.now c.ingest.new.jobs of (map came_of c.end_jobs.new.taken.items) (came_of_log g.H.Src.Source.left g.H.Src.Source.name g.H.Src.Source.faults (g.H.Shelf.content c.args.shelf.now) (g.H.Shelf.open_faults c.args.shelf.now) (g.H.Shelf.open_faults c.open_logs.new.shelf)
           (map str_bytes c.args.asked.files.now) c.in-Ok-open_logs.sources.items c.in-Ok-open_logs.ensures.came c.args.named.first c.as_mut_slice.result.now sourced opening numbered c.as_slice.result.now openings
           c.ingest.new.jobs c.end_jobs.new.taken.items c.end_jobs.ensures.names
           (told_back (λ (jobs : List (Job _)) (i : ℕ) (file : TakenFile). IsToldBy c.as_slice.result.now jobs i file) c.end_jobs.new.taken.items c.begin_jobs.new.jobs.len c.ingest.new.jobs _ (omega (arith, w.in-Ok-ingest.ensures.done.stored.counted, ap length is, c.begin_jobs.new.jobs.ok.0)) c.end_jobs.ensures.told))
-          w.in-Ok-ingest.ensures.done.store w.in-Ok-ingest.ensures.done.stored w.in-Ok-ingest.ensures.causes c.end_jobs.new.sources.items
+          (law _) (names_came c.end_jobs.new.taken.items ∙ c.end_jobs.ensures.names) w.in-Ok-ingest.ensures.done.store w.in-Ok-ingest.ensures.done.stored w.in-Ok-ingest.ensures.causes c.end_jobs.new.sources.items
           (c.end_jobs.ensures.sources ∙ ap sources_of (lent_back c.begin_jobs.new.jobs.len c.ingest.new.jobs _ (omega (arith, w.in-Ok-ingest.ensures.done.stored.counted, ap length is, c.begin_jobs.new.jobs.ok.0)))) c.close_logs.ensures.counted)
-      | in-Err w ↦ subst (λ (x : Journal _ _). All (CameIn logs (into_journal (state_of c.args.journal) (map str_bytes c.args.asked.files.now)) (state_of c.args.journal).disk (g.D.Disk.state x.disk.now)) (map came_of c.end_jobs.new.taken.items)) (sym w.journal-is)
+      | in-Err w ↦ subst (λ (x : Journal _ _). All (CameIn logs (into_journal (state_of c.args.journal) c.args.asked.segment c.args.named.first (map str_bytes c.args.asked.files.now)) (state_of c.args.journal).disk (g.D.Disk.state x.disk.now)) (map came_of c.end_jobs.new.taken.items)) (sym w.journal-is)
           (all_refused g.H.Src.Source.left g.H.Src.Source.name g.H.Src.Source.faults logs (g.H.Shelf.open_faults c.open_logs.new.shelf) (g.H.Shelf.read_faults c.open_logs.new.shelf) (g.H.Shelf.read_faults c.close_logs.new.shelf) opens_later reads_sooner reads_later
           c.args.journal _ (map str_bytes c.args.asked.files.now) c.args.asked.segment c.args.named.first c.as_mut_slice.result.now c.ingest.new.jobs of (map came_of c.end_jobs.new.taken.items) (came_of_log g.H.Src.Source.left g.H.Src.Source.name g.H.Src.Source.faults (g.H.Shelf.content c.args.shelf.now) (g.H.Shelf.open_faults c.args.shelf.now) (g.H.Shelf.open_faults c.open_logs.new.shelf)
           (map str_bytes c.args.asked.files.now) c.in-Ok-open_logs.sources.items c.in-Ok-open_logs.ensures.came c.args.named.first c.as_mut_slice.result.now sourced opening numbered c.as_slice.result.now openings

@@ -95,7 +95,7 @@ ingest_files-requires-clause-some g c κs within =
 
 pub returns-in-Ingest-clause-answers : goal.returns-in-Ingest-clause-answers
 returns-in-Ingest-clause-answers g c =
-    rw (c.in-Ingest.is) (rw (← c.of.ensures.files) c.ingest_files.ensures.answers)
+    rw (c.in-Ingest.is) (rw (← c.of.ensures.files) (rw (← c.of.ensures.segment) c.ingest_files.ensures.answers))
 
 pub returns-in-Ingest-clause-keeps : goal.returns-in-Ingest-clause-keeps
 returns-in-Ingest-clause-keeps g c = λ none. absurd (none (rw (c.in-Ingest.is) tt))

@@ -33,7 +33,7 @@ returns-in-Ok-over_store-clause-done g c = let left = g.S.Source.left in let pla
 
 pub returns-in-Ok-over_store-clause-causes : goal.returns-in-Ok-over_store-clause-causes
 returns-in-Ok-over_store-clause-causes g c = let e = c.enroll.ensures.enrolled in causes_by g.S.Source.left g.S.Source.name g.S.Source.faults c.args.journal c.end.result c.pass-types_reader.result c.pass-words_reader.result c.args.order.types_saved c.args.order.words_saved c.in-Ok-over_store.store
-    _ _ _ _ c.args.order.plan _ _ _ _ c.open_store-store.ensures c.from.ensures e.planned
+    _ _ _ _ c.args.order.plan _ _ _ _ c.open_store-store.ensures c.from.ensures c.requires.jobs e.planned
     (books_known g.S.Source.left c.args.order.plan _ _ _ _ _ _ _ _ e c.in-Ok-over_store.ensures.done.went _ _ _ _ c.end.ensures.ended)
     c.in-Ok-over_store.ensures.done c.end.ensures.journal c.end.ensures.kept
 

@@ -6,9 +6,9 @@ use Rattle.ingest_workers.specs.Namer.{types_pass, words_pass}
 use Rattle.ingest_workers.specs.Naming.{AddsOnly}
 use Rattle.ingest_workers.specs.Taking.{IsOneOf}
 use Rattle.ingest_workers.proofs.UnopenedLemmas.{left_undone}
-use Rattle.disk_seal.specs.Naming.{types_side, words_side}
-use Rattle.ingest_workers.specs.Turns.{TakesFew}
-use Rattle.ingest_workers.proofs.TurnsLemmas.{take_none}
+use Rattle.ingest_workers.specs.Causes.{log_of}
+use Rattle.ingest_workers.specs.Turns.{TakesFewOf}
+use Rattle.ingest_workers.proofs.TakingLemmas.{met_none}
 use Rattle.ingest_workers.proofs.run.run_job.Goals as goal
 
 pub returns-clause-types : goal.returns-clause-types
@@ -45,20 +45,18 @@ returns-then-not-job-clause-done g c =
 
 -- ---- turns
 
-pub returns-clause-types_turns : goal.returns-clause-types_turns
-returns-clause-types_turns g c =
+pub returns-clause-turns : goal.returns-clause-turns
+returns-clause-turns g c =
     let is : c.args.job.now.source ≡ Some c.in-Some.source = search rules in
-    subst (λ b. TakesFew g.D.Disk.state (λ t. (m : List ℕ) × IsOneOf c.args.namer.now.version b m × IsTypeOf c.args.namer.now.version m t) c.args.keeper.now c.take_source-source.new.keeper (types_side c.args.namer.now) (types_side c.take_source-source.new.namer))
-    (sym (ap (in_source g.S.Source.left) is)) c.take_source-source.ensures.turns.types
+    subst (λ b. TakesFewOf g.D.Disk.state c.args.rows b c.take_source-source.result.1 c.args.keeper.now c.take_source-source.new.keeper c.args.namer.now c.take_source-source.new.namer)
+    (sym (ap (in_source g.S.Source.left) is)) c.take_source-source.ensures.turns
 
-pub returns-clause-words_turns : goal.returns-clause-words_turns
-returns-clause-words_turns g c =
-    let is : c.args.job.now.source ≡ Some c.in-Some.source = search rules in
-    subst (λ b. TakesFew g.D.Disk.state (λ t. (m : List ℕ) × IsOneOf c.args.namer.now.version b m × IsWordOf c.args.namer.now.version m t) c.args.keeper.now c.take_source-source.new.keeper (words_side c.args.namer.now) (words_side c.take_source-source.new.namer))
-    (sym (ap (in_source g.S.Source.left) is)) c.take_source-source.ensures.turns.words
-
-pub returns-then-not-job-clause-types_turns : goal.returns-then-not-job-clause-types_turns
-returns-then-not-job-clause-types_turns g c = (take_none g.D.Disk.state (IsOneOf c.args.namer.now.version (in_source g.S.Source.left c.args.job.now.source)) c.args.keeper.now c.args.namer.now).types
-
-pub returns-then-not-job-clause-words_turns : goal.returns-then-not-job-clause-words_turns
-returns-then-not-job-clause-words_turns g c = (take_none g.D.Disk.state (IsOneOf c.args.namer.now.version (in_source g.S.Source.left c.args.job.now.source)) c.args.keeper.now c.args.namer.now).words
+pub returns-then-not-job-clause-turns : goal.returns-then-not-job-clause-turns
+returns-then-not-job-clause-turns g c =
+    let closed : c.args.job.now.is_open ≡ false = search rules in
+    let undone = left_undone g.D.Disk.state g.S.Source.left g.S.Source.name g.S.Source.faults c.args.rows c.args.namer.now.version (books_by (types_pass c.args.namer.now) (words_pass c.args.namer.now)) c.args.job.now c.args.keeper.now
+    c.requires.rows.0 c.requires.so_far c.requires.worker.ready closed c.requires.new in
+    let log = log_of g.S.Source.left g.S.Source.faults undone.source.before undone.source.after in
+    subst (λ b. TakesFewOf g.D.Disk.state c.args.rows b c.args.job.now.outcome c.args.keeper.now c.args.keeper.now c.args.namer.now c.args.namer.now)
+    (sym (ap (in_source g.S.Source.left) undone.source.had))
+    (met_none g.D.Disk.state c.args.rows (books_by (types_pass c.args.namer.now) (words_pass c.args.namer.now)) log c.args.keeper.now c.args.namer.now c.args.job.now.outcome undone.came)

@@ -1,15 +1,13 @@
-use Rattle.std.proofs.Common.{[], subst, Some}
+use Rattle.std.proofs.Common.{[], false, refl, subst, Some}
 use Rattle.ingest_workers.specs.declared.outcome.Cause.TheVariants.{OutOfMemory}
 use Rattle.message_reader.specs.Reading.{IsNewReader}
 use Rattle.ingest_workers.specs.Taking.{IsOneOf}
 use Rattle.ingest_workers.proofs.NamingLemmas.{named_only, named_then}
-use Rattle.ingest_workers.proofs.TakingLemmas.{came_back, came_none, came_to, taking_none}
-use Rattle.ingest_workers.specs.Causes.{log_from}
+use Rattle.ingest_workers.proofs.TakingLemmas.{came_back, came_none, came_to, met_none, taking_none, took_few}
+use Rattle.ingest_workers.specs.Causes.{log_from, log_of}
 use Rattle.ingest_workers.specs.Full.{books_by}
 use Rattle.ingest_workers.specs.JobDone.{CameTo}
 use Rattle.ingest_workers.specs.Namer.{types_pass, words_pass}
-use Rattle.ingest_workers.specs.Turns.{stop_in}
-use Rattle.ingest_workers.proofs.TurnsLemmas.{take_few, take_none}
 use Rattle.ingest_workers.proofs.run.take_source.Goals as goal
 
 pub returns-in-Err-clause-came : goal.returns-in-Err-clause-came
@@ -20,6 +18,7 @@ pub take_messages-stop-requires-clause-taking : goal.take_messages-stop-requires
 take_messages-stop-requires-clause-taking g c = (
   g.S.Source.left c.args.source,
   c.args.keeper.now,
+  c.args.namer.now,
   [],
   (taking_none g.D.Disk.state c.args.rows c.requires.rows.0 c.args.keeper.now c.requires.so_far g.S.Source.left c.args.source c.in-Ok.reader c.args.namer.now c.new-hand.result c.args.file c.requires.worker c.requires.file c.new-hand.ensures
       (subst (λ v. IsNewReader v c.args.source c.in-Ok.reader) c.version.ensures c.in-Ok.ensures.fresh)),
@@ -27,14 +26,14 @@ take_messages-stop-requires-clause-taking g c = (
 
 pub finish-outcome-requires-clause-stops : goal.finish-outcome-requires-clause-stops
 finish-outcome-requires-clause-stops g c =
-    let took = c.take_messages-stop.ensures.took (g.S.Source.left c.args.source) c.args.keeper.now []
+    let took = c.take_messages-stop.ensures.took (g.S.Source.left c.args.source) c.args.keeper.now c.args.namer.now []
     (taking_none g.D.Disk.state c.args.rows c.requires.rows.0 c.args.keeper.now c.requires.so_far g.S.Source.left c.args.source c.in-Ok.reader c.args.namer.now c.new-hand.result c.args.file c.requires.worker c.requires.file c.new-hand.ensures
     (subst (λ v. IsNewReader v c.args.source c.in-Ok.reader) c.version.ensures c.in-Ok.ensures.fresh)) in
     (c.args.keeper.now, took.taken, took.few, took.stops)
 
 pub returns-clause-cause : goal.returns-clause-cause
 returns-clause-cause g c =
-    let took = c.take_messages-stop.ensures.took (g.S.Source.left c.args.source) c.args.keeper.now []
+    let took = c.take_messages-stop.ensures.took (g.S.Source.left c.args.source) c.args.keeper.now c.args.namer.now []
     (taking_none g.D.Disk.state c.args.rows c.requires.rows.0 c.args.keeper.now c.requires.so_far g.S.Source.left c.args.source c.in-Ok.reader c.args.namer.now c.new-hand.result c.args.file c.requires.worker c.requires.file c.new-hand.ensures
     (subst (λ v. IsNewReader v c.args.source c.in-Ok.reader) c.version.ensures c.in-Ok.ensures.fresh)) in
     (c.finish-outcome.ensures.outcome c.args.keeper.now took.taken took.stops).cause
@@ -43,33 +42,38 @@ pub returns-clause-names : goal.returns-clause-names
 returns-clause-names g c =
     let P = IsOneOf c.args.namer.now.version (g.S.Source.left c.args.source) in
     named_then P c.args.namer.now c.take_messages-stop.new.namer c.finish-outcome.new.namer
-    (c.take_messages-stop.ensures.names (g.S.Source.left c.args.source) c.args.keeper.now []
+    (c.take_messages-stop.ensures.names (g.S.Source.left c.args.source) c.args.keeper.now c.args.namer.now []
     (taking_none g.D.Disk.state c.args.rows c.requires.rows.0 c.args.keeper.now c.requires.so_far g.S.Source.left c.args.source c.in-Ok.reader c.args.namer.now c.new-hand.result c.args.file c.requires.worker c.requires.file c.new-hand.ensures
     (subst (λ v. IsNewReader v c.args.source c.in-Ok.reader) c.version.ensures c.in-Ok.ensures.fresh)))
     (named_only P c.take_messages-stop.new.namer c.finish-outcome.new.namer c.finish-outcome.ensures.namer)
 
 pub returns-clause-came : goal.returns-clause-came
 returns-clause-came g c =
-    let took = c.take_messages-stop.ensures.took (g.S.Source.left c.args.source) c.args.keeper.now []
+    let took = c.take_messages-stop.ensures.took (g.S.Source.left c.args.source) c.args.keeper.now c.args.namer.now []
     (taking_none g.D.Disk.state c.args.rows c.requires.rows.0 c.args.keeper.now c.requires.so_far g.S.Source.left c.args.source c.in-Ok.reader c.args.namer.now c.new-hand.result c.args.file c.requires.worker c.requires.file c.new-hand.ensures
     (subst (λ v. IsNewReader v c.args.source c.in-Ok.reader) c.version.ensures c.in-Ok.ensures.fresh)) in
     let fresh = subst (λ v. IsNewReader v c.args.source c.in-Ok.reader) c.version.ensures c.in-Ok.ensures.fresh in
+    let named = c.take_messages-stop.ensures.names (g.S.Source.left c.args.source) c.args.keeper.now c.args.namer.now []
+    (taking_none g.D.Disk.state c.args.rows c.requires.rows.0 c.args.keeper.now c.requires.so_far g.S.Source.left c.args.source c.in-Ok.reader c.args.namer.now c.new-hand.result c.args.file c.requires.worker c.requires.file c.new-hand.ensures fresh) in
     came_back g.S.Source.left g.S.Source.faults c.args.source c.in-Ok.reader.source c.take_messages-stop.new.reader.source c.into_source.result fresh.source_is c.into_source.ensures
     (λ log. CameTo g.D.Disk.state c.args.rows c.args.namer.now.version (books_by (types_pass c.finish-outcome.new.namer) (words_pass c.finish-outcome.new.namer)) log c.args.keeper.now c.finish-outcome.new.keeper c.finish-outcome.result)
-    (came_to g.D.Disk.state c.args.rows c.args.namer.now.version (log_from (g.S.Source.left c.args.source) g.S.Source.left g.S.Source.faults c.in-Ok.reader.source c.take_messages-stop.new.reader.source) c.args.keeper.now c.take_messages-stop.new.keeper c.take_messages-stop.new.namer c.take_messages-stop.new.hand c.take_messages-stop.result took c.finish-outcome.new.keeper c.finish-outcome.result
-    c.finish-outcome.new.namer c.finish-outcome.ensures.namer
+    (came_to g.D.Disk.state c.args.rows c.args.namer.now.version (log_from (g.S.Source.left c.args.source) g.S.Source.left g.S.Source.faults c.in-Ok.reader.source c.take_messages-stop.new.reader.source) c.args.keeper.now c.take_messages-stop.new.keeper c.args.namer.now c.take_messages-stop.new.namer c.take_messages-stop.new.hand c.take_messages-stop.result took c.finish-outcome.new.keeper c.finish-outcome.result
+    c.finish-outcome.new.namer c.finish-outcome.ensures.namer _ named.version
     (c.finish-outcome.ensures.outcome c.args.keeper.now took.taken took.stops) c.finish-outcome.ensures.whole)
 
 -- ---- turns
 
 pub returns-in-Err-clause-turns : goal.returns-in-Err-clause-turns
-returns-in-Err-clause-turns g c = take_none g.D.Disk.state (IsOneOf c.args.namer.now.version (g.S.Source.left c.args.source)) c.args.keeper.now c.args.namer.now
+returns-in-Err-clause-turns g c =
+    met_none g.D.Disk.state c.args.rows (books_by (types_pass c.args.namer.now) (words_pass c.args.namer.now)) (log_of g.S.Source.left g.S.Source.faults c.args.source c.args.source) c.args.keeper.now c.args.namer.now
+    (record { messages = 0; whole = false; cause = Some OutOfMemory })
+    (came_none g.D.Disk.state c.args.rows c.requires.rows.0 c.args.keeper.now c.requires.so_far c.args.namer.now.version _ _ c.requires.worker.ready (Some OutOfMemory) tt)
 
 pub returns-clause-turns : goal.returns-clause-turns
 returns-clause-turns g c =
-    let fresh = subst (λ v. IsNewReader v c.args.source c.in-Ok.reader) c.version.ensures c.in-Ok.ensures.fresh in
-    take_few g.D.Disk.state (IsOneOf c.args.namer.now.version (g.S.Source.left c.args.source)) (stop_in c.take_messages-stop.result) c.args.keeper.now c.take_messages-stop.new.keeper c.finish-outcome.new.keeper
-    c.args.namer.now c.take_messages-stop.new.namer c.finish-outcome.new.namer
-    (c.take_messages-stop.ensures.turns (g.S.Source.left c.args.source) c.args.keeper.now []
-    (taking_none g.D.Disk.state c.args.rows c.requires.rows.0 c.args.keeper.now c.requires.so_far g.S.Source.left c.args.source c.in-Ok.reader c.args.namer.now c.new-hand.result c.args.file c.requires.worker c.requires.file c.new-hand.ensures fresh))
-    c.finish-outcome.ensures.turns
+    let took = c.take_messages-stop.ensures.took (g.S.Source.left c.args.source) c.args.keeper.now c.args.namer.now []
+    (taking_none g.D.Disk.state c.args.rows c.requires.rows.0 c.args.keeper.now c.requires.so_far g.S.Source.left c.args.source c.in-Ok.reader c.args.namer.now c.new-hand.result c.args.file c.requires.worker c.requires.file c.new-hand.ensures
+    (subst (λ v. IsNewReader v c.args.source c.in-Ok.reader) c.version.ensures c.in-Ok.ensures.fresh)) in
+    took_few g.D.Disk.state c.args.rows c.args.namer.now.version (log_from (g.S.Source.left c.args.source) g.S.Source.left g.S.Source.faults c.in-Ok.reader.source c.take_messages-stop.new.reader.source) c.args.keeper.now c.take_messages-stop.new.keeper
+    c.args.namer.now c.take_messages-stop.new.namer c.take_messages-stop.new.hand c.take_messages-stop.result took c.finish-outcome.new.keeper c.finish-outcome.result
+    _ _ (c.finish-outcome.ensures.outcome c.args.keeper.now took.taken took.stops) c.finish-outcome.new.namer refl c.finish-outcome.ensures.turns

@@ -8,7 +8,7 @@ use Rattle.ingest_workers.specs.Turns.{MayAsk, stop_in}
 use Rattle.ingest_workers.proofs.TurnsLemmas.{learn_message, learn_refused, learn_sealed, learn_then, stop_none, stop_same}
 use Rattle.std.specs.Prelude.{IsErrOf}
 use Rattle.column_store.specs.Columns.{IsFull}
-use Rattle.ingest_workers.proofs.DoingLemmas.{covering, doing_more, doing_sealed, each_err, has_room, may_seal, not_taken, passes_of}
+use Rattle.ingest_workers.proofs.DoingLemmas.{covering, doing_more, doing_sealed, each_err, full_found, has_room, may_seal, not_taken, passes_of}
 use Rattle.ingest_workers.proofs.NamingLemmas.{named_one, named_only, named_then}
 use Rattle.ingest_workers.specs.Namer.{types_pass, words_pass}
 use Rattle.ingest_workers.specs.Stop.{IsNameStop}
@@ -57,11 +57,16 @@ returns-in-Ok-clause-taken g c = λ start taken d.
     c.in-Ok.ensures.emptied c.in-Ok.ensures.sealed c.in-Ok.ensures.holds full
 
 pub returns-in-Err-clause-stopped : goal.returns-in-Err-clause-stopped
-returns-in-Err-clause-stopped g c = λ start taken d. (
-  covering g.D.Disk.state c.args.rows start c.args.keeper.now c.args.namer.now c.args.hand.now taken d c.seal.new.keeper c.seal.new.self c.args.line.now c.in-Err.ensures.refused
-      (c.in-Err.ensures.marks.first ∙ c.take_message.ensures.marks.first),
-  seal_cause g.D.Disk.state start c.args.keeper.now c.seal.new.keeper d.added.still.about_is c.in-Err.cause c.in-Err.ensures.causes,
-)
+returns-in-Err-clause-stopped g c = λ start taken d.
+    let full : IsFull c.take_message.new.hand.draft.columns c.args.rows = search rules in
+    let row = c.in_ok-take_message.ensures.pushed in record {
+      covering = covering g.D.Disk.state c.args.rows start c.args.keeper.now c.args.namer.now c.args.hand.now taken d c.seal.new.keeper c.seal.new.self c.args.line.now c.in-Err.ensures.refused
+          (c.in-Err.ensures.marks.first ∙ c.take_message.ensures.marks.first);
+      caused = seal_cause g.D.Disk.state start c.args.keeper.now c.seal.new.keeper d.added.still.about_is _ _ c.in-Err.cause
+          (λ end need same. full_found g.D.Disk.state c.args.rows start c.args.keeper.now c.args.namer.now c.args.hand.now taken d c.take_message.new.namer c.take_message.new.hand row.0 c.args.line.now
+          (passes_of c.args.namer.now c.take_message.new.namer c.take_message.ensures.version c.take_message.ensures.locks c.take_message.ensures.numbers) c.take_message.ensures.marks row.1 (c.in_ok-take_message.ensures.taken d.messages d.has) c.requires.message
+          c.seal.new.keeper c.seal.new.namer end need c.seal.ensures.namer c.in-Err.ensures.refused full (c.seal.ensures.full end need (cc (c.in-Err.is, same)))) c.in-Err.ensures.causes;
+    }
 
 pub returns-in_err-take_message-clause-names : goal.returns-in_err-take_message-clause-names
 returns-in_err-take_message-clause-names g c =

@@ -2,96 +2,68 @@ use Rattle.std.proofs.Common.{rules, ◌++◌, ◌∷◌, [], Ok, Err, arith, su
 use Rattle.ingest_workers.specs.Taking.{IsOneOf, Taking, Took}
 use Rattle.ingest_workers.proofs.TakingLemmas.{named_on, none_at, one_less, some_at, took_since}
 use Rattle.ingest_workers.specs.Causes.{log_from}
-use Rattle.std.proofs.Common.{◌≡◌, ap, refl}
-use Rattle.std.specs.Prelude.{Bool, None, Option, Result, Some}
-use Rattle.ingest_workers.specs.declared.stop.Stop.{Stop}
-use Rattle.ingest_workers.specs.Turns.{stop_in}
-use Rattle.ingest_workers.proofs.TurnsLemmas.{learn_on, learn_self, stop_none}
+use Rattle.std.proofs.Common.{refl}
 use Rattle.ingest_workers.proofs.NamingLemmas.{named_self}
 use Rattle.ingest_workers.proofs.taking.take_messages.Goals as goal
 
 pub take_next-requires-clause-taking : goal.take_next-requires-clause-taking
 take_next-requires-clause-taking g c =
-    let r = c.requires.taking in let now = c.messages.invariant.taking r.0 r.1 r.2 r.3 in (r.0, r.1, now.0, now.1)
+    let r = c.requires.taking in let now = c.messages.invariant.taking r.0 r.1 r.2 r.3 r.4 in (r.0, r.1, r.2, now.0, now.1)
 
 pub returns-in-Err-clause-names : goal.returns-in-Err-clause-names
-returns-in-Err-clause-names g c = λ bytes start taken t.
-    let now = c.messages.invariant.taking bytes start taken t in
-    named_on bytes c.args.namer.now c.messages.namer c.take_next.new.namer (c.messages.invariant.names bytes start taken t) (c.take_next.ensures.names bytes start now.0 now.1)
+returns-in-Err-clause-names g c = λ bytes start begin taken t.
+    let now = c.messages.invariant.taking bytes start begin taken t in
+    named_on bytes c.args.namer.now c.messages.namer c.take_next.new.namer (c.messages.invariant.names bytes start begin taken t) (c.take_next.ensures.names bytes start begin now.0 now.1)
 
 pub returns-in-Err-clause-took : goal.returns-in-Err-clause-took
-returns-in-Err-clause-took g c = λ bytes start taken t.
-    let now = c.messages.invariant.taking bytes start taken t in
+returns-in-Err-clause-took g c = λ bytes start begin taken t.
+    let now = c.messages.invariant.taking bytes start begin taken t in
     took_since bytes g.S.Source.left g.S.Source.faults c.args.reader.now.source c.messages.reader.source c.take_next.new.reader.source c.messages.invariant.steady
-    (λ log. Took g.D.Disk.state c.args.rows c.args.namer.now.version log start c.take_next.new.keeper c.take_next.new.namer c.take_next.new.hand (Err c.in-Err.stop))
-    (subst (λ v. Took g.D.Disk.state c.args.rows v (log_from bytes g.S.Source.left g.S.Source.faults c.messages.reader.source c.take_next.new.reader.source) start c.take_next.new.keeper c.take_next.new.namer c.take_next.new.hand (Err c.in-Err.stop))
-    (c.messages.invariant.names bytes start taken t).version (c.in-Err.ensures.stopped bytes start now.0 now.1))
+    (λ log. Took g.D.Disk.state c.args.rows c.args.namer.now.version log start c.take_next.new.keeper begin c.take_next.new.namer c.take_next.new.hand (Err c.in-Err.stop))
+    (subst (λ v. Took g.D.Disk.state c.args.rows v (log_from bytes g.S.Source.left g.S.Source.faults c.messages.reader.source c.take_next.new.reader.source) start c.take_next.new.keeper begin c.take_next.new.namer c.take_next.new.hand (Err c.in-Err.stop))
+    (c.messages.invariant.names bytes start begin taken t).version (c.in-Err.ensures.stopped bytes start begin now.0 now.1))
 
 pub returns-in-Ok-Some-clause-names : goal.returns-in-Ok-Some-clause-names
-returns-in-Ok-Some-clause-names g c = λ bytes start taken t.
-    let now = c.messages.invariant.taking bytes start taken t in
-    named_on bytes c.args.namer.now c.messages.namer c.take_next.new.namer (c.messages.invariant.names bytes start taken t) (c.take_next.ensures.names bytes start now.0 now.1)
+returns-in-Ok-Some-clause-names g c = λ bytes start begin taken t.
+    let now = c.messages.invariant.taking bytes start begin taken t in
+    named_on bytes c.args.namer.now c.messages.namer c.take_next.new.namer (c.messages.invariant.names bytes start begin taken t) (c.take_next.ensures.names bytes start begin now.0 now.1)
 
 pub returns-in-Ok-Some-clause-took : goal.returns-in-Ok-Some-clause-took
-returns-in-Ok-Some-clause-took g c = λ bytes start taken t.
-    let now = c.messages.invariant.taking bytes start taken t in
+returns-in-Ok-Some-clause-took g c = λ bytes start begin taken t.
+    let now = c.messages.invariant.taking bytes start begin taken t in
     took_since bytes g.S.Source.left g.S.Source.faults c.args.reader.now.source c.messages.reader.source c.take_next.new.reader.source c.messages.invariant.steady
-    (λ log. Took g.D.Disk.state c.args.rows c.args.namer.now.version log start c.take_next.new.keeper c.take_next.new.namer c.take_next.new.hand (Ok c.in-Ok-Some.ended))
-    (subst (λ v. Took g.D.Disk.state c.args.rows v (log_from bytes g.S.Source.left g.S.Source.faults c.messages.reader.source c.take_next.new.reader.source) start c.take_next.new.keeper c.take_next.new.namer c.take_next.new.hand (Ok c.in-Ok-Some.ended))
-    (c.messages.invariant.names bytes start taken t).version
-    (some_at c.in-Ok-Some.field-0 c.in-Ok-Some.ended (λ e. Took g.D.Disk.state c.args.rows c.messages.namer.version (log_from bytes g.S.Source.left g.S.Source.faults c.messages.reader.source c.take_next.new.reader.source) start c.take_next.new.keeper c.take_next.new.namer c.take_next.new.hand (Ok e))
-    (search rules) (c.in-Ok-Some.ensures.ended bytes start now.0 now.1)))
+    (λ log. Took g.D.Disk.state c.args.rows c.args.namer.now.version log start c.take_next.new.keeper begin c.take_next.new.namer c.take_next.new.hand (Ok c.in-Ok-Some.ended))
+    (subst (λ v. Took g.D.Disk.state c.args.rows v (log_from bytes g.S.Source.left g.S.Source.faults c.messages.reader.source c.take_next.new.reader.source) start c.take_next.new.keeper begin c.take_next.new.namer c.take_next.new.hand (Ok c.in-Ok-Some.ended))
+    (c.messages.invariant.names bytes start begin taken t).version
+    (some_at c.in-Ok-Some.field-0 c.in-Ok-Some.ended (λ e. Took g.D.Disk.state c.args.rows c.messages.namer.version (log_from bytes g.S.Source.left g.S.Source.faults c.messages.reader.source c.take_next.new.reader.source) start c.take_next.new.keeper begin c.take_next.new.namer c.take_next.new.hand (Ok e))
+    (search rules) (c.in-Ok-Some.ensures.ended bytes start begin now.0 now.1)))
 
 pub messages-smaller : goal.messages-smaller
 messages-smaller g c =
-    let r = c.requires.taking in let now = c.messages.invariant.taking r.0 r.1 r.2 r.3 in let text = c.take_next.new.reader.message in
-    one_less g.D.Disk.state g.S.Source.left c.args.rows r.0 r.1 c.messages.keeper c.take_next.new.keeper c.messages.namer c.take_next.new.namer c.messages.hand c.take_next.new.hand c.messages.reader c.take_next.new.reader now.0 text now.1
-    (none_at c.in-Ok-None.field-0 (Taking g.D.Disk.state g.S.Source.left c.args.rows r.0 r.1 c.take_next.new.keeper c.take_next.new.namer c.take_next.new.hand c.take_next.new.reader (now.0 ++ text ∷ []))
-    (search rules) (c.in-Ok-None.ensures.taken r.0 r.1 now.0 now.1))
+    let r = c.requires.taking in let now = c.messages.invariant.taking r.0 r.1 r.2 r.3 r.4 in let text = c.take_next.new.reader.message in
+    one_less g.D.Disk.state g.S.Source.left c.args.rows r.0 r.1 c.messages.keeper c.take_next.new.keeper r.2 c.messages.namer c.take_next.new.namer c.messages.hand c.take_next.new.hand c.messages.reader c.take_next.new.reader now.0 text now.1
+    (none_at c.in-Ok-None.field-0 (Taking g.D.Disk.state g.S.Source.left c.args.rows r.0 r.1 c.take_next.new.keeper r.2 c.take_next.new.namer c.take_next.new.hand c.take_next.new.reader (now.0 ++ text ∷ []))
+    (search rules) (c.in-Ok-None.ensures.taken r.0 r.1 r.2 now.0 now.1))
 
 pub messages-preserved : goal.messages-preserved
 messages-preserved g c = record {
   steady = c.in-Ok-None.ensures.steady ∙ c.messages.invariant.steady;
   source = record { named = c.take_next.ensures.source.named ∙ c.messages.invariant.source.named; later = omega (arith, c.take_next.ensures.source.later, c.messages.invariant.source.later) };
-  names = λ bytes start taken t.
-      let now = c.messages.invariant.taking bytes start taken t in
-      named_on bytes c.args.namer.now c.messages.namer c.take_next.new.namer (c.messages.invariant.names bytes start taken t) (c.take_next.ensures.names bytes start now.0 now.1);
-  turns = λ bytes start taken t.
-      let now = c.messages.invariant.taking bytes start taken t in
-      let went : c.take_next.result ≡ Ok c.in-Ok-None.field-0 = search rules in
-      learn_on g.D.Disk.state bytes None (stop_in c.take_next.result) c.args.keeper.now c.messages.keeper c.take_next.new.keeper c.args.namer.now c.messages.namer c.take_next.new.namer (stop_none c.take_next.result c.in-Ok-None.field-0 went)
-      (c.messages.invariant.names bytes start taken t).version (c.messages.invariant.turns bytes start taken t) (c.take_next.ensures.turns bytes start now.0 now.1);
-  taking = λ bytes start taken t.
-      let now = c.messages.invariant.taking bytes start taken t in let text = c.take_next.new.reader.message in (
+  names = λ bytes start begin taken t.
+      let now = c.messages.invariant.taking bytes start begin taken t in
+      named_on bytes c.args.namer.now c.messages.namer c.take_next.new.namer (c.messages.invariant.names bytes start begin taken t) (c.take_next.ensures.names bytes start begin now.0 now.1);
+  taking = λ bytes start begin taken t.
+      let now = c.messages.invariant.taking bytes start begin taken t in let text = c.take_next.new.reader.message in (
         now.0 ++ text ∷ [],
-        none_at c.in-Ok-None.field-0 (Taking g.D.Disk.state g.S.Source.left c.args.rows bytes start c.take_next.new.keeper c.take_next.new.namer c.take_next.new.hand c.take_next.new.reader (now.0 ++ text ∷ []))
-            (search rules) (c.in-Ok-None.ensures.taken bytes start now.0 now.1),
+        none_at c.in-Ok-None.field-0 (Taking g.D.Disk.state g.S.Source.left c.args.rows bytes start c.take_next.new.keeper begin c.take_next.new.namer c.take_next.new.hand c.take_next.new.reader (now.0 ++ text ∷ []))
+            (search rules) (c.in-Ok-None.ensures.taken bytes start begin now.0 now.1),
       );
 }
-
--- ---- turns
-
-pub returns-in-Err-clause-turns : goal.returns-in-Err-clause-turns
-returns-in-Err-clause-turns g c = λ bytes start taken t.
-    let now = c.messages.invariant.taking bytes start taken t in
-    let went : c.take_next.result ≡ Err c.in-Err.stop = search rules in
-    learn_on g.D.Disk.state bytes (Some c.in-Err.stop) (stop_in c.take_next.result) c.args.keeper.now c.messages.keeper c.take_next.new.keeper c.args.namer.now c.messages.namer c.take_next.new.namer
-    (ap (λ (r : Result (Option Bool) Stop). stop_in r) went)
-    (c.messages.invariant.names bytes start taken t).version (c.messages.invariant.turns bytes start taken t) (c.take_next.ensures.turns bytes start now.0 now.1)
-
-pub returns-in-Ok-Some-clause-turns : goal.returns-in-Ok-Some-clause-turns
-returns-in-Ok-Some-clause-turns g c = λ bytes start taken t.
-    let now = c.messages.invariant.taking bytes start taken t in
-    let went : c.take_next.result ≡ Ok c.in-Ok-Some.field-0 = search rules in
-    learn_on g.D.Disk.state bytes None (stop_in c.take_next.result) c.args.keeper.now c.messages.keeper c.take_next.new.keeper c.args.namer.now c.messages.namer c.take_next.new.namer
-    (stop_none c.take_next.result c.in-Ok-Some.field-0 went)
-    (c.messages.invariant.names bytes start taken t).version (c.messages.invariant.turns bytes start taken t) (c.take_next.ensures.turns bytes start now.0 now.1)
 
 pub messages-init : goal.messages-init
 messages-init g c = record {
   source = record { named = refl; later = omega arith };
   steady = refl;
-  names = λ bytes start taken t. named_self (IsOneOf c.args.namer.now.version bytes) c.args.namer.now;
-  turns = λ bytes start taken t. learn_self g.D.Disk.state (IsOneOf c.args.namer.now.version bytes) None c.args.keeper.now c.args.namer.now;
-  taking = λ bytes start taken t. (taken, t);
+  names = λ bytes start begin taken t. named_self (IsOneOf c.args.namer.now.version bytes) c.args.namer.now;
+  taking = λ bytes start begin taken t. (taken, t);
 }
