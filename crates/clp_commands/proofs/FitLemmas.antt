@@ -1,6 +1,6 @@
 -- Segments that did not fit.
 use Rattle.std.proofs.Common.{◌≡◌, ◌+◌, ◌<◌, ◌++◌, ◌∷◌, [], refl, sym, ap, ap₂, ◌∙◌, subst, ⊎_elim, ℕ, true, List, length, Option, Some, arith}
-use Rattle.std.specs.Prelude.{IfSome, All, is_some, slice_get}
+use Rattle.std.specs.Prelude.{IfSome, is_some, slice_get}
 use Rattle.std.proofs.lemmas.List.Elements.{All-weaker}
 use Rattle.std.proofs.lemmas.Option.{IfSome_then}
 use mathlib.Core.List.{IsPrefix}
@@ -20,7 +20,7 @@ use Rattle.disk_seal.specs.Told.{IfTold, journal_in}
 use Rattle.disk_seal.specs.View.{StoreView, journal_of, state_by}
 use Rattle.ingest_workers.specs.declared.job.Job.{Job}
 use Rattle.ingest_workers.specs.Full.{AreFirstOf, IsTextOf}
-use Rattle.ingest_workers.specs.Ingested.{HadNoRoomOver, HasTextsBehind, IsLeftBy, WereGiven as WereGivenByJobs, book_texts, plan_of, told_entries}
+use Rattle.ingest_workers.specs.Ingested.{HadNoRoomOver, IsLeftBy, WereGiven as WereGivenByJobs, plan_of, told_entries}
 use Rattle.ingest_workers.specs.NoRoom.{HadNoRoom, IsBetween}
 use Rattle.ingest_workers.specs.Worker.{IsGiven as IsGivenByJobs}
 use Rattle.ingest_workers.proofs.NoRoomLemmas.{no_room_on}

@@ -1,5 +1,5 @@
 -- Why files are not whole, from the start of the call, and as it is told.
-use Rattle.std.proofs.Common.{◌≡◌, ◌<◌, ◌≤◌, ◌+◌, ◌++◌, ◌∷◌, [], ◌⊎◌, refl, sym, ap, ◌∙◌, subst, ℕ, List, length, map, append-nil, Option, Some, None, arith}
+use Rattle.std.proofs.Common.{◌≡◌, ◌≤◌, ◌++◌, ◌∷◌, [], ◌⊎◌, refl, sym, ap, ◌∙◌, subst, ℕ, List, length, map, append-nil, Option, Some, None, arith}
 use Rattle.std.specs.Prelude.{All}
 use Rattle.std.specs.List.{Contains}
 use Rattle.row_codec.specs.declared.namer.Which.{Which}
@@ -11,7 +11,7 @@ use Rattle.disk_seal.specs.Told.{IfTold}
 use Rattle.disk_seal.specs.WordsIn.{words_of}
 use Rattle.ingest_workers.specs.Causes.{limit_of}
 use Rattle.ingest_workers.specs.Full.{IsTextOf, ThereAreMore}
-use Rattle.ingest_workers.specs.Ingested.{book_texts, header_limits, told_entries}
+use Rattle.ingest_workers.specs.Ingested.{book_texts, header_limits}
 use Rattle.ingest_workers.proofs.ClosingLemmas.{types_joined, words_joined}
 use Rattle.std.proofs.lemmas.List.Elements.{All-weaker}
 use Rattle.log_seams.specs.Disk.{DiskState}

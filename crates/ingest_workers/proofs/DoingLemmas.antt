@@ -30,7 +30,7 @@ use Rattle.ingest_workers.specs.Full.{WasFullFor, books_by}
 use Rattle.ingest_workers.specs.Stop.{IsNameStop}
 use Rattle.ingest_workers.proofs.CauseLemmas.{full_cause, lost_cause}
 use Rattle.ingest_workers.proofs.MaySealLemmas.{nothing_sealed}
-use Rattle.ingest_workers.specs.Doing.{Covering, Doing, NotSealed}
+use Rattle.ingest_workers.specs.Doing.{Covering, Doing}
 use Rattle.ingest_workers.specs.Hand.{HasInHand, HasRoom, SameMarks, SameRows}
 use Rattle.ingest_workers.specs.Journal.{FrontHolds, HasAdded, Holds, WhereTold}
 use Rattle.ingest_workers.specs.MaySeal.{HasNoRoomFor, IsEmptied, IsWorker, MaySeal}

@@ -23,21 +23,21 @@ use Rattle.ingest_workers.specs.Parts.{IsCut, IsOpen, Part}
 abbrev pub part_in : Draft → List (List ℕ) → Part
 part_in d messages = record { rows = d.columns.rows; messages = messages }
 
--- The next segment of a file did not fit behind some entries of a journal: with its record, and those of the texts of both books that these entries do not
--- have, the archive goes past its limit of length. `was` holds of these entries; `has` of the texts that a book had then; `follow` of the file's messages with
--- those of the segment, which are the rows' in order, and end where a segment is cut or before.
+-- The next segment of a file, behind these messages of it, did not fit: the archive ended behind some entries of a journal, and goes past its limit of length
+-- with the record of the segment and those of the texts of both books that these entries do not have. `was` holds of the entries, `has` of all texts that a book
+-- had then, and `follow` of the file's messages up to those of the segment.
 pub record HadNoRoom (h : Header) (limit version file : ℕ) (was : List JournalEntry → Type 0) (has : List JournalEntry → Which → List (List ℕ) → Type 0) (follow : List (List ℕ) → Type 0) (sealed : List (List ℕ)) (end need : ℕ) : Type 0 where
   -- the archive's end
   pub front : List JournalEntry
   pub was_so : was front
   pub ends : end ≡ end_of h front
   pub past : h.length_limit < end + need
-  -- the texts of the two books
+  -- all texts of the two books
   pub types : List (List ℕ)
   pub words : List (List ℕ)
   pub has_types : has front Types types
   pub has_words : has front Words words
-  -- the segment
+  -- the segment: its rows are the encodings of its messages by these texts, and it is cut behind them, or is the rest
   pub draft : Draft
   pub messages : List (List ℕ)
   pub file_is : draft.file ≡ file
