@@ -21,7 +21,8 @@ use Rattle.disk_seal.specs.View.{StoreView}
 use Rattle.disk_seal.proofs.ToldLemmas.{told_map}
 use Rattle.row_codec.specs.declared.namer.Which.{Which}
 use Rattle.row_codec.specs.declared.namer.Which.TheVariants.{Types as WhichTypes, Words as WhichWords}
-use Rattle.ingest_workers.proofs.FullLemmas.{more_wider}
+use Rattle.ingest_workers.specs.Full.{IsNextOf, IsTextOf}
+use Rattle.ingest_workers.proofs.FullLemmas.{full_by_wider}
 use Rattle.clp_commands.proofs.ContentLemmas.{AreJobsOf, given_of_names}
 use Rattle.ingest_workers.specs.declared.job.Job.{Job}
 use Rattle.ingest_workers.specs.declared.outcome.Cause.{Cause}
@@ -86,7 +87,7 @@ module _ {S : Type 0} (left name : S → Option (List ℕ)) (faults : S → ℕ)
     abbrev into : Target
     into = into_journal (state_of j) rows first names
 
-    abbrev full : Which → ℕ → Type 0
+    abbrev full : Option (List ℕ) → List (List ℕ) → Which → ℕ → Type 0
     full = IsFullByJobs (left_in left) (plan_of rows j) js j
 
     abbrev has_texts : List JournalEntry → Which → List (List ℕ) → Type 0
@@ -105,6 +106,11 @@ module _ {S : Type 0} (left name : S → Option (List ℕ)) (faults : S → ℕ)
     of_given WhichWords t (inl there) = inl there
     of_given WhichWords t (inr given) = inr (given.0, given_of_names (left_in left) logs.content j.header.version names first js of given.0 given.1, given.2)
 
+    -- a text of the log's next message is one of the next message of the named file
+    next_in : (bytes : Option (List ℕ)) (sealed : List (List ℕ)) (book : Which) (t : List ℕ) → bytes ≡ logs.content c.name → IsTextOf j.header.version (IsNextOf j.header.version bytes sealed) book t
+        → IsTextOf j.header.version (IsNextOf j.header.version (logs.content c.name) sealed) book t
+    next_in bytes sealed book t is next = subst (λ (o : Option (List ℕ)). IsTextOf j.header.version (IsNextOf j.header.version o sealed) book t) is next
+
     -- the cause of a job
     job_cause : (file : ℕ) (log : Log) (sealed : List (List ℕ)) (o : Option Cause) → HasJobCause (grounds_over full has_texts (plan_of rows j) file log.bytes j after) log j.header.version sealed o
         → ((end need : ℕ) → HadNoRoomOver has_texts (plan_of rows j) file log.bytes j after sealed end need → CauseIn (Some (Refusal.ArchiveFull end need))) → is_some o ≡ not c.whole → c.messages ≡ length sealed → log.bytes ≡ logs.content c.name
@@ -118,7 +124,8 @@ module _ {S : Type 0} (left name : S → Option (List ℕ)) (faults : S → ℕ)
     job_cause file log sealed (Some (Cause.LineTooLong line)) has fits whole count bytes up =
         subst (λ (o : Option (List ℕ)). IfSome o (λ b. IsLong b line)) bytes (IfSome_then log.bytes has.2 (λ b before. long_behind j.header.version sealed b line has.1 before))
     job_cause file log sealed (Some Cause.TooManyLines) has fits whole count bytes up = (count ∙ has.1, subst (λ (o : Option (List ℕ)). HasMoreThan most_messages j.header.version o) bytes has.2)
-    job_cause file log sealed (Some (Cause.Full book n)) has fits whole count bytes up = told_map (is_some (state_of j).disk.seen) (λ is. (is.0, more_wider _ _ (of_given book) n is.1)) has.1
+    job_cause file log sealed (Some (Cause.Full book n)) has fits whole count bytes up = told_map (is_some (state_of j).disk.seen)
+        (λ is. (is.0, record { sealed = sealed; count = count; holds = full_by_wider _ _ _ _ (of_given book) (λ t next. next_in log.bytes sealed book t bytes next) n is.1 })) has.1
     job_cause file log sealed (Some (Cause.DiskFault opened now)) has fits whole count bytes up = subst (λ n. Rose n (d.state after.disk.now).faults) has.0 has.1
     job_cause file log sealed (Some Cause.OutOfMemory) has fits whole count bytes up = tt
     job_cause file log sealed (Some (Cause.ArchiveFull end need)) has fits whole count bytes up = fits end need has

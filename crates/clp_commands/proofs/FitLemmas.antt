@@ -48,10 +48,12 @@ module _ (content : List ℕ → Option (List ℕ)) (rows first : ℕ) (names : 
   fit_later fit = record {
     place = fit.place;
     at = fit.at;
-    sealed = fit.sealed;
-    count = fit.count;
-    room = no_room_on h rows h.version (first + fit.place) (StandFirst h named mid) (StandFirst h named new) (WereGiven content h.version names) (WereGiven content h.version names) (AreFirstOf h.version (content c.name)) (AreFirstOf h.version (content c.name)) fit.sealed end need
-        (λ es stand. (stand.0, subst (Begins h es) (sym same) stand.1)) (λ es book texts has. has) (λ ms begin. begin) fit.room;
+    room = record {
+      sealed = fit.room.sealed;
+      count = fit.room.count;
+      holds = no_room_on h rows h.version (first + fit.place) (StandFirst h named mid) (StandFirst h named new) (WereGiven content h.version names) (WereGiven content h.version names) (AreFirstOf h.version (content c.name)) (AreFirstOf h.version (content c.name)) fit.room.sealed end need
+          (λ es stand. (stand.0, subst (Begins h es) (sym same) stand.1)) (λ es book texts has. has) (λ ms begin. begin) fit.room.holds;
+    };
   }
 
 -- of the archive that the files are taken into
@@ -111,11 +113,13 @@ module _ {S D : Type 0} {d : DiskGhosts D} (left : S → Option (List ℕ)) (con
         let fit : DidNotFit content rows first names j.header (told_entries (state_of j)) (d.state after.disk.now) c end need = record {
           place = place;
           at = named;
-          sealed = sealed;
-          count = count;
-          room = subst (λ (file : ℕ). HadNoRoom j.header rows j.header.version file (StandFirst j.header (told_entries (state_of j)) (d.state after.disk.now)) (WereGiven content j.header.version names) (AreFirstOf j.header.version (content c.name)) sealed end need) (of.file place job at)
-              (no_room_on j.header rows j.header.version job.file (IsBetween (told_entries (state_of j)) (told_entries (state_of after))) (StandFirst j.header (told_entries (state_of j)) (d.state after.disk.now))
-              (WereGivenByJobs left (plan_of rows j) js) (WereGiven content j.header.version names) (AreFirstOf j.header.version bytes) (AreFirstOf j.header.version (content c.name)) sealed end need
-              (λ es between. (between.0, begins_disk j after law store left_by told es between.1)) were_given (λ ms begin. subst (λ (b : Option (List ℕ)). AreFirstOf j.header.version b ms) log begin) room);
+          room = record {
+            sealed = sealed;
+            count = count;
+            holds = subst (λ (file : ℕ). HadNoRoom j.header rows j.header.version file (StandFirst j.header (told_entries (state_of j)) (d.state after.disk.now)) (WereGiven content j.header.version names) (AreFirstOf j.header.version (content c.name)) sealed end need) (of.file place job at)
+                (no_room_on j.header rows j.header.version job.file (IsBetween (told_entries (state_of j)) (told_entries (state_of after))) (StandFirst j.header (told_entries (state_of j)) (d.state after.disk.now))
+                (WereGivenByJobs left (plan_of rows j) js) (WereGiven content j.header.version names) (AreFirstOf j.header.version bytes) (AreFirstOf j.header.version (content c.name)) sealed end need
+                (λ es between. (between.0, begins_disk j after law store left_by told es between.1)) were_given (λ ms begin. subst (λ (b : Option (List ℕ)). AreFirstOf j.header.version b ms) log begin) room);
+          };
         } in fit),
   )

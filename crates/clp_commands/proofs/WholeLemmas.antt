@@ -10,7 +10,7 @@ use Rattle.archive_meaning.specs.Spelled.{types_of}
 use Rattle.disk_seal.specs.Told.{IfTold}
 use Rattle.disk_seal.specs.WordsIn.{words_of}
 use Rattle.ingest_workers.specs.Causes.{limit_of}
-use Rattle.ingest_workers.specs.Full.{IsTextOf, ThereAreMore}
+use Rattle.ingest_workers.specs.Full.{IsFullBy, IsNextOf, IsTextOf}
 use Rattle.ingest_workers.specs.Ingested.{book_texts, header_limits}
 use Rattle.ingest_workers.proofs.ClosingLemmas.{types_joined, words_joined}
 use Rattle.std.proofs.lemmas.List.Elements.{All-weaker}
@@ -19,7 +19,7 @@ use Rattle.log_seams.proofs.MomentLemmas.{rose}
 use Rattle.record_format.specs.declared.header.Header.{Header}
 use Rattle.disk_journal.specs.State.{JournalState}
 use Rattle.clp_commands.specs.Around.{Around}
-use Rattle.clp_commands.specs.Ingested.{Came, CameOfFile, DidNotFit, FromArchive, HasFileCause, HasMoreThan, IsFullByGiven, IsGiven}
+use Rattle.clp_commands.specs.Ingested.{Came, CameOfFile, DidNotFit, FromArchive, HasFileCause, HasMoreThan, IsFullByGiven, IsGiven, OfTaken}
 use Rattle.clp_commands.specs.StepsCauses.{CameIn, HasCauseIn, HaveFileCauses, IsTarget, Logs, Target, into_journal, logs_of}
 use Rattle.clp_commands.specs.Leaves.{AddsNamesTo, HasNames}
 use Rattle.clp_commands.specs.Printing.{most_messages}
@@ -77,14 +77,17 @@ module _ (seen : Around) (old new : DiskState) (into : Target) (told : FromArchi
   from_header : (P : Header → Type 0) → P into.header → FromArchive old (λ h before bytes stood. P h)
   from_header P p = from_archive old old (λ h before bytes stood. IsTarget into h before (length stood.legal.held.names)) (λ h before bytes stood. P h) refl (λ c image. image) (λ h before bytes stood only is. subst P is.header p) told
 
-  full_of : (h : Header) (before : List JournalEntry) (held : ℕ) (book : Which) (count : ℕ) → IsTarget into h before held → IsFullByGiven seen.content into.names into.header into.entries book count → IsFullByGiven seen.content into.names h before book count
-  full_of h before held book count is full =
-      subst (λ (x : Header). (count ≡ limit_of (header_limits x) book) × ThereAreMore (λ t. Contains (book_texts book before) t ⊎ IsTextOf x.version (IsGiven seen.content x.version into.names) book t) count) is.header
-      (subst (λ (texts : List (List ℕ)). (count ≡ limit_of (header_limits into.header) book) × ThereAreMore (λ t. Contains texts t ⊎ IsTextOf into.header.version (IsGiven seen.content into.header.version into.names) book t) count) (texts_named into.names into.entries before is.entries book) full)
+  full_of : (h : Header) (before : List JournalEntry) (held : ℕ) (c : Came) (book : Which) (count : ℕ) → IsTarget into h before held → IsFullByGiven seen.content into.names into.header into.entries c book count → IsFullByGiven seen.content into.names h before c book count
+  full_of h before held c book count is full = subst (λ (x : Header). FullBy x (book_texts book before)) is.header (subst (FullBy into.header) (texts_named into.names into.entries before is.entries book) full)
+    where
+      -- by a book's texts in the journal
+      FullBy : Header → List (List ℕ) → Type 0
+      FullBy x texts = (count ≡ limit_of (header_limits x) book)
+          × OfTaken c (λ sealed. IsFullBy (λ t. Contains texts t ⊎ IsTextOf x.version (IsGiven seen.content x.version into.names) book t) (IsTextOf x.version (IsNextOf x.version (seen.content c.name) sealed) book) count)
 
-  from_full : (book : Which) (count : ℕ) → IfTold into.told (IsFullByGiven seen.content into.names into.header into.entries book count) → FromArchive old (λ h before bytes stood. IsFullByGiven seen.content into.names h before book count)
-  from_full book count cause = from_archive old old (λ h before bytes stood. IsTarget into h before (length stood.legal.held.names)) (λ h before bytes stood. IsFullByGiven seen.content into.names h before book count) refl (λ c image. image)
-      (λ h before bytes stood only is. full_of h before (length stood.legal.held.names) book count is (of_told into.told is.told cause)) told
+  from_full : (c : Came) (book : Which) (count : ℕ) → IfTold into.told (IsFullByGiven seen.content into.names into.header into.entries c book count) → FromArchive old (λ h before bytes stood. IsFullByGiven seen.content into.names h before c book count)
+  from_full c book count cause = from_archive old old (λ h before bytes stood. IsTarget into h before (length stood.legal.held.names)) (λ h before bytes stood. IsFullByGiven seen.content into.names h before c book count) refl (λ c image. image)
+      (λ h before bytes stood only is. full_of h before (length stood.legal.held.names) c book count is (of_told into.told is.told cause)) told
 
   from_fit : (c : Came) (end need : ℕ) → IfTold into.told (DidNotFit seen.content into.rows into.first into.names into.header into.entries new c end need)
       → FromArchive old (λ h before bytes stood. DidNotFit seen.content into.rows (length stood.legal.held.names) into.names h (before ++ Files into.names ∷ []) new c end need)
@@ -98,7 +101,7 @@ module _ (seen : Around) (old new : DiskState) (into : Target) (told : FromArchi
   file_cause c (Some Refusal.ReadFault) cause = cause
   file_cause c (Some (Refusal.LineTooLong line)) cause = cause
   file_cause c (Some Refusal.TooManyLines) cause = (cause.0, from_header (λ h. HasMoreThan most_messages h.version (seen.content c.name)) cause.1)
-  file_cause c (Some (Refusal.Full book count)) cause = from_full book count cause
+  file_cause c (Some (Refusal.Full book count)) cause = from_full c book count cause
   file_cause c (Some (Refusal.ArchiveFull end need)) cause = from_fit c end need cause.1
   file_cause c (Some Refusal.DiskFault) cause = cause
   file_cause c (Some Refusal.OutOfMemory) cause = cause

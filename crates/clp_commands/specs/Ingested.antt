@@ -17,7 +17,7 @@ use Rattle.archive_open.specs.Shown.{RefusedAt}
 use Rattle.disk_seal.specs.Registered.{files_size}
 use Rattle.row_codec.specs.declared.namer.Which.{Which}
 use Rattle.ingest_workers.specs.Causes.{limit_of}
-use Rattle.ingest_workers.specs.Full.{AreFirstOf, IsTextOf, ThereAreMore}
+use Rattle.ingest_workers.specs.Full.{AreFirstOf, IsFullBy, IsNextOf, IsTextOf}
 use Rattle.ingest_workers.specs.Ingested.{HasTextsBehind, book_texts, header_limits}
 use Rattle.ingest_workers.specs.NoRoom.{HadNoRoom}
 use Rattle.message_reader.specs.Versions.{MessagesOf}
@@ -121,9 +121,18 @@ HasMoreThan count version told =
 abbrev pub IsThereOrGiven : (List ℕ → Option (List ℕ)) → ℕ → List (List ℕ) → List JournalEntry → Which → List ℕ → Type 0
 IsThereOrGiven content version names es book text = Contains (book_texts book es) text ⊎ IsTextOf version (IsGiven content version names) book text
 
--- a book may have so many texts, and the journal and these files have more
-abbrev pub IsFullByGiven : (List ℕ → Option (List ℕ)) → List (List ℕ) → Header → List JournalEntry → Which → ℕ → Type 0
-IsFullByGiven content names h es book count = (count ≡ limit_of (header_limits h) book) × ThereAreMore (IsThereOrGiven content h.version names es book) count
+-- this holds of the messages of a file that were taken in
+pub record OfTaken (c : Came) (P : List (List ℕ) → Type 0) : Type 0 where
+  pub sealed : List (List ℕ)
+  pub count : c.messages ≡ length sealed
+  pub holds : P sealed
+
+-- A book may have so many texts, and there are as many of the journal and of these files. One more is of the encoding of the file's next message, behind those
+-- that were taken in.
+abbrev pub IsFullByGiven : (List ℕ → Option (List ℕ)) → List (List ℕ) → Header → List JournalEntry → Came → Which → ℕ → Type 0
+IsFullByGiven content names h es c book count =
+    (count ≡ limit_of (header_limits h) book)
+    × OfTaken c (λ sealed. IsFullBy (IsThereOrGiven content h.version names es book) (IsTextOf h.version (IsNextOf h.version (content c.name) sealed) book) count)
 
 -- The texts of a book are those of the entries, and others of the encodings of messages of these files.
 abbrev pub WereGiven : (List ℕ → Option (List ℕ)) → ℕ → List (List ℕ) → List JournalEntry → Which → List (List ℕ) → Type 0
@@ -138,9 +147,7 @@ StandFirst h named new front = IsPrefix named front × IfSome new.seen (λ bytes
 pub record DidNotFit (content : List ℕ → Option (List ℕ)) (rows first : ℕ) (names : List (List ℕ)) (h : Header) (named : List JournalEntry) (new : DiskState) (c : Came) (end need : ℕ) : Type 0 where
   pub place : ℕ
   pub at : slice_get names place ≡ Some c.name
-  pub sealed : List (List ℕ)
-  pub count : c.messages ≡ length sealed
-  pub room : HadNoRoom h rows h.version (first + place) (StandFirst h named new) (WereGiven content h.version names) (AreFirstOf h.version (content c.name)) sealed end need
+  pub room : OfTaken c (λ sealed. HadNoRoom h rows h.version (first + place) (StandFirst h named new) (WereGiven content h.version names) (AreFirstOf h.version (content c.name)) sealed end need)
 
 -- What a refusal that came of a file rests on, where these files were given, in segments of at most so many rows. Want of memory is free.
 abbrev pub HasFileCause : ℕ → List (List ℕ) → Around → DiskState → DiskState → Came → Option Refusal → Type 0
@@ -150,7 +157,7 @@ HasFileCause rows names seen old new c (Some ReadFault) = RoseIn (seen.reads c.n
 HasFileCause rows names seen old new c (Some (LineTooLong line)) = IfSome (seen.content c.name) (λ bytes. IsLong bytes line)
 HasFileCause rows names seen old new c (Some TooManyLines) =
     (c.messages ≡ most_messages) × FromArchive old (λ h before bytes stood. HasMoreThan most_messages h.version (seen.content c.name))
-HasFileCause rows names seen old new c (Some (Full book count)) = FromArchive old (λ h before bytes stood. IsFullByGiven seen.content names h before book count)
+HasFileCause rows names seen old new c (Some (Full book count)) = FromArchive old (λ h before bytes stood. IsFullByGiven seen.content names h before c book count)
 HasFileCause rows names seen old new c (Some (ArchiveFull end need)) =
     FromArchive old (λ h before bytes stood. DidNotFit seen.content rows (length stood.legal.held.names) names h (before ++ Files names ∷ []) new c end need)
 HasFileCause rows names seen old new c (Some DiskFault) = Rose old.faults new.faults

@@ -58,7 +58,7 @@ HasCauseIn logs into old new c (Some Refusal.OpenFault) = RoseIn (logs.opens c.n
 HasCauseIn logs into old new c (Some Refusal.ReadFault) = RoseIn (logs.reads c.name)
 HasCauseIn logs into old new c (Some (Refusal.LineTooLong line)) = IfSome (logs.content c.name) (λ bytes. IsLong bytes line)
 HasCauseIn logs into old new c (Some Refusal.TooManyLines) = (c.messages ≡ most_messages) × HasMoreThan most_messages into.header.version (logs.content c.name)
-HasCauseIn logs into old new c (Some (Refusal.Full book count)) = IfTold into.told (IsFullByGiven logs.content into.names into.header into.entries book count)
+HasCauseIn logs into old new c (Some (Refusal.Full book count)) = IfTold into.told (IsFullByGiven logs.content into.names into.header into.entries c book count)
 HasCauseIn logs into old new c (Some (Refusal.ArchiveFull end need)) =
     (into.header.length_limit < end + need) × IfTold into.told (DidNotFit logs.content into.rows into.first into.names into.header into.entries new c end need)
 HasCauseIn logs into old new c (Some Refusal.DiskFault) = Rose old.faults new.faults

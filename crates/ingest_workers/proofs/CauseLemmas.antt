@@ -10,7 +10,7 @@ use Rattle.ingest_workers.specs.declared.outcome.Cause.{Cause}
 use Rattle.ingest_workers.specs.declared.outcome.Cause.TheVariants.{ReadFault, LineTooLong, TooManyLines, Full, DiskFault, ArchiveFull, OutOfMemory}
 use Rattle.ingest_workers.specs.declared.stop.Stop.TheVariants.{Part as PartStop, Lost}
 use Rattle.ingest_workers.specs.Causes.{Grounds, Log, HasJobCause, HasLogCause, HasSealCause, IsFullCause, NoneFailed, grounds_of}
-use Rattle.ingest_workers.specs.Full.{Books, IsOneOf, WasFullFor}
+use Rattle.ingest_workers.specs.Full.{Books, WasFullBehind}
 use Rattle.ingest_workers.specs.Stop.{IsNameStop, stop_by}
 
 -- ---- a message that is not named
@@ -39,14 +39,15 @@ module _ {D : Type 0} (state : D → DiskState) (start p : KeeperPass D) where
   lost_cause room (ArchiveFull end need) named = absurd named
 
 -- no read failed before it
-pub name_cause : (fills full : Which → ℕ → Type 0) → ((book : Which) (count : ℕ) → fills book count → full book count) → (log : Log) (version : ℕ) (taken : List (List ℕ)) (cause : Cause) → NoneFailed log → IsFullCause fills cause → HasLogCause full log version taken cause
-name_cause fills full f log version taken ReadFault steady is = absurd is
-name_cause fills full f log version taken (LineTooLong line) steady is = absurd is
-name_cause fills full f log version taken TooManyLines steady is = absurd is
-name_cause fills full f log version taken (Full book count) steady is = (steady, f book count is)
-name_cause fills full f log version taken (DiskFault opened now) steady is = absurd is
-name_cause fills full f log version taken OutOfMemory steady is = absurd is
-name_cause fills full f log version taken (ArchiveFull end need) steady is = absurd is
+pub name_cause : (fills : Which → ℕ → Type 0) (full : List (List ℕ) → Which → ℕ → Type 0) (log : Log) (version : ℕ) (taken : List (List ℕ)) → ((book : Which) (count : ℕ) → fills book count → full taken book count) → (cause : Cause) → NoneFailed log → IsFullCause fills cause
+    → HasLogCause full log version taken cause
+name_cause fills full log version taken f ReadFault steady is = absurd is
+name_cause fills full log version taken f (LineTooLong line) steady is = absurd is
+name_cause fills full log version taken f TooManyLines steady is = absurd is
+name_cause fills full log version taken f (Full book count) steady is = (steady, f book count is)
+name_cause fills full log version taken f (DiskFault opened now) steady is = absurd is
+name_cause fills full log version taken f OutOfMemory steady is = absurd is
+name_cause fills full log version taken f (ArchiveFull end need) steady is = absurd is
 
 -- ---- a segment that is not sealed
 
@@ -76,7 +77,7 @@ module _ {D : Type 0} (state : D → DiskState) (limit : ℕ) (books : Books) (s
   of_seal room found OutOfMemory has = tt
   of_seal room found (ArchiveFull end need) has = found end need has
 
-  pub of_log : (cause : Cause) → HasLogCause (WasFullFor version (IsOneOf version log.bytes) books) log version sealed cause → HasJobCause grounds log version sealed (Some cause)
+  pub of_log : (cause : Cause) → HasLogCause (WasFullBehind version books log.bytes) log version sealed cause → HasJobCause grounds log version sealed (Some cause)
   of_log ReadFault has = has
   of_log (LineTooLong line) has = has
   of_log TooManyLines has = has
@@ -87,7 +88,7 @@ module _ {D : Type 0} (state : D → DiskState) (limit : ℕ) (books : Books) (s
 
 -- a cause says the same on other grounds
 pub cause_on : (g h : Grounds) (log : Log) (version : ℕ) (sealed : List (List ℕ)) (o : Option Cause)
-    → ((book : Which) (count : ℕ) → g.full book count → h.full book count) → ((end need : ℕ) → g.no_room sealed end need → h.no_room sealed end need) → ((opened now : ℕ) → g.failed opened now → h.failed opened now)
+    → ((book : Which) (count : ℕ) → g.full sealed book count → h.full sealed book count) → ((end need : ℕ) → g.no_room sealed end need → h.no_room sealed end need) → ((opened now : ℕ) → g.failed opened now → h.failed opened now)
     → HasJobCause g log version sealed o → HasJobCause h log version sealed o
 cause_on g h log version sealed None full room failed has = has
 cause_on g h log version sealed (Some ReadFault) full room failed has = has

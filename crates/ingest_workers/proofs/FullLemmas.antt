@@ -14,7 +14,7 @@ use Rattle.disk_seal.specs.Fixed.{KeeperPass}
 use Rattle.disk_seal.specs.Known.{known_of, limit_in}
 use Rattle.ingest_workers.specs.declared.job.Job.{Job}
 use Rattle.ingest_workers.specs.Causes.{grounds_of, log_of}
-use Rattle.ingest_workers.specs.Full.{AreFirstOf, Books, IsMore, IsOneOf, IsTextOf, ThereAreMore, WasFull, WasFullFor, book_of, books_by}
+use Rattle.ingest_workers.specs.Full.{AreFirstOf, Books, IsFullBy, IsMore, IsNextOf, IsTextOf, WasFull, WasFullFor, book_of, books_by}
 use Rattle.ingest_workers.specs.JobDone.{IsDone}
 use Rattle.ingest_workers.proofs.CauseLemmas.{cause_on}
 use Rattle.ingest_workers.proofs.NoRoomLemmas.{found_on}
@@ -97,11 +97,19 @@ module _ {S D : Type 0} (state : D → DiskState) (left name : S → Option (Lis
       first = d.came.first;
       all = d.came.all;
       caused = cause_on (grounds_of state rows version old bytes p q) (grounds_of state rows version new bytes p q) log version d.came.covered j'.outcome.cause
-          (full_wider version (IsOneOf version bytes) (IsOneOf version bytes) (λ m is. is) old new more)
+          (full_wider version (IsNextOf version bytes d.came.covered) (IsNextOf version bytes d.came.covered) (λ m is. is) old new more)
           (found_on state rows version old new (AreFirstOf version bytes) (AreFirstOf version bytes) p q more (λ ms first. first) d.came.covered) (λ opened now has. has) d.came.caused;
     };
   }
 
--- there are more of a wider kind
-pub more_wider : (P Q : List ℕ → Type 0) → ((t : List ℕ) → P t → Q t) → (count : ℕ) → ThereAreMore P count → ThereAreMore Q count
-more_wider P Q f count more = record { texts = more.texts; more = more.more; distinct = more.distinct; each = All-weaker P Q f more.texts more.each }
+-- it is full by texts of a wider kind
+pub full_by_wider : (P Q next next' : List ℕ → Type 0) → ((t : List ℕ) → P t → Q t) → ((t : List ℕ) → next t → next' t) → (count : ℕ) → IsFullBy P next count → IsFullBy Q next' count
+full_by_wider P Q next next' f g count full = record {
+  texts = full.texts;
+  all = full.all;
+  distinct = full.distinct;
+  each = All-weaker P Q f full.texts full.each;
+  text = full.text;
+  is = g full.text full.is;
+  new = full.new;
+}

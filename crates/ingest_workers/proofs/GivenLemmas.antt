@@ -1,9 +1,8 @@
 -- A book that was full has, once it is closed, the journal's texts and such as the jobs gave.
-use Rattle.std.proofs.Common.{◌≡◌, ℕ, ◌+◌, ◌<◌, ◌≤◌, ◌⊎◌, ⊎_elim, inl, inr, Bool, true, List, [], ◌∷◌, ◌++◌, length, drop, take, get_or, sym, refl, ap, ap₂, ◌∙◌, subst, arith, Option, Some, is_some, slice_get, All, append-nil, length-append, take-append-drop}
+use Rattle.std.proofs.Common.{◌≡◌, ℕ, ◌+◌, ◌<◌, ◌≤◌, ◌⊎◌, ⊎_elim, inl, inr, Bool, true, List, [], ◌∷◌, ◌++◌, length, drop, take, get_or, sym, refl, ap, ap₂, ◌∙◌, subst, arith, Option, Some, is_some, slice_get, All, append-nil, take-append-drop}
 use Rattle.std.specs.Prelude.{min}
 use Rattle.std.specs.List.{Contains}
 use Rattle.std.proofs.lemmas.Bool.{cases_lt}
-use Rattle.std.proofs.lemmas.List.Elements.{All-push}
 use Rattle.std.proofs.lemmas.Option.{slice_get_within, slice_get-get_or, get_or_from_slice_get}
 use mathlib.Core.List.{IsPrefix}
 use Rattle.log_seams.specs.declared.disk.Disk.{Ghosts as DiskGhosts}
@@ -16,7 +15,6 @@ use Rattle.ingest_fork.proofs.PlaceLemmas.{at_right, there_is}
 use Rattle.dict_core.specs.Books.{BookState}
 use Rattle.dict_core.specs.Fair.{IsFair}
 use Rattle.dict_core.specs.declared.grows.TheConstants.{WORDS_FIRST}
-use Rattle.dict_core.proofs.BookLemmas.{distinct_more}
 use Rattle.dict_lock.specs.Shared.{BookPass}
 use Rattle.logtype_text.specs.Fair.{IsFairType, IsFairWord}
 use Rattle.row_codec.specs.declared.namer.Which.{Which}
@@ -36,10 +34,9 @@ use Rattle.ingest_workers.specs.declared.job.Job.{Job}
 use Rattle.ingest_workers.specs.declared.worker.Plan.{Plan}
 use Rattle.ingest_workers.specs.Causes.{limit_of, log_of}
 use Rattle.ingest_workers.specs.Crew.{BookMaker, EndsBook}
-use Rattle.ingest_workers.specs.Full.{AreFirstOf, IsTextOf, ThereAreMore, WasFull, WasFullFor}
+use Rattle.ingest_workers.specs.Full.{AreFirstOf, IsFullBy, IsNextOf, IsTextOf, WasFull, WasFullBehind}
 use Rattle.ingest_workers.specs.Ingested.{HadNoRoomOver, HasEndedBooks, HasTextsBehind, HaveCauses, HaveCausesIn, IsFullByGiven, IsThereOrGiven, IsTypeGiven, IsWordGiven, OpensBook, WereGiven, book_texts, books_at, grounds_over, header_limits, known_at, told_entries}
 use Rattle.ingest_workers.specs.NoRoom.{HadNoRoom, IsBetween, WereKnown}
-use Rattle.ingest_workers.specs.Worker.{IsGiven}
 use Rattle.ingest_workers.proofs.CauseLemmas.{cause_on}
 use Rattle.ingest_workers.proofs.ClosingLemmas.{types_joined, words_joined}
 use Rattle.ingest_workers.proofs.HandLemmas.{same_numbers}
@@ -123,16 +120,18 @@ module _ {G : Ghosts BookState (List ℕ) ℕ} (P F : List ℕ → Type 0) (firs
   pub noted_behind : (these noted : List (List ℕ)) → IsPrefix these texts' → IsPrefix noted (seen_by end) → IsPrefix noted (these ++ drop (length these) noted)
   noted_behind these noted on seen_so = (both_fronts these noted (seen_by end) (prefix_trans these texts' (seen_by end) on ends) seen_so).1
 
-  -- it was full, and a text more was given
-  pub more_given : AreDistinct (seen_by end) → (count : ℕ) → WasFull P count (known_at end) → (count ≡ limit) × ThereAreMore (λ t. Contains texts t ⊎ P t) count
-  more_given apart count full = (
+  -- it was full of texts of before and given ones, and one more was met
+  pub full_given : AreDistinct (seen_by end) → (next : List ℕ → Type 0) (count : ℕ) → WasFull next count (known_at end) → (count ≡ limit) × IsFullBy (λ t. Contains texts t ⊎ P t) next count
+  full_given apart next count full = (
     full.limit ∙ (ap limit_in about_is ∙ has.1),
     record {
-      texts = full.front ++ full.text ∷ [];
-      more = length-append full.front (full.text ∷ []) ∙ ap (λ (n : ℕ). n + 1) (sym full.all);
-      distinct = distinct_more full.front full.text (distinct_front full.front (seen_by end) full.begins apart) full.new;
-      each = All-push (λ t. Contains texts t ⊎ P t) full.front full.text
-          (λ i d lt. there_or_given i (get_or full.front i d) (prefix_get full.front (seen_by end) i (get_or full.front i d) full.begins (slice_get-get_or full.front i d lt))) (inr full.is);
+      texts = full.front;
+      all = sym full.all;
+      distinct = distinct_front full.front (seen_by end) full.begins apart;
+      each = λ i d lt. there_or_given i (get_or full.front i d) (prefix_get full.front (seen_by end) i (get_or full.front i d) full.begins (slice_get-get_or full.front i d lt));
+      text = full.text;
+      is = full.is;
+      new = full.new;
     },
   )
 
@@ -153,13 +152,13 @@ module _ {S D : Type 0} {d : DiskGhosts D} {G : Ghosts BookState (List ℕ) ℕ}
         count = c.2.count;
         first = c.2.first;
         cause = cause_on (grounds_over was (WereKnown (books_at types' words')) plan job.file (left c.2.source.before) before after) (grounds_over (IsFullByGiven left plan js before) (WereGiven left plan js) plan job.file (left c.2.source.before) before after) (log_of left faults c.2.source.before c.2.source.after) plan.version c.2.sealed c.0.outcome.cause
-            full (room job.file (left c.2.source.before) c.2.sealed) (λ since now has. has) c.2.cause;
+            (full (left c.2.source.before) c.2.sealed) (room job.file (left c.2.source.before) c.2.sealed) (λ since now has. has) c.2.cause;
       },
     );
   }
     where
-      was : Which → ℕ → Type 0
-      was = WasFullFor plan.version (IsGiven left plan.version js) (books_at types' words')
+      was : Option (List ℕ) → List (List ℕ) → Which → ℕ → Type 0
+      was = WasFullBehind plan.version (books_at types' words')
 
       told : Bool
       told = is_some (state_of before).disk.seen
@@ -170,15 +169,15 @@ module _ {S D : Type 0} {d : DiskGhosts D} {G : Ghosts BookState (List ℕ) ℕ}
       same_told : is_some (d.state h.store.opened).seen ≡ told
       same_told = ap (λ (x : D). is_some (d.state x).seen) h.stored.left_by.opened
 
-      full : (book : Which) (count : ℕ) → was book count → IsFullByGiven left plan js before book count
-      full WhichTypes count is = if_told told _ (λ told_is.
-          more_given (IsTypeGiven left plan.version js) IsFairType 0 told before.header.types_limit s.header.types_limit (texts_of_types (told_entries (state_of before))) (texts_of_types (journal_of s)) (texts_of_types h.stored.fresh)
+      full : (bytes : Option (List ℕ)) (sealed : List (List ℕ)) (book : Which) (count : ℕ) → was bytes sealed book count → IsFullByGiven left plan js before bytes sealed book count
+      full bytes sealed WhichTypes count is = if_told told _ (λ told_is.
+          full_given (IsTypeGiven left plan.version js) IsFairType 0 told before.header.types_limit s.header.types_limit (texts_of_types (told_entries (state_of before))) (texts_of_types (journal_of s)) (texts_of_types h.stored.fresh)
           t_saved s.types_saved types types' s.types to h.of_types t_owned (subst (λ b. KnowsBook IsFairType 0 s.header.types_limit b s.types s.types_saved (texts_of_types (journal_of s))) same_told h.stored.left_by.kept.types)
-          (ap texts_of_types h.stored.grown ∙ types_joined (told_entries (state_of before)) h.stored.fresh) told_is t_apart count is)
-      full WhichWords count is = if_told told _ (λ told_is.
-          more_given (IsWordGiven left plan.version js) IsFairWord WORDS_FIRST told before.header.words_limit s.header.words_limit (texts_of_words (told_entries (state_of before))) (texts_of_words (journal_of s)) (texts_of_words h.stored.fresh)
+          (ap texts_of_types h.stored.grown ∙ types_joined (told_entries (state_of before)) h.stored.fresh) told_is t_apart (IsTextOf plan.version (IsNextOf plan.version bytes sealed) WhichTypes) count is)
+      full bytes sealed WhichWords count is = if_told told _ (λ told_is.
+          full_given (IsWordGiven left plan.version js) IsFairWord WORDS_FIRST told before.header.words_limit s.header.words_limit (texts_of_words (told_entries (state_of before))) (texts_of_words (journal_of s)) (texts_of_words h.stored.fresh)
           w_saved s.words_saved words words' s.words wo h.of_words w_owned (subst (λ b. KnowsBook IsFairWord WORDS_FIRST s.header.words_limit b s.words s.words_saved (texts_of_words (journal_of s))) same_told h.stored.left_by.kept.words)
-          (ap texts_of_words h.stored.grown ∙ words_joined (told_entries (state_of before)) h.stored.fresh) told_is w_apart count is)
+          (ap texts_of_words h.stored.grown ∙ words_joined (told_entries (state_of before)) h.stored.fresh) told_is w_apart (IsTextOf plan.version (IsNextOf plan.version bytes sealed) WhichWords) count is)
 
       these_types : KnowsBook IsFairType 0 s.header.types_limit told s.types s.types_saved (texts_of_types (journal_of s))
       these_types = subst (λ b. KnowsBook IsFairType 0 s.header.types_limit b s.types s.types_saved (texts_of_types (journal_of s))) same_told h.stored.left_by.kept.types

@@ -36,9 +36,9 @@ use Rattle.disk_seal.proofs.ToldLemmas.{told_map}
 use Rattle.ingest_workers.specs.declared.job.Job.{Job}
 use Rattle.ingest_workers.specs.declared.worker.Plan.{Plan}
 use Rattle.ingest_workers.specs.declared.worker.Worker.{Worker}
-use Rattle.ingest_workers.specs.JobDone.{IsDone, in_source}
+use Rattle.ingest_workers.specs.JobDone.{IsDone}
 use Rattle.ingest_workers.specs.Journal.{Holds}
-use Rattle.ingest_workers.specs.Worker.{IsGiven, IsIdle, books_in, types_of as types_pass, words_of as words_pass}
+use Rattle.ingest_workers.specs.Worker.{IsIdle, books_in, types_of as types_pass, words_of as words_pass}
 use Rattle.ingest_workers.specs.Crew.{BookMaker, HavePlan, HasEnrolled}
 use Rattle.ingest_workers.specs.Locked.{in_file, file_segment, list_of, list_behind, IsPassOf, IsStillStore, MayDoAt, HasWorked}
 use Rattle.ingest_workers.specs.Ingested.{first_file, told_entries, AreNew, IsOfJobs, OpensBook, opened_over, IsLeftBy, IsAsItWas, IsFileOf, HadNoRoomOver, HasStored, HasItsCause, HaveCausesIn, grounds_over}
@@ -48,7 +48,7 @@ use Rattle.row_codec.specs.declared.namer.Which.{Which}
 use Rattle.turn_lock.proofs.FrontLemmas.{prefix_trans}
 use Rattle.ingest_workers.specs.Causes.{grounds_of, log_of}
 use Rattle.ingest_workers.specs.Desk.{AreAlike}
-use Rattle.ingest_workers.specs.Full.{AreFirstOf, Books, IsMore, IsOneOf, WasFullFor, book_of}
+use Rattle.ingest_workers.specs.Full.{AreFirstOf, Books, IsMore, IsNextOf, WasFullBehind, book_of}
 use Rattle.ingest_workers.proofs.FullLemmas.{full_wider}
 use Rattle.ingest_workers.proofs.CauseLemmas.{cause_on}
 use Rattle.ingest_workers.specs.Closing.{IsJournalOf}
@@ -279,8 +279,8 @@ module _ {S D : Type 0} {d : DiskGhosts D} (left name : S → Option (List ℕ))
         → HasWorked d.state left name faults first ws ws' js js' opened store → IsJournalOf store after → Kept (state_by d.state store) → HaveCausesIn books left name faults plan before after js js'
     have_causes books first plan ws ws' js js' new planned more h back kept = record { counted = h.done.jobs; each = each }
       where
-        full : Which → ℕ → Type 0
-        full = WasFullFor plan.version (IsGiven left plan.version js) books
+        full : Option (List ℕ) → List (List ℕ) → Which → ℕ → Type 0
+        full = WasFullBehind plan.version books
 
         each : (i : ℕ) (job : Job S) → slice_get js i ≡ Some job → (new : Job S) × (slice_get js' i ≡ Some new) × HasItsCause full (WereKnown books) left name faults plan before after job new
         each i job at = let even = h.counted in let lt = slice_get_within js i job at in let p = there_is h.passes i (omega arith) in
@@ -295,8 +295,7 @@ module _ {S D : Type 0} {d : DiskGhosts D} (left name : S → Option (List ℕ))
                 count = done.came.count;
                 first = done.came.first;
                 cause = cause_on (grounds_of d.state plan.rows plan.version (books_in h.knows) (left done.source.before) p.0 f.keeper) (grounds_over full (WereKnown books) plan job.file (left done.source.before) before after) log plan.version done.came.covered f.job.outcome.cause
-                    (full_wider plan.version (IsOneOf plan.version (left done.source.before)) (IsGiven left plan.version js)
-                    (λ m one. (i, job, at, subst (λ b. IsOneOf plan.version b m) (sym (ap (in_source left) done.source.had)) one)) (books_in h.knows) books (more h.place h.knows h.knows_is))
+                    (full_wider plan.version (IsNextOf plan.version (left done.source.before) done.came.covered) (IsNextOf plan.version (left done.source.before) done.came.covered) (λ m is. is) (books_in h.knows) books (more h.place h.knows h.knows_is))
                     (room_over first plan i job.file (left done.source.before) (books_in h.knows) books p.0 f.keeper o (o.number ∙ sym (new i job at).file_is) (h.seen_on i f.keeper f.keeper_is) back (more h.place h.knows h.knows_is) done.came.covered)
                     (λ since now has. (
                       has.fault.opened _ o.about_is,

@@ -37,7 +37,7 @@ use Rattle.line_cut.specs.declared.cut.Mark.{Mark}
 use Rattle.ingest_workers.specs.Causes.{HasJobCause, HasSealCause, HaveMoreThan, IsFullCause, Log, cause_by, grounds_of, log_from, log_of}
 use Rattle.ingest_workers.specs.NoRoom.{FoundNoRoom}
 use Rattle.row_codec.specs.declared.namer.Which.{Which}
-use Rattle.ingest_workers.specs.Full.{AreFirstOf, Books, IsMore, WasFullFor, book_of, books_by}
+use Rattle.ingest_workers.specs.Full.{AreFirstOf, Books, IsMore, IsNextOf, WasFullBehind, WasFullFor, book_of, books_by}
 use Rattle.ingest_workers.specs.Namer.{HasOnlySeen}
 use Rattle.ingest_workers.proofs.FullLemmas.{books_on, full_wider, more_self}
 use Rattle.ingest_workers.specs.Doing.{Doing, NotSealed}
@@ -205,7 +205,7 @@ module _ {S D R A B C : Type 0} (state : D → DiskState) (left : S → Option (
   }
 
   -- the reader refused, and this is its cause
-  module _ (faults : S → ℕ) (result : Result (Option Mark) Cut) (counts : CountsOf ReadFault (faults old.source) (faults new.source) result) (full : Which → ℕ → Type 0) where
+  module _ (faults : S → ℕ) (result : Result (Option Mark) Cut) (counts : CountsOf ReadFault (faults old.source) (faults new.source) result) (full : List (List ℕ) → Which → ℕ → Type 0) where
     cut_cause : (cut : Cut) → IsErrOf result cut → RefusedToRead left faults old new cut → HasStopCause full (log_from bytes left faults old.source new.source) n.version taken (Err (PartStop (cause_by cut)))
     cut_cause ReadFault is r = (counts.failed is, reading_before_refusal left faults n.version bytes taken old new ReadFault t.read r t.going)
     cut_cause (LineTooLong line) is r = let g = reading_before_refusal left faults n.version bytes taken old new (LineTooLong line) t.read r t.going in (counts.spared (LineTooLong line) is (λ e. cc (e)), g.0, g.1)
@@ -219,7 +219,7 @@ module _ {S D R A B C : Type 0} (state : D → DiskState) (left : S → Option (
 
   pub took_part : (faults : S → ℕ) (result : Result (Option Mark) Cut) → CountsOf ReadFault (faults old.source) (faults new.source) result → (cut : Cut) (cause : Cause) → cause ≡ cause_by cut → IsErrOf result cut → RefusedToRead left faults old new cut
       → Took state limit n.version (log_from bytes left faults old.source new.source) start p m n hand (Err (PartStop cause))
-  took_part faults result counts cut cause same is r = let full = WasFullFor n.version (IsOneOf n.version bytes) (books_by (types_pass n) (words_pass n)) in record {
+  took_part faults result counts cut cause same is r = let full = WasFullBehind n.version (books_by (types_pass n) (words_pass n)) bytes in record {
     taken = taken;
     few = t.few;
     stops = t.doing;
@@ -273,9 +273,9 @@ module _ {S D R A B C : Type 0} (state : D → DiskState) (left : S → Option (
           learned = learned_more (Some (PartStop cause)) l;
         };
         caused = let known = books_by (types_pass o) (words_pass o) in
-            name_cause (WasFullFor o.version (λ x. x ≡ line) known) (WasFullFor n.version (IsOneOf n.version bytes) known) (λ book count is.
-            full_wider n.version (λ x. x ≡ line) (IsOneOf n.version bytes) (λ x at. subst (IsOneOf n.version bytes) (sym (at ∙ same)) (is_one ended message)) known known (λ b. more_self (book_of known b)) book count
-            (subst (λ v. WasFullFor v (λ x. x ≡ line) known book count) version is)) (log_from bytes left faults old.source new.source) n.version taken cause steady d.1;
+            name_cause (WasFullFor o.version (λ x. x ≡ line) known) (WasFullBehind n.version known bytes) (log_from bytes left faults old.source new.source) n.version taken (λ book count is.
+            full_wider n.version (λ x. x ≡ line) (IsNextOf n.version bytes taken) (λ x at. subst (IsNextOf n.version bytes taken) (sym (at ∙ same)) (front_more ended message)) known known (λ b. more_self (book_of known b)) book count
+            (subst (λ v. WasFullFor v (λ x. x ≡ line) known book count) version is)) cause steady d.1;
       }
       took_stop ended message steady version (Lost cause) l c = record {
         caused = tt;
@@ -468,7 +468,7 @@ module _ {D R A B C : Type 0} (state : D → DiskState) (limit version : ℕ) (l
   known = books_by (types_pass n) (words_pass n)
 
   -- the cause, where no further message was taken for it and all that were are sealed
-  stopped_by : (a : Result Bool Stop) (covered : Texts) (o : Option Cause) → HasStopCause (WasFullFor version (IsOneOf version log.bytes) known) log version t.taken a → ((x : Cause) → a ≡ Err (Lost x) → o ≡ None → ⊥) → o ≡ why_of a → covered ≡ t.taken
+  stopped_by : (a : Result Bool Stop) (covered : Texts) (o : Option Cause) → HasStopCause (WasFullBehind version known log.bytes) log version t.taken a → ((x : Cause) → a ≡ Err (Lost x) → o ≡ None → ⊥) → o ≡ why_of a → covered ≡ t.taken
       → HasJobCause (grounds_of state limit version known log.bytes start q) log version covered o
   stopped_by (Ok ended) covered o has lost is all = subst (HasJobCause (grounds_of state limit version known log.bytes start q) log version covered) (sym is) has
   stopped_by (Err (PartStop cause)) covered o has lost is all =
@@ -499,7 +499,7 @@ module _ {D R A B C : Type 0} (state : D → DiskState) (limit version : ℕ) (l
         ⊎_elim
         (λ (stop : (outcome.cause ≡ why_of answer) × (o.covered ≡ t.taken)).
         cause_on (grounds_of state limit version known log.bytes start q) (grounds_of state limit version books log.bytes start q) log version o.covered outcome.cause
-        (full_wider version (IsOneOf version log.bytes) (IsOneOf version log.bytes) (λ x is. is) known books more)
+        (full_wider version (IsNextOf version log.bytes o.covered) (IsNextOf version log.bytes o.covered) (λ x is. is) known books more)
         (found_on state limit version known books (AreFirstOf version log.bytes) (AreFirstOf version log.bytes) start q more (λ ms first. first) o.covered) (λ opened now has. has)
         (stopped_by answer o.covered outcome.cause t.caused not_lost stop.0 stop.1))
         (λ (seal : (c : Cause) × (outcome.cause ≡ Some c) × HasSealCause state (FoundNoRoom state limit version books (λ first. IsPrefix first t.taken) start q o.covered) start q c).

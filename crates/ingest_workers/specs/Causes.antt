@@ -13,7 +13,7 @@ use Rattle.disk_seal.specs.declared.entry.StoreEntry.{StoreEntry}
 use Rattle.disk_seal.specs.declared.entry.StoreEntry.TheVariants.{Stopped}
 use Rattle.disk_seal.specs.Fixed.{KeeperPass}
 use Rattle.disk_seal.specs.Prepare.{IsFaultOf}
-use Rattle.ingest_workers.specs.Full.{AreFirstOf, Books, IsOneOf, WasFullFor}
+use Rattle.ingest_workers.specs.Full.{AreFirstOf, Books, WasFullBehind}
 use Rattle.ingest_workers.specs.NoRoom.{FoundNoRoom}
 use Rattle.ingest_workers.specs.declared.outcome.Cause.{Cause}
 use Rattle.ingest_workers.specs.declared.outcome.Cause.TheVariants.{ReadFault, LineTooLong, TooManyLines, Full, DiskFault, ArchiveFull, OutOfMemory}
@@ -86,28 +86,28 @@ IsFullCause full _ = ⊥
 
 -- ---- a job
 
--- What causes say of the archive: that a book is full at so many texts, that behind these messages of the file so many bytes more do not fit behind the end,
+-- What causes say of the archive: that behind these messages of the file a book is full at so many texts, or so many bytes more do not fit behind the end;
 -- that the disk failed.
 pub record Grounds : Type 1 where
-  pub full : Which → ℕ → Type 0
+  pub full : List (List ℕ) → Which → ℕ → Type 0
   pub no_room : List (List ℕ) → ℕ → ℕ → Type 0
   pub failed : ℕ → ℕ → Type 0
 
 -- those that a worker knows by its passes, where this is known of the books, and the messages are those of these bytes
 abbrev pub grounds_of : {D : Type 0} → (D → DiskState) → ℕ → ℕ → Books → Option (List ℕ) → KeeperPass D → KeeperPass D → Grounds
 grounds_of state limit version books bytes p q = record {
-  full = WasFullFor version (IsOneOf version bytes) books;
+  full = WasFullBehind version books bytes;
   no_room = FoundNoRoom state limit version books (AreFirstOf version bytes) p q;
   failed = HasFailed state p q;
 }
 
--- Why no further message of a log is taken than these. A read that failed gave the lines that ended in the bytes taken; a line that is too long, and a
--- message too many, come behind these messages. Where the cause is another, no read failed.
-abbrev pub HasLogCause : (Which → ℕ → Type 0) → Log → ℕ → List (List ℕ) → Cause → Type 0
+-- Why no further message of a log is taken than these. A read that failed gave the lines that ended in the bytes taken; a line that is too long, a message too
+-- many, and one that a full book stopped, come behind these messages. Where the cause is another, no read failed.
+abbrev pub HasLogCause : (List (List ℕ) → Which → ℕ → Type 0) → Log → ℕ → List (List ℕ) → Cause → Type 0
 HasLogCause full log version taken ReadFault = Rose log.faults log.faults_now × IfSome log.bytes (λ bytes. IsReadShort version bytes taken log.behind)
 HasLogCause full log version taken (LineTooLong line) = NoneFailed log × (line ≡ lines_count taken + 1) × IfSome log.bytes (IsBeforeLong version taken)
 HasLogCause full log version taken TooManyLines = NoneFailed log × (length taken ≡ MAX_MESSAGES) × HaveMoreThan MAX_MESSAGES version log.bytes
-HasLogCause full log version taken (Full book count) = NoneFailed log × full book count
+HasLogCause full log version taken (Full book count) = NoneFailed log × full taken book count
 HasLogCause full log version taken _ = ⊥
 
 -- What a cause says, where these messages of the log were sealed. Without a cause no read failed. Want of memory is free. A cause of the log says that all

@@ -1,5 +1,5 @@
 -- When a dictionary is full by what is given.
-use Rattle.std.specs.Prelude.{◌≡◌, ℕ, ◌+◌, Bool, List, [], length, Option, IfSome, All}
+use Rattle.std.specs.Prelude.{◌≡◌, ℕ, Bool, List, [], ◌∷◌, ◌++◌, length, Option, IfSome, All}
 use Rattle.std.specs.List.{Contains}
 use mathlib.Core.List.{IsPrefix}
 use Rattle.turn_lock.specs.Words.{about_noted, noted}
@@ -20,17 +20,24 @@ IsOneOf version bytes m = IfSome bytes (λ b. (messages : List (List ℕ)) (ende
 abbrev pub AreFirstOf : ℕ → Option (List ℕ) → List (List ℕ) → Type 0
 AreFirstOf version bytes first = IfSome bytes (λ b. (messages : List (List ℕ)) (ended : Bool) → MessagesOf version b messages ended → IsPrefix first messages)
 
+-- the message is the next one behind these
+abbrev pub IsNextOf : ℕ → Option (List ℕ) → List (List ℕ) → List ℕ → Type 0
+IsNextOf version bytes sealed m = AreFirstOf version bytes (sealed ++ m ∷ [])
+
 -- a text of the encoding of such a message, which goes to this dictionary
 abbrev pub IsTextOf : ℕ → (List ℕ → Type 0) → Which → List ℕ → Type 0
 IsTextOf version P Types text = (m : List ℕ) × P m × IsTypeOf version m text
 IsTextOf version P Words text = (m : List ℕ) × P m × IsWordOf version m text
 
--- there are more such texts than so many
-pub record ThereAreMore (P : List ℕ → Type 0) (count : ℕ) : Type 0 where
+-- There are so many such texts, and one more is met, which is of the next message.
+pub record IsFullBy (P next : List ℕ → Type 0) (count : ℕ) : Type 0 where
   pub texts : List (List ℕ)
-  pub more : length texts ≡ count + 1
+  pub all : length texts ≡ count
   pub distinct : AreDistinct texts
   pub each : All P texts
+  pub text : List ℕ
+  pub is : next text
+  pub new : IsNew texts text
 
 -- ---- to a worker
 
@@ -64,6 +71,10 @@ pub record WasFull (P : List ℕ → Type 0) (count : ℕ) (known : Known) : Typ
 -- so it was of one of the two books, in naming the texts of such a message
 abbrev pub WasFullFor : ℕ → (List ℕ → Type 0) → Books → Which → ℕ → Type 0
 WasFullFor version P books book count = WasFull (IsTextOf version P book) count (book_of books book)
+
+-- so it was at the message of these bytes that is the next one behind these
+abbrev pub WasFullBehind : ℕ → Books → Option (List ℕ) → List (List ℕ) → Which → ℕ → Type 0
+WasFullBehind version books bytes sealed = WasFullFor version (IsNextOf version bytes sealed) books
 
 -- more is known of a book, of which there may be as many texts
 pub record IsMore (old new : Known) : Type 0 where

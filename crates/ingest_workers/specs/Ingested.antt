@@ -33,7 +33,7 @@ use Rattle.ingest_workers.specs.Outcome.{nothing_done}
 use Rattle.ingest_workers.specs.Journal.{FrontHolds, Holds}
 use Rattle.ingest_workers.specs.Parts.{IsCut, IsOpen, Part, messages_in, rest_of, segments_from}
 use Rattle.ingest_workers.specs.Causes.{Grounds, Limits, HasJobCause, limit_of, log_of}
-use Rattle.ingest_workers.specs.Full.{AreFirstOf, Books, IsTextOf, ThereAreMore, WasFullFor}
+use Rattle.ingest_workers.specs.Full.{AreFirstOf, Books, IsFullBy, IsNextOf, IsTextOf, WasFullBehind}
 use Rattle.ingest_workers.specs.NoRoom.{HadNoRoom, IsBetween, WereKnown}
 use Rattle.ingest_workers.specs.JobDone.{HasSourceBack, in_source}
 use Rattle.ingest_workers.specs.Crew.{BookMaker, EndsBook}
@@ -167,9 +167,9 @@ module _ {D : Type 0} {d : DiskGhosts D} where
       × IfTold (is_some (state_of before).disk.seen) (HadNoRoom before.header plan.rows plan.version file (IsBetween (told_entries (state_of before)) (told_entries (state_of after))) has (AreFirstOf plan.version bytes) sealed end need)
 
   -- What causes say of the journal and its disk, of a file with these bytes: when a book is full; what had no room; the disk's count of faults rose.
-  abbrev pub grounds_over : (Which → ℕ → Type 0) → (List JournalEntry → Which → List (List ℕ) → Type 0) → Plan → ℕ → Option (List ℕ) → Journal D d → Journal D d → Grounds
+  abbrev pub grounds_over : (Option (List ℕ) → List (List ℕ) → Which → ℕ → Type 0) → (List JournalEntry → Which → List (List ℕ) → Type 0) → Plan → ℕ → Option (List ℕ) → Journal D d → Journal D d → Grounds
   grounds_over full has plan file bytes before after = record {
-    full = full;
+    full = full bytes;
     no_room = HadNoRoomOver has plan file bytes before after;
     failed = λ opened now. (opened ≡ (state_of before).disk.faults) × Rose opened (state_of after).disk.faults;
   }
@@ -202,30 +202,33 @@ module _ {S D : Type 0} {d : DiskGhosts D} where
   abbrev pub IsThereOrGiven : (S → Option (List ℕ)) → Plan → List (Job S) → Journal D d → Which → List ℕ → Type 0
   IsThereOrGiven left plan js before book t = Contains (book_texts book (told_entries (state_of before))) t ⊎ IsTextOf plan.version (IsGiven left plan.version js) book t
 
-  -- Where the journal is told, a book may have so many texts by the header, and the journal and the jobs' sources have more.
-  abbrev pub IsFullByGiven : (S → Option (List ℕ)) → Plan → List (Job S) → Journal D d → Which → ℕ → Type 0
-  IsFullByGiven left plan js before book count = IfTold (is_some (state_of before).disk.seen) ((count ≡ limit_of (header_limits before.header) book) × ThereAreMore (IsThereOrGiven left plan js before book) count)
+  -- Where the journal is told, a book may have so many texts by the header, and there are as many of the journal and of the jobs' sources. One more is of the
+  -- encoding of the message of these bytes that is the next one behind these.
+  abbrev pub IsFullByGiven : (S → Option (List ℕ)) → Plan → List (Job S) → Journal D d → Option (List ℕ) → List (List ℕ) → Which → ℕ → Type 0
+  IsFullByGiven left plan js before bytes sealed book count =
+      IfTold (is_some (state_of before).disk.seen) ((count ≡ limit_of (header_limits before.header) book)
+      × IsFullBy (IsThereOrGiven left plan js before book) (IsTextOf plan.version (IsNextOf plan.version bytes sealed) book) count)
 
   -- A job that was done has its source back, of the same name, whose count of faults did not fall. Of the first messages of the source, which the outcome
   -- counts, the cause holds.
-  pub record HasItsCause (full : Which → ℕ → Type 0) (has : List JournalEntry → Which → List (List ℕ) → Type 0) (left name : S → Option (List ℕ)) (faults : S → ℕ) (plan : Plan) (before after : Journal D d) (old new : Job S) : Type 0 where
+  pub record HasItsCause (full : Option (List ℕ) → List (List ℕ) → Which → ℕ → Type 0) (has : List JournalEntry → Which → List (List ℕ) → Type 0) (left name : S → Option (List ℕ)) (faults : S → ℕ) (plan : Plan) (before after : Journal D d) (old new : Job S) : Type 0 where
     pub source : HasSourceBack name faults old new
     pub sealed : List (List ℕ)
     pub count : new.outcome.messages ≡ length sealed
     pub first : OfMessages plan.version (left source.before) (λ messages e. IsPrefix sealed messages)
     pub cause : HasJobCause (grounds_over full has plan old.file (left source.before) before after) (log_of left faults source.before source.after) plan.version sealed new.outcome.cause
 
-  -- each job has, where a book is full by this, and had texts by that
-  pub record HaveCausesBy (full : Which → ℕ → Type 0) (has : List JournalEntry → Which → List (List ℕ) → Type 0) (left name : S → Option (List ℕ)) (faults : S → ℕ) (plan : Plan) (before after : Journal D d) (js js' : List (Job S)) : Type 0 where
+  -- each job has, where a book is full by this behind messages of its bytes, and had texts by that
+  pub record HaveCausesBy (full : Option (List ℕ) → List (List ℕ) → Which → ℕ → Type 0) (has : List JournalEntry → Which → List (List ℕ) → Type 0) (left name : S → Option (List ℕ)) (faults : S → ℕ) (plan : Plan) (before after : Journal D d) (js js' : List (Job S)) : Type 0 where
     pub counted : length js' ≡ length js
     pub each : (i : ℕ) (job : Job S) → slice_get js i ≡ Some job → (new : Job S) × (slice_get js' i ≡ Some new) × HasItsCause full has left name faults plan before after job new
 
   abbrev pub HaveCauses : (S → Option (List ℕ)) → (S → Option (List ℕ)) → (S → ℕ) → Plan → Journal D d → Journal D d → List (Job S) → List (Job S) → Type 0
   HaveCauses left name faults plan before after js js' = HaveCausesBy (IsFullByGiven left plan js before) (WereGiven left plan js) left name faults plan before after js js'
 
-  -- the same where a book was full for a message of one of the jobs' sources, and its texts are known
+  -- the same where a book was full at the source's next message, and its texts are known
   abbrev pub HaveCausesIn : Books → (S → Option (List ℕ)) → (S → Option (List ℕ)) → (S → ℕ) → Plan → Journal D d → Journal D d → List (Job S) → List (Job S) → Type 0
-  HaveCausesIn books left name faults plan before after js js' = HaveCausesBy (WasFullFor plan.version (IsGiven left plan.version js) books) (WereKnown books) left name faults plan before after js js'
+  HaveCausesIn books left name faults plan before after js js' = HaveCausesBy (WasFullBehind plan.version books) (WereKnown books) left name faults plan before after js js'
 
 module _ {S D : Type 0} {d : DiskGhosts D} where
   -- A job was done. The messages that its outcome counts are the first ones of its source, and all of them where the file is whole; there is a cause

@@ -18,7 +18,7 @@ use Rattle.ingest_workers.specs.declared.stop.Stop.{Stop}
 use Rattle.ingest_workers.specs.declared.stop.Stop.TheVariants.{Part, Lost}
 use Rattle.ingest_workers.specs.Causes.{Log, HasLogCause, NoneFailed}
 pub use Rattle.ingest_workers.specs.Full.{IsOneOf}
-use Rattle.ingest_workers.specs.Full.{AreFirstOf, WasFullFor, books_by}
+use Rattle.ingest_workers.specs.Full.{AreFirstOf, WasFullBehind, books_by}
 use Rattle.ingest_workers.specs.Doing.{Doing, NotSealed}
 use Rattle.ingest_workers.specs.Namer.{types_pass, words_pass}
 use Rattle.ingest_workers.specs.Stop.{refused_by}
@@ -57,7 +57,7 @@ AreTaken (Ok ended) taken messages e = (taken ≡ messages) × (ended ≡ e)
 AreTaken (Err stop) taken messages e = IsPrefix taken messages
 
 -- what the answer says of the log, where these messages of it were taken
-abbrev pub HasStopCause : (Which → ℕ → Type 0) → Log → ℕ → List (List ℕ) → Result Bool Stop → Type 0
+abbrev pub HasStopCause : (List (List ℕ) → Which → ℕ → Type 0) → Log → ℕ → List (List ℕ) → Result Bool Stop → Type 0
 HasStopCause full log version taken (Ok ended) = NoneFailed log
 HasStopCause full log version taken (Err (Part cause)) = HasLogCause full log version taken cause
 HasStopCause full log version taken (Err (Lost cause)) = Unit {0}
@@ -86,4 +86,4 @@ module _ {D R A B C : Type 0} where
     pub stops : StopsAt state limit start p n hand taken answer
     pub told : IfSome log.bytes (λ b. (messages : List (List ℕ)) (ended : Bool) → MessagesOf version b messages ended → AreTaken answer taken messages ended)
     pub learned : HasLearned state version log.bytes start p m n answer taken
-    pub caused : HasStopCause (WasFullFor version (IsOneOf version log.bytes) (books_by (types_pass n) (words_pass n))) log version taken answer
+    pub caused : HasStopCause (WasFullBehind version (books_by (types_pass n) (words_pass n)) log.bytes) log version taken answer
