@@ -8,6 +8,7 @@ shown, with the bytes of the file a second, the ratio to the command that it sta
 the most memory that it had, looked at every few milliseconds.
 """
 import os
+import resource
 import select
 import shutil
 import statistics
@@ -28,6 +29,12 @@ def peak_of(pid):
             return next((int(line.split()[1]) for line in status if line.startswith("VmHWM")), 0)
     except OSError:
         return 0
+
+
+def spent():
+    """The processor seconds of all commands so far that have ended."""
+    usage = resource.getrusage(resource.RUSAGE_CHILDREN)
+    return usage.ru_utime + usage.ru_stime
 
 
 def run(words):

@@ -11,7 +11,7 @@ import struct
 import subprocess
 import sys
 
-from measure import run
+from measure import run, spent
 
 KINDS = {1: "names", 2: "types", 3: "words", 4: "segments"}
 HEADER, FRAME = 32, 10
@@ -33,12 +33,12 @@ def records(path):
 
 def cost(words):
     """Processor seconds, and peak memory in MiB."""
-    before = os.times()
+    before = spent()
     _, peak, _, status = run(words)
-    after = os.times()
+    after = spent()
     if status != 0:
         sys.exit(f"{words} ended with {status}")
-    return after.children_user - before.children_user + after.children_system - before.children_system, peak / 1024
+    return after - before, peak / 1024
 
 
 def least(rounds, words, before=lambda: None):
