@@ -1,5 +1,5 @@
 -- What a pass over a shared book knows after a call.
-use Rattle.std.specs.Prelude.{◌≡◌, ◌⊎◌, ℕ, ◌<◌, ◌≤◌, ◌^◌, List, [], ◌∷◌, ◌++◌, length, Some}
+use Rattle.std.specs.Prelude.{◌≡◌, ◌⊎◌, ℕ, ◌<◌, ◌≤◌, ◌^◌, List, [], ◌∷◌, ◌++◌, length, Some, All}
 use mathlib.Core.List.{IsPrefix}
 use Rattle.turn_lock.specs.declared.board.About.{About}
 use Rattle.turn_lock.specs.declared.pass.Pass.{Pass}
@@ -31,3 +31,9 @@ pub record IsFull (pass : BookPass) (count : ℕ) : Type 0 where
 abbrev pub OwnsOneMore : BookPass → BookPass → ℕ → List ℕ → Type 0
 OwnsOneMore old new number text =
     (own_list new ≡ own_list old) ⊎ (own_list new ≡ own_list old ++ (number, text) ∷ [])
+
+-- what the pass added meanwhile stands behind what it had seen
+pub record OwnsBehind (old new : BookPass) : Type 0 where
+  pub more : List (ℕ × List ℕ)
+  pub is : own_list new ≡ own_list old ++ more
+  pub behind : All (λ x. length (seen old) ≤ x.0) more

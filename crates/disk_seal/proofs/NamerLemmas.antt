@@ -3,14 +3,15 @@ use Rattle.std.proofs.Common.{◌≡◌, ℕ, zero, suc, ◌<◌, ◌≤◌, Non
 use Rattle.std.specs.List.{Contains}
 use Rattle.std.proofs.lemmas.Option.{slice_get_within, get_or_from_slice_get}
 use Rattle.std.proofs.lemmas.List.{map-append}
-use Rattle.std.proofs.lemmas.List.Elements.{All-weaker, All-head}
+use Rattle.std.proofs.lemmas.List.Elements.{All-nil, All-cons, All-weaker, All-head}
+use Rattle.turn_lock.proofs.FrontLemmas.{prefix_length}
 use Rattle.logtype_text.specs.Fair.{IsFairType, IsFairWord}
 use Rattle.turn_lock.specs.History.{places}
 use Rattle.turn_lock.specs.Words.{seen, own_list, about}
 use Rattle.dict_core.specs.Books.{IsNew}
 use Rattle.dict_core.specs.Fair.{IsFair}
 use Rattle.dict_core.specs.declared.grows.TheConstants.{WORDS_FIRST}
-use Rattle.dict_lock.specs.Shared.{BookPass}
+use Rattle.dict_lock.specs.Shared.{BookPass, OwnsBehind}
 use Rattle.dict_lock.specs.Cache.{CacheState, IsEven, IsSeen}
 use Rattle.dict_lock.specs.Naming.{Learns, NamesMore, MeetsLimit}
 use Rattle.dict_lock.proofs.CacheLemmas.{not_held}
@@ -50,6 +51,17 @@ grown P texts old new all names = record {
   added = ap (map text_in) names.own ∙ (map-append text_in (own_list old) (places (length names.before) names.rest)
       ∙ ap (λ l. map text_in (own_list old) ++ l) (texts_placed (length names.before) names.rest));
   allowed = All-weaker (Contains texts) P all names.rest names.among;
+}
+
+places_behind : (k low : ℕ) (es : Texts) → low ≤ k → All (λ x. low ≤ x.0) (places k es)
+places_behind k low [] le = All-nil (λ (x : ℕ × List ℕ). low ≤ x.0)
+places_behind k low (e ∷ es) le = All-cons (λ (x : ℕ × List ℕ). low ≤ x.0) (k, e) (places (k + 1) es) le (places_behind (k + 1) low es (omega arith))
+
+pub owns_behind : (texts : Texts) (old new : BookPass) → NamesMore old new texts → OwnsBehind old new
+owns_behind texts old new names = record {
+  more = places (length names.before) names.rest;
+  is = names.own;
+  behind = places_behind (length names.before) (length (seen old)) names.rest (prefix_length (seen old) names.before names.front);
 }
 
 -- the one text

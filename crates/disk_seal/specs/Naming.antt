@@ -2,7 +2,8 @@
 use Rattle.std.specs.Prelude.{◌≡◌, ℕ, ◌+◌, ◌≤◌, List, ◌++◌, length, Option, None, Some, All}
 use Rattle.std.specs.List.{Contains}
 use Rattle.dict_core.specs.Books.{IsNew}
-use Rattle.dict_lock.specs.Cached.{cache_of}
+use Rattle.dict_lock.specs.Cached.{cache_of, pass_in}
+use Rattle.dict_lock.specs.Shared.{OwnsBehind}
 use Rattle.row_codec.specs.declared.namer.NameRefusal.{NameRefusal}
 use Rattle.row_codec.specs.declared.namer.NameRefusal.TheVariants.{Full, OutOfMemory}
 use Rattle.row_codec.specs.declared.namer.Which.{Which}
@@ -35,7 +36,11 @@ module _ {R A B C : Type 0} where
   abbrev pub words_side : LockNamer R A B C → Side
   words_side n = record { held = (cache_of n.words).texts; turns = n.turns.words }
 
-  -- texts of one book were named, and nothing was done with the other
+  -- Texts of one book were named, and its pass added only behind what it had seen. Nothing was done with the other book.
   abbrev pub NamesIn : Which → List (List ℕ) → Option NameRefusal → LockNamer R A B C → LockNamer R A B C → Type 0
-  NamesIn Types texts refusal m n = Named texts refusal (types_side m) (types_side n) × (words_side n ≡ words_side m)
-  NamesIn Words texts refusal m n = Named texts refusal (words_side m) (words_side n) × (types_side n ≡ types_side m)
+  NamesIn Types texts refusal m n =
+      Named texts refusal (types_side m) (types_side n) × (words_side n ≡ words_side m)
+      × OwnsBehind (pass_in m.types) (pass_in n.types) × (pass_in n.words ≡ pass_in m.words)
+  NamesIn Words texts refusal m n =
+      Named texts refusal (words_side m) (words_side n) × (types_side n ≡ types_side m)
+      × OwnsBehind (pass_in m.words) (pass_in n.words) × (pass_in n.types ≡ pass_in m.types)

@@ -6,7 +6,7 @@ use Rattle.dict_lock.specs.Cached.{pass_in, cache_of}
 use Rattle.row_codec.specs.Naming.{HasGrown, MetLimit}
 use Rattle.disk_seal.specs.Known.{known_of}
 use Rattle.disk_seal.specs.Naming.{Named, Side}
-use Rattle.disk_seal.proofs.NamerLemmas.{grown, met, named_all, named_some, unheld}
+use Rattle.disk_seal.proofs.NamerLemmas.{grown, met, named_all, named_some, owns_behind, unheld}
 use Rattle.disk_seal.proofs.namer.LockNamerNamer.name_spans.Goals as goal
 
 pub returns-in-Ok-clause-grown : goal.returns-in-Ok-clause-grown
@@ -40,6 +40,8 @@ returns-in-Ok-clause-naming g c =
       subst (λ (ts : List (List ℕ)). Named ts None a b) (ap₂ texts_at c.new-texts.ensures.line c.new-texts.ensures.spans)
           (named_all old new these c.args.self.now.turns.words c.name_into.new.turns (IsOk c.name_into.result) there c.name_into.ensures.learned),
       refl,
+      owns_behind these (pass_in c.args.self.now.words) (pass_in c.name_into.new.self) c.name_into.ensures.pass,
+      refl,
     )
 
 pub returns-in-Err-clause-naming : goal.returns-in-Err-clause-naming
@@ -52,5 +54,7 @@ returns-in-Err-clause-naming g c =
           (λ book count is. let told = c.refused.ensures book count is in
           unheld (pass_in c.name_into.new.self) new these count c.name_into.new.self.even c.name_into.new.self.remembered (c.name_into.ensures.full count (cc (told.1))))
           c.name_into.ensures.learned),
+      refl,
+      owns_behind these (pass_in c.args.self.now.words) (pass_in c.name_into.new.self) c.name_into.ensures.pass,
       refl,
     )
