@@ -20,24 +20,22 @@ impl Works<u32, u32> for Numbering {
 
     ghost fits = { λ w j k. Unit {0} };
 
-    ghost went = { λ js w v. v.number ≡ w.number };
+    ghost went = { λ js js' w v. v.number ≡ w.number };
 
-    ghost did = { λ w j k l m. (l ≡ w.number) × (m ≡ j) };
+    ghost did = { λ w j k v l m. (l ≡ w.number) × (m ≡ j) };
 
     fn work<R: Wait>(&mut self, _rt: &R, job: &mut u32, keeper: &mut u32) {
         *keeper = *job;
         *job = self.number;
     }
 
-    ghost rests = { λ js w ready. refl };
+    ghost rests = { λ js js' w ready. refl };
 
-    ghost goes_on = { λ js a b c one two. two ∙ one };
+    ghost goes_on = { λ js js' a b c one two. two ∙ one };
 
-    ghost wider = { λ xs js ys a b went. went };
+    ghost wider = { λ js js' piece piece' a b are went. went };
 
-    ghost fits_on = { λ js a b j k went fits. fits };
-
-    ghost did_on = { λ js a b j l k m went did. (did.0 ∙ went, did.1) };
+    ghost fits_on = { λ js js' a b j k went fits. fits };
 }
 
 /// With one worker, two and three: the worker of each of five jobs, and what its keeper got.

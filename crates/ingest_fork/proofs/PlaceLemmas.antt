@@ -1,5 +1,5 @@
 -- What stands at a place of a list: joined lists, and a list with one element set.
-use Rattle.std.proofs.Common.{◌≡◌, ◌≢◌, ℕ, zero, suc, ◌+◌, ◌-◌, ◌<◌, ◌≤◌, List, [], ◌∷◌, ◌++◌, length, set, sym, refl, ap, ◌∙◌, subst, arith, Some, slice_get, length-append}
+use Rattle.std.proofs.Common.{◌≡◌, ◌≢◌, ℕ, zero, suc, ◌+◌, ◌-◌, ◌<◌, ◌≤◌, List, [], ◌∷◌, ◌++◌, length, set, sym, refl, ap, ◌∙◌, subst, arith, Some, slice_get, length-append, append-nil}
 use mathlib.Core.List.{IsPrefix}
 use Rattle.turn_lock.proofs.FrontLemmas.{prefix_get, prefix_trans}
 
@@ -33,11 +33,21 @@ module _ {X : Type 0} where
   set_off (y ∷ xs) (suc i) zero x ne = refl
   set_off (y ∷ xs) (suc i) (suc n) x ne = set_off xs i n x (λ e. ne (ap (λ (k : ℕ). suc k) e))
 
-  -- a list around one of its elements
-  pub cut_at : (xs : List X) (i : ℕ) (x : X) → slice_get xs i ≡ Some x → (before behind : List X) × (xs ≡ before ++ ((x ∷ []) ++ behind))
-  cut_at [] i x at = absurd (cc (at))
-  cut_at (y ∷ xs) zero x at = let same : y ≡ x = cc in ([], xs, ap (λ (z : X). z ∷ xs) same)
-  cut_at (y ∷ xs) (suc i) x at = let r = cut_at xs i x at in (y ∷ r.0, r.1, ap (λ l. y ∷ l) r.2)
+  -- the element between two lists
+  pub at_seam : (xs ys : List X) (x : X) → slice_get (xs ++ x ∷ ys) (length xs) ≡ Some x
+  at_seam [] ys x = refl
+  at_seam (y ∷ xs) ys x = at_seam xs ys x
+
+  -- what stands behind a list begins with the element at its end
+  pub first_behind : (xs ys : List X) (x : X) → slice_get (xs ++ ys) (length xs) ≡ Some x → (more : List X) × (ys ≡ x ∷ more)
+  first_behind [] [] x at = absurd (cc (at))
+  first_behind [] (y ∷ ys) x at = let same : y ≡ x = cc (at) in (ys, ap (λ (z : X). z ∷ ys) same)
+  first_behind (z ∷ xs) ys x at = first_behind xs ys x at
+
+  -- nothing stands behind a list that is as long as the whole
+  pub all_of : (all xs ys : List X) → all ≡ xs ++ ys → length all ≤ length xs → all ≡ xs
+  all_of all xs [] is le = is ∙ append-nil xs
+  all_of all xs (y ∷ ys) is le = let count = ap length is ∙ length-append xs (y ∷ ys) in absurd (omega arith)
 
   pub there_is : (xs : List X) (i : ℕ) → i < length xs → (x : X) × (slice_get xs i ≡ Some x)
   there_is [] i lt = absurd (omega arith)

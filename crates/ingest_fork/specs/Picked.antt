@@ -1,12 +1,12 @@
 -- What a lock's list holds past the opening, by the passes that added it.
-use Rattle.std.specs.Prelude.{◌≡◌, ◌≢◌, ℕ, ◌≤◌, List, ◌++◌, map, drop, [], length, Option, Some, None, slice_get, All}
+use Rattle.std.specs.Prelude.{◌≡◌, ◌≢◌, ℕ, ◌≤◌, List, map, drop, [], Option, Some, None, slice_get, All}
 use Rattle.std.specs.List.{filter_map}
 use Rattle.turn_lock.specs.declared.grows.Grows.{Ghosts}
 use Rattle.turn_lock.specs.declared.board.About.{About}
 use Rattle.turn_lock.specs.declared.maker.Maker.{Maker}
 use Rattle.turn_lock.specs.declared.pass.Pass.{Pass}
 use Rattle.turn_lock.specs.History.{Has, StandsIn}
-use Rattle.turn_lock.specs.Words.{number_of, seen, own_list, seen_by, ended_by, own_by, about_by, IsAllOwned}
+use Rattle.turn_lock.specs.Words.{number_of, own_list, seen_by, ended_by, own_by, about_by, IsAllOwned}
 use Rattle.ingest_fork.specs.Passes.{Joined}
 
 module _ {E : Type 0} where
@@ -23,12 +23,6 @@ module _ {E : Type 0} where
   AddsAlone f may n = (k : ℕ) (e : E) → may k e → f e ≢ None → k ≡ n
 
 module _ {V E F : Type 0} where
-  -- what the pass added meanwhile stands behind what it had seen
-  pub record OwnGrew (p q : Pass V E F) : Type 0 where
-    pub more : List (ℕ × E)
-    pub is : own_list q ≡ own_list p ++ more
-    pub behind : IsPast (length (seen p)) more
-
   -- the entry at the place is one that one of the passes added, and may add
   pub record AddedByOne (may : ℕ → E → Type 0) (ps : List (Pass V E F)) (j : ℕ) (e : E) : Type 0 where
     pub place : ℕ

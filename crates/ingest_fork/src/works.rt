@@ -3,7 +3,7 @@
 ghost use Rattle.std.specs.Prelude.{◌≡◌, ◌<◌, ◌≤◌, List, [], ◌∷◌, length};
 ghost use Rattle.std.specs.Thread.{IsSync};
 ghost use Rattle.ingest_fork.specs.Works.{AllReady, AllFit, AllDone, AllWent};
-ghost use Rattle.ingest_fork.specs.Works.{Rests, GoesOn, Widens, FitsOn, DidOn};
+ghost use Rattle.ingest_fork.specs.Works.{Rests, GoesOn, Widens, FitsOn};
 
 use std::sync::Wait;
 use std::thread::{Threads, join_mut};
@@ -18,19 +18,19 @@ pub trait Works<J, K> {
     // It may do the job with this keeper.
     ghost fits: { Self → J → K → Type 0 };
 
-    // It did nothing but some of these jobs.
-    ghost went: { List J → Self → Self → Type 0 };
+    // It did nothing but some of these jobs, which became those.
+    ghost went: { List J → List J → Self → Self → Type 0 };
 
-    // What became of the job and the keeper, of a worker that did it.
-    ghost did: { Self → J → K → J → K → Type 0 };
+    // What became of the worker, the job and the keeper, where it did the job.
+    ghost did: { Self → J → K → Self → J → K → Type 0 };
 
     /// Does the job.
     fn work<R: Wait>(&mut self, rt: &R, job: &mut J, keeper: &mut K)
         requires ready { ready self.old }
         requires fits { fits self.old job.old keeper.old }
         ensures ready { ready self.new }
-        ensures went { went (job.old ∷ []) self.old self.new }
-        ensures did { did self.old job.old keeper.old job.new keeper.new };
+        ensures went { went (job.old ∷ []) (job.new ∷ []) self.old self.new }
+        ensures did { did self.old job.old keeper.old self.new job.new keeper.new };
 
     // Laws. A worker that did nothing did nothing but these jobs.
     ghost rests: { Rests went ready };
@@ -43,9 +43,6 @@ pub trait Works<J, K> {
 
     // What it may do it may do later.
     ghost fits_on: { FitsOn went fits };
-
-    // What it did later it did.
-    ghost did_on: { DidOn went did };
 }
 
 /// One worker does all the jobs, in their order.
@@ -54,8 +51,9 @@ fn in_turn<J, K, W: Works<J, K>, R: Wait>(rt: &R, worker: &mut W, jobs: &mut [J]
     requires ready { W.ready worker.old }
     requires fits { AllFit W.fits (worker.old ∷ []) jobs.old keepers.old }
     ensures ready { W.ready worker.new }
-    ensures went { W.went jobs.old worker.old worker.new }
-    ensures did { AllDone W.did (worker.old ∷ []) jobs.old keepers.old jobs.new keepers.new }
+    ensures went { W.went jobs.old jobs.new worker.old worker.new }
+    ensures did { AllDone W.went W.did (worker.old ∷ []) (worker.new ∷ []) jobs.old jobs.new
+        keepers.old keepers.new }
 {
     for i in 0..jobs.len() {
         worker.work(rt, &mut jobs[i], &mut keepers[i]);
@@ -75,8 +73,9 @@ pub fn by_workers<J: Send, K: Send, W: Works<J, K> + Send, R: Threads + Wait + S
     requires same { length jobs.old ≡ length keepers.old }
     requires ready { AllReady W.ready workers.old }
     requires fits { AllFit W.fits workers.old jobs.old keepers.old }
-    ensures went { AllWent W.ready W.went jobs.old workers.old workers.new }
-    ensures did { AllDone W.did workers.old jobs.old keepers.old jobs.new keepers.new }
+    ensures went { AllWent W.ready W.went jobs.old jobs.new workers.old workers.new }
+    ensures did { AllDone W.went W.did workers.old workers.new jobs.old jobs.new
+        keepers.old keepers.new }
 {
     let count = workers.len();
     if count == 1 {
@@ -97,9 +96,11 @@ pub fn by_workers<J: Send, K: Send, W: Works<J, K> + Send, R: Threads + Wait + S
             requires same { length front.now ≡ length front_keepers.now }
             requires ready { AllReady W.ready these.now }
             requires fits { AllFit W.fits these.now front.now front_keepers.now }
-            ensures went { AllWent W.ready W.went front.entry.now these.entry.now these.exit.now }
-            ensures did { AllDone W.did these.entry.now front.entry.now front_keepers.entry.now
-                front.exit.now front_keepers.exit.now }
+            ensures went { AllWent W.ready W.went front.entry.now front.exit.now
+                these.entry.now these.exit.now }
+            ensures did { AllDone W.went W.did these.entry.now these.exit.now
+                front.entry.now front.exit.now
+                front_keepers.entry.now front_keepers.exit.now }
         { by_workers(rt, these, front, front_keepers) },
         &mut ||
             requires shared { IsSync R.row }
@@ -108,9 +109,11 @@ pub fn by_workers<J: Send, K: Send, W: Works<J, K> + Send, R: Threads + Wait + S
             requires same { length back.now ≡ length back_keepers.now }
             requires ready { AllReady W.ready others.now }
             requires fits { AllFit W.fits others.now back.now back_keepers.now }
-            ensures went { AllWent W.ready W.went back.entry.now others.entry.now others.exit.now }
-            ensures did { AllDone W.did others.entry.now back.entry.now back_keepers.entry.now
-                back.exit.now back_keepers.exit.now }
+            ensures went { AllWent W.ready W.went back.entry.now back.exit.now
+                others.entry.now others.exit.now }
+            ensures did { AllDone W.went W.did others.entry.now others.exit.now
+                back.entry.now back.exit.now
+                back_keepers.entry.now back_keepers.exit.now }
         { by_workers(rt, others, back, back_keepers) },
     );
 }
@@ -128,9 +131,9 @@ pub fn by_workers_of<J: Send, K: Send, W: Works<J, K> + Send, R: Threads + Wait 
     requires same { length jobs.old ≡ length keepers.old.items }
     requires ready { AllReady W.ready workers.old.items }
     requires fits { AllFit W.fits workers.old.items jobs.old keepers.old.items }
-    ensures went { AllWent W.ready W.went jobs.old workers.old.items workers.new.items }
-    ensures did { AllDone W.did workers.old.items jobs.old keepers.old.items
-        jobs.new keepers.new.items }
+    ensures went { AllWent W.ready W.went jobs.old jobs.new workers.old.items workers.new.items }
+    ensures did { AllDone W.went W.did workers.old.items workers.new.items jobs.old jobs.new
+        keepers.old.items keepers.new.items }
 {
     by_workers(rt, workers.as_mut_slice(), jobs, keepers.as_mut_slice());
 }
