@@ -8,7 +8,7 @@ use Rattle.dict_core.specs.Books.{BookState}
 use Rattle.dict_lock.specs.Shared.{BookPass}
 use Rattle.dict_lock.specs.Cached.{pass_in}
 use Rattle.ingest_fork.specs.Passes.{Fresh, Joined}
-use Rattle.ingest_fork.proofs.PassLemmas.{fresh_none, fresh_more, joined_none, joined_more, Joins}
+use Rattle.ingest_fork.proofs.PassLemmas.{fresh_more, joined_none, joined_more, Joins}
 use Rattle.ingest_fork.proofs.PlaceLemmas.{in_left, in_right}
 use Rattle.ingest_workers.specs.declared.worker.BookPasses.{BookPasses}
 use Rattle.ingest_workers.specs.declared.worker.Plan.{Plan}
@@ -33,9 +33,6 @@ module _ {X Y : Type 0} (f : X → Y) where
   map_count (x ∷ xs) = ap suc (map_count xs)
 
 module _ {G : Ghosts BookState (List ℕ) ℕ} where
-  pub enrolled_none : (types words : BookMaker G) (plan : Plan) → HasEnrolled types types words words plan [] 0
-  enrolled_none types words plan = record { counted = refl; planned = λ i w at. absurd (cc (at)); of_types = fresh_none types; of_words = fresh_none words }
-
   -- what making a pass tells
   pub record Makes (m m' : BookMaker G) (p : BookPass) : Type 0 where
     pub still : IsStillBy m m'

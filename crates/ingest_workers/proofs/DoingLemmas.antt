@@ -94,9 +94,6 @@ module _ {D R A B C : Type 0} (state : D → DiskState) (limit : ℕ) (start p :
   abbrev part : Part
   part = record { rows = hand.draft.columns.rows; messages = d.messages }
 
-  columns_are : hand.draft.columns ≡ columns_of part
-  columns_are = λ i. record { rows = hand.draft.columns.rows; bytes = d.has.bytes i }
-
   pub few_in_hand : length hand.draft.columns.rows < limit
   few_in_hand = lt_of (length hand.draft.columns.rows) limit (λ le. open_all limit part d.not_yet (inl le))
 

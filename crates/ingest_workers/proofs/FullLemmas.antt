@@ -1,23 +1,15 @@
 -- When a dictionary is full.
-use Rattle.std.proofs.Common.{◌≡◌, ℕ, zero, suc, ◌≤◌, List, [], ◌∷◌, ◌++◌, length, sym, refl, ap, ◌∙◌, Option, Some, slice_get, arith}
+use Rattle.std.proofs.Common.{◌≡◌, ℕ, zero, suc, List, [], ◌∷◌, sym, refl, ap, ◌∙◌, Some, slice_get}
 use Rattle.std.specs.List.{Contains}
 use Rattle.std.proofs.lemmas.Option.{slice_get_within, get_or_from_slice_get}
 use Rattle.std.proofs.lemmas.List.Elements.{All-weaker}
-use mathlib.Core.List.{IsPrefix}
-use Rattle.log_seams.specs.Disk.{DiskState}
 use Rattle.turn_lock.proofs.FrontLemmas.{prefix_self, prefix_trans}
 use Rattle.dict_lock.specs.Shared.{BookPass, GoesOn}
 use Rattle.row_codec.specs.declared.namer.Which.{Which}
 use Rattle.row_codec.specs.declared.namer.Which.TheVariants.{Types, Words}
 use Rattle.row_codec.specs.Naming.{Known, MeetsLimit}
-use Rattle.disk_seal.specs.Fixed.{KeeperPass}
 use Rattle.disk_seal.specs.Known.{known_of, limit_in}
-use Rattle.ingest_workers.specs.declared.job.Job.{Job}
-use Rattle.ingest_workers.specs.Causes.{grounds_of, log_of}
-use Rattle.ingest_workers.specs.Full.{AreFirstOf, Books, IsFullBy, IsMore, IsNextOf, IsTextOf, WasFull, WasFullFor, book_of, books_by}
-use Rattle.ingest_workers.specs.JobDone.{IsDone}
-use Rattle.ingest_workers.proofs.CauseLemmas.{cause_on}
-use Rattle.ingest_workers.proofs.NoRoomLemmas.{found_on}
+use Rattle.ingest_workers.specs.Full.{Books, IsFullBy, IsMore, IsTextOf, WasFull, WasFullFor, book_of, books_by}
 
 -- ---- it is met in naming a message
 
@@ -79,28 +71,6 @@ more_seen p q goes = record { front = goes.seen_on; limit = ap limit_in goes.sti
 pub books_on : (t u w v : BookPass) → GoesOn t u → GoesOn w v → (book : Which) → IsMore (book_of (books_by t w) book) (book_of (books_by u v) book)
 books_on t u w v types words Types = more_seen t u types
 books_on t u w v types words Words = more_seen w v words
-
--- what came of a job is told of more that is known
-module _ {S D : Type 0} (state : D → DiskState) (left name : S → Option (List ℕ)) (faults : S → ℕ) where
-  pub done_on : (rows version : ℕ) (old new : Books) (j j' : Job S) (p q : KeeperPass D) → ((book : Which) → IsMore (book_of old book) (book_of new book))
-      → IsDone state left name faults rows version old j p j' q → IsDone state left name faults rows version new j p j' q
-  done_on rows version old new j j' p q more d = let bytes = left d.source.before in let log = log_of left faults d.source.before d.source.after in record {
-    file = d.file;
-    cause = d.cause;
-    unopened = d.unopened;
-    source = d.source;
-    came = record {
-      covered = d.came.covered;
-      ended = d.came.ended;
-      count = d.came.count;
-      done = d.came.done;
-      first = d.came.first;
-      all = d.came.all;
-      caused = cause_on (grounds_of state rows version old bytes p q) (grounds_of state rows version new bytes p q) log version d.came.covered j'.outcome.cause
-          (full_wider version (IsNextOf version bytes d.came.covered) (IsNextOf version bytes d.came.covered) (λ m is. is) old new more)
-          (found_on state rows version old new (AreFirstOf version bytes) (AreFirstOf version bytes) p q more (λ ms first. first) d.came.covered) (λ opened now has. has) d.came.caused;
-    };
-  }
 
 -- it is full by texts of a wider kind
 pub full_by_wider : (P Q next next' : List ℕ → Type 0) → ((t : List ℕ) → P t → Q t) → ((t : List ℕ) → next t → next' t) → (count : ℕ) → IsFullBy P next count → IsFullBy Q next' count

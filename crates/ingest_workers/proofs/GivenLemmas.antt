@@ -6,7 +6,6 @@ use Rattle.std.proofs.lemmas.Bool.{cases_lt}
 use Rattle.std.proofs.lemmas.Option.{slice_get_within, slice_get-get_or, get_or_from_slice_get}
 use mathlib.Core.List.{IsPrefix}
 use Rattle.log_seams.specs.declared.disk.Disk.{Ghosts as DiskGhosts}
-use Rattle.turn_lock.specs.declared.board.About.{About}
 use Rattle.turn_lock.specs.declared.grows.Grows.{Ghosts}
 use Rattle.turn_lock.specs.Words.{about_by, seen, seen_by, IsAllOwned}
 use Rattle.turn_lock.proofs.FrontLemmas.{prefix_get, prefix_length, prefix_self, prefix_trans}
@@ -27,15 +26,16 @@ use Rattle.archive_meaning.specs.declared.entry.JournalEntry.{JournalEntry}
 use Rattle.archive_meaning.specs.Spelled.{types_of as texts_of_types}
 use Rattle.disk_seal.specs.Known.{limit_in}
 use Rattle.disk_seal.specs.Planned.{segment_need, texts_need}
-use Rattle.disk_seal.specs.Told.{IfTold, journal_in}
+use Rattle.disk_seal.specs.Told.{journal_in}
 use Rattle.disk_seal.specs.WordsIn.{words_of as texts_of_words}
 use Rattle.disk_seal.specs.View.{KnowsBook, StoreState, state_by, journal_of}
 use Rattle.ingest_workers.specs.declared.job.Job.{Job}
 use Rattle.ingest_workers.specs.declared.worker.Plan.{Plan}
-use Rattle.ingest_workers.specs.Causes.{limit_of, log_of}
+use Rattle.ingest_workers.specs.Causes.{log_of}
 use Rattle.ingest_workers.specs.Crew.{BookMaker, EndsBook}
 use Rattle.ingest_workers.specs.Full.{AreFirstOf, IsFullBy, IsNextOf, IsTextOf, WasFull, WasFullBehind}
-use Rattle.ingest_workers.specs.Ingested.{HadNoRoomOver, HasEndedBooks, HasTextsBehind, HaveCauses, HaveCausesIn, IsFullByGiven, IsThereOrGiven, IsTypeGiven, IsWordGiven, OpensBook, WereGiven, book_texts, books_at, grounds_over, header_limits, known_at, told_entries}
+use Rattle.ingest_workers.specs.Ingested.{HadNoRoomOver, HasEndedBooks, HasTextsBehind, HaveCauses, HaveCausesIn, IsFullByGiven, IsTypeGiven, IsWordGiven, OpensBook, WereGiven, book_texts, books_at, grounds_over, known_at, told_entries}
+use Rattle.ingest_workers.specs.InTurn.{WasFilledBy}
 use Rattle.ingest_workers.specs.NoRoom.{HadNoRoom, IsBetween, WereKnown}
 use Rattle.ingest_workers.proofs.CauseLemmas.{cause_on}
 use Rattle.ingest_workers.proofs.ClosingLemmas.{types_joined, words_joined}
@@ -85,15 +85,11 @@ module _ {G : Ghosts BookState (List ℕ) ℕ} (P F : List ℕ → Type 0) (firs
   begins : IsPrefix texts (seen_by end)
   begins = prefix_trans texts texts' (seen_by end) (more, sym is) ends
 
-  -- each text of the closed book is one of before, or was given
-  there_or_given : (i : ℕ) (t : List ℕ) → slice_get (seen_by end) i ≡ Some t → Contains texts t ⊎ P t
-  there_or_given i t at = ⊎_elim
-      (λ (lt : i < length texts). let x = there_is texts i lt in
+  -- each text that stands where those of before do is one of them
+  there_below : (i : ℕ) (t : List ℕ) → i < length texts → slice_get (seen_by end) i ≡ Some t → Contains texts t
+  there_below i t lt at = let x = there_is texts i lt in
       let same : x.0 ≡ t = some_is x.0 t (sym (prefix_get texts (seen_by end) i x.0 begins x.1) ∙ at) in
-      inl (contained texts i t (x.1 ∙ ap (λ (y : List ℕ). Some y) same)))
-      (λ (le : length texts ≤ i). let long = ap length has.0 in
-      let a = each_added IsFair end e.middle e.passes owned e.joined e.none (record { first = first; start = length o.book.texts; fixed = o.book.limit }) i t about_is (omega arith) at in
-      inr (e.each a.place a.pass a.is i t a.own)) (cases_lt i (length texts))
+      contained texts i t (x.1 ∙ ap (λ (y : List ℕ). Some y) same)
     where
       some_is : (x y : List ℕ) → Some x ≡ Some y → x ≡ y
       some_is x y e = cc (e)
@@ -104,6 +100,12 @@ module _ {G : Ghosts BookState (List ℕ) ℕ} (P F : List ℕ → Type 0) (firs
       let long = ap length has.0 in
       let a = each_added IsFair end e.middle e.passes owned e.joined e.none (record { first = first; start = length o.book.texts; fixed = o.book.limit }) i t about_is (omega arith) at in
       e.each a.place a.pass a.is i t a.own
+
+  -- so each text of the closed book is one of before, or was given
+  there_or_given : (i : ℕ) (t : List ℕ) → slice_get (seen_by end) i ≡ Some t → Contains texts t ⊎ P t
+  there_or_given i t at = ⊎_elim
+      (λ (lt : i < length texts). inl (there_below i t lt at))
+      (λ (le : length texts ≤ i). inr (given_behind i t le at)) (cases_lt i (length texts))
 
   -- so where a journal had these texts, and a pass had seen those
   pub texts_behind : AreDistinct (seen_by end) → (these noted : List (List ℕ)) → IsPrefix texts these → IsPrefix these texts' → IsPrefix noted (seen_by end) → HasTextsBehind P these (these ++ drop (length these) noted)
@@ -120,20 +122,35 @@ module _ {G : Ghosts BookState (List ℕ) ℕ} (P F : List ℕ → Type 0) (firs
   pub noted_behind : (these noted : List (List ℕ)) → IsPrefix these texts' → IsPrefix noted (seen_by end) → IsPrefix noted (these ++ drop (length these) noted)
   noted_behind these noted on seen_so = (both_fronts these noted (seen_by end) (prefix_trans these texts' (seen_by end) on ends) seen_so).1
 
-  -- it was full of texts of before and given ones, and one more was met
-  pub full_given : AreDistinct (seen_by end) → (next : List ℕ → Type 0) (count : ℕ) → WasFull next count (known_at end) → (count ≡ limit) × IsFullBy (λ t. Contains texts t ⊎ P t) next count
-  full_given apart next count full = (
+  full_of : AreDistinct (seen_by end) → (Q next : List ℕ → Type 0) (count : ℕ) → ((i : ℕ) (t : List ℕ) → i < count → slice_get (seen_by end) i ≡ Some t → Contains texts t ⊎ Q t) → WasFull next count (known_at end)
+      → (count ≡ limit) × IsFullBy (λ t. Contains texts t ⊎ Q t) next count
+  full_of apart Q next count which full = (
     full.limit ∙ (ap limit_in about_is ∙ has.1),
     record {
       texts = full.front;
       all = sym full.all;
       distinct = distinct_front full.front (seen_by end) full.begins apart;
-      each = λ i d lt. there_or_given i (get_or full.front i d) (prefix_get full.front (seen_by end) i (get_or full.front i d) full.begins (slice_get-get_or full.front i d lt));
+      each = λ i d lt. which i (get_or full.front i d) (omega (arith, full.all, lt)) (prefix_get full.front (seen_by end) i (get_or full.front i d) full.begins (slice_get-get_or full.front i d lt));
       text = full.text;
       is = full.is;
       new = full.new;
     },
   )
+
+  -- it was full of texts of before and given ones, and one more was met
+  pub full_given : AreDistinct (seen_by end) → (next : List ℕ → Type 0) (count : ℕ) → WasFull next count (known_at end) → (count ≡ limit) × IsFullBy (λ t. Contains texts t ⊎ P t) next count
+  full_given apart next count full = full_of apart P next count (λ i t lt at. there_or_given i t at) full
+
+  -- so it was where those that passes added are such texts
+  pub full_filled : AreDistinct (seen_by end) → (Q next : List ℕ → Type 0) (count : ℕ) → WasFilledBy Q next count end → (count ≡ limit) × IsFullBy (λ t. Contains texts t ⊎ Q t) next count
+  full_filled apart Q next count filled = full_of apart Q next count (λ i t lt at. by_place i t lt at) filled.full
+    where
+      by_place : (i : ℕ) (t : List ℕ) → i < count → slice_get (seen_by end) i ≡ Some t → Contains texts t ⊎ Q t
+      by_place i t lt at = ⊎_elim
+          (λ (low : i < length texts). inl (there_below i t low at))
+          (λ (le : length texts ≤ i). let long = ap length has.0 in
+          let a = owned (record { first = first; start = length o.book.texts; fixed = o.book.limit }) i t about_is (omega arith) at in
+          inr (filled.each a.0 i t a.1 a.3 lt)) (cases_lt i (length texts))
 
 module _ {S D : Type 0} {d : DiskGhosts D} {G : Ghosts BookState (List ℕ) ℕ} (left name : S → Option (List ℕ)) (faults : S → ℕ) (plan : Plan) (js js' : List (Job S)) (before after : Journal D d) (types types' words words' : BookMaker G) where
   pub causes_given : (t_saved w_saved : ℕ)

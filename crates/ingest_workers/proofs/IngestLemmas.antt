@@ -1,10 +1,11 @@
 -- What an ingest leaves, from what its workers did over the store.
-use Rattle.std.proofs.Common.{◌≡◌, ℕ, zero, suc, ◌+◌, ◌-◌, ◌^◌, ◌<◌, ◌≤◌, Bool, true, false, List, [], ◌∷◌, ◌++◌, length, map, drop, take, sym, refl, ap, ap₂, ◌∙◌, subst, ⊎_elim, inl, inr, arith, Option, None, Some, is_some, slice_get, All, append-nil, append_assoc}
+use Rattle.std.proofs.Common.{◌≡◌, ℕ, zero, suc, ◌+◌, ◌-◌, ◌^◌, ◌<◌, ◌≤◌, Bool, false, List, [], ◌∷◌, ◌++◌, length, map, drop, take, sym, refl, ap, ap₂, ◌∙◌, subst, ⊎_elim, inl, inr, arith, Option, None, Some, is_some, slice_get, All, append-nil, append_assoc}
 use Rattle.std.specs.List.{filter_map, cons_option}
 use Rattle.std.proofs.lemmas.Option.{slice_get_within, slice_get-get_or}
 use Rattle.std.proofs.lemmas.Bool.{cases_lt}
 use mathlib.Core.List.{IsPrefix}
 use Rattle.log_seams.specs.declared.disk.Disk.{Ghosts as DiskGhosts}
+use Rattle.log_seams.specs.Disk.{DiskState}
 use Rattle.log_seams.specs.Outside.{Rose}
 use Rattle.record_format.specs.declared.header.Header.{Header}
 use Rattle.record_format.specs.Header.{IsHeader}
@@ -14,6 +15,7 @@ use Rattle.turn_lock.specs.declared.grows.Grows.{Ghosts}
 use Rattle.turn_lock.specs.Words.{lock_of, made_by, seen, own_list, about, number_of, IsReady, IsFreshOf, IsStillBy}
 use Rattle.ingest_fork.specs.Passes.{Fresh}
 use Rattle.ingest_fork.specs.Picked.{entries_in}
+use Rattle.ingest_fork.specs.Works.{Done}
 use Rattle.ingest_fork.proofs.PlaceLemmas.{at_right, there_is}
 use Rattle.dict_core.specs.Books.{BookState}
 use Rattle.dict_core.specs.declared.grows.TheConstants.{WORDS_FIRST}
@@ -38,18 +40,18 @@ use Rattle.ingest_workers.specs.declared.worker.Plan.{Plan}
 use Rattle.ingest_workers.specs.declared.worker.Worker.{Worker}
 use Rattle.ingest_workers.specs.JobDone.{IsDone}
 use Rattle.ingest_workers.specs.Journal.{Holds}
-use Rattle.ingest_workers.specs.Worker.{IsIdle, books_in, types_of as types_pass, words_of as words_pass}
+use Rattle.ingest_workers.specs.Worker.{DidJob, DidOnly, IsIdle, books_in, types_of as types_pass, words_of as words_pass}
 use Rattle.ingest_workers.specs.Crew.{BookMaker, HavePlan, HasEnrolled}
 use Rattle.ingest_workers.specs.Locked.{in_file, file_segment, list_of, list_behind, IsPassOf, IsStillStore, MayDoAt, HasWorked}
 use Rattle.ingest_workers.specs.Ingested.{first_file, told_entries, AreNew, IsOfJobs, OpensBook, opened_over, IsLeftBy, IsAsItWas, IsFileOf, HadNoRoomOver, HasStored, HasItsCause, HaveCausesIn, grounds_over}
 use Rattle.ingest_workers.specs.NoRoom.{FoundNoRoom, HadNoRoom, IsBetween, WereKnown}
 use Rattle.ingest_workers.proofs.NoRoomLemmas.{no_room_on}
 use Rattle.row_codec.specs.declared.namer.Which.{Which}
+use Rattle.row_codec.specs.Naming.{Known}
 use Rattle.turn_lock.proofs.FrontLemmas.{prefix_trans}
 use Rattle.ingest_workers.specs.Causes.{grounds_of, log_of}
-use Rattle.ingest_workers.specs.Desk.{AreAlike}
 use Rattle.ingest_workers.specs.Full.{AreFirstOf, Books, IsMore, IsNextOf, WasFullBehind, book_of}
-use Rattle.ingest_workers.proofs.FullLemmas.{full_wider}
+use Rattle.ingest_workers.proofs.FullLemmas.{books_on, full_wider}
 use Rattle.ingest_workers.proofs.CauseLemmas.{cause_on}
 use Rattle.ingest_workers.specs.Closing.{IsJournalOf}
 use Rattle.ingest_workers.proofs.FileLemmas.{file_of}
@@ -150,6 +152,21 @@ opens_as {D} {d} after store back may =
     At : ℕ → D → Header → ℕ → ℕ → Bool → Type 0
     At n x h p c b = MayOpen (record { name = n; disk = d.state x; header = h; place = p; count = c; closed = b })
 
+more_then : (a b c : Known) → IsMore a b → IsMore b c → IsMore a c
+more_then a b c one two = record { front = prefix_trans a.texts b.texts c.texts one.front two.front; limit = two.limit ∙ one.limit }
+
+-- what a worker knew of the books before it did more jobs is known at the end
+pub known_on : {S : Type 0} (left : S → Option (List ℕ)) (js js' : List (Job S)) (a v : Worker) (books : Books) → DidOnly left js js' a v → ((book : Which) → IsMore (book_of (books_in v) book) (book_of books book))
+    → (book : Which) → IsMore (book_of (books_in a) book) (book_of books book)
+known_on left js js' a v books goes more book = more_then (book_of (books_in a) book) (book_of (books_in v) book) (book_of books book)
+    (books_on (types_pass a) (types_pass v) (words_pass a) (words_pass v) goes.names.types.goes goes.names.words.goes book) (more book)
+
+-- a job was done by the plan of all workers
+pub done_by : {S D : Type 0} (state : D → DiskState) (left name : S → Option (List ℕ)) (faults : S → ℕ) (plan : Plan) (ws ws' : List Worker) (js js' : List (Job S)) (ks' : List (KeeperPass D)) (i : ℕ) (j : Job S) (k : KeeperPass D)
+    (f : Done (DidOnly left) (DidJob state left name faults) ws ws' js js' ks' i j k) → HavePlan plan ws → IsDone state left name faults plan.rows plan.version (books_in f.after) j k f.job f.keeper
+done_by state left name faults plan ws ws' js js' ks' i j k f planned = subst (λ (x : Plan). IsDone state left name faults x.rows x.version (books_in f.after) j k f.job f.keeper)
+    (f.came.plan ∙ planned f.place f.first f.first_is) f.did_it.done
+
 module _ {S D : Type 0} {d : DiskGhosts D} (left name : S → Option (List ℕ)) (faults : S → ℕ) where
   module _ (before after : Journal D d) (types words : BookPass) (t w : ℕ) (store : StoreView D) where
     abbrev opened : StoreView D
@@ -195,7 +212,7 @@ module _ {S D : Type 0} {d : DiskGhosts D} (left name : S → Option (List ℕ))
         behind = ap (drop (length (list_of d.state opened))) (sym h.front.1) ∙ drop_front (list_of d.state opened) h.front.0
 
         number_at : (i : ℕ) (job : Job S) (q : KeeperPass D) → slice_get js i ≡ Some job → slice_get h.passes' i ≡ Some q → number_of q ≡ job.file
-        number_at i job q at is = let r = did_at d.state left name faults (books_in h.knows) ws js js' h.passes h.passes' h.counted h.done i q is in
+        number_at i job q at is = let r = did_at d.state left name faults ws ws' js js' h.passes h.passes' h.counted h.done i q is in
             r.2.added.still.number ∙ ((h.opened i r.0 r.1).number ∙ sym (new i job at).file_is)
 
         each : (k : ℕ) (x : StoreEntry) → slice_get (list_behind d.state opened store) k ≡ Some x → OfEntry (IsOfJobs js) x
@@ -212,11 +229,11 @@ module _ {S D : Type 0} {d : DiskGhosts D} (left name : S → Option (List ℕ))
         file : (i : ℕ) (job : Job S) → slice_get js i ≡ Some job → (new : Job S) × (slice_get js' i ≡ Some new) × IsFileOf left plan before (journal_seen (list_behind d.state opened store)) job new
         file i job at = let even = h.counted in let lt = slice_get_within js i job at in let p = there_is h.passes i (omega arith) in
             let f = h.done.each i job p.0 at p.1 in let o = h.opened i p.0 p.1 in let n = number_at i job f.keeper at f.keeper_is in
-            let done : IsDone d.state left name faults plan.rows plan.version (books_in h.knows) job p.0 f.job f.keeper = subst (λ (x : Plan). IsDone d.state left name faults x.rows x.version (books_in h.knows) job p.0 f.job f.keeper) (planned f.place f.worker f.worker_is) f.did_it in
+            let done = done_by d.state left name faults plan ws ws' js js' h.passes' i job p.0 f planned in
             let number : number_of p.0 ≡ job.file = o.number ∙ sym (new i job at).file_is in (
               f.job,
               f.job_is,
-              file_of left name faults plan before (journal_seen (list_behind d.state opened store)) job f.job p.0 f.keeper (record { first = first; start = length (list_of d.state opened); fixed = fixed_of opened }) (books_in h.knows) done number o.about_is refl refl o.own_is
+              file_of left name faults plan before (journal_seen (list_behind d.state opened store)) job f.job p.0 f.keeper (record { first = first; start = length (list_of d.state opened); fixed = fixed_of opened }) (books_in f.after) done number o.about_is refl refl o.own_is
                   (subst (λ (x : ℕ). filter_map (in_file x) (journal_seen (list_behind d.state opened store)) ≡ filter_map (in_file x) (journal_seen (entries_in (own_list f.keeper)))) n
                   (sym (picked_seen (number_of f.keeper) (list_behind d.state opened store)) ∙ (h.files i f.keeper f.keeper_is ∙ picked_seen (number_of f.keeper) (entries_in (own_list f.keeper)))))
                   (subst (λ es. IsPrefix (journal_seen (seen f.keeper)) es) all_now (seen_front (seen f.keeper) (list_of d.state store) (h.seen_on i f.keeper f.keeper_is))),
@@ -285,7 +302,8 @@ module _ {S D : Type 0} {d : DiskGhosts D} (left name : S → Option (List ℕ))
         each : (i : ℕ) (job : Job S) → slice_get js i ≡ Some job → (new : Job S) × (slice_get js' i ≡ Some new) × HasItsCause full (WereKnown books) left name faults plan before after job new
         each i job at = let even = h.counted in let lt = slice_get_within js i job at in let p = there_is h.passes i (omega arith) in
             let f = h.done.each i job p.0 at p.1 in let o = h.opened i p.0 p.1 in
-            let done : IsDone d.state left name faults plan.rows plan.version (books_in h.knows) job p.0 f.job f.keeper = subst (λ (x : Plan). IsDone d.state left name faults x.rows x.version (books_in h.knows) job p.0 f.job f.keeper) (planned f.place f.worker f.worker_is) f.did_it in
+            let done = done_by d.state left name faults plan ws ws' js js' h.passes' i job p.0 f planned in
+            let known = known_on left f.rest f.rest' f.after f.last books f.goes (more f.place f.last f.last_is) in
             let log = log_of left faults done.source.before done.source.after in (
               f.job,
               f.job_is,
@@ -294,9 +312,9 @@ module _ {S D : Type 0} {d : DiskGhosts D} (left name : S → Option (List ℕ))
                 sealed = done.came.covered;
                 count = done.came.count;
                 first = done.came.first;
-                cause = cause_on (grounds_of d.state plan.rows plan.version (books_in h.knows) (left done.source.before) p.0 f.keeper) (grounds_over full (WereKnown books) plan job.file (left done.source.before) before after) log plan.version done.came.covered f.job.outcome.cause
-                    (full_wider plan.version (IsNextOf plan.version (left done.source.before) done.came.covered) (IsNextOf plan.version (left done.source.before) done.came.covered) (λ m is. is) (books_in h.knows) books (more h.place h.knows h.knows_is))
-                    (room_over first plan i job.file (left done.source.before) (books_in h.knows) books p.0 f.keeper o (o.number ∙ sym (new i job at).file_is) (h.seen_on i f.keeper f.keeper_is) back (more h.place h.knows h.knows_is) done.came.covered)
+                cause = cause_on (grounds_of d.state plan.rows plan.version (books_in f.after) (left done.source.before) p.0 f.keeper) (grounds_over full (WereKnown books) plan job.file (left done.source.before) before after) log plan.version done.came.covered f.job.outcome.cause
+                    (full_wider plan.version (IsNextOf plan.version (left done.source.before) done.came.covered) (IsNextOf plan.version (left done.source.before) done.came.covered) (λ m is. is) (books_in f.after) books known)
+                    (room_over first plan i job.file (left done.source.before) (books_in f.after) books p.0 f.keeper o (o.number ∙ sym (new i job at).file_is) (h.seen_on i f.keeper f.keeper_is) back known done.came.covered)
                     (λ since now has. (
                       has.fault.opened _ o.about_is,
                       subst (λ n. Rose n (state_of after).disk.faults) (sym (has.fault.opened _ o.about_is))
@@ -454,14 +472,3 @@ module _ {G : Ghosts BookState (List ℕ) ℕ} where
         record { types_ready = t.2; words_ready = w.2; adds_types = omega arith; adds_words = omega arith },
         (t.0, w.0),
       )
-
-  -- and all are of the same locks
-  pub crew_alike : (t1 t2 w1 w2 : BookMaker G) (plan : Plan) (vs : List Worker) (count : ℕ) → HasEnrolled t1 t2 w1 w2 plan vs count → AreAlike vs
-  crew_alike t1 t2 w1 w2 plan vs count e n k v u at_v at_u =
-      let t = e.of_types.each n (types_pass v) (map_at types_pass vs n v at_v) in let x = e.of_types.each k (types_pass u) (map_at types_pass vs k u at_u) in
-      let w = e.of_words.each n (words_pass v) (map_at words_pass vs n v at_v) in let y = e.of_words.each k (words_pass u) (map_at words_pass vs k u at_u) in record {
-        types = t.lock ∙ sym x.lock;
-        words = w.lock ∙ sym y.lock;
-        types_about = t.about_is ∙ sym x.about_is;
-        words_about = w.about_is ∙ sym y.about_is;
-      }

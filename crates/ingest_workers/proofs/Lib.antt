@@ -8,10 +8,10 @@ pub mod MaySealLemmas
 pub mod NoRoomLemmas
 pub mod CrewLemmas
 pub mod LockLemmas
-pub mod DeskLemmas
 pub mod IngestLemmas
 pub mod ClosingLemmas
 pub mod GivenLemmas
+pub mod InTurnLemmas
 pub mod PartLemmas
 pub mod DoingLemmas
 pub mod DoneLemmas

@@ -25,8 +25,7 @@ use Rattle.disk_seal.specs.May.{MayAdd}
 use Rattle.ingest_workers.specs.declared.job.Job.{Job}
 use Rattle.ingest_workers.specs.declared.worker.Worker.{Worker}
 use Rattle.ingest_workers.specs.Journal.{HasAdded}
-use Rattle.ingest_workers.specs.Full.{Books}
-use Rattle.ingest_workers.specs.Worker.{DidJob, books_in}
+use Rattle.ingest_workers.specs.Worker.{DidJob, DidOnly}
 use Rattle.ingest_workers.specs.Locked.{KeeperMaker, file_segment, MayDoAll, MayDoAt, HasDoneAll, HasClosed, HasKept, list_of, IsStillStore, HasWorked}
 
 module _ {X Y : Type 0} {P Q : X → Type 0} where
@@ -60,29 +59,29 @@ pub record Did {D : Type 0} (p q : KeeperPass D) : Type 0 where
   pub more : List (ℕ × StoreEntry)
   pub added : HasAdded p q more
 
-module _ {S D : Type 0} (state : D → DiskState) (left name : S → Option (List ℕ)) (faults : S → ℕ) (books : Books) where
+module _ {S D : Type 0} (state : D → DiskState) (left name : S → Option (List ℕ)) (faults : S → ℕ) (ws ws' : List Worker) (js js' : List (Job S)) (ks qs : List (KeeperPass D)) (even : length ks ≡ length js)
+    (all : AllDone (DidOnly left) (DidJob state left name faults) ws ws' js js' ks qs) where
   -- the pass at a place after the jobs were done is the pass of before, which added some entries
-  pub did_at : (ws : List Worker) (js js' : List (Job S)) (ks qs : List (KeeperPass D)) → length ks ≡ length js → AllDone (DidJob state left name faults books) ws js ks js' qs
-      → (i : ℕ) (q : KeeperPass D) → slice_get qs i ≡ Some q → (p : KeeperPass D) × (slice_get ks i ≡ Some p) × Did p q
-  did_at ws js js' ks qs even all i q at = let keepers = all.keepers in let lt = slice_get_within qs i q at in let k = there_is ks i (omega arith) in let j = there_is js i (omega arith) in
+  pub did_at : (i : ℕ) (q : KeeperPass D) → slice_get qs i ≡ Some q → (p : KeeperPass D) × (slice_get ks i ≡ Some p) × Did p q
+  did_at i q at = let keepers = all.keepers in let lt = slice_get_within qs i q at in let k = there_is ks i (omega (arith, keepers, lt)) in let j = there_is js i (omega (arith, keepers, lt, even)) in
       let d = all.each i j.0 k.0 j.1 k.1 in let same : d.keeper ≡ q = cc (d.keeper_is, at) in
-      (k.0, k.1, subst (λ (x : KeeperPass D). Did k.0 x) same (record { more = d.did_it.came.done.more; added = d.did_it.came.done.added }))
+      (k.0, k.1, subst (λ (x : KeeperPass D). Did k.0 x) same (record { more = d.did_it.done.came.done.more; added = d.did_it.done.came.done.added }))
 
-  are_still : (ws : List Worker) (js js' : List (Job S)) (ks qs : List (KeeperPass D)) → length ks ≡ length js → AllDone (DidJob state left name faults books) ws js ks js' qs → AreStill ks qs
-  are_still ws js js' ks qs even all = record {
+  are_still : AreStill ks qs
+  are_still = record {
     counted = all.keepers;
-    each = λ i p q one two. let r = did_at ws js js' ks qs even all i q two in let same : r.0 ≡ p = cc (one, r.1) in subst (λ (x : KeeperPass D). IsStill x q) same r.2.added.still;
+    each = λ i p q one two. let r = did_at i q two in let same : r.0 ≡ p = cc (one, r.1) in subst (λ (x : KeeperPass D). IsStill x q) same r.2.added.still;
   }
 
 module _ {S D : Type 0} {G : Ghosts (StoreView D) StoreEntry (StoreFixed D)} (state : D → DiskState) (left name : S → Option (List ℕ)) (faults : S → ℕ) where
-  pub joinable : (books : Books) (m m' : KeeperMaker D G) (ws : List Worker) (js js' : List (Job S)) (ks qs : List (KeeperPass D)) → Fresh m m' ks (length js) → AllDone (DidJob state left name faults books) ws js ks js' qs → AreJoinable m' qs
-  joinable books m m' ws js js' ks qs fresh all i q at = let r = did_at state left name faults books ws js js' ks qs fresh.counted all i q at in let was = fresh.each i r.0 r.1 in
+  pub joinable : (m m' : KeeperMaker D G) (ws ws' : List Worker) (js js' : List (Job S)) (ks qs : List (KeeperPass D)) → Fresh m m' ks (length js) → AllDone (DidOnly left) (DidJob state left name faults) ws ws' js js' ks qs → AreJoinable m' qs
+  joinable m m' ws ws' js js' ks qs fresh all i q at = let r = did_at state left name faults ws ws' js js' ks qs fresh.counted all i q at in let was = fresh.each i r.0 r.1 in
       (r.2.added.still.lock ∙ (was.lock ∙ sym fresh.still.lock), r.2.added.ready)
 
   -- the first passes of the lock are joined, and no other was made
   pub all_ended : (m end : KeeperMaker D G) (ws ws' : List Worker) (js js' : List (Job S)) → made_by m ≡ 0 → HasDoneAll state left name faults m end ws ws' js js' → HasJoinedAll end
   all_ended m end ws ws' js js' none h = all_joined m h.middle h.middle end h.passes h.passes' (length js) h.fresh
-      (are_still state left name faults (books_in h.knows) ws js js' h.passes h.passes' h.fresh.counted h.done)
+      (are_still state left name faults ws ws' js js' h.passes h.passes' h.fresh.counted h.done)
       (record { about_is = refl; made = refl; others = λ a n is low high. absurd (omega arith) }) h.joined
 
   pub has_worked : (m : KeeperMaker D G) (first : ℕ) (ws ws' : List Worker) (js js' : List (Job S)) (before after : StoreView D) → IsOpening m first (list_of state before) (fixed_of before)
@@ -100,9 +99,6 @@ module _ {S D : Type 0} {G : Ghosts (StoreView D) StoreEntry (StoreFixed D)} (st
       own_is = f.own_is;
     };
     went = h.done.went;
-    place = h.done.place;
-    knows = h.done.knows;
-    knows_is = h.done.knows_is;
     done = h.done.done;
     files = λ i q at. let mine = h.done.joined.each i q (omega arith) at in
         subst (λ l. filter_map (file_segment (number_of q)) (drop (length (list_of state before)) l) ≡ filter_map (file_segment (number_of q)) (entries_in (own_list q))) (sym h.entries)
@@ -126,7 +122,7 @@ module _ {S D : Type 0} {G : Ghosts (StoreView D) StoreEntry (StoreFixed D)} (st
       none_added n has = let none : ended_by h.done.middle ≡ [] = h.done.fresh.still.ended ∙ o.ended in absurd (subst (λ l. Has l n) none has)
 
       past : (i : ℕ) (q : KeeperPass D) → slice_get h.done.passes' i ≡ Some q → IsPast (length (list_of state before)) (own_list q)
-      past i q at = let r = did_at state left name faults (books_in h.done.knows) ws js js' h.done.passes h.done.passes' h.done.fresh.counted h.done.done i q at in let f = h.done.fresh.each i r.0 r.1 in
+      past i q at = let r = did_at state left name faults ws ws' js js' h.done.passes h.done.passes' h.done.fresh.counted h.done.done i q at in let f = h.done.fresh.each i r.0 r.1 in
           let own : own_list q ≡ r.2.more = r.2.added.own ∙ ap (λ l. l ++ r.2.more) f.own_is in
           let seen_is : seen r.0 ≡ list_of state before = f.seen_is ∙ o.seen_is in
           subst (λ l. IsPast (length (list_of state before)) l) (sym own) (subst (λ l. IsPast (length l) r.2.more) seen_is r.2.added.behind)
@@ -144,9 +140,6 @@ module _ {S D : Type 0} {G : Ghosts (StoreView D) StoreEntry (StoreFixed D)} (st
   ))
 
 module _ {D : Type 0} {G : Ghosts (StoreView D) StoreEntry (StoreFixed D)} (state : D → DiskState) where
-  pub none_ended : (m : KeeperMaker D G) → made_by m ≡ 0 → HasJoinedAll m
-  none_ended m none a n is low high = absurd (omega arith)
-
   pub is_still : (m : KeeperMaker D G) (first : ℕ) (before after : StoreView D) → IsOpening m first (list_of state before) (fixed_of before) → HasKept state m after → IsStillStore state before after
   is_still m first before after o h = record { fixed = h.fixed _ o.about_is; entries = h.entries ∙ o.seen_is }
 

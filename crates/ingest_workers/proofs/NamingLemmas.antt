@@ -1,16 +1,21 @@
 -- What a worker's namer has named, over several calls.
-use Rattle.std.proofs.Common.{◌≡◌, ℕ, List, [], refl, sym, ap, ◌∙◌, subst}
-use Rattle.std.proofs.lemmas.List.Elements.{All-weaker, All-nil}
+use Rattle.std.proofs.Common.{◌≡◌, ⊎_elim, ℕ, ◌≤◌, List, [], ◌++◌, length, refl, sym, ap, ◌∙◌, subst, arith, append_assoc, Option, None, Some}
+use Rattle.std.proofs.lemmas.List.Elements.{All-append, All-weaker, All-nil}
 use Rattle.turn_lock.specs.Words.{seen, own_list, about, lock_of, number_of, IsReady}
-use Rattle.turn_lock.proofs.FrontLemmas.{prefix_self, prefix_trans}
+use Rattle.turn_lock.proofs.FrontLemmas.{prefix_length, prefix_self, prefix_trans}
+use Rattle.row_codec.specs.declared.namer.NameRefusal.{NameRefusal}
+use Rattle.row_codec.specs.declared.namer.Which.TheVariants.{Types}
 use Rattle.row_codec.specs.Messages.{IsTypeOf, IsWordOf}
-use Rattle.row_codec.specs.Naming.{HasGrown, Known}
+use Rattle.row_codec.specs.Naming.{GoesOnWith, HasGrown, Known}
 use Rattle.row_codec.proofs.BooksLemmas.{grows_self, grows_then}
-use Rattle.dict_lock.specs.Shared.{BookPass, GoesOn}
+use Rattle.dict_lock.specs.Shared.{BookPass, GoesOn, OwnsBehind}
 use Rattle.disk_seal.specs.declared.namer.LockNamer.{LockNamer}
 use Rattle.disk_seal.specs.Known.{known_of, limit_in}
+use Rattle.disk_seal.specs.Naming.{NamesIn}
+use Rattle.ingest_workers.specs.declared.stop.Stop.{Stop}
 use Rattle.ingest_workers.specs.Namer.{HasOnlySeen, types_pass, words_pass}
 use Rattle.ingest_workers.specs.Naming.{AddsOnly, HasNamed}
+use Rattle.ingest_workers.specs.Turns.{HasAsked, MayAsk, type_by, word_by}
 use Rattle.std.specs.Prelude.{map}
 use Rattle.std.proofs.lemmas.List.{append-nil}
 
@@ -26,19 +31,38 @@ goes_then p q r one two = record {
   seen_on = prefix_trans (seen p) (seen q) (seen r) one.seen_on two.seen_on;
 }
 
+-- the text's number is not one of so many
+abbrev from_on : ℕ → ℕ × List ℕ → Type 0
+from_on low x = low ≤ x.0
+
+owns_none : (p q : BookPass) → own_list q ≡ own_list p → OwnsBehind p q
+owns_none p q same = record { more = []; is = same ∙ sym (append-nil (own_list p)); behind = All-nil (from_on (length (seen p))) }
+
+owns_then : (p q r : BookPass) → length (seen p) ≤ length (seen q) → OwnsBehind p q → OwnsBehind q r → OwnsBehind p r
+owns_then p q r le one two = record {
+  more = one.more ++ two.more;
+  is = two.is ∙ (ap (λ l. l ++ two.more) one.is ∙ append_assoc (own_list p) one.more two.more);
+  behind = All-append (from_on (length (seen p))) one.more two.more one.behind (All-weaker (from_on (length (seen q))) (from_on (length (seen p))) (λ x high. omega (arith, le, high)) two.more two.behind);
+}
+
 adds_self : (P : List ℕ → Type 0) (p : BookPass) → IsReady p → AddsOnly P p p
 adds_self P p ready = record {
   goes = record { still = record { lock = refl; number = refl; about_is = refl }; ready = ready; seen_on = prefix_self (seen p) };
   grown = grows_self P (known_of p);
+  own = owns_none p p refl;
 }
 
-pub adds_then : (P : List ℕ → Type 0) (p q r : BookPass) → AddsOnly P p q → AddsOnly P q r → AddsOnly P p r
-adds_then P p q r one two = record { goes = goes_then p q r one.goes two.goes; grown = grows_then P (known_of p) (known_of q) (known_of r) one.grown two.grown }
+adds_then : (P : List ℕ → Type 0) (p q r : BookPass) → AddsOnly P p q → AddsOnly P q r → AddsOnly P p r
+adds_then P p q r one two = record {
+  goes = goes_then p q r one.goes two.goes;
+  grown = grows_then P (known_of p) (known_of q) (known_of r) one.grown two.grown;
+  own = owns_then p q r (prefix_length (seen p) (seen q) one.goes.seen_on) one.own two.own;
+}
 
 adds_wider : (P Q : List ℕ → Type 0) → ((t : List ℕ) → P t → Q t) → (p q : BookPass) → AddsOnly P p q → AddsOnly Q p q
-adds_wider P Q wider p q adds = record { goes = adds.goes; grown = grown_wider P Q wider (known_of p) (known_of q) adds.grown }
+adds_wider P Q wider p q adds = record { goes = adds.goes; grown = grown_wider P Q wider (known_of p) (known_of q) adds.grown; own = adds.own }
 
-pub adds_none : (P : List ℕ → Type 0) (p q : BookPass) → GoesOn p q → own_list q ≡ own_list p → AddsOnly P p q
+adds_none : (P : List ℕ → Type 0) (p q : BookPass) → GoesOn p q → own_list q ≡ own_list p → AddsOnly P p q
 adds_none P p q goes own = record {
   goes = goes;
   grown = record {
@@ -48,21 +72,17 @@ adds_none P p q goes own = record {
     added = ap (λ (l : List (ℕ × List ℕ)). map (λ x. x.1) l) own ∙ sym (append-nil (known_of p).added);
     allowed = All-nil P;
   };
+  own = owns_none p q own;
 }
 
-adds_grown : (P : List ℕ → Type 0) (p q : BookPass) → lock_of q ≡ lock_of p → number_of q ≡ number_of p → about q ≡ about p → IsReady q → HasGrown P (known_of p) (known_of q) → AddsOnly P p q
-adds_grown P p q lock number same ready grown = record {
+adds_grown : (P : List ℕ → Type 0) (p q : BookPass) → lock_of q ≡ lock_of p → number_of q ≡ number_of p → about q ≡ about p → IsReady q → HasGrown P (known_of p) (known_of q) → OwnsBehind p q → AddsOnly P p q
+adds_grown P p q lock number same ready grown own = record {
   goes = record { still = record { lock = lock; number = number; about_is = same }; ready = ready; seen_on = grown.front };
   grown = grown;
+  own = own;
 }
 
 -- ---- both
-
-abbrev type_by : (List ℕ → Type 0) → ℕ → List ℕ → Type 0
-type_by P version t = (x : List ℕ) × P x × IsTypeOf version x t
-
-abbrev word_by : (List ℕ → Type 0) → ℕ → List ℕ → Type 0
-word_by P version t = (x : List ℕ) × P x × IsWordOf version x t
 
 module _ {R A B C : Type 0} where
   pub named_self : (P : List ℕ → Type 0) (n : LockNamer R A B C) → HasNamed P n n
@@ -89,17 +109,38 @@ module _ {R A B C : Type 0} where
     words = adds_wider (word_by P m.version) (word_by Q m.version) (λ t is. (is.0, wider is.0 is.1, is.2)) (words_pass m) (words_pass n) named.words;
   }
 
+  -- what a message's texts were asked for stands behind what was seen
+  asked_behind : (line : List ℕ) (m middle n : LockNamer R A B C) (texts : List (List ℕ)) (refusal answer : Option NameRefusal) → NamesIn Types texts refusal m middle
+      → GoesOnWith NamesIn m.version line answer refusal middle n → OwnsBehind (types_pass m) (types_pass n) × OwnsBehind (words_pass m) (words_pass n)
+  asked_behind line m middle n texts None answer named rest = (
+    subst (λ p. OwnsBehind (types_pass m) p) (sym rest.named.3) named.2,
+    subst (λ p. OwnsBehind p (words_pass n)) named.3 rest.named.2,
+  )
+  asked_behind line m middle n texts (Some refusal) answer named rest = subst (λ (o : LockNamer R A B C). OwnsBehind (types_pass m) (types_pass o) × OwnsBehind (words_pass m) (words_pass o)) (sym rest.0)
+      (named.2, owns_none (words_pass m) (words_pass middle) (ap own_list named.3))
+
+  behind_seen : (line : List ℕ) (m n : LockNamer R A B C) (stop : Option Stop) → MayAsk NamesIn m.version line stop m n → OwnsBehind (types_pass m) (types_pass n) × OwnsBehind (words_pass m) (words_pass n)
+  behind_seen line m n stop asked = ⊎_elim
+      (λ (same : n ≡ m). (
+        owns_none (types_pass m) (types_pass n) (ap (λ (o : LockNamer R A B C). own_list (types_pass o)) same),
+        owns_none (words_pass m) (words_pass n) (ap (λ (o : LockNamer R A B C). own_list (words_pass o)) same),
+      ))
+      (λ (h : HasAsked NamesIn m.version line stop m n). asked_behind line m h.asked.middle n _ h.asked.refusal h.refusal h.asked.named h.asked.rest)
+      asked
+
   -- the texts of one message
-  pub named_one : (line : List ℕ) (m n : LockNamer R A B C) → n.version ≡ m.version
+  pub named_one : (line : List ℕ) (m n : LockNamer R A B C) (stop : Option Stop) → n.version ≡ m.version
       → (lock_of (types_pass n) ≡ lock_of (types_pass m)) × (lock_of (words_pass n) ≡ lock_of (words_pass m))
       → (number_of (types_pass n) ≡ number_of (types_pass m)) × (number_of (words_pass n) ≡ number_of (words_pass m))
       → (about (types_pass n) ≡ about (types_pass m)) × (about (words_pass n) ≡ about (words_pass m))
       → HasGrown (IsTypeOf m.version line) (known_of (types_pass m)) (known_of (types_pass n)) → HasGrown (IsWordOf m.version line) (known_of (words_pass m)) (known_of (words_pass n))
-      → HasNamed (λ x. x ≡ line) m n
-  named_one line m n version locks numbers abouts types words = record {
+      → MayAsk NamesIn m.version line stop m n → HasNamed (λ x. x ≡ line) m n
+  named_one line m n stop version locks numbers abouts types words asked = record {
     version = version;
     types = adds_grown (type_by (λ x. x ≡ line) m.version) (types_pass m) (types_pass n) locks.0 numbers.0 abouts.0 n.types.ready
-        (grown_wider (IsTypeOf m.version line) (type_by (λ x. x ≡ line) m.version) (λ t is. (line, refl, is)) (known_of (types_pass m)) (known_of (types_pass n)) types);
+        (grown_wider (IsTypeOf m.version line) (type_by (λ x. x ≡ line) m.version) (λ t is. (line, refl, is)) (known_of (types_pass m)) (known_of (types_pass n)) types)
+        (behind_seen line m n stop asked).0;
     words = adds_grown (word_by (λ x. x ≡ line) m.version) (words_pass m) (words_pass n) locks.1 numbers.1 abouts.1 n.words.ready
-        (grown_wider (IsWordOf m.version line) (word_by (λ x. x ≡ line) m.version) (λ t is. (line, refl, is)) (known_of (words_pass m)) (known_of (words_pass n)) words);
+        (grown_wider (IsWordOf m.version line) (word_by (λ x. x ≡ line) m.version) (λ t is. (line, refl, is)) (known_of (words_pass m)) (known_of (words_pass n)) words)
+        (behind_seen line m n stop asked).1;
   }

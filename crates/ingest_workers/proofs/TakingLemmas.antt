@@ -1,6 +1,8 @@
 -- A worker that takes the messages of a source.
-use Rattle.std.proofs.Common.{◌≡◌, ◌≢◌, ⊎_elim, inl, inr, ℕ, zero, suc, ◌+◌, ◌-◌, ◌<◌, ◌≤◌, List, [], ◌∷◌, ◌++◌, Bool, true, false, length, refl, sym, ap, ◌∙◌, subst, arith, append-nil, append_assoc, length-append, Option, None, Some, Result, Ok, Err}
-use Rattle.std.specs.Prelude.{IfSome, IfNone, IfErr, IsErrOf, OnOk, is_some, not}
+use Rattle.std.proofs.Common.{◌≡◌, ◌≢◌, ⊎_elim, inl, inr, ℕ, zero, suc, ◌+◌, ◌-◌, ◌<◌, ◌≤◌, List, [], ◌∷◌, ◌++◌, Bool, true, false, length, refl, sym, ap, ◌∙◌, subst, arith, append-nil, length-append, Option, None, Some, Result, Ok, Err}
+use Rattle.std.specs.Prelude.{IfSome, IfNone, IfErr, IsErrOf, OnOk, is_some, not, take}
+use Rattle.std.proofs.Math.Nat.{add-sub_of_le}
+use Rattle.std.proofs.Math.Seq.{take-append-add}
 use Rattle.std.specs.List.{Contains, flat_map}
 use Rattle.std.proofs.lemmas.Bool.{ne_eqb}
 use Rattle.std.proofs.lemmas.List.Elements.{All-nil, Contains-append_left, Contains-push}
@@ -37,7 +39,7 @@ use Rattle.line_cut.specs.declared.cut.Mark.{Mark}
 use Rattle.ingest_workers.specs.Causes.{HasJobCause, HasSealCause, HaveMoreThan, IsFullCause, Log, cause_by, grounds_of, log_from, log_of}
 use Rattle.ingest_workers.specs.NoRoom.{FoundNoRoom}
 use Rattle.row_codec.specs.declared.namer.Which.{Which}
-use Rattle.ingest_workers.specs.Full.{AreFirstOf, Books, IsMore, IsNextOf, WasFullBehind, WasFullFor, book_of, books_by}
+use Rattle.ingest_workers.specs.Full.{AreFirstOf, Books, IsAmongFirst, IsMore, IsNextOf, WasFullBehind, WasFullFor, book_of, books_by}
 use Rattle.ingest_workers.specs.Namer.{HasOnlySeen}
 use Rattle.ingest_workers.proofs.FullLemmas.{books_on, full_wider, more_self}
 use Rattle.ingest_workers.specs.Doing.{Doing, NotSealed}
@@ -48,16 +50,17 @@ use Rattle.ingest_workers.specs.Journal.{FrontHolds, HasSoFar}
 use Rattle.ingest_workers.specs.MaySeal.{IsWorker}
 use Rattle.ingest_workers.specs.Namer.{types_pass, words_pass, types_seen, words_seen}
 use Rattle.ingest_workers.specs.Naming.{HasNamed}
+use Rattle.ingest_workers.specs.Outcome.{met_by, unsealed_by}
 use Rattle.ingest_workers.specs.Parts.{Part, IsCut, IsOpen, columns_of, front, messages_in, segments_from}
 use Rattle.ingest_workers.specs.Stopping.{IsAtStop}
-use Rattle.ingest_workers.specs.Taking.{AreTaken, HasLearned, HasStopCause, IsOneOf, StopsAt, Taking, Took, mark_of, why_of}
+use Rattle.ingest_workers.specs.Taking.{AreTaken, HasLearned, HasStopCause, StopsAt, Taking, Took, mark_of, why_of}
 use Rattle.ingest_workers.proofs.CauseLemmas.{cause_on, name_cause, of_log, of_seal}
 use Rattle.ingest_workers.proofs.MaySealLemmas.{nothing_added}
-use Rattle.ingest_workers.proofs.NamingLemmas.{named_then, named_wider}
+use Rattle.ingest_workers.proofs.NamingLemmas.{named_only, named_self, named_then, named_wider}
 use Rattle.ingest_workers.proofs.NoRoomLemmas.{found_on}
 use Rattle.ingest_workers.proofs.SealLemmas.{if_told, of_told}
 use Rattle.ingest_workers.specs.Stop.{refused_by}
-use Rattle.ingest_workers.specs.Turns.{LearnBoth, TakesFewOf, EndBoth, spare_of, stop_in, unsealed_by}
+use Rattle.ingest_workers.specs.Turns.{LearnBoth, TakesFewOf, EndBoth, spare_of, stop_in}
 use Rattle.ingest_workers.proofs.TurnsLemmas.{learn_self, learn_then, learn_wider, take_few, take_none}
 
 abbrev Texts : Type 0
@@ -102,13 +105,6 @@ last_open (y ∷ z ∷ xs) x is = last_open (z ∷ xs) x is
 
 -- ---- what the source tells
 
-contains_at : (xs : Texts) (x : List ℕ) (rest : Texts) → Contains (xs ++ x ∷ rest) x
-contains_at [] x rest = (zero, omega arith, refl)
-contains_at (y ∷ xs) x rest = let more = contains_at xs x rest in (suc more.0, omega (arith, more.1), more.2)
-
-contains_last : (xs : Texts) (x : List ℕ) (all : Texts) → IsPrefix (xs ++ x ∷ []) all → Contains all x
-contains_last xs x all f = subst (λ l. Contains l x) (sym (append_assoc xs (x ∷ []) f.0) ∙ f.1) (contains_at xs x f.0)
-
 -- they are the first ones, and all
 abbrev AreFirst : ℕ → Texts → List ℕ → Type 0
 AreFirst version taken b = (messages : Texts) (e : Bool) → MessagesOf version b messages e → IsPrefix taken messages
@@ -123,6 +119,16 @@ front_of left version bytes taken r h =
 all_of : (version : ℕ) (bytes : Option (List ℕ)) (taken : Texts) (ended : Bool) → IfSome bytes (λ b. MessagesOf version b taken ended) → IfSome bytes (AreAll version taken ended)
 all_of version bytes taken ended told =
     if_some bytes (λ b. MessagesOf version b taken ended) (AreAll version taken ended) (λ b mine messages e m. messages_agree version b taken messages ended e mine m) told
+
+-- they are among the first ones, as many as there are or more
+among_first : (version : ℕ) (bytes : Option (List ℕ)) (met : Texts) (count : ℕ) → AreFirstOf version bytes met → length met ≤ count → (x : List ℕ) → Contains met x → IsAmongFirst version bytes count x
+among_first version bytes met count first le x is =
+    if_some bytes (AreFirst version met) (λ b. (messages : Texts) (e : Bool) → MessagesOf version b messages e → Contains (take count messages) x)
+    (λ b are messages e m. let f = are messages e m in subst (λ l. Contains (take count l) x) f.1 (in_front f.0)) first
+  where
+    in_front : (rest : Texts) → Contains (take count (met ++ rest)) x
+    in_front rest = let behind = take (count - length met) rest in
+        subst (λ n. Contains (take n (met ++ rest)) x) (add-sub_of_le le) (subst (λ l. Contains l x) (sym (take-append-add met rest (count - length met))) (Contains-append_left met behind x is))
 
 -- more is left than as many messages as the limit
 text_of : (version : ℕ) (rest : List ℕ) (messages : Texts) (ended : Bool) → MessagesOf version rest messages ended → messages ≡ [] → 0 < length rest → ⊥
@@ -192,6 +198,7 @@ module _ {S D R A B C : Type 0} (state : D → DiskState) (left : S → Option (
     few = omega arith;
     first = front_of left n.version bytes taken old t.read;
     learned = learn_then state (Contains taken) (stop_in answer) start p p m n n t.version t.learned (learn_self state (Contains taken) (stop_in answer) p n);
+    named = t.named;
   }
 
   pub took_all : (faults : S → ℕ) → faults new.source ≡ faults old.source → ReadToEnd left old new → Took state limit n.version (log_from bytes left faults old.source new.source) start p m n hand (Ok true)
@@ -242,25 +249,27 @@ module _ {S D R A B C : Type 0} (state : D → DiskState) (left : S → Option (
         if_some bytes (AreAll n.version more false) (AreFirst n.version more) (λ b all messages e is. subst (IsPrefix more) (all messages e is).0 (prefix_self more))
         (all_of n.version bytes more false ((reading_ends left n.version bytes taken old new t.read).0 m))
 
-    is_one : (ended : Bool) → ReadMessage left ended old new → IsOneOf n.version bytes new.message
-    is_one ended m =
-        if_some bytes (AreFirst n.version (taken ++ new.message ∷ [])) (λ b. (messages : Texts) (e : Bool) → MessagesOf n.version b messages e → Contains messages new.message)
-        (λ b are messages e is. contains_last taken new.message messages (are messages e is)) (front_more ended m)
+    module _ (line : List ℕ) (same : line ≡ new.message) (q : KeeperPass D) (o : LockNamer R A B C) (next : Hand) (named : HasNamed (λ x. x ≡ line) n o) where
+      -- the messages that were met then
+      abbrev met_now : List ℕ → Type 0
+      met_now = Contains (taken ++ new.message ∷ [])
 
-    module _ (line : List ℕ) (same : line ≡ new.message) (q : KeeperPass D) (o : LockNamer R A B C) (next : Hand) where
-      pub named_more : (ended : Bool) → ReadMessage left ended old new → HasNamed (λ x. x ≡ line) n o → HasNamed (IsOneOf n.version bytes) n o
-      named_more ended m named = named_wider (λ x. x ≡ line) (IsOneOf n.version bytes) (λ x is. subst (IsOneOf n.version bytes) (sym (is ∙ same)) (is_one ended m)) n o named
+      before_it : (x : List ℕ) → Contains taken x → met_now x
+      before_it x is = Contains-append_left taken (new.message ∷ []) x is
 
-      learned_more : (stop : Option Stop) → LearnBoth state (λ x. x ≡ line) stop p q n o → LearnBoth state (Contains (taken ++ new.message ∷ [])) stop start q m o
+      the_last : (x : List ℕ) → x ≡ line → met_now x
+      the_last x is = subst met_now (sym (is ∙ same)) (Contains-push taken new.message)
+
+      named_more : HasNamed met_now m o
+      named_more = named_then met_now m n o (named_wider (Contains taken) met_now before_it m n t.named) (named_wider (λ x. x ≡ line) met_now the_last n o named)
+
+      learned_more : (stop : Option Stop) → LearnBoth state (λ x. x ≡ line) stop p q n o → LearnBoth state met_now stop start q m o
       learned_more stop l =
-          let all : List ℕ → Type 0 = Contains (taken ++ new.message ∷ []) in
-          learn_then state all stop start p q m n o t.version
-          (learn_wider state (Contains taken) all (λ x is. Contains-append_left taken (new.message ∷ []) x is) None start p m n t.learned)
-          (learn_wider state (λ x. x ≡ line) all (λ x is. subst all (sym (is ∙ same)) (Contains-push taken new.message)) stop p q n o l)
+          learn_then state met_now stop start p q m n o t.version (learn_wider state (Contains taken) met_now before_it None start p m n t.learned) (learn_wider state (λ x. x ≡ line) met_now the_last stop p q n o l)
 
-      pub took_stop : (ended : Bool) → ReadMessage left ended old new → faults new.source ≡ faults old.source → o.version ≡ n.version → (y : Stop) → LearnBoth state (λ x. x ≡ line) (Some y) p q n o → IsAtStop state limit start q o next taken line y
+      pub took_stop : (ended : Bool) → ReadMessage left ended old new → faults new.source ≡ faults old.source → (y : Stop) → LearnBoth state (λ x. x ≡ line) (Some y) p q n o → IsAtStop state limit start q o next taken line y
           → Took state limit n.version (log_from bytes left faults old.source new.source) start q m o next (Err y)
-      took_stop ended message steady version (PartStop cause) l d = record {
+      took_stop ended message steady (PartStop cause) l d = record {
         taken = taken;
         few = t.few;
         stops = d.0;
@@ -271,13 +280,14 @@ module _ {S D R A B C : Type 0} (state : D → DiskState) (left : S → Option (
           few = let one = one_refused (WasFullFor o.version (λ x. x ≡ line) (books_by (types_pass o) (words_pass o))) cause d.1 in omega (arith, one, length-append taken (new.message ∷ []));
           first = front_more ended message;
           learned = learned_more (Some (PartStop cause)) l;
+          named = named_more;
         };
         caused = let known = books_by (types_pass o) (words_pass o) in
             name_cause (WasFullFor o.version (λ x. x ≡ line) known) (WasFullBehind n.version known bytes) (log_from bytes left faults old.source new.source) n.version taken (λ book count is.
             full_wider n.version (λ x. x ≡ line) (IsNextOf n.version bytes taken) (λ x at. subst (IsNextOf n.version bytes taken) (sym (at ∙ same)) (front_more ended message)) known known (λ b. more_self (book_of known b)) book count
-            (subst (λ v. WasFullFor v (λ x. x ≡ line) known book count) version is)) cause steady d.1;
+            (subst (λ v. WasFullFor v (λ x. x ≡ line) known book count) named.version is)) cause steady d.1;
       }
-      took_stop ended message steady version (Lost cause) l c = record {
+      took_stop ended message steady (Lost cause) l c = record {
         caused = tt;
         taken = taken ++ new.message ∷ [];
         few = few_more ended message;
@@ -289,18 +299,20 @@ module _ {S D R A B C : Type 0} (state : D → DiskState) (left : S → Option (
           few = omega arith;
           first = front_more ended message;
           learned = learned_more (Some (Lost cause)) l;
+          named = named_more;
         };
       }
 
-      pub taking_more : (ended : Bool) → ended ≡ true → ReadMessage left ended old new → o.version ≡ n.version → LearnBoth state (λ x. x ≡ line) None p q n o → Doing state limit start q o next (taken ++ line ∷ []) → Taking state left limit bytes start q m o next new (taken ++ new.message ∷ [])
-      taking_more ended is message version l d =
+      pub taking_more : (ended : Bool) → ended ≡ true → ReadMessage left ended old new → LearnBoth state (λ x. x ≡ line) None p q n o → Doing state limit start q o next (taken ++ line ∷ []) → Taking state left limit bytes start q m o next new (taken ++ new.message ∷ [])
+      taking_more ended is message l d =
           let m' = subst (λ e. ReadMessage left e old new) is message in record {
             doing = subst (λ l. Doing state limit start q o next (taken ++ l ∷ [])) same d;
-            read = subst (λ v. HasRead left v bytes (taken ++ new.message ∷ []) new) (sym version) (reading_goes_on left name faults n.version bytes taken old new t.read stays m');
+            read = subst (λ v. HasRead left v bytes (taken ++ new.message ∷ []) new) (sym named.version) (reading_goes_on left name faults n.version bytes taken old new t.read stays m');
             going = m'.progress;
             few = few_more true m';
-            version = version ∙ t.version;
+            version = named.version ∙ t.version;
             learned = learned_more None l;
+            named = named_more;
           }
 
       pub took_last : (ended : Bool) → ended ≡ false → ReadMessage left ended old new → faults new.source ≡ faults old.source → LearnBoth state (λ x. x ≡ line) None p q n o → Doing state limit start q o next (taken ++ line ∷ [])
@@ -318,14 +330,11 @@ module _ {S D R A B C : Type 0} (state : D → DiskState) (left : S → Option (
               few = omega arith;
               first = front_more false m';
               learned = learned_more None l;
+              named = named_more;
             };
           }
 
 -- ---- over several messages
-
-module _ {R A B C : Type 0} where
-  pub named_on : (bytes : Option (List ℕ)) (m n o : LockNamer R A B C) → HasNamed (IsOneOf m.version bytes) m n → HasNamed (IsOneOf n.version bytes) n o → HasNamed (IsOneOf m.version bytes) m o
-  named_on bytes m n o one two = named_then (IsOneOf m.version bytes) m n o one (subst (λ v. HasNamed (IsOneOf v bytes) n o) one.version two)
 
 module _ {S D R A B C : Type 0} (state : D → DiskState) (left : S → Option (List ℕ)) (limit : ℕ) (bytes : Option (List ℕ)) (start p q : KeeperPass D) (m n o : LockNamer R A B C) (hand next : Hand) (old new : ReaderState S) (taken : Texts) (text : List ℕ) where
   pub one_less : Taking state left limit bytes start p m n hand old taken → Taking state left limit bytes start q m o next new (taken ++ text ∷ []) → MAX_MESSAGES - new.given < MAX_MESSAGES - old.given
@@ -387,6 +396,7 @@ module _ {D R A B C : Type 0} (state : D → DiskState) (limit : ℕ) (least : 1
         few = omega arith;
         version = refl;
         learned = learn_self state (Contains []) None p n;
+        named = named_self (Contains []) n;
       }
 
 module _ {D : Type 0} (state : D → DiskState) (limit : ℕ) (least : 1 ≤ limit) (p : KeeperPass D) (so_far : HasSoFar state p []) where
@@ -525,7 +535,7 @@ module _ {D R A B C : Type 0} (state : D → DiskState) (limit version : ℕ) (l
 
   module _ (v : ℕ) (books : Books) (o : IsOutcome state limit v books start q t.taken (mark_of answer) (why_of answer) outcome) where
     -- what was met, where these messages are sealed
-    few_met : length t.learned.met ≤ outcome.messages + unsealed_by limit outcome.cause
+    few_met : length t.learned.met ≤ met_by limit outcome
     few_met =
         ⊎_elim
         (λ (stop : (outcome.cause ≡ why_of answer) × (o.covered ≡ t.taken)). few_stopped outcome.cause stop.0 (ap length stop.1))
@@ -536,6 +546,12 @@ module _ {D R A B C : Type 0} (state : D → DiskState) (limit version : ℕ) (l
         few_stopped : (c : Option Cause) → c ≡ why_of answer → length o.covered ≡ length t.taken → length t.learned.met ≤ outcome.messages + unsealed_by limit c
         few_stopped c is size =
             let le : refused_by c ≤ unsealed_by limit c = one_unsealed limit c in let same : refused_by c ≡ refused_by (why_of answer) = ap refused_by is in omega (arith, le, same, size, t.learned.few, o.count)
+
+    -- what the passes added is of these
+    pub named_met : (end : LockNamer R A B C) → HasOnlySeen n end → HasNamed (IsAmongFirst version log.bytes (met_by limit outcome)) m end
+    named_met end only =
+        let P = IsAmongFirst version log.bytes (met_by limit outcome) in
+        named_then P m n end (named_wider (Contains t.learned.met) P (among_first version log.bytes t.learned.met (met_by limit outcome) t.learned.first few_met) m n t.learned.named) (named_only P n end only)
 
     -- the whole job
     pub took_few : (end : LockNamer R A B C) → version ≡ m.version → EndBoth state (spare_of (stop_in answer)) p q n end → TakesFewOf state limit log.bytes outcome start q m end

@@ -1,20 +1,26 @@
 -- When a dictionary is full by what is given.
-use Rattle.std.specs.Prelude.{◌≡◌, ℕ, Bool, List, [], ◌∷◌, ◌++◌, length, Option, IfSome, All}
+use Rattle.std.specs.Prelude.{◌≡◌, ℕ, Bool, List, [], ◌∷◌, ◌++◌, length, take, Option, Some, IfSome, slice_get, All}
 use Rattle.std.specs.List.{Contains}
 use mathlib.Core.List.{IsPrefix}
-use Rattle.turn_lock.specs.Words.{about_noted, noted}
 use Rattle.dict_lock.specs.Shared.{BookPass}
 use Rattle.row_codec.specs.declared.namer.Which.{Which}
 use Rattle.row_codec.specs.declared.namer.Which.TheVariants.{Types, Words}
 use Rattle.row_codec.specs.Messages.{IsTypeOf, IsWordOf}
 use Rattle.row_codec.specs.Naming.{AreDistinct, IsNew, Known}
 use Rattle.message_reader.specs.Versions.{MessagesOf}
-use Rattle.disk_seal.specs.Known.{known_of, limit_in}
-use Rattle.disk_seal.specs.Prepare.{BookNote}
+use Rattle.disk_seal.specs.Known.{known_of}
 
 -- The message is one of those that these bytes have in this version. Of a source that does not tell its bytes nothing is said.
 abbrev pub IsOneOf : ℕ → Option (List ℕ) → List ℕ → Type 0
 IsOneOf version bytes m = IfSome bytes (λ b. (messages : List (List ℕ)) (ended : Bool) → MessagesOf version b messages ended → Contains messages m)
+
+-- The message is one of the first so many of those. Of a source that does not tell its bytes nothing is said.
+abbrev pub IsAmongFirst : ℕ → Option (List ℕ) → ℕ → List ℕ → Type 0
+IsAmongFirst version bytes count m = IfSome bytes (λ b. (messages : List (List ℕ)) (ended : Bool) → MessagesOf version b messages ended → Contains (take count messages) m)
+
+-- It is the one behind so many.
+abbrev pub IsMessageAt : ℕ → Option (List ℕ) → ℕ → List ℕ → Type 0
+IsMessageAt version bytes place m = IfSome bytes (λ b. (messages : List (List ℕ)) (ended : Bool) → MessagesOf version b messages ended → slice_get messages place ≡ Some m)
 
 -- These are the first of the messages that these bytes have in this version. Of a source that does not tell its bytes nothing is said.
 abbrev pub AreFirstOf : ℕ → Option (List ℕ) → List (List ℕ) → Type 0
@@ -53,10 +59,6 @@ book_of books Words = books.words
 -- by two passes over them
 abbrev pub books_by : BookPass → BookPass → Books
 books_by types words = record { types = known_of types; words = known_of words }
-
--- by two notes of such passes
-abbrev pub known_by : BookNote → Known
-known_by note = record { texts = noted note; added = []; limit = limit_in (about_noted note) }
 
 -- Such a text was met, which was not among the texts of the book, and these were as many as it may have.
 pub record WasFull (P : List ℕ → Type 0) (count : ℕ) (known : Known) : Type 0 where

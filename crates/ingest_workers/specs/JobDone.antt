@@ -8,9 +8,9 @@ use Rattle.ingest_workers.specs.declared.job.Job.{Job}
 use Rattle.ingest_workers.specs.declared.outcome.Outcome.{Outcome}
 use Rattle.ingest_workers.specs.Causes.{Log, HasJobCause, grounds_of, log_of}
 use Rattle.ingest_workers.specs.Done.{HasDone}
-use Rattle.ingest_workers.specs.Full.{Books}
+use Rattle.ingest_workers.specs.Full.{Books, IsOneOf}
 use Rattle.ingest_workers.specs.Outcome.{nothing_done}
-use Rattle.ingest_workers.specs.Taking.{IsOneOf, KeepsSource}
+use Rattle.ingest_workers.specs.Taking.{KeepsSource}
 
 -- what the source of a job that is not done tells
 abbrev pub in_source : {S T : Type 0} → (S → Option T) → Option S → Option T

@@ -17,10 +17,11 @@ pub mod Done
 pub mod Taking
 pub mod Turns
 pub mod JobDone
+pub mod Met
 pub mod Worker
-pub mod Desk
 pub mod WorkerLaws
 pub mod Crew
 pub mod Locked
 pub mod Ingested
+pub mod InTurn
 pub mod Closing

@@ -20,7 +20,7 @@ use Rattle.disk_seal.specs.Fixed.{fixed_of, KeeperPass}
 use Rattle.disk_seal.specs.May.{MayAdd}
 use Rattle.ingest_workers.specs.declared.job.Job.{Job}
 use Rattle.ingest_workers.specs.declared.worker.Worker.{Worker}
-use Rattle.ingest_workers.specs.Worker.{IsIdle, MayDo, DidOnly, DidJob, books_in}
+use Rattle.ingest_workers.specs.Worker.{IsIdle, MayDo, DidOnly, DidJob}
 
 abbrev pub KeeperMaker : (D : Type 0) → Ghosts (StoreView D) StoreEntry (StoreFixed D) → Type 0
 KeeperMaker D G = Maker (StoreView D) StoreEntry (StoreFixed D) G
@@ -42,18 +42,14 @@ module _ {S D : Type 0} {G : Ghosts (StoreView D) StoreEntry (StoreFixed D)} (st
   abbrev pub MayDoAll : KeeperMaker D G → List Worker → List (Job S) → Type 0
   MayDoAll m ws js = (m' : KeeperMaker D G) (ks : List (KeeperPass D)) → Fresh m m' ks (length js) → AllFit (MayDo state) ws js ks
 
-  -- The maker made a pass for each job, the workers did the jobs with these, and the maker joined them. One of the workers knows of the books what was
-  -- known of them as each job was done.
+  -- The maker made a pass for each job, the workers did the jobs with these, and the maker joined them.
   pub record HasDoneAll (left name : S → Option (List ℕ)) (faults : S → ℕ) (m end : KeeperMaker D G) (ws ws' : List Worker) (js js' : List (Job S)) : Type 0 where
     pub middle : KeeperMaker D G
     pub passes : List (KeeperPass D)
     pub passes' : List (KeeperPass D)
     pub fresh : Fresh m middle passes (length js)
-    pub went : AllWent IsIdle (DidOnly left) js ws ws'
-    pub place : ℕ
-    pub knows : Worker
-    pub knows_is : slice_get ws' place ≡ Some knows
-    pub done : AllDone (DidJob state left name faults (books_in knows)) ws js passes js' passes'
+    pub went : AllWent IsIdle (DidOnly left) js js' ws ws'
+    pub done : AllDone (DidOnly left) (DidJob state left name faults) ws ws' js js' passes passes'
     pub joined : Joined middle end passes' 0
 
   -- all was done, and the lock closed
@@ -105,11 +101,8 @@ module _ {S D : Type 0} (state : D → DiskState) where
     pub passes' : List (KeeperPass D)
     pub counted : length passes ≡ length js
     pub opened : (i : ℕ) (p : KeeperPass D) → slice_get passes i ≡ Some p → IsPassOf state first before i p
-    pub went : AllWent IsIdle (DidOnly left) js ws ws'
-    pub place : ℕ
-    pub knows : Worker
-    pub knows_is : slice_get ws' place ≡ Some knows
-    pub done : AllDone (DidJob state left name faults (books_in knows)) ws js passes js' passes'
+    pub went : AllWent IsIdle (DidOnly left) js js' ws ws'
+    pub done : AllDone (DidOnly left) (DidJob state left name faults) ws ws' js js' passes passes'
     pub files : (i : ℕ) (q : KeeperPass D) → slice_get passes' i ≡ Some q
         → filter_map (file_segment (number_of q)) (list_behind state before after) ≡ filter_map (file_segment (number_of q)) (entries_in (own_list q))
     pub seen_on : (i : ℕ) (q : KeeperPass D) → slice_get passes' i ≡ Some q → IsPrefix (seen q) (list_of state after)

@@ -17,10 +17,10 @@ use Rattle.ingest_workers.specs.declared.outcome.Cause.{Cause}
 use Rattle.ingest_workers.specs.declared.stop.Stop.{Stop}
 use Rattle.ingest_workers.specs.declared.stop.Stop.TheVariants.{Part, Lost}
 use Rattle.ingest_workers.specs.Causes.{Log, HasLogCause, NoneFailed}
-pub use Rattle.ingest_workers.specs.Full.{IsOneOf}
 use Rattle.ingest_workers.specs.Full.{AreFirstOf, WasFullBehind, books_by}
 use Rattle.ingest_workers.specs.Doing.{Doing, NotSealed}
 use Rattle.ingest_workers.specs.Namer.{types_pass, words_pass}
+use Rattle.ingest_workers.specs.Naming.{HasNamed}
 use Rattle.ingest_workers.specs.Stop.{refused_by}
 use Rattle.ingest_workers.specs.Turns.{LearnBoth, stop_in}
 
@@ -31,7 +31,7 @@ pub record KeepsSource {S : Type 0} (name : S → Option (List ℕ)) (faults : S
 
 module _ {S D R A B C : Type 0} where
   -- Since the pass was `start` and the namer `m`, the worker took these messages, which the reader gave of a source that told these bytes. What the caches
-  -- learned meanwhile are texts of them.
+  -- learned meanwhile, and what the passes added, are texts of them.
   pub record Taking (state : D → DiskState) (left : S → Option (List ℕ)) (limit : ℕ) (bytes : Option (List ℕ)) (start p : KeeperPass D) (m n : LockNamer R A B C) (hand : Hand) (r : ReaderState S) (taken : List (List ℕ)) : Type 0 where
     pub doing : Doing state limit start p n hand taken
     pub read : HasRead left n.version bytes taken r
@@ -39,6 +39,7 @@ module _ {S D R A B C : Type 0} where
     pub few : length taken ≤ MAX_MESSAGES
     pub version : n.version ≡ m.version
     pub learned : LearnBoth state (Contains taken) None start p m n
+    pub named : HasNamed (Contains taken) m n
 
 -- whether the last line had its newline, where the source has ended
 abbrev pub mark_of : Result Bool Stop → Bool
@@ -71,13 +72,14 @@ module _ {D R A B C : Type 0} where
   StopsAt state limit start p n hand taken (Err (Lost cause)) = NotSealed state limit start p n hand taken cause
 
   -- Since the pass was `start` and the namer `m`, the worker met the first messages of these bytes: those that it took, and the one that a full dictionary
-  -- stopped. What the caches learned meanwhile are texts of them.
+  -- stopped. What the caches learned meanwhile, and what the passes added, are texts of them.
   pub record HasLearned (state : D → DiskState) (version : ℕ) (bytes : Option (List ℕ)) (start p : KeeperPass D) (m n : LockNamer R A B C) (answer : Result Bool Stop) (taken : List (List ℕ)) : Type 0 where
     pub met : List (List ℕ)
     pub front : IsPrefix taken met
     pub few : length met ≤ length taken + refused_by (why_of answer)
     pub first : AreFirstOf version bytes met
     pub learned : LearnBoth state (Contains met) (stop_in answer) start p m n
+    pub named : HasNamed (Contains met) m n
 
   -- Since the pass was `start` and the namer `m`, the worker took messages of a log, and stopped.
   pub record Took (state : D → DiskState) (limit version : ℕ) (log : Log) (start p : KeeperPass D) (m n : LockNamer R A B C) (hand : Hand) (answer : Result Bool Stop) : Type 0 where

@@ -12,14 +12,13 @@ use Rattle.row_codec.specs.Naming.{AsksFor}
 use Rattle.disk_seal.specs.declared.namer.LockNamer.{LockNamer}
 use Rattle.disk_seal.specs.Fixed.{KeeperPass}
 use Rattle.disk_seal.specs.Naming.{Side, types_side, words_side}
-use Rattle.ingest_workers.specs.declared.outcome.Cause.{Cause}
-use Rattle.ingest_workers.specs.declared.outcome.Cause.TheVariants.{ReadFault, LineTooLong, TooManyLines, Full}
 use Rattle.ingest_workers.specs.declared.outcome.Outcome.{Outcome}
 use Rattle.ingest_workers.specs.declared.stop.Stop.{Stop}
 use Rattle.ingest_workers.specs.declared.stop.Stop.TheVariants.{Part, Lost}
 use Rattle.ingest_workers.specs.Done.{HasDone}
 use Rattle.ingest_workers.specs.Full.{AreFirstOf}
 use Rattle.ingest_workers.specs.Journal.{WhereTold, sealed_by}
+use Rattle.ingest_workers.specs.Outcome.{met_by}
 use Rattle.ingest_workers.specs.Stop.{stop_by}
 
 -- why no further message is taken, where none is
@@ -119,16 +118,6 @@ module _ {R A B C : Type 0} where
 
 -- ---- a job
 
--- How many messages of a job may have been met that are not sealed. A log that cannot be read on leaves none, a full dictionary the one that it stops, and a
--- segment that was refused, or want of memory, those that were in hand.
-abbrev pub unsealed_by : ℕ → Option Cause → ℕ
-unsealed_by rows None = 0
-unsealed_by rows (Some ReadFault) = 0
-unsealed_by rows (Some (LineTooLong line)) = 0
-unsealed_by rows (Some TooManyLines) = 0
-unsealed_by rows (Some (Full book count)) = 1
-unsealed_by rows (Some _) = rows
-
 module _ {D : Type 0} where
   -- The messages that a job met, of which this came, are the first ones of these bytes. They begin with those that the pass has added, as many as the outcome
   -- counts; behind them are only those that were met and not sealed.
@@ -139,7 +128,7 @@ module _ {D : Type 0} where
     pub done : HasDone state rows start p covered o.whole ended
     pub count : o.messages ≡ length covered
     pub front : IsPrefix covered met
-    pub few : length met ≤ o.messages + unsealed_by rows o.cause
+    pub few : length met ≤ met_by rows o
 
 module _ {D R A B C : Type 0} where
   -- The job, of which this came, took few turns with the two books, and these for texts of the messages that it met alone.

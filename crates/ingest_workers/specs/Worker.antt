@@ -19,6 +19,7 @@ use Rattle.ingest_workers.specs.Journal.{HasSoFar}
 use Rattle.ingest_workers.specs.Naming.{AddsOnly}
 use Rattle.ingest_workers.specs.Full.{Books, books_by}
 use Rattle.ingest_workers.specs.JobDone.{IsGivenBy, IsDone}
+use Rattle.ingest_workers.specs.Met.{WasMet, WasMetBy}
 
 pub no_passes : IsSome {T = BookPasses} None → ⊥
 no_passes none = cc (none)
@@ -62,10 +63,10 @@ module _ {S : Type 0} (left : S → Option (List ℕ)) where
   abbrev pub IsGiven : ℕ → List (Job S) → List ℕ → Type 0
   IsGiven version js m = (i : ℕ) × (j : Job S) × (slice_get js i ≡ Some j) × IsGivenBy left version j m
 
-  -- the worker did nothing but some of these jobs
-  pub record DidOnly (js : List (Job S)) (w v : Worker) : Type 0 where
+  -- the worker did nothing but some of these jobs, which became those
+  pub record DidOnly (js js' : List (Job S)) (w v : Worker) : Type 0 where
     pub plan : v.plan ≡ w.plan
-    pub names : NamesOnly w.plan.version (IsGiven w.plan.version js) (passes_of w) (passes_of v)
+    pub names : NamesOnly w.plan.version (WasMet left w.plan.rows w.plan.version js js') (passes_of w) (passes_of v)
 
 module _ {D : Type 0} where
   -- the passes are of the locks of the store that the keeper is of, and the version is its header's
@@ -92,6 +93,8 @@ module _ {S D : Type 0} (state : D → DiskState) where
     pub fits : GoWith w.plan (passes_of w) k
     pub new : IsNewJob j k
 
-  -- what became of a job that the worker did, where this is known of the books
-  abbrev pub DidJob : (S → Option (List ℕ)) → (S → Option (List ℕ)) → (S → ℕ) → Books → Worker → Job S → KeeperPass D → Job S → KeeperPass D → Type 0
-  DidJob left name faults books w j k l m = IsDone state left name faults w.plan.rows w.plan.version books j k l m
+  -- What became of a job that the worker did, which was `v` then: it is told by what its passes know of the books, and what they added meanwhile are texts of
+  -- messages that the job met.
+  pub record DidJob (left name : S → Option (List ℕ)) (faults : S → ℕ) (w : Worker) (j : Job S) (k : KeeperPass D) (v : Worker) (j' : Job S) (m : KeeperPass D) : Type 0 where
+    pub done : IsDone state left name faults w.plan.rows w.plan.version (books_in v) j k j' m
+    pub names : NamesOnly w.plan.version (WasMetBy left w.plan.rows w.plan.version j j'.outcome) (passes_of w) (passes_of v)

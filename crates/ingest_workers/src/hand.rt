@@ -1,5 +1,5 @@
 //! The messages of a file that a worker has in hand.
-ghost use Rattle.std.specs.Prelude.{◌≡◌, ◌+◌, ◌<◌, ◌≤◌, ◌↔◌, ◌∷◌, ◌++◌, List, [], ℕ, false, length, IsTrue, IfErr, IsErrOf, OnOk, OnErr};
+ghost use Rattle.std.specs.Prelude.{◌≡◌, ◌+◌, ◌<◌, ◌≤◌, ◌↔◌, ◌∷◌, ◌++◌, List, [], ℕ, false, length, IsTrue, IfErr, IsErrOf, OnOk};
 ghost use Rattle.column_store.specs.declared.row.Row.{Row};
 ghost use Rattle.row_codec.specs.declared.TheConstants.{MAX_MESSAGE_LEN};
 ghost use Rattle.row_codec.specs.Messages.{IsTypeOf, IsWordOf};

@@ -1,11 +1,12 @@
 //! All jobs, by workers.
-ghost use Rattle.std.specs.Prelude.{◌≡◌, ◌<◌, ◌≤◌, ℕ, is_some, IfOk, IfErr, OnErr, length};
+ghost use Rattle.std.specs.Prelude.{◌≡◌, ◌<◌, ◌≤◌, ℕ, is_some, IfOk, IfErr, IsOk, OnErr, length};
 ghost use Rattle.turn_lock.specs.Words.{id_of, lock_by};
 ghost use Rattle.dict_core.specs.declared.grows.TheConstants.{WORDS_FIRST as words_first};
 ghost use Rattle.disk_journal.specs.Journal.{state_of};
 ghost use Rattle.archive_meaning.specs.Spelled.{types_of};
 ghost use Rattle.disk_seal.specs.WordsIn.{words_of};
 ghost use Rattle.disk_seal.specs.Opening.{MayOpen};
+ghost use Rattle.ingest_workers.specs.InTurn.{AreFullInTurn, WereFilled};
 ghost use Rattle.ingest_workers.specs.Ingested.{AreNew, AreRefused, HasBook, HasEndedBooks, HasIngested, HaveCauses, HaveCausesIn, HoldTexts, IsAsItWas, OpensBook, books_at, first_file, plan_of, told_entries};
 
 use crate::closing::{end, give_back};
@@ -80,6 +81,8 @@ fn with_workers<'b, 'd, D: Disk + Send, S: Source + Send, R: Threads + Wait + Sy
         journal.entry after types.old types.new words.old words.new) }
     ensures causes { IfOk result (λ after. HaveCausesIn (books_at types.new words.new) S.left S.name
         S.faults order.plan journal.entry after jobs.old jobs.new) }
+    ensures in_turn { order.workers ≡ 1 → IsOk result
+        → WereFilled S.left order.plan types.new words.new jobs.old jobs.new }
     ensures refused { IfErr result (λ after. IsAsItWas journal.entry after) }
     ensures jobs { OnErr result (jobs.new ≡ jobs.old) }
 {
@@ -147,6 +150,8 @@ fn over_locks<'d, D: Disk + Send, S: Source + Send, R: Threads + Wait + Sync>(
         journal.entry after) }
     ensures causes { IfOk result (λ after. HaveCauses S.left S.name S.faults order.plan
         journal.entry after jobs.old jobs.new) }
+    ensures in_turn { order.workers ≡ 1 → IsOk result
+        → AreFullInTurn S.left order.plan journal.entry jobs.old jobs.new }
     ensures refused { IfErr result (λ after. IsAsItWas journal.entry after) }
     ensures jobs { OnErr result (jobs.new ≡ jobs.old) }
 {
@@ -204,6 +209,8 @@ fn over_types<'d, D: Disk + Send, S: Source + Send, R: Threads + Wait + Sync>(
         journal.entry after) }
     ensures causes { IfOk result (λ after. HaveCauses S.left S.name S.faults order.plan
         journal.entry after jobs.old jobs.new) }
+    ensures in_turn { order.workers ≡ 1 → IsOk result
+        → AreFullInTurn S.left order.plan journal.entry jobs.old jobs.new }
     ensures refused { IfErr result (λ after. IsAsItWas journal.entry after) }
     ensures jobs { OnErr result (jobs.new ≡ jobs.old) }
 {
@@ -246,6 +253,8 @@ fn over_books<'d, D: Disk + Send, S: Source + Send, R: Threads + Wait + Sync>(
         journal.entry after) }
     ensures causes { IfOk result (λ after. HaveCauses S.left S.name S.faults order.plan
         journal.entry after jobs.old jobs.new) }
+    ensures in_turn { order.workers ≡ 1 → IsOk result
+        → AreFullInTurn S.left order.plan journal.entry jobs.old jobs.new }
     ensures refused { IfErr result (λ after. IsAsItWas journal.entry after) }
     ensures jobs { OnErr result (jobs.new ≡ jobs.old) }
 {
@@ -304,6 +313,8 @@ pub fn ingest<'d, D: Disk + Send, S: Source + Send, R: Threads + Wait + Sync>(
         jobs.old jobs.new journal.entry after) }
     ensures causes { IfOk result (λ after. HaveCauses S.left S.name S.faults
         (plan_of rows journal.entry) journal.entry after jobs.old jobs.new) }
+    ensures in_turn { workers ≡ 1 → IsOk result
+        → AreFullInTurn S.left (plan_of rows journal.entry) journal.entry jobs.old jobs.new }
     ensures refused { IfErr result (λ r. IsAsItWas journal.entry r.journal) }
     ensures jobs { OnErr result (AreRefused jobs.old jobs.new) }
 {

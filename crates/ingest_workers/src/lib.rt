@@ -3,8 +3,6 @@
 
 mod closing;
 mod crew;
-mod desk;
-mod desks;
 mod finish;
 mod hand;
 mod ingesting;

@@ -2,23 +2,21 @@
 ghost use Rattle.std.specs.Prelude.{◌≡◌, ◌<◌, ◌≤◌, length, OnOk, OnErr, IfOk, IfErr};
 ghost use Rattle.turn_lock.specs.Words.{id_of, lock_by, made_by};
 ghost use Rattle.ingest_fork.specs.Works.{AllReady};
-ghost use Rattle.ingest_workers.specs.Desk.{AreAlike};
 ghost use Rattle.ingest_workers.specs.Worker.{IsIdle};
 ghost use Rattle.ingest_workers.specs.Locked.{HasClosed, HasDoneAll, HasKept, HasWorked, IsStillStore, MayDoAll, MayDoAt};
 
-use crate::desks::{clear, set_out};
 use crate::job::Job;
 use crate::worker::Worker;
 use disk_seal::{Keeper, Store};
-use ingest_fork::by_workers_of;
+use ingest_fork::{by_workers_of, fill, join_all};
 use log_seams::{Disk, Source};
 use std::alloc::{AllocError, Global};
 use std::sync::Wait;
 use std::thread::Threads;
 use turn_lock::{LockRefused, Maker};
 
-/// The workers do the jobs, each job with a pass of its own; the last of them has then seen of the
-/// two books what each had. Refused for want of memory, before any job is begun.
+/// The workers do the jobs, each job with a pass of its own. Refused for want of memory, before any
+/// job is begun.
 fn under_lock<'k, 'b, 'd, D: Disk + Send, S: Source + Send, R: Threads + Wait + Sync>(
     rt: &R,
     alloc: Global,
@@ -29,7 +27,6 @@ fn under_lock<'k, 'b, 'd, D: Disk + Send, S: Source + Send, R: Threads + Wait + 
 ) -> Result<(), AllocError>
     requires workers { (0 < length workers.old.items) × (length workers.old.items ≤ 64) }
     requires idle { AllReady IsIdle workers.old.items }
-    requires alike { AreAlike workers.old.items }
     requires jobs { length jobs.old ≤ 4294967296 }
     requires lock { lock_by maker.old ≡ id_of lock.now }
     requires first { made_by maker.old ≡ 0 }
@@ -39,15 +36,10 @@ fn under_lock<'k, 'b, 'd, D: Disk + Send, S: Source + Send, R: Threads + Wait + 
         workers.old.items workers.new.items jobs.old jobs.new) }
     ensures refused { OnErr result ((maker.new ≡ maker.old) × (jobs.new ≡ jobs.old)) }
 {
-    let mut desks = Vec::with_capacity(alloc, jobs.len())?;
-    set_out(maker, lock, &mut desks, jobs.len());
-    by_workers_of(rt, workers, jobs, &mut desks);
-    let Some(last) = workers.pop() else {
-        unreachable!()
-    };
-    let plan = last.plan;
-    let passes = clear(maker, last.into_passes(), desks);
-    workers.push_reserved(Worker::new(alloc, plan, passes));
+    let mut keepers = Vec::with_capacity(alloc, jobs.len())?;
+    fill(maker, lock, &mut keepers, jobs.len());
+    by_workers_of(rt, workers, jobs, &mut keepers);
+    join_all(maker, keepers);
     Ok(())
 }
 
@@ -62,7 +54,6 @@ fn over_keeper<'b, 'd, D: Disk + Send, S: Source + Send, R: Threads + Wait + Syn
 ) -> Result<Store<'d, 'b, D>, Store<'d, 'b, D>>
     requires workers { (0 < length workers.old.items) × (length workers.old.items ≤ 64) }
     requires idle { AllReady IsIdle workers.old.items }
-    requires alike { AreAlike workers.old.items }
     requires jobs { length jobs.old ≤ 4294967296 }
     requires lock { lock_by maker ≡ id_of lock }
     requires first { made_by maker ≡ 0 }
@@ -90,7 +81,6 @@ pub(crate) fn over_store<'b, 'd, D: Disk + Send, S: Source + Send, R: Threads + 
 ) -> Result<Store<'d, 'b, D>, Store<'d, 'b, D>>
     requires workers { (0 < length workers.old.items) × (length workers.old.items ≤ 64) }
     requires idle { AllReady IsIdle workers.old.items }
-    requires alike { AreAlike workers.old.items }
     requires jobs { length jobs.old ≤ 4294967296 }
     requires first { first < 4294967296 }
     requires may { MayDoAt D.state first store workers.old.items jobs.old }

@@ -1,16 +1,16 @@
 //! One worker's work on one file.
-ghost use Rattle.std.specs.Prelude.{◌≡◌, ◌≤◌, ℕ, List, [], is_some, not};
+ghost use Rattle.std.specs.Prelude.{◌≡◌, ◌≤◌, [], is_some, not};
 ghost use Rattle.turn_lock.specs.Words.{number_of, own_list};
-ghost use Rattle.row_codec.specs.Messages.{IsTypeOf, IsWordOf};
 ghost use Rattle.ingest_workers.specs.Causes.{log_of};
-ghost use Rattle.ingest_workers.specs.Full.{books_by};
+ghost use Rattle.ingest_workers.specs.Full.{IsAmongFirst, books_by};
 ghost use Rattle.ingest_workers.specs.Journal.{HasSoFar};
-ghost use Rattle.ingest_workers.specs.JobDone.{CameTo, HasSourceBack, IsDone, IsGivenBy, in_source};
+ghost use Rattle.ingest_workers.specs.JobDone.{CameTo, HasSourceBack, IsDone, in_source};
 ghost use Rattle.ingest_workers.specs.MaySeal.{IsWorker};
 ghost use Rattle.ingest_workers.specs.Namer.{types_pass, words_pass};
-ghost use Rattle.ingest_workers.specs.Naming.{AddsOnly, HasNamed};
-ghost use Rattle.ingest_workers.specs.Outcome.{nothing_done};
-ghost use Rattle.ingest_workers.specs.Taking.{IsOneOf, KeepsSource};
+ghost use Rattle.ingest_workers.specs.Met.{WasMetBy};
+ghost use Rattle.ingest_workers.specs.Naming.{HasNamed};
+ghost use Rattle.ingest_workers.specs.Outcome.{met_by, nothing_done};
+ghost use Rattle.ingest_workers.specs.Taking.{KeepsSource};
 ghost use Rattle.ingest_workers.specs.Turns.{TakesFewOf};
 
 use crate::finish::finish;
@@ -44,7 +44,9 @@ fn take_source<'d, 'b, S: Source, D: Disk, R: Wait, A: Ledger, B: Ledger, C: Led
 
     // what stays, and what the namer has named
     ensures source { KeepsSource S.name S.faults source result.0 }
-    ensures names { HasNamed (IsOneOf namer.old.version (S.left source)) namer.old namer.new }
+    ensures names { HasNamed
+        (IsAmongFirst namer.old.version (S.left source) (met_by rows result.1))
+        namer.old namer.new }
 
     // the answer
     ensures turns { TakesFewOf D.state rows (S.left source) result.1
@@ -95,11 +97,8 @@ pub fn run_job<'d, 'b, S: Source, D: Disk, R: Wait, A: Ledger, B: Ledger, C: Led
 
     // what stays, and what the namer has named
     ensures source { HasSourceBack S.name S.faults job.old job.new }
-    ensures version { namer.new.version ≡ namer.old.version }
-    ensures types { AddsOnly (λ t. (m : List ℕ) × IsGivenBy S.left namer.old.version job.old m
-        × IsTypeOf namer.old.version m t) (types_pass namer.old) (types_pass namer.new) }
-    ensures words { AddsOnly (λ t. (m : List ℕ) × IsGivenBy S.left namer.old.version job.old m
-        × IsWordOf namer.old.version m t) (words_pass namer.old) (words_pass namer.new) }
+    ensures names { HasNamed (WasMetBy S.left rows namer.old.version job.old job.new.outcome)
+        namer.old namer.new }
 
     // how many turns it took
     ensures turns { TakesFewOf D.state rows (in_source S.left job.old.source) job.new.outcome

@@ -4,8 +4,7 @@ ghost use Rattle.archive_meaning.specs.declared.TheConstants.{MAX_ROWS};
 ghost use Rattle.disk_seal.specs.declared.namer.LockNamer.{LockNamer};
 ghost use Rattle.disk_seal.specs.Fixed.{KeeperPass};
 ghost use Rattle.ingest_workers.specs.Causes.{cause_by, log_from};
-ghost use Rattle.ingest_workers.specs.Naming.{HasNamed};
-ghost use Rattle.ingest_workers.specs.Taking.{IsOneOf, KeepsSource, Taking, Took};
+ghost use Rattle.ingest_workers.specs.Taking.{KeepsSource, Taking, Took};
 
 use crate::hand::Hand;
 use crate::outcome::Cause;
@@ -52,12 +51,8 @@ fn take_next<'d, 'b, S: Source, D: Disk, R: Wait, A: Ledger, B: Ledger, C: Ledge
         × (begin : LockNamer _ _ _ _) × (taken : List (List ℕ)) × Taking D.state S.left rows
         bytes start keeper.old begin namer.old hand.old reader.old taken }
 
-    // what stays, and what the namer has named
+    // what stays
     ensures source { KeepsSource S.name S.faults reader.old.source reader.new.source }
-    ensures names { (bytes : Option (List ℕ)) (start : KeeperPass _)
-        (begin : LockNamer _ _ _ _) (taken : List (List ℕ)) → Taking D.state S.left rows
-        bytes start keeper.old begin namer.old hand.old reader.old taken
-        → HasNamed (IsOneOf namer.old.version bytes) namer.old namer.new }
 
     // by the answer
     ensures taken { (bytes : Option (List ℕ)) (start : KeeperPass _)
@@ -112,12 +107,8 @@ pub(crate) fn take_messages<'d, 'b, S: Source, D: Disk, R: Wait, A: Ledger, B: L
         × (begin : LockNamer _ _ _ _) × (taken : List (List ℕ)) × Taking D.state S.left rows
         bytes start keeper.old begin namer.old hand.old reader.old taken }
 
-    // what stays, and what the namer has named
+    // what stays
     ensures source { KeepsSource S.name S.faults reader.old.source reader.new.source }
-    ensures names { (bytes : Option (List ℕ)) (start : KeeperPass _)
-        (begin : LockNamer _ _ _ _) (taken : List (List ℕ)) → Taking D.state S.left rows
-        bytes start keeper.old begin namer.old hand.old reader.old taken
-        → HasNamed (IsOneOf namer.old.version bytes) namer.old namer.new }
 
     // the answer
     ensures took { (bytes : Option (List ℕ)) (start : KeeperPass _)

@@ -1,17 +1,17 @@
 //! What a worker does: jobs, with its passes of the two books.
-ghost use Rattle.std.specs.Prelude.{◌≡◌, ◌≤◌};
+ghost use Rattle.std.specs.Prelude.{◌≤◌};
 ghost use Rattle.step_count.specs.Opens.{OpensFor};
-ghost use Rattle.ingest_workers.specs.Desk.{AreNotesBy, DidThere, MayDoThere, books_noted};
 ghost use Rattle.dict_lock.specs.Cached.{pass_in};
-ghost use Rattle.ingest_workers.specs.JobDone.{IsGivenBy, IsDone};
-ghost use Rattle.ingest_workers.specs.Worker.{DidOnly, GoWith, IsIdle, IsNewJob, MayAddTexts, NamesOnly};
-ghost use Rattle.ingest_workers.specs.WorkerLaws.{goes_on, wider, rests, fits_on_there, did_on};
+ghost use Rattle.ingest_workers.specs.Full.{books_by};
+ghost use Rattle.ingest_workers.specs.JobDone.{IsDone};
+ghost use Rattle.ingest_workers.specs.Met.{WasMetBy};
+ghost use Rattle.ingest_workers.specs.Worker.{DidJob, DidOnly, GoWith, IsIdle, IsNewJob, MayAddTexts, MayDo, NamesOnly};
+ghost use Rattle.ingest_workers.specs.WorkerLaws.{goes_on, wider, rests, fits_on};
 
-use crate::desk::Desk;
 use crate::job::Job;
 use crate::run::run_job;
 use crate::worker::{BookPasses, Plan, Worker};
-use disk_seal::{CachedPasses, LockNamer, Notes, Store, Turns};
+use disk_seal::{CachedPasses, LockNamer, Store, Turns};
 use ingest_fork::Works;
 use log_seams::{Disk, Source};
 use std::alloc::Global;
@@ -21,8 +21,7 @@ use std::sync::ledger::{Blank, Ledger};
 use step_count::Steps;
 use turn_lock::Pass;
 
-/// Does a job with a namer over these passes, whose turns the blanks count. Tells what these have
-/// seen then.
+/// Does a job with a namer over these passes, whose turns the blanks count.
 fn do_with_blanks<'b, 'd, S: Source, D: Disk, R: Wait, A: Ledger, B: Ledger, C: Ledger>(
     rt: &R,
     alloc: Global,
@@ -31,7 +30,7 @@ fn do_with_blanks<'b, 'd, S: Source, D: Disk, R: Wait, A: Ledger, B: Ledger, C: 
     job: &mut Job<S>,
     keeper: &mut Pass<'_, Store<'d, 'b, D>>,
     blanks: (Blank, Blank, Blank),
-) -> (BookPasses<'b>, Notes<'b>)
+) -> BookPasses<'b>
     requires rows { (1 ≤ plan.rows) × (plan.rows ≤ 65536) }
     requires version { (1 ≤ plan.version) × (plan.version ≤ 3) }
     requires may { MayAddTexts passes }
@@ -40,12 +39,12 @@ fn do_with_blanks<'b, 'd, S: Source, D: Disk, R: Wait, A: Ledger, B: Ledger, C: 
     requires of_types { OpensFor blanks.0 A.name A.parts }
     requires of_words { OpensFor blanks.1 B.name B.parts }
     requires of_store { OpensFor blanks.2 C.name C.parts }
-    ensures may { MayAddTexts result.0 }
-    ensures names { NamesOnly plan.version (IsGivenBy S.left plan.version job.old)
-        passes.entry result.0 }
+    ensures may { MayAddTexts result }
+    ensures names { NamesOnly plan.version
+        (WasMetBy S.left plan.rows plan.version job.old job.new.outcome) passes.entry result }
     ensures done { IsDone D.state S.left S.name S.faults plan.rows plan.version
-        (books_noted result.1) job.old keeper.old job.new keeper.new }
-    ensures notes { AreNotesBy passes.entry result.1 }
+        (books_by (pass_in result.types) (pass_in result.words))
+        job.old keeper.old job.new keeper.new }
 {
     let BookPasses { types, words } = passes;
     let (of_types, of_words, of_store) = blanks;
@@ -56,16 +55,15 @@ fn do_with_blanks<'b, 'd, S: Source, D: Disk, R: Wait, A: Ledger, B: Ledger, C: 
     };
     let mut namer = LockNamer::with_caches(rt, plan.version, types, words, turns);
     run_job(job, rt, alloc, plan.rows, &mut namer, keeper);
-    let notes = namer.notes();
     let CachedPasses {
         types,
         words,
         turns: _,
     } = namer.into_caches();
-    (BookPasses { types, words }, notes)
+    BookPasses { types, words }
 }
 
-/// Does a job with these passes, without counting its turns. Tells what these have seen then.
+/// Does a job with these passes, without counting its turns.
 fn do_job<'b, 'd, S: Source, D: Disk, R: Wait>(
     rt: &R,
     alloc: Global,
@@ -73,38 +71,37 @@ fn do_job<'b, 'd, S: Source, D: Disk, R: Wait>(
     passes: BookPasses<'b>,
     job: &mut Job<S>,
     keeper: &mut Pass<'_, Store<'d, 'b, D>>,
-) -> (BookPasses<'b>, Notes<'b>)
+) -> BookPasses<'b>
     requires rows { (1 ≤ plan.rows) × (plan.rows ≤ 65536) }
     requires version { (1 ≤ plan.version) × (plan.version ≤ 3) }
     requires may { MayAddTexts passes }
     requires with { GoWith plan passes keeper.old }
     requires new { IsNewJob D.state job.old keeper.old }
-    ensures may { MayAddTexts result.0 }
-    ensures names { NamesOnly plan.version (IsGivenBy S.left plan.version job.old)
-        passes.entry result.0 }
+    ensures may { MayAddTexts result }
+    ensures names { NamesOnly plan.version
+        (WasMetBy S.left plan.rows plan.version job.old job.new.outcome) passes.entry result }
     ensures done { IsDone D.state S.left S.name S.faults plan.rows plan.version
-        (books_noted result.1) job.old keeper.old job.new keeper.new }
-    ensures notes { AreNotesBy passes.entry result.1 }
+        (books_by (pass_in result.types) (pass_in result.words))
+        job.old keeper.old job.new keeper.new }
 {
     let blanks = (Blank::new(1), Blank::new(1), Blank::new(1));
     do_with_blanks::<_, _, _, Brand, Brand, Brand>(rt, alloc, plan, passes, job, keeper, blanks)
 }
 
-impl<'b, 'k, 'd, S: Source, D: Disk> Works<Job<S>, Desk<'k, 'b, 'd, D>> for Worker<'b> {
+impl<'b, 'k, 'd, S: Source, D: Disk> Works<Job<S>, Pass<'k, Store<'d, 'b, D>>> for Worker<'b> {
     ghost ready = { IsIdle };
 
-    ghost fits = { MayDoThere D.state };
+    ghost fits = { MayDo D.state };
 
     ghost went = { DidOnly S.left };
 
-    ghost did = { DidThere D.state S.left S.name S.faults };
+    ghost did = { DidJob D.state S.left S.name S.faults };
 
-    fn work<R: Wait>(&mut self, rt: &R, job: &mut Job<S>, desk: &mut Desk<'k, 'b, 'd, D>) {
+    fn work<R: Wait>(&mut self, rt: &R, job: &mut Job<S>, keeper: &mut Pass<'k, Store<'d, 'b, D>>) {
         let Some(passes) = self.passes.take() else {
             unreachable!()
         };
-        let (passes, notes) = do_job(rt, self.alloc, self.plan, passes, job, &mut desk.keeper);
-        desk.notes = Some(notes);
+        let passes = do_job(rt, self.alloc, self.plan, passes, job, keeper);
         let None = self.passes.replace(passes) else {
             unreachable!()
         };
@@ -116,7 +113,5 @@ impl<'b, 'k, 'd, S: Source, D: Disk> Works<Job<S>, Desk<'k, 'b, 'd, D>> for Work
 
     ghost wider = { wider S.left };
 
-    ghost fits_on = { fits_on_there D.state S.left };
-
-    ghost did_on = { did_on D.state S.left S.name S.faults };
+    ghost fits_on = { fits_on D.state S.left };
 }

@@ -1,4 +1,4 @@
-use Rattle.std.proofs.Common.{◌<◌, sym, subst}
+use Rattle.std.proofs.Common.{◌≡◌, ◌<◌, arith, refl, sym, subst}
 use Rattle.disk_journal.specs.Journal.{state_of}
 use Rattle.ingest_workers.specs.Ingested.{AreNew}
 use Rattle.ingest_workers.proofs.IngestLemmas.{few_jobs}
@@ -10,3 +10,6 @@ over_books-requires-clause-jobs g c κs within = subst (λ n. AreNew n (state_of
 pub over_books-requires-clause-few : goal.over_books-requires-clause-few
 over_books-requires-clause-few g c κs within = let few = few_jobs (state_of c.args.journal) c.args.jobs.now c.requires.jobs in
     (subst (λ n. n < 4294967296) (sym c.first_of.ensures) few.0, few.1)
+
+pub returns-in-Ok-clause-in_turn : goal.returns-in-Ok-clause-in_turn
+returns-in-Ok-clause-in_turn g c = λ one ok. let alone : c.max.result ≡ 1 = omega (arith, one, c.min.ensures, c.max.ensures) in c.in-Ok.ensures.in_turn alone refl

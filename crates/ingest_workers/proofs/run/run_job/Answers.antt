@@ -1,27 +1,20 @@
-use Rattle.std.proofs.Common.{rules, ◌≡◌, ℕ, List, Some, ap, subst, sym, true, false}
-use Rattle.row_codec.specs.Messages.{IsTypeOf, IsWordOf}
-use Rattle.ingest_workers.specs.Full.{books_by}
+use Rattle.std.proofs.Common.{rules, ◌≡◌, Some, ap, subst, sym, true, false}
+use Rattle.ingest_workers.specs.Full.{IsAmongFirst, books_by}
 use Rattle.ingest_workers.specs.JobDone.{in_source}
 use Rattle.ingest_workers.specs.Namer.{types_pass, words_pass}
-use Rattle.ingest_workers.specs.Naming.{AddsOnly}
-use Rattle.ingest_workers.specs.Taking.{IsOneOf}
+use Rattle.ingest_workers.specs.Naming.{HasNamed}
+use Rattle.ingest_workers.specs.Outcome.{met_by}
 use Rattle.ingest_workers.proofs.UnopenedLemmas.{left_undone}
 use Rattle.ingest_workers.specs.Causes.{log_of}
 use Rattle.ingest_workers.specs.Turns.{TakesFewOf}
 use Rattle.ingest_workers.proofs.TakingLemmas.{met_none}
 use Rattle.ingest_workers.proofs.run.run_job.Goals as goal
 
-pub returns-clause-types : goal.returns-clause-types
-returns-clause-types g c =
+pub returns-clause-names : goal.returns-clause-names
+returns-clause-names g c =
     let is : c.args.job.now.source ≡ Some c.in-Some.source = search rules in
-    subst (λ b. AddsOnly (λ t. (m : List ℕ) × IsOneOf c.args.namer.now.version b m × IsTypeOf c.args.namer.now.version m t) (types_pass c.args.namer.now) (types_pass c.take_source-source.new.namer))
-    (sym (ap (in_source g.S.Source.left) is)) c.take_source-source.ensures.names.types
-
-pub returns-clause-words : goal.returns-clause-words
-returns-clause-words g c =
-    let is : c.args.job.now.source ≡ Some c.in-Some.source = search rules in
-    subst (λ b. AddsOnly (λ t. (m : List ℕ) × IsOneOf c.args.namer.now.version b m × IsWordOf c.args.namer.now.version m t) (words_pass c.args.namer.now) (words_pass c.take_source-source.new.namer))
-    (sym (ap (in_source g.S.Source.left) is)) c.take_source-source.ensures.names.words
+    subst (λ b. HasNamed (IsAmongFirst c.args.namer.now.version b (met_by c.args.rows c.take_source-source.result.1)) c.args.namer.now c.take_source-source.new.namer)
+    (sym (ap (in_source g.S.Source.left) is)) c.take_source-source.ensures.names
 
 pub returns-clause-done : goal.returns-clause-done
 returns-clause-done g c =

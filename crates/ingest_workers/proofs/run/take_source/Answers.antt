@@ -1,9 +1,7 @@
 use Rattle.std.proofs.Common.{[], false, refl, subst, Some}
 use Rattle.ingest_workers.specs.declared.outcome.Cause.TheVariants.{OutOfMemory}
 use Rattle.message_reader.specs.Reading.{IsNewReader}
-use Rattle.ingest_workers.specs.Taking.{IsOneOf}
-use Rattle.ingest_workers.proofs.NamingLemmas.{named_only, named_then}
-use Rattle.ingest_workers.proofs.TakingLemmas.{came_back, came_none, came_to, met_none, taking_none, took_few}
+use Rattle.ingest_workers.proofs.TakingLemmas.{came_back, came_none, came_to, met_none, named_met, taking_none, took_few}
 use Rattle.ingest_workers.specs.Causes.{log_from, log_of}
 use Rattle.ingest_workers.specs.Full.{books_by}
 use Rattle.ingest_workers.specs.JobDone.{CameTo}
@@ -40,12 +38,12 @@ returns-clause-cause g c =
 
 pub returns-clause-names : goal.returns-clause-names
 returns-clause-names g c =
-    let P = IsOneOf c.args.namer.now.version (g.S.Source.left c.args.source) in
-    named_then P c.args.namer.now c.take_messages-stop.new.namer c.finish-outcome.new.namer
-    (c.take_messages-stop.ensures.names (g.S.Source.left c.args.source) c.args.keeper.now c.args.namer.now []
+    let took = c.take_messages-stop.ensures.took (g.S.Source.left c.args.source) c.args.keeper.now c.args.namer.now []
     (taking_none g.D.Disk.state c.args.rows c.requires.rows.0 c.args.keeper.now c.requires.so_far g.S.Source.left c.args.source c.in-Ok.reader c.args.namer.now c.new-hand.result c.args.file c.requires.worker c.requires.file c.new-hand.ensures
-    (subst (λ v. IsNewReader v c.args.source c.in-Ok.reader) c.version.ensures c.in-Ok.ensures.fresh)))
-    (named_only P c.take_messages-stop.new.namer c.finish-outcome.new.namer c.finish-outcome.ensures.namer)
+    (subst (λ v. IsNewReader v c.args.source c.in-Ok.reader) c.version.ensures c.in-Ok.ensures.fresh)) in
+    named_met g.D.Disk.state c.args.rows c.args.namer.now.version (log_from (g.S.Source.left c.args.source) g.S.Source.left g.S.Source.faults c.in-Ok.reader.source c.take_messages-stop.new.reader.source) c.args.keeper.now c.take_messages-stop.new.keeper
+    c.args.namer.now c.take_messages-stop.new.namer c.take_messages-stop.new.hand c.take_messages-stop.result took c.finish-outcome.new.keeper c.finish-outcome.result
+    _ _ (c.finish-outcome.ensures.outcome c.args.keeper.now took.taken took.stops) c.finish-outcome.new.namer c.finish-outcome.ensures.namer
 
 pub returns-clause-came : goal.returns-clause-came
 returns-clause-came g c =
@@ -53,12 +51,10 @@ returns-clause-came g c =
     (taking_none g.D.Disk.state c.args.rows c.requires.rows.0 c.args.keeper.now c.requires.so_far g.S.Source.left c.args.source c.in-Ok.reader c.args.namer.now c.new-hand.result c.args.file c.requires.worker c.requires.file c.new-hand.ensures
     (subst (λ v. IsNewReader v c.args.source c.in-Ok.reader) c.version.ensures c.in-Ok.ensures.fresh)) in
     let fresh = subst (λ v. IsNewReader v c.args.source c.in-Ok.reader) c.version.ensures c.in-Ok.ensures.fresh in
-    let named = c.take_messages-stop.ensures.names (g.S.Source.left c.args.source) c.args.keeper.now c.args.namer.now []
-    (taking_none g.D.Disk.state c.args.rows c.requires.rows.0 c.args.keeper.now c.requires.so_far g.S.Source.left c.args.source c.in-Ok.reader c.args.namer.now c.new-hand.result c.args.file c.requires.worker c.requires.file c.new-hand.ensures fresh) in
     came_back g.S.Source.left g.S.Source.faults c.args.source c.in-Ok.reader.source c.take_messages-stop.new.reader.source c.into_source.result fresh.source_is c.into_source.ensures
     (λ log. CameTo g.D.Disk.state c.args.rows c.args.namer.now.version (books_by (types_pass c.finish-outcome.new.namer) (words_pass c.finish-outcome.new.namer)) log c.args.keeper.now c.finish-outcome.new.keeper c.finish-outcome.result)
     (came_to g.D.Disk.state c.args.rows c.args.namer.now.version (log_from (g.S.Source.left c.args.source) g.S.Source.left g.S.Source.faults c.in-Ok.reader.source c.take_messages-stop.new.reader.source) c.args.keeper.now c.take_messages-stop.new.keeper c.args.namer.now c.take_messages-stop.new.namer c.take_messages-stop.new.hand c.take_messages-stop.result took c.finish-outcome.new.keeper c.finish-outcome.result
-    c.finish-outcome.new.namer c.finish-outcome.ensures.namer _ named.version
+    c.finish-outcome.new.namer c.finish-outcome.ensures.namer _ took.learned.named.version
     (c.finish-outcome.ensures.outcome c.args.keeper.now took.taken took.stops) c.finish-outcome.ensures.whole)
 
 -- ---- turns

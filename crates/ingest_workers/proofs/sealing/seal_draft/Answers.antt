@@ -4,7 +4,7 @@ use mathlib.Core.List.{IsPrefix}
 use Rattle.turn_lock.specs.Words.{seen}
 use Rattle.ingest_workers.specs.Namer.{types_seen, words_seen}
 use Rattle.ingest_workers.proofs.SealLemmas.{given_back, has_failed, has_sealed, halted, now_has, no_room, only_seen}
-use Rattle.std.proofs.Common.{◌∙◌, ap}
+use Rattle.std.proofs.Common.{◌∙◌}
 use Rattle.ingest_workers.proofs.TurnsLemmas.{one_turn}
 use Rattle.ingest_workers.proofs.sealing.seal_draft.Goals as goal
 

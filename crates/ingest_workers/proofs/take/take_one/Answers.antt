@@ -70,22 +70,22 @@ returns-in-Err-clause-stopped g c = λ start taken d.
 
 pub returns-in_err-take_message-clause-names : goal.returns-in_err-take_message-clause-names
 returns-in_err-take_message-clause-names g c =
-    named_one c.args.line.now c.args.namer.now c.take_message.new.namer c.take_message.ensures.version c.take_message.ensures.locks c.take_message.ensures.numbers c.take_message.ensures.abouts c.take_message.ensures.types c.take_message.ensures.words
+    named_one c.args.line.now c.args.namer.now c.take_message.new.namer (stop_in c.take_message.result) c.take_message.ensures.version c.take_message.ensures.locks c.take_message.ensures.numbers c.take_message.ensures.abouts c.take_message.ensures.types c.take_message.ensures.words c.take_message.ensures.asked
 
 pub returns-then-not-is_full-clause-names : goal.returns-then-not-is_full-clause-names
 returns-then-not-is_full-clause-names g c =
-    named_one c.args.line.now c.args.namer.now c.take_message.new.namer c.take_message.ensures.version c.take_message.ensures.locks c.take_message.ensures.numbers c.take_message.ensures.abouts c.take_message.ensures.types c.take_message.ensures.words
+    named_one c.args.line.now c.args.namer.now c.take_message.new.namer (stop_in c.take_message.result) c.take_message.ensures.version c.take_message.ensures.locks c.take_message.ensures.numbers c.take_message.ensures.abouts c.take_message.ensures.types c.take_message.ensures.words c.take_message.ensures.asked
 
 pub returns-in-Ok-clause-names : goal.returns-in-Ok-clause-names
 returns-in-Ok-clause-names g c =
     named_then (λ m. m ≡ c.args.line.now) c.args.namer.now c.take_message.new.namer c.seal.new.namer
-    (named_one c.args.line.now c.args.namer.now c.take_message.new.namer c.take_message.ensures.version c.take_message.ensures.locks c.take_message.ensures.numbers c.take_message.ensures.abouts c.take_message.ensures.types c.take_message.ensures.words)
+    (named_one c.args.line.now c.args.namer.now c.take_message.new.namer (stop_in c.take_message.result) c.take_message.ensures.version c.take_message.ensures.locks c.take_message.ensures.numbers c.take_message.ensures.abouts c.take_message.ensures.types c.take_message.ensures.words c.take_message.ensures.asked)
     (named_only (λ m. m ≡ c.args.line.now) c.take_message.new.namer c.seal.new.namer c.seal.ensures.namer)
 
 pub returns-in-Err-clause-names : goal.returns-in-Err-clause-names
 returns-in-Err-clause-names g c =
     named_then (λ m. m ≡ c.args.line.now) c.args.namer.now c.take_message.new.namer c.seal.new.namer
-    (named_one c.args.line.now c.args.namer.now c.take_message.new.namer c.take_message.ensures.version c.take_message.ensures.locks c.take_message.ensures.numbers c.take_message.ensures.abouts c.take_message.ensures.types c.take_message.ensures.words)
+    (named_one c.args.line.now c.args.namer.now c.take_message.new.namer (stop_in c.take_message.result) c.take_message.ensures.version c.take_message.ensures.locks c.take_message.ensures.numbers c.take_message.ensures.abouts c.take_message.ensures.types c.take_message.ensures.words c.take_message.ensures.asked)
     (named_only (λ m. m ≡ c.args.line.now) c.take_message.new.namer c.seal.new.namer c.seal.ensures.namer)
 
 -- ---- turns

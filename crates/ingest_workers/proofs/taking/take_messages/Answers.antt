@@ -1,19 +1,12 @@
-use Rattle.std.proofs.Common.{rules, ◌++◌, ◌∷◌, [], Ok, Err, arith, subst, ◌∙◌}
-use Rattle.ingest_workers.specs.Taking.{IsOneOf, Taking, Took}
-use Rattle.ingest_workers.proofs.TakingLemmas.{named_on, none_at, one_less, some_at, took_since}
+use Rattle.std.proofs.Common.{rules, ◌++◌, ◌∷◌, [], Ok, Err, arith, refl, sym, subst, ◌∙◌}
+use Rattle.ingest_workers.specs.Taking.{Taking, Took}
+use Rattle.ingest_workers.proofs.TakingLemmas.{none_at, one_less, some_at, took_since}
 use Rattle.ingest_workers.specs.Causes.{log_from}
-use Rattle.std.proofs.Common.{refl}
-use Rattle.ingest_workers.proofs.NamingLemmas.{named_self}
 use Rattle.ingest_workers.proofs.taking.take_messages.Goals as goal
 
 pub take_next-requires-clause-taking : goal.take_next-requires-clause-taking
 take_next-requires-clause-taking g c =
     let r = c.requires.taking in let now = c.messages.invariant.taking r.0 r.1 r.2 r.3 r.4 in (r.0, r.1, r.2, now.0, now.1)
-
-pub returns-in-Err-clause-names : goal.returns-in-Err-clause-names
-returns-in-Err-clause-names g c = λ bytes start begin taken t.
-    let now = c.messages.invariant.taking bytes start begin taken t in
-    named_on bytes c.args.namer.now c.messages.namer c.take_next.new.namer (c.messages.invariant.names bytes start begin taken t) (c.take_next.ensures.names bytes start begin now.0 now.1)
 
 pub returns-in-Err-clause-took : goal.returns-in-Err-clause-took
 returns-in-Err-clause-took g c = λ bytes start begin taken t.
@@ -21,12 +14,7 @@ returns-in-Err-clause-took g c = λ bytes start begin taken t.
     took_since bytes g.S.Source.left g.S.Source.faults c.args.reader.now.source c.messages.reader.source c.take_next.new.reader.source c.messages.invariant.steady
     (λ log. Took g.D.Disk.state c.args.rows c.args.namer.now.version log start c.take_next.new.keeper begin c.take_next.new.namer c.take_next.new.hand (Err c.in-Err.stop))
     (subst (λ v. Took g.D.Disk.state c.args.rows v (log_from bytes g.S.Source.left g.S.Source.faults c.messages.reader.source c.take_next.new.reader.source) start c.take_next.new.keeper begin c.take_next.new.namer c.take_next.new.hand (Err c.in-Err.stop))
-    (c.messages.invariant.names bytes start begin taken t).version (c.in-Err.ensures.stopped bytes start begin now.0 now.1))
-
-pub returns-in-Ok-Some-clause-names : goal.returns-in-Ok-Some-clause-names
-returns-in-Ok-Some-clause-names g c = λ bytes start begin taken t.
-    let now = c.messages.invariant.taking bytes start begin taken t in
-    named_on bytes c.args.namer.now c.messages.namer c.take_next.new.namer (c.messages.invariant.names bytes start begin taken t) (c.take_next.ensures.names bytes start begin now.0 now.1)
+    (now.1.version ∙ sym t.version) (c.in-Err.ensures.stopped bytes start begin now.0 now.1))
 
 pub returns-in-Ok-Some-clause-took : goal.returns-in-Ok-Some-clause-took
 returns-in-Ok-Some-clause-took g c = λ bytes start begin taken t.
@@ -34,7 +22,7 @@ returns-in-Ok-Some-clause-took g c = λ bytes start begin taken t.
     took_since bytes g.S.Source.left g.S.Source.faults c.args.reader.now.source c.messages.reader.source c.take_next.new.reader.source c.messages.invariant.steady
     (λ log. Took g.D.Disk.state c.args.rows c.args.namer.now.version log start c.take_next.new.keeper begin c.take_next.new.namer c.take_next.new.hand (Ok c.in-Ok-Some.ended))
     (subst (λ v. Took g.D.Disk.state c.args.rows v (log_from bytes g.S.Source.left g.S.Source.faults c.messages.reader.source c.take_next.new.reader.source) start c.take_next.new.keeper begin c.take_next.new.namer c.take_next.new.hand (Ok c.in-Ok-Some.ended))
-    (c.messages.invariant.names bytes start begin taken t).version
+    (now.1.version ∙ sym t.version)
     (some_at c.in-Ok-Some.field-0 c.in-Ok-Some.ended (λ e. Took g.D.Disk.state c.args.rows c.messages.namer.version (log_from bytes g.S.Source.left g.S.Source.faults c.messages.reader.source c.take_next.new.reader.source) start c.take_next.new.keeper begin c.take_next.new.namer c.take_next.new.hand (Ok e))
     (search rules) (c.in-Ok-Some.ensures.ended bytes start begin now.0 now.1)))
 
@@ -49,9 +37,6 @@ pub messages-preserved : goal.messages-preserved
 messages-preserved g c = record {
   steady = c.in-Ok-None.ensures.steady ∙ c.messages.invariant.steady;
   source = record { named = c.take_next.ensures.source.named ∙ c.messages.invariant.source.named; later = omega (arith, c.take_next.ensures.source.later, c.messages.invariant.source.later) };
-  names = λ bytes start begin taken t.
-      let now = c.messages.invariant.taking bytes start begin taken t in
-      named_on bytes c.args.namer.now c.messages.namer c.take_next.new.namer (c.messages.invariant.names bytes start begin taken t) (c.take_next.ensures.names bytes start begin now.0 now.1);
   taking = λ bytes start begin taken t.
       let now = c.messages.invariant.taking bytes start begin taken t in let text = c.take_next.new.reader.message in (
         now.0 ++ text ∷ [],
@@ -64,6 +49,5 @@ pub messages-init : goal.messages-init
 messages-init g c = record {
   source = record { named = refl; later = omega arith };
   steady = refl;
-  names = λ bytes start begin taken t. named_self (IsOneOf c.args.namer.now.version bytes) c.args.namer.now;
   taking = λ bytes start begin taken t. (taken, t);
 }

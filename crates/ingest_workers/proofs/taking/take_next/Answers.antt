@@ -1,10 +1,8 @@
 use Rattle.std.proofs.Common.{rules, tests, ◌≡◌, ap, true, false, Err}
 use Rattle.std.specs.Prelude.{IsErrOf}
 use Rattle.message_reader.specs.Reading.{ReadMessage, ReadToEnd}
-use Rattle.ingest_workers.specs.Taking.{IsOneOf}
 use Rattle.ingest_workers.proofs.DoingLemmas.{each_err}
-use Rattle.ingest_workers.proofs.NamingLemmas.{named_self}
-use Rattle.ingest_workers.proofs.TakingLemmas.{err_at, named_more, none_at, ok_at, room_for_one, some_at, taking_more, took_all, took_last, took_part, took_stop}
+use Rattle.ingest_workers.proofs.TakingLemmas.{err_at, none_at, ok_at, room_for_one, some_at, taking_more, took_all, took_last, took_part, took_stop}
 use Rattle.std.proofs.Common.{subst}
 use Rattle.std.specs.Prelude.{Option, Result}
 use Rattle.ingest_workers.specs.declared.stop.Stop.{Stop}
@@ -12,16 +10,10 @@ use Rattle.ingest_workers.specs.Turns.{LearnBoth, stop_in}
 use Rattle.ingest_workers.proofs.TurnsLemmas.{stop_none}
 use Rattle.ingest_workers.proofs.taking.take_next.Goals as goal
 
-pub returns-in-Ok-None-clause-names : goal.returns-in-Ok-None-clause-names
-returns-in-Ok-None-clause-names g c = λ bytes start begin taken t. named_self (IsOneOf c.args.namer.now.version bytes) c.args.namer.now
-
 pub returns-in-Ok-None-clause-ended : goal.returns-in-Ok-None-clause-ended
 returns-in-Ok-None-clause-ended g c = λ bytes start begin taken t.
     took_all g.D.Disk.state g.S.Source.left c.args.rows bytes start c.args.keeper.now begin c.args.namer.now c.args.hand.now c.args.reader.now c.advance.new.self taken t g.S.Source.faults
     (ok_at c.advance.result c.in-Ok-None.field-0 (g.S.Source.faults c.advance.new.self.source ≡ g.S.Source.faults c.args.reader.now.source) (search rules) (c.advance.ensures.counts t.going).steady) (none_at c.in-Ok-None.field-0 (ReadToEnd g.S.Source.left c.args.reader.now c.advance.new.self) (search rules) c.in-Ok-None.ensures.at_end)
-
-pub returns-in-Err-clause-names : goal.returns-in-Err-clause-names
-returns-in-Err-clause-names g c = λ bytes start begin taken t. named_self (IsOneOf c.args.namer.now.version bytes) c.args.namer.now
 
 pub returns-in-Err-clause-stopped : goal.returns-in-Err-clause-stopped
 returns-in-Err-clause-stopped g c = λ bytes start begin taken t.
@@ -34,45 +26,30 @@ take_one-requires-clause-doing g c =
     let r = c.requires.taking in
     (r.1, r.3, room_for_one g.D.Disk.state g.S.Source.left c.args.rows r.0 r.1 c.args.keeper.now r.2 c.args.namer.now c.args.hand.now c.args.reader.now c.advance.new.self r.3 r.4 c.in-Ok-Some.mark.ended (some_at c.in-Ok-Some.field-0 c.in-Ok-Some.mark (λ m. ReadMessage g.S.Source.left m.ended c.args.reader.now c.advance.new.self) (search rules) c.in-Ok-Some.ensures.message), r.4.doing)
 
-pub returns-in_err-take_one-clause-names : goal.returns-in_err-take_one-clause-names
-returns-in_err-take_one-clause-names g c = λ bytes start begin taken t.
-    named_more g.D.Disk.state g.S.Source.left c.args.rows bytes start c.args.keeper.now begin c.args.namer.now c.args.hand.now c.args.reader.now c.advance.new.self taken t g.S.Source.name g.S.Source.faults c.advance.ensures.stays
-    c.message.result.now c.message.ensures c.take_one.new.keeper c.take_one.new.namer c.take_one.new.hand c.in-Ok-Some.mark.ended (some_at c.in-Ok-Some.field-0 c.in-Ok-Some.mark (λ m. ReadMessage g.S.Source.left m.ended c.args.reader.now c.advance.new.self) (search rules) c.in-Ok-Some.ensures.message) c.take_one.ensures.names
-
 pub returns-in_err-take_one-clause-stopped : goal.returns-in_err-take_one-clause-stopped
 returns-in_err-take_one-clause-stopped g c = λ bytes start begin taken t.
     each_err c.from_residual.result _ (λ y is.
     let there : c.take_one.result ≡ Err y = search rules in
     took_stop g.D.Disk.state g.S.Source.left c.args.rows bytes start c.args.keeper.now begin c.args.namer.now c.args.hand.now c.args.reader.now c.advance.new.self taken t g.S.Source.name g.S.Source.faults c.advance.ensures.stays
-    c.message.result.now c.message.ensures c.take_one.new.keeper c.take_one.new.namer c.take_one.new.hand c.in-Ok-Some.mark.ended (some_at c.in-Ok-Some.field-0 c.in-Ok-Some.mark (λ m. ReadMessage g.S.Source.left m.ended c.args.reader.now c.advance.new.self) (search rules) c.in-Ok-Some.ensures.message)
-    (ok_at c.advance.result c.in-Ok-Some.field-0 (g.S.Source.faults c.advance.new.self.source ≡ g.S.Source.faults c.args.reader.now.source) (search rules) (c.advance.ensures.counts t.going).steady) c.take_one.ensures.names.version y
+    c.message.result.now c.message.ensures c.take_one.new.keeper c.take_one.new.namer c.take_one.new.hand c.take_one.ensures.names c.in-Ok-Some.mark.ended (some_at c.in-Ok-Some.field-0 c.in-Ok-Some.mark (λ m. ReadMessage g.S.Source.left m.ended c.args.reader.now c.advance.new.self) (search rules) c.in-Ok-Some.ensures.message)
+    (ok_at c.advance.result c.in-Ok-Some.field-0 (g.S.Source.faults c.advance.new.self.source ≡ g.S.Source.faults c.args.reader.now.source) (search rules) (c.advance.ensures.counts t.going).steady) y
     (subst (λ (s : Option Stop). LearnBoth g.D.Disk.state (λ m. m ≡ c.message.result.now) s c.args.keeper.now c.take_one.new.keeper c.args.namer.now c.take_one.new.namer) (ap (λ (r : Result Unit Stop). stop_in r) there) c.take_one.ensures.turns)
     (err_at c.take_one.result y _ there (c.take_one.ensures.stopped start taken t.doing)))
-
-pub returns-then-mark-clause-names : goal.returns-then-mark-clause-names
-returns-then-mark-clause-names g c = λ bytes start begin taken t.
-    named_more g.D.Disk.state g.S.Source.left c.args.rows bytes start c.args.keeper.now begin c.args.namer.now c.args.hand.now c.args.reader.now c.advance.new.self taken t g.S.Source.name g.S.Source.faults c.advance.ensures.stays
-    c.message.result.now c.message.ensures c.take_one.new.keeper c.take_one.new.namer c.take_one.new.hand c.in-Ok-Some.mark.ended (some_at c.in-Ok-Some.field-0 c.in-Ok-Some.mark (λ m. ReadMessage g.S.Source.left m.ended c.args.reader.now c.advance.new.self) (search rules) c.in-Ok-Some.ensures.message) c.take_one.ensures.names
 
 pub returns-then-mark-clause-taken : goal.returns-then-mark-clause-taken
 returns-then-mark-clause-taken g c = λ bytes start begin taken t.
     let is : c.in-Ok-Some.mark.ended ≡ true = search (rules, tests) in
     taking_more g.D.Disk.state g.S.Source.left c.args.rows bytes start c.args.keeper.now begin c.args.namer.now c.args.hand.now c.args.reader.now c.advance.new.self taken t g.S.Source.name g.S.Source.faults c.advance.ensures.stays
-    c.message.result.now c.message.ensures c.take_one.new.keeper c.take_one.new.namer c.take_one.new.hand c.in-Ok-Some.mark.ended is (some_at c.in-Ok-Some.field-0 c.in-Ok-Some.mark (λ m. ReadMessage g.S.Source.left m.ended c.args.reader.now c.advance.new.self) (search rules) c.in-Ok-Some.ensures.message) c.take_one.ensures.names.version
+    c.message.result.now c.message.ensures c.take_one.new.keeper c.take_one.new.namer c.take_one.new.hand c.take_one.ensures.names c.in-Ok-Some.mark.ended is (some_at c.in-Ok-Some.field-0 c.in-Ok-Some.mark (λ m. ReadMessage g.S.Source.left m.ended c.args.reader.now c.advance.new.self) (search rules) c.in-Ok-Some.ensures.message)
     (subst (λ (s : Option Stop). LearnBoth g.D.Disk.state (λ m. m ≡ c.message.result.now) s c.args.keeper.now c.take_one.new.keeper c.args.namer.now c.take_one.new.namer)
     (stop_none c.take_one.result c.in_ok-take_one.field-0 c.in_ok-take_one.was) c.take_one.ensures.turns)
     (c.in_ok-take_one.ensures.taken start taken t.doing)
-
-pub returns-else-mark-clause-names : goal.returns-else-mark-clause-names
-returns-else-mark-clause-names g c = λ bytes start begin taken t.
-    named_more g.D.Disk.state g.S.Source.left c.args.rows bytes start c.args.keeper.now begin c.args.namer.now c.args.hand.now c.args.reader.now c.advance.new.self taken t g.S.Source.name g.S.Source.faults c.advance.ensures.stays
-    c.message.result.now c.message.ensures c.take_one.new.keeper c.take_one.new.namer c.take_one.new.hand c.in-Ok-Some.mark.ended (some_at c.in-Ok-Some.field-0 c.in-Ok-Some.mark (λ m. ReadMessage g.S.Source.left m.ended c.args.reader.now c.advance.new.self) (search rules) c.in-Ok-Some.ensures.message) c.take_one.ensures.names
 
 pub returns-else-mark-clause-ended : goal.returns-else-mark-clause-ended
 returns-else-mark-clause-ended g c = λ bytes start begin taken t.
     let is : c.in-Ok-Some.mark.ended ≡ false = search (rules, tests) in
     took_last g.D.Disk.state g.S.Source.left c.args.rows bytes start c.args.keeper.now begin c.args.namer.now c.args.hand.now c.args.reader.now c.advance.new.self taken t g.S.Source.name g.S.Source.faults c.advance.ensures.stays
-    c.message.result.now c.message.ensures c.take_one.new.keeper c.take_one.new.namer c.take_one.new.hand c.in-Ok-Some.mark.ended is (some_at c.in-Ok-Some.field-0 c.in-Ok-Some.mark (λ m. ReadMessage g.S.Source.left m.ended c.args.reader.now c.advance.new.self) (search rules) c.in-Ok-Some.ensures.message)
+    c.message.result.now c.message.ensures c.take_one.new.keeper c.take_one.new.namer c.take_one.new.hand c.take_one.ensures.names c.in-Ok-Some.mark.ended is (some_at c.in-Ok-Some.field-0 c.in-Ok-Some.mark (λ m. ReadMessage g.S.Source.left m.ended c.args.reader.now c.advance.new.self) (search rules) c.in-Ok-Some.ensures.message)
     (ok_at c.advance.result c.in-Ok-Some.field-0 (g.S.Source.faults c.advance.new.self.source ≡ g.S.Source.faults c.args.reader.now.source) (search rules) (c.advance.ensures.counts t.going).steady)
     (subst (λ (s : Option Stop). LearnBoth g.D.Disk.state (λ m. m ≡ c.message.result.now) s c.args.keeper.now c.take_one.new.keeper c.args.namer.now c.take_one.new.namer)
     (stop_none c.take_one.result c.in_ok-take_one.field-0 c.in_ok-take_one.was) c.take_one.ensures.turns)

@@ -1,8 +1,6 @@
-use Rattle.std.proofs.Common.{refl, sym, subst, ◌≡◌, Some}
-use Rattle.ingest_workers.specs.declared.worker.BookPasses.{BookPasses}
-use Rattle.ingest_workers.specs.Desk.{AreNotesBy}
-use Rattle.ingest_workers.specs.WorkerLaws.{did_one, idle_with, passes_is}
-use Rattle.ingest_workers.proofs.work.WorkerWorksJobDesk.work.Goals as goal
+use Rattle.std.proofs.Common.{refl, sym, ◌≡◌, Some}
+use Rattle.ingest_workers.specs.WorkerLaws.{did_job, did_one, idle_with, passes_is}
+use Rattle.ingest_workers.proofs.work.WorkerWorksJobPassStore.work.Goals as goal
 
 pub do_job-passes-requires-clause-may : goal.do_job-passes-requires-clause-may
 do_job-passes-requires-clause-may g c = let had : c.args.self.now.passes ≡ Some c.in-Some.passes = cc (c.take.ensures.value, c.in-Some.is) in
@@ -13,17 +11,12 @@ do_job-passes-requires-clause-with g c = let had : c.args.self.now.passes ≡ So
     let same = passes_is c.args.self.now c.in-Some.passes had in rw (sym same) c.requires.fits.fits
 
 pub returns-clause-ready : goal.returns-clause-ready
-returns-clause-ready g c = idle_with _ _ c.do_job-passes.result.0 c.replace.ensures.after c.do_job-passes.ensures.may
+returns-clause-ready g c = idle_with _ _ c.do_job-passes.result c.replace.ensures.after c.do_job-passes.ensures.may
 
 pub returns-clause-went : goal.returns-clause-went
 returns-clause-went g c = let had : c.args.self.now.passes ≡ Some c.in-Some.passes = cc (c.take.ensures.value, c.in-Some.is) in
-    did_one g.S.Source.left c.args.job.now c.args.self.now _ c.in-Some.passes c.do_job-passes.result.0 had c.replace.ensures.after refl c.do_job-passes.ensures.names
+    did_one g.S.Source.left c.args.job.now _ c.args.self.now _ c.in-Some.passes c.do_job-passes.result had c.replace.ensures.after refl c.do_job-passes.ensures.names
 
 pub returns-clause-did : goal.returns-clause-did
 returns-clause-did g c = let had : c.args.self.now.passes ≡ Some c.in-Some.passes = cc (c.take.ensures.value, c.in-Some.is) in
-    let same = passes_is c.args.self.now c.in-Some.passes had in record {
-      notes = c.do_job-passes.result.1;
-      left_there = refl;
-      by_worker = subst (λ (x : BookPasses). AreNotesBy x c.do_job-passes.result.1) (sym same) c.do_job-passes.ensures.notes;
-      done = c.do_job-passes.ensures.done;
-    }
+    did_job g.D.Disk.state g.S.Source.left g.S.Source.name g.S.Source.faults c.args.job.now _ c.args.keeper.now _ c.args.self.now _ c.in-Some.passes c.do_job-passes.result had c.replace.ensures.after c.do_job-passes.ensures.names c.do_job-passes.ensures.done
