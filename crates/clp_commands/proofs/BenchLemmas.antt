@@ -75,9 +75,9 @@ ends_none seen told is same = subst (λ t. EndsWith seen [] 0 t) (sym is) (recor
 pub ends_some : (seen : Around) (told : Option Refusal) (refusal : Refusal) (status : ℕ) → told ≡ Some refusal → status ≡ status_of refusal → SaysIn seen (line_of [] refusal) → EndsWith seen [] status told
 ends_some seen told refusal status is status_is said = subst (λ t. EndsWith seen [] status t) (sym is) (record { status_is = status_is; said = said })
 
-pub refused_logs : (content : List ℕ → Option (List ℕ)) (seen : Around) (old new : DiskState) (status : ℕ) (refusal : Refusal) → status ≡ status_of refusal → SaysIn seen (line_of [] refusal) → TookNothing seen.out → Stayed seen.out_faults
-    → HasCallCause generated_names old new refusal → FromArchive old (λ h before bytes stood. TakesNothing h before old new) → EndsLogs content seen old new status
-refused_logs content seen old new status refusal is said nothing sink cause disk =
+pub refused_logs : (content : List ℕ → Option (List ℕ)) (workers : ℕ) (seen : Around) (old new : DiskState) (status : ℕ) (refusal : Refusal) → status ≡ status_of refusal → SaysIn seen (line_of [] refusal) → TookNothing seen.out → Stayed seen.out_faults
+    → HasCallCause generated_names old new refusal → FromArchive old (λ h before bytes stood. TakesNothing h before old new) → EndsLogs content workers seen old new status
+refused_logs content workers seen old new status refusal is said nothing sink cause disk =
     inl (record { refusal = refusal; ends = record { status_is = is; said = said }; nothing = nothing; sink = sink; cause = cause; disk = disk })
 
 -- ---- the disk, where nothing more is written
@@ -120,12 +120,12 @@ sums_sooner came seen old mid new status low sums = record {
   damaged = sums.damaged;
 }
 
-pub logs_added : (content : List ℕ → Option (List ℕ)) (names : List (List ℕ)) (files : List TakenFile) (seen : Around) (old mid new : DiskState) (status : ℕ) → names ≡ generated_names → names_of files ≡ names → IsLawful mid → DiskGoesOn old mid
+pub logs_added : (content : List ℕ → Option (List ℕ)) (workers : ℕ) (names : List (List ℕ)) (files : List TakenFile) (seen : Around) (old mid new : DiskState) (status : ℕ) → names ≡ generated_names → names_of files ≡ names → IsLawful mid → DiskGoesOn old mid
     → KeepsBytes mid new → mid.faults ≤ new.faults → FromArchive old (λ h before bytes stood. TakesIn content h before stood names (map came_of files) old mid)
-    → HaveFileCauses (logs_of (with_logs content seen)) segment_rows old new (map came_of files) → All IsSpared (map came_of files) → TellsParts (map came_of files) seen status ⊎ SumsUp (map came_of files) seen mid new status
-    → EndsLogs content seen old new status
-logs_added content names files seen old mid new status four named law goes keeps counts takes causes spared told =
-    let adds : AddsLogs content names seen old new status = record {
+    → HaveFileCauses (logs_of (with_logs content seen)) workers segment_rows old new (map came_of files) → All IsSpared (map came_of files) → TellsParts (map came_of files) seen status ⊎ SumsUp (map came_of files) seen mid new status
+    → EndsLogs content workers seen old new status
+logs_added content workers names files seen old mid new status four named law goes keeps counts takes causes spared told =
+    let adds : AddsLogs content workers names seen old new status = record {
       came = map came_of files;
       names_are = names_came files ∙ named;
       disk = takes_later content names (map came_of files) old mid new law goes.moments.later keeps counts takes;
@@ -133,4 +133,4 @@ logs_added content names files seen old mid new status four named law goes keeps
       spared = spared;
       told = ⊎_elim (λ parts. inl parts) (λ sums. inr (sums_sooner (map came_of files) seen old mid new status goes.counts sums)) told;
     } in
-    inr (subst (λ ns. AddsLogs content ns seen old new status) four adds)
+    inr (subst (λ ns. AddsLogs content workers ns seen old new status) four adds)

@@ -129,7 +129,7 @@ stands h es tail at None told reads refused = absurd (cc (told))
 stands h es tail at (Some bytes) told (inl stood) refused = refused.none h es stood
 stands h es tail at (Some bytes) told (inr stood) refused = refused.none h (es ++ tail) stood
 
-module _ (number lines : ℕ) (seen : Around) (old new : DiskState) (status : ℕ) (takes : TakesLogs number lines seen old new status) (told : is_some new.seen ≡ is_some old.seen) (none : old.seen ≡ Some []) where
+module _ (number lines workers : ℕ) (seen : Around) (old new : DiskState) (status : ℕ) (takes : TakesLogs number lines workers seen old new status) (told : is_some new.seen ≡ is_some old.seen) (none : old.seen ≡ Some []) where
   abbrev Leaves : DiskState → (bytes : List ℕ) → StandsFor bytes default_header [] → Type 0
   Leaves from bytes stood = TakesIn (generated number lines) default_header [] stood generated_names takes.came from new
 
@@ -146,14 +146,14 @@ module _ (number lines : ℕ) (seen : Around) (old new : DiskState) (status : �
       let same : sum_by (λ (c : Came). c.messages) takes.came ≡ 4 * lines = subst (λ (o : Option (List ℕ)). IfSome o (λ _. sum_by (λ (c : Came). c.messages) takes.came ≡ 4 * lines)) none (takes.all sums.whole) in
       sums_complete lines seen old new status _ steady sent same sums.answer sums.ends sums.prints sums.disk sums.sink (λ at e. none_damaged at (sums.damaged at e))
 
-complete : (number lines : ℕ) (seen : Around) (old new : DiskState) (status : ℕ) → is_some new.seen ≡ is_some old.seen → (ends : EndsBench number lines seen old new status) → old.seen ≡ Some [] → ¬ Rose old.faults new.faults → ¬ RoseIn seen.out_faults → MetNoLimit ends
+complete : (number lines workers : ℕ) (seen : Around) (old new : DiskState) (status : ℕ) → is_some new.seen ≡ is_some old.seen → (ends : EndsBench number lines workers seen old new status) → old.seen ≡ Some [] → ¬ Rose old.faults new.faults → ¬ RoseIn seen.out_faults → MetNoLimit ends
     → SumsUpAll lines seen new status
-complete number lines seen old new status told (inl making) none steady sent met = making_complete lines seen old new status making.refusal making.leaves none steady
-complete number lines seen old new status told (inr (inl refused)) none steady sent met = logs_complete lines seen old new status refused.refusal refused.ends refused.cause none steady
-complete number lines seen old new status told (inr (inr takes)) none steady sent met = logs_taken number lines seen old new status takes told none steady sent met takes.told
+complete number lines workers seen old new status told (inl making) none steady sent met = making_complete lines seen old new status making.refusal making.leaves none steady
+complete number lines workers seen old new status told (inr (inl refused)) none steady sent met = logs_complete lines seen old new status refused.refusal refused.ends refused.cause none steady
+complete number lines workers seen old new status told (inr (inr takes)) none steady sent met = logs_taken number lines workers seen old new status takes told none steady sent met takes.told
 
-pub bench_answers : (number lines : ℕ) (seen : Around) (old new : DiskState) (status : ℕ) → is_some new.seen ≡ is_some old.seen → EndsBench number lines seen old new status → AnswersBench number lines seen old new status
-bench_answers number lines seen old new status told ends = record { ends = ends; complete = complete number lines seen old new status told ends }
+pub bench_answers : (number lines workers : ℕ) (seen : Around) (old new : DiskState) (status : ℕ) → is_some new.seen ≡ is_some old.seen → EndsBench number lines workers seen old new status → AnswersBench number lines workers seen old new status
+bench_answers number lines workers seen old new status told ends = record { ends = ends; complete = complete number lines workers seen old new status told ends }
 
-pub making_answers : (number lines : ℕ) (seen : Around) (old new : DiskState) (status : ℕ) → RefusesMaking seen old new status → AnswersBench number lines seen old new status
-making_answers number lines seen old new status making = record { ends = inl making; complete = λ none steady sent met. making_complete lines seen old new status making.refusal making.leaves none steady }
+pub making_answers : (number lines workers : ℕ) (seen : Around) (old new : DiskState) (status : ℕ) → RefusesMaking seen old new status → AnswersBench number lines workers seen old new status
+making_answers number lines workers seen old new status making = record { ends = inl making; complete = λ none steady sent met. making_complete lines seen old new status making.refusal making.leaves none steady }

@@ -32,7 +32,7 @@ use Rattle.ingest_workers.specs.Ingested.{AreRefused, HadNoRoomOver, HasItsCause
 use Rattle.ingest_workers.specs.Outcome.{nothing_done}
 use Rattle.clp_commands.specs.IngestPrints.{came_of}
 use Rattle.clp_commands.specs.Ingested.{Came, HasMoreThan, IsThereOrGiven}
-use Rattle.clp_commands.specs.Jobs.{IsNotBegun, of_cause, of_opening, refusal_by, sources_of}
+use Rattle.clp_commands.specs.Jobs.{DidJobs, IsNotBegun, of_cause, of_opening, refusal_by, sources_of}
 use Rattle.clp_commands.specs.StepsCauses.{CameIn, HasCauseIn, Logs, Target, into_journal}
 use Rattle.clp_commands.specs.Printing.{IsLong, most_messages}
 use Rattle.clp_commands.specs.declared.refusal.Refusal.{Refusal}
@@ -178,7 +178,7 @@ module _ {S : Type 0} (left name : S → Option (List ℕ)) (faults : S → ℕ)
         go None is = absurd (cc (is))
         go (Some u) is = cc (is, has)
 
-    pub all_done : IsLawful (d.state after.disk.now) → map (λ (c : Came). c.name) came ≡ names → (store : StoreView D) → HasStored (left_in left) (plan_of rows j) js js' j after store → HaveCauses (left_in left) (name_in name) (faults_in faults) (plan_of rows j) j after js js'
+    all_done : IsLawful (d.state after.disk.now) → map (λ (c : Came). c.name) came ≡ names → (store : StoreView D) → HasStored (left_in left) (plan_of rows j) js js' j after store → HaveCauses (left_in left) (name_in name) (faults_in faults) (plan_of rows j) j after js js'
         → (given : List (LogSource S)) → map Some given ≡ sources_of js' → All (IsCounted name faults reads reads_now) given → AllIn
     all_done law named store stored causes given are counted = each_of (CameIn logs (into_journal (state_of j) rows first names) (d.state j.disk.now) (d.state after.disk.now)) came (λ i c at.
         let one = each i c at in
@@ -199,10 +199,15 @@ module _ {S : Type 0} (left name : S → Option (List ℕ)) (faults : S → ℕ)
         name_at : (i : ℕ) (c : Came) → slice_get came i ≡ Some c → slice_get names i ≡ Some c.name
         name_at i c at = ap (λ (l : List (List ℕ)). slice_get l i) (sym named) ∙ (slice_get-map (λ (x : Came). x.name) came i ∙ ap (option_map (λ (x : Came). x.name)) at)
 
-    pub all_refused : IsAsItWas j after → AreRefused js js' → AllIn
+    all_refused : IsAsItWas j after → AreRefused js js' → AllIn
     all_refused stayed refused = each_of (CameIn logs (into_journal (state_of j) rows first names) (d.state j.disk.now) (d.state after.disk.now)) came (λ i c at.
         let one = each i c at in
         refused_in j after names rows first js of c one.source one.done one.came one.messages one.whole one.refusal (refused.each i one.done one.at_done))
+
+    pub all_came : IsLawful (d.state after.disk.now) → map (λ (c : Came). c.name) came ≡ names → (workers : ℕ) → DidJobs (left_in left) (name_in name) (faults_in faults) workers rows j after js js'
+        → (given : List (LogSource S)) → map Some given ≡ sources_of js' → All (IsCounted name faults reads reads_now) given → AllIn
+    all_came law named workers (inl done) given are counted = all_done law named done.ingested.store done.ingested.stored done.causes given are counted
+    all_came law named workers (inr none) given are counted = all_refused none.journal none.jobs
 
 -- without memory to begin
 pub all_unbegun : (logs : Logs) (into : Target) (old new : DiskState) (taken : List TakenFile) → All IsNotBegun taken → All (CameIn logs into old new) (map came_of taken)

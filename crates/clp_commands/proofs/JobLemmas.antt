@@ -14,11 +14,12 @@ use Rattle.disk_journal.specs.declared.journal.Journal.{Journal}
 use Rattle.disk_journal.specs.State.{JournalState}
 use Rattle.disk_seal.specs.View.{StoreView}
 use Rattle.disk_seal.proofs.ToldLemmas.{told_map}
-use Rattle.ingest_workers.specs.Ingested.{AreNew, HasIngested, IsAsItWas, IsLeftBy, first_file, plan_of, told_entries}
+use Rattle.ingest_workers.specs.Ingested.{AreNew, IsAsItWas, IsLeftBy, first_file, told_entries}
 use Rattle.ingest_workers.specs.Journal.{Holds}
 use Rattle.ingest_workers.specs.Outcome.{nothing_done}
 use Rattle.ingest_workers.specs.declared.job.Job.{Job}
 use Rattle.clp_commands.specs.Going.{DiskGoesOn}
+use Rattle.clp_commands.specs.Jobs.{DidJobs}
 use Rattle.clp_commands.specs.Naming.{AreNumbered, HasGoneOn, IsNamed}
 use Rattle.clp_commands.proofs.GoingLemmas.{DiskGoesOn-same}
 
@@ -86,9 +87,15 @@ module _ {D : Type 0} {d : DiskGhosts D} where
   pub same_goes_on : (j : Journal D d) → IsLawful (d.state j.disk.now) → HasGoneOn j j
   same_goes_on j law = record { name = refl; disk = DiskGoesOn-same (d.state j.disk.now) law }
 
-  pub as_it_was_goes_on : (before after end : Journal D d) → IsLawful (d.state before.disk.now) → end ≡ after → IsAsItWas before after → HasGoneOn before end
-  as_it_was_goes_on before after end law is (inl same) = subst (λ (x : Journal D d). HasGoneOn before x) (sym (is ∙ same)) (same_goes_on before law)
-  as_it_was_goes_on before after end law is (inr stayed) = subst (λ (x : Journal D d). HasGoneOn before x) (sym is) (left_goes_on stayed.0 before after stayed.1.left_by)
+  as_it_was_goes_on : (before after : Journal D d) → IsLawful (d.state before.disk.now) → IsAsItWas before after → HasGoneOn before after
+  as_it_was_goes_on before after law (inl same) = subst (λ (x : Journal D d). HasGoneOn before x) (sym same) (same_goes_on before law)
+  as_it_was_goes_on before after law (inr stayed) = left_goes_on stayed.0 before after stayed.1.left_by
 
-  pub ingested_goes_on : {S : Type 0} (left : S → Option (List ℕ)) (rows : ℕ) (js js' : List (Job S)) (before after end : Journal D d) → end ≡ after → HasIngested left (plan_of rows before) js js' before after → HasGoneOn before end
-  ingested_goes_on left rows js js' before after end is done = subst (λ (x : Journal D d). HasGoneOn before x) (sym is) (left_goes_on done.store before after done.stored.left_by)
+  module _ {S : Type 0} (left name : S → Option (List ℕ)) (faults : S → ℕ) (workers rows : ℕ) (before after : Journal D d) (js js' : List (Job S)) where
+    pub did_go_on : IsLawful (d.state before.disk.now) → DidJobs left name faults workers rows before after js js' → HasGoneOn before after
+    did_go_on law (inl done) = left_goes_on done.ingested.store before after done.ingested.stored.left_by
+    did_go_on law (inr none) = as_it_was_goes_on before after law none.journal
+
+    pub as_many_done : DidJobs left name faults workers rows before after js js' → length js' ≡ length js
+    as_many_done (inl done) = done.ingested.stored.counted
+    as_many_done (inr none) = none.jobs.counted

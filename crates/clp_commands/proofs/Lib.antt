@@ -27,7 +27,9 @@ pub mod JobLemmas
 pub mod CauseLemmas
 pub mod LineLemmas
 pub mod FitLemmas
+pub mod FittingLemmas
 pub mod FileCauseLemmas
+pub mod InTurnLemmas
 pub mod WholeLemmas
 pub mod SummaryLemmas
 pub mod BenchLemmas

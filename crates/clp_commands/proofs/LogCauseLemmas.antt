@@ -182,12 +182,12 @@ module _ (number lines : ℕ) where
         (each_spared came (All-tail IsGenerated c.name (names_in came) are) (All-tail Before c came all))
 
   -- the causes of the four logs
-  module _ (most : lines ≤ 1000000) (s later : GeneratedState) (rows : ℕ) (old mid new : DiskState) (same : new.seen ≡ mid.seen) (counts : mid.faults ≤ new.faults) (came : List Came) (are : names_in came ≡ generated_names) where
+  module _ (most : lines ≤ 1000000) (s later : GeneratedState) (workers rows : ℕ) (old mid new : DiskState) (same : new.seen ≡ mid.seen) (counts : mid.faults ≤ new.faults) (came : List Came) (are : names_in came ≡ generated_names) where
     abbrev opens_in : List ℕ → ℕ × ℕ
     opens_in name = (open_faults_of s name, open_faults_of later name)
 
-    pub log_causes : HaveFileCauses (told_with opens_in) rows old mid came → HaveFileCauses (told_with (λ name. (0, 0))) rows old new came
-    log_causes have = record { into = have.into; names = have.names; rows_are = have.rows_are; told = have.told; each = each_after most opens_in (calm s later) have.into old mid new same counts came (all_named came are) have.each }
+    pub log_causes : HaveFileCauses (told_with opens_in) workers rows old mid came → HaveFileCauses (told_with (λ name. (0, 0))) workers rows old new came
+    log_causes have = record { into = have.into; names = have.names; rows_are = have.rows_are; told = have.told; each = each_after most opens_in (calm s later) have.into old mid new same counts came (all_named came are) have.each; in_turn = have.in_turn }
 
-    pub logs_spared : HaveFileCauses (told_with opens_in) rows old mid came → All IsSpared came
+    pub logs_spared : HaveFileCauses (told_with opens_in) workers rows old mid came → All IsSpared came
     logs_spared have = each_spared most opens_in (calm s later) have.into old mid new same counts came (all_named came are) have.each

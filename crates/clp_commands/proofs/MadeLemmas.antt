@@ -8,6 +8,7 @@ use Rattle.std.proofs.lemmas.Option.{IfSome_then}
 use Rattle.std.proofs.lemmas.List.Elements.{All-cons, All-head, All-nil, All-tail, All-weaker}
 use Rattle.log_seams.specs.Disk.{DiskState, Only}
 use Rattle.log_seams.specs.Outside.{CountsOf, Rose}
+use Rattle.logtype_text.specs.Laws.{OneListOfParts}
 use Rattle.record_format.specs.declared.header.Header.{Header}
 use Rattle.record_format.specs.Header.{IsHeader, header_bytes}
 use Rattle.record_format.specs.Lists.{four_bytes, text_bytes}
@@ -19,6 +20,7 @@ use Rattle.disk_journal.specs.declared.refusals.CreateRefusal.{CreateRefusal}
 use Rattle.disk_journal.specs.declared.refusals.CreateRefusal.TheVariants.{DiskFault as CreateDiskFault}
 use Rattle.disk_journal.specs.declared.record.TheConstants.{CLOSED_GATE}
 use Rattle.disk_seal.specs.Registered.{files_record, files_size}
+use Rattle.row_codec.specs.declared.namer.Which.{Which}
 use Rattle.archive_meaning.specs.declared.entry.JournalEntry.{JournalEntry}
 use Rattle.archive_meaning.specs.Held.{Held, nothing_held}
 use Rattle.archive_meaning.specs.Spelled.{end_of}
@@ -32,7 +34,7 @@ use Rattle.clp_commands.specs.Ending.{SaysIn, Stayed, TookNothing}
 use Rattle.clp_commands.specs.Outcome.{answer_of, of_create}
 use Rattle.clp_commands.specs.Reading.{OverJournal}
 use Rattle.clp_commands.specs.Refusal.{line_of, status_of}
-use Rattle.clp_commands.specs.Ingested.{Came, FromArchive, HasCallCause, LeavesJournal, TakesIn, TakesNothing}
+use Rattle.clp_commands.specs.Ingested.{Came, FitIn, FromArchive, HasCallCause, LeavesJournal, TakesIn, TakesNothing}
 use Rattle.clp_commands.specs.Names.{IsFirstTooLong, IsShortName}
 use Rattle.clp_commands.specs.StepsCauses.{CameIn, HaveFileCauses, IsTarget, Logs, logs_of}
 use Rattle.clp_commands.specs.declared.refusal.Refusal.{Refusal}
@@ -40,8 +42,9 @@ use Rattle.clp_commands.specs.declared.refusal.Refusal.TheVariants.{Usage, BadPa
 use Rattle.generated_logs.specs.Logs.{content_of as generated, name_of}
 use Rattle.clp_commands.proofs.BenchLemmas.{sums_sooner}
 use Rattle.clp_commands.proofs.BenchedLemmas.{bench_answers, making_answers}
+use Rattle.clp_commands.proofs.FittingLemmas.{all_fit}
 use Rattle.clp_commands.proofs.LogCauseLemmas.{all_counted}
-use Rattle.clp_commands.proofs.WholeLemmas.{came_on, file_causes}
+use Rattle.clp_commands.proofs.WholeLemmas.{came_on, file_causes, full_in_turn}
 
 -- ---- the empty archive
 
@@ -190,8 +193,8 @@ module _ (old mid : DiskState) (made : MakesEmpty default_header old mid) (tells
       go (Some was) (Some bytes) made tells only from = λ h before stood each.
           subst (λ b. (s : StandsFor b h before) → ((c : List ℕ) → mid.images c → StandsFor c h before) → P h before b s) made (from h before) stood (λ c image. each c (only c image ∙ made))
 
-  causes_from : (logs : Logs) (rows : ℕ) (came : List Came) (new : DiskState) → HaveFileCauses logs rows mid new came → HaveFileCauses logs rows (as_made old) new came
-  causes_from logs rows came new have =
+  causes_from : (logs : Logs) (workers rows : ℕ) (came : List Came) (new : DiskState) → HaveFileCauses logs workers rows mid new came → HaveFileCauses logs workers rows (as_made old) new came
+  causes_from logs workers rows came new have =
       let low : old.faults ≤ mid.faults = omega (arith, steady) in
       record {
         into = have.into;
@@ -199,6 +202,7 @@ module _ (old mid : DiskState) (made : MakesEmpty default_header old mid) (tells
         rows_are = have.rows_are;
         told = made_from (λ h before bytes stood. IsTarget have.into h before (length stood.legal.held.names)) have.told;
         each = All-weaker (CameIn logs have.into mid new) (CameIn logs have.into (as_made old) new) (came_on logs have.into (as_made old) mid new low) came have.each;
+        in_turn = have.in_turn;
       }
 
   all_taken : (number lines : ℕ) (came : List Came) (new : DiskState) → map (λ (c : Came). c.name) came ≡ generated_names → FromEmpty old (λ from bytes stood. TakesIn (generated number lines) default_header [] stood generated_names came from new)
@@ -207,8 +211,8 @@ module _ (old mid : DiskState) (made : MakesEmpty default_header old mid) (tells
 
   -- ---- the answer
 
-  pub answers_made : (number lines : ℕ) (seen : Around) (new : DiskState) (status : ℕ) → is_some new.seen ≡ is_some mid.seen → EndsLogs (generated number lines) seen mid new status → AnswersBench number lines seen old new status
-  answers_made number lines seen new status told (inl refused) =
+  pub answers_made : OneListOfParts → (number lines workers : ℕ) (seen : Around) (new : DiskState) (status : ℕ) → is_some new.seen ≡ is_some mid.seen → EndsLogs (generated number lines) workers seen mid new status → AnswersBench number lines workers seen old new status
+  answers_made one number lines workers seen new status told (inl refused) =
       let refuses : RefusesLogs seen old new status = record {
         refusal = refused.refusal;
         ends = refused.ends;
@@ -217,19 +221,22 @@ module _ (old mid : DiskState) (made : MakesEmpty default_header old mid) (tells
         cause = cause_made new refused.refusal refused.cause;
         disk = nothing_from new refused.disk;
       } in
-      bench_answers number lines seen old new status (told ∙ tells) (inr (inl refuses))
-  answers_made number lines seen new status told (inr adds) =
+      bench_answers number lines workers seen old new status (told ∙ tells) (inr (inl refuses))
+  answers_made one number lines workers seen new status told (inr adds) =
       let disk = takes_from (generated number lines) adds.came new adds.disk in
-      let takes : TakesLogs number lines seen old new status = record {
+      let causes = causes_from (logs_of (with_logs (generated number lines) seen)) workers segment_rows adds.came new adds.causes in
+      let takes : TakesLogs number lines workers seen old new status = record {
         came = adds.came;
         names_are = adds.names_are;
         disk = disk;
-        each = file_causes segment_rows generated_names (with_logs (generated number lines) seen) (as_made old) new adds.came adds.names_are (causes_from (logs_of (with_logs (generated number lines) seen)) segment_rows adds.came new adds.causes);
+        each = file_causes workers segment_rows generated_names (with_logs (generated number lines) seen) (as_made old) new adds.came adds.names_are causes;
+        in_turn = full_in_turn workers segment_rows (with_logs (generated number lines) seen) (as_made old) new adds.came causes;
+        fits = made_from (λ h before bytes stood. (book : Which) → FitIn (generated number lines) h before adds.came book) (all_fit one (generated number lines) generated_names adds.came mid new told adds.disk);
         spared = adds.spared;
         all = all_taken number lines adds.came new adds.names_are disk;
         told = ⊎_elim (λ parts. inl parts) (λ sums. inr (sums_sooner adds.came seen old mid new status (omega (arith, steady)) sums)) adds.told;
       } in
-      bench_answers number lines seen old new status (told ∙ tells) (inr (inr takes))
+      bench_answers number lines workers seen old new status (told ∙ tells) (inr (inr takes))
 
 -- the archive was not made
 refused_by : (seen : Around) (old new : DiskState) (status : ℕ) (outcome : Result Unit CreateRefusal) (refusal : Refusal) → Some refusal ≡ option_map of_create (answer_of outcome) → status ≡ status_of refusal → SaysIn seen (line_of [] refusal)
@@ -245,9 +252,9 @@ refused_by seen old new status (Err r) refusal is status_is said leaves nothing 
       sink = sink;
     }
 
-pub refused_making : (number lines : ℕ) (seen : Around) (old new : DiskState) (status : ℕ) (outcome : Result Unit CreateRefusal) (refusal : Refusal) → Some refusal ≡ option_map of_create (answer_of outcome) → status ≡ status_of refusal → SaysIn seen (line_of [] refusal)
-    → CreateLeaves outcome default_header old new → TookNothing seen.out → Stayed seen.out_faults → AnswersBench number lines seen old new status
-refused_making number lines seen old new status outcome refusal is status_is said leaves nothing sink = making_answers number lines seen old new status (refused_by seen old new status outcome refusal is status_is said leaves nothing sink)
+pub refused_making : (number lines workers : ℕ) (seen : Around) (old new : DiskState) (status : ℕ) (outcome : Result Unit CreateRefusal) (refusal : Refusal) → Some refusal ≡ option_map of_create (answer_of outcome) → status ≡ status_of refusal → SaysIn seen (line_of [] refusal)
+    → CreateLeaves outcome default_header old new → TookNothing seen.out → Stayed seen.out_faults → AnswersBench number lines workers seen old new status
+refused_making number lines workers seen old new status outcome refusal is status_is said leaves nothing sink = making_answers number lines workers seen old new status (refused_by seen old new status outcome refusal is status_is said leaves nothing sink)
 
 pub made_whole : (old new : DiskState) (outcome : Result Unit CreateRefusal) → None ≡ option_map of_create (answer_of outcome) → CreateLeaves outcome default_header old new → MakesEmpty default_header old new
 made_whole old new (Ok done) is leaves = leaves

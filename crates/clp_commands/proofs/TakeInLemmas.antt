@@ -23,14 +23,14 @@ use Rattle.disk_seal.specs.Opening.{MayOpen}
 use Rattle.disk_seal.specs.Told.{IfTold, journal_in}
 use Rattle.log_sources.specs.declared.source.LogSource.{LogSource}
 use Rattle.log_sources.specs.declared.source.LogSource.TheVariants.{Opened, Unopened}
-use Rattle.log_sources.specs.Sources.{CameOf, is_opened, left_in, refusal_of}
+use Rattle.log_sources.specs.Sources.{CameOf, faults_in, is_opened, left_in, name_in, refusal_of}
 use Rattle.ingest_workers.specs.declared.job.Job.{Job}
 use Rattle.ingest_workers.specs.declared.outcome.Cause.{Cause}
 use Rattle.ingest_workers.specs.Ingested.{AreRefused, HasIngested, IsAsItWas, plan_of, told_entries}
 use Rattle.ingest_workers.specs.JobDone.{in_source}
 use Rattle.clp_commands.specs.IngestPrints.{came_of, names_of}
 use Rattle.clp_commands.specs.Ingested.{Came, IsOfNew}
-use Rattle.clp_commands.specs.Jobs.{IsNotBegun, IsToldBy, of_cause, opens_of, refusal_by, sources_of}
+use Rattle.clp_commands.specs.Jobs.{DidJobs, IsNotBegun, IsToldBy, of_cause, opens_of, refusal_by, sources_of}
 use Rattle.clp_commands.specs.Leaves.{HasNames, IsLogOf, TakesInto}
 use Rattle.clp_commands.specs.Naming.{AreNumbered}
 use Rattle.clp_commands.specs.declared.refusal.Refusal.{Refusal}
@@ -225,13 +225,18 @@ module _ {S : Type 0} (left name : S → Option (List ℕ)) (faults : S → ℕ)
 
       -- the jobs were done
       module _ {D : Type 0} {d : DiskGhosts D} (j after : Journal D d) (law : IsLawful (d.state after.disk.now)) where
-        pub done_takes_into : (rows : ℕ) → HasIngested (left_in left) (plan_of rows j) js js' j after → TakesInto content names first (map came_of taken) (state_of j) (d.state after.disk.now)
+        done_takes_into : (rows : ℕ) → HasIngested (left_in left) (plan_of rows j) js js' j after → TakesInto content names first (map came_of taken) (state_of j) (d.state after.disk.now)
         done_takes_into rows done = λ h before bytes stood has number.
             ingested_takes_in (left_in left) content h before names stood j after law has js js' (subst (λ n. AreJobsOf (left_in left) content h.version names n js) number (are_jobs_of h.version)) (map came_of taken) came_named came_of_jobs rows done
 
         -- none was begun
-        pub refused_takes_into : IsLawful (d.state j.disk.now) → MayOpen (state_of j) → IsAsItWas j after → AreRefused js js' → TakesInto content names first (map came_of taken) (state_of j) (d.state after.disk.now)
+        refused_takes_into : IsLawful (d.state j.disk.now) → MayOpen (state_of j) → IsAsItWas j after → AreRefused js js' → TakesInto content names first (map came_of taken) (state_of j) (d.state after.disk.now)
         refused_takes_into law_j may stayed refused = λ h before bytes stood has number.
             let stands = stands_named h before names (state_of j) may has in
             refused_takes_in (left_in left) content h before names stood j after law has js js' (subst (λ n. AreJobsOf (left_in left) content h.version names n js) number (are_jobs_of h.version)) (map came_of taken) came_named came_of_jobs
             law_j stands.1 stands.0 stayed refused
+
+        pub did_take_into : IsLawful (d.state j.disk.now) → MayOpen (state_of j) → (workers rows : ℕ) → DidJobs (left_in left) (name_in name) (faults_in faults) workers rows j after js js'
+            → TakesInto content names first (map came_of taken) (state_of j) (d.state after.disk.now)
+        did_take_into law_j may workers rows (inl done) = done_takes_into rows done.ingested
+        did_take_into law_j may workers rows (inr none) = refused_takes_into law_j may none.journal none.jobs

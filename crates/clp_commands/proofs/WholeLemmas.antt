@@ -1,5 +1,5 @@
 -- Why files are not whole, from the start of the call, and as it is told.
-use Rattle.std.proofs.Common.{◌≡◌, ◌≤◌, ◌++◌, ◌∷◌, [], ◌⊎◌, refl, sym, ap, ◌∙◌, subst, ℕ, List, length, map, append-nil, Option, Some, None, arith}
+use Rattle.std.proofs.Common.{◌≡◌, ◌+◌, ◌≤◌, ◌++◌, ◌∷◌, [], ◌⊎◌, refl, sym, ap, ◌∙◌, subst, ℕ, List, length, map, take, append-nil, Option, Some, None, arith}
 use Rattle.std.specs.Prelude.{All}
 use Rattle.std.specs.List.{Contains}
 use Rattle.row_codec.specs.declared.namer.Which.{Which}
@@ -10,7 +10,7 @@ use Rattle.archive_meaning.specs.Spelled.{types_of}
 use Rattle.disk_seal.specs.Told.{IfTold}
 use Rattle.disk_seal.specs.WordsIn.{words_of}
 use Rattle.ingest_workers.specs.Causes.{limit_of}
-use Rattle.ingest_workers.specs.Full.{IsFullBy, IsNextOf, IsTextOf}
+use Rattle.ingest_workers.specs.Full.{IsFullBy, IsMessageAt, IsNextOf, IsTextOf}
 use Rattle.ingest_workers.specs.Ingested.{book_texts, header_limits}
 use Rattle.ingest_workers.proofs.ClosingLemmas.{types_joined, words_joined}
 use Rattle.std.proofs.lemmas.List.Elements.{All-weaker}
@@ -19,8 +19,8 @@ use Rattle.log_seams.proofs.MomentLemmas.{rose}
 use Rattle.record_format.specs.declared.header.Header.{Header}
 use Rattle.disk_journal.specs.State.{JournalState}
 use Rattle.clp_commands.specs.Around.{Around}
-use Rattle.clp_commands.specs.Ingested.{Came, CameOfFile, DidNotFit, FromArchive, HasFileCause, HasMoreThan, IsFullByGiven, IsGiven, OfTaken}
-use Rattle.clp_commands.specs.StepsCauses.{CameIn, HasCauseIn, HaveFileCauses, IsTarget, Logs, Target, into_journal, logs_of}
+use Rattle.clp_commands.specs.Ingested.{AreFullInTurn, Came, CameOfFile, DidNotFit, FromArchive, HasFileCause, HasMoreThan, IsFullByGiven, IsFullInTurn, IsGiven, OfTaken, WasMetInOneOf}
+use Rattle.clp_commands.specs.StepsCauses.{AreFullInto, CameIn, HasCauseIn, HaveFileCauses, IsTarget, Logs, Target, into_journal, logs_of}
 use Rattle.clp_commands.specs.Leaves.{AddsNamesTo, HasNames}
 use Rattle.clp_commands.specs.Printing.{most_messages}
 use Rattle.clp_commands.specs.declared.refusal.Refusal.{Refusal}
@@ -57,15 +57,16 @@ texts_named : (names : List (List ℕ)) (es before : List JournalEntry) → es �
 texts_named names es before is WhichTypes = ap types_of is ∙ (types_joined before (Files names ∷ []) ∙ append-nil (types_of before))
 texts_named names es before is WhichWords = ap words_of is ∙ (words_joined before (Files names ∷ []) ∙ append-nil (words_of before))
 
-pub causes_sooner : (old mid late : DiskState) → Looked old mid late → (logs : Logs) (rows : ℕ) (names : List (List ℕ)) (first : ℕ) (j : JournalState) (new : DiskState) (came : List Came) → late.faults ≤ j.disk.faults → map (λ (c : Came). c.name) came ≡ names
-    → FromArchive late (λ h before bytes stood. AddsNamesTo h before stood names first late j) → All (CameIn logs (into_journal j rows first names) j.disk new) came → HaveFileCauses logs rows old new came
-causes_sooner old mid late looked logs rows names first j new came risen named added each = let into = into_journal j rows first names in record {
+pub causes_sooner : (old mid late : DiskState) → Looked old mid late → (logs : Logs) (workers rows : ℕ) (names : List (List ℕ)) (first : ℕ) (j : JournalState) (new : DiskState) (came : List Came) → late.faults ≤ j.disk.faults → map (λ (c : Came). c.name) came ≡ names
+    → FromArchive late (λ h before bytes stood. AddsNamesTo h before stood names first late j) → All (CameIn logs (into_journal j rows first names) j.disk new) came → (workers ≡ 1 → AreFullInto logs.content (into_journal j rows first names) came) → HaveFileCauses logs workers rows old new came
+causes_sooner old mid late looked logs workers rows names first j new came risen named added each in_turn = let into = into_journal j rows first names in record {
   into = into;
   names = sym named;
   rows_are = refl;
   told = from_archive old late (λ h before bytes stood. AddsNamesTo h before stood names first late j) (λ h before bytes stood. IsTarget into h before (length stood.legal.held.names)) (same_bytes old mid late looked) (no_more old mid late looked)
       (λ h before bytes stood only adds. is_target h before (length stood.legal.held.names) adds.has adds.number) added;
   each = All-weaker (CameIn logs into j.disk new) (CameIn logs into old new) (came_on logs into old j.disk new (omega (arith, looked.counts, risen))) came each;
+  in_turn = in_turn;
 }
   where
     is_target : (h : Header) (before : List JournalEntry) (held : ℕ) → HasNames h before names j → first ≡ held → IsTarget (into_journal j rows first names) h before held
@@ -114,7 +115,25 @@ module _ (seen : Around) (old new : DiskState) (into : Target) (told : FromArchi
   file_cause c (Some (Refusal.NameTooLong index)) cause = absurd cause
   file_cause c (Some (Refusal.TooManyFiles held more)) cause = absurd cause
 
-pub file_causes : (rows : ℕ) (names : List (List ℕ)) (seen : Around) (old new : DiskState) (came : List Came) → map (λ (c : Came). c.name) came ≡ names → HaveFileCauses (logs_of seen) rows old new came → All (CameOfFile rows names seen old new) came
-file_causes rows names seen old new came named have = subst (λ ns. All (CameOfFile rows ns seen old new) came) (have.names ∙ named)
+  -- by the files up to the one that was stopped
+  turn_of : (h : Header) (before : List JournalEntry) (held : ℕ) (met : List Came) (c : Came) (book : Which) (count : ℕ) → IsTarget into h before held → IsFullInTurn into.rows seen.content into.header into.entries met c book count
+      → IsFullInTurn into.rows seen.content h before met c book count
+  turn_of h before held met c book count is full = subst (λ (x : Header). FullBy x (book_texts book before)) is.header (subst (FullBy into.header) (texts_named into.names into.entries before is.entries book) full)
+    where
+      -- by a book's texts in the journal
+      FullBy : Header → List (List ℕ) → Type 0
+      FullBy x texts = (count ≡ limit_of (header_limits x) book)
+          × IsFullBy (λ t. Contains texts t ⊎ IsTextOf x.version (WasMetInOneOf into.rows seen.content x.version met) book t) (IsTextOf x.version (IsMessageAt x.version (seen.content c.name) c.messages) book) count
+
+  from_turns : (came : List Came) → AreFullInto seen.content into came → AreFullInTurn into.rows seen.content old came
+  from_turns came turns = λ place c book count at is.
+      from_archive old old (λ h before bytes stood. IsTarget into h before (length stood.legal.held.names)) (λ h before bytes stood. IsFullInTurn into.rows seen.content h before (take (place + 1) came) c book count) refl (λ c image. image)
+      (λ h before bytes stood only target. turn_of h before (length stood.legal.held.names) (take (place + 1) came) c book count target (of_told into.told target.told (turns place c book count at is))) told
+
+pub file_causes : (workers rows : ℕ) (names : List (List ℕ)) (seen : Around) (old new : DiskState) (came : List Came) → map (λ (c : Came). c.name) came ≡ names → HaveFileCauses (logs_of seen) workers rows old new came → All (CameOfFile rows names seen old new) came
+file_causes workers rows names seen old new came named have = subst (λ ns. All (CameOfFile rows ns seen old new) came) (have.names ∙ named)
     (subst (λ n. All (CameOfFile n have.into.names seen old new) came) have.rows_are
     (All-weaker (CameIn (logs_of seen) have.into old new) (CameOfFile have.into.rows have.into.names seen old new) (λ c is. record { cause = file_cause seen old new have.into have.told c c.refusal is.cause; part = is.part }) came have.each))
+
+pub full_in_turn : (workers rows : ℕ) (seen : Around) (old new : DiskState) (came : List Came) → HaveFileCauses (logs_of seen) workers rows old new came → workers ≡ 1 → AreFullInTurn rows seen.content old came
+full_in_turn workers rows seen old new came have one = subst (λ n. AreFullInTurn n seen.content old came) have.rows_are (from_turns seen old new have.into have.told came (have.in_turn one))

@@ -90,12 +90,12 @@ abbrev pub AnswersAsked : Asked → Around → DiskState → DiskState → ℕ �
 AnswersAsked (to_show file) seen old new status = AnswersLog (λ _ message text. Shows message text) seen file status
 AnswersAsked (to_scan pattern file) seen old new status = AnswersScan pattern file seen status
 AnswersAsked (to_create header) seen old new status = AnswersCreate header seen old new status
-AnswersAsked (to_ingest workers segment files) seen old new status = AnswersIngest segment files seen old new status
+AnswersAsked (to_ingest workers segment files) seen old new status = AnswersIngest workers segment files seen old new status
 AnswersAsked to_list seen old new status = AnswersFiles seen old new status
 AnswersAsked to_check seen old new status = AnswersCheck seen old new status
 AnswersAsked (to_decode number) seen old new status = AnswersDecode number seen old new status
 AnswersAsked (to_search from to stats workers pattern) seen old new status = AnswersPattern from to stats pattern seen old new status
-AnswersAsked (to_bench number lines workers) seen old new status = AnswersBench number lines seen old new status
+AnswersAsked (to_bench number lines workers) seen old new status = AnswersBench number lines workers seen old new status
 
 -- What words answer that were read. Those that `clap` takes, and whose numbers are good, ask for something: so a usage error
 -- comes only where `clap` refuses them for another cause than memory, or where a number is not good.

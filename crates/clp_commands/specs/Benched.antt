@@ -22,7 +22,7 @@ use Rattle.disk_journal.specs.declared.refusals.CreateRefusal.{CreateRefusal}
 use Rattle.generated_logs.specs.Logs.{content_of as generated, name_of}
 use Rattle.clp_commands.specs.Around.{Around}
 use Rattle.clp_commands.specs.Ending.{EndsWith, RoseIn, SaysIn, Stayed, TookNothing}
-use Rattle.clp_commands.specs.Ingested.{Came, CameOfFile, FromArchive, RefusesIngest, TakesIn, TakesNothing}
+use Rattle.clp_commands.specs.Ingested.{AllFit, AreFullInTurn, Came, CameOfFile, FromArchive, RefusesIngest, TakesIn, TakesNothing}
 use Rattle.clp_commands.specs.Outcome.{answer_of, of_create, of_read}
 use Rattle.clp_commands.specs.Refusal.{status_of}
 use Rattle.clp_commands.specs.StepsCauses.{HaveFileCauses, logs_of}
@@ -111,11 +111,11 @@ segment_rows = 65536
 
 -- The names were added to the archive and the logs taken in, with the causes for which they are not whole, and it was told
 -- what came of them.
-pub record AddsLogs (content : List ℕ → Option (List ℕ)) (names : List (List ℕ)) (seen : Around) (old new : DiskState) (status : ℕ) : Type 0 where
+pub record AddsLogs (content : List ℕ → Option (List ℕ)) (workers : ℕ) (names : List (List ℕ)) (seen : Around) (old new : DiskState) (status : ℕ) : Type 0 where
   pub came : List Came
   pub names_are : map (λ c. c.name) came ≡ names
   pub disk : FromArchive old (λ h before bytes stood. TakesIn content h before stood names came old new)
-  pub causes : HaveFileCauses (logs_of (with_logs content seen)) segment_rows old new came
+  pub causes : HaveFileCauses (logs_of (with_logs content seen)) workers segment_rows old new came
   pub spared : All IsSpared came
   pub told : TellsParts came seen status ⊎ SumsUp came seen old new status
 
@@ -124,8 +124,8 @@ abbrev pub generated_names : List (List ℕ)
 generated_names = name_of 0 ∷ name_of 1 ∷ name_of 2 ∷ name_of 3 ∷ []
 
 -- How it ends, on a disk that has an archive.
-abbrev pub EndsLogs : (List ℕ → Option (List ℕ)) → Around → DiskState → DiskState → ℕ → Type 0
-EndsLogs content seen old new status = RefusesIngest generated_names seen old new status ⊎ AddsLogs content generated_names seen old new status
+abbrev pub EndsLogs : (List ℕ → Option (List ℕ)) → ℕ → Around → DiskState → DiskState → ℕ → Type 0
+EndsLogs content workers seen old new status = RefusesIngest generated_names seen old new status ⊎ AddsLogs content workers generated_names seen old new status
 
 -- what two sinks tell around a call, whatever the logs tell
 abbrev pub AroundSinks : {K : Type 0} → (K → Option (List ℕ)) → (K → ℕ) → K → K → K → K → (Around → Type 0) → Type 0
@@ -191,19 +191,21 @@ pub record RefusesLogs (seen : Around) (old new : DiskState) (status : ℕ) : Ty
   pub disk : FromEmpty old (λ from bytes stood. TakesNothing default_header [] from new)
 
 -- The four logs were taken into the archive that was made, and it was told what came of them. Of each the cause is told as
--- `ingest` tells it. Where all are whole, each has as many messages as lines.
-pub record TakesLogs (number lines : ℕ) (seen : Around) (old new : DiskState) (status : ℕ) : Type 0 where
+-- `ingest` tells it, with one worker too, and what was taken in fits in the dictionaries. Where all are whole, each has as many messages as lines.
+pub record TakesLogs (number lines workers : ℕ) (seen : Around) (old new : DiskState) (status : ℕ) : Type 0 where
   pub came : List Came
   pub names_are : map (λ c. c.name) came ≡ generated_names
   pub disk : FromEmpty old (λ from bytes stood. TakesIn (generated number lines) default_header [] stood generated_names came from new)
   pub each : All (CameOfFile segment_rows generated_names (with_logs (generated number lines) seen) (as_made old) new) came
+  pub in_turn : workers ≡ 1 → AreFullInTurn segment_rows (generated number lines) (as_made old) came
+  pub fits : AllFit (generated number lines) (as_made old) came
   pub spared : All IsSpared came
   pub all : All IsTakenWhole came → IfSome old.seen (λ _. sum_by (λ c. c.messages) came ≡ 4 * lines)
   pub told : TellsParts came seen status ⊎ SumsUp came seen old new status
 
 -- How `bench` ends.
-abbrev pub EndsBench : ℕ → ℕ → Around → DiskState → DiskState → ℕ → Type 0
-EndsBench number lines seen old new status = RefusesMaking seen old new status ⊎ RefusesLogs seen old new status ⊎ TakesLogs number lines seen old new status
+abbrev pub EndsBench : ℕ → ℕ → ℕ → Around → DiskState → DiskState → ℕ → Type 0
+EndsBench number lines workers seen old new status = RefusesMaking seen old new status ⊎ RefusesLogs seen old new status ⊎ TakesLogs number lines workers seen old new status
 
 -- no dictionary was full at the file, nor the archive
 abbrev pub MeetsNoLimit : Option Refusal → Type 0
@@ -212,7 +214,7 @@ MeetsNoLimit (Some (ArchiveFull end need)) = ⊥
 MeetsNoLimit _ = Unit {0}
 
 -- so it was at each log that was taken in
-abbrev pub MetNoLimit : {number lines : ℕ} {seen : Around} {old new : DiskState} {status : ℕ} → EndsBench number lines seen old new status → Type 0
+abbrev pub MetNoLimit : {number lines workers : ℕ} {seen : Around} {old new : DiskState} {status : ℕ} → EndsBench number lines workers seen old new status → Type 0
 MetNoLimit (inl making) = Unit {0}
 MetNoLimit (inr (inl refused)) = Unit {0}
 MetNoLimit (inr (inr takes)) = All (λ c. MeetsNoLimit c.refusal) takes.came
@@ -224,6 +226,6 @@ SumsUpAll lines seen new status =
 
 -- What `bench` answers. On an empty disk, where no call of the disk and no write to the output failed and no limit was met, all
 -- is summed up, or memory ended.
-pub record AnswersBench (number lines : ℕ) (seen : Around) (old new : DiskState) (status : ℕ) : Type 0 where
-  pub ends : EndsBench number lines seen old new status
+pub record AnswersBench (number lines workers : ℕ) (seen : Around) (old new : DiskState) (status : ℕ) : Type 0 where
+  pub ends : EndsBench number lines workers seen old new status
   pub complete : old.seen ≡ Some [] → ¬ Rose old.faults new.faults → ¬ RoseIn seen.out_faults → MetNoLimit ends → SumsUpAll lines seen new status

@@ -1,12 +1,13 @@
 -- What the taking of files into an archive leaves: the journal, the content of the archive, what a crash may leave of it,
 -- and what is printed.
-use Rattle.std.specs.Prelude.{◌≡◌, ◌≢◌, ◌+◌, ◌<◌, ◌≤◌, ◌⊎◌, ℕ, Bool, true, false, List, [], ◌∷◌, ◌++◌, length, map, All, Option, Some, None, IfSome, slice_get}
+use Rattle.std.specs.Prelude.{◌≡◌, ◌≢◌, ◌+◌, ◌<◌, ◌≤◌, ◌⊎◌, ℕ, Bool, true, false, List, [], ◌∷◌, ◌++◌, length, map, take, All, Option, Some, None, IfSome, slice_get}
 use Rattle.std.specs.List.{AllZip, Contains, flat_map}
 use mathlib.Core.List.{IsPrefix}
 use Rattle.log_seams.specs.Disk.{DiskState}
 use Rattle.log_seams.specs.Outside.{Rose}
 use Rattle.record_format.specs.declared.header.Header.{Header}
 use Rattle.row_codec.specs.Messages.{IsTypeOf, IsWordOf}
+use Rattle.row_codec.specs.Naming.{AreDistinct}
 use Rattle.archive_meaning.specs.declared.entry.JournalEntry.{JournalEntry}
 use Rattle.archive_meaning.specs.declared.entry.JournalEntry.TheVariants.{Files, Types, Words, Segment}
 use Rattle.archive_meaning.specs.Held.{File, content_of}
@@ -17,7 +18,7 @@ use Rattle.archive_open.specs.Shown.{RefusedAt}
 use Rattle.disk_seal.specs.Registered.{files_size}
 use Rattle.row_codec.specs.declared.namer.Which.{Which}
 use Rattle.ingest_workers.specs.Causes.{limit_of}
-use Rattle.ingest_workers.specs.Full.{AreFirstOf, IsFullBy, IsNextOf, IsTextOf}
+use Rattle.ingest_workers.specs.Full.{AreFirstOf, IsAmongFirst, IsFullBy, IsMessageAt, IsNextOf, IsTextOf}
 use Rattle.ingest_workers.specs.Ingested.{HasTextsBehind, book_texts, header_limits}
 use Rattle.ingest_workers.specs.NoRoom.{HadNoRoom}
 use Rattle.message_reader.specs.Versions.{MessagesOf}
@@ -183,6 +184,71 @@ HasCallCause names old new (ArchiveFull end need) =
     FromArchive old (λ h before bytes stood. (end ≡ end_of h before) × (need ≡ files_size names) × (h.length_limit < end + need))
 HasCallCause names old new _ = ⊥
 
+-- ---- a full dictionary with one worker, which takes the files in their order
+
+-- How many messages of a file may have been met behind those that were taken in, by what was refused of it. A log that was not opened or cannot be read on
+-- leaves none, a full dictionary the one that it stops, and any other refusal those that were in hand for a segment of at most so many rows.
+abbrev pub unsealed_of : ℕ → Option Refusal → ℕ
+unsealed_of rows None = 0
+unsealed_of rows (Some OpenFault) = 0
+unsealed_of rows (Some ReadFault) = 0
+unsealed_of rows (Some (LineTooLong line)) = 0
+unsealed_of rows (Some TooManyLines) = 0
+unsealed_of rows (Some (Full book count)) = 1
+unsealed_of rows (Some _) = rows
+
+module _ (rows : ℕ) (content : List ℕ → Option (List ℕ)) where
+  -- the message was met in this file
+  abbrev pub WasMetIn : ℕ → Came → List ℕ → Type 0
+  WasMetIn version c m = IsAmongFirst version (content c.name) (c.messages + unsealed_of rows c.refusal) m
+
+  -- it was met in one of these files
+  abbrev pub WasMetInOneOf : ℕ → List Came → List ℕ → Type 0
+  WasMetInOneOf version came m = (c : Came) × Contains came c × WasMetIn version c m
+
+  -- A book may have so many texts, and there are as many of the journal and of the messages that were met in these files. One more is of the file's next
+  -- message, directly behind those that were taken in.
+  abbrev pub IsFullInTurn : Header → List JournalEntry → List Came → Came → Which → ℕ → Type 0
+  IsFullInTurn h es met c book count =
+      (count ≡ limit_of (header_limits h) book)
+      × IsFullBy (λ text. Contains (book_texts book es) text ⊎ IsTextOf h.version (WasMetInOneOf h.version met) book text) (IsTextOf h.version (IsMessageAt h.version (content c.name) c.messages) book) count
+
+-- this holds of the files up to each one that a full dictionary stopped, of this one, and of the dictionary and the count that are told
+abbrev pub OfStopped : (List Came → Came → Which → ℕ → Type 0) → List Came → Type 0
+OfStopped P came = (place : ℕ) (c : Came) (book : Which) (count : ℕ) → slice_get came place ≡ Some c → c.refusal ≡ Some (Full book count) → P (take (place + 1) came) c book count
+
+-- each full dictionary was so by the archive of before and the files up to the one that it stopped
+abbrev pub AreFullInTurn : ℕ → (List ℕ → Option (List ℕ)) → DiskState → List Came → Type 0
+AreFullInTurn rows content old came = OfStopped (λ met c book count. FromArchive old (λ h before bytes stood. IsFullInTurn rows content h before met c book count)) came
+
+-- ---- what was taken in fits in the dictionaries
+
+module _ (content : List ℕ → Option (List ℕ)) where
+  -- The message was taken in with a file whose bytes are told: it is one of their first messages, as many as the archive has of the file.
+  pub record WasTakenWith (version : ℕ) (c : Came) (m : List ℕ) : Type 0 where
+    pub bytes : List ℕ
+    pub told : content c.name ≡ Some bytes
+    pub messages : List (List ℕ)
+    pub ended : Bool
+    pub are : MessagesOf version bytes messages ended
+    pub first : Contains (take c.messages messages) m
+
+  -- it was taken in with one of these files
+  abbrev pub WasTakenIn : ℕ → List Came → List ℕ → Type 0
+  WasTakenIn version came m = (c : Came) × Contains came c × WasTakenWith version c m
+
+  -- the text is one of the book in the journal, or one of the encoding of a message that was taken in
+  abbrev pub IsThereOrTakenIn : Header → List JournalEntry → List Came → Which → List ℕ → Type 0
+  IsThereOrTakenIn h es came book text = Contains (book_texts book es) text ⊎ IsTextOf h.version (WasTakenIn h.version came) book text
+
+  -- distinct such texts are no more than the book may have
+  abbrev pub FitIn : Header → List JournalEntry → List Came → Which → Type 0
+  FitIn h es came book = (texts : List (List ℕ)) → AreDistinct texts → All (IsThereOrTakenIn h es came book) texts → length texts ≤ limit_of (header_limits h) book
+
+-- so it is of each dictionary of the archive of before
+abbrev pub AllFit : (List ℕ → Option (List ℕ)) → DiskState → List Came → Type 0
+AllFit content old came = FromArchive old (λ h before bytes stood. (book : Which) → FitIn content h before came book)
+
 -- ---- the answers
 
 -- The call was refused before the names were added, and nothing was printed.
@@ -215,11 +281,14 @@ pub record AddsFiles (names : List (List ℕ)) (seen : Around) (old new : DiskSt
   pub disk : FromArchive old (λ h before bytes stood. TakesIn seen.content h before stood names came old new)
   pub printed : PrintsCame came first seen status
 
--- The same, and what came of each file has its cause.
-pub record TakesFiles (rows : ℕ) (names : List (List ℕ)) (seen : Around) (old new : DiskState) (status : ℕ) : Type 0 where
+-- The same, and what came of each file has its cause. With one worker a dictionary is full by the files up to the one that it stopped. With any number what was
+-- taken in fits in the dictionaries.
+pub record TakesFiles (workers rows : ℕ) (names : List (List ℕ)) (seen : Around) (old new : DiskState) (status : ℕ) : Type 0 where
   pub adds : AddsFiles names seen old new status
   pub each : All (CameOfFile rows names seen old new) adds.came
+  pub in_turn : workers ≡ 1 → AreFullInTurn rows seen.content old adds.came
+  pub fits : AllFit seen.content old adds.came
 
--- What `ingest` answers, which cuts files into segments of at most so many rows.
-abbrev pub AnswersIngest : ℕ → List (List ℕ) → Around → DiskState → DiskState → ℕ → Type 0
-AnswersIngest rows names seen old new status = RefusesIngest names seen old new status ⊎ TakesFiles rows names seen old new status
+-- What `ingest` answers, which has so many workers, and cuts files into segments of at most so many rows.
+abbrev pub AnswersIngest : ℕ → ℕ → List (List ℕ) → Around → DiskState → DiskState → ℕ → Type 0
+AnswersIngest workers rows names seen old new status = RefusesIngest names seen old new status ⊎ TakesFiles workers rows names seen old new status

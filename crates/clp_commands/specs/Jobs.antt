@@ -1,8 +1,12 @@
 -- What came of files, by the openings of their logs and by their jobs.
-use Rattle.std.specs.Prelude.{◌≡◌, ℕ, Bool, false, List, Option, Some, None, map, option_map, slice_get}
+use Rattle.std.specs.Prelude.{◌≡◌, ◌⊎◌, ℕ, Bool, false, List, Option, Some, None, map, option_map, slice_get}
+use Rattle.log_seams.specs.declared.disk.Disk.{Ghosts as DiskGhosts}
 use Rattle.log_seams.specs.declared.refusals.OpenRefused.{OpenRefused}
+use Rattle.disk_journal.specs.declared.journal.Journal.{Journal}
 use Rattle.ingest_workers.specs.declared.job.Job.{Job}
 use Rattle.ingest_workers.specs.declared.outcome.Cause.{Cause}
+use Rattle.ingest_workers.specs.InTurn.{AreFullInTurn}
+use Rattle.ingest_workers.specs.Ingested.{AreRefused, HasIngested, HaveCauses, IsAsItWas, plan_of}
 use Rattle.clp_commands.specs.declared.refusal.Refusal.{Refusal}
 use Rattle.clp_commands.specs.declared.taken.TakenFile.{TakenFile}
 
@@ -47,3 +51,22 @@ pub record IsNotBegun (file : TakenFile) : Type 0 where
   pub messages : file.messages ≡ 0
   pub whole : file.whole ≡ false
   pub refusal : file.refusal ≡ Some Refusal.OutOfMemory
+
+-- ---- all jobs
+
+module _ {S D : Type 0} {d : DiskGhosts D} where
+  -- The jobs were done over the journal by so many workers, in segments of at most so many rows, each with its cause. With one worker a dictionary is full by
+  -- the jobs up to the one that it stopped.
+  pub record AreDone (left name : S → Option (List ℕ)) (faults : S → ℕ) (workers rows : ℕ) (before after : Journal D d) (js js' : List (Job S)) : Type 0 where
+    pub ingested : HasIngested left (plan_of rows before) js js' before after
+    pub causes : HaveCauses left name faults (plan_of rows before) before after js js'
+    pub in_turn : workers ≡ 1 → AreFullInTurn left (plan_of rows before) before js js'
+
+  -- there was no memory to begin with the jobs
+  pub record AreNotBegun (before after : Journal D d) (js js' : List (Job S)) : Type 0 where
+    pub journal : IsAsItWas before after
+    pub jobs : AreRefused js js'
+
+  -- what came of the jobs
+  abbrev pub DidJobs : (S → Option (List ℕ)) → (S → Option (List ℕ)) → (S → ℕ) → ℕ → ℕ → Journal D d → Journal D d → List (Job S) → List (Job S) → Type 0
+  DidJobs left name faults workers rows before after js js' = AreDone left name faults workers rows before after js js' ⊎ AreNotBegun before after js js'

@@ -10,7 +10,7 @@ use Rattle.disk_seal.specs.Told.{IfTold}
 use Rattle.ingest_workers.specs.Ingested.{told_entries}
 use Rattle.clp_commands.specs.Around.{Around}
 use Rattle.clp_commands.specs.Ending.{RoseIn}
-use Rattle.clp_commands.specs.Ingested.{Came, DidNotFit, FromArchive, HasMoreThan, IsFullByGiven}
+use Rattle.clp_commands.specs.Ingested.{Came, DidNotFit, FromArchive, HasMoreThan, IsFullByGiven, IsFullInTurn, OfStopped}
 use Rattle.clp_commands.specs.Printing.{IsLong, most_messages}
 use Rattle.clp_commands.specs.declared.refusal.Refusal.{Refusal}
 
@@ -65,15 +65,20 @@ HasCauseIn logs into old new c (Some Refusal.DiskFault) = Rose old.faults new.fa
 HasCauseIn logs into old new c (Some Refusal.OutOfMemory) = Unit {0}
 HasCauseIn logs into old new c (Some _) = ⊥
 
+-- each full dictionary was so by what the files were taken into, and by those up to the one that it stopped
+abbrev pub AreFullInto : (List ℕ → Option (List ℕ)) → Target → List Came → Type 0
+AreFullInto content into came = OfStopped (λ met c book count. IfTold into.told (IsFullInTurn into.rows content into.header into.entries met c book count)) came
+
 -- a file is whole exactly where nothing was refused of it, and a refusal has its cause
 pub record CameIn (logs : Logs) (into : Target) (old new : DiskState) (c : Came) : Type 0 where
   pub cause : HasCauseIn logs into old new c c.refusal
   pub part : c.refusal ≢ None → c.whole ≡ false
 
--- so it is of each file, by the archive where the disk tells it
-pub record HaveFileCauses (logs : Logs) (rows : ℕ) (old new : DiskState) (came : List Came) : Type 0 where
+-- so it is of each file, by the archive where the disk tells it; with one worker each full dictionary was so in turn
+pub record HaveFileCauses (logs : Logs) (workers rows : ℕ) (old new : DiskState) (came : List Came) : Type 0 where
   pub into : Target
   pub names : into.names ≡ map (λ c. c.name) came
   pub rows_are : into.rows ≡ rows
   pub told : FromArchive old (λ h before bytes stood. IsTarget into h before (length stood.legal.held.names))
   pub each : All (CameIn logs into old new) came
+  pub in_turn : workers ≡ 1 → AreFullInto logs.content into came

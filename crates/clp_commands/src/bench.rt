@@ -20,6 +20,7 @@ use command_words::BenchWords;
 use disk_journal::create;
 use generated_logs::GeneratedShelf;
 use log_seams::{Disk, Sink};
+use logtype_text::one_list_of_parts;
 use record_format::{Header, MAX_ARCHIVE_LEN, MAX_WORDS};
 use std::alloc::Global;
 use std::sync::Wait;
@@ -101,7 +102,7 @@ fn add_logs<R: Threads + Wait + Sync, D: Telling + Send, K: Sink>(
     requires lines { asked.lines ≤ 1000000 }
     requires workers { (1 ≤ asked.workers) × (asked.workers ≤ 64) }
     ensures ends { AroundSinks K.written K.faults out.old out.new err.old err.new (λ seen.
-        EndsLogs (content_of asked.number asked.lines) seen
+        EndsLogs (content_of asked.number asked.lines) asked.workers seen
         (D.state disk.old) (D.state disk.new) result) }
     ensures goes_on { DiskGoesOn (D.state disk.old) (D.state disk.new) }
     ensures out { K.faults out.old ≤ K.faults out.new }
@@ -140,13 +141,15 @@ pub(crate) fn bench<R: Threads + Wait + Sync, D: Telling + Send, K: Sink>(
     requires lines { asked.lines ≤ 1000000 }
     requires workers { (1 ≤ asked.workers) × (asked.workers ≤ 64) }
     ensures answers { AroundSinks K.written K.faults out.old out.new err.old err.new (λ seen.
-        AnswersBench asked.number asked.lines seen (D.state disk.old) (D.state disk.new) result) }
+        AnswersBench asked.number asked.lines asked.workers seen
+        (D.state disk.old) (D.state disk.new) result) }
 
     // whatever the answer
     ensures goes_on { DiskGoesOn (D.state disk.old) (D.state disk.new) }
     ensures out { K.faults out.old ≤ K.faults out.new }
     ensures err { K.faults err.old ≤ K.faults err.new }
 {
+    one_list_of_parts();
     let outcome = create(disk, &LIMITS);
     match refusal_of_create(outcome) {
         None => add_logs(rt, alloc, asked, disk, out, err),

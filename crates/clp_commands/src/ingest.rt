@@ -1,14 +1,17 @@
 //! The command `ingest`: logs become the files of an archive.
 ghost use Rattle.std.specs.Prelude.{◌≡◌, ◌+◌, ◌≤◌, ℕ, List, [], length, map, slice_get, vec_len, vec_capacity, All, IfErr, IfOk, OnErr, OnOk, None, Some};
+ghost use Rattle.std.specs.List.{AllZip};
 ghost use Rattle.disk_journal.specs.Journal.{state_of};
+ghost use Rattle.disk_seal.specs.Opening.{MayOpen};
+ghost use Rattle.ingest_workers.specs.Ingested.{AreNew, HoldTexts, first_file};
 ghost use Rattle.ingest_workers.specs.Outcome.{nothing_done};
 ghost use Rattle.clp_commands.specs.Around.{around};
-ghost use Rattle.log_sources.specs.Sources.{is_opened, refusal_of, str_bytes};
+ghost use Rattle.log_sources.specs.Sources.{CameOf, is_opened, refusal_of, str_bytes};
 ghost use Rattle.clp_commands.specs.Going.{DiskGoesOn, OutsideGoesOn};
 ghost use Rattle.clp_commands.specs.Ingested.{AnswersIngest, FromArchive, HasCallCause, TakesIn, TakesNothing};
 ghost use Rattle.clp_commands.specs.IngestPrints.{came_of, names_of};
-ghost use Rattle.clp_commands.specs.Jobs.{IsNotBegun, IsToldBy, opens_of, refusal_by, sources_of};
-ghost use Rattle.clp_commands.specs.StepsCauses.{CameIn, HaveFileCauses, into_journal, logs_around};
+ghost use Rattle.clp_commands.specs.Jobs.{DidJobs, IsNotBegun, IsToldBy, opens_of, refusal_by, sources_of};
+ghost use Rattle.clp_commands.specs.StepsCauses.{AreFullInto, CameIn, HaveFileCauses, into_journal, logs_around};
 ghost use Rattle.clp_commands.specs.Leaves.{TakesInto};
 ghost use Rattle.clp_commands.specs.Names.{RefusesNames};
 ghost use Rattle.clp_commands.specs.Naming.{AreNumbered, HasGoneOn, IsNamed};
@@ -21,12 +24,14 @@ use crate::refusal::{Refusal, report};
 use crate::taken::{TakenFile, report_taken};
 use crate::telling::{Telling, check_told};
 use command_words::IngestWords;
+use dict_core::Book;
 use disk_journal::{Journal, start};
 use ingest_workers::{Cause, Job, ingest};
-use log_seams::{Disk, OpenRefused, Shelf, Sink};
+use log_seams::{Disk, OpenRefused, Shelf, Sink, Source};
 use log_sources::{LogSource, close_logs, open_logs};
+use logtype_text::one_list_of_parts;
 use sink_pieces::PrintRefusal;
-use std::alloc::Global;
+use std::alloc::{AllocError, Global};
 use std::sync::Wait;
 use std::thread::Threads;
 
@@ -91,6 +96,51 @@ fn refuse_all<'a>(names: &'a [&'a str], taken: &mut Vec<TakenFile<'a>>)
             whole: false,
             refusal: Some(Refusal::OutOfMemory),
         });
+    }
+}
+
+/// Logs that were opened, and room for what is made of them.
+struct OpenedLogs<S> {
+    /// The logs, in their order.
+    sources: Vec<LogSource<S>>,
+    /// Room for a job of each.
+    jobs: Vec<Job<LogSource<S>>>,
+    /// Room for why each was not opened.
+    openings: Vec<Option<OpenRefused>>,
+}
+
+/// Opens the logs, with room for their jobs.
+fn open_all<H: Shelf>(
+    alloc: Global,
+    shelf: &mut H,
+    names: &[&str],
+) -> Result<OpenedLogs<H::Src>, AllocError>
+    // what stays
+    ensures content { (n : List ℕ) → H.content shelf.new n ≡ H.content shelf.old n }
+    ensures reads { (n : List ℕ) → H.read_faults shelf.new n ≡ H.read_faults shelf.old n }
+    ensures opens { (n : List ℕ) → H.open_faults shelf.old n ≤ H.open_faults shelf.new n }
+
+    // each in its place, and the room
+    ensures came { IfOk result (λ o.
+        AllZip (CameOf H.Src.left H.Src.name H.Src.faults (H.content shelf.old)
+        (H.open_faults shelf.old) (H.open_faults shelf.new))
+        (map str_bytes names.now) o.sources.items) }
+    ensures none { IfOk result (λ o. (o.jobs.items ≡ []) × (o.openings.items ≡ [])) }
+    ensures room { IfOk result (λ o. (length names.now ≤ vec_capacity o.jobs)
+        × (length names.now ≤ vec_capacity o.openings)) }
+{
+    let openings = Vec::with_capacity(alloc, names.len())?;
+    let jobs = Vec::with_capacity(alloc, names.len())?;
+    match open_logs(alloc, shelf, names) {
+        Ok(sources) => Ok(OpenedLogs {
+            sources,
+            jobs,
+            openings,
+        }),
+        Err(refused) => {
+            jobs.destroy_empty();
+            Err(refused)
+        }
     }
 }
 
@@ -177,6 +227,39 @@ fn end_jobs<'a, S>(
     }
 }
 
+/// Does the jobs over a journal. Without memory to begin the jobs say so.
+fn do_jobs<'d, R: Threads + Wait + Sync, S: Source + Send, D: Disk + Send>(
+    rt: &R,
+    alloc: Global,
+    asked: NewLogs<'_>,
+    journal: Journal<'d, D>,
+    types: Book,
+    words: Book,
+    jobs: &mut [Job<S>],
+) -> Journal<'d, D>
+    requires workers { (1 ≤ asked.workers) × (asked.workers ≤ 64) }
+    requires segment { (1 ≤ asked.segment) × (asked.segment ≤ 65536) }
+    requires journal { MayOpen (state_of journal) }
+    requires books { HoldTexts (state_of journal) types words }
+    requires jobs { AreNew (first_file jobs.old) (state_of journal) jobs.old }
+    ensures { DidJobs S.left S.name S.faults asked.entry.workers asked.entry.segment
+        journal.entry result jobs.old jobs.new }
+{
+    match ingest(
+        rt,
+        alloc,
+        jobs,
+        asked.workers,
+        asked.segment,
+        journal,
+        types,
+        words,
+    ) {
+        Ok(journal) => journal,
+        Err(refused) => refused.journal,
+    }
+}
+
 /// Takes the logs in as the new files of a journal. Without memory to begin each file is told so.
 fn take_in<'a, 'd, R: Threads + Wait + Sync, H: Shelf, D: Disk + Send>(
     rt: &R,
@@ -208,6 +291,10 @@ where
         (map str_bytes asked.entry.files.now))
         (state_of journal.entry).disk (D.state result.disk.now))
         (map came_of taken.new.items) }
+    ensures in_turn { asked.entry.workers ≡ 1 → AreFullInto (H.content shelf.old)
+        (into_journal (state_of journal.entry) asked.entry.segment named.first
+        (map str_bytes asked.entry.files.now))
+        (map came_of taken.new.items) }
 
     // the logs
     ensures logs { (n : List ℕ) → H.content shelf.new n ≡ H.content shelf.old n }
@@ -219,35 +306,17 @@ where
         words,
         first,
     } = named;
-    let count = asked.files.len();
-    let Ok(mut openings) = Vec::with_capacity(alloc, count) else {
+    let Ok(opened) = open_all(alloc, shelf, asked.files) else {
         refuse_all(asked.files, taken);
         return journal;
     };
-    let Ok(mut jobs) = Vec::with_capacity(alloc, count) else {
-        refuse_all(asked.files, taken);
-        return journal;
-    };
-    let Ok(mut sources) = open_logs(alloc, shelf, asked.files) else {
-        jobs.destroy_empty();
-        refuse_all(asked.files, taken);
-        return journal;
-    };
+    let OpenedLogs {
+        mut sources,
+        mut jobs,
+        mut openings,
+    } = opened;
     begin_jobs(first, &mut sources, &mut jobs, &mut openings);
-    // without memory the jobs say so
-    let journal = match ingest(
-        rt,
-        alloc,
-        jobs.as_mut_slice(),
-        asked.workers,
-        asked.segment,
-        journal,
-        types,
-        words,
-    ) {
-        Ok(journal) => journal,
-        Err(refused) => refused.journal,
-    };
+    let journal = do_jobs(rt, alloc, asked, journal, types, words, jobs.as_mut_slice());
     end_jobs(
         asked.files,
         openings.as_slice(),
@@ -288,7 +357,8 @@ where
         (map came_of taken.new.items) (D.state disk.old) (D.state disk.new))) }
     ensures causes { OnOk result (HaveFileCauses
         (logs_around H.content H.open_faults H.read_faults shelf.old shelf.new)
-        asked.entry.segment (D.state disk.old) (D.state disk.new) (map came_of taken.new.items)) }
+        asked.entry.workers asked.entry.segment (D.state disk.old) (D.state disk.new)
+        (map came_of taken.new.items)) }
 
     // refused
     ensures nothing { OnErr result (FromArchive (D.state disk.old) (λ h before bytes stood.
@@ -326,7 +396,8 @@ where
     requires workers { (1 ≤ asked.workers) × (asked.workers ≤ 64) }
     requires segment { (1 ≤ asked.segment) × (asked.segment ≤ 65536) }
     requires some { 1 ≤ length asked.files.now }
-    ensures answers { AnswersIngest asked.entry.segment (map str_bytes asked.entry.files.now)
+    ensures answers { AnswersIngest asked.entry.workers asked.entry.segment
+        (map str_bytes asked.entry.files.now)
         (around H.content H.unread H.open_faults H.read_faults K.written K.faults
         shelf.old shelf.new out.old out.new err.old err.new)
         (D.state disk.old) (D.state disk.new) result }
@@ -338,6 +409,7 @@ where
     ensures goes_on { DiskGoesOn (D.state disk.old) (D.state disk.new) }
     ensures logs { (n : List ℕ) → H.content shelf.new n ≡ H.content shelf.old n }
 {
+    one_list_of_parts();
     if let Some(refusal) = refuse_names(asked.files) {
         return report(err, "", refusal);
     }

@@ -2,8 +2,9 @@
 ghost use Rattle.std.specs.Prelude.{◌≡◌, ◌≤◌, ℕ, List, map, string_bytes, IfOk, IfErr};
 ghost use Rattle.wild_match.specs.Reading.{IsLoneBackslash, IsSearchPattern};
 ghost use Rattle.wild_match.specs.declared.pattern.Item.{Item};
-ghost use Rattle.clp_commands.specs.Answers.{Answers, AnswersAsked, AnswersLog, IsPatternRefusal, RefusesPattern};
+ghost use Rattle.clp_commands.specs.Answers.{Answers, AnswersAsked, AnswersLog, AnswersPattern, IsPatternRefusal, RefusesPattern};
 ghost use Rattle.clp_commands.specs.Around.{around};
+ghost use Rattle.clp_commands.specs.Benched.{AroundSinks};
 ghost use Rattle.clp_commands.specs.Ending.{error_line, exit_status};
 ghost use Rattle.clp_commands.specs.Going.{DiskGoesOn, OutsideGoesOn};
 ghost use Rattle.clp_commands.specs.Refusal.{Says};
@@ -29,9 +30,9 @@ use crate::show::Show;
 use crate::tell::Tell;
 use crate::telling::Telling;
 use column_store::Range;
-use command_words::{Command, read_words};
+use command_words::{Command, SearchWords, read_words};
 use disk_journal::create;
-use log_seams::{Shelf, Sink};
+use log_seams::{Disk, Shelf, Sink};
 use query_plan::wide_is_wider;
 use std::alloc::Global;
 use std::sync::Wait;
@@ -141,27 +142,7 @@ where
             let outcome = decode_file(alloc, *number, disk, out);
             answer(refusal_of_file(outcome), "", err)
         }
-        Command::Search { asked } => match read_pattern(alloc, asked.pattern.as_bytes()) {
-            Ok(pattern) => {
-                wide_is_wider();
-                let range = Range {
-                    from: asked.from,
-                    to: asked.to,
-                };
-                let outcome = search_archive(
-                    rt,
-                    asked.workers,
-                    alloc,
-                    &pattern,
-                    &range,
-                    asked.stats,
-                    disk,
-                    out,
-                );
-                answer(refusal_of_read(outcome), "", err)
-            }
-            Err(refusal) => report(err, "", refusal_of_pattern(refusal)),
-        },
+        Command::Search { asked } => search_messages(rt, alloc, asked, disk, out, err),
         Command::Bench { asked } => bench(rt, alloc, *asked, disk, out, err),
     }
 }
@@ -199,6 +180,46 @@ fn scan<H: Shelf, K: Sink>(
             print_and_report(alloc, &scan, shelf, file, out, err)
         }
         Err(refusal) => report(err, file, refusal_of_pattern(refusal)),
+    }
+}
+
+/// Prints the messages of the archive that the pattern of a text matches in a range.
+fn search_messages<R: Threads + Sync, D: Disk, K: Sink>(
+    rt: &R,
+    alloc: Global,
+    asked: &SearchWords<'_>,
+    disk: &mut D,
+    out: &mut K,
+    err: &mut K,
+) -> u8
+    ensures answers { AroundSinks K.written K.faults out.old out.new err.old err.new (λ seen.
+        AnswersPattern asked.now.from asked.now.to asked.now.stats asked.now.pattern.now seen
+        (D.state disk.old) (D.state disk.new) result) }
+    ensures keeps { KeepsBytes (D.state disk.old) (D.state disk.new) }
+    ensures goes_on { DiskGoesOn (D.state disk.old) (D.state disk.new) }
+    ensures out { K.faults out.old ≤ K.faults out.new }
+    ensures err { K.faults err.old ≤ K.faults err.new }
+{
+    match read_pattern(alloc, asked.pattern.as_bytes()) {
+        Ok(pattern) => {
+            wide_is_wider();
+            let range = Range {
+                from: asked.from,
+                to: asked.to,
+            };
+            let outcome = search_archive(
+                rt,
+                asked.workers,
+                alloc,
+                &pattern,
+                &range,
+                asked.stats,
+                disk,
+                out,
+            );
+            answer(refusal_of_read(outcome), "", err)
+        }
+        Err(refusal) => report(err, "", refusal_of_pattern(refusal)),
     }
 }
 

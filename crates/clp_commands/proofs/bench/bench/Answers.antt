@@ -8,7 +8,7 @@ returns-in-None-clause-answers g c = λ content unread opens reads.
     let created = c.create-outcome.ensures in
     let none = sym c.in-None.is ∙ c.refusal_of_create.ensures in
     answers_made (g.D.Disk.state c.args.disk.now) (g.D.Disk.state c.create-outcome.new.disk) (made_whole _ _ c.create-outcome.result none created.leaves) created.tells created.moments.later
-    (made_steady _ _ c.create-outcome.result none created.counts) c.args.asked.number c.args.asked.lines _ _ _ c.add_logs.ensures.goes_on.tells (c.add_logs.ensures.ends content unread opens reads)
+    (made_steady _ _ c.create-outcome.result none created.counts) c.one_list_of_parts.ensures.one c.args.asked.number c.args.asked.lines c.args.asked.workers _ _ _ c.add_logs.ensures.goes_on.tells (c.add_logs.ensures.ends content unread opens reads)
 
 pub returns-in-None-clause-goes_on : goal.returns-in-None-clause-goes_on
 returns-in-None-clause-goes_on g c =
@@ -18,4 +18,4 @@ returns-in-None-clause-goes_on g c =
 
 pub returns-in-Some-clause-answers : goal.returns-in-Some-clause-answers
 returns-in-Some-clause-answers g c = λ content unread opens reads.
-    refused_making c.args.asked.number c.args.asked.lines _ _ _ _ c.create-outcome.result c.in-Some.refusal (sym c.in-Some.is ∙ c.refusal_of_create.ensures) c.report.ensures.status c.report.ensures.said c.create-outcome.ensures.leaves refl refl
+    refused_making c.args.asked.number c.args.asked.lines c.args.asked.workers _ _ _ _ c.create-outcome.result c.in-Some.refusal (sym c.in-Some.is ∙ c.refusal_of_create.ensures) c.report.ensures.status c.report.ensures.said c.create-outcome.ensures.leaves refl refl

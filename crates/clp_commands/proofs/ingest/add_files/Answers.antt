@@ -96,11 +96,11 @@ returns-clause-causes g c =
     let begun = c.start.ensures in
     let back = c.disk-2-1.given.1 (sym (c.take_in-journal.ensures.goes_on.name ∙ (c.open_and_name.ensures.name ∙ c.begin-journal.ensures.name))) in
     let goes = (subst (λ d. DiskGoesOn (g.D.Disk.state d) (g.D.Disk.state c.open_and_name.new.journal.disk.now)) c.begin-journal.ensures.disk c.open_and_name.ensures.goes_on) in
-    subst (λ d. HaveFileCauses (logs_around g.H.Shelf.content g.H.Shelf.open_faults g.H.Shelf.read_faults c.args.shelf.now c.take_in-journal.new.shelf) c.args.asked.segment (g.D.Disk.state c.args.disk.now) (g.D.Disk.state d) (map came_of c.take_in-journal.new.taken.items)) (sym back)
-    (causes_sooner (g.D.Disk.state c.args.disk.now) (g.D.Disk.state c.check_told.new.disk) (g.D.Disk.state c.start.new.disk) (record { law_old = law _; law_mid = law _; law_new = law _; first = told.keeps; second = begun.keeps; counts = omega (arith, told.disk.later, begun.counts.later) }) _ c.args.asked.segment (map str_bytes c.args.asked.files.now) c.in_ok-named.named.first (state_of c.open_and_name.new.journal) _ _
+    subst (λ d. HaveFileCauses (logs_around g.H.Shelf.content g.H.Shelf.open_faults g.H.Shelf.read_faults c.args.shelf.now c.take_in-journal.new.shelf) c.args.asked.workers c.args.asked.segment (g.D.Disk.state c.args.disk.now) (g.D.Disk.state d) (map came_of c.take_in-journal.new.taken.items)) (sym back)
+    (causes_sooner (g.D.Disk.state c.args.disk.now) (g.D.Disk.state c.check_told.new.disk) (g.D.Disk.state c.start.new.disk) (record { law_old = law _; law_mid = law _; law_new = law _; first = told.keeps; second = begun.keeps; counts = omega (arith, told.disk.later, begun.counts.later) }) _ c.args.asked.workers c.args.asked.segment (map str_bytes c.args.asked.files.now) c.in_ok-named.named.first (state_of c.open_and_name.new.journal) _ _
     goes.counts (names_came c.take_in-journal.new.taken.items ∙ c.take_in-journal.ensures.names)
     (subst (λ d. FromArchive (g.D.Disk.state d) (λ h before bytes stood. AddsNamesTo h before stood (map str_bytes c.args.asked.files.now) c.in_ok-named.named.first (g.D.Disk.state d) (state_of c.open_and_name.new.journal))) c.begin-journal.ensures.disk c.in_ok-named.ensures.names)
-    c.take_in-journal.ensures.causes)
+    c.take_in-journal.ensures.causes c.take_in-journal.ensures.in_turn)
 
 pub returns-clause-goes_on : goal.returns-clause-goes_on
 returns-clause-goes_on g c =

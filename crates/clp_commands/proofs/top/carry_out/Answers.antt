@@ -1,11 +1,7 @@
-use Rattle.std.proofs.Common.{refl, rules, subst, []}
+use Rattle.std.proofs.Common.{refl, rules}
 use Rattle.log_sources.specs.Sources.{str_bytes}
-use Rattle.wild_match.specs.Reading.{IsSearchPattern}
-use Rattle.clp_commands.specs.Answers.{IsPatternRefusal}
-use Rattle.wild_match.proofs.Spelling.{IsSearchPattern-not_lone}
-use Rattle.clp_commands.proofs.AnswerLemmas.{RefusesPattern-from, pattern_refusal}
 use Rattle.clp_commands.proofs.CommandLemmas.{some_of}
-use Rattle.clp_commands.proofs.CompleteLemmas.{check_answers, decode_answers, files_answers, search_answers, search_pattern, search_refused}
+use Rattle.clp_commands.proofs.CompleteLemmas.{check_answers, decode_answers, files_answers}
 use Rattle.clp_commands.proofs.top.carry_out.Goals as goal
 
 pub returns-in-Show-clause-answers : goal.returns-in-Show-clause-answers
@@ -54,29 +50,12 @@ returns-in-Decode-clause-answers g c =
 pub returns-in-Decode-clause-untouched : goal.returns-in-Decode-clause-untouched
 returns-in-Decode-clause-untouched g c = λ none. absurd (none (rw (c.in-Decode.is) tt))
 
-pub search_archive-outcome-requires-clause-searched : goal.search_archive-outcome-requires-clause-searched
-search_archive-outcome-requires-clause-searched g c κs within = c.wide_is_wider.ensures.searched _ _ c.in-Ok.ensures.items
+pub returns-in-Search-clause-answers : goal.returns-in-Search-clause-answers
+returns-in-Search-clause-answers g c =
+    rw (c.in-Search.is) (c.search_messages.ensures.answers _ _ _ _)
 
-pub returns-in-Ok-clause-answers : goal.returns-in-Ok-clause-answers
-returns-in-Ok-clause-answers g c =
-    let done = c.search_archive-outcome.ensures in
-    let items = subst (λ t. IsSearchPattern t c.in-Ok.pattern) c.as_bytes.ensures.value c.in-Ok.ensures.items in
-    rw (c.in-Search.is) (record {
-      lone_backslash = λ at lone. absurd (IsSearchPattern-not_lone _ _ at items lone);
-      good = λ its is. search_pattern _ _ _ _ _ _ _ _ _ items is
-          (search_answers _ _ _ _ _ _ c.search_archive-outcome.result (rw (← c.refusal_of_read-in-Ok.ensures) (record { status_is = c.answer-in-Ok.ensures.status; said = c.answer-in-Ok.ensures.said })) done.keeps done.disk done.sink done.prints done.reads (λ at is. done.damaged at (search (rules, is))));
-    })
-
-pub returns-in-Ok-clause-untouched : goal.returns-in-Ok-clause-untouched
-returns-in-Ok-clause-untouched g c = λ none. absurd (none (rw (c.in-Search.is) tt))
-
-pub returns-in-Err-clause-answers : goal.returns-in-Err-clause-answers
-returns-in-Err-clause-answers g c =
-    let refused = subst (λ t. IsPatternRefusal t c.in-Err.refusal) c.as_bytes.ensures.value (pattern_refusal _ _ c.in-Err.refusal c.in-Err.is c.read_pattern.ensures.bad) in
-    rw (c.in-Search.is) (record {
-      lone_backslash = λ at lone. RefusesPattern-from _ [] _ _ at c.in-Err.refusal refused lone (rw (← c.refusal_of_pattern.ensures) c.report.ensures.status) (rw (← c.refusal_of_pattern.ensures) c.report.ensures.said) refl refl;
-      good = λ its is. search_refused _ _ _ _ _ _ c.in-Err.refusal refused (λ at lone. IsSearchPattern-not_lone _ its at is lone) (rw (← c.refusal_of_pattern.ensures) c.report.ensures.status) (rw (← c.refusal_of_pattern.ensures) c.report.ensures.said) refl refl;
-    })
+pub returns-in-Search-clause-untouched : goal.returns-in-Search-clause-untouched
+returns-in-Search-clause-untouched g c = λ none. absurd (none (rw (c.in-Search.is) tt))
 
 pub ingest_files-requires-clause-workers : goal.ingest_files-requires-clause-workers
 ingest_files-requires-clause-workers g c κs within =
@@ -95,7 +74,7 @@ ingest_files-requires-clause-some g c κs within =
 
 pub returns-in-Ingest-clause-answers : goal.returns-in-Ingest-clause-answers
 returns-in-Ingest-clause-answers g c =
-    rw (c.in-Ingest.is) (rw (← c.of.ensures.files) (rw (← c.of.ensures.segment) c.ingest_files.ensures.answers))
+    rw (c.in-Ingest.is) (rw (← c.of.ensures.files) (rw (← c.of.ensures.segment) (rw (← c.of.ensures.workers) c.ingest_files.ensures.answers)))
 
 pub returns-in-Ingest-clause-keeps : goal.returns-in-Ingest-clause-keeps
 returns-in-Ingest-clause-keeps g c = λ none. absurd (none (rw (c.in-Ingest.is) tt))
