@@ -5,7 +5,7 @@ ghost use Rattle.archive_check.specs.Taken.{Takes, TakesNone};
 
 use crate::segment::read_segment;
 use archive_core::{Judge, JudgeRefusal, Part};
-use record_format::{read_files, read_texts};
+use record_format::{FILES_KIND, SEGMENT_KIND, TYPES_KIND, WORDS_KIND, read_files, read_texts};
 use segment_format::{FormatRefusal, write_segment};
 use std::alloc::Global;
 use std::sync::ledger::Ledger;
@@ -108,10 +108,10 @@ pub(crate) fn take<L: Ledger>(
     ensures illegal { IsErrOf result Illegal → TakesNone judge.old kind payload.now }
 {
     match kind {
-        1 => take_names(judge, alloc, payload),
-        2 => take_types(judge, alloc, payload),
-        3 => take_words(judge, alloc, payload),
-        4 => take_segment(judge, alloc, payload, steps),
+        FILES_KIND => take_names(judge, alloc, payload),
+        TYPES_KIND => take_types(judge, alloc, payload),
+        WORDS_KIND => take_words(judge, alloc, payload),
+        SEGMENT_KIND => take_segment(judge, alloc, payload, steps),
         _ => Err(JudgeRefusal::Illegal),
     }
 }

@@ -3,7 +3,8 @@ use Rattle.std.proofs.Common.{◌≡◌, inl, inr, ℕ, zero, suc, ◌<◌, List
 use Rattle.std.proofs.lemmas.List.{append_assoc}
 use Rattle.std.proofs.lemmas.List.Elements.{All-nil, All-cons, All-append}
 use Rattle.std.proofs.lemmas.Option.{get_or_from_slice_get, slice_get_within}
-use Rattle.dict_core.specs.Books.{BookState, IsNew, Names}
+use Rattle.dict_core.specs.Books.{BookState, Names}
+use Rattle.plain_list.specs.Texts.{IsNew}
 use Rattle.dict_core.proofs.BookLemmas.{distinct_more}
 use Rattle.archive_meaning.specs.Legal.{IsBook}
 

@@ -19,7 +19,7 @@ use crate::segment::{Part, ends_well, may_follow};
 use crate::texts::add_texts;
 use archive_meaning::{FileSum, MAX_FILES, MAX_NAME_LEN, MAX_NAMES};
 use dict_core::Book;
-use log_seams::{NumberList, Text, TextList};
+use plain_list::{NumberList, Text, TextList};
 use record_format::{Header, MIN_ARCHIVE_LEN, room_for};
 use row_codec::Which;
 use std::alloc::{AllocError, Global};

@@ -8,8 +8,8 @@ ghost use Rattle.archive_core.specs.Numbers.{IsWide, TakesWord, with_kind};
 
 use crate::books::Books;
 use crate::rows::Rows;
-use log_seams::NumberList;
 use logtype_text::Kind;
+use plain_list::NumberList;
 use row_codec::Names;
 use segment_format::set_of;
 use std::alloc::{AllocError, Global};

@@ -7,8 +7,8 @@ ghost use Rattle.logtype_text.specs.Fair.{IsFairType, IsFairWord};
 
 use crate::refusal::JudgeRefusal;
 use dict_core::{Book, BookRefusal};
-use log_seams::Text;
 use logtype_text::{MAX_TYPE_LEN, MAX_WORD_LEN, text_ok};
+use plain_list::Text;
 use row_codec::Which;
 
 // Whether the dictionary of log types may hold the text.

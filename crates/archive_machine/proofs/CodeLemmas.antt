@@ -13,7 +13,8 @@ use Rattle.time_patterns.proofs.VersionLemmas.{one_stamp_of}
 use Rattle.column_store.specs.declared.row.Row.{Row}
 use Rattle.row_codec.specs.Means.{EachWord, HasWord, IsCanonical}
 use Rattle.row_codec.specs.Messages.{IsCutInto}
-use Rattle.row_codec.specs.Naming.{AreNumbers, IsNew, Known, MeetsLimit, MetLimit}
+use Rattle.row_codec.specs.Naming.{AreNumbers, Known, MeetsLimit, MetLimit}
+use Rattle.plain_list.specs.Texts.{IsNew}
 use Rattle.row_codec.specs.declared.namer.NameRefusal.{NameRefusal}
 use Rattle.row_codec.specs.declared.namer.NameRefusal.TheVariants.{Full}
 use Rattle.archive_machine.proofs.HandLemmas.{taken_at}

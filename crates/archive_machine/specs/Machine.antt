@@ -6,7 +6,7 @@ use Rattle.column_store.specs.declared.row.Row.{Row}
 use Rattle.column_store.specs.Row.{IsRow, variable_count}
 use Rattle.row_codec.specs.Means.{AreCanonical, IsCanonical}
 use Rattle.row_codec.specs.Messages.{IsMessage}
-use Rattle.row_codec.specs.Naming.{IsNew}
+use Rattle.plain_list.specs.Texts.{IsNew}
 use Rattle.row_codec.specs.Numbers.{numbers_of_row}
 use Rattle.row_codec.specs.declared.namer.Which.TheVariants.{Types as OfTypes, Words as OfWords}
 use Rattle.archive_meaning.specs.declared.TheConstants.{MAX_ROWS, MAX_MESSAGES}

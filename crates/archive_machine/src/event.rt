@@ -1,7 +1,6 @@
 //! What workers do to an archive.
 
-use log_seams::Text;
-use plain_list::ListOf;
+use plain_list::{ListOf, Text};
 use row_codec::Which;
 
 /// One step of a worker, or of the archive itself. A worker is the file of its number.

@@ -6,11 +6,11 @@ ghost use Rattle.row_codec.specs.declared.TheConstants.{MAX_MESSAGE_LEN};
 ghost use Rattle.row_codec.specs.declared.namer.NameRefusal.TheVariants.{Full};
 ghost use Rattle.row_codec.specs.declared.namer.Which.TheVariants.{Words};
 ghost use Rattle.row_codec.specs.Means.{IsCanonical};
-ghost use Rattle.row_codec.specs.Naming.{IsNew};
+ghost use Rattle.plain_list.specs.Texts.{IsNew};
 
 use column_store::Row;
-use log_seams::{NumberList, Text, TextList};
 use logtype_text::{Span, one_list_of_parts};
+use plain_list::{NumberList, Text, TextList};
 use row_codec::{NameRefusal, Namer, Which, encode_message};
 use std::alloc::{AllocError, Global};
 

@@ -19,7 +19,7 @@ use crate::state::{Core, HandList};
 use archive_core::{is_fair, is_message, push_numbers};
 use archive_meaning::{EntryList, JournalEntry, MAX_MESSAGES, MAX_ROWS, SegmentEntry};
 use column_store::{Row, RowList};
-use log_seams::{Text, TextList};
+use plain_list::{Text, TextList};
 use record_format::Header;
 use row_codec::{Which, one_row};
 use std::alloc::{AllocError, Global};

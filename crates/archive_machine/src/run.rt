@@ -6,7 +6,7 @@ use crate::event::EventList;
 use crate::machine::step;
 use crate::state::{Core, HandList};
 use archive_meaning::EntryList;
-use log_seams::TextList;
+use plain_list::TextList;
 use record_format::Header;
 use std::alloc::{AllocError, Global};
 

@@ -2,8 +2,7 @@
 
 use archive_meaning::EntryList;
 use column_store::RowList;
-use log_seams::TextList;
-use plain_list::ListOf;
+use plain_list::{ListOf, TextList};
 
 /// What a worker has in hand.
 #[derive(Debug, Drop)]

@@ -3,6 +3,7 @@
 use Rattle.std.specs.Prelude.{ℕ, zero, suc, ◌+◌, ◌*◌, ◌/◌, ◌%◌, ◌==◌, ℤ, pos, if◌then◌else◌, List, [], ◌∷◌, map, take, drop, slice_index, slice_index_or}
 use Rattle.std.specs.Int.{w64, cast_signed}
 use Rattle.byteorder.specs.Endian.{little_number}
+use Rattle.record_format.specs.declared.kinds.TheConstants.{FILES_KIND, TYPES_KIND, WORDS_KIND}
 use Rattle.disk_journal.specs.Record.{Saved}
 use Rattle.column_store.specs.declared.row.Row.{Row}
 use Rattle.archive_meaning.specs.declared.entry.SegmentEntry.{SegmentEntry}
@@ -52,7 +53,7 @@ segment_in bytes = record {
 
 abbrev pub entry_in : Saved → JournalEntry
 entry_in r =
-    if r.kind == 1 then Files (list_in r.payload)
-    else (if r.kind == 2 then Types (little_number 4 r.payload) (list_in (drop 4 r.payload))
-    else (if r.kind == 3 then Words (little_number 4 r.payload) (list_in (drop 4 r.payload))
+    if r.kind == FILES_KIND then Files (list_in r.payload)
+    else (if r.kind == TYPES_KIND then Types (little_number 4 r.payload) (list_in (drop 4 r.payload))
+    else (if r.kind == WORDS_KIND then Words (little_number 4 r.payload) (list_in (drop 4 r.payload))
     else Segment (segment_in r.payload)))

@@ -5,7 +5,7 @@ use Rattle.record_format.specs.declared.header.Header.{Header}
 use Rattle.column_store.specs.Row.{IsRow, variable_count}
 use Rattle.row_codec.specs.Means.{AreCanonical}
 use Rattle.row_codec.specs.Messages.{IsMessage}
-use Rattle.row_codec.specs.Naming.{AreDistinct}
+use Rattle.plain_list.specs.Texts.{AreDistinct}
 use Rattle.archive_meaning.specs.declared.TheConstants.{MAX_NAMES, MAX_NAME_LEN, MAX_FILES, MAX_ROWS, MAX_MESSAGES}
 use Rattle.archive_meaning.specs.declared.entry.SegmentEntry.{SegmentEntry}
 use Rattle.archive_meaning.specs.declared.entry.JournalEntry.{JournalEntry}

@@ -2,6 +2,7 @@
 use Rattle.std.specs.Prelude.{ℕ, ◌+◌, List, [], ◌∷◌, ◌++◌, length}
 use Rattle.std.specs.List.{flat_map}
 use Rattle.record_format.specs.declared.header.Header.{Header}
+use Rattle.record_format.specs.declared.kinds.TheConstants.{FILES_KIND, TYPES_KIND, WORDS_KIND, SEGMENT_KIND}
 use Rattle.record_format.specs.Header.{header_bytes}
 use Rattle.record_format.specs.Lists.{files_payload, texts_payload}
 use Rattle.disk_journal.specs.Record.{Saved, spelled}
@@ -15,12 +16,12 @@ use Rattle.archive_meaning.specs.declared.entry.JournalEntry.TheVariants.{Files,
 abbrev pub words_named : List (List ℕ) → List Row → List ℕ
 words_named types rows = sorted_set (flat_map (numbers_of_row types) rows)
 
--- the record of an entry: 1 for names, 2 for log types, 3 for words, 4 for a segment; `types` are those of the entries before
+-- the record of an entry, of the kind that it is; `types` are the log types of the entries before
 abbrev pub record_of : List (List ℕ) → JournalEntry → Saved
-record_of types (Files names) = record { kind = 1; payload = files_payload names }
-record_of types (Types first texts) = record { kind = 2; payload = texts_payload first texts }
-record_of types (Words first texts) = record { kind = 3; payload = texts_payload first texts }
-record_of types (Segment s) = record { kind = 4; payload = segment_bytes s.file s.first s.last s.ended s.rows (words_named types s.rows) }
+record_of types (Files names) = record { kind = FILES_KIND; payload = files_payload names }
+record_of types (Types first texts) = record { kind = TYPES_KIND; payload = texts_payload first texts }
+record_of types (Words first texts) = record { kind = WORDS_KIND; payload = texts_payload first texts }
+record_of types (Segment s) = record { kind = SEGMENT_KIND; payload = segment_bytes s.file s.first s.last s.ended s.rows (words_named types s.rows) }
 
 -- the log types that an entry adds
 abbrev pub types_in : JournalEntry → List (List ℕ)

@@ -1,8 +1,7 @@
 //! The entries of a journal as values.
 
 use column_store::RowList;
-use log_seams::TextList;
-use plain_list::ListOf;
+use plain_list::{ListOf, TextList};
 
 /// A part of a file: consecutive messages as rows.
 #[derive(Debug, Drop)]

@@ -2,8 +2,7 @@
 ghost use Rattle.std.specs.Prelude.{◌≡◌, ◌++◌, map, OnOk};
 ghost use Rattle.archive_open.specs.StepsNext.{new_file};
 
-use log_seams::{Text, TextList};
-use plain_list::ListOf;
+use plain_list::{ListOf, Text, TextList};
 use std::alloc::AllocError;
 
 /// What an archive says of a file.

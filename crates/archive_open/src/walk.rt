@@ -15,18 +15,12 @@ use crate::refusal::ArchiveRefusal;
 use crate::segments::{SegmentPlace, add_segment, load_head};
 use disk_journal::{Journal, RecordPlace};
 use log_seams::Disk;
-use record_format::{FormatRefusal, next_text, read_files, texts_front};
+use record_format::{
+    FILES_KIND, FormatRefusal, SEGMENT_KIND, TYPES_KIND, WORDS_KIND, next_text, read_files,
+    texts_front,
+};
 use row_codec::Which;
 use std::alloc::{AllocError, Global};
-
-// The kinds of records.
-const FILES: u8 = 1;
-
-const TYPES: u8 = 2;
-
-const WORDS: u8 = 3;
-
-const SEGMENT: u8 = 4;
 
 /// What was built of the records so far.
 #[derive(Drop)]
@@ -122,7 +116,7 @@ fn keep_listed<K: KeepsTexts + Drop>(
     kind: u8,
     payload: &[u8],
 ) -> Result<bool, AllocError>
-    requires { kind ≢ SEGMENT }
+    requires { kind ≢ SEGMENT_KIND }
     ensures kept { IfOk result (λ yes. IsTrue yes → (at : ℕ)
         → BuildsNext at kind payload.now
         (built_of K.kept opening.old) (built_of K.kept opening.new)) }
@@ -130,9 +124,9 @@ fn keep_listed<K: KeepsTexts + Drop>(
         → NoneNext at kind payload.now (built_of K.kept opening.old)) }
 {
     match kind {
-        FILES => keep_names(alloc, &mut opening.files, payload),
-        TYPES => keep_texts(&mut opening.names, Which::Types, payload),
-        WORDS => keep_texts(&mut opening.names, Which::Words, payload),
+        FILES_KIND => keep_names(alloc, &mut opening.files, payload),
+        TYPES_KIND => keep_texts(&mut opening.names, Which::Types, payload),
+        WORDS_KIND => keep_texts(&mut opening.names, Which::Words, payload),
         _ => Ok(false),
     }
 }
@@ -145,7 +139,7 @@ fn keep_segment<D: Disk, K: KeepsTexts + Drop>(
     place: RecordPlace,
 ) -> Result<bool, ArchiveRefusal>
     requires whole { StandsWhole place (D.state journal.old.disk.now).seen }
-    requires kind { place.kind ≡ SEGMENT }
+    requires kind { place.kind ≡ SEGMENT_KIND }
 
     // what stays
     ensures looks { Looks (state_of journal.old) (state_of journal.new) }
@@ -178,9 +172,9 @@ fn keep_segment<D: Disk, K: KeepsTexts + Drop>(
 
 // Whether a record of this kind is no segment, and is of some entry.
 fn is_listed(kind: u8) -> bool
-    ensures { IsFalse result → kind ≢ SEGMENT → (kind < 1) ⊎ (4 < kind) }
+    ensures { IsFalse result → kind ≢ SEGMENT_KIND → (kind < FILES_KIND) ⊎ (SEGMENT_KIND < kind) }
 {
-    kind == FILES || kind == TYPES || kind == WORDS
+    kind == FILES_KIND || kind == TYPES_KIND || kind == WORDS_KIND
 }
 
 // Keeps what a record that is no segment has, which is loaded, and tells whether it may follow.
@@ -191,7 +185,7 @@ fn keep_loaded<D: Disk, K: KeepsTexts + Drop>(
     place: RecordPlace,
 ) -> Result<bool, ArchiveRefusal>
     requires whole { StandsWhole place (D.state journal.old.disk.now).seen }
-    requires kind { place.kind ≢ SEGMENT }
+    requires kind { place.kind ≢ SEGMENT_KIND }
 
     // what stays
     ensures looks { Looks (state_of journal.old) (state_of journal.new) }
@@ -243,7 +237,7 @@ fn keep_record<D: Disk, K: KeepsTexts + Drop>(
     ensures counts { CountsOf ArchiveRefusal.DiskFault
         (D.state journal.old.disk.now).faults (D.state journal.new.disk.now).faults result }
 {
-    if place.kind == SEGMENT {
+    if place.kind == SEGMENT_KIND {
         keep_segment(alloc, journal, opening, place)
     } else {
         keep_loaded(alloc, journal, opening, place)

@@ -1,6 +1,7 @@
 //! The check of a small archive, whole, cut and changed.
 use archive_check::{CheckRefusal, Summary, check};
-use log_seams::{MemDisk, Text};
+use log_seams::MemDisk;
+use plain_list::Text;
 use std::alloc::{AllocError, Global};
 use std::test::Fail;
 

@@ -1,7 +1,8 @@
 //! The files of small archives.
 use archive_decode::{DecodeRefusal, decode};
 use archive_open::{PlainBooks, open_archive};
-use log_seams::{MemDisk, MemSink, Text};
+use log_seams::{MemDisk, MemSink};
+use plain_list::Text;
 use std::alloc::{AllocError, Global};
 use std::test::Fail;
 

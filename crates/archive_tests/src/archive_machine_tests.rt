@@ -2,7 +2,7 @@
 
 use archive_machine::{Core, Event, EventList, core_run};
 use archive_meaning::JournalEntry;
-use log_seams::Text;
+use plain_list::Text;
 use record_format::Header;
 use row_codec::Which;
 use std::alloc::{AllocError, Global};

@@ -2,7 +2,8 @@
 
 use archive_core::Books;
 use archive_open::{Archive, ArchiveRefusal, PlainBooks, open_archive};
-use log_seams::{MemDisk, Text};
+use log_seams::MemDisk;
+use plain_list::Text;
 use row_codec::Names;
 use std::alloc::{AllocError, Global};
 use std::test::Fail;

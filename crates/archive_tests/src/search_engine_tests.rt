@@ -3,7 +3,8 @@ ghost use Rattle.step_count.specs.Opens.{OpensFor};
 
 use archive_open::{Archive, PlainBooks, open_archive};
 use column_store::Range;
-use log_seams::{MemDisk, MemSink, Text};
+use log_seams::{MemDisk, MemSink};
+use plain_list::Text;
 use query_plan::wide_is_wider;
 use search_engine::{Report, SearchRefusal, exact_expands_printed, one_is_found, search};
 use std::alloc::{AllocError, Global};

@@ -2,7 +2,8 @@
 ghost use Rattle.step_count.specs.Opens.{OpensFor};
 
 use column_store::Columns;
-use log_seams::{MemDisk, Text};
+use log_seams::MemDisk;
+use plain_list::Text;
 use segment_format::{Head, read_head};
 use segment_pages::{PageRefusal, SegmentPages, none_are_left, segments_are_held};
 use std::alloc::{AllocError, Global};

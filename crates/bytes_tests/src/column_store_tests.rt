@@ -1,7 +1,7 @@
 ghost use Rattle.std.specs.Prelude.{◌≤◌, length};
 
 use column_store::{Arrays, Columns, Range, Row, RowList, RowRef, one_list_of_rows};
-use log_seams::WordList;
+use plain_list::WordList;
 use std::alloc::{AllocError, Global};
 use std::test::Fail;
 

@@ -6,8 +6,8 @@ ghost use Rattle.dict_core.specs.Fair.{IsFair};
 
 use dict_core::{Book, BookRefusal, WORDS_FIRST};
 use dict_lock::{CachedPass, SharedBook, intern, unsaved};
-use log_seams::{NumberList, Text, TextList};
 use logtype_text::{MAX_TYPE_LEN, MAX_WORD_LEN, text_ok};
+use plain_list::{NumberList, Text, TextList};
 use std::alloc::Global;
 use std::marker::Brand;
 use std::sync::Wait;

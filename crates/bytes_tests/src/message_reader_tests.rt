@@ -1,5 +1,6 @@
-use log_seams::{MemSource, PlainSource, Source, Text};
+use log_seams::{MemSource, PlainSource, Source};
 use message_reader::{Cut, Mark, MessageReader};
+use plain_list::Text;
 use std::alloc::{AllocError, Global};
 use std::process::Abort;
 use std::test::Fail;

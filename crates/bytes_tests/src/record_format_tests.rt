@@ -1,6 +1,6 @@
 ghost use Rattle.std.specs.Prelude.{◌≡◌, ◌<◌, ◌^◌, IfOk, length};
 
-use log_seams::{Text, TextList};
+use plain_list::{Text, TextList};
 use record_format::*;
 use std::alloc::{AllocError, Global};
 use std::process::Abort;

@@ -3,7 +3,7 @@ ghost use Rattle.step_count.specs.Opens.{OpensFor};
 ghost use Rattle.segment_format.specs.Layout.{IsHead};
 
 use column_store::{Columns, RowRef};
-use log_seams::NumberList;
+use plain_list::NumberList;
 use segment_format::*;
 use std::alloc::{AllocError, Global};
 use std::marker::Brand;

@@ -24,7 +24,7 @@ use Rattle.row_codec.specs.declared.namer.Which.{Which}
 use Rattle.row_codec.specs.declared.namer.Which.TheVariants.{Types as WhichTypes, Words as WhichWords}
 use Rattle.row_codec.specs.Means.{AreCanonical, EachWord, HasWord, IsCanonical}
 use Rattle.row_codec.specs.Messages.{IsCutInto, IsTypeOf, IsWordOf}
-use Rattle.row_codec.specs.Naming.{AreDistinct}
+use Rattle.plain_list.specs.Texts.{AreDistinct}
 use Rattle.message_reader.specs.Versions.{MessagesOf}
 use Rattle.disk_journal.specs.declared.record.TheConstants.{CLOSED_GATE}
 use Rattle.archive_meaning.specs.declared.entry.JournalEntry.{JournalEntry}

@@ -7,7 +7,7 @@ use Rattle.log_seams.specs.Disk.{DiskState}
 use Rattle.log_seams.specs.Outside.{Rose}
 use Rattle.record_format.specs.declared.header.Header.{Header}
 use Rattle.row_codec.specs.Messages.{IsTypeOf, IsWordOf}
-use Rattle.row_codec.specs.Naming.{AreDistinct}
+use Rattle.plain_list.specs.Texts.{AreDistinct}
 use Rattle.archive_meaning.specs.declared.entry.JournalEntry.{JournalEntry}
 use Rattle.archive_meaning.specs.declared.entry.JournalEntry.TheVariants.{Files, Types, Words, Segment}
 use Rattle.archive_meaning.specs.Held.{File, content_of}

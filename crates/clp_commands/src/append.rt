@@ -20,7 +20,8 @@ use archive_open::{Archive, ArchiveRefusal, open_for_append};
 use dict_core::Book;
 use disk_journal::{Journal, StartRefusal};
 use disk_seal::{RegisterRefusal, register};
-use log_seams::{Disk, Text, TextList};
+use log_seams::Disk;
+use plain_list::{Text, TextList};
 use std::alloc::{AllocError, Global};
 
 /// An archive that was opened, and in which new files have their names.

@@ -3,8 +3,7 @@
 ghost use Rattle.std.specs.Prelude.{◌≡◌};
 ghost use Rattle.column_store.specs.Row.{row_of};
 
-use log_seams::WordList;
-use plain_list::ListOf;
+use plain_list::{ListOf, WordList};
 
 /// A message as numbers. A message without stamp has the pattern 0 and the moment 0.
 #[derive(Debug, Drop)]

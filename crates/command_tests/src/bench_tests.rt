@@ -1,7 +1,8 @@
 //! Archives of generated logs, over a disk in memory.
 use crate::ingest_tests::disk;
 use crate::log_tests::{AMPLE, call};
-use log_seams::{MemDisk, MemShelf, Text};
+use log_seams::{MemDisk, MemShelf};
+use plain_list::Text;
 use std::test::Fail;
 
 // The words, the bytes of the disk, the status, and what both outputs take.

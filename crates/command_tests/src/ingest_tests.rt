@@ -1,7 +1,8 @@
 //! Logs that become files of an archive over a disk in memory, and what the archive then has.
 use crate::directory_tests::WORKED;
 use crate::log_tests::{AMPLE, Outcome, call, listed};
-use log_seams::{Disk, MemDisk, MemFile, MemShelf, Text};
+use log_seams::{Disk, MemDisk, MemFile, MemShelf};
+use plain_list::Text;
 use std::alloc::{AllocError, Global};
 use std::sync::Wait;
 use std::test::Fail;

@@ -1,6 +1,7 @@
 //! The commands over logs, a disk and outputs in memory.
 use clp_commands::run;
-use log_seams::{MemDisk, MemFile, MemShelf, MemSink, Text};
+use log_seams::{MemDisk, MemFile, MemShelf, MemSink};
+use plain_list::Text;
 use std::alloc::{AllocError, Global};
 use std::sync::Wait;
 use std::test::Fail;

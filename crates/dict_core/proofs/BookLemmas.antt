@@ -2,7 +2,7 @@
 use Rattle.std.proofs.Common.{◌≡◌, ◌≢◌, ◌⊎◌, ⊎_elim, inl, inr, ℕ, zero, suc, nat_eq, unwrap_or, ◌+◌, ◌<◌, ◌≤◌, ◌==◌, if◌then◌else◌, List, [], ◌∷◌, ◌++◌, length, map, take, ◌-◌, refl, sym, ap, subst, ◌∙◌, arith, Some, slice_get, slice_index}
 use Rattle.std.proofs.lemmas.List.{length_push, length-map, get_or-map, map_push, take-map, length-take}
 use Rattle.std.proofs.lemmas.Option.{slice_get_within, get_or_from_slice_get, same_Some, none-some}
-use Rattle.dict_core.specs.Books.{AreDistinct, IsNew}
+use Rattle.plain_list.specs.Texts.{AreDistinct, IsNew}
 use Rattle.std.specs.Map.{lookup}
 use Rattle.indexmap.specs.IndexMap.{IndexMap, IsUnchanged}
 use Rattle.dict_core.specs.Chains.{latest, place_at, IsChained, InChain, IsBook}

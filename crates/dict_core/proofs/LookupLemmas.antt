@@ -2,7 +2,7 @@
 use Rattle.std.proofs.Common.{◌≡◌, ◌⊎◌, ⊎_elim, inl, inr, ℕ, zero, suc, ◌≤◌, List, [], ◌∷◌, ◌++◌, length, refl, sym, ap, subst, ◌∙◌, arith, Option, None, Some, unwrap_or, slice_get}
 use Rattle.std.specs.Option.{IfSome, IfNone}
 use Rattle.std.proofs.lemmas.Option.{none-some, slice_get_within}
-use Rattle.dict_core.specs.Books.{IsNew}
+use Rattle.plain_list.specs.Texts.{IsNew}
 use Rattle.dict_core.specs.Lookups.{IsNumberOf}
 
 -- an element of a list with one more is an old one or the last

@@ -1,19 +1,11 @@
 -- What a book is: distinct texts with a limit, and what it is to name a text.
-use Rattle.std.specs.Prelude.{◌≡◌, ◌≢◌, ◌⊎◌, ℕ, ◌<◌, List, [], ◌∷◌, ◌++◌, length, slice_get, Some}
+use Rattle.std.specs.Prelude.{◌≡◌, ◌⊎◌, ℕ, ◌<◌, List, [], ◌∷◌, ◌++◌, length, slice_get, Some}
+use Rattle.plain_list.specs.Texts.{IsNew}
 
 -- the texts of a book, each at its number, and how many there may be
 pub record BookState : Type 0 where
   pub texts : List (List ℕ)
   pub limit : ℕ
-
--- no text stands at two numbers
-abbrev pub AreDistinct : List (List ℕ) → Type 0
-AreDistinct texts =
-    (i j : ℕ) (text : List ℕ) → slice_get texts i ≡ Some text → slice_get texts j ≡ Some text → i ≡ j
-
--- the text stands at no number
-abbrev pub IsNew : List (List ℕ) → List ℕ → Type 0
-IsNew texts text = (i : ℕ) → slice_get texts i ≢ Some text
 
 -- the text at the number stands at a lower one too
 pub record StandsTwice (texts : List (List ℕ)) (number : ℕ) : Type 0 where

@@ -1,7 +1,7 @@
 -- The index over a list of texts: chains of the texts with one hash.
 use Rattle.std.specs.Prelude.{◌≡◌, ℕ, zero, suc, ◌<◌, ◌≤◌, ◌==◌, if◌then◌else◌, nat_eq, unwrap_or, List, map, length, slice_index}
 use Rattle.indexmap.specs.IndexMap.{IndexMap, get}
-use Rattle.dict_core.specs.Books.{AreDistinct}
+use Rattle.plain_list.specs.Texts.{AreDistinct}
 use Rattle.dict_core.specs.declared.texts.TheConstants.{MAX_TEXTS}
 
 -- the hash of a text, by a copy of a hasher that was fed nothing

@@ -1,6 +1,6 @@
 -- Looking up many texts at once.
 use Rattle.std.specs.Prelude.{◌≡◌, ◌≢◌, ℕ, List, length, slice_get, Some}
-use Rattle.dict_core.specs.Books.{IsNew}
+use Rattle.plain_list.specs.Texts.{IsNew}
 use Rattle.dict_core.specs.declared.chains.TheConstants.{NO_NUMBER}
 
 -- there is a number for each text, and the fact holds of both

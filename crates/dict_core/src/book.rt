@@ -1,6 +1,7 @@
 //! Distinct texts, each with a number.
 ghost use Rattle.std.specs.Prelude.{◌≡◌, ℕ, ◌-◌, ◌<◌, ◌≤◌, [], take, drop, length, slice_get, vec_capacity, Some, IfSome, IfNone, IfOk, OnOk, OnErr, IsErrOf};
-ghost use Rattle.dict_core.specs.Books.{AreDistinct, IsNew, Names, StandsTwice};
+ghost use Rattle.dict_core.specs.Books.{Names, StandsTwice};
+ghost use Rattle.plain_list.specs.Texts.{AreDistinct, IsNew};
 ghost use Rattle.dict_core.specs.Lookups.{Fits, IsNumberOf};
 ghost use Rattle.dict_core.specs.declared.refusals.BookRefusal.TheVariants.{Full};
 ghost use Rattle.dict_core.specs.declared.refusals.IndexRefusal.TheVariants.{Repeated};
@@ -10,7 +11,7 @@ use crate::index::Index;
 use crate::refusals::{BookRefusal, IndexRefusal};
 use crate::text_slice::TextSlice;
 use crate::texts::{MAX_TEXTS, Texts};
-use log_seams::TextList;
+use plain_list::TextList;
 use std::alloc::{AllocError, Global};
 use std::hash::{FoldHasher, Hasher};
 use std::marker::Model;

@@ -1,6 +1,6 @@
 //! Books under the turn lock, and which texts a pass may add.
 use crate::book::Book;
-use log_seams::Text;
+use plain_list::Text;
 use turn_lock::Grows;
 
 /// The number of the first pass over the book of Words. A pass with a lower number adds log types,

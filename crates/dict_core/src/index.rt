@@ -1,7 +1,8 @@
 //! The index of a book: from a text's hash to the texts that have it.
 ghost use Rattle.std.specs.Prelude.{◌≡◌, ℕ, ◌+◌, ◌-◌, ◌<◌, ◌≤◌, [], ◌∷◌, ◌++◌, length, take, map, nat_eq, slice_get, slice_index, vec_len, vec_capacity, Some, IfOk, IfErr, OnOk, OnErr, IsErrOf};
 ghost use Rattle.indexmap.specs.IndexMap.{spare, IsUnchanged};
-ghost use Rattle.dict_core.specs.Books.{AreDistinct, IsNew, StandsTwice};
+ghost use Rattle.dict_core.specs.Books.{StandsTwice};
+ghost use Rattle.plain_list.specs.Texts.{AreDistinct, IsNew};
 ghost use Rattle.dict_core.specs.Chains.{hash_by, place_at, Puts, IsChained};
 ghost use Rattle.dict_core.specs.declared.refusals.IndexRefusal.TheVariants.{Repeated};
 

@@ -1,6 +1,6 @@
 //! Books at their limit and with texts of one hash, and texts without an index.
 use crate::{Book, BookRefusal, IndexRefusal, MAX_TEXTS, NO_NUMBER, TextSlice, Texts};
-use log_seams::{Text, TextList};
+use plain_list::{Text, TextList};
 use std::alloc::{AllocError, Global};
 use std::test::Fail;
 use turn_lock::Grows;

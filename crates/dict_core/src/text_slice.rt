@@ -1,7 +1,7 @@
 //! Texts that are read by their places.
 ghost use Rattle.std.specs.Prelude.{◌≡◌, ◌<◌, ℕ, List, length, slice_get, Some};
 
-use log_seams::TextList;
+use plain_list::TextList;
 
 /// Texts in order, lent for reading: a list of texts, or spans of a line.
 pub trait TextSlice {

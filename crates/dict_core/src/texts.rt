@@ -1,10 +1,10 @@
 //! Texts in one buffer, without an index.
 ghost use Rattle.std.specs.Prelude.{◌≡◌, ◌≢◌, ℕ, ◌-◌, ◌<◌, ◌≤◌, [], ◌∷◌, ◌++◌, take, drop, length, slice_get, slice_index, Some, IfSome, IfNone, IfOk, OnOk, OnErr};
-ghost use Rattle.dict_core.specs.Books.{IsNew};
+ghost use Rattle.plain_list.specs.Texts.{IsNew};
 ghost use Rattle.dict_core.specs.Buffer.{start_at, text_at, Rise};
 
 use crate::search::first;
-use log_seams::{Text, TextList};
+use plain_list::{Text, TextList};
 use std::alloc::{AllocError, Global};
 use std::marker::Model;
 

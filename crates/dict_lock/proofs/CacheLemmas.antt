@@ -2,7 +2,8 @@
 use Rattle.std.proofs.Common.{◌≡◌, ◌≢◌, ◌⊎◌, ⊎_elim, inl, inr, ℕ, zero, suc, ◌+◌, ◌<◌, List, [], ◌∷◌, ◌++◌, length, refl, sym, ap, subst, ◌∙◌, arith, Some, slice_get}
 use Rattle.std.proofs.lemmas.List.{length_push}
 use Rattle.std.proofs.lemmas.Option.{slice_get_within, none-some}
-use Rattle.dict_core.specs.Books.{AreDistinct, BookState, IsNew, Names}
+use Rattle.dict_core.specs.Books.{BookState, Names}
+use Rattle.plain_list.specs.Texts.{AreDistinct, IsNew}
 use Rattle.dict_lock.specs.Cache.{CacheState, GrowsBy, IsEven, IsSeen, Remembers, Keeps, StaysSeen}
 use Rattle.dict_lock.proofs.SharedLemmas.{slice_get-last}
 

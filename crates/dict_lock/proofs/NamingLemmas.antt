@@ -11,7 +11,8 @@ use Rattle.std.proofs.lemmas.Option.{slice_get_within, none-some, get_or_from_sl
 use Rattle.std.proofs.lemmas.List.Elements.{All-push}
 use mathlib.Core.Logic.{dite}
 use native.Mathlib.Decide.{ℕ_discrete}
-use Rattle.dict_core.specs.Books.{BookState, IsNew, Names}
+use Rattle.dict_core.specs.Books.{BookState, Names}
+use Rattle.plain_list.specs.Texts.{IsNew}
 use Rattle.dict_lock.specs.Cache.{CacheState, GrowsBy, Remembers, HoldsAll, HoldsFront, Keeps, IsSeen}
 use Rattle.dict_lock.specs.Naming.{AreNumbers, Learns, NamesMore}
 use Rattle.dict_lock.specs.StepsOfNaming.{AreHeld, FoundAll, Grows, NamesFront, AddsAmong}

@@ -3,7 +3,8 @@ use Rattle.std.proofs.Common.{◌≡◌, ◌≢◌, ◌⊎◌, ⊎_elim, inl, in
 use Rattle.std.specs.Prelude.{Result, Ok, Err, IfOk, OnErr, IsErrOf}
 use mathlib.Core.List.{IsPrefix}
 use Rattle.turn_lock.specs.History.{places}
-use Rattle.dict_core.specs.Books.{BookState, IsNew, Names}
+use Rattle.dict_core.specs.Books.{BookState, Names}
+use Rattle.plain_list.specs.Texts.{IsNew}
 use Rattle.dict_core.specs.declared.refusals.BookRefusal.{BookRefusal}
 use Rattle.dict_core.specs.declared.refusals.BookRefusal.TheVariants.{Full}
 

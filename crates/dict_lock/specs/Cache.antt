@@ -1,6 +1,6 @@
 -- What a cache holds: texts, each with the number that it was given.
 use Rattle.std.specs.Prelude.{◌≡◌, ◌⊎◌, ℕ, ◌+◌, ◌<◌, List, [], ◌∷◌, ◌++◌, length, Some, slice_get}
-use Rattle.dict_core.specs.Books.{IsNew}
+use Rattle.plain_list.specs.Texts.{IsNew}
 
 pub record CacheState : Type 0 where
   pub texts : List (List ℕ)

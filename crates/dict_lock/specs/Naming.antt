@@ -4,7 +4,7 @@ use Rattle.std.specs.List.{AllZip, Contains}
 use mathlib.Core.List.{IsPrefix}
 use Rattle.turn_lock.specs.History.{places}
 use Rattle.turn_lock.specs.Words.{seen, own_list}
-use Rattle.dict_core.specs.Books.{IsNew}
+use Rattle.plain_list.specs.Texts.{IsNew}
 use Rattle.dict_lock.specs.Cache.{CacheState, HoldsFront}
 use Rattle.dict_lock.specs.Shared.{BookPass, GoesOn, IsFull}
 

@@ -4,7 +4,8 @@ use mathlib.Core.List.{IsPrefix}
 use Rattle.turn_lock.specs.declared.board.About.{About}
 use Rattle.turn_lock.specs.declared.pass.Pass.{Pass}
 use Rattle.turn_lock.specs.Words.{seen, own_list, about, IsReady, IsStill}
-use Rattle.dict_core.specs.Books.{BookState, AreDistinct}
+use Rattle.dict_core.specs.Books.{BookState}
+use Rattle.plain_list.specs.Texts.{AreDistinct}
 
 -- a pass over a book is plain data to a contract
 abbrev pub BookPass : Type 0

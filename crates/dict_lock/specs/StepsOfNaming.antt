@@ -1,7 +1,8 @@
 -- How far a naming has come, for its proof alone.
 use Rattle.std.specs.Prelude.{◌≡◌, ◌≢◌, ℕ, ◌≤◌, List, [], ◌++◌, length, Some, slice_get, All}
 use Rattle.std.specs.List.{Contains}
-use Rattle.dict_core.specs.Books.{AreDistinct, BookState, IsNew}
+use Rattle.dict_core.specs.Books.{BookState}
+use Rattle.plain_list.specs.Texts.{AreDistinct, IsNew}
 use Rattle.turn_lock.specs.Words.{seen}
 use Rattle.dict_lock.specs.Cache.{CacheState, IsEven, Remembers, HoldsAll}
 use Rattle.dict_lock.specs.Shared.{BookPass, IsFull}

@@ -1,6 +1,6 @@
 //! Texts with the numbers that they were given.
 ghost use Rattle.std.specs.Prelude.{◌≡◌, ◌≢◌, ◌<◌, ◌≤◌, ℕ, [], length, slice_get, vec_capacity, Some, IfSome, IfNone, OnOk};
-ghost use Rattle.dict_core.specs.Books.{IsNew};
+ghost use Rattle.plain_list.specs.Texts.{IsNew};
 ghost use Rattle.dict_core.specs.Lookups.{Fits, IsNumberOf};
 ghost use Rattle.dict_lock.specs.Cache.{GrowsBy, Remembers, Keeps, StaysSeen};
 ghost use Rattle.dict_lock.specs.StepsOfNaming.{IsHeldAs, HasNoMark};

@@ -1,5 +1,5 @@
 //! A pass that remembers the numbers that it was given.
-ghost use Rattle.dict_core.specs.Books.{AreDistinct};
+ghost use Rattle.plain_list.specs.Texts.{AreDistinct};
 ghost use Rattle.dict_lock.specs.Cache.{IsEven, IsSeen};
 ghost use Rattle.turn_lock.specs.Words.{seen, IsReady};
 
@@ -7,7 +7,7 @@ use crate::cache::Cache;
 use crate::naming::{look_up, name_in_turn};
 use crate::texts::{OneText, TextSlice};
 use dict_core::{Book, BookRefusal};
-use log_seams::NumberList;
+use plain_list::NumberList;
 use std::alloc::Global;
 use std::sync::Wait;
 use std::sync::ledger::Ledger;

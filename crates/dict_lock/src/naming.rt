@@ -1,7 +1,8 @@
 //! Naming texts: those that the cache holds without a turn, the others in one turn.
 ghost use Rattle.std.specs.Prelude.{◌≡◌, ◌≢◌, ◌+◌, ◌≤◌, ℕ, List, [], length, vec_capacity, slice_get, Some, IfOk, OnOk, OnErr, MatchBool, IsErrOf, All};
 ghost use Rattle.turn_lock.specs.Words.{seen, number_of, IsReady};
-ghost use Rattle.dict_core.specs.Books.{Names, IsNew};
+ghost use Rattle.dict_core.specs.Books.{Names};
+ghost use Rattle.plain_list.specs.Texts.{IsNew};
 ghost use Rattle.dict_core.specs.Fair.{IsFair};
 ghost use Rattle.dict_core.specs.declared.refusals.BookRefusal.TheVariants.{Full};
 ghost use Rattle.dict_lock.specs.Cache.{Remembers, HoldsAll, HoldsFront, Keeps, IsSeen};

@@ -1,13 +1,13 @@
 //! A book under the turn lock: naming a text, and copying those that others may not have seen.
 ghost use Rattle.std.specs.Prelude.{◌≡◌, ◌↔◌, ℕ, ◌+◌, ◌≤◌, drop, length, slice_get, Some, IfOk, OnErr, IsErrOf};
 ghost use Rattle.turn_lock.specs.Words.{seen, own_list, number_of, IsReady, OthersMay};
-ghost use Rattle.dict_core.specs.Books.{IsNew};
+ghost use Rattle.plain_list.specs.Texts.{IsNew};
 ghost use Rattle.dict_core.specs.Fair.{IsFair};
 ghost use Rattle.dict_core.specs.declared.refusals.BookRefusal.TheVariants.{Full};
 ghost use Rattle.dict_lock.specs.Shared.{GoesOn, HasSeenBook, IsFull, OwnsOneMore};
 
 use dict_core::{Book, BookRefusal};
-use log_seams::TextList;
+use plain_list::TextList;
 use std::alloc::AllocError;
 use std::sync::Wait;
 use std::sync::ledger::Ledger;

@@ -13,7 +13,8 @@ use crate::walk::look;
 use crate::{
     AppendRefusal, FRONT_LEN, LoadRefusal, OPEN_GATE, RecordPlace, StartRefusal, WalkRefusal,
 };
-use log_seams::{Disk, Text};
+use log_seams::Disk;
+use plain_list::Text;
 use record_format::{HEADER_LEN, Header, read_header};
 use std::alloc::Global;
 

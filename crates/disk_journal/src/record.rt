@@ -2,7 +2,7 @@
 ghost use Rattle.std.specs.Prelude.{◌≡◌, IfOk};
 ghost use Rattle.disk_journal.specs.Record.{IsFrame, saved_of};
 
-use log_seams::Text;
+use plain_list::Text;
 use std::alloc::{AllocError, Global};
 
 /// The byte of an open gate: a record stands behind it.

@@ -8,7 +8,8 @@ ghost use Rattle.disk_journal.specs.Calls.{GoesOn, HasAdded, HasStopped, LeavesF
 ghost use Rattle.disk_journal.specs.Series.{saved_all, size_all};
 
 use crate::{AppendRefusal, Journal};
-use log_seams::{Disk, Failed, Text};
+use log_seams::{Disk, Failed};
+use plain_list::Text;
 
 /// Appends the records of framed texts, one after the other, where the journal has room for all of
 /// them. After `Ok` every crash leaves the journal with all of them; at any moment a crash leaves the

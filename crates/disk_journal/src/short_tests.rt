@@ -3,7 +3,8 @@ ghost use Rattle.std.specs.Prelude.{◌≡◌, None, Some, false, is_ok};
 ghost use Rattle.log_seams.specs.Outside.{Counts};
 
 use crate::{Journal, LoadRefusal};
-use log_seams::{Disk, Failed, Text};
+use log_seams::{Disk, Failed};
+use plain_list::Text;
 use std::alloc::Global;
 use std::test::Fail;
 

@@ -9,7 +9,8 @@ use crate::{
     AppendRefusal, CreateRefusal, Journal, RecordPlace, StartRefusal, WalkRefusal, append_each,
     create, frame, frames_one, stand_for_one,
 };
-use log_seams::{Disk, Failed, MemDisk, Pending, Text};
+use log_seams::{Disk, Failed, MemDisk, Pending};
+use plain_list::Text;
 use record_format::Header;
 use std::alloc::{AllocError, Global};
 use std::test::Fail;

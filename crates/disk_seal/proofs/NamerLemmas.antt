@@ -8,7 +8,7 @@ use Rattle.turn_lock.proofs.FrontLemmas.{prefix_length}
 use Rattle.logtype_text.specs.Fair.{IsFairType, IsFairWord}
 use Rattle.turn_lock.specs.History.{places}
 use Rattle.turn_lock.specs.Words.{seen, own_list, about}
-use Rattle.dict_core.specs.Books.{IsNew}
+use Rattle.plain_list.specs.Texts.{IsNew}
 use Rattle.dict_core.specs.Fair.{IsFair}
 use Rattle.dict_core.specs.declared.grows.TheConstants.{WORDS_FIRST}
 use Rattle.dict_lock.specs.Shared.{BookPass, OwnsBehind}

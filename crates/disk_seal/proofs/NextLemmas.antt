@@ -5,7 +5,7 @@ use Rattle.std.proofs.lemmas.List.{take-append-drop, length-take-le, take_all, l
 use Rattle.std.proofs.lemmas.List.Elements.{All-append, All-nil}
 use Rattle.logtype_text.specs.Fair.{IsFairType, IsFairWord}
 use Rattle.turn_lock.specs.Words.{seen}
-use Rattle.dict_core.specs.Books.{AreDistinct}
+use Rattle.plain_list.specs.Texts.{AreDistinct}
 use Rattle.dict_lock.specs.Shared.{BookPass, HasSeenBook}
 use Rattle.record_format.specs.declared.header.Header.{Header}
 use Rattle.record_format.specs.Header.{header_bytes}

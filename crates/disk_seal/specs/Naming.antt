@@ -1,7 +1,7 @@
 -- What naming texts does to a namer, and how many turns it takes.
 use Rattle.std.specs.Prelude.{◌≡◌, ℕ, ◌+◌, ◌≤◌, List, ◌++◌, length, Option, None, Some, All}
 use Rattle.std.specs.List.{Contains}
-use Rattle.dict_core.specs.Books.{IsNew}
+use Rattle.plain_list.specs.Texts.{IsNew}
 use Rattle.dict_lock.specs.Cached.{cache_of, pass_in}
 use Rattle.dict_lock.specs.Shared.{OwnsBehind}
 use Rattle.row_codec.specs.declared.namer.NameRefusal.{NameRefusal}

@@ -5,6 +5,7 @@ use mathlib.Core.List.{IsPrefix}
 use Rattle.turn_lock.specs.Words.{seen}
 use Rattle.record_format.specs.declared.header.Header.{Header}
 use Rattle.record_format.specs.Lists.{texts_payload}
+use Rattle.record_format.specs.declared.kinds.TheConstants.{SEGMENT_KIND}
 use Rattle.disk_journal.specs.declared.record.TheConstants.{FRONT_LEN}
 use Rattle.disk_journal.specs.Record.{IsFrame, saved_of}
 use Rattle.segment_format.specs.Layout.{segment_bytes}
@@ -33,7 +34,7 @@ pub record HasNumbers (d : Draft) : Type 0 where
 -- the framed record of a draft
 pub record IsSealed (d : Draft) (p : Piece) : Type 0 where
   pub framed : IsFrame p.text
-  pub saved : saved_of p.text ≡ record { kind = 4; payload = segment_bytes d.file d.first d.last d.ended d.columns.rows d.words }
+  pub saved : saved_of p.text ≡ record { kind = SEGMENT_KIND; payload = segment_bytes d.file d.first d.last d.ended d.columns.rows d.words }
   pub types_is : p.types ≡ 0
   pub words_is : p.words ≡ 0
 

@@ -8,7 +8,8 @@ ghost use Rattle.disk_seal.specs.Adding.{CanAdd, front_of, Stays, HasOneMore, Ha
 
 use crate::store::Store;
 use disk_journal::AppendRefusal;
-use log_seams::{Disk, Failed, Text};
+use log_seams::{Disk, Failed};
+use plain_list::Text;
 
 impl<'d, 'b, D: Disk> Store<'d, 'b, D> {
     /// Appends a record, which saves so many log types and so many words more. After a fault the store is

@@ -1,7 +1,7 @@
 //! A segment on its way.
 
 use column_store::Columns;
-use log_seams::NumberList;
+use plain_list::NumberList;
 
 /// The next part of a file: rows, which go behind the messages that the file has.
 #[derive(Drop)]

@@ -9,13 +9,11 @@ ghost use Rattle.disk_seal.specs.Registered.{files_record, files_size, IsFullFor
 ghost use Rattle.disk_seal.specs.declared.files.RegisterRefusal.TheVariants.{OutOfMemory};
 
 use disk_journal::{AppendRefusal, Journal, frame};
-use log_seams::{Disk, TextList};
-use record_format::write_files;
+use log_seams::Disk;
+use plain_list::TextList;
+use record_format::{FILES_KIND, write_files};
 use std::alloc::{AllocError, Global};
 use thiserror::Error;
-
-/// The kind of a record of names of files.
-const KIND_FILES: u8 = 1;
 
 /// Why files got no numbers.
 #[derive(Clone, Copy, Debug, PartialEq, Eq, Error)]
@@ -78,7 +76,7 @@ pub fn register<D: Disk>(
         (D.state journal.old.disk.now).faults (D.state journal.new.disk.now).faults result }
 {
     let payload = write_files(alloc, names)?;
-    let text = frame(alloc, KIND_FILES, payload.as_slice())?;
+    let text = frame(alloc, FILES_KIND, payload.as_slice())?;
     match journal.append(text.as_slice()) {
         Ok(()) => Ok(held),
         Err(AppendRefusal::ArchiveFull { end, need }) => {

@@ -8,19 +8,10 @@ ghost use Rattle.disk_seal.specs.Planned.{HasNumbers, IsSealed};
 use crate::draft::Draft;
 use crate::pieces::Piece;
 use disk_journal::frame;
-use log_seams::TextList;
-use record_format::write_texts;
+use plain_list::TextList;
+use record_format::{SEGMENT_KIND, TYPES_KIND, WORDS_KIND, write_texts};
 use segment_format::write_segment;
 use std::alloc::{AllocError, Global};
-
-/// The kind of a record of log types.
-const KIND_TYPES: u8 = 2;
-
-/// The kind of a record of words.
-const KIND_WORDS: u8 = 3;
-
-/// The kind of a record of a segment.
-const KIND_SEGMENT: u8 = 4;
 
 /// The record of log types with the numbers from `first` on; none where there are no texts.
 pub(crate) fn types_piece(
@@ -36,7 +27,7 @@ pub(crate) fn types_piece(
         return Ok(None);
     }
     let payload = write_texts(alloc, first, texts)?;
-    let text = frame(alloc, KIND_TYPES, payload.as_slice())?;
+    let text = frame(alloc, TYPES_KIND, payload.as_slice())?;
     Ok(Some(Piece {
         text,
         types: texts.len() as u32,
@@ -58,7 +49,7 @@ pub(crate) fn words_piece(
         return Ok(None);
     }
     let payload = write_texts(alloc, first, texts)?;
-    let text = frame(alloc, KIND_WORDS, payload.as_slice())?;
+    let text = frame(alloc, WORDS_KIND, payload.as_slice())?;
     Ok(Some(Piece {
         text,
         types: 0,
@@ -100,7 +91,7 @@ pub(crate) fn segment_piece(alloc: Global, draft: &Draft) -> Result<Piece, Alloc
         &draft.columns,
         &draft.words,
     )?;
-    let text = frame(alloc, KIND_SEGMENT, payload.as_slice())?;
+    let text = frame(alloc, SEGMENT_KIND, payload.as_slice())?;
     Ok(Piece {
         text,
         types: 0,

@@ -6,7 +6,8 @@ ghost use Rattle.disk_seal.specs.Adding.{front_of, Stays, LeavesFirst};
 ghost use Rattle.disk_seal.specs.Pieces.{CanFollow, added_by, size_of, AddsAll, AddsSome};
 
 use crate::store::Store;
-use log_seams::{Disk, Failed, Text};
+use log_seams::{Disk, Failed};
+use plain_list::Text;
 
 /// A record to be appended: its framed bytes, and how many texts of each book it saves.
 #[derive(Drop)]

@@ -1,7 +1,8 @@
 //! What is outside of a call, in memory, and what came of the call.
 
 use clp_commands::run;
-use log_seams::{MemDisk, MemFile, MemShelf, MemSink, Shelf, Text};
+use log_seams::{MemDisk, MemFile, MemShelf, MemSink, Shelf};
+use plain_list::Text;
 use std::alloc::{AllocError, Global};
 use std::sync::Wait;
 use std::thread::Threads;

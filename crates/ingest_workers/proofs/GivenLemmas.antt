@@ -18,7 +18,7 @@ use Rattle.dict_lock.specs.Shared.{BookPass}
 use Rattle.logtype_text.specs.Fair.{IsFairType, IsFairWord}
 use Rattle.row_codec.specs.declared.namer.Which.{Which}
 use Rattle.row_codec.specs.declared.namer.Which.TheVariants.{Types as WhichTypes, Words as WhichWords}
-use Rattle.row_codec.specs.Naming.{AreDistinct}
+use Rattle.plain_list.specs.Texts.{AreDistinct}
 use Rattle.disk_journal.specs.declared.journal.Journal.{Journal}
 use Rattle.disk_journal.specs.Journal.{state_of}
 use Rattle.segment_format.specs.Layout.{sorted_set}

@@ -20,7 +20,7 @@ use Rattle.dict_lock.specs.Shared.{BookPass, OwnsBehind}
 use Rattle.logtype_text.specs.Fair.{IsFairType, IsFairWord}
 use Rattle.row_codec.specs.declared.namer.Which.{Which}
 use Rattle.row_codec.specs.declared.namer.Which.TheVariants.{Types, Words}
-use Rattle.row_codec.specs.Naming.{AreDistinct}
+use Rattle.plain_list.specs.Texts.{AreDistinct}
 use Rattle.archive_meaning.specs.Spelled.{types_of as texts_of_types}
 use Rattle.disk_journal.specs.declared.journal.Journal.{Journal}
 use Rattle.disk_journal.specs.Journal.{state_of}

@@ -7,7 +7,7 @@ use Rattle.row_codec.specs.declared.namer.NameRefusal.{NameRefusal}
 use Rattle.row_codec.specs.declared.namer.Which.TheVariants.{Types}
 use Rattle.row_codec.specs.Messages.{IsTypeOf, IsWordOf}
 use Rattle.row_codec.specs.Naming.{GoesOnWith, HasGrown, Known}
-use Rattle.row_codec.proofs.BooksLemmas.{grows_self, grows_then}
+use Rattle.row_codec.proofs.GrowthLemmas.{grows_self, grows_then}
 use Rattle.dict_lock.specs.Shared.{BookPass, GoesOn, OwnsBehind}
 use Rattle.disk_seal.specs.declared.namer.LockNamer.{LockNamer}
 use Rattle.disk_seal.specs.Known.{known_of, limit_in}

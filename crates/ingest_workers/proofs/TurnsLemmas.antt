@@ -8,7 +8,7 @@ use Rattle.std.proofs.lemmas.Option.{slice_get_within, slice_get-get_or}
 use Rattle.log_seams.specs.Disk.{DiskState}
 use Rattle.turn_lock.specs.Words.{about, own_list}
 use Rattle.ingest_fork.proofs.PlaceLemmas.{at_left, at_right}
-use Rattle.dict_core.specs.Books.{AreDistinct, IsNew}
+use Rattle.plain_list.specs.Texts.{AreDistinct, IsNew}
 use Rattle.dict_lock.specs.Cache.{CacheState}
 use Rattle.dict_lock.specs.Cached.{cache_of}
 use Rattle.dict_lock.proofs.CacheLemmas.{distinct_push}

@@ -6,7 +6,8 @@ use Rattle.dict_lock.specs.Shared.{BookPass}
 use Rattle.row_codec.specs.declared.namer.Which.{Which}
 use Rattle.row_codec.specs.declared.namer.Which.TheVariants.{Types, Words}
 use Rattle.row_codec.specs.Messages.{IsTypeOf, IsWordOf}
-use Rattle.row_codec.specs.Naming.{AreDistinct, IsNew, Known}
+use Rattle.row_codec.specs.Naming.{Known}
+use Rattle.plain_list.specs.Texts.{AreDistinct, IsNew}
 use Rattle.message_reader.specs.Versions.{MessagesOf}
 use Rattle.disk_seal.specs.Known.{known_of}
 

@@ -11,7 +11,8 @@ use Rattle.dict_lock.specs.Shared.{BookPass}
 use Rattle.row_codec.specs.declared.namer.Which.{Which}
 use Rattle.row_codec.specs.declared.namer.Which.TheVariants.{Types as WhichTypes, Words as WhichWords}
 use Rattle.row_codec.specs.Messages.{IsTypeOf, IsWordOf}
-use Rattle.row_codec.specs.Naming.{AreDistinct, Known}
+use Rattle.row_codec.specs.Naming.{Known}
+use Rattle.plain_list.specs.Texts.{AreDistinct}
 use Rattle.record_format.specs.declared.header.Header.{Header}
 use Rattle.disk_journal.specs.declared.journal.Journal.{Journal}
 use Rattle.disk_journal.specs.Journal.{state_of}

@@ -4,7 +4,7 @@ use Rattle.std.specs.List.{Contains}
 use mathlib.Core.List.{IsPrefix}
 use Rattle.log_seams.specs.Disk.{DiskState}
 use Rattle.turn_lock.specs.Words.{about, own_list}
-use Rattle.dict_core.specs.Books.{AreDistinct, IsNew}
+use Rattle.plain_list.specs.Texts.{AreDistinct, IsNew}
 use Rattle.row_codec.specs.declared.namer.NameRefusal.{NameRefusal}
 use Rattle.row_codec.specs.declared.namer.Which.{Which}
 use Rattle.row_codec.specs.Messages.{IsTypeOf, IsWordOf}

@@ -14,7 +14,7 @@ ghost use Rattle.ingest_workers.specs.Turns.{MayAsk, stop_in};
 use crate::stop::Stop;
 use column_store::Columns;
 use disk_seal::Draft;
-use log_seams::NumberList;
+use plain_list::NumberList;
 use row_codec::{Encoder, Namer};
 use std::alloc::Global;
 

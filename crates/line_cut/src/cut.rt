@@ -1,7 +1,7 @@
 //! The answers of a cutter.
 ghost use Rattle.std.specs.Prelude.{◌≡◌};
 
-use log_seams::Text;
+use plain_list::Text;
 use thiserror::Error;
 
 /// Why no further line is given.

@@ -10,7 +10,8 @@ ghost use Rattle.line_cut.specs.declared.cut.Progress.{Progress};
 use crate::cut::{Cut, CutterRefused, Mark, Piece, Progress};
 use crate::look::{Looked, look};
 use crate::window::{READ_SIZE, Window, let_go};
-use log_seams::{Source, Text};
+use log_seams::Source;
+use plain_list::Text;
 use std::alloc::{AllocError, Global};
 use std::marker::Model;
 

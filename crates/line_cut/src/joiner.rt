@@ -15,7 +15,8 @@ use crate::join::Joined;
 use crate::message::{Seen, look_for_message};
 use crate::next_line::NextLine;
 use crate::window::{READ_SIZE, Window, let_go};
-use log_seams::{Source, Text};
+use log_seams::Source;
+use plain_list::Text;
 use std::alloc::{AllocError, Global};
 use std::marker::Model;
 

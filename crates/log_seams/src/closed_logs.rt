@@ -1,7 +1,8 @@
 //! The logs that a shelf has closed, a list that grows in place.
 ghost use Rattle.std.specs.Prelude.{◌≡◌, ◌∷◌, []};
 
-use crate::{MemSource, Text};
+use crate::MemSource;
+use plain_list::Text;
 use std::marker::Model;
 
 /// The logs that were closed with their names, the newest first. Contracts see the list.

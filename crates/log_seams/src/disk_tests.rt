@@ -2,7 +2,8 @@
 ghost use Rattle.std.specs.Prelude.{◌≤◌};
 ghost use Rattle.log_seams.specs.MemDisk.{calls_of};
 
-use crate::{Disk, Failed, MemDisk, Pending, Text};
+use crate::{Disk, Failed, MemDisk, Pending};
+use plain_list::Text;
 use std::alloc::{AllocError, Global};
 use std::test::Fail;
 

@@ -1,11 +1,9 @@
-//! What is outside of the store, as traits whose contracts say what each call does, and the
-//! plain lists that the store's crates hand to each other.
+//! What is outside of the store, as traits whose contracts say what each call does.
 #![tactic(auto)]
 
 mod calls;
 mod closed_logs;
 mod disk;
-mod lists;
 mod mem_disk;
 mod mem_shelf;
 mod mem_sink;
@@ -16,7 +14,6 @@ mod sink;
 mod source;
 
 pub use disk::Disk;
-pub use lists::{NumberList, Text, TextList, WordList};
 pub use mem_disk::{MemDisk, Pending};
 pub use mem_shelf::{MemFile, MemShelf, ShelfSource};
 pub use mem_sink::MemSink;

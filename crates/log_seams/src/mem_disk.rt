@@ -6,7 +6,8 @@ ghost use Rattle.log_seams.specs.Outside.{Rose};
 ghost use Rattle.log_seams.specs.Replay.{wrote, logged, events, event_of, content, IsImage, Event, torn_by, after_event, left_by};
 ghost use Rattle.log_seams.specs.StepsReplay.{total, reads_now, counts_now, only_now, wider};
 
-use crate::{Disk, Failed, Text};
+use crate::{Disk, Failed};
+use plain_list::Text;
 use std::alloc::{AllocError, Global};
 
 /// What the ranges hold, after a crash, that were written since the last sync that succeeded.

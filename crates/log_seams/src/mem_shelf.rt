@@ -7,7 +7,8 @@ ghost use Rattle.log_seams.specs.Outside.{Adds, Counts, Rose, Takes};
 
 use crate::calls::Calls;
 use crate::closed_logs::ClosedLogs;
-use crate::{Failed, MemSource, OpenRefused, Shelf, Source, Text};
+use crate::{Failed, MemSource, OpenRefused, Shelf, Source};
+use plain_list::Text;
 use std::alloc::{AllocError, Global};
 use std::marker::Model;
 use std::mem;

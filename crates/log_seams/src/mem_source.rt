@@ -4,7 +4,8 @@ ghost use Rattle.log_seams.specs.Memory.{CalledOnce};
 ghost use Rattle.log_seams.specs.Outside.{Counts, Takes};
 
 use crate::calls::Calls;
-use crate::{Failed, Source, Text};
+use crate::{Failed, Source};
+use plain_list::Text;
 use std::marker::Model;
 
 /// A log in memory whose reads with certain numbers fail. It tells its bytes.

@@ -1,5 +1,6 @@
 use crate::{LogSource, close_logs, open_logs};
-use log_seams::{Failed, MemFile, MemShelf, OpenRefused, Source, Text};
+use log_seams::{Failed, MemFile, MemShelf, OpenRefused, Source};
+use plain_list::Text;
 use std::alloc::{AllocError, Global};
 use std::test::Fail;
 

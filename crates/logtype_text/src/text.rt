@@ -5,7 +5,7 @@ ghost use Rattle.logtype_text.specs.declared.text.TextRefusal.TheVariants.{OutOf
 ghost use Rattle.logtype_text.specs.TypeText.{IsGood, IsLoneAt, IsTypeText, is_escaped, placeholder, text_of_symbol, type_text};
 
 use crate::{Kind, Symbol, Symbols};
-use log_seams::Text;
+use plain_list::Text;
 use std::alloc::{AllocError, AllocFailed, Global};
 use thiserror::Error;
 

@@ -1,11 +1,14 @@
 //! One list type over `Vec` that contracts see as a plain list.
 //!
-//! The store's crates hand lists to each other under names of their own, each an alias: a text is
-//! `ListOf<u8>`, a list of texts is `ListOf<Text>`.
+//! The store's crates hand lists to each other under the names that stand here, each an alias: a text
+//! is `ListOf<u8>`, a list of texts is `ListOf<Text>`.
 #![tactic(auto)]
 
 ghost use Rattle.std.specs.Prelude.{◌≡◌, length};
 
+mod lists;
+
+pub use lists::{NumberList, Text, TextList, WordList};
 use std::marker::Model;
 
 /// A list of values. Contracts see the list itself, and each value in it as its own model.

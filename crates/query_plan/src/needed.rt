@@ -6,7 +6,7 @@ ghost use Rattle.query_plan.specs.Cutting.{needed_first, variable_first};
 ghost use Rattle.query_plan.specs.Needs.{needed_variables_of};
 
 use crate::pieces::{Piece, delimiter, is_mark, opens};
-use log_seams::Text;
+use plain_list::Text;
 use std::alloc::{AllocError, Global};
 use token_rules::is_var;
 

@@ -5,7 +5,7 @@ ghost use Rattle.query_plan.specs.declared.pieces.Piece.{Piece};
 ghost use Rattle.query_plan.specs.Pieces.{pieces, put, EndsWord, thin, less, merge, flat, bytes, Free};
 ghost use Rattle.query_plan.specs.Cutting.{delimiter_of, ended, fronted, opens, kept, is_mark, trimmed};
 
-use log_seams::Text;
+use plain_list::Text;
 use std::alloc::{AllocError, Global};
 use token_rules::is_delim;
 use wild_match::Item;

@@ -14,7 +14,7 @@ use crate::needed::{needed_variables, needed_words, open_count};
 use crate::pieces::{Piece, cut, items_of, plan_pieces};
 use crate::skeleton::skeleton_of;
 use crate::symbols::{SymbolLetters, VarSymbols};
-use log_seams::TextList;
+use plain_list::TextList;
 use std::alloc::{AllocError, Global};
 use std::marker::Model;
 use wild_match::Pattern;

@@ -4,9 +4,8 @@ ghost use Rattle.logtype_text.specs.Parts.{joined};
 ghost use Rattle.query_plan.specs.Symbols.{parts};
 
 use crate::letters::Letters;
-use log_seams::Text;
 use logtype_text::Kind;
-use plain_list::ListOf;
+use plain_list::{ListOf, Text};
 
 /// A part of a body.
 #[derive(Debug, Drop)]

@@ -5,8 +5,8 @@ use crate::{
     Piece, Plan, VarSymbol, VarSymbols, constants_suffice, matches_letters, needs_are_brought,
     readings_are_exact, wide_is_wider,
 };
-use log_seams::{Text, TextList};
 use logtype_text::{Kind, Span, Symbol, split};
+use plain_list::{Text, TextList};
 use std::alloc::{AllocError, Global};
 use std::test::Fail;
 use wild_match::{Item, matches, read_pattern};

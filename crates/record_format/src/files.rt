@@ -5,7 +5,7 @@ ghost use Rattle.record_format.specs.Lists.{files_payload, AreTexts};
 
 use crate::list::{list_of, put_list, room_for};
 use crate::refusal::FormatRefusal;
-use log_seams::{Text, TextList};
+use plain_list::{Text, TextList};
 use std::alloc::{AllocError, Global};
 
 /// The payload of a record of files: the count of names, and for each name its length and its

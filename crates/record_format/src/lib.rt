@@ -6,6 +6,7 @@
 
 mod files;
 mod header;
+mod kinds;
 mod laws;
 mod list;
 mod refusal;
@@ -16,6 +17,7 @@ pub use header::{
     HEADER_LEN, Header, LAST_VERSION, MAX_ARCHIVE_LEN, MAX_TYPES, MAX_WORDS, MIN_ARCHIVE_LEN,
     read_header, write_header,
 };
+pub use kinds::{FILES_KIND, SEGMENT_KIND, TYPES_KIND, WORDS_KIND};
 pub use laws::{files_are_unique, headers_are_unique, texts_are_unique};
 pub use list::{next_text, room_for};
 pub use refusal::FormatRefusal;

@@ -5,7 +5,7 @@ ghost use Rattle.record_format.specs.Lists.{four_bytes, text_bytes, list_bytes, 
 
 use crate::refusal::FormatRefusal;
 use byteorder::{ByteOrder, LittleEndian};
-use log_seams::{Text, TextList};
+use plain_list::{Text, TextList};
 use std::alloc::{AllocError, Global};
 
 /// Adds a number of four bytes, the lowest first.

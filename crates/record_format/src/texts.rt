@@ -5,7 +5,7 @@ ghost use Rattle.record_format.specs.Lists.{four_bytes, texts_payload, AreTexts}
 
 use crate::list::{list_of, number_at, put_list, put_number, room_for};
 use crate::refusal::FormatRefusal;
-use log_seams::{Text, TextList};
+use plain_list::{Text, TextList};
 use std::alloc::{AllocError, Global};
 
 /// What a record of types or of words holds.

@@ -20,7 +20,7 @@ use Rattle.row_codec.specs.Means.{EachWord, HasStampText, HasWord, IsCanonical, 
 use Rattle.row_codec.specs.StepsBody.{HasBody, HasStampWriting, IsBody}
 use Rattle.row_codec.specs.StepsCut.{IsCutText}
 use Rattle.row_codec.specs.Laws.{OneRow, RowsReturn}
-use Rattle.row_codec.specs.Naming.{AreDistinct}
+use Rattle.plain_list.specs.Texts.{AreDistinct}
 use Rattle.row_codec.proofs.MeansLemmas.{bytes_same, meaning_is_spelling, one_spelling, stamps_same, words_written}
 
 -- what is written as a variable of its kind is coded so

@@ -3,7 +3,7 @@ use Rattle.std.specs.Prelude.{◌≡◌, ℕ, List}
 use mathlib.Core.List.{IsPrefix}
 use Rattle.column_store.specs.declared.row.Row.{Row}
 use Rattle.row_codec.specs.Means.{IsCanonical, IsSpelling, Means}
-use Rattle.row_codec.specs.Naming.{AreDistinct}
+use Rattle.plain_list.specs.Texts.{AreDistinct}
 
 -- a row that is the encoding of a message stays so when texts are added to the dictionaries
 abbrev pub CanonicalStays : Type 0

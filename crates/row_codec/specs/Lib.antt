@@ -6,6 +6,5 @@ pub mod Naming
 pub mod Numbers
 pub mod Steps
 pub mod StepsBody
-pub mod StepsBooks
 pub mod StepsCut
 pub mod StepsOpening

@@ -1,7 +1,8 @@
 -- What is known of a dictionary, and how naming texts changes it.
-use Rattle.std.specs.Prelude.{◌≡◌, ◌≢◌, ℕ, ◌<◌, List, [], ◌∷◌, ◌++◌, length, map, Option, None, Some, Result, Ok, Err, slice_get, All}
+use Rattle.std.specs.Prelude.{◌≡◌, ℕ, ◌<◌, List, [], ◌∷◌, ◌++◌, length, map, Option, None, Some, Result, Ok, Err, slice_get, All}
 use Rattle.std.specs.List.{AllZip}
 use mathlib.Core.List.{IsPrefix}
+use Rattle.plain_list.specs.Texts.{IsNew}
 use Rattle.logtype_text.specs.Parts.{Part, symbol_of}
 use Rattle.logtype_text.specs.TypeText.{type_text}
 use Rattle.logtype_text.specs.Encoded.{word_texts}
@@ -9,15 +10,6 @@ use Rattle.row_codec.specs.declared.namer.NameRefusal.{NameRefusal}
 use Rattle.row_codec.specs.declared.namer.Which.{Which}
 use Rattle.row_codec.specs.declared.namer.Which.TheVariants.{Types, Words}
 use Rattle.row_codec.specs.Messages.{IsCutInto, IsTypeOf, IsWordOf}
-
--- no text has two numbers
-abbrev pub AreDistinct : List (List ℕ) → Type 0
-AreDistinct texts =
-    (i j : ℕ) (text : List ℕ) → slice_get texts i ≡ Some text → slice_get texts j ≡ Some text → i ≡ j
-
--- the text has no number
-abbrev pub IsNew : List (List ℕ) → List ℕ → Type 0
-IsNew texts text = (i : ℕ) → slice_get texts i ≢ Some text
 
 -- these are the numbers of the texts, in order
 abbrev pub AreNumbers : List (List ℕ) → List ℕ → List (List ℕ) → Type 0

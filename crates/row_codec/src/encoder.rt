@@ -13,8 +13,8 @@ ghost use Rattle.row_codec.specs.Numbers.{numbers_of_row};
 
 use crate::{Encoded, NameRefusal, Namer};
 use column_store::{Row, RowRef};
-use log_seams::{NumberList, WordList};
 use logtype_text::{Span, encode_body};
+use plain_list::{NumberList, WordList};
 use std::alloc::{AllocError, Global};
 use time_patterns::{Stamp, read_micro, read_stamp};
 use var_codec::Coded;

@@ -9,8 +9,8 @@ ghost use Rattle.row_codec.specs.StepsBody.{HasBody, HasStampWriting, HasWriting
 use crate::Names;
 use crate::fitting::{dictionary_word, stamp_fits};
 use column_store::RowRef;
-use log_seams::Text;
 use logtype_text::{Kind, Symbol, first_symbol, plain_front};
+use plain_list::Text;
 use std::alloc::{AllocError, Global};
 use std::sync::ledger::Ledger;
 use step_count::Steps;

@@ -5,8 +5,6 @@
 //! the texts that it names stand in two dictionaries, that of log types and that of words.
 #![tactic(auto)]
 
-#[cfg(test)]
-mod books;
 mod canonical;
 mod cutting;
 mod encoder;
@@ -30,6 +28,3 @@ pub use names::Names;
 
 /// The most bytes that a message may have.
 pub const MAX_MESSAGE_LEN: usize = MAX_WORD_LEN;
-
-#[cfg(test)]
-mod tests;

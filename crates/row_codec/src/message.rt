@@ -8,7 +8,7 @@ ghost use Rattle.row_codec.specs.Numbers.{numbers_of_row};
 
 use crate::{Encoder, NameRefusal, Namer};
 use column_store::Row;
-use log_seams::NumberList;
+use plain_list::NumberList;
 use std::alloc::Global;
 
 /// A message as a row, and the numbers of dictionary words that the row has, from left to right.

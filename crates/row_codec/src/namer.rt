@@ -9,8 +9,8 @@ ghost use Rattle.row_codec.specs.declared.namer.Which.{Which};
 ghost use Rattle.row_codec.specs.declared.namer.Which.TheVariants.{Types, Words};
 ghost use Rattle.row_codec.specs.Naming.{AreNumbers, HasGrown, Known, MetLimit, refusal_of};
 
-use log_seams::{NumberList, TextList};
 use logtype_text::Span;
+use plain_list::{NumberList, TextList};
 use std::alloc::{AllocError, AllocFailed};
 use thiserror::Error;
 

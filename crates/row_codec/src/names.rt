@@ -1,6 +1,6 @@
 //! The texts of an archive by their numbers.
 ghost use Rattle.std.specs.Prelude.{◌≡◌, ℕ, ◌≤◌, ◌^◌, ◌↔◌, List, length, MatchOption, IsTrue, Some, slice_get};
-ghost use Rattle.row_codec.specs.Naming.{IsNew};
+ghost use Rattle.plain_list.specs.Texts.{IsNew};
 
 /// What an archive's numbers stand for. The look-ups take no memory.
 pub trait Names {

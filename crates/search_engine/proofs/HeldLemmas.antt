@@ -11,7 +11,7 @@ use Rattle.column_store.specs.declared.row.Row.{Row}
 use Rattle.logtype_text.specs.Parts.{symbol_of}
 use Rattle.logtype_text.specs.TypeText.{type_text}
 use Rattle.row_codec.specs.Means.{AreCanonical, IsCanonical}
-use Rattle.row_codec.specs.Naming.{AreDistinct}
+use Rattle.plain_list.specs.Texts.{AreDistinct}
 use Rattle.row_codec.specs.Numbers.{kinds_from, numbers_of_row, word_numbers}
 use Rattle.row_codec.proofs.MeansLemmas.{canonical_stays, prefix_keeps}
 use Rattle.segment_format.specs.Layout.{head_of, sorted_set}

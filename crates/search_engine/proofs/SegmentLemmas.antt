@@ -10,7 +10,7 @@ use Rattle.log_seams.specs.Disk.{DiskState, Rests}
 use Rattle.column_store.specs.declared.range.Range.{Range}
 use Rattle.column_store.specs.declared.row.Row.{Row}
 use Rattle.row_codec.specs.Means.{IsCanonical}
-use Rattle.row_codec.specs.Naming.{AreDistinct}
+use Rattle.plain_list.specs.Texts.{AreDistinct}
 use Rattle.segment_format.specs.Layout.{sorted_set, IsHead, head_of}
 use Rattle.segment_format.specs.Pages.{first_page}
 use Rattle.segment_pages.specs.Paged.{HoldsLeft, HoldsSegment, Paged, ReadsColumns, columns_size, paged_first}

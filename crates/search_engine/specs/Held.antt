@@ -2,7 +2,7 @@
 use Rattle.std.specs.Prelude.{◌≡◌, ◌≤◌, ◌+◌, ℕ, List, [], ◌∷◌, ◌++◌, length, Option, Some, None, slice_get}
 use Rattle.column_store.specs.declared.row.Row.{Row}
 use Rattle.row_codec.specs.Means.{AreCanonical}
-use Rattle.row_codec.specs.Naming.{AreDistinct}
+use Rattle.plain_list.specs.Texts.{AreDistinct}
 use Rattle.segment_format.specs.Layout.{head_of}
 use Rattle.segment_pages.specs.Paged.{HoldsLeft, HoldsSegment, Paged}
 use Rattle.archive_meaning.specs.declared.TheConstants.{MAX_MESSAGES}

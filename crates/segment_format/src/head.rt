@@ -8,7 +8,7 @@ ghost use Rattle.segment_format.specs.Layout.{IsHead, IsNumberSet, head_bytes, f
 
 use crate::fixed::{FIXED_LEN, Fixed, read_fixed};
 use crate::numbers::fill_numbers;
-use log_seams::NumberList;
+use plain_list::NumberList;
 use record_format::FormatRefusal;
 use std::alloc::Global;
 

@@ -14,7 +14,7 @@ use crate::columns::{ROW_LEN, WORD_LEN};
 use crate::fixed::{Fixed, put_fixed};
 use crate::numbers::{put_longs, put_moments, put_number, put_numbers};
 use column_store::Columns;
-use log_seams::{NumberList, Text};
+use plain_list::{NumberList, Text};
 use std::alloc::{AllocError, Global};
 
 /// The numbers sorted upwards, each once.

@@ -14,7 +14,7 @@ use Rattle.var_codec.specs.Codes.{Codes}
 use Rattle.var_codec.specs.declared.Coded.TheVariants.{Word as DictionaryWord}
 use Rattle.subquery_filter.specs.Barren.{HasConstants, HoldsConstants, IsMissing, IsNeeded, LacksTypes, LacksWord}
 use Rattle.subquery_filter.specs.Runs.{HoldsRun}
-use Rattle.row_codec.specs.Naming.{AreDistinct, IsNew}
+use Rattle.plain_list.specs.Texts.{AreDistinct, IsNew}
 use Rattle.query_plan.specs.declared.pieces.Piece.{Piece}
 use Rattle.query_plan.specs.declared.pieces.Piece.TheVariants.{Gap, Mark, Word}
 use Rattle.query_plan.specs.Pieces.{Side, Free, After, Inside, is_needed, needed_of}

@@ -5,8 +5,6 @@
 #![tactic(auto)]
 
 mod accepting;
-#[cfg(test)]
-mod books;
 mod filter;
 mod laws;
 mod letters;
@@ -21,6 +19,3 @@ pub use filter::Filter;
 pub use laws::{barren_has_no_match, rows_bring_tokens, verdicts_hold};
 pub use rules::barren;
 pub use verdicts::{Verdict, verdict_of};
-
-#[cfg(test)]
-mod tests;

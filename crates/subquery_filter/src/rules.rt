@@ -1,14 +1,14 @@
 //! Which segments are barren.
 ghost use Rattle.std.specs.Prelude.{◌≡◌, ◌⊎◌, ◌↔◌, ℕ, List, IsTrue, false, true};
 ghost use Rattle.std.specs.List.Sorted.{IsStrictlyIncreasing};
-ghost use Rattle.row_codec.specs.Naming.{AreDistinct};
+ghost use Rattle.plain_list.specs.Texts.{AreDistinct};
 ghost use Rattle.segment_format.specs.Layout.{IsHead};
 ghost use Rattle.subquery_filter.specs.Barren.{HasConstants, HoldsConstants, IsBarren, IsBounded, IsMissing, IsOutside, LacksTypes, LacksWord};
 ghost use Rattle.subquery_filter.specs.Runs.{HoldsRun};
 
 use crate::runs::holds_run;
 use column_store::Range;
-use log_seams::Text;
+use plain_list::Text;
 use query_plan::Plan;
 use row_codec::Names;
 use segment_format::Head;

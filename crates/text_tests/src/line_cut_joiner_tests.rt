@@ -1,6 +1,7 @@
 use crate::line_cut_tests::{faulty, text};
 use line_cut::{Cut, Heads, Joiner, MAX_LINE_LEN, Mark};
-use log_seams::{MemSource, PlainSource, Source, Text};
+use log_seams::{MemSource, PlainSource, Source};
+use plain_list::Text;
 use std::alloc::{AllocError, Global};
 use std::process::Abort;
 use std::test::Fail;

@@ -1,5 +1,6 @@
 use line_cut::{Cut, Cutter, MAX_LINE_LEN, Mark};
-use log_seams::{Failed, MemSource, PlainSource, Source, Text};
+use log_seams::{Failed, MemSource, PlainSource, Source};
+use plain_list::Text;
 use std::alloc::{AllocError, Global};
 use std::process::Abort;
 use std::test::Fail;

@@ -1,7 +1,7 @@
 use Rattle.std.proofs.Common.{rules, ◌++◌, ℕ, ap, sym, subst, ◌∙◌, length, slice_get, All}
 use Rattle.turn_lock.specs.Words.{seen, number_of}
 use Rattle.dict_core.specs.Fair.{IsFair}
-use Rattle.dict_core.specs.Books.{IsNew}
+use Rattle.plain_list.specs.Texts.{IsNew}
 use Rattle.dict_lock.proofs.SharedLemmas.{prefix_more}
 use Rattle.dict_lock.proofs.NamingLemmas.{all_among, prefix_at}
 use Rattle.dict_lock.proofs.naming.name_marked.Goals as goal

@@ -1,5 +1,5 @@
 use Rattle.std.proofs.Common.{refl, subst}
-use Rattle.row_codec.specs.Naming.{AreDistinct}
+use Rattle.plain_list.specs.Texts.{AreDistinct}
 use Rattle.ingest_workers.proofs.ClosingLemmas.{has_ingested}
 use Rattle.ingest_workers.proofs.GivenLemmas.{causes_given}
 use Rattle.ingest_workers.proofs.InTurnLemmas.{full_in_turn}

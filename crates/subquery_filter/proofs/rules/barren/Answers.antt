@@ -1,7 +1,7 @@
 use Rattle.std.proofs.Common.{inl, inr, subst}
 use Rattle.std.specs.Prelude.{◌↔◌, IsTrue}
 use Rattle.std.specs.List.Sorted.{IsStrictlyIncreasing}
-use Rattle.row_codec.specs.Naming.{AreDistinct}
+use Rattle.plain_list.specs.Texts.{AreDistinct}
 use Rattle.subquery_filter.specs.Barren.{LacksTypes, LacksWord}
 use Rattle.subquery_filter.proofs.RuleLemmas.{first_rules, last_rule, tells_not}
 use Rattle.subquery_filter.proofs.rules.barren.Goals as goal

@@ -1,6 +1,6 @@
 use Rattle.std.specs.Prelude.{true}
 use Rattle.std.specs.List.Sorted.{IsStrictlyIncreasing}
-use Rattle.row_codec.specs.Naming.{AreDistinct}
+use Rattle.plain_list.specs.Texts.{AreDistinct}
 use Rattle.subquery_filter.specs.Barren.{IsMissing}
 use Rattle.subquery_filter.proofs.RuleLemmas.{EachBefore}
 use Rattle.subquery_filter.proofs.rules.lacks_word.Given as goal

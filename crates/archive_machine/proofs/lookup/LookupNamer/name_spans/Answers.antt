@@ -2,8 +2,9 @@ use Rattle.std.proofs.Common.{rules, arith, ◌≡◌, ◌<◌, ◌+◌, ◌++�
 use Rattle.std.specs.Prelude.{slice_range}
 use Rattle.logtype_text.specs.Encoded.{texts_at}
 use Rattle.logtype_text.specs.declared.spans.Span.{Span}
-use Rattle.row_codec.specs.Naming.{AreNumbers, IsNew}
-use Rattle.row_codec.proofs.BooksLemmas.{text_here, texts_long}
+use Rattle.row_codec.specs.Naming.{AreNumbers}
+use Rattle.plain_list.specs.Texts.{IsNew}
+use Rattle.row_codec.proofs.GrowthLemmas.{text_here, texts_long}
 use Rattle.archive_machine.proofs.CodeLemmas.{limit_met, numbers_more}
 use Rattle.archive_machine.proofs.lookup.LookupNamer.name_spans.Goals as goal
 

@@ -1,5 +1,6 @@
 use Rattle.std.proofs.Common.{rules, ◌≡◌, ◌<◌, ◌+◌, ◌++◌, ◌∷◌, [], ℕ, List, length, get_or, take, subst, sym, ◌∙◌, Some, slice_get}
-use Rattle.row_codec.specs.Naming.{AreNumbers, IsNew}
+use Rattle.row_codec.specs.Naming.{AreNumbers}
+use Rattle.plain_list.specs.Texts.{IsNew}
 use Rattle.archive_machine.proofs.CodeLemmas.{any_default, limit_met, numbers_more}
 use Rattle.archive_machine.proofs.lookup.LookupNamer.name_words.Goals as goal
 

@@ -11,21 +11,11 @@ use Rattle.row_codec.specs.declared.namer.NameRefusal.{NameRefusal}
 use Rattle.row_codec.specs.declared.namer.NameRefusal.TheVariants.{Full}
 use Rattle.row_codec.specs.declared.namer.Which.{Which}
 use Rattle.dict_core.specs.Books.{BookState, Names}
-use Rattle.row_codec.specs.Naming.{AreNumbers, HasGrown, IsNew, Known, MetLimit}
-use Rattle.row_codec.specs.StepsBooks.{known_of}
+use Rattle.row_codec.specs.Naming.{AreNumbers, HasGrown, Known, MetLimit}
+use Rattle.plain_list.specs.Texts.{IsNew}
+use Rattle.row_codec.proofs.GrowthLemmas.{grows_self, grows_then}
+use Rattle.row_tests.specs.StepsBooks.{known_of}
 use Rattle.row_codec.proofs.MeansLemmas.{prefix_keeps}
-
-pub grows_self : (P : List ℕ → Type 0) (known : Known) → HasGrown P known known
-grows_self P known = record { limit = refl; front = ([], append-nil known.texts); more = []; added = sym (append-nil known.added); allowed = All-nil P }
-
-pub grows_then : (P : List ℕ → Type 0) (a b c : Known) → HasGrown P a b → HasGrown P b c → HasGrown P a c
-grows_then P a b c one two = record {
-  limit = two.limit ∙ one.limit;
-  front = (one.front.0 ++ two.front.0, sym (append_assoc a.texts one.front.0 two.front.0) ∙ ap (λ l. l ++ two.front.0) one.front.1 ∙ two.front.1);
-  more = one.more ++ two.more;
-  added = two.added ∙ ap (λ l. l ++ two.more) one.added ∙ append_assoc a.added one.more two.more;
-  allowed = All-append P one.more two.more one.allowed two.allowed;
-}
 
 pub named_grows : (P : List ℕ → Type 0) (old new : BookState) (text : List ℕ) (n : ℕ) → Names old new text n → P text → HasGrown P (known_of old) (known_of new)
 named_grows P old new text n (inl (at, same)) has = subst (λ (b : BookState). HasGrown P (known_of old) (known_of b)) (sym same) (grows_self P (known_of old))
@@ -120,10 +110,3 @@ next_named P first old new numbers texts text i n low is has grown are named =
       grows_then P (known_of first) (known_of old) (known_of new) grown step,
       subst (λ l. AreNumbers new.texts (numbers ++ n ∷ []) l) (sym (take_more texts i [] low)) (subst (λ t. AreNumbers new.texts (numbers ++ n ∷ []) (take i texts ++ t ∷ [])) (sym is) (numbers_more P old new text n numbers (take i texts) named step are)),
     )
-
--- the text at a place of the line
-pub text_here : (line : List ℕ) (spans : List Span) (i : ℕ) (d : Span) → i < length spans → get_or (texts_at line spans) i [] ≡ slice_range line (get_or spans i d).start (get_or spans i d).end
-text_here line spans i d low = get_or-map (λ (s : Span). slice_range line s.start s.end) spans i d [] low
-
-pub texts_long : (line : List ℕ) (spans : List Span) → length (texts_at line spans) ≡ length spans
-texts_long line spans = length-map spans (λ (s : Span). slice_range line s.start s.end)

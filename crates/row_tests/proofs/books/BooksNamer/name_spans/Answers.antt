@@ -5,9 +5,11 @@ use Rattle.std.proofs.lemmas.List.Elements.{Contains-get_or}
 use Rattle.logtype_text.specs.Encoded.{texts_at}
 use Rattle.logtype_text.specs.declared.spans.Span.{Span}
 use Rattle.row_codec.specs.declared.namer.Which.TheVariants.{Words}
-use Rattle.row_codec.specs.Naming.{AreNumbers, IsNew}
-use Rattle.row_codec.proofs.BooksLemmas.{grows_then, named_grows, next_full, next_named, text_here, texts_long}
-use Rattle.row_codec.proofs.books.BooksNamer.name_spans.Goals as goal
+use Rattle.row_codec.specs.Naming.{AreNumbers}
+use Rattle.plain_list.specs.Texts.{IsNew}
+use Rattle.row_tests.proofs.BooksLemmas.{named_grows, next_full, next_named}
+use Rattle.row_codec.proofs.GrowthLemmas.{grows_then, text_here, texts_long}
+use Rattle.row_tests.proofs.books.BooksNamer.name_spans.Goals as goal
 
 abbrev nowhere : Span
 nowhere = record { start = 0; end = 0 }

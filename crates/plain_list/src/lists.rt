@@ -1,6 +1,6 @@
 //! The lists that the store's crates hand to each other. Contracts see each as a plain list.
 
-use plain_list::ListOf;
+use crate::ListOf;
 
 /// A list of bytes. Any bytes are allowed.
 pub type Text = ListOf<u8>;

@@ -1,6 +1,6 @@
 use Rattle.row_codec.specs.declared.namer.Which.TheVariants.{Types}
-use Rattle.row_codec.proofs.BooksLemmas.{one_full}
-use Rattle.row_codec.proofs.books.BooksNamer.name_type.Goals as goal
+use Rattle.row_tests.proofs.BooksLemmas.{one_full}
+use Rattle.row_tests.proofs.books.BooksNamer.name_type.Goals as goal
 
 pub returns-clause-full : goal.returns-clause-full
 returns-clause-full c = λ book count is.

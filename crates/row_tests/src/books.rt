@@ -1,12 +1,13 @@
-//! Two books as the dictionaries of an archive, for tests.
+//! Two books as the dictionaries of an archive.
 ghost use Rattle.std.specs.Prelude.{◌≡◌, ◌≤◌, ℕ, IfOk, IsErrOf, OnErr, length};
-ghost use Rattle.dict_core.specs.Books.{IsNew, Names as Named};
-ghost use Rattle.row_codec.specs.StepsBooks.{known_of};
+ghost use Rattle.dict_core.specs.Books.{Names as Named};
+ghost use Rattle.plain_list.specs.Texts.{IsNew};
+ghost use Rattle.row_tests.specs.StepsBooks.{known_of};
 
-use crate::{NameRefusal, Namer, Names, Which};
 use dict_core::{Book, BookRefusal};
-use log_seams::{NumberList, TextList};
 use logtype_text::Span;
+use plain_list::{NumberList, TextList};
+use row_codec::{NameRefusal, Namer, Names, Which};
 use std::alloc::Global;
 
 /// The dictionaries of an archive of some version.
@@ -28,6 +29,16 @@ impl Books {
             words: Book::new(alloc, limit),
             version,
         }
+    }
+
+    /// Adds a log type.
+    pub(crate) fn add_type(&mut self, text: &[u8]) -> Result<u32, BookRefusal> {
+        self.types.intern(text)
+    }
+
+    /// Adds a word.
+    pub(crate) fn add_word(&mut self, text: &[u8]) -> Result<u32, BookRefusal> {
+        self.words.intern(text)
     }
 
     /// The number of a log type.

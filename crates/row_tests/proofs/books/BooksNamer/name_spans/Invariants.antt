@@ -2,8 +2,8 @@ use Rattle.std.proofs.Common.{◌≡◌, take}
 use Rattle.std.specs.List.{Contains}
 use Rattle.logtype_text.specs.Encoded.{texts_at}
 use Rattle.row_codec.specs.Naming.{AreNumbers, HasGrown}
-use Rattle.row_codec.specs.StepsBooks.{known_of}
-use Rattle.row_codec.proofs.books.BooksNamer.name_spans.Given as goal
+use Rattle.row_tests.specs.StepsBooks.{known_of}
+use Rattle.row_tests.proofs.books.BooksNamer.name_spans.Given as goal
 
 abbrev pub invariant-loop-span : goal.invariant-loop-span
 invariant-loop-span l = record {

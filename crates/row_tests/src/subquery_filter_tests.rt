@@ -1,13 +1,12 @@
 use crate::books::Books;
-use crate::runs::holds_run;
-use crate::{Filter, Verdict, accepts, barren, verdict_of};
 use column_store::{Range, RowRef};
-use log_seams::NumberList;
+use plain_list::NumberList;
 use query_plan::Plan;
 use row_codec::row_fits;
 use segment_format::Head;
 use std::alloc::{AllocError, Global};
 use std::test::Fail;
+use subquery_filter::{Filter, Verdict, accepts, barren, verdict_of};
 use wild_match::read_pattern;
 
 /// The plan of a pattern's text.
@@ -16,26 +15,35 @@ fn plan_of(alloc: Global, text: &[u8]) -> Result<Plan, Fail> {
     Ok(Plan::new(alloc, &pattern)?)
 }
 
-/// A log type, a word, whether the log type holds it as a run. A `\` before another byte is no
-/// constant byte, and a constant `\` belongs to a token.
+/// A log type, a pattern of one whole word that is no variable, whether a segment of that type alone
+/// may have it. A `\` before another byte is no constant byte, and a constant `\` belongs to a token.
 const RUNS: &[(&[u8], &[u8], bool)] = &[
-    (b"run \x12 x", b"run", true),
-    (b"run \x12 x", b"x", true),
-    (b"runs \x12", b"run", false),
-    (b"rerun \x12", b"run", false),
-    (b"a\\\\b c", b"a\\b", true),
-    (b"a\\\\b c", b"a\\\\b", false),
-    (b"x\\\x12 y", b"x", true),
-    (b"x\x12 y", b"x", true),
-    (b"y \\", b"y", true),
-    (b"", b"x", false),
+    (b"run \x12 x", b" run ", true),
+    (b"run \x12 x", b" x ", true),
+    (b"runs \x12", b" run ", false),
+    (b"rerun \x12", b" run ", false),
+    (b"a\\\\b c", b" a\\\\b ", true),
+    (b"a\\\\b c", b" a\\\\\\\\b ", false),
+    (b"x\\\x12 y", b" x ", true),
+    (b"x\x12 y", b" x ", true),
+    (b"y \\", b" y ", true),
+    (b"", b" x ", false),
 ];
 
+/// Whether a segment of this log type alone, with no word, may match the pattern.
+fn may_have(alloc: Global, text: &[u8], pattern: &[u8]) -> Result<bool, Fail> {
+    let mut books = Books::new(alloc, 1, 100);
+    let number = books.add_type(text).ok().ok_or("a number")?;
+    Ok(!barren_of(&books, alloc, pattern, 1, &[number], &[])?)
+}
+
 #[test]
-fn runs_of_log_types(rt: HostRuntime) {
-    for (text, word, want) in RUNS {
-        assert!(rt; holds_run(text, word) == *want, "{text:?} {word:?}");
+fn runs_of_log_types(rt: HostRuntime) -> Result<(), Fail> {
+    for (text, pattern, want) in RUNS {
+        let may = may_have(rt.alloc(), text, pattern)?;
+        assert!(rt; may == *want, "{text:?} {pattern:?}");
     }
+    Ok(())
 }
 
 /// The head of a segment of one file.
@@ -67,7 +75,7 @@ const WORDS: &[&[u8]] = &[b"task_1", b"task_2", b"xfoo1y"];
 
 /// Three log types and three words.
 fn some_books(alloc: Global) -> Result<Books, Fail> {
-    let mut books = Books::new(alloc);
+    let mut books = Books::new(alloc, 1, 100);
     for text in TYPES {
         books.add_type(text).ok().ok_or("a number")?;
     }

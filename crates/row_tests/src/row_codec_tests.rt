@@ -4,9 +4,9 @@ ghost use Rattle.step_count.specs.Opens.{OpensFor};
 ghost use Rattle.row_codec.specs.declared.TheConstants.{MAX_MESSAGE_LEN};
 
 use crate::books::Books;
-use crate::{Encoder, NameRefusal, Names, Which, encode_message, expand, row_fits, row_ok};
 use column_store::RowRef;
-use log_seams::Text;
+use plain_list::Text;
+use row_codec::{Encoder, NameRefusal, Names, Which, encode_message, expand, row_fits, row_ok};
 use std::alloc::{AllocError, Global};
 use std::marker::Brand;
 use std::sync::ledger::{Blank, Ledger};

@@ -1,0 +1,9 @@
+//! Tests of rows over the two dictionaries of an archive, over the public calls of their crates.
+#![tactic(auto)]
+
+#[cfg(test)]
+mod books;
+#[cfg(test)]
+mod row_codec_tests;
+#[cfg(test)]
+mod subquery_filter_tests;
