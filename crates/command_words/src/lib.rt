@@ -10,8 +10,6 @@ mod found;
 mod number;
 mod read;
 mod spelled;
-#[cfg(test)]
-mod tests;
 
 pub use command::{BenchWords, Command, IngestWords, SearchWords, WordsRefusal};
 pub use read::read_words;

@@ -11,8 +11,6 @@ mod grows;
 mod index;
 mod refusals;
 mod search;
-#[cfg(test)]
-mod tests;
 mod text_slice;
 mod texts;
 

@@ -8,11 +8,7 @@ mod laws;
 mod record;
 mod refusals;
 mod series;
-#[cfg(test)]
-mod short_tests;
 mod synced;
-#[cfg(test)]
-mod tests;
 mod walk;
 
 pub use creation::create;

@@ -5,8 +5,6 @@ mod laws;
 mod line;
 mod shelf;
 mod source;
-#[cfg(test)]
-mod tests;
 mod text;
 
 pub use laws::logs_have_lines;

@@ -22,8 +22,3 @@ pub use refusals::{Failed, OpenRefused};
 pub use shelf::Shelf;
 pub use sink::Sink;
 pub use source::Source;
-
-#[cfg(test)]
-mod disk_tests;
-#[cfg(test)]
-mod tests;

@@ -4,8 +4,6 @@
 
 mod logs;
 mod source;
-#[cfg(test)]
-mod tests;
 
 pub use logs::{close_logs, open_logs};
 pub use source::LogSource;

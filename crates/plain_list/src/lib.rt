@@ -54,6 +54,3 @@ impl<T> ListOf<T> {
         self.values
     }
 }
-
-#[cfg(test)]
-mod tests;

@@ -17,6 +17,3 @@ pub use pieces::{MAX_OPEN_TOKENS, Piece};
 pub use planning::Plan;
 pub use skeleton::is_foreign;
 pub use symbols::{VarSymbol, VarSymbols};
-
-#[cfg(test)]
-mod tests;

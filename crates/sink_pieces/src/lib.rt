@@ -3,8 +3,6 @@
 
 mod pieces;
 mod refusal;
-#[cfg(test)]
-mod tests;
 
 pub use pieces::{PIECE, flush, flush_piece, write_all};
 pub use refusal::PrintRefusal;

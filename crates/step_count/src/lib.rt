@@ -5,6 +5,3 @@
 mod steps;
 
 pub use steps::Steps;
-
-#[cfg(test)]
-mod tests;

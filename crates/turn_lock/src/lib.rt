@@ -10,8 +10,6 @@ mod note;
 mod pass;
 mod plays;
 mod steps;
-#[cfg(test)]
-mod tests;
 mod turn;
 
 pub use grows::Grows;

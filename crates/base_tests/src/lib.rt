@@ -1,0 +1,19 @@
+//! Tests of the crates that the others stand on, over their public calls.
+#![tactic(auto)]
+
+#[cfg(test)]
+mod generated_logs_tests;
+#[cfg(test)]
+mod log_seams_tests;
+#[cfg(test)]
+mod log_sources_tests;
+#[cfg(test)]
+mod mem_disk_tests;
+#[cfg(test)]
+mod plain_list_tests;
+#[cfg(test)]
+mod sink_pieces_tests;
+#[cfg(test)]
+mod step_count_tests;
+#[cfg(test)]
+mod turn_lock_tests;

@@ -1,0 +1,143 @@
+//! Sources, sinks and shelves in memory.
+ghost use Rattle.std.specs.Prelude.{◌<◌};
+
+use log_seams::{
+    Failed, MemFile, MemShelf, MemSink, MemSource, OpenRefused, PlainSource, Shelf, Sink, Source,
+};
+use plain_list::Text;
+use std::alloc::{AllocError, Global};
+use std::test::Fail;
+
+fn text(alloc: Global, bytes: &[u8]) -> Result<Text, AllocError> {
+    Ok(Text::new(bytes.to_vec(alloc)?))
+}
+
+fn numbers(alloc: Global, list: &[u64]) -> Result<Vec<u64>, AllocError> {
+    list.to_vec(alloc)
+}
+
+// Whether the next read, with a buffer of so many bytes, gives these, or fails where none are
+// wanted.
+fn reads<S: Source>(
+    alloc: Global,
+    source: &mut S,
+    room: usize,
+    want: Option<&[u8]>,
+) -> Result<bool, AllocError>
+    requires { 0 < room }
+{
+    let mut buf = vec![in alloc; 0; room]?;
+    Ok(match source.read(&mut buf) {
+        Ok(count) => buf.get(..count) == want,
+        Err(Failed) => want.is_none(),
+    })
+}
+
+// What the reads give where the first and the third fail.
+const READS: &[Option<&[u8]>] = &[None, Some(b"ab"), None, Some(b"cd"), Some(b"e"), Some(b"")];
+
+#[test]
+fn sources_fail_at_the_listed_reads(rt: HostRuntime) -> Result<(), Fail> {
+    let alloc = rt.alloc();
+    let mut source = MemSource::new(text(alloc, b"abcde")?, numbers(alloc, &[0, 2])?);
+    for want in READS {
+        let well = reads(alloc, &mut &mut source, 2, *want)?;
+        assert!(rt; well, "{want:?}");
+    }
+    assert!(rt; source.faults() == 2);
+    Ok(())
+}
+
+const PLAIN_READS: &[&[u8]] = &[b"xy", b"z", b"", b""];
+
+#[test]
+fn a_plain_source_gives_all(rt: HostRuntime) -> Result<(), Fail> {
+    let alloc = rt.alloc();
+    let mut plain = PlainSource::new(text(alloc, b"xyz")?);
+    for want in PLAIN_READS {
+        let well = reads(alloc, &mut plain, 2, Some(want))?;
+        assert!(rt; well, "{want:?}");
+    }
+    Ok(())
+}
+
+// What is written to a sink with room for three bytes whose second write fails, and the answers.
+const WRITES: &[(&[u8], Result<usize, Failed>)] = &[
+    (b"ab", Ok(2)),
+    (b"c", Err(Failed)),
+    (b"cd", Err(Failed)),
+    (b"c", Ok(1)),
+    (b"d", Err(Failed)),
+    (b"e", Err(Failed)),
+];
+
+#[test]
+fn sinks_fail_past_their_room_and_at_the_listed_writes(rt: HostRuntime) -> Result<(), Fail> {
+    let alloc = rt.alloc();
+    let mut sink = MemSink::new(alloc, 3, numbers(alloc, &[1])?)?;
+    for (bytes, want) in WRITES {
+        if bytes.is_empty() {
+            continue;
+        }
+        let written = (&mut sink).write(bytes);
+        assert!(rt; written == *want);
+    }
+    assert!(rt; sink.bytes() == b"abc".as_slice());
+    Ok(())
+}
+
+fn file(alloc: Global, name: &str, bytes: &[u8], fails: &[u64]) -> Result<MemFile, AllocError> {
+    Ok(MemFile {
+        name: name.to_string(alloc)?,
+        bytes: text(alloc, bytes)?,
+        read_fails: numbers(alloc, fails)?,
+    })
+}
+
+fn some_files(alloc: Global) -> Result<Vec<MemFile>, AllocError> {
+    let mut files = Vec::new(alloc);
+    files.push(file(alloc, "a.log", b"one", &[])?)?;
+    files.push(file(alloc, "b.log", b"two", &[0])?)?;
+    files.push(file(alloc, "a.log", b"three", &[])?)?;
+    Ok(files)
+}
+
+// A name, and what the first read of its log gives, or none where it is not opened.
+const OPENED: &[(&str, Option<Option<&[u8]>>)] = &[
+    ("a.log", Some(Some(b"one"))),
+    ("c.log", None),
+    ("a.log", None),
+    ("b.log", Some(None)),
+    ("a.log", Some(Some(b"one"))),
+    ("b.log", Some(None)),
+];
+
+// Whether the log of this name is opened and gives what is wanted, or is not opened.
+fn opens(
+    alloc: Global,
+    shelf: &mut MemShelf,
+    name: &str,
+    want: Option<Option<&[u8]>>,
+) -> Result<bool, AllocError> {
+    let mut source = match shelf.open_log(name) {
+        Ok(source) => source,
+        Err(refused) => return Ok(want.is_none() && refused == OpenRefused::Failed),
+    };
+    let Some(want) = want else {
+        return Ok(false);
+    };
+    let well = reads(alloc, &mut source, 8, want)?;
+    shelf.close_log(source);
+    Ok(well)
+}
+
+#[test]
+fn shelves_open_their_files_by_name(rt: HostRuntime) -> Result<(), Fail> {
+    let alloc = rt.alloc();
+    let mut shelf = MemShelf::new(alloc, some_files(alloc)?, numbers(alloc, &[2])?);
+    for (name, want) in OPENED {
+        let well = opens(alloc, &mut shelf, name, *want)?;
+        assert!(rt; well, "{name}");
+    }
+    Ok(())
+}

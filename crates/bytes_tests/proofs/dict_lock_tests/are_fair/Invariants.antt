@@ -1,6 +1,0 @@
-use Rattle.std.proofs.Common.{All, take}
-use Rattle.dict_core.specs.Fair.{IsFair}
-use Rattle.bytes_tests.proofs.dict_lock_tests.are_fair.Given as goal
-
-abbrev pub invariant-loop-text : goal.invariant-loop-text
-invariant-loop-text l = All (IsFair l.number) (take l.text-index l.texts)

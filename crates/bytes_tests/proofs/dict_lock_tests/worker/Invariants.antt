@@ -1,4 +1,0 @@
-use Rattle.bytes_tests.proofs.dict_lock_tests.worker.Given as goal
-
-abbrev pub ghosts-three : goal.ghosts-three
-ghosts-three g a = record { name = a.blank.name; parts = a.blank.parts }

@@ -1,0 +1,7 @@
+//! Tests of a journal on a disk: its bytes, its refusals, and what crashes leave.
+#![tactic(auto)]
+
+#[cfg(test)]
+mod disk_journal_tests;
+#[cfg(test)]
+mod short_disk_tests;

@@ -1,0 +1,5 @@
+//! Tests of the plans of searches.
+#![tactic(auto)]
+
+#[cfg(test)]
+mod query_plan_tests;

@@ -1,8 +1,0 @@
-use Rattle.std.proofs.Common.{◌≡◌, ◌≢◌, ℕ, ◌+◌, ◌<◌, slice_index}
-use Rattle.step_count.proofs.tests.has.Given as goal
-
-abbrev pub invariant-loop-found : goal.invariant-loop-found
-invariant-loop-found g l = record {
-  looked : l.looks ≡ l.initial.looks + l.found-index;
-  passed : (k : ℕ) → k < l.found-index → slice_index l.bytes k ≢ l.byte;
-}
