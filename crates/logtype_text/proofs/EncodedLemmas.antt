@@ -1,8 +1,9 @@
 -- What is stored of the front of a body, and of one step more.
-use Rattle.std.proofs.Common.{◌≡◌, ℕ, ◌+◌, ◌-◌, ◌<◌, ◌≤◌, false, cond, List, [], ◌∷◌, ◌++◌, length, map, take, refl, sym, ◌∙◌, ap, ap₂, subst, arith, length-take-le}
+use Rattle.std.proofs.Common.{◌≡◌, ℕ, ◌+◌, ◌-◌, ◌<◌, ◌≤◌, Bool, true, false, not, ◌&&◌, cond, get_or, List, [], ◌∷◌, ◌++◌, length, map, take, refl, sym, ◌∙◌, ap, ap₂, subst, arith, length-take-le}
 use Rattle.std.specs.Prelude.{slice_range, All}
 use Rattle.std.proofs.lemmas.List.{append-nil, map-append, take_all}
-use Rattle.std.proofs.lemmas.List.Elements.{All-nil, All-push, All-head, All-tail}
+use Rattle.std.proofs.lemmas.List.Elements.{All-more, All-nil, All-push, All-head, All-tail}
+use Rattle.std.proofs.lemmas.Bool.{both_ways}
 use Rattle.std.proofs.lemmas.Grind.{flat_map-append}
 use Rattle.std.proofs.Math.Seq.{take-add}
 use Rattle.var_codec.specs.Codes.{Codes}
@@ -24,6 +25,13 @@ plain_text [] plain = refl
 plain_text (b ∷ bytes) plain =
     let here : text_of_symbol (Byte b) ≡ b ∷ [] = ap (λ e. cond e (0x5C ∷ b ∷ []) (b ∷ [])) (All-head (λ (x : ℕ). is_escaped x ≡ false) b bytes plain) in
     ap₂ (λ x y. x ++ y) here (plain_text bytes (All-tail (λ (x : ℕ). is_escaped x ≡ false) b bytes plain))
+
+-- one byte more without an escape
+pub plain_more : (bytes : List ℕ) (i : ℕ) (plain escaped : Bool) → i < length bytes → (plain ≡ true → All (λ b. is_escaped b ≡ false) (take i bytes)) → escaped ≡ is_escaped (get_or bytes i 0)
+    → (plain && not escaped) ≡ true → All (λ b. is_escaped b ≡ false) (take (i + 1) bytes)
+plain_more bytes i false escaped inside before is both = absurd (both_ways false refl both)
+plain_more bytes i true true inside before is both = absurd (both_ways false refl both)
+plain_more bytes i true false inside before is both = All-more (λ (b : ℕ). is_escaped b ≡ false) bytes i 0 inside (before refl) (sym is)
 
 pub text-append : (xs ys : List Part) → type_text (map symbol_of (xs ++ ys)) ≡ type_text (map symbol_of xs) ++ type_text (map symbol_of ys)
 text-append xs ys = ap type_text (map-append symbol_of xs ys) ∙ flat_map-append text_of_symbol (map symbol_of xs) (map symbol_of ys)

@@ -10,6 +10,7 @@ use crate::Span;
 use crate::splitting::{kind_of, next_variable};
 use crate::text::{ESCAPE, needs_escape, placeholder};
 use std::alloc::AllocError;
+use token_rules::TokenReader;
 use var_codec::{Coded, encode};
 
 /// Splits a body as [`split`](crate::split) does, and writes what is stored of it: into `text` the
@@ -30,8 +31,9 @@ pub fn encode_body(
     words.clear();
     // Asked once a body: bytes that need a `\` are rare, and without them constants are copied whole.
     let plain = is_plain(body);
+    let mut tokens = TokenReader::new(body);
     let mut at = 0;
-    while let Some(span) = next_variable(body, at) {
+    while let Some(span) = next_variable(&mut tokens, at) {
         push_constants(text, &body[at..span.start], plain)?;
         push_variable(
             text,
@@ -51,7 +53,12 @@ pub fn encode_body(
 fn is_plain(bytes: &[u8]) -> bool
     ensures { IsTrue result → All (λ b. is_escaped b ≡ false) bytes.now }
 {
-    bytes.iter().all(|byte| !needs_escape(*byte))
+    let mut plain = true;
+    // Without a way out, so that many bytes are tested at a time.
+    for byte in bytes {
+        plain &= !needs_escape(*byte);
+    }
+    plain
 }
 
 // Appends the text of constant bytes; `plain` tells that none of them needs a `\`.

@@ -2,12 +2,13 @@
 ghost use Rattle.std.specs.Prelude.{◌≡◌, ◌+◌, ◌<◌, ◌≤◌, ◌++◌, [], All, IfOk, IfSome, IsNone, OnErr, OnOk, length, map, vec_capacity, vec_len};
 ghost use Rattle.logtype_text.specs.declared.symbols.Symbol.TheVariants.{Byte};
 ghost use Rattle.logtype_text.specs.Parts.{AreCodes, IsFree, IsSplit, IsVariableToken, kind_of, slot_count};
+ghost use Rattle.token_rules.specs.Reading.{body_of};
 ghost use Rattle.token_rules.specs.Tokens.{IsOutside};
 
 use crate::{CodedList, Kind, Span, Spans, Split, Symbol, Symbols};
 use std::alloc::{AllocError, Global};
 use std::mem;
-use token_rules::next_token;
+use token_rules::TokenReader;
 use var_codec::{Coded, encode};
 
 /// Splits a body into its symbols, the places of its variables, and what these are coded as.
@@ -75,8 +76,9 @@ fn split_into(before: Split, body: &[u8]) -> Result<Split, AllocError>
     spans.clear();
     codes.clear();
     symbols.reserve(body.len())?;
+    let mut tokens = TokenReader::new(body);
     let mut at = 0;
-    while let Some(span) = next_variable(body, at) {
+    while let Some(span) = next_variable(&mut tokens, at) {
         push_bytes(&mut symbols, &body[at..span.start]);
         let coded = encode(&body[span.start..span.end]);
         symbols.push_reserved(Symbol::Slot(kind_of(coded)));
@@ -94,15 +96,19 @@ fn split_into(before: Split, body: &[u8]) -> Result<Split, AllocError>
 
 // The first variable from a place on, which stands in no token; `None` where none is left.
 #[inline]
-pub(crate) fn next_variable(body: &[u8], from: usize) -> Option<Span>
-    requires in_range { from ≤ length body.now }
-    requires outside { IsOutside body.now from }
-    ensures first { IfSome result (λ span. (from ≤ span.start) × IsFree body.now from span.start) }
-    ensures token { IfSome result (λ span. IsVariableToken body.now span.start span.end) }
-    ensures none { IsNone result → IsFree body.now from (length body.now) }
+pub(crate) fn next_variable(tokens: &mut TokenReader<'_>, from: usize) -> Option<Span>
+    requires in_range { from ≤ length (body_of tokens.old) }
+    requires outside { IsOutside (body_of tokens.old) from }
+    ensures body { body_of tokens.new ≡ body_of tokens.old }
+    ensures first { IfSome result
+        (λ span. (from ≤ span.start) × IsFree (body_of tokens.old) from span.start) }
+    ensures token { IfSome result
+        (λ span. IsVariableToken (body_of tokens.old) span.start span.end) }
+    ensures none { IsNone result
+        → IsFree (body_of tokens.old) from (length (body_of tokens.old)) }
 {
     let mut at = from;
-    while let Some(token) = next_token(body, at) {
+    while let Some(token) = tokens.next_from(at) {
         if token.variable {
             return Some(Span {
                 start: token.start,

@@ -25,13 +25,13 @@ module _ (body : List ℕ) (start end : ℕ) (ordered : start ≤ end) (inside :
       let place : start + (end - start) ≡ end = omega arith in
       get_or-drop start body (end - start) 0 ∙ ap (λ k. get_or body k 0) place
 
-  any_more : (p : ℕ → Bool) → list_any p (slice_range body start (end + 1)) ≡ (list_any p (slice_range body start end) || p (slice_index body end))
+  pub any_more : (p : ℕ → Bool) → list_any p (slice_range body start (end + 1)) ≡ (list_any p (slice_range body start end) || p (slice_index body end))
   any_more p =
       ap (λ n. list_any p (take n (drop start body))) one_more
       ∙ list_any_more p (drop start body) (end - start) 0 room
       ∙ ap (λ b. list_any p (slice_range body start end) || p b) last_byte
 
-  all_more : (p : ℕ → Bool) → list_all p (slice_range body start (end + 1)) ≡ (list_all p (slice_range body start end) && p (slice_index body end))
+  pub all_more : (p : ℕ → Bool) → list_all p (slice_range body start (end + 1)) ≡ (list_all p (slice_range body start end) && p (slice_index body end))
   all_more p =
       ap (λ n. list_all p (take n (drop start body))) one_more
       ∙ list_all_more p (drop start body) (end - start) 0 room
@@ -59,6 +59,16 @@ pub rule_by_classes : (prev : Option ℕ) (token : List ℕ) (any all size : ℕ
 unfolding is_variable
 rule_by_classes prev token any all size after_equals classes size_is equals_is =
     rw (classes.digit, classes.letter, classes.hexadecimal, size_is, equals_is) refl
+
+-- the test by what a token has is the rule
+pub rule_by_tests : (prev : Option ℕ) (token : List ℕ) (has_digit has_letter is_all : Bool) (size : ℕ) (after_equals : Bool) → has_digit ≡ list_any is_digit token → has_letter ≡ list_any is_letter token → is_all ≡ list_all is_hexadecimal token → size ≡ length token → after_equals ≡ is_equals_sign prev → (has_digit || (after_equals && has_letter) || (nat_le 2 size && is_all)) ≡ is_variable prev token
+unfolding is_variable
+rule_by_tests prev token has_digit has_letter is_all size after_equals digit letter hexadecimal size_is equals_is =
+    rw (digit, letter, hexadecimal, size_is, equals_is) refl
+
+-- no byte yet
+pub none_there : (body : List ℕ) (start : ℕ) → slice_range body start start ≡ []
+none_there body start = ap (λ n. take n (drop start body)) (let e : start - start ≡ 0 = omega arith in e)
 
 -- the bytes from start up to end are so many
 pub length-slice_range : (body : List ℕ) (start end : ℕ) → end ≤ length body → length (slice_range body start end) ≡ end - start

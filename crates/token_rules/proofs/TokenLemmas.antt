@@ -2,7 +2,7 @@
 use Rattle.std.proofs.Common.{◌≡◌, ℕ, ◌+◌, ◌-◌, ◌<◌, ◌≤◌, zero, suc, true, List, length, sym, subst, arith, inl, inr}
 use Rattle.std.specs.Prelude.{slice_index}
 use Rattle.std.proofs.lemmas.Bool.{cases_lt, cases_order, cases_Bool, both_ways}
-use Rattle.token_rules.specs.Tokens.{IsDelimiter, IsToken, is_token_byte}
+use Rattle.token_rules.specs.Tokens.{IsDelimiter, IsOutside, IsToken, OnlyDelimiters, is_token_byte}
 use Rattle.token_rules.specs.Laws.{TokensAreApart, TokensCover, OutsideIsOutside}
 
 -- a byte of tokens is no delimiter
@@ -139,3 +139,26 @@ outside_is_outside body at = (
     | inr delimiter ↦ delimiter
   ],
 )
+
+-- the run behind delimiters is a token
+pub run_is_token : (body : List ℕ) (from start end : ℕ) → IsOutside body from → from ≤ start → start < length body → OnlyDelimiters body from start → is_token_byte (slice_index body start) ≡ true
+    → start ≤ end → end ≤ length body → ((k : ℕ) → start ≤ k → k < end → is_token_byte (slice_index body k) ≡ true) → (end < length body → IsDelimiter (slice_index body end)) → IsToken body start end
+run_is_token body from start end outside later inside skipped here ordered in_range unbroken stop = record {
+  not_empty = elim (cases_order start end) [
+    | inl same ↦ absurd (both_ways (is_token_byte (slice_index body start)) (subst (λ j. IsDelimiter (slice_index body j)) (sym same) (stop (omega (arith, same, inside)))) here)
+    | inr (inl less) ↦ less
+    | inr (inr more) ↦ absurd (omega (arith, more, ordered))
+  ];
+  in_range = in_range;
+  unbroken = λ k low high. no_delimiter (slice_index body k) (unbroken k low high);
+  left = λ positive. elim (cases_lt from start) [
+    | inl further ↦ skipped (start - 1) (omega arith) (omega arith)
+    | inr reached ↦
+        let same : from ≡ start = omega arith in
+        elim (cases_Bool (is_token_byte (slice_index body (start - 1)))) [
+          | inl of_token ↦ absurd (both_ways (is_token_byte (slice_index body start)) (subst (λ j. IsOutside body j) same outside positive inside (no_delimiter (slice_index body (start - 1)) of_token)) here)
+          | inr delimiter ↦ delimiter
+        ]
+  ];
+  right = stop;
+}

@@ -3,9 +3,14 @@
 #![tactic(auto)]
 
 mod classes;
+mod lanes;
 mod laws;
+mod reader;
+mod run;
 mod tokens;
+mod window;
 
 pub use classes::is_delim;
 pub use laws::tokens_partition;
+pub use reader::TokenReader;
 pub use tokens::{Token, is_var, next_token};

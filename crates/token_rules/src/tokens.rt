@@ -19,10 +19,10 @@ pub struct Token {
 // A run of bytes that are no delimiters: its end, the classes that some byte of it has, and the
 // hexadecimal bit where each byte has it.
 #[derive(Clone, Copy)]
-struct Run {
-    end: usize,
-    any: u8,
-    all: u8,
+pub(crate) struct Run {
+    pub(crate) end: usize,
+    pub(crate) any: u8,
+    pub(crate) all: u8,
 }
 
 // The first place from `from` on that is no delimiter, or the end.
@@ -42,7 +42,7 @@ fn skip_delimiters(body: &[u8], from: usize) -> usize
 
 // The run of bytes from `start` on that are no delimiters.
 #[inline]
-fn run_from(body: &[u8], start: usize) -> Run
+pub(crate) fn run_from(body: &[u8], start: usize) -> Run
     requires { start ≤ length body.now }
     ensures range { (start ≤ result.end) × (result.end ≤ length body.now) }
     ensures unbroken { (k : _) → start ≤ k → k < result.end

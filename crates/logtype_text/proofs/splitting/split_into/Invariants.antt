@@ -1,5 +1,6 @@
-use Rattle.std.proofs.Common.{◌-◌, ◌<◌, ◌≤◌, length, vec_len, vec_capacity}
+use Rattle.std.proofs.Common.{◌≡◌, ◌-◌, ◌<◌, ◌≤◌, length, vec_len, vec_capacity}
 use Rattle.std.specs.Prelude.{All}
+use Rattle.token_rules.specs.Reading.{body_of}
 use Rattle.token_rules.specs.Tokens.{IsOutside}
 use Rattle.logtype_text.specs.Parts.{AreCodes}
 use Rattle.logtype_text.proofs.PartsLemmas.{Before}
@@ -7,6 +8,7 @@ use Rattle.logtype_text.proofs.splitting.split_into.Given as goal
 
 abbrev pub invariant-loop-span : goal.invariant-loop-span
 invariant-loop-span l = record {
+  same : body_of l.tokens ≡ l.body;
   in_range : l.at ≤ length l.body;
   outside : IsOutside l.body l.at;
   room : vec_len l.symbols ≤ l.at;

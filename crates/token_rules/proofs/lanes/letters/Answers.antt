@@ -1,0 +1,10 @@
+use Rattle.std.proofs.Common.{refl}
+use Rattle.token_rules.specs.Tokens.{is_letter}
+use Rattle.token_rules.proofs.LaneLemmas.{as_map, lanes, splat, classified}
+use Rattle.token_rules.proofs.lanes.letters.Goals as goal
+
+pub returns : goal.returns
+returns c =
+    let v = c.args.bytes in
+    let long = c.fits-bytes.0 in
+    classified _ is_letter v _ c.fits-bytes (lanes _ _ _ v (lanes _ _ _ v (lanes _ _ _ v (as_map v) (splat 0x20 v long)) (splat 0x61 v long)) (splat 26 v long)) refl
