@@ -12,7 +12,8 @@ use Rattle.archive_meaning.specs.Stands.{IsLegal, StandsFor, Begins, IsFirstDama
 -- a run over entries and further ones is a run over the first ones, and one that goes on from what they hold
 abbrev pub RunsGoOn : Type 0
 RunsGoOn =
-    (h : Header) (old mid more : Held) (es fs : List JournalEntry) → Run h old es mid → Run h mid fs more → Run h old (es ++ fs) more
+    (h : Header) (old mid more : Held) (es fs : List JournalEntry) → Run h old es mid → Run h mid fs more
+    → Run h old (es ++ fs) more
 
 abbrev pub RunsSplit : Type 0
 RunsSplit =
@@ -36,7 +37,8 @@ OneDamage = (bytes : List ℕ) (a b : ℕ) → IsFirstDamage bytes a → IsFirst
 
 -- bytes that stand for a journal have no damage
 abbrev pub JournalsAreWhole : Type 0
-JournalsAreWhole = (bytes : List ℕ) (h : Header) (es : List JournalEntry) (at : ℕ) → StandsFor bytes h es → IsFirstDamage bytes at → ⊥
+JournalsAreWhole =
+    (bytes : List ℕ) (h : Header) (es : List JournalEntry) (at : ℕ) → StandsFor bytes h es → IsFirstDamage bytes at → ⊥
 
 -- of two journals that the bytes begin with the shorter is the front of the longer
 abbrev pub OneBeginning : Type 0

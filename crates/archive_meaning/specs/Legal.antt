@@ -19,7 +19,8 @@ pub record IsBook (IsFair : List ℕ → Type 0) (limit : ℕ) (texts : List (Li
   pub most : length texts ≤ limit
 
 -- one or more texts, numbered on from those of before, with which the dictionary still is one
-pub record AddsTexts (IsFair : List ℕ → Type 0) (limit : ℕ) (old : List (List ℕ)) (first : ℕ) (texts : List (List ℕ)) : Type 0 where
+pub record AddsTexts (IsFair : List ℕ → Type 0) (limit : ℕ) (old : List (List ℕ)) (first : ℕ) (texts : List (List ℕ))
+    : Type 0 where
   pub some : 0 < length texts
   pub behind : first ≡ length old
   pub book : IsBook IsFair limit (old ++ texts)

@@ -21,7 +21,10 @@ abbrev pub record_of : List (List ℕ) → JournalEntry → Saved
 record_of types (Files names) = record { kind = FILES_KIND; payload = files_payload names }
 record_of types (Types first texts) = record { kind = TYPES_KIND; payload = texts_payload first texts }
 record_of types (Words first texts) = record { kind = WORDS_KIND; payload = texts_payload first texts }
-record_of types (Segment s) = record { kind = SEGMENT_KIND; payload = segment_bytes s.file s.first s.last s.ended s.rows (words_named types s.rows) }
+record_of types (Segment s) = record {
+  kind = SEGMENT_KIND;
+  payload = segment_bytes s.file s.first s.last s.ended s.rows (words_named types s.rows);
+}
 
 -- the log types that an entry adds
 abbrev pub types_in : JournalEntry → List (List ℕ)

@@ -64,7 +64,8 @@ pub record AddsNames (count : ℕ) (names : List (List ℕ)) : Type 0 where
   pub all : count + length names ≤ MAX_FILES
 
 -- a segment goes on with a file of this sum
-pub record AddsRows (version : ℕ) (sum : FileSum) (types words : List (List ℕ)) (s : SegmentEntry) (messages : List (List ℕ)) : Type 0 where
+pub record AddsRows (version : ℕ) (sum : FileSum) (types words : List (List ℕ)) (s : SegmentEntry) (messages : List (List ℕ))
+    : Type 0 where
   pub first : s.first ≡ sum.messages
   pub goes_on : sum.whole ≡ false
   pub most : s.first + length s.rows ≤ MAX_MESSAGES
@@ -115,7 +116,9 @@ Admits sums e more = AddsEntry sums e more × (more.end ≤ sums.header.length_l
 
 -- a judge that admits has the sums of the entries with this one
 abbrev pub AdmittedAreSums : Type 0
-AdmittedAreSums = (sums more : Sums) (es : List JournalEntry) (e : JournalEntry) → AreSums sums es → Admits sums e more → AreSums more (es ++ e ∷ [])
+AdmittedAreSums =
+    (sums more : Sums) (es : List JournalEntry) (e : JournalEntry) → AreSums sums es → Admits sums e more
+    → AreSums more (es ++ e ∷ [])
 
 -- and what may legally follow is admitted
 abbrev pub LegalIsAdmitted : Type 0

@@ -1,7 +1,7 @@
 -- What a store keeps: when it is opened, and when a record is added to its journal.
-use Rattle.std.proofs.Common.{◌≡◌, ℕ, ◌+◌, ◌≤◌, List, [], ◌∷◌, ◌++◌, Bool, map, take, drop, refl, sym, ap, ◌∙◌, subst, Some, None, Option, arith, append-nil, append_assoc, All}
+use Rattle.std.proofs.Common.{◌≡◌, ℕ, ◌+◌, ◌≤◌, List, [], ◌∷◌, ◌++◌, Bool, length, map, take, drop, refl, sym, ap, ◌∙◌, subst, Some, None, Option, arith, append-nil, append_assoc, All}
 use Rattle.std.specs.Prelude.{is_some}
-use Rattle.std.proofs.lemmas.List.{drop-drop}
+use Rattle.std.proofs.lemmas.List.{drop-drop, length-map, take_all}
 use Rattle.std.proofs.lemmas.List.Elements.{All-drop}
 use Rattle.std.proofs.Math.Seq.{take-add}
 use mathlib.Core.List.{IsPrefix}
@@ -11,20 +11,20 @@ use Rattle.log_seams.proofs.MomentLemmas.{started, joined, weaker, rose}
 use Rattle.turn_lock.specs.Words.{seen}
 use Rattle.dict_lock.specs.Shared.{BookPass}
 use Rattle.record_format.specs.Header.{header_bytes}
-use Rattle.disk_journal.specs.Record.{Saved}
+use Rattle.disk_journal.specs.Record.{Saved, Stands}
 use Rattle.disk_journal.specs.Place.{entries, AtEnd, BeforeOrAfter}
 use Rattle.disk_journal.specs.State.{JournalState}
 use Rattle.disk_journal.specs.Calls.{GoesOn, StaysAt, HasAdded, LeavesBeforeOrAfter}
 use Rattle.archive_meaning.specs.declared.entry.JournalEntry.{JournalEntry}
 use Rattle.archive_meaning.specs.Spelled.{record_of, records_of, types_in, types_of}
-use Rattle.archive_meaning.specs.Stands.{IsLegal}
+use Rattle.archive_meaning.specs.Stands.{IsLegal, StandsFor}
 use Rattle.disk_seal.specs.declared.entry.StoreEntry.TheVariants.{Stopped}
 use Rattle.disk_seal.specs.Told.{IfTold, entry_of, journal_in, recorded, mark, entry_for}
 use Rattle.disk_seal.specs.WordsIn.{words_in, words_of}
 use Rattle.disk_seal.specs.View.{StoreState, journal_state, tells, journal_of, journal_before, HasFirst, Image, KnowsBook, KnowsTypes, KnowsWords, Kept}
 use Rattle.disk_seal.specs.Opening.{MayOpen, MayName}
 use Rattle.disk_seal.specs.Adding.{IsNext, Saves, HasOneMore, HasStopped}
-use Rattle.disk_seal.proofs.ToldLemmas.{told_map, told_both, journal_more, spelled_more, end_image, either_image, entries_stay, first_more, recorded_more, recorded_same}
+use Rattle.disk_seal.proofs.ToldLemmas.{told_map, told_both, length-records, length-records_from, journal_more, spelled_more, end_image, either_image, entries_stay, first_more, recorded_more, recorded_same}
 
 -- ---- the opening
 
@@ -307,3 +307,23 @@ module _ (s : StoreState) (k : Kept s) (runs : s.stopped ≡ None) (r : Saved) (
 
 pub carry : (t s old : StoreState) (text x : List ℕ) (P : StoreState → List ℕ → StoreState → Type 0) → s ≡ old → text ≡ x → P s text t → P old x t
 carry t s old text x P a b p = subst (λ (y : List ℕ). P old y t) b (subst (λ (o : StoreState). P o text t) a p)
+
+-- ---- the images of a store that runs
+
+journal_short : (told : Option (List ℕ)) (n : ℕ) → length (journal_in told n) ≤ n
+journal_short None n = omega arith
+journal_short (Some bytes) n = omega (arith, length-map (entries (Some bytes) n) entry_of, length-records n (drop 32 bytes))
+
+pub stands_now : (s : StoreState) → Kept s → s.stopped ≡ None → (c : List ℕ) → s.disk.images c → IfTold (tells s) (StandsFor c s.header (journal_of s))
+stands_now s k runs c image =
+    told_both (tells s) (λ (legal : IsLegal s.header (journal_of s)) (first : HasFirst (header_bytes s.header) s.count (journal_of s) c).
+    let long : length (records_of (journal_of s)) ≤ first.k = omega (arith, length-records_from [] (journal_of s), journal_short s.disk.seen s.count, first.enough) in
+    record {
+      header = k.header;
+      legal = legal;
+      stands = subst (λ rs. Stands (header_bytes s.header) rs c) (take_all first.k (records_of (journal_of s)) long) first.stands;
+    })
+    (subst (λ es. IfTold (tells s) (IsLegal s.header es)) alone k.legal) (subst (λ es. IfTold (tells s) (HasFirst (header_bytes s.header) s.count es c)) alone (k.now c image))
+  where
+    alone : journal_of s ++ k.under ≡ journal_of s
+    alone = ap (λ es. journal_of s ++ es) (k.going runs).0 ∙ append-nil (journal_of s)

@@ -21,7 +21,7 @@ use Rattle.archive_meaning.specs.Stands.{IsLegal}
 use Rattle.disk_seal.specs.declared.pieces.Piece.{Piece}
 use Rattle.disk_seal.specs.Told.{IfTold, entry_of, entry_for}
 use Rattle.disk_seal.specs.WordsIn.{words_in, words_of}
-use Rattle.disk_seal.specs.View.{KnowsBook, StoreView, StoreState, state_by, Kept}
+use Rattle.disk_seal.specs.View.{KnowsBook, StoreView, StoreState, state_by, tells, Kept}
 use Rattle.disk_seal.specs.Collected.{IsSameButBooks, HasSeenMore}
 use Rattle.disk_seal.specs.Prepare.{MayFollowNow, IsPlanned}
 use Rattle.disk_seal.specs.Adding.{IsNext, Saves, Front, front_of, CanAdd}
@@ -32,7 +32,7 @@ use Rattle.disk_seal.specs.declared.draft.Draft.{Draft}
 use Rattle.disk_seal.specs.declared.entry.StoreEntry.{StoreEntry}
 use Rattle.disk_seal.specs.declared.entry.StoreEntry.TheVariants.{Entry}
 use Rattle.disk_seal.specs.May.{MayAdd}
-use Rattle.disk_seal.specs.Planned.{LeavesFile, IsTextsThen, IsBehind, IsNextOf, IsSealed, ArePlanned, HasRoom, segment_of, texts_need, segment_need, needed}
+use Rattle.disk_seal.specs.Planned.{LeavesFile, IsTextsThen, IsBehind, IsNextOf, IsSealed, ArePlanned, HasRoom, segment_of, types_from, words_from, entries_with, texts_need, segment_need, needed}
 use Rattle.disk_seal.proofs.ToldLemmas.{told_map, told_both}
 use Rattle.disk_seal.proofs.KeptLemmas.{knows_more, types_more, words_more}
 use Rattle.disk_seal.proofs.NextLemmas.{types_next, words_next, end_with, told_always, good_front}
@@ -256,35 +256,71 @@ module _ (p : Piece) (s : SegmentEntry) (types words : Texts) (numbers : List �
 -- ---- what they are
 
 module _ (p : Piece) (s : SegmentEntry) (types words : Texts) (numbers : List ℕ) where
-  words_last : (f : Front) → IsGoodFront f → HasSeenBook f.types → HasSeenBook f.words → f.types_saved ≡ length (seen f.types) → (w : Option Piece)
+  -- the entry of the segment's record, behind those of the texts
+  words_before : (f : Front) → IsGoodFront f → HasSeenBook f.types → HasSeenBook f.words → f.types_saved ≡ length (seen f.types) → (w : Option Piece)
       → IsFramedOrNone (Words f.words_saved (unsaved_words f)) (length (unsaved_words f)) 0 (length (unsaved_words f)) w → Seals f p s types words numbers
-      → f.place + 1 + size_of (one_or_none w ++ p ∷ []) ≤ f.header.length_limit → IfTold f.told (IsTextsThen s (added_by (one_or_none w ++ p ∷ [])))
-  words_last f good whole_types whole_words all_types None none seals room =
-      told_map f.told (λ (n : IsNext f.header f.journal (saved_of p.text) × (entry_of (saved_of p.text) ≡ Segment s)). subst (λ x. IsTextsThen s (x ∷ [])) (sym n.1) (refl, refl))
+      → f.place + 1 + size_of (one_or_none w ++ p ∷ []) ≤ f.header.length_limit → IfTold f.told (entry_of (saved_of p.text) ≡ Segment s)
+  words_before f good whole_types whole_words all_types None none seals room =
+      told_map f.told (λ (n : IsNext f.header f.journal (saved_of p.text) × (entry_of (saved_of p.text) ≡ Segment s)). n.1)
       (segment_told f good whole_types whole_words all_types (omega (arith, none, length-drop f.words_saved (seen f.words), good.of_words.low)) p s types words numbers seals (omega (arith, room)))
-  words_last f good whole_types whole_words all_types (Some q) framed seals room =
+  words_before f good whole_types whole_words all_types (Some q) framed seals room =
       let can0 = words_next f good whole_types whole_words q.text framed.1.framed framed.0 framed.1.saved framed.1.is q.words framed.1.words_is (omega (arith, room)) in
       let can : CanAdd q.text q.types q.words f = subst (λ t. CanAdd q.text t q.words f) (sym framed.1.types_is) can0 in
-      let e = entry_of (saved_of p.text) in
-      told_map f.told (λ (n : IsNext f.header (f.journal ++ entry_of (saved_of q.text) ∷ []) (saved_of p.text) × (entry_of (saved_of p.text) ≡ Segment s)).
-      subst (λ y. IsTextsThen s (y ∷ (e ∷ []))) (sym framed.1.is) (subst (λ x. IsTextsThen s (x ∷ [])) (sym n.1) (refl, refl)))
+      told_map f.told (λ (n : IsNext f.header (f.journal ++ entry_of (saved_of q.text) ∷ []) (saved_of p.text) × (entry_of (saved_of p.text) ≡ Segment s)). n.1)
       (segment_told (front_with q f) (good_step q f good can) whole_types whole_words (omega (arith, all_types, framed.1.types_is)) (omega (arith, framed.1.words_is, length-drop f.words_saved (seen f.words), good.of_words.low))
       p s types words numbers (seals_step f p q s types words numbers (leaves_words s.file f.words_saved (unsaved_words f) (entry_of (saved_of q.text)) framed.1.is) seals) (omega (arith, room)))
 
-  all_last : (f : Front) → IsGoodFront f → HasSeenBook f.types → HasSeenBook f.words → (t w : Option Piece)
+  all_before : (f : Front) → IsGoodFront f → HasSeenBook f.types → HasSeenBook f.words → (t w : Option Piece)
       → IsFramedOrNone (Types f.types_saved (unsaved_types f)) (length (unsaved_types f)) (length (unsaved_types f)) 0 t
       → IsFramedOrNone (Words f.words_saved (unsaved_words f)) (length (unsaved_words f)) 0 (length (unsaved_words f)) w → Seals f p s types words numbers
-      → f.place + 1 + size_of (in_order t w p) ≤ f.header.length_limit → IfTold f.told (IsTextsThen s (added_by (in_order t w p)))
-  all_last f good whole_types whole_words None w none framed_w seals room =
-      words_last f good whole_types whole_words (omega (arith, none, length-drop f.types_saved (seen f.types), good.of_types.low)) w framed_w seals room
-  all_last f good whole_types whole_words (Some q) w framed framed_w seals room =
+      → f.place + 1 + size_of (in_order t w p) ≤ f.header.length_limit → IfTold f.told (entry_of (saved_of p.text) ≡ Segment s)
+  all_before f good whole_types whole_words None w none framed_w seals room =
+      words_before f good whole_types whole_words (omega (arith, none, length-drop f.types_saved (seen f.types), good.of_types.low)) w framed_w seals room
+  all_before f good whole_types whole_words (Some q) w framed framed_w seals room =
       let can0 = types_next f good whole_types whole_words q.text framed.1.framed framed.0 framed.1.saved framed.1.is q.types framed.1.types_is (omega (arith, room)) in
       let can : CanAdd q.text q.types q.words f = subst (λ t. CanAdd q.text q.types t f) (sym framed.1.words_is) can0 in
       let same : f.words_saved ≡ f.words_saved + q.words = omega (arith, framed.1.words_is) in
-      told_map f.told (λ (rest : IsTextsThen s (added_by (one_or_none w ++ p ∷ []))). subst (λ y. IsTextsThen s (y ∷ added_by (one_or_none w ++ p ∷ []))) (sym framed.1.is) rest)
-      (words_last (front_with q f) (good_step q f good can) whole_types whole_words (omega (arith, framed.1.types_is, length-drop f.types_saved (seen f.types), good.of_types.low)) w
+      words_before (front_with q f) (good_step q f good can) whole_types whole_words (omega (arith, framed.1.types_is, length-drop f.types_saved (seen f.types), good.of_types.low)) w
       (subst (λ n. IsFramedOrNone (Words n (drop n (seen f.words))) (length (drop n (seen f.words))) 0 (length (drop n (seen f.words))) w) same framed_w)
-      (seals_step f p q s types words numbers (leaves_types s.file f.types_saved (unsaved_types f) (entry_of (saved_of q.text)) framed.1.is) seals) (omega (arith, room)))
+      (seals_step f p q s types words numbers (leaves_types s.file f.types_saved (unsaved_types f) (entry_of (saved_of q.text)) framed.1.is) seals) (omega (arith, room))
+
+types_added : (first : ℕ) (texts : Texts) (t : Option Piece) → IsFramedOrNone (Types first texts) (length texts) (length texts) 0 t → added_by (one_or_none t) ≡ types_from first texts
+types_added first [] None none = refl
+types_added first (x ∷ xs) None none = absurd (omega (arith, none))
+types_added first [] (Some p) framed = absurd (omega (arith, framed.0))
+types_added first (x ∷ xs) (Some p) framed = ap (λ (e : JournalEntry). e ∷ []) framed.1.is
+
+words_added : (first : ℕ) (texts : Texts) (w : Option Piece) → IsFramedOrNone (Words first texts) (length texts) 0 (length texts) w → added_by (one_or_none w) ≡ words_from first texts
+words_added first [] None none = refl
+words_added first (x ∷ xs) None none = absurd (omega (arith, none))
+words_added first [] (Some p) framed = absurd (omega (arith, framed.0))
+words_added first (x ∷ xs) (Some p) framed = ap (λ (e : JournalEntry). e ∷ []) framed.1.is
+
+added_joined : (ps qs : List Piece) → added_by (ps ++ qs) ≡ added_by ps ++ added_by qs
+added_joined [] qs = refl
+added_joined (p ∷ ps) qs = ap (λ es. entry_of (saved_of p.text) ∷ es) (added_joined ps qs)
+
+all_added : (first_t first_w : ℕ) (ts ws : Texts) (t w : Option Piece) (p : Piece) (s : SegmentEntry)
+    → IsFramedOrNone (Types first_t ts) (length ts) (length ts) 0 t → IsFramedOrNone (Words first_w ws) (length ws) 0 (length ws) w → entry_of (saved_of p.text) ≡ Segment s
+    → added_by (in_order t w p) ≡ types_from first_t ts ++ (words_from first_w ws ++ Segment s ∷ [])
+all_added first_t first_w ts ws t w p s framed_t framed_w is =
+    added_joined (one_or_none t) (one_or_none w ++ p ∷ [])
+    ∙ ap₂ (λ (x y : List JournalEntry). x ++ y) (types_added first_t ts t framed_t)
+    (added_joined (one_or_none w) (p ∷ []) ∙ ap₂ (λ (x : List JournalEntry) (e : JournalEntry). x ++ e ∷ []) (words_added first_w ws w framed_w) is)
+
+types_then : (s : SegmentEntry) (first : ℕ) (texts : Texts) (es : List JournalEntry) → IsTextsThen s es → IsTextsThen s (types_from first texts ++ es)
+types_then s first [] es ends = ends
+types_then s first (t ∷ ts) es ends = ends
+
+words_then : (s : SegmentEntry) (first : ℕ) (texts : Texts) (es : List JournalEntry) → IsTextsThen s es → IsTextsThen s (words_from first texts ++ es)
+words_then s first [] es ends = ends
+words_then s first (t ∷ ts) es ends = ends
+
+pub segment_last : (d : Draft) (s : StoreState) → IsTextsThen (segment_of d) (entries_with d s)
+segment_last d s =
+    let one : List JournalEntry = Segment (segment_of d) ∷ [] in
+    types_then (segment_of d) s.types_saved (drop s.types_saved (seen s.types)) (words_from s.words_saved (drop s.words_saved (seen s.words)) ++ one)
+    (words_then (segment_of d) s.words_saved (drop s.words_saved (seen s.words)) one (refl, refl))
 
 -- ---- as a store's plan
 
@@ -306,7 +342,9 @@ planned s k runs whole_types whole_words d next t w p framed_t framed_w sealed r
     record {
       can = all_follow p (segment_of d) next.types next.words d.words (front_of s) good whole_types whole_words t w framed_t framed_w seals room;
       may = all_may p (segment_of d) next.types next.words d.words (front_of s) good whole_types whole_words t w framed_t framed_w seals room;
-      last = all_last p (segment_of d) next.types next.words d.words (front_of s) good whole_types whole_words t w framed_t framed_w seals room;
+      all = told_map (tells s) (λ (is : entry_of (saved_of p.text) ≡ Segment (segment_of d)).
+          all_added s.types_saved s.words_saved (drop s.types_saved (seen s.types)) (drop s.words_saved (seen s.words)) t w p (segment_of d) framed_t framed_w is)
+          (all_before p (segment_of d) next.types next.words d.words (front_of s) good whole_types whole_words t w framed_t framed_w seals room);
     }
 
 -- ---- behind a turn with each book
@@ -318,7 +356,7 @@ next_after state v w d types words runs same seen_types seen_words may =
     (record { types = types; words = words; types_front = seen_types.noted_on; words_front = seen_words.noted_on; behind = may runs })
 
 pub planned_none : (d : Draft) (s : StoreState) → s.stopped ≢ None → IsPlanned d [] s
-planned_none d s halted = record { can = λ runs. absurd (halted runs); may = All-nil (MayAdd d.file); last = λ runs. absurd (halted runs) }
+planned_none d s halted = record { can = λ runs. absurd (halted runs); may = All-nil (MayAdd d.file); all = λ runs. absurd (halted runs) }
 
 -- the passes were noted, and have seen what they had
 
@@ -349,8 +387,11 @@ planned_on state m n d ps same types words plan =
     (λ room. let a = plan room in record {
       can = λ _. follow_seen ps (front_of (state_by state m)) n.types n.words (sym types.seen_is) (sym words.seen_is) a.can;
       may = a.may;
-      last = λ _. a.last;
+      all = λ _. told_map (tells (state_by state m)) (λ (is : added_by ps ≡ entries_with d (state_by state m)). is ∙ same_entries) a.all;
     })
+  where
+    same_entries : entries_with d (state_by state m) ≡ entries_with d (state_by state (record m { types = n.types; words = n.words }))
+    same_entries = ap₂ (λ (ts ws : Texts). types_from m.types_saved (drop m.types_saved ts) ++ (words_from m.words_saved (drop m.words_saved ws) ++ Segment (segment_of d) ∷ [])) (sym types.seen_is) (sym words.seen_is)
 
 pub size_more : (ps : List Piece) (i : ℕ) (d : Piece) → i < length ps → size_of (take (i + 1) ps) ≡ size_of (take i ps) + length (get_or ps i d).text
 size_more ps i d inside = ap size_of (take_more ps i d inside) ∙ (size_joined (take i ps) (get_or ps i d ∷ []) ∙ omega arith)

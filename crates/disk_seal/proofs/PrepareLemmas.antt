@@ -18,7 +18,7 @@ use Rattle.disk_seal.specs.View.{StoreView, StoreState, state_by, tells, journal
 use Rattle.disk_seal.specs.Fixed.{fixed_of, KeeperPass}
 use Rattle.disk_seal.specs.May.{MayAdd}
 use Rattle.disk_seal.specs.Draft.{MayFollow, journal_seen}
-use Rattle.disk_seal.specs.Planned.{segment_of, LeavesFile, IsBehind}
+use Rattle.disk_seal.specs.Planned.{segment_of, LeavesFile, IsBehind, IsTextsThen, entries_with}
 use Rattle.disk_seal.specs.Prepare.{MayBeNext, HasSeenOpening, AreNotesOf, BookNote, IsPlanned, IsTooLong, IsFullAt, HasGivenBack, IsPrepared}
 use Rattle.disk_seal.specs.declared.pieces.Piece.{Piece}
 use Rattle.disk_seal.specs.Pieces.{added_by}
@@ -31,7 +31,8 @@ use Rattle.disk_seal.specs.Planned.{all_need}
 use Rattle.disk_seal.specs.Prepare.{need_behind}
 use Rattle.record_format.specs.declared.header.Header.{Header}
 use Rattle.disk_seal.proofs.NextLemmas.{good_front}
-use Rattle.disk_seal.proofs.ToldLemmas.{told_both}
+use Rattle.disk_seal.proofs.PlanLemmas.{segment_last}
+use Rattle.disk_seal.proofs.ToldLemmas.{told_both, told_map}
 
 seen_joined : (xs ys : List StoreEntry) → journal_seen (xs ++ ys) ≡ journal_seen xs ++ journal_seen ys
 seen_joined [] ys = refl
@@ -137,7 +138,7 @@ module _ {D : Type 0} (state : D → DiskState) where
         → IsPrepared state d before p w ps
     is_prepared before d ps file still front own planned = record {
       may = may_put d ps (file ∙ sym still.number) planned;
-      last = planned.last;
+      last = λ runs. told_map (tells (state_by state w)) (λ (is : added_by ps ≡ entries_with d (state_by state w)). subst (IsTextsThen (segment_of d)) (sym is) (segment_last d (state_by state w))) (planned.all runs);
       still = still;
       seen_on = front;
       own = own;

@@ -1,25 +1,28 @@
 -- What is put back after records were added, and what the pass then has.
 use Rattle.std.proofs.Common.{◌≡◌, ◌≢◌, ⊎_elim, inl, inr, ℕ, zero, suc, ◌+◌, List, [], ◌∷◌, ◌++◌, map, take, sym, ap, ◌∙◌, subst, Some, None, arith, append-nil, All}
-use Rattle.std.specs.Prelude.{Result, Ok, Err, OnOk, OnErr, IfOk}
+use Rattle.std.specs.Prelude.{Result, Ok, Err, OnOk, OnErr, IfOk, IfErr, is_some}
 use Rattle.std.specs.List.{take-map}
 use Rattle.std.proofs.lemmas.List.Elements.{All-append, All-take, All-nil}
 use Rattle.log_seams.specs.Disk.{DiskState}
 use Rattle.log_seams.specs.Outside.{Rose}
 use Rattle.turn_lock.specs.Words.{seen, number_of, about, lock_of, IsReady, IsStill, HasFixed, Adds, OwnsMore}
 use Rattle.archive_meaning.specs.declared.entry.JournalEntry.{JournalEntry}
+use Rattle.archive_meaning.specs.Stands.{StandsFor}
 use Rattle.disk_seal.specs.declared.entry.StoreEntry.{StoreEntry}
 use Rattle.disk_seal.specs.declared.entry.StoreEntry.TheVariants.{Stopped}
 use Rattle.disk_seal.specs.declared.faults.DiskFault.{DiskFault}
 use Rattle.disk_seal.specs.declared.pieces.Piece.{Piece}
-use Rattle.disk_seal.specs.Told.{entry_for}
-use Rattle.disk_seal.specs.View.{StoreView, StoreState, state_by, tells, store_entries, Kept}
+use Rattle.disk_seal.specs.Told.{IfTold, entry_for}
+use Rattle.disk_seal.specs.View.{StoreView, StoreState, state_by, tells, journal_of, store_entries, Kept}
 use Rattle.disk_seal.specs.Fixed.{fixed_of, KeeperPass}
 use Rattle.disk_seal.specs.May.{MayAdd}
-use Rattle.disk_seal.specs.Adding.{Stays}
+use Rattle.disk_seal.specs.Adding.{Stays, LeavesFirst}
 use Rattle.disk_seal.specs.declared.fixed.StoreFixed.{StoreFixed}
 use Rattle.disk_seal.specs.Prepare.{IsFaultOf}
 use Rattle.disk_seal.specs.Pieces.{added_by, AddsAll, AddsSome}
-use Rattle.disk_seal.specs.Sealing.{told_as, IsHalted, HasFault, InHand, HasGrown, HasGrownSome, MayPut}
+use Rattle.disk_seal.specs.Sealing.{told_as, IsHalted, HasFault, InHand, HasGrown, HasGrownSome, HasPutBack, IsDurable, IsFaultIn, MayPut}
+use Rattle.disk_seal.proofs.ToldLemmas.{told_both}
+use Rattle.disk_seal.proofs.KeptLemmas.{stands_now}
 
 -- ---- a fault
 
@@ -108,3 +111,40 @@ module _ {D : Type 0} where
         end_of : (r : Result ℕ DiskFault) → OnOk r (AddsAll size (added_by ps) s t) → IfOk r (λ end. end ≡ w.place + 1) → IfOk r (λ end. end ≡ v.place + size + 1)
         end_of (Ok end) all is = omega (arith, is, all.place)
         end_of (Err f) all is = tt
+
+    module _ (st : Stays v w) (leaves : v.stopped ≡ None → LeavesFirst (added_by ps) s t) (rests : v.stopped ≢ None → w ≡ v) where
+      abbrev pub put_back : HasPutBack state v (added_by ps) q
+      put_back = record { store = w; entries = sym is; leaves = leaves; rests = rests }
+
+      tells_same : tells t ≡ tells s
+      tells_same = ap (λ (d : D). is_some (state d).seen) st.opened
+
+      abbrev Whole : List ℕ → Type 0
+      Whole c = IfTold (tells s) (StandsFor c v.header (journal_of s ++ added_by ps))
+
+      pub durable : Kept t → OnOk r (AddsAll size (added_by ps) s t) → OnOk r (IsDurable state v (added_by ps) q)
+      durable k all = durable_of r all
+        where
+          whole : AddsAll size (added_by ps) s t → (c : List ℕ) → t.disk.images c → Whole c
+          whole all c image =
+              told_both (tells s) (λ (stands : StandsFor c t.header (journal_of t)) (more : journal_of t ≡ journal_of s ++ added_by ps).
+              subst (λ h. StandsFor c h (journal_of s ++ added_by ps)) st.header (subst (StandsFor c t.header) more stands))
+              (subst (λ b. IfTold b (StandsFor c t.header (journal_of t))) tells_same (stands_now t k all.stopped c image)) all.journal
+
+          durable_of : (r : Result ℕ DiskFault) → OnOk r (AddsAll size (added_by ps) s t) → OnOk r (IsDurable state v (added_by ps) q)
+          durable_of (Ok end) all = record { back = put_back; kept = whole all }
+          durable_of (Err f) all = tt
+
+      pub fault_in : OnErr r (IsHalted (added_by ps) s t) → IfErr r (λ f. HasFault f t) → IfErr r (λ f. IsFaultIn state v (added_by ps) f q)
+      fault_in halted fault = fault_of_answer r halted fault
+        where
+          counted : (f : DiskFault) → IsHalted (added_by ps) s t → HasFault f t → v.stopped ≡ None → f.now ≡ t.disk.faults
+          counted f halted has runs =
+              ⊎_elim
+              (λ (was : (s.stopped ≢ None) × (store_entries t ≡ store_entries s)). absurd (was.0 runs))
+              (λ (some : (s.stopped ≡ None) × AddsSome (added_by ps) s t). cc (has.now, some.1.stopped))
+              halted
+
+          fault_of_answer : (r : Result ℕ DiskFault) → OnErr r (IsHalted (added_by ps) s t) → IfErr r (λ f. HasFault f t) → IfErr r (λ f. IsFaultIn state v (added_by ps) f q)
+          fault_of_answer (Ok end) halted has = tt
+          fault_of_answer (Err f) halted has = record { back = put_back; stopped = has.now; now = counted f halted has }

@@ -34,8 +34,8 @@ pub record Saves (told : Bool) (p : BookPass) (saved more : ℕ) (texts : List (
   pub small : saved + more < 2 ^ 32
   pub these : IfTold told (take more (drop saved (seen p)) ≡ texts)
 
--- What decides over the next record: whether entries are told, the header, the entries so far, the place of the gate, the passes of the books
--- and how many of their texts are saved.
+-- What decides over the next record: whether entries are told, the header, the entries so far, the place of the gate,
+-- the passes of the books, and how many of their texts are saved.
 pub record Front : Type 0 where
   pub told : Bool
   pub header : Header

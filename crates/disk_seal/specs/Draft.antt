@@ -16,9 +16,10 @@ journal_seen (Entry e ∷ es) = e ∷ journal_seen es
 journal_seen (Blank ∷ es) = journal_seen es
 journal_seen (Stopped ∷ es) = journal_seen es
 
--- Behind these entries and with these texts the segment goes on with its file, which has a name: its rows are the encodings of some
--- messages, and the numbers are those of the words that they name, sorted, each once.
-pub record MayFollow (h : Header) (es : List JournalEntry) (types words : List (List ℕ)) (s : SegmentEntry) (numbers : List ℕ) : Type 0 where
+-- Behind these entries and with these texts the segment goes on with its file, which has a name: its rows are the encodings
+-- of some messages, and the numbers are those of the words that they name, sorted, each once.
+pub record MayFollow (h : Header) (es : List JournalEntry) (types words : List (List ℕ)) (s : SegmentEntry) (numbers : List ℕ)
+    : Type 0 where
   pub held : Held
   pub run : Run h nothing_held es held
   pub named : s.file < length held.names

@@ -15,7 +15,8 @@ pub record Side : Type 0 where
   pub held : List (List ℕ)
   pub turns : ℕ
 
--- No more turns than texts that the cache holds since, where all were named; else one more at most. Where the book was full, one of the texts is not held.
+-- No more turns than texts that the cache holds since, where all were named; else one more at most. Where the book was full,
+-- one of the texts is not held.
 abbrev pub TookTurns : List (List ℕ) → Option NameRefusal → List (List ℕ) → Side → Side → Type 0
 TookTurns texts None more a b = b.turns ≤ a.turns + length more
 TookTurns texts (Some OutOfMemory) more a b = b.turns ≤ a.turns + length more + 1

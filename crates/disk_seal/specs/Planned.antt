@@ -34,7 +34,10 @@ pub record HasNumbers (d : Draft) : Type 0 where
 -- the framed record of a draft
 pub record IsSealed (d : Draft) (p : Piece) : Type 0 where
   pub framed : IsFrame p.text
-  pub saved : saved_of p.text ≡ record { kind = SEGMENT_KIND; payload = segment_bytes d.file d.first d.last d.ended d.columns.rows d.words }
+  pub saved : saved_of p.text ≡ record {
+    kind = SEGMENT_KIND;
+    payload = segment_bytes d.file d.first d.last d.ended d.columns.rows d.words;
+  }
   pub types_is : p.types ≡ 0
   pub words_is : p.words ≡ 0
 
@@ -47,7 +50,8 @@ LeavesFile file (Words first texts ∷ es) = LeavesFile file es
 LeavesFile file (Segment s ∷ es) = (s.file ≢ file) × LeavesFile file es
 
 -- the entries are some first ones, behind which the segment may follow, and others that leave its file alone
-pub record IsBehind (h : Header) (es : List JournalEntry) (s : SegmentEntry) (types words : List (List ℕ)) (numbers : List ℕ) : Type 0 where
+pub record IsBehind (h : Header) (es : List JournalEntry) (s : SegmentEntry) (types words : List (List ℕ)) (numbers : List ℕ)
+    : Type 0 where
   pub front : List JournalEntry
   pub rest : List JournalEntry
   pub is : es ≡ front ++ rest
@@ -62,6 +66,22 @@ pub record IsNextOf (d : Draft) (s : StoreState) : Type 0 where
   pub words_front : IsPrefix words (seen s.words)
   pub behind : IfTold (tells s) (IsBehind s.header (journal_of s) (segment_of d) types words d.words)
 
+-- the entries of log types from a number on: one, or none where there are no texts
+abbrev pub types_from : ℕ → List (List ℕ) → List JournalEntry
+types_from first [] = []
+types_from first (t ∷ ts) = Types first (t ∷ ts) ∷ []
+
+-- those of words
+abbrev pub words_from : ℕ → List (List ℕ) → List JournalEntry
+words_from first [] = []
+words_from first (t ∷ ts) = Words first (t ∷ ts) ∷ []
+
+-- what goes along with a draft: all log types that are not saved, then all words that are not saved, then the segment
+abbrev pub entries_with : Draft → StoreState → List JournalEntry
+entries_with d s =
+    types_from s.types_saved (drop s.types_saved (seen s.types))
+    ++ (words_from s.words_saved (drop s.words_saved (seen s.words)) ++ Segment (segment_of d) ∷ [])
+
 -- texts, and then the segment, which is the last
 abbrev pub IsTextsThen : SegmentEntry → List JournalEntry → Type 0
 IsTextsThen s [] = ⊥
@@ -70,11 +90,11 @@ IsTextsThen s (Types first texts ∷ es) = IsTextsThen s es
 IsTextsThen s (Words first texts ∷ es) = IsTextsThen s es
 IsTextsThen s (Segment t ∷ es) = (t ≡ s) × (es ≡ [])
 
--- the records may be added one after the other by the pass of the draft's file; they are texts and then the draft
+-- the records may be added one after the other by the pass of the draft's file; they are those of all unsaved texts and the draft
 pub record ArePlanned (d : Draft) (ps : List Piece) (s : StoreState) : Type 0 where
   pub can : CanFollow ps (front_of s)
   pub may : All (MayAdd d.file) (told_as s (added_by ps))
-  pub last : IfTold (tells s) (IsTextsThen (segment_of d) (added_by ps))
+  pub all : IfTold (tells s) (added_by ps ≡ entries_with d s)
 
 -- where there is room for them
 abbrev pub HasRoom : List Piece → StoreState → Type 0

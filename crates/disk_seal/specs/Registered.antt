@@ -22,7 +22,9 @@ IsFullFor names end need j = IsFull end need (files_size names) j
 
 -- where its bytes are told, the journal holds so many names
 abbrev pub HoldsNames : ℕ → JournalState → Type 0
-HoldsNames held j = IfTold (is_some j.disk.seen) ((legal : IsLegal j.header (journal_in j.disk.seen j.count)) → held ≡ length legal.held.names)
+HoldsNames held j =
+    IfTold (is_some j.disk.seen)
+    ((legal : IsLegal j.header (journal_in j.disk.seen j.count)) → held ≡ length legal.held.names)
 
 -- a store could be opened over a journal with so many names, and can be over the one with further names
 abbrev pub StaysOpen : ℕ → JournalState → JournalState → Type 0

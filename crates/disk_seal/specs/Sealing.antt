@@ -5,12 +5,13 @@ use Rattle.log_seams.specs.Outside.{Rose}
 use Rattle.turn_lock.specs.History.{places}
 use Rattle.turn_lock.specs.Words.{seen, own_list, number_of, about, IsReady, HasTurn, IsStill, HasFixed}
 use Rattle.archive_meaning.specs.declared.entry.JournalEntry.{JournalEntry}
+use Rattle.archive_meaning.specs.Stands.{StandsFor}
 use Rattle.disk_seal.specs.declared.entry.StoreEntry.{StoreEntry}
 use Rattle.disk_seal.specs.declared.entry.StoreEntry.TheVariants.{Stopped}
 use Rattle.disk_seal.specs.declared.faults.DiskFault.{DiskFault}
 use Rattle.disk_seal.specs.declared.pieces.Piece.{Piece}
-use Rattle.disk_seal.specs.Told.{entry_for}
-use Rattle.disk_seal.specs.View.{StoreView, StoreState, state_by, tells, store_entries}
+use Rattle.disk_seal.specs.Told.{IfTold, entry_for}
+use Rattle.disk_seal.specs.View.{StoreView, StoreState, state_by, tells, journal_of, store_entries}
 use Rattle.disk_seal.specs.Fixed.{fixed_of, KeeperPass}
 use Rattle.disk_seal.specs.May.{MayAdd}
 use Rattle.disk_seal.specs.Adding.{front_of, LeavesFirst}
@@ -56,10 +57,23 @@ module _ {D : Type 0} where
     pub can : v.stopped ≡ None → CanFollow ps (front_of (state_by state v))
     pub may : All (MayAdd (number_of p)) (told_as (state_by state v) (added_by ps))
 
-  -- The store that was put back: a crash at any moment since it was this one left its journal, with none, the first, .. or all of the entries.
-  -- One that was stopped is as it was.
+  -- The store that was put back: a crash at any moment since it was this one left its journal, with none, the first, .. or
+  -- all of the entries. One that was stopped is as it was.
   pub record HasPutBack (state : D → DiskState) (v : StoreView D) (es : List JournalEntry) (q : KeeperPass D) : Type 0 where
     pub store : StoreView D
     pub entries : store_entries (state_by state store) ≡ seen q
     pub leaves : v.stopped ≡ None → LeavesFirst es (state_by state v) (state_by state store)
     pub rests : v.stopped ≢ None → store ≡ v
+
+  -- Behind a receipt every image of the store that was put back is an archive with the journal of before and all of the entries.
+  pub record IsDurable (state : D → DiskState) (v : StoreView D) (es : List JournalEntry) (q : KeeperPass D) : Type 0 where
+    pub back : HasPutBack state v es q
+    pub kept : (c : List ℕ) → (state back.store.disk).images c
+        → IfTold (tells (state_by state v)) (StandsFor c v.header (journal_of (state_by state v) ++ es))
+
+  -- The fault is the one that stopped the store that was put back. Where it came now, its count is that of the disk.
+  pub record IsFaultIn (state : D → DiskState) (v : StoreView D) (es : List JournalEntry) (f : DiskFault) (q : KeeperPass D)
+      : Type 0 where
+    pub back : HasPutBack state v es q
+    pub stopped : back.store.stopped ≡ Some f.now
+    pub now : v.stopped ≡ None → f.now ≡ (state back.store.disk).faults

@@ -20,9 +20,9 @@ use Rattle.disk_seal.specs.declared.entry.StoreEntry.{StoreEntry}
 use Rattle.disk_seal.specs.Told.{IfTold, journal_in, recorded, mark}
 use Rattle.disk_seal.specs.WordsIn.{words_of}
 
--- The disk and the name of its borrow; the disk at the opening, and its count of faults then; the header; where the journal's next
--- gate stands, how many records it has, whether that gate is closed; how many records there were at the opening; the passes of the
--- two books, and how many of their texts are saved; and the count of faults at the fault that stopped the store
+-- The disk and the name of its borrow; the disk at the opening, and its count of faults then; the header; where the journal's
+-- next gate stands, how many records it has, whether that gate is closed; how many records there were at the opening; the passes
+-- of the two books, and how many of their texts are saved; and the count of faults at the fault that stopped the store
 pub record StoreView (D : Type 0) : Type 0 where
   pub disk : D
   pub name : ℕ
@@ -105,10 +105,11 @@ pub record HasFirst (head : List ℕ) (least : ℕ) (es : List JournalEntry) (by
 abbrev pub Image : StoreState → ℕ → List JournalEntry → List ℕ → Type 0
 Image s least es bytes = IfTold (tells s) (HasFirst (header_bytes s.header) least es bytes)
 
--- What a store keeps of a pass over a book: it is between two turns, its lock is one that was made with this first number and limit,
--- it is the lock's first pass, it has seen the lock's opening and at least the saved texts, which are those of the journal, all that it has
--- seen past them is fair, and it has added nothing.
-pub record KnowsBook (IsFair : List ℕ → Type 0) (first limit : ℕ) (told : Bool) (p : BookPass) (saved : ℕ) (texts : List (List ℕ)) : Type 0 where
+-- What a store keeps of a pass over a book: it is between two turns, its lock is one that was made with this first number and
+-- limit, it is the lock's first pass, it has seen the lock's opening and at least the saved texts, which are those of the
+-- journal, all that it has seen past them is fair, and it has added nothing.
+pub record KnowsBook (IsFair : List ℕ → Type 0) (first limit : ℕ) (told : Bool) (p : BookPass) (saved : ℕ) (texts : List (List ℕ))
+    : Type 0 where
   pub ready : IsReady p
   pub known : About ℕ
   pub is : about p ≡ Some known
@@ -127,8 +128,8 @@ KnowsTypes told h p saved es = KnowsBook IsFairType 0 h.types_limit told p saved
 abbrev pub KnowsWords : Bool → Header → BookPass → ℕ → List JournalEntry → Type 0
 KnowsWords told h p saved es = KnowsBook IsFairWord WORDS_FIRST h.words_limit told p saved (words_of es)
 
--- What a store keeps, stopped or not. `under` is the entry that was under way at a fault, if one was: each image of the disk stands for
--- the journal, or for the journal with it.
+-- What a store keeps, stopped or not. `under` is the entry that was under way at a fault, if one was: each image of the disk
+-- stands for the journal, or for the journal with it.
 pub record Kept (s : StoreState) : Type 0 where
   -- the journal
   pub header : IsHeader s.header

@@ -14,7 +14,6 @@ mod opened;
 mod pieces;
 mod plan;
 mod prepared;
-mod sealing;
 mod store;
 mod turns;
 

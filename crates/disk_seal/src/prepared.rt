@@ -6,14 +6,15 @@ ghost use Rattle.disk_seal.specs.View.{state_by, Kept};
 ghost use Rattle.disk_seal.specs.Pieces.{added_by, size_of};
 ghost use Rattle.disk_seal.specs.Planned.{HasNumbers};
 ghost use Rattle.disk_seal.specs.declared.plan.PrepareRefusal.TheVariants.{ArchiveFull};
-ghost use Rattle.disk_seal.specs.Sealing.{told_as, HasGrown, HasGrownSome, MayPut, HasPutBack};
-ghost use Rattle.disk_seal.specs.Prepare.{AreNotesOf, BookNote, HasSeenOpening, IsFullAt, MayBeNext, HasGivenBack, IsFaultOf, IsPrepared};
+ghost use Rattle.disk_seal.specs.Sealing.{told_as, HasGrown, HasGrownSome};
+ghost use Rattle.disk_seal.specs.Sealing.{MayPut, HasPutBack, IsDurable, IsFaultIn};
+ghost use Rattle.disk_seal.specs.Prepare.{AreNotesOf, BookNote, HasSeenOpening, MayBeNext};
+ghost use Rattle.disk_seal.specs.Prepare.{HasGivenBack, IsFaultOf, IsFullAt, IsPrepared, SavesAll};
 
 use crate::draft::Draft;
 use crate::faults::DiskFault;
-use crate::pieces::Piece;
+use crate::pieces::{Piece, put_pieces};
 use crate::plan::PrepareRefusal;
-use crate::sealing::put_pieces;
 use crate::store::Store;
 use crate::turns::Turns;
 use dict_core::Book;
@@ -67,9 +68,13 @@ impl<'d, 'b, D: Disk> Prepared<'d, 'b, D> {
             (state_by D.state self.entry.turn.value) pass.old pass.new) }
         ensures fault { IfErr result (λ f. IsFaultOf D.state f pass.old) }
 
-        // images
+        // the store that was put back
         ensures moments { HasPutBack D.state self.entry.turn.value
             (added_by self.entry.pieces.items) pass.new }
+        ensures durable { OnOk result (IsDurable D.state self.entry.turn.value
+            (added_by self.entry.pieces.items) pass.new) }
+        ensures counted { IfErr result (λ f. IsFaultIn D.state self.entry.turn.value
+            (added_by self.entry.pieces.items) f pass.new) }
     {
         let Prepared {
             turn,
@@ -107,23 +112,25 @@ pub fn prepare<'d, 'b, D: Disk, R: Wait, A: Ledger, B: Ledger, C: Ledger>(
     turns: &mut Turns<A, B, C>,
 ) -> Result<Prepared<'d, 'b, D>, PrepareRefusal<'b>>
     // the pass and the notes
-    requires ready { IsReady pass.old }
-    requires opening { HasSeenOpening pass.old }
+    requires pass { IsReady pass.old × HasSeenOpening pass.old }
     requires notes { AreNotesOf pass.old types words }
 
     // the draft
-    requires file { draft.now.file ≡ number_of pass.old }
-    requires numbers { HasNumbers draft.now }
+    requires draft { (draft.now.file ≡ number_of pass.old) × HasNumbers draft.now }
     requires next { MayBeNext D.state draft.now pass.old (noted types) (noted words) }
 
-    // by the answer
+    // what is prepared
     ensures prepared { IfOk result (λ r. IsPrepared D.state draft.now pass.old pass.new
         r.turn.value r.pieces.items) }
+    ensures saves { IfOk result (λ r. SavesAll draft.now r.pieces.items
+        (state_by D.state r.turn.value)) }
     ensures receipt { IfOk result (λ r. (r.file ≡ draft.now.file) × (r.first ≡ draft.now.first)
         × (r.rows ≡ length draft.now.columns.rows)) }
     ensures kept { IfOk result (λ r. Kept (state_by D.state r.turn.value)) }
     ensures noted { IfOk result (λ r. IsPrefix (noted types.entry) (seen r.turn.value.types)
         × IsPrefix (noted words.entry) (seen r.turn.value.words)) }
+
+    // refusals
     ensures refused { OnErr result (HasGivenBack pass.old pass.new) }
     ensures full { (end need : ℕ) (of_types of_words : BookNote)
         → IsErrOf result (ArchiveFull end need of_types of_words)

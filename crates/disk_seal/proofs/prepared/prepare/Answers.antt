@@ -7,13 +7,16 @@ use Rattle.disk_seal.proofs.prepared.prepare.Goals as goal
 pub plan-requires-clause-next : goal.plan-requires-clause-next
 plan-requires-clause-next g c = λ runs.
     behind_now g.D.Disk.state c.args.pass.now (seen c.take-turn.new.self) c.take-turn.result.value c.facts.ensures runs c.take-turn.ensures.entries c.take-turn.ensures.seen c.take-turn.ensures.fixed c.take-turn.ensures.others
-    c.requires.opening c.args.draft.now (noted c.args.types) (noted c.args.words) c.requires.file c.requires.next
+    c.requires.pass.1 c.args.draft.now (noted c.args.types) (noted c.args.words) c.requires.draft.0 c.requires.next
 
 pub returns-in-Ok-clause-prepared : goal.returns-in-Ok-clause-prepared
 returns-in-Ok-clause-prepared g c =
     is_prepared g.D.Disk.state c.take-turn.new.self c.take-turn.result.value c.plan.new.self (noted c.args.types) (noted c.args.words) c.take-turn.ensures.turn c.take-turn.ensures.entries
-    (λ a is. c.take-turn.ensures.fixed a (sym c.take-turn.ensures.still.about_is ∙ is)) c.plan.ensures.same c.plan.ensures.types c.plan.ensures.words c.args.pass.now c.args.draft.now c.in-Ok.pieces.items c.requires.file
+    (λ a is. c.take-turn.ensures.fixed a (sym c.take-turn.ensures.still.about_is ∙ is)) c.plan.ensures.same c.plan.ensures.types c.plan.ensures.words c.args.pass.now c.args.draft.now c.in-Ok.pieces.items c.requires.draft.0
     c.take-turn.ensures.still c.take-turn.ensures.seen c.take-turn.ensures.own c.in-Ok.ensures.planned
+
+pub returns-in-Ok-clause-saves : goal.returns-in-Ok-clause-saves
+returns-in-Ok-clause-saves g c = c.in-Ok.ensures.planned.all
 
 pub returns-in-Err-clause-refused : goal.returns-in-Err-clause-refused
 returns-in-Err-clause-refused g c =
