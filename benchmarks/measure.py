@@ -8,6 +8,7 @@ shown, with the bytes of the file a second, the ratio to the command that it sta
 the most memory that it had, looked at every few milliseconds.
 """
 import os
+import re
 import resource
 import select
 import shutil
@@ -57,12 +58,20 @@ def run(words):
     return time.perf_counter() - start, peak, lines, status
 
 
+def single(path, form):
+    """A text of this form from the middle of the log."""
+    with open(path, "rb") as log:
+        log.seek(os.path.getsize(path) // 2)
+        return re.search(form, log.read(1 << 20)).group().decode()
+
+
 def groups(clpa, path):
     """Each group: its name, and its commands with their names; the second is the measure."""
     grep = ["grep", "-a", "-n"]
     found = []
     found.append(("show", [("clpa show", [clpa, "-", "show", path]), ("cat", ["cat", path])]))
-    for name, text in (("rare word", RARE), ("common word", COMMON)):
+    whole = single(path, rb" blk_\d{9,} ")
+    for name, text in (("whole word, closed on both sides,", whole), ("rare word", RARE), ("common word", COMMON)):
         commands = [("clpa scan", [clpa, "-", "scan", text, path]), ("grep -F", grep + ["-F", text, path])]
         if shutil.which("rg"):
             commands.append(("rg -F", ["rg", "-a", "-n", "-j1", "-F", text, path]))

@@ -13,7 +13,7 @@ import statistics
 import subprocess
 import sys
 
-from measure import run
+from measure import run, single
 
 # Of each shape of log: a word in few lines of each segment, a part of a word, a common word, a wildcard,
 # and what a word looks like that stands in one line.
@@ -22,14 +22,14 @@ TEXTS = {
     "requests": ("user1234", "user199", "orders", "GET*orders", rb"[0-9a-f]{32}"),
     "daemon": ("612", "reload", "reloaded", "started*network", None),
 }
+# A word in one line, with what stands beside it, in segments of 65,536 messages and in short ones.
+WHOLE, SHORT = "whole word, closed on both sides, in one segment", 4096
 MINUTE = ("--from", "1740790800000", "--to", "1740790859999")
 
 
-def single(path, form):
-    """A word of this form from the middle of the log."""
-    with open(path, "rb") as log:
-        log.seek(os.path.getsize(path) // 2)
-        return re.search(form, log.read(1 << 20)).group().decode()
+def closed(path, form):
+    """Such a word with the bytes before and behind it, so that only the whole word matches."""
+    return single(path, rb"[ =](?:" + form + rb") ")
 
 
 def bytes_read(words):
@@ -64,6 +64,12 @@ def made(clpa, archive):
     subprocess.run([clpa, archive, "create"], check=True)
 
 
+def in_segments(clpa, archive, messages, path):
+    """An archive of the log whose segments have so many messages at most."""
+    made(clpa, archive)
+    subprocess.run([clpa, archive, "ingest", "--segment", str(messages), path], check=True, stdout=subprocess.DEVNULL)
+
+
 def table(what, commands, rounds, size, before=None):
     """Runs the commands in turns and prints a row of each; the second is the measure."""
     runs = {name: [] for name, _ in commands}
@@ -88,7 +94,7 @@ def main():
     size, failed = os.path.getsize(path), False
     rare, part, common, wild, form = TEXTS[sys.argv[4] if len(sys.argv) > 4 else "service"]
     files = quarters(path)
-    one, four, packed = f"{path}.one.clp", f"{path}.four.clp", f"{path}.zst"
+    one, four, short, packed = f"{path}.one.clp", f"{path}.four.clp", f"{path}.short.clp", f"{path}.zst"
     print("| what | command | seconds | MB/s | ratio | peak MiB | lines out |")
     print("| --- | --- | --- | --- | --- | --- | --- |")
 
@@ -113,14 +119,20 @@ def main():
     os.remove(f"{path}.back")
     wrong, _ = table("out of it", [("clpa decode", [clpa, one, "decode", "0"]), ("zstd -dc", ["zstd", "-dc", packed])], rounds, size)
     failed = failed or wrong
-    sought = [("rare word", rare, "-aFc"), ("part of a word", part, "-aFc"), ("common word", common, "-aFn")]
+    sought = [("rare word", one, rare, "-aFc"), ("part of a word", one, part, "-aFc"), ("common word", one, common, "-aFn")]
     if form:
-        sought.insert(0, ("word in one segment", single(path, form), "-aFc"))
-    for name, text, beside in sought:
+        in_segments(clpa, short, SHORT, path)
+        whole = closed(path, form)
+        sought[:0] = [
+            ("word in one segment", one, single(path, form), "-aFc"),
+            (WHOLE, one, whole, "-aFc"),
+            (f"{WHOLE} of {SHORT:,} messages", short, whole, "-aFc"),
+        ]
+    for name, archive, text, beside in sought:
         wrong, counts = table(f"{name} `{text}`", [
-            ("clpa search", [clpa, one, "search", text]),
+            ("clpa search", [clpa, archive, "search", text]),
             (f"grep {beside}", ["grep", beside, text, path]),
-            ("clpa search, 4 workers", [clpa, one, "search", "--workers", "4", text]),
+            ("clpa search, 4 workers", [clpa, archive, "search", "--workers", "4", text]),
         ], rounds, size)
         found = subprocess.run(["grep", "-aFc", text, path], check=False, capture_output=True, env=dict(os.environ, LC_ALL="C"))
         wrong = wrong or counts["clpa search"] != int(found.stdout)

@@ -9,8 +9,8 @@ import statistics
 import subprocess
 import sys
 
-from measure import run
-from measure_archive import MINUTE, TEXTS, made, quarters, single
+from measure import run, single
+from measure_archive import MINUTE, SHORT, TEXTS, WHOLE, closed, in_segments, made, quarters
 
 
 def commands(clpa, shape, path):
@@ -29,7 +29,11 @@ def commands(clpa, shape, path):
         ("clpa search, one minute", nothing, [clpa, one, "search", *MINUTE, ""]),
     ]
     if form:
+        short, whole = f"{path}.short.clp", closed(path, form)
+        in_segments(clpa, short, SHORT, path)
         found.append(("clpa search, word in one segment", nothing, [clpa, one, "search", single(path, form)]))
+        found.append((f"clpa search, {WHOLE}", nothing, [clpa, one, "search", whole]))
+        found.append((f"clpa search, {WHOLE} of {SHORT:,} messages", nothing, [clpa, short, "search", whole]))
     for name, text in (("rare word", rare), ("part of a word", part), ("common word", common), ("wildcard", wild)):
         found.append((f"clpa search, {name}", nothing, [clpa, one, "search", text]))
         found.append((f"clpa search, {name}, 4 workers", nothing, [clpa, one, "search", "--workers", "4", text]))

@@ -20,6 +20,7 @@ use std::alloc::Global;
 use std::sync::ledger::Ledger;
 use std::thread::Threads;
 use step_count::Steps;
+use subquery_filter::{KnownNames, known_words};
 use wild_match::Pattern;
 
 /// Searches the segments of an archive, with nothing gathered, and sends out what is left.
@@ -70,12 +71,14 @@ fn search_archive<
 {
     let files = archive.files().as_slice();
     let segments = archive.segments().as_slice();
-    let names = archive.names();
-    let filter = query.filter(alloc, names)?;
+    let kept = archive.names();
+    let known = known_words(alloc, query.plan(), kept)?;
+    let names = KnownNames::new(kept, known.as_slice());
+    let filter = query.filter(alloc, &names)?;
     let count = search_segments(
-        rt, alloc, query, names, files, segments, &filter, disk, out, round, opened, expanded,
+        rt, alloc, query, &names, files, segments, &filter, disk, out, round, opened, expanded,
     )?;
-    round.finish(rt, query, names, &filter, out, expanded)?;
+    round.finish(rt, query, &names, &filter, out, expanded)?;
     let tally = round.tally();
     Ok(Report {
         matched: tally.matched,

@@ -6,3 +6,4 @@ pub mod Verdicts
 pub mod Tokens
 pub mod Filter
 pub mod StepsFilter
+pub mod StepsKnown

@@ -6,6 +6,8 @@
 
 mod accepting;
 mod filter;
+mod known;
+mod known_names;
 mod laws;
 mod letters;
 mod rules;
@@ -16,6 +18,8 @@ mod verdicts;
 
 pub use accepting::accepts;
 pub use filter::Filter;
+pub use known::{KnownWord, known_words};
+pub use known_names::KnownNames;
 pub use laws::{barren_has_no_match, rows_bring_tokens, verdicts_hold};
 pub use rules::barren;
 pub use verdicts::{Verdict, verdict_of};

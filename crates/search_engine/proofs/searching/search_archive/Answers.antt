@@ -1,4 +1,4 @@
-use Rattle.std.proofs.Common.{◌∙◌, sym, subst, rules, refl, length, []}
+use Rattle.std.proofs.Common.{◌∙◌, ap, sym, subst, rules, refl, length, []}
 use Rattle.archive_open.specs.Archive.{shown}
 use Rattle.search_engine.specs.Opened.{ReadsOpened, Searched, Stopped}
 use Rattle.search_engine.specs.Searched.{HasSearched}
@@ -9,18 +9,24 @@ use Rattle.search_engine.proofs.SegmentLemmas.{of_all}
 use Rattle.search_engine.proofs.SearchLemmas.{has_searched, has_stopped, knows, last_damaged, last_stopped, of_journal, reads_nothing, stopped_nothing, waits_none}
 use Rattle.search_engine.proofs.searching.search_archive.Goals as goal
 
+pub returns-in_err-known-clause-reads : goal.returns-in_err-known-clause-reads
+returns-in_err-known-clause-reads g c = reads_nothing _ c.args.query.now _ _ refl
+
+pub returns-in_err-known-clause-stopped : goal.returns-in_err-known-clause-stopped
+returns-in_err-known-clause-stopped g c = on_err c.from_residual.result _ (stopped_nothing _ c.args.query.now _ _ _ _ _ _ _ refl refl refl)
+
 pub returns-in_err-filter-clause-reads : goal.returns-in_err-filter-clause-reads
 returns-in_err-filter-clause-reads g c = reads_nothing _ c.args.query.now _ _ refl
 
 pub returns-in_err-filter-clause-stopped : goal.returns-in_err-filter-clause-stopped
-returns-in_err-filter-clause-stopped g c = on_err c.from_residual.result _ (stopped_nothing _ c.args.query.now _ _ _ _ _ _ _ refl refl refl)
+returns-in_err-filter-clause-stopped g c = on_err c.from_residual-in_err-filter.result _ (stopped_nothing _ c.args.query.now _ _ _ _ _ _ _ refl refl refl)
 
 pub returns-in_err-count-clause-reads : goal.returns-in_err-count-clause-reads
 returns-in_err-count-clause-reads g c =
     let a = shown g.T.KeepsTexts.kept c.args.archive.now in
     of_journal _ a _ _ _ (λ m l _ _. ReadsOpened m c.args.query.now l (g.D.Disk.state c.args.disk.now).ranges (g.D.Disk.state c.search_segments.new.disk).ranges) _
     (c.as_slice-files.ensures ∙ c.files.ensures) (c.as_slice-segments.ensures ∙ c.segments.ensures) c.requires.opens
-    (knows _ _ _ _ _ c.names-names.ensures ((g.met.T.KeepsTexts g.world.𝓛 g.world.𝓜 g.world.𝓡 ((λ s x. x), (λ x. x), (λ x. x), λ x. x)).named c.names-names.result.now)) c.search_segments.ensures.reads
+    (knows _ _ _ _ _ (ap g.T.KeepsTexts.kept c.new-names.ensures ∙ c.names-kept.ensures) ((g.met.T.KeepsTexts g.world.𝓛 g.world.𝓜 g.world.𝓡 ((λ s x. x), (λ x. x), (λ x. x), λ x. x)).named c.new-names.result.names.now)) c.search_segments.ensures.reads
     (λ bytes h es stood is has. reads_aside bytes h es a c.args.query.now _ _ stood is has)
 
 pub returns-in_err-count-clause-stopped : goal.returns-in_err-count-clause-stopped
@@ -30,7 +36,7 @@ returns-in_err-count-clause-stopped g c =
     (of_journal _ a _ _ _
     (λ m l _ all. Stopped m c.args.query.now l all (state (g.K.Sink.written c.args.out.now) c.args.round.now c.args.expanded.now) (g.K.Sink.written c.search_segments.new.out) c.search_segments.new.expanded c.args.opened.now c.search_segments.new.opened) _
     (c.as_slice-files.ensures ∙ c.files.ensures) (c.as_slice-segments.ensures ∙ c.segments.ensures) c.requires.opens
-    (knows _ _ _ _ _ c.names-names.ensures ((g.met.T.KeepsTexts g.world.𝓛 g.world.𝓜 g.world.𝓡 ((λ s x. x), (λ x. x), (λ x. x), λ x. x)).named c.names-names.result.now)) c.in_err-count.ensures.stopped
+    (knows _ _ _ _ _ (ap g.T.KeepsTexts.kept c.new-names.ensures ∙ c.names-kept.ensures) ((g.met.T.KeepsTexts g.world.𝓛 g.world.𝓜 g.world.𝓡 ((λ s x. x), (λ x. x), (λ x. x), λ x. x)).named c.new-names.result.names.now)) c.in_err-count.ensures.stopped
     (λ bytes h es stood is has. has_stopped h stood.legal.held c.args.query.now a.segments _ _ _ _ _ _ _ c.requires.empty has))
 
 pub returns-in_err-count-clause-damaged : goal.returns-in_err-count-clause-damaged
@@ -38,7 +44,7 @@ returns-in_err-count-clause-damaged g c = λ is.
     let a = shown g.T.KeepsTexts.kept c.args.archive.now in
     of_journal _ a _ _ _ (λ _ _ _ _. ⊥) _
     (c.as_slice-files.ensures ∙ c.files.ensures) (c.as_slice-segments.ensures ∙ c.segments.ensures) c.requires.opens
-    (knows _ _ _ _ _ c.names-names.ensures ((g.met.T.KeepsTexts g.world.𝓛 g.world.𝓜 g.world.𝓡 ((λ s x. x), (λ x. x), (λ x. x), λ x. x)).named c.names-names.result.now)) (c.in_err-count.ensures.damaged (search rules) [] (waits_none _ c.args.round.now c.requires.empty))
+    (knows _ _ _ _ _ (ap g.T.KeepsTexts.kept c.new-names.ensures ∙ c.names-kept.ensures) ((g.met.T.KeepsTexts g.world.𝓛 g.world.𝓜 g.world.𝓡 ((λ s x. x), (λ x. x), (λ x. x), λ x. x)).named c.new-names.result.names.now)) (c.in_err-count.ensures.damaged (search rules) [] (waits_none _ c.args.round.now c.requires.empty))
     (λ bytes h es stood is has. has)
 
 pub returns-in_err-finish-clause-reads : goal.returns-in_err-finish-clause-reads
@@ -46,7 +52,7 @@ returns-in_err-finish-clause-reads g c =
     let a = shown g.T.KeepsTexts.kept c.args.archive.now in
     of_journal _ a _ _ _ (λ m l _ _. ReadsOpened m c.args.query.now l (g.D.Disk.state c.args.disk.now).ranges (g.D.Disk.state c.search_segments.new.disk).ranges) _
     (c.as_slice-files.ensures ∙ c.files.ensures) (c.as_slice-segments.ensures ∙ c.segments.ensures) c.requires.opens
-    (knows _ _ _ _ _ c.names-names.ensures ((g.met.T.KeepsTexts g.world.𝓛 g.world.𝓜 g.world.𝓡 ((λ s x. x), (λ x. x), (λ x. x), λ x. x)).named c.names-names.result.now)) c.search_segments.ensures.reads
+    (knows _ _ _ _ _ (ap g.T.KeepsTexts.kept c.new-names.ensures ∙ c.names-kept.ensures) ((g.met.T.KeepsTexts g.world.𝓛 g.world.𝓜 g.world.𝓡 ((λ s x. x), (λ x. x), (λ x. x), λ x. x)).named c.new-names.result.names.now)) c.search_segments.ensures.reads
     (λ bytes h es stood is has. reads_aside bytes h es a c.args.query.now _ _ stood is has)
 
 pub returns-in_err-finish-clause-stopped : goal.returns-in_err-finish-clause-stopped
@@ -58,7 +64,7 @@ returns-in_err-finish-clause-stopped g c =
     (state (g.K.Sink.written c.search_segments.new.out) c.search_segments.new.round c.search_segments.new.expanded) c.args.opened.now c.search_segments.new.opened c.in_ok-count.count
     × Halts m c.args.query.now [] (state (g.K.Sink.written c.search_segments.new.out) c.search_segments.new.round c.search_segments.new.expanded) (g.K.Sink.written c.finish.new.out) c.finish.new.expanded) _
     (c.as_slice-files.ensures ∙ c.files.ensures) (c.as_slice-segments.ensures ∙ c.segments.ensures) c.requires.opens
-    (knows _ _ _ _ _ c.names-names.ensures ((g.met.T.KeepsTexts g.world.𝓛 g.world.𝓜 g.world.𝓡 ((λ s x. x), (λ x. x), (λ x. x), λ x. x)).named c.names-names.result.now))
+    (knows _ _ _ _ _ (ap g.T.KeepsTexts.kept c.new-names.ensures ∙ c.names-kept.ensures) ((g.met.T.KeepsTexts g.world.𝓛 g.world.𝓜 g.world.𝓡 ((λ s x. x), (λ x. x), (λ x. x), λ x. x)).named c.new-names.result.names.now))
     (of_all _ _ _ _ _ _ (λ bytes all has. (has, c.in_err-finish.ensures.stopped)) c.in_ok-count.ensures.done)
     (λ bytes h es stood is has. has_stopped h stood.legal.held c.args.query.now a.segments _ _ _ _ _ _ _ c.requires.empty
     (last_stopped _ c.args.query.now a.segments _ _ _ _ _ _ _ _ has.0 has.1)))
@@ -68,7 +74,7 @@ returns-in_err-finish-clause-damaged g c = λ is.
     let a = shown g.T.KeepsTexts.kept c.args.archive.now in
     of_journal _ a _ _ _ (λ _ _ _ _. ⊥) _
     (c.as_slice-files.ensures ∙ c.files.ensures) (c.as_slice-segments.ensures ∙ c.segments.ensures) c.requires.opens
-    (knows _ _ _ _ _ c.names-names.ensures ((g.met.T.KeepsTexts g.world.𝓛 g.world.𝓜 g.world.𝓡 ((λ s x. x), (λ x. x), (λ x. x), λ x. x)).named c.names-names.result.now))
+    (knows _ _ _ _ _ (ap g.T.KeepsTexts.kept c.new-names.ensures ∙ c.names-kept.ensures) ((g.met.T.KeepsTexts g.world.𝓛 g.world.𝓜 g.world.𝓡 ((λ s x. x), (λ x. x), (λ x. x), λ x. x)).named c.new-names.result.names.now))
     (of_all _ _ _ _ _ _ (λ bytes all has. last_damaged _ c.args.query.now _ all (state (g.K.Sink.written c.args.out.now) c.args.round.now c.args.expanded.now) (state (g.K.Sink.written c.search_segments.new.out) c.search_segments.new.round c.search_segments.new.expanded) _ _ _ c.requires.empty has (c.in_err-finish.ensures.damaged (search rules))) c.in_ok-count.ensures.done)
     (λ bytes h es stood is has. has)
 
@@ -77,7 +83,7 @@ returns-clause-reads g c =
     let a = shown g.T.KeepsTexts.kept c.args.archive.now in
     of_journal _ a _ _ _ (λ m l _ _. ReadsOpened m c.args.query.now l (g.D.Disk.state c.args.disk.now).ranges (g.D.Disk.state c.search_segments.new.disk).ranges) _
     (c.as_slice-files.ensures ∙ c.files.ensures) (c.as_slice-segments.ensures ∙ c.segments.ensures) c.requires.opens
-    (knows _ _ _ _ _ c.names-names.ensures ((g.met.T.KeepsTexts g.world.𝓛 g.world.𝓜 g.world.𝓡 ((λ s x. x), (λ x. x), (λ x. x), λ x. x)).named c.names-names.result.now)) c.search_segments.ensures.reads
+    (knows _ _ _ _ _ (ap g.T.KeepsTexts.kept c.new-names.ensures ∙ c.names-kept.ensures) ((g.met.T.KeepsTexts g.world.𝓛 g.world.𝓜 g.world.𝓡 ((λ s x. x), (λ x. x), (λ x. x), λ x. x)).named c.new-names.result.names.now)) c.search_segments.ensures.reads
     (λ bytes h es stood is has. reads_aside bytes h es a c.args.query.now _ _ stood is has)
 
 pub returns-clause-done : goal.returns-clause-done
@@ -89,7 +95,7 @@ returns-clause-done g c =
     (state (g.K.Sink.written c.search_segments.new.out) c.search_segments.new.round c.search_segments.new.expanded) c.args.opened.now c.search_segments.new.opened c.in_ok-count.count
     × Reaches m c.args.query.now [] (state (g.K.Sink.written c.search_segments.new.out) c.search_segments.new.round c.search_segments.new.expanded) (state (g.K.Sink.written c.finish.new.out) c.finish.new.self c.finish.new.expanded)) _
     (c.as_slice-files.ensures ∙ c.files.ensures) ps c.requires.opens
-    (knows _ _ _ _ _ c.names-names.ensures ((g.met.T.KeepsTexts g.world.𝓛 g.world.𝓜 g.world.𝓡 ((λ s x. x), (λ x. x), (λ x. x), λ x. x)).named c.names-names.result.now))
+    (knows _ _ _ _ _ (ap g.T.KeepsTexts.kept c.new-names.ensures ∙ c.names-kept.ensures) ((g.met.T.KeepsTexts g.world.𝓛 g.world.𝓜 g.world.𝓡 ((λ s x. x), (λ x. x), (λ x. x), λ x. x)).named c.new-names.result.names.now))
     (of_all _ _ _ _ _ _ (λ bytes all has. (has, c.in_ok-finish.ensures.done)) c.in_ok-count.ensures.done)
     (λ bytes h es stood is has.
     subst
