@@ -124,7 +124,7 @@ fn put_row<N: Names>(row: RowRef<'_>, names: &N, out: &mut Vec<u8>) -> Result<bo
 }
 
 // Appends the text of a stamp, which is empty without one, where the pattern prints the moment.
-fn put_stamp(pattern: u8, moment: i64, out: &mut Vec<u8>) -> Result<bool, AllocError>
+pub(crate) fn put_stamp(pattern: u8, moment: i64, out: &mut Vec<u8>) -> Result<bool, AllocError>
     ensures written { IfOk result (λ fits. IsTrue fits → ((text : List ℕ)
         × HasStampText pattern moment text × (out.new.items ≡ out.old.items ++ text))) }
     ensures misfit { IfOk result (λ fits. IsFalse fits → ¬ HasStampWriting pattern moment) }
@@ -180,7 +180,7 @@ fn ends(rest: &[u8], left: &[u64]) -> bool
 // Appends what a symbol is written as with the first of these words, and gives the words behind it;
 // `None` where it is a slot, and no word that fits it is there.
 #[inline]
-fn put_symbol<'a, N: Names>(
+pub(crate) fn put_symbol<'a, N: Names>(
     symbol: Symbol,
     words: &'a [u64],
     names: &N,
@@ -266,7 +266,7 @@ fn put_word<N: Names>(
 
 // Appends bytes.
 #[inline]
-fn put_bytes(out: &mut Vec<u8>, bytes: &[u8]) -> Result<(), AllocError>
+pub(crate) fn put_bytes(out: &mut Vec<u8>, bytes: &[u8]) -> Result<(), AllocError>
     ensures put { OnOk result (out.new.items ≡ out.old.items ++ bytes.now) }
     ensures front { IsPrefix out.old.items out.new.items }
 {
