@@ -6,15 +6,15 @@ use Rattle.command_words.specs.Asked.{AreTaken, Asked, Asks, HaveGoodNumbers, Is
 use Rattle.command_words.specs.declared.command.Command.{Command}
 use Rattle.command_words.specs.declared.command.WordsRefusal.{WordsRefusal}
 use Rattle.command_words.specs.declared.command.WordsRefusal.TheVariants.{Usage as WordsUsage, OutOfMemory as WordsOutOfMemory}
-use Rattle.clp_commands.specs.Around.{Around}
+use Rattle.command_refusals.specs.Outside.{Outside}
 use Rattle.clp_commands.specs.Answers.{Answers, AnswersAsked, RefusesAtOnce}
-use Rattle.clp_commands.specs.Outcome.{of_words}
+use Rattle.command_refusals.specs.Outcome.{of_words}
 
 -- words that were read ask for one thing alone
 only : (words : List (List ℕ)) (read : Result Command WordsRefusal) (command : Command) → read ≡ Ok command → ((a : Asked) → Asks words a → IsAnswer a read) → (a : Asked) → Asks words a → asked_by command ≡ a
 only words read command is all a asks = subst (IsAnswer a) is (all a asks)
 
-pub Answers-asked : (words : List (List ℕ)) (seen : Around) (old new : DiskState) (status : ℕ) (read : Result Command WordsRefusal) (command : Command) (a : Asked) → read ≡ Ok command → Asks words a → ((b : Asked) → Asks words b → IsAnswer b read)
+pub Answers-asked : (words : List (List ℕ)) (seen : Outside) (old new : DiskState) (status : ℕ) (read : Result Command WordsRefusal) (command : Command) (a : Asked) → read ≡ Ok command → Asks words a → ((b : Asked) → Asks words b → IsAnswer b read)
     → AnswersAsked a seen old new status → Answers words seen old new status
 Answers-asked words seen old new status read command a is asks all answers = inr (record {
   usage = λ none. absurd (none a asks);
@@ -26,7 +26,7 @@ Answers-asked words seen old new status read command a is asks all answers = inr
     same b also = let one = only words read command is all a asks in let other = only words read command is all b also in cc
 
 -- words that ask for nothing, or that there was no memory to read
-pub Answers-refused : (words : List (List ℕ)) (seen : Around) (old new : DiskState) (status : ℕ) (read : Result Command WordsRefusal) (refusal : WordsRefusal) → read ≡ Err refusal → ((a : Asked) → Asks words a → IsAnswer a read)
+pub Answers-refused : (words : List (List ℕ)) (seen : Outside) (old new : DiskState) (status : ℕ) (read : Result Command WordsRefusal) (refusal : WordsRefusal) → read ≡ Err refusal → ((a : Asked) → Asks words a → IsAnswer a read)
     → (AreTaken words → HaveGoodNumbers words → IfErr read (λ r. r ≡ WordsOutOfMemory)) → RefusesAtOnce seen old new status (of_words refusal) → Answers words seen old new status
 Answers-refused words seen old new status read WordsUsage is all taken refuses = inr (record {
   usage = λ _. refuses;
