@@ -7,7 +7,8 @@ use Rattle.command_words.specs.declared.command.Command.{Command}
 use Rattle.command_words.specs.declared.command.WordsRefusal.{WordsRefusal}
 use Rattle.command_words.specs.declared.command.WordsRefusal.TheVariants.{Usage as WordsUsage, OutOfMemory as WordsOutOfMemory}
 use Rattle.command_refusals.specs.Outside.{Outside}
-use Rattle.clp_commands.specs.Answers.{Answers, AnswersAsked, RefusesAtOnce}
+use Rattle.command_refusals.specs.Ending.{RefusesAtOnce}
+use Rattle.clp_commands.specs.Answers.{Answers, AnswersAsked}
 use Rattle.command_refusals.specs.Outcome.{of_words}
 
 -- words that were read ask for one thing alone

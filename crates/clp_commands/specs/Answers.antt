@@ -1,10 +1,9 @@
 -- What a call of the program answers, by what its words ask for.
-use Rattle.std.specs.Prelude.{◌≡◌, ◌⊎◌, ℕ, List}
-use Rattle.log_seams.specs.Disk.{DiskState, KeepsBytes}
+use Rattle.std.specs.Prelude.{◌⊎◌, ℕ, List}
+use Rattle.log_seams.specs.Disk.{DiskState}
 use Rattle.command_words.specs.Asked.{AreTaken, Asked, Asks, HaveGoodNumbers, to_bench, to_check, to_create, to_decode, to_ingest, to_list, to_scan, to_search, to_show}
 use Rattle.command_refusals.specs.Outside.{Outside}
-use Rattle.command_refusals.specs.Ending.{Refuses, Stayed}
-use Rattle.command_refusals.specs.declared.refusal.Refusal.{Refusal}
+use Rattle.command_refusals.specs.Ending.{RefusesAtOnce}
 use Rattle.command_refusals.specs.declared.refusal.Refusal.TheVariants.{Usage, OutOfMemory}
 use Rattle.log_commands.specs.LogAnswers.{AnswersLog, AnswersScan}
 use Rattle.log_commands.specs.Shown.{Shows}
@@ -16,15 +15,6 @@ use Rattle.write_commands.specs.Benched.{AnswersBench}
 use Rattle.write_commands.specs.Ingested.{AnswersIngest}
 use Rattle.write_commands.specs.Made.{AnswersCreate}
 use Rattle.clp_commands.specs.Words.{AskSomething, IsUsage}
-
--- The call was refused before anything was touched: the disk, the outputs and the logs are as they were.
-pub record RefusesAtOnce (seen : Outside) (old new : DiskState) (status : ℕ) (refusal : Refusal) : Type 0 where
-  pub refuses : Refuses seen status refusal
-  pub bytes : KeepsBytes old new
-  pub ranges : new.ranges ≡ old.ranges
-  pub faults : new.faults ≡ old.faults
-  pub opens : (name : List ℕ) → Stayed (seen.opens name)
-  pub reads : (name : List ℕ) → Stayed (seen.reads name)
 
 -- What a command answers.
 abbrev pub AnswersAsked : Asked → Outside → DiskState → DiskState → ℕ → Type 0

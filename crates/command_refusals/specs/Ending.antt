@@ -1,5 +1,6 @@
 -- How a call ends: its status, and its line on the error output.
 use Rattle.std.specs.Prelude.{◌≡◌, ◌⊎◌, ℕ, List, [], Option, Some, None}
+use Rattle.log_seams.specs.Disk.{DiskState, KeepsBytes}
 use Rattle.log_seams.specs.Outside.{Adds, Rose}
 use Rattle.command_refusals.specs.Outside.{Outside}
 use Rattle.command_refusals.specs.Refusal.{Says, status_of, line_of}
@@ -50,9 +51,26 @@ pub record Refuses (seen : Outside) (status : ℕ) (refusal : Refusal) : Type 0 
   pub nothing : TookNothing seen.out
   pub sink : Stayed seen.out_faults
 
--- A pattern with a lone backslash at this place is refused, or there is no memory to read it.
+-- The call was refused before anything was printed and before a log was touched.
+pub record RefusesSoon (seen : Outside) (status : ℕ) (refusal : Refusal) : Type 0 where
+  pub refuses : Refuses seen status refusal
+  pub opens : (name : List ℕ) → Stayed (seen.opens name)
+  pub reads : (name : List ℕ) → Stayed (seen.reads name)
+
+-- The call was refused before anything was touched: the disk, the outputs and the logs are as they were.
+pub record RefusesAtOnce (seen : Outside) (old new : DiskState) (status : ℕ) (refusal : Refusal) : Type 0 where
+  pub soon : RefusesSoon seen status refusal
+  pub bytes : KeepsBytes old new
+  pub ranges : new.ranges ≡ old.ranges
+  pub faults : new.faults ≡ old.faults
+
+-- A pattern with a lone backslash at this place is refused before a log is touched, or there is no memory to read it.
 abbrev pub RefusesPattern : Outside → ℕ → ℕ → Type 0
-RefusesPattern seen status at = Refuses seen status (BadPattern at) ⊎ Refuses seen status OutOfMemory
+RefusesPattern seen status at = RefusesSoon seen status (BadPattern at) ⊎ RefusesSoon seen status OutOfMemory
+
+-- the same before the archive is touched
+abbrev pub RefusesPatternAtOnce : Outside → DiskState → DiskState → ℕ → ℕ → Type 0
+RefusesPatternAtOnce seen old new status at = RefusesAtOnce seen old new status (BadPattern at) ⊎ RefusesAtOnce seen old new status OutOfMemory
 
 -- A pattern is refused with the place of its lone backslash, or for want of memory.
 abbrev pub IsPatternRefusal : List ℕ → PatternRefusal → Type 0

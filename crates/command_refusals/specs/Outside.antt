@@ -26,8 +26,17 @@ around content unread open_faults read_faults written faults shelf shelf_after o
   err_faults = (faults err, faults err_after);
 }
 
--- what two sinks tell around a call, whatever the logs tell
+-- what two sinks tell around a call that touches no log, whatever the logs tell
 abbrev pub AroundSinks : {K : Type 0} → (K → Option (List ℕ)) → (K → ℕ) → K → K → K → K → (Outside → Type 0) → Type 0
 AroundSinks written faults out out_after err err_after P =
-    (content unread : List ℕ → Option (List ℕ)) (opens reads : List ℕ → ℕ × ℕ)
-    → P (record { content = content; unread = unread; opens = opens; reads = reads; out = (written out, written out_after); out_faults = (faults out, faults out_after); err = (written err, written err_after); err_faults = (faults err, faults err_after) })
+    (content unread : List ℕ → Option (List ℕ)) (opens reads : List ℕ → ℕ)
+    → P (record {
+      content = content;
+      unread = unread;
+      opens = λ name. (opens name, opens name);
+      reads = λ name. (reads name, reads name);
+      out = (written out, written out_after);
+      out_faults = (faults out, faults out_after);
+      err = (written err, written err_after);
+      err_faults = (faults err, faults err_after);
+    })

@@ -91,7 +91,7 @@ pending_front pending rest (Some behind) e = (behind, cc, refl)
 -- a refusal
 pub Stage-refused : {S : Type 0} (tells : ℕ → List ℕ → List ℕ → Type 0) (left : S → Option (List ℕ)) (faults : S → ℕ) (bytes : Option (List ℕ)) (c d : CutterState S) (cut : Cut) (text : List ℕ) → c.max_line ≡ most_bytes → c.max_lines ≡ most_messages → c.progress ≡ Open → Stage tells left bytes c text → RefusedBy left faults c d cut → IfSome bytes (λ b. ComesTo tells (Some (refusal_of cut)) b (left d.source) text)
 Stage-refused tells left faults bytes c d ReadFault text size count is_open (inl s) r =
-    if_some bytes (λ b t. let front = pending_front d.pending t.rest (left d.source) (r.left_same ∙ t.is) in (front.0, front.2, Reads-before tells b t.rest d.pending front.0 c.given text t.reads (r.cause is_open).no_newline front.1)) s.1
+    if_some bytes (λ b t. let front = pending_front d.pending t.rest (left d.source) (r.left_same ∙ t.is) in (front.0, front.2, Reads-before tells b t.rest d.pending front.0 c.given text t.reads (r.cause is_open).no_newline (omega (arith, (r.cause is_open).short, size)) (λ full. (r.cause is_open).at_limit (full ∙ sym count)) front.1)) s.1
 Stage-refused tells left faults bytes c d ReadFault text size count is_open (inr s) r = absurd (differ (sym is_open ∙ s.0))
   where
     differ : Open ≡ Ended → ⊥

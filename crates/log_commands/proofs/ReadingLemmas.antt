@@ -79,8 +79,8 @@ Reads-first tells bytes left given text r = record {
     front = ap (λ n. take n (r.lines ++ rest.messages)) (sym r.count) ∙ take-append_seam r.lines rest.messages
 
 -- a read failed behind a line that was begun
-pub Reads-before : (tells : ℕ → List ℕ → List ℕ → Type 0) (bytes left begun unread : List ℕ) (given : ℕ) (text : List ℕ) → Reads tells bytes left given text → IsLine begun → left ≡ begun ++ unread → PrintsBefore tells bytes unread text
-Reads-before tells bytes left begun unread given text r is e = record {
+pub Reads-before : (tells : ℕ → List ℕ → List ℕ → Type 0) (bytes left begun unread : List ℕ) (given : ℕ) (text : List ℕ) → Reads tells bytes left given text → IsLine begun → length begun ≤ most_bytes → (given ≡ most_messages → begun ≡ []) → left ≡ begun ++ unread → PrintsBefore tells bytes unread text
+Reads-before tells bytes left begun unread given text r is short none e = record {
   lines = r.lines;
   begun = begun;
   are = r.begin.lines_are;
@@ -88,6 +88,8 @@ Reads-before tells bytes left begun unread given text r is e = record {
   begins = r.begin.splits ∙ ap (λ l. joined r.lines ++ l) e;
   few = omega (arith, r.count, r.few);
   short = r.short;
+  short_yet = short;
+  none_behind = λ full. none (sym r.count ∙ full);
   prints = r.prints;
 }
 

@@ -49,7 +49,8 @@ pub record HasMore (bytes : List ℕ) (count : ℕ) : Type 0 where
 abbrev pub PrintsSome : (ℕ → List ℕ → List ℕ → Type 0) → List ℕ → List ℕ → Type 0
 PrintsSome tells bytes text = (count : ℕ) × PrintsFirst tells bytes count text
 
--- the text is that of the lines that ended with a newline in the bytes before these, which were not read
+-- The text is that of the lines that ended with a newline in the bytes before these, which were not read. A line that was begun is not
+-- too long yet, and none was begun behind as many as may be.
 pub record PrintsBefore (tells : ℕ → List ℕ → List ℕ → Type 0) (bytes unread text : List ℕ) : Type 0 where
   pub lines : List (List ℕ)
   pub begun : List ℕ
@@ -58,6 +59,8 @@ pub record PrintsBefore (tells : ℕ → List ℕ → List ℕ → Type 0) (byte
   pub begins : bytes ≡ joined lines ++ (begun ++ unread)
   pub few : length lines ≤ most_messages
   pub short : AreShort lines
+  pub short_yet : length begun ≤ most_bytes
+  pub none_behind : length lines ≡ most_messages → begun ≡ []
   pub prints : Prints tells 1 lines text
 
 -- The text that the printing of a log's bytes comes to when it ends with this answer, where no refusal is `None`, and

@@ -15,7 +15,7 @@ use Rattle.search_engine.specs.Scan.{AreFound, AreTried, Asked, Placed, all_plac
 use Rattle.search_engine.specs.Searched.{OfJournal, ReadsNoBarren, asked, names_of}
 use Rattle.wild_match.specs.Reading.{IsSearchPattern, IsLoneBackslash}
 use Rattle.wild_match.specs.declared.pattern.Item.{Item}
-use Rattle.command_refusals.specs.Ending.{RefusesPattern}
+use Rattle.command_refusals.specs.Ending.{RefusesPatternAtOnce}
 use Rattle.command_refusals.specs.Outside.{Outside}
 use Rattle.command_refusals.specs.Reading.{EndsReading, IsComplete}
 use Rattle.command_refusals.specs.declared.outcome.ReadRefusal.{ReadRefusal}
@@ -71,5 +71,5 @@ pub record AnswersSearch (q : Asked) (stats : Bool) (seen : Outside) (old new : 
 
 -- The messages of the archive that a pattern matches in a range were printed, or the pattern is refused.
 pub record AnswersPattern (from to : Option ℤ) (stats : Bool) (pattern : List ℕ) (seen : Outside) (old new : DiskState) (status : ℕ) : Type 0 where
-  pub lone_backslash : (at : ℕ) → IsLoneBackslash pattern at → RefusesPattern seen status at
+  pub lone_backslash : (at : ℕ) → IsLoneBackslash pattern at → RefusesPatternAtOnce seen old new status at
   pub good : (items : List Item) → IsSearchPattern pattern items → AnswersSearch (asked items (record { from = from; to = to })) stats seen old new status

@@ -8,12 +8,10 @@ pub returns-in-Err-clause-answers : goal.returns-in-Err-clause-answers
 returns-in-Err-clause-answers g c =
     Answers-refused _ _ _ _ _ c.read_words.result c.in-Err.refusal c.in-Err.is c.read_words.ensures.all c.read_words.ensures.taken
     (record {
-      refuses = record { ends = record { status_is = rw (← c.refusal_of_words.ensures) c.report.ensures.status; said = rw (← c.refusal_of_words.ensures) c.report.ensures.said }; nothing = refl; sink = refl };
+      soon = record { refuses = record { ends = record { status_is = rw (← c.refusal_of_words.ensures) c.report.ensures.status; said = rw (← c.refusal_of_words.ensures) c.report.ensures.said }; nothing = refl; sink = refl }; opens = λ name. refl; reads = λ name. refl };
       bytes = KeepsBytes-same _;
       ranges = refl;
       faults = refl;
-      opens = λ name. refl;
-      reads = λ name. refl;
     })
 
 pub returns-clause-answers : goal.returns-clause-answers

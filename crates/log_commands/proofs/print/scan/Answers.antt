@@ -11,7 +11,7 @@ pub returns-in-Ok-clause-good : goal.returns-in-Ok-clause-good
 returns-in-Ok-clause-good g c = λ items is. AnswersLog-pattern c.args.file.now _ _ items _ _ c.in-Ok.ensures.items is c.print_and_report.ensures.answers
 
 pub returns-in-Err-clause-lone : goal.returns-in-Err-clause-lone
-returns-in-Err-clause-lone g c = λ at lone. RefusesPattern-from _ c.args.file.now _ _ at c.in-Err.refusal c.in-Err.ensures.refused lone (rw (← c.refusal_of_pattern.ensures) c.report.ensures.status) (rw (← c.refusal_of_pattern.ensures) c.report.ensures.said) refl refl
+returns-in-Err-clause-lone g c = λ at lone. RefusesPattern-from _ c.args.file.now _ _ at c.in-Err.refusal c.in-Err.ensures.refused lone (rw (← c.refusal_of_pattern.ensures) c.report.ensures.status) (rw (← c.refusal_of_pattern.ensures) c.report.ensures.said) refl refl (λ n. refl) (λ n. refl)
 
 pub returns-in-Err-clause-good : goal.returns-in-Err-clause-good
 returns-in-Err-clause-good g c = λ items is. AnswersLog-refused _ _ c.args.file.now _ _ c.in-Err.refusal c.in-Err.ensures.refused (λ at lone. IsSearchPattern-not_lone _ items at is lone) (rw (← c.refusal_of_pattern.ensures) c.report.ensures.status) (rw (← c.refusal_of_pattern.ensures) c.report.ensures.said) refl refl

@@ -2,7 +2,7 @@ use Rattle.std.proofs.Common.{refl, rules, subst, []}
 use Rattle.wild_match.specs.Reading.{IsSearchPattern}
 use Rattle.wild_match.proofs.Spelling.{IsSearchPattern-not_lone}
 use Rattle.command_refusals.specs.Ending.{IsPatternRefusal}
-use Rattle.command_refusals.proofs.PatternLemmas.{RefusesPattern-from, pattern_refusal}
+use Rattle.command_refusals.proofs.PatternLemmas.{RefusesPattern-from, pattern_at_once, pattern_refusal}
 use Rattle.read_commands.proofs.CompleteLemmas.{search_answers, search_pattern, search_refused}
 use Rattle.read_commands.proofs.search.search_messages.Goals as goal
 
@@ -23,6 +23,6 @@ pub returns-in-Err-clause-answers : goal.returns-in-Err-clause-answers
 returns-in-Err-clause-answers g c = λ content unread opens reads.
     let refused = subst (λ t. IsPatternRefusal t c.in-Err.refusal) c.as_bytes.ensures.value (pattern_refusal _ _ c.in-Err.refusal c.in-Err.is c.read_pattern.ensures.bad) in
     record {
-      lone_backslash = λ at lone. RefusesPattern-from _ [] _ _ at c.in-Err.refusal refused lone (rw (← c.refusal_of_pattern.ensures) c.report.ensures.status) (rw (← c.refusal_of_pattern.ensures) c.report.ensures.said) refl refl;
+      lone_backslash = λ at lone. pattern_at_once _ _ _ at (RefusesPattern-from _ [] _ _ at c.in-Err.refusal refused lone (rw (← c.refusal_of_pattern.ensures) c.report.ensures.status) (rw (← c.refusal_of_pattern.ensures) c.report.ensures.said) refl refl (λ n. refl) (λ n. refl));
       good = λ its is. search_refused _ _ _ _ _ _ c.in-Err.refusal refused (λ at lone. IsSearchPattern-not_lone _ its at is lone) (rw (← c.refusal_of_pattern.ensures) c.report.ensures.status) (rw (← c.refusal_of_pattern.ensures) c.report.ensures.said) refl refl;
     }
