@@ -96,10 +96,10 @@ leaves_later h before es old mid new law later keeps counts leaves = record {
   since = λ c left. ⊎_elim (λ was. leaves.since c was) (λ image. leaves.since c (law.counts_now old.clock c later (keeps.no_more c image))) (keeps.time.nothing_else old.clock c later left);
 }
 
-pub takes_later : (content : List ℕ → Option (List ℕ)) (names : List (List ℕ)) (came : List FileOutcome) (old mid new : DiskState) → IsLawful mid → old.clock ≤ mid.clock → KeepsBytes mid new → mid.faults ≤ new.faults
-    → FromArchive old (λ h before bytes stood. TakesIn content h before stood names came old mid) → FromArchive old (λ h before bytes stood. TakesIn content h before stood names came old new)
-takes_later content names came old mid new law later keeps counts =
-    from_archive old old (λ h before bytes stood. TakesIn content h before stood names came old mid) (λ h before bytes stood. TakesIn content h before stood names came old new) refl (λ c image. image)
+pub takes_later : {rows : ℕ} (content : List ℕ → Option (List ℕ)) (names : List (List ℕ)) (came : List FileOutcome) (old mid new : DiskState) → IsLawful mid → old.clock ≤ mid.clock → KeepsBytes mid new → mid.faults ≤ new.faults
+    → FromArchive old (λ h before bytes stood. TakesIn rows content h before stood names came old mid) → FromArchive old (λ h before bytes stood. TakesIn rows content h before stood names came old new)
+takes_later {rows} content names came old mid new law later keeps counts =
+    from_archive old old (λ h before bytes stood. TakesIn rows content h before stood names came old mid) (λ h before bytes stood. TakesIn rows content h before stood names came old new) refl (λ c image. image)
     (λ h before bytes stood only takes. record {
       added = takes.added;
       each = takes.each;
@@ -107,6 +107,7 @@ takes_later content names came old mid new law later keeps counts =
       files = takes.files;
       content_is = takes.content_is;
       fronts = takes.fronts;
+      cuts = takes.cuts;
     })
 
 pub sums_sooner : (came : List FileOutcome) (seen : Outside) (old mid new : DiskState) (status : ℕ) → old.faults ≤ mid.faults → SumsUp came seen mid new status → SumsUp came seen old new status
@@ -121,7 +122,7 @@ sums_sooner came seen old mid new status low sums = record {
 }
 
 pub logs_added : (content : List ℕ → Option (List ℕ)) (workers : ℕ) (names : List (List ℕ)) (files : List FileReport) (seen : Outside) (old mid new : DiskState) (status : ℕ) → names ≡ generated_names → names_of files ≡ names → IsLawful mid → DiskGoesOn old mid
-    → KeepsBytes mid new → mid.faults ≤ new.faults → FromArchive old (λ h before bytes stood. TakesIn content h before stood names (map came_of files) old mid)
+    → KeepsBytes mid new → mid.faults ≤ new.faults → FromArchive old (λ h before bytes stood. TakesIn segment_rows content h before stood names (map came_of files) old mid)
     → HaveFileCauses (logs_of (with_logs content seen)) workers segment_rows old new (map came_of files) → All IsSpared (map came_of files) → TellsParts (map came_of files) seen status ⊎ SumsUp (map came_of files) seen mid new status
     → EndsLogs content workers seen old new status
 logs_added content workers names files seen old mid new status four named law goes keeps counts takes causes spared told =

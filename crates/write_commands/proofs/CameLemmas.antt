@@ -43,7 +43,7 @@ refused_all workers rows names seen old new status refusal is said nothing sink 
     inl (record { refusal = refusal; ends = record { status_is = is; said = said }; nothing = nothing; sink = sink; cause = cause; disk = disk })
 
 module _ (one : OneListOfParts) (workers rows : ℕ) (names : List (List ℕ)) (seen : Outside) (old new : DiskState) (tells : is_some new.seen ≡ is_some old.seen) (status first : ℕ) (files : List FileReport) (named : names_of files ≡ names)
-    (numbered : OverJournal old.seen (λ journal. first ≡ length journal.names)) (disk : FromArchive old (λ h before bytes stood. TakesIn seen.content h before stood names (map came_of files) old new)) (caused : HaveFileCauses (logs_of seen) workers rows old new (map came_of files)) where
+    (numbered : OverJournal old.seen (λ journal. first ≡ length journal.names)) (disk : FromArchive old (λ h before bytes stood. TakesIn rows seen.content h before stood names (map came_of files) old new)) (caused : HaveFileCauses (logs_of seen) workers rows old new (map came_of files)) where
   printed_came : PrintsCame (map came_of files) first seen status → AnswersIngest workers rows names seen old new status
   printed_came printed = inr (record {
     adds = record { came = map came_of files; first = first; names_are = names_came files ∙ named; numbered = numbered; disk = disk; printed = printed };

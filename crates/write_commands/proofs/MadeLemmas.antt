@@ -120,11 +120,11 @@ module _ (old mid : DiskState) (made : MakesEmpty default_header old mid) (tells
   nothing_from new from =
       from_empty (λ h before bytes stood. TakesNothing h before mid new) (λ start bytes stood. TakesNothing default_header [] start new) from (λ bytes stood nothing. record { leaves = leaves_from [] new nothing.leaves })
 
-  takes_from : (content : List ℕ → Option (List ℕ)) (came : List FileOutcome) (new : DiskState) → FromArchive mid (λ h before bytes stood. TakesIn content h before stood generated_names came mid new)
-      → FromEmpty old (λ from bytes stood. TakesIn content default_header [] stood generated_names came from new)
+  takes_from : (content : List ℕ → Option (List ℕ)) (came : List FileOutcome) (new : DiskState) → FromArchive mid (λ h before bytes stood. TakesIn segment_rows content h before stood generated_names came mid new)
+      → FromEmpty old (λ from bytes stood. TakesIn segment_rows content default_header [] stood generated_names came from new)
   takes_from content came new from =
-      from_empty (λ h before bytes stood. TakesIn content h before stood generated_names came mid new) (λ start bytes stood. TakesIn content default_header [] stood generated_names came start new) from
-      (λ bytes stood takes. record { added = takes.added; each = takes.each; leaves = leaves_from _ new takes.leaves; files = takes.files; content_is = takes.content_is; fronts = takes.fronts })
+      from_empty (λ h before bytes stood. TakesIn segment_rows content h before stood generated_names came mid new) (λ start bytes stood. TakesIn segment_rows content default_header [] stood generated_names came start new) from
+      (λ bytes stood takes. record { added = takes.added; each = takes.each; leaves = leaves_from _ new takes.leaves; files = takes.files; content_is = takes.content_is; fronts = takes.fronts; cuts = takes.cuts })
 
   -- ---- causes
 
@@ -205,7 +205,7 @@ module _ (old mid : DiskState) (made : MakesEmpty default_header old mid) (tells
         in_turn = have.in_turn;
       }
 
-  all_taken : (number lines : ℕ) (came : List FileOutcome) (new : DiskState) → map (λ (c : FileOutcome). c.name) came ≡ generated_names → FromEmpty old (λ from bytes stood. TakesIn (generated number lines) default_header [] stood generated_names came from new)
+  all_taken : (number lines : ℕ) (came : List FileOutcome) (new : DiskState) → map (λ (c : FileOutcome). c.name) came ≡ generated_names → FromEmpty old (λ from bytes stood. TakesIn segment_rows (generated number lines) default_header [] stood generated_names came from new)
       → All IsTakenWhole came → IfSome old.seen (λ _. sum_by (λ (c : FileOutcome). c.messages) came ≡ 4 * lines)
   all_taken number lines came new are takes whole = IfSome_then old.seen takes (λ was took. all_counted number lines came took.1.2.1.1.files are took.1.2.1.1.fronts whole)
 

@@ -63,15 +63,15 @@ abbrev IsRefused : FileOutcome → Type 0
 IsRefused c = (c.messages ≡ 0) × (c.whole ≡ false) × (c.refusal ≡ Some Refusal.OutOfMemory)
 
 -- nothing is added of files that were not begun
-pub none_takes_into : {D : Type 0} {d : DiskGhosts D} (content : List ℕ → Option (List ℕ)) (names : List (List ℕ)) (first : ℕ) (taken : List FileReport) → names_of taken ≡ names → All IsNotBegun taken
-    → (j : Journal D d) → IsLawful (d.state j.disk.now) → MayOpen (state_of j) → TakesInto content names first (map came_of taken) (state_of j) (d.state j.disk.now)
-none_takes_into {D} {d} content names first taken named none j law may = λ h before bytes stood has number.
+pub none_takes_into : {D : Type 0} {d : DiskGhosts D} (rows : ℕ) → 0 < rows → (content : List ℕ → Option (List ℕ)) (names : List (List ℕ)) (first : ℕ) (taken : List FileReport) → names_of taken ≡ names → All IsNotBegun taken
+    → (j : Journal D d) → IsLawful (d.state j.disk.now) → MayOpen (state_of j) → TakesInto rows content names first (map came_of taken) (state_of j) (d.state j.disk.now)
+none_takes_into {D} {d} rows some content names first taken named none j law may = λ h before bytes stood has number.
     let stands = stands_named h before names (state_of j) may has in
     let nothing = All-nil (IsOfNew content h.version names (length stood.legal.held.names)) in
-    taken_in content h before names stood [] stands.0 nothing (d.state j.disk.now) (d.state j.disk.now) (same_leaves h before names j j law has law stands.1 (inl refl)) came are
+    taken_in content h before names stood [] stands.0 nothing rows (d.state j.disk.now) (d.state j.disk.now) (same_leaves h before names j j law has law stands.1 (inl refl)) came are
     (λ i c at.
     let refused = refused_at i c at in
-    none_told content h before names stood [] stands.0 nothing i c (slice_get_within names i c.name (named_at came names are i c at)) refl refused.0 refused.1 (λ spared. absurd (cc (sym refused.2 ∙ spared))))
+    none_told content h before names stood [] stands.0 nothing rows i c some (slice_get_within names i c.name (named_at came names are i c at)) refl refused.0 refused.1 (λ spared. absurd (cc (sym refused.2 ∙ spared))))
   where
     came : List FileOutcome
     came = map came_of taken
@@ -225,18 +225,18 @@ module _ {S : Type 0} (left name : S → Option (List ℕ)) (faults : S → ℕ)
 
       -- the jobs were done
       module _ {D : Type 0} {d : DiskGhosts D} (j after : Journal D d) (law : IsLawful (d.state after.disk.now)) where
-        done_takes_into : (rows : ℕ) → HasIngested (left_in left) (plan_of rows j) js js' j after → TakesInto content names first (map came_of taken) (state_of j) (d.state after.disk.now)
+        done_takes_into : (rows : ℕ) → HasIngested (left_in left) (plan_of rows j) js js' j after → TakesInto rows content names first (map came_of taken) (state_of j) (d.state after.disk.now)
         done_takes_into rows done = λ h before bytes stood has number.
             ingested_takes_in (left_in left) content h before names stood j after law has js js' (subst (λ n. AreJobsOf (left_in left) content h.version names n js) number (are_jobs_of h.version)) (map came_of taken) came_named came_of_jobs rows done
 
         -- none was begun
-        refused_takes_into : IsLawful (d.state j.disk.now) → MayOpen (state_of j) → IsAsItWas j after → AreRefused js js' → TakesInto content names first (map came_of taken) (state_of j) (d.state after.disk.now)
-        refused_takes_into law_j may stayed refused = λ h before bytes stood has number.
+        refused_takes_into : (rows : ℕ) → 0 < rows → IsLawful (d.state j.disk.now) → MayOpen (state_of j) → IsAsItWas j after → AreRefused js js' → TakesInto rows content names first (map came_of taken) (state_of j) (d.state after.disk.now)
+        refused_takes_into rows some law_j may stayed refused = λ h before bytes stood has number.
             let stands = stands_named h before names (state_of j) may has in
             refused_takes_in (left_in left) content h before names stood j after law has js js' (subst (λ n. AreJobsOf (left_in left) content h.version names n js) number (are_jobs_of h.version)) (map came_of taken) came_named came_of_jobs
-            law_j stands.1 stands.0 stayed refused
+            rows some law_j stands.1 stands.0 stayed refused
 
-        pub did_take_into : IsLawful (d.state j.disk.now) → MayOpen (state_of j) → (workers rows : ℕ) → DidJobs (left_in left) (name_in name) (faults_in faults) workers rows j after js js'
-            → TakesInto content names first (map came_of taken) (state_of j) (d.state after.disk.now)
-        did_take_into law_j may workers rows (inl done) = done_takes_into rows done.ingested
-        did_take_into law_j may workers rows (inr none) = refused_takes_into law_j may none.journal none.jobs
+        pub did_take_into : IsLawful (d.state j.disk.now) → MayOpen (state_of j) → (workers rows : ℕ) → 0 < rows → DidJobs (left_in left) (name_in name) (faults_in faults) workers rows j after js js'
+            → TakesInto rows content names first (map came_of taken) (state_of j) (d.state after.disk.now)
+        did_take_into law_j may workers rows some (inl done) = done_takes_into rows done.ingested
+        did_take_into law_j may workers rows some (inr none) = refused_takes_into rows some law_j may none.journal none.jobs

@@ -114,7 +114,7 @@ segment_rows = 65536
 pub record AddsLogs (content : List ℕ → Option (List ℕ)) (workers : ℕ) (names : List (List ℕ)) (seen : Outside) (old new : DiskState) (status : ℕ) : Type 0 where
   pub came : List FileOutcome
   pub names_are : map (λ c. c.name) came ≡ names
-  pub disk : FromArchive old (λ h before bytes stood. TakesIn content h before stood names came old new)
+  pub disk : FromArchive old (λ h before bytes stood. TakesIn segment_rows content h before stood names came old new)
   pub causes : HaveFileCauses (logs_of (with_logs content seen)) workers segment_rows old new came
   pub spared : All IsSpared came
   pub told : TellsParts came seen status ⊎ SumsUp came seen old new status
@@ -189,7 +189,7 @@ pub record RefusesLogs (seen : Outside) (old new : DiskState) (status : ℕ) : T
 pub record TakesLogs (number lines workers : ℕ) (seen : Outside) (old new : DiskState) (status : ℕ) : Type 0 where
   pub came : List FileOutcome
   pub names_are : map (λ c. c.name) came ≡ generated_names
-  pub disk : FromEmpty old (λ from bytes stood. TakesIn (generated number lines) default_header [] stood generated_names came from new)
+  pub disk : FromEmpty old (λ from bytes stood. TakesIn segment_rows (generated number lines) default_header [] stood generated_names came from new)
   pub each : All (CameOfFile segment_rows generated_names (with_logs (generated number lines) seen) (as_made old) new) came
   pub in_turn : workers ≡ 1 → AreFullInTurn segment_rows (generated number lines) (as_made old) came
   pub fits : AllFit (generated number lines) (as_made old) came

@@ -1,7 +1,7 @@
 -- What the taking of files into an archive leaves: the journal, the content of the archive, what a crash may leave of it,
 -- and what is printed.
 use Rattle.std.specs.Prelude.{◌≡◌, ◌≢◌, ◌+◌, ◌<◌, ◌≤◌, ◌⊎◌, ℕ, Bool, true, false, List, [], ◌∷◌, ◌++◌, length, map, take, All, Option, Some, None, IfSome, slice_get}
-use Rattle.std.specs.List.{AllZip, Contains, flat_map}
+use Rattle.std.specs.List.{AllZip, Contains, filter_map, flat_map}
 use mathlib.Core.List.{IsPrefix}
 use Rattle.log_seams.specs.Disk.{DiskState}
 use Rattle.log_seams.specs.Outside.{Rose}
@@ -20,7 +20,9 @@ use Rattle.row_codec.specs.declared.namer.Which.{Which}
 use Rattle.ingest_workers.specs.Causes.{limit_of}
 use Rattle.ingest_workers.specs.Full.{AreFirstOf, IsAmongFirst, IsFullBy, IsMessageAt, IsNextOf, IsTextOf}
 use Rattle.ingest_workers.specs.Ingested.{HasTextsBehind, book_texts, header_limits}
+use Rattle.ingest_workers.specs.Locked.{in_file}
 use Rattle.ingest_workers.specs.NoRoom.{HadNoRoom}
+use Rattle.ingest_workers.specs.Parts.{IsCut, IsOpen, Part, messages_in, rest_of, segments_from}
 use Rattle.message_reader.specs.Versions.{MessagesOf}
 use Rattle.sink_pieces.specs.Output.{Grew, GrewByFront}
 use Rattle.command_refusals.specs.Outside.{Outside}
@@ -96,14 +98,25 @@ pub record LeavesJournal (h : Header) (before es : List JournalEntry) (old new :
 pub record TakesNothing (h : Header) (before : List JournalEntry) (old new : DiskState) : Type 0 where
   pub leaves : LeavesJournal h before before old new
 
--- The names were added to the journal, and then what came of each file.
-pub record TakesIn {bytes : List ℕ} (content : List ℕ → Option (List ℕ)) (h : Header) (before : List JournalEntry) (stood : StandsFor bytes h before) (names : List (List ℕ)) (came : List FileOutcome) (old new : DiskState) : Type 0 where
+-- The segments of a file among the entries are the parts of its messages, in order: each is cut where it has so many rows or is full in another way, and not
+-- sooner, and the last one has the rest.
+pub record IsCutInto (rows number : ℕ) (f : File) (added : List JournalEntry) : Type 0 where
+  pub closed : List Part
+  pub rest : Part
+  pub parts : f.messages ≡ messages_in closed ++ rest.messages
+  pub cut : All (IsCut rows) closed
+  pub not_yet : IsOpen rows rest
+  pub segments : filter_map (in_file number) added ≡ segments_from number 0 closed ++ rest_of number (length (messages_in closed)) f.whole f.ended rest
+
+-- The names were added to the journal, and then what came of each file, in segments of at most so many rows.
+pub record TakesIn {bytes : List ℕ} (rows : ℕ) (content : List ℕ → Option (List ℕ)) (h : Header) (before : List JournalEntry) (stood : StandsFor bytes h before) (names : List (List ℕ)) (came : List FileOutcome) (old new : DiskState) : Type 0 where
   pub added : List JournalEntry
   pub each : All (IsOfNew content h.version names (length stood.legal.held.names)) added
   pub leaves : LeavesJournal h before (before ++ (Files names ∷ added)) old new
   pub files : List File
   pub content_is : (image : List ℕ) (stands : StandsFor image h (before ++ (Files names ∷ added))) → content_of stands.legal.held ≡ content_of stood.legal.held ++ files
   pub fronts : AllZip (IsFront content h.version) came files
+  pub cuts : (i : ℕ) (f : File) → slice_get files i ≡ Some f → IsCutInto rows (length stood.legal.held.names + i) f added
 
 -- Where the disk tells its bytes, these and each image of it stand for one journal at the start. Then this holds of it.
 abbrev pub FromArchive : DiskState → ((h : Header) (before : List JournalEntry) (bytes : List ℕ) → StandsFor bytes h before → Type 0) → Type 0
@@ -272,19 +285,19 @@ PrintsCame came first seen status =
     ⊎ (EndsWith seen [] status (Some OutOfMemory)
     × GrewByFront seen.out.0 seen.out.1 (directory_from first (map line_of_came came)) × Stayed seen.out_faults)
 
--- The names were added, from the first new number on, and the files taken in. What came of each is printed.
-pub record AddsFiles (names : List (List ℕ)) (seen : Outside) (old new : DiskState) (status : ℕ) : Type 0 where
+-- The names were added, from the first new number on, and the files taken in, in segments of at most so many rows. What came of each is printed.
+pub record AddsFiles (rows : ℕ) (names : List (List ℕ)) (seen : Outside) (old new : DiskState) (status : ℕ) : Type 0 where
   pub came : List FileOutcome
   pub first : ℕ
   pub names_are : map (λ c. c.name) came ≡ names
   pub numbered : OverJournal old.seen (λ journal. first ≡ length journal.names)
-  pub disk : FromArchive old (λ h before bytes stood. TakesIn seen.content h before stood names came old new)
+  pub disk : FromArchive old (λ h before bytes stood. TakesIn rows seen.content h before stood names came old new)
   pub printed : PrintsCame came first seen status
 
 -- The same, and what came of each file has its cause. With one worker a dictionary is full by the files up to the one that it stopped. With any number what was
 -- taken in fits in the dictionaries.
 pub record TakesFiles (workers rows : ℕ) (names : List (List ℕ)) (seen : Outside) (old new : DiskState) (status : ℕ) : Type 0 where
-  pub adds : AddsFiles names seen old new status
+  pub adds : AddsFiles rows names seen old new status
   pub each : All (CameOfFile rows names seen old new) adds.came
   pub in_turn : workers ≡ 1 → AreFullInTurn rows seen.content old adds.came
   pub fits : AllFit seen.content old adds.came

@@ -35,7 +35,8 @@ pub record AddsNamesTo (h : Header) (before : List JournalEntry) {bytes : List �
   pub number : first ≡ length stood.legal.held.names
   pub past : LeavesOnly old j.disk (StandsBetween h before (before ++ Files names ∷ []))
 
--- Where the journal is told with the names behind an archive, numbered from `first` on, the files were taken into it, with what came of them.
-abbrev pub TakesInto : (List ℕ → Option (List ℕ)) → List (List ℕ) → ℕ → List FileOutcome → JournalState → DiskState → Type 0
-TakesInto content names first came j new =
-    (h : Header) (before : List JournalEntry) (bytes : List ℕ) (stood : StandsFor bytes h before) → HasNames h before names j → first ≡ length stood.legal.held.names → TakesIn content h before stood names came j.disk new
+-- Where the journal is told with the names behind an archive, numbered from `first` on, the files were taken into it in segments of
+-- at most so many rows, with what came of them.
+abbrev pub TakesInto : ℕ → (List ℕ → Option (List ℕ)) → List (List ℕ) → ℕ → List FileOutcome → JournalState → DiskState → Type 0
+TakesInto rows content names first came j new =
+    (h : Header) (before : List JournalEntry) (bytes : List ℕ) (stood : StandsFor bytes h before) → HasNames h before names j → first ≡ length stood.legal.held.names → TakesIn rows content h before stood names came j.disk new

@@ -282,7 +282,8 @@ where
     // the disk, and the files
     ensures goes_on { HasGoneOn journal.entry result }
     ensures names { names_of taken.new.items ≡ map str_bytes asked.entry.files.now }
-    ensures taken { TakesInto (H.content shelf.old) (map str_bytes asked.entry.files.now)
+    ensures taken { TakesInto asked.entry.segment (H.content shelf.old)
+        (map str_bytes asked.entry.files.now)
         named.first (map came_of taken.new.items) (state_of journal.entry)
         (D.state result.disk.now) }
     ensures causes { All (CameIn
@@ -353,7 +354,8 @@ where
     ensures number { IfOk result (λ first.
         OverJournal (D.state disk.old).seen (λ journal. first ≡ length journal.names)) }
     ensures taken { OnOk result (FromArchive (D.state disk.old) (λ h before bytes stood.
-        TakesIn (H.content shelf.old) h before stood (map str_bytes asked.entry.files.now)
+        TakesIn asked.entry.segment (H.content shelf.old) h before stood
+        (map str_bytes asked.entry.files.now)
         (map came_of taken.new.items) (D.state disk.old) (D.state disk.new))) }
     ensures causes { OnOk result (HaveFileCauses
         (logs_around H.content H.open_faults H.read_faults shelf.old shelf.new)

@@ -38,8 +38,8 @@ returns-in-Ok-add_files-clause-ends g c = λ content unread opens reads.
     let names = map str_bytes c.log_names-names.result in
     let files = c.as_slice.ensures.value in
     let logs = ap₂ content_of c.new-shelf.ensures.number c.new-shelf.ensures.lines in
-    let told = subst (λ k. FromArchive old (λ h before bytes stood. TakesIn k h before stood names (map came_of c.add_files.new.taken.items) old mid)) logs c.in-Ok-add_files.ensures.taken in
-    let takes = subst (λ (fs : List FileReport). FromArchive old (λ h before bytes stood. TakesIn (content_of c.args.asked.number c.args.asked.lines) h before stood names (map came_of fs) old mid)) (sym files) told in
+    let told = subst (λ k. FromArchive old (λ h before bytes stood. TakesIn segment_rows k h before stood names (map came_of c.add_files.new.taken.items) old mid)) logs c.in-Ok-add_files.ensures.taken in
+    let takes = subst (λ (fs : List FileReport). FromArchive old (λ h before bytes stood. TakesIn segment_rows (content_of c.args.asked.number c.args.asked.lines) h before stood names (map came_of fs) old mid)) (sym files) told in
     let same = ap names_of files ∙ c.in-Ok-add_files.ensures.names in
     let named : map (λ (x : FileOutcome). x.name) (map came_of c.as_slice.result.now) ≡ generated_names = names_came c.as_slice.result.now ∙ (same ∙ c.log_names-names.ensures) in
     let were = subst (λ k. HaveFileCauses (record { content = k; opens = λ name. (open_faults_of c.new-shelf.result name, open_faults_of c.add_files.new.shelf name); reads = λ name. (0, 0) }) c.args.asked.workers segment_rows old mid (map came_of c.add_files.new.taken.items)) logs c.in-Ok-add_files.ensures.causes in

@@ -83,7 +83,7 @@ returns-clause-taken g c =
     let begun = c.start.ensures in
     let back = c.disk-2-1.given.1 (sym (c.take_in-journal.ensures.goes_on.name ∙ (c.open_and_register.ensures.name ∙ c.begin-journal.ensures.name))) in
     let goes = (subst (λ d. DiskGoesOn (g.D.Disk.state d) (g.D.Disk.state c.open_and_register.new.journal.disk.now)) c.begin-journal.ensures.disk c.open_and_register.ensures.goes_on) in
-    subst (λ d. FromArchive (g.D.Disk.state c.args.disk.now) (λ h before bytes stood. TakesIn (g.H.Shelf.content c.args.shelf.now) h before stood (map str_bytes c.args.asked.files.now) (map came_of c.take_in-journal.new.taken.items) (g.D.Disk.state c.args.disk.now) (g.D.Disk.state d))) (sym back)
+    subst (λ d. FromArchive (g.D.Disk.state c.args.disk.now) (λ h before bytes stood. TakesIn c.args.asked.segment (g.H.Shelf.content c.args.shelf.now) h before stood (map str_bytes c.args.asked.files.now) (map came_of c.take_in-journal.new.taken.items) (g.D.Disk.state c.args.disk.now) (g.D.Disk.state d))) (sym back)
     (takes_sooner (g.D.Disk.state c.args.disk.now) (g.D.Disk.state c.check_told.new.disk) (g.D.Disk.state c.start.new.disk) (record { law_old = law _; law_mid = law _; law_new = law _; first = told.keeps; second = begun.keeps; counts = omega (arith, told.disk.later, begun.counts.later) }) (g.H.Shelf.content c.args.shelf.now) (map str_bytes c.args.asked.files.now) c.in_ok-named.named.first (map came_of c.take_in-journal.new.taken.items) (state_of c.open_and_register.new.journal) _
     (law _) goes.counts c.take_in-journal.ensures.goes_on.disk
     (subst (λ d. FromArchive (g.D.Disk.state d) (λ h before bytes stood. AddsNamesTo h before stood (map str_bytes c.args.asked.files.now) c.in_ok-named.named.first (g.D.Disk.state d) (state_of c.open_and_register.new.journal))) c.begin-journal.ensures.disk c.in_ok-named.ensures.names)

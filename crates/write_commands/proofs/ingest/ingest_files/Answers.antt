@@ -27,7 +27,7 @@ returns-in-Ok-print_directory-clause-answers g c =
     let files = c.as_slice.ensures.value in
     let numbered = subst (λ n. OverJournal (g.D.Disk.state c.args.disk.now).seen (λ journal. n ≡ length journal.names)) (sym c.from.ensures) c.in-Ok-add_files.ensures.number in
     let caused = subst (λ (fs : List FileReport). HaveFileCauses (logs_around g.H.Shelf.content g.H.Shelf.open_faults g.H.Shelf.read_faults c.args.shelf.now c.add_files.new.shelf) c.args.asked.workers c.args.asked.segment (g.D.Disk.state c.args.disk.now) (g.D.Disk.state c.add_files.new.disk) (map came_of fs)) (sym files) c.in-Ok-add_files.ensures.causes in
-    let taken = subst (λ (fs : List FileReport). FromArchive (g.D.Disk.state c.args.disk.now) (λ h before bytes stood. TakesIn (g.H.Shelf.content c.args.shelf.now) h before stood (map str_bytes c.args.asked.files.now) (map came_of fs) (g.D.Disk.state c.args.disk.now) (g.D.Disk.state c.add_files.new.disk))) (sym files) c.in-Ok-add_files.ensures.taken in
+    let taken = subst (λ (fs : List FileReport). FromArchive (g.D.Disk.state c.args.disk.now) (λ h before bytes stood. TakesIn c.args.asked.segment (g.H.Shelf.content c.args.shelf.now) h before stood (map str_bytes c.args.asked.files.now) (map came_of fs) (g.D.Disk.state c.args.disk.now) (g.D.Disk.state c.add_files.new.disk))) (sym files) c.in-Ok-add_files.ensures.taken in
     let told = c.as_slice-in-Ok-print_directory.ensures.value in
     printed_all c.one_list_of_parts.ensures.one c.args.asked.workers c.args.asked.segment (map str_bytes c.args.asked.files.now) _ (g.D.Disk.state c.args.disk.now) (g.D.Disk.state c.add_files.new.disk) c.add_files.ensures.goes_on.tells _ c.from.result c.as_slice.result.now (ap names_of files ∙ c.in-Ok-add_files.ensures.names) numbered taken caused
     c.as_slice-in-Ok-print_directory.result.now (told ∙ sym files) c.in-Ok-print_directory.ensures.ok c.report_taken.ensures.status c.report_taken.ensures.said c.in-Ok-print_directory.ensures.cause.steady
@@ -37,7 +37,7 @@ returns-in-Err-SinkFault-clause-answers g c =
     let files = c.as_slice.ensures.value in
     let numbered = subst (λ n. OverJournal (g.D.Disk.state c.args.disk.now).seen (λ journal. n ≡ length journal.names)) (sym c.from.ensures) c.in-Ok-add_files.ensures.number in
     let caused = subst (λ (fs : List FileReport). HaveFileCauses (logs_around g.H.Shelf.content g.H.Shelf.open_faults g.H.Shelf.read_faults c.args.shelf.now c.add_files.new.shelf) c.args.asked.workers c.args.asked.segment (g.D.Disk.state c.args.disk.now) (g.D.Disk.state c.add_files.new.disk) (map came_of fs)) (sym files) c.in-Ok-add_files.ensures.causes in
-    let taken = subst (λ (fs : List FileReport). FromArchive (g.D.Disk.state c.args.disk.now) (λ h before bytes stood. TakesIn (g.H.Shelf.content c.args.shelf.now) h before stood (map str_bytes c.args.asked.files.now) (map came_of fs) (g.D.Disk.state c.args.disk.now) (g.D.Disk.state c.add_files.new.disk))) (sym files) c.in-Ok-add_files.ensures.taken in
+    let taken = subst (λ (fs : List FileReport). FromArchive (g.D.Disk.state c.args.disk.now) (λ h before bytes stood. TakesIn c.args.asked.segment (g.H.Shelf.content c.args.shelf.now) h before stood (map str_bytes c.args.asked.files.now) (map came_of fs) (g.D.Disk.state c.args.disk.now) (g.D.Disk.state c.add_files.new.disk))) (sym files) c.in-Ok-add_files.ensures.taken in
     printed_some c.one_list_of_parts.ensures.one c.args.asked.workers c.args.asked.segment (map str_bytes c.args.asked.files.now) _ (g.D.Disk.state c.args.disk.now) (g.D.Disk.state c.add_files.new.disk) c.add_files.ensures.goes_on.tells _ c.from.result c.as_slice.result.now (ap names_of files ∙ c.in-Ok-add_files.ensures.names) numbered taken caused
     c.in-Err-SinkFault.ensures.err c.report-in-Err-SinkFault.ensures.status c.report-in-Err-SinkFault.ensures.said (search rules)
 
@@ -46,7 +46,7 @@ returns-in-Ok-add_files-clause-answers g c =
     let files = c.as_slice.ensures.value in
     let numbered = subst (λ n. OverJournal (g.D.Disk.state c.args.disk.now).seen (λ journal. n ≡ length journal.names)) (sym c.from.ensures) c.in-Ok-add_files.ensures.number in
     let caused = subst (λ (fs : List FileReport). HaveFileCauses (logs_around g.H.Shelf.content g.H.Shelf.open_faults g.H.Shelf.read_faults c.args.shelf.now c.add_files.new.shelf) c.args.asked.workers c.args.asked.segment (g.D.Disk.state c.args.disk.now) (g.D.Disk.state c.add_files.new.disk) (map came_of fs)) (sym files) c.in-Ok-add_files.ensures.causes in
-    let taken = subst (λ (fs : List FileReport). FromArchive (g.D.Disk.state c.args.disk.now) (λ h before bytes stood. TakesIn (g.H.Shelf.content c.args.shelf.now) h before stood (map str_bytes c.args.asked.files.now) (map came_of fs) (g.D.Disk.state c.args.disk.now) (g.D.Disk.state c.add_files.new.disk))) (sym files) c.in-Ok-add_files.ensures.taken in
+    let taken = subst (λ (fs : List FileReport). FromArchive (g.D.Disk.state c.args.disk.now) (λ h before bytes stood. TakesIn c.args.asked.segment (g.H.Shelf.content c.args.shelf.now) h before stood (map str_bytes c.args.asked.files.now) (map came_of fs) (g.D.Disk.state c.args.disk.now) (g.D.Disk.state c.add_files.new.disk))) (sym files) c.in-Ok-add_files.ensures.taken in
     printed_short c.one_list_of_parts.ensures.one c.args.asked.workers c.args.asked.segment (map str_bytes c.args.asked.files.now) _ (g.D.Disk.state c.args.disk.now) (g.D.Disk.state c.add_files.new.disk) c.add_files.ensures.goes_on.tells _ c.from.result c.as_slice.result.now (ap names_of files ∙ c.in-Ok-add_files.ensures.names) numbered taken caused
     c.in-Err-OutOfMemory.ensures.err c.report-in-Err-OutOfMemory.ensures.status c.report-in-Err-OutOfMemory.ensures.said (search rules)
 
