@@ -1,5 +1,5 @@
 -- Words ask for one thing alone, so what that answers is what the program answers.
-use Rattle.std.proofs.Common.{◌≡◌, ◌≢◌, ◌≤◌, arith, refl, subst, inl, inr, ℕ, List, [], ◌∷◌, length, map, Result, Ok, Err}
+use Rattle.std.proofs.Common.{◌≡◌, ◌≢◌, ◌≤◌, arith, refl, subst, inl, inr, ℕ, List, [], ◌∷◌, length, map, Option, Some, Result, Ok, Err}
 use Rattle.std.specs.Prelude.{IfErr}
 use Rattle.log_seams.specs.Disk.{DiskState}
 use Rattle.command_words.specs.Asked.{AreTaken, Asked, Asks, HaveGoodNumbers, IsAnswer, asked_by}
@@ -8,6 +8,9 @@ use Rattle.command_words.specs.declared.command.WordsRefusal.{WordsRefusal}
 use Rattle.command_words.specs.declared.command.WordsRefusal.TheVariants.{Usage as WordsUsage, OutOfMemory as WordsOutOfMemory}
 use Rattle.command_refusals.specs.Outside.{Outside}
 use Rattle.command_refusals.specs.Ending.{RefusesAtOnce}
+use Rattle.command_refusals.specs.declared.refusal.Refusal.{Refusal}
+use Rattle.write_commands.specs.Names.{RefusesNames}
+use Rattle.write_commands.specs.Ingested.{AnswersIngest, EndsIngest}
 use Rattle.clp_commands.specs.Answers.{Answers, AnswersAsked}
 use Rattle.command_refusals.specs.Outcome.{of_words}
 
@@ -43,3 +46,8 @@ Answers-refused words seen old new status read WordsOutOfMemory is all taken ref
 pub some_of : {A B : Type 0} (f : A → B) (xs : List A) → map f xs ≢ [] → 1 ≤ length xs
 some_of f [] some = absurd (some refl)
 some_of f (x ∷ xs) some = omega arith
+
+-- what `ingest` answers, by its names and by how it ends
+pub ingest_answers : (workers rows : ℕ) (names : List (List ℕ)) (seen : Outside) (old new : DiskState) (status : ℕ) → ((refusal : Refusal) → RefusesNames names (Some refusal) → RefusesAtOnce seen old new status refusal)
+    → EndsIngest workers rows names seen old new status → AnswersIngest workers rows names seen old new status
+ingest_answers workers rows names seen old new status first ends = record { names_first = first; ends = ends }

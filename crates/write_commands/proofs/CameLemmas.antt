@@ -8,7 +8,7 @@ use Rattle.sink_pieces.specs.Output.{Grew, GrewByFront}
 use Rattle.command_refusals.specs.Outside.{Outside}
 use Rattle.file_lines.specs.Directory.{FileLine, directory_from}
 use Rattle.command_refusals.specs.Ending.{EndsWith, RoseIn, SaysIn, Stayed, TookNothing}
-use Rattle.write_commands.specs.Ingested.{AnswersIngest, FileOutcome, FromArchive, HasCallCause, PrintsCame, TakesIn, TakesNothing, line_of_came}
+use Rattle.write_commands.specs.Ingested.{EndsIngest, FileOutcome, FromArchive, HasCallCause, PrintsCame, TakesIn, TakesNothing, line_of_came}
 use Rattle.write_commands.specs.IngestPrints.{came_of, names_of}
 use Rattle.write_commands.specs.StepsCauses.{HaveFileCauses, logs_of}
 use Rattle.command_refusals.specs.Reading.{OverJournal}
@@ -38,13 +38,13 @@ errors_came (file ∷ files) = ap (λ text. error_of file ++ text) (errors_came 
 
 -- the call was refused as a whole
 pub refused_all : (workers rows : ℕ) (names : List (List ℕ)) (seen : Outside) (old new : DiskState) (status : ℕ) (refusal : Refusal) → status ≡ status_of refusal → SaysIn seen (line_of [] refusal) → TookNothing seen.out → Stayed seen.out_faults
-    → HasCallCause names old new refusal → FromArchive old (λ h before bytes stood. TakesNothing h before old new) → AnswersIngest workers rows names seen old new status
+    → HasCallCause names old new refusal → FromArchive old (λ h before bytes stood. TakesNothing h before old new) → EndsIngest workers rows names seen old new status
 refused_all workers rows names seen old new status refusal is said nothing sink cause disk =
     inl (record { refusal = refusal; ends = record { status_is = is; said = said }; nothing = nothing; sink = sink; cause = cause; disk = disk })
 
 module _ (one : OneListOfParts) (workers rows : ℕ) (names : List (List ℕ)) (seen : Outside) (old new : DiskState) (tells : is_some new.seen ≡ is_some old.seen) (status first : ℕ) (files : List FileReport) (named : names_of files ≡ names)
     (numbered : OverJournal old.seen (λ journal. first ≡ length journal.names)) (disk : FromArchive old (λ h before bytes stood. TakesIn rows seen.content h before stood names (map came_of files) old new)) (caused : HaveFileCauses (logs_of seen) workers rows old new (map came_of files)) where
-  printed_came : PrintsCame (map came_of files) first seen status → AnswersIngest workers rows names seen old new status
+  printed_came : PrintsCame (map came_of files) first seen status → EndsIngest workers rows names seen old new status
   printed_came printed = inr (record {
     adds = record { came = map came_of files; first = first; names_are = names_came files ∙ named; numbered = numbered; disk = disk; printed = printed };
     each = file_causes workers rows names seen old new (map came_of files) (names_came files ∙ named) caused;
@@ -54,7 +54,7 @@ module _ (one : OneListOfParts) (workers rows : ℕ) (names : List (List ℕ)) (
 
   -- all lines were printed
   pub printed_all : (told : List FileReport) → told ≡ files → Grew seen.out.0 seen.out.1 (directory_from first (map line_of_taken files)) → status ≡ status_of_taken told → SaysIn seen (flat_map error_of told) → Stayed seen.out_faults
-      → AnswersIngest workers rows names seen old new status
+      → EndsIngest workers rows names seen old new status
   printed_all told same grew is said sink = printed_came (inl (
     is ∙ (ap status_of_taken same ∙ ap gravest (statuses_came files)),
     subst (λ (ls : List FileLine). Grew seen.out.0 seen.out.1 (directory_from first ls)) (lines_came files) grew,
@@ -66,9 +66,9 @@ module _ (one : OneListOfParts) (workers rows : ℕ) (names : List (List ℕ)) (
   front_came grew = subst (λ (ls : List FileLine). GrewByFront seen.out.0 seen.out.1 (directory_from first ls)) (lines_came files) grew
 
   -- the output failed
-  pub printed_some : GrewByFront seen.out.0 seen.out.1 (directory_from first (map line_of_taken files)) → status ≡ status_of SinkFault → SaysIn seen (line_of [] SinkFault) → RoseIn seen.out_faults → AnswersIngest workers rows names seen old new status
+  pub printed_some : GrewByFront seen.out.0 seen.out.1 (directory_from first (map line_of_taken files)) → status ≡ status_of SinkFault → SaysIn seen (line_of [] SinkFault) → RoseIn seen.out_faults → EndsIngest workers rows names seen old new status
   printed_some grew is said rose = printed_came (inr (inl (record { status_is = is; said = said }, front_came grew, rose)))
 
   -- there was no memory for the lines
-  pub printed_short : GrewByFront seen.out.0 seen.out.1 (directory_from first (map line_of_taken files)) → status ≡ status_of OutOfMemory → SaysIn seen (line_of [] OutOfMemory) → Stayed seen.out_faults → AnswersIngest workers rows names seen old new status
+  pub printed_short : GrewByFront seen.out.0 seen.out.1 (directory_from first (map line_of_taken files)) → status ≡ status_of OutOfMemory → SaysIn seen (line_of [] OutOfMemory) → Stayed seen.out_faults → EndsIngest workers rows names seen old new status
   printed_short grew is said sink = printed_came (inr (inr (record { status_is = is; said = said }, front_came grew, sink)))

@@ -27,7 +27,7 @@ use Rattle.message_reader.specs.Versions.{MessagesOf}
 use Rattle.sink_pieces.specs.Output.{Grew, GrewByFront}
 use Rattle.command_refusals.specs.Outside.{Outside}
 use Rattle.file_lines.specs.Directory.{FileLine, directory_from}
-use Rattle.command_refusals.specs.Ending.{EndsWith, RoseIn, SaysIn, Stayed, TookNothing}
+use Rattle.command_refusals.specs.Ending.{EndsWith, RefusesAtOnce, RoseIn, SaysIn, Stayed, TookNothing}
 use Rattle.write_commands.specs.Names.{RefusesMore, RefusesNames}
 use Rattle.command_refusals.specs.LogLimits.{IsLong, most_messages}
 use Rattle.command_refusals.specs.Reading.{OverJournal}
@@ -302,6 +302,11 @@ pub record TakesFiles (workers rows : ℕ) (names : List (List ℕ)) (seen : Out
   pub in_turn : workers ≡ 1 → AreFullInTurn rows seen.content old adds.came
   pub fits : AllFit seen.content old adds.came
 
--- What `ingest` answers, which has so many workers, and cuts files into segments of at most so many rows.
-abbrev pub AnswersIngest : ℕ → ℕ → List (List ℕ) → Outside → DiskState → DiskState → ℕ → Type 0
-AnswersIngest workers rows names seen old new status = RefusesIngest names seen old new status ⊎ TakesFiles workers rows names seen old new status
+-- How `ingest` ends, which has so many workers, and cuts files into segments of at most so many rows.
+abbrev pub EndsIngest : ℕ → ℕ → List (List ℕ) → Outside → DiskState → DiskState → ℕ → Type 0
+EndsIngest workers rows names seen old new status = RefusesIngest names seen old new status ⊎ TakesFiles workers rows names seen old new status
+
+-- What `ingest` answers. Names that are refused by themselves are refused before all else, whatever the disk tells, and nothing is touched.
+pub record AnswersIngest (workers rows : ℕ) (names : List (List ℕ)) (seen : Outside) (old new : DiskState) (status : ℕ) : Type 0 where
+  pub names_first : (refusal : Refusal) → RefusesNames names (Some refusal) → RefusesAtOnce seen old new status refusal
+  pub ends : EndsIngest workers rows names seen old new status

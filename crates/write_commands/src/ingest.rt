@@ -8,14 +8,16 @@ ghost use Rattle.ingest_workers.specs.Outcome.{nothing_done};
 ghost use Rattle.command_refusals.specs.Outside.{around};
 ghost use Rattle.log_sources.specs.Sources.{CameOf, is_opened, refusal_of, str_bytes};
 ghost use Rattle.command_refusals.specs.GoesOn.{DiskGoesOn, OutsideGoesOn};
-ghost use Rattle.write_commands.specs.Ingested.{AnswersIngest, FromArchive, HasCallCause, TakesIn, TakesNothing};
+ghost use Rattle.write_commands.specs.Ingested.{EndsIngest, FromArchive, HasCallCause, TakesIn, TakesNothing};
 ghost use Rattle.write_commands.specs.IngestPrints.{came_of, names_of};
 ghost use Rattle.write_commands.specs.Jobs.{DidJobs, IsNotBegun, IsToldBy, opens_of, refusal_by, sources_of};
 ghost use Rattle.write_commands.specs.StepsCauses.{AreFullInto, CameIn, HaveFileCauses, into_journal, logs_around};
 ghost use Rattle.write_commands.specs.JournalLeft.{TakesInto};
 ghost use Rattle.write_commands.specs.Names.{RefusesNames};
 ghost use Rattle.write_commands.specs.Naming.{AreNumbered, HasGoneOn, IsNamed};
+ghost use Rattle.command_refusals.specs.Ending.{RefusesAtOnce};
 ghost use Rattle.command_refusals.specs.Reading.{OverJournal};
+ghost use Rattle.command_refusals.specs.declared.refusal.Refusal.{Refusal};
 
 use crate::file_report::{FileReport, report_taken};
 use crate::names::refuse_names;
@@ -398,7 +400,13 @@ where
     requires workers { (1 ≤ asked.workers) × (asked.workers ≤ 64) }
     requires segment { (1 ≤ asked.segment) × (asked.segment ≤ 65536) }
     requires some { 1 ≤ length asked.files.now }
-    ensures answers { AnswersIngest asked.entry.workers asked.entry.segment
+    ensures names { (refusal : Refusal)
+        → RefusesNames (map str_bytes asked.entry.files.now) (Some refusal)
+        → RefusesAtOnce
+        (around H.content H.unread H.open_faults H.read_faults K.written K.faults
+        shelf.old shelf.new out.old out.new err.old err.new)
+        (D.state disk.old) (D.state disk.new) result refusal }
+    ensures answers { EndsIngest asked.entry.workers asked.entry.segment
         (map str_bytes asked.entry.files.now)
         (around H.content H.unread H.open_faults H.read_faults K.written K.faults
         shelf.old shelf.new out.old out.new err.old err.new)

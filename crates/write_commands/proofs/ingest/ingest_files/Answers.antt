@@ -8,6 +8,8 @@ use Rattle.command_refusals.specs.declared.refusal.Refusal.TheVariants.{OutOfMem
 use Rattle.write_commands.specs.declared.file_report.FileReport.{FileReport}
 use Rattle.write_commands.proofs.CameLemmas.{printed_all, printed_short, printed_some, refused_all}
 use Rattle.write_commands.proofs.CauseLemmas.{names_cause}
+use Rattle.write_commands.proofs.NameLemmas.{none_refused, one_refusal}
+use Rattle.command_refusals.proofs.GoingLemmas.{KeepsBytes-same}
 use Rattle.write_commands.proofs.StepsLemmas.{same_nothing}
 use Rattle.write_commands.proofs.ingest.ingest_files.Goals as goal
 
@@ -53,3 +55,30 @@ returns-in-Ok-add_files-clause-answers g c =
 pub returns-clause-answers : goal.returns-clause-answers
 returns-clause-answers g c =
     refused_all c.args.asked.workers c.args.asked.segment (map str_bytes c.args.asked.files.now) _ (g.D.Disk.state c.args.disk.now) (g.D.Disk.state c.add_files.new.disk) _ c.in-Err.refusal c.report-in-Err.ensures.status c.report-in-Err.ensures.said refl refl c.in-Err.ensures.cause c.in-Err.ensures.nothing
+
+-- ---- names that are refused by themselves
+
+pub returns-in-Some-clause-names : goal.returns-in-Some-clause-names
+returns-in-Some-clause-names g c = λ refusal refused.
+    let same = one_refusal (map str_bytes c.args.asked.files.now) c.in-Some.refusal refusal (rw (c.in-Some.is) at c.refuse_names.ensures) refused in
+    rw (sym same) (record {
+      soon = record { refuses = record { ends = record { status_is = c.report.ensures.status; said = c.report.ensures.said }; nothing = refl; sink = refl }; opens = λ n. refl; reads = λ n. refl };
+      bytes = KeepsBytes-same _;
+      ranges = refl;
+      faults = refl;
+    })
+
+pub returns-in_default-with_capacity-clause-names : goal.returns-in_default-with_capacity-clause-names
+returns-in_default-with_capacity-clause-names g c = λ refusal refused. absurd (none_refused (map str_bytes c.args.asked.files.now) refusal (rw (c.in_default.is) at c.refuse_names.ensures) refused)
+
+pub returns-in-Ok-print_directory-clause-names : goal.returns-in-Ok-print_directory-clause-names
+returns-in-Ok-print_directory-clause-names g c = λ refusal refused. absurd (none_refused (map str_bytes c.args.asked.files.now) refusal (rw (c.in_default.is) at c.refuse_names.ensures) refused)
+
+pub returns-in-Err-SinkFault-clause-names : goal.returns-in-Err-SinkFault-clause-names
+returns-in-Err-SinkFault-clause-names g c = λ refusal refused. absurd (none_refused (map str_bytes c.args.asked.files.now) refusal (rw (c.in_default.is) at c.refuse_names.ensures) refused)
+
+pub returns-in-Ok-add_files-clause-names : goal.returns-in-Ok-add_files-clause-names
+returns-in-Ok-add_files-clause-names g c = λ refusal refused. absurd (none_refused (map str_bytes c.args.asked.files.now) refusal (rw (c.in_default.is) at c.refuse_names.ensures) refused)
+
+pub returns-clause-names : goal.returns-clause-names
+returns-clause-names g c = λ refusal refused. absurd (none_refused (map str_bytes c.args.asked.files.now) refusal (rw (c.in_default.is) at c.refuse_names.ensures) refused)
