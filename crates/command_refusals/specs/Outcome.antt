@@ -15,10 +15,12 @@ use Rattle.archive_check.specs.declared.checking.CheckRefusal.{CheckRefusal}
 use Rattle.sink_pieces.specs.declared.refusal.PrintRefusal.{PrintRefusal}
 use Rattle.archive_decode.specs.declared.refusal.DecodeRefusal.{DecodeRefusal}
 use Rattle.search_engine.specs.declared.refusal.SearchRefusal.{SearchRefusal}
+use Rattle.command_refusals.specs.declared.outcome.AddRefusal.{AddRefusal}
 use Rattle.command_refusals.specs.declared.outcome.FileRefusal.{FileRefusal}
+use Rattle.command_refusals.specs.declared.outcome.PartCause.{PartCause}
 use Rattle.command_refusals.specs.declared.outcome.ReadRefusal.{ReadRefusal}
 use Rattle.command_refusals.specs.declared.refusal.Refusal.{Refusal}
-use Rattle.command_refusals.specs.declared.refusal.Refusal.TheVariants.{Usage, BadPattern, OpenFault, ReadFault, LineTooLong, TooManyLines, DiskFault, Damaged, SinkFault, NotEmpty, NoSuchFile, OutOfMemory, ArchiveFull}
+use Rattle.command_refusals.specs.declared.refusal.Refusal.TheVariants.{Usage, BadPattern, OpenFault, ReadFault, LineTooLong, TooManyLines, DiskFault, Damaged, SinkFault, NotEmpty, NoSuchFile, OutOfMemory, NameTooLong, TooManyFiles, Full, ArchiveFull}
 
 -- the answer of a call that may refuse, where no refusal is `None`
 abbrev pub answer_of : {E : Type 0} → Result Unit E → Option E
@@ -99,17 +101,42 @@ from_decode at DecodeRefusal.Damaged = FileRefusal.Damaged at
 from_decode at DecodeRefusal.SinkFault = FileRefusal.SinkFault
 from_decode at DecodeRefusal.OutOfMemory = FileRefusal.OutOfMemory
 
--- of what comes before logs are taken in: the reading of the header, the opening, and the naming of the files
-abbrev pub of_start : StartRefusal → Refusal
-of_start StartRefusal.DiskFault = DiskFault
-of_start (StartRefusal.Damaged at) = Damaged at
+-- why no file was added where the check of the archive was refused, the reading of its header, the opening, and the naming of the files
+abbrev pub add_from_check : CheckRefusal → AddRefusal
+add_from_check CheckRefusal.DiskFault = AddRefusal.DiskFault
+add_from_check (CheckRefusal.Damaged at) = AddRefusal.Damaged at
+add_from_check CheckRefusal.OutOfMemory = AddRefusal.OutOfMemory
 
-abbrev pub of_archive : ArchiveRefusal → Refusal
-of_archive ArchiveRefusal.DiskFault = DiskFault
-of_archive (ArchiveRefusal.Damaged at) = Damaged at
-of_archive ArchiveRefusal.OutOfMemory = OutOfMemory
+abbrev pub add_from_start : StartRefusal → AddRefusal
+add_from_start StartRefusal.DiskFault = AddRefusal.DiskFault
+add_from_start (StartRefusal.Damaged at) = AddRefusal.Damaged at
 
-abbrev pub of_register : RegisterRefusal → Refusal
-of_register RegisterRefusal.OutOfMemory = OutOfMemory
-of_register (RegisterRefusal.ArchiveFull end need) = ArchiveFull end need
-of_register RegisterRefusal.DiskFault = DiskFault
+abbrev pub add_from_archive : ArchiveRefusal → AddRefusal
+add_from_archive ArchiveRefusal.DiskFault = AddRefusal.DiskFault
+add_from_archive (ArchiveRefusal.Damaged at) = AddRefusal.Damaged at
+add_from_archive ArchiveRefusal.OutOfMemory = AddRefusal.OutOfMemory
+
+abbrev pub add_from_register : RegisterRefusal → AddRefusal
+add_from_register RegisterRefusal.OutOfMemory = AddRefusal.OutOfMemory
+add_from_register (RegisterRefusal.ArchiveFull end need) = AddRefusal.ArchiveFull end need
+add_from_register RegisterRefusal.DiskFault = AddRefusal.DiskFault
+
+-- of a command that adds files
+abbrev pub of_add : AddRefusal → Refusal
+of_add (AddRefusal.NameTooLong index) = NameTooLong index
+of_add (AddRefusal.TooManyFiles held more) = TooManyFiles held more
+of_add (AddRefusal.ArchiveFull end need) = ArchiveFull end need
+of_add AddRefusal.DiskFault = DiskFault
+of_add (AddRefusal.Damaged at) = Damaged at
+of_add AddRefusal.OutOfMemory = OutOfMemory
+
+-- of a file that is not whole
+abbrev pub of_part : PartCause → Refusal
+of_part PartCause.OpenFault = OpenFault
+of_part PartCause.ReadFault = ReadFault
+of_part (PartCause.LineTooLong line) = LineTooLong line
+of_part PartCause.TooManyLines = TooManyLines
+of_part (PartCause.Full book count) = Full book count
+of_part (PartCause.ArchiveFull end need) = ArchiveFull end need
+of_part PartCause.DiskFault = DiskFault
+of_part PartCause.OutOfMemory = OutOfMemory

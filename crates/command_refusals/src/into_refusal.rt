@@ -1,73 +1,13 @@
 //! The printed refusal for each refusal of a command and of what it calls. Here alone one becomes the
 //! other.
 ghost use Rattle.std.specs.Prelude.{◌≡◌, option_map};
-ghost use Rattle.command_refusals.specs.declared.refusal.Refusal.TheVariants.{OutOfMemory};
-ghost use Rattle.command_refusals.specs.Outcome.{answer_of, of_archive, of_create, of_file, of_log, of_pattern, of_read, of_register, of_start, of_words};
+ghost use Rattle.command_refusals.specs.Outcome.{answer_of, of_add, of_create, of_file, of_log, of_part, of_pattern, of_read, of_words};
 
-use crate::outcome::{FileRefusal, LogRefusal, ReadRefusal};
+use crate::outcome::{AddRefusal, FileRefusal, LogRefusal, PartCause, ReadRefusal};
 use crate::refusal::Refusal;
-use archive_open::ArchiveRefusal;
 use command_words::WordsRefusal;
-use disk_journal::{CreateRefusal, StartRefusal};
-use disk_seal::RegisterRefusal;
-use std::alloc::AllocError;
+use disk_journal::CreateRefusal;
 use wild_match::PatternRefusal;
-
-impl From<AllocError> for Refusal {
-    ghost from_gives = { λ _ e. e ≡ OutOfMemory };
-
-    fn from(_: AllocError) -> Self {
-        Refusal::OutOfMemory
-    }
-}
-
-impl From<StartRefusal> for Refusal {
-    ghost from_gives = { λ r e. e ≡ of_start r };
-
-    fn from(refusal: StartRefusal) -> Self {
-        match refusal {
-            StartRefusal::DiskFault => Refusal::DiskFault,
-            StartRefusal::Damaged { at } => Refusal::Damaged { at },
-        }
-    }
-}
-
-impl From<ArchiveRefusal> for Refusal {
-    ghost from_gives = { λ r e. e ≡ of_archive r };
-
-    fn from(refusal: ArchiveRefusal) -> Self {
-        match refusal {
-            ArchiveRefusal::DiskFault => Refusal::DiskFault,
-            ArchiveRefusal::Damaged { at } => Refusal::Damaged { at },
-            ArchiveRefusal::OutOfMemory => Refusal::OutOfMemory,
-        }
-    }
-}
-
-impl From<RegisterRefusal> for Refusal {
-    ghost from_gives = { λ r e. e ≡ of_register r };
-
-    fn from(refusal: RegisterRefusal) -> Self {
-        match refusal {
-            RegisterRefusal::OutOfMemory => Refusal::OutOfMemory,
-            RegisterRefusal::ArchiveFull { end, need } => Refusal::ArchiveFull { end, need },
-            RegisterRefusal::DiskFault => Refusal::DiskFault,
-        }
-    }
-}
-
-impl From<ReadRefusal> for Refusal {
-    ghost from_gives = { λ r e. e ≡ of_read r };
-
-    fn from(refusal: ReadRefusal) -> Self {
-        match refusal {
-            ReadRefusal::DiskFault => Refusal::DiskFault,
-            ReadRefusal::Damaged { at } => Refusal::Damaged { at },
-            ReadRefusal::SinkFault => Refusal::SinkFault,
-            ReadRefusal::OutOfMemory => Refusal::OutOfMemory,
-        }
-    }
-}
 
 /// The refusal of a command that prints a log.
 pub fn refusal_of_log(outcome: Result<(), LogRefusal>) -> Option<Refusal>
@@ -141,5 +81,35 @@ pub fn refusal_of_pattern(refusal: PatternRefusal) -> Refusal
     match refusal {
         PatternRefusal::BadPattern { at } => Refusal::BadPattern { at },
         PatternRefusal::OutOfMemory => Refusal::OutOfMemory,
+    }
+}
+
+/// The refusal of the adding of files to an archive.
+pub fn refusal_of_add(refusal: AddRefusal) -> Refusal
+    ensures { result ≡ of_add refusal }
+{
+    match refusal {
+        AddRefusal::NameTooLong { index } => Refusal::NameTooLong { index },
+        AddRefusal::TooManyFiles { held, more } => Refusal::TooManyFiles { held, more },
+        AddRefusal::ArchiveFull { end, need } => Refusal::ArchiveFull { end, need },
+        AddRefusal::DiskFault => Refusal::DiskFault,
+        AddRefusal::Damaged { at } => Refusal::Damaged { at },
+        AddRefusal::OutOfMemory => Refusal::OutOfMemory,
+    }
+}
+
+/// The refusal of a file that is not whole.
+pub fn refusal_of_part(cause: PartCause) -> Refusal
+    ensures { result ≡ of_part cause }
+{
+    match cause {
+        PartCause::OpenFault => Refusal::OpenFault,
+        PartCause::ReadFault => Refusal::ReadFault,
+        PartCause::LineTooLong { line } => Refusal::LineTooLong { line },
+        PartCause::TooManyLines => Refusal::TooManyLines,
+        PartCause::Full { book, count } => Refusal::Full { book, count },
+        PartCause::ArchiveFull { end, need } => Refusal::ArchiveFull { end, need },
+        PartCause::DiskFault => Refusal::DiskFault,
+        PartCause::OutOfMemory => Refusal::OutOfMemory,
     }
 }

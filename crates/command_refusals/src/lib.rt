@@ -2,7 +2,8 @@
 //! commands of each kind are refused.
 //!
 //! [`Refusal`] is what is printed. A command that prints a log is refused by a [`LogRefusal`], one that
-//! reads an archive by a [`ReadRefusal`], the one that prints a file by a [`FileRefusal`].
+//! reads an archive by a [`ReadRefusal`], the one that prints a file by a [`FileRefusal`]. One that adds
+//! files is refused by an [`AddRefusal`], and a file that is not whole has a [`PartCause`].
 #![tactic(auto)]
 
 mod answer;
@@ -12,8 +13,10 @@ mod refusal;
 
 pub use answer::answer;
 pub use into_refusal::{
-    refusal_of_create, refusal_of_file, refusal_of_log, refusal_of_pattern, refusal_of_read,
-    refusal_of_words,
+    refusal_of_add, refusal_of_create, refusal_of_file, refusal_of_log, refusal_of_part,
+    refusal_of_pattern, refusal_of_read, refusal_of_words,
 };
-pub use outcome::{FileRefusal, LogRefusal, ReadRefusal, of_decode, of_search};
+pub use outcome::{
+    AddRefusal, FileRefusal, LogRefusal, PartCause, ReadRefusal, of_decode, of_search,
+};
 pub use refusal::{Refusal, report, report_file};

@@ -20,9 +20,10 @@ use Rattle.write_commands.specs.Ingested.{FileOutcome, FromArchive, HasCallCause
 use Rattle.command_refusals.specs.Refusal.{line_of, status_of}
 use Rattle.write_commands.specs.StepsCauses.{HaveFileCauses, logs_of}
 use Rattle.command_refusals.specs.declared.refusal.Refusal.{Refusal}
+use Rattle.command_refusals.specs.declared.outcome.AddRefusal.{AddRefusal}
 use Rattle.sink_pieces.specs.Output.{Grew}
 use Rattle.sink_pieces.proofs.OutputLemmas.{Grew-nothing}
-use Rattle.command_refusals.specs.Outcome.{answer_of, of_read}
+use Rattle.command_refusals.specs.Outcome.{answer_of, of_add, of_read}
 use Rattle.write_commands.specs.Taken.{error_of, file_error, file_status, gravest, status_of_taken}
 use Rattle.command_refusals.specs.declared.outcome.ReadRefusal.{ReadRefusal}
 use Rattle.command_refusals.specs.declared.outcome.ReadRefusal.TheVariants.{Damaged, DiskFault, SinkFault}
@@ -75,7 +76,7 @@ ends_none seen told is same = subst (λ t. EndsWith seen [] 0 t) (sym is) (recor
 pub ends_some : (seen : Outside) (told : Option Refusal) (refusal : Refusal) (status : ℕ) → told ≡ Some refusal → status ≡ status_of refusal → SaysIn seen (line_of [] refusal) → EndsWith seen [] status told
 ends_some seen told refusal status is status_is said = subst (λ t. EndsWith seen [] status t) (sym is) (record { status_is = status_is; said = said })
 
-pub refused_logs : (content : List ℕ → Option (List ℕ)) (workers : ℕ) (seen : Outside) (old new : DiskState) (status : ℕ) (refusal : Refusal) → status ≡ status_of refusal → SaysIn seen (line_of [] refusal) → TookNothing seen.out → Stayed seen.out_faults
+pub refused_logs : (content : List ℕ → Option (List ℕ)) (workers : ℕ) (seen : Outside) (old new : DiskState) (status : ℕ) (refusal : AddRefusal) → status ≡ status_of (of_add refusal) → SaysIn seen (line_of [] (of_add refusal)) → TookNothing seen.out → Stayed seen.out_faults
     → HasCallCause generated_names old new refusal → FromArchive old (λ h before bytes stood. TakesNothing h before old new) → EndsLogs content workers seen old new status
 refused_logs content workers seen old new status refusal is said nothing sink cause disk =
     inl (record { refusal = refusal; ends = record { status_is = is; said = said }; nothing = nothing; sink = sink; cause = cause; disk = disk })

@@ -18,40 +18,33 @@ use Rattle.command_refusals.specs.Outside.{Outside}
 use Rattle.write_commands.specs.Benched.{AnswersBench, EndsBench, FromEmpty, HasLogsCause, IsSpared, IsTakenWhole, MayRefuseLog, MeetsNoLimit, MetNoLimit, PrintsSummary, RefusesLogs, RefusesMaking, SumsUp, SumsUpAll, TakesLogs, TellsParts, TellsSummary, as_made, at_moment, default_header, generated_names, with_logs, segment_rows}
 use Rattle.command_refusals.specs.Ending.{EndsWith, RoseIn}
 use Rattle.write_commands.specs.Ingested.{FileOutcome, CameOfFile, HasFileCause, StandsForEither, TakesIn}
-use Rattle.command_refusals.specs.Outcome.{answer_of, of_read}
+use Rattle.command_refusals.specs.Outcome.{answer_of, of_add, of_read}
 use Rattle.write_commands.specs.Taken.{file_status, gravest, has}
 use Rattle.command_refusals.specs.declared.outcome.ReadRefusal.{ReadRefusal}
 use Rattle.command_refusals.specs.declared.outcome.ReadRefusal.TheVariants.{Damaged as ReadDamaged, DiskFault as ReadDiskFault, SinkFault as ReadSinkFault, OutOfMemory as ReadOutOfMemory}
-use Rattle.command_refusals.specs.declared.refusal.Refusal.{Refusal}
+use Rattle.command_refusals.specs.declared.outcome.AddRefusal.{AddRefusal}
+use Rattle.command_refusals.specs.declared.outcome.PartCause.{PartCause}
 use Rattle.command_refusals.specs.declared.refusal.Refusal.TheVariants.{OutOfMemory}
 
 -- ---- logs that are not whole
 
 -- nothing was refused, or memory ended
-abbrev IsFree : Option Refusal → Type 0
+abbrev IsFree : Option PartCause → Type 0
 IsFree r = (r ≡ None) ⊎ (r ≡ Some OutOfMemory)
 
 abbrev IsFreeOf : FileOutcome → Type 0
 IsFreeOf c = IsFree c.refusal
 
-one_free : (rows : ℕ) (names : List (List ℕ)) (seen : Outside) (old new : DiskState) (c : FileOutcome) (r : Option Refusal) → HasFileCause rows names seen old new c r → MayRefuseLog r → MeetsNoLimit r → ¬ Rose old.faults new.faults → IsFree r
+one_free : (rows : ℕ) (names : List (List ℕ)) (seen : Outside) (old new : DiskState) (c : FileOutcome) (r : Option PartCause) → HasFileCause rows names seen old new c r → MayRefuseLog r → MeetsNoLimit r → ¬ Rose old.faults new.faults → IsFree r
 one_free rows names seen old new c None cause may met steady = inl refl
-one_free rows names seen old new c (Some Refusal.OutOfMemory) cause may met steady = inr refl
-one_free rows names seen old new c (Some Refusal.DiskFault) cause may met steady = absurd (steady cause)
-one_free rows names seen old new c (Some (Refusal.Full book count)) cause may met steady = absurd met
-one_free rows names seen old new c (Some (Refusal.ArchiveFull end need)) cause may met steady = absurd met
-one_free rows names seen old new c (Some Refusal.OpenFault) cause may met steady = absurd may
-one_free rows names seen old new c (Some Refusal.ReadFault) cause may met steady = absurd may
-one_free rows names seen old new c (Some (Refusal.LineTooLong line)) cause may met steady = absurd may
-one_free rows names seen old new c (Some Refusal.TooManyLines) cause may met steady = absurd may
-one_free rows names seen old new c (Some Refusal.Usage) cause may met steady = absurd may
-one_free rows names seen old new c (Some (Refusal.BadPattern at)) cause may met steady = absurd may
-one_free rows names seen old new c (Some (Refusal.Damaged at)) cause may met steady = absurd may
-one_free rows names seen old new c (Some Refusal.SinkFault) cause may met steady = absurd may
-one_free rows names seen old new c (Some (Refusal.NotEmpty len)) cause may met steady = absurd may
-one_free rows names seen old new c (Some (Refusal.NoSuchFile number count)) cause may met steady = absurd may
-one_free rows names seen old new c (Some (Refusal.NameTooLong index)) cause may met steady = absurd may
-one_free rows names seen old new c (Some (Refusal.TooManyFiles held more)) cause may met steady = absurd may
+one_free rows names seen old new c (Some PartCause.OutOfMemory) cause may met steady = inr refl
+one_free rows names seen old new c (Some PartCause.DiskFault) cause may met steady = absurd (steady cause)
+one_free rows names seen old new c (Some (PartCause.Full book count)) cause may met steady = absurd met
+one_free rows names seen old new c (Some (PartCause.ArchiveFull end need)) cause may met steady = absurd met
+one_free rows names seen old new c (Some PartCause.OpenFault) cause may met steady = absurd may
+one_free rows names seen old new c (Some PartCause.ReadFault) cause may met steady = absurd may
+one_free rows names seen old new c (Some (PartCause.LineTooLong line)) cause may met steady = absurd may
+one_free rows names seen old new c (Some PartCause.TooManyLines) cause may met steady = absurd may
 
 all_free : (rows : ℕ) (names : List (List ℕ)) (seen : Outside) (old new : DiskState) (came : List FileOutcome) → All (CameOfFile rows names seen old new) came → All IsSpared came → All (λ (c : FileOutcome). MeetsNoLimit c.refusal) came → ¬ Rose old.faults new.faults → All IsFreeOf came
 all_free rows names seen old new [] each spared met steady = All-nil IsFreeOf
@@ -63,9 +56,9 @@ all_free rows names seen old new (c ∷ came) each spared met steady =
 abbrev statuses : List FileOutcome → List ℕ
 statuses came = map (λ (c : FileOutcome). file_status c.refusal) came
 
-not_five : (r : Option Refusal) → IsFree r → (file_status r == 5) ≡ false
-not_five r (inl none) = ap (λ (x : Option Refusal). file_status x == 5) none
-not_five r (inr memory) = ap (λ (x : Option Refusal). file_status x == 5) memory
+not_five : (r : Option PartCause) → IsFree r → (file_status r == 5) ≡ false
+not_five r (inl none) = ap (λ (x : Option PartCause). file_status x == 5) none
+not_five r (inr memory) = ap (λ (x : Option PartCause). file_status x == 5) memory
 
 none_five : (came : List FileOutcome) → All IsFreeOf came → has 5 (statuses came) ≡ false
 none_five [] free = refl
@@ -76,8 +69,8 @@ some_nine [] free = inr (All-nil IsTakenWhole)
 some_nine (c ∷ came) free = one (All-head IsFreeOf c came free) (some_nine came (All-tail IsFreeOf c came free))
   where
     one : IsFree c.refusal → (has 9 (statuses came) ≡ true) ⊎ All IsTakenWhole came → (has 9 (statuses (c ∷ came)) ≡ true) ⊎ All IsTakenWhole (c ∷ came)
-    one (inr memory) rest = inl (ap (λ (x : Option Refusal). file_status x == 9 || has 9 (statuses came)) memory)
-    one (inl none) (inl nine) = inl (ap₂ (λ (x : Option Refusal) (b : Bool). file_status x == 9 || b) none nine)
+    one (inr memory) rest = inl (ap (λ (x : Option PartCause). file_status x == 9 || has 9 (statuses came)) memory)
+    one (inl none) (inl nine) = inl (ap₂ (λ (x : Option PartCause) (b : Bool). file_status x == 9 || b) none nine)
     one (inl none) (inr whole) = inr (All-cons IsTakenWhole c came none whole)
 
 nine_of : (five nine : Bool) (rest : ℕ) → five ≡ false → nine ≡ true → (if five then 5 else (if nine then 9 else rest)) ≡ 9
@@ -96,23 +89,13 @@ making_complete lines seen old new status (CreateNotEmpty len) leaves none stead
     absurd (omega (arith, leaves.some, long))
 making_complete lines seen old new status CreateDiskFault leaves none steady = absurd (steady leaves)
 
-logs_complete : (lines : ℕ) (seen : Outside) (old new : DiskState) (status : ℕ) (refusal : Refusal) → EndsWith seen [] status (Some refusal) → HasLogsCause old new refusal → old.seen ≡ Some [] → ¬ Rose old.faults new.faults → SumsUpAll lines seen new status
-logs_complete lines seen old new status Refusal.OutOfMemory ends cause none steady = inr ends.status_is
-logs_complete lines seen old new status Refusal.DiskFault ends cause none steady = absurd (steady cause)
-logs_complete lines seen old new status (Refusal.Damaged at) ends cause none steady = absurd (subst (λ (o : Option (List ℕ)). IfSome o (λ _. ⊥)) none cause)
-logs_complete lines seen old new status (Refusal.TooManyFiles held more) ends cause none steady = absurd (subst (λ (o : Option (List ℕ)). IfSome o (λ _. ⊥)) none cause)
-logs_complete lines seen old new status (Refusal.ArchiveFull end need) ends cause none steady = absurd (subst (λ (o : Option (List ℕ)). IfSome o (λ _. ⊥)) none cause)
-logs_complete lines seen old new status Refusal.OpenFault ends cause none steady = absurd cause
-logs_complete lines seen old new status Refusal.ReadFault ends cause none steady = absurd cause
-logs_complete lines seen old new status (Refusal.LineTooLong line) ends cause none steady = absurd cause
-logs_complete lines seen old new status Refusal.TooManyLines ends cause none steady = absurd cause
-logs_complete lines seen old new status Refusal.Usage ends cause none steady = absurd cause
-logs_complete lines seen old new status (Refusal.BadPattern at) ends cause none steady = absurd cause
-logs_complete lines seen old new status Refusal.SinkFault ends cause none steady = absurd cause
-logs_complete lines seen old new status (Refusal.NotEmpty len) ends cause none steady = absurd cause
-logs_complete lines seen old new status (Refusal.NoSuchFile number count) ends cause none steady = absurd cause
-logs_complete lines seen old new status (Refusal.NameTooLong index) ends cause none steady = absurd cause
-logs_complete lines seen old new status (Refusal.Full book count) ends cause none steady = absurd cause
+logs_complete : (lines : ℕ) (seen : Outside) (old new : DiskState) (status : ℕ) (refusal : AddRefusal) → EndsWith seen [] status (Some (of_add refusal)) → HasLogsCause old new refusal → old.seen ≡ Some [] → ¬ Rose old.faults new.faults → SumsUpAll lines seen new status
+logs_complete lines seen old new status AddRefusal.OutOfMemory ends cause none steady = inr ends.status_is
+logs_complete lines seen old new status AddRefusal.DiskFault ends cause none steady = absurd (steady cause)
+logs_complete lines seen old new status (AddRefusal.Damaged at) ends cause none steady = absurd (subst (λ (o : Option (List ℕ)). IfSome o (λ _. ⊥)) none cause)
+logs_complete lines seen old new status (AddRefusal.TooManyFiles held more) ends cause none steady = absurd (subst (λ (o : Option (List ℕ)). IfSome o (λ _. ⊥)) none cause)
+logs_complete lines seen old new status (AddRefusal.ArchiveFull end need) ends cause none steady = absurd (subst (λ (o : Option (List ℕ)). IfSome o (λ _. ⊥)) none cause)
+logs_complete lines seen old new status (AddRefusal.NameTooLong index) ends cause none steady = absurd cause
 
 module _ (lines : ℕ) (seen : Outside) (old new : DiskState) (status messages : ℕ) (steady : ¬ Rose old.faults new.faults) (sent : ¬ RoseIn seen.out_faults) (same : messages ≡ 4 * lines) where
   sums_complete : (answer : Result Unit ReadRefusal) → EndsWith seen [] status (option_map of_read (answer_of answer)) → PrintsSummary (is_ok answer) messages new.seen seen.out.0 seen.out.1 → (answer ≡ Err ReadDiskFault → Rose old.faults new.faults)

@@ -14,7 +14,8 @@ use Rattle.write_commands.specs.StepsCauses.{HaveFileCauses, logs_of}
 use Rattle.command_refusals.specs.Reading.{OverJournal}
 use Rattle.command_refusals.specs.Refusal.{line_of, status_of}
 use Rattle.write_commands.specs.Taken.{error_of, file_error, file_status, gravest, line_of_taken, status_of_taken}
-use Rattle.command_refusals.specs.declared.refusal.Refusal.{Refusal}
+use Rattle.command_refusals.specs.declared.outcome.AddRefusal.{AddRefusal}
+use Rattle.command_refusals.specs.Outcome.{of_add}
 use Rattle.command_refusals.specs.declared.refusal.Refusal.TheVariants.{OutOfMemory, SinkFault}
 use Rattle.write_commands.specs.declared.file_report.FileReport.{FileReport}
 use Rattle.write_commands.proofs.FittingLemmas.{all_fit}
@@ -37,7 +38,7 @@ errors_came [] = refl
 errors_came (file ∷ files) = ap (λ text. error_of file ++ text) (errors_came files)
 
 -- the call was refused as a whole
-pub refused_all : (workers rows : ℕ) (names : List (List ℕ)) (seen : Outside) (old new : DiskState) (status : ℕ) (refusal : Refusal) → status ≡ status_of refusal → SaysIn seen (line_of [] refusal) → TookNothing seen.out → Stayed seen.out_faults
+pub refused_all : (workers rows : ℕ) (names : List (List ℕ)) (seen : Outside) (old new : DiskState) (status : ℕ) (refusal : AddRefusal) → status ≡ status_of (of_add refusal) → SaysIn seen (line_of [] (of_add refusal)) → TookNothing seen.out → Stayed seen.out_faults
     → HasCallCause names old new refusal → FromArchive old (λ h before bytes stood. TakesNothing h before old new) → EndsIngest workers rows names seen old new status
 refused_all workers rows names seen old new status refusal is said nothing sink cause disk =
     inl (record { refusal = refusal; ends = record { status_is = is; said = said }; nothing = nothing; sink = sink; cause = cause; disk = disk })

@@ -23,17 +23,17 @@ use Rattle.disk_seal.proofs.NextLemmas.{gate_at}
 use Rattle.ingest_workers.specs.Ingested.{told_entries}
 use Rattle.write_commands.specs.Ingested.{HasCallCause}
 use Rattle.write_commands.specs.Names.{RefusesMore, RefusesNames}
-use Rattle.command_refusals.specs.Outcome.{of_archive, of_read, of_register, of_start}
+use Rattle.command_refusals.specs.Outcome.{add_from_archive, add_from_check, add_from_register, add_from_start}
 use Rattle.command_refusals.specs.Reading.{IsArchive, OverJournal}
-use Rattle.command_refusals.specs.declared.outcome.ReadRefusal.{ReadRefusal}
-use Rattle.command_refusals.specs.declared.refusal.Refusal.{Refusal}
+use Rattle.archive_check.specs.declared.checking.CheckRefusal.{CheckRefusal}
+use Rattle.command_refusals.specs.declared.outcome.AddRefusal.{AddRefusal}
 use Rattle.write_commands.proofs.AppendLemmas.{OpensFrom, files_counted, may_append}
 use Rattle.write_commands.proofs.LeavesLemmas.{from_archive, of_told, opened_as}
 use Rattle.write_commands.proofs.StepsLemmas.{Looked, no_more, same_bytes}
 
 -- the archive could not be opened
 pub archive_cause : {A : Type 0} (names : List (List ℕ)) (old new : DiskState) (result : Result A ArchiveRefusal) (r : ArchiveRefusal) → result ≡ Err r → IfSome old.seen IsArchive
-    → ((at : ℕ) → IsErrOf result (ArchiveRefusal.Damaged at) → RefusedAt at old.seen) → CountsOf ArchiveRefusal.DiskFault old.faults new.faults result → HasCallCause names old new (of_archive r)
+    → ((at : ℕ) → IsErrOf result (ArchiveRefusal.Damaged at) → RefusedAt at old.seen) → CountsOf ArchiveRefusal.DiskFault old.faults new.faults result → HasCallCause names old new (add_from_archive r)
 archive_cause names old new result ArchiveRefusal.DiskFault is archive damaged counts = counts.failed is
 archive_cause names old new result (ArchiveRefusal.Damaged at) is archive damaged counts = go old.seen archive (damaged at is)
   where
@@ -43,7 +43,7 @@ archive_cause names old new result (ArchiveRefusal.Damaged at) is archive damage
 archive_cause names old new result ArchiveRefusal.OutOfMemory is archive damaged counts = tt
 
 -- it would have too many files
-pub many_cause : (names : List (List ℕ)) (old new : DiskState) (a : Shown) (held more : ℕ) (refusal : Refusal) → Opens old.seen a → held ≡ length a.files → more ≡ length names → RefusesMore held more (Some refusal) → HasCallCause names old new refusal
+pub many_cause : (names : List (List ℕ)) (old new : DiskState) (a : Shown) (held more : ℕ) (refusal : AddRefusal) → Opens old.seen a → held ≡ length a.files → more ≡ length names → RefusesMore held more (Some refusal) → HasCallCause names old new refusal
 many_cause names old new a held more refusal opens same counted refuses =
     subst (HasCallCause names old new) (sym refuses.0) (inr ((refl, refuses.1), counted, over old.seen opens))
   where
@@ -54,7 +54,7 @@ many_cause names old new a held more refusal opens same counted refuses =
 -- the names could not be appended
 pub register_cause : {A : Type 0} (names : List (List ℕ)) (old now new : JournalState) (a : Shown) (from : OpensFrom old now a) (result : Result A RegisterRefusal) (r : RegisterRefusal) → result ≡ Err r → old.disk.faults ≤ now.disk.faults
     → ((end need : ℕ) → IsErrOf result (RegisterRefusal.ArchiveFull end need) → IsFullFor names end need now) → CountsOf RegisterRefusal.DiskFault now.disk.faults new.disk.faults result
-    → HasCallCause names old.disk new.disk (of_register r)
+    → HasCallCause names old.disk new.disk (add_from_register r)
 register_cause names old now new a from result RegisterRefusal.OutOfMemory is risen full counts = tt
 register_cause names old now new a from result RegisterRefusal.DiskFault is risen full counts = rose old.disk.faults now.disk.faults new.disk.faults new.disk.faults risen (counts.failed is) (omega arith)
 register_cause names old now new a from result (RegisterRefusal.ArchiveFull end need) is risen full counts = go old.disk.seen refl
@@ -79,66 +79,45 @@ register_cause names old now new a from result (RegisterRefusal.ArchiveFull end 
         )
 
 -- the answer of the call
-pub refused_with : {A : Type 0} (names : List (List ℕ)) (old new : DiskState) (result : Result A Refusal) (r r' : Refusal) → result ≡ Err r → r ≡ r' → HasCallCause names old new r' → IfErr result (HasCallCause names old new)
+pub refused_with : {A : Type 0} (names : List (List ℕ)) (old new : DiskState) (result : Result A AddRefusal) (r r' : AddRefusal) → result ≡ Err r → r ≡ r' → HasCallCause names old new r' → IfErr result (HasCallCause names old new)
 refused_with {A} names old new result r r' is same cause =
-    subst (λ (x : Result A Refusal). IfErr x (HasCallCause names old new)) (sym is) (subst (HasCallCause names old new) (sym same) cause)
+    subst (λ (x : Result A AddRefusal). IfErr x (HasCallCause names old new)) (sym is) (subst (HasCallCause names old new) (sym same) cause)
 
 -- ---- before the archive is opened
 
 -- the names alone are refused
-pub names_cause : (names : List (List ℕ)) (old new : DiskState) (refusal : Refusal) → RefusesNames names (Some refusal) → HasCallCause names old new refusal
-names_cause names old new (Refusal.NameTooLong index) refuses = refuses
-names_cause names old new (Refusal.TooManyFiles held more) refuses = inl refuses
-names_cause names old new Refusal.Usage refuses = absurd refuses
-names_cause names old new (Refusal.BadPattern at) refuses = absurd refuses
-names_cause names old new Refusal.OpenFault refuses = absurd refuses
-names_cause names old new Refusal.ReadFault refuses = absurd refuses
-names_cause names old new (Refusal.LineTooLong line) refuses = absurd refuses
-names_cause names old new Refusal.TooManyLines refuses = absurd refuses
-names_cause names old new Refusal.DiskFault refuses = absurd refuses
-names_cause names old new (Refusal.Damaged at) refuses = absurd refuses
-names_cause names old new Refusal.SinkFault refuses = absurd refuses
-names_cause names old new (Refusal.NotEmpty len) refuses = absurd refuses
-names_cause names old new (Refusal.NoSuchFile number count) refuses = absurd refuses
-names_cause names old new Refusal.OutOfMemory refuses = absurd refuses
-names_cause names old new (Refusal.Full book count) refuses = absurd refuses
-names_cause names old new (Refusal.ArchiveFull end need) refuses = absurd refuses
+pub names_cause : (names : List (List ℕ)) (old new : DiskState) (refusal : AddRefusal) → RefusesNames names (Some refusal) → HasCallCause names old new refusal
+names_cause names old new (AddRefusal.NameTooLong index) refuses = refuses
+names_cause names old new (AddRefusal.TooManyFiles held more) refuses = inl refuses
+names_cause names old new AddRefusal.DiskFault refuses = absurd refuses
+names_cause names old new (AddRefusal.Damaged at) refuses = absurd refuses
+names_cause names old new AddRefusal.OutOfMemory refuses = absurd refuses
+names_cause names old new (AddRefusal.ArchiveFull end need) refuses = absurd refuses
 
 -- the check of the archive is
-pub told_cause : {A : Type 0} (names : List (List ℕ)) (old new : DiskState) (result : Result A ReadRefusal) (r : ReadRefusal) → result ≡ Err r → (IsErrOf result ReadRefusal.SinkFault → ⊥)
-    → ((at : ℕ) → IsErrOf result (ReadRefusal.Damaged at) → IfSome old.seen (DamagedAt at)) → CountsOf ReadRefusal.DiskFault old.faults new.faults result → HasCallCause names old new (of_read r)
-told_cause names old new result ReadRefusal.DiskFault is none damaged counts = counts.failed is
-told_cause names old new result (ReadRefusal.Damaged at) is none damaged counts = damaged at is
-told_cause names old new result ReadRefusal.SinkFault is none damaged counts = absurd (none is)
-told_cause names old new result ReadRefusal.OutOfMemory is none damaged counts = tt
+pub told_cause : {A : Type 0} (names : List (List ℕ)) (old new : DiskState) (result : Result A CheckRefusal) (r : CheckRefusal) → result ≡ Err r
+    → ((at : ℕ) → IsErrOf result (CheckRefusal.Damaged at) → IfSome old.seen (DamagedAt at)) → CountsOf CheckRefusal.DiskFault old.faults new.faults result → HasCallCause names old new (add_from_check r)
+told_cause names old new result CheckRefusal.DiskFault is damaged counts = counts.failed is
+told_cause names old new result (CheckRefusal.Damaged at) is damaged counts = damaged at is
+told_cause names old new result CheckRefusal.OutOfMemory is damaged counts = tt
 
 -- the reading of the header is
 pub start_cause : {A : Type 0} (names : List (List ℕ)) (old mid new : DiskState) (result : Result A StartRefusal) (r : StartRefusal) → result ≡ Err r → old.faults ≤ mid.faults → mid.seen ≡ old.seen
-    → ((at : ℕ) → IsErrOf result (StartRefusal.Damaged at) → HasNoHeader at mid) → CountsOf StartRefusal.DiskFault mid.faults new.faults result → HasCallCause names old new (of_start r)
+    → ((at : ℕ) → IsErrOf result (StartRefusal.Damaged at) → HasNoHeader at mid) → CountsOf StartRefusal.DiskFault mid.faults new.faults result → HasCallCause names old new (add_from_start r)
 start_cause names old mid new result StartRefusal.DiskFault is risen same damaged counts = rose old.faults mid.faults new.faults new.faults risen (counts.failed is) (omega arith)
 start_cause names old mid new result (StartRefusal.Damaged at) is risen same damaged counts =
     let none = damaged at is in
     subst (λ t. IfSome t (DamagedAt at)) same (no_header_told mid.seen at none.first none.damaged)
 
 -- the cause of what was refused after the header was read
-pub cause_sooner : (names : List (List ℕ)) (old mid late new : DiskState) (looked : Looked old mid late) (r : Refusal) → HasCallCause names late new r → HasCallCause names old new r
-cause_sooner names old mid late new looked (Refusal.NameTooLong index) cause = cause
-cause_sooner names old mid late new looked (Refusal.TooManyFiles held more) (inl cause) = inl cause
-cause_sooner names old mid late new looked (Refusal.TooManyFiles held more) (inr cause) =
+pub cause_sooner : (names : List (List ℕ)) (old mid late new : DiskState) (looked : Looked old mid late) (r : AddRefusal) → HasCallCause names late new r → HasCallCause names old new r
+cause_sooner names old mid late new looked (AddRefusal.NameTooLong index) cause = cause
+cause_sooner names old mid late new looked (AddRefusal.TooManyFiles held more) (inl cause) = inl cause
+cause_sooner names old mid late new looked (AddRefusal.TooManyFiles held more) (inr cause) =
     inr (cause.0, cause.1, subst (λ t. OverJournal t (λ journal. held ≡ length journal.names)) (same_bytes old mid late looked) cause.2)
-cause_sooner names old mid late new looked Refusal.DiskFault cause = rose old.faults late.faults new.faults new.faults looked.counts cause (omega arith)
-cause_sooner names old mid late new looked (Refusal.Damaged at) cause = subst (λ t. IfSome t (DamagedAt at)) (same_bytes old mid late looked) cause
-cause_sooner names old mid late new looked Refusal.OutOfMemory cause = tt
-cause_sooner names old mid late new looked (Refusal.ArchiveFull end need) cause =
+cause_sooner names old mid late new looked AddRefusal.DiskFault cause = rose old.faults late.faults new.faults new.faults looked.counts cause (omega arith)
+cause_sooner names old mid late new looked (AddRefusal.Damaged at) cause = subst (λ t. IfSome t (DamagedAt at)) (same_bytes old mid late looked) cause
+cause_sooner names old mid late new looked AddRefusal.OutOfMemory cause = tt
+cause_sooner names old mid late new looked (AddRefusal.ArchiveFull end need) cause =
     from_archive old late (λ h before bytes stood. (end ≡ end_of h before) × (need ≡ files_size names) × (h.length_limit < end + need)) (λ h before bytes stood. (end ≡ end_of h before) × (need ≡ files_size names) × (h.length_limit < end + need))
     (same_bytes old mid late looked) (no_more old mid late looked) (λ h before bytes stood only is. is) cause
-cause_sooner names old mid late new looked Refusal.Usage cause = absurd cause
-cause_sooner names old mid late new looked (Refusal.BadPattern at) cause = absurd cause
-cause_sooner names old mid late new looked Refusal.OpenFault cause = absurd cause
-cause_sooner names old mid late new looked Refusal.ReadFault cause = absurd cause
-cause_sooner names old mid late new looked (Refusal.LineTooLong line) cause = absurd cause
-cause_sooner names old mid late new looked Refusal.TooManyLines cause = absurd cause
-cause_sooner names old mid late new looked Refusal.SinkFault cause = absurd cause
-cause_sooner names old mid late new looked (Refusal.NotEmpty len) cause = absurd cause
-cause_sooner names old mid late new looked (Refusal.NoSuchFile number count) cause = absurd cause
-cause_sooner names old mid late new looked (Refusal.Full book count) cause = absurd cause

@@ -35,7 +35,7 @@ use Rattle.write_commands.specs.Ingested.{FileOutcome, HasMoreThan, IsThereOrGiv
 use Rattle.write_commands.specs.Jobs.{DidJobs, IsNotBegun, of_cause, of_opening, refusal_by, sources_of}
 use Rattle.write_commands.specs.StepsCauses.{CameIn, HasCauseIn, Logs, Target, into_journal}
 use Rattle.command_refusals.specs.LogLimits.{IsLong, most_messages}
-use Rattle.command_refusals.specs.declared.refusal.Refusal.{Refusal}
+use Rattle.command_refusals.specs.declared.outcome.PartCause.{PartCause}
 use Rattle.write_commands.specs.declared.file_report.FileReport.{FileReport}
 use Rattle.write_commands.proofs.FitLemmas.{fit_of_job}
 use Rattle.write_commands.proofs.LineLemmas.{long_behind}
@@ -56,12 +56,12 @@ no_text = refl
 -- ---- one file
 
 module _ (logs : Logs) (into : Target) (old new : DiskState) (c : FileOutcome) where
-  came_in : (r : Option Refusal) → c.refusal ≡ r → HasCauseIn logs into old new c r → (r ≢ None → c.whole ≡ false) → CameIn logs into old new c
+  came_in : (r : Option PartCause) → c.refusal ≡ r → HasCauseIn logs into old new c r → (r ≢ None → c.whole ≡ false) → CameIn logs into old new c
   came_in r is cause part = record { cause = subst (HasCauseIn logs into old new c) (sym is) cause; part = λ some. part (λ none. some (is ∙ none)) }
 
   -- there was no memory
-  no_memory : c.refusal ≡ Some Refusal.OutOfMemory → c.whole ≡ false → CameIn logs into old new c
-  no_memory is part = came_in (Some Refusal.OutOfMemory) is tt (λ some. part)
+  no_memory : c.refusal ≡ Some PartCause.OutOfMemory → c.whole ≡ false → CameIn logs into old new c
+  no_memory is part = came_in (Some PartCause.OutOfMemory) is tt (λ some. part)
 
 module _ {S : Type 0} (left name : S → Option (List ℕ)) (faults : S → ℕ) (logs : Logs) (opens_now reads reads_now : List ℕ → ℕ) (opens_later : (n : List ℕ) → opens_now n ≤ (logs.opens n).1)
     (reads_sooner : (n : List ℕ) → (logs.reads n).0 ≤ reads n) (reads_later : (n : List ℕ) → reads_now n ≤ (logs.reads n).1) where
@@ -70,7 +70,7 @@ module _ {S : Type 0} (left name : S → Option (List ℕ)) (faults : S → ℕ)
 
   -- the log was not opened
   opening_in : (into : Target) (old new : DiskState) (c : FileOutcome) (cause : OpenRefused) (n : ℕ) → CameFrom c.name (Unopened cause n) → c.messages ≡ 0 → c.whole ≡ false → c.refusal ≡ Some (of_opening cause) → CameIn logs into old new c
-  opening_in into old new c Failed n came none part is = came_in logs into old new c (Some Refusal.OpenFault) is (rose (logs.opens c.name).0 (logs.opens c.name).0 (opens_now c.name) (logs.opens c.name).1 (omega arith) came.1 (opens_later c.name), none) (λ some. part)
+  opening_in into old new c Failed n came none part is = came_in logs into old new c (Some PartCause.OpenFault) is (rose (logs.opens c.name).0 (logs.opens c.name).0 (opens_now c.name) (logs.opens c.name).1 (omega arith) came.1 (opens_later c.name), none) (λ some. part)
   opening_in into old new c OutOfMemory n came none part is = no_memory logs into old new c is part
 
   -- reads of it failed
@@ -96,7 +96,7 @@ module _ {S : Type 0} (left name : S → Option (List ℕ)) (faults : S → ℕ)
     abbrev In : Type 0
     In = CameIn logs into (d.state j.disk.now) (d.state after.disk.now) c
 
-    abbrev CauseIn : Option Refusal → Type 0
+    abbrev CauseIn : Option PartCause → Type 0
     CauseIn = HasCauseIn logs into (d.state j.disk.now) (d.state after.disk.now) c
 
     -- a text of the encoding of a message of a job is one of a message of a given file
@@ -113,7 +113,7 @@ module _ {S : Type 0} (left name : S → Option (List ℕ)) (faults : S → ℕ)
 
     -- the cause of a job
     job_cause : (file : ℕ) (log : Log) (sealed : List (List ℕ)) (o : Option Cause) → HasJobCause (grounds_over full has_texts (plan_of rows j) file log.bytes j after) log j.header.version sealed o
-        → ((end need : ℕ) → HadNoRoomOver has_texts (plan_of rows j) file log.bytes j after sealed end need → CauseIn (Some (Refusal.ArchiveFull end need))) → is_some o ≡ not c.whole → c.messages ≡ length sealed → log.bytes ≡ logs.content c.name
+        → ((end need : ℕ) → HadNoRoomOver has_texts (plan_of rows j) file log.bytes j after sealed end need → CauseIn (Some (PartCause.ArchiveFull end need))) → is_some o ≡ not c.whole → c.messages ≡ length sealed → log.bytes ≡ logs.content c.name
         → (Rose log.faults log.faults_now → Rose (logs.reads c.name).0 (logs.reads c.name).1) → CauseIn (option_map of_cause o)
     job_cause file log sealed None has fits whole count bytes up = not_false c.whole whole
       where
@@ -139,7 +139,7 @@ module _ {S : Type 0} (left name : S → Option (List ℕ)) (faults : S → ℕ)
     done_in : (s : LogSource S) (old done : Job (LogSource S)) → CameFrom c.name s → old.source ≡ Some s → old.is_open ≡ is_opened s
         → c.messages ≡ done.outcome.messages → c.whole ≡ done.outcome.whole → c.refusal ≡ refusal_by (refusal_of s) done.outcome.cause
         → HasItsCause full has_texts (left_in left) (name_in name) (faults_in faults) (plan_of rows j) j after old done
-        → ((bytes : Option (List ℕ)) → bytes ≡ logs.content c.name → (sealed : List (List ℕ)) → c.messages ≡ length sealed → (end need : ℕ) → HadNoRoomOver has_texts (plan_of rows j) old.file bytes j after sealed end need → CauseIn (Some (Refusal.ArchiveFull end need)))
+        → ((bytes : Option (List ℕ)) → bytes ≡ logs.content c.name → (sealed : List (List ℕ)) → c.messages ≡ length sealed → (end need : ℕ) → HadNoRoomOver has_texts (plan_of rows j) old.file bytes j after sealed end need → CauseIn (Some (PartCause.ArchiveFull end need)))
         → (old.is_open ≡ true → is_some done.outcome.cause ≡ not done.outcome.whole) → (old.is_open ≡ false → done.outcome ≡ nothing_done)
         → ((t : LogSource S) → done.source ≡ Some t → IsCounted name faults reads reads_now t) → In
     done_in (Unopened cause n) old done came has as_opened messages whole refusal its fits opened unopened counted =

@@ -29,7 +29,7 @@ use Rattle.write_commands.specs.IngestPrints.{came_of}
 use Rattle.write_commands.specs.Ingested.{FileOutcome, WasMetIn, WasMetInOneOf, unsealed_of}
 use Rattle.write_commands.specs.Jobs.{DidJobs, IsNotBegun, of_cause, refusal_by}
 use Rattle.write_commands.specs.StepsCauses.{AreFullInto, Target, into_journal}
-use Rattle.command_refusals.specs.declared.refusal.Refusal.{Refusal}
+use Rattle.command_refusals.specs.declared.outcome.PartCause.{PartCause}
 use Rattle.write_commands.specs.declared.file_report.FileReport.{FileReport}
 use Rattle.write_commands.proofs.ContentLemmas.{AreJobsOf}
 use Rattle.write_commands.proofs.FileCauseLemmas.{at_of}
@@ -78,7 +78,7 @@ unsealed_same rows (Some (Cause.DiskFault opened now)) = refl
 unsealed_same rows (Some Cause.OutOfMemory) = refl
 unsealed_same rows (Some (Cause.ArchiveFull end need)) = refl
 
-full_cause : (cause : Option Cause) (book : Which) (count : ℕ) → option_map of_cause cause ≡ Some (Refusal.Full book count) → cause ≡ Some (Cause.Full book count)
+full_cause : (cause : Option Cause) (book : Which) (count : ℕ) → option_map of_cause cause ≡ Some (PartCause.Full book count) → cause ≡ Some (Cause.Full book count)
 full_cause None book count is = absurd (cc (is))
 full_cause (Some Cause.ReadFault) book count is = absurd (cc (is))
 full_cause (Some (Cause.LineTooLong line)) book count is = absurd (cc (is))
@@ -95,7 +95,7 @@ module _ {S : Type 0} (left name : S → Option (List ℕ)) (faults : S → ℕ)
   From = CameOf left name faults content opens opens_now
 
   -- where a full dictionary stopped a file, its log was opened, and its job was stopped so
-  stopped : (asked : List ℕ) (source : LogSource S) (cause : Option Cause) (book : Which) (count : ℕ) → From asked source → refusal_by (refusal_of source) cause ≡ Some (Refusal.Full book count)
+  stopped : (asked : List ℕ) (source : LogSource S) (cause : Option Cause) (book : Which) (count : ℕ) → From asked source → refusal_by (refusal_of source) cause ≡ Some (PartCause.Full book count)
       → (left_in left source ≡ content asked) × (cause ≡ Some (Cause.Full book count))
   stopped asked (Opened s) cause book count came is = (came.left_is, full_cause cause book count is)
   stopped asked (Unopened Failed n) cause book count came is = absurd (cc (is))
@@ -177,6 +177,6 @@ module _ {S : Type 0} (left name : S → Option (List ℕ)) (faults : S → ℕ)
 -- without memory to begin
 pub unbegun_in_turn : (content : List ℕ → Option (List ℕ)) (into : Target) (taken : List FileReport) → All IsNotBegun taken → AreFullInto content into (map came_of taken)
 unbegun_in_turn content into taken none = λ place c book count at is.
-    let refused : c.refusal ≡ Some Refusal.OutOfMemory = at_of (λ (x : FileOutcome). x.refusal ≡ Some Refusal.OutOfMemory) (map came_of taken) place c
-    (All-map (λ (x : FileOutcome). x.refusal ≡ Some Refusal.OutOfMemory) came_of taken (All-weaker IsNotBegun (λ (file : FileReport). file.refusal ≡ Some Refusal.OutOfMemory) (λ file n. n.refusal) taken none)) at in
+    let refused : c.refusal ≡ Some PartCause.OutOfMemory = at_of (λ (x : FileOutcome). x.refusal ≡ Some PartCause.OutOfMemory) (map came_of taken) place c
+    (All-map (λ (x : FileOutcome). x.refusal ≡ Some PartCause.OutOfMemory) came_of taken (All-weaker IsNotBegun (λ (file : FileReport). file.refusal ≡ Some PartCause.OutOfMemory) (λ file n. n.refusal) taken none)) at in
     absurd (cc (sym refused ∙ is))

@@ -23,7 +23,7 @@ use Rattle.command_refusals.specs.Ending.{RoseIn}
 use Rattle.write_commands.specs.Ingested.{FileOutcome, HasMoreThan, IsFront}
 use Rattle.command_refusals.specs.LogLimits.{IsLong, most_messages}
 use Rattle.write_commands.specs.StepsCauses.{CameIn, HasCauseIn, HaveFileCauses, Logs, Target}
-use Rattle.command_refusals.specs.declared.refusal.Refusal.{Refusal}
+use Rattle.command_refusals.specs.declared.outcome.PartCause.{PartCause}
 use Rattle.write_commands.proofs.BenchLemmas.{rose_on}
 use Rattle.write_commands.proofs.FileCauseLemmas.{at_of}
 use Rattle.write_commands.proofs.FitLemmas.{fit_later}
@@ -139,27 +139,19 @@ module _ (number lines : ℕ) where
   told_with opens = record { content = generated number lines; opens = opens; reads = λ name. (0, 0) }
 
   module _ (most : lines ≤ 1000000) (opens : List ℕ → ℕ × ℕ) (none : (name : List ℕ) → IsGenerated name → opens name ≡ (0, 0)) (into : Target) (old mid new : DiskState) (same : new.seen ≡ mid.seen) (later : mid.faults ≤ new.faults) where
-    abbrev Spares : FileOutcome → Option Refusal → Type 0
+    abbrev Spares : FileOutcome → Option PartCause → Type 0
     Spares c r = HasCauseIn (told_with (λ name. (0, 0))) into old new c r × MayRefuseLog r
 
-    spares : (c : FileOutcome) → IsGenerated c.name → (r : Option Refusal) → HasCauseIn (told_with opens) into old mid c r → Spares c r
+    spares : (c : FileOutcome) → IsGenerated c.name → (r : Option PartCause) → HasCauseIn (told_with opens) into old mid c r → Spares c r
     spares c is None cause = (cause, tt)
-    spares c is (Some Refusal.OpenFault) cause = absurd (not_risen (subst RoseIn (none c.name is) cause.0))
-    spares c is (Some Refusal.ReadFault) cause = absurd (not_risen cause)
-    spares c is (Some (Refusal.LineTooLong line)) cause = absurd (none_long c.name is line cause)
-    spares c is (Some Refusal.TooManyLines) cause = absurd (none_many most into.header.version c.name is cause.1)
-    spares c is (Some (Refusal.Full book count)) cause = (cause, tt)
-    spares c is (Some (Refusal.ArchiveFull end need)) cause = ((cause.0, told_map into.told (fit_later (generated number lines) into.rows into.first into.names into.header into.entries mid new same c end need) cause.1), tt)
-    spares c is (Some Refusal.DiskFault) cause = (rose_on old.faults mid.faults new.faults later cause, tt)
-    spares c is (Some Refusal.OutOfMemory) cause = (tt, tt)
-    spares c is (Some Refusal.Usage) cause = absurd cause
-    spares c is (Some (Refusal.BadPattern at)) cause = absurd cause
-    spares c is (Some (Refusal.Damaged at)) cause = absurd cause
-    spares c is (Some Refusal.SinkFault) cause = absurd cause
-    spares c is (Some (Refusal.NotEmpty len)) cause = absurd cause
-    spares c is (Some (Refusal.NoSuchFile n count)) cause = absurd cause
-    spares c is (Some (Refusal.NameTooLong index)) cause = absurd cause
-    spares c is (Some (Refusal.TooManyFiles held more)) cause = absurd cause
+    spares c is (Some PartCause.OpenFault) cause = absurd (not_risen (subst RoseIn (none c.name is) cause.0))
+    spares c is (Some PartCause.ReadFault) cause = absurd (not_risen cause)
+    spares c is (Some (PartCause.LineTooLong line)) cause = absurd (none_long c.name is line cause)
+    spares c is (Some PartCause.TooManyLines) cause = absurd (none_many most into.header.version c.name is cause.1)
+    spares c is (Some (PartCause.Full book count)) cause = (cause, tt)
+    spares c is (Some (PartCause.ArchiveFull end need)) cause = ((cause.0, told_map into.told (fit_later (generated number lines) into.rows into.first into.names into.header into.entries mid new same c end need) cause.1), tt)
+    spares c is (Some PartCause.DiskFault) cause = (rose_on old.faults mid.faults new.faults later cause, tt)
+    spares c is (Some PartCause.OutOfMemory) cause = (tt, tt)
 
     abbrev Before : FileOutcome → Type 0
     Before = CameIn (told_with opens) into old mid

@@ -38,7 +38,8 @@ use Rattle.write_commands.specs.Ingested.{FileOutcome, FitIn, FromArchive, HasCa
 use Rattle.write_commands.specs.Names.{IsFirstTooLong, IsShortName}
 use Rattle.write_commands.specs.StepsCauses.{CameIn, HaveFileCauses, IsTarget, Logs, logs_of}
 use Rattle.command_refusals.specs.declared.refusal.Refusal.{Refusal}
-use Rattle.command_refusals.specs.declared.refusal.Refusal.TheVariants.{Usage, BadPattern, OpenFault, ReadFault, LineTooLong, TooManyLines, DiskFault, Damaged, SinkFault, NotEmpty, NoSuchFile, OutOfMemory, NameTooLong, TooManyFiles, Full, ArchiveFull}
+use Rattle.command_refusals.specs.declared.outcome.AddRefusal.{AddRefusal}
+use Rattle.command_refusals.specs.declared.outcome.AddRefusal.TheVariants.{NameTooLong, TooManyFiles, ArchiveFull, DiskFault, Damaged, OutOfMemory}
 use Rattle.generated_logs.specs.Logs.{content_of as generated, name_of}
 use Rattle.write_commands.proofs.BenchLemmas.{sums_sooner}
 use Rattle.write_commands.proofs.BenchedLemmas.{bench_answers, making_answers}
@@ -156,7 +157,7 @@ module _ (old mid : DiskState) (made : MakesEmpty default_header old mid) (tells
       let nothing : stood.legal.held ≡ nothing_held = one_held default_header nothing_held stood.legal.held nothing_held [] stood.legal.run refl in
       omega (arith, four, many, over default_header [] stood, ap (λ (k : Held). length k.names) nothing)
 
-  cause_made : (new : DiskState) (refusal : Refusal) → HasCallCause generated_names mid new refusal → HasLogsCause old new refusal
+  cause_made : (new : DiskState) (refusal : AddRefusal) → HasCallCause generated_names mid new refusal → HasLogsCause old new refusal
   cause_made new (NameTooLong index) cause = none_long index cause
   cause_made new (TooManyFiles held more) (inl (short, zero, many)) = absurd (omega (arith, short.count_is, many))
   cause_made new (TooManyFiles held more) (inr (refuses, counted, over)) =
@@ -168,16 +169,6 @@ module _ (old mid : DiskState) (made : MakesEmpty default_header old mid) (tells
       none_seen old.seen
       (from_empty (λ h before bytes stood. (end ≡ end_of h before) × (need ≡ files_size generated_names) × (h.length_limit < end + need)) (λ start bytes stood. ⊥) cause
       (λ bytes stood full. none_full end need full.0 full.1 full.2))
-  cause_made new Usage cause = cause
-  cause_made new (BadPattern at) cause = cause
-  cause_made new OpenFault cause = cause
-  cause_made new ReadFault cause = cause
-  cause_made new (LineTooLong line) cause = cause
-  cause_made new TooManyLines cause = cause
-  cause_made new SinkFault cause = cause
-  cause_made new (NotEmpty len) cause = cause
-  cause_made new (NoSuchFile number count) cause = cause
-  cause_made new (Full book count) cause = cause
 
   -- ---- what came of the logs
 

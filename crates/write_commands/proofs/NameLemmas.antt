@@ -6,8 +6,8 @@ use Rattle.std.proofs.Math.ListN.{get_or-map}
 use Rattle.std.proofs.lemmas.List.{length-map, length-take, take-append-drop, take_all}
 use Rattle.std.proofs.lemmas.List.Elements.{All-head, All-more, All-tail}
 use Rattle.write_commands.specs.Names.{IsFirstTooLong, IsShortName, RefusesNames}
-use Rattle.command_refusals.specs.declared.refusal.Refusal.{Refusal}
-use Rattle.command_refusals.specs.declared.refusal.Refusal.TheVariants.{Usage, BadPattern, OpenFault, ReadFault, LineTooLong, TooManyLines, DiskFault, Damaged, SinkFault, NotEmpty, NoSuchFile, OutOfMemory, NameTooLong, TooManyFiles, Full, ArchiveFull}
+use Rattle.command_refusals.specs.declared.outcome.AddRefusal.{AddRefusal}
+use Rattle.command_refusals.specs.declared.outcome.AddRefusal.TheVariants.{NameTooLong, TooManyFiles, ArchiveFull, DiskFault, Damaged, OutOfMemory}
 
 module _ {A : Type 0} (f : A → List ℕ) where
   pub short_more : (xs : List A) (i : ℕ) (x : A) (asked : List ℕ) → i < length xs → x ≡ get_or xs i x → asked ≡ f x → length asked ≤ 4096 → All IsShortName (take i (map f xs)) → All IsShortName (take (i + 1) (map f xs))
@@ -56,71 +56,31 @@ none_first names index short first =
     All-right (x ∷ xs) ys all = All-right xs ys (All-tail IsShortName x (xs ++ ys) all)
 
 -- what is refused of names is one refusal
-pub one_refusal : (names : List (List ℕ)) (r s : Refusal) → RefusesNames names (Some r) → RefusesNames names (Some s) → r ≡ s
+pub one_refusal : (names : List (List ℕ)) (r s : AddRefusal) → RefusesNames names (Some r) → RefusesNames names (Some s) → r ≡ s
 one_refusal names (NameTooLong i) (NameTooLong j) first other =
     ap NameTooLong (first.place ∙ (same_before first.before other.before first.name other.name first.after other.after (sym first.splits ∙ other.splits) first.short other.short first.long other.long ∙ sym other.place))
 one_refusal names (NameTooLong i) (TooManyFiles held more) first many = absurd (none_first names i many.0.short first)
 one_refusal names (TooManyFiles held more) (NameTooLong j) many first = absurd (none_first names j many.0.short first)
 one_refusal names (TooManyFiles held more) (TooManyFiles other count) many also =
     ap (λ n. TooManyFiles n more) (many.1 ∙ sym also.1) ∙ ap (λ n. TooManyFiles other n) (many.0.count_is ∙ sym also.0.count_is)
-one_refusal names Usage s is also = absurd is
-one_refusal names (BadPattern at) s is also = absurd is
-one_refusal names OpenFault s is also = absurd is
-one_refusal names ReadFault s is also = absurd is
-one_refusal names (LineTooLong line) s is also = absurd is
-one_refusal names TooManyLines s is also = absurd is
 one_refusal names DiskFault s is also = absurd is
 one_refusal names (Damaged at) s is also = absurd is
-one_refusal names SinkFault s is also = absurd is
-one_refusal names (NotEmpty len) s is also = absurd is
-one_refusal names (NoSuchFile number count) s is also = absurd is
 one_refusal names OutOfMemory s is also = absurd is
-one_refusal names (Full book count) s is also = absurd is
 one_refusal names (ArchiveFull end need) s is also = absurd is
-one_refusal names (NameTooLong i) Usage is also = absurd also
-one_refusal names (NameTooLong i) (BadPattern at) is also = absurd also
-one_refusal names (NameTooLong i) OpenFault is also = absurd also
-one_refusal names (NameTooLong i) ReadFault is also = absurd also
-one_refusal names (NameTooLong i) (LineTooLong line) is also = absurd also
-one_refusal names (NameTooLong i) TooManyLines is also = absurd also
 one_refusal names (NameTooLong i) DiskFault is also = absurd also
 one_refusal names (NameTooLong i) (Damaged at) is also = absurd also
-one_refusal names (NameTooLong i) SinkFault is also = absurd also
-one_refusal names (NameTooLong i) (NotEmpty len) is also = absurd also
-one_refusal names (NameTooLong i) (NoSuchFile number count) is also = absurd also
 one_refusal names (NameTooLong i) OutOfMemory is also = absurd also
-one_refusal names (NameTooLong i) (Full book count) is also = absurd also
 one_refusal names (NameTooLong i) (ArchiveFull end need) is also = absurd also
-one_refusal names (TooManyFiles held more) Usage is also = absurd also
-one_refusal names (TooManyFiles held more) (BadPattern at) is also = absurd also
-one_refusal names (TooManyFiles held more) OpenFault is also = absurd also
-one_refusal names (TooManyFiles held more) ReadFault is also = absurd also
-one_refusal names (TooManyFiles held more) (LineTooLong line) is also = absurd also
-one_refusal names (TooManyFiles held more) TooManyLines is also = absurd also
 one_refusal names (TooManyFiles held more) DiskFault is also = absurd also
 one_refusal names (TooManyFiles held more) (Damaged at) is also = absurd also
-one_refusal names (TooManyFiles held more) SinkFault is also = absurd also
-one_refusal names (TooManyFiles held more) (NotEmpty len) is also = absurd also
-one_refusal names (TooManyFiles held more) (NoSuchFile number count) is also = absurd also
 one_refusal names (TooManyFiles held more) OutOfMemory is also = absurd also
-one_refusal names (TooManyFiles held more) (Full book count) is also = absurd also
 one_refusal names (TooManyFiles held more) (ArchiveFull end need) is also = absurd also
 
 -- and where nothing is refused, no refusal is
-pub none_refused : (names : List (List ℕ)) (r : Refusal) → RefusesNames names None → RefusesNames names (Some r) → ⊥
+pub none_refused : (names : List (List ℕ)) (r : AddRefusal) → RefusesNames names None → RefusesNames names (Some r) → ⊥
 none_refused names (NameTooLong i) spared first = none_first names i spared.0 first
 none_refused names (TooManyFiles held more) spared many = omega (arith, spared.1, many.0.count_is, many.2)
-none_refused names Usage spared is = is
-none_refused names (BadPattern at) spared is = is
-none_refused names OpenFault spared is = is
-none_refused names ReadFault spared is = is
-none_refused names (LineTooLong line) spared is = is
-none_refused names TooManyLines spared is = is
 none_refused names DiskFault spared is = is
 none_refused names (Damaged at) spared is = is
-none_refused names SinkFault spared is = is
-none_refused names (NotEmpty len) spared is = is
-none_refused names (NoSuchFile number count) spared is = is
 none_refused names OutOfMemory spared is = is
-none_refused names (Full book count) spared is = is
 none_refused names (ArchiveFull end need) spared is = is

@@ -33,7 +33,7 @@ use Rattle.write_commands.specs.Ingested.{FileOutcome, IsOfNew}
 use Rattle.write_commands.specs.Jobs.{DidJobs, IsNotBegun, IsToldBy, of_cause, opens_of, refusal_by, sources_of}
 use Rattle.write_commands.specs.JournalLeft.{HasNames, IsLogOf, TakesInto}
 use Rattle.write_commands.specs.Naming.{AreNumbered}
-use Rattle.command_refusals.specs.declared.refusal.Refusal.{Refusal}
+use Rattle.command_refusals.specs.declared.outcome.PartCause.{PartCause}
 use Rattle.write_commands.specs.declared.file_report.FileReport.{FileReport}
 use Rattle.write_commands.proofs.CameLemmas.{names_came}
 use Rattle.write_commands.proofs.ContentLemmas.{AreJobsOf, CameOfJob, ingested_takes_in, named_at, none_told, refused_takes_in, taken_in}
@@ -60,7 +60,7 @@ stands_named h before names j may has =
 
 -- there was no memory to begin with the file
 abbrev IsRefused : FileOutcome → Type 0
-IsRefused c = (c.messages ≡ 0) × (c.whole ≡ false) × (c.refusal ≡ Some Refusal.OutOfMemory)
+IsRefused c = (c.messages ≡ 0) × (c.whole ≡ false) × (c.refusal ≡ Some PartCause.OutOfMemory)
 
 -- nothing is added of files that were not begun
 pub none_takes_into : {D : Type 0} {d : DiskGhosts D} (rows : ℕ) → 0 < rows → (content : List ℕ → Option (List ℕ)) (names : List (List ℕ)) (first : ℕ) (taken : List FileReport) → names_of taken ≡ names → All IsNotBegun taken

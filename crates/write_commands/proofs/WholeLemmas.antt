@@ -23,7 +23,7 @@ use Rattle.write_commands.specs.Ingested.{AreFullInTurn, FileOutcome, CameOfFile
 use Rattle.write_commands.specs.StepsCauses.{AreFullInto, CameIn, HasCauseIn, HaveFileCauses, IsTarget, Logs, Target, into_journal, logs_of}
 use Rattle.write_commands.specs.JournalLeft.{AddsNamesTo, HasNames}
 use Rattle.command_refusals.specs.LogLimits.{most_messages}
-use Rattle.command_refusals.specs.declared.refusal.Refusal.{Refusal}
+use Rattle.command_refusals.specs.declared.outcome.PartCause.{PartCause}
 use Rattle.write_commands.proofs.FitLemmas.{fit_into}
 use Rattle.write_commands.proofs.LeavesLemmas.{from_archive, of_told}
 use Rattle.write_commands.proofs.StepsLemmas.{Looked, no_more, same_bytes}
@@ -31,24 +31,16 @@ use Rattle.write_commands.proofs.StepsLemmas.{Looked, no_more, same_bytes}
 -- ---- from the start of the call
 
 module _ (logs : Logs) (into : Target) (old mid new : DiskState) (risen : old.faults ≤ mid.faults) where
-  cause_on : (c : FileOutcome) (r : Option Refusal) → HasCauseIn logs into mid new c r → HasCauseIn logs into old new c r
+  cause_on : (c : FileOutcome) (r : Option PartCause) → HasCauseIn logs into mid new c r → HasCauseIn logs into old new c r
   cause_on c None cause = cause
-  cause_on c (Some Refusal.OpenFault) cause = cause
-  cause_on c (Some Refusal.ReadFault) cause = cause
-  cause_on c (Some (Refusal.LineTooLong line)) cause = cause
-  cause_on c (Some Refusal.TooManyLines) cause = cause
-  cause_on c (Some (Refusal.Full book count)) cause = cause
-  cause_on c (Some (Refusal.ArchiveFull end need)) cause = cause
-  cause_on c (Some Refusal.DiskFault) cause = rose old.faults mid.faults new.faults new.faults risen cause (omega arith)
-  cause_on c (Some Refusal.OutOfMemory) cause = cause
-  cause_on c (Some Refusal.Usage) cause = absurd cause
-  cause_on c (Some (Refusal.BadPattern at)) cause = absurd cause
-  cause_on c (Some (Refusal.Damaged at)) cause = absurd cause
-  cause_on c (Some Refusal.SinkFault) cause = absurd cause
-  cause_on c (Some (Refusal.NotEmpty len)) cause = absurd cause
-  cause_on c (Some (Refusal.NoSuchFile number count)) cause = absurd cause
-  cause_on c (Some (Refusal.NameTooLong index)) cause = absurd cause
-  cause_on c (Some (Refusal.TooManyFiles held more)) cause = absurd cause
+  cause_on c (Some PartCause.OpenFault) cause = cause
+  cause_on c (Some PartCause.ReadFault) cause = cause
+  cause_on c (Some (PartCause.LineTooLong line)) cause = cause
+  cause_on c (Some PartCause.TooManyLines) cause = cause
+  cause_on c (Some (PartCause.Full book count)) cause = cause
+  cause_on c (Some (PartCause.ArchiveFull end need)) cause = cause
+  cause_on c (Some PartCause.DiskFault) cause = rose old.faults mid.faults new.faults new.faults risen cause (omega arith)
+  cause_on c (Some PartCause.OutOfMemory) cause = cause
 
   pub came_on : (c : FileOutcome) → CameIn logs into mid new c → CameIn logs into old new c
   came_on c is = record { cause = cause_on c c.refusal is.cause; part = is.part }
@@ -96,24 +88,16 @@ module _ (seen : Outside) (old new : DiskState) (into : Target) (told : FromArch
       (λ h before bytes stood. DidNotFit seen.content into.rows (length stood.legal.held.names) into.names h (before ++ Files into.names ∷ []) new c end need) refl (λ c image. image)
       (λ h before bytes stood only is. fit_into seen.content into h before (length stood.legal.held.names) is new c end need (of_told into.told is.told cause)) told
 
-  file_cause : (c : FileOutcome) (r : Option Refusal) → HasCauseIn (logs_of seen) into old new c r → HasFileCause into.rows into.names seen old new c r
+  file_cause : (c : FileOutcome) (r : Option PartCause) → HasCauseIn (logs_of seen) into old new c r → HasFileCause into.rows into.names seen old new c r
   file_cause c None cause = cause
-  file_cause c (Some Refusal.OpenFault) cause = cause
-  file_cause c (Some Refusal.ReadFault) cause = cause
-  file_cause c (Some (Refusal.LineTooLong line)) cause = cause
-  file_cause c (Some Refusal.TooManyLines) cause = (cause.0, from_header (λ h. HasMoreThan most_messages h.version (seen.content c.name)) cause.1)
-  file_cause c (Some (Refusal.Full book count)) cause = from_full c book count cause
-  file_cause c (Some (Refusal.ArchiveFull end need)) cause = from_fit c end need cause.1
-  file_cause c (Some Refusal.DiskFault) cause = cause
-  file_cause c (Some Refusal.OutOfMemory) cause = cause
-  file_cause c (Some Refusal.Usage) cause = absurd cause
-  file_cause c (Some (Refusal.BadPattern at)) cause = absurd cause
-  file_cause c (Some (Refusal.Damaged at)) cause = absurd cause
-  file_cause c (Some Refusal.SinkFault) cause = absurd cause
-  file_cause c (Some (Refusal.NotEmpty len)) cause = absurd cause
-  file_cause c (Some (Refusal.NoSuchFile number count)) cause = absurd cause
-  file_cause c (Some (Refusal.NameTooLong index)) cause = absurd cause
-  file_cause c (Some (Refusal.TooManyFiles held more)) cause = absurd cause
+  file_cause c (Some PartCause.OpenFault) cause = cause
+  file_cause c (Some PartCause.ReadFault) cause = cause
+  file_cause c (Some (PartCause.LineTooLong line)) cause = cause
+  file_cause c (Some PartCause.TooManyLines) cause = (cause.0, from_header (λ h. HasMoreThan most_messages h.version (seen.content c.name)) cause.1)
+  file_cause c (Some (PartCause.Full book count)) cause = from_full c book count cause
+  file_cause c (Some (PartCause.ArchiveFull end need)) cause = from_fit c end need cause.1
+  file_cause c (Some PartCause.DiskFault) cause = cause
+  file_cause c (Some PartCause.OutOfMemory) cause = cause
 
   -- by the files up to the one that was stopped
   turn_of : (h : Header) (before : List JournalEntry) (held : ℕ) (met : List FileOutcome) (c : FileOutcome) (book : Which) (count : ℕ) → IsTarget into h before held → IsFullInTurn into.rows seen.content into.header into.entries met c book count

@@ -23,14 +23,15 @@ use Rattle.generated_logs.specs.Logs.{content_of as generated, name_of}
 use Rattle.command_refusals.specs.Outside.{Outside}
 use Rattle.command_refusals.specs.Ending.{EndsWith, RoseIn, SaysIn, Stayed, TookNothing}
 use Rattle.write_commands.specs.Ingested.{AllFit, AreFullInTurn, FileOutcome, CameOfFile, FromArchive, RefusesIngest, TakesIn, TakesNothing}
-use Rattle.command_refusals.specs.Outcome.{answer_of, of_create, of_read}
+use Rattle.command_refusals.specs.Outcome.{answer_of, of_add, of_create, of_read}
 use Rattle.command_refusals.specs.Refusal.{status_of}
 use Rattle.write_commands.specs.StepsCauses.{HaveFileCauses, logs_of}
 use Rattle.write_commands.specs.Taken.{file_error, file_status, gravest}
 use Rattle.command_refusals.specs.declared.outcome.ReadRefusal.{ReadRefusal}
 use Rattle.command_refusals.specs.declared.outcome.ReadRefusal.TheVariants.{Damaged as ReadDamaged, DiskFault as ReadDiskFault, SinkFault as ReadSinkFault}
-use Rattle.command_refusals.specs.declared.refusal.Refusal.{Refusal}
-use Rattle.command_refusals.specs.declared.refusal.Refusal.TheVariants.{ArchiveFull, Damaged, DiskFault, Full, OutOfMemory, TooManyFiles}
+use Rattle.command_refusals.specs.declared.outcome.AddRefusal.{AddRefusal}
+use Rattle.command_refusals.specs.declared.outcome.PartCause.{PartCause}
+use Rattle.command_refusals.specs.declared.refusal.Refusal.TheVariants.{OutOfMemory}
 
 -- ---- the summary
 
@@ -71,12 +72,12 @@ abbrev pub with_logs : (List ℕ → Option (List ℕ)) → Outside → Outside
 with_logs content seen = record seen { content = content; opens = λ name. (0, 0); reads = λ name. (0, 0) }
 
 -- why a generated log is not whole: a dictionary or the archive is full, a call of the disk failed, or memory ended
-abbrev pub MayRefuseLog : Option Refusal → Type 0
+abbrev pub MayRefuseLog : Option PartCause → Type 0
 MayRefuseLog None = Unit {0}
-MayRefuseLog (Some (Full book count)) = Unit {0}
-MayRefuseLog (Some (ArchiveFull end need)) = Unit {0}
-MayRefuseLog (Some DiskFault) = Unit {0}
-MayRefuseLog (Some OutOfMemory) = Unit {0}
+MayRefuseLog (Some (PartCause.Full book count)) = Unit {0}
+MayRefuseLog (Some (PartCause.ArchiveFull end need)) = Unit {0}
+MayRefuseLog (Some PartCause.DiskFault) = Unit {0}
+MayRefuseLog (Some PartCause.OutOfMemory) = Unit {0}
 MayRefuseLog (Some _) = ⊥
 
 -- nothing else is refused of the file
@@ -167,18 +168,18 @@ pub record RefusesMaking (seen : Outside) (old new : DiskState) (status : ℕ) :
   pub sink : Stayed seen.out_faults
 
 -- what a refusal rests on after the archive was made; want of memory is free
-abbrev pub HasLogsCause : DiskState → DiskState → Refusal → Type 0
-HasLogsCause old new DiskFault = Rose old.faults new.faults
-HasLogsCause old new OutOfMemory = Unit {0}
-HasLogsCause old new (Damaged at) = IfSome old.seen (λ _. ⊥)
-HasLogsCause old new (TooManyFiles held more) = IfSome old.seen (λ _. ⊥)
-HasLogsCause old new (ArchiveFull end need) = IfSome old.seen (λ _. ⊥)
+abbrev pub HasLogsCause : DiskState → DiskState → AddRefusal → Type 0
+HasLogsCause old new AddRefusal.DiskFault = Rose old.faults new.faults
+HasLogsCause old new AddRefusal.OutOfMemory = Unit {0}
+HasLogsCause old new (AddRefusal.Damaged at) = IfSome old.seen (λ _. ⊥)
+HasLogsCause old new (AddRefusal.TooManyFiles held more) = IfSome old.seen (λ _. ⊥)
+HasLogsCause old new (AddRefusal.ArchiveFull end need) = IfSome old.seen (λ _. ⊥)
 HasLogsCause old new _ = ⊥
 
 -- The archive was made, and its files were not named.
 pub record RefusesLogs (seen : Outside) (old new : DiskState) (status : ℕ) : Type 0 where
-  pub refusal : Refusal
-  pub ends : EndsWith seen [] status (Some refusal)
+  pub refusal : AddRefusal
+  pub ends : EndsWith seen [] status (Some (of_add refusal))
   pub nothing : TookNothing seen.out
   pub sink : Stayed seen.out_faults
   pub cause : HasLogsCause old new refusal
@@ -202,9 +203,9 @@ abbrev pub EndsBench : ℕ → ℕ → ℕ → Outside → DiskState → DiskSta
 EndsBench number lines workers seen old new status = RefusesMaking seen old new status ⊎ RefusesLogs seen old new status ⊎ TakesLogs number lines workers seen old new status
 
 -- no dictionary was full at the file, nor the archive
-abbrev pub MeetsNoLimit : Option Refusal → Type 0
-MeetsNoLimit (Some (Full book count)) = ⊥
-MeetsNoLimit (Some (ArchiveFull end need)) = ⊥
+abbrev pub MeetsNoLimit : Option PartCause → Type 0
+MeetsNoLimit (Some (PartCause.Full book count)) = ⊥
+MeetsNoLimit (Some (PartCause.ArchiveFull end need)) = ⊥
 MeetsNoLimit _ = Unit {0}
 
 -- so it was at each log that was taken in

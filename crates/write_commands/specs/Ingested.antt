@@ -31,17 +31,20 @@ use Rattle.command_refusals.specs.Ending.{EndsWith, RefusesAtOnce, RoseIn, SaysI
 use Rattle.write_commands.specs.Names.{RefusesMore, RefusesNames}
 use Rattle.command_refusals.specs.LogLimits.{IsLong, most_messages}
 use Rattle.command_refusals.specs.Reading.{OverJournal}
-use Rattle.command_refusals.specs.Refusal.{file_line_of, file_status_of}
+use Rattle.command_refusals.specs.Outcome.{of_add}
 use Rattle.write_commands.specs.Taken.{file_error, file_status, gravest}
-use Rattle.command_refusals.specs.declared.refusal.Refusal.{Refusal}
-use Rattle.command_refusals.specs.declared.refusal.Refusal.TheVariants.{OpenFault, ReadFault, LineTooLong, TooManyLines, DiskFault, Damaged, SinkFault, OutOfMemory, NameTooLong, TooManyFiles, Full, ArchiveFull}
+use Rattle.command_refusals.specs.declared.outcome.AddRefusal.{AddRefusal}
+use Rattle.command_refusals.specs.declared.outcome.PartCause.{PartCause}
+use Rattle.command_refusals.specs.declared.outcome.AddRefusal.TheVariants.{NameTooLong, TooManyFiles}
+use Rattle.command_refusals.specs.declared.outcome.PartCause.TheVariants.{OpenFault, ReadFault, LineTooLong, TooManyLines, Full}
+use Rattle.command_refusals.specs.declared.refusal.Refusal.TheVariants.{SinkFault, OutOfMemory}
 
 -- What came of a file: its name, how many messages of it the archive has, whether these are all, and why they are not.
 pub record FileOutcome : Type 0 where
   pub name : List ℕ
   pub messages : ℕ
   pub whole : Bool
-  pub refusal : Option Refusal
+  pub refusal : Option PartCause
 
 abbrev pub line_of_came : FileOutcome → FileLine
 line_of_came c = record { name = c.name; messages = c.messages; whole = c.whole }
@@ -164,7 +167,7 @@ pub record DidNotFit (content : List ℕ → Option (List ℕ)) (rows first : �
   pub room : OfTaken c (λ sealed. HadNoRoom h rows h.version (first + place) (StandFirst h named new) (WereGiven content h.version names) (AreFirstOf h.version (content c.name)) sealed end need)
 
 -- What a refusal that came of a file rests on, where these files were given, in segments of at most so many rows. Want of memory is free.
-abbrev pub HasFileCause : ℕ → List (List ℕ) → Outside → DiskState → DiskState → FileOutcome → Option Refusal → Type 0
+abbrev pub HasFileCause : ℕ → List (List ℕ) → Outside → DiskState → DiskState → FileOutcome → Option PartCause → Type 0
 HasFileCause rows names seen old new c None = c.whole ≡ true
 HasFileCause rows names seen old new c (Some OpenFault) = RoseIn (seen.opens c.name) × (c.messages ≡ 0)
 HasFileCause rows names seen old new c (Some ReadFault) = RoseIn (seen.reads c.name)
@@ -172,11 +175,10 @@ HasFileCause rows names seen old new c (Some (LineTooLong line)) = IfSome (seen.
 HasFileCause rows names seen old new c (Some TooManyLines) =
     (c.messages ≡ most_messages) × FromArchive old (λ h before bytes stood. HasMoreThan most_messages h.version (seen.content c.name))
 HasFileCause rows names seen old new c (Some (Full book count)) = FromArchive old (λ h before bytes stood. IsFullByGiven seen.content names h before c book count)
-HasFileCause rows names seen old new c (Some (ArchiveFull end need)) =
+HasFileCause rows names seen old new c (Some (PartCause.ArchiveFull end need)) =
     FromArchive old (λ h before bytes stood. DidNotFit seen.content rows (length stood.legal.held.names) names h (before ++ Files names ∷ []) new c end need)
-HasFileCause rows names seen old new c (Some DiskFault) = Rose old.faults new.faults
-HasFileCause rows names seen old new c (Some OutOfMemory) = Unit {0}
-HasFileCause rows names seen old new c (Some _) = ⊥
+HasFileCause rows names seen old new c (Some PartCause.DiskFault) = Rose old.faults new.faults
+HasFileCause rows names seen old new c (Some PartCause.OutOfMemory) = Unit {0}
 
 -- A file is whole exactly where nothing was refused of it, and a refusal has its cause.
 pub record CameOfFile (rows : ℕ) (names : List (List ℕ)) (seen : Outside) (old new : DiskState) (c : FileOutcome) : Type 0 where
@@ -184,24 +186,23 @@ pub record CameOfFile (rows : ℕ) (names : List (List ℕ)) (seen : Outside) (o
   pub part : c.refusal ≢ None → c.whole ≡ false
 
 -- What a refusal of the whole call rests on.
-abbrev pub HasCallCause : List (List ℕ) → DiskState → DiskState → Refusal → Type 0
+abbrev pub HasCallCause : List (List ℕ) → DiskState → DiskState → AddRefusal → Type 0
 HasCallCause names old new (NameTooLong index) = RefusesNames names (Some (NameTooLong index))
 HasCallCause names old new (TooManyFiles held more) =
     RefusesNames names (Some (TooManyFiles held more))
     ⊎ (RefusesMore held more (Some (TooManyFiles held more)) × (more ≡ length names)
     × OverJournal old.seen (λ journal. held ≡ length journal.names))
-HasCallCause names old new DiskFault = Rose old.faults new.faults
-HasCallCause names old new (Damaged at) = IfSome old.seen (DamagedAt at)
-HasCallCause names old new OutOfMemory = Unit {0}
-HasCallCause names old new (ArchiveFull end need) =
+HasCallCause names old new AddRefusal.DiskFault = Rose old.faults new.faults
+HasCallCause names old new (AddRefusal.Damaged at) = IfSome old.seen (DamagedAt at)
+HasCallCause names old new AddRefusal.OutOfMemory = Unit {0}
+HasCallCause names old new (AddRefusal.ArchiveFull end need) =
     FromArchive old (λ h before bytes stood. (end ≡ end_of h before) × (need ≡ files_size names) × (h.length_limit < end + need))
-HasCallCause names old new _ = ⊥
 
 -- ---- a full dictionary with one worker, which takes the files in their order
 
 -- How many messages of a file may have been met behind those that were taken in, by what was refused of it. A log that was not opened or cannot be read on
 -- leaves none, a full dictionary the one that it stops, and any other refusal those that were in hand for a segment of at most so many rows.
-abbrev pub unsealed_of : ℕ → Option Refusal → ℕ
+abbrev pub unsealed_of : ℕ → Option PartCause → ℕ
 unsealed_of rows None = 0
 unsealed_of rows (Some OpenFault) = 0
 unsealed_of rows (Some ReadFault) = 0
@@ -266,8 +267,8 @@ AllFit content old came = FromArchive old (λ h before bytes stood. (book : Whic
 
 -- The call was refused before the names were added, and nothing was printed.
 pub record RefusesIngest (names : List (List ℕ)) (seen : Outside) (old new : DiskState) (status : ℕ) : Type 0 where
-  pub refusal : Refusal
-  pub ends : EndsWith seen [] status (Some refusal)
+  pub refusal : AddRefusal
+  pub ends : EndsWith seen [] status (Some (of_add refusal))
   pub nothing : TookNothing seen.out
   pub sink : Stayed seen.out_faults
   pub cause : HasCallCause names old new refusal
@@ -308,5 +309,5 @@ EndsIngest workers rows names seen old new status = RefusesIngest names seen old
 
 -- What `ingest` answers. Names that are refused by themselves are refused before all else, whatever the disk tells, and nothing is touched.
 pub record AnswersIngest (workers rows : ℕ) (names : List (List ℕ)) (seen : Outside) (old new : DiskState) (status : ℕ) : Type 0 where
-  pub names_first : (refusal : Refusal) → RefusesNames names (Some refusal) → RefusesAtOnce seen old new status refusal
+  pub names_first : (refusal : AddRefusal) → RefusesNames names (Some refusal) → RefusesAtOnce seen old new status (of_add refusal)
   pub ends : EndsIngest workers rows names seen old new status

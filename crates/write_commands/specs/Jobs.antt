@@ -7,25 +7,25 @@ use Rattle.ingest_workers.specs.declared.job.Job.{Job}
 use Rattle.ingest_workers.specs.declared.outcome.Cause.{Cause}
 use Rattle.ingest_workers.specs.InTurn.{AreFullInTurn}
 use Rattle.ingest_workers.specs.Ingested.{AreRefused, HasIngested, HaveCauses, IsAsItWas, plan_of}
-use Rattle.command_refusals.specs.declared.refusal.Refusal.{Refusal}
+use Rattle.command_refusals.specs.declared.outcome.PartCause.{PartCause}
 use Rattle.write_commands.specs.declared.file_report.FileReport.{FileReport}
 
 -- why a log was not opened, and why not all of it was taken in
-abbrev pub of_opening : OpenRefused → Refusal
-of_opening OpenRefused.Failed = Refusal.OpenFault
-of_opening OpenRefused.OutOfMemory = Refusal.OutOfMemory
+abbrev pub of_opening : OpenRefused → PartCause
+of_opening OpenRefused.Failed = PartCause.OpenFault
+of_opening OpenRefused.OutOfMemory = PartCause.OutOfMemory
 
-abbrev pub of_cause : Cause → Refusal
-of_cause Cause.ReadFault = Refusal.ReadFault
-of_cause (Cause.LineTooLong line) = Refusal.LineTooLong line
-of_cause Cause.TooManyLines = Refusal.TooManyLines
-of_cause (Cause.Full book count) = Refusal.Full book count
-of_cause (Cause.DiskFault opened now) = Refusal.DiskFault
-of_cause Cause.OutOfMemory = Refusal.OutOfMemory
-of_cause (Cause.ArchiveFull end need) = Refusal.ArchiveFull end need
+abbrev pub of_cause : Cause → PartCause
+of_cause Cause.ReadFault = PartCause.ReadFault
+of_cause (Cause.LineTooLong line) = PartCause.LineTooLong line
+of_cause Cause.TooManyLines = PartCause.TooManyLines
+of_cause (Cause.Full book count) = PartCause.Full book count
+of_cause (Cause.DiskFault opened now) = PartCause.DiskFault
+of_cause Cause.OutOfMemory = PartCause.OutOfMemory
+of_cause (Cause.ArchiveFull end need) = PartCause.ArchiveFull end need
 
 -- that a log could not be opened goes before what its job met
-abbrev pub refusal_by : Option OpenRefused → Option Cause → Option Refusal
+abbrev pub refusal_by : Option OpenRefused → Option Cause → Option PartCause
 refusal_by (Some opening) cause = Some (of_opening opening)
 refusal_by None cause = option_map of_cause cause
 
@@ -50,7 +50,7 @@ pub record IsToldBy {S : Type 0} (openings : List (Option OpenRefused)) (jobs : 
 pub record IsNotBegun (file : FileReport) : Type 0 where
   pub messages : file.messages ≡ 0
   pub whole : file.whole ≡ false
-  pub refusal : file.refusal ≡ Some Refusal.OutOfMemory
+  pub refusal : file.refusal ≡ Some PartCause.OutOfMemory
 
 -- ---- all jobs
 

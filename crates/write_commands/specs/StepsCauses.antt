@@ -12,7 +12,7 @@ use Rattle.command_refusals.specs.Outside.{Outside}
 use Rattle.command_refusals.specs.Ending.{RoseIn}
 use Rattle.write_commands.specs.Ingested.{FileOutcome, DidNotFit, FromArchive, HasMoreThan, IsFullByGiven, IsFullInTurn, OfStopped}
 use Rattle.command_refusals.specs.LogLimits.{IsLong, most_messages}
-use Rattle.command_refusals.specs.declared.refusal.Refusal.{Refusal}
+use Rattle.command_refusals.specs.declared.outcome.PartCause.{PartCause}
 
 -- what is told of the logs around a call: their bytes, and the counts of faults in opening and in reading them
 pub record Logs : Type 0 where
@@ -52,18 +52,17 @@ pub record IsTarget (into : Target) (h : Header) (before : List JournalEntry) (h
   pub first : into.first ≡ held
 
 -- What a refusal of a file rests on.
-abbrev pub HasCauseIn : Logs → Target → DiskState → DiskState → FileOutcome → Option Refusal → Type 0
+abbrev pub HasCauseIn : Logs → Target → DiskState → DiskState → FileOutcome → Option PartCause → Type 0
 HasCauseIn logs into old new c None = c.whole ≡ true
-HasCauseIn logs into old new c (Some Refusal.OpenFault) = RoseIn (logs.opens c.name) × (c.messages ≡ 0)
-HasCauseIn logs into old new c (Some Refusal.ReadFault) = RoseIn (logs.reads c.name)
-HasCauseIn logs into old new c (Some (Refusal.LineTooLong line)) = IfSome (logs.content c.name) (λ bytes. IsLong bytes line)
-HasCauseIn logs into old new c (Some Refusal.TooManyLines) = (c.messages ≡ most_messages) × HasMoreThan most_messages into.header.version (logs.content c.name)
-HasCauseIn logs into old new c (Some (Refusal.Full book count)) = IfTold into.told (IsFullByGiven logs.content into.names into.header into.entries c book count)
-HasCauseIn logs into old new c (Some (Refusal.ArchiveFull end need)) =
+HasCauseIn logs into old new c (Some PartCause.OpenFault) = RoseIn (logs.opens c.name) × (c.messages ≡ 0)
+HasCauseIn logs into old new c (Some PartCause.ReadFault) = RoseIn (logs.reads c.name)
+HasCauseIn logs into old new c (Some (PartCause.LineTooLong line)) = IfSome (logs.content c.name) (λ bytes. IsLong bytes line)
+HasCauseIn logs into old new c (Some PartCause.TooManyLines) = (c.messages ≡ most_messages) × HasMoreThan most_messages into.header.version (logs.content c.name)
+HasCauseIn logs into old new c (Some (PartCause.Full book count)) = IfTold into.told (IsFullByGiven logs.content into.names into.header into.entries c book count)
+HasCauseIn logs into old new c (Some (PartCause.ArchiveFull end need)) =
     (into.header.length_limit < end + need) × IfTold into.told (DidNotFit logs.content into.rows into.first into.names into.header into.entries new c end need)
-HasCauseIn logs into old new c (Some Refusal.DiskFault) = Rose old.faults new.faults
-HasCauseIn logs into old new c (Some Refusal.OutOfMemory) = Unit {0}
-HasCauseIn logs into old new c (Some _) = ⊥
+HasCauseIn logs into old new c (Some PartCause.DiskFault) = Rose old.faults new.faults
+HasCauseIn logs into old new c (Some PartCause.OutOfMemory) = Unit {0}
 
 -- each full dictionary was so by what the files were taken into, and by those up to the one that it stopped
 abbrev pub AreFullInto : (List ℕ → Option (List ℕ)) → Target → List FileOutcome → Type 0

@@ -15,7 +15,7 @@ use crate::ingest::{NewLogs, add_files};
 use crate::names::refuse_names;
 use crate::summary::summarize;
 use crate::telling::Telling;
-use command_refusals::{Refusal, refusal_of_create, refusal_of_read, report};
+use command_refusals::{Refusal, refusal_of_add, refusal_of_create, refusal_of_read, report};
 use command_words::BenchWords;
 use disk_journal::create;
 use generated_logs::GeneratedShelf;
@@ -110,7 +110,7 @@ fn add_logs<R: Threads + Wait + Sync, D: Telling + Send, K: Sink>(
 {
     let names = log_names();
     if let Some(refusal) = refuse_names(&names) {
-        return report(err, "", refusal);
+        return report(err, "", refusal_of_add(refusal));
     }
     let Ok(mut taken) = Vec::with_capacity(alloc, names.len()) else {
         return report(err, "", Refusal::OutOfMemory);
@@ -123,7 +123,7 @@ fn add_logs<R: Threads + Wait + Sync, D: Telling + Send, K: Sink>(
     let mut shelf = GeneratedShelf::new(asked.number, asked.lines);
     match add_files(rt, alloc, logs, &mut shelf, disk, &mut taken) {
         Ok(_) => sum_up(rt, alloc, taken.as_slice(), disk, out, err),
-        Err(refusal) => report(err, "", refusal),
+        Err(refusal) => report(err, "", refusal_of_add(refusal)),
     }
 }
 

@@ -4,7 +4,7 @@ ghost use Rattle.std.specs.List.{flat_map};
 ghost use Rattle.command_refusals.specs.Refusal.{Says};
 ghost use Rattle.write_commands.specs.Taken.{error_of, file_status, graver, line_of_taken, status_of_taken};
 
-use command_refusals::{Refusal, report_file};
+use command_refusals::{PartCause, refusal_of_part, report_file};
 use file_lines::Listed;
 use log_seams::Sink;
 
@@ -18,7 +18,7 @@ pub(crate) struct FileReport<'a> {
     /// Whether these are all.
     pub(crate) whole: bool,
     /// Why they are not.
-    pub(crate) refusal: Option<Refusal>,
+    pub(crate) refusal: Option<PartCause>,
 }
 
 impl Listed for FileReport<'_> {
@@ -60,7 +60,7 @@ fn report_one<K: Sink>(err: &mut K, file: &FileReport<'_>) -> u8
 {
     match file.refusal {
         None => 0,
-        Some(refusal) => report_file(err, file.name, refusal),
+        Some(cause) => report_file(err, file.name, refusal_of_part(cause)),
     }
 }
 

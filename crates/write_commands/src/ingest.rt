@@ -17,13 +17,14 @@ ghost use Rattle.write_commands.specs.Names.{RefusesNames};
 ghost use Rattle.write_commands.specs.Naming.{AreNumbered, HasGoneOn, IsNamed};
 ghost use Rattle.command_refusals.specs.Ending.{RefusesAtOnce};
 ghost use Rattle.command_refusals.specs.Reading.{OverJournal};
-ghost use Rattle.command_refusals.specs.declared.refusal.Refusal.{Refusal};
+ghost use Rattle.command_refusals.specs.declared.outcome.AddRefusal.{AddRefusal};
+ghost use Rattle.command_refusals.specs.Outcome.{of_add};
 
 use crate::file_report::{FileReport, report_taken};
 use crate::names::refuse_names;
 use crate::register::{Named, open_and_register};
 use crate::telling::{Telling, check_told};
-use command_refusals::{Refusal, report};
+use command_refusals::{AddRefusal, PartCause, Refusal, refusal_of_add, report};
 use command_words::IngestWords;
 use dict_core::Book;
 use disk_journal::{Journal, start};
@@ -65,22 +66,22 @@ impl<'a> NewLogs<'a> {
 
 /// What is refused of a file, by what came of its opening and of its job: that a log could not be opened
 /// goes before what its job met.
-fn refusal_of_file(opening: Option<OpenRefused>, cause: Option<Cause>) -> Option<Refusal>
+fn refusal_of_file(opening: Option<OpenRefused>, cause: Option<Cause>) -> Option<PartCause>
     ensures { result ≡ refusal_by opening cause }
 {
     match opening {
-        Some(OpenRefused::Failed) => return Some(Refusal::OpenFault),
-        Some(OpenRefused::OutOfMemory) => return Some(Refusal::OutOfMemory),
+        Some(OpenRefused::Failed) => return Some(PartCause::OpenFault),
+        Some(OpenRefused::OutOfMemory) => return Some(PartCause::OutOfMemory),
         None => {}
     }
     Some(match cause? {
-        Cause::ReadFault => Refusal::ReadFault,
-        Cause::LineTooLong { line } => Refusal::LineTooLong { line },
-        Cause::TooManyLines => Refusal::TooManyLines,
-        Cause::Full { book, count } => Refusal::Full { book, count },
-        Cause::DiskFault { .. } => Refusal::DiskFault,
-        Cause::OutOfMemory => Refusal::OutOfMemory,
-        Cause::ArchiveFull { end, need } => Refusal::ArchiveFull { end, need },
+        Cause::ReadFault => PartCause::ReadFault,
+        Cause::LineTooLong { line } => PartCause::LineTooLong { line },
+        Cause::TooManyLines => PartCause::TooManyLines,
+        Cause::Full { book, count } => PartCause::Full { book, count },
+        Cause::DiskFault { .. } => PartCause::DiskFault,
+        Cause::OutOfMemory => PartCause::OutOfMemory,
+        Cause::ArchiveFull { end, need } => PartCause::ArchiveFull { end, need },
     })
 }
 
@@ -96,7 +97,7 @@ fn refuse_all<'a>(names: &'a [&'a str], taken: &mut Vec<FileReport<'a>>)
             name,
             messages: 0,
             whole: false,
-            refusal: Some(Refusal::OutOfMemory),
+            refusal: Some(PartCause::OutOfMemory),
         });
     }
 }
@@ -340,7 +341,7 @@ pub(crate) fn add_files<'a, R: Threads + Wait + Sync, H: Shelf, D: Telling + Sen
     shelf: &mut H,
     disk: &mut D,
     taken: &mut Vec<FileReport<'a>>,
-) -> Result<u32, Refusal>
+) -> Result<u32, AddRefusal>
 where
     H::Src: Send,
     requires workers { (1 ≤ asked.workers) × (asked.workers ≤ 64) }
@@ -400,12 +401,12 @@ where
     requires workers { (1 ≤ asked.workers) × (asked.workers ≤ 64) }
     requires segment { (1 ≤ asked.segment) × (asked.segment ≤ 65536) }
     requires some { 1 ≤ length asked.files.now }
-    ensures names { (refusal : Refusal)
+    ensures names { (refusal : AddRefusal)
         → RefusesNames (map str_bytes asked.entry.files.now) (Some refusal)
         → RefusesAtOnce
         (around H.content H.unread H.open_faults H.read_faults K.written K.faults
         shelf.old shelf.new out.old out.new err.old err.new)
-        (D.state disk.old) (D.state disk.new) result refusal }
+        (D.state disk.old) (D.state disk.new) result (of_add refusal) }
     ensures answers { EndsIngest asked.entry.workers asked.entry.segment
         (map str_bytes asked.entry.files.now)
         (around H.content H.unread H.open_faults H.read_faults K.written K.faults
@@ -421,7 +422,7 @@ where
 {
     one_list_of_parts();
     if let Some(refusal) = refuse_names(asked.files) {
-        return report(err, "", refusal);
+        return report(err, "", refusal_of_add(refusal));
     }
     let Ok(mut taken) = Vec::with_capacity(alloc, asked.files.len()) else {
         return report(err, "", Refusal::OutOfMemory);
@@ -434,6 +435,6 @@ where
                 Err(PrintRefusal::OutOfMemory) => report(err, "", Refusal::OutOfMemory),
             }
         }
-        Err(refusal) => report(err, "", refusal),
+        Err(refusal) => report(err, "", refusal_of_add(refusal)),
     }
 }

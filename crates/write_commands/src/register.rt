@@ -13,7 +13,7 @@ ghost use Rattle.log_sources.specs.Sources.{str_bytes};
 use crate::names::refuse_more;
 use archive_core::Books;
 use archive_open::{Archive, open_for_append};
-use command_refusals::Refusal;
+use command_refusals::AddRefusal;
 use dict_core::Book;
 use disk_journal::Journal;
 use disk_seal::register;
@@ -49,7 +49,7 @@ pub(crate) fn open_and_register<D: Disk>(
     alloc: Global,
     journal: &mut Journal<'_, D>,
     names: &[&str],
-) -> Result<Named, Refusal>
+) -> Result<Named, AddRefusal>
     requires first { IsAtFirst (state_of journal.old) }
     requires begins { BeginsWith journal.old.header (D.state journal.old.disk.now) }
     requires archive { IfSome (D.state journal.old.disk.now).seen IsArchive }

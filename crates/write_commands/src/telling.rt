@@ -5,7 +5,7 @@ ghost use Rattle.log_seams.specs.Outside.{CountsOf};
 ghost use Rattle.archive_check.specs.Checked.{DamagedAt};
 ghost use Rattle.command_refusals.specs.Reading.{IsArchive};
 
-use command_refusals::ReadRefusal;
+use archive_check::CheckRefusal;
 use log_seams::{Disk, MemDisk};
 use std::alloc::Global;
 
@@ -27,13 +27,12 @@ impl Telling for MemDisk {
 /// Checks the archive of a disk that tells its bytes, before it is added to: afterwards these are known to
 /// be an archive. Opening alone does not show it, since it does not read the columns of segments. Of a disk
 /// that does not tell its bytes nothing is read.
-pub(crate) fn check_told<D: Telling>(alloc: Global, disk: &mut D) -> Result<(), ReadRefusal>
+pub(crate) fn check_told<D: Telling>(alloc: Global, disk: &mut D) -> Result<(), CheckRefusal>
     ensures keeps { KeepsBytes (D.state disk.old) (D.state disk.new) }
     ensures archive { OnOk result (IfSome (D.state disk.old).seen IsArchive) }
-    ensures damaged { (at : ℕ) → IsErrOf result (ReadRefusal.Damaged at)
+    ensures damaged { (at : ℕ) → IsErrOf result (CheckRefusal.Damaged at)
         → IfSome (D.state disk.old).seen (DamagedAt at) }
-    ensures sink { ¬ IsErrOf result ReadRefusal.SinkFault }
-    ensures disk { CountsOf ReadRefusal.DiskFault
+    ensures disk { CountsOf CheckRefusal.DiskFault
         (D.state disk.old).faults (D.state disk.new).faults result }
 {
     if disk.tells() {

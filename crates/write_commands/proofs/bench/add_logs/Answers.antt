@@ -7,7 +7,7 @@ use Rattle.write_commands.specs.IngestPrints.{came_of, names_of}
 use Rattle.write_commands.specs.Ingested.{FileOutcome, FromArchive, TakesIn}
 use Rattle.write_commands.specs.Names.{RefusesNames}
 use Rattle.write_commands.specs.StepsCauses.{HaveFileCauses}
-use Rattle.command_refusals.specs.declared.refusal.Refusal.TheVariants.{OutOfMemory}
+use Rattle.command_refusals.specs.declared.outcome.AddRefusal.TheVariants.{OutOfMemory}
 use Rattle.write_commands.specs.declared.file_report.FileReport.{FileReport}
 use Rattle.write_commands.proofs.BenchLemmas.{logs_added, refused_logs}
 use Rattle.write_commands.proofs.CameLemmas.{names_came}
@@ -20,7 +20,7 @@ pub returns-in-Some-clause-ends : goal.returns-in-Some-clause-ends
 returns-in-Some-clause-ends g c = λ content unread opens reads.
     let law = (g.met.D.Disk g.world.𝓛 g.world.𝓜 g.world.𝓡 ((λ s x. x), (λ x. x), (λ x. x), λ x. x)).lawful in
     let refused = subst (λ ns. RefusesNames ns (Some c.in-Some.refusal)) c.log_names-names.ensures c.in-Some.ensures in
-    refused_logs _ _ _ _ _ _ c.in-Some.refusal c.report.ensures.status c.report.ensures.said refl refl (names_cause generated_names (g.D.Disk.state c.args.disk.now) (g.D.Disk.state c.args.disk.now) c.in-Some.refusal refused)
+    refused_logs _ _ _ _ _ _ c.in-Some.refusal (rw (← c.refusal_of_add.ensures) c.report.ensures.status) (rw (← c.refusal_of_add.ensures) c.report.ensures.said) refl refl (names_cause generated_names (g.D.Disk.state c.args.disk.now) (g.D.Disk.state c.args.disk.now) c.in-Some.refusal refused)
     (same_nothing (g.D.Disk.state c.args.disk.now) (law _))
 
 pub returns-in_default-with_capacity-clause-ends : goal.returns-in_default-with_capacity-clause-ends

@@ -4,7 +4,7 @@ use Rattle.write_commands.specs.IngestPrints.{came_of, names_of}
 use Rattle.write_commands.specs.Ingested.{FromArchive, TakesIn}
 use Rattle.write_commands.specs.StepsCauses.{HaveFileCauses, logs_around}
 use Rattle.command_refusals.specs.Reading.{OverJournal}
-use Rattle.command_refusals.specs.declared.refusal.Refusal.TheVariants.{OutOfMemory}
+use Rattle.command_refusals.specs.declared.outcome.AddRefusal.TheVariants.{OutOfMemory}
 use Rattle.write_commands.specs.declared.file_report.FileReport.{FileReport}
 use Rattle.write_commands.proofs.CameLemmas.{printed_all, printed_short, printed_some, refused_all}
 use Rattle.write_commands.proofs.CauseLemmas.{names_cause}
@@ -16,7 +16,7 @@ use Rattle.write_commands.proofs.ingest.ingest_files.Goals as goal
 pub returns-in-Some-clause-answers : goal.returns-in-Some-clause-answers
 returns-in-Some-clause-answers g c =
     let law = (g.met.D.Disk g.world.𝓛 g.world.𝓜 g.world.𝓡 ((λ s x. x), (λ x. x), (λ x. x), λ x. x)).lawful in
-    refused_all c.args.asked.workers c.args.asked.segment (map str_bytes c.args.asked.files.now) _ (g.D.Disk.state c.args.disk.now) (g.D.Disk.state c.args.disk.now) _ c.in-Some.refusal c.report.ensures.status c.report.ensures.said refl refl (names_cause (map str_bytes c.args.asked.files.now) (g.D.Disk.state c.args.disk.now) (g.D.Disk.state c.args.disk.now) c.in-Some.refusal c.in-Some.ensures) (same_nothing (g.D.Disk.state c.args.disk.now) (law _))
+    refused_all c.args.asked.workers c.args.asked.segment (map str_bytes c.args.asked.files.now) _ (g.D.Disk.state c.args.disk.now) (g.D.Disk.state c.args.disk.now) _ c.in-Some.refusal (rw (← c.refusal_of_add.ensures) c.report.ensures.status) (rw (← c.refusal_of_add.ensures) c.report.ensures.said) refl refl (names_cause (map str_bytes c.args.asked.files.now) (g.D.Disk.state c.args.disk.now) (g.D.Disk.state c.args.disk.now) c.in-Some.refusal c.in-Some.ensures) (same_nothing (g.D.Disk.state c.args.disk.now) (law _))
 
 pub returns-in_default-with_capacity-clause-answers : goal.returns-in_default-with_capacity-clause-answers
 returns-in_default-with_capacity-clause-answers g c =
@@ -54,7 +54,7 @@ returns-in-Ok-add_files-clause-answers g c =
 
 pub returns-clause-answers : goal.returns-clause-answers
 returns-clause-answers g c =
-    refused_all c.args.asked.workers c.args.asked.segment (map str_bytes c.args.asked.files.now) _ (g.D.Disk.state c.args.disk.now) (g.D.Disk.state c.add_files.new.disk) _ c.in-Err.refusal c.report-in-Err.ensures.status c.report-in-Err.ensures.said refl refl c.in-Err.ensures.cause c.in-Err.ensures.nothing
+    refused_all c.args.asked.workers c.args.asked.segment (map str_bytes c.args.asked.files.now) _ (g.D.Disk.state c.args.disk.now) (g.D.Disk.state c.add_files.new.disk) _ c.in-Err.refusal (rw (← c.refusal_of_add-in-Err.ensures) c.report-in-Err.ensures.status) (rw (← c.refusal_of_add-in-Err.ensures) c.report-in-Err.ensures.said) refl refl c.in-Err.ensures.cause c.in-Err.ensures.nothing
 
 -- ---- names that are refused by themselves
 
@@ -62,7 +62,7 @@ pub returns-in-Some-clause-names : goal.returns-in-Some-clause-names
 returns-in-Some-clause-names g c = λ refusal refused.
     let same = one_refusal (map str_bytes c.args.asked.files.now) c.in-Some.refusal refusal (rw (c.in-Some.is) at c.refuse_names.ensures) refused in
     rw (sym same) (record {
-      soon = record { refuses = record { ends = record { status_is = c.report.ensures.status; said = c.report.ensures.said }; nothing = refl; sink = refl }; opens = λ n. refl; reads = λ n. refl };
+      soon = record { refuses = record { ends = record { status_is = rw (← c.refusal_of_add.ensures) c.report.ensures.status; said = rw (← c.refusal_of_add.ensures) c.report.ensures.said }; nothing = refl; sink = refl }; opens = λ n. refl; reads = λ n. refl };
       bytes = KeepsBytes-same _;
       ranges = refl;
       faults = refl;
