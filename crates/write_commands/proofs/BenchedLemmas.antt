@@ -30,7 +30,7 @@ use Rattle.command_refusals.specs.declared.refusal.Refusal.TheVariants.{OutOfMem
 
 -- nothing was refused, or memory ended
 abbrev IsFree : Option PartCause → Type 0
-IsFree r = (r ≡ None) ⊎ (r ≡ Some OutOfMemory)
+IsFree r = (r ≡ None) ⊎ (r ≡ Some PartCause.OutOfMemory)
 
 abbrev IsFreeOf : FileOutcome → Type 0
 IsFreeOf c = IsFree c.refusal
