@@ -4,6 +4,5 @@ pub mod CutTextLemmas
 pub mod EncoderLemmas
 pub mod GrowthLemmas
 pub mod MeansLemmas
-pub mod OneCutLemmas
 pub mod OpeningLemmas
 pub mod StampLemmas
