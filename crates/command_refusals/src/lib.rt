@@ -6,12 +6,12 @@
 //! files is refused by an [`AddRefusal`], and a file that is not whole has a [`PartCause`].
 #![tactic(auto)]
 
-mod answer;
+mod ending;
 mod into_refusal;
 mod outcome;
 mod refusal;
 
-pub use answer::answer;
+pub use ending::answer;
 pub use into_refusal::{
     refusal_of_add, refusal_of_create, refusal_of_file, refusal_of_log, refusal_of_part,
     refusal_of_pattern, refusal_of_read, refusal_of_words,

@@ -9,10 +9,10 @@ ghost use Rattle.log_commands.specs.LogAnswers.{AnswersLog};
 ghost use Rattle.log_commands.specs.Scanned.{Finds};
 ghost use Rattle.log_commands.specs.Shown.{Shows};
 
+use crate::found_text::Scan;
 use crate::log::print_log;
 use crate::message_text::MessageText;
-use crate::scan::Scan;
-use crate::show::Show;
+use crate::shown_text::Show;
 use command_refusals::{answer, refusal_of_log, refusal_of_pattern, report};
 use log_seams::{Shelf, Sink};
 use std::alloc::Global;

@@ -1,12 +1,12 @@
 //! The commands that only read an archive: `files`, `check`, `decode` and `search`.
 #![tactic(auto)]
 
-mod check;
+mod check_archive;
 mod decode;
-mod files;
+mod list_files;
 mod search;
 
-pub use check::check;
+pub use check_archive::check;
 pub use decode::decode_file;
-pub use files::files;
+pub use list_files::files;
 pub use search::search_messages;

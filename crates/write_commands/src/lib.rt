@@ -1,7 +1,7 @@
 //! The commands that write an archive: `ingest` and `bench`.
 #![tactic(auto)]
 
-mod bench;
+mod bench_archive;
 mod file_report;
 mod ingest;
 mod names;
@@ -9,6 +9,6 @@ mod register;
 mod summary;
 mod telling;
 
-pub use bench::bench;
+pub use bench_archive::bench;
 pub use ingest::{NewLogs, ingest_files};
 pub use telling::Telling;

@@ -14,7 +14,7 @@ use Rattle.write_commands.proofs.CameLemmas.{names_came}
 use Rattle.write_commands.proofs.CauseLemmas.{names_cause}
 use Rattle.write_commands.proofs.LogCauseLemmas.{log_causes, logs_spared}
 use Rattle.write_commands.proofs.StepsLemmas.{same_nothing}
-use Rattle.write_commands.proofs.bench.add_logs.Goals as goal
+use Rattle.write_commands.proofs.bench_archive.add_logs.Goals as goal
 
 pub returns-in-Some-clause-ends : goal.returns-in-Some-clause-ends
 returns-in-Some-clause-ends g c = λ content unread opens reads.

@@ -1,7 +1,7 @@
 use Rattle.std.proofs.Common.{◌∙◌, refl, sym}
 use Rattle.command_refusals.proofs.GoingLemmas.{DiskGoesOn-joined}
 use Rattle.write_commands.proofs.MadeLemmas.{answers_made, made_steady, made_whole, refused_making}
-use Rattle.write_commands.proofs.bench.bench.Goals as goal
+use Rattle.write_commands.proofs.bench_archive.bench.Goals as goal
 
 pub returns-in-None-clause-answers : goal.returns-in-None-clause-answers
 returns-in-None-clause-answers g c = λ content unread opens reads.

@@ -2,7 +2,7 @@ use Rattle.std.proofs.Common.{◌≡◌, ◌∙◌, inl, inr, refl, sym, rules, 
 use Rattle.std.specs.List.{All}
 use Rattle.write_commands.specs.declared.file_report.FileReport.{FileReport}
 use Rattle.write_commands.proofs.BenchLemmas.{ends_none, ends_some, parts_told, summed_up}
-use Rattle.write_commands.proofs.bench.sum_up.Goals as goal
+use Rattle.write_commands.proofs.bench_archive.sum_up.Goals as goal
 
 pub returns-then-not-all_whole-clause-told : goal.returns-then-not-all_whole-clause-told
 returns-then-not-all_whole-clause-told g c = λ content unread opens reads.

@@ -4,7 +4,7 @@ use Rattle.log_commands.specs.Shown.{marked, with_word}
 use Rattle.log_commands.proofs.ShownLemmas.{Shown-as}
 use Rattle.var_codec.specs.Codes.{Codes}
 use Rattle.var_codec.specs.declared.Coded.TheVariants.{Whole}
-use Rattle.log_commands.proofs.show.push_variable.Goals as goal
+use Rattle.log_commands.proofs.shown_text.push_variable.Goals as goal
 
 pub returns-in-Whole : goal.returns-in-Whole
 returns-in-Whole c =

@@ -1,7 +1,7 @@
 use Rattle.std.proofs.Common.{ap, sym, get_or, rules, arith, length}
 use Rattle.std.proofs.lemmas.Slice.Zip.{AllZip-long}
 use Rattle.log_commands.proofs.ShownLemmas.{code_in, next_of, ShownTo-next, Shown-all}
-use Rattle.log_commands.proofs.show.push_message.Goals as goal
+use Rattle.log_commands.proofs.shown_text.push_message.Goals as goal
 
 pub push_next-requires-clause-order : goal.push_next-requires-clause-order
 push_next-requires-clause-order c = (next_of _ _ _ _ _ _ _ (record { start = 0; end = 0 }) _ c.loop-i.invariant (search rules) (ap (λ s. get_or s c.loop-i.i (record { start = 0; end = 0 })) (sym c.as_slice-span-items.ensures))).order
