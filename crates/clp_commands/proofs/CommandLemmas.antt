@@ -1,20 +1,24 @@
 -- Words ask for one thing alone, so what that answers is what the program answers.
-use Rattle.std.proofs.Common.{◌≡◌, ◌≢◌, ◌≤◌, arith, refl, subst, inl, inr, ℕ, List, [], ◌∷◌, length, map, Result, Ok, Err}
+use Rattle.std.proofs.Common.{◌≡◌, ◌≢◌, ◌≤◌, arith, refl, subst, inl, inr, ℕ, List, [], ◌∷◌, length, map, Option, Some, Result, Ok, Err}
 use Rattle.std.specs.Prelude.{IfErr}
 use Rattle.log_seams.specs.Disk.{DiskState}
 use Rattle.command_words.specs.Asked.{AreTaken, Asked, Asks, HaveGoodNumbers, IsAnswer, asked_by}
 use Rattle.command_words.specs.declared.command.Command.{Command}
 use Rattle.command_words.specs.declared.command.WordsRefusal.{WordsRefusal}
 use Rattle.command_words.specs.declared.command.WordsRefusal.TheVariants.{Usage as WordsUsage, OutOfMemory as WordsOutOfMemory}
-use Rattle.clp_commands.specs.Around.{Around}
-use Rattle.clp_commands.specs.Answers.{Answers, AnswersAsked, RefusesAtOnce}
-use Rattle.clp_commands.specs.Outcome.{of_words}
+use Rattle.command_refusals.specs.Outside.{Outside}
+use Rattle.command_refusals.specs.Ending.{RefusesAtOnce}
+use Rattle.command_refusals.specs.declared.refusal.Refusal.{Refusal}
+use Rattle.write_commands.specs.Names.{RefusesNames}
+use Rattle.write_commands.specs.Ingested.{AnswersIngest, EndsIngest}
+use Rattle.clp_commands.specs.Answers.{Answers, AnswersAsked}
+use Rattle.command_refusals.specs.Outcome.{of_words}
 
 -- words that were read ask for one thing alone
 only : (words : List (List ℕ)) (read : Result Command WordsRefusal) (command : Command) → read ≡ Ok command → ((a : Asked) → Asks words a → IsAnswer a read) → (a : Asked) → Asks words a → asked_by command ≡ a
 only words read command is all a asks = subst (IsAnswer a) is (all a asks)
 
-pub Answers-asked : (words : List (List ℕ)) (seen : Around) (old new : DiskState) (status : ℕ) (read : Result Command WordsRefusal) (command : Command) (a : Asked) → read ≡ Ok command → Asks words a → ((b : Asked) → Asks words b → IsAnswer b read)
+pub Answers-asked : (words : List (List ℕ)) (seen : Outside) (old new : DiskState) (status : ℕ) (read : Result Command WordsRefusal) (command : Command) (a : Asked) → read ≡ Ok command → Asks words a → ((b : Asked) → Asks words b → IsAnswer b read)
     → AnswersAsked a seen old new status → Answers words seen old new status
 Answers-asked words seen old new status read command a is asks all answers = inr (record {
   usage = λ none. absurd (none a asks);
@@ -26,7 +30,7 @@ Answers-asked words seen old new status read command a is asks all answers = inr
     same b also = let one = only words read command is all a asks in let other = only words read command is all b also in cc
 
 -- words that ask for nothing, or that there was no memory to read
-pub Answers-refused : (words : List (List ℕ)) (seen : Around) (old new : DiskState) (status : ℕ) (read : Result Command WordsRefusal) (refusal : WordsRefusal) → read ≡ Err refusal → ((a : Asked) → Asks words a → IsAnswer a read)
+pub Answers-refused : (words : List (List ℕ)) (seen : Outside) (old new : DiskState) (status : ℕ) (read : Result Command WordsRefusal) (refusal : WordsRefusal) → read ≡ Err refusal → ((a : Asked) → Asks words a → IsAnswer a read)
     → (AreTaken words → HaveGoodNumbers words → IfErr read (λ r. r ≡ WordsOutOfMemory)) → RefusesAtOnce seen old new status (of_words refusal) → Answers words seen old new status
 Answers-refused words seen old new status read WordsUsage is all taken refuses = inr (record {
   usage = λ _. refuses;
@@ -42,3 +46,8 @@ Answers-refused words seen old new status read WordsOutOfMemory is all taken ref
 pub some_of : {A B : Type 0} (f : A → B) (xs : List A) → map f xs ≢ [] → 1 ≤ length xs
 some_of f [] some = absurd (some refl)
 some_of f (x ∷ xs) some = omega arith
+
+-- what `ingest` answers, by its names and by how it ends
+pub ingest_answers : (workers rows : ℕ) (names : List (List ℕ)) (seen : Outside) (old new : DiskState) (status : ℕ) → ((refusal : Refusal) → RefusesNames names (Some refusal) → RefusesAtOnce seen old new status refusal)
+    → EndsIngest workers rows names seen old new status → AnswersIngest workers rows names seen old new status
+ingest_answers workers rows names seen old new status first ends = record { names_first = first; ends = ends }

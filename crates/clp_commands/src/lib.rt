@@ -1,28 +1,11 @@
-//! The commands of the program: what its words ask for, what it prints, and its answers.
+//! The top call: what the program's words ask for, what it prints, and its answers.
 //!
 //! [`run`] is the top call. Its contract says for each command what the output takes, and for each
-//! refusal its cause.
+//! refusal its cause. The commands stand in `log_commands`, `read_commands` and `write_commands`.
 #![tactic(auto)]
 
-mod append;
-mod bench;
-mod check;
-mod file;
-mod files;
-mod ingest;
-mod log;
-mod names;
-mod outcome;
-mod refusal;
-mod scan;
-mod search;
-mod show;
-mod summary;
-mod taken;
-mod tell;
-mod telling;
-mod top;
+mod run;
 
-pub use refusal::Refusal;
-pub use telling::Telling;
-pub use top::run;
+pub use command_refusals::Refusal;
+pub use run::run;
+pub use write_commands::Telling;

@@ -1,8 +1,0 @@
-use Rattle.std.proofs.Common.{[], refl}
-use Rattle.clp_commands.specs.Refusal.{line_of}
-use Rattle.clp_commands.specs.declared.refusal.Refusal.TheVariants.{TooManyFiles}
-use Rattle.clp_commands.proofs.RefusalLemmas.{Says-same}
-use Rattle.clp_commands.proofs.refusal.say_too_many.Goals as goal
-
-pub returns-clause-said : goal.returns-clause-said
-returns-clause-said g c = Says-same _ _ _ _ _ (line_of [] (TooManyFiles c.args.held c.args.more)) (rw (c.as_bytes-held.ensures.value, c.format.ensures.text, c.as_bytes-more.ensures.value, c.format-2.ensures.text) refl) c.say.ensures.said

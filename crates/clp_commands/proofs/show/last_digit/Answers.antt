@@ -1,6 +1,0 @@
-use Rattle.std.proofs.Common.{◌%◌, arith}
-use Rattle.clp_commands.proofs.ShownLemmas.{digit_at}
-use Rattle.clp_commands.proofs.show.last_digit.Goals as goal
-
-pub returns : goal.returns
-returns c = digit_at (c.args.number % 16) (omega arith)

@@ -1,5 +1,0 @@
-use Rattle.std.proofs.lemmas.List.{append_assoc}
-use Rattle.clp_commands.proofs.show.push_with_word.Goals as goal
-
-pub returns : goal.returns
-returns c = rw (c.in_ok-extend_from_slice-3.ensures.items, c.in_ok-extend_from_slice-2.ensures.items, c.in_ok-extend_from_slice.ensures.items, c.word_end.ensures) (simp append_assoc)

@@ -1,0 +1,129 @@
+//! The top call.
+ghost use Rattle.std.specs.Prelude.{◌≡◌, ℕ, List, map, string_bytes};
+ghost use Rattle.clp_commands.specs.Answers.{Answers, AnswersAsked};
+ghost use Rattle.clp_commands.specs.Words.{AskNoArchive, AskNoWriting, MayWrite, UsesArchive};
+ghost use Rattle.command_refusals.specs.GoesOn.{DiskGoesOn, OutsideGoesOn};
+ghost use Rattle.command_refusals.specs.Outside.{around};
+ghost use Rattle.command_words.specs.Asked.{IsInRange, asked_by};
+ghost use Rattle.log_seams.specs.Disk.{KeepsBytes};
+
+use command_refusals::{
+    answer, refusal_of_create, refusal_of_file, refusal_of_read, refusal_of_words, report,
+};
+use command_words::{Command, read_words};
+use disk_journal::create;
+use log_commands::{scan, show};
+use log_seams::{Shelf, Sink};
+use read_commands::{check, decode_file, files, search_messages};
+use std::alloc::Global;
+use std::sync::Wait;
+use std::thread::Threads;
+use write_commands::{NewLogs, Telling, bench, ingest_files};
+
+/// Does what the words ask for, and answers the status that the program ends with.
+///
+/// `show FILE` prints each message of a log with its variables in braces. `scan PATTERN FILE` prints
+/// those that the pattern matches, each as `FILE:NUMBER:TEXT`. `create` with its options makes an
+/// archive with no file in it. `files` prints the archive's files, each as `NUMBER MESSAGES whole NAME`,
+/// or `part` in place of `whole`. `decode N` prints the bytes of file N. `check` tells whether the
+/// archive is legal, and prints what it has. `search` with its options prints the messages of the
+/// archive that a pattern matches, as `scan` prints those of a log. A refusal has its line on `err`.
+///
+/// `ingest` adds logs to the archive, and prints of each what `files` prints. `bench` makes an archive of
+/// generated logs, and prints a summary of it. `disk` is the archive's.
+/// `rt` starts the threads of `ingest`. `second` is the disk beside the archive's for commands that
+/// write a new one; no command here needs it yet.
+pub fn run<R: Threads + Wait + Sync, H: Shelf, D: Telling + Send, K: Sink>(
+    rt: &R,
+    alloc: Global,
+    words: &[String],
+    shelf: &mut H,
+    disk: &mut D,
+    second: &mut D,
+    out: &mut K,
+    err: &mut K,
+) -> u8
+where
+    H::Src: Send,
+    // by the words
+    ensures answers { Answers (map string_bytes words.now)
+        (around H.content H.unread H.open_faults H.read_faults K.written K.faults
+        shelf.old shelf.new out.old out.new err.old err.new)
+        (D.state disk.old) (D.state disk.new) result }
+
+    // whatever they ask for
+    ensures outside { OutsideGoesOn
+        (around H.content H.unread H.open_faults H.read_faults K.written K.faults
+        shelf.old shelf.new out.old out.new err.old err.new) }
+    ensures goes_on { DiskGoesOn (D.state disk.old) (D.state disk.new) }
+
+    // what stays
+    ensures logs { (name : List ℕ) → H.content shelf.new name ≡ H.content shelf.old name }
+    ensures keeps { AskNoWriting (map string_bytes words.now)
+        → KeepsBytes (D.state disk.old) (D.state disk.new) }
+    ensures untouched { AskNoArchive (map string_bytes words.now) → disk.new ≡ disk.old }
+    ensures second { second.new ≡ second.old }
+{
+    let command = match read_words(alloc, words) {
+        Ok(command) => command,
+        Err(refusal) => return report(err, "", refusal_of_words(refusal)),
+    };
+    carry_out(rt, alloc, &command, shelf, disk, out, err)
+}
+
+/// Does what a command asks for, and answers the status.
+fn carry_out<R: Threads + Wait + Sync, H: Shelf, D: Telling + Send, K: Sink>(
+    rt: &R,
+    alloc: Global,
+    command: &Command<'_>,
+    shelf: &mut H,
+    disk: &mut D,
+    out: &mut K,
+    err: &mut K,
+) -> u8
+where
+    H::Src: Send,
+    requires { IsInRange (asked_by command.now) }
+    ensures answers { AnswersAsked (asked_by command.now)
+        (around H.content H.unread H.open_faults H.read_faults K.written K.faults
+        shelf.old shelf.new out.old out.new err.old err.new)
+        (D.state disk.old) (D.state disk.new) result }
+
+    // whatever it asks for
+    ensures outside { OutsideGoesOn
+        (around H.content H.unread H.open_faults H.read_faults K.written K.faults
+        shelf.old shelf.new out.old out.new err.old err.new) }
+    ensures goes_on { DiskGoesOn (D.state disk.old) (D.state disk.new) }
+
+    // what stays
+    ensures logs { (name : List ℕ) → H.content shelf.new name ≡ H.content shelf.old name }
+    ensures keeps { ¬ MayWrite (asked_by command.now)
+        → KeepsBytes (D.state disk.old) (D.state disk.new) }
+    ensures untouched { ¬ UsesArchive (asked_by command.now) → disk.new ≡ disk.old }
+{
+    match command {
+        Command::Show { file } => show(alloc, file, shelf, out, err),
+        Command::Scan { pattern, file } => scan(alloc, pattern, file, shelf, out, err),
+        Command::Create { header } => {
+            let outcome = create(disk, header);
+            answer(refusal_of_create(outcome), "", err)
+        }
+        Command::Ingest { asked } => {
+            ingest_files(rt, alloc, NewLogs::of(asked), shelf, disk, out, err)
+        }
+        Command::Files => {
+            let outcome = files(alloc, disk, out);
+            answer(refusal_of_read(outcome), "", err)
+        }
+        Command::Check => {
+            let outcome = check(alloc, disk, out);
+            answer(refusal_of_read(outcome), "", err)
+        }
+        Command::Decode { number } => {
+            let outcome = decode_file(alloc, *number, disk, out);
+            answer(refusal_of_file(outcome), "", err)
+        }
+        Command::Search { asked } => search_messages(rt, alloc, asked, disk, out, err),
+        Command::Bench { asked } => bench(rt, alloc, *asked, disk, out, err),
+    }
+}

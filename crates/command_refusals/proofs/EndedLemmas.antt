@@ -1,0 +1,26 @@
+-- A search that found damage, in an archive that was opened.
+use Rattle.std.proofs.Common.{◌≡◌, refl, sym, ◌∙◌, ◌-◌, ℕ, List, Option, None, Some}
+use Rattle.std.specs.Prelude.{IfSome}
+use Rattle.archive_open.specs.Shown.{HasLastGate, RefusedAt, Shown, StandsForNone}
+use Rattle.archive_open.proofs.OpenLemmas.{refused_at_last}
+use Rattle.search_engine.specs.declared.refusal.SearchRefusal.{SearchRefusal}
+use Rattle.search_engine.specs.Searched.{OfJournal}
+use Rattle.command_refusals.specs.Outcome.{from_search}
+use Rattle.command_refusals.specs.declared.outcome.ReadRefusal.{ReadRefusal}
+
+search_damaged : (told : ReadRefusal) (r : SearchRefusal) (place at : ℕ) → told ≡ from_search place r → told ≡ ReadRefusal.Damaged at → (r ≡ SearchRefusal.Damaged) × (place ≡ at)
+search_damaged told SearchRefusal.DiskFault place at is damaged = absurd (cc (is, damaged))
+search_damaged told SearchRefusal.SinkFault place at is damaged = absurd (cc (is, damaged))
+search_damaged told SearchRefusal.Damaged place at is damaged = (refl, cc (is, damaged))
+search_damaged told SearchRefusal.OutOfMemory place at is damaged = absurd (cc (is, damaged))
+
+none_found : (seen : Option (List ℕ)) → OfJournal seen (λ _ _ _. ⊥) → IfSome seen StandsForNone
+none_found None none = tt
+none_found (Some bytes) none = none
+
+-- a search in an archive that was opened, whose last gate is told
+pub search_refused_at : (told : ReadRefusal) (r : SearchRefusal) (place at : ℕ) (seen later : Option (List ℕ)) (a : Shown) → told ≡ from_search place r → told ≡ ReadRefusal.Damaged at
+    → later ≡ seen → HasLastGate seen a → place ≡ a.end - 1 → (r ≡ SearchRefusal.Damaged → OfJournal later (λ _ _ _. ⊥)) → RefusedAt at seen
+search_refused_at told r place at seen later a is damaged same last place_is none =
+    let here = search_damaged told r place at is damaged in
+    refused_at_last seen later a at same last (sym here.1 ∙ place_is) (none_found later (none here.0))

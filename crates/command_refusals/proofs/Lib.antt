@@ -1,0 +1,5 @@
+pub mod EndedLemmas
+pub mod GoingLemmas
+pub mod LongLemmas
+pub mod PatternLemmas
+pub mod RefusalLemmas

@@ -1,0 +1,142 @@
+-- How the commands of each kind end, and which refusal that is.
+use Rattle.std.specs.Prelude.{ℕ, Option, Some, None, Result, Ok, Err}
+use Rattle.disk_journal.specs.declared.refusals.CreateRefusal.{CreateRefusal}
+use Rattle.disk_journal.specs.declared.refusals.CreateRefusal.TheVariants.{DiskFault as CreateDiskFault, NotEmpty as CreateNotEmpty}
+use Rattle.wild_match.specs.declared.read.PatternRefusal.{PatternRefusal}
+use Rattle.wild_match.specs.declared.read.PatternRefusal.TheVariants.{BadPattern as ReadBadPattern, OutOfMemory as ReadOutOfMemory}
+use Rattle.command_words.specs.declared.command.WordsRefusal.{WordsRefusal}
+use Rattle.command_words.specs.declared.command.WordsRefusal.TheVariants.{Usage as WordsUsage, OutOfMemory as WordsOutOfMemory}
+use Rattle.command_refusals.specs.declared.outcome.LogRefusal.{LogRefusal}
+use Rattle.command_refusals.specs.declared.outcome.LogRefusal.TheVariants.{OpenFault as LogOpenFault, ReadFault as LogReadFault, LineTooLong as LogLineTooLong, TooManyLines as LogTooManyLines, SinkFault as LogSinkFault, OutOfMemory as LogOutOfMemory}
+use Rattle.archive_open.specs.declared.refusal.ArchiveRefusal.{ArchiveRefusal}
+use Rattle.disk_journal.specs.declared.refusals.StartRefusal.{StartRefusal}
+use Rattle.disk_seal.specs.declared.files.RegisterRefusal.{RegisterRefusal}
+use Rattle.archive_check.specs.declared.checking.CheckRefusal.{CheckRefusal}
+use Rattle.sink_pieces.specs.declared.refusal.PrintRefusal.{PrintRefusal}
+use Rattle.archive_decode.specs.declared.refusal.DecodeRefusal.{DecodeRefusal}
+use Rattle.search_engine.specs.declared.refusal.SearchRefusal.{SearchRefusal}
+use Rattle.command_refusals.specs.declared.outcome.AddRefusal.{AddRefusal}
+use Rattle.command_refusals.specs.declared.outcome.FileRefusal.{FileRefusal}
+use Rattle.command_refusals.specs.declared.outcome.PartCause.{PartCause}
+use Rattle.command_refusals.specs.declared.outcome.ReadRefusal.{ReadRefusal}
+use Rattle.command_refusals.specs.declared.refusal.Refusal.{Refusal}
+use Rattle.command_refusals.specs.declared.refusal.Refusal.TheVariants.{Usage, BadPattern, OpenFault, ReadFault, LineTooLong, TooManyLines, DiskFault, Damaged, SinkFault, NotEmpty, NoSuchFile, OutOfMemory, NameTooLong, TooManyFiles, Full, ArchiveFull}
+
+-- the answer of a call that may refuse, where no refusal is `None`
+abbrev pub answer_of : {E : Type 0} → Result Unit E → Option E
+answer_of (Ok _) = None
+answer_of (Err refusal) = Some refusal
+
+-- of a command that prints a log
+abbrev pub of_log : LogRefusal → Refusal
+of_log LogOpenFault = OpenFault
+of_log LogReadFault = ReadFault
+of_log (LogLineTooLong line) = LineTooLong line
+of_log LogTooManyLines = TooManyLines
+of_log LogSinkFault = SinkFault
+of_log LogOutOfMemory = OutOfMemory
+
+-- of a command that reads an archive
+abbrev pub of_read : ReadRefusal → Refusal
+of_read ReadRefusal.DiskFault = DiskFault
+of_read (ReadRefusal.Damaged at) = Damaged at
+of_read ReadRefusal.SinkFault = SinkFault
+of_read ReadRefusal.OutOfMemory = OutOfMemory
+
+-- of the command that prints a file
+abbrev pub of_file : FileRefusal → Refusal
+of_file FileRefusal.DiskFault = DiskFault
+of_file (FileRefusal.Damaged at) = Damaged at
+of_file (FileRefusal.NoSuchFile number count) = NoSuchFile number count
+of_file FileRefusal.SinkFault = SinkFault
+of_file FileRefusal.OutOfMemory = OutOfMemory
+
+-- of the making of an archive
+abbrev pub of_create : CreateRefusal → Refusal
+of_create CreateDiskFault = DiskFault
+of_create (CreateNotEmpty len) = NotEmpty len
+
+-- of words
+abbrev pub of_words : WordsRefusal → Refusal
+of_words WordsUsage = Usage
+of_words WordsOutOfMemory = OutOfMemory
+
+-- of a pattern
+abbrev pub of_pattern : PatternRefusal → Refusal
+of_pattern (ReadBadPattern at) = BadPattern at
+of_pattern ReadOutOfMemory = OutOfMemory
+
+-- why a command that reads an archive is refused where opening it was, where checking it was, and where printing was
+abbrev pub from_archive : ArchiveRefusal → ReadRefusal
+from_archive ArchiveRefusal.DiskFault = ReadRefusal.DiskFault
+from_archive (ArchiveRefusal.Damaged at) = ReadRefusal.Damaged at
+from_archive ArchiveRefusal.OutOfMemory = ReadRefusal.OutOfMemory
+
+abbrev pub from_check : CheckRefusal → ReadRefusal
+from_check CheckRefusal.DiskFault = ReadRefusal.DiskFault
+from_check (CheckRefusal.Damaged at) = ReadRefusal.Damaged at
+from_check CheckRefusal.OutOfMemory = ReadRefusal.OutOfMemory
+
+abbrev pub from_print : PrintRefusal → ReadRefusal
+from_print PrintRefusal.SinkFault = ReadRefusal.SinkFault
+from_print PrintRefusal.OutOfMemory = ReadRefusal.OutOfMemory
+
+-- where searching was, in an archive that is told as damaged at this place
+abbrev pub from_search : ℕ → SearchRefusal → ReadRefusal
+from_search at SearchRefusal.DiskFault = ReadRefusal.DiskFault
+from_search at SearchRefusal.SinkFault = ReadRefusal.SinkFault
+from_search at SearchRefusal.Damaged = ReadRefusal.Damaged at
+from_search at SearchRefusal.OutOfMemory = ReadRefusal.OutOfMemory
+
+-- why the bytes of a file were not printed where opening was refused
+abbrev pub file_from_archive : ArchiveRefusal → FileRefusal
+file_from_archive ArchiveRefusal.DiskFault = FileRefusal.DiskFault
+file_from_archive (ArchiveRefusal.Damaged at) = FileRefusal.Damaged at
+file_from_archive ArchiveRefusal.OutOfMemory = FileRefusal.OutOfMemory
+
+-- and where decoding was, in an archive that is told as damaged at this place
+abbrev pub from_decode : ℕ → DecodeRefusal → FileRefusal
+from_decode at DecodeRefusal.DiskFault = FileRefusal.DiskFault
+from_decode at DecodeRefusal.Damaged = FileRefusal.Damaged at
+from_decode at DecodeRefusal.SinkFault = FileRefusal.SinkFault
+from_decode at DecodeRefusal.OutOfMemory = FileRefusal.OutOfMemory
+
+-- why no file was added where the check of the archive was refused, the reading of its header, the opening, and the naming of the files
+abbrev pub add_from_check : CheckRefusal → AddRefusal
+add_from_check CheckRefusal.DiskFault = AddRefusal.DiskFault
+add_from_check (CheckRefusal.Damaged at) = AddRefusal.Damaged at
+add_from_check CheckRefusal.OutOfMemory = AddRefusal.OutOfMemory
+
+abbrev pub add_from_start : StartRefusal → AddRefusal
+add_from_start StartRefusal.DiskFault = AddRefusal.DiskFault
+add_from_start (StartRefusal.Damaged at) = AddRefusal.Damaged at
+
+abbrev pub add_from_archive : ArchiveRefusal → AddRefusal
+add_from_archive ArchiveRefusal.DiskFault = AddRefusal.DiskFault
+add_from_archive (ArchiveRefusal.Damaged at) = AddRefusal.Damaged at
+add_from_archive ArchiveRefusal.OutOfMemory = AddRefusal.OutOfMemory
+
+abbrev pub add_from_register : RegisterRefusal → AddRefusal
+add_from_register RegisterRefusal.OutOfMemory = AddRefusal.OutOfMemory
+add_from_register (RegisterRefusal.ArchiveFull end need) = AddRefusal.ArchiveFull end need
+add_from_register RegisterRefusal.DiskFault = AddRefusal.DiskFault
+
+-- of a command that adds files
+abbrev pub of_add : AddRefusal → Refusal
+of_add (AddRefusal.NameTooLong index) = NameTooLong index
+of_add (AddRefusal.TooManyFiles held more) = TooManyFiles held more
+of_add (AddRefusal.ArchiveFull end need) = ArchiveFull end need
+of_add AddRefusal.DiskFault = DiskFault
+of_add (AddRefusal.Damaged at) = Damaged at
+of_add AddRefusal.OutOfMemory = OutOfMemory
+
+-- of a file that is not whole
+abbrev pub of_part : PartCause → Refusal
+of_part PartCause.OpenFault = OpenFault
+of_part PartCause.ReadFault = ReadFault
+of_part (PartCause.LineTooLong line) = LineTooLong line
+of_part PartCause.TooManyLines = TooManyLines
+of_part (PartCause.Full book count) = Full book count
+of_part (PartCause.ArchiveFull end need) = ArchiveFull end need
+of_part PartCause.DiskFault = DiskFault
+of_part PartCause.OutOfMemory = OutOfMemory

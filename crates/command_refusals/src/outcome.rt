@@ -1,0 +1,241 @@
+//! How the commands of each kind end, and which of their refusals a refusal of the crates below is.
+ghost use Rattle.std.specs.Prelude.{◌≡◌};
+ghost use Rattle.command_refusals.specs.declared.outcome.AddRefusal.TheVariants.{OutOfMemory as AddOutOfMemory};
+ghost use Rattle.command_refusals.specs.declared.outcome.ReadRefusal.TheVariants.{OutOfMemory, SinkFault};
+ghost use Rattle.command_refusals.specs.Outcome.{add_from_archive, add_from_check, add_from_register, add_from_start, file_from_archive, from_archive, from_check, from_decode, from_print, from_search};
+
+use archive_check::CheckRefusal;
+use archive_decode::DecodeRefusal;
+use archive_open::ArchiveRefusal;
+use disk_journal::StartRefusal;
+use disk_seal::RegisterRefusal;
+use log_seams::Failed;
+use row_codec::Which;
+use search_engine::SearchRefusal;
+use sink_pieces::PrintRefusal;
+use std::alloc::AllocError;
+
+/// Why not all messages of a log were printed.
+#[derive(Clone, Copy, Debug, PartialEq, Eq)]
+pub enum LogRefusal {
+    /// The log cannot be opened.
+    OpenFault,
+    /// A read of the log failed.
+    ReadFault,
+    /// The line of that number is too long.
+    LineTooLong { line: u64 },
+    /// A line begins after the last allowed message.
+    TooManyLines,
+    /// The output cannot be written.
+    SinkFault,
+    /// There was no memory.
+    OutOfMemory,
+}
+
+/// Why a command that reads an archive did not print its text.
+#[derive(Clone, Copy, Debug, PartialEq, Eq)]
+pub enum ReadRefusal {
+    /// A call on the archive's disk failed.
+    DiskFault,
+    /// The disk's bytes are no archive, by what stands at this place.
+    Damaged { at: u64 },
+    /// The output cannot be written.
+    SinkFault,
+    /// There was no memory.
+    OutOfMemory,
+}
+
+impl From<ArchiveRefusal> for ReadRefusal {
+    ghost from_gives = { λ r e. e ≡ from_archive r };
+
+    fn from(refusal: ArchiveRefusal) -> Self {
+        match refusal {
+            ArchiveRefusal::DiskFault => ReadRefusal::DiskFault,
+            ArchiveRefusal::Damaged { at } => ReadRefusal::Damaged { at },
+            ArchiveRefusal::OutOfMemory => ReadRefusal::OutOfMemory,
+        }
+    }
+}
+
+impl From<CheckRefusal> for ReadRefusal {
+    ghost from_gives = { λ r e. e ≡ from_check r };
+
+    fn from(refusal: CheckRefusal) -> Self {
+        match refusal {
+            CheckRefusal::DiskFault => ReadRefusal::DiskFault,
+            CheckRefusal::Damaged { at } => ReadRefusal::Damaged { at },
+            CheckRefusal::OutOfMemory => ReadRefusal::OutOfMemory,
+        }
+    }
+}
+
+impl From<AllocError> for ReadRefusal {
+    ghost from_gives = { λ _ e. e ≡ OutOfMemory };
+
+    fn from(_: AllocError) -> Self {
+        ReadRefusal::OutOfMemory
+    }
+}
+
+impl From<Failed> for ReadRefusal {
+    ghost from_gives = { λ _ e. e ≡ SinkFault };
+
+    fn from(_: Failed) -> Self {
+        ReadRefusal::SinkFault
+    }
+}
+
+impl From<PrintRefusal> for ReadRefusal {
+    ghost from_gives = { λ r e. e ≡ from_print r };
+
+    fn from(refusal: PrintRefusal) -> Self {
+        match refusal {
+            PrintRefusal::SinkFault => ReadRefusal::SinkFault,
+            PrintRefusal::OutOfMemory => ReadRefusal::OutOfMemory,
+        }
+    }
+}
+
+/// The refusal of a search, in an archive that is told as damaged at this place.
+pub fn of_search(refusal: SearchRefusal, at: u64) -> ReadRefusal
+    ensures { result ≡ from_search at refusal }
+{
+    match refusal {
+        SearchRefusal::DiskFault => ReadRefusal::DiskFault,
+        SearchRefusal::SinkFault => ReadRefusal::SinkFault,
+        SearchRefusal::Damaged => ReadRefusal::Damaged { at },
+        SearchRefusal::OutOfMemory => ReadRefusal::OutOfMemory,
+    }
+}
+
+/// Why the bytes of a file were not printed.
+#[derive(Clone, Copy, Debug, PartialEq, Eq)]
+pub enum FileRefusal {
+    /// A call on the archive's disk failed.
+    DiskFault,
+    /// The disk's bytes are no archive, by what stands at this place.
+    Damaged { at: u64 },
+    /// The archive has no file of that number.
+    NoSuchFile { number: u64, count: u64 },
+    /// The output cannot be written.
+    SinkFault,
+    /// There was no memory.
+    OutOfMemory,
+}
+
+impl From<ArchiveRefusal> for FileRefusal {
+    ghost from_gives = { λ r e. e ≡ file_from_archive r };
+
+    fn from(refusal: ArchiveRefusal) -> Self {
+        match refusal {
+            ArchiveRefusal::DiskFault => FileRefusal::DiskFault,
+            ArchiveRefusal::Damaged { at } => FileRefusal::Damaged { at },
+            ArchiveRefusal::OutOfMemory => FileRefusal::OutOfMemory,
+        }
+    }
+}
+
+/// The refusal of a decoding, in an archive that is told as damaged at this place.
+pub fn of_decode(refusal: DecodeRefusal, at: u64) -> FileRefusal
+    ensures { result ≡ from_decode at refusal }
+{
+    match refusal {
+        DecodeRefusal::DiskFault => FileRefusal::DiskFault,
+        DecodeRefusal::Damaged => FileRefusal::Damaged { at },
+        DecodeRefusal::SinkFault => FileRefusal::SinkFault,
+        DecodeRefusal::OutOfMemory => FileRefusal::OutOfMemory,
+    }
+}
+
+/// Why no file was added to an archive.
+#[derive(Clone, Copy, Debug, PartialEq, Eq)]
+pub enum AddRefusal {
+    /// The name at `index`, the first such, is too long.
+    NameTooLong { index: usize },
+    /// `more` names are too many by themselves, and `held` is 0, or with the `held` names of the archive.
+    TooManyFiles { held: u64, more: u64 },
+    /// The names do not fit the archive's limit of length: it ends at `end`, and they need `need` bytes.
+    ArchiveFull { end: u64, need: u64 },
+    /// A call on the archive's disk failed.
+    DiskFault,
+    /// The disk's bytes are no archive, by what stands at this place.
+    Damaged { at: u64 },
+    /// There was no memory.
+    OutOfMemory,
+}
+
+impl From<AllocError> for AddRefusal {
+    ghost from_gives = { λ _ e. e ≡ AddOutOfMemory };
+
+    fn from(_: AllocError) -> Self {
+        AddRefusal::OutOfMemory
+    }
+}
+
+impl From<CheckRefusal> for AddRefusal {
+    ghost from_gives = { λ r e. e ≡ add_from_check r };
+
+    fn from(refusal: CheckRefusal) -> Self {
+        match refusal {
+            CheckRefusal::DiskFault => AddRefusal::DiskFault,
+            CheckRefusal::Damaged { at } => AddRefusal::Damaged { at },
+            CheckRefusal::OutOfMemory => AddRefusal::OutOfMemory,
+        }
+    }
+}
+
+impl From<StartRefusal> for AddRefusal {
+    ghost from_gives = { λ r e. e ≡ add_from_start r };
+
+    fn from(refusal: StartRefusal) -> Self {
+        match refusal {
+            StartRefusal::DiskFault => AddRefusal::DiskFault,
+            StartRefusal::Damaged { at } => AddRefusal::Damaged { at },
+        }
+    }
+}
+
+impl From<ArchiveRefusal> for AddRefusal {
+    ghost from_gives = { λ r e. e ≡ add_from_archive r };
+
+    fn from(refusal: ArchiveRefusal) -> Self {
+        match refusal {
+            ArchiveRefusal::DiskFault => AddRefusal::DiskFault,
+            ArchiveRefusal::Damaged { at } => AddRefusal::Damaged { at },
+            ArchiveRefusal::OutOfMemory => AddRefusal::OutOfMemory,
+        }
+    }
+}
+
+impl From<RegisterRefusal> for AddRefusal {
+    ghost from_gives = { λ r e. e ≡ add_from_register r };
+
+    fn from(refusal: RegisterRefusal) -> Self {
+        match refusal {
+            RegisterRefusal::OutOfMemory => AddRefusal::OutOfMemory,
+            RegisterRefusal::ArchiveFull { end, need } => AddRefusal::ArchiveFull { end, need },
+            RegisterRefusal::DiskFault => AddRefusal::DiskFault,
+        }
+    }
+}
+
+/// Why the archive has not all of a file that was to be taken in.
+#[derive(Clone, Copy, Debug, PartialEq, Eq)]
+pub enum PartCause {
+    /// The log cannot be opened.
+    OpenFault,
+    /// A read of the log failed.
+    ReadFault,
+    /// The line of that number is too long.
+    LineTooLong { line: u64 },
+    /// A line begins after the last allowed message.
+    TooManyLines,
+    /// A text is new, and the dictionary has `count` texts, which is its limit.
+    Full { book: Which, count: u32 },
+    /// Records do not fit the archive's limit of length: it ends at `end`, and they need `need` bytes.
+    ArchiveFull { end: u64, need: u64 },
+    /// A call on the archive's disk failed.
+    DiskFault,
+    /// There was no memory.
+    OutOfMemory,
+}

@@ -1,0 +1,6 @@
+pub mod AnswerLemmas
+pub mod CutterLemmas
+pub mod PrintedLemmas
+pub mod PrintingLemmas
+pub mod ReadingLemmas
+pub mod ShownLemmas

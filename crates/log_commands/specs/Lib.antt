@@ -1,0 +1,4 @@
+pub mod LogAnswers
+pub mod Printing
+pub mod Scanned
+pub mod Shown

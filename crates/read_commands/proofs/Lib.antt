@@ -1,0 +1,4 @@
+pub mod CompleteLemmas
+pub mod DecodingLemmas
+pub mod DirectoryLemmas
+pub mod SearchingLemmas

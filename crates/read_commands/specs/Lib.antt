@@ -1,0 +1,4 @@
+pub mod Counted
+pub mod Decoding
+pub mod Listing
+pub mod Searching

@@ -1,0 +1,75 @@
+-- What `search` prints: the messages of an archive that a pattern matches in a range, and with `--stats` the counts.
+use Rattle.std.specs.Prelude.{◌≡◌, ℕ, ℤ, List, [], ◌∷◌, ◌++◌, Bool, true, if◌then◌else◌, Option, Result, Ok, Err, codes, is_ok, length}
+use Rattle.std.specs.Fmt.{decimal}
+use Rattle.std.specs.List.Sorted.{IsPermutation}
+use Rattle.log_seams.specs.Disk.{DiskState}
+use Rattle.sink_pieces.specs.Output.{Took}
+use Rattle.record_format.specs.declared.header.Header.{Header}
+use Rattle.archive_meaning.specs.declared.entry.JournalEntry.{JournalEntry}
+use Rattle.archive_meaning.specs.Held.{Held, content_of}
+use Rattle.archive_open.specs.declared.segments.SegmentPlace.{SegmentPlace}
+use Rattle.archive_open.specs.Shown.{RefusedAt, places_of}
+use Rattle.search_engine.specs.declared.report.Report.{Report}
+use Rattle.search_engine.specs.Opened.{AreOpened}
+use Rattle.search_engine.specs.Scan.{AreFound, AreTried, Asked, Placed, all_placed, lines_of}
+use Rattle.search_engine.specs.Searched.{OfJournal, ReadsNoBarren, asked, names_of}
+use Rattle.wild_match.specs.Reading.{IsSearchPattern, IsLoneBackslash}
+use Rattle.wild_match.specs.declared.pattern.Item.{Item}
+use Rattle.command_refusals.specs.Ending.{RefusesPatternAtOnce}
+use Rattle.command_refusals.specs.Outside.{Outside}
+use Rattle.command_refusals.specs.Reading.{EndsReading, IsComplete}
+use Rattle.command_refusals.specs.declared.outcome.ReadRefusal.{ReadRefusal}
+use Rattle.command_refusals.specs.declared.outcome.ReadRefusal.TheVariants.{Damaged}
+
+-- how many messages were found, and how many expanded; how many segments were opened, and how many there are
+abbrev pub found_counts : Report → List ℕ
+found_counts r =
+    codes "matched " ++ (decimal r.matched ++ (codes " expanded " ++ (decimal r.expanded ++ (codes " opened " ++ (decimal r.opened ++ (codes " segments " ++ (decimal r.segments ++ 10 ∷ [])))))))
+
+-- What is asked for finds this in a journal with these segments: the messages that the pattern matches in the range, those that
+-- the widened pattern matches there, and the segments that are not barren.
+pub record Found (h : Header) (held : Held) (q : Asked) (segments : List SegmentPlace) : Type 0 where
+  pub found : List Placed
+  pub tried : List Placed
+  pub opened : List SegmentPlace
+  pub are_found : AreFound h.version q (all_placed (content_of held)) found
+  pub are_tried : AreTried h.version q (all_placed (content_of held)) tried
+  pub are_opened : AreOpened (names_of h held) q segments opened
+
+-- its counts
+abbrev pub report_of : List Placed → List Placed → List SegmentPlace → List SegmentPlace → Report
+report_of found tried opened segments = record { matched = length found; expanded = length tried; opened = length opened; segments = length segments }
+
+-- the lines of the messages that are found, and the line of the counts where it is asked for
+abbrev pub found_text : Bool → List Placed → Report → List ℕ
+found_text stats found report = lines_of found ++ (if stats then found_counts report else [])
+
+-- With the journal's segments in some order, the output took the text of what is found, or a front of it; where it took all,
+-- that was found.
+pub record PrintsText (done : Bool) (h : Header) (es : List JournalEntry) (held : Held) (q : Asked) (stats : Bool) (old new : Option (List ℕ)) : Type 0 where
+  pub segments : List SegmentPlace
+  pub are_segments : IsPermutation (places_of es) segments
+  pub there : done ≡ true → Found h held q segments
+  pub took : (f : Found h held q segments) → Took done old new (found_text stats f.found (report_of f.found f.tried f.opened segments))
+
+-- of the journal that the bytes stand for
+abbrev pub PrintsFound : Bool → Asked → Bool → Option (List ℕ) → Option (List ℕ) → Option (List ℕ) → Type 0
+PrintsFound done q stats bytes old new = OfJournal bytes (λ h es held. PrintsText done h es held q stats old new)
+
+-- of the journal that the bytes stand for, no range that was read since has a byte of the columns of a barren segment
+abbrev pub SparesBarren : Asked → Option (List ℕ) → Option (List (ℕ × ℕ)) → Option (List (ℕ × ℕ)) → Type 0
+SparesBarren q bytes old new = OfJournal bytes (λ h es held. ReadsNoBarren h es held q old new)
+
+-- The messages that are found were printed, or the command was refused with a cause.
+pub record AnswersSearch (q : Asked) (stats : Bool) (seen : Outside) (old new : DiskState) (status : ℕ) : Type 0 where
+  pub answer : Result Unit ReadRefusal
+  pub ends : EndsReading seen old new status answer
+  pub prints : PrintsFound (is_ok answer) q stats old.seen seen.out.0 seen.out.1
+  pub reads : SparesBarren q old.seen old.ranges new.ranges
+  pub damaged : (at : ℕ) → answer ≡ Err (Damaged at) → RefusedAt at old.seen
+  pub complete : IsComplete seen old new answer
+
+-- The messages of the archive that a pattern matches in a range were printed, or the pattern is refused.
+pub record AnswersPattern (from to : Option ℤ) (stats : Bool) (pattern : List ℕ) (seen : Outside) (old new : DiskState) (status : ℕ) : Type 0 where
+  pub lone_backslash : (at : ℕ) → IsLoneBackslash pattern at → RefusesPatternAtOnce seen old new status at
+  pub good : (items : List Item) → IsSearchPattern pattern items → AnswersSearch (asked items (record { from = from; to = to })) stats seen old new status

@@ -1,0 +1,208 @@
+-- From an archive that was opened to one in which new files have their names.
+use Rattle.std.proofs.Common.{◌≡◌, ◌+◌, ◌<◌, ◌≤◌, refl, sym, ap, subst, ◌∙◌, ℕ, suc, List, [], ◌∷◌, ◌++◌, false, get_or, length, map, take, Option, Some, None, arith}
+use Rattle.std.specs.Prelude.{IfSome, is_some, replicate}
+use Rattle.std.proofs.Math.ListN.{get_or-map}
+use Rattle.std.proofs.Math.Seq.{take-suc}
+use Rattle.std.proofs.lemmas.List.{length-map}
+use Rattle.record_format.specs.declared.header.Header.{Header}
+use Rattle.record_format.specs.Header.{IsHeader, header_bytes}
+use Rattle.dict_core.specs.Books.{BookState}
+use Rattle.disk_journal.specs.Record.{Saved, Stands}
+use Rattle.disk_journal.specs.Place.{Added, AtEnd, entries}
+use Rattle.disk_journal.specs.State.{BeginsWith, IsAtEnd, JournalState}
+use Rattle.disk_journal.specs.Calls.{GoesOn, HasAdded}
+use Rattle.archive_meaning.specs.declared.entry.JournalEntry.{JournalEntry}
+use Rattle.archive_meaning.specs.declared.entry.JournalEntry.TheVariants.{Files}
+use Rattle.archive_meaning.specs.Held.{Held, Piece, content_of, files_from}
+use Rattle.archive_meaning.specs.Spelled.{end_of, record_of, records_of, types_of}
+use Rattle.archive_meaning.specs.Stands.{IsLegal, StandsFor}
+use Rattle.archive_meaning.specs.Sums.{AddsNames, Admits, AreSums, Sums, end_with, no_messages, sums_from}
+use Rattle.archive_meaning.proofs.JudgeLemmas.{admitted, end_more, same_types}
+use Rattle.archive_meaning.proofs.SumsLemmas.{length-sums}
+use Rattle.archive_meaning.proofs.UniqueLemmas.{records_joined}
+use Rattle.archive_open.specs.Kept.{Kept}
+use Rattle.archive_open.specs.Shown.{IsArchiveOf, Looks, Opens, Shown}
+use Rattle.disk_journal.proofs.SpellingLemmas.{length-frame}
+use Rattle.disk_seal.specs.Told.{IfTold, journal_in}
+use Rattle.disk_seal.specs.Opening.{MayOpen}
+use Rattle.disk_seal.specs.Registered.{HoldsNames, StaysOpen, files_record, files_size}
+use Rattle.disk_seal.specs.WordsIn.{words_of}
+use Rattle.disk_seal.proofs.NextLemmas.{gate_at}
+use Rattle.disk_seal.proofs.OpenLemmas.{journal_is, stood_opens}
+use Rattle.disk_seal.proofs.ToldLemmas.{told_both, told_map}
+use Rattle.ingest_workers.specs.Ingested.{HoldTexts, told_entries}
+use Rattle.ingest_workers.specs.Journal.{Holds}
+use Rattle.write_commands.specs.Names.{RefusesMore, RefusesNames}
+use Rattle.write_commands.specs.Naming.{IsNamed}
+use Rattle.command_refusals.specs.Reading.{IsArchive}
+use Rattle.write_commands.proofs.JoinLemmas.{new_file, types_held, types_named, words_held, words_named}
+
+-- ---- the names
+
+-- the texts of some first names, and of one more
+pub texts_next : {A : Type 0} (f : A → List ℕ) (names : List A) (i : ℕ) (name : A) (text : List ℕ) (texts more : List (List ℕ)) → i < length names → name ≡ get_or names i name → text ≡ f name
+    → texts ≡ take i (map f names) → more ≡ texts ++ text ∷ [] → more ≡ take (i + 1) (map f names)
+texts_next f names i name text texts more within is asks before pushed =
+    let next_is : i + 1 ≡ suc i = omega arith in
+    let next : take (i + 1) (map f names) ≡ take i (map f names) ++ text ∷ [] =
+    ap (λ n. take n (map f names)) next_is ∙ take-suc (map f names) i (f name) (omega (arith, within, length-map names f))
+    ∙ ap (λ w. take i (map f names) ++ w ∷ []) (get_or-map f names i name ∙ ap f (sym is) ∙ sym asks) in
+    pushed ∙ ap (λ ts. ts ++ text ∷ []) before ∙ sym next
+
+-- names that are not refused may be added
+pub may_add : (held : ℕ) (names : List (List ℕ)) → RefusesNames names None → 1 ≤ length names → RefusesMore held (length names) None → AddsNames held names
+may_add held names fine some few = record { some = some; few = fine.1; short = fine.0; all = few }
+
+length-files : (k : ℕ) (names : List (List ℕ)) (ps : List Piece) → length (files_from k names ps) ≡ length names
+length-files k [] ps = refl
+length-files k (name ∷ names) ps = ap suc (length-files (k + 1) names ps)
+
+-- the archive has as many files as names
+pub files_counted : (h : Header) (es : List JournalEntry) (a : Shown) (held : Held) (count : ℕ) → IsArchiveOf a h es held → count ≡ length a.files → count ≡ length held.names
+files_counted h es a held count is same = same ∙ (ap length is.files ∙ (length-map (content_of held) _ ∙ length-files 0 held.names held.pieces))
+
+-- ---- the archive that was opened
+
+stood_by : (told : Option (List ℕ)) (h : Header) (a : Shown) → IfSome told IsArchive → Opens told a → a.header ≡ h → IfSome told (λ bytes. (es : List JournalEntry) × StandsFor bytes h es)
+stood_by None h a is opens same = tt
+stood_by (Some bytes) h a is opens same =
+    let one : IsArchiveOf a is.h is.es is.stands.legal.held = opens is.h is.es is.stands in
+    (is.es, subst (λ x. StandsFor bytes x is.es) (sym one.header ∙ same) is.stands)
+
+-- what the archive shows of the journal that is read
+abbrev ShowsOf : Shown → Header → List JournalEntry → Type 0
+ShowsOf a h es = (legal : IsLegal h es) → IsArchiveOf a h es legal.held
+
+shows_of : (h : Header) (told : Option (List ℕ)) (place n : ℕ) (images : List ℕ → Type 0) (a : Shown) → IsHeader h → Opens told a → AtEnd (header_bytes h) place n told images → entries told n ≡ records_of (journal_in told n)
+    → IfTold (is_some told) (ShowsOf a h (journal_in told n))
+shows_of h None place n images a header opens ends spelled = tt
+shows_of h (Some bytes) place n images a header opens ends spelled =
+    λ legal. opens h (journal_in (Some bytes) n) (record { header = header; legal = legal; stands = subst (λ rs. Stands (header_bytes h) rs bytes) spelled ends.stands })
+
+-- The archive was opened from the first record on, and the journal is at its end.
+pub record OpensFrom (old now : JournalState) (a : Shown) : Type 0 where
+  pub begins : BeginsWith old.header old.disk
+  pub archive : IfSome old.disk.seen IsArchive
+  pub looks : Looks old now
+  pub opened : Opens old.disk.seen a
+  pub header : a.header ≡ old.header
+  pub ends : IsAtEnd now
+
+module _ (old now : JournalState) (a : Shown) (from : OpensFrom old now a) where
+  pub may_append : MayOpen now
+  may_append =
+      let stood = stood_by old.disk.seen old.header a from.archive from.opened from.header in
+      stood_opens now from.ends (subst IsHeader (sym from.looks.header) from.begins.legal)
+      (subst (λ told. IfSome told (λ bytes. (es : List JournalEntry) × StandsFor bytes now.header es)) (sym from.looks.rests.seen)
+      (subst (λ h. IfSome old.disk.seen (λ bytes. (es : List JournalEntry) × StandsFor bytes h es)) (sym from.looks.header) stood))
+
+  shows_now : IfTold (is_some now.disk.seen) (ShowsOf a now.header (told_entries now))
+  shows_now = shows_of now.header now.disk.seen now.place now.count now.disk.images a may_append.header (subst (λ told. Opens told a) (sym from.looks.rests.seen) from.opened) may_append.ends.ends may_append.spelled
+
+  pub holds_names : (held : ℕ) → held ≡ length a.files → HoldsNames held now
+  holds_names held same = told_map (is_some now.disk.seen) (λ (shows : ShowsOf a now.header (told_entries now)). λ legal. files_counted now.header (told_entries now) a legal.held held (shows legal) same) shows_now
+
+-- ---- the names of the new files
+
+-- a legal journal with names more is one
+pub legal_with : (h : Header) (header : IsHeader h) (es : List JournalEntry) (names : List (List ℕ)) (legal : IsLegal h es) → AddsNames (length legal.held.names) names → end_of h (es ++ Files names ∷ []) ≤ h.length_limit → IsLegal h (es ++ Files names ∷ [])
+legal_with h header es names legal adds short =
+    let sums : Sums = record { header = h; types = legal.held.types; words = legal.held.words; files = sums_from 0 legal.held.names legal.held.pieces; end = end_of h es } in
+    let are : AreSums sums es = record { header = header; held = legal.held; run = legal.run; named = legal.named; types = refl; words = refl; files = refl; end = refl; short = legal.short } in
+    let more : Sums = record sums { files = sums.files ++ replicate (length names) no_messages; end = end_with sums (Files names) } in
+    let types : types_of es ≡ sums.types = sym (same_types sums es are) in
+    let end : end_of h (es ++ Files names ∷ []) ≡ end_of h es + 10 + length (record_of (types_of es) (Files names)).payload = end_more h es (Files names) in
+    let admits : Admits sums (Files names) more = ((subst (λ n. AddsNames n names) (sym (length-sums 0 legal.held.names legal.held.pieces)) adds, refl), omega (arith, end, short)) in
+    let all : AreSums more (es ++ Files names ∷ []) = admitted sums more es (Files names) are admits in
+    record { held = all.held; run = all.run; named = all.named; short = subst (λ n. n ≤ h.length_limit) (sym end) (omega (arith, end, short)) }
+
+module _ (h : Header) (header : IsHeader h) (names : List (List ℕ)) (held place : ℕ) where
+  -- what the journal with the names is, where its bytes are told
+  entries_named : (told now : Option (List ℕ)) (count more : ℕ) → is_some now ≡ is_some told → Added told count (files_record names ∷ []) now more
+      → entries told count ≡ records_of (journal_in told count) → IfTold (is_some told) (IsLegal h (journal_in told count))
+      → IfTold (is_some told) ((legal : IsLegal h (journal_in told count)) → held ≡ length legal.held.names)
+      → AddsNames held names → IfTold (is_some told) (place + 1 ≡ end_of h (journal_in told count)) → place + 1 + files_size names ≤ h.length_limit
+      → IfTold (is_some now) (journal_in now more ≡ journal_in told count ++ Files names ∷ [])
+  entries_named None None count more same added spelled legal holds adds gate fits = tt
+  entries_named None (Some c) count more same added spelled legal holds adds gate fits = absurd (cc (same))
+  entries_named (Some b) None count more same added spelled legal holds adds gate fits = absurd (cc (same))
+  entries_named (Some b) (Some c) count more same added spelled legal holds adds gate fits =
+      let es = journal_in (Some b) count in
+      let end : end_of h (es ++ Files names ∷ []) ≡ end_of h es + 10 + length (record_of (types_of es) (Files names)).payload = end_more h es (Files names) in
+      let long : files_size names ≡ 10 + length (files_record names).payload = length-frame (files_record names) in
+      journal_is h header (es ++ Files names ∷ []) (Some c) more (
+        added ∙ (ap (λ (l : List Saved). l ++ files_record names ∷ []) spelled ∙ sym (records_joined [] es (Files names ∷ []))),
+        legal_with h header es names legal (subst (λ n. AddsNames n names) (holds legal) adds) (omega (arith, end, long, gate, fits)),
+      )
+
+-- ---- both books, and the new files
+
+-- what an ingest needs of the entries, by the archive that was opened
+record IsReady (h : Header) (es : List JournalEntry) (types words : BookState) (first count : ℕ) : Type 0 where
+  pub types_are : (types.texts ≡ types_of es) × (types.limit ≡ h.types_limit)
+  pub words_are : (words.texts ≡ words_of es) × (words.limit ≡ h.words_limit)
+  pub empty : (i : ℕ) → i < count → Holds h es (first + i) [] false false
+
+-- the texts that are kept are those of both books
+pub record HasBooks (k : Kept) (types words : BookState) : Type 0 where
+  pub types_are : k.types ≡ types.texts
+  pub words_are : k.words ≡ words.texts
+  pub types_limit : k.types_limit ≡ types.limit
+  pub words_limit : k.words_limit ≡ words.limit
+
+ready : (h : Header) (es : List JournalEntry) (a : Shown) (types words : BookState) (names : List (List ℕ)) (first : ℕ) (legal : IsLegal h es) → IsArchiveOf a h es legal.held → HasBooks a.kept types words → first ≡ length a.files
+    → IsReady h (es ++ Files names ∷ []) types words first (length names)
+ready h es a types words names first legal is books same =
+    let number : first ≡ length legal.held.names = files_counted h es a legal.held first is same in
+    record {
+      types_are = (sym books.types_are ∙ (ap (λ (k : Kept). k.types) is.kept ∙ (types_held h es legal ∙ sym (types_named es names))), sym books.types_limit ∙ ap (λ (k : Kept). k.types_limit) is.kept);
+      words_are = (sym books.words_are ∙ (ap (λ (k : Kept). k.words) is.kept ∙ (words_held h es legal ∙ sym (words_named es names))), sym books.words_limit ∙ ap (λ (k : Kept). k.words_limit) is.kept);
+      empty = λ i within. subst (λ n. Holds h (es ++ Files names ∷ []) (n + i) [] false false) (sym number) (holds i within);
+    }
+  where
+    holds : (i : ℕ) → i < length names → Holds h (es ++ Files names ∷ []) (length legal.held.names + i) [] false false
+    holds i within =
+        let f = new_file h es names legal i within in
+        record { held = _; run = f.run; named = f.named; messages_are = f.none.messages; whole_is = f.none.whole; ended_is = f.none.ended }
+
+-- The names were appended behind an archive with so many files.
+pub record AppendsNames (held : ℕ) (names : List (List ℕ)) (old new : JournalState) : Type 0 where
+  pub adds : AddsNames held names
+  pub goes : GoesOn old new
+  pub added : HasAdded (files_record names ∷ []) (files_size names) old new
+  pub fits : old.place + 1 + files_size names ≤ old.header.length_limit
+  pub opens : StaysOpen held old new
+
+module _ (old now new : JournalState) (a : Shown) (from : OpensFrom old now a) (held : ℕ) (same : held ≡ length a.files) (names : List (List ℕ)) (appends : AppendsNames held names now new) where
+  pub told_named : IfTold (is_some new.disk.seen) (told_entries new ≡ told_entries now ++ Files names ∷ [])
+  told_named =
+      let may = may_append old now a from in
+      entries_named now.header may.header names held now.place now.disk.seen new.disk.seen now.count new.count appends.goes.tells appends.added.added may.spelled may.legal
+      (holds_names old now a from held same) appends.adds (gate_at now.header now.disk.seen now.place now.count now.disk.images may.ends.ends may.spelled) appends.fits
+
+  told_ready : (types words : BookState) → HasBooks a.kept types words → IfTold (is_some new.disk.seen) (IsReady new.header (told_entries new) types words held (length names))
+  told_ready types words books =
+      let es = told_entries now ++ Files names ∷ [] in
+      let here : IfTold (is_some now.disk.seen) (IsReady now.header es types words held (length names)) =
+      told_both (is_some now.disk.seen) (λ (legal : IsLegal now.header (told_entries now)) (shows : ShowsOf a now.header (told_entries now)). ready now.header (told_entries now) a types words names held legal (shows legal) books same)
+      (may_append old now a from).legal (shows_now old now a from) in
+      let there : IfTold (is_some new.disk.seen) (IsReady new.header es types words held (length names)) =
+      subst (λ h. IfTold (is_some new.disk.seen) (IsReady h es types words held (length names))) (sym appends.goes.header)
+      (subst (λ b. IfTold b (IsReady now.header es types words held (length names))) (sym appends.goes.tells) here) in
+      told_both (is_some new.disk.seen) (λ (is : told_entries new ≡ es) (r : IsReady new.header es types words held (length names)). subst (λ x. IsReady new.header x types words held (length names)) (sym is) r) told_named there
+
+  all_named : (types words : BookState) → HasBooks a.kept types words → IsNamed new types words held (length names)
+  all_named types words books =
+      let r = told_ready types words books in
+      let told = is_some new.disk.seen in
+      let Is : Type 0 = IsReady new.header (told_entries new) types words held (length names) in
+      record {
+        opens = appends.opens (may_append old now a from) (holds_names old now a from held same);
+        texts = record { types_are = told_map told (λ (x : Is). x.types_are) r; words_are = told_map told (λ (x : Is). x.words_are) r };
+        few = appends.adds.all;
+        empty = told_map told (λ (x : Is). x.empty) r;
+      }
+
+  pub is_named : (types words : BookState) → HasBooks a.kept types words → (first count : ℕ) → first ≡ held → count ≡ length names → IsNamed new types words first count
+  is_named types words books first count number counted =
+      subst (λ n. IsNamed new types words n count) (sym number) (subst (λ n. IsNamed new types words held n) (sym counted) (all_named types words books))

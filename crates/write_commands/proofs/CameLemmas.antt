@@ -1,0 +1,75 @@
+-- What `ingest` answers, from what it printed of the files that were taken in.
+use Rattle.std.proofs.Common.{◌≡◌, refl, sym, ap, ap₂, subst, ◌∙◌, inl, inr, ℕ, List, [], ◌∷◌, ◌++◌, length, map, Some}
+use Rattle.std.specs.Prelude.{is_some}
+use Rattle.std.specs.List.{flat_map}
+use Rattle.log_seams.specs.Disk.{DiskState}
+use Rattle.logtype_text.specs.Laws.{OneListOfParts}
+use Rattle.sink_pieces.specs.Output.{Grew, GrewByFront}
+use Rattle.command_refusals.specs.Outside.{Outside}
+use Rattle.file_lines.specs.Directory.{FileLine, directory_from}
+use Rattle.command_refusals.specs.Ending.{EndsWith, RoseIn, SaysIn, Stayed, TookNothing}
+use Rattle.write_commands.specs.Ingested.{EndsIngest, FileOutcome, FromArchive, HasCallCause, PrintsCame, TakesIn, TakesNothing, line_of_came}
+use Rattle.write_commands.specs.IngestPrints.{came_of, names_of}
+use Rattle.write_commands.specs.StepsCauses.{HaveFileCauses, logs_of}
+use Rattle.command_refusals.specs.Reading.{OverJournal}
+use Rattle.command_refusals.specs.Refusal.{line_of, status_of}
+use Rattle.write_commands.specs.Taken.{error_of, file_error, file_status, gravest, line_of_taken, status_of_taken}
+use Rattle.command_refusals.specs.declared.outcome.AddRefusal.{AddRefusal}
+use Rattle.command_refusals.specs.Outcome.{of_add}
+use Rattle.command_refusals.specs.declared.refusal.Refusal.TheVariants.{OutOfMemory, SinkFault}
+use Rattle.write_commands.specs.declared.file_report.FileReport.{FileReport}
+use Rattle.write_commands.proofs.FittingLemmas.{all_fit}
+use Rattle.write_commands.proofs.WholeLemmas.{file_causes, full_in_turn}
+
+pub names_came : (files : List FileReport) → map (λ (c : FileOutcome). c.name) (map came_of files) ≡ names_of files
+names_came [] = refl
+names_came (file ∷ files) = ap (λ ns. file.name.now ∷ ns) (names_came files)
+
+lines_came : (files : List FileReport) → map line_of_taken files ≡ map line_of_came (map came_of files)
+lines_came [] = refl
+lines_came (file ∷ files) = ap (λ (ls : List FileLine). line_of_taken file ∷ ls) (lines_came files)
+
+pub statuses_came : (files : List FileReport) → map (λ (file : FileReport). file_status file.refusal) files ≡ map (λ (c : FileOutcome). file_status c.refusal) (map came_of files)
+statuses_came [] = refl
+statuses_came (file ∷ files) = ap (λ ns. file_status file.refusal ∷ ns) (statuses_came files)
+
+pub errors_came : (files : List FileReport) → flat_map error_of files ≡ flat_map (λ (c : FileOutcome). file_error c.name c.refusal) (map came_of files)
+errors_came [] = refl
+errors_came (file ∷ files) = ap (λ text. error_of file ++ text) (errors_came files)
+
+-- the call was refused as a whole
+pub refused_all : (workers rows : ℕ) (names : List (List ℕ)) (seen : Outside) (old new : DiskState) (status : ℕ) (refusal : AddRefusal) → status ≡ status_of (of_add refusal) → SaysIn seen (line_of [] (of_add refusal)) → TookNothing seen.out → Stayed seen.out_faults
+    → HasCallCause names old new refusal → FromArchive old (λ h before bytes stood. TakesNothing h before old new) → EndsIngest workers rows names seen old new status
+refused_all workers rows names seen old new status refusal is said nothing sink cause disk =
+    inl (record { refusal = refusal; ends = record { status_is = is; said = said }; nothing = nothing; sink = sink; cause = cause; disk = disk })
+
+module _ (one : OneListOfParts) (workers rows : ℕ) (names : List (List ℕ)) (seen : Outside) (old new : DiskState) (tells : is_some new.seen ≡ is_some old.seen) (status first : ℕ) (files : List FileReport) (named : names_of files ≡ names)
+    (numbered : OverJournal old.seen (λ journal. first ≡ length journal.names)) (disk : FromArchive old (λ h before bytes stood. TakesIn rows seen.content h before stood names (map came_of files) old new)) (caused : HaveFileCauses (logs_of seen) workers rows old new (map came_of files)) where
+  printed_came : PrintsCame (map came_of files) first seen status → EndsIngest workers rows names seen old new status
+  printed_came printed = inr (record {
+    adds = record { came = map came_of files; first = first; names_are = names_came files ∙ named; numbered = numbered; disk = disk; printed = printed };
+    each = file_causes workers rows names seen old new (map came_of files) (names_came files ∙ named) caused;
+    in_turn = full_in_turn workers rows seen old new (map came_of files) caused;
+    fits = all_fit one seen.content names (map came_of files) old new tells disk;
+  })
+
+  -- all lines were printed
+  pub printed_all : (told : List FileReport) → told ≡ files → Grew seen.out.0 seen.out.1 (directory_from first (map line_of_taken files)) → status ≡ status_of_taken told → SaysIn seen (flat_map error_of told) → Stayed seen.out_faults
+      → EndsIngest workers rows names seen old new status
+  printed_all told same grew is said sink = printed_came (inl (
+    is ∙ (ap status_of_taken same ∙ ap gravest (statuses_came files)),
+    subst (λ (ls : List FileLine). Grew seen.out.0 seen.out.1 (directory_from first ls)) (lines_came files) grew,
+    subst (λ text. SaysIn seen text) (ap (λ (fs : List FileReport). flat_map error_of fs) same ∙ errors_came files) said,
+    sink,
+  ))
+
+  front_came : GrewByFront seen.out.0 seen.out.1 (directory_from first (map line_of_taken files)) → GrewByFront seen.out.0 seen.out.1 (directory_from first (map line_of_came (map came_of files)))
+  front_came grew = subst (λ (ls : List FileLine). GrewByFront seen.out.0 seen.out.1 (directory_from first ls)) (lines_came files) grew
+
+  -- the output failed
+  pub printed_some : GrewByFront seen.out.0 seen.out.1 (directory_from first (map line_of_taken files)) → status ≡ status_of SinkFault → SaysIn seen (line_of [] SinkFault) → RoseIn seen.out_faults → EndsIngest workers rows names seen old new status
+  printed_some grew is said rose = printed_came (inr (inl (record { status_is = is; said = said }, front_came grew, rose)))
+
+  -- there was no memory for the lines
+  pub printed_short : GrewByFront seen.out.0 seen.out.1 (directory_from first (map line_of_taken files)) → status ≡ status_of OutOfMemory → SaysIn seen (line_of [] OutOfMemory) → Stayed seen.out_faults → EndsIngest workers rows names seen old new status
+  printed_short grew is said sink = printed_came (inr (inr (record { status_is = is; said = said }, front_came grew, sink)))

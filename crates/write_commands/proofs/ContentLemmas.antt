@@ -1,0 +1,409 @@
+-- What the archive holds of files that were taken in.
+use Rattle.std.proofs.Common.{◌≡◌, ◌≢◌, not, ◌+◌, ◌<◌, ◌&&◌, ◌⊎◌, inl, inr, refl, sym, ap, ap₂, subst, ◌∙◌, ℕ, suc, Bool, true, false, List, [], ◌∷◌, ◌++◌, length, map, Option, Some, None, arith, append_assoc}
+use Rattle.std.specs.Prelude.{All, IfSome, is_some, option_map, slice_get}
+use Rattle.std.specs.List.{AllZip, Contains, filter_map}
+use Rattle.column_store.specs.Columns.{IsFull}
+use Rattle.std.proofs.lemmas.Option.{get_or_from_slice_get, slice_get-map, slice_get_within}
+use Rattle.std.proofs.lemmas.List.Elements.{All-cons, All-drop, All-head, All-nil, All-tail, All-take, All-weaker}
+use Rattle.std.proofs.Math.Seq.{drop-append_seam, take-append_seam}
+use mathlib.Core.List.{IsPrefix}
+use Rattle.log_seams.specs.declared.disk.Disk.{Ghosts as DiskGhosts}
+use Rattle.log_seams.specs.Disk.{DiskState, IsLawful}
+use Rattle.record_format.specs.declared.header.Header.{Header}
+use Rattle.row_codec.specs.Messages.{IsTypeOf, IsWordOf}
+use Rattle.message_reader.specs.Versions.{MessagesOf}
+use Rattle.message_reader.proofs.VersionLawLemmas.{messages_exist, messages_none}
+use Rattle.disk_journal.specs.declared.journal.Journal.{Journal}
+use Rattle.disk_journal.specs.Journal.{state_of}
+use Rattle.archive_meaning.specs.declared.entry.JournalEntry.{JournalEntry}
+use Rattle.archive_meaning.specs.declared.entry.JournalEntry.TheVariants.{Files, Types, Words, Segment}
+use Rattle.archive_meaning.specs.Held.{File, Held, Piece, content_of, files_from, is_ended, is_whole, messages_of, nothing_held}
+use Rattle.archive_meaning.specs.Legal.{Run}
+use Rattle.archive_meaning.specs.Spelled.{types_in, types_of}
+use Rattle.archive_meaning.specs.Stands.{IsLegal, StandsFor}
+use Rattle.archive_meaning.proofs.RunLemmas.{one_held, runs_split}
+use Rattle.archive_meaning.proofs.UniqueLemmas.{legal_front}
+use Rattle.disk_seal.specs.View.{journal_of, state_by, tells}
+use Rattle.disk_seal.specs.WordsIn.{words_in, words_of}
+use Rattle.ingest_workers.specs.declared.job.Job.{Job}
+use Rattle.ingest_workers.specs.declared.outcome.Outcome.{Outcome}
+use Rattle.ingest_workers.specs.Ingested.{AreRefused, HasIngested, IsAsItWas, IsFileOf, IsOfJobs, IsTypeGiven, IsWordGiven, OfMessages, plan_of, told_entries}
+use Rattle.ingest_workers.specs.Journal.{FrontHolds}
+use Rattle.ingest_workers.specs.JobDone.{in_source}
+use Rattle.ingest_workers.specs.Locked.{in_file}
+use Rattle.ingest_workers.specs.Parts.{IsCut, IsOpen, Part, columns_of, front, messages_in, rest_of, segments_from}
+use Rattle.ingest_workers.specs.Worker.{IsGiven as IsGivenByJobs}
+use Rattle.write_commands.specs.Ingested.{FileOutcome, IsCutInto, IsFront, IsGiven, IsOfNew, LeavesJournal, TakesIn}
+use Rattle.write_commands.specs.JournalLeft.{HasNames, IsLogOf}
+use Rattle.write_commands.proofs.JoinLemmas.{HasNone, content_grows, new_file, with_names}
+use Rattle.write_commands.proofs.LeavesLemmas.{left_leaves, of_told, same_leaves}
+use Rattle.write_commands.proofs.PieceLemmas.{HasGrown, HoldsOf, IsNewFrom, grown, one_file}
+
+-- ---- one new file
+
+-- What the archive has of a file: as many messages as are told, which are the first ones of the log, and all of them where nothing was refused.
+-- the parts of a file's messages, and its segments among new entries
+pub record HasParts (rows file : ℕ) (fresh : List JournalEntry) (covered : List (List ℕ)) (whole ended : Bool) : Type 0 where
+  pub closed : List Part
+  pub rest : Part
+  pub parts : covered ≡ messages_in closed ++ rest.messages
+  pub cut : All (IsCut rows) closed
+  pub not_yet : IsOpen rows rest
+  pub segments : filter_map (in_file file) fresh ≡ segments_from file 0 closed ++ rest_of file (length (messages_in closed)) whole ended rest
+
+-- a file that is not whole leaves its end aside
+rest_of_whole : (file n : ℕ) (whole ended : Bool) (rest : Part) → rest_of file n whole ended rest ≡ rest_of file n whole (whole && ended) rest
+rest_of_whole file n true ended rest = refl
+rest_of_whole file n false ended rest = refl
+
+-- where nothing was added there is one part without messages
+no_part : Part
+no_part = record { rows = []; messages = [] }
+
+no_parts : (rows file : ℕ) (ended : Bool) → 0 < rows → HasParts rows file [] [] false ended
+no_parts rows file ended some = record {
+  closed = [];
+  rest = no_part;
+  parts = refl;
+  cut = All-nil (IsCut rows);
+  not_yet = record { even = refl; not_yet = λ k within full. absurd (omega (arith, some, many k full)) };
+  segments = refl;
+}
+  where
+    many : (k : ℕ) → IsFull (columns_of (front k no_part)) rows → rows ≤ 0
+    many zero (inl rows_are) = rows_are
+    many zero (inr (inl variables)) = absurd (omega (arith, variables))
+    many zero (inr (inr bytes)) = absurd (omega (arith, bytes))
+    many (suc k) (inl rows_are) = rows_are
+    many (suc k) (inr (inl variables)) = absurd (omega (arith, variables))
+    many (suc k) (inr (inr bytes)) = absurd (omega (arith, bytes))
+
+pub record IsTold (content : List ℕ → Option (List ℕ)) (version rows : ℕ) (fresh : List JournalEntry) (ps : List Piece) (file : ℕ) (c : FileOutcome) : Type 0 where
+  pub covered : List (List ℕ)
+  pub ended : Bool
+  pub holds : HoldsOf file ps covered c.whole (c.whole && ended)
+  pub count : c.messages ≡ length covered
+  pub cut : HasParts rows file fresh covered c.whole ended
+  pub first : IfSome (content c.name) (λ bytes. (messages : List (List ℕ)) (e : Bool) → MessagesOf version bytes messages e → IsPrefix covered messages)
+  pub all : c.refusal ≡ None → (c.whole ≡ true) × IfSome (content c.name) (λ bytes. MessagesOf version bytes covered ended)
+
+abbrev file_in : FileOutcome → ℕ → List Piece → File
+file_in c file ps = record { name = c.name; messages = messages_of file ps; whole = is_whole file ps; ended = is_ended file ps }
+
+front_of_told : (content : List ℕ → Option (List ℕ)) (version : ℕ) {rows : ℕ} {fresh : List JournalEntry} (ps : List Piece) (file : ℕ) (c : FileOutcome) → IsTold content version rows fresh ps file c → IsFront content version c (file_in c file ps)
+front_of_told content version ps file c told = record {
+  name = refl;
+  messages = ap length told.holds.messages ∙ sym told.count;
+  whole = told.holds.whole_is;
+  front = subst (λ ms. IfSome (content c.name) (λ bytes. (messages : List (List ℕ)) (e : Bool) → MessagesOf version bytes messages e → IsPrefix ms messages)) (sym told.holds.messages) told.first;
+  all = λ is. let full = told.all is in (
+    full.0,
+    subst (λ ms. IfSome (content c.name) (λ bytes. MessagesOf version bytes ms (is_ended file ps))) (sym told.holds.messages)
+        (subst (λ e. IfSome (content c.name) (λ bytes. MessagesOf version bytes told.covered e)) (sym (told.holds.ended_is ∙ ap (λ b. b && told.ended) full.0)) full.1),
+  );
+}
+
+pub fronts_are : (content : List ℕ → Option (List ℕ)) (version : ℕ) {rows : ℕ} {fresh : List JournalEntry} (ps : List Piece) (k : ℕ) (names : List (List ℕ)) (came : List FileOutcome) → map (λ (c : FileOutcome). c.name) came ≡ names
+    → ((i : ℕ) (c : FileOutcome) → slice_get came i ≡ Some c → IsTold content version rows fresh ps (k + i) c) → AllZip (IsFront content version) came (files_from k names ps)
+fronts_are content version {rows} {fresh} ps k names came are each = subst (λ l. AllZip (IsFront content version) came (files_from k l ps)) are (go k came each)
+  where
+    go : (k : ℕ) (came : List FileOutcome) → ((i : ℕ) (c : FileOutcome) → slice_get came i ≡ Some c → IsTold content version rows fresh ps (k + i) c) → AllZip (IsFront content version) came (files_from k (map (λ (c : FileOutcome). c.name) came) ps)
+    go k [] each = tt
+    go k (c ∷ came) each = (
+      front_of_told content version ps k c (subst (λ n. IsTold content version rows fresh ps n c) (omega arith) (each 0 c refl)),
+      go (k + 1) came (λ i d at. subst (λ n. IsTold content version rows fresh ps n d) (omega arith) (each (suc i) d at)),
+    )
+
+-- the file at a place has the messages of its pieces
+file_is : (ps : List Piece) (k : ℕ) (names : List (List ℕ)) (i : ℕ) (f : File) → slice_get (files_from k names ps) i ≡ Some f → (f.messages ≡ messages_of (k + i) ps) × (f.whole ≡ is_whole (k + i) ps) × (f.ended ≡ is_ended (k + i) ps)
+file_is ps k [] i f at = absurd (cc (at))
+file_is ps k (name ∷ names) zero f at =
+    let here : k ≡ k + 0 = omega arith in
+    let is : record { name = name; messages = messages_of k ps; whole = is_whole k ps; ended = is_ended k ps } ≡ f = cc (at) in (
+      sym (ap (λ (x : File). x.messages) is) ∙ ap (λ n. messages_of n ps) here,
+      sym (ap (λ (x : File). x.whole) is) ∙ ap (λ n. is_whole n ps) here,
+      sym (ap (λ (x : File). x.ended) is) ∙ ap (λ n. is_ended n ps) here,
+    )
+file_is ps k (name ∷ names) (suc i) f at =
+    let here : (k + 1) + i ≡ k + suc i = omega arith in
+    let rest = file_is ps (k + 1) names i f at in
+    (rest.0 ∙ ap (λ n. messages_of n ps) here, rest.1 ∙ ap (λ n. is_whole n ps) here, rest.2 ∙ ap (λ n. is_ended n ps) here)
+
+-- and is cut into the parts that are told of it
+cut_of_told : (content : List ℕ → Option (List ℕ)) (version rows : ℕ) (fresh : List JournalEntry) (ps : List Piece) (file : ℕ) (c : FileOutcome) (f : File) → IsTold content version rows fresh ps file c
+    → (f.messages ≡ messages_of file ps) × (f.whole ≡ is_whole file ps) × (f.ended ≡ is_ended file ps) → IsCutInto rows file f fresh
+cut_of_told content version rows fresh ps file c f told is = record {
+  closed = told.cut.closed;
+  rest = told.cut.rest;
+  parts = is.0 ∙ (told.holds.messages ∙ told.cut.parts);
+  cut = told.cut.cut;
+  not_yet = told.cut.not_yet;
+  segments = told.cut.segments ∙ ap (λ l. segments_from file 0 told.cut.closed ++ l) (rest_of_whole file n c.whole told.ended told.cut.rest
+      ∙ ap₂ (λ w e. rest_of file n w e told.cut.rest) (sym (is.1 ∙ told.holds.whole_is)) (sym (is.2 ∙ told.holds.ended_is)));
+}
+  where
+    n : ℕ
+    n = length (messages_in told.cut.closed)
+
+-- the names have a file at each place
+named_files : {A B : Type 0} (R : A → B → Type 0) (xs : List A) (ys : List B) (i : ℕ) (y : B) → AllZip R xs ys → slice_get ys i ≡ Some y → (x : A) × (slice_get xs i ≡ Some x)
+named_files R [] [] i y zip at = absurd (cc (at))
+named_files R [] (z ∷ ys) i y zip at = absurd zip
+named_files R (x ∷ xs) [] i y zip at = absurd (cc (at))
+named_files R (x ∷ xs) (z ∷ ys) zero y zip at = (x, refl)
+named_files R (x ∷ xs) (z ∷ ys) (suc i) y zip at = named_files R xs ys i y zip.1 at
+
+-- ---- the entries of the new files
+
+all_left : {A : Type 0} (P : A → Type 0) (xs ys : List A) → All P (xs ++ ys) → All P xs
+all_left P xs ys all = subst (All P) (take-append_seam xs ys) (All-take P (length xs) (xs ++ ys) all)
+
+all_right : {A : Type 0} (P : A → Type 0) (xs ys : List A) → All P (xs ++ ys) → All P ys
+all_right P xs ys all = subst (All P) (drop-append_seam xs ys) (All-drop P (length xs) (xs ++ ys) all)
+
+module _ {S : Type 0} (left : S → Option (List ℕ)) (content : List ℕ → Option (List ℕ)) (version : ℕ) (names : List (List ℕ)) (first : ℕ) (js : List (Job S)) where
+  -- the jobs are those of the names
+  pub record AreJobsOf : Type 0 where
+    pub file : (i : ℕ) (job : Job S) → slice_get js i ≡ Some job → job.file ≡ first + i
+    pub log : (i : ℕ) (job : Job S) → slice_get js i ≡ Some job → (name : List ℕ) × (slice_get names i ≡ Some name) × IsLogOf (content name) (in_source left job.source)
+
+  nothing_given : (m : List ℕ) → ((messages : List (List ℕ)) (ended : Bool) → MessagesOf version [] messages ended → Contains messages m) → ⊥
+  nothing_given m given = none_in (given [] true (messages_none version))
+    where
+      none_in : Contains [] m → ⊥
+      none_in c = absurd (omega (arith, c.1))
+
+  pub given_of_names : AreJobsOf → (m : List ℕ) → IsGivenByJobs left version js m → IsGiven content version names m
+  given_of_names of m given =
+      let log = of.log given.0 given.1 given.2 in (
+        log.0,
+        contains_at names given.0 log.0 log.1,
+        by_log (content log.0) (in_source left given.1.source) log.2 given.3,
+      )
+    where
+      contains_at : (l : List (List ℕ)) (i : ℕ) (name : List ℕ) → slice_get l i ≡ Some name → Contains l name
+      contains_at l i name at = (i, slice_get_within l i name at, get_or_from_slice_get l i name name at)
+
+      by_log : (log told : Option (List ℕ)) → IsLogOf log told → IfSome told (λ b. (messages : List (List ℕ)) (ended : Bool) → MessagesOf version b messages ended → Contains messages m)
+          → IfSome log (λ b. (messages : List (List ℕ)) (ended : Bool) → MessagesOf version b messages ended → Contains messages m)
+      by_log log told (inl same) one = subst (λ (o : Option (List ℕ)). IfSome o (λ b. (messages : List (List ℕ)) (ended : Bool) → MessagesOf version b messages ended → Contains messages m)) same one
+      by_log log told (inr none) one =
+          absurd (nothing_given m (subst (λ (o : Option (List ℕ)). IfSome o (λ b. (messages : List (List ℕ)) (ended : Bool) → MessagesOf version b messages ended → Contains messages m)) none one))
+
+  all_of_names : AreJobsOf → (es : List JournalEntry) → All (IsOfJobs js) es → All (IsTypeGiven left version js) (types_of es) → All (IsWordGiven left version js) (words_of es) → All (IsOfNew content version names first) es
+  all_of_names of [] each types words = All-nil (IsOfNew content version names first)
+  all_of_names of (e ∷ es) each types words =
+      All-cons (IsOfNew content version names first) e es
+      (entry e (All-head (IsOfJobs js) e es each) (all_left (IsTypeGiven left version js) (types_in e) (types_of es) types) (all_left (IsWordGiven left version js) (words_in e) (words_of es) words))
+      (all_of_names of es (All-tail (IsOfJobs js) e es each) (all_right (IsTypeGiven left version js) (types_in e) (types_of es) types) (all_right (IsWordGiven left version js) (words_in e) (words_of es) words))
+    where
+      entry : (e : JournalEntry) → IsOfJobs js e → All (IsTypeGiven left version js) (types_in e) → All (IsWordGiven left version js) (words_in e) → IsOfNew content version names first e
+      entry (Files more) is t w = is
+      entry (Types number texts) is t w = All-weaker (IsTypeGiven left version js) (λ text. (m : List ℕ) × IsGiven content version names m × IsTypeOf version m text) (λ text g. (g.0, given_of_names of g.0 g.1, g.2)) texts t
+      entry (Words number texts) is t w = All-weaker (IsWordGiven left version js) (λ text. (m : List ℕ) × IsGiven content version names m × IsWordOf version m text) (λ text g. (g.0, given_of_names of g.0 g.1, g.2)) texts w
+      entry (Segment s) is t w =
+          let file : is.1.file ≡ first + is.0 = of.file is.0 is.1 is.2 in
+          let named = of.log is.0 is.1 is.2 in
+          (omega (arith, file, is.3), omega (arith, file, is.3, slice_get_within names is.0 named.0 named.1))
+
+new_from : (content : List ℕ → Option (List ℕ)) (version : ℕ) (names : List (List ℕ)) (first : ℕ) (e : JournalEntry) → IsOfNew content version names first e → IsNewFrom first e
+new_from content version names first (Files more) new = new
+new_from content version names first (Types number texts) new = tt
+new_from content version names first (Words number texts) new = tt
+new_from content version names first (Segment s) new = new.0
+
+-- ---- the archive with the new files
+
+module _ (content : List ℕ → Option (List ℕ)) (h : Header) (before : List JournalEntry) (names : List (List ℕ)) {bytes : List ℕ} (stood : StandsFor bytes h before) (fresh : List JournalEntry)
+    (legal : IsLegal h (before ++ (Files names ∷ fresh))) (new : All (IsOfNew content h.version names (length stood.legal.held.names)) fresh) where
+  abbrev first : ℕ
+  first = length stood.legal.held.names
+
+  abbrev mid : Held
+  mid = with_names stood.legal.held names
+
+  pub run_of_new : Run h mid fresh legal.held
+  run_of_new =
+      let split = runs_split h nothing_held legal.held before (Files names ∷ fresh) legal.run in
+      let same : split.0 ≡ stood.legal.held = one_held h nothing_held split.0 stood.legal.held before split.1 stood.legal.run in
+      subst (λ (x : Held). Run h x fresh legal.held) (split.2.1 ∙ ap (λ (x : Held). with_names x names) same) split.2.2
+
+  grown_of_new : HasGrown first mid legal.held
+  grown_of_new = grown h first mid legal.held fresh run_of_new (All-weaker (IsOfNew content h.version names first) (IsNewFrom first) (new_from content h.version names first) fresh new)
+
+  content_of_new : content_of legal.held ≡ content_of stood.legal.held ++ files_from first names legal.held.pieces
+  content_of_new =
+      ap₂ (λ ns ps. files_from 0 ns ps) grown_of_new.names grown_of_new.pieces
+      ∙ (content_grows stood.legal.held.names names stood.legal.held.pieces grown_of_new.more grown_of_new.from
+      ∙ ap (λ ps. content_of stood.legal.held ++ files_from first names ps) (sym grown_of_new.pieces))
+
+  -- what is told of each file makes what the archive has of them
+  pub taken_in : (rows : ℕ) (old late : DiskState) → LeavesJournal h before (before ++ (Files names ∷ fresh)) old late → (came : List FileOutcome) → map (λ (c : FileOutcome). c.name) came ≡ names
+      → ((i : ℕ) (c : FileOutcome) → slice_get came i ≡ Some c → IsTold content h.version rows fresh legal.held.pieces (first + i) c) → TakesIn rows content h before stood names came old late
+  taken_in rows old late leaves came are each = record {
+    added = fresh;
+    each = new;
+    leaves = leaves;
+    files = files_from first names legal.held.pieces;
+    content_is = λ image stands.
+        ap content_of (one_held h nothing_held stands.legal.held legal.held (before ++ (Files names ∷ fresh)) stands.legal.run legal.run) ∙ content_of_new;
+    fronts = fronts;
+    cuts = λ i f at.
+        let c = named_files (IsFront content h.version) came (files_from first names legal.held.pieces) i f fronts at in
+        cut_of_told content h.version rows fresh legal.held.pieces (first + i) c.0 f (each i c.0 c.1) (file_is legal.held.pieces first names i f at);
+  }
+    where
+      fronts : AllZip (IsFront content h.version) came (files_from first names legal.held.pieces)
+      fronts = fronts_are content h.version legal.held.pieces first names came are each
+
+  -- of a file whose job was not begun nothing is held
+  pub none_told : (rows i : ℕ) (c : FileOutcome) → 0 < rows → i < length names → fresh ≡ [] → c.messages ≡ 0 → c.whole ≡ false → c.refusal ≢ None → IsTold content h.version rows fresh legal.held.pieces (first + i) c
+  none_told rows i c some within nothing count part refused =
+      let none : HasNone (first + i) mid.pieces = (new_file h before names stood.legal i within).none in
+      let same : legal.held ≡ mid = subst (λ es. Run h mid es legal.held) nothing run_of_new in
+      let here : HasNone (first + i) legal.held.pieces = subst (λ (x : Held). HasNone (first + i) x.pieces) (sym same) none in
+      record {
+        covered = [];
+        ended = false;
+        holds = record { messages = here.messages; whole_is = here.whole ∙ sym part; ended_is = here.ended ∙ sym (ap (λ b. b && false) part) };
+        count = count;
+        cut = subst (λ w. HasParts rows (first + i) fresh [] w false) (sym part) (subst (λ es. HasParts rows (first + i) es [] false false) (sym nothing) (no_parts rows (first + i) false some));
+        first = always (content c.name);
+        all = λ is. absurd (refused is);
+      }
+    where
+      always : (o : Option (List ℕ)) → IfSome o (λ bytes. (messages : List (List ℕ)) (e : Bool) → MessagesOf h.version bytes messages e → IsPrefix [] messages)
+      always None = tt
+      always (Some b) = λ messages e are. (messages, refl)
+
+  -- of a file whose job was done these are
+  pub file_told : {S D : Type 0} {d : DiskGhosts D} (left : S → Option (List ℕ)) (j : Journal D d) → HasNames h before names (state_of j) → (rows i : ℕ) (c : FileOutcome) (old done : Job S) → i < length names → old.file ≡ first + i
+      → IsFileOf left (plan_of rows j) j fresh old done → c.messages ≡ done.outcome.messages → c.whole ≡ done.outcome.whole
+      → IsLogOf (content c.name) (in_source left old.source) → (c.refusal ≡ None → (in_source left old.source ≡ content c.name) × (old.is_open ≡ true) × (done.outcome.cause ≡ None)) → IsTold content h.version rows fresh legal.held.pieces (first + i) c
+  file_told {S} {D} {d} left j named rows i c old done within number is count whole log opened =
+      record {
+        covered = is.covered;
+        ended = is.ended;
+        holds = holds;
+        count = count ∙ is.count;
+        cut = parts;
+        first = front_by (content c.name) (in_source left old.source) log first_told;
+        all = λ spared.
+            let full : done.outcome.whole ≡ true = all_of (opened spared).1 (opened spared).2 in
+            (whole ∙ full, all_by (content c.name) (subst (λ (o : Option (List ℕ)). OfMessages h.version o (λ messages e. (is.covered ≡ messages) × (is.ended ≡ e))) (opened spared).0 (all_told full)));
+      }
+    where
+      version : (plan_of rows j).version ≡ h.version
+      version = ap (λ (x : Header). x.version) named.header
+
+      first_told : OfMessages h.version (in_source left old.source) (λ messages e. IsPrefix is.covered messages)
+      first_told = subst (λ v. OfMessages v (in_source left old.source) (λ messages e. IsPrefix is.covered messages)) version is.first
+
+      all_of : old.is_open ≡ true → done.outcome.cause ≡ None → done.outcome.whole ≡ true
+      all_of given spared = not_false done.outcome.whole (sym (is.cause given) ∙ ap is_some spared)
+        where
+          not_false : (b : Bool) → not b ≡ false → b ≡ true
+          not_false true is = refl
+          not_false false is = absurd (cc (is))
+
+      all_told : done.outcome.whole ≡ true → OfMessages h.version (in_source left old.source) (λ messages e. (is.covered ≡ messages) × (is.ended ≡ e))
+      all_told full = subst (λ v. OfMessages v (in_source left old.source) (λ messages e. (is.covered ≡ messages) × (is.ended ≡ e))) version (is.all full)
+
+      front_by : (log told : Option (List ℕ)) → (told ≡ log) ⊎ (told ≡ Some []) → OfMessages h.version told (λ messages e. IsPrefix is.covered messages)
+          → IfSome log (λ bytes. (messages : List (List ℕ)) (e : Bool) → MessagesOf h.version bytes messages e → IsPrefix is.covered messages)
+      front_by log told (inl same) one = subst (λ (o : Option (List ℕ)). OfMessages h.version o (λ messages e. IsPrefix is.covered messages)) same one
+      front_by None told (inr none) one = tt
+      front_by (Some b) told (inr none) one = λ messages e are.
+          let nothing : IsPrefix is.covered [] = subst (λ (o : Option (List ℕ)). OfMessages h.version o (λ messages e. IsPrefix is.covered messages)) none one [] true (messages_none h.version) in
+          subst (λ ms. IsPrefix ms messages) (sym (front_of_nothing is.covered nothing)) (messages, refl)
+        where
+          front_of_nothing : (xs : List (List ℕ)) → IsPrefix xs [] → xs ≡ []
+          front_of_nothing [] p = refl
+          front_of_nothing (x ∷ xs) p = absurd (cc (p.1))
+
+      all_by : (log : Option (List ℕ)) → OfMessages h.version log (λ messages e. (is.covered ≡ messages) × (is.ended ≡ e)) → IfSome log (λ bytes. MessagesOf h.version bytes is.covered is.ended)
+      all_by None all = tt
+      all_by (Some b) all =
+          let some = messages_exist h.version b in
+          let same = all some.0 some.1 some.2 in
+          subst (λ ms. MessagesOf h.version b ms is.ended) (sym same.0) (subst (λ e. MessagesOf h.version b some.0 e) (sym same.1) some.2)
+
+      parts : HasParts rows (first + i) fresh is.covered c.whole is.ended
+      parts = subst (λ w. HasParts rows (first + i) fresh is.covered w is.ended) (sym whole) (subst (λ n. HasParts rows n fresh is.covered done.outcome.whole is.ended) number (record {
+        closed = is.closed;
+        rest = is.rest;
+        parts = is.parts;
+        cut = is.cut;
+        not_yet = is.not_yet;
+        segments = of_told (is_some (state_of j).disk.seen) named.told is.segments;
+      }))
+
+      holds : HoldsOf (first + i) legal.held.pieces is.covered c.whole (c.whole && is.ended)
+      holds =
+          let empty = new_file h before names stood.legal i within in
+          let segments = of_told (is_some (state_of j).disk.seen) named.told is.segments in
+          let front : FrontHolds h ((before ++ Files names ∷ []) ++ fresh) old.file is.covered done.outcome.whole (done.outcome.whole && is.ended) =
+          subst (λ es. FrontHolds h (es ++ fresh) old.file is.covered done.outcome.whole (done.outcome.whole && is.ended)) named.entries
+          (subst (λ x. FrontHolds x (told_entries (state_of j) ++ fresh) old.file is.covered done.outcome.whole (done.outcome.whole && is.ended)) named.header
+          (of_told (is_some (state_of j).disk.seen) named.told is.held)) in
+          subst (λ w. HoldsOf (first + i) legal.held.pieces is.covered w (w && is.ended)) (sym whole)
+          (subst (λ n. HoldsOf n legal.held.pieces is.covered done.outcome.whole (done.outcome.whole && is.ended)) number
+          (one_file h (before ++ Files names ∷ []) fresh mid legal.held old.file (subst (λ n. HasNone n mid.pieces) (sym number) empty.none) empty.run run_of_new
+          rows is.covered done.outcome.whole is.ended is.closed is.rest is.parts is.cut is.not_yet segments front))
+
+-- ---- the files of the jobs
+
+-- What is told of a file by its job. Where nothing was refused of it, its log was opened for the job, which had no cause.
+pub record CameOfJob {S : Type 0} (left : S → Option (List ℕ)) (content : List ℕ → Option (List ℕ)) (js js' : List (Job S)) (i : ℕ) (c : FileOutcome) : Type 0 where
+  pub old : Job S
+  pub done : Job S
+  pub at : slice_get js i ≡ Some old
+  pub at_done : slice_get js' i ≡ Some done
+  pub messages : c.messages ≡ done.outcome.messages
+  pub whole : c.whole ≡ done.outcome.whole
+  pub opened : c.refusal ≡ None → (in_source left old.source ≡ content c.name) × (old.is_open ≡ true) × (done.outcome.cause ≡ None)
+
+pub named_at : (came : List FileOutcome) (names : List (List ℕ)) → map (λ (c : FileOutcome). c.name) came ≡ names → (i : ℕ) (c : FileOutcome) → slice_get came i ≡ Some c → slice_get names i ≡ Some c.name
+named_at came names are i c at =
+    subst (λ l. slice_get l i ≡ Some c.name) are (slice_get-map (λ (x : FileOutcome). x.name) came i ∙ ap (option_map (λ (x : FileOutcome). x.name)) at)
+
+module _ {S D : Type 0} {d : DiskGhosts D} (left : S → Option (List ℕ)) (content : List ℕ → Option (List ℕ)) (h : Header) (before : List JournalEntry) (names : List (List ℕ)) {bytes : List ℕ} (stood : StandsFor bytes h before)
+    (j after : Journal D d) (law : IsLawful (d.state after.disk.now)) (named : HasNames h before names (state_of j)) (js js' : List (Job S)) (of : AreJobsOf left content h.version names (length stood.legal.held.names) js)
+    (came : List FileOutcome) (are : map (λ (c : FileOutcome). c.name) came ≡ names) (each : (i : ℕ) (c : FileOutcome) → slice_get came i ≡ Some c → CameOfJob left content js js' i c) where
+  -- the jobs were done
+  pub ingested_takes_in : (rows : ℕ) → HasIngested left (plan_of rows j) js js' j after → TakesIn rows content h before stood names came (d.state j.disk.now) (d.state after.disk.now)
+  ingested_takes_in rows done =
+      let s = done.stored in
+      let k = s.left_by.kept in
+      let told : tells (state_by d.state done.store) ≡ true = ap (λ (x : D). is_some (d.state x).seen) s.left_by.opened ∙ named.told in
+      let version : (plan_of rows j).version ≡ h.version = ap (λ (x : Header). x.version) named.header in
+      let grown : journal_of (state_by d.state done.store) ≡ before ++ (Files names ∷ s.fresh) = s.grown ∙ (ap (λ l. l ++ s.fresh) named.entries ∙ append_assoc before (Files names ∷ []) s.fresh) in
+      let legal : IsLegal h (before ++ (Files names ∷ s.fresh)) =
+      subst (IsLegal h) grown
+      (legal_front h (journal_of (state_by d.state done.store)) k.under (subst (λ x. IsLegal x (journal_of (state_by d.state done.store) ++ k.under)) (s.left_by.header ∙ named.header) (of_told (tells (state_by d.state done.store)) told k.legal))) in
+      let new : All (IsOfNew content h.version names (length stood.legal.held.names)) s.fresh =
+      all_of_names left content h.version names (length stood.legal.held.names) js of s.fresh s.others (subst (λ v. All (IsTypeGiven left v js) (types_of s.fresh)) version done.types) (subst (λ v. All (IsWordGiven left v js) (words_of s.fresh)) version done.words) in
+      taken_in content h before names stood s.fresh legal new rows (d.state j.disk.now) (d.state after.disk.now) (left_leaves h before names j after law named done.store s.left_by s.fresh s.grown) came are
+      (λ i c at.
+      let one = each i c at in
+      let its = s.files i one.old one.at in
+      let log = of.log i one.old one.at in
+      let same : its.0 ≡ one.done = some_is its.0 one.done (sym its.1 ∙ one.at_done) in
+      let name : log.0 ≡ c.name = some_is log.0 c.name (sym log.1 ∙ named_at came names are i c at) in
+      file_told content h before names stood s.fresh legal new left j named rows i c one.old one.done (slice_get_within names i log.0 log.1) (of.file i one.old one.at)
+      (subst (λ (x : Job S). IsFileOf left (plan_of rows j) j s.fresh one.old x) same its.2) one.messages one.whole (subst (λ n. IsLogOf (content n) (in_source left one.old.source)) name log.2) one.opened)
+    where
+      some_is : {A : Type 0} (x y : A) → Some x ≡ Some y → x ≡ y
+      some_is x y e = cc (e)
+
+  -- none of them was begun
+  pub refused_takes_in : (rows : ℕ) → 0 < rows → IsLawful (d.state j.disk.now) → ((c : List ℕ) → (d.state j.disk.now).images c → StandsFor c h (before ++ Files names ∷ [])) → IsLegal h (before ++ Files names ∷ []) → IsAsItWas j after → AreRefused js js'
+      → TakesIn rows content h before stood names came (d.state j.disk.now) (d.state after.disk.now)
+  refused_takes_in rows some law_j only legal stayed refused =
+      taken_in content h before names stood [] legal (All-nil (IsOfNew content h.version names (length stood.legal.held.names))) rows (d.state j.disk.now) (d.state after.disk.now) (same_leaves h before names j after law named law_j only stayed) came are
+      (λ i c at.
+      let one = each i c at in
+      let none = refused.each i one.done one.at_done in
+      none_told content h before names stood [] legal (All-nil (IsOfNew content h.version names (length stood.legal.held.names))) rows i c some (slice_get_within names i c.name (named_at came names are i c at)) refl
+      (one.messages ∙ ap (λ (o : Outcome). o.messages) none) (one.whole ∙ ap (λ (o : Outcome). o.whole) none)
+      (λ spared. absurd (cc (sym (ap (λ (o : Outcome). o.cause) none) ∙ (one.opened spared).2))))

@@ -1,0 +1,125 @@
+-- Segments that did not fit.
+use Rattle.std.proofs.Common.{◌≡◌, ◌+◌, ◌<◌, ◌++◌, ◌∷◌, [], refl, sym, ap, ap₂, ◌∙◌, subst, ⊎_elim, ℕ, true, List, length, Option, Some, arith}
+use Rattle.std.specs.Prelude.{IfSome, is_some, slice_get}
+use Rattle.std.proofs.lemmas.List.Elements.{All-weaker}
+use Rattle.std.proofs.lemmas.Option.{IfSome_then}
+use mathlib.Core.List.{IsPrefix}
+use Rattle.log_seams.specs.declared.disk.Disk.{Ghosts as DiskGhosts}
+use Rattle.log_seams.specs.Disk.{DiskState, IsLawful}
+use Rattle.log_seams.specs.Outside.{Rose}
+use Rattle.record_format.specs.declared.header.Header.{Header}
+use Rattle.row_codec.specs.declared.namer.Which.{Which}
+use Rattle.row_codec.specs.declared.namer.Which.TheVariants.{Types as WhichTypes, Words as WhichWords}
+use Rattle.disk_journal.specs.declared.journal.Journal.{Journal}
+use Rattle.disk_journal.specs.Journal.{state_of}
+use Rattle.archive_meaning.specs.declared.entry.JournalEntry.{JournalEntry}
+use Rattle.archive_meaning.specs.declared.entry.JournalEntry.TheVariants.{Files}
+use Rattle.archive_meaning.specs.Stands.{StandsFor}
+use Rattle.archive_meaning.proofs.UniqueLemmas.{one_journal}
+use Rattle.disk_seal.specs.Told.{IfTold, journal_in}
+use Rattle.disk_seal.specs.View.{StoreView, journal_of, state_by}
+use Rattle.ingest_workers.specs.declared.job.Job.{Job}
+use Rattle.ingest_workers.specs.Full.{AreFirstOf, IsTextOf}
+use Rattle.ingest_workers.specs.Ingested.{HadNoRoomOver, IsLeftBy, WereGiven as WereGivenByJobs, plan_of, told_entries}
+use Rattle.ingest_workers.specs.NoRoom.{HadNoRoom, IsBetween}
+use Rattle.ingest_workers.specs.Worker.{IsGiven as IsGivenByJobs}
+use Rattle.ingest_workers.proofs.NoRoomLemmas.{no_room_on}
+use Rattle.ingest_workers.proofs.SealLemmas.{if_told, of_told}
+use Rattle.write_commands.specs.Ingested.{FileOutcome, DidNotFit, IsGiven, LeavesJournal, StandFirst, WereGiven}
+use Rattle.write_commands.specs.StepsCauses.{IsTarget, Target}
+use Rattle.write_commands.proofs.ContentLemmas.{AreJobsOf, given_of_names}
+use Rattle.write_commands.proofs.LeavesLemmas.{prefix_on, store_leaves}
+
+abbrev Texts : Type 0
+Texts = List (List ℕ)
+
+abbrev Entries : Type 0
+Entries = List JournalEntry
+
+-- where the bytes are told and stand for a journal, it begins with the entries
+abbrev Begins : Header → Entries → Option (List ℕ) → Type 0
+Begins h front told = IfSome told (λ bytes. (es : Entries) → StandsFor bytes h es → IsPrefix front es)
+
+-- ---- as it is told
+
+module _ (content : List ℕ → Option (List ℕ)) (rows first : ℕ) (names : Texts) (h : Header) (named : Entries) (mid new : DiskState) (same : new.seen ≡ mid.seen) (c : FileOutcome) (end need : ℕ) where
+  -- the disk's bytes are the same later
+  pub fit_later : DidNotFit content rows first names h named mid c end need → DidNotFit content rows first names h named new c end need
+  fit_later fit = record {
+    place = fit.place;
+    at = fit.at;
+    room = record {
+      sealed = fit.room.sealed;
+      count = fit.room.count;
+      holds = no_room_on h rows h.version (first + fit.place) (StandFirst h named mid) (StandFirst h named new) (WereGiven content h.version names) (WereGiven content h.version names) (AreFirstOf h.version (content c.name)) (AreFirstOf h.version (content c.name)) fit.room.sealed end need
+          (λ es stand. (stand.0, subst (Begins h es) (sym same) stand.1)) (λ es book texts has. has) (λ ms begin. begin) fit.room.holds;
+    };
+  }
+
+-- of the archive that the files are taken into
+pub fit_into : (content : List ℕ → Option (List ℕ)) (into : Target) (h : Header) (before : Entries) (held : ℕ) → IsTarget into h before held → (new : DiskState) (c : FileOutcome) (end need : ℕ)
+    → DidNotFit content into.rows into.first into.names into.header into.entries new c end need → DidNotFit content into.rows held into.names h (before ++ Files into.names ∷ []) new c end need
+fit_into content into h before held is new c end need fit =
+    subst (λ (x : Header). DidNotFit content into.rows held into.names x (before ++ Files into.names ∷ []) new c end need) is.header
+    (subst (λ (es : Entries). DidNotFit content into.rows held into.names into.header es new c end need) is.entries
+    (subst (λ (n : ℕ). DidNotFit content into.rows n into.names into.header into.entries new c end need) is.first fit))
+
+-- ---- of jobs
+
+module _ {D : Type 0} {d : DiskGhosts D} (j after : Journal D d) (law : IsLawful (d.state after.disk.now)) (store : StoreView D) (left : IsLeftBy store j after) (told : is_some (d.state j.disk.now).seen ≡ true) where
+  leaves : LeavesJournal store.header [] (journal_of (state_by d.state store)) (d.state store.opened) (d.state store.disk)
+  leaves = store_leaves (state_by d.state store) left.kept (subst (λ (x : D). IsLawful (d.state x)) (sym left.disk) law) (ap (λ (x : D). is_some (d.state x).seen) left.opened ∙ told)
+      (λ steady. (left.again (λ late. steady (subst (λ (x : D). Rose (d.state x).faults (d.state store.disk).faults) (sym left.opened)
+      (subst (λ (x : D). Rose (d.state j.disk.now).faults (d.state x).faults) (sym left.disk) late)))).0)
+      [] (journal_of (state_by d.state store)) (journal_of (state_by d.state store)) refl refl (omega arith)
+
+  after_is : told_entries (state_of after) ≡ journal_of (state_by d.state store)
+  after_is = ap₂ (λ (x : D) (n : ℕ). journal_in (d.state x).seen n) (sym left.disk) left.count
+
+  -- what stands first in the journal stands first in the disk's
+  pub begins_disk : (front : Entries) → IsPrefix front (told_entries (state_of after)) → Begins j.header front (d.state after.disk.now).seen
+  begins_disk front begin =
+      let all = journal_of (state_by d.state store) in
+      let on : IsPrefix front all = subst (IsPrefix front) after_is begin in
+      let tail = leaves.tail in
+      subst (λ (x : D). Begins j.header front (d.state x).seen) left.disk
+      (subst (λ (x : Header). Begins x front (d.state store.disk).seen) left.header
+      (IfSome_then (d.state store.disk).seen leaves.reads (λ bytes either es stands.
+      ⊎_elim
+      (λ (one : StandsFor bytes store.header all). subst (IsPrefix front) (one_journal bytes store.header store.header all es one stands).1 on)
+      (λ (more : StandsFor bytes store.header (all ++ tail)). subst (IsPrefix front) (one_journal bytes store.header store.header (all ++ tail) es more stands).1 (prefix_on front all (all ++ tail) on (tail, refl)))
+      either)))
+
+module _ {S D : Type 0} {d : DiskGhosts D} (left : S → Option (List ℕ)) (content : List ℕ → Option (List ℕ)) (j after : Journal D d) (names : Texts) (rows first : ℕ) (js : List (Job S)) (of : AreJobsOf left content j.header.version names first js) where
+  text_of_names : (book : Which) (t : List ℕ) → IsTextOf j.header.version (IsGivenByJobs left j.header.version js) book t → IsTextOf j.header.version (IsGiven content j.header.version names) book t
+  text_of_names WhichTypes t given = (given.0, given_of_names left content j.header.version names first js of given.0 given.1, given.2)
+  text_of_names WhichWords t given = (given.0, given_of_names left content j.header.version names first js of given.0 given.1, given.2)
+
+  were_given : (front : Entries) (book : Which) (texts : Texts) → WereGivenByJobs left (plan_of rows j) js front book texts → WereGiven content j.header.version names front book texts
+  were_given front book texts has = record {
+    begins = has.begins;
+    distinct = has.distinct;
+    others = All-weaker (IsTextOf j.header.version (IsGivenByJobs left j.header.version js) book) (IsTextOf j.header.version (IsGiven content j.header.version names) book) (text_of_names book) _ has.others;
+  }
+
+  -- the segment of a job's file did not fit
+  pub fit_of_job : (law : IsLawful (d.state after.disk.now)) (store : StoreView D) → IsLeftBy store j after → (place : ℕ) (job : Job S) → slice_get js place ≡ Some job → (c : FileOutcome) → slice_get names place ≡ Some c.name → (bytes : Option (List ℕ)) → bytes ≡ content c.name
+      → (sealed : Texts) → c.messages ≡ length sealed → (end need : ℕ) → HadNoRoomOver (WereGivenByJobs left (plan_of rows j) js) (plan_of rows j) job.file bytes j after sealed end need
+      → (j.header.length_limit < end + need) × IfTold (is_some (d.state j.disk.now).seen) (DidNotFit content rows first names j.header (told_entries (state_of j)) (d.state after.disk.now) c end need)
+  fit_of_job law store left_by place job at c named bytes log sealed count end need had = (
+    had.0,
+    if_told (is_some (d.state j.disk.now).seen) _ (λ told.
+        let room = of_told (is_some (d.state j.disk.now).seen) _ told had.1 in
+        let fit : DidNotFit content rows first names j.header (told_entries (state_of j)) (d.state after.disk.now) c end need = record {
+          place = place;
+          at = named;
+          room = record {
+            sealed = sealed;
+            count = count;
+            holds = subst (λ (file : ℕ). HadNoRoom j.header rows j.header.version file (StandFirst j.header (told_entries (state_of j)) (d.state after.disk.now)) (WereGiven content j.header.version names) (AreFirstOf j.header.version (content c.name)) sealed end need) (of.file place job at)
+                (no_room_on j.header rows j.header.version job.file (IsBetween (told_entries (state_of j)) (told_entries (state_of after))) (StandFirst j.header (told_entries (state_of j)) (d.state after.disk.now))
+                (WereGivenByJobs left (plan_of rows j) js) (WereGiven content j.header.version names) (AreFirstOf j.header.version bytes) (AreFirstOf j.header.version (content c.name)) sealed end need
+                (λ es between. (between.0, begins_disk j after law store left_by told es between.1)) were_given (λ ms begin. subst (λ (b : Option (List ℕ)). AreFirstOf j.header.version b ms) log begin) room);
+          };
+        } in fit),
+  )

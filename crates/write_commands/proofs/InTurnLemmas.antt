@@ -1,0 +1,182 @@
+-- A dictionary that is full with one worker, from the jobs to what came of the files.
+use Rattle.std.proofs.Common.{◌≡◌, ◌+◌, ◌<◌, ◌⊎◌, inl, inr, refl, sym, ap, ap₂, subst, ◌∙◌, ℕ, zero, suc, true, List, [], ◌∷◌, map, take, Option, Some, None, arith}
+use Rattle.std.specs.Prelude.{All, is_some, option_map, slice_get}
+use Rattle.std.specs.List.{Contains}
+use Rattle.std.proofs.lemmas.List.Elements.{All-map, All-weaker}
+use Rattle.std.proofs.lemmas.Option.{get_or_from_slice_get, slice_get-map, slice_get_within}
+use Rattle.log_seams.specs.declared.disk.Disk.{Ghosts as DiskGhosts}
+use Rattle.log_seams.specs.declared.refusals.OpenRefused.TheVariants.{Failed, OutOfMemory}
+use Rattle.log_sources.specs.declared.source.LogSource.{LogSource}
+use Rattle.log_sources.specs.declared.source.LogSource.TheVariants.{Opened, Unopened}
+use Rattle.log_sources.specs.Sources.{CameOf, faults_in, left_in, name_in, refusal_of}
+use Rattle.row_codec.specs.declared.namer.Which.{Which}
+use Rattle.row_codec.specs.declared.namer.Which.TheVariants.{Types as WhichTypes, Words as WhichWords}
+use Rattle.message_reader.proofs.VersionLawLemmas.{messages_none}
+use Rattle.disk_journal.specs.declared.journal.Journal.{Journal}
+use Rattle.disk_journal.specs.Journal.{state_of}
+use Rattle.disk_seal.proofs.ToldLemmas.{told_map}
+use Rattle.ingest_workers.specs.declared.job.Job.{Job}
+use Rattle.ingest_workers.specs.declared.outcome.Cause.{Cause}
+use Rattle.ingest_workers.specs.declared.outcome.Outcome.{Outcome}
+use Rattle.ingest_workers.specs.Full.{IsAmongFirst, IsMessageAt, IsTextOf}
+use Rattle.ingest_workers.specs.InTurn.{AreFullInTurn, IsMetBy, IsNextFor}
+use Rattle.ingest_workers.specs.Ingested.{AreRefused, book_texts, plan_of, told_entries}
+use Rattle.ingest_workers.specs.JobDone.{in_source}
+use Rattle.ingest_workers.specs.Met.{WasMet}
+use Rattle.ingest_workers.specs.Outcome.{met_by, unsealed_by}
+use Rattle.ingest_workers.proofs.FullLemmas.{full_by_wider}
+use Rattle.write_commands.specs.IngestPrints.{came_of}
+use Rattle.write_commands.specs.Ingested.{FileOutcome, WasMetIn, WasMetInOneOf, unsealed_of}
+use Rattle.write_commands.specs.Jobs.{DidJobs, IsNotBegun, of_cause, refusal_by}
+use Rattle.write_commands.specs.StepsCauses.{AreFullInto, Target, into_journal}
+use Rattle.command_refusals.specs.declared.outcome.PartCause.{PartCause}
+use Rattle.write_commands.specs.declared.file_report.FileReport.{FileReport}
+use Rattle.write_commands.proofs.ContentLemmas.{AreJobsOf}
+use Rattle.write_commands.proofs.FileCauseLemmas.{at_of}
+use Rattle.write_commands.proofs.TakeInLemmas.{CameOfLog}
+
+-- ---- the first elements of a list
+
+-- what stands among the first so many stands at the same place of all
+first_at : {A : Type 0} (xs : List A) (n i : ℕ) (x : A) → slice_get (take n xs) i ≡ Some x → (i < n) × (slice_get xs i ≡ Some x)
+first_at xs zero i x at = absurd (cc (at))
+first_at [] (suc n) i x at = absurd (cc (at))
+first_at (y ∷ xs) (suc n) zero x at = (omega arith, at)
+first_at (y ∷ xs) (suc n) (suc i) x at = let rest = first_at xs n i x at in (omega (arith, rest.0), rest.1)
+
+at_first : {A : Type 0} (xs : List A) (n i : ℕ) (x : A) → i < n → slice_get xs i ≡ Some x → slice_get (take n xs) i ≡ Some x
+at_first xs zero i x low at = absurd (omega (arith, low))
+at_first [] (suc n) i x low at = at
+at_first (y ∷ xs) (suc n) zero x low at = at
+at_first (y ∷ xs) (suc n) (suc i) x low at = at_first xs n i x (omega (arith, low)) at
+
+among_first : {A : Type 0} (xs : List A) (n i : ℕ) (x : A) → i < n → slice_get xs i ≡ Some x → Contains (take n xs) x
+among_first xs n i x low at = let here = at_first xs n i x low at in (i, slice_get_within (take n xs) i x here, get_or_from_slice_get (take n xs) i x x here)
+
+-- a log without bytes has no message
+none_first : (n : ℕ) (m : List ℕ) → Contains (take n []) m → ⊥
+none_first zero m among = omega (arith, among.1)
+none_first (suc n) m among = omega (arith, among.1)
+
+none_met : (version n : ℕ) (m : List ℕ) → IsAmongFirst version (Some []) n m → ⊥
+none_met version n m met = none_first n m (met [] true (messages_none version))
+
+text_wider : (version : ℕ) (P Q : List ℕ → Type 0) → ((m : List ℕ) → P m → Q m) → (book : Which) (t : List ℕ) → IsTextOf version P book t → IsTextOf version Q book t
+text_wider version P Q on WhichTypes t is = (is.0, on is.0 is.1, is.2)
+text_wider version P Q on WhichWords t is = (is.0, on is.0 is.1, is.2)
+
+-- ---- causes of jobs, and refusals of files
+
+-- as many messages may have been met by the one as by the other
+unsealed_same : (rows : ℕ) (cause : Option Cause) → unsealed_of rows (option_map of_cause cause) ≡ unsealed_by rows cause
+unsealed_same rows None = refl
+unsealed_same rows (Some Cause.ReadFault) = refl
+unsealed_same rows (Some (Cause.LineTooLong line)) = refl
+unsealed_same rows (Some Cause.TooManyLines) = refl
+unsealed_same rows (Some (Cause.Full book count)) = refl
+unsealed_same rows (Some (Cause.DiskFault opened now)) = refl
+unsealed_same rows (Some Cause.OutOfMemory) = refl
+unsealed_same rows (Some (Cause.ArchiveFull end need)) = refl
+
+full_cause : (cause : Option Cause) (book : Which) (count : ℕ) → option_map of_cause cause ≡ Some (PartCause.Full book count) → cause ≡ Some (Cause.Full book count)
+full_cause None book count is = absurd (cc (is))
+full_cause (Some Cause.ReadFault) book count is = absurd (cc (is))
+full_cause (Some (Cause.LineTooLong line)) book count is = absurd (cc (is))
+full_cause (Some Cause.TooManyLines) book count is = absurd (cc (is))
+full_cause (Some (Cause.Full b n)) book count is = cc (is)
+full_cause (Some (Cause.DiskFault opened now)) book count is = absurd (cc (is))
+full_cause (Some Cause.OutOfMemory) book count is = absurd (cc (is))
+full_cause (Some (Cause.ArchiveFull end need)) book count is = absurd (cc (is))
+
+-- ---- files and their jobs
+
+module _ {S : Type 0} (left name : S → Option (List ℕ)) (faults : S → ℕ) (content : List ℕ → Option (List ℕ)) (opens opens_now : List ℕ → ℕ) where
+  abbrev From : List ℕ → LogSource S → Type 0
+  From = CameOf left name faults content opens opens_now
+
+  -- where a full dictionary stopped a file, its log was opened, and its job was stopped so
+  stopped : (asked : List ℕ) (source : LogSource S) (cause : Option Cause) (book : Which) (count : ℕ) → From asked source → refusal_by (refusal_of source) cause ≡ Some (PartCause.Full book count)
+      → (left_in left source ≡ content asked) × (cause ≡ Some (Cause.Full book count))
+  stopped asked (Opened s) cause book count came is = (came.left_is, full_cause cause book count is)
+  stopped asked (Unopened Failed n) cause book count came is = absurd (cc (is))
+  stopped asked (Unopened OutOfMemory n) cause book count came is = absurd (cc (is))
+
+  -- what the job met of its log was met in the file
+  met_in : (rows version : ℕ) (c : FileOutcome) (m : List ℕ) (source : LogSource S) (o : Outcome) → From c.name source → c.messages ≡ o.messages → c.refusal ≡ refusal_by (refusal_of source) o.cause
+      → IsAmongFirst version (left_in left source) (met_by rows o) m → WasMetIn rows content version c m
+  met_in rows version c m (Unopened cause n) o came messages refusal met = absurd (none_met version (met_by rows o) m met)
+  met_in rows version c m (Opened s) o came messages refusal met =
+      let as_many : met_by rows o ≡ c.messages + unsealed_of rows c.refusal = ap₂ (λ a b. a + b) (sym messages) (sym (ap (unsealed_of rows) refusal ∙ unsealed_same rows o.cause)) in
+      subst (λ (bytes : Option (List ℕ)). IsAmongFirst version bytes (c.messages + unsealed_of rows c.refusal) m) came.left_is (subst (λ n. IsAmongFirst version (left s) n m) as_many met)
+
+  module _ {D : Type 0} {d : DiskGhosts D} (j : Journal D d) (names : List (List ℕ)) (rows first : ℕ) (js js' : List (Job (LogSource S))) (of : AreJobsOf (left_in left) content j.header.version names first js)
+      (came : List FileOutcome) (named : map (λ (c : FileOutcome). c.name) came ≡ names) (each : (i : ℕ) (c : FileOutcome) → slice_get came i ≡ Some c → CameOfLog From js js' i c) where
+    -- there is a file for each job
+    file_at : (i : ℕ) (old : Job (LogSource S)) → slice_get js i ≡ Some old → (c : FileOutcome) × (slice_get came i ≡ Some c)
+    file_at i old at =
+        let log = of.log i old at in
+        go log.0 (slice_get came i) refl (sym (slice_get-map (λ (x : FileOutcome). x.name) came i) ∙ (ap (λ (l : List (List ℕ)). slice_get l i) named ∙ log.1))
+      where
+        go : (n : List ℕ) (o : Option FileOutcome) → slice_get came i ≡ o → option_map (λ (x : FileOutcome). x.name) o ≡ Some n → (c : FileOutcome) × (slice_get came i ≡ Some c)
+        go n None here is = absurd (cc (is))
+        go n (Some c) here is = (c, here)
+
+    -- what was met by one of the first jobs was met in one of the first files
+    met_among : (n : ℕ) (m : List ℕ) → WasMet (left_in left) rows j.header.version (take n js) (take n js') m → WasMetInOneOf rows content j.header.version (take n came) m
+    met_among n m met =
+        let old = first_at js n met.0 met.1 met.3 in
+        let done = first_at js' n met.0 met.2 met.4 in
+        let file = file_at met.0 met.1 old.1 in
+        let log = each met.0 file.0 file.1 in
+        let source : met.1.source ≡ Some log.source = ap (λ (x : Job (LogSource S)). x.source) (some_is met.1 log.old (sym old.1 ∙ log.at)) ∙ log.has in
+        let outcome : met.2.outcome ≡ log.done.outcome = ap (λ (x : Job (LogSource S)). x.outcome) (some_is met.2 log.done (sym done.1 ∙ log.at_done)) in (
+          file.0,
+          among_first came n met.0 file.0 old.0 file.1,
+          met_in rows j.header.version file.0 m log.source log.done.outcome log.came log.messages log.refusal
+              (subst (λ (o : Outcome). IsAmongFirst j.header.version (left_in left log.source) (met_by rows o) m) outcome
+              (subst (λ (o : Option (LogSource S)). IsAmongFirst j.header.version (in_source (left_in left) o) (met_by rows met.2.outcome) m) source met.5)),
+        )
+      where
+        some_is : (x y : Job (LogSource S)) → Some x ≡ Some y → x ≡ y
+        some_is x y e = cc (e)
+
+    text_met : (n : ℕ) (book : Which) (t : List ℕ) → Contains (book_texts book (told_entries (state_of j))) t ⊎ IsMetBy (left_in left) (plan_of rows j) n js js' book t
+        → Contains (book_texts book (told_entries (state_of j))) t ⊎ IsTextOf j.header.version (WasMetInOneOf rows content j.header.version (take n came)) book t
+    text_met n book t (inl there) = inl there
+    text_met n book t (inr met) =
+        inr (text_wider j.header.version (WasMet (left_in left) rows j.header.version (take n js) (take n js')) (WasMetInOneOf rows content j.header.version (take n came)) (met_among n) book t met)
+
+    -- a text of the job's next message is one of the file's
+    text_next : (c : FileOutcome) (source : LogSource S) (old : Job (LogSource S)) (o : Outcome) (book : Which) (t : List ℕ) → old.source ≡ Some source → left_in left source ≡ content c.name → c.messages ≡ o.messages
+        → IsNextFor (left_in left) (plan_of rows j) old o book t → IsTextOf j.header.version (IsMessageAt j.header.version (content c.name) c.messages) book t
+    text_next c source old o book t has is count next =
+        subst (λ (bytes : Option (List ℕ)). IsTextOf j.header.version (IsMessageAt j.header.version bytes c.messages) book t) (ap (in_source (left_in left)) has ∙ is)
+        (subst (λ n. IsTextOf j.header.version (IsMessageAt j.header.version (in_source (left_in left) old.source) n) book t) (sym count) next)
+
+    -- the jobs were done
+    done_in_turn : AreFullInTurn (left_in left) (plan_of rows j) j js js' → AreFullInto content (into_journal (state_of j) rows first names) came
+    done_in_turn turn = λ place c book count at is.
+        let one = each place c at in
+        let by = stopped c.name one.source one.done.outcome.cause book count one.came (sym one.refusal ∙ is) in
+        told_map (is_some (state_of j).disk.seen)
+        (λ full. (full.0, full_by_wider _ _ _ _ (text_met (place + 1) book) (λ t next. text_next c one.source one.old one.done.outcome book t one.has by.0 one.messages next) count full.1))
+        (turn place one.old one.done book count one.at one.at_done by.1)
+
+    -- none of them was begun
+    refused_in_turn : AreRefused js js' → AreFullInto content (into_journal (state_of j) rows first names) came
+    refused_in_turn refused = λ place c book count at is.
+        let one = each place c at in
+        let by = stopped c.name one.source one.done.outcome.cause book count one.came (sym one.refusal ∙ is) in
+        let none : Some Cause.OutOfMemory ≡ Some (Cause.Full book count) = sym (ap (λ (o : Outcome). o.cause) (refused.each place one.done one.at_done)) ∙ by.1 in
+        absurd (cc (none))
+
+    pub did_in_turn : (after : Journal D d) (workers : ℕ) → DidJobs (left_in left) (name_in name) (faults_in faults) workers rows j after js js' → workers ≡ 1 → AreFullInto content (into_journal (state_of j) rows first names) came
+    did_in_turn after workers (inl done) one = done_in_turn (done.in_turn one)
+    did_in_turn after workers (inr none) one = refused_in_turn none.jobs
+
+-- without memory to begin
+pub unbegun_in_turn : (content : List ℕ → Option (List ℕ)) (into : Target) (taken : List FileReport) → All IsNotBegun taken → AreFullInto content into (map came_of taken)
+unbegun_in_turn content into taken none = λ place c book count at is.
+    let refused : c.refusal ≡ Some PartCause.OutOfMemory = at_of (λ (x : FileOutcome). x.refusal ≡ Some PartCause.OutOfMemory) (map came_of taken) place c
+    (All-map (λ (x : FileOutcome). x.refusal ≡ Some PartCause.OutOfMemory) came_of taken (All-weaker IsNotBegun (λ (file : FileReport). file.refusal ≡ Some PartCause.OutOfMemory) (λ file n. n.refusal) taken none)) at in
+    absurd (cc (sym refused ∙ is))

@@ -1,0 +1,241 @@
+-- What an ingest leaves of its disk, step by step.
+use Rattle.std.proofs.Common.{◌≡◌, ◌+◌, ◌≤◌, ◌⊎◌, inl, inr, refl, sym, ap, subst, ◌∙◌, ℕ, zero, suc, Bool, true, List, [], ◌∷◌, ◌++◌, length, take, drop, Option, Some, None, arith, append-nil, append_assoc, ⊎_elim}
+use Rattle.std.specs.Prelude.{IfSome, is_some}
+use Rattle.std.proofs.lemmas.List.{length-append, length-map, take-append-drop, take_all}
+use Rattle.std.proofs.lemmas.Option.{IfSome_then}
+use Rattle.std.proofs.Math.Seq.{take-append_seam}
+use Rattle.std.proofs.Math.Logic.{dite}
+use Rattle.std.proofs.Math.Decide.{dec_le}
+use Rattle.std.proofs.Math.Nat.{lt_of_not-le}
+use mathlib.Core.List.{IsPrefix}
+use Rattle.log_seams.specs.declared.disk.Disk.{Ghosts as DiskGhosts}
+use Rattle.log_seams.specs.Disk.{DiskState, IsLawful, KeepsBytes, LeavesOnly, NoMore, Rests}
+use Rattle.log_seams.specs.Outside.{Rose}
+use Rattle.log_seams.proofs.MomentLemmas.{joined, keeps_leave, rests_leave, rose, weaker}
+use Rattle.record_format.specs.declared.header.Header.{Header}
+use Rattle.record_format.specs.Header.{IsHeader, header_bytes}
+use Rattle.disk_journal.specs.Record.{Saved, Stands}
+use Rattle.disk_journal.specs.Place.{AtEnd, entries}
+use Rattle.disk_journal.specs.State.{JournalState}
+use Rattle.disk_journal.specs.declared.journal.Journal.{Journal}
+use Rattle.disk_journal.specs.Journal.{state_of}
+use Rattle.archive_meaning.specs.declared.entry.JournalEntry.{JournalEntry}
+use Rattle.archive_meaning.specs.declared.entry.JournalEntry.TheVariants.{Files}
+use Rattle.archive_meaning.specs.Spelled.{record_of, records_from, records_of, types_in}
+use Rattle.archive_meaning.specs.Stands.{IsLegal, StandsFor}
+use Rattle.archive_meaning.proofs.UniqueLemmas.{legal_front, one_journal}
+use Rattle.disk_seal.specs.Told.{IfTold, entry_of, journal_in}
+use Rattle.disk_seal.specs.View.{HasFirst, Image, Kept, StoreState, StoreView, journal_of, state_by, tells}
+use Rattle.disk_seal.proofs.ToldLemmas.{length-records}
+use Rattle.ingest_workers.specs.Ingested.{IsAsItWas, IsLeftBy, told_entries}
+use Rattle.write_commands.specs.Ingested.{FromArchive, LeavesJournal, StandsForEither}
+use Rattle.write_commands.specs.JournalLeft.{HasNames, StandsBetween, StandsStill}
+
+-- ---- fronts of lists
+
+pub prefix_on : {A : Type 0} (xs ys zs : List A) → IsPrefix xs ys → IsPrefix ys zs → IsPrefix xs zs
+prefix_on xs ys zs a b = (a.0 ++ b.0, sym (append_assoc xs a.0 b.0) ∙ (ap (λ l. l ++ b.0) a.1 ∙ b.1))
+
+pub prefix_same : {A : Type 0} (xs : List A) → IsPrefix xs xs
+prefix_same xs = ([], append-nil xs)
+
+-- a front stands in each longer front
+prefix_taken : {A : Type 0} (xs ys : List A) (k : ℕ) → length xs ≤ k → IsPrefix xs (take k (xs ++ ys))
+prefix_taken [] ys k low = (take k ys, refl)
+prefix_taken (x ∷ xs) ys zero low = absurd (omega (arith, low))
+prefix_taken (x ∷ xs) ys (suc k) low = let rest = prefix_taken xs ys k (omega (arith, low)) in (rest.0, ap (λ l. x ∷ l) rest.1)
+
+records_taken : (k : ℕ) (types : List (List ℕ)) (es : List JournalEntry) → take k (records_from types es) ≡ records_from types (take k es)
+records_taken zero types es = refl
+records_taken (suc k) types [] = refl
+records_taken (suc k) types (e ∷ es) = ap (λ (l : List Saved). record_of types e ∷ l) (records_taken k (types ++ types_in e) es)
+
+-- bytes that stand for the first records of a legal journal stand for its first entries
+front_stands : (h : Header) (es : List JournalEntry) (c : List ℕ) (k : ℕ) → IsHeader h → IsLegal h es → Stands (header_bytes h) (take k (records_of es)) c → StandsFor c h (take k es)
+front_stands h es c k header legal stands = record {
+  header = header;
+  legal = legal_front h (take k es) (drop k es) (subst (IsLegal h) (sym (take-append-drop k es)) legal);
+  stands = subst (λ rs. Stands (header_bytes h) rs c) (records_taken k [] es) stands;
+}
+
+-- ---- what is left, from step to step
+
+module _ (h : Header) (before : List JournalEntry) where
+  -- where each image since the start stands for the journal, or for it and one record more
+  pub either_leaves : (tail : List JournalEntry) (old new : DiskState) → IsLawful new → length tail ≤ 1 → ((Rose old.faults new.faults → ⊥) → tail ≡ [])
+      → LeavesOnly old new (StandsForEither h before tail) → LeavesJournal h before before old new
+  either_leaves tail old new law one none past = record {
+    tail = tail;
+    one = one;
+    none = none;
+    reads = IfSome_then new.seen law.reads_as (λ c image. now c image);
+    now = now;
+    since = λ c left. ⊎_elim (λ still. (before, prefix_same before, (tail, refl), still)) (λ more. (before ++ tail, (tail, refl), prefix_same (before ++ tail), more)) (past.each c left);
+  }
+    where
+      now : (c : List ℕ) → new.images c → StandsForEither h before tail c
+      now c image = past.each c (law.counts_now old.clock c past.later image)
+
+  -- where each stands for the journal
+  pub still_leaves : (old new : DiskState) → IsLawful new → LeavesOnly old new (StandsStill h before) → LeavesJournal h before before old new
+  still_leaves old new law past =
+      either_leaves [] old new law (omega arith) (λ steady. refl) (weaker old new (StandsStill h before) (StandsForEither h before []) past (λ c stands. inl stands))
+
+  -- reads alone
+  pub reads_still : (old mid new : DiskState) → IsLawful mid → IsLawful new → LeavesOnly old mid (StandsStill h before) → Rests mid new → LeavesOnly old new (StandsStill h before)
+  reads_still old mid new law_mid law past rests =
+      joined old mid new (StandsStill h before) mid.images (StandsStill h before) law past (rests_leave mid new law_mid law rests) (λ c stands. stands)
+      (λ c image. past.each c (law_mid.counts_now old.clock c past.later image))
+
+  -- calls that write nothing
+  pub keeps_still : (old mid new : DiskState) → IsLawful mid → IsLawful new → LeavesOnly old mid (StandsStill h before) → KeepsBytes mid new → LeavesOnly old new (StandsStill h before)
+  keeps_still old mid new law_mid law past keeps =
+      joined old mid new (StandsStill h before) mid.images (StandsStill h before) law past (keeps_leave mid new law_mid law keeps) (λ c stands. stands)
+      (λ c image. past.each c (law_mid.counts_now old.clock c past.later image))
+
+  between_front : (mid es : List JournalEntry) (c : List ℕ) → IsPrefix mid es → StandsBetween h before mid c → StandsBetween h before es c
+  between_front mid es c front b = (b.0, b.1, prefix_on b.0 mid es b.2 front, b.3)
+
+  pub still_between : (es : List JournalEntry) (c : List ℕ) → IsPrefix before es → StandsStill h before c → StandsBetween h before es c
+  still_between es c front stands = (before, prefix_same before, front, stands)
+
+  -- what was left before a step that leaves more
+  pub begun_sooner : (mid_es es : List JournalEntry) (old mid new : DiskState) → LeavesOnly old mid (StandsBetween h before mid_es) → IsPrefix mid_es es → old.faults ≤ mid.faults
+      → LeavesOnly mid new (λ _. Unit {0}) → LeavesJournal h before es mid new → LeavesJournal h before es old new
+  begun_sooner mid_es es old mid new first front risen moved leaves = record {
+    tail = leaves.tail;
+    one = leaves.one;
+    none = λ steady. leaves.none (λ late. steady (rose old.faults mid.faults new.faults new.faults risen late (omega arith)));
+    reads = leaves.reads;
+    now = leaves.now;
+    since = λ c left.
+        ⊎_elim
+        (λ was. between_front mid_es (es ++ leaves.tail) c (prefix_on mid_es es (es ++ leaves.tail) front (leaves.tail, refl)) (first.each c was))
+        (λ now. leaves.since c now)
+        (moved.before old.clock c first.later left);
+  }
+
+-- what is known where an archive is known at a later moment, at which the bytes are the same
+pub from_archive : (old mid : DiskState) (P Q : (h : Header) (before : List JournalEntry) (bytes : List ℕ) → StandsFor bytes h before → Type 0) → mid.seen ≡ old.seen → NoMore old.images mid.images
+    → ((h : Header) (before : List JournalEntry) (bytes : List ℕ) (stood : StandsFor bytes h before) → ((c : List ℕ) → old.images c → StandsFor c h before) → P h before bytes stood → Q h before bytes stood)
+    → FromArchive mid P → FromArchive old Q
+from_archive old mid P Q same less on from =
+    IfSome_then old.seen
+    (subst
+    (λ (t : Option (List ℕ)). IfSome t (λ bytes. (h : Header) (before : List JournalEntry) (stood : StandsFor bytes h before) → ((c : List ℕ) → mid.images c → StandsFor c h before) → P h before bytes stood)) same from)
+    (λ bytes was h before stood only. on h before bytes stood only (was h before stood (λ c image. only c (less c image))))
+
+-- ---- the names of the new files
+
+-- the journal that is read is the one that the bytes stand for
+pub opened_as : (j : JournalState) (h : Header) (before : List JournalEntry) (bytes : List ℕ) → IsHeader j.header → entries j.disk.seen j.count ≡ records_of (told_entries j)
+    → IfTold (is_some j.disk.seen) (IsLegal j.header (told_entries j)) → AtEnd (header_bytes j.header) j.place j.count j.disk.seen j.disk.images → j.disk.seen ≡ Some bytes → StandsFor bytes h before
+    → (j.header ≡ h) × (told_entries j ≡ before)
+opened_as j h before bytes header spelled legal ends is stood = go j.disk.seen spelled legal ends is
+  where
+    go : (told : Option (List ℕ)) → entries told j.count ≡ records_of (journal_in told j.count) → IfTold (is_some told) (IsLegal j.header (journal_in told j.count))
+        → AtEnd (header_bytes j.header) j.place j.count told j.disk.images → told ≡ Some bytes → (j.header ≡ h) × (journal_in told j.count ≡ before)
+    go None spelled legal ends is = absurd (cc (is))
+    go (Some b) spelled legal ends is =
+        one_journal b j.header h (journal_in (Some b) j.count) before (record { header = header; legal = legal; stands = subst (λ rs. Stands (header_bytes j.header) rs b) spelled ends.stands })
+        (subst (λ x. StandsFor x h before) (sym (some_is b bytes is)) stood)
+      where
+        some_is : (x y : List ℕ) → Some x ≡ Some y → x ≡ y
+        some_is x y e = cc (e)
+
+-- ---- the store
+
+counted : (told : Option (List ℕ)) (n : ℕ) → is_some told ≡ true → length (journal_in told n) ≡ n
+counted None n is = absurd (cc (is))
+counted (Some bytes) n is = length-map (entries (Some bytes) n) entry_of ∙ length-records n _
+
+pub of_told : {P : Type 0} (b : Bool) → b ≡ true → IfTold b P → P
+of_told {P} b is p = subst (λ x. IfTold x P) is p
+
+either_front : (es under : List JournalEntry) (k : ℕ) → length es ≤ k → length under ≤ 1 → (take k (es ++ under) ≡ es) ⊎ (take k (es ++ under) ≡ es ++ under)
+either_front es under k low one =
+    dite (dec_le k (length es))
+    (λ (le : k ≤ length es). let same : k ≡ length es = omega (arith, le, low) in inl (ap (λ n. take n (es ++ under)) same ∙ take-append_seam es under))
+    (λ gt. inr (take_all k (es ++ under) (omega (arith, lt_of_not-le gt, one, length-append es under))))
+
+module _ (s : StoreState) (kept : Kept s) (law : IsLawful s.disk) (told : tells s ≡ true) (runs : (Rose s.opened.faults s.disk.faults → ⊥) → s.stopped ≡ None)
+    (before es rest : List JournalEntry) (are : journal_of s ≡ es) (grown : es ≡ before ++ rest) (first : length before ≤ s.first) where
+  legal : IsLegal s.header (es ++ kept.under)
+  legal = subst (λ l. IsLegal s.header (l ++ kept.under)) are (of_told (tells s) told kept.legal)
+
+  image_of : (least : ℕ) (c : List ℕ) → Image s least (journal_of s ++ kept.under) c → HasFirst (header_bytes s.header) least (es ++ kept.under) c
+  image_of least c image = subst (λ l. HasFirst (header_bytes s.header) least (l ++ kept.under) c) are (of_told (tells s) told image)
+
+  length-es : length es ≡ s.count
+  length-es = sym (ap length are) ∙ counted s.disk.seen s.count (kept.tells_still ∙ told)
+
+  now : (c : List ℕ) → s.disk.images c → StandsForEither s.header es kept.under c
+  now c image =
+      let has = image_of s.count c (kept.now c image) in
+      let stands = front_stands s.header (es ++ kept.under) c has.k kept.header legal has.stands in
+      ⊎_elim
+      (λ same. inl (subst (λ l. StandsFor c s.header l) same stands))
+      (λ same. inr (subst (λ l. StandsFor c s.header l) same stands))
+      (either_front es kept.under has.k (omega (arith, length-es, has.enough)) kept.one)
+
+  since : (c : List ℕ) → s.disk.since s.opened.clock c → StandsBetween s.header before (es ++ kept.under) c
+  since c left =
+      let has = image_of s.first c (kept.past.each c left) in
+      let all : es ++ kept.under ≡ before ++ (rest ++ kept.under) = ap (λ l. l ++ kept.under) grown ∙ append_assoc before rest kept.under in (
+        take has.k (es ++ kept.under),
+        subst (λ l. IsPrefix before (take has.k l)) (sym all) (prefix_taken before (rest ++ kept.under) has.k (omega (arith, first, has.enough))),
+        (drop has.k (es ++ kept.under), take-append-drop has.k (es ++ kept.under)),
+        front_stands s.header (es ++ kept.under) c has.k kept.header legal has.stands,
+      )
+
+  pub store_leaves : LeavesJournal s.header before es s.opened s.disk
+  store_leaves = record {
+    tail = kept.under;
+    one = kept.one;
+    none = λ steady. (kept.going (runs steady)).0;
+    reads = IfSome_then s.disk.seen law.reads_as (λ c image. now c image);
+    now = now;
+    since = since;
+  }
+
+-- ---- the ingest
+
+module _ {D : Type 0} {d : DiskGhosts D} (h : Header) (before : List JournalEntry) (names : List (List ℕ)) (j after : Journal D d) (law : IsLawful (d.state after.disk.now)) (named : HasNames h before names (state_of j)) where
+  length-named : length before ≤ j.count
+  length-named = omega (
+    arith,
+    length-append before (Files names ∷ []),
+    ap length named.entries,
+    counted (d.state j.disk.now).seen j.count named.told,
+  )
+
+  -- what a store left
+  pub left_leaves : (store : StoreView D) → IsLeftBy store j after → (fresh : List JournalEntry) → journal_of (state_by d.state store) ≡ told_entries (state_of j) ++ fresh
+      → LeavesJournal h before (before ++ (Files names ∷ fresh)) (d.state j.disk.now) (d.state after.disk.now)
+  left_leaves store left fresh grown =
+      subst (λ x. LeavesJournal x before (before ++ (Files names ∷ fresh)) (d.state j.disk.now) (d.state after.disk.now)) (left.header ∙ named.header)
+      (subst (λ (x : D). LeavesJournal store.header before (before ++ (Files names ∷ fresh)) (d.state x) (d.state after.disk.now)) left.opened
+      (subst (λ (x : D). LeavesJournal store.header before (before ++ (Files names ∷ fresh)) (d.state store.opened) (d.state x)) left.disk
+      (store_leaves (state_by d.state store) left.kept (subst (λ (x : D). IsLawful (d.state x)) (sym left.disk) law)
+      (ap (λ (x : D). is_some (d.state x).seen) left.opened ∙ named.told)
+      (λ steady. (left.again (λ late. steady (subst (λ (x : D). Rose (d.state x).faults (d.state store.disk).faults) (sym left.opened)
+      (subst (λ (x : D). Rose (d.state j.disk.now).faults (d.state x).faults) (sym left.disk) late)))).0)
+      before (before ++ (Files names ∷ fresh)) (Files names ∷ fresh)
+      (grown ∙ (ap (λ l. l ++ fresh) named.entries ∙ append_assoc before (Files names ∷ []) fresh))
+      refl (subst (λ n. length before ≤ n) (sym left.first) length-named))))
+
+  -- nothing was added
+  pub same_leaves : IsLawful (d.state j.disk.now) → ((c : List ℕ) → (d.state j.disk.now).images c → StandsFor c h (before ++ Files names ∷ [])) → IsAsItWas j after
+      → LeavesJournal h before (before ++ Files names ∷ []) (d.state j.disk.now) (d.state after.disk.now)
+  same_leaves law_j only (inl same) =
+      subst (λ (x : Journal D d). LeavesJournal h before (before ++ Files names ∷ []) (d.state j.disk.now) (d.state x.disk.now)) (sym same)
+      (record {
+        tail = [];
+        one = omega arith;
+        none = λ steady. refl;
+        reads = IfSome_then (d.state j.disk.now).seen law_j.reads_as (λ c image. inl (only c image));
+        now = λ c image. inl (only c image);
+        since = λ c left. (before ++ Files names ∷ [], (Files names ∷ [], refl), ([], refl), only c (law_j.only_now c left));
+      })
+  same_leaves law_j only (inr stayed) =
+      left_leaves stayed.0 stayed.1.left_by [] (stayed.1.entries ∙ sym (append-nil (told_entries (state_of j))))

@@ -1,0 +1,43 @@
+-- The summary of an archive.
+use Rattle.std.proofs.Common.{◌≡◌, ◌⊎◌, inl, inr, refl, sym, ap, subst, ◌∙◌, ℕ, List, Bool, true, false, Option, None, Some}
+use Rattle.std.proofs.lemmas.List.Sorted.{length_permutation}
+use Rattle.sink_pieces.specs.Output.{Grew, GrewByFront}
+use Rattle.wild_match.specs.Reading.{IsSearchPattern}
+use Rattle.wild_match.specs.declared.pattern.Item.{Item}
+use Rattle.archive_meaning.specs.Held.{content_of}
+use Rattle.archive_open.specs.Shown.{IsArchiveOf, Opens, Shown, places_of}
+use Rattle.search_engine.specs.declared.report.Report.{Report}
+use Rattle.search_engine.specs.Searched.{HasSearched, OfJournal, asked}
+use Rattle.write_commands.specs.Benched.{AreCounted, PrintsSummary, TellsSummary, sought, summary}
+
+-- ---- what a search has found
+
+pub counted_done : (seen later : Option (List ℕ)) (a : Shown) (items : List Item) (r : Report) (old mid : Option (List ℕ)) (o0 o1 e0 e1 : ℕ) → later ≡ seen → Opens seen a → IsSearchPattern sought items
+    → OfJournal later (λ h _ held. HasSearched h held (asked items (record { from = None; to = None })) a.segments r old mid o0 o1 e0 e1) → OfJournal seen (λ h es held. AreCounted h es held r.matched r.segments)
+counted_done None later a items r old mid o0 o1 e0 e1 same opened pattern searched = tt
+counted_done (Some bytes) later a items r old mid o0 o1 e0 e1 same opened pattern searched =
+    let here = subst (λ x. OfJournal x (λ h _ held. HasSearched h held (asked items (record { from = None; to = None })) a.segments r old mid o0 o1 e0 e1)) same searched in
+    λ h es stood.
+    let s = here h es stood in
+    record {
+      items = items;
+      pattern = pattern;
+      found = s.found;
+      are_found = s.are_found;
+      matched_is = ap (λ (x : Report). x.matched) s.report;
+      segments_is = ap (λ (x : Report). x.segments) s.report ∙ length_permutation (places_of es) a.segments (opened h es stood).segments;
+    }
+
+-- ---- what is printed
+
+pub printed_all : (messages : ℕ) (seen old new : Option (List ℕ)) (line : List ℕ) (r : Report) → OfJournal seen (λ h es held. AreCounted h es held r.matched r.segments) → line ≡ summary messages r.matched r.segments
+    → Grew old new line → PrintsSummary true messages seen old new
+printed_all messages seen old new line r counted is grew = record { matched = r.matched; segments = r.segments; counted = counted; text = subst (λ t. Grew old new t) is grew }
+
+pub printed_front : (done : Bool) (messages : ℕ) (seen old new : Option (List ℕ)) (line : List ℕ) (r : Report) → done ≡ false → OfJournal seen (λ h es held. AreCounted h es held r.matched r.segments) → line ≡ summary messages r.matched r.segments
+    → GrewByFront old new line → PrintsSummary done messages seen old new
+printed_front done messages seen old new line r not_done counted is grew =
+    subst (λ b. PrintsSummary b messages seen old new) (sym not_done) (inr (record { matched = r.matched; segments = r.segments; counted = counted; text = subst (λ t. GrewByFront old new t) is grew }))
+
+pub printed_none : (done : Bool) (messages : ℕ) (seen old : Option (List ℕ)) → done ≡ false → PrintsSummary done messages seen old old
+printed_none done messages seen old not_done = subst (λ b. PrintsSummary b messages seen old old) (sym not_done) (inl refl)

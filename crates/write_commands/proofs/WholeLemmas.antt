@@ -1,0 +1,123 @@
+-- Why files are not whole, from the start of the call, and as it is told.
+use Rattle.std.proofs.Common.{◌≡◌, ◌+◌, ◌≤◌, ◌++◌, ◌∷◌, [], ◌⊎◌, refl, sym, ap, ◌∙◌, subst, ℕ, List, length, map, take, append-nil, Option, Some, None, arith}
+use Rattle.std.specs.Prelude.{All}
+use Rattle.std.specs.List.{Contains}
+use Rattle.row_codec.specs.declared.namer.Which.{Which}
+use Rattle.row_codec.specs.declared.namer.Which.TheVariants.{Types as WhichTypes, Words as WhichWords}
+use Rattle.archive_meaning.specs.declared.entry.JournalEntry.{JournalEntry}
+use Rattle.archive_meaning.specs.declared.entry.JournalEntry.TheVariants.{Files}
+use Rattle.archive_meaning.specs.Spelled.{types_of}
+use Rattle.disk_seal.specs.Told.{IfTold}
+use Rattle.disk_seal.specs.WordsIn.{words_of}
+use Rattle.ingest_workers.specs.Causes.{limit_of}
+use Rattle.ingest_workers.specs.Full.{IsFullBy, IsMessageAt, IsNextOf, IsTextOf}
+use Rattle.ingest_workers.specs.Ingested.{book_texts, header_limits}
+use Rattle.ingest_workers.proofs.ClosingLemmas.{types_joined, words_joined}
+use Rattle.std.proofs.lemmas.List.Elements.{All-weaker}
+use Rattle.log_seams.specs.Disk.{DiskState}
+use Rattle.log_seams.proofs.MomentLemmas.{rose}
+use Rattle.record_format.specs.declared.header.Header.{Header}
+use Rattle.disk_journal.specs.State.{JournalState}
+use Rattle.command_refusals.specs.Outside.{Outside}
+use Rattle.write_commands.specs.Ingested.{AreFullInTurn, FileOutcome, CameOfFile, DidNotFit, FromArchive, HasFileCause, HasMoreThan, IsFullByGiven, IsFullInTurn, IsGiven, OfTaken, WasMetInOneOf}
+use Rattle.write_commands.specs.StepsCauses.{AreFullInto, CameIn, HasCauseIn, HaveFileCauses, IsTarget, Logs, Target, into_journal, logs_of}
+use Rattle.write_commands.specs.JournalLeft.{AddsNamesTo, HasNames}
+use Rattle.command_refusals.specs.LogLimits.{most_messages}
+use Rattle.command_refusals.specs.declared.outcome.PartCause.{PartCause}
+use Rattle.write_commands.proofs.FitLemmas.{fit_into}
+use Rattle.write_commands.proofs.LeavesLemmas.{from_archive, of_told}
+use Rattle.write_commands.proofs.StepsLemmas.{Looked, no_more, same_bytes}
+
+-- ---- from the start of the call
+
+module _ (logs : Logs) (into : Target) (old mid new : DiskState) (risen : old.faults ≤ mid.faults) where
+  cause_on : (c : FileOutcome) (r : Option PartCause) → HasCauseIn logs into mid new c r → HasCauseIn logs into old new c r
+  cause_on c None cause = cause
+  cause_on c (Some PartCause.OpenFault) cause = cause
+  cause_on c (Some PartCause.ReadFault) cause = cause
+  cause_on c (Some (PartCause.LineTooLong line)) cause = cause
+  cause_on c (Some PartCause.TooManyLines) cause = cause
+  cause_on c (Some (PartCause.Full book count)) cause = cause
+  cause_on c (Some (PartCause.ArchiveFull end need)) cause = cause
+  cause_on c (Some PartCause.DiskFault) cause = rose old.faults mid.faults new.faults new.faults risen cause (omega arith)
+  cause_on c (Some PartCause.OutOfMemory) cause = cause
+
+  pub came_on : (c : FileOutcome) → CameIn logs into mid new c → CameIn logs into old new c
+  came_on c is = record { cause = cause_on c c.refusal is.cause; part = is.part }
+
+texts_named : (names : List (List ℕ)) (es before : List JournalEntry) → es ≡ before ++ Files names ∷ [] → (book : Which) → book_texts book es ≡ book_texts book before
+texts_named names es before is WhichTypes = ap types_of is ∙ (types_joined before (Files names ∷ []) ∙ append-nil (types_of before))
+texts_named names es before is WhichWords = ap words_of is ∙ (words_joined before (Files names ∷ []) ∙ append-nil (words_of before))
+
+pub causes_sooner : (old mid late : DiskState) → Looked old mid late → (logs : Logs) (workers rows : ℕ) (names : List (List ℕ)) (first : ℕ) (j : JournalState) (new : DiskState) (came : List FileOutcome) → late.faults ≤ j.disk.faults → map (λ (c : FileOutcome). c.name) came ≡ names
+    → FromArchive late (λ h before bytes stood. AddsNamesTo h before stood names first late j) → All (CameIn logs (into_journal j rows first names) j.disk new) came → (workers ≡ 1 → AreFullInto logs.content (into_journal j rows first names) came) → HaveFileCauses logs workers rows old new came
+causes_sooner old mid late looked logs workers rows names first j new came risen named added each in_turn = let into = into_journal j rows first names in record {
+  into = into;
+  names = sym named;
+  rows_are = refl;
+  told = from_archive old late (λ h before bytes stood. AddsNamesTo h before stood names first late j) (λ h before bytes stood. IsTarget into h before (length stood.legal.held.names)) (same_bytes old mid late looked) (no_more old mid late looked)
+      (λ h before bytes stood only adds. is_target h before (length stood.legal.held.names) adds.has adds.number) added;
+  each = All-weaker (CameIn logs into j.disk new) (CameIn logs into old new) (came_on logs into old j.disk new (omega (arith, looked.counts, risen))) came each;
+  in_turn = in_turn;
+}
+  where
+    is_target : (h : Header) (before : List JournalEntry) (held : ℕ) → HasNames h before names j → first ≡ held → IsTarget (into_journal j rows first names) h before held
+    is_target h before held has numbered = record { told = has.told; header = has.header; entries = has.entries; first = numbered }
+
+-- ---- as it is told
+
+module _ (seen : Outside) (old new : DiskState) (into : Target) (told : FromArchive old (λ h before bytes stood. IsTarget into h before (length stood.legal.held.names))) where
+  from_header : (P : Header → Type 0) → P into.header → FromArchive old (λ h before bytes stood. P h)
+  from_header P p = from_archive old old (λ h before bytes stood. IsTarget into h before (length stood.legal.held.names)) (λ h before bytes stood. P h) refl (λ c image. image) (λ h before bytes stood only is. subst P is.header p) told
+
+  full_of : (h : Header) (before : List JournalEntry) (held : ℕ) (c : FileOutcome) (book : Which) (count : ℕ) → IsTarget into h before held → IsFullByGiven seen.content into.names into.header into.entries c book count → IsFullByGiven seen.content into.names h before c book count
+  full_of h before held c book count is full = subst (λ (x : Header). FullBy x (book_texts book before)) is.header (subst (FullBy into.header) (texts_named into.names into.entries before is.entries book) full)
+    where
+      -- by a book's texts in the journal
+      FullBy : Header → List (List ℕ) → Type 0
+      FullBy x texts = (count ≡ limit_of (header_limits x) book)
+          × OfTaken c (λ sealed. IsFullBy (λ t. Contains texts t ⊎ IsTextOf x.version (IsGiven seen.content x.version into.names) book t) (IsTextOf x.version (IsNextOf x.version (seen.content c.name) sealed) book) count)
+
+  from_full : (c : FileOutcome) (book : Which) (count : ℕ) → IfTold into.told (IsFullByGiven seen.content into.names into.header into.entries c book count) → FromArchive old (λ h before bytes stood. IsFullByGiven seen.content into.names h before c book count)
+  from_full c book count cause = from_archive old old (λ h before bytes stood. IsTarget into h before (length stood.legal.held.names)) (λ h before bytes stood. IsFullByGiven seen.content into.names h before c book count) refl (λ c image. image)
+      (λ h before bytes stood only is. full_of h before (length stood.legal.held.names) c book count is (of_told into.told is.told cause)) told
+
+  from_fit : (c : FileOutcome) (end need : ℕ) → IfTold into.told (DidNotFit seen.content into.rows into.first into.names into.header into.entries new c end need)
+      → FromArchive old (λ h before bytes stood. DidNotFit seen.content into.rows (length stood.legal.held.names) into.names h (before ++ Files into.names ∷ []) new c end need)
+  from_fit c end need cause = from_archive old old (λ h before bytes stood. IsTarget into h before (length stood.legal.held.names))
+      (λ h before bytes stood. DidNotFit seen.content into.rows (length stood.legal.held.names) into.names h (before ++ Files into.names ∷ []) new c end need) refl (λ c image. image)
+      (λ h before bytes stood only is. fit_into seen.content into h before (length stood.legal.held.names) is new c end need (of_told into.told is.told cause)) told
+
+  file_cause : (c : FileOutcome) (r : Option PartCause) → HasCauseIn (logs_of seen) into old new c r → HasFileCause into.rows into.names seen old new c r
+  file_cause c None cause = cause
+  file_cause c (Some PartCause.OpenFault) cause = cause
+  file_cause c (Some PartCause.ReadFault) cause = cause
+  file_cause c (Some (PartCause.LineTooLong line)) cause = cause
+  file_cause c (Some PartCause.TooManyLines) cause = (cause.0, from_header (λ h. HasMoreThan most_messages h.version (seen.content c.name)) cause.1)
+  file_cause c (Some (PartCause.Full book count)) cause = from_full c book count cause
+  file_cause c (Some (PartCause.ArchiveFull end need)) cause = from_fit c end need cause.1
+  file_cause c (Some PartCause.DiskFault) cause = cause
+  file_cause c (Some PartCause.OutOfMemory) cause = cause
+
+  -- by the files up to the one that was stopped
+  turn_of : (h : Header) (before : List JournalEntry) (held : ℕ) (met : List FileOutcome) (c : FileOutcome) (book : Which) (count : ℕ) → IsTarget into h before held → IsFullInTurn into.rows seen.content into.header into.entries met c book count
+      → IsFullInTurn into.rows seen.content h before met c book count
+  turn_of h before held met c book count is full = subst (λ (x : Header). FullBy x (book_texts book before)) is.header (subst (FullBy into.header) (texts_named into.names into.entries before is.entries book) full)
+    where
+      -- by a book's texts in the journal
+      FullBy : Header → List (List ℕ) → Type 0
+      FullBy x texts = (count ≡ limit_of (header_limits x) book)
+          × IsFullBy (λ t. Contains texts t ⊎ IsTextOf x.version (WasMetInOneOf into.rows seen.content x.version met) book t) (IsTextOf x.version (IsMessageAt x.version (seen.content c.name) c.messages) book) count
+
+  from_turns : (came : List FileOutcome) → AreFullInto seen.content into came → AreFullInTurn into.rows seen.content old came
+  from_turns came turns = λ place c book count at is.
+      from_archive old old (λ h before bytes stood. IsTarget into h before (length stood.legal.held.names)) (λ h before bytes stood. IsFullInTurn into.rows seen.content h before (take (place + 1) came) c book count) refl (λ c image. image)
+      (λ h before bytes stood only target. turn_of h before (length stood.legal.held.names) (take (place + 1) came) c book count target (of_told into.told target.told (turns place c book count at is))) told
+
+pub file_causes : (workers rows : ℕ) (names : List (List ℕ)) (seen : Outside) (old new : DiskState) (came : List FileOutcome) → map (λ (c : FileOutcome). c.name) came ≡ names → HaveFileCauses (logs_of seen) workers rows old new came → All (CameOfFile rows names seen old new) came
+file_causes workers rows names seen old new came named have = subst (λ ns. All (CameOfFile rows ns seen old new) came) (have.names ∙ named)
+    (subst (λ n. All (CameOfFile n have.into.names seen old new) came) have.rows_are
+    (All-weaker (CameIn (logs_of seen) have.into old new) (CameOfFile have.into.rows have.into.names seen old new) (λ c is. record { cause = file_cause seen old new have.into have.told c c.refusal is.cause; part = is.part }) came have.each))
+
+pub full_in_turn : (workers rows : ℕ) (seen : Outside) (old new : DiskState) (came : List FileOutcome) → HaveFileCauses (logs_of seen) workers rows old new came → workers ≡ 1 → AreFullInTurn rows seen.content old came
+full_in_turn workers rows seen old new came have one = subst (λ n. AreFullInTurn n seen.content old came) have.rows_are (from_turns seen old new have.into have.told came (have.in_turn one))

@@ -1,0 +1,14 @@
+use Rattle.std.proofs.Common.{arith}
+use Rattle.write_commands.specs.Taken.{error_of, file_status}
+use Rattle.write_commands.proofs.TakenLemmas.{gravest_next, said_next}
+use Rattle.write_commands.proofs.file_report.report_taken.Goals as goal
+
+pub loop-file-preserved : goal.loop-file-preserved
+loop-file-preserved g c =
+    let before = c.loop-file.invariant in
+    let one = c.report_one.ensures in
+    record {
+      status = gravest_next (λ file. file_status file.refusal) error_of c.args.files.now c.loop-file.file-index _ _ _ _ c.loop-file-test.true before.status one.status c.graver-status.ensures;
+      said = said_next (λ file. file_status file.refusal) error_of _ _ _ _ _ _ c.args.files.now c.loop-file.file-index _ c.loop-file-test.true before.later one.later before.said one.said;
+      later = omega (arith, before.later, one.later);
+    }

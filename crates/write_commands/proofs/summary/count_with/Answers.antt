@@ -1,0 +1,18 @@
+use Rattle.std.proofs.Common.{◌≡◌, ap, Err}
+use Rattle.command_refusals.specs.declared.outcome.ReadRefusal.{ReadRefusal}
+use Rattle.command_refusals.proofs.EndedLemmas.{search_refused_at}
+use Rattle.write_commands.proofs.SummaryLemmas.{counted_done}
+use Rattle.write_commands.proofs.summary.count_with.Goals as goal
+
+pub search-answer-requires-clause-searched : goal.search-answer-requires-clause-searched
+search-answer-requires-clause-searched g c κs within = c.wide_is_wider.ensures.searched _ _ c.in_ok-pattern.ensures.ok
+
+pub returns-in-Ok-clause-counted : goal.returns-in-Ok-clause-counted
+returns-in-Ok-clause-counted g c =
+    counted_done _ _ _ c.in_ok-pattern.pattern c.in-Ok.report _ _ _ _ _ _ c.in_ok-archive.ensures.keeps.seen c.in_ok-archive.ensures.opened c.in_ok-pattern.ensures.ok c.in-Ok.ensures.done
+
+pub returns-clause-damaged : goal.returns-clause-damaged
+returns-clause-damaged g c = λ at is.
+    let told : c.of_search.result ≡ ReadRefusal.Damaged at = cc (is) in
+    search_refused_at _ c.in-Err.refusal c.last_gate.result at _ _ _ c.of_search.ensures told c.in_ok-archive.ensures.keeps.seen c.in_ok-archive.ensures.last c.last_gate.ensures
+    (λ refusal. c.in-Err.ensures.damaged (ap Err refusal))

@@ -1,0 +1,11 @@
+-- What came of files, as `ingest` tells it.
+use Rattle.std.specs.Prelude.{ℕ, List, map}
+use Rattle.write_commands.specs.Ingested.{FileOutcome}
+use Rattle.write_commands.specs.declared.file_report.FileReport.{FileReport}
+
+-- what came of a file, as it is told
+abbrev pub came_of : FileReport → FileOutcome
+came_of file = record { name = file.name.now; messages = file.messages; whole = file.whole; refusal = file.refusal }
+
+abbrev pub names_of : List FileReport → List (List ℕ)
+names_of files = map (λ (file : FileReport). file.name.now) files

@@ -1,0 +1,313 @@
+-- What the taking of files into an archive leaves: the journal, the content of the archive, what a crash may leave of it,
+-- and what is printed.
+use Rattle.std.specs.Prelude.{◌≡◌, ◌≢◌, ◌+◌, ◌<◌, ◌≤◌, ◌⊎◌, ℕ, Bool, true, false, List, [], ◌∷◌, ◌++◌, length, map, take, All, Option, Some, None, IfSome, slice_get}
+use Rattle.std.specs.List.{AllZip, Contains, filter_map, flat_map}
+use mathlib.Core.List.{IsPrefix}
+use Rattle.log_seams.specs.Disk.{DiskState}
+use Rattle.log_seams.specs.Outside.{Rose}
+use Rattle.record_format.specs.declared.header.Header.{Header}
+use Rattle.row_codec.specs.Messages.{IsTypeOf, IsWordOf}
+use Rattle.plain_list.specs.Texts.{AreDistinct}
+use Rattle.archive_meaning.specs.declared.entry.JournalEntry.{JournalEntry}
+use Rattle.archive_meaning.specs.declared.entry.JournalEntry.TheVariants.{Files, Types, Words, Segment}
+use Rattle.archive_meaning.specs.Held.{File, content_of}
+use Rattle.archive_meaning.specs.Stands.{StandsFor}
+use Rattle.archive_meaning.specs.Spelled.{end_of}
+use Rattle.archive_check.specs.Checked.{DamagedAt}
+use Rattle.archive_open.specs.Shown.{RefusedAt}
+use Rattle.disk_seal.specs.Registered.{files_size}
+use Rattle.row_codec.specs.declared.namer.Which.{Which}
+use Rattle.ingest_workers.specs.Causes.{limit_of}
+use Rattle.ingest_workers.specs.Full.{AreFirstOf, IsAmongFirst, IsFullBy, IsMessageAt, IsNextOf, IsTextOf}
+use Rattle.ingest_workers.specs.Ingested.{HasTextsBehind, book_texts, header_limits}
+use Rattle.ingest_workers.specs.Locked.{in_file}
+use Rattle.ingest_workers.specs.NoRoom.{HadNoRoom}
+use Rattle.ingest_workers.specs.Parts.{IsCut, IsOpen, Part, messages_in, rest_of, segments_from}
+use Rattle.message_reader.specs.Versions.{MessagesOf}
+use Rattle.sink_pieces.specs.Output.{Grew, GrewByFront}
+use Rattle.command_refusals.specs.Outside.{Outside}
+use Rattle.file_lines.specs.Directory.{FileLine, directory_from}
+use Rattle.command_refusals.specs.Ending.{EndsWith, RefusesAtOnce, RoseIn, SaysIn, Stayed, TookNothing}
+use Rattle.write_commands.specs.Names.{RefusesMore, RefusesNames}
+use Rattle.command_refusals.specs.LogLimits.{IsLong, most_messages}
+use Rattle.command_refusals.specs.Reading.{OverJournal}
+use Rattle.command_refusals.specs.Outcome.{of_add}
+use Rattle.write_commands.specs.Taken.{file_error, file_status, gravest}
+use Rattle.command_refusals.specs.declared.outcome.AddRefusal.{AddRefusal}
+use Rattle.command_refusals.specs.declared.outcome.PartCause.{PartCause}
+use Rattle.command_refusals.specs.declared.outcome.AddRefusal.TheVariants.{NameTooLong, TooManyFiles}
+use Rattle.command_refusals.specs.declared.outcome.PartCause.TheVariants.{OpenFault, ReadFault, LineTooLong, TooManyLines, Full}
+use Rattle.command_refusals.specs.declared.refusal.Refusal.TheVariants.{SinkFault, OutOfMemory}
+
+-- What came of a file: its name, how many messages of it the archive has, whether these are all, and why they are not.
+pub record FileOutcome : Type 0 where
+  pub name : List ℕ
+  pub messages : ℕ
+  pub whole : Bool
+  pub refusal : Option PartCause
+
+abbrev pub line_of_came : FileOutcome → FileLine
+line_of_came c = record { name = c.name; messages = c.messages; whole = c.whole }
+
+-- ---- the journal
+
+-- where the bytes of the name are told, the message is one of them
+abbrev pub IsMessageIn : (List ℕ → Option (List ℕ)) → ℕ → List ℕ → List ℕ → Type 0
+IsMessageIn content version name message =
+    IfSome (content name) (λ bytes. (messages : List (List ℕ)) (ended : Bool) → MessagesOf version bytes messages ended → Contains messages message)
+
+-- the message is one of a given file
+abbrev pub IsGiven : (List ℕ → Option (List ℕ)) → ℕ → List (List ℕ) → List ℕ → Type 0
+IsGiven content version names message = (name : List ℕ) × Contains names name × IsMessageIn content version name message
+
+-- An entry that may stand behind the names of new files, which are numbered on from `first`: a segment of one of them, or
+-- texts of the encodings of given messages.
+abbrev pub IsOfNew : (List ℕ → Option (List ℕ)) → ℕ → List (List ℕ) → ℕ → JournalEntry → Type 0
+IsOfNew content version names first (Files more) = ⊥
+IsOfNew content version names first (Types number texts) = All (λ text. (m : List ℕ) × IsGiven content version names m × IsTypeOf version m text) texts
+IsOfNew content version names first (Words number texts) = All (λ text. (m : List ℕ) × IsGiven content version names m × IsWordOf version m text) texts
+IsOfNew content version names first (Segment s) = (first ≤ s.file) × (s.file < first + length names)
+
+-- ---- the content
+
+-- A new file holds the first messages of its name, as many as it is told with, and all of them where nothing was refused of it, which is where it is
+-- told as whole.
+pub record IsFront (content : List ℕ → Option (List ℕ)) (version : ℕ) (c : FileOutcome) (f : File) : Type 0 where
+  pub name : f.name ≡ c.name
+  pub messages : length f.messages ≡ c.messages
+  pub whole : f.whole ≡ c.whole
+  pub front : IfSome (content c.name) (λ bytes. (messages : List (List ℕ)) (ended : Bool) → MessagesOf version bytes messages ended → IsPrefix f.messages messages)
+  pub all : c.refusal ≡ None → (c.whole ≡ true) × IfSome (content c.name) (λ bytes. MessagesOf version bytes f.messages f.ended)
+
+-- ---- what a crash leaves
+
+-- the bytes stand for the journal, or for it and the record that was under way
+abbrev pub StandsForEither : Header → List JournalEntry → List JournalEntry → List ℕ → Type 0
+StandsForEither h es tail bytes = StandsFor bytes h es ⊎ StandsFor bytes h (es ++ tail)
+
+-- The disk as it reads, and each image at the end, stand for the journal. Each image since the start stands for a journal
+-- between the one before and this one. Where a call of the disk failed, one record more may be under way.
+pub record LeavesJournal (h : Header) (before es : List JournalEntry) (old new : DiskState) : Type 0 where
+  pub tail : List JournalEntry
+  pub one : length tail ≤ 1
+  pub none : (Rose old.faults new.faults → ⊥) → tail ≡ []
+  pub reads : IfSome new.seen (StandsForEither h es tail)
+  pub now : (c : List ℕ) → new.images c → StandsForEither h es tail c
+  pub since : (c : List ℕ) → new.since old.clock c → (some : List JournalEntry) × IsPrefix before some × IsPrefix some (es ++ tail) × StandsFor c h some
+
+-- ---- by the answer
+
+-- Nothing was taken in: the journal is as it was.
+pub record TakesNothing (h : Header) (before : List JournalEntry) (old new : DiskState) : Type 0 where
+  pub leaves : LeavesJournal h before before old new
+
+-- The segments of a file among the entries are the parts of its messages, in order: each is cut where it has so many rows or is full in another way, and not
+-- sooner, and the last one has the rest.
+pub record IsCutInto (rows number : ℕ) (f : File) (added : List JournalEntry) : Type 0 where
+  pub closed : List Part
+  pub rest : Part
+  pub parts : f.messages ≡ messages_in closed ++ rest.messages
+  pub cut : All (IsCut rows) closed
+  pub not_yet : IsOpen rows rest
+  pub segments : filter_map (in_file number) added ≡ segments_from number 0 closed ++ rest_of number (length (messages_in closed)) f.whole f.ended rest
+
+-- The names were added to the journal, and then what came of each file, in segments of at most so many rows.
+pub record TakesIn {bytes : List ℕ} (rows : ℕ) (content : List ℕ → Option (List ℕ)) (h : Header) (before : List JournalEntry) (stood : StandsFor bytes h before) (names : List (List ℕ)) (came : List FileOutcome) (old new : DiskState) : Type 0 where
+  pub added : List JournalEntry
+  pub each : All (IsOfNew content h.version names (length stood.legal.held.names)) added
+  pub leaves : LeavesJournal h before (before ++ (Files names ∷ added)) old new
+  pub files : List File
+  pub content_is : (image : List ℕ) (stands : StandsFor image h (before ++ (Files names ∷ added))) → content_of stands.legal.held ≡ content_of stood.legal.held ++ files
+  pub fronts : AllZip (IsFront content h.version) came files
+  pub cuts : (i : ℕ) (f : File) → slice_get files i ≡ Some f → IsCutInto rows (length stood.legal.held.names + i) f added
+
+-- Where the disk tells its bytes, these and each image of it stand for one journal at the start. Then this holds of it.
+abbrev pub FromArchive : DiskState → ((h : Header) (before : List JournalEntry) (bytes : List ℕ) → StandsFor bytes h before → Type 0) → Type 0
+FromArchive old P =
+    IfSome old.seen (λ bytes. (h : Header) (before : List JournalEntry) (stood : StandsFor bytes h before)
+    → ((c : List ℕ) → old.images c → StandsFor c h before) → P h before bytes stood)
+
+-- ---- causes
+
+-- where the bytes are told, they have more messages than so many
+abbrev pub HasMoreThan : ℕ → ℕ → Option (List ℕ) → Type 0
+HasMoreThan count version told =
+    IfSome told (λ bytes. (messages : List (List ℕ)) (ended : Bool) → MessagesOf version bytes messages ended → count < length messages)
+
+-- the text is one of the book in the journal, or one of the encoding of a message of these files
+abbrev pub IsThereOrGiven : (List ℕ → Option (List ℕ)) → ℕ → List (List ℕ) → List JournalEntry → Which → List ℕ → Type 0
+IsThereOrGiven content version names es book text = Contains (book_texts book es) text ⊎ IsTextOf version (IsGiven content version names) book text
+
+-- this holds of the messages of a file that were taken in
+pub record OfTaken (c : FileOutcome) (P : List (List ℕ) → Type 0) : Type 0 where
+  pub sealed : List (List ℕ)
+  pub count : c.messages ≡ length sealed
+  pub holds : P sealed
+
+-- A book may have so many texts, and there are as many of the journal and of these files. One more is of the encoding of the file's next message, behind those
+-- that were taken in.
+abbrev pub IsFullByGiven : (List ℕ → Option (List ℕ)) → List (List ℕ) → Header → List JournalEntry → FileOutcome → Which → ℕ → Type 0
+IsFullByGiven content names h es c book count =
+    (count ≡ limit_of (header_limits h) book)
+    × OfTaken c (λ sealed. IsFullBy (IsThereOrGiven content h.version names es book) (IsTextOf h.version (IsNextOf h.version (content c.name) sealed) book) count)
+
+-- The texts of a book are those of the entries, and others of the encodings of messages of these files.
+abbrev pub WereGiven : (List ℕ → Option (List ℕ)) → ℕ → List (List ℕ) → List JournalEntry → Which → List (List ℕ) → Type 0
+WereGiven content version names front book texts = HasTextsBehind (IsTextOf version (IsGiven content version names) book) (book_texts book front) texts
+
+-- the entries begin with these ones, and where the disk's bytes are told and stand for a journal, it begins with the entries
+abbrev pub StandFirst : Header → List JournalEntry → DiskState → List JournalEntry → Type 0
+StandFirst h named new front = IsPrefix named front × IfSome new.seen (λ bytes. (es : List JournalEntry) → StandsFor bytes h es → IsPrefix front es)
+
+-- Behind the messages of a file that were taken in, its next segment of at most so many rows did not fit. The archive's end is that of entries which begin
+-- with the names of these files, numbered on from `first`, and the bytes are those of the segment and of the texts before it.
+pub record DidNotFit (content : List ℕ → Option (List ℕ)) (rows first : ℕ) (names : List (List ℕ)) (h : Header) (named : List JournalEntry) (new : DiskState) (c : FileOutcome) (end need : ℕ) : Type 0 where
+  pub place : ℕ
+  pub at : slice_get names place ≡ Some c.name
+  pub room : OfTaken c (λ sealed. HadNoRoom h rows h.version (first + place) (StandFirst h named new) (WereGiven content h.version names) (AreFirstOf h.version (content c.name)) sealed end need)
+
+-- What a refusal that came of a file rests on, where these files were given, in segments of at most so many rows. Want of memory is free.
+abbrev pub HasFileCause : ℕ → List (List ℕ) → Outside → DiskState → DiskState → FileOutcome → Option PartCause → Type 0
+HasFileCause rows names seen old new c None = c.whole ≡ true
+HasFileCause rows names seen old new c (Some OpenFault) = RoseIn (seen.opens c.name) × (c.messages ≡ 0)
+HasFileCause rows names seen old new c (Some ReadFault) = RoseIn (seen.reads c.name)
+HasFileCause rows names seen old new c (Some (LineTooLong line)) = IfSome (seen.content c.name) (λ bytes. IsLong bytes line)
+HasFileCause rows names seen old new c (Some TooManyLines) =
+    (c.messages ≡ most_messages) × FromArchive old (λ h before bytes stood. HasMoreThan most_messages h.version (seen.content c.name))
+HasFileCause rows names seen old new c (Some (Full book count)) = FromArchive old (λ h before bytes stood. IsFullByGiven seen.content names h before c book count)
+HasFileCause rows names seen old new c (Some (PartCause.ArchiveFull end need)) =
+    FromArchive old (λ h before bytes stood. DidNotFit seen.content rows (length stood.legal.held.names) names h (before ++ Files names ∷ []) new c end need)
+HasFileCause rows names seen old new c (Some PartCause.DiskFault) = Rose old.faults new.faults
+HasFileCause rows names seen old new c (Some PartCause.OutOfMemory) = Unit {0}
+
+-- A file is whole exactly where nothing was refused of it, and a refusal has its cause.
+pub record CameOfFile (rows : ℕ) (names : List (List ℕ)) (seen : Outside) (old new : DiskState) (c : FileOutcome) : Type 0 where
+  pub cause : HasFileCause rows names seen old new c c.refusal
+  pub part : c.refusal ≢ None → c.whole ≡ false
+
+-- What a refusal of the whole call rests on.
+abbrev pub HasCallCause : List (List ℕ) → DiskState → DiskState → AddRefusal → Type 0
+HasCallCause names old new (NameTooLong index) = RefusesNames names (Some (NameTooLong index))
+HasCallCause names old new (TooManyFiles held more) =
+    RefusesNames names (Some (TooManyFiles held more))
+    ⊎ (RefusesMore held more (Some (TooManyFiles held more)) × (more ≡ length names)
+    × OverJournal old.seen (λ journal. held ≡ length journal.names))
+HasCallCause names old new AddRefusal.DiskFault = Rose old.faults new.faults
+HasCallCause names old new (AddRefusal.Damaged at) = IfSome old.seen (DamagedAt at)
+HasCallCause names old new AddRefusal.OutOfMemory = Unit {0}
+HasCallCause names old new (AddRefusal.ArchiveFull end need) =
+    FromArchive old (λ h before bytes stood. (end ≡ end_of h before) × (need ≡ files_size names) × (h.length_limit < end + need))
+
+-- ---- a full dictionary with one worker, which takes the files in their order
+
+-- How many messages of a file may have been met behind those that were taken in, by what was refused of it. A log that was not opened or cannot be read on
+-- leaves none, a full dictionary the one that it stops, and any other refusal those that were in hand for a segment of at most so many rows.
+abbrev pub unsealed_of : ℕ → Option PartCause → ℕ
+unsealed_of rows None = 0
+unsealed_of rows (Some OpenFault) = 0
+unsealed_of rows (Some ReadFault) = 0
+unsealed_of rows (Some (LineTooLong line)) = 0
+unsealed_of rows (Some TooManyLines) = 0
+unsealed_of rows (Some (Full book count)) = 1
+unsealed_of rows (Some _) = rows
+
+module _ (rows : ℕ) (content : List ℕ → Option (List ℕ)) where
+  -- the message was met in this file
+  abbrev pub WasMetIn : ℕ → FileOutcome → List ℕ → Type 0
+  WasMetIn version c m = IsAmongFirst version (content c.name) (c.messages + unsealed_of rows c.refusal) m
+
+  -- it was met in one of these files
+  abbrev pub WasMetInOneOf : ℕ → List FileOutcome → List ℕ → Type 0
+  WasMetInOneOf version came m = (c : FileOutcome) × Contains came c × WasMetIn version c m
+
+  -- A book may have so many texts, and there are as many of the journal and of the messages that were met in these files. One more is of the file's next
+  -- message, directly behind those that were taken in.
+  abbrev pub IsFullInTurn : Header → List JournalEntry → List FileOutcome → FileOutcome → Which → ℕ → Type 0
+  IsFullInTurn h es met c book count =
+      (count ≡ limit_of (header_limits h) book)
+      × IsFullBy (λ text. Contains (book_texts book es) text ⊎ IsTextOf h.version (WasMetInOneOf h.version met) book text) (IsTextOf h.version (IsMessageAt h.version (content c.name) c.messages) book) count
+
+-- this holds of the files up to each one that a full dictionary stopped, of this one, and of the dictionary and the count that are told
+abbrev pub OfStopped : (List FileOutcome → FileOutcome → Which → ℕ → Type 0) → List FileOutcome → Type 0
+OfStopped P came = (place : ℕ) (c : FileOutcome) (book : Which) (count : ℕ) → slice_get came place ≡ Some c → c.refusal ≡ Some (Full book count) → P (take (place + 1) came) c book count
+
+-- each full dictionary was so by the archive of before and the files up to the one that it stopped
+abbrev pub AreFullInTurn : ℕ → (List ℕ → Option (List ℕ)) → DiskState → List FileOutcome → Type 0
+AreFullInTurn rows content old came = OfStopped (λ met c book count. FromArchive old (λ h before bytes stood. IsFullInTurn rows content h before met c book count)) came
+
+-- ---- what was taken in fits in the dictionaries
+
+module _ (content : List ℕ → Option (List ℕ)) where
+  -- The message was taken in with a file whose bytes are told: it is one of their first messages, as many as the archive has of the file.
+  pub record WasTakenWith (version : ℕ) (c : FileOutcome) (m : List ℕ) : Type 0 where
+    pub bytes : List ℕ
+    pub told : content c.name ≡ Some bytes
+    pub messages : List (List ℕ)
+    pub ended : Bool
+    pub are : MessagesOf version bytes messages ended
+    pub first : Contains (take c.messages messages) m
+
+  -- it was taken in with one of these files
+  abbrev pub WasTakenIn : ℕ → List FileOutcome → List ℕ → Type 0
+  WasTakenIn version came m = (c : FileOutcome) × Contains came c × WasTakenWith version c m
+
+  -- the text is one of the book in the journal, or one of the encoding of a message that was taken in
+  abbrev pub IsThereOrTakenIn : Header → List JournalEntry → List FileOutcome → Which → List ℕ → Type 0
+  IsThereOrTakenIn h es came book text = Contains (book_texts book es) text ⊎ IsTextOf h.version (WasTakenIn h.version came) book text
+
+  -- distinct such texts are no more than the book may have
+  abbrev pub FitIn : Header → List JournalEntry → List FileOutcome → Which → Type 0
+  FitIn h es came book = (texts : List (List ℕ)) → AreDistinct texts → All (IsThereOrTakenIn h es came book) texts → length texts ≤ limit_of (header_limits h) book
+
+-- so it is of each dictionary of the archive of before
+abbrev pub AllFit : (List ℕ → Option (List ℕ)) → DiskState → List FileOutcome → Type 0
+AllFit content old came = FromArchive old (λ h before bytes stood. (book : Which) → FitIn content h before came book)
+
+-- ---- the answers
+
+-- The call was refused before the names were added, and nothing was printed.
+pub record RefusesIngest (names : List (List ℕ)) (seen : Outside) (old new : DiskState) (status : ℕ) : Type 0 where
+  pub refusal : AddRefusal
+  pub ends : EndsWith seen [] status (Some (of_add refusal))
+  pub nothing : TookNothing seen.out
+  pub sink : Stayed seen.out_faults
+  pub cause : HasCallCause names old new refusal
+  pub disk : FromArchive old (λ h before bytes stood. TakesNothing h before old new)
+
+-- What came of each file is printed, in their order, numbered on from `first`; then a line on the error output for each that
+-- is not whole, and the status is the gravest. Where the output fails, or there is no memory for its lines, this alone is told.
+abbrev pub PrintsCame : List FileOutcome → ℕ → Outside → ℕ → Type 0
+PrintsCame came first seen status =
+    ((status ≡ gravest (map (λ c. file_status c.refusal) came))
+    × Grew seen.out.0 seen.out.1 (directory_from first (map line_of_came came))
+    × SaysIn seen (flat_map (λ c. file_error c.name c.refusal) came) × Stayed seen.out_faults)
+    ⊎ (EndsWith seen [] status (Some SinkFault)
+    × GrewByFront seen.out.0 seen.out.1 (directory_from first (map line_of_came came)) × RoseIn seen.out_faults)
+    ⊎ (EndsWith seen [] status (Some OutOfMemory)
+    × GrewByFront seen.out.0 seen.out.1 (directory_from first (map line_of_came came)) × Stayed seen.out_faults)
+
+-- The names were added, from the first new number on, and the files taken in, in segments of at most so many rows. What came of each is printed.
+pub record AddsFiles (rows : ℕ) (names : List (List ℕ)) (seen : Outside) (old new : DiskState) (status : ℕ) : Type 0 where
+  pub came : List FileOutcome
+  pub first : ℕ
+  pub names_are : map (λ c. c.name) came ≡ names
+  pub numbered : OverJournal old.seen (λ journal. first ≡ length journal.names)
+  pub disk : FromArchive old (λ h before bytes stood. TakesIn rows seen.content h before stood names came old new)
+  pub printed : PrintsCame came first seen status
+
+-- The same, and what came of each file has its cause. With one worker a dictionary is full by the files up to the one that it stopped. With any number what was
+-- taken in fits in the dictionaries.
+pub record TakesFiles (workers rows : ℕ) (names : List (List ℕ)) (seen : Outside) (old new : DiskState) (status : ℕ) : Type 0 where
+  pub adds : AddsFiles rows names seen old new status
+  pub each : All (CameOfFile rows names seen old new) adds.came
+  pub in_turn : workers ≡ 1 → AreFullInTurn rows seen.content old adds.came
+  pub fits : AllFit seen.content old adds.came
+
+-- How `ingest` ends, which has so many workers, and cuts files into segments of at most so many rows.
+abbrev pub EndsIngest : ℕ → ℕ → List (List ℕ) → Outside → DiskState → DiskState → ℕ → Type 0
+EndsIngest workers rows names seen old new status = RefusesIngest names seen old new status ⊎ TakesFiles workers rows names seen old new status
+
+-- What `ingest` answers. Names that are refused by themselves are refused before all else, whatever the disk tells, and nothing is touched.
+pub record AnswersIngest (workers rows : ℕ) (names : List (List ℕ)) (seen : Outside) (old new : DiskState) (status : ℕ) : Type 0 where
+  pub names_first : (refusal : AddRefusal) → RefusesNames names (Some refusal) → RefusesAtOnce seen old new status (of_add refusal)
+  pub ends : EndsIngest workers rows names seen old new status

@@ -1,0 +1,42 @@
+-- How the journal goes on through the steps of an ingest.
+use Rattle.std.specs.Prelude.{◌≡◌, ◌⊎◌, ℕ, true, is_some, List, [], ◌∷◌, ◌++◌, length, Option, Some}
+use mathlib.Core.List.{IsPrefix}
+use Rattle.log_seams.specs.Disk.{DiskState, LeavesOnly}
+use Rattle.record_format.specs.declared.header.Header.{Header}
+use Rattle.disk_journal.specs.State.{JournalState}
+use Rattle.archive_meaning.specs.declared.entry.JournalEntry.{JournalEntry}
+use Rattle.archive_meaning.specs.declared.entry.JournalEntry.TheVariants.{Files}
+use Rattle.archive_meaning.specs.Stands.{StandsFor}
+use Rattle.ingest_workers.specs.Ingested.{told_entries}
+use Rattle.write_commands.specs.Ingested.{FileOutcome, TakesIn}
+
+-- the bytes stand for the journal
+abbrev pub StandsStill : Header → List JournalEntry → List ℕ → Type 0
+StandsStill h before c = StandsFor c h before
+
+-- the bytes stand for a journal between these two
+abbrev pub StandsBetween : Header → List JournalEntry → List JournalEntry → List ℕ → Type 0
+StandsBetween h before es c = (some : List JournalEntry) × IsPrefix before some × IsPrefix some es × StandsFor c h some
+
+-- the journal is told, and its entries are those of before and the names
+pub record HasNames (h : Header) (before : List JournalEntry) (names : List (List ℕ)) (j : JournalState) : Type 0 where
+  pub told : is_some j.disk.seen ≡ true
+  pub header : j.header ≡ h
+  pub entries : told_entries j ≡ before ++ Files names ∷ []
+
+-- what a source has left is the log's, or nothing for a log that could not be opened
+abbrev pub IsLogOf : Option (List ℕ) → Option (List ℕ) → Type 0
+IsLogOf log told = (told ≡ log) ⊎ (told ≡ Some [])
+
+-- The names of new files were appended to the journal, which is told with them, and they are numbered from `first` on. Each image since the start stands
+-- for the journal of before, or for it with the names.
+pub record AddsNamesTo (h : Header) (before : List JournalEntry) {bytes : List ℕ} (stood : StandsFor bytes h before) (names : List (List ℕ)) (first : ℕ) (old : DiskState) (j : JournalState) : Type 0 where
+  pub has : HasNames h before names j
+  pub number : first ≡ length stood.legal.held.names
+  pub past : LeavesOnly old j.disk (StandsBetween h before (before ++ Files names ∷ []))
+
+-- Where the journal is told with the names behind an archive, numbered from `first` on, the files were taken into it in segments of
+-- at most so many rows, with what came of them.
+abbrev pub TakesInto : ℕ → (List ℕ → Option (List ℕ)) → List (List ℕ) → ℕ → List FileOutcome → JournalState → DiskState → Type 0
+TakesInto rows content names first came j new =
+    (h : Header) (before : List JournalEntry) (bytes : List ℕ) (stood : StandsFor bytes h before) → HasNames h before names j → first ≡ length stood.legal.held.names → TakesIn rows content h before stood names came j.disk new

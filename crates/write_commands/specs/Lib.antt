@@ -1,0 +1,10 @@
+pub mod Benched
+pub mod IngestPrints
+pub mod Ingested
+pub mod Jobs
+pub mod JournalLeft
+pub mod Made
+pub mod Names
+pub mod Naming
+pub mod StepsCauses
+pub mod Taken

@@ -1,0 +1,440 @@
+//! The command `ingest`: logs become the files of an archive.
+ghost use Rattle.std.specs.Prelude.{◌≡◌, ◌+◌, ◌≤◌, ℕ, List, [], length, map, slice_get, vec_len, vec_capacity, All, IfErr, IfOk, OnErr, OnOk, None, Some};
+ghost use Rattle.std.specs.List.{AllZip};
+ghost use Rattle.disk_journal.specs.Journal.{state_of};
+ghost use Rattle.disk_seal.specs.Opening.{MayOpen};
+ghost use Rattle.ingest_workers.specs.Ingested.{AreNew, HoldTexts, first_file};
+ghost use Rattle.ingest_workers.specs.Outcome.{nothing_done};
+ghost use Rattle.command_refusals.specs.Outside.{around};
+ghost use Rattle.log_sources.specs.Sources.{CameOf, is_opened, refusal_of, str_bytes};
+ghost use Rattle.command_refusals.specs.GoesOn.{DiskGoesOn, OutsideGoesOn};
+ghost use Rattle.write_commands.specs.Ingested.{EndsIngest, FromArchive, HasCallCause, TakesIn, TakesNothing};
+ghost use Rattle.write_commands.specs.IngestPrints.{came_of, names_of};
+ghost use Rattle.write_commands.specs.Jobs.{DidJobs, IsNotBegun, IsToldBy, opens_of, refusal_by, sources_of};
+ghost use Rattle.write_commands.specs.StepsCauses.{AreFullInto, CameIn, HaveFileCauses, into_journal, logs_around};
+ghost use Rattle.write_commands.specs.JournalLeft.{TakesInto};
+ghost use Rattle.write_commands.specs.Names.{RefusesNames};
+ghost use Rattle.write_commands.specs.Naming.{AreNumbered, HasGoneOn, IsNamed};
+ghost use Rattle.command_refusals.specs.Ending.{RefusesAtOnce};
+ghost use Rattle.command_refusals.specs.Reading.{OverJournal};
+ghost use Rattle.command_refusals.specs.declared.outcome.AddRefusal.{AddRefusal};
+ghost use Rattle.command_refusals.specs.Outcome.{of_add};
+
+use crate::file_report::{FileReport, report_taken};
+use crate::names::refuse_names;
+use crate::register::{Named, open_and_register};
+use crate::telling::{Telling, check_told};
+use command_refusals::{AddRefusal, PartCause, Refusal, refusal_of_add, report};
+use command_words::IngestWords;
+use dict_core::Book;
+use disk_journal::{Journal, start};
+use file_lines::print_directory;
+use ingest_workers::{Cause, Job, ingest};
+use log_seams::{Disk, OpenRefused, Shelf, Sink, Source};
+use log_sources::{LogSource, close_logs, open_logs};
+use logtype_text::one_list_of_parts;
+use sink_pieces::PrintRefusal;
+use std::alloc::{AllocError, Global};
+use std::sync::Wait;
+use std::thread::Threads;
+
+/// The logs that become files, and how they are taken in.
+#[derive(Clone, Copy, Debug)]
+pub struct NewLogs<'a> {
+    /// How many workers there are: 1 to 64.
+    pub workers: u32,
+    /// How many rows a segment has at most: 1 to 65,536.
+    pub segment: u32,
+    /// Their names.
+    pub files: &'a [&'a str],
+}
+
+impl<'a> NewLogs<'a> {
+    /// The logs that the words of `ingest` ask for.
+    pub fn of(asked: &'a IngestWords<'a>) -> NewLogs<'a>
+        ensures workers { result.workers ≡ asked.entry.now.workers }
+        ensures segment { result.segment ≡ asked.entry.now.segment }
+        ensures files { result.files.now ≡ asked.entry.now.files.items }
+    {
+        NewLogs {
+            workers: asked.workers,
+            segment: asked.segment,
+            files: asked.files.as_slice(),
+        }
+    }
+}
+
+/// What is refused of a file, by what came of its opening and of its job: that a log could not be opened
+/// goes before what its job met.
+fn refusal_of_file(opening: Option<OpenRefused>, cause: Option<Cause>) -> Option<PartCause>
+    ensures { result ≡ refusal_by opening cause }
+{
+    match opening {
+        Some(OpenRefused::Failed) => return Some(PartCause::OpenFault),
+        Some(OpenRefused::OutOfMemory) => return Some(PartCause::OutOfMemory),
+        None => {}
+    }
+    Some(match cause? {
+        Cause::ReadFault => PartCause::ReadFault,
+        Cause::LineTooLong { line } => PartCause::LineTooLong { line },
+        Cause::TooManyLines => PartCause::TooManyLines,
+        Cause::Full { book, count } => PartCause::Full { book, count },
+        Cause::DiskFault { .. } => PartCause::DiskFault,
+        Cause::OutOfMemory => PartCause::OutOfMemory,
+        Cause::ArchiveFull { end, need } => PartCause::ArchiveFull { end, need },
+    })
+}
+
+/// Tells of each file that there was no memory to begin with it.
+fn refuse_all<'a>(names: &'a [&'a str], taken: &mut Vec<FileReport<'a>>)
+    requires none { taken.old.items ≡ [] }
+    requires room { length names.now ≤ vec_capacity taken.old }
+    ensures names { names_of taken.new.items ≡ map str_bytes names.now }
+    ensures begun { All IsNotBegun taken.new.items }
+{
+    for &name in names {
+        taken.push_reserved(FileReport {
+            name,
+            messages: 0,
+            whole: false,
+            refusal: Some(PartCause::OutOfMemory),
+        });
+    }
+}
+
+/// Logs that were opened, and room for what is made of them.
+struct OpenedLogs<S> {
+    /// The logs, in their order.
+    sources: Vec<LogSource<S>>,
+    /// Room for a job of each.
+    jobs: Vec<Job<LogSource<S>>>,
+    /// Room for why each was not opened.
+    openings: Vec<Option<OpenRefused>>,
+}
+
+/// Opens the logs, with room for their jobs.
+fn open_all<H: Shelf>(
+    alloc: Global,
+    shelf: &mut H,
+    names: &[&str],
+) -> Result<OpenedLogs<H::Src>, AllocError>
+    // what stays
+    ensures content { (n : List ℕ) → H.content shelf.new n ≡ H.content shelf.old n }
+    ensures reads { (n : List ℕ) → H.read_faults shelf.new n ≡ H.read_faults shelf.old n }
+    ensures opens { (n : List ℕ) → H.open_faults shelf.old n ≤ H.open_faults shelf.new n }
+
+    // each in its place, and the room
+    ensures came { IfOk result (λ o.
+        AllZip (CameOf H.Src.left H.Src.name H.Src.faults (H.content shelf.old)
+        (H.open_faults shelf.old) (H.open_faults shelf.new))
+        (map str_bytes names.now) o.sources.items) }
+    ensures none { IfOk result (λ o. (o.jobs.items ≡ []) × (o.openings.items ≡ [])) }
+    ensures room { IfOk result (λ o. (length names.now ≤ vec_capacity o.jobs)
+        × (length names.now ≤ vec_capacity o.openings)) }
+{
+    let openings = Vec::with_capacity(alloc, names.len())?;
+    let jobs = Vec::with_capacity(alloc, names.len())?;
+    match open_logs(alloc, shelf, names) {
+        Ok(sources) => Ok(OpenedLogs {
+            sources,
+            jobs,
+            openings,
+        }),
+        Err(refused) => {
+            jobs.destroy_empty();
+            Err(refused)
+        }
+    }
+}
+
+/// Makes a job of a source. That of a log that was not opened is not read.
+fn begin_job<S>(file: u32, source: LogSource<S>) -> Job<LogSource<S>>
+    ensures file { result.file ≡ file }
+    ensures source { result.source ≡ Some source }
+    ensures opened { result.is_open ≡ is_opened source }
+    ensures new { result.outcome ≡ nothing_done }
+{
+    if source.is_open() {
+        Job::new(file, source)
+    } else {
+        Job::unopened(file, source)
+    }
+}
+
+/// Makes a job of each source, in their order; the files are numbered on from `first`. Tells of each why
+/// its log was not opened.
+fn begin_jobs<S>(
+    first: u32,
+    sources: &mut Vec<LogSource<S>>,
+    jobs: &mut Vec<Job<LogSource<S>>>,
+    openings: &mut Vec<Option<OpenRefused>>,
+)
+    requires few { first + vec_len sources.old ≤ 1048576 }
+    requires none { (jobs.old.items ≡ []) × (openings.old.items ≡ []) }
+    requires room { (vec_len sources.old ≤ vec_capacity jobs.old)
+        × (vec_len sources.old ≤ vec_capacity openings.old) }
+
+    // the jobs
+    ensures numbered { AreNumbered first jobs.new.items }
+    ensures count { vec_len jobs.new ≡ vec_len sources.old }
+    ensures sourced { sources_of jobs.new.items ≡ map Some sources.old.items }
+    ensures opened { opens_of jobs.new.items ≡ map is_opened sources.old.items }
+    ensures openings { openings.new.items ≡ map refusal_of sources.old.items }
+
+    // what is left of the sources
+    ensures sources { sources.new.items ≡ [] }
+    ensures room { vec_capacity sources.new ≡ vec_capacity sources.old }
+{
+    // popped from the last on
+    sources.as_mut_slice().reverse();
+    while let Some(source) = sources.pop() {
+        let file = first + jobs.len() as u32;
+        openings.push_reserved(source.refusal());
+        jobs.push_reserved(begin_job(file, source));
+    }
+}
+
+/// Ends the jobs: their sources are given back, and what came of each file is told in their order.
+fn end_jobs<'a, S>(
+    names: &'a [&'a str],
+    openings: &[Option<OpenRefused>],
+    jobs: &mut Vec<Job<LogSource<S>>>,
+    sources: &mut Vec<LogSource<S>>,
+    taken: &mut Vec<FileReport<'a>>,
+)
+    requires count { (vec_len jobs.old ≡ length names.now)
+        × (length openings.now ≡ length names.now) }
+    requires none { taken.old.items ≡ [] }
+    requires room { length names.now ≤ vec_capacity taken.old }
+    requires no_source { sources.old.items ≡ [] }
+    requires sources { length names.now ≤ vec_capacity sources.old }
+    ensures names { names_of taken.new.items ≡ map str_bytes names.now }
+    ensures told { (i : ℕ) (file : FileReport) → slice_get taken.new.items i ≡ Some file
+        → IsToldBy openings.now jobs.old.items i file }
+    ensures sources { map Some sources.new.items ≡ sources_of jobs.old.items }
+    ensures jobs { jobs.new.items ≡ [] }
+{
+    // popped from the last on
+    jobs.as_mut_slice().reverse();
+    while let Some(job) = jobs.pop() {
+        let outcome = job.outcome();
+        let place = taken.len();
+        let opening = openings[place];
+        taken.push_reserved(FileReport {
+            name: names[place],
+            messages: outcome.messages,
+            whole: outcome.whole,
+            refusal: refusal_of_file(opening, outcome.cause),
+        });
+        sources.push_reserved(job.into_source());
+    }
+}
+
+/// Does the jobs over a journal. Without memory to begin the jobs say so.
+fn do_jobs<'d, R: Threads + Wait + Sync, S: Source + Send, D: Disk + Send>(
+    rt: &R,
+    alloc: Global,
+    asked: NewLogs<'_>,
+    journal: Journal<'d, D>,
+    types: Book,
+    words: Book,
+    jobs: &mut [Job<S>],
+) -> Journal<'d, D>
+    requires workers { (1 ≤ asked.workers) × (asked.workers ≤ 64) }
+    requires segment { (1 ≤ asked.segment) × (asked.segment ≤ 65536) }
+    requires journal { MayOpen (state_of journal) }
+    requires books { HoldTexts (state_of journal) types words }
+    requires jobs { AreNew (first_file jobs.old) (state_of journal) jobs.old }
+    ensures { DidJobs S.left S.name S.faults asked.entry.workers asked.entry.segment
+        journal.entry result jobs.old jobs.new }
+{
+    match ingest(
+        rt,
+        alloc,
+        jobs,
+        asked.workers,
+        asked.segment,
+        journal,
+        types,
+        words,
+    ) {
+        Ok(journal) => journal,
+        Err(refused) => refused.journal,
+    }
+}
+
+/// Takes the logs in as the new files of a journal. Without memory to begin each file is told so.
+fn take_in<'a, 'd, R: Threads + Wait + Sync, H: Shelf, D: Disk + Send>(
+    rt: &R,
+    alloc: Global,
+    asked: NewLogs<'a>,
+    journal: Journal<'d, D>,
+    named: Named,
+    shelf: &mut H,
+    taken: &mut Vec<FileReport<'a>>,
+) -> Journal<'d, D>
+where
+    H::Src: Send,
+    requires workers { (1 ≤ asked.workers) × (asked.workers ≤ 64) }
+    requires segment { (1 ≤ asked.segment) × (asked.segment ≤ 65536) }
+    requires named { IsNamed (state_of journal) named.types named.words named.first
+        (length asked.files.now) }
+    requires none { taken.old.items ≡ [] }
+    requires room { length asked.files.now ≤ vec_capacity taken.old }
+
+    // the disk, and the files
+    ensures goes_on { HasGoneOn journal.entry result }
+    ensures names { names_of taken.new.items ≡ map str_bytes asked.entry.files.now }
+    ensures taken { TakesInto asked.entry.segment (H.content shelf.old)
+        (map str_bytes asked.entry.files.now)
+        named.first (map came_of taken.new.items) (state_of journal.entry)
+        (D.state result.disk.now) }
+    ensures causes { All (CameIn
+        (logs_around H.content H.open_faults H.read_faults shelf.old shelf.new)
+        (into_journal (state_of journal.entry) asked.entry.segment named.first
+        (map str_bytes asked.entry.files.now))
+        (state_of journal.entry).disk (D.state result.disk.now))
+        (map came_of taken.new.items) }
+    ensures in_turn { asked.entry.workers ≡ 1 → AreFullInto (H.content shelf.old)
+        (into_journal (state_of journal.entry) asked.entry.segment named.first
+        (map str_bytes asked.entry.files.now))
+        (map came_of taken.new.items) }
+
+    // the logs
+    ensures logs { (n : List ℕ) → H.content shelf.new n ≡ H.content shelf.old n }
+    ensures opens { (n : List ℕ) → H.open_faults shelf.old n ≤ H.open_faults shelf.new n }
+    ensures reads { (n : List ℕ) → H.read_faults shelf.old n ≤ H.read_faults shelf.new n }
+{
+    let Named {
+        types,
+        words,
+        first,
+    } = named;
+    let Ok(opened) = open_all(alloc, shelf, asked.files) else {
+        refuse_all(asked.files, taken);
+        return journal;
+    };
+    let OpenedLogs {
+        mut sources,
+        mut jobs,
+        mut openings,
+    } = opened;
+    begin_jobs(first, &mut sources, &mut jobs, &mut openings);
+    let journal = do_jobs(rt, alloc, asked, journal, types, words, jobs.as_mut_slice());
+    end_jobs(
+        asked.files,
+        openings.as_slice(),
+        &mut jobs,
+        &mut sources,
+        taken,
+    );
+    jobs.destroy_empty();
+    close_logs(shelf, sources);
+    journal
+}
+
+/// Adds the logs to the archive of a disk. Answers the number of the first new file.
+pub(crate) fn add_files<'a, R: Threads + Wait + Sync, H: Shelf, D: Telling + Send>(
+    rt: &R,
+    alloc: Global,
+    asked: NewLogs<'a>,
+    shelf: &mut H,
+    disk: &mut D,
+    taken: &mut Vec<FileReport<'a>>,
+) -> Result<u32, AddRefusal>
+where
+    H::Src: Send,
+    requires workers { (1 ≤ asked.workers) × (asked.workers ≤ 64) }
+    requires segment { (1 ≤ asked.segment) × (asked.segment ≤ 65536) }
+    requires names { RefusesNames (map str_bytes asked.files.now) None }
+    requires some { 1 ≤ length asked.files.now }
+    requires none { taken.old.items ≡ [] }
+    requires room { length asked.files.now ≤ vec_capacity taken.old }
+
+    // taken in
+    ensures names { OnOk result
+        (names_of taken.new.items ≡ map str_bytes asked.entry.files.now) }
+    ensures number { IfOk result (λ first.
+        OverJournal (D.state disk.old).seen (λ journal. first ≡ length journal.names)) }
+    ensures taken { OnOk result (FromArchive (D.state disk.old) (λ h before bytes stood.
+        TakesIn asked.entry.segment (H.content shelf.old) h before stood
+        (map str_bytes asked.entry.files.now)
+        (map came_of taken.new.items) (D.state disk.old) (D.state disk.new))) }
+    ensures causes { OnOk result (HaveFileCauses
+        (logs_around H.content H.open_faults H.read_faults shelf.old shelf.new)
+        asked.entry.workers asked.entry.segment (D.state disk.old) (D.state disk.new)
+        (map came_of taken.new.items)) }
+
+    // refused
+    ensures nothing { OnErr result (FromArchive (D.state disk.old) (λ h before bytes stood.
+        TakesNothing h before (D.state disk.old) (D.state disk.new))) }
+    ensures cause { IfErr result (HasCallCause (map str_bytes asked.entry.files.now)
+        (D.state disk.old) (D.state disk.new)) }
+
+    // whatever the answer
+    ensures goes_on { DiskGoesOn (D.state disk.old) (D.state disk.new) }
+    ensures logs { (n : List ℕ) → H.content shelf.new n ≡ H.content shelf.old n }
+    ensures opens { (n : List ℕ) → H.open_faults shelf.old n ≤ H.open_faults shelf.new n }
+    ensures reads { (n : List ℕ) → H.read_faults shelf.old n ≤ H.read_faults shelf.new n }
+{
+    check_told(alloc, disk)?;
+    let header = start(disk)?;
+    let mut journal = Journal::begin(disk, header);
+    let named = open_and_register(alloc, &mut journal, asked.files)?;
+    let first = named.first;
+    let _journal = take_in(rt, alloc, asked, journal, named, shelf, taken);
+    Ok(first)
+}
+
+/// Adds logs to an archive, and tells what came of each.
+pub fn ingest_files<R: Threads + Wait + Sync, H: Shelf, D: Telling + Send, K: Sink>(
+    rt: &R,
+    alloc: Global,
+    asked: NewLogs<'_>,
+    shelf: &mut H,
+    disk: &mut D,
+    out: &mut K,
+    err: &mut K,
+) -> u8
+where
+    H::Src: Send,
+    requires workers { (1 ≤ asked.workers) × (asked.workers ≤ 64) }
+    requires segment { (1 ≤ asked.segment) × (asked.segment ≤ 65536) }
+    requires some { 1 ≤ length asked.files.now }
+    ensures names { (refusal : AddRefusal)
+        → RefusesNames (map str_bytes asked.entry.files.now) (Some refusal)
+        → RefusesAtOnce
+        (around H.content H.unread H.open_faults H.read_faults K.written K.faults
+        shelf.old shelf.new out.old out.new err.old err.new)
+        (D.state disk.old) (D.state disk.new) result (of_add refusal) }
+    ensures answers { EndsIngest asked.entry.workers asked.entry.segment
+        (map str_bytes asked.entry.files.now)
+        (around H.content H.unread H.open_faults H.read_faults K.written K.faults
+        shelf.old shelf.new out.old out.new err.old err.new)
+        (D.state disk.old) (D.state disk.new) result }
+
+    // whatever the answer
+    ensures outside { OutsideGoesOn
+        (around H.content H.unread H.open_faults H.read_faults K.written K.faults
+        shelf.old shelf.new out.old out.new err.old err.new) }
+    ensures goes_on { DiskGoesOn (D.state disk.old) (D.state disk.new) }
+    ensures logs { (n : List ℕ) → H.content shelf.new n ≡ H.content shelf.old n }
+{
+    one_list_of_parts();
+    if let Some(refusal) = refuse_names(asked.files) {
+        return report(err, "", refusal_of_add(refusal));
+    }
+    let Ok(mut taken) = Vec::with_capacity(alloc, asked.files.len()) else {
+        return report(err, "", Refusal::OutOfMemory);
+    };
+    match add_files(rt, alloc, asked, shelf, disk, &mut taken) {
+        Ok(first) => {
+            match print_directory(alloc, u64::from(first), taken.as_slice(), out) {
+                Ok(()) => report_taken(err, taken.as_slice()),
+                Err(PrintRefusal::SinkFault) => report(err, "", Refusal::SinkFault),
+                Err(PrintRefusal::OutOfMemory) => report(err, "", Refusal::OutOfMemory),
+            }
+        }
+        Err(refusal) => report(err, "", refusal_of_add(refusal)),
+    }
+}
