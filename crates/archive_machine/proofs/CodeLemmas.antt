@@ -11,6 +11,7 @@ use Rattle.logtype_text.specs.Parts.{Part, Constant, Variable, AreParts, joined,
 use Rattle.logtype_text.specs.TypeText.{type_text}
 use Rattle.time_patterns.proofs.VersionLemmas.{one_stamp_of}
 use Rattle.column_store.specs.declared.row.Row.{Row}
+use Rattle.row_codec.proofs.OneCutLemmas.{one_cut}
 use Rattle.row_codec.specs.Means.{EachWord, HasWord, IsCanonical}
 use Rattle.row_codec.specs.Messages.{IsCutInto}
 use Rattle.row_codec.specs.Naming.{AreNumbers, Known, MeetsLimit, MetLimit}
@@ -184,20 +185,6 @@ same_texts xs ys front long = sym front.1 ∙ ap (λ l. xs ++ l) (none front.0 (
   none : {A : Type 0} (l : List A) → length l ≡ 0 → l ≡ []
   none [] is = refl
   none (x ∷ l) is = absurd (omega (arith, is))
-
--- a message is cut into one list of parts
-same_length_front : (a b c d : List ℕ) → length a ≡ length b → a ++ c ≡ b ++ d → c ≡ d
-same_length_front [] [] c d long is = is
-same_length_front [] (y ∷ b) c d long is = absurd (omega (arith, long))
-same_length_front (x ∷ a) [] c d long is = absurd (omega (arith, long))
-same_length_front (x ∷ a) (y ∷ b) c d long is = same_length_front a b c d (omega (arith, long)) (cc (is))
-
-pub one_cut : OneListOfParts → (version : ℕ) (message : List ℕ) (row : Row) (types words : List (List ℕ)) (parts : List Part) → (is : IsCanonical version row types words message)
-    → IsCutInto version message parts → is.means.parts ≡ parts
-one_cut one version message row types words parts is cut =
-    let stamps = one_stamp_of version message row.pattern cut.pattern row.moment cut.moment (length is.means.stamp) (length cut.stamp) is.stamp cut.stamped in
-    let bodies : joined is.means.parts ≡ joined parts = same_length_front is.means.stamp cut.stamp (joined is.means.parts) (joined parts) stamps.2 (sym is.means.is ∙ cut.is) in
-    one (joined parts) is.means.parts parts (subst (λ l. AreParts l is.means.parts) bodies is.body) cut.body
 
 -- the words of a row have numbers
 has_number : (words : List (List ℕ)) (parts : List Part) (row : List ℕ) (at : ℕ) (text : List ℕ) → EachWord (HasWord words) parts row

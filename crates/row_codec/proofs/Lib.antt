@@ -5,5 +5,6 @@ pub mod EncoderLemmas
 pub mod GrowthLemmas
 pub mod LayoutLemmas
 pub mod MeansLemmas
+pub mod OneCutLemmas
 pub mod OpeningLemmas
 pub mod StampLemmas

@@ -20,6 +20,7 @@ use Rattle.time_patterns.proofs.VersionLemmas.{one_stamp_of}
 use Rattle.record_format.specs.declared.header.Header.{Header}
 use Rattle.record_format.specs.Header.{IsHeader}
 use Rattle.column_store.specs.declared.row.Row.{Row}
+use Rattle.row_codec.proofs.OneCutLemmas.{one_cut}
 use Rattle.row_codec.specs.declared.namer.Which.{Which}
 use Rattle.row_codec.specs.declared.namer.Which.TheVariants.{Types as WhichTypes, Words as WhichWords}
 use Rattle.row_codec.specs.Means.{AreCanonical, EachWord, HasWord, IsCanonical}
@@ -80,14 +81,6 @@ contained xs i x at = (i, slice_get_within xs i x at, get_or_from_slice_get xs i
 abbrev IsEncodedBy : ℕ → Held → List ℕ → Type 0
 IsEncodedBy version held m = (row : Row) × IsCanonical version row held.types held.words m
 
--- a message is cut into the parts of its row
-parts_of_row : OneListOfParts → (version : ℕ) (m : List ℕ) (row : Row) (types words : Texts) (parts : List Part) → (is : IsCanonical version row types words m) → IsCutInto version m parts → is.means.parts ≡ parts
-parts_of_row one version m row types words parts is cut =
-    let stamps = one_stamp_of version m row.pattern cut.pattern row.moment cut.moment (length is.means.stamp) (length cut.stamp) is.stamp cut.stamped in
-    let bodies : joined is.means.parts ≡ joined parts =
-    sym (drop_at is.means.stamp (joined is.means.parts) (length cut.stamp) stamps.2) ∙ (ap (λ bytes. drop (length cut.stamp) bytes) (sym is.means.is ∙ cut.is) ∙ drop_at cut.stamp (joined parts) (length cut.stamp) refl) in
-    one (joined parts) is.means.parts parts (subst (λ body. AreParts body is.means.parts) bodies is.body) cut.body
-
 words_known : (words : Texts) (parts : List Part) (row : List ℕ) → EachWord (HasWord words) parts row → All (Contains words) (word_texts parts)
 words_known words [] row has = All-nil (Contains words)
 words_known words (Constant b ∷ parts) row has = words_known words parts row has
@@ -99,12 +92,12 @@ words_known words (Variable Word text ∷ parts) (w ∷ row) has = All-cons (Con
 module _ (one : OneListOfParts) (version : ℕ) (held : Held) (m text : List ℕ) (by : IsEncodedBy version held m) where
   type_known : IsTypeOf version m text → Contains held.types text
   type_known (parts, cut, is) =
-      let same = parts_of_row one version m by.0 held.types held.words parts by.1 cut in
+      let same = one_cut one version m by.0 held.types held.words parts by.1 cut in
       contained held.types by.0.log_type text (by.1.means.typed ∙ ap (λ (t : List ℕ). Some t) (ap (λ (ps : List Part). type_text (map symbol_of ps)) same ∙ sym is))
 
   word_known : IsWordOf version m text → Contains held.words text
   word_known (parts, cut, is) =
-      let same = parts_of_row one version m by.0 held.types held.words parts by.1 cut in
+      let same = one_cut one version m by.0 held.types held.words parts by.1 cut in
       All-contains (Contains held.words) (word_texts parts) text (words_known held.words parts by.0.words (subst (λ (ps : List Part). EachWord (HasWord held.words) ps by.0.words) same by.1.means.coded)) is
 
 -- ---- what a legal journal holds
