@@ -1,89 +1,65 @@
 //! A file as a disk. It tells no content, and counts one fault for each call that failed.
-ghost use Rattle.std.specs.Prelude.{◌≡◌, ◌≤◌, ◌<◌, ◌+◌, ◌^◌, length, None, IfOk, IfSome, OnOk, option_map};
-ghost use Rattle.log_seams.specs.Disk.{Gave, laid};
+ghost use Rattle.std.specs.Prelude.{◌≡◌, ◌≤◌, ◌+◌, ◌^◌, length, None, IfOk};
 
 use crate::faults::counted;
+use crate::file_id::FileId;
+use crate::locked_file::LockedFile;
+use crate::offsets::read_full;
 use crate::place::{OffsetFile, Place};
 use clp_commands::Telling;
 use log_seams::{Disk, Failed};
 use std::io::{self, ErrorKind};
 
-/// The count of bytes that no file can pass, since the system's offsets are of 63 bits.
-const MOST_BYTES: u64 = (1 << 63) - 1;
-
-/// Reads from an offset into the front of the buffer, until it is full or the file ends. Answers how
-/// many bytes it read. A read that was interrupted is made again.
-pub(crate) fn read_full<F: OffsetFile>(
-    file: &mut F,
-    offset: u64,
-    buf: &mut [u8],
-) -> io::Result<usize>
-    ensures within { IfOk result (λ n. n ≤ length buf.old) }
-    ensures told { IfOk result (λ n. Gave (F.content file.old) offset n buf.old buf.new) }
-    ensures content { F.content file.new ≡ F.content file.old }
-{
-    let wanted = buf.len().min(MOST_BYTES.saturating_sub(offset) as usize);
-    let mut filled = 0;
-    for _ in 0..u64::MAX {
-        if filled >= wanted {
-            return Ok(filled);
-        }
-        let at = offset + filled as u64;
-        match file.read_some(&mut buf[filled..wanted], at) {
-            Ok(0) => return Ok(filled),
-            Ok(count) => filled += count,
-            Err(error) if error.kind() == ErrorKind::Interrupted => {}
-            Err(error) => return Err(error),
-        }
-    }
-    Err(ErrorKind::TimedOut.into())
-}
-
-/// Writes all of `bytes` at an offset. A write that was interrupted is made again.
-pub(crate) fn write_full<F: OffsetFile>(file: &mut F, offset: u64, bytes: &[u8]) -> io::Result<()>
-    requires { offset + length bytes.now ≤ 2 ^ 62 }
-    ensures { IfSome (F.content file.old) (λ old. offset ≤ length old) → OnOk result
-        (F.content file.new ≡ option_map (laid offset bytes.now) (F.content file.old)) }
-{
-    let mut done = 0;
-    for _ in 0..u64::MAX {
-        if done >= bytes.len() {
-            return Ok(());
-        }
-        let at = offset + done as u64;
-        match file.write_some(&bytes[done..], at) {
-            Ok(0) => return Err(ErrorKind::WriteZero.into()),
-            Ok(count) => done += count,
-            Err(error) if error.kind() == ErrorKind::Interrupted => {}
-            Err(error) => return Err(error),
-        }
-    }
-    Err(ErrorKind::TimedOut.into())
-}
-
-/// A file that is opened at the first call that finds it, and made at the first write where nothing
-/// stands at its place.
+/// What is known of the file of a disk.
 #[derive(Drop)]
-struct LazyFile<P, F> {
+enum Held<F: OffsetFile> {
+    /// It is read alone, and opened at the first call that finds it.
+    Reading(Option<F>),
+    /// It may be written: its lock is held.
+    Locked(LockedFile<F>),
+    /// It may be written, and nothing stood at its place: the first write makes it.
+    Absent,
+    /// It was to be written, and could not be opened, or its lock was not to be had.
+    Refused,
+}
+
+/// The file of a place, with what is known of it.
+#[derive(Drop)]
+struct PlacedFile<P, F: OffsetFile> {
     place: P,
-    file: Option<F>,
+    held: Held<F>,
     folder_synced: bool,
 }
 
-impl<P: Place> LazyFile<P, P::File> {
-    /// Opens the file, where it is there and not open yet.
+/// Opens and locks the file of a place, where one is there.
+fn hold<P: Place>(place: &P) -> io::Result<Held<P::File>> {
+    match place.open()? {
+        Some(file) => Ok(Held::Locked(LockedFile::lock(file)?)),
+        None => Ok(Held::Absent),
+    }
+}
+
+/// The failure of a call that the file was not held for.
+fn not_held() -> io::Error {
+    ErrorKind::PermissionDenied.into()
+}
+
+impl<P: Place> PlacedFile<P, P::File> {
+    /// Opens a file that is read alone, where it is there and not open yet.
     fn find(&mut self) -> io::Result<()> {
-        if self.file.is_none() {
-            self.file = self.place.open()?;
+        if let Held::Reading(None) = &self.held {
+            self.held = Held::Reading(self.place.open()?);
         }
         Ok(())
     }
 
     fn len(&mut self) -> io::Result<u64> {
         self.find()?;
-        match &mut self.file {
-            Some(file) => file.len(),
-            None => Ok(0),
+        match &mut self.held {
+            Held::Reading(Some(file)) => file.len(),
+            Held::Locked(locked) => locked.len(),
+            Held::Reading(None) | Held::Absent => Ok(0),
+            Held::Refused => Err(not_held()),
         }
     }
 
@@ -91,33 +67,36 @@ impl<P: Place> LazyFile<P, P::File> {
         ensures { IfOk result (λ n. n ≤ length buf.old) }
     {
         self.find()?;
-        match &mut self.file {
-            Some(file) => read_full(file, at, buf),
-            None => Ok(0),
+        match &mut self.held {
+            Held::Reading(Some(file)) => read_full(file, at, buf),
+            Held::Locked(locked) => locked.read(at, buf),
+            Held::Reading(None) | Held::Absent => Ok(0),
+            Held::Refused => Err(not_held()),
         }
     }
 
     fn write(&mut self, at: u64, bytes: &[u8]) -> io::Result<()>
         requires { at + length bytes.now ≤ 2 ^ 62 }
     {
-        self.find()?;
-        let mut file = match self.file.take() {
-            Some(file) => file,
-            None => self.place.make()?,
-        };
-        let written = write_full(&mut file, at, bytes);
-        self.file = Some(file);
-        written
+        if let Held::Absent = &self.held {
+            self.held = Held::Locked(LockedFile::make(&self.place)?);
+        }
+        match &mut self.held {
+            Held::Locked(locked) => locked.write(at, bytes),
+            Held::Reading(_) | Held::Absent | Held::Refused => Err(not_held()),
+        }
     }
 
     /// The folder is synced once, at the first sync of the file, so that the file's name is as durable
     /// as its bytes.
     fn sync(&mut self) -> io::Result<()> {
         self.find()?;
-        let Some(file) = &mut self.file else {
-            return Ok(());
-        };
-        file.sync()?;
+        match &mut self.held {
+            Held::Reading(Some(file)) => file.sync()?,
+            Held::Locked(locked) => locked.sync()?,
+            Held::Reading(None) | Held::Absent => return Ok(()),
+            Held::Refused => return Err(not_held()),
+        }
         if !self.folder_synced {
             self.place.sync_folder()?;
             self.folder_synced = true;
@@ -128,27 +107,52 @@ impl<P: Place> LazyFile<P, P::File> {
 
 /// The bytes of the file at a place.
 ///
-/// A place at which nothing stands is a disk without bytes, which can be read and synced; the first
-/// write makes the file, and fails where another process made it meanwhile or a link leads nowhere.
-/// A file that can only be read fails at each write.
+/// A place at which nothing stands is a disk without bytes, which can be read and synced.
+///
+/// A disk that is to be written has the lock of its file from before the first call until it is let go.
+/// Where the lock is not to be had each call fails. Where nothing stands yet the first write makes the
+/// file, and fails where another made it meanwhile or a link leads nowhere. A file that can only be read
+/// fails at each write.
 #[derive(Drop)]
-pub(crate) struct DiskFile<P, F> {
-    file: LazyFile<P, F>,
+pub(crate) struct DiskFile<P, F: OffsetFile> {
+    file: PlacedFile<P, F>,
     faults: u64,
 }
 
-impl<P, F> DiskFile<P, F> {
-    /// A disk whose file was not looked for yet.
-    pub(crate) fn new(place: P) -> Self
+impl<P: Place> DiskFile<P, P::File> {
+    /// A disk that is read alone, and takes no lock. Its file was not looked for yet; each write fails.
+    pub(crate) fn to_read(place: P) -> Self
+        ensures { result.faults ≡ 0 }
+    {
+        DiskFile::new(place, Held::Reading(None))
+    }
+
+    /// A disk that may be written. Its file is opened and locked now, where it is there.
+    pub(crate) fn to_write(place: P) -> Self
+        ensures { result.faults ≡ 0 }
+    {
+        let held = hold(&place).unwrap_or(Held::Refused);
+        DiskFile::new(place, held)
+    }
+
+    fn new(place: P, held: Held<P::File>) -> Self
         ensures { result.faults ≡ 0 }
     {
         DiskFile {
-            file: LazyFile {
+            file: PlacedFile {
                 place,
-                file: None,
+                held,
                 folder_synced: false,
             },
             faults: 0,
+        }
+    }
+
+    /// Which file it is, where its lock is held.
+    pub(crate) fn locked_id(&self) -> Option<FileId> {
+        match &self.file.held {
+            Held::Locked(locked) => Some(locked.id()),
+            Held::Reading(_) | Held::Absent | Held::Refused => None,
         }
     }
 }

@@ -1,7 +1,8 @@
 //! A file, a log and a stream for the tests, whose calls are interrupted and give or take a part of
 //! what they are asked for.
-ghost use Rattle.std.specs.Prelude.{◌≤◌, None, length, IfOk};
+ghost use Rattle.std.specs.Prelude.{◌≤◌, None, length, true, IfOk};
 
+use crate::file_id::FileId;
 use crate::log_file::Input;
 use crate::place::{OffsetFile, Place};
 use crate::stream::Output;
@@ -18,7 +19,10 @@ pub(crate) struct Halting<'t> {
     pub(crate) done: usize,
     pub(crate) calls: u64,
     pub(crate) fails: u64,
-    /// What was called, one digit a call: 2 for a sync of the file.
+    /// Whether another has its lock.
+    pub(crate) lock_taken: bool,
+    /// What was called, one digit a call: 2 for a sync of the file, 4 for taking its lock, 5 for a read, 6
+    /// for its length, 7 for a write.
     pub(crate) trace: &'t Cell<u64>,
 }
 
@@ -35,6 +39,7 @@ impl<'t> Halting<'t> {
             done: 0,
             calls: 0,
             fails,
+            lock_taken: false,
             trace,
         }
     }
@@ -92,15 +97,32 @@ impl Output for Halting<'_> {
 impl OffsetFile for Halting<'_> {
     ghost content = { λ _. None };
 
+    ghost is_locked = { λ _. true };
+
+    fn id(&mut self) -> io::Result<FileId> {
+        Ok(FileId::numbered(1))
+    }
+
+    fn take_lock(&mut self) -> io::Result<()> {
+        note(self.trace, 4);
+        if self.lock_taken {
+            return Err(ErrorKind::WouldBlock.into());
+        }
+        Ok(())
+    }
+
     fn len(&mut self) -> io::Result<u64> {
+        note(self.trace, 6);
         Ok(self.bytes.len() as u64)
     }
 
     fn read_some(&mut self, buf: &mut [u8], offset: u64) -> io::Result<usize> {
+        note(self.trace, 5);
         self.give(buf, offset as usize)
     }
 
     fn write_some(&mut self, bytes: &[u8], offset: u64) -> io::Result<usize> {
+        note(self.trace, 7);
         let count = self.share(bytes.len())?;
         self.bytes.truncate(offset as usize);
         self.bytes.extend_from_slice(&bytes[..count])?;
@@ -115,25 +137,56 @@ impl OffsetFile for Halting<'_> {
     ghost bounded = { λ _. tt };
 }
 
-/// A place at which nothing stands, and whose folder fails at its first sync.
+/// A place for one file.
 #[derive(Drop)]
-pub(crate) struct EmptyPlace<'t> {
+pub(crate) struct HaltingPlace<'t> {
     pub(crate) alloc: Global,
+    /// Whether a file stands there.
+    pub(crate) is_there: bool,
+    /// The bytes of the file: of one that is made, those that another wrote before it was locked.
+    pub(crate) bytes: &'t [u8],
+    /// Whether another has the lock of the file.
+    pub(crate) lock_taken: bool,
+    /// Whether a sync of the folder fails.
     pub(crate) folder_fails: bool,
     /// What was called, one digit a call: 1 for making the file, 3 for a sync of the folder.
     pub(crate) trace: &'t Cell<u64>,
 }
 
-impl<'t> Place for EmptyPlace<'t> {
+impl<'t> HaltingPlace<'t> {
+    /// A place at which nothing stands.
+    pub(crate) fn empty(alloc: Global, trace: &'t Cell<u64>) -> HaltingPlace<'t> {
+        HaltingPlace {
+            alloc,
+            is_there: false,
+            bytes: &[],
+            lock_taken: false,
+            folder_fails: false,
+            trace,
+        }
+    }
+
+    fn file(&self) -> io::Result<Halting<'t>> {
+        let bytes = Vec::from_slice(self.alloc, self.bytes)?;
+        let mut file = Halting::new(bytes, u64::MAX, self.trace);
+        file.lock_taken = self.lock_taken;
+        Ok(file)
+    }
+}
+
+impl<'t> Place for HaltingPlace<'t> {
     type File = Halting<'t>;
 
     fn open(&self) -> io::Result<Option<Halting<'t>>> {
+        if self.is_there {
+            return Ok(Some(self.file()?));
+        }
         Ok(None)
     }
 
     fn make(&self) -> io::Result<Halting<'t>> {
         note(self.trace, 1);
-        Ok(Halting::new(Vec::new(self.alloc), u64::MAX, self.trace))
+        self.file()
     }
 
     fn sync_folder(&self) -> io::Result<()> {

@@ -1,8 +1,9 @@
 //! Files as logs. They count one fault for each call that failed.
-ghost use Rattle.std.specs.Prelude.{◌≡◌, ◌<◌, ◌≤◌, ℕ, List, Option, None, IfOk, OnErr, length};
+ghost use Rattle.std.specs.Prelude.{◌≡◌, ◌≢◌, ◌<◌, ◌≤◌, ◌↔◌, ℕ, List, Option, None, Some, IfOk, IsOk, OnErr, length};
 ghost use Rattle.log_seams.specs.Outside.{Takes};
 
 use crate::faults::counted;
+use crate::file_id::FileId;
 use log_seams::{Failed, OpenRefused, Shelf, Source};
 use std::fs::File;
 use std::io::{self, ErrorKind, Read};
@@ -75,23 +76,44 @@ impl<F: Input> Source for LogFile<F> {
     }
 }
 
-/// The files that the runtime can open. It tells no content, and has one count of faults in opening
-/// and one in reading, each for all names.
+/// Refuses as a log the file that is written.
+fn unless_written(written: Option<FileId>, log: FileId) -> io::Result<()>
+    ensures { IsOk result ↔ (written ≢ Some log) }
+{
+    if written == Some(log) {
+        return Err(ErrorKind::InvalidInput.into());
+    }
+    Ok(())
+}
+
+/// The files that the runtime can open, but for the one that is written. It tells no content, and has
+/// one count of faults in opening and one in reading, each for all names.
 #[derive(Drop)]
 pub(crate) struct LogFiles<'r, R> {
     rt: &'r R,
+    written: Option<FileId>,
     open_faults: u64,
     read_faults: u64,
 }
 
 impl<'r, R> LogFiles<'r, R> {
-    /// No file was opened yet.
-    pub(crate) fn new(rt: &'r R) -> Self {
+    /// No file was opened yet. `written` is the file that a command writes, which is no log of its own.
+    pub(crate) fn new(rt: &'r R, written: Option<FileId>) -> Self {
         LogFiles {
             rt,
+            written,
             open_faults: 0,
             read_faults: 0,
         }
+    }
+}
+
+impl<R: Files<File = File>> LogFiles<'_, R> {
+    /// Opens a file, and refuses the one that is written before anything is read of it.
+    fn open_other(&self, name: &str) -> io::Result<File> {
+        let file = File::open(self.rt, name)?;
+        unless_written(self.written, FileId::of(&file)?)?;
+        Ok(file)
     }
 }
 
@@ -107,7 +129,7 @@ impl<R: Files<File = File>> Shelf for LogFiles<'_, R> {
     ghost read_faults = { λ s _. s.read_faults };
 
     fn open_log(&mut self, name: &str) -> Result<LogFile<File>, OpenRefused> {
-        match File::open(self.rt, name) {
+        match self.open_other(name) {
             Ok(file) => Ok(LogFile::new(file)),
             Err(_) => {
                 self.open_faults = self.open_faults.saturating_add(1);

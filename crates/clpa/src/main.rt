@@ -8,11 +8,15 @@ mod disk_tests;
 #[cfg(test)]
 mod edge_tests;
 mod faults;
+mod file_id;
 #[cfg(test)]
 mod halting;
+mod locked_file;
 mod log_file;
+mod offsets;
 mod place;
 mod stream;
+mod writing;
 
 use clp_commands::run;
 use disk_file::DiskFile;
@@ -24,6 +28,7 @@ use std::env;
 use std::io::ErrorKind;
 use std::process::ExitCode;
 use stream::{Standard, Stream};
+use writing::ask_to_write;
 
 /// What the words of the command line behind the program's name give.
 #[derive(Drop)]
@@ -34,6 +39,8 @@ struct CommandLine {
     second: String,
     /// The words of the command, which are all others.
     words: Vec<String>,
+    /// Whether the command may write the archive.
+    writes: bool,
 }
 
 /// Reads the words of the command line.
@@ -55,10 +62,12 @@ fn command_line(rt: &HostRuntime) -> Result<CommandLine, AllocError> {
         Err(_) => {}
     }
     let second = format!(in rt.alloc(); "{archive}.new")?;
+    let writes = ask_to_write(rt.alloc(), words.as_slice())?;
     Ok(CommandLine {
         archive,
         second,
         words,
+        writes,
     })
 }
 
@@ -69,12 +78,18 @@ fn main(rt: HostRuntime) -> ExitCode {
         let _ = err.write(b"clpa: out of memory\n");
         return ExitCode::from(9);
     };
-    let mut logs = LogFiles::new(&rt);
-    let mut archive = DiskFile::new(FilePath {
+    let place = FilePath {
         rt: &rt,
         path: line.archive.as_str(),
-    });
-    let mut second = DiskFile::new(FilePath {
+    };
+    let mut archive = if line.writes {
+        DiskFile::to_write(place)
+    } else {
+        DiskFile::to_read(place)
+    };
+    let mut logs = LogFiles::new(&rt, archive.locked_id());
+    // no command writes it yet
+    let mut second = DiskFile::to_read(FilePath {
         rt: &rt,
         path: line.second.as_str(),
     });

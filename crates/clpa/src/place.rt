@@ -1,9 +1,10 @@
 //! Where a disk's file stands: a path, at which it is opened or made, in a folder that is synced.
-ghost use Rattle.std.specs.Prelude.{◌≡◌, ◌≢◌, ◌<◌, ◌≤◌, ◌+◌, ◌-◌, ◌^◌, ◌↔◌, ◌⊎◌, ℕ, List, Option, length, take, None, Ok, Err, Some, IfOk, IfErr, IfSome, OnErr, IsTrue, option_map};
+ghost use Rattle.std.specs.Prelude.{◌≡◌, ◌≢◌, ◌<◌, ◌≤◌, ◌+◌, ◌-◌, ◌^◌, ◌↔◌, ◌⊎◌, ℕ, Bool, List, Option, length, take, true, None, Ok, Err, Some, IfOk, IfErr, IfSome, OnErr, OnOk, IsTrue, option_map};
 ghost use Rattle.std.specs.IoError.{error_kind};
 ghost use Rattle.log_seams.specs.Disk.{laid};
 ghost use Rattle.clpa.specs.Offset.{GaveSome};
 
+use crate::file_id::FileId;
 use std::fs::{File, OpenOptions};
 use std::io::{self, ErrorKind};
 use std::os::fd::AsRawFd;
@@ -16,8 +17,23 @@ pub(crate) trait OffsetFile: Drop {
     /// Its bytes, where they are told.
     ghost content: { Self → Option (List ℕ) };
 
+    /// Whether its lock is held, which one open file at a time has.
+    ghost is_locked: { Self → Bool };
+
+    /// Which file it is.
+    fn id(&mut self) -> io::Result<FileId>
+        ensures locked { is_locked self.new ≡ is_locked self.old }
+        ensures content { content self.new ≡ content self.old };
+
+    /// Takes its lock, without waiting for it. It is held until the file is let go. What others wrote
+    /// before is there then.
+    fn take_lock(&mut self) -> io::Result<()>
+        ensures locked { OnOk result (is_locked self.new ≡ true) };
+
     /// The count of its bytes.
     fn len(&mut self) -> io::Result<u64>
+        ensures told { IfOk result (λ n. IfSome (content self.old) (λ bytes. n ≡ length bytes)) }
+        ensures locked { is_locked self.new ≡ is_locked self.old }
         ensures content { content self.new ≡ content self.old };
 
     /// Reads some of the bytes from an offset on to the front of `buf`, and answers how many: none
@@ -25,11 +41,14 @@ pub(crate) trait OffsetFile: Drop {
     fn read_some(&mut self, buf: &mut [u8], offset: u64) -> io::Result<usize>
         ensures within { IfOk result (λ n. n ≤ length buf.old) }
         ensures told { IfOk result (λ n. GaveSome (content self.old) offset n buf.new) }
+        ensures locked { is_locked self.new ≡ is_locked self.old }
         ensures content { content self.new ≡ content self.old };
 
     /// Writes some of the first of `bytes` at an offset, and answers how many. A write that failed or
-    /// was interrupted wrote nothing.
+    /// was interrupted wrote nothing. Only a file whose lock is held is written.
     fn write_some(&mut self, bytes: &[u8], offset: u64) -> io::Result<usize>
+        requires lock { is_locked self.old ≡ true }
+        ensures locked { is_locked self.new ≡ true }
         ensures within { IfOk result (λ n. n ≤ length bytes.now) }
         ensures written { IfOk result (λ n. content self.new
             ≡ option_map (laid offset (take n bytes.now)) (content self.old)) }
@@ -37,6 +56,7 @@ pub(crate) trait OffsetFile: Drop {
 
     /// Makes the bytes durable.
     fn sync(&mut self) -> io::Result<()>
+        ensures locked { is_locked self.new ≡ is_locked self.old }
         ensures content { content self.new ≡ content self.old };
 
     /// The system's offsets are of 63 bits.
@@ -45,6 +65,16 @@ pub(crate) trait OffsetFile: Drop {
 
 impl OffsetFile for File {
     ghost content = { λ _. None };
+
+    ghost is_locked = { λ _. true };
+
+    fn id(&mut self) -> io::Result<FileId> {
+        FileId::of(self)
+    }
+
+    fn take_lock(&mut self) -> io::Result<()> {
+        Ok(self.try_lock()?)
+    }
 
     fn len(&mut self) -> io::Result<u64> {
         Ok(self.metadata()?.len())

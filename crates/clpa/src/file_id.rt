@@ -1,0 +1,29 @@
+//! Which file of the system a file is, whatever its name.
+use std::fs::File;
+use std::io;
+use std::os::unix::fs::MetadataExt;
+
+/// The number of a file, and that of the device that has it. Two open files of one identity are one
+/// file.
+#[derive(Clone, Copy, Debug, PartialEq, Eq)]
+pub(crate) struct FileId {
+    device: u64,
+    number: u64,
+}
+
+impl FileId {
+    /// The identity of an open file.
+    pub(crate) fn of(file: &File) -> io::Result<FileId> {
+        let metadata = file.metadata()?;
+        Ok(FileId {
+            device: metadata.dev(),
+            number: metadata.ino(),
+        })
+    }
+
+    /// The identity of a file of the tests.
+    #[cfg(test)]
+    pub(crate) fn numbered(number: u64) -> FileId {
+        FileId { device: 0, number }
+    }
+}
