@@ -1,6 +1,6 @@
 -- Numbers with all their digits: how long they are, what they are made of, and that they tell the number.
-use Rattle.std.proofs.Common.{◌≡◌, ℕ, zero, suc, ◌+◌, ◌*◌, ◌/◌, ◌%◌, ◌^◌, ◌<◌, ◌≤◌, inl, inr, List, [], ◌∷◌, ◌++◌, length, get_or, set, drop, refl, sym, ap, ◌∙◌, arith, add-one, append_assoc}
-use Rattle.std.proofs.lemmas.List.{length_push, length-set, get_or_append_left, get_or_push, get_or-set_same, drop_more, drop-set-lt}
+use Rattle.std.proofs.Common.{◌≡◌, ℕ, zero, suc, ◌+◌, ◌*◌, ◌/◌, ◌%◌, ◌^◌, ◌<◌, ◌≤◌, inl, inr, List, [], ◌∷◌, ◌++◌, length, get_or, refl, arith, add-one}
+use Rattle.std.proofs.lemmas.List.{length_push, get_or_append_left, get_or_push}
 use Rattle.std.proofs.lemmas.Bool.{cases_lt}
 use Rattle.time_patterns.specs.Digits.{digits}
 
@@ -59,20 +59,3 @@ six (a ∷ b ∷ c ∷ []) l = absurd (omega arith)
 six (a ∷ b ∷ c ∷ d ∷ []) l = absurd (omega arith)
 six (a ∷ b ∷ c ∷ d ∷ e ∷ []) l = absurd (omega arith)
 six (a ∷ b ∷ c ∷ d ∷ e ∷ f ∷ g ∷ xs) l = absurd (omega arith)
-
--- the last digit goes to its place
-pub put_digit : (n number p q left : ℕ) (out : List ℕ) → p ≡ q + 1 → q < length out → digits n number ≡ digits p left ++ drop p out → digits n number ≡ digits q (left / 10) ++ drop q (set out q (48 + left % 10))
-unfolding digits
-put_digit n number p q left out e h before =
-    let d = 48 + left % 10 in
-    let long : q < length (set out q d) = omega (arith, length-set out q d) in
-    let next : drop q (set out q d) ≡ d ∷ drop (q + 1) out =
-    drop_more (set out q d) q 0 long ∙ ap (λ x. x ∷ drop (q + 1) (set out q d)) (get_or-set_same out q d 0 h)
-    ∙ ap (λ t. d ∷ t) (drop-set-lt (q + 1) out q d (omega arith)) in
-    let was : digits n number ≡ digits (suc q) left ++ drop (q + 1) out = rw e at before ∙ ap (λ m. digits m left ++ drop (q + 1) out) (add-one q) in
-    was ∙ append_assoc (digits q (left / 10)) (d ∷ []) (drop (q + 1) out) ∙ ap (λ t. digits q (left / 10) ++ t) (sym next)
-
--- no digit is left to write
-pub all_digits : (n number p left : ℕ) (out : List ℕ) → p ≡ 0 → digits n number ≡ digits p left ++ drop p out → out ≡ digits n number
-unfolding digits
-all_digits n number p left out e h = sym (rw e at h)

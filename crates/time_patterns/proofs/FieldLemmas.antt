@@ -1,7 +1,7 @@
 -- Fields one after the other: one more of them, what they tell, and how long they are.
 use Rattle.std.specs.Prelude.{◌≢◌}
 use Rattle.std.proofs.Common.{◌≡◌, ℕ, zero, suc, ◌+◌, ◌^◌, ◌<◌, ◌≤◌, inl, inr, List, [], ◌∷◌, ◌++◌, length, get_or, set, take, drop, Option, Some, None, refl, sym, ap, ◌∙◌, arith, add-one, append_assoc}
-use Rattle.std.proofs.lemmas.List.{append-nil, append_cancel_left, length-append, drop-drop}
+use Rattle.std.proofs.lemmas.List.{append-nil, append_cancel_left, length-append}
 use Rattle.time_patterns.specs.declared.field.Field.{Field}
 use Rattle.time_patterns.specs.Digits.{digits, byte_text, field_text, fields_text, AreWithin}
 use Rattle.time_patterns.specs.Steps.{counts_of, IsFewDigits}
@@ -85,29 +85,6 @@ fields_text-injective (f ∷ fs) (x ∷ xs) (y ∷ ys) t u a b l same =
     let tail : xs ≡ ys = rest.0 in
     (cc, rest.1)
 
-next_text : (fs : List Field) (xs : List ℕ) (i : ℕ) (f : Field) → i < length fs → f ≡ get_or fs i f → fields_text (take (suc i) fs) xs ≡ fields_text (take i fs) xs ++ field_text f (get_or xs i 0)
-unfolding fields_text
-next_text [] xs i f h e = absurd (omega arith)
-next_text (g ∷ fs) xs zero f h e = append-nil (field_text g (get_or xs 0 0)) ∙ ap (λ (a : Field). field_text a (get_or xs 0 0)) (sym e)
-next_text (g ∷ fs) [] (suc i) f h e =
-    ap (λ t. field_text g 0 ++ t) (next_text fs [] i f (omega arith) e)
-    ∙ sym (append_assoc (field_text g 0) (fields_text (take i fs) []) (field_text f 0))
-next_text (g ∷ fs) (x ∷ xs) (suc i) f h e =
-    ap (λ t. field_text g x ++ t) (next_text fs xs i f (omega arith) e)
-    ∙ sym (append_assoc (field_text g x) (fields_text (take i fs) xs) (field_text f (get_or xs i 0)))
-
--- one more field
-pub fields_text-next : (fs : List Field) (xs : List ℕ) (i : ℕ) (f : Field) → i < length fs → f ≡ get_or fs i f → fields_text (take (i + 1) fs) xs ≡ fields_text (take i fs) xs ++ field_text f (get_or xs i 0)
-fields_text-next fs xs i f h e = ap (λ n. fields_text (take n fs) xs) (add-one i) ∙ next_text fs xs i f h e
-
--- the first fields are no longer than all
-pub length-first_fields : (fs : List Field) (xs : List ℕ) (i : ℕ) → length (fields_text (take i fs) xs) ≤ length (fields_text fs xs)
-unfolding fields_text
-length-first_fields fs xs zero = omega arith
-length-first_fields [] xs (suc i) = omega arith
-length-first_fields (f ∷ fs) xs (suc i) =
-    omega (arith, length-append (field_text f (get_or xs 0 0)) (fields_text (take i fs) (drop 1 xs)), length-append (field_text f (get_or xs 0 0)) (fields_text fs (drop 1 xs)), length-first_fields fs (drop 1 xs) i)
-
 -- a byte at most
 pub length-byte_text : (b : Option ℕ) → length (byte_text b) ≤ 1
 length-byte_text None = omega arith
@@ -124,10 +101,6 @@ unfolding fields_text
 length-fields_text [] xs = omega arith
 length-fields_text (f ∷ fs) xs =
     omega (arith, length-append (field_text f (get_or xs 0 0)) (fields_text fs (drop 1 xs)), length-field_text f (get_or xs 0 0), length-byte_text f.before, length-fields_text fs (drop 1 xs))
-
--- lists that agree from a place on agree from a later one on
-pub drop_further : (xs ys : List ℕ) (n k m : ℕ) → m ≡ n + k → drop n xs ≡ drop n ys → drop m xs ≡ drop m ys
-drop_further xs ys n k m e same = rw e (sym (drop-drop k n xs) ∙ ap (drop k) same ∙ drop-drop k n ys)
 
 -- a field without digits is the byte before it
 pub empty_field : (f : Field) (x : ℕ) → f.digits ≡ 0 → field_text f x ≡ byte_text f.before

@@ -1,5 +1,5 @@
 -- What a pattern prints, by the microseconds of its moment.
-use Rattle.std.proofs.Common.{◌≡◌, ℕ, ◌⊎◌, inl, inr, ℤ, pos, ◌*ℤ◌, ◌≤ℤ◌, subst, arith}
+use Rattle.std.proofs.Common.{◌≡◌, ℕ, inl, inr, ℤ, pos, ◌*ℤ◌, ◌≤ℤ◌, subst, arith}
 use Rattle.jiff_core.proofs.SignedLemmas.{signed_arith}
 use Rattle.time_patterns.specs.declared.civil_time.CivilTime.{CivilTime}
 use Rattle.time_patterns.specs.declared.form.Form.{Form}

@@ -10,7 +10,7 @@ mod printing;
 mod reading;
 
 pub use laws::{one_decimal_text, one_whole_text, one_word};
-pub use printing::{decimal_ok, decimal_text, whole_text};
+pub use printing::{append_whole, decimal_ok, decimal_text, whole_text};
 pub use reading::encode;
 
 // The most digits of a decimal.

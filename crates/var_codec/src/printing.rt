@@ -1,11 +1,12 @@
 // From a word back to its text.
-ghost use Rattle.std.specs.Prelude.{◌≡◌, ℕ, ◌+◌, ◌<◌, ◌≤◌, ◌^◌, ◌↔◌, List, ◌++◌, length, take, IsTrue};
+ghost use Rattle.std.specs.Prelude.{◌≡◌, ℕ, ◌+◌, ◌<◌, ◌≤◌, ◌^◌, ◌↔◌, List, ◌++◌, length, take, IsTrue, OnOk, OnErr};
 ghost use Rattle.std.specs.Fmt.{sign_text};
 ghost use Rattle.var_codec.specs.Codes.{Codes, HasText, IsDecimalWord};
 ghost use Rattle.var_codec.specs.Fields.{AreFields, padded};
 
 use crate::{Coded, MAX_DECIMAL_DIGITS};
 use itoa::{Buffer, write_digits};
+use std::alloc::AllocError;
 
 // The bits of a word's number.
 const NUMBER_MASK: u64 = (1 << 54) - 1;
@@ -49,6 +50,17 @@ pub fn whole_text(value: i64, out: &mut [u8; 20]) -> usize
 {
     let mut buffer = Buffer::new();
     put(out, 0, buffer.format(value).as_bytes())
+}
+
+/// Appends a whole number: the one text whose word it is. Without memory nothing is appended.
+#[inline]
+pub fn append_whole(value: i64, out: &mut Vec<u8>) -> Result<(), AllocError>
+    ensures text { OnOk result ((text : List ℕ)
+        × Codes text (Coded.Whole value) × (out.new.items ≡ out.old.items ++ text)) }
+    ensures kept { OnErr result (out.new.items ≡ out.old.items) }
+{
+    let mut buffer = Buffer::new();
+    append(out, buffer.format(value).as_bytes())
 }
 
 /// Whether a number is the word of some decimal: bit 62 is zero, the number of the digits, in bits 8
@@ -116,6 +128,15 @@ fn padded_digits(number: u64) -> [u8; MAX_DECIMAL_DIGITS]
     let mut digits = [b'0'; MAX_DECIMAL_DIGITS];
     let _ = write_digits(number, &mut digits, MAX_DECIMAL_DIGITS);
     digits
+}
+
+// Appends bytes.
+#[inline]
+fn append(out: &mut Vec<u8>, bytes: &[u8]) -> Result<(), AllocError>
+    ensures put { OnOk result (out.new.items ≡ out.old.items ++ bytes.now) }
+    ensures kept { OnErr result (out.new.items ≡ out.old.items) }
+{
+    out.extend_from_slice(bytes)
 }
 
 // Copies the bytes to a place, and gives the place after them.

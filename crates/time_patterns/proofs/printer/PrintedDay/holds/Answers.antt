@@ -1,4 +1,4 @@
-use Rattle.std.proofs.Common.{◌≡◌, ℤ, pos, ◌+ℤ◌, FitsSigned, w64, to_z, of_z, to_z-of_z, rules}
+use Rattle.std.proofs.Common.{pos, ◌+ℤ◌, FitsSigned, w64, to_z-of_z, rules}
 use Rattle.time_patterns.proofs.CivilLemmas.{start_fits, end_fits}
 use Rattle.time_patterns.proofs.printer.PrintedDay.holds.Goals as goal
 

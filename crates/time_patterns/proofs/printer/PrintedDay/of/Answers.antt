@@ -1,4 +1,4 @@
-use Rattle.std.proofs.Common.{◌≡◌, pos, arith, rules}
+use Rattle.std.proofs.Common.{◌≡◌, pos, arith}
 use Rattle.std.specs.Int.{int_div_euclid}
 use Rattle.jiff_core.specs.Date.{epoch_day}
 use Rattle.jiff_core.proofs.DateLemmas.{epoch_day_injective, epoch_day_range}

@@ -1,4 +1,4 @@
-use Rattle.std.proofs.Common.{◌∷◌, ◌++◌, [], ap, ◌∙◌}
+use Rattle.std.proofs.Common.{◌∷◌, ◌++◌, ap, ◌∙◌}
 use Rattle.time_patterns.specs.Digits.{fields_text}
 use Rattle.time_patterns.proofs.shape.Shape.print.Goals as goal
 
