@@ -1,5 +1,5 @@
 use std::alloc::{AllocError, Global};
-use token_rules::{Token, is_delim, is_var, next_token, tokens_partition};
+use token_rules::{Token, TokenReader, is_delim, is_var, next_token, tokens_partition};
 
 #[test]
 fn delimiters_by_the_table(rt: HostRuntime) {
@@ -71,6 +71,19 @@ fn tokens_of(alloc: Global, body: &[u8]) -> Result<Vec<Token>, AllocError> {
     Ok(tokens)
 }
 
+// Whether a reader gives the tokens of a text that are found one by one.
+fn reads_alike(body: &[u8]) -> bool {
+    let mut reader = TokenReader::new(body);
+    let mut from = 0;
+    while let Some(token) = next_token(body, from) {
+        if reader.next_from(from) != Some(token) {
+            return false;
+        }
+        from = token.end;
+    }
+    reader.next_from(from).is_none()
+}
+
 const TOKENS_OF_TEXTS: &[(&[u8], &[(usize, usize, bool)])] = &[
     (b"", &[]),
     (b" \x80=\xFF", &[]),
@@ -112,4 +125,27 @@ fn tokens_of_texts(rt: HostRuntime) -> Result<(), AllocError> {
         }
     }
     Ok(())
+}
+
+// Texts with tokens at the bounds of 64 bytes: up to them, over them, and longer.
+const LONG_TEXTS: &[&[u8]] = &[
+    b"",
+    b"a1",
+    b"0123456789012345678901234567890123456789012345678901234567890123",
+    b"                                                               x=ab  7",
+    b"                                                                x=ab 7",
+    b"cafe                                                     id=container_15, it is be- f, e",
+    b"path=/var/log/app-0123456789abcdefghijklmnopqrstuvwxyzABCDEFGHIJKLMNOPQRSTUVWXYZ_0123.log",
+    b"0123456789abcdef0123456789abcdef0123456789abcdef0123456789abcdef0123456789abcdef",
+    b"\xC3\xBC+-.\\_ request 550e8400-e29b-41d4-a716-446655440000 user=anna took 12.5 ms, [deadbeef]",
+];
+
+#[test]
+fn a_reader_gives_the_same_tokens(rt: HostRuntime) {
+    for &body in LONG_TEXTS {
+        assert!(rt; reads_alike(body), "at {body:?}");
+    }
+    for &(body, _wants) in TOKENS_OF_TEXTS {
+        assert!(rt; reads_alike(body), "at {body:?}");
+    }
 }
