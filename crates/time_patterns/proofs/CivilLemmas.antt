@@ -1,5 +1,6 @@
 -- A moment is that of one time.
 use Rattle.std.proofs.Common.{◌≡◌, ℕ, ◌+◌, ◌*◌, ◌<◌, ℤ, pos, ◌+ℤ◌, ◌*ℤ◌, refl, arith, FitsSigned, w64}
+use Rattle.jiff_core.specs.declared.civil.date.Date.{Date}
 use Rattle.jiff_core.specs.Date.{epoch_day}
 use Rattle.jiff_core.proofs.DateLemmas.{epoch_day_injective, epoch_day_range, epoch_day_same}
 use Rattle.jiff_core.proofs.SignedLemmas.{fits_between, signed_arith}
@@ -7,6 +8,7 @@ use Rattle.time_patterns.specs.declared.civil_time.CivilTime.{CivilTime}
 use Rattle.time_patterns.specs.declared.form.Form.{Form}
 use Rattle.time_patterns.specs.CivilTime.{clock_of, micros_of, numbers_of}
 use Rattle.time_patterns.specs.Forms.{IsTimeOf}
+use Rattle.time_patterns.specs.StepsDay.{start_of}
 
 -- a day's clock
 pub clock_small : (t : CivilTime) → clock_of t < 86_400_000_000
@@ -61,3 +63,14 @@ micros_fit t =
     let range = epoch_day_range t.date in
     let clock = clock_small t in
     fits_between w64 (micros_of t) (omega (arith, signed_arith), omega (arith, signed_arith))
+
+-- the microseconds at which a day begins and ends fit a word
+pub start_fits : (d : Date) → FitsSigned w64 (start_of d)
+start_fits d =
+    let range = epoch_day_range d in
+    fits_between w64 (start_of d) (omega (arith, signed_arith), omega (arith, signed_arith))
+
+pub end_fits : (d : Date) → FitsSigned w64 (start_of d +ℤ pos 86_399_999_999)
+end_fits d =
+    let range = epoch_day_range d in
+    fits_between w64 (start_of d +ℤ pos 86_399_999_999) (omega (arith, signed_arith), omega (arith, signed_arith))

@@ -1,9 +1,10 @@
 -- Fields one after the other: one more of them, what they tell, and how long they are.
-use Rattle.std.proofs.Common.{◌≡◌, ℕ, zero, suc, ◌+◌, ◌^◌, ◌<◌, ◌≤◌, List, [], ◌∷◌, ◌++◌, length, get_or, set, take, drop, Option, Some, None, refl, sym, ap, ◌∙◌, arith, add-one, append_assoc}
+use Rattle.std.specs.Prelude.{◌≢◌}
+use Rattle.std.proofs.Common.{◌≡◌, ℕ, zero, suc, ◌+◌, ◌^◌, ◌<◌, ◌≤◌, inl, inr, List, [], ◌∷◌, ◌++◌, length, get_or, set, take, drop, Option, Some, None, refl, sym, ap, ◌∙◌, arith, add-one, append_assoc}
 use Rattle.std.proofs.lemmas.List.{append-nil, append_cancel_left, length-append, drop-drop}
 use Rattle.time_patterns.specs.declared.field.Field.{Field}
 use Rattle.time_patterns.specs.Digits.{digits, byte_text, field_text, fields_text, AreWithin}
-use Rattle.time_patterns.specs.Steps.{counts_of}
+use Rattle.time_patterns.specs.Steps.{counts_of, IsFewDigits}
 use Rattle.time_patterns.proofs.DigitLemmas.{append_split, length-digits, digits-injective}
 
 -- a field's text is equally long at each number
@@ -127,3 +128,14 @@ length-fields_text (f ∷ fs) xs =
 -- lists that agree from a place on agree from a later one on
 pub drop_further : (xs ys : List ℕ) (n k m : ℕ) → m ≡ n + k → drop n xs ≡ drop n ys → drop m xs ≡ drop m ys
 drop_further xs ys n k m e same = rw e (sym (drop-drop k n xs) ∙ ap (drop k) same ∙ drop-drop k n ys)
+
+-- a field without digits is the byte before it
+pub empty_field : (f : Field) (x : ℕ) → f.digits ≡ 0 → field_text f x ≡ byte_text f.before
+unfolding digits
+empty_field f x e = rw e (append-nil (byte_text f.before))
+
+-- what has neither three digits nor six has none
+pub no_digits : (n : ℕ) → IsFewDigits n → n ≢ 3 → n ≢ 6 → n ≡ 0
+no_digits n (inl h) three six = h
+no_digits n (inr (inl h)) three six = absurd (three h)
+no_digits n (inr (inr h)) three six = absurd (six h)

@@ -4,7 +4,9 @@ pub mod DayLemmas
 pub mod DigitLemmas
 pub mod FieldLemmas
 pub mod LawLemmas
+pub mod PairLemmas
 pub mod PlaceLemmas
+pub mod PrintedLemmas
 pub mod ShapeLemmas
 pub mod StampLemmas
 pub mod TailLemmas

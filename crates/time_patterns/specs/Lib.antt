@@ -4,3 +4,4 @@ pub mod Forms
 pub mod Laws
 pub mod Stamps
 pub mod Steps
+pub mod StepsDay

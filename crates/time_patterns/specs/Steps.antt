@@ -25,6 +25,10 @@ IsField field text x rest = (text ≡ field_text field x ++ rest) × (x < 10 ^ f
 abbrev pub LacksField : Field → List ℕ → Type 0
 LacksField field text = (x : ℕ) (rest : List ℕ) → text ≢ field_text field x ++ rest
 
+-- as a fraction has: none, three or six
+abbrev pub IsFewDigits : ℕ → Type 0
+IsFewDigits n = (n ≡ 0) ⊎ ((n ≡ 3) ⊎ (n ≡ 6))
+
 -- the whole text is the number
 abbrev pub IsNumber : List ℕ → ℕ → Type 0
 IsNumber text x = (text ≡ digits (length text) x) × (x < 10 ^ length text)

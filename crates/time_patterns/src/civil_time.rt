@@ -1,10 +1,11 @@
 //! A day of the calendar with a time of that day, and the microseconds that count to it.
 ghost use Rattle.std.specs.Prelude.{◌≡◌, ◌≢◌, ◌%◌, ◌<◌, ◌≤◌, ◌⊎◌, pos, ◌*ℤ◌, ◌≤ℤ◌, IfSome, IfNone};
 
+use crate::digits::two_digits;
 use jiff_core::civil::Date;
 
-// The microseconds of a day.
-const DAY: i64 = 86_400_000_000;
+/// The microseconds of a day.
+pub const DAY: i64 = 86_400_000_000;
 
 /// A day of the proleptic Gregorian calendar, and a time of that day.
 #[derive(Clone, Copy, Debug)]
@@ -22,8 +23,9 @@ pub struct CivilTime {
 
 impl CivilTime {
     ghost use Rattle.time_patterns.specs.declared.civil_time.CivilTime.{CivilTime};
-    ghost use Rattle.time_patterns.specs.CivilTime.{micros_of, numbers_of};
+    ghost use Rattle.time_patterns.specs.CivilTime.{clock_of, micros_of};
     ghost use Rattle.time_patterns.specs.Steps.{HasNumbers, NoneHasNumbers};
+    ghost use Rattle.time_patterns.specs.StepsDay.{clock_text};
 
     /// The time with these numbers: the years after `first_year`, the month, the day, the hour,
     /// the minute and the second. `None` where the calendar lacks the day or a day lacks the time.
@@ -93,19 +95,15 @@ impl CivilTime {
         }
     }
 
-    /// The numbers of the time, as [`CivilTime::new`] takes them.
-    pub fn numbers(self, first_year: u16) -> [u32; 6]
-        requires after { pos first_year ≤ℤ self.date.year }
-        ensures { result ≡ numbers_of first_year self }
+    /// The two digits of the hour, the minute and the second.
+    #[inline(always)]
+    pub fn clock_digits(self) -> [u8; 6]
+        ensures { result ≡ clock_text self }
     {
-        [
-            u32::from(self.date.year as u16 - first_year),
-            self.date.month as u32,
-            self.date.day as u32,
-            u32::from(self.hour),
-            u32::from(self.minute),
-            u32::from(self.second),
-        ]
+        let [a, b] = two_digits(u32::from(self.hour));
+        let [c, d] = two_digits(u32::from(self.minute));
+        let [e, f] = two_digits(u32::from(self.second));
+        [a, b, c, d, e, f]
     }
 
     /// The time so many microseconds after 1970-01-01T00:00:00, where the calendar reaches it.
@@ -116,14 +114,23 @@ impl CivilTime {
         let Ok(date) = Date::from_unix_epoch_day(micros.div_euclid(DAY)) else {
             return None;
         };
-        let clock = micros.rem_euclid(DAY) as u64;
-        let seconds = clock / 1_000_000;
-        Some(CivilTime {
+        Some(CivilTime::on(date, micros.rem_euclid(DAY) as u64))
+    }
+
+    /// The time so many microseconds after the day began.
+    #[inline(always)]
+    pub fn on(date: Date, clock: u64) -> CivilTime
+        requires { clock < 86_400_000_000 }
+        ensures date { result.date ≡ date }
+        ensures clock { clock_of result ≡ clock }
+    {
+        let seconds = (clock / 1_000_000) as u32;
+        CivilTime {
             date,
             hour: (seconds / 3600) as u8,
             minute: (seconds / 60 % 60) as u8,
             second: (seconds % 60) as u8,
             microsecond: (clock % 1_000_000) as u32,
-        })
+        }
     }
 }

@@ -1,7 +1,9 @@
 //! One number of a stamp's text: read and written with all its digits.
 ghost use Rattle.time_patterns.specs.Digits.{digits, byte_text};
 ghost use Rattle.time_patterns.specs.Steps.{IsNumber};
-ghost use Rattle.std.specs.Prelude.{◌≡◌, ◌≢◌, ℕ, List, ◌+◌, ◌*◌, ◌^◌, ◌<◌, ◌≤◌, ◌++◌, length, take, drop, IfSome, IfNone};
+ghost use Rattle.std.specs.Prelude.{◌≡◌, ◌≢◌, ℕ, List, ◌+◌, ◌^◌, ◌<◌, ◌≤◌, ◌++◌, length, take, IfSome, IfNone};
+
+use crate::digits::{ROOM, put, six_digits, three_digits};
 
 /// A number of a stamp's text: how many digits it has, and the byte that stands before it.
 #[derive(Clone, Copy, Debug)]
@@ -12,7 +14,7 @@ pub struct Field {
 
 impl Field {
     ghost use Rattle.time_patterns.specs.Digits.{field_text};
-    ghost use Rattle.time_patterns.specs.Steps.{IsField, LacksField};
+    ghost use Rattle.time_patterns.specs.Steps.{IsField, IsFewDigits, LacksField};
 
     /// Reads the byte and the number at the front of the text, and gives what is left of it.
     /// `None` where they do not stand there.
@@ -27,18 +29,25 @@ impl Field {
         Some((read_digits(front)?, rest))
     }
 
-    /// Writes the byte and the number at the place, and gives the place behind them.
-    pub fn write(&self, number: u32, out: &mut [u8], at: usize) -> usize
-        requires { at + length (field_text self.now number) ≤ length out.old }
+    /// Writes the byte and the number at the place, and gives the place behind them. The number has
+    /// three digits or six, or none.
+    #[inline(always)]
+    pub fn write(&self, number: u32, out: &mut [u8; ROOM], at: usize) -> usize
+        requires digits { IsFewDigits self.now.digits }
+        requires number { number < 10 ^ self.now.digits }
+        requires room { at + length (field_text self.now number) ≤ 32 }
         ensures text { take result out.new ≡ take at out.old ++ field_text self.now number }
-        ensures rest { drop result out.new ≡ drop result out.old }
         ensures end { result ≡ at + length (field_text self.now number) }
     {
         let at = write_byte(self.before, out, at);
-        let end = at + usize::from(self.digits);
-        let part = &mut out[at..end];
-        write_digits(part, number);
-        end
+        let digits = self.digits;
+        if digits == 3 {
+            return put(out, at, &three_digits(number));
+        }
+        if digits == 6 {
+            return put(out, at, &six_digits(number));
+        }
+        at
     }
 }
 
@@ -58,10 +67,10 @@ pub fn skip_byte(byte: Option<u8>, text: &[u8]) -> Option<&[u8]>
 }
 
 /// Writes the byte at the place, if there is one, and gives the place behind it.
-pub fn write_byte(byte: Option<u8>, out: &mut [u8], at: usize) -> usize
-    requires { at + length (byte_text byte) ≤ length out.old }
+#[inline(always)]
+pub fn write_byte(byte: Option<u8>, out: &mut [u8; ROOM], at: usize) -> usize
+    requires { at + length (byte_text byte) ≤ 32 }
     ensures text { take result out.new ≡ take at out.old ++ byte_text byte }
-    ensures rest { drop result out.new ≡ drop result out.old }
     ensures end { result ≡ at + length (byte_text byte) }
 {
     let Some(byte) = byte else {
@@ -86,15 +95,4 @@ fn read_digits(text: &[u8]) -> Option<u32>
         number = number * 10 + u32::from(*byte - b'0');
     }
     Some(number)
-}
-
-// Fills the bytes with the last digits of the number.
-fn write_digits(out: &mut [u8], number: u32)
-    ensures { out.new ≡ digits (length out.old) number }
-{
-    let mut left = number;
-    for place in (0..out.len()).rev() {
-        out[place] = b'0' + (left % 10) as u8;
-        left /= 10;
-    }
 }

@@ -1,12 +1,13 @@
 //! The form of a pattern, and what is read and printed by it.
-ghost use Rattle.std.specs.Prelude.{◌≡◌, ◌≢◌, ℕ, ℤ, pos, ◌*ℤ◌, List, ◌+◌, ◌/◌, ◌%◌, ◌^◌, ◌<◌, ◌≤◌, ◌↔◌, ◌++◌, length, take, drop, IsTrue, IfSome, IfNone};
+ghost use Rattle.std.specs.Prelude.{◌≡◌, ◌≢◌, ℕ, ℤ, pos, ◌*ℤ◌, List, ◌+◌, ◌/◌, ◌%◌, ◌^◌, ◌<◌, ◌≤◌, ◌↔◌, ◌++◌, length, take, IsTrue, IfSome, IfNone};
 ghost use Rattle.time_patterns.specs.Stamps.{EndsStamp};
 ghost use Rattle.time_patterns.specs.Forms.{fraction_text};
-ghost use Rattle.time_patterns.specs.Steps.{digits_of, IsFraction, LacksFraction};
+ghost use Rattle.time_patterns.specs.Steps.{digits_of, IsFewDigits, IsFraction, LacksFraction};
 
 use crate::civil_time::CivilTime;
+use crate::digits::ROOM;
 use crate::field::{self, Field};
-use crate::shape::{self, Shape};
+use crate::shape::Shape;
 use token_rules::is_delim;
 
 /// The form of a pattern: how its text begins, the fraction of the second if it has one, the byte
@@ -35,10 +36,12 @@ fn read_fraction(fraction: Option<Field>, text: &[u8]) -> Option<(u32, &[u8])>
 }
 
 // Writes the fraction at the place, if there is to be one, and gives the place behind it.
-fn write_fraction(fraction: Option<Field>, number: u32, out: &mut [u8], at: usize) -> usize
-    requires { at + length (fraction_text fraction number) ≤ length out.old }
+#[inline(always)]
+fn write_fraction(fraction: Option<Field>, number: u32, out: &mut [u8; ROOM], at: usize) -> usize
+    requires digits { IsFewDigits (digits_of fraction) }
+    requires number { number < 10 ^ digits_of fraction }
+    requires room { at + length (fraction_text fraction number) ≤ 32 }
     ensures text { take result out.new ≡ take at out.old ++ fraction_text fraction number }
-    ensures rest { drop result out.new ≡ drop result out.old }
     ensures end { result ≡ at + length (fraction_text fraction number) }
 {
     match fraction {
@@ -63,6 +66,7 @@ impl Form {
     ghost use Rattle.time_patterns.specs.Steps.{IsSound, IsTail, LacksTail};
     ghost use Rattle.time_patterns.specs.Forms.{IsTimeOf, text_of};
     ghost use Rattle.time_patterns.specs.CivilTime.{micros_of};
+    ghost use Rattle.time_patterns.specs.StepsDay.{date_text};
 
     /// Reads what stands behind the seconds, and gives the microseconds of the second and what is
     /// left of the text. `None` where it does not stand there, or what follows does not end a
@@ -81,14 +85,23 @@ impl Form {
         Some((number * self.unit, rest))
     }
 
+    /// The microseconds from 1970-01-01T00:00:00 to the moment, where some time can be as many.
+    #[inline(always)]
+    pub fn micros(&self, moment: i64) -> Option<i64>
+        requires { IsSound self.now }
+        ensures some { IfSome result (λ n. n ≡ moment *ℤ pos self.now.tick) }
+        ensures none { IfNone result ((c : CivilTime) → micros_of c ≢ moment *ℤ pos self.now.tick) }
+    {
+        moment.checked_mul(i64::from(self.tick))
+    }
+
     /// The time of the moment, where the calendar reaches it.
     pub fn time(&self, moment: i64) -> Option<CivilTime>
         requires { IsSound self.now }
         ensures some { IfSome result (λ c. micros_of c ≡ moment *ℤ pos self.now.tick) }
         ensures none { IfNone result ((c : CivilTime) → micros_of c ≢ moment *ℤ pos self.now.tick) }
     {
-        let micros = moment.checked_mul(i64::from(self.tick))?;
-        CivilTime::at(micros)
+        CivilTime::at(self.micros(moment)?)
     }
 
     /// Whether the form prints that time: it is in its years, and a whole number of its units.
@@ -102,15 +115,16 @@ impl Form {
             && time.microsecond.is_multiple_of(self.unit)
     }
 
-    /// Prints the time, and gives the length of its text.
-    pub fn print(&self, time: CivilTime, out: &mut [u8; 32]) -> usize
+    /// Prints the time, and gives the length of its text. The digits of its date are given.
+    #[inline(always)]
+    pub fn print(&self, time: CivilTime, date: [u8; 8], out: &mut [u8; ROOM]) -> usize
         requires sound { IsSound self.now }
         requires shown { IsTimeOf self.now time }
+        requires date { date ≡ date_text time.date }
         ensures text { take result out.new ≡ text_of self.now time }
         ensures end { result ≤ 32 }
     {
-        let numbers = time.numbers(self.shape.first_year());
-        let at = shape::write_numbers(&self.shape.fields(), &numbers, out);
+        let at = self.shape.print(time, date, out);
         let at = write_fraction(self.fraction, time.microsecond / self.unit, out, at);
         field::write_byte(self.close, out, at)
     }

@@ -7,11 +7,14 @@
 #![tactic(auto)]
 
 mod civil_time;
+mod digits;
 mod field;
 mod form;
 pub mod laws;
 mod patterns;
+mod printer;
 mod shape;
 mod stamps;
 
+pub use printer::StampPrinter;
 pub use stamps::{Stamp, print_stamp, read_micro, read_stamp, stamp_ok};

@@ -1,9 +1,15 @@
 //! How the texts of stamps begin: the day and the time of day, in five shapes.
-ghost use Rattle.std.specs.Prelude.{◌≡◌, ◌≢◌, ℕ, List, ◌+◌, ◌≤◌, ◌++◌, length, take, drop, All, Some, IfSome, IfNone};
+ghost use Rattle.std.specs.Prelude.{◌≡◌, ◌≢◌, ℕ, List, ◌+◌, ◌≤◌, ◌++◌, length, take, All, Some, None, IfSome, IfNone, pos, ◌≤ℤ◌};
 ghost use Rattle.time_patterns.specs.declared.field.Field.{Field};
 ghost use Rattle.time_patterns.specs.Digits.{AreWithin, fields_text};
 ghost use Rattle.time_patterns.specs.Steps.{AreFields, IsOnlyShape, LacksFields, MayBegin};
+ghost use Rattle.time_patterns.specs.declared.civil_time.CivilTime.{CivilTime};
+ghost use Rattle.time_patterns.specs.CivilTime.{numbers_of};
+ghost use Rattle.time_patterns.specs.Forms.{day_and_time, fields_of, year};
+ghost use Rattle.time_patterns.specs.StepsDay.{clock_text, date_text};
 
+use crate::civil_time::CivilTime;
+use crate::digits::{ROOM, put};
 use crate::field::Field;
 
 /// What stands before and between the numbers of a day and a time.
@@ -68,7 +74,7 @@ const SHORTEST: usize = 17;
 
 impl Shape {
     ghost use Rattle.time_patterns.specs.declared.shape.Shape.{Shape};
-    ghost use Rattle.time_patterns.specs.Forms.{fields_of, first_year, last_year};
+    ghost use Rattle.time_patterns.specs.Forms.{first_year, last_year};
 
     /// The year, the month, the day, the hour, the minute and the second, in order.
     #[inline(always)]
@@ -148,6 +154,30 @@ impl Shape {
             Shape::Short => read_numbers(&Shape::Short.fields(), text),
         }
     }
+
+    /// Writes the day and the time of day to the front of `out`, and gives the place behind them.
+    /// The digits of the date are given.
+    #[inline(always)]
+    pub fn print(self, time: CivilTime, date: [u8; 8], out: &mut [u8; ROOM]) -> usize
+        requires from { pos (first_year self) ≤ℤ time.date.year }
+        requires to { time.date.year ≤ℤ pos (last_year self) }
+        requires date { date ≡ date_text time.date }
+        ensures text { take result out.new
+            ≡ fields_text (fields_of self) (numbers_of (first_year self) time) }
+        ensures end { result ≤ 20 }
+    {
+        let clock = time.clock_digits();
+        match self {
+            Shape::Dashed => put(out, 0, &long_front(date, clock, b'-', b' ')),
+            Shape::Lettered => put(out, 0, &long_front(date, clock, b'-', b'T')),
+            Shape::Bracketed => {
+                let at = put(out, 0, b"[");
+                put(out, at, &long_front(date, clock, b'-', b' '))
+            }
+            Shape::Slashed => put(out, 0, &long_front(date, clock, b'/', b' ')),
+            Shape::Short => put(out, 0, &short_front(date, clock)),
+        }
+    }
 }
 
 // The numbers at the front of the text, each with the byte before it, and what is left of it.
@@ -167,17 +197,30 @@ fn read_numbers<'a>(fields: &[Field; 6], text: &'a [u8]) -> Option<([u32; 6], &'
     Some((numbers, rest))
 }
 
-/// Writes the numbers to the front of `out`, each with the byte before it, and gives the place
-/// behind them.
-pub fn write_numbers(fields: &[Field; 6], numbers: &[u32; 6], out: &mut [u8]) -> usize
-    requires room { length (fields_text fields.now numbers.now) ≤ length out.old }
-    ensures text { take result out.new ≡ fields_text fields.now numbers.now }
-    ensures rest { drop result out.new ≡ drop result out.old }
-    ensures end { result ≡ length (fields_text fields.now numbers.now) }
+// The day and the time of day after a year of four digits, with a byte within the date and one
+// behind it.
+#[inline(always)]
+fn long_front(date: [u8; 8], clock: [u8; 6], between: u8, middle: u8) -> [u8; 19]
+    ensures { (t : CivilTime) → date ≡ date_text t.date → clock ≡ clock_text t
+        → result ≡ fields_text (day_and_time (year None) between middle) (numbers_of 0 t) }
 {
-    let mut at = 0;
-    for (place, field) in fields.iter().enumerate() {
-        at = field.write(numbers[place], out, at);
-    }
-    at
+    let [a, b, c, d, e, f, g, h] = date;
+    let [i, j, k, l, m, n] = clock;
+    [
+        a, b, c, d, between, e, f, between, g, h, middle, i, j, b':', k, l, b':', m, n,
+    ]
+}
+
+// The same after the last two digits of a year from 2000 to 2099.
+#[inline(always)]
+fn short_front(date: [u8; 8], clock: [u8; 6]) -> [u8; 17]
+    ensures { (t : CivilTime) → pos 2000 ≤ℤ t.date.year → t.date.year ≤ℤ pos 2099
+        → date ≡ date_text t.date → clock ≡ clock_text t
+        → result ≡ fields_text (fields_of Shape.Short) (numbers_of 2000 t) }
+{
+    let [_, _, c, d, e, f, g, h] = date;
+    let [i, j, k, l, m, n] = clock;
+    [
+        c, d, b'/', e, f, b'/', g, h, b' ', i, j, b':', k, l, b':', m, n,
+    ]
 }

@@ -5,6 +5,7 @@ ghost use Rattle.time_patterns.specs.Stamps.{HasNoStamp, IsPrintable, IsStampOf,
 ghost use Rattle.time_patterns.specs.Steps.{IsFirstFit, IsFirstTail, IsSound, IsTail, LacksTail, LackTails, NoneFits};
 
 use crate::civil_time::CivilTime;
+use crate::digits::date_digits;
 use crate::form::Form;
 use crate::patterns::{FORMS, form_of};
 use crate::shape::Shape;
@@ -132,7 +133,7 @@ pub fn print_stamp(pattern: u8, moment: i64, out: &mut [u8; 32]) -> usize
         unreachable!();
     };
     match form.time(moment) {
-        Some(time) => form.print(time, out),
+        Some(time) => form.print(time, date_digits(time.date), out),
         None => unreachable!(),
     }
 }

@@ -1,18 +1,13 @@
-use Rattle.std.proofs.Common.{◌≡◌, ◌+◌, ◌-◌, ◌∙◌, ◌≤◌, length, drop, arith}
-use Rattle.std.proofs.lemmas.Slice.{drop-put_mid}
-use Rattle.std.proofs.lemmas.List.{length-take, length-drop}
-use Rattle.time_patterns.proofs.FieldLemmas.{length-field_text, drop_further}
+use Rattle.std.proofs.Common.{◌++◌, ◌∙◌, ◌+◌, length, take, sym, ap}
+use Rattle.time_patterns.proofs.FieldLemmas.{empty_field, no_digits}
 use Rattle.time_patterns.proofs.field.Field.write.Goals as goal
 
-pub slice_bounds-part-end : goal.slice_bounds-part-end
-slice_bounds-part-end c = omega (arith, length-field_text c.args.self.now c.args.number)
+pub returns-clause-text : goal.returns-clause-text
+returns-clause-text c =
+    let none = no_digits c.args.self.now.digits c.requires.digits c.if-digits-eq3.false c.if-digits-eq6.false in
+    c.write_byte-at.ensures.text ∙ ap (λ t. take c.args.at c.args.out.now ++ t) (sym (empty_field c.args.self.now c.args.number none))
 
-pub returns-clause-rest : goal.returns-clause-rest
-returns-clause-rest c =
-    let a = c.write_byte-at.result in
-    let d = c.from.result in
-    let held = c.write_byte-at.new.out in
-    let room : a + d ≤ length held = omega (arith, length-field_text c.args.self.now c.args.number, c.write_byte-at.auto.out) in
-    let long : length c.write_digits.new.out ≡ a + d - a = omega (arith, c.write_digits.auto.out, length-take (a + d - a) (drop a held), length-drop a held) in
-    drop-put_mid a (a + d - a) held c.write_digits.new.out (a + d) (omega arith) (omega arith) long
-    ∙ drop_further held c.args.out.now a d (a + d) (omega arith) c.write_byte-at.ensures.rest
+pub returns-clause-end : goal.returns-clause-end
+returns-clause-end c =
+    let none = no_digits c.args.self.now.digits c.requires.digits c.if-digits-eq3.false c.if-digits-eq6.false in
+    c.write_byte-at.ensures.end ∙ ap (λ t. c.args.at + length t) (sym (empty_field c.args.self.now c.args.number none))
