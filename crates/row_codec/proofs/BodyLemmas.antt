@@ -109,7 +109,7 @@ abbrev pub IsPlain : ℕ → Type 0
 IsPlain b = is_escaped b ≡ false
 
 -- constants that stand in the text as they are
-plain_text : (b : ℕ) → is_escaped b ≡ false → text_of_symbol (Byte b) ≡ b ∷ []
+pub plain_text : (b : ℕ) → is_escaped b ≡ false → text_of_symbol (Byte b) ≡ b ∷ []
 plain_text b plain = ap (λ t. cond t (0x5C ∷ b ∷ []) (b ∷ [])) plain
 
 pub body_plain : (words : List (List ℕ)) (bytes rest row body : List ℕ) → All IsPlain bytes → IsBody words (bytes ++ rest) row body → (tail : List ℕ) × IsBody words rest row tail × (body ≡ bytes ++ tail)

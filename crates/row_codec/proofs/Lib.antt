@@ -3,6 +3,7 @@ pub mod CanonicalLemmas
 pub mod CutTextLemmas
 pub mod EncoderLemmas
 pub mod GrowthLemmas
+pub mod LayoutLemmas
 pub mod MeansLemmas
 pub mod OpeningLemmas
 pub mod StampLemmas

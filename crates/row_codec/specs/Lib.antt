@@ -7,4 +7,5 @@ pub mod Numbers
 pub mod Steps
 pub mod StepsBody
 pub mod StepsCut
+pub mod StepsLayouts
 pub mod StepsOpening

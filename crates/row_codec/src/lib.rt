@@ -11,20 +11,24 @@ mod encoder;
 mod expanding;
 mod fitting;
 mod laws;
+mod layouts;
 mod message;
 mod namer;
 mod names;
 mod opening;
+mod writer;
 
 pub use canonical::row_ok;
 pub use encoder::Encoder;
 pub use expanding::{expand, expand_onto, write_fitting, write_onto};
 pub use fitting::row_fits;
 pub use laws::{canonical_stays, means_one, one_row};
+pub use layouts::Layouts;
 use logtype_text::MAX_WORD_LEN;
 pub use message::{Encoded, encode_message};
 pub use namer::{NameRefusal, Namer, Which};
 pub use names::Names;
+pub use writer::RowWriter;
 
 /// The most bytes that a message may have.
 pub const MAX_MESSAGE_LEN: usize = MAX_WORD_LEN;
