@@ -1,15 +1,15 @@
 -- Runs of constants with slots behind them.
-use Rattle.std.proofs.Common.{◌≡◌, ℕ, ◌-◌, ◌+◌, ◌≤◌, ◌<◌, List, [], ◌∷◌, ◌++◌, length, get_or, take, drop, map, refl, sym, ◌∙◌, ap, ap₂, subst, arith, append_assoc}
-use Rattle.std.specs.Prelude.{All, OnOk, Option, Some, slice_get}
+use Rattle.std.proofs.Common.{◌≡◌, ℕ, ◌-◌, ◌+◌, ◌≤◌, ◌<◌, List, [], ◌∷◌, ◌++◌, length, take, drop, map, refl, sym, ◌∙◌, ap, ap₂, subst, arith, append_assoc}
+use Rattle.std.specs.Prelude.{All, OnErr, Result, Ok, Err, Some, slice_get}
 use mathlib.Core.List.{IsPrefix}
 use Rattle.std.proofs.lemmas.List.{append-nil, length-append, take-append-le, drop-append-le}
-use Rattle.std.proofs.Math.Seq.{drop-append_seam, take-append_seam, drop-length}
-use Rattle.std.proofs.lemmas.List.Elements.{All-cons, All-head, All-push, All-tail, All-weaker}
+use Rattle.std.proofs.Math.Seq.{drop-append_seam, take-append_seam}
+use Rattle.std.proofs.lemmas.List.Elements.{All-head, All-push, All-tail, All-weaker}
 use Rattle.logtype_text.specs.declared.symbols.Kind.{Kind}
 use Rattle.logtype_text.specs.declared.symbols.Symbol.{Symbol}
 use Rattle.logtype_text.specs.declared.symbols.Symbol.TheVariants.{Byte, Slot}
 use Rattle.logtype_text.specs.Parts.{symbol_of}
-use Rattle.logtype_text.specs.TypeText.{IsTypeText, text_of_symbol, type_text}
+use Rattle.logtype_text.specs.TypeText.{IsTypeText, text_of_symbol}
 use Rattle.logtype_text.proofs.TextLemmas.{rest_spelled}
 use Rattle.row_codec.specs.declared.layouts.Next.{Next}
 use Rattle.row_codec.specs.declared.layouts.Next.TheVariants.{Slot as NextSlot, End, Misfit}
@@ -17,7 +17,7 @@ use Rattle.row_codec.specs.declared.layouts.Piece.{Piece}
 use Rattle.row_codec.specs.declared.layouts.Start.{Start}
 use Rattle.row_codec.specs.StepsBody.{HasBody, IsBody, Puts}
 use Rattle.row_codec.specs.StepsLayouts.{AddsRun, AddsSymbol, IsClosed, IsCutUpTo, IsLaidOut, LaysOut, Needs, constants, laid_text, run_text, spelled}
-use Rattle.row_codec.proofs.BodyLemmas.{IsPlain, plain_text, puts_byte, puts_end, puts_has, puts_then, body_empty}
+use Rattle.row_codec.proofs.BodyLemmas.{IsPlain, plain_text, puts_byte, puts_has, puts_then, body_empty}
 
 pub constants_append : (a b : List ℕ) → constants (a ++ b) ≡ constants a ++ constants b
 constants_append [] b = refl
@@ -383,3 +383,24 @@ pub left_none : (words : List (List ℕ)) (text row left old new : List ℕ) →
 left_none words text row left old new puts has =
     let here = puts_has words text row [] left old new puts has in
     (body_empty words left here.0 here.1).0
+
+-- what holds after an error
+pub on_err : {T E P : Type 0} (answer : Result T E) → P → OnErr answer P
+on_err (Ok done) holds = tt
+on_err (Err error) holds = holds
+
+next_of : (xs rest : List (List ℕ)) (y : List ℕ) → slice_get (xs ++ rest) (length xs) ≡ Some y → (zs : List (List ℕ)) × (rest ≡ y ∷ zs)
+next_of [] [] y at = absurd (cc)
+next_of [] (z ∷ zs) y at = let same : z ≡ y = cc in (zs, ap (λ x. x ∷ zs) same)
+next_of (x ∷ xs) rest y at = next_of xs rest y at
+
+-- a front and what stands behind it
+pub prefix_more : (xs ys : List (List ℕ)) (y : List ℕ) → IsPrefix xs ys → slice_get ys (length xs) ≡ Some y → IsPrefix (xs ++ y ∷ []) ys
+prefix_more xs ys y front at =
+    let next = next_of xs front.0 y (ap (λ (l : List (List ℕ)). slice_get l (length xs)) front.1 ∙ at) in
+    (next.0, append_assoc xs (y ∷ []) next.0 ∙ ap (λ l. xs ++ l) (sym next.1) ∙ front.1)
+
+-- a front as long as the whole
+pub prefix_all : (xs ys : List (List ℕ)) → IsPrefix xs ys → length ys ≤ length xs → xs ≡ ys
+prefix_all xs ys ([], is) long = sym (append-nil xs) ∙ is
+prefix_all xs ys (z ∷ zs, is) long = absurd (omega (arith, long, ap length is, length-append xs (z ∷ zs)))

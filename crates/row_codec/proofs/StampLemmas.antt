@@ -1,7 +1,8 @@
 -- Stamps as rows keep them.
-use Rattle.std.proofs.Common.{◌≡◌, ℕ, ◌≤◌, zero, suc, true, false, Bool, cond, List, [], length, take, refl, sym, ◌∙◌, ap, subst, arith, length-append}
-use Rattle.std.specs.Prelude.{◌≢◌, ◌↔◌, ℤ, nat_le}
-use Rattle.std.proofs.lemmas.List.{take_at}
+use Rattle.std.proofs.Common.{◌≡◌, ℕ, ◌≤◌, zero, suc, true, false, Bool, cond, List, [], ◌++◌, length, take, refl, sym, ◌∙◌, ap, subst, arith, length-append}
+use Rattle.std.specs.Prelude.{◌≢◌, ◌↔◌, ℤ, nat_le, IfOk, IsFalse, IsTrue, OnErr, Result, Ok, Err}
+use mathlib.Core.List.{IsPrefix}
+use Rattle.std.proofs.lemmas.List.{append-nil, take_at}
 use Rattle.time_patterns.specs.Stamps.{Fits, HasStamp, IsPrintable, IsStampOf, Prints}
 use Rattle.row_codec.specs.Means.{HasStampText}
 use Rattle.row_codec.specs.StepsBody.{HasStampWriting}
@@ -37,3 +38,9 @@ stamp_printed (suc k) moment text some prints = prints
 pub stamp_none : (k : ℕ) (moment : ℤ) → k ≡ 0 → HasStampWriting k moment → HasStampText k moment []
 stamp_none zero moment none (text, stamped) = (stamped.0, refl)
 stamp_none (suc k) moment none has = absurd (omega arith)
+
+-- a stamp that was printed, or nothing, stands behind the old bytes
+pub printed_front : {E : Type 0} (answer : Result Bool E) (P : List ℕ → Type 0) (old new : List ℕ) → IfOk answer (λ fits. IsTrue fits → ((text : List ℕ) × P text × (new ≡ old ++ text))) → IfOk answer (λ fits. IsFalse fits → new ≡ old) → OnErr answer (new ≡ old) → IsPrefix old new
+printed_front (Ok true) P old new printed left kept = let text = printed refl in (text.0, sym text.2)
+printed_front (Ok false) P old new printed left kept = ([], append-nil old ∙ sym (left refl))
+printed_front (Err error) P old new printed left kept = ([], append-nil old ∙ sym kept)

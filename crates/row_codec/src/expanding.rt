@@ -14,7 +14,7 @@ use plain_list::Text;
 use std::alloc::{AllocError, Global};
 use std::sync::ledger::Ledger;
 use step_count::Steps;
-use time_patterns::print_stamp;
+use time_patterns::StampPrinter;
 use var_codec::{decimal_ok, decimal_text, whole_text};
 
 /// Appends what a row is written as, where it can be written, and tells whether it can. Where the row
@@ -114,7 +114,8 @@ fn put_row<N: Names>(row: RowRef<'_>, names: &N, out: &mut Vec<u8>) -> Result<bo
         → ¬ HasSpelling (row_of row.entry) (N.types names.now) (N.words names.now)) }
     ensures front { IsPrefix out.old.items out.new.items }
 {
-    if !put_stamp(row.pattern, row.moment, out)? {
+    let mut printer = StampPrinter::new();
+    if !put_stamp(&mut printer, row.pattern, row.moment, out)? {
         return Ok(false);
     }
     match names.type_text(row.log_type) {
@@ -124,22 +125,22 @@ fn put_row<N: Names>(row: RowRef<'_>, names: &N, out: &mut Vec<u8>) -> Result<bo
 }
 
 // Appends the text of a stamp, which is empty without one, where the pattern prints the moment.
-pub(crate) fn put_stamp(pattern: u8, moment: i64, out: &mut Vec<u8>) -> Result<bool, AllocError>
+#[inline]
+pub(crate) fn put_stamp(
+    printer: &mut StampPrinter,
+    pattern: u8,
+    moment: i64,
+    out: &mut Vec<u8>,
+) -> Result<bool, AllocError>
     ensures written { IfOk result (λ fits. IsTrue fits → ((text : List ℕ)
         × HasStampText pattern moment text × (out.new.items ≡ out.old.items ++ text))) }
     ensures misfit { IfOk result (λ fits. IsFalse fits → ¬ HasStampWriting pattern moment) }
     ensures front { IsPrefix out.old.items out.new.items }
 {
-    if !stamp_fits(pattern, moment) {
-        return Ok(false);
-    }
     if pattern == 0 {
-        return Ok(true);
+        return Ok(stamp_fits(pattern, moment));
     }
-    let mut text = [0; 32];
-    let len = print_stamp(pattern, moment, &mut text);
-    put_bytes(out, &text[..len])?;
-    Ok(true)
+    printer.print_fitting(pattern, moment, out)
 }
 
 // Appends what the text of a log type is written as with these words in its slots, where they fit

@@ -91,7 +91,7 @@ impl Layouts {
         self.starts.len()
     }
 
-    /// Adds the log types that are not among these yet. Without memory it has some of them.
+    /// Adds the log types that came later. Without memory it has some of them.
     pub fn extend<N: Names>(&mut self, names: &N) -> Result<(), AllocError>
         requires { IsPrefix self.old (N.types names.now) }
         ensures all { OnOk result (self.new ≡ N.types names.now) }
@@ -99,6 +99,7 @@ impl Layouts {
     {
         for _ in 0..u64::MAX {
             let Ok(number) = u32::try_from(self.count()) else {
+                // No number is left. No memory holds so many log types.
                 return Err(AllocError);
             };
             let Some(text) = names.type_text(number) else {
@@ -213,7 +214,8 @@ fn add_symbol(
 
 // Adds the constants at the front of a text that stand there as they are, and gives what follows.
 fn add_plain<'a>(text: &'a [u8], bytes: &mut Vec<u8>) -> Result<&'a [u8], AllocError>
-    ensures added { IfOk result (λ rest. AddsRun text.now rest.now bytes.old.items bytes.new.items) }
+    ensures added { IfOk result (λ rest.
+        AddsRun text.now rest.now bytes.old.items bytes.new.items) }
     ensures shorter { IfOk result (λ rest. length rest.now ≤ length text.now) }
     ensures front { IsPrefix bytes.old.items bytes.new.items }
 {

@@ -13,12 +13,14 @@ use column_store::RowRef;
 use logtype_text::Symbol;
 use std::alloc::AllocError;
 use std::marker::Model;
+use time_patterns::StampPrinter;
 
-/// What writes rows whose log types were cut before, one after the other. Contracts see the list of
-/// the log types.
+/// What writes rows whose log types were cut before, one after the other. It keeps the day of the
+/// last stamp. Contracts see the list of the log types.
 #[derive(Drop)]
 pub struct RowWriter<'l> {
     layouts: &'l Layouts,
+    printer: StampPrinter,
 }
 
 impl<'l> Model for RowWriter<'l> {
@@ -34,7 +36,10 @@ impl<'l> RowWriter<'l> {
     pub fn new(layouts: &'l Layouts) -> RowWriter<'l>
         ensures { result ≡ layouts.now }
     {
-        RowWriter { layouts }
+        RowWriter {
+            layouts,
+            printer: StampPrinter::new(),
+        }
     }
 
     /// Appends what a row is written as, where it can be written, and tells whether it can. Where the
@@ -58,7 +63,7 @@ impl<'l> RowWriter<'l> {
         ensures kept { OnErr result (out.new.items ≡ out.old.items) }
     {
         let len = out.len();
-        match put_laid_row(self.layouts, row, names, out) {
+        match put_laid_row(self.layouts, &mut self.printer, row, names, out) {
             Ok(true) => Ok(true),
             Ok(false) => {
                 out.truncate(len);
@@ -76,6 +81,7 @@ impl<'l> RowWriter<'l> {
 // part of it.
 fn put_laid_row<N: Names>(
     layouts: &Layouts,
+    printer: &mut StampPrinter,
     row: RowRef<'_>,
     names: &N,
     out: &mut Vec<u8>,
@@ -87,7 +93,7 @@ fn put_laid_row<N: Names>(
         → ¬ HasSpelling (row_of row.entry) (N.types names.now) (N.words names.now)) }
     ensures front { IsPrefix out.old.items out.new.items }
 {
-    if !put_stamp(row.pattern, row.moment, out)? {
+    if !put_stamp(printer, row.pattern, row.moment, out)? {
         return Ok(false);
     }
     match layouts.layout(row.log_type) {

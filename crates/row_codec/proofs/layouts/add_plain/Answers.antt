@@ -1,4 +1,4 @@
-use Rattle.std.proofs.Common.{ℕ, List, ◌++◌, sym, ◌∙◌, ap, ap₂, subst, take-append-drop}
+use Rattle.std.proofs.Common.{ℕ, List, ◌++◌, sym, ◌∙◌, ap₂, subst, take-append-drop}
 use Rattle.std.specs.Prelude.{All}
 use Rattle.row_codec.proofs.BodyLemmas.{IsPlain}
 use Rattle.row_codec.proofs.LayoutLemmas.{adds_plain}

@@ -14,7 +14,7 @@ use Rattle.row_codec.specs.Encoding.{HasRead}
 use Rattle.row_codec.specs.declared.encoder.Encoder.{Encoder}
 use Rattle.row_codec.specs.Means.{EachWord, HasWord}
 use Rattle.row_codec.specs.declared.namer.NameRefusal.{NameRefusal}
-use Rattle.row_codec.specs.declared.namer.Which.TheVariants.{Types, Words}
+use Rattle.row_codec.specs.declared.namer.Which.TheVariants.{Types}
 use Rattle.row_codec.specs.Naming.{AreNumbers, Known, refusal_of}
 use Rattle.row_codec.specs.Numbers.{kinds_from, word_numbers}
 use Rattle.row_codec.specs.Steps.{words_of}
