@@ -57,7 +57,7 @@ rest_of_whole file n true ended rest = refl
 rest_of_whole file n false ended rest = refl
 
 -- where nothing was added there is one part without messages
-no_part : Part
+abbrev no_part : Part
 no_part = record { rows = []; messages = [] }
 
 no_parts : (rows file : ℕ) (ended : Bool) → 0 < rows → HasParts rows file [] [] false ended

@@ -21,7 +21,7 @@ use Rattle.write_commands.proofs.ingest.take_in.Goals as goal
 pub returns-in_default-clause-taken : goal.returns-in_default-clause-taken
 returns-in_default-clause-taken g c =
     let law = (g.met.D.Disk g.world.𝓛 g.world.𝓜 g.world.𝓡 ((λ s x. x), (λ x. x), (λ x. x), λ x. x)).lawful in
-    none_takes_into _ _ c.args.named.first c.refuse_all.new.taken.items c.refuse_all.ensures.names c.refuse_all.ensures.begun c.args.journal (law c.args.journal.disk.now) c.requires.named.opens
+    none_takes_into c.args.asked.segment (omega (arith, c.requires.segment.0)) _ _ c.args.named.first c.refuse_all.new.taken.items c.refuse_all.ensures.names c.refuse_all.ensures.begun c.args.journal (law c.args.journal.disk.now) c.requires.named.opens
 
 pub returns-in_default-clause-causes : goal.returns-in_default-clause-causes
 returns-in_default-clause-causes g c = all_unbegun _ _ _ _ c.refuse_all.new.taken.items c.refuse_all.ensures.begun
@@ -82,7 +82,7 @@ returns-clause-taken g c =
     let told = told_back (λ (jobs : List (Job _)) (i : ℕ) (file : FileReport). IsToldBy c.as_slice.result.now jobs i file) c.end_jobs.new.taken.items c.begin_jobs.new.jobs.len c.do_jobs-journal.new.jobs _ (omega (arith, counted, ap length is, c.begin_jobs.new.jobs.ok.0)) c.end_jobs.ensures.told in
     did_take_into g.H.Src.Source.left g.H.Src.Source.name g.H.Src.Source.faults (g.H.Shelf.content c.args.shelf.now) (g.H.Shelf.open_faults c.args.shelf.now) (g.H.Shelf.open_faults c.open_all.new.shelf)
     (map str_bytes c.args.asked.files.now) c.in-Ok.opened.sources.items c.in-Ok.ensures.came c.args.named.first c.as_mut_slice.result.now sourced opening numbered c.as_slice.result.now openings c.do_jobs-journal.new.jobs c.end_jobs.new.taken.items c.end_jobs.ensures.names told
-    c.args.journal c.do_jobs-journal.result (law _) (law _) c.requires.named.opens c.args.asked.workers c.args.asked.segment c.do_jobs-journal.ensures
+    c.args.journal c.do_jobs-journal.result (law _) (law _) c.requires.named.opens c.args.asked.workers c.args.asked.segment (omega (arith, c.requires.segment.0)) c.do_jobs-journal.ensures
 
 -- ---- why files are not whole
 
