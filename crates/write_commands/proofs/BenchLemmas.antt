@@ -97,9 +97,9 @@ leaves_later h before es old mid new law later keeps counts leaves = record {
   since = λ c left. ⊎_elim (λ was. leaves.since c was) (λ image. leaves.since c (law.counts_now old.clock c later (keeps.no_more c image))) (keeps.time.nothing_else old.clock c later left);
 }
 
-pub takes_later : {rows : ℕ} (content : List ℕ → Option (List ℕ)) (names : List (List ℕ)) (came : List FileOutcome) (old mid new : DiskState) → IsLawful mid → old.clock ≤ mid.clock → KeepsBytes mid new → mid.faults ≤ new.faults
+pub takes_later : (rows : ℕ) (content : List ℕ → Option (List ℕ)) (names : List (List ℕ)) (came : List FileOutcome) (old mid new : DiskState) → IsLawful mid → old.clock ≤ mid.clock → KeepsBytes mid new → mid.faults ≤ new.faults
     → FromArchive old (λ h before bytes stood. TakesIn rows content h before stood names came old mid) → FromArchive old (λ h before bytes stood. TakesIn rows content h before stood names came old new)
-takes_later {rows} content names came old mid new law later keeps counts =
+takes_later rows content names came old mid new law later keeps counts =
     from_archive old old (λ h before bytes stood. TakesIn rows content h before stood names came old mid) (λ h before bytes stood. TakesIn rows content h before stood names came old new) refl (λ c image. image)
     (λ h before bytes stood only takes. record {
       added = takes.added;
@@ -130,7 +130,7 @@ logs_added content workers names files seen old mid new status four named law go
     let adds : AddsLogs content workers names seen old new status = record {
       came = map came_of files;
       names_are = names_came files ∙ named;
-      disk = takes_later content names (map came_of files) old mid new law goes.moments.later keeps counts takes;
+      disk = takes_later segment_rows content names (map came_of files) old mid new law goes.moments.later keeps counts takes;
       causes = causes;
       spared = spared;
       told = ⊎_elim (λ parts. inl parts) (λ sums. inr (sums_sooner (map came_of files) seen old mid new status goes.counts sums)) told;

@@ -50,7 +50,7 @@ module _ (one : OneListOfParts) (workers rows : ℕ) (names : List (List ℕ)) (
     adds = record { came = map came_of files; first = first; names_are = names_came files ∙ named; numbered = numbered; disk = disk; printed = printed };
     each = file_causes workers rows names seen old new (map came_of files) (names_came files ∙ named) caused;
     in_turn = full_in_turn workers rows seen old new (map came_of files) caused;
-    fits = all_fit one seen.content names (map came_of files) old new tells disk;
+    fits = all_fit rows one seen.content names (map came_of files) old new tells disk;
   })
 
   -- all lines were printed

@@ -1,5 +1,5 @@
 -- What the archive holds of files that were taken in.
-use Rattle.std.proofs.Common.{◌≡◌, ◌≢◌, not, ◌+◌, ◌<◌, ◌&&◌, ◌⊎◌, inl, inr, refl, sym, ap, ap₂, subst, ◌∙◌, ℕ, suc, Bool, true, false, List, [], ◌∷◌, ◌++◌, length, map, Option, Some, None, arith, append_assoc}
+use Rattle.std.proofs.Common.{◌≡◌, ◌≢◌, not, ◌+◌, ◌<◌, ◌≤◌, ◌&&◌, ◌⊎◌, inl, inr, refl, sym, ap, ap₂, subst, ◌∙◌, ℕ, zero, suc, Bool, true, false, List, [], ◌∷◌, ◌++◌, length, map, Option, Some, None, arith, append_assoc}
 use Rattle.std.specs.Prelude.{All, IfSome, is_some, option_map, slice_get}
 use Rattle.std.specs.List.{AllZip, Contains, filter_map}
 use Rattle.column_store.specs.Columns.{IsFull}
@@ -57,7 +57,7 @@ rest_of_whole file n true ended rest = refl
 rest_of_whole file n false ended rest = refl
 
 -- where nothing was added there is one part without messages
-no_part : Part
+abbrev no_part : Part
 no_part = record { rows = []; messages = [] }
 
 no_parts : (rows file : ℕ) (ended : Bool) → 0 < rows → HasParts rows file [] [] false ended

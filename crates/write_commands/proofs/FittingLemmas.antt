@@ -198,7 +198,7 @@ first_messages content version c f bytes messages ended front told are =
     subst (λ (o : Option (List ℕ)). IfSome o (λ b. (ms : Texts) (e : Bool) → MessagesOf version b ms e → IsPrefix f.messages ms)) told front.front messages ended are in
     ap₂ (λ n (ms : Texts). take n ms) (sym front.messages) (sym begins.1) ∙ take-append_seam f.messages begins.0
 
-module _ {rows : ℕ} (one : OneListOfParts) (content : List ℕ → Option (List ℕ)) (h : Header) (before : List JournalEntry) {bytes : List ℕ} (stood : StandsFor bytes h before) (names : Texts) (came : List FileOutcome) (old new : DiskState)
+module _ (rows : ℕ) (one : OneListOfParts) (content : List ℕ → Option (List ℕ)) (h : Header) (before : List JournalEntry) {bytes : List ℕ} (stood : StandsFor bytes h before) (names : Texts) (came : List FileOutcome) (old new : DiskState)
     (takes : TakesIn rows content h before stood names came old new) (header : IsHeader h) (legal : IsLegal h (before ++ (Files names ∷ takes.added))) where
   abbrev es : List JournalEntry
   es = before ++ (Files names ∷ takes.added)
@@ -229,9 +229,9 @@ legal_told h es tail None is reads = absurd (cc (is))
 legal_told h es tail (Some bytes) is (inl stood) = (stood.header, stood.legal)
 legal_told h es tail (Some bytes) is (inr stood) = (stood.header, legal_front h es tail stood.legal)
 
-pub all_fit : {rows : ℕ} → OneListOfParts → (content : List ℕ → Option (List ℕ)) (names : Texts) (came : List FileOutcome) (old new : DiskState) → is_some new.seen ≡ is_some old.seen
+pub all_fit : (rows : ℕ) → OneListOfParts → (content : List ℕ → Option (List ℕ)) (names : Texts) (came : List FileOutcome) (old new : DiskState) → is_some new.seen ≡ is_some old.seen
     → FromArchive old (λ h before bytes stood. TakesIn rows content h before stood names came old new) → AllFit content old came
-all_fit {rows} one content names came old new tells from = go old.seen tells from
+all_fit rows one content names came old new tells from = go old.seen tells from
   where
     go : (was : Option (List ℕ)) → is_some new.seen ≡ is_some was
         → IfSome was (λ bytes. (h : Header) (before : List JournalEntry) (stood : StandsFor bytes h before) → ((c : List ℕ) → old.images c → StandsFor c h before) → TakesIn rows content h before stood names came old new)
@@ -240,4 +240,4 @@ all_fit {rows} one content names came old new tells from = go old.seen tells fro
     go (Some bytes) tells from = λ h before stood only book.
         let takes = from h before stood only in
         let is = legal_told h (before ++ (Files names ∷ takes.added)) takes.leaves.tail new.seen tells takes.leaves.reads in
-        fit_in one content h before stood names came old new takes is.0 is.1 book
+        fit_in rows one content h before stood names came old new takes is.0 is.1 book

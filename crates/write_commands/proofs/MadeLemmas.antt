@@ -222,7 +222,7 @@ module _ (old mid : DiskState) (made : MakesEmpty default_header old mid) (tells
         disk = disk;
         each = file_causes workers segment_rows generated_names (with_logs (generated number lines) seen) (as_made old) new adds.came adds.names_are causes;
         in_turn = full_in_turn workers segment_rows (with_logs (generated number lines) seen) (as_made old) new adds.came causes;
-        fits = made_from (λ h before bytes stood. (book : Which) → FitIn (generated number lines) h before adds.came book) (all_fit one (generated number lines) generated_names adds.came mid new told adds.disk);
+        fits = made_from (λ h before bytes stood. (book : Which) → FitIn (generated number lines) h before adds.came book) (all_fit segment_rows one (generated number lines) generated_names adds.came mid new told adds.disk);
         spared = adds.spared;
         all = all_taken number lines adds.came new adds.names_are disk;
         told = ⊎_elim (λ parts. inl parts) (λ sums. inr (sums_sooner adds.came seen old mid new status (omega (arith, steady)) sums)) adds.told;

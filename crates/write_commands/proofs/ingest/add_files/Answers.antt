@@ -28,7 +28,7 @@ pub returns-in_err-check_told-clause-cause : goal.returns-in_err-check_told-clau
 returns-in_err-check_told-clause-cause g c =
     let told = c.check_told.ensures in
     let p = err_from_is_err_and c.from_residual.result c.from_residual.ensures.1 in
-    refused_with (map str_bytes c.args.asked.files.now) (g.D.Disk.state c.args.disk.now) (g.D.Disk.state c.check_told.new.disk) c.from_residual.result p.0 _ p.1 p.2 (told_cause (map str_bytes c.args.asked.files.now) (g.D.Disk.state c.args.disk.now) (g.D.Disk.state c.check_told.new.disk) c.check_told.result c.in_err-check_told.field-0.0 c.in_err-check_told.was told.sink told.damaged told.disk)
+    refused_with (map str_bytes c.args.asked.files.now) (g.D.Disk.state c.args.disk.now) (g.D.Disk.state c.check_told.new.disk) c.from_residual.result p.0 _ p.1 p.2 (told_cause (map str_bytes c.args.asked.files.now) (g.D.Disk.state c.args.disk.now) (g.D.Disk.state c.check_told.new.disk) c.check_told.result c.in_err-check_told.field-0.0 c.in_err-check_told.was told.damaged told.disk)
 
 pub returns-in_err-header-clause-nothing : goal.returns-in_err-header-clause-nothing
 returns-in_err-header-clause-nothing g c =
