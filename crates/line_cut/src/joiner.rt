@@ -21,7 +21,7 @@ use std::alloc::{AllocError, Global};
 use std::marker::Model;
 
 /// The most messages that a joiner can be asked to give.
-pub const MAX_MESSAGES: u64 = 4_294_967_295;
+pub const MAX_GIVEN_MESSAGES: u64 = 4_294_967_295;
 
 /// Gives the messages of a source in order, and after them the end or a refusal.
 ///
@@ -52,7 +52,7 @@ impl<S: Source, T> Model for Joiner<S, T> {
     ghost use Rattle.line_cut.specs.Joining.{JoinerState};
     ghost use Rattle.line_cut.specs.Standing.{Stands};
     ghost use Rattle.line_cut.specs.declared.cutter.TheConstants.{MAX_LINE_LEN};
-    ghost use Rattle.line_cut.specs.declared.joiner.TheConstants.{MAX_MESSAGES};
+    ghost use Rattle.line_cut.specs.declared.joiner.TheConstants.{MAX_GIVEN_MESSAGES};
 
     ghost Value = { JoinerState S T };
 
@@ -74,7 +74,7 @@ impl<S: Source, T> Model for Joiner<S, T> {
 
     ghost invariant = { λ c. (c.message ≤ c.step) × (c.step ≤ length c.window.held)
         × (c.max_line * 2 + 1 < c.window.size) × (c.max_line ≤ MAX_LINE_LEN)
-        × (c.given ≤ c.max_messages) × (c.max_messages ≤ MAX_MESSAGES)
+        × (c.given ≤ c.max_messages) × (c.max_messages ≤ MAX_GIVEN_MESSAGES)
         × (c.lines ≤ c.given * (MAX_LINE_LEN + 1))
         × IfSome c.behind (Stands c.max_line (drop c.step c.window.held) (S.left c.source)) };
 }
@@ -82,7 +82,7 @@ impl<S: Source, T> Model for Joiner<S, T> {
 impl<S: Source, T: Heads + Drop> Joiner<S, T> {
     /// A joiner that gives the messages of a source, at most `max_messages` of them, each of lines
     /// and bytes within `max_line`. `max_line` is from 1 to `MAX_LINE_LEN`, and `max_messages` at
-    /// most `MAX_MESSAGES`.
+    /// most `MAX_GIVEN_MESSAGES`.
     ///
     /// It takes all the memory that `advance` needs. Where there is none the source is handed
     /// back.
@@ -95,7 +95,7 @@ impl<S: Source, T: Heads + Drop> Joiner<S, T> {
     ) -> Result<Joiner<S, T>, CutterRefused<S>>
         requires least { 1 ≤ max_line }
         requires most { max_line ≤ MAX_LINE_LEN }
-        requires count { max_messages ≤ MAX_MESSAGES }
+        requires count { max_messages ≤ MAX_GIVEN_MESSAGES }
         ensures fresh { IfOk result (IsNewJoiner source heads max_line max_messages) }
         ensures refused { IfErr result (λ r. r.source ≡ source) }
     {
