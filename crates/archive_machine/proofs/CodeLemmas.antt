@@ -1,8 +1,8 @@
 -- What loops over texts, hands and journals find, and which messages have no row.
-use Rattle.std.proofs.Common.{◌≡◌, ◌≢◌, ◌⊎◌, inl, inr, ℕ, zero, suc, ◌+◌, ◌<◌, ◌≤◌, List, [], ◌∷◌, ◌++◌, length, map, take, drop, get_or, set, All, refl, sym, ◌∙◌, ap, ap₂, subst, arith, length-append}
-use Rattle.std.specs.Prelude.{ℤ, Bool, true, false, ◌==◌, ◌||◌, ◌&&◌, if◌then◌else◌, Some, Err, IfOk, Ok, Result, IsErrOf, slice_get}
+use Rattle.std.proofs.Common.{◌≡◌, ◌⊎◌, inl, inr, ℕ, zero, suc, ◌+◌, ◌<◌, ◌≤◌, List, [], ◌∷◌, ◌++◌, length, map, take, get_or, set, refl, sym, ◌∙◌, ap, subst, arith, length-append}
+use Rattle.std.specs.Prelude.{Bool, true, false, ◌==◌, ◌||◌, if◌then◌else◌, Some, Err, IfOk, Ok, Result, IsErrOf, slice_get}
 use Rattle.std.proofs.lemmas.Bool.{eqb-true, eq-eqb, ne_eqb}
-use Rattle.std.proofs.lemmas.List.{append-nil, append_assoc, take_more}
+use Rattle.std.proofs.lemmas.List.{append-nil, take_more}
 use mathlib.Core.List.{IsPrefix}
 use Rattle.logtype_text.specs.Laws.{OneListOfParts}
 use Rattle.logtype_text.specs.declared.symbols.Kind.TheVariants.{Whole, Word, Decimal}

@@ -1,8 +1,8 @@
 -- Hands, counts of messages, and texts that are numbered below a count.
-use Rattle.std.proofs.Common.{◌≡◌, ◌≢◌, ℕ, zero, suc, ◌+◌, ◌<◌, ◌≤◌, List, [], ◌∷◌, ◌++◌, length, map, take, drop, get_or, All, refl, sym, ◌∙◌, ap, ap₂, subst, arith, length-append}
+use Rattle.std.proofs.Common.{◌≡◌, ◌≢◌, ℕ, zero, suc, ◌+◌, ◌<◌, List, [], ◌∷◌, ◌++◌, length, map, take, All, refl, sym, ◌∙◌, ap, subst, arith, length-append}
 use Rattle.std.specs.Prelude.{Bool, true, false, ◌==◌, ◌||◌, ◌&&◌, if◌then◌else◌, Some, slice_get}
 use Rattle.std.proofs.lemmas.Bool.{eqb-true, eq-eqb, ne_eqb}
-use Rattle.std.proofs.lemmas.List.{append-nil, append_assoc}
+use Rattle.std.proofs.lemmas.List.{append-nil}
 use Rattle.std.proofs.lemmas.List.Elements.{All-head, All-tail}
 use Rattle.std.proofs.lemmas.Option.{get_or_from_slice_get}
 use mathlib.Core.List.{IsPrefix}
@@ -18,8 +18,8 @@ use Rattle.row_codec.proofs.MeansLemmas.{canonical_stays}
 use Rattle.archive_meaning.specs.declared.entry.SegmentEntry.{SegmentEntry}
 use Rattle.archive_meaning.specs.declared.entry.JournalEntry.{JournalEntry}
 use Rattle.archive_meaning.specs.declared.entry.JournalEntry.TheVariants.{Files, Types, Words, Segment}
-use Rattle.archive_meaning.specs.Held.{Held, Piece, messages_of, is_whole}
-use Rattle.archive_meaning.specs.Legal.{Accepts, Run, piece_of}
+use Rattle.archive_meaning.specs.Held.{Held, messages_of, is_whole}
+use Rattle.archive_meaning.specs.Legal.{Run, piece_of}
 use Rattle.archive_meaning.proofs.SumsLemmas.{messages_joined, whole_joined}
 use Rattle.archive_machine.specs.declared.state.Hand.{Hand}
 use Rattle.archive_machine.specs.Machine.{IsSaved, count_of, is_closed, rows_of, with_rows}

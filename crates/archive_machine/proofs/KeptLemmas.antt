@@ -1,32 +1,32 @@
 -- What every state keeps, event by event.
-use Rattle.std.proofs.Common.{◌≡◌, ◌≢◌, ◌⊎◌, inl, inr, ℕ, zero, suc, ◌+◌, ◌^◌, ◌<◌, ◌≤◌, List, [], ◌∷◌, ◌++◌, length, take, drop, All, refl, sym, ◌∙◌, ap, ap₂, subst, arith, length-append, take_all, take-append-drop, length-take-le, length-drop, get_or}
-use Rattle.std.specs.Prelude.{Bool, true, false, ◌==◌, ◌||◌, ◌&&◌, if◌then◌else◌, Some, slice_get}
+use Rattle.std.proofs.Common.{◌≡◌, ◌≢◌, inl, inr, ℕ, ◌+◌, ◌^◌, ◌<◌, ◌≤◌, List, [], ◌∷◌, ◌++◌, length, take, drop, All, refl, sym, ◌∙◌, ap, subst, arith, length-append, take_all, take-append-drop, length-take-le, length-drop, get_or}
+use Rattle.std.specs.Prelude.{true, false, ◌==◌, ◌||◌, ◌&&◌, if◌then◌else◌}
 use Rattle.std.proofs.lemmas.Bool.{cases_eq, eq-eqb, ne_eqb}
-use Rattle.std.proofs.lemmas.List.{append-nil, append_assoc, take-append-le, take_more}
-use Rattle.std.proofs.lemmas.List.Elements.{All-nil, All-cons, All-append, All-push}
+use Rattle.std.proofs.lemmas.List.{append-nil, take-append-le, take_more}
+use Rattle.std.proofs.lemmas.List.Elements.{All-nil, All-push}
 use mathlib.Core.List.{IsPrefix}
 use Rattle.logtype_text.specs.Fair.{IsFairType, IsFairWord}
 use Rattle.record_format.specs.declared.header.Header.{Header}
 use Rattle.column_store.specs.declared.row.Row.{Row}
 use Rattle.column_store.specs.Row.{IsRow, variable_count}
-use Rattle.row_codec.specs.Means.{AreCanonical, IsCanonical}
+use Rattle.row_codec.specs.Means.{AreCanonical}
 use Rattle.row_codec.specs.Messages.{IsMessage}
 use Rattle.row_codec.specs.declared.namer.Which.TheVariants.{Types as OfTypes, Words as OfWords}
 use Rattle.archive_meaning.specs.declared.TheConstants.{MAX_ROWS, MAX_MESSAGES}
 use Rattle.archive_meaning.specs.declared.entry.SegmentEntry.{SegmentEntry}
 use Rattle.archive_meaning.specs.declared.entry.JournalEntry.{JournalEntry}
-use Rattle.archive_meaning.specs.declared.entry.JournalEntry.TheVariants.{Files, Types, Words, Segment}
-use Rattle.archive_meaning.specs.Held.{Held, nothing_held, messages_of, is_whole, last_is_open}
-use Rattle.archive_meaning.specs.Legal.{AddsSegment, AddsTexts, IsBook, Run, piece_of}
+use Rattle.archive_meaning.specs.declared.entry.JournalEntry.TheVariants.{Types, Words, Segment}
+use Rattle.archive_meaning.specs.Held.{Held, nothing_held, messages_of, is_whole}
+use Rattle.archive_meaning.specs.Legal.{AddsSegment, AddsTexts, IsBook, piece_of}
 use Rattle.archive_meaning.proofs.RunLemmas.{runs_go_on}
 use Rattle.archive_core.proofs.TextsLemmas.{book_more}
 use Rattle.archive_machine.specs.declared.state.Core.{Core}
 use Rattle.archive_machine.specs.declared.state.Hand.{Hand}
 use Rattle.archive_machine.specs.declared.event.Event.{Event}
 use Rattle.archive_machine.specs.declared.event.Event.TheVariants.{Name, Add, Save, Seal}
-use Rattle.archive_machine.specs.Machine.{CanAdd, CanName, CanSeal, IsHand, IsKept, IsSaved, Leads, Runs, Steps, count_of, is_closed, nothing_yet, rows_of, sealed, with_rows}
+use Rattle.archive_machine.specs.Machine.{CanAdd, CanName, CanSeal, IsHand, IsKept, Leads, Runs, Steps, count_of, is_closed, nothing_yet, rows_of, sealed, with_rows}
 use Rattle.archive_machine.specs.Laws.{AlwaysKept, StepsGrow}
-use Rattle.archive_machine.proofs.HandLemmas.{all_below, all_stay, canonical_length, canonical_push, closed_held, closed_joined, count_joined, counts_held, or_false, other_rows, own_rows}
+use Rattle.archive_machine.proofs.HandLemmas.{all_below, all_stay, canonical_push, closed_held, closed_joined, count_joined, counts_held, or_false, other_rows, own_rows}
 
 -- ---- each step leaves the old texts in front
 

@@ -1,16 +1,13 @@
 -- The events of a journal lead to it, and a list of events leads to one state.
-use Rattle.std.proofs.Common.{◌≡◌, ◌≢◌, ◌⊎◌, inl, inr, ℕ, zero, suc, ◌+◌, ◌^◌, ◌<◌, ◌≤◌, List, [], ◌∷◌, ◌++◌, length, take, drop, get_or, All, refl, sym, ◌∙◌, ap, ap₂, subst, arith, length-append}
+use Rattle.std.proofs.Common.{◌≡◌, ◌≢◌, inl, inr, ℕ, ◌+◌, ◌^◌, ◌<◌, ◌≤◌, List, [], ◌∷◌, ◌++◌, length, drop, All, refl, sym, ◌∙◌, ap, ap₂, subst, arith, length-append}
 use Rattle.std.specs.Prelude.{Bool, true, false, ◌==◌, ◌||◌, ◌&&◌, if◌then◌else◌, Some, slice_get}
-use Rattle.std.specs.List.{flat_map}
-use Rattle.std.proofs.lemmas.Bool.{cases_eq, eq-eqb, ne_eqb}
+use Rattle.std.proofs.lemmas.Bool.{cases_eq, eq-eqb}
 use Rattle.std.proofs.lemmas.List.{append-nil, append_assoc, drop_at}
 use Rattle.std.proofs.lemmas.List.Concat.{flat_map-cons}
-use Rattle.std.proofs.lemmas.List.Elements.{All-nil, All-cons, All-append, All-head, All-tail}
+use Rattle.std.proofs.lemmas.List.Elements.{All-nil, All-cons, All-head, All-tail}
 use Rattle.std.proofs.lemmas.List.Sums.{sum_by-append}
 use Rattle.std.proofs.lemmas.Option.{get_or_from_slice_get, slice_get_within}
 use Rattle.logtype_text.specs.Fair.{IsFairType, IsFairWord}
-use Rattle.logtype_text.specs.Parts.{symbol_of}
-use Rattle.logtype_text.specs.TypeText.{type_text}
 use Rattle.record_format.specs.declared.header.Header.{Header}
 use Rattle.column_store.specs.declared.row.Row.{Row}
 use Rattle.column_store.specs.Row.{IsRow, variable_count}
@@ -18,13 +15,12 @@ use Rattle.row_codec.specs.Laws.{OneRow}
 use Rattle.row_codec.specs.Means.{AreCanonical, IsCanonical}
 use Rattle.row_codec.specs.Messages.{IsMessage}
 use Rattle.row_codec.specs.Numbers.{numbers_of_row}
-use Rattle.row_codec.specs.declared.namer.Which.{Which}
 use Rattle.row_codec.specs.declared.namer.Which.TheVariants.{Types as OfTypes, Words as OfWords}
 use Rattle.archive_meaning.specs.declared.TheConstants.{MAX_ROWS, MAX_MESSAGES}
 use Rattle.archive_meaning.specs.declared.entry.SegmentEntry.{SegmentEntry}
 use Rattle.archive_meaning.specs.declared.entry.JournalEntry.{JournalEntry}
 use Rattle.archive_meaning.specs.declared.entry.JournalEntry.TheVariants.{Files, Types, Words, Segment}
-use Rattle.archive_meaning.specs.Held.{Held, Piece, nothing_held, messages_of, is_whole}
+use Rattle.archive_meaning.specs.Held.{Held, nothing_held, messages_of}
 use Rattle.archive_meaning.specs.Legal.{AddsSegment, AddsTexts, IsBook, Run, piece_of}
 use Rattle.archive_meaning.proofs.FormLemmas.{rows_numbers_low}
 use Rattle.archive_meaning.proofs.SumsLemmas.{messages_joined, whole_joined}
@@ -33,11 +29,11 @@ use Rattle.archive_machine.specs.declared.state.Core.{Core}
 use Rattle.archive_machine.specs.declared.state.Hand.{Hand}
 use Rattle.archive_machine.specs.declared.event.Event.{Event}
 use Rattle.archive_machine.specs.declared.event.Event.TheVariants.{Name, Add, Save, Seal}
-use Rattle.archive_machine.specs.Machine.{CanAdd, CanName, CanSeal, IsKept, IsSaved, Leads, Runs, Steps, count_of, is_closed, nothing_yet, rows_of, sealed, with_rows}
+use Rattle.archive_machine.specs.Machine.{CanName, IsKept, IsSaved, Leads, Runs, Steps, count_of, is_closed, nothing_yet, rows_of, sealed, with_rows}
 use Rattle.archive_machine.specs.Events.{adds, bare, bare_parts, ending, events_of, namings, seals}
 use Rattle.archive_machine.specs.Laws.{EventsLead, OneState}
 use Rattle.archive_machine.specs.StepsEven.{IsEven}
-use Rattle.archive_machine.proofs.HandLemmas.{canonical_length, closed_joined, count_joined, or_false, other_rows, own_rows, piece_count}
+use Rattle.archive_machine.proofs.HandLemmas.{canonical_length, closed_joined, count_joined, other_rows, own_rows, piece_count}
 use Rattle.archive_machine.proofs.KeptLemmas.{closed_same, count_same, nothing_kept, step_keeps}
 
 -- ---- a list of events leads to one state

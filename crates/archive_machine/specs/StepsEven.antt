@@ -1,5 +1,5 @@
 -- The state between two entries of a journal that the machine makes.
-use Rattle.std.specs.Prelude.{◌≡◌, ℕ, List, [], length}
+use Rattle.std.specs.Prelude.{◌≡◌, ℕ, [], length}
 use Rattle.archive_meaning.specs.Held.{Held, messages_of, is_whole}
 use Rattle.archive_machine.specs.declared.state.Core.{Core}
 use Rattle.archive_machine.specs.Machine.{count_of, is_closed, rows_of}

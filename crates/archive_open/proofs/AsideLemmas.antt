@@ -1,27 +1,24 @@
 -- What is read beside the columns of segments.
-use Rattle.std.proofs.Common.{◌≡◌, ◌≢◌, ◌⊎◌, inl, inr, ℕ, zero, suc, ◌+◌, ◌-◌, ◌<◌, ◌≤◌, List, [], ◌∷◌, ◌++◌, length, take, drop, Option, Some, None, option_map, All, refl, sym, ◌∙◌, ap, ap₂, subst, arith, length-append}
-use Rattle.std.proofs.lemmas.List.{append-nil, append_assoc, take_all}
-use Rattle.std.proofs.lemmas.List.Elements.{All-nil, All-cons, All-append, All-weaker}
-use Rattle.std.proofs.lemmas.Bool.{cases_lt}
+use Rattle.std.proofs.Common.{◌≡◌, ◌⊎◌, inl, inr, ℕ, zero, suc, ◌+◌, ◌<◌, ◌≤◌, List, [], ◌∷◌, ◌++◌, length, take, drop, Option, Some, None, refl, sym, ◌∙◌, ap, ap₂, subst, arith, length-append}
+use Rattle.std.proofs.lemmas.List.{append-nil, append_assoc}
+use Rattle.std.proofs.lemmas.List.Elements.{All-nil, All-append, All-weaker}
 use Rattle.log_seams.specs.Disk.{DiskState, ReadsOnly}
 use Rattle.record_format.specs.declared.header.Header.{Header}
-use Rattle.record_format.specs.Header.{header_bytes}
 use Rattle.segment_format.specs.Layout.{columns_bytes, head_bytes}
-use Rattle.disk_journal.specs.Record.{Saved, spelled}
+use Rattle.disk_journal.specs.Record.{spelled}
 use Rattle.disk_journal.specs.Place.{HasRecord}
 use Rattle.disk_journal.specs.declared.walk.RecordPlace.{RecordPlace}
 use Rattle.archive_meaning.specs.declared.entry.SegmentEntry.{SegmentEntry}
 use Rattle.archive_meaning.specs.declared.entry.JournalEntry.{JournalEntry}
 use Rattle.archive_meaning.specs.declared.entry.JournalEntry.TheVariants.{Files, Types, Words, Segment}
-use Rattle.archive_meaning.specs.Spelled.{end_of, front_of, record_of, records_from, types_of}
-use Rattle.archive_meaning.specs.Stands.{StandsFor}
+use Rattle.archive_meaning.specs.Spelled.{front_of, record_of, records_from, types_of}
 use Rattle.archive_meaning.proofs.JudgeLemmas.{end_more}
 use Rattle.archive_meaning.proofs.UniqueLemmas.{front_joined, stands_begins}
 use Rattle.archive_open.specs.Shown.{Misses, ReadsAside, Spares, columns_begin, columns_end, head_in}
-use Rattle.archive_open.specs.StepsNext.{Built, IsNext, IsOpening, ReadsOf, ReadsWithin, payload_in, shown_len}
+use Rattle.archive_open.specs.StepsNext.{Built, IsOpening, ReadsOf, ReadsWithin, shown_len}
 use Rattle.archive_open.proofs.NextLemmas.{front_length}
 use Rattle.archive_open.proofs.ReadLemmas.{Ranges, none_added, read_within, two_added}
-use Rattle.archive_open.proofs.WalkLemmas.{HasEntry, entry_at, goes_on, next_here}
+use Rattle.archive_open.proofs.WalkLemmas.{entry_at, goes_on, next_here}
 
 -- ---- ranges aside
 

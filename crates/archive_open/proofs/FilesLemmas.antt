@@ -1,9 +1,9 @@
 -- The files of an archive with names more, and with a segment more.
 use Rattle.std.proofs.Common.{◌≡◌, ◌≢◌, ℕ, zero, suc, ◌+◌, ◌<◌, ◌≤◌, List, [], ◌∷◌, ◌++◌, length, map, get_or, set, refl, sym, ◌∙◌, ap, ap₂, subst, arith, length-append}
 use Rattle.std.specs.Prelude.{Bool, true, false, ◌==◌, ◌||◌, ◌&&◌, if◌then◌else◌}
-use Rattle.std.proofs.lemmas.List.{append-nil, append_assoc}
+use Rattle.std.proofs.lemmas.List.{append-nil}
 use Rattle.std.proofs.lemmas.Bool.{eq-eqb, ne_eqb}
-use Rattle.archive_meaning.specs.Held.{File, Held, Piece, files_from, is_ended, is_whole, messages_of}
+use Rattle.archive_meaning.specs.Held.{Piece, files_from, is_ended, is_whole, messages_of}
 use Rattle.archive_meaning.proofs.SumsLemmas.{AreBelow, messages_joined, whole_joined}
 use Rattle.archive_open.specs.declared.files.FileEntry.{FileEntry}
 use Rattle.archive_open.specs.Shown.{counted}

@@ -1,5 +1,5 @@
 -- The head that a payload begins with, by what two loads gave.
-use Rattle.std.proofs.Common.{◌≡◌, ◌≢◌, ◌⊎◌, inl, inr, ℕ, ◌+◌, ◌*◌, ◌-◌, ◌<◌, ◌≤◌, List, [], ◌∷◌, ◌++◌, length, take, drop, Option, Some, None, refl, sym, ◌∙◌, ap, subst, arith, length-append}
+use Rattle.std.proofs.Common.{◌≡◌, ◌≢◌, ℕ, ◌+◌, ◌<◌, ◌≤◌, List, ◌++◌, length, take, drop, Option, Some, None, sym, ◌∙◌, ap, subst, arith, length-append}
 use Rattle.std.specs.Prelude.{IfSome}
 use Rattle.std.specs.List.{flat_map}
 use Rattle.std.proofs.lemmas.List.{append_assoc, length-drop, length-take-le, take-append-drop, take-take, take_at}
@@ -12,7 +12,7 @@ use Rattle.segment_format.proofs.FixedLemmas.{length-fixed_bytes}
 use Rattle.segment_format.proofs.HeadLemmas.{length-head_bytes}
 use Rattle.segment_format.proofs.UniqueLemmas.{fixed_once}
 use Rattle.disk_journal.specs.declared.walk.RecordPlace.{RecordPlace}
-use Rattle.archive_open.specs.StepsNext.{HasHead, HeadTold, NoHeadTold, ReadsHead, ReadsWithin, StandsWhole, payload_in}
+use Rattle.archive_open.specs.StepsNext.{HasHead, HeadTold, NoHeadTold, ReadsHead, StandsWhole, payload_in}
 use Rattle.archive_open.proofs.ReadLemmas.{both_within, read_within}
 
 payload_long : (p : RecordPlace) (bytes : List ℕ) → StandsWhole p (Some bytes) → length (payload_in p bytes) ≡ p.length

@@ -1,11 +1,10 @@
 -- What is built of a record that goes on with a legal journal.
-use Rattle.std.proofs.Common.{◌≡◌, ◌≢◌, ℕ, zero, suc, ◌+◌, ◌*◌, ◌^◌, ◌<◌, ◌≤◌, List, [], ◌∷◌, ◌++◌, length, map, get_or, set, All, refl, sym, ◌∙◌, ap, ap₂, subst, arith, length-append}
-use Rattle.std.specs.Prelude.{Bool, true, false}
+use Rattle.std.proofs.Common.{◌≡◌, ◌≢◌, ℕ, suc, ◌+◌, ◌^◌, ◌<◌, ◌≤◌, List, [], ◌∷◌, ◌++◌, length, map, get_or, set, refl, sym, ◌∙◌, ap, ap₂, subst, arith, length-append}
 use Rattle.std.proofs.lemmas.List.{append-nil, append_assoc}
 use Rattle.disk_journal.specs.Record.{Saved, body, spelled}
 use Rattle.disk_journal.proofs.SpellingLemmas.{length-body}
 use Rattle.record_format.specs.declared.header.Header.{Header}
-use Rattle.record_format.specs.Header.{IsHeader, header_bytes}
+use Rattle.record_format.specs.Header.{header_bytes}
 use Rattle.record_format.specs.Lists.{AreTexts, files_payload, texts_payload}
 use Rattle.record_format.proofs.HeaderLemmas.{length-header_bytes}
 use Rattle.record_format.proofs.ListLemmas.{one_list, one_texts}
@@ -16,7 +15,7 @@ use Rattle.row_codec.specs.Numbers.{numbers_of_row}
 use Rattle.row_codec.specs.declared.namer.Which.{Which}
 use Rattle.row_codec.specs.declared.namer.Which.TheVariants as which
 use Rattle.segment_format.specs.declared.head.Head.{Head}
-use Rattle.segment_format.specs.Layout.{IsHead, columns_bytes, head_bytes, segment_bytes}
+use Rattle.segment_format.specs.Layout.{IsHead, columns_bytes, head_bytes}
 use Rattle.segment_format.proofs.LawsLemmas.{heads_once, read_back}
 use Rattle.segment_format.proofs.SetLemmas.{rise_of, up_sorted_set}
 use Rattle.archive_meaning.specs.declared.entry.SegmentEntry.{SegmentEntry}
@@ -26,19 +25,18 @@ use Rattle.archive_meaning.specs.Held.{Held, Piece, is_whole, messages_of, nothi
 use Rattle.archive_meaning.specs.Legal.{Accepts, AddsSegment, AreNamed, Run, piece_of}
 use Rattle.archive_meaning.specs.Spelled.{front_of, record_of, records_from, records_of, types_in, types_of, words_named}
 use Rattle.archive_meaning.specs.Stands.{IsLegal}
-use Rattle.archive_meaning.specs.StepsForms.{HasForm, HaveForms, IsSegment}
+use Rattle.archive_meaning.specs.StepsForms.{HasForm, HaveForms}
 use Rattle.archive_meaning.proofs.JudgeLemmas.{run_names, run_types}
 use Rattle.archive_meaning.proofs.RunLemmas.{runs_split}
 use Rattle.archive_meaning.proofs.SumsLemmas.{AreBelow}
-use Rattle.archive_meaning.proofs.UniqueLemmas.{legal_forms, legal_front}
+use Rattle.archive_meaning.proofs.UniqueLemmas.{legal_forms}
 use Rattle.archive_open.specs.declared.files.FileEntry.{FileEntry}
 use Rattle.archive_open.specs.declared.segments.SegmentPlace.{SegmentPlace}
 use Rattle.archive_open.specs.Kept.{Kept, MayHold, limit_of, texts_of, with_texts}
-use Rattle.archive_open.specs.Shown.{files_of, head_in, kept_of, placed, places_from, places_of}
+use Rattle.archive_open.specs.Shown.{head_in, kept_of, placed, places_from, places_of}
 use Rattle.archive_open.specs.StepsFiles.{GoesOn, file_with, no_file}
 use Rattle.archive_open.specs.StepsNext.{Builds, BuildsNext, Built, HasHead, IsBuilt, IsNext, NoneNext, new_file}
 use Rattle.archive_open.proofs.FilesLemmas.{entries_from, entries_get, entries_named, entries_set, length-entries}
-use Rattle.archive_open.proofs.KeptLemmas.{texts_with}
 
 -- ---- places
 

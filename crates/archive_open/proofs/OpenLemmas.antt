@@ -1,5 +1,5 @@
 -- How opening begins and ends.
-use Rattle.std.proofs.Common.{◌≡◌, inr, ℕ, ◌+◌, ◌-◌, ◌≤◌, List, [], ◌∷◌, ◌++◌, length, Option, Some, None, refl, sym, ◌∙◌, ap, subst, arith}
+use Rattle.std.proofs.Common.{◌≡◌, inr, ℕ, ◌+◌, ◌-◌, List, [], ◌++◌, Option, Some, None, sym, ◌∙◌, ap, subst, arith}
 use Rattle.std.specs.Prelude.{IfSome}
 use Rattle.std.specs.List.Sorted.{IsPermutation, IsNonDecreasingBy}
 use Rattle.std.proofs.lemmas.List.{append-nil}
@@ -9,13 +9,8 @@ use Rattle.record_format.specs.Header.{IsHeader, header_bytes}
 use Rattle.disk_journal.specs.Place.{Walked}
 use Rattle.disk_journal.specs.State.{BeginsWith, IsAtFirst, JournalState}
 use Rattle.disk_journal.specs.Calls.{HasNoHeader}
-use Rattle.archive_meaning.specs.declared.entry.JournalEntry.{JournalEntry}
-use Rattle.archive_meaning.specs.Held.{Held, nothing_held}
-use Rattle.archive_meaning.specs.Legal.{Run}
-use Rattle.archive_meaning.specs.Stands.{StandsFor}
-use Rattle.archive_open.specs.declared.segments.SegmentPlace.{SegmentPlace}
 use Rattle.archive_open.specs.Kept.{none_of}
-use Rattle.archive_open.specs.Shown.{HasLastGate, IsArchiveOf, IsLastGate, Misses, Opens, RefusedAt, Shown, Spares, StandsForNone, kept_of, order_of}
+use Rattle.archive_open.specs.Shown.{HasLastGate, IsLastGate, Opens, RefusedAt, Shown, Spares, StandsForNone, order_of}
 use Rattle.archive_open.specs.StepsNext.{AreOpening, AreWhole, Builds, Built, EndsWith, GoesWith, IsBuilt, LastGateTold, Looks}
 use Rattle.disk_journal.proofs.JournalLemmas.{walk_starts}
 use Rattle.archive_open.proofs.AsideLemmas.{header_aside, spares_on, within_aside}

@@ -1,22 +1,17 @@
 -- What reading of a journal's disk leaves, call after call.
-use Rattle.std.proofs.Common.{◌≡◌, ◌≢◌, ◌⊎◌, inl, inr, ℕ, suc, ◌+◌, ◌-◌, ◌<◌, ◌≤◌, List, [], ◌∷◌, ◌++◌, length, take, drop, Option, Some, None, option_map, All, refl, sym, ◌∙◌, ap, subst, arith, length-append}
-use Rattle.std.specs.Prelude.{Result, Ok, Err, OnOk, OnErr, IsErrOf, IfOk}
-use Rattle.std.proofs.lemmas.List.{append-nil, append_assoc, take_at}
+use Rattle.std.proofs.Common.{◌≡◌, inl, inr, ℕ, ◌+◌, ◌≤◌, List, [], ◌∷◌, ◌++◌, Option, Some, None, option_map, refl, sym, ◌∙◌, ap, subst, arith}
+use Rattle.std.proofs.lemmas.List.{append-nil, append_assoc}
 use Rattle.std.proofs.lemmas.List.Elements.{All-nil, All-cons, All-append}
-use Rattle.log_seams.specs.Disk.{DiskState, ReadsOnly, Rests, with_range}
-use Rattle.log_seams.specs.Outside.{CountsOf, Rose}
+use Rattle.log_seams.specs.Disk.{DiskState, ReadsOnly}
 use Rattle.log_seams.proofs.MomentLemmas.{rests_on}
-use Rattle.segment_format.specs.declared.head.Head.{Head}
-use Rattle.segment_format.specs.Layout.{IsHead, head_bytes}
 use Rattle.disk_journal.specs.State.{JournalState}
 use Rattle.disk_journal.specs.Calls.{OnlyReads, StaysAt}
-use Rattle.disk_journal.specs.declared.walk.RecordPlace.{RecordPlace}
 use Rattle.disk_journal.specs.declared.refusals.LoadRefusal.{LoadRefusal}
 use Rattle.archive_open.specs.declared.refusal.ArchiveRefusal.{ArchiveRefusal}
 use Rattle.disk_journal.specs.declared.refusals.StartRefusal.{StartRefusal}
 use Rattle.disk_journal.specs.declared.refusals.WalkRefusal.{WalkRefusal}
 use Rattle.archive_open.specs.Refused.{from_load, from_start, from_walk}
-use Rattle.archive_open.specs.StepsNext.{HasHead, Looks, ReadsWithin, payload_in}
+use Rattle.archive_open.specs.StepsNext.{Looks, ReadsWithin}
 
 abbrev pub Ranges : Type 0
 Ranges = Option (List (ℕ × ℕ))

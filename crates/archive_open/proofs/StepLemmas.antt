@@ -1,6 +1,6 @@
 -- One step of the walk, over what the calls left.
-use Rattle.std.proofs.Common.{◌≡◌, ◌≢◌, ◌⊎◌, inl, inr, ℕ, suc, ◌+◌, ◌<◌, ◌≤◌, List, [], ◌∷◌, ◌++◌, length, Option, Some, None, refl, sym, ◌∙◌, ap, subst, arith}
-use Rattle.std.specs.Prelude.{IsNone, true}
+use Rattle.std.proofs.Common.{◌≡◌, inr, ℕ, suc, ◌+◌, List, Option, Some, None, refl, sym, ◌∙◌, subst, arith}
+use Rattle.std.specs.Prelude.{IsNone}
 use Rattle.log_seams.specs.Disk.{DiskState, IsSynced, Only, ReadsOnly, Rests}
 use Rattle.record_format.specs.declared.header.Header.{Header}
 use Rattle.record_format.specs.Header.{IsHeader, header_bytes}
@@ -8,11 +8,9 @@ use Rattle.disk_journal.specs.Place.{ClosedAt, IsDamaged, OpenAt, Walked}
 use Rattle.disk_journal.specs.State.{IsWalked, JournalState}
 use Rattle.disk_journal.specs.Calls.{HasDamage, HasEnded, HasPassed, OnlyReads, StaysAt}
 use Rattle.disk_journal.specs.declared.walk.RecordPlace.{RecordPlace}
-use Rattle.archive_meaning.specs.declared.entry.JournalEntry.{JournalEntry}
-use Rattle.archive_meaning.specs.Stands.{StandsFor}
 use Rattle.archive_open.specs.Shown.{RefusedAt, Spares}
 use Rattle.archive_open.specs.StepsNext.{AreOpening, AreWhole, BuildsTold, Built, EndsWith, GoesOnTo, GoesWith, LastGateTold, Looks, NoneTold, ReadsOf, StandsWhole}
-use Rattle.archive_open.proofs.AsideLemmas.{gate_spared, record_spared, spares_none, spares_on}
+use Rattle.archive_open.proofs.AsideLemmas.{gate_spared, record_spared, spares_on}
 use Rattle.archive_open.proofs.ReadLemmas.{Ranges, looks, looks_on}
 use Rattle.disk_journal.proofs.JournalLemmas.{walk_halts, walk_passes}
 use Rattle.archive_open.proofs.WalkLemmas.{Refuses, damaged_here, last_here, opening_on, refused_here, whole_here}

@@ -1,11 +1,9 @@
 -- A record by what was loaded of it.
-use Rattle.std.proofs.Common.{◌≡◌, ◌≢◌, ◌⊎◌, inl, inr, ℕ, ◌+◌, ◌-◌, ◌<◌, ◌≤◌, List, [], ◌∷◌, ◌++◌, length, take, drop, get_or, set, Option, Some, None, refl, sym, ◌∙◌, ap, subst, arith}
+use Rattle.std.proofs.Common.{◌≡◌, ◌≢◌, ◌⊎◌, inl, inr, ℕ, ◌+◌, ◌<◌, List, [], ◌∷◌, ◌++◌, length, take, drop, get_or, set, Option, Some, None, sym, ap, subst, arith}
 use Rattle.std.specs.Prelude.{IfSome}
 use Rattle.std.proofs.lemmas.List.{length-drop, length-take-le}
 use Rattle.log_seams.specs.Disk.{DiskState, ReadsOnly}
-use Rattle.record_format.specs.declared.header.Header.{Header}
 use Rattle.segment_format.specs.declared.head.Head.{Head}
-use Rattle.segment_format.specs.Layout.{columns_bytes, head_bytes}
 use Rattle.disk_journal.specs.Record.{Saved}
 use Rattle.disk_journal.specs.declared.walk.RecordPlace.{RecordPlace}
 use Rattle.archive_meaning.specs.declared.entry.JournalEntry.{JournalEntry}
@@ -14,7 +12,7 @@ use Rattle.archive_meaning.specs.Spelled.{record_of, types_of}
 use Rattle.archive_open.specs.declared.segments.SegmentPlace.{SegmentPlace}
 use Rattle.archive_open.specs.Shown.{head_in}
 use Rattle.archive_open.specs.StepsFiles.{GoesOn, file_with, no_file}
-use Rattle.archive_open.specs.StepsNext.{Builds, BuildsNext, BuildsTold, Built, HasHead, HeadTold, IsNext, NoHeadTold, NoneNext, NoneTold, ReadsHead, ReadsOf, ReadsWithin, StandsWhole, payload_in, shown_len}
+use Rattle.archive_open.specs.StepsNext.{BuildsNext, BuildsTold, Built, HeadTold, IsNext, NoHeadTold, NoneNext, NoneTold, ReadsHead, ReadsOf, ReadsWithin, StandsWhole, payload_in, shown_len}
 use Rattle.archive_open.proofs.NextLemmas.{is_segment, next_form, no_entry, no_head, no_segment, own_head, segment_built}
 use Rattle.archive_open.proofs.ReadLemmas.{Ranges, nothing_read, read_within}
 

@@ -1,5 +1,5 @@
 -- How a walk along the records of each journal that the bytes begin with goes on, and how it ends.
-use Rattle.std.proofs.Common.{◌≡◌, ◌≢◌, ◌⊎◌, inl, inr, ℕ, zero, suc, ◌+◌, ◌-◌, ◌^◌, ◌<◌, ◌≤◌, List, [], ◌∷◌, ◌++◌, length, take, drop, get_or, Option, Some, None, refl, sym, ◌∙◌, ap, ap₂, subst, arith, length-append}
+use Rattle.std.proofs.Common.{◌≡◌, inl, inr, ℕ, zero, suc, ◌+◌, ◌<◌, ◌≤◌, List, [], ◌∷◌, ◌++◌, length, take, drop, get_or, Option, Some, None, refl, sym, ◌∙◌, ap, subst, arith, length-append}
 use Rattle.std.proofs.lemmas.List.{append-nil, append_assoc, drop_at, take_at, take_all, get_or-drop, length-drop, length-take-le}
 use Rattle.std.proofs.lemmas.Bool.{cases_lt}
 use Rattle.disk_journal.specs.Record.{Saved, Fits, body, payload_len, spelled}
@@ -11,7 +11,7 @@ use Rattle.record_format.specs.Header.{IsHeader, header_bytes}
 use Rattle.record_format.proofs.HeaderLemmas.{length-header_bytes, one_header}
 use Rattle.archive_meaning.specs.declared.entry.JournalEntry.{JournalEntry}
 use Rattle.archive_meaning.specs.Spelled.{end_of, front_of, record_of, records_from, records_of, types_in, types_of}
-use Rattle.archive_meaning.specs.Stands.{Begins, HasHeader, IsDamagedAt, IsFirstDamage, IsLegal, StandsFor}
+use Rattle.archive_meaning.specs.Stands.{Begins, IsFirstDamage, IsLegal, StandsFor}
 use Rattle.archive_meaning.specs.StepsForms.{HaveForms}
 use Rattle.archive_meaning.proofs.JudgeLemmas.{end_more}
 use Rattle.archive_meaning.proofs.SpellingLemmas.{one_body}

@@ -1,5 +1,5 @@
 -- The texts of an archive, however they are kept.
-use Rattle.std.specs.Prelude.{◌≡◌, ◌≤◌, ℕ, List, [], ◌++◌, length}
+use Rattle.std.specs.Prelude.{◌≤◌, ℕ, List, [], ◌++◌, length}
 use Rattle.record_format.specs.declared.header.Header.{Header}
 use Rattle.row_codec.specs.declared.namer.Which.{Which}
 use Rattle.row_codec.specs.declared.namer.Which.TheVariants.{Types, Words}

@@ -1,5 +1,5 @@
 -- How a file goes on with a segment.
-use Rattle.std.specs.Prelude.{◌≡◌, ◌≤◌, ◌+◌, ℕ, [], false}
+use Rattle.std.specs.Prelude.{◌≡◌, ◌≤◌, ◌+◌, [], false}
 use Rattle.segment_format.specs.declared.head.Head.{Head}
 use Rattle.archive_meaning.specs.declared.TheConstants.{MAX_MESSAGES}
 use Rattle.archive_open.specs.declared.files.FileEntry.{FileEntry}

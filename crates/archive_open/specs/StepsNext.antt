@@ -1,11 +1,10 @@
 -- How what was built goes on with a record.
-use Rattle.std.specs.Prelude.{◌≡◌, ◌≢◌, ◌≤◌, ℕ, ◌+◌, List, [], ◌∷◌, ◌++◌, length, take, drop, map, false, true, Option, Some, None, option_map, All}
-use Rattle.log_seams.specs.Disk.{DiskState, IsSynced}
+use Rattle.std.specs.Prelude.{◌≡◌, ◌≤◌, ℕ, ◌+◌, List, [], ◌∷◌, ◌++◌, length, take, drop, false, true, Option, Some, None, option_map, All}
+use Rattle.log_seams.specs.Disk.{IsSynced}
 use Rattle.record_format.specs.declared.header.Header.{Header}
 use Rattle.record_format.specs.Header.{IsHeader}
 use Rattle.segment_format.specs.declared.head.Head.{Head}
 use Rattle.segment_format.specs.Layout.{IsHead, head_bytes}
-use Rattle.disk_journal.specs.Record.{Saved}
 use Rattle.disk_journal.specs.Place.{OpenAt}
 use Rattle.disk_journal.specs.State.{IsAtEnd, IsWalked, JournalState}
 use Rattle.disk_journal.specs.declared.walk.RecordPlace.{RecordPlace}

@@ -1,4 +1,4 @@
-use Rattle.std.proofs.Common.{rules, ◌≡◌, ◌++◌, ◌∷◌, [], List, sym, ◌∙◌, ap, subst, set, get_or}
+use Rattle.std.proofs.Common.{rules, ◌≡◌, ◌++◌, ◌∷◌, [], List, ◌∙◌, ap, subst, set, get_or}
 use Rattle.column_store.specs.declared.row.Row.{Row}
 use Rattle.archive_machine.specs.declared.state.Hand.{Hand}
 use Rattle.archive_machine.specs.StepsHands.{IsFirstHand, IsNoHand}

@@ -1,4 +1,4 @@
-use Rattle.std.proofs.Common.{rules, ◌≡◌, sym, ◌∙◌, ap, get_or}
+use Rattle.std.proofs.Common.{sym, ◌∙◌}
 use Rattle.archive_machine.specs.declared.state.Hand.{Hand}
 use Rattle.archive_machine.proofs.CodeLemmas.{first_rows, no_rows}
 use Rattle.archive_machine.proofs.hands.rows_in_hand.Goals as goal

@@ -1,4 +1,4 @@
-use Rattle.std.proofs.Common.{rules, arith, ◌≡◌, ◌≢◌, ◌<◌, ◌≤◌, ℕ, List, Some, slice_get, get_or, length, refl, sym, ◌∙◌, subst}
+use Rattle.std.proofs.Common.{rules, ◌≡◌, ◌≢◌, ℕ, List, Some, slice_get, get_or, length, refl, subst}
 use Rattle.std.proofs.lemmas.Option.{slice_get_read}
 use Rattle.archive_machine.proofs.CodeLemmas.{all_none, none_more}
 use Rattle.archive_machine.proofs.lookup.number_of.Goals as goal

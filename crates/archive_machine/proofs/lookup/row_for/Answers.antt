@@ -1,5 +1,4 @@
-use Rattle.std.proofs.Common.{rules, IsErrOf, ◌≡◌, List, ℕ, sym, subst, length}
-use Rattle.column_store.specs.declared.row.Row.{Row}
+use Rattle.std.proofs.Common.{rules, IsErrOf, ◌≡◌, sym, subst}
 use Rattle.row_codec.specs.declared.namer.NameRefusal.TheVariants.{Full}
 use Rattle.row_codec.specs.Means.{IsCanonical}
 use Rattle.archive_machine.proofs.CodeLemmas.{no_row, same_texts}

@@ -1,11 +1,10 @@
-use Rattle.std.proofs.Common.{rules, arith, ◌≡◌, ◌≤◌, ◌<◌, ◌^◌, ◌++◌, ◌∷◌, [], List, ℕ, length, sym, ◌∙◌, ap, subst}
-use Rattle.std.specs.Prelude.{Some}
+use Rattle.std.proofs.Common.{rules, arith, ◌≡◌, ◌<◌, ◌^◌, ◌++◌, ◌∷◌, [], List, ℕ, length, sym, ◌∙◌, ap, subst}
 use Rattle.std.proofs.lemmas.Bool.{false≢true}
 use Rattle.column_store.specs.declared.row.Row.{Row}
 use Rattle.column_store.specs.Row.{variable_count}
 use Rattle.row_codec.specs.Means.{IsCanonical}
 use Rattle.archive_core.proofs.RowsLemmas.{at_none}
-use Rattle.archive_machine.specs.Machine.{CanAdd, IsHand, rows_of}
+use Rattle.archive_machine.specs.Machine.{rows_of}
 use Rattle.archive_machine.proofs.machine.row_to_add.Goals as goal
 
 pub has_room-requires : goal.has_room-requires

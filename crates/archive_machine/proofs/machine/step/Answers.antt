@@ -1,4 +1,4 @@
-use Rattle.std.proofs.Common.{ℕ, List, IfOk, ◌∙◌, ap, sym, subst}
+use Rattle.std.proofs.Common.{ℕ, ◌∙◌, ap, sym, subst}
 use Rattle.archive_machine.specs.declared.state.Core.{Core}
 use Rattle.archive_machine.specs.declared.event.Event.{Event}
 use Rattle.archive_machine.specs.declared.event.Event.TheVariants.{Name}

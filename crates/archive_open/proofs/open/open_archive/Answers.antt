@@ -1,4 +1,4 @@
-use Rattle.std.proofs.Common.{rules, sym, subst}
+use Rattle.std.proofs.Common.{rules}
 use Rattle.std.proofs.lemmas.Result.{err_from_is_err_and}
 use Rattle.archive_open.proofs.OpenLemmas.{all_spared, header_spared, start_refused}
 use Rattle.archive_open.proofs.ReadLemmas.{start_damaged_from}

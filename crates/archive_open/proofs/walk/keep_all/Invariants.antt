@@ -1,4 +1,4 @@
-use Rattle.std.proofs.Common.{◌≡◌, ◌+◌, ◌<◌, ◌≤◌, length}
+use Rattle.std.proofs.Common.{◌≡◌, ◌<◌, ◌≤◌}
 use Rattle.disk_journal.specs.Journal.{state_of}
 use Rattle.archive_open.specs.StepsBuilt.{built_of}
 use Rattle.archive_open.specs.Shown.{Spares}

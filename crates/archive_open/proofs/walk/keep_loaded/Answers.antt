@@ -1,9 +1,9 @@
-use Rattle.std.proofs.Common.{rules, refl}
+use Rattle.std.proofs.Common.{rules}
 use Rattle.std.proofs.lemmas.Result.{err_from_is_err_and}
 use Rattle.archive_open.specs.StepsBuilt.{built_of}
 use Rattle.archive_open.specs.StepsNext.{Built}
 use Rattle.archive_open.proofs.ReadLemmas.{load_damaged}
-use Rattle.archive_open.proofs.TakenLemmas.{loaded_not_told, loaded_reads_of, loaded_told, none_reads_of, other_not_told}
+use Rattle.archive_open.proofs.TakenLemmas.{loaded_not_told, loaded_reads_of, loaded_told}
 use Rattle.archive_open.proofs.walk.keep_loaded.Goals as goal
 
 pub returns-in_err-payload-clause-ranges : goal.returns-in_err-payload-clause-ranges

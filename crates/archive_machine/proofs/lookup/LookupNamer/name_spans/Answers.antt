@@ -1,5 +1,4 @@
-use Rattle.std.proofs.Common.{rules, arith, ◌≡◌, ◌<◌, ◌+◌, ◌++◌, ◌∷◌, [], ℕ, List, length, get_or, take, subst, sym, Some, slice_get}
-use Rattle.std.specs.Prelude.{slice_range}
+use Rattle.std.proofs.Common.{rules, arith, ◌≡◌, ◌<◌, ◌+◌, ◌++◌, ◌∷◌, [], length, take, subst, sym, Some, slice_get}
 use Rattle.logtype_text.specs.Encoded.{texts_at}
 use Rattle.logtype_text.specs.declared.spans.Span.{Span}
 use Rattle.row_codec.specs.Naming.{AreNumbers}

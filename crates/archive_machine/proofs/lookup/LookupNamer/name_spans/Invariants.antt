@@ -1,4 +1,4 @@
-use Rattle.std.proofs.Common.{◌≡◌, take}
+use Rattle.std.proofs.Common.{take}
 use Rattle.logtype_text.specs.Encoded.{texts_at}
 use Rattle.row_codec.specs.Naming.{AreNumbers}
 use Rattle.archive_machine.proofs.lookup.LookupNamer.name_spans.Given as goal

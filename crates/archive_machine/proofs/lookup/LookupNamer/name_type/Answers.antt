@@ -1,4 +1,4 @@
-use Rattle.std.proofs.Common.{rules, arith, ◌≡◌, ℕ, length, refl, ◌∷◌, []}
+use Rattle.std.proofs.Common.{arith, length, refl, ◌∷◌, []}
 use Rattle.row_codec.specs.declared.namer.Which.TheVariants.{Types}
 use Rattle.archive_machine.proofs.CodeLemmas.{limit_met, refusal_of}
 use Rattle.archive_machine.proofs.lookup.LookupNamer.name_type.Goals as goal
