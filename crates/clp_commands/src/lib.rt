@@ -4,8 +4,8 @@
 //! refusal its cause. The commands stand in `log_commands`, `read_commands` and `write_commands`.
 #![tactic(auto)]
 
-mod run;
+mod top_call;
 
 pub use command_refusals::Refusal;
-pub use run::run;
+pub use top_call::run;
 pub use write_commands::Telling;

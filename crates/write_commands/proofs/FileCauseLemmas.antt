@@ -31,7 +31,7 @@ use Rattle.ingest_workers.specs.Causes.{HasJobCause, Log, log_of}
 use Rattle.ingest_workers.specs.Ingested.{AreRefused, HadNoRoomOver, HasItsCause, HasStored, HaveCauses, IsAsItWas, IsFullByGiven as IsFullByJobs, IsThereOrGiven as IsThereOrGivenByJobs, WereGiven as WereGivenByJobs, grounds_over, not_begun, plan_of, told_entries}
 use Rattle.ingest_workers.specs.Outcome.{nothing_done}
 use Rattle.write_commands.specs.IngestPrints.{came_of}
-use Rattle.write_commands.specs.Ingested.{FileOutcome, HasMoreThan, IsThereOrGiven}
+use Rattle.write_commands.specs.Ingested.{FileOutcome, HasMoreThan, IsNextTooLong, IsThereOrGiven, WasCutShort}
 use Rattle.write_commands.specs.Jobs.{DidJobs, IsNotBegun, of_cause, of_opening, refusal_by, sources_of}
 use Rattle.write_commands.specs.StepsCauses.{CameIn, HasCauseIn, Logs, Target, into_journal}
 use Rattle.command_refusals.specs.LogLimits.{IsLong, most_messages}
@@ -120,9 +120,13 @@ module _ {S : Type 0} (left name : S → Option (List ℕ)) (faults : S → ℕ)
         not_false : (b : Bool) → false ≡ not b → b ≡ true
         not_false true is = refl
         not_false false is = absurd (cc (is))
-    job_cause file log sealed (Some Cause.ReadFault) has fits whole count bytes up = up has.0
+    job_cause file log sealed (Some Cause.ReadFault) has fits whole count bytes up =
+        (up has.0, subst (λ (o : Option (List ℕ)). IfSome o (WasCutShort j.header.version c)) bytes (IfSome_then log.bytes has.1 (λ b short. record { taken = sealed; count = count; behind = log.behind; short = short })))
     job_cause file log sealed (Some (Cause.LineTooLong line)) has fits whole count bytes up =
-        subst (λ (o : Option (List ℕ)). IfSome o (λ b. IsLong b line)) bytes (IfSome_then log.bytes has.2 (λ b before. long_behind j.header.version sealed b line has.1 before))
+        (
+          subst (λ (o : Option (List ℕ)). IfSome o (λ b. IsLong b line)) bytes (IfSome_then log.bytes has.2 (λ b before. long_behind j.header.version sealed b line has.1 before)),
+          subst (λ (o : Option (List ℕ)). IfSome o (IsNextTooLong j.header.version c line)) bytes (IfSome_then log.bytes has.2 (λ b before. record { taken = sealed; count = count; follows = has.1; before = before })),
+        )
     job_cause file log sealed (Some Cause.TooManyLines) has fits whole count bytes up = (count ∙ has.1, subst (λ (o : Option (List ℕ)). HasMoreThan most_messages j.header.version o) bytes has.2)
     job_cause file log sealed (Some (Cause.Full book n)) has fits whole count bytes up = told_map (is_some (state_of j).disk.seen)
         (λ is. (is.0, record { sealed = sealed; count = count; holds = full_by_wider _ _ _ _ (of_given book) (λ t next. next_in log.bytes sealed book t bytes next) n is.1 })) has.1

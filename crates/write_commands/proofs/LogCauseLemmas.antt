@@ -145,8 +145,8 @@ module _ (number lines : ℕ) where
     spares : (c : FileOutcome) → IsGenerated c.name → (r : Option PartCause) → HasCauseIn (told_with opens) into old mid c r → Spares c r
     spares c is None cause = (cause, tt)
     spares c is (Some PartCause.OpenFault) cause = absurd (not_risen (subst RoseIn (none c.name is) cause.0))
-    spares c is (Some PartCause.ReadFault) cause = absurd (not_risen cause)
-    spares c is (Some (PartCause.LineTooLong line)) cause = absurd (none_long c.name is line cause)
+    spares c is (Some PartCause.ReadFault) cause = absurd (not_risen cause.0)
+    spares c is (Some (PartCause.LineTooLong line)) cause = absurd (none_long c.name is line cause.0)
     spares c is (Some PartCause.TooManyLines) cause = absurd (none_many most into.header.version c.name is cause.1)
     spares c is (Some (PartCause.Full book count)) cause = (cause, tt)
     spares c is (Some (PartCause.ArchiveFull end need)) cause = ((cause.0, told_map into.told (fit_later (generated number lines) into.rows into.first into.names into.header into.entries mid new same c end need) cause.1), tt)

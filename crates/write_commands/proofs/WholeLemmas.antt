@@ -1,6 +1,6 @@
 -- Why files are not whole, from the start of the call, and as it is told.
 use Rattle.std.proofs.Common.{◌≡◌, ◌+◌, ◌≤◌, ◌++◌, ◌∷◌, [], ◌⊎◌, refl, sym, ap, ◌∙◌, subst, ℕ, List, length, map, take, append-nil, Option, Some, None, arith}
-use Rattle.std.specs.Prelude.{All}
+use Rattle.std.specs.Prelude.{All, IfSome}
 use Rattle.std.specs.List.{Contains}
 use Rattle.row_codec.specs.declared.namer.Which.{Which}
 use Rattle.row_codec.specs.declared.namer.Which.TheVariants.{Types as WhichTypes, Words as WhichWords}
@@ -19,7 +19,7 @@ use Rattle.log_seams.proofs.MomentLemmas.{rose}
 use Rattle.record_format.specs.declared.header.Header.{Header}
 use Rattle.disk_journal.specs.State.{JournalState}
 use Rattle.command_refusals.specs.Outside.{Outside}
-use Rattle.write_commands.specs.Ingested.{AreFullInTurn, FileOutcome, CameOfFile, DidNotFit, FromArchive, HasFileCause, HasMoreThan, IsFullByGiven, IsFullInTurn, IsGiven, OfTaken, WasMetInOneOf}
+use Rattle.write_commands.specs.Ingested.{AreFullInTurn, CameOfFile, DidNotFit, FileOutcome, FromArchive, HasFileCause, HasMoreThan, IsFullByGiven, IsFullInTurn, IsGiven, IsNextTooLong, OfTaken, WasCutShort, WasMetInOneOf}
 use Rattle.write_commands.specs.StepsCauses.{AreFullInto, CameIn, HasCauseIn, HaveFileCauses, IsTarget, Logs, Target, into_journal, logs_of}
 use Rattle.write_commands.specs.JournalLeft.{AddsNamesTo, HasNames}
 use Rattle.command_refusals.specs.LogLimits.{most_messages}
@@ -91,8 +91,8 @@ module _ (seen : Outside) (old new : DiskState) (into : Target) (told : FromArch
   file_cause : (c : FileOutcome) (r : Option PartCause) → HasCauseIn (logs_of seen) into old new c r → HasFileCause into.rows into.names seen old new c r
   file_cause c None cause = cause
   file_cause c (Some PartCause.OpenFault) cause = cause
-  file_cause c (Some PartCause.ReadFault) cause = cause
-  file_cause c (Some (PartCause.LineTooLong line)) cause = cause
+  file_cause c (Some PartCause.ReadFault) cause = (cause.0, from_header (λ h. IfSome (seen.content c.name) (WasCutShort h.version c)) cause.1)
+  file_cause c (Some (PartCause.LineTooLong line)) cause = (cause.0, from_header (λ h. IfSome (seen.content c.name) (IsNextTooLong h.version c line)) cause.1)
   file_cause c (Some PartCause.TooManyLines) cause = (cause.0, from_header (λ h. HasMoreThan most_messages h.version (seen.content c.name)) cause.1)
   file_cause c (Some (PartCause.Full book count)) cause = from_full c book count cause
   file_cause c (Some (PartCause.ArchiveFull end need)) cause = from_fit c end need cause.1

@@ -23,6 +23,7 @@ use Rattle.ingest_workers.specs.Ingested.{HasTextsBehind, book_texts, header_lim
 use Rattle.ingest_workers.specs.Locked.{in_file}
 use Rattle.ingest_workers.specs.NoRoom.{HadNoRoom}
 use Rattle.ingest_workers.specs.Parts.{IsCut, IsOpen, Part, messages_in, rest_of, segments_from}
+use Rattle.message_reader.specs.Taken.{IsBeforeLong, IsReadShort, lines_count}
 use Rattle.message_reader.specs.Versions.{MessagesOf}
 use Rattle.sink_pieces.specs.Output.{Grew, GrewByFront}
 use Rattle.command_refusals.specs.Outside.{Outside}
@@ -166,12 +167,28 @@ pub record DidNotFit (content : List ℕ → Option (List ℕ)) (rows first : �
   pub at : slice_get names place ≡ Some c.name
   pub room : OfTaken c (λ sealed. HadNoRoom h rows h.version (first + place) (StandFirst h named new) (WereGiven content h.version names) (AreFirstOf h.version (content c.name)) sealed end need)
 
+-- A read of a log with these bytes failed, and the messages that were taken in are those of the bytes before the fault.
+pub record WasCutShort (version : ℕ) (c : FileOutcome) (bytes : List ℕ) : Type 0 where
+  pub taken : List (List ℕ)
+  pub count : c.messages ≡ length taken
+  pub behind : Option (List ℕ)
+  pub short : IsReadShort version bytes taken behind
+
+-- The line of this number of a log with these bytes is the first that is too long: the messages before it were taken in, and it follows them.
+pub record IsNextTooLong (version : ℕ) (c : FileOutcome) (line : ℕ) (bytes : List ℕ) : Type 0 where
+  pub taken : List (List ℕ)
+  pub count : c.messages ≡ length taken
+  pub follows : line ≡ lines_count taken + 1
+  pub before : IsBeforeLong version taken bytes
+
 -- What a refusal that came of a file rests on, where these files were given, in segments of at most so many rows. Want of memory is free.
 abbrev pub HasFileCause : ℕ → List (List ℕ) → Outside → DiskState → DiskState → FileOutcome → Option PartCause → Type 0
 HasFileCause rows names seen old new c None = c.whole ≡ true
 HasFileCause rows names seen old new c (Some OpenFault) = RoseIn (seen.opens c.name) × (c.messages ≡ 0)
-HasFileCause rows names seen old new c (Some ReadFault) = RoseIn (seen.reads c.name)
-HasFileCause rows names seen old new c (Some (LineTooLong line)) = IfSome (seen.content c.name) (λ bytes. IsLong bytes line)
+HasFileCause rows names seen old new c (Some ReadFault) =
+    RoseIn (seen.reads c.name) × FromArchive old (λ h before bytes stood. IfSome (seen.content c.name) (WasCutShort h.version c))
+HasFileCause rows names seen old new c (Some (LineTooLong line)) =
+    IfSome (seen.content c.name) (λ bytes. IsLong bytes line) × FromArchive old (λ h before bytes stood. IfSome (seen.content c.name) (IsNextTooLong h.version c line))
 HasFileCause rows names seen old new c (Some TooManyLines) =
     (c.messages ≡ most_messages) × FromArchive old (λ h before bytes stood. HasMoreThan most_messages h.version (seen.content c.name))
 HasFileCause rows names seen old new c (Some (Full book count)) = FromArchive old (λ h before bytes stood. IsFullByGiven seen.content names h before c book count)

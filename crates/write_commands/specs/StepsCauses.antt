@@ -10,7 +10,7 @@ use Rattle.disk_seal.specs.Told.{IfTold}
 use Rattle.ingest_workers.specs.Ingested.{told_entries}
 use Rattle.command_refusals.specs.Outside.{Outside}
 use Rattle.command_refusals.specs.Ending.{RoseIn}
-use Rattle.write_commands.specs.Ingested.{FileOutcome, DidNotFit, FromArchive, HasMoreThan, IsFullByGiven, IsFullInTurn, OfStopped}
+use Rattle.write_commands.specs.Ingested.{FileOutcome, DidNotFit, FromArchive, HasMoreThan, IsFullByGiven, IsFullInTurn, IsNextTooLong, OfStopped, WasCutShort}
 use Rattle.command_refusals.specs.LogLimits.{IsLong, most_messages}
 use Rattle.command_refusals.specs.declared.outcome.PartCause.{PartCause}
 
@@ -55,8 +55,9 @@ pub record IsTarget (into : Target) (h : Header) (before : List JournalEntry) (h
 abbrev pub HasCauseIn : Logs → Target → DiskState → DiskState → FileOutcome → Option PartCause → Type 0
 HasCauseIn logs into old new c None = c.whole ≡ true
 HasCauseIn logs into old new c (Some PartCause.OpenFault) = RoseIn (logs.opens c.name) × (c.messages ≡ 0)
-HasCauseIn logs into old new c (Some PartCause.ReadFault) = RoseIn (logs.reads c.name)
-HasCauseIn logs into old new c (Some (PartCause.LineTooLong line)) = IfSome (logs.content c.name) (λ bytes. IsLong bytes line)
+HasCauseIn logs into old new c (Some PartCause.ReadFault) = RoseIn (logs.reads c.name) × IfSome (logs.content c.name) (WasCutShort into.header.version c)
+HasCauseIn logs into old new c (Some (PartCause.LineTooLong line)) =
+    IfSome (logs.content c.name) (λ bytes. IsLong bytes line) × IfSome (logs.content c.name) (IsNextTooLong into.header.version c line)
 HasCauseIn logs into old new c (Some PartCause.TooManyLines) = (c.messages ≡ most_messages) × HasMoreThan most_messages into.header.version (logs.content c.name)
 HasCauseIn logs into old new c (Some (PartCause.Full book count)) = IfTold into.told (IsFullByGiven logs.content into.names into.header into.entries c book count)
 HasCauseIn logs into old new c (Some (PartCause.ArchiveFull end need)) =

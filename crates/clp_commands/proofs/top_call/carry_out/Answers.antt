@@ -2,7 +2,7 @@ use Rattle.std.proofs.Common.{refl, rules}
 use Rattle.log_sources.specs.Sources.{str_bytes}
 use Rattle.clp_commands.proofs.CommandLemmas.{ingest_answers, some_of}
 use Rattle.read_commands.proofs.CompleteLemmas.{check_answers, decode_answers, files_answers}
-use Rattle.clp_commands.proofs.run.carry_out.Goals as goal
+use Rattle.clp_commands.proofs.top_call.carry_out.Goals as goal
 
 pub returns-in-Show-clause-answers : goal.returns-in-Show-clause-answers
 returns-in-Show-clause-answers g c =

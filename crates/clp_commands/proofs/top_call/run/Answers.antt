@@ -1,7 +1,7 @@
 use Rattle.std.proofs.Common.{refl}
 use Rattle.command_refusals.proofs.GoingLemmas.{KeepsBytes-same}
 use Rattle.clp_commands.proofs.CommandLemmas.{Answers-asked, Answers-refused}
-use Rattle.clp_commands.proofs.run.run.Goals as goal
+use Rattle.clp_commands.proofs.top_call.run.Goals as goal
 
 -- words that were refused
 pub returns-in-Err-clause-answers : goal.returns-in-Err-clause-answers
