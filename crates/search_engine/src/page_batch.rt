@@ -42,11 +42,13 @@ fn match_and_send<R: Threads + Sync, N: Names + Sync, K: Sink, M: Ledger>(
 
     // by the answer
     ensures done { OnOk result ((all : List Placed)
-        → WaitFor context.now.names (pages_of slots.old) all → Passes context.now.names.version context.now.query all
+        → WaitFor context.now.names (pages_of slots.old) all
+        → Passes context.now.names.version context.now.query all
         (sofar (K.written out.old) gathered.old.items counts.old expanded.old)
         (sofar (K.written out.new) gathered.new.items counts.new expanded.new)) }
     ensures stopped { OnErr result ((all : List Placed)
-        → WaitFor context.now.names (pages_of slots.old) all → Stops context.now.names.version context.now.query all
+        → WaitFor context.now.names (pages_of slots.old) all
+        → Stops context.now.names.version context.now.query all
         (sofar (K.written out.old) gathered.old.items counts.old expanded.old)
         (K.written out.new) expanded.new) }
 

@@ -22,7 +22,8 @@ use subquery_filter::Verdict;
 
 /// Appends what stands before a message in its line.
 fn put_label(gathered: &mut Vec<u8>, label: Label<'_>) -> Result<(), AllocError>
-    ensures { OnOk result (gathered.new.items ≡ gathered.old.items ++ label_of label.entry.name.now label.entry.number) }
+    ensures { OnOk result (gathered.new.items
+        ≡ gathered.old.items ++ label_of label.entry.name.now label.entry.number) }
 {
     gathered.extend_from_slice(label.name)?;
     gathered.push(b':')?;

@@ -1,8 +1,7 @@
-use Rattle.std.proofs.Common.{ap, subst, sym}
+use Rattle.std.proofs.Common.{subst, sym}
 use Rattle.wild_match.specs.Matches.{Match}
 use Rattle.query_plan.specs.Pieces.{wide}
 use Rattle.search_engine.specs.Judged.{Judges}
-use Rattle.search_engine.specs.Scan.{Asked}
 use Rattle.search_engine.specs.StepsScope.{Scope}
 use Rattle.search_engine.proofs.context.Context.judge.Goals as goal
 
