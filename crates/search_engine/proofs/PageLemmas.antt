@@ -37,13 +37,13 @@ parts_of n (r ∷ rows) others (m ∷ messages) are =
 
 -- a page was read, and waits
 pub page_past : (seen : Option (List ℕ)) (start now : Paged) (n : Named) (q : Asked) (name : List ℕ) (number count : ℕ) (rows : List Row) (w : Option (List ℕ)) (x y z : Pending) (t : ℕ) (p : Page) → AreNextTold seen start now rows
-    → count ≡ length rows → y ≡ x → p ≡ page name number rows → z ≡ record { gathered = y.gathered; tally = y.tally; pages = y.pages ++ p ∷ [] } → PastTold seen start n q name number now count (state w x t) (state w z t)
+    → count ≡ length rows → y ≡ x → p ≡ page name number rows → z ≡ record { gathered = y.gathered; counts = y.counts; pages = y.pages ++ p ∷ [] } → PastTold seen start n q name number now count (state w x t) (state w z t)
 page_past None start now n q name number count rows w x y z t p next long still is added = tt
 page_past (Some bytes) start now n q name number count rows w x y z t p next long still is added = λ all messages holds are.
     let behind = next all holds in
     let parts = parts_of n rows behind.0 messages (subst (λ l. AreRowsOf n l messages) behind.1 are) in
     let same : sofar_of (state w z t) ≡ sofar_of (state w x t) =
-    ap (λ (e : Pending). sofar w e.gathered e.tally t) added ∙ ap (λ (e : Pending). sofar w e.gathered e.tally t) still in
+    ap (λ (e : Pending). sofar w e.gathered e.counts t) added ∙ ap (λ (e : Pending). sofar w e.gathered e.counts t) still in
     let pages : z.pages ≡ x.pages ++ page name number rows ∷ [] =
     ap (λ (e : Pending). e.pages) added ∙ ap₂ (λ (e : Pending) (o : Page). e.pages ++ o ∷ []) still is in
     record {

@@ -15,7 +15,7 @@ use Rattle.row_codec.proofs.MeansLemmas.{meaning_is_spelling}
 use Rattle.row_codec.proofs.CanonicalLemmas.{rows_return}
 use Rattle.search_engine.specs.declared.query.Judgement.{Judgement}
 use Rattle.search_engine.specs.declared.query.Judgement.TheVariants.{Left, Tried, Found}
-use Rattle.search_engine.specs.declared.tally.Tally.{Tally}
+use Rattle.search_engine.specs.declared.counts.Counts.{Counts}
 use Rattle.search_engine.specs.Scan.{Asked, IsFound, IsInRange, IsTried, Placed, line_of, numbered, placed}
 use Rattle.search_engine.specs.Sofar.{Passes, Sofar, TicksWithin, sofar}
 use Rattle.search_engine.specs.Held.{AreRowsOf, Named}
@@ -26,7 +26,7 @@ use Rattle.search_engine.proofs.SofarLemmas.{numbered_append, passes_none, passe
 
 -- ---- one message
 
-pub passed : (version : ℕ) (q : Asked) (p : Placed) (w : Option (List ℕ)) (g h : List ℕ) (a b : Tally) (t u : ℕ) → ¬ IsFound version q p.message → ¬ IsTried version q p.message
+pub passed : (version : ℕ) (q : Asked) (p : Placed) (w : Option (List ℕ)) (g h : List ℕ) (a b : Counts) (t u : ℕ) → ¬ IsFound version q p.message → ¬ IsTried version q p.message
     → h ≡ g → b ≡ a → u ≡ t → Passes version q (p ∷ []) (sofar w g a t) (sofar w h b u)
 passed version q p w g h a b t u no_found no_tried same_g same_a same_t = record {
   found = [];
@@ -35,13 +35,13 @@ passed version q p w g h a b t u no_found no_tried same_g same_a same_t = record
   are_tried = inr (no_tried, refl);
   advances = record {
     goes = record { front = []; splits = append-nil g ∙ sym same_g; grew = Grew-nothing w };
-    matched = λ fits. ap (λ (x : Tally). x.matched) same_a ∙ omega arith;
-    expanded = λ fits. ap (λ (x : Tally). x.expanded) same_a ∙ omega arith;
+    matched = λ fits. ap (λ (x : Counts). x.matched) same_a ∙ omega arith;
+    expanded = λ fits. ap (λ (x : Counts). x.expanded) same_a ∙ omega arith;
     ticks = omega (arith, same_t);
   };
 }
 
-tried : (version : ℕ) (q : Asked) (p : Placed) (w : Option (List ℕ)) (g h : List ℕ) (a b : Tally) (t u : ℕ) → ¬ IsFound version q p.message → IsTried version q p.message
+tried : (version : ℕ) (q : Asked) (p : Placed) (w : Option (List ℕ)) (g h : List ℕ) (a b : Counts) (t u : ℕ) → ¬ IsFound version q p.message → IsTried version q p.message
     → h ≡ g → b.matched ≡ a.matched → (a.expanded + 1 < 2 ^ 64 → b.expanded ≡ a.expanded + 1) → u ≡ t + 1 → Passes version q (p ∷ []) (sofar w g a t) (sofar w h b u)
 tried version q p w g h a b t u no_found is_tried same_g matched expanded ticks = record {
   found = [];
@@ -56,7 +56,7 @@ tried version q p w g h a b t u no_found is_tried same_g matched expanded ticks 
   };
 }
 
-found : (version : ℕ) (q : Asked) (p : Placed) (w : Option (List ℕ)) (g h : List ℕ) (a b : Tally) (t u : ℕ) → IsFound version q p.message → IsTried version q p.message
+found : (version : ℕ) (q : Asked) (p : Placed) (w : Option (List ℕ)) (g h : List ℕ) (a b : Counts) (t u : ℕ) → IsFound version q p.message → IsTried version q p.message
     → h ≡ g ++ line_of p → (a.matched + 1 < 2 ^ 64 → b.matched ≡ a.matched + 1) → (a.expanded + 1 < 2 ^ 64 → b.expanded ≡ a.expanded + 1) → u ≡ t + 1
     → Passes version q (p ∷ []) (sofar w g a t) (sofar w h b u)
 found version q p w g h a b t u is_found is_tried more matched expanded ticks = record {
@@ -82,7 +82,7 @@ of_range version range row types words message is inside =
     subst (λ k. Holds range k row.moment) (sym same.0) (subst (λ m. Holds range inside.0 m) (sym same.1) inside.4)
 
 -- a message that is out of the range
-pub outside_passes : (version : ℕ) (q : Asked) (range : Range) (row : Row) (types words : List (List ℕ)) (name : List ℕ) (number : ℕ) (message : List ℕ) (w : Option (List ℕ)) (g : List ℕ) (a : Tally) (t : ℕ)
+pub outside_passes : (version : ℕ) (q : Asked) (range : Range) (row : Row) (types words : List (List ℕ)) (name : List ℕ) (number : ℕ) (message : List ℕ) (w : Option (List ℕ)) (g : List ℕ) (a : Counts) (t : ℕ)
     → range ≡ q.range → ¬ Holds range row.pattern row.moment → IsCanonical version row types words message
     → Passes version q (placed name number message ∷ []) (sofar w g a t) (sofar w g a t)
 outside_passes version q range row types words name number message w g a t same out is =
@@ -99,10 +99,10 @@ line_written name number message g =
     ∙ ap (λ (l : List ℕ). g ++ l) (append_assoc name (58 ∷ (decimal number ++ 58 ∷ [])) (message ++ 10 ∷ [])
     ∙ ap (λ (l : List ℕ). name ++ (58 ∷ l)) (append_assoc (decimal number) (58 ∷ []) (message ++ 10 ∷ [])))
 
-row_judged : (version : ℕ) (q : Asked) (name : List ℕ) (number : ℕ) (message : List ℕ) (w : Option (List ℕ)) (g g2 h : List ℕ) (a b : Tally) (t u : ℕ) (j : Judgement) (kept : ℕ) → IsInRange version q.range message
+row_judged : (version : ℕ) (q : Asked) (name : List ℕ) (number : ℕ) (message : List ℕ) (w : Option (List ℕ)) (g g2 h : List ℕ) (a b : Counts) (t u : ℕ) (j : Judgement) (kept : ℕ) → IsInRange version q.range message
     → Judges q message j → take kept g2 ≡ g → g2 ≡ (g ++ label_of name number) ++ message → Keeps j kept g2 h a b t u → Passes version q (placed name number message ∷ []) (sofar w g a t) (sofar w h b u)
 row_judged version q name number message w g g2 h a b t u Left kept inside judges back whole keeps =
-    passed version q (placed name number message) w g h a b t u (λ f. judges.1 f.matched) (λ f. judges.0 f.matched) (keeps.gathered ∙ back) keeps.tally keeps.ticked
+    passed version q (placed name number message) w g h a b t u (λ f. judges.1 f.matched) (λ f. judges.0 f.matched) (keeps.gathered ∙ back) keeps.counts keeps.ticked
 row_judged version q name number message w g g2 h a b t u Tried kept inside judges back whole keeps =
     tried version q (placed name number message) w g h a b t u (λ f. judges.1 f.matched) (record { matched = judges.0; inside = inside }) (keeps.gathered ∙ back) keeps.matched keeps.expanded keeps.ticked
 row_judged version q name number message w g g2 h a b t u Found kept inside judges back whole keeps =
@@ -110,7 +110,7 @@ row_judged version q name number message w g g2 h a b t u Found kept inside judg
     (keeps.gathered ∙ ap (λ (l : List ℕ). l ++ 10 ∷ []) whole ∙ line_written name number message g) keeps.matched keeps.expanded keeps.ticked
 
 -- a message in the range that was written, judged and kept or taken back
-pub row_passes : (version : ℕ) (q : Asked) (range : Range) (row : Row) (types words : List (List ℕ)) (name : List ℕ) (number : ℕ) (message text : List ℕ) (w : Option (List ℕ)) (g g1 g2 h : List ℕ) (a b : Tally) (t u : ℕ)
+pub row_passes : (version : ℕ) (q : Asked) (range : Range) (row : Row) (types words : List (List ℕ)) (name : List ℕ) (number : ℕ) (message text : List ℕ) (w : Option (List ℕ)) (g g1 g2 h : List ℕ) (a b : Counts) (t u : ℕ)
     (j : Judgement) (kept : ℕ) (judged : List ℕ) → range ≡ q.range → Holds range row.pattern row.moment → IsCanonical version row types words message → IsSpelling row types words text
     → kept ≡ length g → g1 ≡ g ++ label_of name number → g2 ≡ g1 ++ text → judged ≡ drop (length g1) g2 → Judges q judged j → Keeps j kept g2 h a b t u
     → Passes version q (placed name number message ∷ []) (sofar w g a t) (sofar w h b u)
@@ -145,7 +145,7 @@ first_row n row others (m ∷ messages) are = record { message = m; left = messa
 next_row : (n : Named) (rows : List Row) (k : ℕ) (row : Row) (messages : List (List ℕ)) → slice_get rows k ≡ Some row → AreRowsOf n (drop k rows) messages → HasNextRow n row (drop (k + 1) rows) messages
 next_row n rows k row messages is are = first_row n row (drop (k + 1) rows) messages (subst (λ l. AreRowsOf n l messages) (drop_here rows k row is) are)
 
-pub rows_first : (n : Named) (q : Asked) (name : List ℕ) (number : ℕ) (rows : List Row) (messages : List (List ℕ)) (g : List ℕ) (a : Tally) (t : ℕ) → AreRowsOf n rows messages
+pub rows_first : (n : Named) (q : Asked) (name : List ℕ) (number : ℕ) (rows : List Row) (messages : List (List ℕ)) (g : List ℕ) (a : Counts) (t : ℕ) → AreRowsOf n rows messages
     → PastRows n q name number rows 0 messages (λ w. sofar w g a t) (λ w. sofar w g a t)
 rows_first n q name number rows messages g a t are = record {
   gone = [];

@@ -13,12 +13,12 @@ use Rattle.archive_open.specs.Kept.{Kept}
 use Rattle.archive_open.specs.Shown.{IsArchiveOf, Opens, Shown, kept_of}
 use Rattle.column_store.specs.declared.range.Range.{Range}
 use Rattle.wild_match.specs.declared.pattern.Item.{Item}
-use Rattle.search_engine.specs.declared.tally.Tally.{Tally}
+use Rattle.search_engine.specs.declared.counts.Counts.{Counts}
 use Rattle.search_engine.specs.Scan.{Asked, IsFound, IsTried, Placed, all_placed, lines_of}
 use Rattle.sink_pieces.specs.Output.{GrewByFront}
 use Rattle.sink_pieces.proofs.OutputLemmas.{Grew-nothing}
 use Rattle.search_engine.specs.Sofar.{Passes, Sofar, sofar}
-use Rattle.search_engine.specs.Waiting.{Blames, Halts, Pending, Reaches, State, WaitFor, no_tally, nothing_pending, state}
+use Rattle.search_engine.specs.Waiting.{Blames, Halts, Pending, Reaches, State, WaitFor, no_counts, nothing_pending, state}
 use Rattle.search_engine.specs.Held.{Named, OfSegments, named}
 use Rattle.search_engine.specs.Opened.{IsBarrenFor, Searched, Stopped}
 use Rattle.search_engine.specs.Searched.{HasSearched, HasStopped, MissesBarren, OfJournal, ReadsNoBarren, asked, names_of}
@@ -68,26 +68,26 @@ asked_is q pattern range one two = λ i. record { pattern = one i; range = two i
 
 -- ---- what was done
 
-pub has_searched : (bytes : List ℕ) (h : Header) (es : List JournalEntry) (q : Asked) (ps : List SegmentPlace) (tally : Tally) (count : ℕ) (w0 w2 : Option (List ℕ)) (y z : Pending) (b : State) (o0 o1 e0 e2 : ℕ) (stood : StandsFor bytes h es)
-    → y ≡ nothing_pending → tally ≡ z.tally → Searched (names_of h stood.legal.held) q ps (all_placed (content_of stood.legal.held)) (state w0 y e0) b o0 o1 count → Reaches (names_of h stood.legal.held) q [] b (state w2 z e2)
+pub has_searched : (bytes : List ℕ) (h : Header) (es : List JournalEntry) (q : Asked) (ps : List SegmentPlace) (counts : Counts) (count : ℕ) (w0 w2 : Option (List ℕ)) (y z : Pending) (b : State) (o0 o1 e0 e2 : ℕ) (stood : StandsFor bytes h es)
+    → y ≡ nothing_pending → counts ≡ z.counts → Searched (names_of h stood.legal.held) q ps (all_placed (content_of stood.legal.held)) (state w0 y e0) b o0 o1 count → Reaches (names_of h stood.legal.held) q [] b (state w2 z e2)
     → (z.pages ≡ []) × (z.gathered ≡ [])
-    → HasSearched h stood.legal.held q ps (record { matched = tally.matched; expanded = tally.expanded; opened = count; segments = length ps }) w0 w2 o0 o1 e0 e2
-has_searched bytes h es q ps tally count w0 w2 y z b o0 o1 e0 e2 stood none counts started finished done =
+    → HasSearched h stood.legal.held q ps (record { matched = counts.matched; expanded = counts.expanded; opened = count; segments = length ps }) w0 w2 o0 o1 e0 e2
+has_searched bytes h es q ps counts count w0 w2 y z b o0 o1 e0 e2 stood none counted started finished done =
     let searched = subst (λ (x : Pending). Searched (names_of h stood.legal.held) q ps (all_placed (content_of stood.legal.held)) (state w0 x e0) b o0 o1 count) none started in
     let all : List Placed = all_placed (content_of stood.legal.held) in
     let small = content_small bytes h es stood in
-    let a : Sofar = sofar w0 [] no_tally e0 in
-    let c : Sofar = sofar w2 z.gathered tally e2 in
+    let a : Sofar = sofar w0 [] no_counts e0 in
+    let c : Sofar = sofar w2 z.gathered counts e2 in
     let whole : Reaches (names_of h stood.legal.held) q all (state w0 nothing_pending e0) (state w2 z e2) =
     subst (λ l. Reaches (names_of h stood.legal.held) q l (state w0 nothing_pending e0) (state w2 z e2)) (append-nil all)
     (reaches_on (names_of h stood.legal.held) q all [] (state w0 nothing_pending e0) b (state w2 z e2) searched.reaches finished) in
     let p : Passes h.version q all a c =
-    subst (λ t. Passes h.version q all a (sofar w2 z.gathered t e2)) (sym counts)
+    subst (λ t. Passes h.version q all a (sofar w2 z.gathered t e2)) (sym counted)
     (reaches_end (names_of h stood.legal.held) q all (state w0 nothing_pending e0) (state w2 z e2) refl done.0 whole) in
     let found_short = picks_short (λ x. IsFound h.version q x.message) all p.found p.are_found in
     let tried_short = picks_short (λ x. IsTried h.version q x.message) all p.tried p.are_tried in
-    let m : tally.matched ≡ length p.found = p.advances.matched (omega (arith, found_short, small)) ∙ omega arith in
-    let e : tally.expanded ≡ length p.tried = p.advances.expanded (omega (arith, tried_short, small)) ∙ omega arith in
+    let m : counts.matched ≡ length p.found = p.advances.matched (omega (arith, found_short, small)) ∙ omega arith in
+    let e : counts.expanded ≡ length p.tried = p.advances.expanded (omega (arith, tried_short, small)) ∙ omega arith in
     record {
       found = p.found;
       tried = p.tried;

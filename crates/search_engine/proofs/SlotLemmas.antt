@@ -7,12 +7,12 @@ use Rattle.column_store.specs.declared.row.Row.{Row}
 use Rattle.sink_pieces.specs.Output.{GrewByFront, Moves}
 use Rattle.search_engine.specs.declared.refusal.PrintRefusal.{PrintRefusal}
 use Rattle.search_engine.specs.declared.refusal.SearchRefusal.{SearchRefusal}
-use Rattle.search_engine.specs.declared.tally.Tally.{Tally}
+use Rattle.search_engine.specs.declared.counts.Counts.{Counts}
 use Rattle.search_engine.specs.Refused.{from_print}
 use Rattle.search_engine.specs.Scan.{Asked, IsFound, IsTried, Placed, lines_of, numbered}
 use Rattle.search_engine.specs.Sofar.{Counted, Goes, Passes, Sofar, Stops, sofar}
 use Rattle.search_engine.specs.Held.{AreRowsOf, Named}
-use Rattle.search_engine.specs.Waiting.{IsWorked, OfAllWorked, OfWorked, Page, PrintsPage, Slotted, WaitFor, no_tally, page, pages_of}
+use Rattle.search_engine.specs.Waiting.{IsWorked, OfAllWorked, OfWorked, Page, PrintsPage, Slotted, WaitFor, no_counts, page, pages_of}
 use Rattle.search_engine.proofs.SofarLemmas.{front_none, on_ok_to, passes_none, passes_on, picks_once, picks_short, stops_behind, stops_here, stops_more, ticks_same}
 use Rattle.search_engine.proofs.WaitingLemmas.{waits_split}
 
@@ -28,14 +28,14 @@ as_many n [] (m ∷ messages) are = absurd are
 as_many n (r ∷ rows) [] are = absurd are
 as_many n (r ∷ rows) (m ∷ messages) are = ap suc (as_many n rows messages are.1)
 
--- what a page counts in its tally is exact
-pub prints : (n : Named) (q : Asked) (name : List ℕ) (number : ℕ) (rows : List Row) (g text : List ℕ) (a b : Tally) (k j : ℕ) → g ≡ [] → a ≡ no_tally → number + length rows < 2 ^ 64
+-- what a page counts in its counts is exact
+pub prints : (n : Named) (q : Asked) (name : List ℕ) (number : ℕ) (rows : List Row) (g text : List ℕ) (a b : Counts) (k j : ℕ) → g ≡ [] → a ≡ no_counts → number + length rows < 2 ^ 64
     → ((w : Option (List ℕ)) (messages : List (List ℕ)) → AreRowsOf n rows messages → Passes n.version q (numbered name number messages) (sofar w g a k) (sofar w text b j))
     → PrintsPage n q (page name number rows) text b
 prints n q name number rows g text a b k j none start small passes = λ w messages are.
     let p = passes w messages are in
     let short = picks_short (λ x. IsTried n.version q x.message) (numbered name number messages) p.tried p.are_tried in
-    let expanded : Counted 0 b.expanded (length p.tried) = subst (λ (t : Tally). Counted t.expanded b.expanded (length p.tried)) start p.advances.expanded in
+    let expanded : Counted 0 b.expanded (length p.tried) = subst (λ (t : Counts). Counted t.expanded b.expanded (length p.tried)) start p.advances.expanded in
     record {
       found = p.found;
       tried = p.tried;
@@ -47,7 +47,7 @@ prints n q name number rows g text a b k j none start small passes = λ w messag
           splits = subst (λ (l : List ℕ). l ++ lines_of p.found ≡ p.advances.goes.front ++ text) none p.advances.goes.splits;
           grew = p.advances.goes.grew;
         };
-        matched = subst (λ (t : Tally). Counted t.matched b.matched (length p.found)) start p.advances.matched;
+        matched = subst (λ (t : Counts). Counted t.matched b.matched (length p.found)) start p.advances.matched;
         expanded = expanded;
         ticks = expanded (omega (arith, small, short, length_numbered name number messages, as_many n rows messages are));
       };
@@ -58,18 +58,18 @@ held None = []
 held (Some l) = l
 
 -- the text of a page is the lines of its messages
-lines_are : (text : List ℕ) (b : Tally) (found : List Placed) → Goes (sofar (Some []) [] no_tally 0) (sofar (Some []) text b b.expanded) (lines_of found) → lines_of found ≡ text
+lines_are : (text : List ℕ) (b : Counts) (found : List Placed) → Goes (sofar (Some []) [] no_counts 0) (sofar (Some []) text b b.expanded) (lines_of found) → lines_of found ≡ text
 unfolding held
 lines_are text b found goes =
     let none : goes.front ≡ [] = sym (ap held goes.grew) in
     goes.splits ∙ ap (λ (l : List ℕ). l ++ text) none
 
-pub slot_passes : (s : Slotted) (w v : Option (List ℕ)) (g h : List ℕ) (a b : Tally) (k j : ℕ) (n : Named) (q : Asked) (messages : List (List ℕ)) → PrintsPage n q s.page s.text s.tally
-    → Moves w v (g ++ s.text) h → Counted a.matched b.matched s.tally.matched → Counted a.expanded b.expanded s.tally.expanded → j ≡ k + s.tally.expanded → AreRowsOf n s.page.rows messages
+pub slot_passes : (s : Slotted) (w v : Option (List ℕ)) (g h : List ℕ) (a b : Counts) (k j : ℕ) (n : Named) (q : Asked) (messages : List (List ℕ)) → PrintsPage n q s.page s.text s.counts
+    → Moves w v (g ++ s.text) h → Counted a.matched b.matched s.counts.matched → Counted a.expanded b.expanded s.counts.expanded → j ≡ k + s.counts.expanded → AreRowsOf n s.page.rows messages
     → Passes n.version q (numbered s.page.name s.page.number messages) (sofar w g a k) (sofar v h b j)
 slot_passes s w v g h a b k j n q messages prints moves matched expanded ticks are =
     let p = prints (Some []) messages are in
-    let text : lines_of p.found ≡ s.text = lines_are s.text s.tally p.found p.advances.goes in
+    let text : lines_of p.found ≡ s.text = lines_are s.text s.counts p.found p.advances.goes in
     record {
       found = p.found;
       tried = p.tried;
@@ -78,22 +78,22 @@ slot_passes s w v g h a b k j n q messages prints moves matched expanded ticks a
       advances = record {
         goes = record { front = moves.front; splits = ap (λ (l : List ℕ). g ++ l) text ∙ moves.splits; grew = moves.grew };
         matched = λ fits.
-            let own : s.tally.matched ≡ 0 + length p.found = p.advances.matched (omega (arith, fits)) in
+            let own : s.counts.matched ≡ 0 + length p.found = p.advances.matched (omega (arith, fits)) in
             omega (arith, own, matched (omega (arith, fits, own)));
         expanded = λ fits.
-            let own : s.tally.expanded ≡ 0 + length p.tried = p.advances.expanded (omega (arith, fits)) in
+            let own : s.counts.expanded ≡ 0 + length p.tried = p.advances.expanded (omega (arith, fits)) in
             omega (arith, own, expanded (omega (arith, fits, own)));
         ticks = omega (arith, ticks, p.advances.ticks);
       };
     }
 
 -- its text did not all go out
-pub slot_stops : (s : Slotted) (w v : Option (List ℕ)) (g : List ℕ) (a : Tally) (k j : ℕ) (n : Named) (q : Asked) (messages : List (List ℕ)) → PrintsPage n q s.page s.text s.tally
+pub slot_stops : (s : Slotted) (w v : Option (List ℕ)) (g : List ℕ) (a : Counts) (k j : ℕ) (n : Named) (q : Asked) (messages : List (List ℕ)) → PrintsPage n q s.page s.text s.counts
     → GrewByFront w v (g ++ s.text) → j ≡ k → AreRowsOf n s.page.rows messages → Stops n.version q (numbered s.page.name s.page.number messages) (sofar w g a k) v j
 slot_stops s w v g a k j n q messages prints front ticks are =
     let p = prints (Some []) messages are in
     let all = numbered s.page.name s.page.number messages in
-    let text : lines_of p.found ≡ s.text = lines_are s.text s.tally p.found p.advances.goes in
+    let text : lines_of p.found ≡ s.text = lines_are s.text s.counts p.found p.advances.goes in
     record {
       front = λ found are_found.
           let same : found ≡ p.found = picks_once (λ x. IsFound n.version q x.message) all found p.found are_found p.are_found in
@@ -102,7 +102,7 @@ slot_stops s w v g a k j n q messages prints front ticks are =
     }
 
 -- it did not go through
-pub slot_refused : (s : Slotted) (w v : Option (List ℕ)) (g : List ℕ) (a : Tally) (k j : ℕ) (n : Named) (q : Asked) (messages : List (List ℕ)) → v ≡ w → j ≡ k
+pub slot_refused : (s : Slotted) (w v : Option (List ℕ)) (g : List ℕ) (a : Counts) (k j : ℕ) (n : Named) (q : Asked) (messages : List (List ℕ)) → v ≡ w → j ≡ k
     → Stops n.version q (numbered s.page.name s.page.number messages) (sofar w g a k) v j
 slot_refused s w v g a k j n q messages same ticks =
     let all = numbered s.page.name s.page.number messages in
@@ -116,16 +116,16 @@ print_damaged_from PrintRefusal.Damaged is = refl
 print_damaged_from PrintRefusal.OutOfMemory is = absurd (cc (is))
 
 -- what the search of a page left is in its slot
-pub worked_so : (n : Named) (q : Asked) (x y : Slotted) (p : Page) (r : Result (Unit {0}) PrintRefusal) → x ≡ y → y.page ≡ p → OnOk r (PrintsPage n q p y.text y.tally)
-    → (IsErrOf r PrintRefusal.Damaged → (messages : List (List ℕ)) → ¬ AreRowsOf n p.rows messages) → IsWorked n q (record { page = x.page; text = x.text; tally = x.tally; answer = r })
+pub worked_so : (n : Named) (q : Asked) (x y : Slotted) (p : Page) (r : Result (Unit {0}) PrintRefusal) → x ≡ y → y.page ≡ p → OnOk r (PrintsPage n q p y.text y.counts)
+    → (IsErrOf r PrintRefusal.Damaged → (messages : List (List ℕ)) → ¬ AreRowsOf n p.rows messages) → IsWorked n q (record { page = x.page; text = x.text; counts = x.counts; answer = r })
 worked_so n q x y p r same same_page done damaged = record {
-  done = on_ok_to r (PrintsPage n q p y.text y.tally) (PrintsPage n q x.page x.text x.tally)
-      (λ prints. subst (λ (s : Slotted). PrintsPage n q s.page s.text s.tally) (sym same) (subst (λ (o : Page). PrintsPage n q o y.text y.tally) (sym same_page) prints)) done;
+  done = on_ok_to r (PrintsPage n q p y.text y.counts) (PrintsPage n q x.page x.text x.counts)
+      (λ prints. subst (λ (s : Slotted). PrintsPage n q s.page s.text s.counts) (sym same) (subst (λ (o : Page). PrintsPage n q o y.text y.counts) (sym same_page) prints)) done;
   damaged = λ is messages.
       subst (λ (s : Slotted). ¬ AreRowsOf n s.page.rows messages) (sym same) (subst (λ (o : Page). ¬ AreRowsOf n o.rows messages) (sym same_page) (damaged is messages));
 }
 
--- ---- all pages of a round
+-- ---- all pages of a batch
 
 pub pages_kept : (xs ys : List Slotted) → length ys ≡ length xs → ((k : ℕ) (d : Slotted) → k < length xs → (get_or ys k d).page ≡ (get_or xs k d).page) → pages_of ys ≡ pages_of xs
 pages_kept [] [] long each = refl

@@ -5,7 +5,7 @@ use Rattle.std.proofs.lemmas.List.{append-nil, append_assoc}
 use Rattle.std.proofs.lemmas.List.Concat.{flat_map-append}
 use Rattle.sink_pieces.specs.Output.{Grew, GrewByFront, Moves}
 use Rattle.sink_pieces.proofs.OutputLemmas.{Grew-append, Grew-nothing}
-use Rattle.search_engine.specs.declared.tally.Tally.{Tally}
+use Rattle.search_engine.specs.declared.counts.Counts.{Counts}
 use Rattle.search_engine.specs.Scan.{Asked, IsFound, IsTried, Picks, Placed, line_of, lines_of, numbered, placed}
 use Rattle.search_engine.specs.Sofar.{Advances, Counted, Goes, Passes, Sofar, Stops, TicksWithin}
 
@@ -87,8 +87,8 @@ counted_length a b xs ys counted = subst (Counted a b) (sym (length-append xs ys
 advances_on : (a b c : Sofar) (f t g u : List Placed) → Advances a b f t → Advances b c g u → Advances a c (f ++ g) (t ++ u)
 advances_on a b c f t g u one two = record {
   goes = subst (Goes a c) (sym (flat_map-append line_of f g)) (goes_on a b c (lines_of f) (lines_of g) one.goes two.goes);
-  matched = counted_length a.tally.matched c.tally.matched f g (counted_on a.tally.matched b.tally.matched c.tally.matched (length f) (length g) one.matched two.matched);
-  expanded = counted_length a.tally.expanded c.tally.expanded t u (counted_on a.tally.expanded b.tally.expanded c.tally.expanded (length t) (length u) one.expanded two.expanded);
+  matched = counted_length a.counts.matched c.counts.matched f g (counted_on a.counts.matched b.counts.matched c.counts.matched (length f) (length g) one.matched two.matched);
+  expanded = counted_length a.counts.expanded c.counts.expanded t u (counted_on a.counts.expanded b.counts.expanded c.counts.expanded (length t) (length u) one.expanded two.expanded);
   ticks = omega (arith, one.ticks, two.ticks, length-append t u);
 }
 
@@ -111,16 +111,16 @@ passes_on version q xs ys a b c one two = record {
 }
 
 -- what was gathered went to the sink, or a part of it
-pub passes_moves : (version : ℕ) (q : Asked) (xs : List Placed) (a b c : Sofar) → Passes version q xs a b → Goes b c [] → c.tally ≡ b.tally → c.ticks ≡ b.ticks → Passes version q xs a c
-passes_moves version q xs a b c one goes tally ticks = record {
+pub passes_moves : (version : ℕ) (q : Asked) (xs : List Placed) (a b c : Sofar) → Passes version q xs a b → Goes b c [] → c.counts ≡ b.counts → c.ticks ≡ b.ticks → Passes version q xs a c
+passes_moves version q xs a b c one goes counts ticks = record {
   found = one.found;
   tried = one.tried;
   are_found = one.are_found;
   are_tried = one.are_tried;
   advances = record {
     goes = subst (Goes a c) (append-nil (lines_of one.found)) (goes_on a b c (lines_of one.found) [] one.advances.goes goes);
-    matched = subst (λ (t : Tally). Counted a.tally.matched t.matched (length one.found)) (sym tally) one.advances.matched;
-    expanded = subst (λ (t : Tally). Counted a.tally.expanded t.expanded (length one.tried)) (sym tally) one.advances.expanded;
+    matched = subst (λ (t : Counts). Counted a.counts.matched t.matched (length one.found)) (sym counts) one.advances.matched;
+    expanded = subst (λ (t : Counts). Counted a.counts.expanded t.expanded (length one.tried)) (sym counts) one.advances.expanded;
     ticks = ticks ∙ one.advances.ticks;
   };
 }

@@ -11,10 +11,10 @@ use Rattle.subquery_filter.specs.declared.verdicts.Verdict.{Verdict}
 use Rattle.subquery_filter.specs.declared.verdicts.Verdict.TheVariants.{Rejected, Certain}
 use Rattle.search_engine.specs.Scan.{Asked, placed}
 use Rattle.search_engine.specs.Sofar.{Passes, sofar}
-use Rattle.search_engine.specs.declared.tally.Tally.{Tally}
+use Rattle.search_engine.specs.declared.counts.Counts.{Counts}
 use Rattle.search_engine.proofs.RowLemmas.{passed}
 
-pub rejected_passes : (version : ℕ) (q : Asked) (row : Row) (types words : List (List ℕ)) (name : List ℕ) (number : ℕ) (message : List ℕ) (w : Option (List ℕ)) (g : List ℕ) (a : Tally) (t : ℕ) (v : Verdict)
+pub rejected_passes : (version : ℕ) (q : Asked) (row : Row) (types words : List (List ℕ)) (name : List ℕ) (number : ℕ) (message : List ℕ) (w : Option (List ℕ)) (g : List ℕ) (a : Counts) (t : ℕ) (v : Verdict)
     → WideIsWider → v ≡ Rejected → IsRowVerdict (wide_pieces q.pattern) types words row v → IsCanonical version row types words message
     → Passes version q (placed name number message ∷ []) (sofar w g a t) (sofar w g a t)
 rejected_passes version q row types words name number message w g a t v wider is told canonical =

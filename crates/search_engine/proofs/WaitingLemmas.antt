@@ -165,9 +165,9 @@ reaches_all n q a b none passes = λ early waits. record {
 }
 
 -- what was at hand went out
-pub reaches_flushed : (n : Named) (q : Asked) (a b c : State) → Reaches n q [] a b → c.pending.pages ≡ b.pending.pages → Grew b.written c.written b.pending.gathered → c.pending.gathered ≡ [] → c.pending.tally ≡ b.pending.tally
+pub reaches_flushed : (n : Named) (q : Asked) (a b c : State) → Reaches n q [] a b → c.pending.pages ≡ b.pending.pages → Grew b.written c.written b.pending.gathered → c.pending.gathered ≡ [] → c.pending.counts ≡ b.pending.counts
     → c.ticks ≡ b.ticks → Reaches n q [] a c
-reaches_flushed n q a b c one pages grew empty tally ticks =
+reaches_flushed n q a b c one pages grew empty counts ticks =
     reaches_on n q [] [] a b c one
     (λ early waits. record {
       done = [];
@@ -175,7 +175,7 @@ reaches_flushed n q a b c one pages grew empty tally ticks =
       waits = subst (λ l. WaitFor n l early) (sym pages) waits;
       same = same_is n.version q (early ++ []) early (append-nil early);
       passes = passes_moves n.version q [] (sofar_of b) (sofar_of b) (sofar_of c) (passes_none n.version q (sofar_of b))
-          (goes_moved (sofar_of b) (sofar_of c) (Moves-all b.written c.written b.pending.gathered c.pending.gathered grew empty)) tally ticks;
+          (goes_moved (sofar_of b) (sofar_of c) (Moves-all b.written c.written b.pending.gathered c.pending.gathered grew empty)) counts ticks;
     })
 
 -- where no page waited and none waits, the search has gone past the messages
@@ -208,13 +208,13 @@ halts_here n q xs a w k front ticks = λ early waits.
 pub halts_all : (n : Named) (q : Asked) (a : State) (w : Option (List ℕ)) (k : ℕ) → ((all : List Placed) → WaitFor n a.pending.pages all → Stops n.version q all (sofar_of a) w k) → Halts n q [] a w k
 halts_all n q a w k stops = λ early waits. subst (λ l. Stops n.version q l (sofar_of a) w k) (sym (append-nil early)) (stops early waits)
 
--- ---- a round
+-- ---- a batch
 
 pub round_reaches : (n : Named) (q : Asked) (w v : Option (List ℕ)) (x y z : Pending) (k j : ℕ) → y ≡ x → z.pages ≡ []
-    → ((all : List Placed) → WaitFor n y.pages all → Passes n.version q all (sofar w y.gathered y.tally k) (sofar v z.gathered z.tally j)) → Reaches n q [] (state w x k) (state v z j)
+    → ((all : List Placed) → WaitFor n y.pages all → Passes n.version q all (sofar w y.gathered y.counts k) (sofar v z.gathered z.counts j)) → Reaches n q [] (state w x k) (state v z j)
 round_reaches n q w v x y z k j same none passes = subst (λ (e : Pending). Reaches n q [] (state w e k) (state v z j)) same (reaches_all n q (state w y k) (state v z j) none passes)
 
-pub round_halts : (n : Named) (q : Asked) (w v : Option (List ℕ)) (x y : Pending) (k j : ℕ) → y ≡ x → ((all : List Placed) → WaitFor n y.pages all → Stops n.version q all (sofar w y.gathered y.tally k) v j) → Halts n q [] (state w x k) v j
+pub round_halts : (n : Named) (q : Asked) (w v : Option (List ℕ)) (x y : Pending) (k j : ℕ) → y ≡ x → ((all : List Placed) → WaitFor n y.pages all → Stops n.version q all (sofar w y.gathered y.counts k) v j) → Halts n q [] (state w x k) v j
 round_halts n q w v x y k j same stops = subst (λ (e : Pending). Halts n q [] (state w e k) v j) same (halts_all n q (state w y k) v j stops)
 
 pub round_blames : (n : Named) (x y : Pending) → y ≡ x → ((all : List Placed) → WaitFor n y.pages all → ⊥) → Blames n x.pages ⊥

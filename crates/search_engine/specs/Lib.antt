@@ -8,3 +8,4 @@ pub mod Opened
 pub mod Searched
 pub mod Laws
 pub mod StepsPast
+pub mod StepsScope

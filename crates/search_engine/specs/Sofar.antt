@@ -1,18 +1,18 @@
 -- How far a search has come, and how it goes on.
 use Rattle.std.specs.Prelude.{◌≡◌, ◌<◌, ◌≤◌, ◌+◌, ◌^◌, ℕ, List, ◌++◌, length, Option}
 use Rattle.sink_pieces.specs.Output.{Grew, GrewByFront}
-use Rattle.search_engine.specs.declared.tally.Tally.{Tally}
+use Rattle.search_engine.specs.declared.counts.Counts.{Counts}
 use Rattle.search_engine.specs.Scan.{AreFound, AreTried, Asked, Placed, lines_of}
 
 -- what the sink has taken, what is gathered for it, the counts, and the ticks of expanded messages
 pub record Sofar : Type 0 where
   pub written : Option (List ℕ)
   pub gathered : List ℕ
-  pub tally : Tally
+  pub counts : Counts
   pub ticks : ℕ
 
-abbrev pub sofar : Option (List ℕ) → List ℕ → Tally → ℕ → Sofar
-sofar written gathered tally ticks = record { written = written; gathered = gathered; tally = tally; ticks = ticks }
+abbrev pub sofar : Option (List ℕ) → List ℕ → Counts → ℕ → Sofar
+sofar written gathered counts ticks = record { written = written; gathered = gathered; counts = counts; ticks = ticks }
 
 -- what was gathered and then the text went on to the sink, but for what is gathered now
 pub record Goes (a b : Sofar) (text : List ℕ) : Type 0 where
@@ -27,8 +27,8 @@ Counted old new more = old + more < 2 ^ 64 → new ≡ old + more
 -- the search has gone on by these messages: these were found, and those expanded
 pub record Advances (a b : Sofar) (found tried : List Placed) : Type 0 where
   pub goes : Goes a b (lines_of found)
-  pub matched : Counted a.tally.matched b.tally.matched (length found)
-  pub expanded : Counted a.tally.expanded b.tally.expanded (length tried)
+  pub matched : Counted a.counts.matched b.counts.matched (length found)
+  pub expanded : Counted a.counts.expanded b.counts.expanded (length tried)
   pub ticks : b.ticks ≡ a.ticks + length tried
 
 -- the search has gone past these messages

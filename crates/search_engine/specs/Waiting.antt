@@ -2,7 +2,7 @@
 use Rattle.std.specs.Prelude.{◌≡◌, ◌↔◌, ◌<◌, ℕ, List, [], ◌∷◌, ◌++◌, length, slice_index_or, map, Option, Result, OnOk, IsErrOf, All}
 use Rattle.column_store.specs.declared.row.Row.{Row}
 use Rattle.search_engine.specs.declared.refusal.PrintRefusal.{PrintRefusal}
-use Rattle.search_engine.specs.declared.tally.Tally.{Tally}
+use Rattle.search_engine.specs.declared.counts.Counts.{Counts}
 use Rattle.search_engine.specs.Scan.{Asked, IsFound, IsTried, Picks, Placed, numbered}
 use Rattle.search_engine.specs.Sofar.{Passes, Sofar, Stops, sofar}
 use Rattle.search_engine.specs.Held.{AreRowsOf, Named}
@@ -30,24 +30,24 @@ Blames n pages P = (early : List Placed) → WaitFor n pages early → P
 
 -- ---- a page that was searched
 
-abbrev pub no_tally : Tally
-no_tally = record { matched = 0; expanded = 0 }
+abbrev pub no_counts : Counts
+no_counts = record { matched = 0; expanded = 0 }
 
 -- a page, the lines and the counts that its search left, and whether it went through
 pub record Slotted : Type 0 where
   pub page : Page
   pub text : List ℕ
-  pub tally : Tally
+  pub counts : Counts
   pub answer : Result (Unit {0}) PrintRefusal
 
 -- from nothing on the search of the page gathered this text, and counted and expanded so many
-abbrev pub PrintsPage : Named → Asked → Page → List ℕ → Tally → Type 0
-PrintsPage n q p text tally =
+abbrev pub PrintsPage : Named → Asked → Page → List ℕ → Counts → Type 0
+PrintsPage n q p text counts =
     (w : Option (List ℕ)) (messages : List (List ℕ)) → AreRowsOf n p.rows messages
-    → Passes n.version q (numbered p.name p.number messages) (sofar w [] no_tally 0) (sofar w text tally tally.expanded)
+    → Passes n.version q (numbered p.name p.number messages) (sofar w [] no_counts 0) (sofar w text counts counts.expanded)
 
 pub record IsWorked (n : Named) (q : Asked) (s : Slotted) : Type 0 where
-  pub done : OnOk s.answer (PrintsPage n q s.page s.text s.tally)
+  pub done : OnOk s.answer (PrintsPage n q s.page s.text s.counts)
   pub damaged : IsErrOf s.answer PrintRefusal.Damaged → (messages : List (List ℕ)) → ¬ AreRowsOf n s.page.rows messages
 
 abbrev pub pages_of : List Slotted → List Page
@@ -73,11 +73,11 @@ OfAllWorked slots P = (n : Named) (q : Asked) (all : List Placed) → All (IsWor
 -- what is gathered for the sink, the counts, and the pages that wait
 pub record Pending : Type 0 where
   pub gathered : List ℕ
-  pub tally : Tally
+  pub counts : Counts
   pub pages : List Page
 
 abbrev pub nothing_pending : Pending
-nothing_pending = record { gathered = []; tally = no_tally; pages = [] }
+nothing_pending = record { gathered = []; counts = no_counts; pages = [] }
 
 -- what the sink has taken, what is at hand, and the ticks of expanded messages
 pub record State : Type 0 where
@@ -89,7 +89,7 @@ abbrev pub state : Option (List ℕ) → Pending → ℕ → State
 state written pending ticks = record { written = written; pending = pending; ticks = ticks }
 
 abbrev pub sofar_of : State → Sofar
-sofar_of s = sofar s.written s.pending.gathered s.pending.tally s.ticks
+sofar_of s = sofar s.written s.pending.gathered s.pending.counts s.ticks
 
 -- of both lists the same is found, and the same is expanded
 pub record Same (version : ℕ) (q : Asked) (xs ys : List Placed) : Type 0 where

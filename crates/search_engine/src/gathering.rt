@@ -6,9 +6,9 @@ ghost use Rattle.search_engine.specs.Scan.{Placed};
 ghost use Rattle.search_engine.specs.Sofar.{Passes, Stops, sofar};
 ghost use Rattle.search_engine.specs.Waiting.{OfAllWorked, OfWorked};
 
+use crate::counts::Counts;
+use crate::page_slot::PageSlot;
 use crate::refusal::SearchRefusal;
-use crate::slots::Slot;
-use crate::tally::Tally;
 use log_seams::Sink;
 use sink_pieces::{PIECE, flush, flush_piece, write_all};
 use std::sync::ledger::Ledger;
@@ -49,18 +49,18 @@ fn tick_times<M: Ledger>(times: u64, expanded: &mut Steps<M>)
 
 /// Sends on what the search of a page left.
 fn gather<K: Sink, M: Ledger>(
-    slot: &Slot,
+    slot: &PageSlot,
     out: &mut K,
     gathered: &mut Vec<u8>,
-    tally: &mut Tally,
+    counts: &mut Counts,
     expanded: &mut Steps<M>,
 ) -> Result<(), SearchRefusal>
     // by the answer
     ensures done { OnOk result (OfWorked slot.now (λ n q all. Passes n.version q all
-        (sofar (K.written out.old) gathered.old.items tally.old expanded.old)
-        (sofar (K.written out.new) gathered.new.items tally.new expanded.new))) }
+        (sofar (K.written out.old) gathered.old.items counts.old expanded.old)
+        (sofar (K.written out.new) gathered.new.items counts.new expanded.new))) }
     ensures stopped { OnErr result (OfWorked slot.now (λ n q all. Stops n.version q all
-        (sofar (K.written out.old) gathered.old.items tally.old expanded.old)
+        (sofar (K.written out.old) gathered.old.items counts.old expanded.old)
         (K.written out.new) expanded.new)) }
 
     // causes
@@ -71,27 +71,27 @@ fn gather<K: Sink, M: Ledger>(
 {
     slot.answer()?;
     put_text(out, gathered, slot.text())?;
-    let counts = slot.tally();
-    tick_times(counts.expanded, expanded);
-    tally.matched = tally.matched.saturating_add(counts.matched);
-    tally.expanded = tally.expanded.saturating_add(counts.expanded);
+    let own = slot.counts();
+    tick_times(own.expanded, expanded);
+    counts.matched = counts.matched.saturating_add(own.matched);
+    counts.expanded = counts.expanded.saturating_add(own.expanded);
     Ok(())
 }
 
 /// Sends on what the searches of pages left, in order, up to the first that did not go through.
 pub(crate) fn gather_all<K: Sink, M: Ledger>(
-    slots: &[Slot],
+    slots: &[PageSlot],
     out: &mut K,
     gathered: &mut Vec<u8>,
-    tally: &mut Tally,
+    counts: &mut Counts,
     expanded: &mut Steps<M>,
 ) -> Result<(), SearchRefusal>
     // by the answer
     ensures done { OnOk result (OfAllWorked slots.now (λ n q all. Passes n.version q all
-        (sofar (K.written out.old) gathered.old.items tally.old expanded.old)
-        (sofar (K.written out.new) gathered.new.items tally.new expanded.new))) }
+        (sofar (K.written out.old) gathered.old.items counts.old expanded.old)
+        (sofar (K.written out.new) gathered.new.items counts.new expanded.new))) }
     ensures stopped { OnErr result (OfAllWorked slots.now (λ n q all. Stops n.version q all
-        (sofar (K.written out.old) gathered.old.items tally.old expanded.old)
+        (sofar (K.written out.old) gathered.old.items counts.old expanded.old)
         (K.written out.new) expanded.new)) }
 
     // causes
@@ -102,7 +102,7 @@ pub(crate) fn gather_all<K: Sink, M: Ledger>(
         (K.faults out.old) (K.faults out.new) result }
 {
     for slot in slots {
-        gather(slot, out, gathered, tally, expanded)?;
+        gather(slot, out, gathered, counts, expanded)?;
     }
     Ok(())
 }

@@ -8,6 +8,7 @@ use query_plan::wide_is_wider;
 pub fn exact_expands_printed()
     ensures { ExactExpandsPrinted }
 {
+    // What the pattern matches, the widened one matches too, and here nothing else.
     wide_is_wider();
 }
 

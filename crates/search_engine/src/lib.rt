@@ -1,18 +1,21 @@
 //! Searching an archive: the lines of all messages that a pattern matches, in order.
 #![tactic(auto)]
 
+mod context;
+mod counts;
 mod gathering;
+mod label;
 mod laws;
+mod opening;
+mod page_batch;
+mod page_slot;
 mod paging;
 mod printing;
 mod query;
 mod refusal;
 mod report;
-mod round;
 mod searching;
 mod segments;
-mod slots;
-mod tally;
 
 pub use laws::{exact_expands_printed, one_is_found};
 pub use refusal::SearchRefusal;

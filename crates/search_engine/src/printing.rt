@@ -2,32 +2,32 @@
 ghost use Rattle.std.specs.Prelude.{◌≡◌, ◌<◌, ◌+◌, ◌^◌, ◌++◌, ◌∷◌, [], ℕ, List, Option, length, IsTrue, OnOk, OnErr, IsErrOf};
 ghost use Rattle.column_store.specs.Row.{row_of};
 ghost use Rattle.row_codec.specs.Means.{IsCanonical};
-ghost use Rattle.query_plan.specs.Laws.{IsSearched};
-ghost use Rattle.query_plan.specs.Pieces.{wide_pieces};
-ghost use Rattle.subquery_filter.specs.Filter.{IsFilter, IsRowVerdict};
-ghost use Rattle.search_engine.specs.Held.{AreRowsOf, named};
+ghost use Rattle.search_engine.specs.Held.{AreRowsOf};
 ghost use Rattle.search_engine.specs.Judged.{Keeps, label_of};
 ghost use Rattle.search_engine.specs.Scan.{numbered, placed};
 ghost use Rattle.search_engine.specs.Sofar.{Passes, TicksWithin, sofar};
 
-use crate::query::{Judgement, Query};
+use crate::context::Context;
+use crate::counts::Counts;
+use crate::label::Label;
+use crate::query::Judgement;
 use crate::refusal::PrintRefusal;
-use crate::tally::Tally;
 use column_store::{Columns, RowRef};
 use query_plan::wide_is_wider;
-use row_codec::{Names, write_fitting};
+use row_codec::Names;
 use std::alloc::AllocError;
 use std::sync::ledger::Ledger;
 use step_count::Steps;
-use subquery_filter::{Filter, Verdict};
+use subquery_filter::Verdict;
 
 /// Appends what stands before a message in its line.
-fn put_label(gathered: &mut Vec<u8>, name: &[u8], number: u64) -> Result<(), AllocError>
-    ensures { OnOk result (gathered.new.items ≡ gathered.old.items ++ label_of name.now number) }
+fn put_label(gathered: &mut Vec<u8>, label: Label<'_>) -> Result<(), AllocError>
+    ensures { OnOk result (gathered.new.items
+        ≡ gathered.old.items ++ label_of label.entry.name.now label.entry.number) }
 {
-    gathered.extend_from_slice(name)?;
+    gathered.extend_from_slice(label.name)?;
     gathered.push(b':')?;
-    gathered.extend_from_slice(itoa::Buffer::new().format(number).as_bytes())?;
+    gathered.extend_from_slice(itoa::Buffer::new().format(label.number).as_bytes())?;
     gathered.push(b':')?;
     Ok(())
 }
@@ -37,11 +37,11 @@ fn keep<M: Ledger>(
     judgement: Judgement,
     len: usize,
     gathered: &mut Vec<u8>,
-    tally: &mut Tally,
+    counts: &mut Counts,
     expanded: &mut Steps<M>,
 ) -> Result<(), AllocError>
     ensures kept { OnOk result (Keeps judgement len gathered.old.items gathered.new.items
-        tally.old tally.new expanded.old expanded.new) }
+        counts.old counts.new expanded.old expanded.new) }
     ensures ticks { OnErr result (expanded.new ≡ expanded.old) }
 {
     match judgement {
@@ -49,13 +49,13 @@ fn keep<M: Ledger>(
         Judgement::Tried => {
             gathered.truncate(len);
             expanded.tick();
-            tally.expanded = tally.expanded.saturating_add(1);
+            counts.expanded = counts.expanded.saturating_add(1);
         }
         Judgement::Found => {
             gathered.push(b'\n')?;
             expanded.tick();
-            tally.matched = tally.matched.saturating_add(1);
-            tally.expanded = tally.expanded.saturating_add(1);
+            counts.matched = counts.matched.saturating_add(1);
+            counts.expanded = counts.expanded.saturating_add(1);
         }
     }
     Ok(())
@@ -80,89 +80,79 @@ fn is_certain(verdict: Verdict) -> bool
 /// A message in the range is written and then matched: one that is not found is taken back, which
 /// costs less than a match over the row as it is stored. Where the filter tells that it cannot be
 /// found it is not written, and where it tells that it is expanded it is not matched for that.
-fn search_row<N: Names, M: Ledger>(
-    query: &Query,
-    names: &N,
-    name: &[u8],
-    number: u64,
+fn print_row<N: Names, M: Ledger>(
+    context: &Context<'_, N>,
+    label: Label<'_>,
     row: RowRef<'_>,
-    verdict: Verdict,
     gathered: &mut Vec<u8>,
-    tally: &mut Tally,
+    counts: &mut Counts,
     expanded: &mut Steps<M>,
 ) -> Result<(), PrintRefusal>
-    requires searched { IsSearched query.now.pattern }
-    requires verdict { IsRowVerdict (wide_pieces query.now.pattern) (N.types names.now)
-        (N.words names.now) (row_of row) verdict }
     ensures done { OnOk result ((w : Option (List ℕ)) (message : List ℕ)
-        → IsCanonical (N.version names.now) (row_of row.entry) (N.types names.now)
-        (N.words names.now) message
-        → Passes (N.version names.now) query.now (placed name.now number message ∷ [])
-        (sofar w gathered.old.items tally.old expanded.old)
-        (sofar w gathered.new.items tally.new expanded.new)) }
+        → IsCanonical context.now.names.version (row_of row.entry) context.now.names.types
+        context.now.names.words message
+        → Passes context.now.names.version context.now.query
+        (placed label.entry.name.now label.entry.number message ∷ [])
+        (sofar w gathered.old.items counts.old expanded.old)
+        (sofar w gathered.new.items counts.new expanded.new)) }
     ensures ticks { OnErr result (expanded.new ≡ expanded.old) }
     ensures damaged { IsErrOf result PrintRefusal.Damaged → (message : List ℕ)
-        → ¬ IsCanonical (N.version names.now) (row_of row.entry) (N.types names.now)
-        (N.words names.now) message }
+        → ¬ IsCanonical context.now.names.version (row_of row.entry) context.now.names.types
+        context.now.names.words message }
 {
+    // What the pattern matches, the one that the search is planned over matches too.
     wide_is_wider();
+    let verdict = context.verdict(row);
     if is_rejected(verdict) {
         return Ok(());
     }
-    if !query.range().holds(row.pattern, row.moment) {
+    if !context.is_inside(row) {
         return Ok(());
     }
     let len = gathered.len();
-    put_label(gathered, name, number)?;
+    put_label(gathered, label)?;
     let start = gathered.len();
-    if !write_fitting(row, names, gathered)? {
+    if !context.write(row, gathered)? {
         return Err(PrintRefusal::Damaged);
     }
     let (_, text) = gathered.as_slice().split_at(start);
-    let judgement = query.judge(is_certain(verdict), text);
-    keep(judgement, len, gathered, tally, expanded)?;
+    let judgement = context.judge(is_certain(verdict), text);
+    keep(judgement, len, gathered, counts, expanded)?;
     Ok(())
 }
 
 /// Writes the lines of the rows of a page that are found behind what is gathered. The first row has
-/// this number.
-pub(crate) fn search_page<N: Names, M: Ledger>(
-    query: &Query,
-    names: &N,
-    name: &[u8],
-    number: u64,
+/// this label.
+pub(crate) fn print_page<N: Names, M: Ledger>(
+    context: &Context<'_, N>,
+    label: Label<'_>,
     page: &Columns,
-    filter: &Filter,
     gathered: &mut Vec<u8>,
-    tally: &mut Tally,
+    counts: &mut Counts,
     expanded: &mut Steps<M>,
 ) -> Result<(), PrintRefusal>
-    requires searched { IsSearched query.now.pattern }
-    requires filter { IsFilter (wide_pieces query.now.pattern) (N.types names.now)
-        (N.words names.now) filter.now }
-    requires small { number + length page.now.rows < 2 ^ 64 }
+    requires small { label.number + length page.now.rows < 2 ^ 64 }
     ensures done { OnOk result ((w : Option (List ℕ)) (messages : List (List ℕ))
-        → AreRowsOf (named (N.version names.now) (N.types names.now) (N.words names.now))
-        page.now.rows messages
-        → Passes (N.version names.now) query.now (numbered name.now number messages)
-        (sofar w gathered.old.items tally.old expanded.old)
-        (sofar w gathered.new.items tally.new expanded.new)) }
+        → AreRowsOf context.now.names page.now.rows messages
+        → Passes context.now.names.version context.now.query
+        (numbered label.entry.name.now label.entry.number messages)
+        (sofar w gathered.old.items counts.old expanded.old)
+        (sofar w gathered.new.items counts.new expanded.new)) }
     ensures ticks { OnErr result ((messages : List (List ℕ))
-        → AreRowsOf (named (N.version names.now) (N.types names.now) (N.words names.now))
-        page.now.rows messages
-        → TicksWithin (N.version names.now) query.now (numbered name.now number messages)
+        → AreRowsOf context.now.names page.now.rows messages
+        → TicksWithin context.now.names.version context.now.query
+        (numbered label.entry.name.now label.entry.number messages)
         expanded.old expanded.new) }
     ensures damaged { IsErrOf result PrintRefusal.Damaged → (messages : List (List ℕ))
-        → ¬ AreRowsOf (named (N.version names.now) (N.types names.now) (N.words names.now))
-        page.now.rows messages }
+        → ¬ AreRowsOf context.now.names page.now.rows messages }
 {
     for place in 0..page.rows() {
+        let here = Label {
+            name: label.name,
+            number: label.number + u64::from(place),
+        };
         let row = page.row(place);
-        let at = number + u64::from(place);
-        let verdict = filter.verdict(row);
-        search_row(
-            query, names, name, at, row, verdict, gathered, tally, expanded,
-        )?;
+        print_row(context, here, row, gathered, counts, expanded)?;
     }
     Ok(())
 }

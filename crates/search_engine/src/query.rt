@@ -115,6 +115,7 @@ impl Query {
         requires { IsTrue certain → Match (wide self.now.pattern) text.now }
         ensures { Judges self.now text.now result }
     {
+        // What the pattern matches, the one that the search is planned over matches too.
         wide_is_wider();
         if !certain && !self.planned.matches(text) {
             return Judgement::Left;

@@ -8,11 +8,12 @@ ghost use Rattle.archive_open.specs.Shown.{Opens};
 ghost use Rattle.search_engine.specs.Waiting.{nothing_pending};
 ghost use Rattle.search_engine.specs.Searched.{HasSearched, HasStopped, OfJournal, ReadsNoBarren, asked};
 
+use crate::context::Context;
+use crate::page_batch::PageBatch;
 use crate::query::Query;
 use crate::refusal::SearchRefusal;
 use crate::report::Report;
-use crate::round::Round;
-use crate::segments::search_segments;
+use crate::segments::visit_segments;
 use archive_open::{Archive, KeepsTexts};
 use column_store::Range;
 use log_seams::{Disk, Sink};
@@ -24,7 +25,7 @@ use subquery_filter::{KnownNames, known_words};
 use wild_match::Pattern;
 
 /// Searches the segments of an archive, with nothing gathered, and sends out what is left.
-fn search_archive<
+fn search_opened<
     R: Threads + Sync,
     T: KeepsTexts + Drop + Sync,
     D: Disk,
@@ -33,18 +34,17 @@ fn search_archive<
     M: Ledger,
 >(
     rt: &R,
-    alloc: Global,
     query: &Query,
     archive: &Archive<T>,
     disk: &mut D,
     out: &mut K,
-    round: &mut Round,
+    batch: &mut PageBatch,
     opened: &mut Steps<L>,
     expanded: &mut Steps<M>,
 ) -> Result<Report, SearchRefusal>
     requires searched { IsSearched query.now.pattern }
     requires opens { Opens (D.state disk.old).seen (shown T.kept archive.now) }
-    requires empty { round.old ≡ nothing_pending }
+    requires empty { batch.old ≡ nothing_pending }
 
     // what stays
     ensures rests { Rests (D.state disk.old) (D.state disk.new) }
@@ -69,20 +69,20 @@ fn search_archive<
     ensures sink_counts { CountsOf SearchRefusal.SinkFault
         (K.faults out.old) (K.faults out.new) result }
 {
+    let alloc = batch.alloc();
     let files = archive.files().as_slice();
     let segments = archive.segments().as_slice();
     let kept = archive.names();
     let known = known_words(alloc, query.plan(), kept)?;
     let names = KnownNames::new(kept, known.as_slice());
     let filter = query.filter(alloc, &names)?;
-    let count = search_segments(
-        rt, alloc, query, &names, files, segments, &filter, disk, out, round, opened, expanded,
-    )?;
-    round.finish(rt, query, &names, &filter, out, expanded)?;
-    let tally = round.tally();
+    let context = Context::new(query, &names, &filter, files);
+    let count = visit_segments(rt, &context, segments, disk, out, batch, opened, expanded)?;
+    batch.finish(rt, &context, out, expanded)?;
+    let counts = batch.counts();
     Ok(Report {
-        matched: tally.matched,
-        expanded: tally.expanded,
+        matched: counts.matched,
+        expanded: counts.expanded,
         opened: count,
         segments: segments.len() as u64,
     })
@@ -150,8 +150,6 @@ pub fn search<
         (K.faults out.old) (K.faults out.new) result }
 {
     let query = Query::new(alloc, pattern, range)?;
-    let mut round = Round::new(alloc, workers);
-    search_archive(
-        rt, alloc, &query, archive, disk, out, &mut round, opened, expanded,
-    )
+    let mut batch = PageBatch::new(alloc, workers);
+    search_opened(rt, &query, archive, disk, out, &mut batch, opened, expanded)
 }

@@ -6,22 +6,22 @@ use Rattle.search_engine.proofs.searching.search.Goals as goal
 
 pub returns-clause-reads : goal.returns-clause-reads
 returns-clause-reads g c =
-    subst (λ q. OfJournal (g.D.Disk.state c.args.disk.now).seen (λ h es held. ReadsNoBarren h es held q (g.D.Disk.state c.args.disk.now).ranges (g.D.Disk.state c.search_archive.new.disk).ranges))
-    (asked_is c.in_ok-query.query c.args.pattern.now c.args.range.now c.in_ok-query.ensures.pattern c.in_ok-query.ensures.range) c.search_archive.ensures.reads
+    subst (λ q. OfJournal (g.D.Disk.state c.args.disk.now).seen (λ h es held. ReadsNoBarren h es held q (g.D.Disk.state c.args.disk.now).ranges (g.D.Disk.state c.search_opened.new.disk).ranges))
+    (asked_is c.in_ok-query.query c.args.pattern.now c.args.range.now c.in_ok-query.ensures.pattern c.in_ok-query.ensures.range) c.search_opened.ensures.reads
 
 pub returns-clause-done : goal.returns-clause-done
 returns-clause-done g c =
     subst
-    (λ q. IfOk c.search_archive.result (λ r. OfJournal (g.D.Disk.state c.args.disk.now).seen (λ h _ held. HasSearched h held q c.args.archive.now.segments r (g.K.Sink.written c.args.out.now) (g.K.Sink.written c.search_archive.new.out)
-    c.args.opened.now c.search_archive.new.opened c.args.expanded.now c.search_archive.new.expanded)))
-    (asked_is c.in_ok-query.query c.args.pattern.now c.args.range.now c.in_ok-query.ensures.pattern c.in_ok-query.ensures.range) c.search_archive.ensures.done
+    (λ q. IfOk c.search_opened.result (λ r. OfJournal (g.D.Disk.state c.args.disk.now).seen (λ h _ held. HasSearched h held q c.args.archive.now.segments r (g.K.Sink.written c.args.out.now) (g.K.Sink.written c.search_opened.new.out)
+    c.args.opened.now c.search_opened.new.opened c.args.expanded.now c.search_opened.new.expanded)))
+    (asked_is c.in_ok-query.query c.args.pattern.now c.args.range.now c.in_ok-query.ensures.pattern c.in_ok-query.ensures.range) c.search_opened.ensures.done
 
 pub returns-clause-stopped : goal.returns-clause-stopped
 returns-clause-stopped g c =
     subst
-    (λ q. OnErr c.search_archive.result (OfJournal (g.D.Disk.state c.args.disk.now).seen (λ h _ held. HasStopped h held q c.args.archive.now.segments (g.K.Sink.written c.args.out.now) (g.K.Sink.written c.search_archive.new.out)
-    c.args.opened.now c.search_archive.new.opened c.args.expanded.now c.search_archive.new.expanded)))
-    (asked_is c.in_ok-query.query c.args.pattern.now c.args.range.now c.in_ok-query.ensures.pattern c.in_ok-query.ensures.range) c.search_archive.ensures.stopped
+    (λ q. OnErr c.search_opened.result (OfJournal (g.D.Disk.state c.args.disk.now).seen (λ h _ held. HasStopped h held q c.args.archive.now.segments (g.K.Sink.written c.args.out.now) (g.K.Sink.written c.search_opened.new.out)
+    c.args.opened.now c.search_opened.new.opened c.args.expanded.now c.search_opened.new.expanded)))
+    (asked_is c.in_ok-query.query c.args.pattern.now c.args.range.now c.in_ok-query.ensures.pattern c.in_ok-query.ensures.range) c.search_opened.ensures.stopped
 
 pub returns-in_err-query-clause-reads : goal.returns-in_err-query-clause-reads
 returns-in_err-query-clause-reads g c = reads_nothing _ (asked c.args.pattern.now c.args.range.now) _ _ refl
