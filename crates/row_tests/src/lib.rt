@@ -6,4 +6,6 @@ mod books;
 #[cfg(test)]
 mod row_codec_tests;
 #[cfg(test)]
+mod row_writer_tests;
+#[cfg(test)]
 mod subquery_filter_tests;
