@@ -143,3 +143,12 @@ held_in types words number places others bytes messages e hold = subst (λ l. Ho
 -- an archive that was opened is that of the disk, which was only read
 pub opens_after : (old new : DiskState) (a : Shown) → KeepsBytes old new → Opens old.seen a → Opens new.seen a
 opens_after old new a keeps opened = subst (λ s. Opens s a) (sym keeps.seen) opened
+
+grew_none : (w : Option (List ℕ)) → Grew w w []
+grew_none None = refl
+grew_none (Some bytes) = ap (λ l. Some l) (sym (append-nil bytes))
+
+-- nothing was sent
+pub nothing_decoded : (number : ℕ) (seen w : Option (List ℕ)) → Decodes false number seen w w
+nothing_decoded number None w = tt
+nothing_decoded number (Some bytes) w = λ h es stood file at. ([], file_text file, refl, grew_none w)

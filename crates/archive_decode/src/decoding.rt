@@ -16,7 +16,7 @@ use crate::segment::{PageRoom, write_segment};
 use archive_open::{Archive, FileEntry, KeepsTexts, SegmentPlace};
 use column_store::Columns;
 use log_seams::{Disk, Sink};
-use row_codec::Names;
+use row_codec::{Layouts, Names};
 use segment_pages::segments_are_held;
 use std::alloc::Global;
 use std::marker::Brand;
@@ -36,11 +36,14 @@ fn write_segments<N: Names, D: Disk, K: Sink, L: Ledger>(
     number: u32,
     places: &[SegmentPlace],
     names: &N,
+    layouts: &Layouts,
     disk: &mut D,
     lines: &mut Lines,
     out: &mut K,
     steps: &mut Steps<L>,
 ) -> Result<(), DecodeRefusal>
+    requires types { layouts.now ≡ N.types names.now }
+
     // what stays
     ensures rests { Rests (D.state disk.old) (D.state disk.new) }
 
@@ -73,7 +76,9 @@ fn write_segments<N: Names, D: Disk, K: Sink, L: Ledger>(
         if place.head.file != number {
             continue;
         }
-        write_segment(alloc, place, names, disk, &mut room, lines, out, steps)?;
+        write_segment(
+            alloc, place, names, layouts, disk, &mut room, lines, out, steps,
+        )?;
     }
     Ok(())
 }
@@ -101,6 +106,8 @@ fn decode_with<N: KeepsTexts + Drop, D: Disk, K: Sink, L: Ledger>(
 {
     segments_are_held();
     let mut steps: Steps<L> = Steps::new(blank);
+    let names = archive.names();
+    let layouts = Layouts::of(alloc, names)?;
     let mut lines = Lines::new(alloc);
     let file = &archive.files().as_slice()[number as usize];
     let open_end = ends_open(file);
@@ -108,7 +115,8 @@ fn decode_with<N: KeepsTexts + Drop, D: Disk, K: Sink, L: Ledger>(
         alloc,
         number,
         archive.segments().as_slice(),
-        archive.names(),
+        names,
+        &layouts,
         disk,
         &mut lines,
         out,

@@ -9,7 +9,7 @@ ghost use Rattle.archive_decode.specs.StepsLines.{HasLines, behind, ending, sepa
 
 use column_store::RowRef;
 use log_seams::Sink;
-use row_codec::{Names, write_fitting};
+use row_codec::{Names, RowWriter};
 use sink_pieces::{PrintRefusal, flush, flush_piece};
 use std::alloc::{AllocError, Global};
 use std::sync::ledger::Ledger;
@@ -65,9 +65,15 @@ impl Lines {
         &mut self,
         row: RowRef<'_>,
         names: &N,
+        writer: &mut RowWriter<'_>,
         out: &mut K,
         steps: &mut Steps<L>,
     ) -> Result<bool, PrintRefusal>
+        requires types { writer.old ≡ N.types names.now }
+
+        // what stays
+        ensures types { writer.new ≡ writer.old }
+
         // by the answer
         ensures begun { IfOk result (λ fits. IsTrue fits → self.new.begun ≡ true) }
         ensures ok { IfOk result (λ fits. IsTrue fits → ((text : List ℕ)
@@ -86,7 +92,7 @@ impl Lines {
             (K.faults out.old) (K.faults out.new) result }
     {
         self.separate()?;
-        if !write_fitting(row, names, &mut self.gathered)? {
+        if !writer.write_fitting(row, names, &mut self.gathered)? {
             return Ok(false);
         }
         steps.tick();

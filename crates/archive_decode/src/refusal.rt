@@ -1,9 +1,11 @@
 //! Why the bytes of a file were not written.
 ghost use Rattle.std.specs.Prelude.{◌≡◌};
+ghost use Rattle.archive_decode.specs.declared.refusal.DecodeRefusal.TheVariants.{OutOfMemory};
 ghost use Rattle.archive_decode.specs.Refused.{from_page, from_print};
 
 use segment_pages::PageRefusal;
 use sink_pieces::PrintRefusal;
+use std::alloc::AllocError;
 use thiserror::Error;
 
 /// Why the bytes of a file were not written.
@@ -21,6 +23,14 @@ pub enum DecodeRefusal {
     /// There was no memory.
     #[error("out of memory")]
     OutOfMemory,
+}
+
+impl From<AllocError> for DecodeRefusal {
+    ghost from_gives = { λ _ e. e ≡ OutOfMemory };
+
+    fn from(_error: AllocError) -> Self {
+        DecodeRefusal::OutOfMemory
+    }
 }
 
 impl From<PrintRefusal> for DecodeRefusal {

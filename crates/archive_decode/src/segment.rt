@@ -10,7 +10,7 @@ use crate::refusal::{DecodeRefusal, of_page};
 use archive_open::SegmentPlace;
 use column_store::Columns;
 use log_seams::{Disk, Sink};
-use row_codec::Names;
+use row_codec::{Layouts, Names, RowWriter};
 use segment_pages::{SegmentPages, none_are_left};
 use std::alloc::Global;
 use std::mem;
@@ -28,10 +28,13 @@ pub(crate) struct PageRoom {
 fn write_page<N: Names, K: Sink, L: Ledger>(
     columns: &Columns,
     names: &N,
+    layouts: &Layouts,
     lines: &mut Lines,
     out: &mut K,
     steps: &mut Steps<L>,
 ) -> Result<(), DecodeRefusal>
+    requires types { layouts.now ≡ N.types names.now }
+
     // by the answer
     ensures ok { OnOk result
         ((messages : List (List ℕ))
@@ -47,9 +50,10 @@ fn write_page<N: Names, K: Sink, L: Ledger>(
     ensures disk { ¬ IsErrOf result DecodeRefusal.DiskFault }
     ensures sink { CountsOf DecodeRefusal.SinkFault (K.faults out.old) (K.faults out.new) result }
 {
+    let mut writer = RowWriter::new(layouts);
     for place in 0..columns.rows() {
         let row = columns.row(place);
-        if !lines.push(row, names, out, steps)? {
+        if !lines.push(row, names, &mut writer, out, steps)? {
             return Err(DecodeRefusal::Damaged);
         }
     }
@@ -61,12 +65,15 @@ pub(crate) fn write_segment<N: Names, D: Disk, K: Sink, L: Ledger>(
     alloc: Global,
     place: &SegmentPlace,
     names: &N,
+    layouts: &Layouts,
     disk: &mut D,
     room: &mut PageRoom,
     lines: &mut Lines,
     out: &mut K,
     steps: &mut Steps<L>,
 ) -> Result<(), DecodeRefusal>
+    requires types { layouts.now ≡ N.types names.now }
+
     // what stays
     ensures rests { Rests (D.state disk.old) (D.state disk.new) }
 
@@ -97,7 +104,7 @@ pub(crate) fn write_segment<N: Names, D: Disk, K: Sink, L: Ledger>(
             Ok(columns) => columns,
             Err(refusal) => return Err(of_page(refusal)),
         };
-        write_page(&room.columns, names, lines, out, steps)?;
+        write_page(&room.columns, names, layouts, lines, out, steps)?;
     }
     none_are_left();
     Ok(())
