@@ -8,11 +8,11 @@ use Rattle.command_words.specs.declared.command.WordsRefusal.{WordsRefusal}
 use Rattle.command_words.specs.declared.command.WordsRefusal.TheVariants.{Usage as WordsUsage, OutOfMemory as WordsOutOfMemory}
 use Rattle.command_refusals.specs.Outside.{Outside}
 use Rattle.command_refusals.specs.Ending.{RefusesAtOnce}
-use Rattle.command_refusals.specs.declared.refusal.Refusal.{Refusal}
+use Rattle.command_refusals.specs.declared.outcome.AddRefusal.{AddRefusal}
 use Rattle.write_commands.specs.Names.{RefusesNames}
 use Rattle.write_commands.specs.Ingested.{AnswersIngest, EndsIngest}
 use Rattle.clp_commands.specs.Answers.{Answers, AnswersAsked}
-use Rattle.command_refusals.specs.Outcome.{of_words}
+use Rattle.command_refusals.specs.Outcome.{of_add, of_words}
 
 -- words that were read ask for one thing alone
 only : (words : List (List ℕ)) (read : Result Command WordsRefusal) (command : Command) → read ≡ Ok command → ((a : Asked) → Asks words a → IsAnswer a read) → (a : Asked) → Asks words a → asked_by command ≡ a
@@ -48,6 +48,6 @@ some_of f [] some = absurd (some refl)
 some_of f (x ∷ xs) some = omega arith
 
 -- what `ingest` answers, by its names and by how it ends
-pub ingest_answers : (workers rows : ℕ) (names : List (List ℕ)) (seen : Outside) (old new : DiskState) (status : ℕ) → ((refusal : Refusal) → RefusesNames names (Some refusal) → RefusesAtOnce seen old new status refusal)
+pub ingest_answers : (workers rows : ℕ) (names : List (List ℕ)) (seen : Outside) (old new : DiskState) (status : ℕ) → ((refusal : AddRefusal) → RefusesNames names (Some refusal) → RefusesAtOnce seen old new status (of_add refusal))
     → EndsIngest workers rows names seen old new status → AnswersIngest workers rows names seen old new status
 ingest_answers workers rows names seen old new status first ends = record { names_first = first; ends = ends }
