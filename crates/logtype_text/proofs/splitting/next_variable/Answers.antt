@@ -1,7 +1,7 @@
-use Rattle.std.proofs.Common.{◌≡◌, ◌≤◌, ◌<◌, length, refl, ◌∙◌, sym, subst, arith}
+use Rattle.std.proofs.Common.{length, refl, ◌∙◌, subst, arith}
 use Rattle.std.proofs.lemmas.Bool.{iff_false}
 use Rattle.token_rules.specs.Reading.{body_of}
-use Rattle.token_rules.specs.Tokens.{IsOutside, IsToken, IsVariableAt, OnlyDelimiters}
+use Rattle.token_rules.specs.Tokens.{IsToken, IsVariableAt, OnlyDelimiters}
 use Rattle.logtype_text.proofs.PartsLemmas.{delimiters_free, constant_token_free, free_join}
 use Rattle.logtype_text.proofs.splitting.next_variable.Goals as goal
 
