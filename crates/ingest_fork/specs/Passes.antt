@@ -64,4 +64,5 @@ module _ {V E F : Type 0} {G : Ghosts V E F} where
 
   -- Of a maker that joined these passes last: it joined every pass that it made.
   abbrev pub AllAreJoined : Maker V E F G → Type 0
-  AllAreJoined end = (m m' later : Maker V E F G) (ps qs : List (Pass V E F)) (count : ℕ) → Fresh m m' ps count → AreStill ps qs → OnlyThese m m' later → Joined later end qs 0 → HasJoinedAll end
+  AllAreJoined end = (m m' later : Maker V E F G) (ps qs : List (Pass V E F)) (count : ℕ) → Fresh m m' ps count → AreStill ps qs
+      → OnlyThese m m' later → Joined later end qs 0 → HasJoinedAll end

@@ -36,12 +36,17 @@ module _ {V E F : Type 0} {G : Ghosts V E F} where
   abbrev pub NoneAdded : Maker V E F G → Type 0
   NoneAdded m = (n : ℕ) → Has (ended_by m) n → own_by m n ≡ []
 
-  -- Of a maker that joined these passes last, those before having added nothing: each entry past the opening was added by one of these.
+  -- Of a maker that joined these passes last, those before having added nothing: each entry past the opening was added by one of
+  -- these.
   abbrev pub EachWasAdded : (ℕ → E → Type 0) → Maker V E F G → Type 0
-  EachWasAdded may m = (before : Maker V E F G) (ps : List (Pass V E F)) → IsAllOwned may m → Joined before m ps 0 → NoneAdded before
-      → (a : About F) (j : ℕ) (e : E) → about_by m ≡ Some a → a.start ≤ j → slice_get (seen_by m) j ≡ Some e → AddedByOne may ps j e
+  EachWasAdded may m = (before : Maker V E F G) (ps : List (Pass V E F)) → IsAllOwned may m → Joined before m ps 0
+      → NoneAdded before
+      → (a : About F) (j : ℕ) (e : E) → about_by m ≡ Some a → a.start ≤ j → slice_get (seen_by m) j ≡ Some e
+      → AddedByOne may ps j e
 
-  -- What is picked of the entries past the opening, where one number alone may add it, is what is picked of that number's own list.
+  -- What is picked of the entries past the opening, where one number alone may add it, is what is picked of that number's own
+  -- list.
   abbrev pub PickedAreOwn : Type 0 → (ℕ → E → Type 0) → Maker V E F G → Type 0
-  PickedAreOwn B may m = (f : E → Option B) (n : ℕ) (a : About F) → IsAllOwned may m → about_by m ≡ Some a → AddsAlone f may n → IsPast a.start (own_by m n)
+  PickedAreOwn B may m = (f : E → Option B) (n : ℕ) (a : About F) → IsAllOwned may m → about_by m ≡ Some a → AddsAlone f may n
+      → IsPast a.start (own_by m n)
       → filter_map f (drop a.start (seen_by m)) ≡ filter_map f (entries_in (own_by m n))

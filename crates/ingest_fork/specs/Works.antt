@@ -55,8 +55,8 @@ module _ {W J K : Type 0} where
       → slice_get ws n ≡ Some w → slice_get js i ≡ Some j → slice_get ks i ≡ Some k → fits w j k
 
 module _ {W J K : Type 0} (went : List J → List J → W → W → Type 0) (did : W → J → K → W → J → K → Type 0) where
-  -- One of the workers did the job at the place i with its keeper, as one of a piece: until then it had done nothing but the jobs of it before this one, and
-  -- afterwards nothing but those behind it.
+  -- One of the workers did the job at the place i with its keeper, as one of a piece: until then it had done nothing but the jobs
+  -- of it before this one, and afterwards nothing but those behind it.
   pub record Done (ws ws' : List W) (js js' : List J) (ks' : List K) (i : ℕ) (j : J) (k : K) : Type 0 where
     pub place : ℕ
     pub first : W

@@ -2,11 +2,15 @@
 //! after the other, and each job has a keeper of its own, which the worker uses for it.
 ghost use Rattle.std.specs.Prelude.{◌≡◌, ◌<◌, ◌≤◌, List, [], ◌∷◌, length};
 ghost use Rattle.std.specs.Thread.{IsSync};
+ghost use Rattle.ingest_fork.specs.declared.works.TheConstants.{MAX_WORKERS};
 ghost use Rattle.ingest_fork.specs.Works.{AllReady, AllFit, AllDone, AllWent};
 ghost use Rattle.ingest_fork.specs.Works.{Rests, GoesOn, Widens, FitsOn};
 
 use std::sync::Wait;
 use std::thread::{Threads, join_mut};
+
+/// The most workers that do jobs side by side.
+pub const MAX_WORKERS: usize = 64;
 
 /// A worker, which does jobs of the type `J` one after the other, each with a keeper of the type
 /// `K`. What a worker and a keeper are is told where the trait is implemented, so a type that names
@@ -68,7 +72,7 @@ pub fn by_workers<J: Send, K: Send, W: Works<J, K> + Send, R: Threads + Wait + S
     jobs: &mut [J],
     keepers: &mut [K],
 )
-    requires workers { (0 < length workers.old) × (length workers.old ≤ 64) }
+    requires workers { (0 < length workers.old) × (length workers.old ≤ MAX_WORKERS) }
     requires few { length jobs.old ≤ 4294967296 }
     requires same { length jobs.old ≡ length keepers.old }
     requires ready { AllReady W.ready workers.old }
@@ -91,7 +95,7 @@ pub fn by_workers<J: Send, K: Send, W: Works<J, K> + Send, R: Threads + Wait + S
         rt,
         &mut ||
             requires shared { IsSync R.row }
-            requires workers { (0 < length these.now) × (length these.now ≤ 64) }
+            requires workers { (0 < length these.now) × (length these.now ≤ MAX_WORKERS) }
             requires few { length front.now ≤ 4294967296 }
             requires same { length front.now ≡ length front_keepers.now }
             requires ready { AllReady W.ready these.now }
@@ -104,7 +108,7 @@ pub fn by_workers<J: Send, K: Send, W: Works<J, K> + Send, R: Threads + Wait + S
         { by_workers(rt, these, front, front_keepers) },
         &mut ||
             requires shared { IsSync R.row }
-            requires workers { (0 < length others.now) × (length others.now ≤ 64) }
+            requires workers { (0 < length others.now) × (length others.now ≤ MAX_WORKERS) }
             requires few { length back.now ≤ 4294967296 }
             requires same { length back.now ≡ length back_keepers.now }
             requires ready { AllReady W.ready others.now }
@@ -126,7 +130,7 @@ pub fn by_workers_of<J: Send, K: Send, W: Works<J, K> + Send, R: Threads + Wait 
     jobs: &mut [J],
     keepers: &mut Vec<K>,
 )
-    requires workers { (0 < length workers.old.items) × (length workers.old.items ≤ 64) }
+    requires workers { (0 < length workers.old.items) × (length workers.old.items ≤ MAX_WORKERS) }
     requires few { length jobs.old ≤ 4294967296 }
     requires same { length jobs.old ≡ length keepers.old.items }
     requires ready { AllReady W.ready workers.old.items }
