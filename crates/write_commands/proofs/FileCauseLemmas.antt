@@ -27,7 +27,7 @@ use Rattle.write_commands.proofs.ContentLemmas.{AreJobsOf, given_of_names}
 use Rattle.ingest_workers.specs.declared.job.Job.{Job}
 use Rattle.ingest_workers.specs.declared.outcome.Cause.{Cause}
 use Rattle.ingest_workers.specs.declared.outcome.Outcome.{Outcome}
-use Rattle.ingest_workers.specs.Causes.{HasJobCause, Log, log_of}
+use Rattle.ingest_workers.specs.Causes.{EndsLog, HasJobCause, Log, log_of}
 use Rattle.ingest_workers.specs.Ingested.{AreRefused, HadNoRoomOver, HasItsCause, HasStored, HaveCauses, IsAsItWas, IsFullByGiven as IsFullByJobs, IsThereOrGiven as IsThereOrGivenByJobs, WereGiven as WereGivenByJobs, grounds_over, not_begun, plan_of, told_entries}
 use Rattle.ingest_workers.specs.Outcome.{nothing_done}
 use Rattle.write_commands.specs.IngestPrints.{came_of}
@@ -113,7 +113,7 @@ module _ {S : Type 0} (left name : S → Option (List ℕ)) (faults : S → ℕ)
 
     -- the cause of a job
     job_cause : (file : ℕ) (log : Log) (sealed : List (List ℕ)) (o : Option Cause) → HasJobCause (grounds_over full has_texts (plan_of rows j) file log.bytes j after) log j.header.version sealed o
-        → ((end need : ℕ) → HadNoRoomOver has_texts (plan_of rows j) file log.bytes j after sealed end need → CauseIn (Some (PartCause.ArchiveFull end need))) → is_some o ≡ not c.whole → c.messages ≡ length sealed → log.bytes ≡ logs.content c.name
+        → ((end need : ℕ) → HadNoRoomOver has_texts (plan_of rows j) file log.bytes j after (EndsLog full log j.header.version) sealed end need → CauseIn (Some (PartCause.ArchiveFull end need))) → is_some o ≡ not c.whole → c.messages ≡ length sealed → log.bytes ≡ logs.content c.name
         → (Rose log.faults log.faults_now → Rose (logs.reads c.name).0 (logs.reads c.name).1) → CauseIn (option_map of_cause o)
     job_cause file log sealed None has fits whole count bytes up = not_false c.whole whole
       where
@@ -122,11 +122,10 @@ module _ {S : Type 0} (left name : S → Option (List ℕ)) (faults : S → ℕ)
         not_false false is = absurd (cc (is))
     job_cause file log sealed (Some Cause.ReadFault) has fits whole count bytes up =
         (up has.0, subst (λ (o : Option (List ℕ)). IfSome o (WasCutShort j.header.version c)) bytes (IfSome_then log.bytes has.1 (λ b short. record { taken = sealed; count = count; behind = log.behind; short = short })))
-    job_cause file log sealed (Some (Cause.LineTooLong line)) has fits whole count bytes up =
-        (
-          subst (λ (o : Option (List ℕ)). IfSome o (λ b. IsLong b line)) bytes (IfSome_then log.bytes has.2 (λ b before. long_behind j.header.version sealed b line has.1 before)),
-          subst (λ (o : Option (List ℕ)). IfSome o (IsNextTooLong j.header.version c line)) bytes (IfSome_then log.bytes has.2 (λ b before. record { taken = sealed; count = count; follows = has.1; before = before })),
-        )
+    job_cause file log sealed (Some (Cause.LineTooLong line)) has fits whole count bytes up = (
+      subst (λ (o : Option (List ℕ)). IfSome o (λ b. IsLong b line)) bytes (IfSome_then log.bytes has.2 (λ b before. long_behind j.header.version sealed b line has.1 before)),
+      subst (λ (o : Option (List ℕ)). IfSome o (IsNextTooLong j.header.version c line)) bytes (IfSome_then log.bytes has.2 (λ b before. record { taken = sealed; count = count; follows = has.1; before = before })),
+    )
     job_cause file log sealed (Some Cause.TooManyLines) has fits whole count bytes up = (count ∙ has.1, subst (λ (o : Option (List ℕ)). HasMoreThan most_messages j.header.version o) bytes has.2)
     job_cause file log sealed (Some (Cause.Full book n)) has fits whole count bytes up = told_map (is_some (state_of j).disk.seen)
         (λ is. (is.0, record { sealed = sealed; count = count; holds = full_by_wider _ _ _ _ (of_given book) (λ t next. next_in log.bytes sealed book t bytes next) n is.1 })) has.1
@@ -143,7 +142,7 @@ module _ {S : Type 0} (left name : S → Option (List ℕ)) (faults : S → ℕ)
     done_in : (s : LogSource S) (old done : Job (LogSource S)) → CameFrom c.name s → old.source ≡ Some s → old.is_open ≡ is_opened s
         → c.messages ≡ done.outcome.messages → c.whole ≡ done.outcome.whole → c.refusal ≡ refusal_by (refusal_of s) done.outcome.cause
         → HasItsCause full has_texts (left_in left) (name_in name) (faults_in faults) (plan_of rows j) j after old done
-        → ((bytes : Option (List ℕ)) → bytes ≡ logs.content c.name → (sealed : List (List ℕ)) → c.messages ≡ length sealed → (end need : ℕ) → HadNoRoomOver has_texts (plan_of rows j) old.file bytes j after sealed end need → CauseIn (Some (PartCause.ArchiveFull end need)))
+        → ((bytes : Option (List ℕ)) → bytes ≡ logs.content c.name → (last : List (List ℕ) → Type 0) (sealed : List (List ℕ)) → c.messages ≡ length sealed → (end need : ℕ) → HadNoRoomOver has_texts (plan_of rows j) old.file bytes j after last sealed end need → CauseIn (Some (PartCause.ArchiveFull end need)))
         → (old.is_open ≡ true → is_some done.outcome.cause ≡ not done.outcome.whole) → (old.is_open ≡ false → done.outcome ≡ nothing_done)
         → ((t : LogSource S) → done.source ≡ Some t → IsCounted name faults reads reads_now t) → In
     done_in (Unopened cause n) old done came has as_opened messages whole refusal its fits opened unopened counted =
@@ -154,7 +153,7 @@ module _ {S : Type 0} (left name : S → Option (List ℕ)) (faults : S → ℕ)
         let either : is_some done.outcome.cause ≡ not c.whole = opened as_opened ∙ ap not (sym whole) in
         came_in logs into (d.state j.disk.now) (d.state after.disk.now) c (option_map of_cause done.outcome.cause) refusal
         (job_cause old.file (log_of (left_in left) (faults_in faults) its.source.before its.source.after) its.sealed done.outcome.cause its.cause
-        (fits (left_in left its.source.before) (ap (left_in left) is ∙ came.left_is) its.sealed (messages ∙ its.count)) either (messages ∙ its.count) (ap (left_in left) is ∙ came.left_is)
+        (fits (left_in left its.source.before) (ap (left_in left) is ∙ came.left_is) (EndsLog full (log_of (left_in left) (faults_in faults) its.source.before its.source.after) j.header.version) its.sealed (messages ∙ its.count)) either (messages ∙ its.count) (ap (left_in left) is ∙ came.left_is)
         (λ up. reads_rose c.name s its.source.after came (its.source.keeps.named ∙ ap (name_in name) is) (counted its.source.after its.source.has) (subst (λ n. Rose n (faults_in faults its.source.after)) (ap (faults_in faults) is) up)))
         (not_whole done.outcome.cause c.whole either)
       where

@@ -51,8 +51,8 @@ module _ (content : List ℕ → Option (List ℕ)) (rows first : ℕ) (names : 
     room = record {
       sealed = fit.room.sealed;
       count = fit.room.count;
-      holds = no_room_on h rows h.version (first + fit.place) (StandFirst h named mid) (StandFirst h named new) (WereGiven content h.version names) (WereGiven content h.version names) (AreFirstOf h.version (content c.name)) (AreFirstOf h.version (content c.name)) fit.room.sealed end need
-          (λ es stand. (stand.0, subst (Begins h es) (sym same) stand.1)) (λ es book texts has. has) (λ ms begin. begin) fit.room.holds;
+      holds = no_room_on h rows h.version (first + fit.place) (StandFirst h named mid) (StandFirst h named new) (WereGiven content h.version names) (WereGiven content h.version names) (AreFirstOf h.version (content c.name)) (AreFirstOf h.version (content c.name)) (λ _. Unit {0}) (λ _. Unit {0}) fit.room.sealed end need
+          (λ es stand. (stand.0, subst (Begins h es) (sym same) stand.1)) (λ es book texts has. has) (λ ms begin. begin) (λ ms is. tt) fit.room.holds;
     };
   }
 
@@ -104,9 +104,9 @@ module _ {S D : Type 0} {d : DiskGhosts D} (left : S → Option (List ℕ)) (con
 
   -- the segment of a job's file did not fit
   pub fit_of_job : (law : IsLawful (d.state after.disk.now)) (store : StoreView D) → IsLeftBy store j after → (place : ℕ) (job : Job S) → slice_get js place ≡ Some job → (c : FileOutcome) → slice_get names place ≡ Some c.name → (bytes : Option (List ℕ)) → bytes ≡ content c.name
-      → (sealed : Texts) → c.messages ≡ length sealed → (end need : ℕ) → HadNoRoomOver (WereGivenByJobs left (plan_of rows j) js) (plan_of rows j) job.file bytes j after sealed end need
+      → (last : Texts → Type 0) (sealed : Texts) → c.messages ≡ length sealed → (end need : ℕ) → HadNoRoomOver (WereGivenByJobs left (plan_of rows j) js) (plan_of rows j) job.file bytes j after last sealed end need
       → (j.header.length_limit < end + need) × IfTold (is_some (d.state j.disk.now).seen) (DidNotFit content rows first names j.header (told_entries (state_of j)) (d.state after.disk.now) c end need)
-  fit_of_job law store left_by place job at c named bytes log sealed count end need had = (
+  fit_of_job law store left_by place job at c named bytes log last sealed count end need had = (
     had.0,
     if_told (is_some (d.state j.disk.now).seen) _ (λ told.
         let room = of_told (is_some (d.state j.disk.now).seen) _ told had.1 in
@@ -116,10 +116,10 @@ module _ {S D : Type 0} {d : DiskGhosts D} (left : S → Option (List ℕ)) (con
           room = record {
             sealed = sealed;
             count = count;
-            holds = subst (λ (file : ℕ). HadNoRoom j.header rows j.header.version file (StandFirst j.header (told_entries (state_of j)) (d.state after.disk.now)) (WereGiven content j.header.version names) (AreFirstOf j.header.version (content c.name)) sealed end need) (of.file place job at)
+            holds = subst (λ (file : ℕ). HadNoRoom j.header rows j.header.version file (StandFirst j.header (told_entries (state_of j)) (d.state after.disk.now)) (WereGiven content j.header.version names) (AreFirstOf j.header.version (content c.name)) (λ _. Unit {0}) sealed end need) (of.file place job at)
                 (no_room_on j.header rows j.header.version job.file (IsBetween (told_entries (state_of j)) (told_entries (state_of after))) (StandFirst j.header (told_entries (state_of j)) (d.state after.disk.now))
-                (WereGivenByJobs left (plan_of rows j) js) (WereGiven content j.header.version names) (AreFirstOf j.header.version bytes) (AreFirstOf j.header.version (content c.name)) sealed end need
-                (λ es between. (between.0, begins_disk j after law store left_by told es between.1)) were_given (λ ms begin. subst (λ (b : Option (List ℕ)). AreFirstOf j.header.version b ms) log begin) room);
+                (WereGivenByJobs left (plan_of rows j) js) (WereGiven content j.header.version names) (AreFirstOf j.header.version bytes) (AreFirstOf j.header.version (content c.name)) last (λ _. Unit {0}) sealed end need
+                (λ es between. (between.0, begins_disk j after law store left_by told es between.1)) were_given (λ ms begin. subst (λ (b : Option (List ℕ)). AreFirstOf j.header.version b ms) log begin) (λ ms is. tt) room);
           };
         } in fit),
   )

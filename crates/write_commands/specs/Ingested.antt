@@ -165,7 +165,7 @@ StandFirst h named new front = IsPrefix named front × IfSome new.seen (λ bytes
 pub record DidNotFit (content : List ℕ → Option (List ℕ)) (rows first : ℕ) (names : List (List ℕ)) (h : Header) (named : List JournalEntry) (new : DiskState) (c : FileOutcome) (end need : ℕ) : Type 0 where
   pub place : ℕ
   pub at : slice_get names place ≡ Some c.name
-  pub room : OfTaken c (λ sealed. HadNoRoom h rows h.version (first + place) (StandFirst h named new) (WereGiven content h.version names) (AreFirstOf h.version (content c.name)) sealed end need)
+  pub room : OfTaken c (λ sealed. HadNoRoom h rows h.version (first + place) (StandFirst h named new) (WereGiven content h.version names) (AreFirstOf h.version (content c.name)) (λ _. Unit {0}) sealed end need)
 
 -- A read of a log with these bytes failed, and the messages that were taken in are those of the bytes before the fault.
 pub record WasCutShort (version : ℕ) (c : FileOutcome) (bytes : List ℕ) : Type 0 where

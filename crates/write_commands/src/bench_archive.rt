@@ -4,6 +4,7 @@ ghost use Rattle.std.specs.List.{sum_by};
 ghost use Rattle.log_seams.specs.Disk.{KeepsBytes};
 ghost use Rattle.generated_logs.specs.Logs.{content_of};
 ghost use Rattle.log_sources.specs.Sources.{str_bytes};
+ghost use Rattle.ingest_fork.specs.declared.works.TheConstants.{MAX_WORKERS};
 ghost use Rattle.write_commands.specs.Benched.{AnswersBench, EndsLogs, SumsUp, TellsParts, generated_names};
 ghost use Rattle.command_refusals.specs.Outside.{AroundSinks};
 ghost use Rattle.command_refusals.specs.GoesOn.{DiskGoesOn};
@@ -100,7 +101,7 @@ fn add_logs<R: Threads + Wait + Sync, D: Telling + Send, K: Sink>(
     err: &mut K,
 ) -> u8
     requires lines { asked.lines ≤ 1000000 }
-    requires workers { (1 ≤ asked.workers) × (asked.workers ≤ 64) }
+    requires workers { (1 ≤ asked.workers) × (asked.workers ≤ MAX_WORKERS) }
     ensures ends { AroundSinks K.written K.faults out.old out.new err.old err.new (λ seen.
         EndsLogs (content_of asked.number asked.lines) asked.workers seen
         (D.state disk.old) (D.state disk.new) result) }
@@ -139,7 +140,7 @@ pub fn bench<R: Threads + Wait + Sync, D: Telling + Send, K: Sink>(
     err: &mut K,
 ) -> u8
     requires lines { asked.lines ≤ 1000000 }
-    requires workers { (1 ≤ asked.workers) × (asked.workers ≤ 64) }
+    requires workers { (1 ≤ asked.workers) × (asked.workers ≤ MAX_WORKERS) }
     ensures answers { AroundSinks K.written K.faults out.old out.new err.old err.new (λ seen.
         AnswersBench asked.number asked.lines asked.workers seen
         (D.state disk.old) (D.state disk.new) result) }

@@ -8,6 +8,7 @@ ghost use Rattle.ingest_workers.specs.Outcome.{nothing_done};
 ghost use Rattle.command_refusals.specs.Outside.{around};
 ghost use Rattle.log_sources.specs.Sources.{CameOf, is_opened, refusal_of, str_bytes};
 ghost use Rattle.command_refusals.specs.GoesOn.{DiskGoesOn, OutsideGoesOn};
+ghost use Rattle.ingest_fork.specs.declared.works.TheConstants.{MAX_WORKERS};
 ghost use Rattle.write_commands.specs.Ingested.{EndsIngest, FromArchive, HasCallCause, TakesIn, TakesNothing};
 ghost use Rattle.write_commands.specs.IngestPrints.{came_of, names_of};
 ghost use Rattle.write_commands.specs.Jobs.{DidJobs, IsNotBegun, IsToldBy, opens_of, refusal_by, sources_of};
@@ -240,7 +241,7 @@ fn do_jobs<'d, R: Threads + Wait + Sync, S: Source + Send, D: Disk + Send>(
     words: Book,
     jobs: &mut [Job<S>],
 ) -> Journal<'d, D>
-    requires workers { (1 ≤ asked.workers) × (asked.workers ≤ 64) }
+    requires workers { (1 ≤ asked.workers) × (asked.workers ≤ MAX_WORKERS) }
     requires segment { (1 ≤ asked.segment) × (asked.segment ≤ 65536) }
     requires journal { MayOpen (state_of journal) }
     requires books { HoldTexts (state_of journal) types words }
@@ -275,7 +276,7 @@ fn take_in<'a, 'd, R: Threads + Wait + Sync, H: Shelf, D: Disk + Send>(
 ) -> Journal<'d, D>
 where
     H::Src: Send,
-    requires workers { (1 ≤ asked.workers) × (asked.workers ≤ 64) }
+    requires workers { (1 ≤ asked.workers) × (asked.workers ≤ MAX_WORKERS) }
     requires segment { (1 ≤ asked.segment) × (asked.segment ≤ 65536) }
     requires named { IsNamed (state_of journal) named.types named.words named.first
         (length asked.files.now) }
@@ -344,7 +345,7 @@ pub(crate) fn add_files<'a, R: Threads + Wait + Sync, H: Shelf, D: Telling + Sen
 ) -> Result<u32, AddRefusal>
 where
     H::Src: Send,
-    requires workers { (1 ≤ asked.workers) × (asked.workers ≤ 64) }
+    requires workers { (1 ≤ asked.workers) × (asked.workers ≤ MAX_WORKERS) }
     requires segment { (1 ≤ asked.segment) × (asked.segment ≤ 65536) }
     requires names { RefusesNames (map str_bytes asked.files.now) None }
     requires some { 1 ≤ length asked.files.now }
@@ -398,7 +399,7 @@ pub fn ingest_files<R: Threads + Wait + Sync, H: Shelf, D: Telling + Send, K: Si
 ) -> u8
 where
     H::Src: Send,
-    requires workers { (1 ≤ asked.workers) × (asked.workers ≤ 64) }
+    requires workers { (1 ≤ asked.workers) × (asked.workers ≤ MAX_WORKERS) }
     requires segment { (1 ≤ asked.segment) × (asked.segment ≤ 65536) }
     requires some { 1 ≤ length asked.files.now }
     ensures names { (refusal : AddRefusal)
