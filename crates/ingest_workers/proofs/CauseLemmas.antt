@@ -1,5 +1,5 @@
 -- What causes say.
-use Rattle.std.proofs.Common.{◌≡◌, ℕ, List, refl, ◌∙◌, Option, None, Some}
+use Rattle.std.proofs.Common.{◌≡◌, ⊎_elim, inl, inr, ℕ, List, refl, ◌∙◌, Option, None, Some}
 use Rattle.log_seams.specs.Disk.{DiskState}
 use Rattle.turn_lock.specs.Words.{about}
 use Rattle.row_codec.specs.declared.namer.Which.{Which}
@@ -8,10 +8,10 @@ use Rattle.row_codec.specs.declared.namer.NameRefusal.TheVariants.{Full as NameF
 use Rattle.disk_seal.specs.Fixed.{KeeperPass}
 use Rattle.ingest_workers.specs.declared.outcome.Cause.{Cause}
 use Rattle.ingest_workers.specs.declared.outcome.Cause.TheVariants.{ReadFault, LineTooLong, TooManyLines, Full, DiskFault, ArchiveFull, OutOfMemory}
-use Rattle.ingest_workers.specs.declared.stop.Stop.TheVariants.{Part as PartStop, Lost}
-use Rattle.ingest_workers.specs.Causes.{Grounds, Log, HasJobCause, HasLogCause, HasSealCause, IsFullCause, NoneFailed, grounds_of}
-use Rattle.ingest_workers.specs.Full.{Books, WasFullBehind}
-use Rattle.ingest_workers.specs.Stop.{IsNameStop, stop_by}
+use Rattle.ingest_workers.specs.declared.file_end.FileEnd.TheVariants.{Part as PartStop, Lost}
+use Rattle.ingest_workers.specs.Causes.{EndsLog, Grounds, Log, HasJobCause, HasLogCause, HasSealCause, IsFullCause, NoneFailed, grounds_of}
+use Rattle.ingest_workers.specs.Full.{AreAllOf, Books, WasFullBehind}
+use Rattle.ingest_workers.specs.FileEnd.{IsNameStop, stop_by}
 
 -- ---- a message that is not named
 
@@ -68,7 +68,7 @@ module _ {D : Type 0} (state : D → DiskState) (limit : ℕ) (books : Books) (s
   abbrev grounds : Grounds
   grounds = grounds_of state limit version books log.bytes start q
 
-  pub of_seal : (room : ℕ → ℕ → Type 0) → ((end need : ℕ) → room end need → grounds.no_room sealed end need) → (cause : Cause) → HasSealCause state room start q cause → HasJobCause grounds log version sealed (Some cause)
+  pub of_seal : (room : ℕ → ℕ → Type 0) → ((end need : ℕ) → room end need → grounds.no_room (EndsLog grounds.full log version) sealed end need) → (cause : Cause) → HasSealCause state room start q cause → HasJobCause grounds log version sealed (Some cause)
   of_seal room found ReadFault has = absurd has
   of_seal room found (LineTooLong line) has = absurd has
   of_seal room found TooManyLines has = absurd has
@@ -86,15 +86,34 @@ module _ {D : Type 0} (state : D → DiskState) (limit : ℕ) (books : Books) (s
   of_log OutOfMemory has = absurd has
   of_log (ArchiveFull end need) has = absurd has
 
+-- a cause of the log says the same where more is known of full books
+pub log_cause_on : (full full' : List (List ℕ) → Which → ℕ → Type 0) (log : Log) (version : ℕ) (taken : List (List ℕ)) (cause : Cause) → ((book : Which) (count : ℕ) → full taken book count → full' taken book count)
+    → HasLogCause full log version taken cause → HasLogCause full' log version taken cause
+log_cause_on full full' log version taken ReadFault wider has = has
+log_cause_on full full' log version taken (LineTooLong line) wider has = has
+log_cause_on full full' log version taken TooManyLines wider has = has
+log_cause_on full full' log version taken (Full book count) wider has = (has.0, wider book count has.1)
+log_cause_on full full' log version taken (DiskFault opened now) wider has = absurd has
+log_cause_on full full' log version taken OutOfMemory wider has = absurd has
+log_cause_on full full' log version taken (ArchiveFull end need) wider has = absurd has
+
+ends_on : (full full' : List (List ℕ) → Which → ℕ → Type 0) (log : Log) (version : ℕ) → ((ms : List (List ℕ)) (book : Which) (count : ℕ) → full ms book count → full' ms book count)
+    → (taken : List (List ℕ)) → EndsLog full log version taken → EndsLog full' log version taken
+ends_on full full' log version wider taken ends = ⊎_elim
+    (λ (all : AreAllOf version log.bytes taken). inl all)
+    (λ (has : (cause : Cause) × HasLogCause full log version taken cause). inr (has.0, log_cause_on full full' log version taken has.0 (wider taken) has.1))
+    ends
+
 -- a cause says the same on other grounds
 pub cause_on : (g h : Grounds) (log : Log) (version : ℕ) (sealed : List (List ℕ)) (o : Option Cause)
-    → ((book : Which) (count : ℕ) → g.full sealed book count → h.full sealed book count) → ((end need : ℕ) → g.no_room sealed end need → h.no_room sealed end need) → ((opened now : ℕ) → g.failed opened now → h.failed opened now)
+    → ((ms : List (List ℕ)) (book : Which) (count : ℕ) → g.full ms book count → h.full ms book count)
+    → ((last last' : List (List ℕ) → Type 0) → ((ms : List (List ℕ)) → last ms → last' ms) → (end need : ℕ) → g.no_room last sealed end need → h.no_room last' sealed end need) → ((opened now : ℕ) → g.failed opened now → h.failed opened now)
     → HasJobCause g log version sealed o → HasJobCause h log version sealed o
 cause_on g h log version sealed None full room failed has = has
 cause_on g h log version sealed (Some ReadFault) full room failed has = has
 cause_on g h log version sealed (Some (LineTooLong line)) full room failed has = has
 cause_on g h log version sealed (Some TooManyLines) full room failed has = has
-cause_on g h log version sealed (Some (Full book count)) full room failed has = (has.0, full book count has.1)
+cause_on g h log version sealed (Some (Full book count)) full room failed has = (has.0, full sealed book count has.1)
 cause_on g h log version sealed (Some (DiskFault opened now)) full room failed has = failed opened now has
 cause_on g h log version sealed (Some OutOfMemory) full room failed has = tt
-cause_on g h log version sealed (Some (ArchiveFull end need)) full room failed has = room end need has
+cause_on g h log version sealed (Some (ArchiveFull end need)) full room failed has = room (EndsLog g.full log version) (EndsLog h.full log version) (ends_on g.full h.full log version full) end need has

@@ -33,7 +33,7 @@ use Rattle.ingest_workers.specs.declared.worker.Worker.{Worker}
 use Rattle.ingest_workers.specs.Naming.{AddsOnly}
 use Rattle.ingest_workers.specs.Worker.{IsIdle, IsGiven, DidOnly, books_in, types_of, words_of}
 use Rattle.ingest_workers.specs.WorkerLaws.{wider}
-use Rattle.ingest_workers.specs.Crew.{BookMaker, HasEnded, HasEnrolled, MayDismiss, EndsBook}
+use Rattle.ingest_workers.specs.StartedWorkers.{BookMaker, HasEnded, HasEnrolled, MayDismiss, EndsBook}
 use Rattle.ingest_workers.specs.Ingested.{OpensBook, IsTypeGiven, IsWordGiven, HasEndedBooks, HasIngested, books_at, told_entries}
 use Rattle.disk_seal.specs.Known.{limit_in}
 use Rattle.row_codec.specs.declared.namer.Which.{Which}

@@ -15,7 +15,7 @@ use Rattle.ingest_workers.specs.declared.worker.Plan.{Plan}
 use Rattle.ingest_workers.specs.declared.worker.Worker.{Worker}
 use Rattle.ingest_workers.specs.Worker.{types_of, words_of}
 use Rattle.ingest_workers.specs.WorkerLaws.{passes_is}
-use Rattle.ingest_workers.specs.Crew.{BookMaker, HasEnrolled, MayDismiss, HasDismissed}
+use Rattle.ingest_workers.specs.StartedWorkers.{BookMaker, HasEnrolled, MayDismiss, HasDismissed}
 
 module _ {X Y : Type 0} (f : X → Y) where
   pub map_at : (xs : List X) (i : ℕ) (x : X) → slice_get xs i ≡ Some x → slice_get (map f xs) i ≡ Some (f x)

@@ -1,12 +1,12 @@
 -- A worker at its file, a message further.
 use Rattle.std.proofs.Common.{◌≡◌, inl, inr, ℕ, zero, suc, ◌+◌, ◌<◌, ◌≤◌, List, [], ◌∷◌, ◌++◌, false, length, refl, sym, ap, ap₂, ◌∙◌, subst, arith, append-nil, append_assoc, length-append, Some, All}
-use Rattle.std.specs.Prelude.{is_some, ◌&&◌, Result, Ok, Err, IfErr, IsErrOf}
+use Rattle.std.specs.Prelude.{is_some, ◌&&◌, Result, Ok, Err, IfErr, IsErrOf, OnOk}
 use Rattle.std.specs.List.{flat_map}
 use Rattle.row_codec.specs.Numbers.{numbers_of_row}
 use Rattle.std.proofs.lemmas.List.Elements.{All-nil, All-push}
 use mathlib.Core.List.{IsPrefix}
 use Rattle.log_seams.specs.Disk.{DiskState}
-use Rattle.turn_lock.specs.Words.{seen, about, lock_of, number_of}
+use Rattle.turn_lock.specs.Words.{seen, about, number_of}
 use Rattle.turn_lock.proofs.FrontLemmas.{prefix_length, prefix_trans}
 use Rattle.column_store.specs.declared.row.Row.{Row}
 use Rattle.column_store.specs.Row.{variable_count}
@@ -19,19 +19,20 @@ use Rattle.disk_seal.specs.declared.namer.LockNamer.{LockNamer}
 use Rattle.disk_seal.specs.Draft.{journal_seen}
 use Rattle.disk_seal.specs.Fixed.{KeeperPass}
 use Rattle.disk_seal.specs.Planned.{segment_of}
-use Rattle.ingest_workers.specs.declared.hand.Hand.{Hand}
+use Rattle.ingest_workers.specs.declared.open_segment.OpenSegment.{OpenSegment}
 use Rattle.ingest_workers.specs.declared.outcome.Cause.{Cause}
-use Rattle.ingest_workers.specs.declared.stop.Stop.{Stop}
-use Rattle.ingest_workers.specs.declared.stop.Stop.TheVariants.{Part as PartStop, Lost}
+use Rattle.ingest_workers.specs.declared.file_end.FileEnd.{FileEnd}
+use Rattle.ingest_workers.specs.declared.file_end.FileEnd.TheVariants.{Part as PartStop, Lost}
+use Rattle.ingest_workers.specs.Adding.{BothStill}
 use Rattle.ingest_workers.specs.Stopping.{IsAtStop}
 use Rattle.row_codec.specs.declared.namer.Which.{Which}
 use Rattle.ingest_workers.specs.declared.outcome.Cause.TheVariants.{Full}
 use Rattle.ingest_workers.specs.Full.{WasFullFor, books_by}
-use Rattle.ingest_workers.specs.Stop.{IsNameStop}
+use Rattle.ingest_workers.specs.FileEnd.{IsNameStop}
 use Rattle.ingest_workers.proofs.CauseLemmas.{full_cause, lost_cause}
 use Rattle.ingest_workers.proofs.MaySealLemmas.{nothing_sealed}
 use Rattle.ingest_workers.specs.Doing.{Covering, Doing}
-use Rattle.ingest_workers.specs.Hand.{HasInHand, HasRoom, SameMarks, SameRows}
+use Rattle.ingest_workers.specs.OpenSegment.{HasMessages, HasRoom, SameMarks, SameRows}
 use Rattle.ingest_workers.specs.Journal.{FrontHolds, HasAdded, Holds, WhereTold}
 use Rattle.ingest_workers.specs.MaySeal.{HasNoRoomFor, IsEmptied, IsWorker, MaySeal}
 use Rattle.ingest_workers.specs.Namer.{HasOnlySeen, HasSamePasses, types_pass, words_pass, types_seen, words_seen}
@@ -39,7 +40,7 @@ use Rattle.ingest_workers.specs.NoRoom.{FoundNoRoom}
 use Rattle.ingest_workers.specs.Parts.{Part, IsCut, IsOpen, columns_of, front, messages_in, segments_from}
 use Rattle.ingest_workers.specs.Sealed.{HasNotSealed, HasSealed, NowHas}
 use Rattle.ingest_workers.proofs.JournalLemmas.{seen_front}
-use Rattle.ingest_workers.proofs.HandLemmas.{in_hand_on}
+use Rattle.ingest_workers.proofs.OpenSegmentLemmas.{in_hand_on}
 use Rattle.ingest_workers.proofs.NoRoomLemmas.{found_room}
 use Rattle.ingest_workers.proofs.PartLemmas.{added_on, segment_at, cut_more, messages_more, open_all, open_more, sealed_joined, segments_more}
 use Rattle.ingest_workers.proofs.SealLemmas.{if_told, of_told}
@@ -56,9 +57,13 @@ lt_of (suc a) (suc b) high = omega (arith, lt_of a b (λ le. high (omega (arith,
 -- ---- the worker
 
 module _ {R A B C : Type 0} where
-  pub passes_of : (m n : LockNamer R A B C) → n.version ≡ m.version → (lock_of (types_pass n) ≡ lock_of (types_pass m)) × (lock_of (words_pass n) ≡ lock_of (words_pass m))
-      → (number_of (types_pass n) ≡ number_of (types_pass m)) × (number_of (words_pass n) ≡ number_of (words_pass m)) → HasSamePasses m n
-  passes_of m n version locks numbers = record { version = version; types_lock = locks.0; words_lock = locks.1; types_number = numbers.0; words_number = numbers.1 }
+  pub passes_of : (m n : LockNamer R A B C) → n.version ≡ m.version → BothStill (types_pass m) (types_pass n) (words_pass m) (words_pass n) → HasSamePasses m n
+  passes_of m n version still = record { version = version; types_lock = still.of_types.lock; words_lock = still.of_words.lock; types_number = still.of_types.number; words_number = still.of_words.number }
+
+-- what holds at an answer that is `Ok`
+pub ok_by : {X Y : Type 0} {P : Type 0} (r : Result X Y) (x : X) → r ≡ Ok x → OnOk r P → P
+ok_by (Ok y) x is p = p
+ok_by (Err y) x is p = absurd (cc (is))
 
 module _ {D R A B C : Type 0} where
   pub same_worker : (p : KeeperPass D) (m n : LockNamer R A B C) → HasSamePasses m n → IsWorker p m → IsWorker p n
@@ -83,25 +88,25 @@ module _ {D R A B C : Type 0} where
     };
   }
 
-pub rows_same : (version : ℕ) (types words messages : Texts) (hand new : Hand) → SameRows hand new → HasInHand version types words messages hand → HasInHand version types words messages new
-rows_same version types words messages hand new same has = record {
+pub rows_same : (version : ℕ) (types words messages : Texts) (segment new : OpenSegment) → SameRows segment new → HasMessages version types words messages segment → HasMessages version types words messages new
+rows_same version types words messages segment new same has = record {
   canonical = subst (λ (c : ColumnsState). AreCanonical version c.rows types words messages) (sym same.columns) has.canonical;
   used = same.used ∙ (has.used ∙ ap (λ (c : ColumnsState). flat_map (numbers_of_row types) c.rows) (sym same.columns));
   bytes = ap (λ (c : ColumnsState). c.bytes) same.columns ∙ has.bytes;
 }
 
-module _ {D R A B C : Type 0} (state : D → DiskState) (limit : ℕ) (start p : KeeperPass D) (m : LockNamer R A B C) (hand : Hand) (taken : Texts) (d : Doing state limit start p m hand taken) where
+module _ {D R A B C : Type 0} (state : D → DiskState) (limit : ℕ) (start p : KeeperPass D) (m : LockNamer R A B C) (segment : OpenSegment) (taken : Texts) (d : Doing state limit start p m segment taken) where
   abbrev part : Part
-  part = record { rows = hand.draft.columns.rows; messages = d.messages }
+  part = record { rows = segment.draft.columns.rows; messages = d.messages }
 
-  pub few_in_hand : length hand.draft.columns.rows < limit
-  few_in_hand = lt_of (length hand.draft.columns.rows) limit (λ le. open_all limit part d.not_yet (inl le))
+  pub few_in_hand : length segment.draft.columns.rows < limit
+  few_in_hand = lt_of (length segment.draft.columns.rows) limit (λ le. open_all limit part d.not_yet (inl le))
 
-  pub has_room : limit ≤ MAX_ROWS → HasRoom hand
+  pub has_room : limit ≤ MAX_ROWS → HasRoom segment
   has_room most =
       record {
         rows = omega (arith, few_in_hand, most);
-        variables = lt_of (variable_count hand.draft.columns.rows) 1048576 (λ le. open_all limit part d.not_yet (inr (inl le)));
+        variables = lt_of (variable_count segment.draft.columns.rows) 1048576 (λ le. open_all limit part d.not_yet (inr (inl le)));
       }
 
   -- what is held, told from the start
@@ -116,7 +121,7 @@ module _ {D R A B C : Type 0} (state : D → DiskState) (limit : ℕ) (start p :
       } in found)
 
   -- nothing more is sealed
-  abbrev pub covering : (q : KeeperPass D) (new : Hand) (line : List ℕ) → HasNotSealed state p q → new.draft.first ≡ hand.draft.first → Covering state limit start q new (taken ++ line ∷ [])
+  abbrev pub covering : (q : KeeperPass D) (new : OpenSegment) (line : List ℕ) → HasNotSealed state p q → new.draft.first ≡ segment.draft.first → Covering state limit start q new (taken ++ line ∷ [])
   covering q new line none first = record {
     closed = d.closed;
     more = d.more ++ none.more;
@@ -133,7 +138,7 @@ module _ {D R A B C : Type 0} (state : D → DiskState) (limit : ℕ) (start p :
   }
 
   -- a message was not named, and all is as it was
-  pub doing_kept : (n : LockNamer R A B C) (new : Hand) → HasSamePasses m n → IsPrefix (types_seen m) (types_seen n) → IsPrefix (words_seen m) (words_seen n) → SameMarks hand new → SameRows hand new → Doing state limit start p n new taken
+  pub doing_kept : (n : LockNamer R A B C) (new : OpenSegment) → HasSamePasses m n → IsPrefix (types_seen m) (types_seen n) → IsPrefix (words_seen m) (words_seen n) → SameMarks segment new → SameRows segment new → Doing state limit start p n new taken
   doing_kept n new same a b marks rows = record {
     closed = d.closed;
     messages = d.messages;
@@ -141,8 +146,8 @@ module _ {D R A B C : Type 0} (state : D → DiskState) (limit : ℕ) (start p :
     taken_is = d.taken_is;
     cut = d.cut;
     not_yet = subst (λ (c : ColumnsState). IsOpen limit (record { rows = c.rows; messages = d.messages })) (sym rows.columns) d.not_yet;
-    has = subst (λ v. HasInHand v (types_seen n) (words_seen n) d.messages new) (sym same.version)
-        (rows_same m.version (types_seen n) (words_seen n) d.messages hand new rows (in_hand_on m.version (types_seen m) (words_seen m) (types_seen n) (words_seen n) d.messages hand a b d.has));
+    has = subst (λ v. HasMessages v (types_seen n) (words_seen n) d.messages new) (sym same.version)
+        (rows_same m.version (types_seen n) (words_seen n) d.messages segment new rows (in_hand_on m.version (types_seen m) (words_seen m) (types_seen n) (words_seen n) d.messages segment a b d.has));
     each = subst (λ v. All (IsMessage v) d.messages) (sym same.version) d.each;
     first = marks.first ∙ d.first;
     file = marks.file ∙ d.file;
@@ -155,19 +160,19 @@ module _ {D R A B C : Type 0} (state : D → DiskState) (limit : ℕ) (start p :
   }
 
   -- a message was not taken
-  pub not_taken : (n : LockNamer R A B C) (new : Hand) (line : List ℕ) (y : Stop) → HasSamePasses m n → IsPrefix (types_seen m) (types_seen n) → IsPrefix (words_seen m) (words_seen n) → SameMarks hand new
-      → ((cause : Cause) → y ≡ PartStop cause → SameRows hand new) → IsNameStop y → ((book : Which) (count : ℕ) → y ≡ PartStop (Full book count) → WasFullFor n.version (λ m. m ≡ line) (books_by (types_pass n) (words_pass n)) book count)
+  pub not_taken : (n : LockNamer R A B C) (new : OpenSegment) (line : List ℕ) (y : FileEnd) → HasSamePasses m n → IsPrefix (types_seen m) (types_seen n) → IsPrefix (words_seen m) (words_seen n) → SameMarks segment new
+      → ((cause : Cause) → y ≡ PartStop cause → SameRows segment new) → IsNameStop y → ((book : Which) (count : ℕ) → y ≡ PartStop (Full book count) → WasFullFor n.version (λ m. m ≡ line) (books_by (types_pass n) (words_pass n)) book count)
       → IsAtStop state limit start p n new taken line y
   not_taken n new line (PartStop cause) same a b marks rows named full = (doing_kept n new same a b marks (rows cause refl), full_cause (WasFullFor n.version (λ m. m ≡ line) (books_by (types_pass n) (words_pass n))) cause named (λ book count is. full book count (ap PartStop is)))
   not_taken n new line (Lost cause) same a b marks rows named full = record { covering = covering p new line (nothing_sealed state p d.worker.ready) marks.first; caused = lost_cause state start p _ cause named }
 
-  module _ (n : LockNamer R A B C) (new : Hand) (row : Row) (line : List ℕ) (same : HasSamePasses m n) (marks : SameMarks hand new) (pushed : new.draft.columns.rows ≡ hand.draft.columns.rows ++ row ∷ [])
-      (has : HasInHand m.version (types_seen n) (words_seen n) (d.messages ++ line ∷ []) new) (is_message : IsMessage m.version line) where
+  module _ (n : LockNamer R A B C) (new : OpenSegment) (row : Row) (line : List ℕ) (same : HasSamePasses m n) (marks : SameMarks segment new) (pushed : new.draft.columns.rows ≡ segment.draft.columns.rows ++ row ∷ [])
+      (has : HasMessages m.version (types_seen n) (words_seen n) (d.messages ++ line ∷ []) new) (is_message : IsMessage m.version line) where
     abbrev grown : Part
-    grown = record { rows = hand.draft.columns.rows ++ row ∷ []; messages = d.messages ++ line ∷ [] }
+    grown = record { rows = segment.draft.columns.rows ++ row ∷ []; messages = d.messages ++ line ∷ [] }
 
-    now_has_it : HasInHand n.version (types_seen n) (words_seen n) (d.messages ++ line ∷ []) new
-    now_has_it = subst (λ v. HasInHand v (types_seen n) (words_seen n) (d.messages ++ line ∷ []) new) (sym same.version) has
+    now_has_it : HasMessages n.version (types_seen n) (words_seen n) (d.messages ++ line ∷ []) new
+    now_has_it = subst (λ v. HasMessages v (types_seen n) (words_seen n) (d.messages ++ line ∷ []) new) (sym same.version) has
 
     each_now : All (IsMessage n.version) (d.messages ++ line ∷ [])
     each_now = subst (λ v. All (IsMessage v) (d.messages ++ line ∷ [])) (sym same.version) (All-push (IsMessage m.version) d.messages line d.each is_message)
@@ -200,7 +205,7 @@ module _ {D R A B C : Type 0} (state : D → DiskState) (limit : ℕ) (start p :
     }
 
     size : length new.draft.columns.rows ≡ length d.messages + 1
-    size = omega (arith, ap length pushed, length-append hand.draft.columns.rows (row ∷ []), d.not_yet.even)
+    size = omega (arith, ap length pushed, length-append segment.draft.columns.rows (row ∷ []), d.not_yet.even)
 
     pub may_seal : limit ≤ MAX_ROWS → length taken < MAX_MESSAGES → MaySeal state p n new
     may_seal most few = record {
@@ -212,7 +217,7 @@ module _ {D R A B C : Type 0} (state : D → DiskState) (limit : ℕ) (start p :
       so_far = d.so_far;
       has = now_has_it;
       each = each_now;
-      few = omega (arith, ap length pushed, length-append hand.draft.columns.rows (row ∷ []), (has_room most).rows);
+      few = omega (arith, ap length pushed, length-append segment.draft.columns.rows (row ∷ []), (has_room most).rows);
       most = omega (arith, size, few, ap length d.taken_is, length-append (messages_in d.closed) d.messages, marks.first, d.first);
       some = λ not. omega (arith, size);
       ended = λ is. absurd (cc (is, marks.ended, d.not_ended));
@@ -235,14 +240,14 @@ module _ {D R A B C : Type 0} (state : D → DiskState) (limit : ℕ) (start p :
 
     -- it is full, and its segment does not fit
     pub full_found : (q : KeeperPass D) (now : LockNamer R A B C) (end need : ℕ) → HasOnlySeen n now → HasNotSealed state p q → IsFull new.draft.columns limit → HasNoRoomFor state new end need p q n now
-        → FoundNoRoom state limit now.version (books_by (types_pass now) (words_pass now)) (λ first. IsPrefix first (taken ++ line ∷ [])) start q (messages_in d.closed) end need
+        → FoundNoRoom state limit now.version (books_by (types_pass now) (words_pass now)) (λ first. IsPrefix first (taken ++ line ∷ [])) (λ all. ⊥) start q (messages_in d.closed) end need
     full_found q now end need only none full room =
-        found_room state limit now.version start p q n now new (messages_in d.closed) (d.messages ++ line ∷ []) (taken ++ line ∷ []) end need (new_file ∙ d.added.still.number) (marks.first ∙ d.first) d.added.still.about_is
+        found_room state limit now.version start p q n now new (messages_in d.closed) (d.messages ++ line ∷ []) (taken ++ line ∷ []) (λ all. ⊥) end need (new_file ∙ d.added.still.number) (marks.first ∙ d.first) d.added.still.about_is
         (prefix_trans (seen start) (seen p) (seen q) d.added.seen_on none.added.seen_on) ([], append-nil (messages_in d.closed ++ (d.messages ++ line ∷ [])) ∙ sym taken_now)
         (inl (subst (λ rows. IsCut limit (record { rows = rows; messages = d.messages ++ line ∷ [] })) (sym pushed) (cut_more limit part row line d.not_yet (subst (λ c. IsFull c limit) columns_now full))))
-        (subst (λ v. HasInHand v (types_seen n) (words_seen n) (d.messages ++ line ∷ []) new) (sym only.version) now_has_it) room
+        (subst (λ v. HasMessages v (types_seen n) (words_seen n) (d.messages ++ line ∷ []) new) (sym only.version) now_has_it) room
 
-    pub doing_sealed : (q : KeeperPass D) (now : LockNamer R A B C) (emptied : Hand) → HasOnlySeen n now → IsEmptied new emptied → HasSealed state new.draft p q
+    pub doing_sealed : (q : KeeperPass D) (now : LockNamer R A B C) (emptied : OpenSegment) → HasOnlySeen n now → IsEmptied new emptied → HasSealed state new.draft p q
         → NowHas state new.draft n.version (types_seen n) (words_seen n) p q → IsFull new.draft.columns limit → Doing state limit start q now emptied (taken ++ line ∷ [])
     doing_sealed q now emptied only empty sealed has_now full = record {
       closed = d.closed ++ grown ∷ [];

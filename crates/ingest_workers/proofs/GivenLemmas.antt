@@ -32,14 +32,15 @@ use Rattle.disk_seal.specs.View.{KnowsBook, StoreState, state_by, journal_of}
 use Rattle.ingest_workers.specs.declared.job.Job.{Job}
 use Rattle.ingest_workers.specs.declared.worker.Plan.{Plan}
 use Rattle.ingest_workers.specs.Causes.{log_of}
-use Rattle.ingest_workers.specs.Crew.{BookMaker, EndsBook}
+use Rattle.ingest_workers.specs.StartedWorkers.{BookMaker, EndsBook}
 use Rattle.ingest_workers.specs.Full.{AreFirstOf, IsFullBy, IsNextOf, IsTextOf, WasFull, WasFullBehind}
 use Rattle.ingest_workers.specs.Ingested.{HadNoRoomOver, HasEndedBooks, HasTextsBehind, HaveCauses, HaveCausesIn, IsFullByGiven, IsTypeGiven, IsWordGiven, OpensBook, WereGiven, book_texts, books_at, grounds_over, known_at, told_entries}
 use Rattle.ingest_workers.specs.InTurn.{WasFilledBy}
-use Rattle.ingest_workers.specs.NoRoom.{HadNoRoom, IsBetween, WereKnown}
+use Rattle.ingest_workers.specs.NoRoom.{HadNoRoom, IsBetween, WereKnown, part_in}
+use Rattle.ingest_workers.specs.Parts.{IsCut, IsOpen}
 use Rattle.ingest_workers.proofs.CauseLemmas.{cause_on}
 use Rattle.ingest_workers.proofs.ClosingLemmas.{types_joined, words_joined}
-use Rattle.ingest_workers.proofs.HandLemmas.{same_numbers}
+use Rattle.ingest_workers.proofs.OpenSegmentLemmas.{same_numbers}
 use Rattle.ingest_workers.proofs.JournalLemmas.{all_canonical}
 use Rattle.ingest_workers.proofs.SealLemmas.{if_told, of_told}
 
@@ -169,7 +170,7 @@ module _ {S D : Type 0} {d : DiskGhosts D} {G : Ghosts BookState (List ℕ) ℕ}
         count = c.2.count;
         first = c.2.first;
         cause = cause_on (grounds_over was (WereKnown (books_at types' words')) plan job.file (left c.2.source.before) before after) (grounds_over (IsFullByGiven left plan js before) (WereGiven left plan js) plan job.file (left c.2.source.before) before after) (log_of left faults c.2.source.before c.2.source.after) plan.version c.2.sealed c.0.outcome.cause
-            (full (left c.2.source.before) c.2.sealed) (room job.file (left c.2.source.before) c.2.sealed) (λ since now has. has) c.2.cause;
+            (full (left c.2.source.before)) (room job.file (left c.2.source.before) c.2.sealed) (λ since now has. has) c.2.cause;
       },
     );
   }
@@ -206,11 +207,12 @@ module _ {S D : Type 0} {d : DiskGhosts D} {G : Ghosts BookState (List ℕ) ℕ}
       after_is = ap₂ (λ (x : D) n. journal_in (d.state x).seen n) (sym h.stored.left_by.disk) h.stored.left_by.count
 
       -- what had no room were the rows and the texts of given messages
-      room : (file : ℕ) (bytes : Option (List ℕ)) (sealed : List (List ℕ)) (end need : ℕ) → HadNoRoomOver (WereKnown (books_at types' words')) plan file bytes before after sealed end need → HadNoRoomOver (WereGiven left plan js) plan file bytes before after sealed end need
-      room file bytes sealed end need had = (had.0, if_told told _ (λ told_is. given told_is (of_told told _ told_is had.1)))
+      room : (file : ℕ) (bytes : Option (List ℕ)) (sealed : List (List ℕ)) (last last' : List (List ℕ) → Type 0) → ((ms : List (List ℕ)) → last ms → last' ms) → (end need : ℕ)
+          → HadNoRoomOver (WereKnown (books_at types' words')) plan file bytes before after last sealed end need → HadNoRoomOver (WereGiven left plan js) plan file bytes before after last' sealed end need
+      room file bytes sealed last last' further end need had = (had.0, if_told told _ (λ told_is. given told_is (of_told told _ told_is had.1)))
         where
-          given : told ≡ true → HadNoRoom before.header plan.rows plan.version file (IsBetween (told_entries (state_of before)) (told_entries (state_of after))) (WereKnown (books_at types' words')) (AreFirstOf plan.version bytes) sealed end need
-              → HadNoRoom before.header plan.rows plan.version file (IsBetween (told_entries (state_of before)) (told_entries (state_of after))) (WereGiven left plan js) (AreFirstOf plan.version bytes) sealed end need
+          given : told ≡ true → HadNoRoom before.header plan.rows plan.version file (IsBetween (told_entries (state_of before)) (told_entries (state_of after))) (WereKnown (books_at types' words')) (AreFirstOf plan.version bytes) last sealed end need
+              → HadNoRoom before.header plan.rows plan.version file (IsBetween (told_entries (state_of before)) (told_entries (state_of after))) (WereGiven left plan js) (AreFirstOf plan.version bytes) last' sealed end need
           given told_is r =
               let since = r.was_so.0 in
               let on = subst (IsPrefix r.front) after_is r.was_so.1 in
@@ -239,7 +241,8 @@ module _ {S D : Type 0} {d : DiskGhosts D} {G : Ghosts BookState (List ℕ) ℕ}
                 file_is = r.file_is;
                 next = r.next;
                 follows = r.follows;
-                cut = r.cut;
+                cut = ⊎_elim (λ (cut : IsCut plan.rows (part_in r.draft r.messages)). inl cut)
+                    (λ (open_end : IsOpen plan.rows (part_in r.draft r.messages) × last (sealed ++ r.messages)). inr (open_end.0, further (sealed ++ r.messages) open_end.1)) r.cut;
                 canonical = all_canonical plan.version r.draft.columns.rows r.types r.words (before_types ++ more_types) (before_words ++ more_words) r.messages on_types on_words r.canonical;
                 numbers = r.numbers ∙ ap sorted_set (same_numbers plan.version r.draft.columns.rows r.types r.words (before_types ++ more_types) r.messages on_types r.canonical);
                 needs = r.needs ∙ ap₂ (λ t w. min (texts_need (length before_types) t + (texts_need (length before_words) w + segment_need r.draft)) 18446744073709551615) (sym (drop_front before_types more_types)) (sym (drop_front before_words more_words));

@@ -32,7 +32,7 @@ use Rattle.ingest_workers.specs.declared.outcome.Cause.TheVariants.{Full}
 use Rattle.ingest_workers.specs.declared.worker.Plan.{Plan}
 use Rattle.ingest_workers.specs.declared.worker.Worker.{Worker}
 use Rattle.ingest_workers.specs.Causes.{HasJobCause, grounds_of, log_of}
-use Rattle.ingest_workers.specs.Crew.{BookMaker, HasEnded, HasEnrolled}
+use Rattle.ingest_workers.specs.StartedWorkers.{BookMaker, HasEnded, HasEnrolled}
 use Rattle.ingest_workers.specs.Full.{Books, IsMessageAt, IsMore, IsNextOf, WasFullBehind, book_of}
 use Rattle.ingest_workers.specs.Ingested.{HasEndedBooks, IsTypeGiven, IsWordGiven, OpensBook, books_at, told_entries}
 use Rattle.ingest_workers.specs.InTurn.{AreFullInTurn, IsFullInTurn, IsMetBy, IsNextFor, WasFilled, WereFilled}

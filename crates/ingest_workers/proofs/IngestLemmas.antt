@@ -41,7 +41,7 @@ use Rattle.ingest_workers.specs.declared.worker.Worker.{Worker}
 use Rattle.ingest_workers.specs.JobDone.{IsDone}
 use Rattle.ingest_workers.specs.Journal.{Holds}
 use Rattle.ingest_workers.specs.Worker.{DidJob, DidOnly, IsIdle, books_in, types_of as types_pass, words_of as words_pass}
-use Rattle.ingest_workers.specs.Crew.{BookMaker, HavePlan, HasEnrolled}
+use Rattle.ingest_workers.specs.StartedWorkers.{BookMaker, HavePlan, HasEnrolled}
 use Rattle.ingest_workers.specs.Locked.{in_file, file_segment, list_of, list_behind, IsPassOf, IsStillStore, MayDoAt, HasWorked}
 use Rattle.ingest_workers.specs.Ingested.{first_file, told_entries, AreNew, IsOfJobs, OpensBook, opened_over, IsLeftBy, IsAsItWas, IsFileOf, HadNoRoomOver, HasStored, HasItsCause, HaveCausesIn, grounds_over}
 use Rattle.ingest_workers.specs.NoRoom.{FoundNoRoom, HadNoRoom, IsBetween, WereKnown}
@@ -53,7 +53,7 @@ use Rattle.ingest_workers.specs.Causes.{grounds_of, log_of}
 use Rattle.ingest_workers.specs.Full.{AreFirstOf, Books, IsMore, IsNextOf, WasFullBehind, book_of}
 use Rattle.ingest_workers.proofs.FullLemmas.{books_on, full_wider}
 use Rattle.ingest_workers.proofs.CauseLemmas.{cause_on}
-use Rattle.ingest_workers.specs.Closing.{IsJournalOf}
+use Rattle.ingest_workers.specs.ClosedStore.{IsJournalOf}
 use Rattle.ingest_workers.proofs.FileLemmas.{file_of}
 use Rattle.ingest_workers.proofs.JournalLemmas.{seen_front, seen_joined}
 use Rattle.ingest_workers.proofs.CrewLemmas.{map_at}
@@ -279,16 +279,16 @@ module _ {S D : Type 0} {d : DiskGhosts D} (left name : S → Option (List ℕ))
 
     -- what had no room, told of the journals
     room_over : (first : ℕ) (plan : Plan) (i file : ℕ) (bytes : Option (List ℕ)) (known books : Books) (p q : KeeperPass D) → IsPassOf d.state first opened i p → number_of p ≡ file → IsPrefix (seen q) (list_of d.state store) → IsJournalOf store after
-        → ((book : Which) → IsMore (book_of known book) (book_of books book)) → (sealed : List (List ℕ)) (end need : ℕ) → FoundNoRoom d.state plan.rows plan.version known (AreFirstOf plan.version bytes) p q sealed end need
-        → HadNoRoomOver (WereKnown books) plan file bytes before after sealed end need
-    room_over first plan i file bytes known books p q o number on back more sealed end need found = (
+        → ((book : Which) → IsMore (book_of known book) (book_of books book)) → (sealed : List (List ℕ)) (last last' : List (List ℕ) → Type 0) → ((ms : List (List ℕ)) → last ms → last' ms) → (end need : ℕ)
+        → FoundNoRoom d.state plan.rows plan.version known (AreFirstOf plan.version bytes) last p q sealed end need → HadNoRoomOver (WereKnown books) plan file bytes before after last' sealed end need
+    room_over first plan i file bytes known books p q o number on back more sealed last last' further end need found = (
       found.0 _ o.about_is,
       told_map (is_some (d.state before.disk.now).seen)
-          (λ (room : HadNoRoom before.header plan.rows plan.version (number_of p) (IsBetween (journal_seen (seen p)) (journal_seen (seen q))) (WereKnown known) (AreFirstOf plan.version bytes) sealed end need).
-          subst (λ n. HadNoRoom before.header plan.rows plan.version n (IsBetween (told_entries (state_of before)) (told_entries (state_of after))) (WereKnown books) (AreFirstOf plan.version bytes) sealed end need) number
-          (no_room_on before.header plan.rows plan.version (number_of p) _ _ (WereKnown known) (WereKnown books) (AreFirstOf plan.version bytes) (AreFirstOf plan.version bytes) sealed end need
+          (λ (room : HadNoRoom before.header plan.rows plan.version (number_of p) (IsBetween (journal_seen (seen p)) (journal_seen (seen q))) (WereKnown known) (AreFirstOf plan.version bytes) last sealed end need).
+          subst (λ n. HadNoRoom before.header plan.rows plan.version n (IsBetween (told_entries (state_of before)) (told_entries (state_of after))) (WereKnown books) (AreFirstOf plan.version bytes) last' sealed end need) number
+          (no_room_on before.header plan.rows plan.version (number_of p) _ _ (WereKnown known) (WereKnown books) (AreFirstOf plan.version bytes) (AreFirstOf plan.version bytes) last last' sealed end need
           (λ es between. (subst (λ l. IsPrefix l es) (ap journal_seen o.seen_is ∙ list_before) between.0, prefix_trans es (journal_seen (seen q)) (told_entries (state_of after)) between.1 (seen_after q on back)))
-          (λ es book texts has. prefix_trans texts (book_of known book).texts (book_of books book).texts has (more book).front) (λ ms first. first) room)) (found.1 _ o.about_is),
+          (λ es book texts has. prefix_trans texts (book_of known book).texts (book_of books book).texts has (more book).front) (λ ms first. first) further room)) (found.1 _ o.about_is),
     )
 
     pub have_causes : (books : Books) (first : ℕ) (plan : Plan) (ws ws' : List Worker) (js js' : List (Job S)) → AreNew first (state_of before) js → HavePlan plan ws
@@ -313,7 +313,7 @@ module _ {S D : Type 0} {d : DiskGhosts D} (left name : S → Option (List ℕ))
                 count = done.came.count;
                 first = done.came.first;
                 cause = cause_on (grounds_of d.state plan.rows plan.version (books_in f.after) (left done.source.before) p.0 f.keeper) (grounds_over full (WereKnown books) plan job.file (left done.source.before) before after) log plan.version done.came.covered f.job.outcome.cause
-                    (full_wider plan.version (IsNextOf plan.version (left done.source.before) done.came.covered) (IsNextOf plan.version (left done.source.before) done.came.covered) (λ m is. is) (books_in f.after) books known)
+                    (λ ms. full_wider plan.version (IsNextOf plan.version (left done.source.before) ms) (IsNextOf plan.version (left done.source.before) ms) (λ m is. is) (books_in f.after) books known)
                     (room_over first plan i job.file (left done.source.before) (books_in f.after) books p.0 f.keeper o (o.number ∙ sym (new i job at).file_is) (h.seen_on i f.keeper f.keeper_is) back known done.came.covered)
                     (λ since now has. (
                       has.fault.opened _ o.about_is,

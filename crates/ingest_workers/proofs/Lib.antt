@@ -2,7 +2,7 @@ pub mod CauseLemmas
 pub mod FullLemmas
 pub mod RefuseLemmas
 pub mod JournalLemmas
-pub mod HandLemmas
+pub mod OpenSegmentLemmas
 pub mod SealLemmas
 pub mod MaySealLemmas
 pub mod NoRoomLemmas

@@ -1,4 +1,4 @@
--- What is in hand may follow.
+-- What is in the open segment may follow.
 use Rattle.std.proofs.Common.{◌≡◌, ℕ, ◌<◌, ◌≤◌, ◌^◌, List, [], ◌++◌, false, length, refl, sym, ap, ◌∙◌, subst, append-nil, All}
 use Rattle.std.specs.Prelude.{is_some, Result, Ok, Err, OnErr}
 use Rattle.std.specs.List.Sorted.{IsStrictlyIncreasing}
@@ -22,7 +22,7 @@ use Rattle.disk_seal.specs.Fixed.{KeeperPass}
 use Rattle.disk_seal.specs.Draft.{MayFollow, journal_seen}
 use Rattle.disk_seal.specs.Planned.{segment_of}
 use Rattle.disk_seal.specs.Prepare.{MayBeNext}
-use Rattle.ingest_workers.specs.declared.hand.Hand.{Hand}
+use Rattle.ingest_workers.specs.declared.open_segment.OpenSegment.{OpenSegment}
 use Rattle.ingest_workers.specs.Journal.{HasAdded, Holds}
 use Rattle.ingest_workers.specs.MaySeal.{HasNoRoomFor, MaySeal}
 use Rattle.ingest_workers.specs.Namer.{HasNoRoom, HasOnlySeen, types_pass, words_pass, types_seen, words_seen}
@@ -54,14 +54,14 @@ module _ {R A B C : Type 0} where
   seen_same n types words = record { version = refl; types = same_book (types_pass n) types; words = same_book (words_pass n) words; own_types = refl; own_words = refl }
 
 module _ {D R A B C : Type 0} (state : D → DiskState) where
-  -- the draft of a hand that may be sealed, with its words, may be the next segment
-  pub next_of : (p : KeeperPass D) (n : LockNamer R A B C) (hand : Hand) (d : Draft) → MaySeal state p n hand → segment_of d ≡ segment_of hand.draft → d.words ≡ sorted_set hand.used.items
-      → All IsRow hand.draft.columns.rows → variable_count hand.draft.columns.rows < 2 ^ 32 → MayBeNext state d p (types_seen n) (words_seen n)
-  next_of p n hand d may same words fit variables a is =
+  -- the draft of an open segment that may be sealed, with its words, may be the next segment
+  pub next_of : (p : KeeperPass D) (n : LockNamer R A B C) (segment : OpenSegment) (d : Draft) → MaySeal state p n segment → segment_of d ≡ segment_of segment.draft → d.words ≡ sorted_set segment.used.items
+      → All IsRow segment.draft.columns.rows → variable_count segment.draft.columns.rows < 2 ^ 32 → MayBeNext state d p (types_seen n) (words_seen n)
+  next_of p n segment d may same words fit variables a is =
       if_told (is_some (state a.fixed.opened).seen) _ (λ told.
       let holds : Holds a.fixed.header (journal_seen (seen p)) (number_of p) may.covered false false = of_told (is_some (state a.fixed.opened).seen) _ told (may.so_far a is) in
       let messages_are = ap (λ f. messages_of f holds.held.pieces) may.file ∙ holds.messages_are in
-      let adds : AddsSegment a.fixed.header.version (record holds.held { types = types_seen n; words = words_seen n }) (segment_of hand.draft) may.messages = record {
+      let adds : AddsSegment a.fixed.header.version (record holds.held { types = types_seen n; words = words_seen n }) (segment_of segment.draft) may.messages = record {
         first = may.first ∙ sym (ap length messages_are);
         goes_on = ap (λ f. is_whole f holds.held.pieces) may.file ∙ holds.whole_is;
         most = may.most;
@@ -71,10 +71,10 @@ module _ {D R A B C : Type 0} (state : D → DiskState) where
         some = may.some;
         ended = may.ended;
         end = λ last open_end. ap (λ l. last_is_open (l ++ may.messages)) messages_are ∙ may.end last open_end;
-        canonical = subst (λ v. AreCanonical v hand.draft.columns.rows (types_seen n) (words_seen n) may.messages) (may.worker.namer.version a is) may.has.canonical;
+        canonical = subst (λ v. AreCanonical v segment.draft.columns.rows (types_seen n) (words_seen n) may.messages) (may.worker.namer.version a is) may.has.canonical;
         each = subst (λ v. All (IsMessage v) may.messages) (may.worker.namer.version a is) may.each;
       } in
-      let may_follow : MayFollow a.fixed.header (journal_seen (seen p)) (types_seen n) (words_seen n) (segment_of hand.draft) d.words = record {
+      let may_follow : MayFollow a.fixed.header (journal_seen (seen p)) (types_seen n) (words_seen n) (segment_of segment.draft) d.words = record {
         held = holds.held;
         run = holds.run;
         named = subst (λ f. f < length holds.held.names) (sym may.file) holds.named;
@@ -84,8 +84,8 @@ module _ {D R A B C : Type 0} (state : D → DiskState) where
       } in
       subst (λ s. MayFollow a.fixed.header (journal_seen (seen p)) (types_seen n) (words_seen n) s d.words) (sym same) may_follow)
 
-  pub room_for : (hand : Hand) (d : Draft) (end need : ℕ) (p q : KeeperPass D) (m n : LockNamer R A B C) → segment_of d ≡ segment_of hand.draft → d.words ≡ sorted_set hand.used.items → HasNoRoom state d end need p q m n → HasNoRoomFor state hand end need p q m n
-  room_for hand d end need p q m n is words room = record { draft = d; is = is; words = words; no_room = room }
+  pub room_for : (segment : OpenSegment) (d : Draft) (end need : ℕ) (p q : KeeperPass D) (m n : LockNamer R A B C) → segment_of d ≡ segment_of segment.draft → d.words ≡ sorted_set segment.used.items → HasNoRoom state d end need p q m n → HasNoRoomFor state segment end need p q m n
+  room_for segment d end need p q m n is words room = record { draft = d; is = is; words = words; no_room = room }
 
 pub on_err : {T E : Type 0} (r : Result T E) (P : Type 0) → P → OnErr r P
 on_err (Ok x) P y = tt

@@ -12,7 +12,9 @@ use Rattle.dict_lock.specs.Shared.{BookPass, GoesOn, OwnsBehind}
 use Rattle.disk_seal.specs.declared.namer.LockNamer.{LockNamer}
 use Rattle.disk_seal.specs.Known.{known_of, limit_in}
 use Rattle.disk_seal.specs.Naming.{NamesIn}
-use Rattle.ingest_workers.specs.declared.stop.Stop.{Stop}
+use Rattle.ingest_workers.specs.declared.file_end.FileEnd.{FileEnd}
+use Rattle.ingest_workers.specs.Adding.{BothStill, KnowsMore}
+use Rattle.ingest_workers.specs.Full.{books_by}
 use Rattle.ingest_workers.specs.Namer.{HasOnlySeen, types_pass, words_pass}
 use Rattle.ingest_workers.specs.Naming.{AddsOnly, HasNamed}
 use Rattle.ingest_workers.specs.Turns.{HasAsked, MayAsk, type_by, word_by}
@@ -119,7 +121,7 @@ module _ {R A B C : Type 0} where
   asked_behind line m middle n texts (Some refusal) answer named rest = subst (λ (o : LockNamer R A B C). OwnsBehind (types_pass m) (types_pass o) × OwnsBehind (words_pass m) (words_pass o)) (sym rest.0)
       (named.2, owns_none (words_pass m) (words_pass middle) (ap own_list named.3))
 
-  behind_seen : (line : List ℕ) (m n : LockNamer R A B C) (stop : Option Stop) → MayAsk NamesIn m.version line stop m n → OwnsBehind (types_pass m) (types_pass n) × OwnsBehind (words_pass m) (words_pass n)
+  behind_seen : (line : List ℕ) (m n : LockNamer R A B C) (stop : Option FileEnd) → MayAsk NamesIn m.version line stop m n → OwnsBehind (types_pass m) (types_pass n) × OwnsBehind (words_pass m) (words_pass n)
   behind_seen line m n stop asked = ⊎_elim
       (λ (same : n ≡ m). (
         owns_none (types_pass m) (types_pass n) (ap (λ (o : LockNamer R A B C). own_list (types_pass o)) same),
@@ -129,18 +131,16 @@ module _ {R A B C : Type 0} where
       asked
 
   -- the texts of one message
-  pub named_one : (line : List ℕ) (m n : LockNamer R A B C) (stop : Option Stop) → n.version ≡ m.version
-      → (lock_of (types_pass n) ≡ lock_of (types_pass m)) × (lock_of (words_pass n) ≡ lock_of (words_pass m))
-      → (number_of (types_pass n) ≡ number_of (types_pass m)) × (number_of (words_pass n) ≡ number_of (words_pass m))
-      → (about (types_pass n) ≡ about (types_pass m)) × (about (words_pass n) ≡ about (words_pass m))
-      → HasGrown (IsTypeOf m.version line) (known_of (types_pass m)) (known_of (types_pass n)) → HasGrown (IsWordOf m.version line) (known_of (words_pass m)) (known_of (words_pass n))
+  pub named_one : (line : List ℕ) (m n : LockNamer R A B C) (stop : Option FileEnd) → n.version ≡ m.version
+      → BothStill (types_pass m) (types_pass n) (words_pass m) (words_pass n)
+      → KnowsMore m.version line (books_by (types_pass m) (words_pass m)) (books_by (types_pass n) (words_pass n))
       → MayAsk NamesIn m.version line stop m n → HasNamed (λ x. x ≡ line) m n
-  named_one line m n stop version locks numbers abouts types words asked = record {
+  named_one line m n stop version still known asked = record {
     version = version;
-    types = adds_grown (type_by (λ x. x ≡ line) m.version) (types_pass m) (types_pass n) locks.0 numbers.0 abouts.0 n.types.ready
-        (grown_wider (IsTypeOf m.version line) (type_by (λ x. x ≡ line) m.version) (λ t is. (line, refl, is)) (known_of (types_pass m)) (known_of (types_pass n)) types)
+    types = adds_grown (type_by (λ x. x ≡ line) m.version) (types_pass m) (types_pass n) still.of_types.lock still.of_types.number still.of_types.about_is n.types.ready
+        (grown_wider (IsTypeOf m.version line) (type_by (λ x. x ≡ line) m.version) (λ t is. (line, refl, is)) (known_of (types_pass m)) (known_of (types_pass n)) known.types)
         (behind_seen line m n stop asked).0;
-    words = adds_grown (word_by (λ x. x ≡ line) m.version) (words_pass m) (words_pass n) locks.1 numbers.1 abouts.1 n.words.ready
-        (grown_wider (IsWordOf m.version line) (word_by (λ x. x ≡ line) m.version) (λ t is. (line, refl, is)) (known_of (words_pass m)) (known_of (words_pass n)) words)
+    words = adds_grown (word_by (λ x. x ≡ line) m.version) (words_pass m) (words_pass n) still.of_words.lock still.of_words.number still.of_words.about_is n.words.ready
+        (grown_wider (IsWordOf m.version line) (word_by (λ x. x ≡ line) m.version) (λ t is. (line, refl, is)) (known_of (words_pass m)) (known_of (words_pass n)) known.words)
         (behind_seen line m n stop asked).1;
   }

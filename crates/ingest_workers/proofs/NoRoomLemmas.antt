@@ -1,5 +1,5 @@
 -- A segment that does not fit.
-use Rattle.std.proofs.Common.{◌≡◌, ◌⊎◌, ℕ, ◌+◌, ◌<◌, List, ◌++◌, length, sym, ap, ◌∙◌, subst}
+use Rattle.std.proofs.Common.{◌≡◌, ◌⊎◌, ⊎_elim, inl, inr, ℕ, ◌+◌, ◌<◌, List, ◌++◌, length, sym, ap, ◌∙◌, subst}
 use Rattle.std.specs.Prelude.{is_some, min}
 use mathlib.Core.List.{IsPrefix}
 use Rattle.log_seams.specs.Disk.{DiskState}
@@ -18,14 +18,14 @@ use Rattle.disk_seal.specs.Draft.{journal_seen}
 use Rattle.disk_seal.specs.Fixed.{KeeperPass}
 use Rattle.disk_seal.specs.Prepare.{IsFullAt, need_behind}
 use Rattle.disk_seal.proofs.ToldLemmas.{told_map}
-use Rattle.ingest_workers.specs.declared.hand.Hand.{Hand}
+use Rattle.ingest_workers.specs.declared.open_segment.OpenSegment.{OpenSegment}
 use Rattle.ingest_workers.specs.Full.{Books, IsMore, book_of, books_by}
-use Rattle.ingest_workers.specs.Hand.{HasInHand}
+use Rattle.ingest_workers.specs.OpenSegment.{HasMessages}
 use Rattle.ingest_workers.specs.MaySeal.{HasNoRoomFor}
 use Rattle.ingest_workers.specs.Namer.{types_pass, types_seen, words_pass, words_seen}
-use Rattle.ingest_workers.specs.NoRoom.{FoundNoRoom, HadNoRoom, IsBetween, WereKnown}
+use Rattle.ingest_workers.specs.NoRoom.{FoundNoRoom, HadNoRoom, IsBetween, WereKnown, part_in}
 use Rattle.ingest_workers.specs.Parts.{IsCut, IsOpen}
-use Rattle.ingest_workers.proofs.HandLemmas.{same_numbers}
+use Rattle.ingest_workers.proofs.OpenSegmentLemmas.{same_numbers}
 use Rattle.ingest_workers.proofs.JournalLemmas.{all_canonical, seen_front}
 use Rattle.ingest_workers.proofs.SealLemmas.{if_told, of_told}
 
@@ -37,10 +37,10 @@ Entries = List JournalEntry
 
 -- ---- the same where more is told of less
 
-module _ (h : Header) (limit version file : ℕ) (was was' : Entries → Type 0) (has has' : Entries → Which → Texts → Type 0) (follow follow' : Texts → Type 0) where
-  pub no_room_on : (sealed : Texts) (end need : ℕ) → ((es : Entries) → was es → was' es) → ((es : Entries) (book : Which) (texts : Texts) → has es book texts → has' es book texts) → ((ms : Texts) → follow ms → follow' ms)
-      → HadNoRoom h limit version file was has follow sealed end need → HadNoRoom h limit version file was' has' follow' sealed end need
-  no_room_on sealed end need f g k r = record {
+module _ (h : Header) (limit version file : ℕ) (was was' : Entries → Type 0) (has has' : Entries → Which → Texts → Type 0) (follow follow' last last' : Texts → Type 0) where
+  pub no_room_on : (sealed : Texts) (end need : ℕ) → ((es : Entries) → was es → was' es) → ((es : Entries) (book : Which) (texts : Texts) → has es book texts → has' es book texts) → ((ms : Texts) → follow ms → follow' ms) → ((ms : Texts) → last ms → last' ms)
+      → HadNoRoom h limit version file was has follow last sealed end need → HadNoRoom h limit version file was' has' follow' last' sealed end need
+  no_room_on sealed end need f g k l r = record {
     front = r.front;
     was_so = f r.front r.was_so;
     ends = r.ends;
@@ -54,29 +54,30 @@ module _ (h : Header) (limit version file : ℕ) (was was' : Entries → Type 0)
     file_is = r.file_is;
     next = r.next;
     follows = k (sealed ++ r.messages) r.follows;
-    cut = r.cut;
+    cut = ⊎_elim (λ (cut : IsCut limit (part_in r.draft r.messages)). inl cut)
+        (λ (open_end : IsOpen limit (part_in r.draft r.messages) × last (sealed ++ r.messages)). inr (open_end.0, l (sealed ++ r.messages) open_end.1)) r.cut;
     canonical = r.canonical;
     numbers = r.numbers;
     needs = r.needs;
   }
 
-module _ {D : Type 0} (state : D → DiskState) (limit version : ℕ) (books books' : Books) (follow follow' : Texts → Type 0) (p q : KeeperPass D) where
-  pub found_on : ((book : Which) → IsMore (book_of books book) (book_of books' book)) → ((ms : Texts) → follow ms → follow' ms) → (sealed : Texts) (end need : ℕ)
-      → FoundNoRoom state limit version books follow p q sealed end need → FoundNoRoom state limit version books' follow' p q sealed end need
-  found_on more k sealed end need r = (
+module _ {D : Type 0} (state : D → DiskState) (limit version : ℕ) (books books' : Books) (follow follow' last last' : Texts → Type 0) (p q : KeeperPass D) where
+  pub found_on : ((book : Which) → IsMore (book_of books book) (book_of books' book)) → ((ms : Texts) → follow ms → follow' ms) → ((ms : Texts) → last ms → last' ms) → (sealed : Texts) (end need : ℕ)
+      → FoundNoRoom state limit version books follow last p q sealed end need → FoundNoRoom state limit version books' follow' last' p q sealed end need
+  found_on more k l sealed end need r = (
     r.0,
     λ a is. told_map (is_some (state a.fixed.opened).seen)
-        (no_room_on a.fixed.header limit version (number_of p) _ _ (WereKnown books) (WereKnown books') follow follow' sealed end need (λ es was. was)
-        (λ es book texts on. prefix_trans texts (book_of books book).texts (book_of books' book).texts on (more book).front) k) (r.1 a is),
+        (no_room_on a.fixed.header limit version (number_of p) _ _ (WereKnown books) (WereKnown books') follow follow' last last' sealed end need (λ es was. was)
+        (λ es book texts on. prefix_trans texts (book_of books book).texts (book_of books' book).texts on (more book).front) k l) (r.1 a is),
   )
 
--- ---- a hand that is not sealed
+-- ---- an open segment that is not sealed
 
-module _ {D R A B C : Type 0} (state : D → DiskState) (limit version : ℕ) (start p q : KeeperPass D) (m n : LockNamer R A B C) (hand : Hand) (covered messages taken : Texts) where
-  pub found_room : (end need : ℕ) → hand.draft.file ≡ number_of start → hand.draft.first ≡ length covered → about p ≡ about start → IsPrefix (seen start) (seen q) → IsPrefix (covered ++ messages) taken
-      → IsCut limit (record { rows = hand.draft.columns.rows; messages = messages }) ⊎ IsOpen limit (record { rows = hand.draft.columns.rows; messages = messages })
-      → HasInHand version (types_seen m) (words_seen m) messages hand → HasNoRoomFor state hand end need p q m n
-      → FoundNoRoom state limit version (books_by (types_pass n) (words_pass n)) (λ first. IsPrefix first taken) start q covered end need
+module _ {D R A B C : Type 0} (state : D → DiskState) (limit version : ℕ) (start p q : KeeperPass D) (m n : LockNamer R A B C) (segment : OpenSegment) (covered messages taken : Texts) (last : Texts → Type 0) where
+  pub found_room : (end need : ℕ) → segment.draft.file ≡ number_of start → segment.draft.first ≡ length covered → about p ≡ about start → IsPrefix (seen start) (seen q) → IsPrefix (covered ++ messages) taken
+      → IsCut limit (record { rows = segment.draft.columns.rows; messages = messages }) ⊎ (IsOpen limit (record { rows = segment.draft.columns.rows; messages = messages }) × last (covered ++ messages))
+      → HasMessages version (types_seen m) (words_seen m) messages segment → HasNoRoomFor state segment end need p q m n
+      → FoundNoRoom state limit version (books_by (types_pass n) (words_pass n)) (λ first. IsPrefix first taken) last start q covered end need
   found_room end need file first same on follows cut has room = (
     λ a is. room.no_room.full.past a (same ∙ is),
     λ a is. if_told (is_some (state a.fixed.opened).seen) _ (λ told. found a.fixed.header (room.no_room.full.past a (same ∙ is))
@@ -92,11 +93,11 @@ module _ {D R A B C : Type 0} (state : D → DiskState) (limit version : ℕ) (s
       words : Texts
       words = noted room.no_room.words
 
-      rows_are : room.draft.columns.rows ≡ hand.draft.columns.rows
+      rows_are : room.draft.columns.rows ≡ segment.draft.columns.rows
       rows_are = ap (λ (s : SegmentEntry). s.rows) room.is
 
       found : (h : Header) → h.length_limit < end + need → end ≡ end_of h (journal_seen (seen q)) → need ≡ min (need_behind room.draft (journal_seen (seen q)) types words) 18446744073709551615
-          → HadNoRoom h limit version (number_of start) (IsBetween (journal_seen (seen start)) (journal_seen (seen q))) (WereKnown (books_by (types_pass n) (words_pass n))) (λ first. IsPrefix first taken) covered end need
+          → HadNoRoom h limit version (number_of start) (IsBetween (journal_seen (seen start)) (journal_seen (seen q))) (WereKnown (books_by (types_pass n) (words_pass n))) (λ first. IsPrefix first taken) last covered end need
       found h past ends needs = record {
         front = journal_seen (seen q);
         was_so = (seen_front (seen start) (seen q) on, prefix_self (journal_seen (seen q)));
@@ -111,9 +112,9 @@ module _ {D R A B C : Type 0} (state : D → DiskState) (limit version : ℕ) (s
         file_is = ap (λ (s : SegmentEntry). s.file) room.is ∙ file;
         next = ap (λ (s : SegmentEntry). s.first) room.is ∙ first;
         follows = follows;
-        cut = subst (λ rows. IsCut limit (record { rows = rows; messages = messages }) ⊎ IsOpen limit (record { rows = rows; messages = messages })) (sym rows_are) cut;
+        cut = subst (λ rows. IsCut limit (record { rows = rows; messages = messages }) ⊎ (IsOpen limit (record { rows = rows; messages = messages }) × last (covered ++ messages))) (sym rows_are) cut;
         canonical = subst (λ rows. AreCanonical version rows types words messages) (sym rows_are)
-            (all_canonical version hand.draft.columns.rows (types_seen m) (words_seen m) types words messages full.types_on full.words_on has.canonical);
-        numbers = room.words ∙ (ap sorted_set (has.used ∙ same_numbers version hand.draft.columns.rows (types_seen m) (words_seen m) types messages full.types_on has.canonical) ∙ ap (words_named types) (sym rows_are));
+            (all_canonical version segment.draft.columns.rows (types_seen m) (words_seen m) types words messages full.types_on full.words_on has.canonical);
+        numbers = room.words ∙ (ap sorted_set (has.used ∙ same_numbers version segment.draft.columns.rows (types_seen m) (words_seen m) types messages full.types_on has.canonical) ∙ ap (words_named types) (sym rows_are));
         needs = needs;
       }

@@ -24,19 +24,19 @@ use Rattle.archive_meaning.specs.Held.{ends_open, last_is_open}
 use Rattle.disk_seal.specs.declared.namer.LockNamer.{LockNamer}
 use Rattle.disk_seal.specs.Draft.{journal_seen}
 use Rattle.disk_seal.specs.Fixed.{KeeperPass}
-use Rattle.ingest_workers.specs.declared.hand.Hand.{Hand}
+use Rattle.ingest_workers.specs.declared.open_segment.OpenSegment.{OpenSegment}
 use Rattle.ingest_workers.specs.declared.outcome.Cause.{Cause}
 use Rattle.ingest_workers.specs.declared.outcome.Cause.TheVariants.{ReadFault as WasReadFault, LineTooLong as WasTooLong, TooManyLines as WereTooMany, Full, DiskFault, ArchiveFull, OutOfMemory}
 use Rattle.ingest_workers.specs.declared.outcome.Outcome.{Outcome}
-use Rattle.ingest_workers.specs.declared.stop.Stop.{Stop}
-use Rattle.ingest_workers.specs.declared.stop.Stop.TheVariants.{Part as PartStop, Lost}
+use Rattle.ingest_workers.specs.declared.file_end.FileEnd.{FileEnd}
+use Rattle.ingest_workers.specs.declared.file_end.FileEnd.TheVariants.{Part as PartStop, Lost}
 use Rattle.log_messages.specs.Laws.{file_text}
 use Rattle.log_seams.specs.Outside.{CountsOf}
 use Rattle.line_cut.specs.Length.{bytes_left}
 use Rattle.line_cut.specs.declared.cut.Cut.{Cut}
 use Rattle.line_cut.specs.declared.cut.Cut.TheVariants.{ReadFault, LineTooLong, TooManyLines, OutOfMemory as CutOutOfMemory}
 use Rattle.line_cut.specs.declared.cut.Mark.{Mark}
-use Rattle.ingest_workers.specs.Causes.{HasJobCause, HasSealCause, HaveMoreThan, IsFullCause, Log, cause_by, grounds_of, log_from, log_of}
+use Rattle.ingest_workers.specs.Causes.{EndsLog, HasJobCause, HasLogCause, HasSealCause, HaveMoreThan, IsFullCause, Log, cause_by, grounds_of, log_from, log_of}
 use Rattle.ingest_workers.specs.NoRoom.{FoundNoRoom}
 use Rattle.row_codec.specs.declared.namer.Which.{Which}
 use Rattle.ingest_workers.specs.Full.{AreFirstOf, Books, IsAmongFirst, IsMore, IsNextOf, WasFullBehind, WasFullFor, book_of, books_by}
@@ -44,7 +44,7 @@ use Rattle.ingest_workers.specs.Namer.{HasOnlySeen}
 use Rattle.ingest_workers.proofs.FullLemmas.{books_on, full_wider, more_self}
 use Rattle.ingest_workers.specs.Doing.{Doing, NotSealed}
 use Rattle.ingest_workers.specs.Done.{IsOutcome}
-use Rattle.ingest_workers.specs.Hand.{IsEmptyHand}
+use Rattle.ingest_workers.specs.OpenSegment.{IsEmptySegment}
 use Rattle.ingest_workers.specs.JobDone.{CameTo}
 use Rattle.ingest_workers.specs.Journal.{FrontHolds, HasSoFar}
 use Rattle.ingest_workers.specs.MaySeal.{IsWorker}
@@ -53,13 +53,13 @@ use Rattle.ingest_workers.specs.Naming.{HasNamed}
 use Rattle.ingest_workers.specs.Outcome.{met_by, unsealed_by}
 use Rattle.ingest_workers.specs.Parts.{Part, IsCut, IsOpen, columns_of, front, messages_in, segments_from}
 use Rattle.ingest_workers.specs.Stopping.{IsAtStop}
-use Rattle.ingest_workers.specs.Taking.{AreTaken, HasLearned, HasStopCause, StopsAt, Taking, Took, mark_of, why_of}
-use Rattle.ingest_workers.proofs.CauseLemmas.{cause_on, name_cause, of_log, of_seal}
+use Rattle.ingest_workers.specs.Taking.{AreTaken, HasLearned, HasStopCause, StopsAt, Taking, Took, UpToRest, mark_of, why_of}
+use Rattle.ingest_workers.proofs.CauseLemmas.{cause_on, log_cause_on, name_cause, of_log, of_seal}
 use Rattle.ingest_workers.proofs.MaySealLemmas.{nothing_added}
 use Rattle.ingest_workers.proofs.NamingLemmas.{named_only, named_self, named_then, named_wider}
 use Rattle.ingest_workers.proofs.NoRoomLemmas.{found_on}
 use Rattle.ingest_workers.proofs.SealLemmas.{if_told, of_told}
-use Rattle.ingest_workers.specs.Stop.{refused_by}
+use Rattle.ingest_workers.specs.FileEnd.{refused_by}
 use Rattle.ingest_workers.specs.Turns.{LearnBoth, TakesFewOf, EndBoth, spare_of, stop_in}
 use Rattle.ingest_workers.proofs.TurnsLemmas.{learn_self, learn_then, learn_wider, take_few, take_none}
 
@@ -188,10 +188,10 @@ all_in_hand state no_room rows p q (Full book count) has = absurd has
 
 -- ---- the next message
 
-module _ {S D R A B C : Type 0} (state : D → DiskState) (left : S → Option (List ℕ)) (limit : ℕ) (bytes : Option (List ℕ)) (start p : KeeperPass D) (m n : LockNamer R A B C) (hand : Hand) (old new : ReaderState S) (taken : Texts)
-    (t : Taking state left limit bytes start p m n hand old taken) where
+module _ {S D R A B C : Type 0} (state : D → DiskState) (left : S → Option (List ℕ)) (limit : ℕ) (bytes : Option (List ℕ)) (start p : KeeperPass D) (m n : LockNamer R A B C) (segment : OpenSegment) (old new : ReaderState S) (taken : Texts)
+    (t : Taking state left limit bytes start p m n segment old taken) where
   -- no text was named since
-  learned_none : (answer : Result Bool Stop) → HasLearned state n.version bytes start p m n answer taken
+  learned_none : (answer : Result Bool FileEnd) → HasLearned state n.version bytes start p m n answer taken
   learned_none answer = record {
     met = taken;
     front = prefix_self taken;
@@ -201,7 +201,7 @@ module _ {S D R A B C : Type 0} (state : D → DiskState) (left : S → Option (
     named = t.named;
   }
 
-  pub took_all : (faults : S → ℕ) → faults new.source ≡ faults old.source → ReadToEnd left old new → Took state limit n.version (log_from bytes left faults old.source new.source) start p m n hand (Ok true)
+  pub took_all : (faults : S → ℕ) → faults new.source ≡ faults old.source → ReadToEnd left old new → Took state limit n.version (log_from bytes left faults old.source new.source) start p m n segment (Ok true)
   took_all faults steady at_end = record {
     caused = steady;
     taken = taken;
@@ -225,7 +225,7 @@ module _ {S D R A B C : Type 0} (state : D → DiskState) (left : S → Option (
     cut_cause CutOutOfMemory is r = absurd (r.cause t.going)
 
   pub took_part : (faults : S → ℕ) (result : Result (Option Mark) Cut) → CountsOf ReadFault (faults old.source) (faults new.source) result → (cut : Cut) (cause : Cause) → cause ≡ cause_by cut → IsErrOf result cut → RefusedToRead left faults old new cut
-      → Took state limit n.version (log_from bytes left faults old.source new.source) start p m n hand (Err (PartStop cause))
+      → Took state limit n.version (log_from bytes left faults old.source new.source) start p m n segment (Err (PartStop cause))
   took_part faults result counts cut cause same is r = let full = WasFullBehind n.version (books_by (types_pass n) (words_pass n)) bytes in record {
     taken = taken;
     few = t.few;
@@ -249,7 +249,7 @@ module _ {S D R A B C : Type 0} (state : D → DiskState) (left : S → Option (
         if_some bytes (AreAll n.version more false) (AreFirst n.version more) (λ b all messages e is. subst (IsPrefix more) (all messages e is).0 (prefix_self more))
         (all_of n.version bytes more false ((reading_ends left n.version bytes taken old new t.read).0 m))
 
-    module _ (line : List ℕ) (same : line ≡ new.message) (q : KeeperPass D) (o : LockNamer R A B C) (next : Hand) (named : HasNamed (λ x. x ≡ line) n o) where
+    module _ (line : List ℕ) (same : line ≡ new.message) (q : KeeperPass D) (o : LockNamer R A B C) (next : OpenSegment) (named : HasNamed (λ x. x ≡ line) n o) where
       -- the messages that were met then
       abbrev met_now : List ℕ → Type 0
       met_now = Contains (taken ++ new.message ∷ [])
@@ -263,11 +263,11 @@ module _ {S D R A B C : Type 0} (state : D → DiskState) (left : S → Option (
       named_more : HasNamed met_now m o
       named_more = named_then met_now m n o (named_wider (Contains taken) met_now before_it m n t.named) (named_wider (λ x. x ≡ line) met_now the_last n o named)
 
-      learned_more : (stop : Option Stop) → LearnBoth state (λ x. x ≡ line) stop p q n o → LearnBoth state met_now stop start q m o
+      learned_more : (stop : Option FileEnd) → LearnBoth state (λ x. x ≡ line) stop p q n o → LearnBoth state met_now stop start q m o
       learned_more stop l =
           learn_then state met_now stop start p q m n o t.version (learn_wider state (Contains taken) met_now before_it None start p m n t.learned) (learn_wider state (λ x. x ≡ line) met_now the_last stop p q n o l)
 
-      pub took_stop : (ended : Bool) → ReadMessage left ended old new → faults new.source ≡ faults old.source → (y : Stop) → LearnBoth state (λ x. x ≡ line) (Some y) p q n o → IsAtStop state limit start q o next taken line y
+      pub took_stop : (ended : Bool) → ReadMessage left ended old new → faults new.source ≡ faults old.source → (y : FileEnd) → LearnBoth state (λ x. x ≡ line) (Some y) p q n o → IsAtStop state limit start q o next taken line y
           → Took state limit n.version (log_from bytes left faults old.source new.source) start q m o next (Err y)
       took_stop ended message steady (PartStop cause) l d = record {
         taken = taken;
@@ -336,8 +336,8 @@ module _ {S D R A B C : Type 0} (state : D → DiskState) (left : S → Option (
 
 -- ---- over several messages
 
-module _ {S D R A B C : Type 0} (state : D → DiskState) (left : S → Option (List ℕ)) (limit : ℕ) (bytes : Option (List ℕ)) (start p q : KeeperPass D) (m n o : LockNamer R A B C) (hand next : Hand) (old new : ReaderState S) (taken : Texts) (text : List ℕ) where
-  pub one_less : Taking state left limit bytes start p m n hand old taken → Taking state left limit bytes start q m o next new (taken ++ text ∷ []) → MAX_MESSAGES - new.given < MAX_MESSAGES - old.given
+module _ {S D R A B C : Type 0} (state : D → DiskState) (left : S → Option (List ℕ)) (limit : ℕ) (bytes : Option (List ℕ)) (start p q : KeeperPass D) (m n o : LockNamer R A B C) (segment next : OpenSegment) (old new : ReaderState S) (taken : Texts) (text : List ℕ) where
+  pub one_less : Taking state left limit bytes start p m n segment old taken → Taking state left limit bytes start q m o next new (taken ++ text ∷ []) → MAX_MESSAGES - new.given < MAX_MESSAGES - old.given
   one_less a b = omega (arith, a.read.given, b.read.given, b.few, length-append taken (text ∷ []))
 
 -- told since an earlier moment, since when no read failed
@@ -362,8 +362,8 @@ none_open : (limit : ℕ) → 1 ≤ limit → IsOpen limit none
 none_open limit least = record { even = refl; not_yet = λ k le. none_full limit least k }
 
 module _ {D R A B C : Type 0} (state : D → DiskState) (limit : ℕ) (least : 1 ≤ limit) (p : KeeperPass D) (so_far : HasSoFar state p []) where
-  doing_none : (n : LockNamer R A B C) (hand : Hand) (file : ℕ) → IsWorker p n → file ≡ number_of p → IsEmptyHand file 0 hand → Doing state limit p p n hand []
-  doing_none n hand file worker is empty = record {
+  doing_none : (n : LockNamer R A B C) (segment : OpenSegment) (file : ℕ) → IsWorker p n → file ≡ number_of p → IsEmptySegment file 0 segment → Doing state limit p p n segment []
+  doing_none n segment file worker is empty = record {
     closed = [];
     messages = [];
     more = [];
@@ -386,11 +386,11 @@ module _ {D R A B C : Type 0} (state : D → DiskState) (limit : ℕ) (least : 1
     so_far = so_far;
   }
 
-  pub taking_none : {S : Type 0} (left : S → Option (List ℕ)) (source : S) (r : ReaderState S) (n : LockNamer R A B C) (hand : Hand) (file : ℕ) → IsWorker p n → file ≡ number_of p → IsEmptyHand file 0 hand → IsNewReader n.version source r
-      → Taking state left limit (left source) p p n n hand r []
-  taking_none left source r n hand file worker is empty fresh =
+  pub taking_none : {S : Type 0} (left : S → Option (List ℕ)) (source : S) (r : ReaderState S) (n : LockNamer R A B C) (segment : OpenSegment) (file : ℕ) → IsWorker p n → file ≡ number_of p → IsEmptySegment file 0 segment → IsNewReader n.version source r
+      → Taking state left limit (left source) p p n n segment r []
+  taking_none left source r n segment file worker is empty fresh =
       record {
-        doing = doing_none n hand file worker is empty;
+        doing = doing_none n segment file worker is empty;
         read = reading_begins left n.version source r fresh;
         going = fresh.progress;
         few = omega arith;
@@ -428,14 +428,14 @@ module _ {D : Type 0} (state : D → DiskState) (limit : ℕ) (least : 1 ≤ lim
 
 -- ---- the end
 
-module _ {D R A B C : Type 0} (state : D → DiskState) (limit : ℕ) (start p : KeeperPass D) (n : LockNamer R A B C) (hand : Hand) (taken : Texts) where
-  pub at_end : (answer : Result Bool Stop) (ended : Bool) → answer ≡ Ok ended → StopsAt state limit start p n hand taken answer → Doing state limit start p n hand taken × (ended ≡ false → last_is_open taken ≡ true)
-  at_end answer ended is s = subst (StopsAt state limit start p n hand taken) is s
+module _ {D R A B C : Type 0} (state : D → DiskState) (limit : ℕ) (start p : KeeperPass D) (n : LockNamer R A B C) (segment : OpenSegment) (taken : Texts) where
+  pub at_end : (answer : Result Bool FileEnd) (ended : Bool) → answer ≡ Ok ended → StopsAt state limit start p n segment taken answer → Doing state limit start p n segment taken × (ended ≡ false → last_is_open taken ≡ true)
+  at_end answer ended is s = subst (StopsAt state limit start p n segment taken) is s
 
-  pub at_part : (answer : Result Bool Stop) (cause : Cause) → answer ≡ Err (PartStop cause) → StopsAt state limit start p n hand taken answer → Doing state limit start p n hand taken
-  at_part answer cause is s = subst (StopsAt state limit start p n hand taken) is s
+  pub at_part : (answer : Result Bool FileEnd) (cause : Cause) → answer ≡ Err (PartStop cause) → StopsAt state limit start p n segment taken answer → Doing state limit start p n segment taken
+  at_part answer cause is s = subst (StopsAt state limit start p n segment taken) is s
 
-  lost_done : 1 ≤ limit → (cause : Cause) → NotSealed state limit start p n hand taken cause → IsOutcome state limit n.version (books_by (types_pass n) (words_pass n)) start p taken false None (record { messages = hand.draft.first; whole = false; cause = Some cause })
+  lost_done : 1 ≤ limit → (cause : Cause) → NotSealed state limit start p n segment taken cause → IsOutcome state limit n.version (books_by (types_pass n) (words_pass n)) start p taken (λ all. ⊥) false None (record { messages = segment.draft.first; whole = false; cause = Some cause })
   lost_done least cause s = let c = s.covering in record {
     caused = inr (cause, refl, s.caused);
     covered = messages_in c.closed;
@@ -458,27 +458,27 @@ module _ {D R A B C : Type 0} (state : D → DiskState) (limit : ℕ) (start p :
     };
   }
 
-  pub lost_outcome : 1 ≤ limit → (answer : Result Bool Stop) (cause : Cause) → answer ≡ Err (Lost cause) → StopsAt state limit start p n hand taken answer
-      → IsOutcome state limit n.version (books_by (types_pass n) (words_pass n)) start p taken (mark_of answer) (why_of answer) (record { messages = hand.draft.first; whole = false; cause = Some cause })
+  pub lost_outcome : 1 ≤ limit → (answer : Result Bool FileEnd) (cause : Cause) → answer ≡ Err (Lost cause) → StopsAt state limit start p n segment taken answer
+      → IsOutcome state limit n.version (books_by (types_pass n) (words_pass n)) start p taken (UpToRest answer taken) (mark_of answer) (why_of answer) (record { messages = segment.draft.first; whole = false; cause = Some cause })
   lost_outcome least answer cause is s =
-      let at = subst (StopsAt state limit start p n hand taken) is s in
-      subst (λ a. IsOutcome state limit n.version (books_by (types_pass n) (words_pass n)) start p taken (mark_of a) (why_of a) (record { messages = hand.draft.first; whole = false; cause = Some cause })) (sym is) (lost_done least cause at)
+      let at = subst (StopsAt state limit start p n segment taken) is s in
+      subst (λ a. IsOutcome state limit n.version (books_by (types_pass n) (words_pass n)) start p taken (UpToRest a taken) (mark_of a) (why_of a) (record { messages = segment.draft.first; whole = false; cause = Some cause })) (sym is) (lost_done least cause at)
 
-first_of : (answer : Result Bool Stop) (taken covered messages : Texts) (e : Bool) → IsPrefix covered taken → AreTaken answer taken messages e → IsPrefix covered messages
+first_of : (answer : Result Bool FileEnd) (taken covered messages : Texts) (e : Bool) → IsPrefix covered taken → AreTaken answer taken messages e → IsPrefix covered messages
 first_of (Ok ended) taken covered messages e front is = subst (IsPrefix covered) is.0 front
 first_of (Err y) taken covered messages e front is = prefix_trans covered taken messages front is
 
-all_at_end : (answer : Result Bool Stop) (ended : Bool) → answer ≡ Ok ended → (taken covered messages : Texts) (e : Bool) → covered ≡ taken → AreTaken answer taken messages e → (covered ≡ messages) × (mark_of answer ≡ e)
+all_at_end : (answer : Result Bool FileEnd) (ended : Bool) → answer ≡ Ok ended → (taken covered messages : Texts) (e : Bool) → covered ≡ taken → AreTaken answer taken messages e → (covered ≡ messages) × (mark_of answer ≡ e)
 all_at_end (Ok x) ended is_end taken covered messages e same is = (same ∙ is.0, is.1)
 all_at_end (Err y) ended is_end taken covered messages e same is = absurd (cc (is_end))
 
-module _ {D R A B C : Type 0} (state : D → DiskState) (limit version : ℕ) (log : Log) (start p : KeeperPass D) (m n : LockNamer R A B C) (hand : Hand) (answer : Result Bool Stop) (t : Took state limit version log start p m n hand answer) (q : KeeperPass D)
+module _ {D R A B C : Type 0} (state : D → DiskState) (limit version : ℕ) (log : Log) (start p : KeeperPass D) (m n : LockNamer R A B C) (segment : OpenSegment) (answer : Result Bool FileEnd) (t : Took state limit version log start p m n segment answer) (q : KeeperPass D)
     (outcome : Outcome) where
   abbrev known : Books
   known = books_by (types_pass n) (words_pass n)
 
   -- the cause, where no further message was taken for it and all that were are sealed
-  stopped_by : (a : Result Bool Stop) (covered : Texts) (o : Option Cause) → HasStopCause (WasFullBehind version known log.bytes) log version t.taken a → ((x : Cause) → a ≡ Err (Lost x) → o ≡ None → ⊥) → o ≡ why_of a → covered ≡ t.taken
+  stopped_by : (a : Result Bool FileEnd) (covered : Texts) (o : Option Cause) → HasStopCause (WasFullBehind version known log.bytes) log version t.taken a → ((x : Cause) → a ≡ Err (Lost x) → o ≡ None → ⊥) → o ≡ why_of a → covered ≡ t.taken
       → HasJobCause (grounds_of state limit version known log.bytes start q) log version covered o
   stopped_by (Ok ended) covered o has lost is all = subst (HasJobCause (grounds_of state limit version known log.bytes start q) log version covered) (sym is) has
   stopped_by (Err (PartStop cause)) covered o has lost is all =
@@ -493,7 +493,22 @@ module _ {D R A B C : Type 0} (state : D → DiskState) (limit version : ℕ) (l
   first_taken : (first : Texts) → IsPrefix first t.taken → AreFirstOf version log.bytes first
   first_taken first front = if_some log.bytes told (AreFirst version first) (λ b tells messages e is. first_of answer t.taken first messages e front (tells messages e is)) t.told
 
-  module _ (books : Books) (o : IsOutcome state limit version books start q t.taken (mark_of answer) (why_of answer) outcome) (whole : outcome.whole ≡ true → (ended : Bool) × (answer ≡ Ok ended)) where
+  -- where those taken may be sealed, no further one of the log is
+  last_taken : (books : Books) → ((book : Which) → IsMore (book_of known book) (book_of books book)) → (all : Texts) → UpToRest answer t.taken all → EndsLog (WasFullBehind version books log.bytes) log version all
+  last_taken books more all upto = ends_by answer t.caused t.told upto
+    where
+      ends_by : (a : Result Bool FileEnd) → HasStopCause (WasFullBehind version known log.bytes) log version t.taken a → IfSome log.bytes (λ b. (messages : Texts) (e : Bool) → MessagesOf version b messages e → AreTaken a t.taken messages e)
+          → UpToRest a t.taken all → EndsLog (WasFullBehind version books log.bytes) log version all
+      ends_by (Ok ended) caused tells is = inl (if_some log.bytes (λ b. (messages : Texts) (e : Bool) → MessagesOf version b messages e → (t.taken ≡ messages) × (ended ≡ e))
+          (λ b. (messages : Texts) (e : Bool) → MessagesOf version b messages e → all ≡ messages) (λ b these messages e of. is ∙ (these messages e of).0) tells)
+      ends_by (Err (PartStop cause)) caused tells is = inr (
+        cause,
+        log_cause_on (WasFullBehind version known log.bytes) (WasFullBehind version books log.bytes) log version all cause (full_wider version (IsNextOf version log.bytes all) (IsNextOf version log.bytes all) (λ x next. next) known books more)
+            (subst (λ ms. HasLogCause (WasFullBehind version known log.bytes) log version ms cause) (sym is) caused),
+      )
+      ends_by (Err (Lost cause)) caused tells is = absurd is
+
+  module _ (books : Books) (o : IsOutcome state limit version books start q t.taken (UpToRest answer t.taken) (mark_of answer) (why_of answer) outcome) (whole : outcome.whole ≡ true → (ended : Bool) × (answer ≡ Ok ended)) where
     not_lost : (x : Cause) → answer ≡ Err (Lost x) → outcome.cause ≡ None → ⊥
     not_lost x is none =
         let not_none : not outcome.whole ≡ false = sym o.cause ∙ ap is_some none in
@@ -509,20 +524,21 @@ module _ {D R A B C : Type 0} (state : D → DiskState) (limit version : ℕ) (l
         ⊎_elim
         (λ (stop : (outcome.cause ≡ why_of answer) × (o.covered ≡ t.taken)).
         cause_on (grounds_of state limit version known log.bytes start q) (grounds_of state limit version books log.bytes start q) log version o.covered outcome.cause
-        (full_wider version (IsNextOf version log.bytes o.covered) (IsNextOf version log.bytes o.covered) (λ x is. is) known books more)
-        (found_on state limit version known books (AreFirstOf version log.bytes) (AreFirstOf version log.bytes) start q more (λ ms first. first) o.covered) (λ opened now has. has)
+        (λ ms. full_wider version (IsNextOf version log.bytes ms) (IsNextOf version log.bytes ms) (λ x is. is) known books more)
+        (λ last last' on. found_on state limit version known books (AreFirstOf version log.bytes) (AreFirstOf version log.bytes) last last' start q more (λ ms first. first) on o.covered) (λ opened now has. has)
         (stopped_by answer o.covered outcome.cause t.caused not_lost stop.0 stop.1))
-        (λ (seal : (c : Cause) × (outcome.cause ≡ Some c) × HasSealCause state (FoundNoRoom state limit version books (λ first. IsPrefix first t.taken) start q o.covered) start q c).
+        (λ (seal : (c : Cause) × (outcome.cause ≡ Some c) × HasSealCause state (FoundNoRoom state limit version books (λ first. IsPrefix first t.taken) (UpToRest answer t.taken) start q o.covered) start q c).
         subst (HasJobCause (grounds_of state limit version books log.bytes start q) log version o.covered) (sym seal.1)
         (of_seal state limit books start q log version o.covered _
-        (found_on state limit version books books (λ first. IsPrefix first t.taken) (AreFirstOf version log.bytes) start q (λ book. more_self (book_of books book)) first_taken o.covered) seal.0 seal.2))
+        (found_on state limit version books books (λ first. IsPrefix first t.taken) (AreFirstOf version log.bytes) (UpToRest answer t.taken) (EndsLog (WasFullBehind version books log.bytes) log version) start q (λ book. more_self (book_of books book))
+        first_taken (last_taken books more) o.covered) seal.0 seal.2))
         o.caused
 
-  pub came_to : (m : LockNamer R A B C) → HasOnlySeen n m → (v : ℕ) → v ≡ version → IsOutcome state limit v (books_by (types_pass m) (words_pass m)) start q t.taken (mark_of answer) (why_of answer) outcome → (outcome.whole ≡ true → (ended : Bool) × (answer ≡ Ok ended))
+  pub came_to : (m : LockNamer R A B C) → HasOnlySeen n m → (v : ℕ) → v ≡ version → IsOutcome state limit v (books_by (types_pass m) (words_pass m)) start q t.taken (UpToRest answer t.taken) (mark_of answer) (why_of answer) outcome → (outcome.whole ≡ true → (ended : Bool) × (answer ≡ Ok ended))
       → CameTo state limit version (books_by (types_pass m) (words_pass m)) log start q outcome
   came_to m seen v same at_v whole =
-      let o : IsOutcome state limit version (books_by (types_pass m) (words_pass m)) start q t.taken (mark_of answer) (why_of answer) outcome
-      = subst (λ x. IsOutcome state limit x (books_by (types_pass m) (words_pass m)) start q t.taken (mark_of answer) (why_of answer) outcome) same at_v in record {
+      let o : IsOutcome state limit version (books_by (types_pass m) (words_pass m)) start q t.taken (UpToRest answer t.taken) (mark_of answer) (why_of answer) outcome
+      = subst (λ x. IsOutcome state limit x (books_by (types_pass m) (words_pass m)) start q t.taken (UpToRest answer t.taken) (mark_of answer) (why_of answer) outcome) same at_v in record {
         covered = o.covered;
         ended = mark_of answer;
         count = o.count;
@@ -533,13 +549,13 @@ module _ {D R A B C : Type 0} (state : D → DiskState) (limit version : ℕ) (l
             all_at_end answer (whole w).0 (whole w).1 t.taken o.covered messages e (o.all w) (tells messages e is)) t.told;
       }
 
-  module _ (v : ℕ) (books : Books) (o : IsOutcome state limit v books start q t.taken (mark_of answer) (why_of answer) outcome) where
+  module _ (v : ℕ) (books : Books) (o : IsOutcome state limit v books start q t.taken (UpToRest answer t.taken) (mark_of answer) (why_of answer) outcome) where
     -- what was met, where these messages are sealed
     few_met : length t.learned.met ≤ met_by limit outcome
     few_met =
         ⊎_elim
         (λ (stop : (outcome.cause ≡ why_of answer) × (o.covered ≡ t.taken)). few_stopped outcome.cause stop.0 (ap length stop.1))
-        (λ (seal : (c : Cause) × (outcome.cause ≡ Some c) × HasSealCause state (FoundNoRoom state limit v books (λ first. IsPrefix first t.taken) start q o.covered) start q c).
+        (λ (seal : (c : Cause) × (outcome.cause ≡ Some c) × HasSealCause state (FoundNoRoom state limit v books (λ first. IsPrefix first t.taken) (UpToRest answer t.taken) start q o.covered) start q c).
         let rows : unsealed_by limit outcome.cause ≡ limit = ap (unsealed_by limit) seal.1 ∙ all_in_hand state _ limit start q seal.0 seal.2 in omega (arith, rows, t.learned.few, o.few, o.count))
         o.caused
       where

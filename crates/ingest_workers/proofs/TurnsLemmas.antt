@@ -26,11 +26,11 @@ use Rattle.disk_seal.specs.Fixed.{KeeperPass}
 use Rattle.disk_seal.specs.Planned.{segment_of}
 use Rattle.disk_seal.specs.Naming.{Named, NamesIn, Side, TookTurns, types_side, words_side}
 use Rattle.ingest_workers.specs.declared.outcome.Cause.{Cause}
-use Rattle.ingest_workers.specs.declared.stop.Stop.{Stop}
-use Rattle.ingest_workers.specs.declared.stop.Stop.TheVariants.{Part, Lost}
+use Rattle.ingest_workers.specs.declared.file_end.FileEnd.{FileEnd}
+use Rattle.ingest_workers.specs.declared.file_end.FileEnd.TheVariants.{Part, Lost}
 use Rattle.ingest_workers.specs.Journal.{HasAdded, WhereTold, sealed_by}
 use Rattle.ingest_workers.specs.Sealed.{HasNotSealed, HasSealed}
-use Rattle.ingest_workers.specs.Stop.{stop_by}
+use Rattle.ingest_workers.specs.FileEnd.{stop_by}
 use Rattle.ingest_workers.specs.Turns.{Ends, EndBoth, FewTurns, HasAsked, LearnBoth, Learns, MayAsk, OneTurn, TakeFew, TakesFew, TurnsBy, sealed_in, spare_of, stop_in, type_by, word_by}
 use Rattle.ingest_workers.proofs.PartLemmas.{sealed_joined}
 use Rattle.ingest_workers.proofs.SealLemmas.{if_told, of_told}
@@ -77,12 +77,12 @@ module _ {D : Type 0} (state : D → DiskState) where
 
   -- ---- one book
 
-  turns_none : (P : List ℕ → Type 0) (stop : Option Stop) (p q : KeeperPass D) (a b : Side) (texts : ℕ) → FewTurns state p q a b texts 0 → TurnsBy state P stop p q a b texts
+  turns_none : (P : List ℕ → Type 0) (stop : Option FileEnd) (p q : KeeperPass D) (a b : Side) (texts : ℕ) → FewTurns state p q a b texts 0 → TurnsBy state P stop p q a b texts
   turns_none P None p q a b texts few = few
   turns_none P (Some (Part cause)) p q a b texts few = inl few
   turns_none P (Some (Lost cause)) p q a b texts few = few_wider p q a b texts texts 0 1 (omega arith) few
 
-  turns_then : (P : List ℕ → Type 0) (stop : Option Stop) (p q r : KeeperPass D) (a b c : Side) (x y : ℕ) → about q ≡ about p
+  turns_then : (P : List ℕ → Type 0) (stop : Option FileEnd) (p q r : KeeperPass D) (a b c : Side) (x y : ℕ) → about q ≡ about p
       → FewTurns state p q a b x 0 → TurnsBy state P stop q r b c y → TurnsBy state P stop p r a c (x + y)
   turns_then P None p q r a b c x y still one two = few_then p q r a b c x y 0 0 still one two
   turns_then P (Some (Part cause)) p q r a b c x y still one two = ⊎_elim
@@ -91,7 +91,7 @@ module _ {D : Type 0} (state : D → DiskState) where
       two
   turns_then P (Some (Lost cause)) p q r a b c x y still one two = few_then p q r a b c x y 0 1 still one two
 
-  turns_wider : (P Q : List ℕ → Type 0) → ((t : List ℕ) → P t → Q t) → (stop : Option Stop) (p q : KeeperPass D) (a b : Side) (x : ℕ) → TurnsBy state P stop p q a b x → TurnsBy state Q stop p q a b x
+  turns_wider : (P Q : List ℕ → Type 0) → ((t : List ℕ) → P t → Q t) → (stop : Option FileEnd) (p q : KeeperPass D) (a b : Side) (x : ℕ) → TurnsBy state P stop p q a b x → TurnsBy state Q stop p q a b x
   turns_wider P Q f None p q a b x few = few
   turns_wider P Q f (Some (Part cause)) p q a b x few = ⊎_elim
       (λ (n : FewTurns state p q a b x 0). inl n)
@@ -99,7 +99,7 @@ module _ {D : Type 0} (state : D → DiskState) where
       few
   turns_wider P Q f (Some (Lost cause)) p q a b x few = few
 
-  learns_then : (P : List ℕ → Type 0) (stop : Option Stop) (p q r : KeeperPass D) (a b c : Side) → Learns state P None p q a b → Learns state P stop q r b c → Learns state P stop p r a c
+  learns_then : (P : List ℕ → Type 0) (stop : Option FileEnd) (p q r : KeeperPass D) (a b c : Side) → Learns state P None p q a b → Learns state P stop q r b c → Learns state P stop p r a c
   learns_then P stop p q r a b c one two = record {
     still = two.still ∙ one.still;
     more = one.more ++ two.more;
@@ -108,7 +108,7 @@ module _ {D : Type 0} (state : D → DiskState) where
     took = subst (λ (n : ℕ). TurnsBy state P stop p r a c n) (sym (length-append one.more two.more)) (turns_then P stop p q r a b c (length one.more) (length two.more) one.still one.took two.took);
   }
 
-  learns_wider : (P Q : List ℕ → Type 0) → ((t : List ℕ) → P t → Q t) → (stop : Option Stop) (p q : KeeperPass D) (a b : Side) → Learns state P stop p q a b → Learns state Q stop p q a b
+  learns_wider : (P Q : List ℕ → Type 0) → ((t : List ℕ) → P t → Q t) → (stop : Option FileEnd) (p q : KeeperPass D) (a b : Side) → Learns state P stop p q a b → Learns state Q stop p q a b
   learns_wider P Q f stop p q a b l = record {
     still = l.still;
     more = l.more;
@@ -117,7 +117,7 @@ module _ {D : Type 0} (state : D → DiskState) where
     took = turns_wider P Q f stop p q a b (length l.more) l.took;
   }
 
-  learns_none : (P : List ℕ → Type 0) (stop : Option Stop) (p q : KeeperPass D) (a b : Side) → about q ≡ about p → b.held ≡ a.held → FewTurns state p q a b 0 0 → Learns state P stop p q a b
+  learns_none : (P : List ℕ → Type 0) (stop : Option FileEnd) (p q : KeeperPass D) (a b : Side) → about q ≡ about p → b.held ≡ a.held → FewTurns state p q a b 0 0 → Learns state P stop p q a b
   learns_none P stop p q a b still same few = record {
     still = still;
     more = [];
@@ -126,21 +126,21 @@ module _ {D : Type 0} (state : D → DiskState) where
     took = turns_none P stop p q a b 0 few;
   }
 
-  learns_self : (P : List ℕ → Type 0) (stop : Option Stop) (p : KeeperPass D) (a b : Side) → b ≡ a → Learns state P stop p p a b
+  learns_self : (P : List ℕ → Type 0) (stop : Option FileEnd) (p : KeeperPass D) (a b : Side) → b ≡ a → Learns state P stop p p a b
   learns_self P stop p a b same = learns_none P stop p p a b refl (ap (λ (s : Side). s.held) same) (few_plain p a b 0 0 (omega (arith, ap (λ (s : Side). s.turns) same)))
 
   -- texts of one book were named
   module _ (P : List ℕ → Type 0) (p : KeeperPass D) (texts : Texts) (are : All P texts) (a b : Side) where
-    took_turns : (refusal : Option NameRefusal) (stop : Option Stop) (more : Texts) → ((r : NameRefusal) → refusal ≡ Some r → stop ≡ Some (stop_by r)) → TookTurns texts refusal more a b → TurnsBy state P stop p p a b (length more)
+    took_turns : (refusal : Option NameRefusal) (stop : Option FileEnd) (more : Texts) → ((r : NameRefusal) → refusal ≡ Some r → stop ≡ Some (stop_by r)) → TookTurns texts refusal more a b → TurnsBy state P stop p p a b (length more)
     took_turns None stop more told took = turns_none P stop p p a b (length more) (few_plain p a b (length more) 0 (omega (arith, took)))
     took_turns (Some OutOfMemory) stop more told took =
-        subst (λ (s : Option Stop). TurnsBy state P s p p a b (length more)) (sym (told OutOfMemory refl)) (few_plain p a b (length more) 1 (omega (arith, took)))
+        subst (λ (s : Option FileEnd). TurnsBy state P s p p a b (length more)) (sym (told OutOfMemory refl)) (few_plain p a b (length more) 1 (omega (arith, took)))
     took_turns (Some (Full book count)) stop more told took =
         let le = took.0 in
-        subst (λ (s : Option Stop). TurnsBy state P s p p a b (length more)) (sym (told (Full book count) refl))
+        subst (λ (s : Option FileEnd). TurnsBy state P s p p a b (length more)) (sym (told (Full book count) refl))
         (inr (few_plain p a b (length more) 1 (omega (arith, le)), (took.1.0, contains_all P texts took.1.0 are took.1.1, took.1.2)))
 
-    pub learns_named : (refusal : Option NameRefusal) (stop : Option Stop) → ((r : NameRefusal) → refusal ≡ Some r → stop ≡ Some (stop_by r)) → Named texts refusal a b → Learns state P stop p p a b
+    pub learns_named : (refusal : Option NameRefusal) (stop : Option FileEnd) → ((r : NameRefusal) → refusal ≡ Some r → stop ≡ Some (stop_by r)) → Named texts refusal a b → Learns state P stop p p a b
     learns_named refusal stop told named = record {
       still = refl;
       more = named.more;
@@ -176,7 +176,7 @@ module _ {D : Type 0} (state : D → DiskState) where
       few = few;
     }
 
-    pub takes_few : (stop : Option Stop) → Learns state P stop p q a b → Ends state (spare_of stop) q r b c → TakesFew state P p r a c
+    pub takes_few : (stop : Option FileEnd) → Learns state P stop p q a b → Ends state (spare_of stop) q r b c → TakesFew state P p r a c
     takes_few None l e = some_named l.more l.each (subst AreDistinct l.behind distinct)
         (few_wider p r a c (length l.more + 0) (length l.more) 1 1 (omega arith) (few_then p q r a b c (length l.more) 0 0 1 l.still l.took e.took))
     takes_few (Some (Lost cause)) l e = some_named l.more l.each (subst AreDistinct l.behind distinct)
@@ -195,7 +195,7 @@ module _ {D : Type 0} (state : D → DiskState) where
 
 module _ {D R A B C : Type 0} (state : D → DiskState) (P : List ℕ → Type 0) where
   -- the texts of one message
-  module _ (p : KeeperPass D) (m n : LockNamer R A B C) (line : List ℕ) (line_is : P line) (stop : Option Stop) where
+  module _ (p : KeeperPass D) (m n : LockNamer R A B C) (line : List ℕ) (line_is : P line) (stop : Option FileEnd) where
     abbrev T : List ℕ → Type 0
     T = type_by P m.version
 
@@ -237,7 +237,7 @@ module _ {D R A B C : Type 0} (state : D → DiskState) (P : List ℕ → Type 0
         })
         asked
 
-  pub learn_then : (stop : Option Stop) (p q r : KeeperPass D) (m n o : LockNamer R A B C) → n.version ≡ m.version → LearnBoth state P None p q m n → LearnBoth state P stop q r n o → LearnBoth state P stop p r m o
+  pub learn_then : (stop : Option FileEnd) (p q r : KeeperPass D) (m n o : LockNamer R A B C) → n.version ≡ m.version → LearnBoth state P None p q m n → LearnBoth state P stop q r n o → LearnBoth state P stop p r m o
   learn_then stop p q r m n o version one two = record {
     types = learns_then state (type_by P m.version) stop p q r (types_side m) (types_side n) (types_side o) one.types
         (subst (λ v. Learns state (type_by P v) stop q r (types_side n) (types_side o)) version two.types);
@@ -245,13 +245,13 @@ module _ {D R A B C : Type 0} (state : D → DiskState) (P : List ℕ → Type 0
         (subst (λ v. Learns state (word_by P v) stop q r (words_side n) (words_side o)) version two.words);
   }
 
-  pub learn_self : (stop : Option Stop) (p : KeeperPass D) (m : LockNamer R A B C) → LearnBoth state P stop p p m m
+  pub learn_self : (stop : Option FileEnd) (p : KeeperPass D) (m : LockNamer R A B C) → LearnBoth state P stop p p m m
   learn_self stop p m = record {
     types = learns_self state (type_by P m.version) stop p (types_side m) (types_side m) refl;
     words = learns_self state (word_by P m.version) stop p (words_side m) (words_side m) refl;
   }
 
-  pub learn_sealed : (stop : Option Stop) (d : Draft) (p q : KeeperPass D) (m n : LockNamer R A B C) → HasSealed state d p q → OneTurn m n → LearnBoth state P stop p q m n
+  pub learn_sealed : (stop : Option FileEnd) (d : Draft) (p q : KeeperPass D) (m n : LockNamer R A B C) → HasSealed state d p q → OneTurn m n → LearnBoth state P stop p q m n
   learn_sealed stop d p q m n sealed one = record {
     types = learns_none state (type_by P m.version) stop p q (types_side m) (types_side n) sealed.added.still.about_is one.types_held
         (few_sealed state p q (types_side m) (types_side n) sealed.more sealed.added (segment_of d) sealed.segments one.types);
@@ -274,13 +274,13 @@ module _ {D R A B C : Type 0} (state : D → DiskState) (P : List ℕ → Type 0
         took = few_refused state p q a b refused.more refused.added le;
       }
 
-  pub take_few : (stop : Option Stop) (p q r : KeeperPass D) (m n o : LockNamer R A B C) → LearnBoth state P stop p q m n → EndBoth state (spare_of stop) q r n o → TakeFew state P p r m o
+  pub take_few : (stop : Option FileEnd) (p q r : KeeperPass D) (m n o : LockNamer R A B C) → LearnBoth state P stop p q m n → EndBoth state (spare_of stop) q r n o → TakeFew state P p r m o
   take_few stop p q r m n o l e = record {
     types = takes_few state (type_by P m.version) p q r (types_side m) (types_side n) (types_side o) n.types.distinct stop l.types e.types;
     words = takes_few state (word_by P m.version) p q r (words_side m) (words_side n) (words_side o) n.words.distinct stop l.words e.words;
   }
 
-pub learn_wider : {D R A B C : Type 0} (state : D → DiskState) (P Q : List ℕ → Type 0) → ((x : List ℕ) → P x → Q x) → (stop : Option Stop) (p q : KeeperPass D) (m n : LockNamer R A B C) → LearnBoth state P stop p q m n → LearnBoth state Q stop p q m n
+pub learn_wider : {D R A B C : Type 0} (state : D → DiskState) (P Q : List ℕ → Type 0) → ((x : List ℕ) → P x → Q x) → (stop : Option FileEnd) (p q : KeeperPass D) (m n : LockNamer R A B C) → LearnBoth state P stop p q m n → LearnBoth state Q stop p q m n
 learn_wider state P Q f stop p q m n l = record {
   types = learns_wider state (type_by P m.version) (type_by Q m.version) (λ t is. (is.0, f is.0 is.1, is.2)) stop p q (types_side m) (types_side n) l.types;
   words = learns_wider state (word_by P m.version) (word_by Q m.version) (λ t is. (is.0, f is.0 is.1, is.2)) stop p q (words_side m) (words_side n) l.words;
@@ -307,11 +307,11 @@ module _ {D R A B C : Type 0} (state : D → DiskState) where
 
 -- ---- answers
 
-pub stop_none : {T : Type 0} (r : Result T Stop) (x : T) → r ≡ Ok x → stop_in r ≡ None
-stop_none {T} r x is = ap (λ (s : Result T Stop). stop_in s) is
+pub stop_none : {T : Type 0} (r : Result T FileEnd) (x : T) → r ≡ Ok x → stop_in r ≡ None
+stop_none {T} r x is = ap (λ (s : Result T FileEnd). stop_in s) is
 
-pub stop_same : {T U : Type 0} (r : Result T Stop) (s : Result U Stop) (y : Stop) → r ≡ Err y → s ≡ Err y → stop_in r ≡ stop_in s
-stop_same {T} {U} r s y one two = ap (λ (x : Result T Stop). stop_in x) one ∙ sym (ap (λ (x : Result U Stop). stop_in x) two)
+pub stop_same : {T U : Type 0} (r : Result T FileEnd) (s : Result U FileEnd) (y : FileEnd) → r ≡ Err y → s ≡ Err y → stop_in r ≡ stop_in s
+stop_same {T} {U} r s y one two = ap (λ (x : Result T FileEnd). stop_in x) one ∙ sym (ap (λ (x : Result U FileEnd). stop_in x) two)
 
 -- ---- a namer that is lent
 
@@ -320,7 +320,7 @@ asks_for : {N M : Type 0} (f : M → N) (naming : Which → List (List ℕ) → 
 asks_for f naming version line answer None old new rest = record { texts = rest.texts; are = rest.are; refusal = rest.refusal; named = rest.named; told = rest.told }
 asks_for f naming version line answer (Some refusal) old new rest = (ap f rest.0, rest.1)
 
-pub may_ask : {N M : Type 0} (old new : M) (f : M → N) (naming : Which → List (List ℕ) → Option NameRefusal → N → N → Type 0) (version : ℕ) (line : List ℕ) (stop : Option Stop)
+pub may_ask : {N M : Type 0} (old new : M) (f : M → N) (naming : Which → List (List ℕ) → Option NameRefusal → N → N → Type 0) (version : ℕ) (line : List ℕ) (stop : Option FileEnd)
     → MayAsk (λ w ts r a b. naming w ts r (f a) (f b)) version line stop old new → MayAsk naming version line stop (f old) (f new)
 may_ask old new f naming version line stop asked = ⊎_elim
     (λ (same : new ≡ old). inl (ap f same))

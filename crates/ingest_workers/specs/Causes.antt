@@ -1,5 +1,5 @@
 -- Why not all messages of a file were sealed.
-use Rattle.std.specs.Prelude.{◌≡◌, ℕ, ◌+◌, ◌<◌, Bool, List, [], ◌∷◌, ◌++◌, length, Option, None, Some, IfSome}
+use Rattle.std.specs.Prelude.{◌≡◌, ◌⊎◌, ℕ, ◌+◌, ◌<◌, Bool, List, [], ◌∷◌, ◌++◌, length, Option, None, Some, IfSome}
 use mathlib.Core.List.{IsPrefix}
 use Rattle.log_seams.specs.Disk.{DiskState}
 use Rattle.log_seams.specs.Outside.{Rose}
@@ -13,7 +13,7 @@ use Rattle.disk_seal.specs.declared.entry.StoreEntry.{StoreEntry}
 use Rattle.disk_seal.specs.declared.entry.StoreEntry.TheVariants.{Stopped}
 use Rattle.disk_seal.specs.Fixed.{KeeperPass}
 use Rattle.disk_seal.specs.Prepare.{IsFaultOf}
-use Rattle.ingest_workers.specs.Full.{AreFirstOf, Books, WasFullBehind}
+use Rattle.ingest_workers.specs.Full.{AreAllOf, AreFirstOf, Books, WasFullBehind}
 use Rattle.ingest_workers.specs.NoRoom.{FoundNoRoom}
 use Rattle.ingest_workers.specs.declared.outcome.Cause.{Cause}
 use Rattle.ingest_workers.specs.declared.outcome.Cause.TheVariants.{ReadFault, LineTooLong, TooManyLines, Full, DiskFault, ArchiveFull, OutOfMemory}
@@ -49,7 +49,8 @@ cause_by CutOutOfMemory = OutOfMemory
 
 -- where the bytes are told, they have more messages than so many
 abbrev pub HaveMoreThan : ℕ → ℕ → Option (List ℕ) → Type 0
-HaveMoreThan count version told = IfSome told (λ bytes. (messages : List (List ℕ)) (ended : Bool) → MessagesOf version bytes messages ended → count < length messages)
+HaveMoreThan count version told = IfSome told (λ bytes. (messages : List (List ℕ)) (ended : Bool)
+    → MessagesOf version bytes messages ended → count < length messages)
 
 -- ---- the archive
 
@@ -86,35 +87,43 @@ IsFullCause full _ = ⊥
 
 -- ---- a job
 
--- What causes say of the archive: that behind these messages of the file a book is full at so many texts, or so many bytes more do not fit behind the end;
--- that the disk failed.
+-- What causes say of the archive: that behind these messages of the file a book is full at so many texts, or so many bytes more
+-- do not fit behind the end, those of a whole part, or of a rest up to which this holds of the messages; that the disk failed.
 pub record Grounds : Type 1 where
   pub full : List (List ℕ) → Which → ℕ → Type 0
-  pub no_room : List (List ℕ) → ℕ → ℕ → Type 0
+  pub no_room : (List (List ℕ) → Type 0) → List (List ℕ) → ℕ → ℕ → Type 0
   pub failed : ℕ → ℕ → Type 0
 
 -- those that a worker knows by its passes, where this is known of the books, and the messages are those of these bytes
 abbrev pub grounds_of : {D : Type 0} → (D → DiskState) → ℕ → ℕ → Books → Option (List ℕ) → KeeperPass D → KeeperPass D → Grounds
 grounds_of state limit version books bytes p q = record {
   full = WasFullBehind version books bytes;
-  no_room = FoundNoRoom state limit version books (AreFirstOf version bytes) p q;
+  no_room = λ last. FoundNoRoom state limit version books (AreFirstOf version bytes) last p q;
   failed = HasFailed state p q;
 }
 
--- Why no further message of a log is taken than these. A read that failed gave the lines that ended in the bytes taken; a line that is too long, a message too
--- many, and one that a full book stopped, come behind these messages. Where the cause is another, no read failed.
+-- Why no further message of a log is taken than these. A read that failed gave the lines that ended in the bytes taken; a line
+-- that is too long, a message too many, and one that a full book stopped, come behind these messages. Where the cause is another,
+-- no read failed.
 abbrev pub HasLogCause : (List (List ℕ) → Which → ℕ → Type 0) → Log → ℕ → List (List ℕ) → Cause → Type 0
-HasLogCause full log version taken ReadFault = Rose log.faults log.faults_now × IfSome log.bytes (λ bytes. IsReadShort version bytes taken log.behind)
-HasLogCause full log version taken (LineTooLong line) = NoneFailed log × (line ≡ lines_count taken + 1) × IfSome log.bytes (IsBeforeLong version taken)
-HasLogCause full log version taken TooManyLines = NoneFailed log × (length taken ≡ MAX_MESSAGES) × HaveMoreThan MAX_MESSAGES version log.bytes
+HasLogCause full log version taken ReadFault = Rose log.faults log.faults_now
+    × IfSome log.bytes (λ bytes. IsReadShort version bytes taken log.behind)
+HasLogCause full log version taken (LineTooLong line) =
+    NoneFailed log × (line ≡ lines_count taken + 1) × IfSome log.bytes (IsBeforeLong version taken)
+HasLogCause full log version taken TooManyLines = NoneFailed log × (length taken ≡ MAX_MESSAGES)
+    × HaveMoreThan MAX_MESSAGES version log.bytes
 HasLogCause full log version taken (Full book count) = NoneFailed log × full taken book count
 HasLogCause full log version taken _ = ⊥
 
--- What a cause says, where these messages of the log were sealed. Without a cause no read failed. Want of memory is free. A cause of the log says that all
--- messages before it were sealed.
+-- No further message of the log is taken than these: they are all, or there is such a cause.
+abbrev pub EndsLog : (List (List ℕ) → Which → ℕ → Type 0) → Log → ℕ → List (List ℕ) → Type 0
+EndsLog full log version taken = AreAllOf version log.bytes taken ⊎ ((cause : Cause) × HasLogCause full log version taken cause)
+
+-- What a cause says, where these messages of the log were sealed. Without a cause no read failed. Want of memory is free. A cause
+-- of the log says that all messages before it were sealed.
 abbrev pub HasJobCause : Grounds → Log → ℕ → List (List ℕ) → Option Cause → Type 0
 HasJobCause g log version sealed None = NoneFailed log
 HasJobCause g log version sealed (Some (DiskFault opened now)) = g.failed opened now
-HasJobCause g log version sealed (Some (ArchiveFull end need)) = g.no_room sealed end need
+HasJobCause g log version sealed (Some (ArchiveFull end need)) = g.no_room (EndsLog g.full log version) sealed end need
 HasJobCause g log version sealed (Some OutOfMemory) = Unit {0}
 HasJobCause g log version sealed (Some cause) = HasLogCause g.full log version sealed cause

@@ -13,19 +13,29 @@ use Rattle.disk_seal.specs.Known.{known_of}
 
 -- The message is one of those that these bytes have in this version. Of a source that does not tell its bytes nothing is said.
 abbrev pub IsOneOf : ℕ → Option (List ℕ) → List ℕ → Type 0
-IsOneOf version bytes m = IfSome bytes (λ b. (messages : List (List ℕ)) (ended : Bool) → MessagesOf version b messages ended → Contains messages m)
+IsOneOf version bytes m = IfSome bytes (λ b. (messages : List (List ℕ)) (ended : Bool) → MessagesOf version b messages ended
+    → Contains messages m)
 
 -- The message is one of the first so many of those. Of a source that does not tell its bytes nothing is said.
 abbrev pub IsAmongFirst : ℕ → Option (List ℕ) → ℕ → List ℕ → Type 0
-IsAmongFirst version bytes count m = IfSome bytes (λ b. (messages : List (List ℕ)) (ended : Bool) → MessagesOf version b messages ended → Contains (take count messages) m)
+IsAmongFirst version bytes count m = IfSome bytes (λ b. (messages : List (List ℕ)) (ended : Bool)
+    → MessagesOf version b messages ended → Contains (take count messages) m)
 
 -- It is the one behind so many.
 abbrev pub IsMessageAt : ℕ → Option (List ℕ) → ℕ → List ℕ → Type 0
-IsMessageAt version bytes place m = IfSome bytes (λ b. (messages : List (List ℕ)) (ended : Bool) → MessagesOf version b messages ended → slice_get messages place ≡ Some m)
+IsMessageAt version bytes place m = IfSome bytes (λ b. (messages : List (List ℕ)) (ended : Bool)
+    → MessagesOf version b messages ended → slice_get messages place ≡ Some m)
 
--- These are the first of the messages that these bytes have in this version. Of a source that does not tell its bytes nothing is said.
+-- These are the first of the messages that these bytes have in this version. Of a source that does not tell its bytes nothing is
+-- said.
 abbrev pub AreFirstOf : ℕ → Option (List ℕ) → List (List ℕ) → Type 0
-AreFirstOf version bytes first = IfSome bytes (λ b. (messages : List (List ℕ)) (ended : Bool) → MessagesOf version b messages ended → IsPrefix first messages)
+AreFirstOf version bytes first = IfSome bytes (λ b. (messages : List (List ℕ)) (ended : Bool)
+    → MessagesOf version b messages ended → IsPrefix first messages)
+
+-- They are all the messages of these bytes.
+abbrev pub AreAllOf : ℕ → Option (List ℕ) → List (List ℕ) → Type 0
+AreAllOf version bytes all = IfSome bytes (λ b. (messages : List (List ℕ)) (ended : Bool) → MessagesOf version b messages ended
+    → all ≡ messages)
 
 -- the message is the next one behind these
 abbrev pub IsNextOf : ℕ → Option (List ℕ) → List (List ℕ) → List ℕ → Type 0

@@ -37,7 +37,7 @@ use Rattle.ingest_workers.specs.Causes.{Grounds, Limits, HasJobCause, limit_of, 
 use Rattle.ingest_workers.specs.Full.{AreFirstOf, Books, IsFullBy, IsNextOf, IsTextOf, WasFullBehind}
 use Rattle.ingest_workers.specs.NoRoom.{HadNoRoom, IsBetween, WereKnown}
 use Rattle.ingest_workers.specs.JobDone.{HasSourceBack, in_source}
-use Rattle.ingest_workers.specs.Crew.{BookMaker, EndsBook}
+use Rattle.ingest_workers.specs.StartedWorkers.{BookMaker, EndsBook}
 use Rattle.ingest_workers.specs.Worker.{IsGiven}
 use Rattle.ingest_workers.specs.Locked.{in_file}
 
@@ -75,7 +75,8 @@ module _ {S : Type 0} where
   pub record AreRefused (js js' : List (Job S)) : Type 0 where
     pub counted : length js' ≡ length js
     pub each : (i : ℕ) (job : Job S) → slice_get js' i ≡ Some job → job.outcome ≡ not_begun
-    pub same : (i : ℕ) (job : Job S) → slice_get js i ≡ Some job → (new : Job S) × (slice_get js' i ≡ Some new) × (new.file ≡ job.file) × (new.source ≡ job.source)
+    pub same : (i : ℕ) (job : Job S) → slice_get js i ≡ Some job
+        → (new : Job S) × (slice_get js' i ≡ Some new) × (new.file ≡ job.file) × (new.source ≡ job.source)
 
   -- the text is one of the encoding of a message of one of the jobs' sources
   abbrev pub IsTypeGiven : (S → Option (List ℕ)) → ℕ → List (Job S) → List ℕ → Type 0
@@ -97,14 +98,16 @@ pub record HasBook (told : Bool) (limit : ℕ) (texts : List (List ℕ)) (saved 
   pub are : IfTold told ((b.texts ≡ texts) × (b.limit ≡ limit))
 
 -- the maker is that of a lock just made of a book with so many texts; where they are told, it has these and this limit
-pub record OpensBook {G : Ghosts BookState (List ℕ) ℕ} (first : ℕ) (told : Bool) (limit : ℕ) (texts : List (List ℕ)) (saved : ℕ) (m : BookMaker G) : Type 0 where
+pub record OpensBook {G : Ghosts BookState (List ℕ) ℕ} (first : ℕ) (told : Bool) (limit : ℕ) (texts : List (List ℕ)) (saved : ℕ)
+    (m : BookMaker G) : Type 0 where
   pub book : BookState
   pub opening : IsOpening m first book.texts book.limit
   pub has : HasBook told limit texts saved book
 
 -- where the bytes are told, this holds of their messages in this version, and of whether the last line had its newline
 abbrev pub OfMessages : ℕ → Option (List ℕ) → (List (List ℕ) → Bool → Type 0) → Type 0
-OfMessages version bytes P = IfSome bytes (λ b. (messages : List (List ℕ)) (ended : Bool) → MessagesOf version b messages ended → P messages ended)
+OfMessages version bytes P = IfSome bytes (λ b. (messages : List (List ℕ)) (ended : Bool) → MessagesOf version b messages ended
+    → P messages ended)
 
 module _ {D : Type 0} {d : DiskGhosts D} where
   -- the store that is made of a journal and passes that have seen so many texts
@@ -126,9 +129,10 @@ module _ {D : Type 0} {d : DiskGhosts D} where
     stopped = None;
   }
 
-  -- The journal's disk is that of a store that was opened over the journal of before, and keeps what a store keeps: its disk's bytes and each image
-  -- of it stand for its entries, since the opening each stands for some first of these with those of before; of a store that a fault stopped they
-  -- stand for these, or these with the one that was under way, and the disk's count of faults rose. Where it did not, a store may be opened again.
+  -- The journal's disk is that of a store that was opened over the journal of before, and keeps what a store keeps: its disk's
+  -- bytes and each image of it stand for its entries, since the opening each stands for some first of these with those of before;
+  -- of a store that a fault stopped they stand for these, or these with the one that was under way, and the disk's count of
+  -- faults rose. Where it did not, a store may be opened again.
   pub record IsLeftBy (store : StoreView D) (before after : Journal D d) : Type 0 where
     pub name : after.disk.ghost_name ≡ before.disk.ghost_name
     pub opened : store.opened ≡ before.disk.now
@@ -140,7 +144,8 @@ module _ {D : Type 0} {d : DiskGhosts D} where
     pub count : after.count ≡ store.count
     pub closed : after.closed ≡ store.closed
     pub kept : Kept (state_by d.state store)
-    pub again : ¬ Rose (d.state before.disk.now).faults (d.state after.disk.now).faults → (store.stopped ≡ None) × MayOpen (state_of after)
+    pub again : ¬ Rose (d.state before.disk.now).faults (d.state after.disk.now).faults
+        → (store.stopped ≡ None) × MayOpen (state_of after)
 
   -- segments of at most so many rows, in the version of the journal's header
   abbrev pub plan_of : ℕ → Journal D d → Plan
@@ -160,15 +165,23 @@ abbrev pub header_limits : Header → Limits
 header_limits h = record { types = h.types_limit; words = h.words_limit }
 
 module _ {D : Type 0} {d : DiskGhosts D} where
-  -- So many bytes behind an end go past the header's limit of length. Where the journal is told, they are those of the next segment of a file, whose messages are
-  -- those of these bytes, and of the texts before it; and it is the end of entries that begin with those of before and stand first in the journal afterwards.
-  abbrev pub HadNoRoomOver : (List JournalEntry → Which → List (List ℕ) → Type 0) → Plan → ℕ → Option (List ℕ) → Journal D d → Journal D d → List (List ℕ) → ℕ → ℕ → Type 0
-  HadNoRoomOver has plan file bytes before after sealed end need =
+  -- So many bytes behind an end go past the header's limit of length. Where the journal is told, they are those of the next
+  -- segment of a file, whose messages are those of these bytes, and of the texts before it. That is the next whole part, or the
+  -- rest where this holds of the messages up to its end; and it is the end of entries that begin with those of before and stand
+  -- first in the journal afterwards.
+  abbrev pub HadNoRoomOver : (List JournalEntry → Which → List (List ℕ) → Type 0) → Plan → ℕ → Option (List ℕ) → Journal D d
+      → Journal D d → (List (List ℕ) → Type 0) → List (List ℕ) → ℕ → ℕ → Type 0
+  HadNoRoomOver has plan file bytes before after last sealed end need =
       (before.header.length_limit < end + need)
-      × IfTold (is_some (state_of before).disk.seen) (HadNoRoom before.header plan.rows plan.version file (IsBetween (told_entries (state_of before)) (told_entries (state_of after))) has (AreFirstOf plan.version bytes) sealed end need)
+      × IfTold (is_some (state_of before).disk.seen)
+      (HadNoRoom before.header plan.rows plan.version file
+      (IsBetween (told_entries (state_of before)) (told_entries (state_of after))) has
+      (AreFirstOf plan.version bytes) last sealed end need)
 
-  -- What causes say of the journal and its disk, of a file with these bytes: when a book is full; what had no room; the disk's count of faults rose.
-  abbrev pub grounds_over : (Option (List ℕ) → List (List ℕ) → Which → ℕ → Type 0) → (List JournalEntry → Which → List (List ℕ) → Type 0) → Plan → ℕ → Option (List ℕ) → Journal D d → Journal D d → Grounds
+  -- What causes say of the journal and its disk, of a file with these bytes: when a book is full; what had no room; the disk's
+  -- count of faults rose.
+  abbrev pub grounds_over : (Option (List ℕ) → List (List ℕ) → Which → ℕ → Type 0)
+      → (List JournalEntry → Which → List (List ℕ) → Type 0) → Plan → ℕ → Option (List ℕ) → Journal D d → Journal D d → Grounds
   grounds_over full has plan file bytes before after = record {
     full = full bytes;
     no_room = HadNoRoomOver has plan file bytes before after;
@@ -187,7 +200,8 @@ abbrev pub book_texts : Which → List JournalEntry → List (List ℕ)
 book_texts WhichTypes es = types_of es
 book_texts WhichWords es = words_of es
 
--- The texts of a book, where a journal had these: theirs are the first ones, all are distinct, and each of the others is such a text.
+-- The texts of a book, where a journal had these: theirs are the first ones, all are distinct, and each of the others is such a
+-- text.
 pub record HasTextsBehind (P : List ℕ → Type 0) (first texts : List (List ℕ)) : Type 0 where
   pub begins : IsPrefix first texts
   pub distinct : AreDistinct texts
@@ -196,46 +210,62 @@ pub record HasTextsBehind (P : List ℕ → Type 0) (first texts : List (List �
 module _ {S : Type 0} where
   -- The texts of a book are those of the entries, and others of the encodings of messages of the jobs' sources.
   abbrev pub WereGiven : (S → Option (List ℕ)) → Plan → List (Job S) → List JournalEntry → Which → List (List ℕ) → Type 0
-  WereGiven left plan js front book texts = HasTextsBehind (IsTextOf plan.version (IsGiven left plan.version js) book) (book_texts book front) texts
+  WereGiven left plan js front book texts = HasTextsBehind (IsTextOf plan.version (IsGiven left plan.version js) book)
+      (book_texts book front) texts
 
 module _ {S D : Type 0} {d : DiskGhosts D} where
   -- the text is one of the book in the journal, or one of the encoding of a message of one of the jobs' sources
   abbrev pub IsThereOrGiven : (S → Option (List ℕ)) → Plan → List (Job S) → Journal D d → Which → List ℕ → Type 0
-  IsThereOrGiven left plan js before book t = Contains (book_texts book (told_entries (state_of before))) t ⊎ IsTextOf plan.version (IsGiven left plan.version js) book t
+  IsThereOrGiven left plan js before book t = Contains (book_texts book (told_entries (state_of before))) t
+      ⊎ IsTextOf plan.version (IsGiven left plan.version js) book t
 
-  -- Where the journal is told, a book may have so many texts by the header, and there are as many of the journal and of the jobs' sources. One more is of the
-  -- encoding of the message of these bytes that is the next one behind these.
-  abbrev pub IsFullByGiven : (S → Option (List ℕ)) → Plan → List (Job S) → Journal D d → Option (List ℕ) → List (List ℕ) → Which → ℕ → Type 0
+  -- Where the journal is told, a book may have so many texts by the header, and there are as many of the journal and of the jobs'
+  -- sources. One more is of the encoding of the message of these bytes that is the next one behind these.
+  abbrev pub IsFullByGiven : (S → Option (List ℕ)) → Plan → List (Job S) → Journal D d → Option (List ℕ) → List (List ℕ) → Which
+      → ℕ → Type 0
   IsFullByGiven left plan js before bytes sealed book count =
       IfTold (is_some (state_of before).disk.seen) ((count ≡ limit_of (header_limits before.header) book)
-      × IsFullBy (IsThereOrGiven left plan js before book) (IsTextOf plan.version (IsNextOf plan.version bytes sealed) book) count)
+      × IsFullBy (IsThereOrGiven left plan js before book)
+      (IsTextOf plan.version (IsNextOf plan.version bytes sealed) book) count)
 
-  -- A job that was done has its source back, of the same name, whose count of faults did not fall. Of the first messages of the source, which the outcome
-  -- counts, the cause holds.
-  pub record HasItsCause (full : Option (List ℕ) → List (List ℕ) → Which → ℕ → Type 0) (has : List JournalEntry → Which → List (List ℕ) → Type 0) (left name : S → Option (List ℕ)) (faults : S → ℕ) (plan : Plan) (before after : Journal D d) (old new : Job S) : Type 0 where
+  -- A job that was done has its source back, of the same name, whose count of faults did not fall. Of the first messages of the
+  -- source, which the outcome counts, the cause holds.
+  pub record HasItsCause (full : Option (List ℕ) → List (List ℕ) → Which → ℕ → Type 0)
+      (has : List JournalEntry → Which → List (List ℕ) → Type 0) (left name : S → Option (List ℕ)) (faults : S → ℕ)
+      (plan : Plan) (before after : Journal D d) (old new : Job S) : Type 0 where
     pub source : HasSourceBack name faults old new
     pub sealed : List (List ℕ)
     pub count : new.outcome.messages ≡ length sealed
     pub first : OfMessages plan.version (left source.before) (λ messages e. IsPrefix sealed messages)
-    pub cause : HasJobCause (grounds_over full has plan old.file (left source.before) before after) (log_of left faults source.before source.after) plan.version sealed new.outcome.cause
+    pub cause : HasJobCause (grounds_over full has plan old.file (left source.before) before after)
+        (log_of left faults source.before source.after) plan.version sealed new.outcome.cause
 
   -- each job has, where a book is full by this behind messages of its bytes, and had texts by that
-  pub record HaveCausesBy (full : Option (List ℕ) → List (List ℕ) → Which → ℕ → Type 0) (has : List JournalEntry → Which → List (List ℕ) → Type 0) (left name : S → Option (List ℕ)) (faults : S → ℕ) (plan : Plan) (before after : Journal D d) (js js' : List (Job S)) : Type 0 where
+  pub record HaveCausesBy (full : Option (List ℕ) → List (List ℕ) → Which → ℕ → Type 0)
+      (has : List JournalEntry → Which → List (List ℕ) → Type 0) (left name : S → Option (List ℕ)) (faults : S → ℕ)
+      (plan : Plan) (before after : Journal D d) (js js' : List (Job S)) : Type 0 where
     pub counted : length js' ≡ length js
-    pub each : (i : ℕ) (job : Job S) → slice_get js i ≡ Some job → (new : Job S) × (slice_get js' i ≡ Some new) × HasItsCause full has left name faults plan before after job new
+    pub each : (i : ℕ) (job : Job S) → slice_get js i ≡ Some job
+        → (new : Job S) × (slice_get js' i ≡ Some new) × HasItsCause full has left name faults plan before after job new
 
-  abbrev pub HaveCauses : (S → Option (List ℕ)) → (S → Option (List ℕ)) → (S → ℕ) → Plan → Journal D d → Journal D d → List (Job S) → List (Job S) → Type 0
-  HaveCauses left name faults plan before after js js' = HaveCausesBy (IsFullByGiven left plan js before) (WereGiven left plan js) left name faults plan before after js js'
+  abbrev pub HaveCauses : (S → Option (List ℕ)) → (S → Option (List ℕ)) → (S → ℕ) → Plan → Journal D d → Journal D d
+      → List (Job S) → List (Job S) → Type 0
+  HaveCauses left name faults plan before after js js' =
+      HaveCausesBy (IsFullByGiven left plan js before) (WereGiven left plan js) left name faults plan before after js js'
 
   -- the same where a book was full at the source's next message, and its texts are known
-  abbrev pub HaveCausesIn : Books → (S → Option (List ℕ)) → (S → Option (List ℕ)) → (S → ℕ) → Plan → Journal D d → Journal D d → List (Job S) → List (Job S) → Type 0
-  HaveCausesIn books left name faults plan before after js js' = HaveCausesBy (WasFullBehind plan.version books) (WereKnown books) left name faults plan before after js js'
+  abbrev pub HaveCausesIn : Books → (S → Option (List ℕ)) → (S → Option (List ℕ)) → (S → ℕ) → Plan → Journal D d → Journal D d
+      → List (Job S) → List (Job S) → Type 0
+  HaveCausesIn books left name faults plan before after js js' =
+      HaveCausesBy (WasFullBehind plan.version books) (WereKnown books) left name faults plan before after js js'
 
 module _ {S D : Type 0} {d : DiskGhosts D} where
-  -- A job was done. The messages that its outcome counts are the first ones of its source, and all of them where the file is whole; there is a cause
-  -- exactly where it is not. Where its source was not opened nothing was done. They are cut in parts. Where the journal is told, the file's segments among the new entries are exactly those of the parts, in order, and a front of the journal
-  -- holds exactly these messages of the file.
-  pub record IsFileOf (left : S → Option (List ℕ)) (plan : Plan) (before : Journal D d) (fresh : List JournalEntry) (old new : Job S) : Type 0 where
+  -- A job was done. The messages that its outcome counts are the first ones of its source, and all of them where the file is
+  -- whole; there is a cause exactly where it is not. Where its source was not opened nothing was done. They are cut in parts.
+  -- Where the journal is told, the file's segments among the new entries are exactly those of the parts, in order, and a front of
+  -- the journal holds exactly these messages of the file.
+  pub record IsFileOf (left : S → Option (List ℕ)) (plan : Plan) (before : Journal D d) (fresh : List JournalEntry)
+      (old new : Job S) : Type 0 where
     pub file : new.file ≡ old.file
     pub covered : List (List ℕ)
     pub ended : Bool
@@ -243,7 +273,8 @@ module _ {S D : Type 0} {d : DiskGhosts D} where
     pub cause : old.is_open ≡ true → is_some new.outcome.cause ≡ not new.outcome.whole
     pub unopened : old.is_open ≡ false → new.outcome ≡ nothing_done
     pub first : OfMessages plan.version (in_source left old.source) (λ messages e. IsPrefix covered messages)
-    pub all : new.outcome.whole ≡ true → OfMessages plan.version (in_source left old.source) (λ messages e. (covered ≡ messages) × (ended ≡ e))
+    pub all : new.outcome.whole ≡ true → OfMessages plan.version (in_source left old.source)
+        (λ messages e. (covered ≡ messages) × (ended ≡ e))
     pub closed : List Part
     pub rest : Part
     pub parts : covered ≡ messages_in closed ++ rest.messages
@@ -251,26 +282,33 @@ module _ {S D : Type 0} {d : DiskGhosts D} where
     pub not_yet : IsOpen plan.rows rest
     pub segments : IfTold (is_some (state_of before).disk.seen) (filter_map (in_file old.file) fresh
         ≡ segments_from old.file 0 closed ++ rest_of old.file (length (messages_in closed)) new.outcome.whole ended rest)
-    pub held : IfTold (is_some (state_of before).disk.seen) (FrontHolds before.header (told_entries (state_of before) ++ fresh) old.file covered new.outcome.whole (new.outcome.whole && ended))
+    pub held : IfTold (is_some (state_of before).disk.seen)
+        (FrontHolds before.header (told_entries (state_of before) ++ fresh) old.file covered new.outcome.whole
+        (new.outcome.whole && ended))
 
-  -- Each job was done. Where they are told, the journal's entries are those of before and new ones, which are texts and segments of the jobs' files.
-  pub record HasStored (left : S → Option (List ℕ)) (plan : Plan) (js js' : List (Job S)) (before after : Journal D d) (store : StoreView D) : Type 0 where
+  -- Each job was done. Where they are told, the journal's entries are those of before and new ones, which are texts and segments
+  -- of the jobs' files.
+  pub record HasStored (left : S → Option (List ℕ)) (plan : Plan) (js js' : List (Job S)) (before after : Journal D d)
+      (store : StoreView D) : Type 0 where
     pub left_by : IsLeftBy store before after
     pub fresh : List JournalEntry
     pub grown : journal_of (state_by d.state store) ≡ told_entries (state_of before) ++ fresh
     pub counted : length js' ≡ length js
-    pub files : (i : ℕ) (job : Job S) → slice_get js i ≡ Some job → (new : Job S) × (slice_get js' i ≡ Some new) × IsFileOf left plan before fresh job new
+    pub files : (i : ℕ) (job : Job S) → slice_get js i ≡ Some job
+        → (new : Job S) × (slice_get js' i ≡ Some new) × IsFileOf left plan before fresh job new
     pub others : All (IsOfJobs js) fresh
 
   -- the same, and the passes of both books ended
-  pub record HasEndedBooks {G : Ghosts BookState (List ℕ) ℕ} (left : S → Option (List ℕ)) (plan : Plan) (js js' : List (Job S)) (before after : Journal D d) (types types' words words' : BookMaker G) : Type 0 where
+  pub record HasEndedBooks {G : Ghosts BookState (List ℕ) ℕ} (left : S → Option (List ℕ)) (plan : Plan) (js js' : List (Job S))
+      (before after : Journal D d) (types types' words words' : BookMaker G) : Type 0 where
     pub store : StoreView D
     pub stored : HasStored left plan js js' before after store
     pub of_types : EndsBook (IsTypeGiven left plan.version js) types types' store.types
     pub of_words : EndsBook (IsWordGiven left plan.version js) words words' store.words
 
   -- The same, and each text that the new entries add is one of the encoding of a message of one of the jobs' sources.
-  pub record HasIngested (left : S → Option (List ℕ)) (plan : Plan) (js js' : List (Job S)) (before after : Journal D d) : Type 0 where
+  pub record HasIngested (left : S → Option (List ℕ)) (plan : Plan) (js js' : List (Job S))
+      (before after : Journal D d) : Type 0 where
     pub store : StoreView D
     pub stored : HasStored left plan js js' before after store
     pub types : All (IsTypeGiven left plan.version js) (types_of stored.fresh)

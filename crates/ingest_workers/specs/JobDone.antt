@@ -23,15 +23,19 @@ module _ {S : Type 0} where
   IsGivenBy left version j m = IsOneOf version (in_source left j.source) m
 
 module _ {D : Type 0} where
-  -- What came of a file, whose messages were those of this log where its bytes are told. The pass has added the messages that the outcome counts, and they
-  -- are the first ones of the file. Where it is whole they are all, and its mark is that of the bytes. A cause is a right one, where this is known of the books.
-  pub record CameTo (state : D → DiskState) (limit version : ℕ) (books : Books) (log : Log) (start p : KeeperPass D) (o : Outcome) : Type 0 where
+  -- What came of a file, whose messages were those of this log where its bytes are told. The pass has added the messages that the
+  -- outcome counts, and they are the first ones of the file. Where it is whole they are all, and its mark is that of the bytes. A
+  -- cause is a right one, where this is known of the books.
+  pub record CameTo (state : D → DiskState) (limit version : ℕ) (books : Books) (log : Log) (start p : KeeperPass D)
+      (o : Outcome) : Type 0 where
     pub covered : List (List ℕ)
     pub ended : Bool
     pub count : o.messages ≡ length covered
     pub done : HasDone state limit start p covered o.whole ended
-    pub first : IfSome log.bytes (λ b. (messages : List (List ℕ)) (e : Bool) → MessagesOf version b messages e → IsPrefix covered messages)
-    pub all : o.whole ≡ true → IfSome log.bytes (λ b. (messages : List (List ℕ)) (e : Bool) → MessagesOf version b messages e → (covered ≡ messages) × (ended ≡ e))
+    pub first : IfSome log.bytes (λ b. (messages : List (List ℕ)) (e : Bool) → MessagesOf version b messages e
+        → IsPrefix covered messages)
+    pub all : o.whole ≡ true → IfSome log.bytes (λ b. (messages : List (List ℕ)) (e : Bool) → MessagesOf version b messages e
+        → (covered ≡ messages) × (ended ≡ e))
     pub caused : HasJobCause (grounds_of state limit version books log.bytes start p) log version covered o.cause
 
 module _ {S : Type 0} where
@@ -44,9 +48,10 @@ module _ {S : Type 0} where
     pub keeps : KeepsSource name faults before after
 
 module _ {S D : Type 0} where
-  -- The job was done with this pass, in segments of at most so many rows, where this is known of the books then, and has its source back. There is a cause exactly
-  -- where the file is not whole; where the source was not opened nothing was done.
-  pub record IsDone (state : D → DiskState) (left name : S → Option (List ℕ)) (faults : S → ℕ) (rows version : ℕ) (books : Books) (j : Job S) (p : KeeperPass D) (j' : Job S) (q : KeeperPass D) : Type 0 where
+  -- The job was done with this pass, in segments of at most so many rows, where this is known of the books then, and has its
+  -- source back. There is a cause exactly where the file is not whole; where the source was not opened nothing was done.
+  pub record IsDone (state : D → DiskState) (left name : S → Option (List ℕ)) (faults : S → ℕ) (rows version : ℕ) (books : Books)
+      (j : Job S) (p : KeeperPass D) (j' : Job S) (q : KeeperPass D) : Type 0 where
     pub file : j'.file ≡ j.file
     pub cause : j.is_open ≡ true → is_some j'.outcome.cause ≡ not j'.outcome.whole
     pub unopened : j.is_open ≡ false → j'.outcome ≡ nothing_done

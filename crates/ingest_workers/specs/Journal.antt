@@ -43,7 +43,8 @@ pub record Holds (h : Header) (es : List JournalEntry) (file : ℕ) (messages : 
   pub ended_is : is_ended file held.pieces ≡ ended
 
 -- a front of the entries does
-pub record FrontHolds (h : Header) (es : List JournalEntry) (file : ℕ) (messages : List (List ℕ)) (whole ended : Bool) : Type 0 where
+pub record FrontHolds (h : Header) (es : List JournalEntry) (file : ℕ) (messages : List (List ℕ))
+    (whole ended : Bool) : Type 0 where
   pub front : List JournalEntry
   pub begins : IsPrefix front es
   pub holds : Holds h front file messages whole ended
@@ -59,7 +60,8 @@ module _ {D : Type 0} where
 
   -- what holds where the disk of the pass' store tells its bytes, by the archive's header
   abbrev pub WhereTold : (D → DiskState) → KeeperPass D → (Header → Type 0) → Type 0
-  WhereTold state p P = (a : About (StoreFixed D)) → about p ≡ Some a → IfTold (is_some (state a.fixed.opened).seen) (P a.fixed.header)
+  WhereTold state p P = (a : About (StoreFixed D)) → about p ≡ Some a
+      → IfTold (is_some (state a.fixed.opened).seen) (P a.fixed.header)
 
   -- The file has a name in the journal that the pass has seen, and these messages there; it is not whole.
   abbrev pub HasSoFar : (D → DiskState) → KeeperPass D → List (List ℕ) → Type 0

@@ -4,11 +4,12 @@ pub mod Parts
 pub mod Journal
 pub mod NoRoom
 pub mod Causes
-pub mod Stop
-pub mod Hand
+pub mod FileEnd
+pub mod OpenSegment
+pub mod Adding
 pub mod Namer
 pub mod Naming
-pub mod Keys
+pub mod NamerKeys
 pub mod Sealed
 pub mod MaySeal
 pub mod Doing
@@ -20,8 +21,9 @@ pub mod JobDone
 pub mod Met
 pub mod Worker
 pub mod WorkerLaws
-pub mod Crew
+pub mod StartedWorkers
 pub mod Locked
 pub mod Ingested
 pub mod InTurn
-pub mod Closing
+pub mod Ordered
+pub mod ClosedStore

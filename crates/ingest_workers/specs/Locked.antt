@@ -43,7 +43,8 @@ module _ {S D : Type 0} {G : Ghosts (StoreView D) StoreEntry (StoreFixed D)} (st
   MayDoAll m ws js = (m' : KeeperMaker D G) (ks : List (KeeperPass D)) → Fresh m m' ks (length js) → AllFit (MayDo state) ws js ks
 
   -- The maker made a pass for each job, the workers did the jobs with these, and the maker joined them.
-  pub record HasDoneAll (left name : S → Option (List ℕ)) (faults : S → ℕ) (m end : KeeperMaker D G) (ws ws' : List Worker) (js js' : List (Job S)) : Type 0 where
+  pub record HasDoneAll (left name : S → Option (List ℕ)) (faults : S → ℕ) (m end : KeeperMaker D G) (ws ws' : List Worker)
+      (js js' : List (Job S)) : Type 0 where
     pub middle : KeeperMaker D G
     pub passes : List (KeeperPass D)
     pub passes' : List (KeeperPass D)
@@ -53,7 +54,8 @@ module _ {S D : Type 0} {G : Ghosts (StoreView D) StoreEntry (StoreFixed D)} (st
     pub joined : Joined middle end passes' 0
 
   -- all was done, and the lock closed
-  pub record HasClosed (left name : S → Option (List ℕ)) (faults : S → ℕ) (m : KeeperMaker D G) (ws ws' : List Worker) (js js' : List (Job S)) (after : StoreView D) : Type 0 where
+  pub record HasClosed (left name : S → Option (List ℕ)) (faults : S → ℕ) (m : KeeperMaker D G) (ws ws' : List Worker)
+      (js js' : List (Job S)) (after : StoreView D) : Type 0 where
     pub end : KeeperMaker D G
     pub done : HasDoneAll left name faults m end ws ws' js js'
     pub entries : store_entries (state_by state after) ≡ seen_by end
@@ -90,11 +92,13 @@ module _ {S D : Type 0} (state : D → DiskState) where
   -- each worker may do each job with that job's pass over the store
   abbrev pub MayDoAt : ℕ → StoreView D → List Worker → List (Job S) → Type 0
   MayDoAt first store ws js = (ks : List (KeeperPass D)) → length ks ≡ length js
-      → ((i : ℕ) (p : KeeperPass D) → slice_get ks i ≡ Some p → IsPassOf state first store i p × IsReady p) → AllFit (MayDo state) ws js ks
+      → ((i : ℕ) (p : KeeperPass D) → slice_get ks i ≡ Some p → IsPassOf state first store i p × IsReady p)
+      → AllFit (MayDo state) ws js ks
 
-  -- The workers did the jobs with passes over the store. What they added stands behind the store's list: each entry was added by one of the
-  -- passes, which may add it, and the segments of a pass' file are those that it added, in order.
-  pub record HasWorked (left name : S → Option (List ℕ)) (faults : S → ℕ) (first : ℕ) (ws ws' : List Worker) (js js' : List (Job S)) (before after : StoreView D) : Type 0 where
+  -- The workers did the jobs with passes over the store. What they added stands behind the store's list: each entry was added by
+  -- one of the passes, which may add it, and the segments of a pass' file are those that it added, in order.
+  pub record HasWorked (left name : S → Option (List ℕ)) (faults : S → ℕ) (first : ℕ) (ws ws' : List Worker)
+      (js js' : List (Job S)) (before after : StoreView D) : Type 0 where
     pub fixed : fixed_of after ≡ fixed_of before
     pub front : IsPrefix (list_of state before) (list_of state after)
     pub passes : List (KeeperPass D)
@@ -104,6 +108,8 @@ module _ {S D : Type 0} (state : D → DiskState) where
     pub went : AllWent IsIdle (DidOnly left) js js' ws ws'
     pub done : AllDone (DidOnly left) (DidJob state left name faults) ws ws' js js' passes passes'
     pub files : (i : ℕ) (q : KeeperPass D) → slice_get passes' i ≡ Some q
-        → filter_map (file_segment (number_of q)) (list_behind state before after) ≡ filter_map (file_segment (number_of q)) (entries_in (own_list q))
+        → filter_map (file_segment (number_of q)) (list_behind state before after) ≡ filter_map (file_segment (number_of q))
+        (entries_in (own_list q))
     pub seen_on : (i : ℕ) (q : KeeperPass D) → slice_get passes' i ≡ Some q → IsPrefix (seen q) (list_of state after)
-    pub added : (j : ℕ) (e : StoreEntry) → length (list_of state before) ≤ j → slice_get (list_of state after) j ≡ Some e → AddedByOne MayAdd passes' j e
+    pub added : (j : ℕ) (e : StoreEntry) → length (list_of state before) ≤ j → slice_get (list_of state after) j ≡ Some e
+        → AddedByOne MayAdd passes' j e

@@ -41,9 +41,10 @@ module _ {R A B C : Type 0} where
     pub own_types : own_list (types_pass n) ≡ own_list (types_pass m)
     pub own_words : own_list (words_pass n) ≡ own_list (words_pass m)
 
-  -- The records of the draft do not fit behind the archive's end, where they need so many bytes, with the texts of both books that are not
-  -- saved; the namer has then seen all of these.
-  pub record HasNoRoom {D : Type 0} (state : D → DiskState) (d : Draft) (end need : ℕ) (p q : KeeperPass D) (m n : LockNamer R A B C) : Type 0 where
+  -- The records of the draft do not fit behind the archive's end, where they need so many bytes, with the texts of both books
+  -- that are not saved; the namer has then seen all of these.
+  pub record HasNoRoom {D : Type 0} (state : D → DiskState) (d : Draft) (end need : ℕ) (p q : KeeperPass D)
+      (m n : LockNamer R A B C) : Type 0 where
     pub types : BookNote
     pub words : BookNote
     pub full : IsFullAt state d end need types words (types_seen m) (words_seen m) p q

@@ -23,10 +23,13 @@ use Rattle.ingest_workers.specs.Parts.{IsCut, IsOpen, Part}
 abbrev pub part_in : Draft → List (List ℕ) → Part
 part_in d messages = record { rows = d.columns.rows; messages = messages }
 
--- The next segment of a file, behind these messages of it, did not fit: the archive ended behind some entries of a journal, and goes past its limit of length
--- with the record of the segment and those of the texts of both books that these entries do not have. `was` holds of the entries, `has` of all texts that a book
--- had then, and `follow` of the file's messages up to those of the segment.
-pub record HadNoRoom (h : Header) (limit version file : ℕ) (was : List JournalEntry → Type 0) (has : List JournalEntry → Which → List (List ℕ) → Type 0) (follow : List (List ℕ) → Type 0) (sealed : List (List ℕ)) (end need : ℕ) : Type 0 where
+-- The next segment of a file, behind these messages of it, did not fit: the archive ended behind some entries of a journal, and
+-- goes past its limit of length with the record of the segment and those of the texts of both books that these entries do not
+-- have. `was` holds of the entries, `has` of all texts that a book had then, and `follow` of the file's messages up to those of
+-- the segment. The segment is the next whole part of them; or it is less, the rest, and then `last` holds of these messages.
+pub record HadNoRoom (h : Header) (limit version file : ℕ) (was : List JournalEntry → Type 0)
+    (has : List JournalEntry → Which → List (List ℕ) → Type 0) (follow last : List (List ℕ) → Type 0)
+    (sealed : List (List ℕ)) (end need : ℕ) : Type 0 where
   -- the archive's end
   pub front : List JournalEntry
   pub was_so : was front
@@ -43,7 +46,7 @@ pub record HadNoRoom (h : Header) (limit version file : ℕ) (was : List Journal
   pub file_is : draft.file ≡ file
   pub next : draft.first ≡ length sealed
   pub follows : follow (sealed ++ messages)
-  pub cut : IsCut limit (part_in draft messages) ⊎ IsOpen limit (part_in draft messages)
+  pub cut : IsCut limit (part_in draft messages) ⊎ (IsOpen limit (part_in draft messages) × last (sealed ++ messages))
   pub canonical : AreCanonical version draft.columns.rows types words messages
   pub numbers : draft.words ≡ words_named types draft.columns.rows
   -- the bytes, or the greatest number where they are more
@@ -64,8 +67,11 @@ module _ {D : Type 0} where
   abbrev pub HasNoRoomBy : KeeperPass D → ℕ → ℕ → Type 0
   HasNoRoomBy p end need = (a : About (StoreFixed D)) → about p ≡ Some a → a.fixed.header.length_limit < end + need
 
-  -- so it was of the next segment of the pass' file behind these messages, at some moment since then, where this is known of the books
-  abbrev pub FoundNoRoom : (D → DiskState) → ℕ → ℕ → Books → (List (List ℕ) → Type 0) → KeeperPass D → KeeperPass D → List (List ℕ) → ℕ → ℕ → Type 0
-  FoundNoRoom state limit version books follow p q sealed end need =
+  -- so it was of the next segment of the pass' file behind these messages, at some moment since then, where this is known of the
+  -- books
+  abbrev pub FoundNoRoom : (D → DiskState) → ℕ → ℕ → Books → (List (List ℕ) → Type 0) → (List (List ℕ) → Type 0) → KeeperPass D
+      → KeeperPass D → List (List ℕ) → ℕ → ℕ → Type 0
+  FoundNoRoom state limit version books follow last p q sealed end need =
       HasNoRoomBy p end need
-      × WhereTold state p (λ h. HadNoRoom h limit version (number_of p) (IsBetween (journal_seen (seen p)) (journal_seen (seen q))) (WereKnown books) follow sealed end need)
+      × WhereTold state p (λ h. HadNoRoom h limit version (number_of p)
+      (IsBetween (journal_seen (seen p)) (journal_seen (seen q))) (WereKnown books) follow last sealed end need)

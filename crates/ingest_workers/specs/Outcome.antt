@@ -8,8 +8,8 @@ use Rattle.ingest_workers.specs.declared.outcome.Outcome.{Outcome}
 abbrev pub nothing_done : Outcome
 nothing_done = record { messages = 0; whole = false; cause = None }
 
--- How many messages of a job may have been met that are not sealed. A log that cannot be read on leaves none, a full dictionary the one that it stops, and a
--- segment that was refused, or want of memory, those that were in hand.
+-- How many messages of a job may have been met that are not sealed. A log that cannot be read on leaves none, a full dictionary
+-- the one that it stops, and a segment that was refused, or want of memory, those that were in the open segment.
 abbrev pub unsealed_by : ℕ → Option Cause → ℕ
 unsealed_by rows None = 0
 unsealed_by rows (Some ReadFault) = 0

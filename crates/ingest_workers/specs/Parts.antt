@@ -38,9 +38,11 @@ messages_in (p ∷ ps) = p.messages ++ messages_in ps
 abbrev pub segments_from : ℕ → ℕ → List Part → List SegmentEntry
 segments_from file first [] = []
 segments_from file first (p ∷ ps) =
-    record { file = file; first = first; last = false; ended = false; rows = p.rows } ∷ segments_from file (first + length p.messages) ps
+    record { file = file; first = first; last = false; ended = false; rows = p.rows } ∷ segments_from file
+    (first + length p.messages) ps
 
--- The segment of the rest: of a whole file it is marked last, also without messages; else there is one only where there are messages.
+-- The segment of the rest: of a whole file it is marked last, also without messages; else there is one only where there are
+-- messages.
 abbrev pub rest_of : ℕ → ℕ → Bool → Bool → Part → List SegmentEntry
 rest_of file first true ended p = record { file = file; first = first; last = true; ended = ended; rows = p.rows } ∷ []
 rest_of file first false ended p = rest_in_hand file first p.rows

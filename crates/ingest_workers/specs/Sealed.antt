@@ -23,8 +23,8 @@ module _ {D : Type 0} where
     pub added : HasAdded p q more
     pub segments : WhereTold state p (λ h. sealed_by more ≡ [])
 
-  -- Where the file had the messages before those of the draft, and the draft's rows are the encodings of these by the texts, it has both now,
-  -- and is whole and ended as the draft is marked.
+  -- Where the file had the messages before those of the draft, and the draft's rows are the encodings of these by the texts, it
+  -- has both now, and is whole and ended as the draft is marked.
   abbrev pub NowHas : (D → DiskState) → Draft → ℕ → List (List ℕ) → List (List ℕ) → KeeperPass D → KeeperPass D → Type 0
   NowHas state d version types words p q =
       (covered messages : List (List ℕ)) → d.first ≡ length covered → HasSoFar state p covered

@@ -93,8 +93,9 @@ module _ {S D : Type 0} (state : D → DiskState) where
     pub fits : GoWith w.plan (passes_of w) k
     pub new : IsNewJob j k
 
-  -- What became of a job that the worker did, which was `v` then: it is told by what its passes know of the books, and what they added meanwhile are texts of
-  -- messages that the job met.
-  pub record DidJob (left name : S → Option (List ℕ)) (faults : S → ℕ) (w : Worker) (j : Job S) (k : KeeperPass D) (v : Worker) (j' : Job S) (m : KeeperPass D) : Type 0 where
+  -- What became of a job that the worker did, which was `v` then: it is told by what its passes know of the books, and what they
+  -- added meanwhile are texts of messages that the job met.
+  pub record DidJob (left name : S → Option (List ℕ)) (faults : S → ℕ) (w : Worker) (j : Job S) (k : KeeperPass D) (v : Worker)
+      (j' : Job S) (m : KeeperPass D) : Type 0 where
     pub done : IsDone state left name faults w.plan.rows w.plan.version (books_in v) j k j' m
     pub names : NamesOnly w.plan.version (WasMetBy left w.plan.rows w.plan.version j j'.outcome) (passes_of w) (passes_of v)

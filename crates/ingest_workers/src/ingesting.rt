@@ -1,19 +1,18 @@
 //! All jobs, by workers.
-ghost use Rattle.std.specs.Prelude.{◌≡◌, ◌<◌, ◌≤◌, ℕ, is_some, IfOk, IfErr, IsOk, OnErr, length};
+ghost use Rattle.std.specs.Prelude.{◌≡◌, ◌≤◌, ℕ, IfOk, IfErr, IsOk, OnErr};
 ghost use Rattle.turn_lock.specs.Words.{id_of, lock_by};
-ghost use Rattle.dict_core.specs.declared.grows.TheConstants.{WORDS_FIRST as words_first};
+ghost use Rattle.ingest_fork.specs.declared.works.TheConstants.{MAX_WORKERS};
 ghost use Rattle.disk_journal.specs.Journal.{state_of};
-ghost use Rattle.archive_meaning.specs.Spelled.{types_of};
-ghost use Rattle.disk_seal.specs.WordsIn.{words_of};
 ghost use Rattle.disk_seal.specs.Opening.{MayOpen};
-ghost use Rattle.ingest_workers.specs.InTurn.{AreFullInTurn, WereFilled};
-ghost use Rattle.ingest_workers.specs.Ingested.{AreNew, AreRefused, HasBook, HasEndedBooks, HasIngested, HaveCauses, HaveCausesIn, HoldTexts, IsAsItWas, OpensBook, books_at, first_file, plan_of, told_entries};
+ghost use Rattle.ingest_workers.specs.InTurn.{AreFullInTurn};
+ghost use Rattle.ingest_workers.specs.Ingested.{AreNew, AreRefused, HasIngested, HaveCauses, HoldTexts, IsAsItWas, first_file, plan_of};
+ghost use Rattle.ingest_workers.specs.Ordered.{HoldsTypes, HoldsWords, MayBegin, NoneBegun, OpensTypes, OpensWords, WereDone, WereDoneOver};
 
-use crate::closing::{end, give_back};
-use crate::crew::enroll;
+use crate::close_store::{end, give_back};
 use crate::job::Job;
 use crate::locks::over_store;
 use crate::outcome::{Cause, Outcome};
+use crate::start_workers::enroll;
 use crate::worker::Plan;
 use dict_core::{Book, WORDS_FIRST};
 use dict_lock::SharedBook;
@@ -35,6 +34,8 @@ pub struct IngestRefused<'d, D: Disk> {
 /// How the jobs are to be done.
 #[derive(Clone, Copy)]
 struct Order {
+    /// What the locks and the workers are allocated with.
+    alloc: Global,
     /// How many workers there are.
     workers: usize,
     plan: Plan,
@@ -48,7 +49,6 @@ struct Order {
 /// The jobs are done over the journal, with workers that have a pass of each book.
 fn with_workers<'b, 'd, D: Disk + Send, S: Source + Send, R: Threads + Wait + Sync>(
     rt: &R,
-    alloc: Global,
     jobs: &mut [Job<S>],
     order: Order,
     journal: Journal<'d, D>,
@@ -57,43 +57,27 @@ fn with_workers<'b, 'd, D: Disk + Send, S: Source + Send, R: Threads + Wait + Sy
     words_lock: &'b SharedBook,
     words: &mut Maker<Book>,
 ) -> Result<Journal<'d, D>, Journal<'d, D>>
-    // how it is to be done
-    requires workers { (0 < order.workers) × (order.workers ≤ 64) }
-    requires rows { (1 ≤ order.plan.rows) × (order.plan.rows ≤ 65536) }
-    requires version { order.plan.version ≡ journal.header.version }
-
-    // the journal and the jobs
-    requires journal { MayOpen (state_of journal) }
-    requires jobs { AreNew order.first (state_of journal) jobs.old }
-    requires few { (order.first < 4294967296) × (length jobs.old ≤ 4294967296) }
+    requires begin { MayBegin order journal jobs.old }
 
     // the books
     requires types_lock { lock_by types.old ≡ id_of types_lock.now }
     requires words_lock { lock_by words.old ≡ id_of words_lock.now }
-    requires types { OpensBook 0 (is_some (state_of journal).disk.seen) journal.header.types_limit
-        (types_of (told_entries (state_of journal))) order.types_saved types.old }
-    requires words { OpensBook words_first (is_some (state_of journal).disk.seen)
-        journal.header.words_limit (words_of (told_entries (state_of journal)))
-        order.words_saved words.old }
+    requires types { OpensTypes order journal types.old }
+    requires words { OpensWords order journal words.old }
 
     // by the answer
-    ensures done { IfOk result (λ after. HasEndedBooks S.left order.plan jobs.old jobs.new
-        journal.entry after types.old types.new words.old words.new) }
-    ensures causes { IfOk result (λ after. HaveCausesIn (books_at types.new words.new) S.left S.name
-        S.faults order.plan journal.entry after jobs.old jobs.new) }
-    ensures in_turn { order.workers ≡ 1 → IsOk result
-        → WereFilled S.left order.plan types.new words.new jobs.old jobs.new }
-    ensures refused { IfErr result (λ after. IsAsItWas journal.entry after) }
-    ensures jobs { OnErr result (jobs.new ≡ jobs.old) }
+    ensures done { IfOk result (λ after. WereDoneOver S.left S.name S.faults order
+        types.old types.new words.old words.new journal.entry after jobs.old jobs.new) }
+    ensures refused { IfErr result (λ after. NoneBegun journal.entry after jobs.old jobs.new) }
 {
     let types_reader = types.pass(types_lock);
     let words_reader = words.pass(words_lock);
-    let Ok(mut workers) = Vec::with_capacity(alloc, order.workers) else {
+    let Ok(mut workers) = Vec::with_capacity(order.alloc, order.workers) else {
         return Err(journal);
     };
     enroll(
         &mut workers,
-        alloc,
+        order.alloc,
         order.plan,
         order.workers,
         types_lock,
@@ -108,56 +92,37 @@ fn with_workers<'b, 'd, D: Disk + Send, S: Source + Send, R: Threads + Wait + Sy
         order.types_saved,
         order.words_saved,
     );
-    match over_store(rt, alloc, &mut workers, jobs, store, u64::from(order.first)) {
+    let first = u64::from(order.first);
+    match over_store(rt, order.alloc, &mut workers, jobs, store, first) {
         Ok(store) => Ok(end(store, workers, types, words)),
         Err(store) => Err(give_back(store)),
     }
 }
 
-/// The jobs are done over the journal and the locks of the two books.
-fn over_locks<'d, D: Disk + Send, S: Source + Send, R: Threads + Wait + Sync>(
+/// The jobs are done over the journal and both books, each of which has a lock meanwhile.
+fn over_books<'d, D: Disk + Send, S: Source + Send, R: Threads + Wait + Sync>(
     rt: &R,
-    alloc: Global,
     jobs: &mut [Job<S>],
     order: Order,
     journal: Journal<'d, D>,
-    types_lock: SharedBook,
-    mut types: Maker<Book>,
-    words_lock: SharedBook,
-    mut words: Maker<Book>,
+    types: Book,
+    words: Book,
 ) -> Result<Journal<'d, D>, Journal<'d, D>>
-    // how it is to be done
-    requires workers { (0 < order.workers) × (order.workers ≤ 64) }
-    requires rows { (1 ≤ order.plan.rows) × (order.plan.rows ≤ 65536) }
-    requires version { order.plan.version ≡ journal.header.version }
-
-    // the journal and the jobs
-    requires journal { MayOpen (state_of journal) }
-    requires jobs { AreNew order.first (state_of journal) jobs.old }
-    requires few { (order.first < 4294967296) × (length jobs.old ≤ 4294967296) }
-
-    // the books
-    requires types_lock { lock_by types ≡ id_of types_lock }
-    requires words_lock { lock_by words ≡ id_of words_lock }
-    requires types { OpensBook 0 (is_some (state_of journal).disk.seen) journal.header.types_limit
-        (types_of (told_entries (state_of journal))) order.types_saved types }
-    requires words { OpensBook words_first (is_some (state_of journal).disk.seen)
-        journal.header.words_limit (words_of (told_entries (state_of journal)))
-        order.words_saved words }
-
-    // by the answer
-    ensures done { IfOk result (λ after. HasIngested S.left order.plan jobs.old jobs.new
-        journal.entry after) }
-    ensures causes { IfOk result (λ after. HaveCauses S.left S.name S.faults order.plan
+    requires begin { MayBegin order journal jobs.old }
+    requires types { HoldsTypes order journal types }
+    requires words { HoldsWords order journal words }
+    ensures done { IfOk result (λ after. WereDone S.left S.name S.faults order
         journal.entry after jobs.old jobs.new) }
-    ensures in_turn { order.workers ≡ 1 → IsOk result
-        → AreFullInTurn S.left order.plan journal.entry jobs.old jobs.new }
-    ensures refused { IfErr result (λ after. IsAsItWas journal.entry after) }
-    ensures jobs { OnErr result (jobs.new ≡ jobs.old) }
+    ensures refused { IfErr result (λ after. NoneBegun journal.entry after jobs.old jobs.new) }
 {
+    let Ok((types_lock, mut types)) = SharedBook::new(order.alloc, types, 0) else {
+        return Err(journal);
+    };
+    let Ok((words_lock, mut words)) = SharedBook::new(order.alloc, words, WORDS_FIRST) else {
+        return Err(journal);
+    };
     match with_workers(
         rt,
-        alloc,
         jobs,
         order,
         journal,
@@ -173,94 +138,6 @@ fn over_locks<'d, D: Disk + Send, S: Source + Send, R: Threads + Wait + Sync>(
             Ok(journal)
         }
         Err(journal) => Err(journal),
-    }
-}
-
-/// The same with the lock of the log types, over the book of the words.
-fn over_types<'d, D: Disk + Send, S: Source + Send, R: Threads + Wait + Sync>(
-    rt: &R,
-    alloc: Global,
-    jobs: &mut [Job<S>],
-    order: Order,
-    journal: Journal<'d, D>,
-    types_lock: SharedBook,
-    types: Maker<Book>,
-    words: Book,
-) -> Result<Journal<'d, D>, Journal<'d, D>>
-    // how it is to be done
-    requires workers { (0 < order.workers) × (order.workers ≤ 64) }
-    requires rows { (1 ≤ order.plan.rows) × (order.plan.rows ≤ 65536) }
-    requires version { order.plan.version ≡ journal.header.version }
-
-    // the journal and the jobs
-    requires journal { MayOpen (state_of journal) }
-    requires jobs { AreNew order.first (state_of journal) jobs.old }
-    requires few { (order.first < 4294967296) × (length jobs.old ≤ 4294967296) }
-
-    // the books
-    requires types_lock { lock_by types ≡ id_of types_lock }
-    requires types { OpensBook 0 (is_some (state_of journal).disk.seen) journal.header.types_limit
-        (types_of (told_entries (state_of journal))) order.types_saved types }
-    requires words { HasBook (is_some (state_of journal).disk.seen) journal.header.words_limit
-        (words_of (told_entries (state_of journal))) order.words_saved words }
-
-    // by the answer
-    ensures done { IfOk result (λ after. HasIngested S.left order.plan jobs.old jobs.new
-        journal.entry after) }
-    ensures causes { IfOk result (λ after. HaveCauses S.left S.name S.faults order.plan
-        journal.entry after jobs.old jobs.new) }
-    ensures in_turn { order.workers ≡ 1 → IsOk result
-        → AreFullInTurn S.left order.plan journal.entry jobs.old jobs.new }
-    ensures refused { IfErr result (λ after. IsAsItWas journal.entry after) }
-    ensures jobs { OnErr result (jobs.new ≡ jobs.old) }
-{
-    match SharedBook::new(alloc, words, WORDS_FIRST) {
-        Ok((words_lock, words)) => over_locks(
-            rt, alloc, jobs, order, journal, types_lock, types, words_lock, words,
-        ),
-        Err(_) => Err(journal),
-    }
-}
-
-/// The same over both books.
-fn over_books<'d, D: Disk + Send, S: Source + Send, R: Threads + Wait + Sync>(
-    rt: &R,
-    alloc: Global,
-    jobs: &mut [Job<S>],
-    order: Order,
-    journal: Journal<'d, D>,
-    types: Book,
-    words: Book,
-) -> Result<Journal<'d, D>, Journal<'d, D>>
-    // how it is to be done
-    requires workers { (0 < order.workers) × (order.workers ≤ 64) }
-    requires rows { (1 ≤ order.plan.rows) × (order.plan.rows ≤ 65536) }
-    requires version { order.plan.version ≡ journal.header.version }
-
-    // the journal and the jobs
-    requires journal { MayOpen (state_of journal) }
-    requires jobs { AreNew order.first (state_of journal) jobs.old }
-    requires few { (order.first < 4294967296) × (length jobs.old ≤ 4294967296) }
-
-    // the books
-    requires types { HasBook (is_some (state_of journal).disk.seen) journal.header.types_limit
-        (types_of (told_entries (state_of journal))) order.types_saved types }
-    requires words { HasBook (is_some (state_of journal).disk.seen) journal.header.words_limit
-        (words_of (told_entries (state_of journal))) order.words_saved words }
-
-    // by the answer
-    ensures done { IfOk result (λ after. HasIngested S.left order.plan jobs.old jobs.new
-        journal.entry after) }
-    ensures causes { IfOk result (λ after. HaveCauses S.left S.name S.faults order.plan
-        journal.entry after jobs.old jobs.new) }
-    ensures in_turn { order.workers ≡ 1 → IsOk result
-        → AreFullInTurn S.left order.plan journal.entry jobs.old jobs.new }
-    ensures refused { IfErr result (λ after. IsAsItWas journal.entry after) }
-    ensures jobs { OnErr result (jobs.new ≡ jobs.old) }
-{
-    match SharedBook::new(alloc, types, 0) {
-        Ok((lock, maker)) => over_types(rt, alloc, jobs, order, journal, lock, maker, words),
-        Err(_) => Err(journal),
     }
 }
 
@@ -287,9 +164,9 @@ fn first_of<S>(jobs: &[Job<S>]) -> u32
     }
 }
 
-/// Does all the jobs, by so many workers that run at once, each with a consecutive piece of the jobs.
-/// Each file is cut into segments of at most so many rows. The journal comes back on each way; its
-/// disk has what was sealed, durably.
+/// Does all the jobs, by so many workers that run at once, each with a consecutive piece of the
+/// jobs. Each file is cut into segments of at most so many rows. The journal comes back on each
+/// way; its disk has what was sealed, durably.
 ///
 /// # Errors
 ///
@@ -304,7 +181,7 @@ pub fn ingest<'d, D: Disk + Send, S: Source + Send, R: Threads + Wait + Sync>(
     types: Book,
     words: Book,
 ) -> Result<Journal<'d, D>, IngestRefused<'d, D>>
-    requires workers { (1 ≤ workers) × (workers ≤ 64) }
+    requires workers { (1 ≤ workers) × (workers ≤ MAX_WORKERS) }
     requires rows { (1 ≤ rows) × (rows ≤ 65536) }
     requires journal { MayOpen (state_of journal) }
     requires books { HoldTexts (state_of journal) types words }
@@ -319,6 +196,7 @@ pub fn ingest<'d, D: Disk + Send, S: Source + Send, R: Threads + Wait + Sync>(
     ensures jobs { OnErr result (AreRefused jobs.old jobs.new) }
 {
     let order = Order {
+        alloc,
         workers: (workers as usize).min(jobs.len()).max(1),
         plan: Plan {
             rows,
@@ -328,7 +206,7 @@ pub fn ingest<'d, D: Disk + Send, S: Source + Send, R: Threads + Wait + Sync>(
         types_saved: types.len(),
         words_saved: words.len(),
     };
-    match over_books(rt, alloc, jobs, order, journal, types, words) {
+    match over_books(rt, jobs, order, journal, types, words) {
         Ok(journal) => Ok(journal),
         Err(journal) => {
             refuse(jobs);

@@ -1,24 +1,23 @@
 //! Ingest: logs become the files of an archive.
 #![tactic(auto)]
 
-mod closing;
-mod crew;
-mod finish;
-mod hand;
+mod close_store;
+mod file_end;
+mod finish_file;
 mod ingesting;
 mod job;
+mod job_run;
 mod locks;
+mod messages;
 mod naming;
+mod open_segment;
 mod outcome;
-mod run;
 mod sealing;
-mod stop;
-mod take;
-mod taking;
-mod work;
+mod start_workers;
 mod worker;
+mod worker_jobs;
 
 pub use ingesting::{IngestRefused, ingest};
 pub use job::Job;
+pub use job_run::run_job;
 pub use outcome::{Cause, Outcome};
-pub use run::run_job;

@@ -1,6 +1,7 @@
 //! Jobs done under the keeper's lock.
 ghost use Rattle.std.specs.Prelude.{◌≡◌, ◌<◌, ◌≤◌, length, OnOk, OnErr, IfOk, IfErr};
 ghost use Rattle.turn_lock.specs.Words.{id_of, lock_by, made_by};
+ghost use Rattle.ingest_fork.specs.declared.works.TheConstants.{MAX_WORKERS};
 ghost use Rattle.ingest_fork.specs.Works.{AllReady};
 ghost use Rattle.ingest_workers.specs.Worker.{IsIdle};
 ghost use Rattle.ingest_workers.specs.Locked.{HasClosed, HasDoneAll, HasKept, HasWorked, IsStillStore, MayDoAll, MayDoAt};
@@ -25,7 +26,7 @@ fn under_lock<'k, 'b, 'd, D: Disk + Send, S: Source + Send, R: Threads + Wait + 
     lock: &'k Keeper<'d, 'b, D>,
     maker: &mut Maker<Store<'d, 'b, D>>,
 ) -> Result<(), AllocError>
-    requires workers { (0 < length workers.old.items) × (length workers.old.items ≤ 64) }
+    requires workers { (0 < length workers.old.items) × (length workers.old.items ≤ MAX_WORKERS) }
     requires idle { AllReady IsIdle workers.old.items }
     requires jobs { length jobs.old ≤ 4294967296 }
     requires lock { lock_by maker.old ≡ id_of lock.now }
@@ -43,32 +44,6 @@ fn under_lock<'k, 'b, 'd, D: Disk + Send, S: Source + Send, R: Threads + Wait + 
     Ok(())
 }
 
-/// The same, and the lock is closed.
-fn over_keeper<'b, 'd, D: Disk + Send, S: Source + Send, R: Threads + Wait + Sync>(
-    rt: &R,
-    alloc: Global,
-    workers: &mut Vec<Worker<'b>>,
-    jobs: &mut [Job<S>],
-    lock: Keeper<'d, 'b, D>,
-    mut maker: Maker<Store<'d, 'b, D>>,
-) -> Result<Store<'d, 'b, D>, Store<'d, 'b, D>>
-    requires workers { (0 < length workers.old.items) × (length workers.old.items ≤ 64) }
-    requires idle { AllReady IsIdle workers.old.items }
-    requires jobs { length jobs.old ≤ 4294967296 }
-    requires lock { lock_by maker ≡ id_of lock }
-    requires first { made_by maker ≡ 0 }
-    requires may { MayDoAll D.state maker workers.old.items jobs.old }
-    ensures done { IfOk result (λ store. HasClosed D.state S.left S.name S.faults maker.entry
-        workers.old.items workers.new.items jobs.old jobs.new store) }
-    ensures refused { IfErr result (λ store. HasKept D.state maker.entry store) }
-    ensures jobs { OnErr result (jobs.new ≡ jobs.old) }
-{
-    match under_lock(rt, alloc, workers, jobs, &lock, &mut maker) {
-        Ok(()) => Ok(lock.close(maker)),
-        Err(_) => Err(lock.close(maker)),
-    }
-}
-
 /// The workers do the jobs over the store, whose passes are numbered from the first job's file on.
 /// Refused for want of memory, before any job is begun.
 pub(crate) fn over_store<'b, 'd, D: Disk + Send, S: Source + Send, R: Threads + Wait + Sync>(
@@ -79,7 +54,7 @@ pub(crate) fn over_store<'b, 'd, D: Disk + Send, S: Source + Send, R: Threads + 
     store: Store<'d, 'b, D>,
     first: u64,
 ) -> Result<Store<'d, 'b, D>, Store<'d, 'b, D>>
-    requires workers { (0 < length workers.old.items) × (length workers.old.items ≤ 64) }
+    requires workers { (0 < length workers.old.items) × (length workers.old.items ≤ MAX_WORKERS) }
     requires idle { AllReady IsIdle workers.old.items }
     requires jobs { length jobs.old ≤ 4294967296 }
     requires first { first < 4294967296 }
@@ -90,7 +65,10 @@ pub(crate) fn over_store<'b, 'd, D: Disk + Send, S: Source + Send, R: Threads + 
     ensures jobs { OnErr result (jobs.new ≡ jobs.old) }
 {
     match Keeper::new(alloc, store, first) {
-        Ok((lock, maker)) => over_keeper(rt, alloc, workers, jobs, lock, maker),
+        Ok((lock, mut maker)) => match under_lock(rt, alloc, workers, jobs, &lock, &mut maker) {
+            Ok(()) => Ok(lock.close(maker)),
+            Err(_) => Err(lock.close(maker)),
+        },
         Err(refused) => {
             let LockRefused { value } = refused;
             Err(value)

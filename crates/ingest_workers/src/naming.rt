@@ -1,30 +1,25 @@
 //! A namer whose passes stay what they are.
-ghost use Rattle.std.specs.Prelude.{◌≡◌, ◌≤◌, ◌↔◌, ◌++◌, ◌∷◌, [], ℕ, All, List, None, Option, Some, length, IfErr, IfOk, IsErrOf, IsTrue, OnOk, slice_get};
+ghost use Rattle.std.specs.Prelude.{◌≡◌, ◌≤◌, ◌↔◌, ◌∷◌, [], ℕ, All, List, Option, Some, length, IfOk, IsErrOf, IsTrue, OnOk, slice_get};
 ghost use Rattle.std.specs.List.{Contains};
-ghost use Rattle.atomic_table.specs.Seated.{TableId};
 ghost use Rattle.logtype_text.specs.Encoded.{AreWithin, texts_at};
 ghost use Rattle.logtype_text.specs.Fair.{IsFairType, IsFairWord};
-ghost use Rattle.turn_lock.specs.declared.board.About.{About};
 ghost use Rattle.turn_lock.specs.Words.{about, lock_of, number_of, seen};
 ghost use Rattle.dict_lock.specs.Shared.{BookPass, GoesOn};
-ghost use Rattle.column_store.specs.declared.row.Row.{Row};
 ghost use Rattle.row_codec.specs.declared.TheConstants.{MAX_MESSAGE_LEN};
 ghost use Rattle.row_codec.specs.declared.namer.NameRefusal.TheVariants.{Full as name_full};
 ghost use Rattle.row_codec.specs.declared.namer.NameRefusal.{NameRefusal};
 ghost use Rattle.row_codec.specs.declared.namer.Which.{Which};
 ghost use Rattle.row_codec.specs.declared.namer.Which.TheVariants.{Types, Words};
-ghost use Rattle.row_codec.specs.Messages.{IsTypeOf, IsWordOf};
-ghost use Rattle.row_codec.specs.Naming.{AreNumbers, HasGrown, MeetsLimit, MetLimit, refusal_of};
+ghost use Rattle.row_codec.specs.Naming.{AreNumbers, HasGrown, MetLimit, refusal_of};
 ghost use Rattle.disk_seal.specs.Known.{known_of};
-ghost use Rattle.ingest_workers.specs.declared.outcome.Cause.TheVariants.{Full};
-ghost use Rattle.ingest_workers.specs.declared.stop.Stop.TheVariants.{Part};
-ghost use Rattle.ingest_workers.specs.Hand.{HasInHand, HasRoom, SameMarks, SameRows};
-ghost use Rattle.ingest_workers.specs.Keys.{no_table};
-ghost use Rattle.ingest_workers.specs.Stop.{IsNameStop};
+ghost use Rattle.ingest_workers.specs.Adding.{AddsMessage, BothStill, KnowsMore};
+ghost use Rattle.ingest_workers.specs.Full.{books_by};
+ghost use Rattle.ingest_workers.specs.OpenSegment.{HasRoom};
+ghost use Rattle.ingest_workers.specs.NamerKeys.{HasKey, PassKey, no_key};
 ghost use Rattle.ingest_workers.specs.Turns.{MayAsk, stop_in};
 
-use crate::hand::Hand;
-use crate::stop::Stop;
+use crate::file_end::FileEnd;
+use crate::open_segment::OpenSegment;
 use disk_seal::LockNamer;
 use logtype_text::Span;
 use plain_list::{NumberList, TextList};
@@ -134,54 +129,39 @@ impl<R: Wait, A: Ledger, B: Ledger, C: Ledger> PassNamer for LockNamer<'_, '_, R
     }
 }
 
-/// The borrow of a namer and what of its passes stays, for contracts alone.
-pub(crate) trait Keys {
+/// Which namer was lent and what of its passes stays, for contracts alone.
+pub(crate) trait NamerKeys {
     ghost name: { ℕ };
 
-    ghost types: { TableId };
+    ghost types: { PassKey };
 
-    ghost words: { TableId };
-
-    ghost types_number: { ℕ };
-
-    ghost words_number: { ℕ };
-
-    ghost types_about: { Option (About ℕ) };
-
-    ghost words_about: { Option (About ℕ) };
+    ghost words: { PassKey };
 }
 
-impl Keys for Brand {
+impl NamerKeys for Brand {
     ghost name = { 0 };
 
-    ghost types = { no_table };
+    ghost types = { no_key };
 
-    ghost words = { no_table };
-
-    ghost types_number = { 0 };
-
-    ghost words_number = { 0 };
-
-    ghost types_about = { None };
-
-    ghost words_about = { None };
+    ghost words = { no_key };
 }
 
-/// A namer that is lent, whose passes stay those of the keys.
+/// A namer that is lent, whose passes stay those of the keys: a call that is generic in its namer
+/// tells nothing of the passes behind it, and this type does.
 #[derive(Drop)]
-struct Kept<'n, N: PassNamer, K: Keys> {
+struct FixedNamer<'n, N: PassNamer, K: NamerKeys> {
     namer: &'n mut N,
     of: PhantomData<K>,
     ghost same: { namer.ghost_name ≡ K.name },
-    ghost types: { lock_of (N.types namer.now) ≡ K.types },
-    ghost words: { lock_of (N.words namer.now) ≡ K.words },
-    ghost types_number: { number_of (N.types namer.now) ≡ K.types_number },
-    ghost words_number: { number_of (N.words namer.now) ≡ K.words_number },
-    ghost types_about: { about (N.types namer.now) ≡ K.types_about },
-    ghost words_about: { about (N.words namer.now) ≡ K.words_about },
+    ghost types: { lock_of (N.types namer.now) ≡ K.types.lock },
+    ghost words: { lock_of (N.words namer.now) ≡ K.words.lock },
+    ghost types_number: { number_of (N.types namer.now) ≡ K.types.number },
+    ghost words_number: { number_of (N.words namer.now) ≡ K.words.number },
+    ghost types_about: { about (N.types namer.now) ≡ K.types.about },
+    ghost words_about: { about (N.words namer.now) ≡ K.words.about },
 }
 
-impl<N: PassNamer, K: Keys> Namer for Kept<'_, N, K> {
+impl<N: PassNamer, K: NamerKeys> Namer for FixedNamer<'_, N, K> {
     ghost use Rattle.disk_seal.specs.Known.{known_of};
 
     ghost types = { λ k. known_of (N.types k.namer.now) };
@@ -215,130 +195,92 @@ impl<N: PassNamer, K: Keys> Namer for Kept<'_, N, K> {
     }
 }
 
-/// A namer that is lent.
+/// A namer that is lent, and so given back as it was lent: a bare reference that goes through a
+/// function loses its name in contracts.
 #[derive(Drop)]
-struct Lent<'n, N> {
+struct LentNamer<'n, N> {
     namer: &'n mut N,
 }
 
-/// The namer, kept.
-fn keep<'n, N: PassNamer, K: Keys>(lent: Lent<'n, N>) -> Kept<'n, N, K>
+/// The namer, with its passes as they are.
+fn keep<'n, N: PassNamer, K: NamerKeys>(lent: LentNamer<'n, N>) -> FixedNamer<'n, N, K>
     requires name { lent.namer.ghost_name ≡ K.name }
-    requires types { lock_of (N.types lent.namer.now) ≡ K.types }
-    requires words { lock_of (N.words lent.namer.now) ≡ K.words }
-    requires types_number { number_of (N.types lent.namer.now) ≡ K.types_number }
-    requires words_number { number_of (N.words lent.namer.now) ≡ K.words_number }
-    requires types_about { about (N.types lent.namer.now) ≡ K.types_about }
-    requires words_about { about (N.words lent.namer.now) ≡ K.words_about }
+    requires types { HasKey K.types (N.types lent.namer.now) }
+    requires words { HasKey K.words (N.words lent.namer.now) }
     ensures name { result.namer.ghost_name ≡ lent.entry.namer.ghost_name }
     ensures now { result.namer.now ≡ lent.entry.namer.now }
 {
-    let Lent { namer } = lent;
-    Kept {
+    let LentNamer { namer } = lent;
+    FixedNamer {
         namer,
         of: PhantomData,
     }
 }
 
-/// The take of a hand with a namer that is lent at these keys.
-fn take_by<'n, N: PassNamer, K: Keys>(
-    hand: &mut Hand,
+/// Adds a message to the open segment by a namer that is lent at these keys.
+fn add_by_keys<'n, N: PassNamer, K: NamerKeys>(
+    segment: &mut OpenSegment,
     line: &[u8],
-    lent: Lent<'n, N>,
-) -> (Result<(), Stop>, Lent<'n, N>)
+    lent: LentNamer<'n, N>,
+) -> (Result<(), FileEnd>, LentNamer<'n, N>)
     requires name { lent.namer.ghost_name ≡ K.name }
-    requires types { lock_of (N.types lent.namer.now) ≡ K.types }
-    requires words { lock_of (N.words lent.namer.now) ≡ K.words }
-    requires types_number { number_of (N.types lent.namer.now) ≡ K.types_number }
-    requires words_number { number_of (N.words lent.namer.now) ≡ K.words_number }
-    requires types_about { about (N.types lent.namer.now) ≡ K.types_about }
-    requires words_about { about (N.words lent.namer.now) ≡ K.words_about }
+    requires keys { HasKey K.types (N.types lent.namer.now)
+        × HasKey K.words (N.words lent.namer.now) }
     requires short { length line.now ≤ MAX_MESSAGE_LEN }
-    requires room { HasRoom hand.old }
+    requires room { HasRoom segment.old }
 
-    // what stays, and what the namer has learned
+    // what stays of the namer, and what it has learned
     ensures back { result.1.namer.ghost_name ≡ lent.entry.namer.ghost_name }
-    ensures marks { SameMarks hand.old hand.new }
     ensures version { N.version result.1.namer.now ≡ N.version lent.entry.namer.now }
-    ensures locks { (lock_of (N.types result.1.namer.now) ≡ lock_of (N.types lent.entry.namer.now))
-        × (lock_of (N.words result.1.namer.now) ≡ lock_of (N.words lent.entry.namer.now)) }
-    ensures numbers { (number_of (N.types result.1.namer.now)
-        ≡ number_of (N.types lent.entry.namer.now))
-        × (number_of (N.words result.1.namer.now) ≡ number_of (N.words lent.entry.namer.now)) }
-    ensures abouts { (about (N.types result.1.namer.now) ≡ about (N.types lent.entry.namer.now))
-        × (about (N.words result.1.namer.now) ≡ about (N.words lent.entry.namer.now)) }
-    ensures types { HasGrown (IsTypeOf (N.version lent.entry.namer.now) line.now)
-        (known_of (N.types lent.entry.namer.now)) (known_of (N.types result.1.namer.now)) }
-    ensures words { HasGrown (IsWordOf (N.version lent.entry.namer.now) line.now)
-        (known_of (N.words lent.entry.namer.now)) (known_of (N.words result.1.namer.now)) }
+    ensures passes { BothStill (N.types lent.entry.namer.now) (N.types result.1.namer.now)
+        (N.words lent.entry.namer.now) (N.words result.1.namer.now) }
+    ensures known { KnowsMore (N.version lent.entry.namer.now) line.now
+        (books_by (N.types lent.entry.namer.now) (N.words lent.entry.namer.now))
+        (books_by (N.types result.1.namer.now) (N.words result.1.namer.now)) }
     ensures asked { MayAsk N.naming (N.version lent.entry.namer.now) line.now (stop_in result.0)
         lent.entry.namer.now result.1.namer.now }
 
-    // by the answer
-    ensures taken { (messages : List (List ℕ)) → HasInHand (N.version lent.entry.namer.now)
-        (seen (N.types lent.entry.namer.now))
-        (seen (N.words lent.entry.namer.now)) messages hand.old
-        → OnOk result.0
-        (HasInHand (N.version lent.entry.namer.now) (seen (N.types result.1.namer.now))
-        (seen (N.words result.1.namer.now)) (messages ++ line.now ∷ []) hand.new) }
-    ensures pushed { OnOk result.0 ((row : Row)
-        × (hand.new.draft.columns.rows ≡ hand.old.draft.columns.rows ++ row ∷ [])) }
-    ensures kept { (cause : _) → IsErrOf result.0 (Part cause) → SameRows hand.old hand.new }
-    ensures causes { IfErr result.0 IsNameStop }
-    ensures full { (book : _) (count : ℕ) → IsErrOf result.0 (Part (Full book count))
-        → MeetsLimit (N.version lent.entry.namer.now) line.now book count
-        (known_of (N.types result.1.namer.now))
-        (known_of (N.words lent.entry.namer.now)) (known_of (N.words result.1.namer.now)) }
+    // what came of the segment
+    ensures added { AddsMessage (N.version lent.entry.namer.now) line.now
+        (books_by (N.types lent.entry.namer.now) (N.words lent.entry.namer.now))
+        (books_by (N.types result.1.namer.now) (N.words result.1.namer.now))
+        segment.old segment.new result.0 }
 {
     let mut kept = keep::<N, K>(lent);
-    let answer = hand.take(line, &mut kept);
-    let Kept { namer, of: _ } = kept;
-    (answer, Lent { namer })
+    let answer = segment.add(line, &mut kept);
+    let FixedNamer { namer, of: _ } = kept;
+    (answer, LentNamer { namer })
 }
 
-/// Takes a message in hand by a worker's namer, whose passes stay what they are.
+/// Adds a message to the open segment by a worker's namer, whose passes stay what they are.
 ///
 /// # Errors
 ///
-/// Those of [`Hand::take`].
-pub(crate) fn take_message<N: PassNamer>(
-    hand: &mut Hand,
+/// Those of [`OpenSegment::add`].
+pub(crate) fn add_message<N: PassNamer>(
+    segment: &mut OpenSegment,
     line: &[u8],
     namer: &mut N,
-) -> Result<(), Stop>
+) -> Result<(), FileEnd>
     requires short { length line.now ≤ MAX_MESSAGE_LEN }
-    requires room { HasRoom hand.old }
+    requires room { HasRoom segment.old }
 
-    // what stays, and what the namer has learned
-    ensures marks { SameMarks hand.old hand.new }
+    // what stays of the namer, and what it has learned
     ensures version { N.version namer.new ≡ N.version namer.old }
-    ensures locks { (lock_of (N.types namer.new) ≡ lock_of (N.types namer.old))
-        × (lock_of (N.words namer.new) ≡ lock_of (N.words namer.old)) }
-    ensures numbers { (number_of (N.types namer.new) ≡ number_of (N.types namer.old))
-        × (number_of (N.words namer.new) ≡ number_of (N.words namer.old)) }
-    ensures abouts { (about (N.types namer.new) ≡ about (N.types namer.old))
-        × (about (N.words namer.new) ≡ about (N.words namer.old)) }
-    ensures types { HasGrown (IsTypeOf (N.version namer.old) line.now)
-        (known_of (N.types namer.old)) (known_of (N.types namer.new)) }
-    ensures words { HasGrown (IsWordOf (N.version namer.old) line.now)
-        (known_of (N.words namer.old)) (known_of (N.words namer.new)) }
+    ensures passes { BothStill (N.types namer.old) (N.types namer.new)
+        (N.words namer.old) (N.words namer.new) }
+    ensures known { KnowsMore (N.version namer.old) line.now
+        (books_by (N.types namer.old) (N.words namer.old))
+        (books_by (N.types namer.new) (N.words namer.new)) }
     ensures asked { MayAsk N.naming (N.version namer.old) line.now (stop_in result)
         namer.old namer.new }
 
-    // by the answer
-    ensures taken { (messages : List (List ℕ)) → HasInHand (N.version namer.old)
-        (seen (N.types namer.old)) (seen (N.words namer.old)) messages hand.old
-        → OnOk result (HasInHand (N.version namer.old) (seen (N.types namer.new))
-        (seen (N.words namer.new)) (messages ++ line.now ∷ []) hand.new) }
-    ensures pushed { OnOk result ((row : Row)
-        × (hand.new.draft.columns.rows ≡ hand.old.draft.columns.rows ++ row ∷ [])) }
-    ensures kept { (cause : _) → IsErrOf result (Part cause) → SameRows hand.old hand.new }
-    ensures causes { IfErr result IsNameStop }
-    ensures full { (book : _) (count : ℕ) → IsErrOf result (Part (Full book count))
-        → MeetsLimit (N.version namer.old) line.now book count (known_of (N.types namer.new))
-        (known_of (N.words namer.old)) (known_of (N.words namer.new)) }
+    // what came of the segment
+    ensures added { AddsMessage (N.version namer.old) line.now
+        (books_by (N.types namer.old) (N.words namer.old))
+        (books_by (N.types namer.new) (N.words namer.new)) segment.old segment.new result }
 {
-    let (answer, lent) = take_by::<N, Brand>(hand, line, Lent { namer });
-    let Lent { namer: _back } = lent;
+    let (answer, lent) = add_by_keys::<N, Brand>(segment, line, LentNamer { namer });
+    let LentNamer { namer: _back } = lent;
     answer
 }

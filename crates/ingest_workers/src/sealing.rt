@@ -1,18 +1,18 @@
 //! Sealing a draft.
 ghost use Rattle.std.specs.Prelude.{◌≡◌, ℕ, IfErr, OnOk, OnErr, IsErrOf};
-ghost use Rattle.turn_lock.specs.Words.{number_of, IsReady};
+ghost use Rattle.turn_lock.specs.Words.{number_of};
 ghost use Rattle.disk_seal.specs.Planned.{HasNumbers};
-ghost use Rattle.disk_seal.specs.Prepare.{HasSeenOpening, IsFaultOf, MayBeNext};
-ghost use Rattle.ingest_workers.specs.declared.outcome.Cause.TheVariants.{ArchiveFull, DiskFault as disk_fault};
+ghost use Rattle.disk_seal.specs.Prepare.{MayBeNext};
+ghost use Rattle.ingest_workers.specs.declared.outcome.Cause.TheVariants.{ArchiveFull};
 ghost use Rattle.ingest_workers.specs.Causes.{HasSealCause};
-ghost use Rattle.ingest_workers.specs.Namer.{HasNoRoom, HasOnlySeen, IsNamerOf, types_seen, words_seen};
+ghost use Rattle.ingest_workers.specs.Namer.{HasNoRoom, HasOnlySeen, types_seen, words_seen};
 ghost use Rattle.ingest_workers.specs.NoRoom.{HasNoRoomBy};
-ghost use Rattle.ingest_workers.specs.Hand.{SameMarks};
-ghost use Rattle.ingest_workers.specs.MaySeal.{HasNoRoomFor, IsEmptied, MaySeal};
+ghost use Rattle.ingest_workers.specs.OpenSegment.{SameMarks};
+ghost use Rattle.ingest_workers.specs.MaySeal.{HasNoRoomFor, IsEmptied, IsWorker, MaySeal};
 ghost use Rattle.ingest_workers.specs.Sealed.{HasNotSealed, HasSealed, NowHas};
 ghost use Rattle.ingest_workers.specs.Turns.{OneTurn};
 
-use crate::hand::Hand;
+use crate::open_segment::OpenSegment;
 use crate::outcome::Cause;
 use disk_seal::{DiskFault, Draft, LockNamer, Notes, PrepareRefusal, Store, prepare};
 use log_seams::Disk;
@@ -36,10 +36,7 @@ pub(crate) fn seal_draft<'d, 'b, D: Disk, R: Wait, A: Ledger, B: Ledger, C: Ledg
     namer: &mut LockNamer<'_, '_, R, A, B, C>,
     keeper: &mut Pass<'_, Store<'d, 'b, D>>,
 ) -> Result<(), Cause>
-    // the pass and the namer
-    requires ready { IsReady keeper.old }
-    requires opening { HasSeenOpening keeper.old }
-    requires namer { IsNamerOf keeper.old namer.old }
+    requires worker { IsWorker keeper.old namer.old }
 
     // the draft
     requires file { draft.now.file ≡ number_of keeper.old }
@@ -62,8 +59,6 @@ pub(crate) fn seal_draft<'d, 'b, D: Disk, R: Wait, A: Ledger, B: Ledger, C: Ledg
         keeper.old keeper.new) }
     ensures full { (end need : ℕ) → IsErrOf result (ArchiveFull end need)
         → HasNoRoom D.state draft.now end need keeper.old keeper.new namer.old namer.new }
-    ensures fault { (opened now : ℕ) → IsErrOf result (disk_fault opened now)
-        → IsFaultOf D.state (record { opened = opened; now = now }) keeper.old }
 {
     let Notes { types, words } = namer.notes();
     let turns = &mut namer.turns;
@@ -87,8 +82,8 @@ pub(crate) fn seal_draft<'d, 'b, D: Disk, R: Wait, A: Ledger, B: Ledger, C: Ledg
     }
 }
 
-impl Hand {
-    /// Seals the messages in hand as the next segment of their file.
+impl OpenSegment {
+    /// Seals it as the next segment of its file, and leaves it empty for the one behind it.
     ///
     /// # Errors
     ///
@@ -119,8 +114,6 @@ impl Hand {
             keeper.old keeper.new) }
         ensures full { (end need : ℕ) → IsErrOf result (ArchiveFull end need)
             → HasNoRoomFor D.state self.old end need keeper.old keeper.new namer.old namer.new }
-        ensures fault { (opened now : ℕ) → IsErrOf result (disk_fault opened now)
-            → IsFaultOf D.state (record { opened = opened; now = now }) keeper.old }
     {
         self.draft.columns.rows_fit();
         let _variables = self.draft.columns.variables();
