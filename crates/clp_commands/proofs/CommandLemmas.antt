@@ -1,5 +1,5 @@
 -- Words ask for one thing alone, so what that answers is what the program answers.
-use Rattle.std.proofs.Common.{◌≡◌, ◌≢◌, ◌≤◌, arith, refl, subst, inl, inr, ℕ, List, [], ◌∷◌, length, map, Option, Some, Result, Ok, Err}
+use Rattle.std.proofs.Common.{◌≡◌, ◌≢◌, ◌≤◌, arith, refl, subst, inl, inr, ℕ, List, [], ◌∷◌, length, map, Some, Result, Ok, Err}
 use Rattle.std.specs.Prelude.{IfErr}
 use Rattle.log_seams.specs.Disk.{DiskState}
 use Rattle.command_words.specs.Asked.{AreTaken, Asked, Asks, HaveGoodNumbers, IsAnswer, asked_by}

@@ -1,8 +1,8 @@
 -- A line that is too long, behind whole lines.
-use Rattle.std.proofs.Common.{◌≡◌, ◌≢◌, refl, sym, ◌∙◌, ap, subst, ℕ, ◌+◌, ◌<◌, ◌≤◌, List, [], ◌∷◌, ◌++◌, length, take, get_or, arith, Bool, true, false, Some}
+use Rattle.std.proofs.Common.{◌≡◌, refl, ◌∙◌, ap, subst, ℕ, ◌+◌, ◌<◌, ◌≤◌, List, [], ◌∷◌, ◌++◌, length, take, get_or, arith, Bool, true, false, Some}
 use Rattle.std.specs.Prelude.{slice_get}
-use Rattle.std.proofs.lemmas.List.{append-nil, append_assoc, length-append, length-take, get_or-take}
-use Rattle.std.proofs.Math.Seq.{take-append_seam, get_or-append_seam}
+use Rattle.std.proofs.lemmas.List.{append_assoc, length-append, length-take, get_or-take}
+use Rattle.std.proofs.Math.Seq.{get_or-append_seam}
 use Rattle.std.proofs.Math.Logic.{dite}
 use Rattle.std.proofs.Math.Decide.{dec_le}
 use Rattle.std.proofs.Math.Nat.{lt_of_not-le}

@@ -1,5 +1,5 @@
 //! Why a command was refused, and what each refusal ends the program with.
-ghost use Rattle.std.specs.Prelude.{◌≡◌, ◌≤◌, ◌++◌, List, [], ℕ};
+ghost use Rattle.std.specs.Prelude.{◌≡◌, ◌≤◌, ◌++◌, []};
 ghost use Rattle.std.specs.List.{flat_map};
 ghost use Rattle.command_refusals.specs.Refusal.{Says, file_line_of, file_status_of, full_at, line_of, status_of};
 

@@ -1,7 +1,7 @@
 -- The lines of files, one more at a time.
-use Rattle.std.proofs.Common.{◌≡◌, ◌+◌, ◌<◌, refl, sym, ap, ap₂, subst, ◌∙◌, ℕ, zero, suc, List, [], ◌∷◌, ◌++◌, Option, append_assoc, length, map, take, get_or, arith, Result, Ok, Err, OnErr, Some, None}
+use Rattle.std.proofs.Common.{◌≡◌, ◌+◌, ◌<◌, refl, sym, ap, subst, ◌∙◌, ℕ, zero, suc, List, [], ◌∷◌, ◌++◌, Option, append_assoc, length, map, take, get_or, arith, Result, Ok, Err, OnErr}
 use Rattle.std.proofs.lemmas.List.{append-nil}
-use Rattle.sink_pieces.specs.Output.{Gathers, Grew, GrewByFront, Moves}
+use Rattle.sink_pieces.specs.Output.{Gathers, GrewByFront, Moves}
 use Rattle.sink_pieces.proofs.OutputLemmas.{Gathers-front, Gathers-kept, Gathers-more, Gathers-moves}
 use Rattle.file_lines.specs.Directory.{FileLine, directory_from, directory_line}
 

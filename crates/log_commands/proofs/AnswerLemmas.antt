@@ -1,23 +1,22 @@
 -- What a call answers, from what it did.
-use Rattle.std.proofs.Common.{◌≡◌, ◌≢◌, refl, sym, ◌∙◌, ap, subst, ℕ, List, [], ◌∷◌, codes, Option, None, Some, OnOk, inl, inr, Result, Ok, Err, option_map}
+use Rattle.std.proofs.Common.{◌≡◌, ◌≢◌, refl, sym, ap, subst, ℕ, List, Option, None, Some, OnOk, Result, Ok, Err, option_map}
 use Rattle.wild_match.specs.Reading.{IsLoneBackslash, IsSearchPattern}
 use Rattle.wild_match.specs.declared.pattern.Item.{Item}
 use Rattle.wild_match.specs.declared.read.PatternRefusal.{PatternRefusal}
 use Rattle.wild_match.specs.declared.read.PatternRefusal.TheVariants.{BadPattern as ReadBadPattern, OutOfMemory as ReadOutOfMemory}
-use Rattle.wild_match.proofs.Spelling.{IsSearchPattern-unique, one-lone-backslash}
+use Rattle.wild_match.proofs.Spelling.{IsSearchPattern-unique}
 use Rattle.log_seams.specs.Outside.{CountsOf}
 use Rattle.command_refusals.specs.Outside.{Outside}
 use Rattle.command_refusals.specs.Outcome.{answer_of, of_log, of_pattern}
 use Rattle.command_refusals.specs.Refusal.{status_of, line_of}
 use Rattle.log_commands.specs.Scanned.{Finds}
 use Rattle.log_commands.specs.LogAnswers.{AnswersLog, HasCause}
-use Rattle.command_refusals.specs.Ending.{Refuses, RefusesPattern, IsPatternRefusal}
+use Rattle.command_refusals.specs.Ending.{IsPatternRefusal}
 use Rattle.command_refusals.specs.Ending.{NoneAdded, Stayed, EndsWith, RoseIn, TookNothing, SaysIn, exit_status, error_line}
 use Rattle.log_commands.specs.Printing.{Printed}
 use Rattle.command_refusals.specs.declared.outcome.LogRefusal.{LogRefusal}
 use Rattle.command_refusals.specs.declared.outcome.LogRefusal.TheVariants.{OpenFault, ReadFault, LineTooLong, TooManyLines, SinkFault, OutOfMemory as LogOutOfMemory}
 use Rattle.command_refusals.specs.declared.refusal.Refusal.{Refusal}
-use Rattle.command_refusals.specs.declared.refusal.Refusal.TheVariants.{BadPattern}
 use Rattle.log_commands.proofs.PrintedLemmas.{Printed-no_memory}
 
 -- the cause of an outcome

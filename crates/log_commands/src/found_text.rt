@@ -1,5 +1,5 @@
 //! How `scan` prints a message.
-ghost use Rattle.std.specs.Prelude.{◌≡◌, ◌++◌, ℕ, List, OnOk};
+ghost use Rattle.std.specs.Prelude.{◌≡◌, ◌++◌, OnOk};
 ghost use Rattle.log_commands.specs.Scanned.{Finds, found_line};
 
 use crate::message_text::MessageText;

@@ -1,5 +1,5 @@
 //! The commands `show` and `scan`.
-ghost use Rattle.std.specs.Prelude.{◌≡◌, ◌≤◌, ℕ, List, IfOk, IfErr};
+ghost use Rattle.std.specs.Prelude.{◌≡◌, ℕ, List, IfOk, IfErr};
 ghost use Rattle.wild_match.specs.Reading.{IsLoneBackslash, IsSearchPattern};
 ghost use Rattle.wild_match.specs.declared.pattern.Item.{Item};
 ghost use Rattle.command_refusals.specs.Outside.{around};

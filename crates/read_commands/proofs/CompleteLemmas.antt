@@ -1,5 +1,5 @@
 -- A command that reads an archive does what it is asked where nothing fails.
-use Rattle.std.proofs.Common.{◌≡◌, ◌⊎◌, ◌<◌, refl, sym, subst, false, Bool, inl, inr, arith, length, ℕ, List, [], Option, Some, Result, Ok, Err, option_map}
+use Rattle.std.proofs.Common.{◌≡◌, ◌⊎◌, ◌<◌, refl, sym, subst, false, Bool, inl, inr, arith, length, ℕ, List, [], Some, Result, Ok, Err, option_map}
 use Rattle.std.specs.Prelude.{IfSome, is_ok}
 use Rattle.log_seams.specs.Disk.{DiskState, KeepsBytes}
 use Rattle.log_seams.specs.Outside.{CountsOf}

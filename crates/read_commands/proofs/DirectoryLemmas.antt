@@ -1,12 +1,10 @@
 -- The directory of an archive.
-use Rattle.std.proofs.Common.{◌≡◌, ◌+◌, ◌<◌, refl, sym, ap, ap₂, subst, ◌∙◌, ℕ, zero, suc, List, [], ◌∷◌, ◌++◌, Option, append_assoc, length, map, take, get_or, arith, Result, Ok, Err, OnErr, Some, None}
-use Rattle.std.proofs.lemmas.List.{append-nil}
-use Rattle.sink_pieces.proofs.OutputLemmas.{Gathers-front, Gathers-kept, Gathers-more, Gathers-moves}
+use Rattle.std.proofs.Common.{◌≡◌, sym, subst, ℕ, List, Option, Result, Ok, Err, Some, None}
 use Rattle.archive_open.specs.Shown.{Opens, Shown}
-use Rattle.file_lines.specs.Directory.{FileLine, directory, directory_from, directory_line}
+use Rattle.file_lines.specs.Directory.{directory}
 use Rattle.read_commands.specs.Listing.{PrintsDirectory}
 use Rattle.command_refusals.specs.declared.outcome.ReadRefusal.{ReadRefusal}
-use Rattle.sink_pieces.specs.Output.{Gathers, Grew, GrewByFront, Moves}
+use Rattle.sink_pieces.specs.Output.{Grew, GrewByFront}
 
 pub directory_done : (bytes old new : Option (List ℕ)) (a : Shown) → Opens bytes a → Grew old new (directory a.files) → PrintsDirectory (Ok tt) bytes old new
 directory_done None old new a opened grew = tt

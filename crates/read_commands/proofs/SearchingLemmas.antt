@@ -1,6 +1,6 @@
 -- The command that searches an archive, from opening, searching and the line of the counts.
-use Rattle.std.proofs.Common.{◌≡◌, refl, sym, ap, ap₂, subst, ◌∙◌, ◌-◌, ℕ, ℤ, Bool, true, false, List, [], ◌++◌, Option, None, Some, Result, Ok, Err, append_assoc, append-nil, arith, option_map, All}
-use Rattle.std.specs.Prelude.{IfSome, if◌then◌else◌}
+use Rattle.std.proofs.Common.{◌≡◌, refl, sym, ap, ap₂, subst, ◌∙◌, ◌-◌, ℕ, Bool, true, false, List, [], ◌++◌, Option, None, Some, append_assoc, append-nil, option_map, All}
+use Rattle.std.specs.Prelude.{if◌then◌else◌}
 use Rattle.std.proofs.lemmas.List.Elements.{All-append, All-nil, All-weaker}
 use Rattle.std.proofs.lemmas.List.Sorted.{IsPermutation-refl}
 use Rattle.sink_pieces.specs.Output.{Grew, GrewByFront}
@@ -9,15 +9,11 @@ use Rattle.record_format.specs.declared.header.Header.{Header}
 use Rattle.archive_meaning.specs.declared.entry.JournalEntry.{JournalEntry}
 use Rattle.archive_meaning.specs.Held.{Held}
 use Rattle.archive_open.specs.declared.segments.SegmentPlace.{SegmentPlace}
-use Rattle.archive_open.specs.Shown.{HasLastGate, IsArchiveOf, Misses, Opens, ReadsAside, RefusedAt, Shown, Spares, StandsForNone, places_of}
-use Rattle.archive_open.proofs.OpenLemmas.{refused_at_last}
-use Rattle.search_engine.specs.declared.refusal.SearchRefusal.{SearchRefusal}
+use Rattle.archive_open.specs.Shown.{IsArchiveOf, Misses, Opens, ReadsAside, Shown, Spares, places_of}
 use Rattle.search_engine.specs.declared.report.Report.{Report}
 use Rattle.search_engine.specs.Scan.{Asked, lines_of}
 use Rattle.search_engine.specs.Searched.{HasSearched, HasStopped, MissesBarren, OfJournal, ReadsNoBarren}
 use Rattle.search_engine.proofs.SofarLemmas.{picks_once}
-use Rattle.command_refusals.specs.Outcome.{from_search}
-use Rattle.command_refusals.specs.declared.outcome.ReadRefusal.{ReadRefusal}
 use Rattle.read_commands.specs.Searching.{Found, PrintsFound, PrintsText, SparesBarren, found_counts, found_text, report_of}
 
 -- ---- what is printed

@@ -1,5 +1,5 @@
 -- What `search` prints: the messages of an archive that a pattern matches in a range, and with `--stats` the counts.
-use Rattle.std.specs.Prelude.{◌≡◌, ℕ, ℤ, List, [], ◌∷◌, ◌++◌, Bool, true, if◌then◌else◌, Option, Result, Ok, Err, codes, is_ok, length}
+use Rattle.std.specs.Prelude.{◌≡◌, ℕ, ℤ, List, [], ◌∷◌, ◌++◌, Bool, true, if◌then◌else◌, Option, Result, Err, codes, is_ok, length}
 use Rattle.std.specs.Fmt.{decimal}
 use Rattle.std.specs.List.Sorted.{IsPermutation}
 use Rattle.log_seams.specs.Disk.{DiskState}

@@ -1,10 +1,9 @@
 //! The command `check`: whether an archive is legal, and what it has.
-ghost use Rattle.std.specs.Prelude.{◌≡◌, ◌++◌, ℕ, IfOk, IfSome, IsErrOf};
+ghost use Rattle.std.specs.Prelude.{◌≡◌, ℕ, IfOk, IfSome, IsErrOf};
 ghost use Rattle.log_seams.specs.Disk.{KeepsBytes};
 ghost use Rattle.log_seams.specs.Outside.{CountsOf};
 ghost use Rattle.archive_check.specs.Checked.{DamagedAt};
 ghost use Rattle.read_commands.specs.Counted.{PrintsCounts, counts_line};
-ghost use Rattle.sink_pieces.specs.Output.{Grew, GrewByFront};
 
 use archive_check::Summary;
 use command_refusals::ReadRefusal;

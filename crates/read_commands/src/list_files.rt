@@ -1,5 +1,5 @@
 //! The command `files`: which files an archive has.
-ghost use Rattle.std.specs.Prelude.{◌≡◌, ◌++◌, ℕ, IsErrOf};
+ghost use Rattle.std.specs.Prelude.{ℕ, IsErrOf};
 ghost use Rattle.log_seams.specs.Disk.{KeepsBytes};
 ghost use Rattle.log_seams.specs.Outside.{CountsOf};
 ghost use Rattle.archive_open.specs.Shown.{RefusedAt};

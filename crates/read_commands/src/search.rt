@@ -1,5 +1,5 @@
 //! The command `search`: the messages of an archive that a pattern matches.
-ghost use Rattle.std.specs.Prelude.{◌≡◌, ◌≤◌, ◌++◌, ℕ, is_ok, IfOk, IsErrOf, OnErr, OnOk};
+ghost use Rattle.std.specs.Prelude.{◌≡◌, ◌≤◌, ℕ, is_ok, IfOk, IsErrOf, OnErr, OnOk};
 ghost use Rattle.log_seams.specs.Disk.{KeepsBytes};
 ghost use Rattle.log_seams.specs.Outside.{CountsOf};
 ghost use Rattle.sink_pieces.specs.Output.{Grew, GrewByFront};

@@ -224,7 +224,8 @@ impl Filter {
 
     /// Whether a row of a log type may match, whose words have these bits.
     fn may_be(&self, number: u32, bits: u8) -> bool
-        ensures { IsFalse result → IsShut (slice_index_or self.now.tests.items number unknown) bits }
+        ensures { IsFalse result
+            → IsShut (slice_index_or self.now.tests.items number unknown) bits }
     {
         let test = self.test_at(number);
         !is_rejected(test.verdict) && has(bits, test.needs)

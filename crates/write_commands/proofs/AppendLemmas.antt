@@ -30,7 +30,7 @@ use Rattle.disk_seal.specs.WordsIn.{words_of}
 use Rattle.disk_seal.proofs.NextLemmas.{gate_at}
 use Rattle.disk_seal.proofs.OpenLemmas.{journal_is, stood_opens}
 use Rattle.disk_seal.proofs.ToldLemmas.{told_both, told_map}
-use Rattle.ingest_workers.specs.Ingested.{HoldTexts, told_entries}
+use Rattle.ingest_workers.specs.Ingested.{told_entries}
 use Rattle.ingest_workers.specs.Journal.{Holds}
 use Rattle.write_commands.specs.Names.{RefusesMore, RefusesNames}
 use Rattle.write_commands.specs.Naming.{IsNamed}

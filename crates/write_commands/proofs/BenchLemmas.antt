@@ -1,5 +1,5 @@
 -- What `bench` tells of the logs, and what it leaves.
-use Rattle.std.proofs.Common.{◌≡◌, ◌⊎◌, ◌<◌, ◌≤◌, inl, inr, ⊎_elim, refl, sym, ap, ap₂, subst, ◌∙◌, ℕ, ◌+◌, List, [], ◌∷◌, ◌++◌, Option, None, Some, Result, Ok, Err, option_map, length, map, arith}
+use Rattle.std.proofs.Common.{◌≡◌, ◌⊎◌, ◌≤◌, inl, inr, ⊎_elim, refl, sym, ap, subst, ◌∙◌, ℕ, ◌+◌, List, [], ◌∷◌, Option, None, Some, Result, Err, option_map, map, arith}
 use Rattle.std.specs.Prelude.{IfSome, is_ok}
 use Rattle.std.specs.List.{All, flat_map, sum_by}
 use Rattle.std.proofs.lemmas.List.Elements.{All-cons, All-head, All-map, All-nil, All-tail}
@@ -9,7 +9,6 @@ use Rattle.log_seams.specs.Outside.{CountsOf, Rose}
 use Rattle.log_seams.proofs.MomentLemmas.{rose}
 use Rattle.record_format.specs.declared.header.Header.{Header}
 use Rattle.archive_meaning.specs.declared.entry.JournalEntry.{JournalEntry}
-use Rattle.archive_meaning.specs.Stands.{StandsFor}
 use Rattle.archive_open.specs.Shown.{RefusedAt}
 use Rattle.command_refusals.specs.Outside.{Outside}
 use Rattle.write_commands.specs.Benched.{AddsLogs, EndsLogs, IsSpared, IsTakenWhole, PrintsSummary, SumsUp, TellsParts, generated_names, segment_rows, with_logs}
@@ -24,7 +23,7 @@ use Rattle.command_refusals.specs.declared.outcome.AddRefusal.{AddRefusal}
 use Rattle.sink_pieces.specs.Output.{Grew}
 use Rattle.sink_pieces.proofs.OutputLemmas.{Grew-nothing}
 use Rattle.command_refusals.specs.Outcome.{answer_of, of_add, of_read}
-use Rattle.write_commands.specs.Taken.{error_of, file_error, file_status, gravest, status_of_taken}
+use Rattle.write_commands.specs.Taken.{error_of, gravest, status_of_taken}
 use Rattle.command_refusals.specs.declared.outcome.ReadRefusal.{ReadRefusal}
 use Rattle.command_refusals.specs.declared.outcome.ReadRefusal.TheVariants.{Damaged, DiskFault, SinkFault}
 use Rattle.write_commands.specs.declared.file_report.FileReport.{FileReport}

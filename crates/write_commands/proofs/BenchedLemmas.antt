@@ -1,5 +1,5 @@
 -- On an empty disk, where nothing fails and no limit is met, `bench` sums up all messages, or memory ends.
-use Rattle.std.proofs.Common.{◌≡◌, ◌⊎◌, inl, inr, ⊎_elim, refl, sym, ap, ap₂, subst, ◌∙◌, ℕ, ◌*◌, ◌<◌, ◌≤◌, ◌==◌, ◌||◌, Bool, true, false, if◌then◌else◌, List, [], ◌∷◌, ◌++◌, Option, None, Some, Result, Ok, Err, option_map, length, map, arith}
+use Rattle.std.proofs.Common.{◌≡◌, ◌⊎◌, inl, inr, ⊎_elim, refl, ap, ap₂, subst, ◌∙◌, ℕ, ◌*◌, ◌≤◌, ◌==◌, ◌||◌, Bool, true, false, if◌then◌else◌, List, [], ◌∷◌, ◌++◌, Option, None, Some, Result, Ok, Err, option_map, length, map, arith}
 use Rattle.std.specs.Prelude.{All, IfSome, is_ok, is_some}
 use Rattle.std.specs.List.{sum_by}
 use Rattle.std.proofs.lemmas.List.Elements.{All-cons, All-head, All-nil, All-tail}
@@ -15,7 +15,7 @@ use Rattle.disk_journal.specs.declared.refusals.CreateRefusal.{CreateRefusal}
 use Rattle.disk_journal.specs.declared.refusals.CreateRefusal.TheVariants.{DiskFault as CreateDiskFault, NotEmpty as CreateNotEmpty}
 use Rattle.generated_logs.specs.Logs.{content_of as generated}
 use Rattle.command_refusals.specs.Outside.{Outside}
-use Rattle.write_commands.specs.Benched.{AnswersBench, EndsBench, FromEmpty, HasLogsCause, IsSpared, IsTakenWhole, MayRefuseLog, MeetsNoLimit, MetNoLimit, PrintsSummary, RefusesLogs, RefusesMaking, SumsUp, SumsUpAll, TakesLogs, TellsParts, TellsSummary, as_made, at_moment, default_header, generated_names, with_logs, segment_rows}
+use Rattle.write_commands.specs.Benched.{AnswersBench, EndsBench, HasLogsCause, IsSpared, IsTakenWhole, MayRefuseLog, MeetsNoLimit, MetNoLimit, PrintsSummary, RefusesMaking, SumsUp, SumsUpAll, TakesLogs, TellsParts, TellsSummary, as_made, at_moment, default_header, generated_names, with_logs, segment_rows}
 use Rattle.command_refusals.specs.Ending.{EndsWith, RoseIn}
 use Rattle.write_commands.specs.Ingested.{FileOutcome, CameOfFile, HasFileCause, StandsForEither, TakesIn}
 use Rattle.command_refusals.specs.Outcome.{answer_of, of_add, of_read}

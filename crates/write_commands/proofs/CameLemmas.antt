@@ -1,5 +1,5 @@
 -- What `ingest` answers, from what it printed of the files that were taken in.
-use Rattle.std.proofs.Common.{◌≡◌, refl, sym, ap, ap₂, subst, ◌∙◌, inl, inr, ℕ, List, [], ◌∷◌, ◌++◌, length, map, Some}
+use Rattle.std.proofs.Common.{◌≡◌, refl, ap, subst, ◌∙◌, inl, inr, ℕ, List, [], ◌∷◌, ◌++◌, length, map}
 use Rattle.std.specs.Prelude.{is_some}
 use Rattle.std.specs.List.{flat_map}
 use Rattle.log_seams.specs.Disk.{DiskState}
@@ -7,7 +7,7 @@ use Rattle.logtype_text.specs.Laws.{OneListOfParts}
 use Rattle.sink_pieces.specs.Output.{Grew, GrewByFront}
 use Rattle.command_refusals.specs.Outside.{Outside}
 use Rattle.file_lines.specs.Directory.{FileLine, directory_from}
-use Rattle.command_refusals.specs.Ending.{EndsWith, RoseIn, SaysIn, Stayed, TookNothing}
+use Rattle.command_refusals.specs.Ending.{RoseIn, SaysIn, Stayed, TookNothing}
 use Rattle.write_commands.specs.Ingested.{EndsIngest, FileOutcome, FromArchive, HasCallCause, PrintsCame, TakesIn, TakesNothing, line_of_came}
 use Rattle.write_commands.specs.IngestPrints.{came_of, names_of}
 use Rattle.write_commands.specs.StepsCauses.{HaveFileCauses, logs_of}

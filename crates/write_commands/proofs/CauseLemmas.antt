@@ -9,7 +9,6 @@ use Rattle.disk_journal.specs.Calls.{HasNoHeader}
 use Rattle.disk_journal.specs.State.{JournalState}
 use Rattle.disk_journal.specs.declared.refusals.StartRefusal.{StartRefusal}
 use Rattle.archive_meaning.specs.declared.entry.JournalEntry.{JournalEntry}
-use Rattle.archive_meaning.specs.Held.{Held}
 use Rattle.archive_meaning.specs.Spelled.{end_of}
 use Rattle.archive_meaning.specs.Stands.{StandsFor}
 use Rattle.archive_check.specs.Checked.{DamagedAt}

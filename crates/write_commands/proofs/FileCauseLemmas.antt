@@ -13,7 +13,6 @@ use Rattle.log_seams.proofs.MomentLemmas.{rose}
 use Rattle.log_sources.specs.declared.source.LogSource.{LogSource}
 use Rattle.log_sources.specs.declared.source.LogSource.TheVariants.{Opened, Unopened}
 use Rattle.log_sources.specs.Sources.{CameOf, IsCounted, IsOpened, faults_in, is_opened, left_in, name_in, no_name, refusal_of}
-use Rattle.record_format.specs.declared.header.Header.{Header}
 use Rattle.disk_journal.specs.declared.journal.Journal.{Journal}
 use Rattle.disk_journal.specs.Journal.{state_of}
 use Rattle.archive_meaning.specs.declared.entry.JournalEntry.{JournalEntry}

@@ -1,9 +1,8 @@
 -- What was taken in fits in the dictionaries.
-use Rattle.std.proofs.Common.{◌≡◌, ◌+◌, ◌++◌, ◌∷◌, [], ◌≤◌, ◌==◌, ⊎_elim, inl, inr, refl, sym, ap, ap₂, ◌∙◌, subst, ℕ, zero, suc, Bool, true, false, if◌then◌else◌, List, length, map, take, drop, Option, Some, None, get_or, append-nil, arith}
+use Rattle.std.proofs.Common.{◌≡◌, ◌+◌, ◌++◌, ◌∷◌, [], ◌≤◌, ◌==◌, ⊎_elim, inl, inr, refl, sym, ap, ap₂, ◌∙◌, subst, ℕ, zero, suc, Bool, true, false, if◌then◌else◌, List, length, map, take, Option, Some, None, get_or, append-nil, arith}
 use Rattle.std.specs.Prelude.{All, IfSome, is_some, nat_eq, slice_get}
 use Rattle.std.specs.List.{AllZip, Contains, IsDistinct}
 use Rattle.std.specs.Cmp.Lexicographic.{bytes_decides, nat_list_eq_equiv, pointwise}
-use Rattle.std.proofs.lemmas.List.{drop_at}
 use Rattle.std.proofs.lemmas.List.Elements.{All-append, All-cons, All-contains, All-nil, All-weaker, Contains-append_left, Contains-append_right, recursion_from_All}
 use Rattle.std.proofs.lemmas.Map.Made.{length-le_from_is_member}
 use Rattle.std.proofs.lemmas.Map.Views.{Contains-from_any, list_any-from_Contains}
@@ -12,11 +11,10 @@ use Rattle.std.proofs.Math.Seq.{take-append_seam}
 use mathlib.Core.List.{IsPrefix}
 use Rattle.log_seams.specs.Disk.{DiskState}
 use Rattle.logtype_text.specs.Laws.{OneListOfParts}
-use Rattle.logtype_text.specs.Parts.{Part, Constant, Variable, AreParts, joined, symbol_of}
+use Rattle.logtype_text.specs.Parts.{Part, Constant, Variable, symbol_of}
 use Rattle.logtype_text.specs.TypeText.{type_text}
 use Rattle.logtype_text.specs.Encoded.{word_texts}
 use Rattle.logtype_text.specs.declared.symbols.Kind.TheVariants.{Whole, Word, Decimal}
-use Rattle.time_patterns.proofs.VersionLemmas.{one_stamp_of}
 use Rattle.record_format.specs.declared.header.Header.{Header}
 use Rattle.record_format.specs.Header.{IsHeader}
 use Rattle.column_store.specs.declared.row.Row.{Row}
@@ -24,7 +22,7 @@ use Rattle.row_codec.proofs.OneCutLemmas.{one_cut}
 use Rattle.row_codec.specs.declared.namer.Which.{Which}
 use Rattle.row_codec.specs.declared.namer.Which.TheVariants.{Types as WhichTypes, Words as WhichWords}
 use Rattle.row_codec.specs.Means.{AreCanonical, EachWord, HasWord, IsCanonical}
-use Rattle.row_codec.specs.Messages.{IsCutInto, IsTypeOf, IsWordOf}
+use Rattle.row_codec.specs.Messages.{IsTypeOf, IsWordOf}
 use Rattle.plain_list.specs.Texts.{AreDistinct}
 use Rattle.message_reader.specs.Versions.{MessagesOf}
 use Rattle.disk_journal.specs.declared.record.TheConstants.{CLOSED_GATE}

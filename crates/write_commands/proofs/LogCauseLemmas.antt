@@ -1,5 +1,5 @@
 -- Why generated logs are not whole, and how many messages they have.
-use Rattle.std.proofs.Common.{◌≡◌, inl, inr, refl, sym, ap, subst, ◌∙◌, ℕ, ◌*◌, ◌+◌, ◌<◌, ◌≤◌, Bool, true, List, [], ◌∷◌, ◌++◌, Option, None, Some, length, map, length-append, arith}
+use Rattle.std.proofs.Common.{◌≡◌, inl, inr, refl, sym, ap, subst, ◌∙◌, ℕ, ◌*◌, ◌+◌, ◌<◌, ◌≤◌, Bool, true, List, [], ◌∷◌, Option, None, Some, length, map, length-append, arith}
 use Rattle.std.specs.Prelude.{All, IfSome, option_map, slice_get}
 use Rattle.std.specs.List.{AllZip, flat_map, sum_by}
 use Rattle.std.proofs.lemmas.List.{length-map}
@@ -11,11 +11,9 @@ use Rattle.log_messages.specs.Groups.{Group, lines_of, text_of}
 use Rattle.log_messages.proofs.LawLemmas.{messages_agree as lines_agree}
 use Rattle.message_reader.specs.Versions.{MessagesOf}
 use Rattle.message_reader.proofs.VersionLawLemmas.{lines_in_version_one, messages_agree, messages_exist}
-use Rattle.generated_logs.specs.Laws.{HasLines}
 use Rattle.generated_logs.specs.Logs.{content_of as generated, log_named, log_of, name_of}
 use Rattle.generated_logs.specs.States.{GeneratedState, faults_of_log, open_faults_of}
 use Rattle.generated_logs.proofs.LineLemmas.{logs_have_lines}
-use Rattle.record_format.specs.declared.header.Header.{Header}
 use Rattle.archive_meaning.specs.Held.{File}
 use Rattle.disk_seal.proofs.ToldLemmas.{told_map}
 use Rattle.write_commands.specs.Benched.{IsSpared, IsTakenWhole, MayRefuseLog, generated_names}

@@ -1,6 +1,6 @@
 -- Which name is too long, one more at a time.
 use Rattle.std.proofs.Common.{◌≡◌, ◌+◌, ◌<◌, ◌≤◌, sym, ap, subst, ◌∙◌, refl, ℕ, suc, List, [], ◌∷◌, ◌++◌, map, take, drop, get_or, length, arith}
-use Rattle.std.specs.Prelude.{All, Option, None, Some}
+use Rattle.std.specs.Prelude.{All, None, Some}
 use Rattle.std.proofs.Math.Seq.{drop-cons}
 use Rattle.std.proofs.Math.ListN.{get_or-map}
 use Rattle.std.proofs.lemmas.List.{length-map, length-take, take-append-drop, take_all}

@@ -1,14 +1,13 @@
 -- The summary of an archive.
-use Rattle.std.proofs.Common.{◌≡◌, ◌⊎◌, inl, inr, refl, sym, ap, subst, ◌∙◌, ℕ, List, Bool, true, false, Option, None, Some}
+use Rattle.std.proofs.Common.{◌≡◌, inl, inr, refl, sym, ap, subst, ◌∙◌, ℕ, List, Bool, true, false, Option, None, Some}
 use Rattle.std.proofs.lemmas.List.Sorted.{length_permutation}
 use Rattle.sink_pieces.specs.Output.{Grew, GrewByFront}
 use Rattle.wild_match.specs.Reading.{IsSearchPattern}
 use Rattle.wild_match.specs.declared.pattern.Item.{Item}
-use Rattle.archive_meaning.specs.Held.{content_of}
-use Rattle.archive_open.specs.Shown.{IsArchiveOf, Opens, Shown, places_of}
+use Rattle.archive_open.specs.Shown.{Opens, Shown, places_of}
 use Rattle.search_engine.specs.declared.report.Report.{Report}
 use Rattle.search_engine.specs.Searched.{HasSearched, OfJournal, asked}
-use Rattle.write_commands.specs.Benched.{AreCounted, PrintsSummary, TellsSummary, sought, summary}
+use Rattle.write_commands.specs.Benched.{AreCounted, PrintsSummary, sought, summary}
 
 -- ---- what a search has found
 

@@ -1,12 +1,12 @@
 -- From the logs that were opened, and their jobs, to what came of the files.
-use Rattle.std.proofs.Common.{◌≡◌, ◌+◌, ◌<◌, ◌⊎◌, inl, inr, refl, sym, ap, subst, ◌∙◌, ℕ, zero, suc, List, [], ◌∷◌, ◌++◌, true, false, length, map, Option, Some, None, arith}
+use Rattle.std.proofs.Common.{◌≡◌, ◌+◌, ◌<◌, inl, inr, refl, sym, ap, subst, ◌∙◌, ℕ, zero, suc, List, [], ◌∷◌, ◌++◌, true, false, length, map, Option, Some, None}
 use Rattle.std.specs.Prelude.{All, Bool, is_some, option_map, slice_get}
 use Rattle.std.specs.List.{AllZip}
 use Rattle.std.proofs.lemmas.List.Elements.{All-map, All-nil, All-weaker}
 use Rattle.std.proofs.lemmas.Option.{get_or_from_slice_get, slice_get-map, slice_get_within}
 use Rattle.log_seams.specs.declared.disk.Disk.{Ghosts as DiskGhosts}
 use Rattle.log_seams.specs.declared.refusals.OpenRefused.{OpenRefused}
-use Rattle.log_seams.specs.declared.refusals.OpenRefused.TheVariants.{Failed, OutOfMemory}
+use Rattle.log_seams.specs.declared.refusals.OpenRefused.TheVariants.{OutOfMemory}
 use Rattle.log_seams.specs.Disk.{IsLawful}
 use Rattle.record_format.specs.Header.{IsHeader, header_bytes}
 use Rattle.record_format.specs.declared.header.Header.{Header}
@@ -20,17 +20,17 @@ use Rattle.archive_meaning.specs.declared.entry.JournalEntry.TheVariants.{Files}
 use Rattle.archive_meaning.specs.Spelled.{records_of}
 use Rattle.archive_meaning.specs.Stands.{IsLegal, StandsFor}
 use Rattle.disk_seal.specs.Opening.{MayOpen}
-use Rattle.disk_seal.specs.Told.{IfTold, journal_in}
+use Rattle.disk_seal.specs.Told.{journal_in}
 use Rattle.log_sources.specs.declared.source.LogSource.{LogSource}
 use Rattle.log_sources.specs.declared.source.LogSource.TheVariants.{Opened, Unopened}
 use Rattle.log_sources.specs.Sources.{CameOf, faults_in, is_opened, left_in, name_in, refusal_of}
 use Rattle.ingest_workers.specs.declared.job.Job.{Job}
 use Rattle.ingest_workers.specs.declared.outcome.Cause.{Cause}
-use Rattle.ingest_workers.specs.Ingested.{AreRefused, HasIngested, IsAsItWas, plan_of, told_entries}
+use Rattle.ingest_workers.specs.Ingested.{AreRefused, HasIngested, IsAsItWas, plan_of}
 use Rattle.ingest_workers.specs.JobDone.{in_source}
 use Rattle.write_commands.specs.IngestPrints.{came_of, names_of}
 use Rattle.write_commands.specs.Ingested.{FileOutcome, IsOfNew}
-use Rattle.write_commands.specs.Jobs.{DidJobs, IsNotBegun, IsToldBy, of_cause, opens_of, refusal_by, sources_of}
+use Rattle.write_commands.specs.Jobs.{DidJobs, IsNotBegun, IsToldBy, opens_of, refusal_by, sources_of}
 use Rattle.write_commands.specs.JournalLeft.{HasNames, IsLogOf, TakesInto}
 use Rattle.write_commands.specs.Naming.{AreNumbered}
 use Rattle.command_refusals.specs.declared.outcome.PartCause.{PartCause}

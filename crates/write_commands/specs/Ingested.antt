@@ -14,7 +14,6 @@ use Rattle.archive_meaning.specs.Held.{File, content_of}
 use Rattle.archive_meaning.specs.Stands.{StandsFor}
 use Rattle.archive_meaning.specs.Spelled.{end_of}
 use Rattle.archive_check.specs.Checked.{DamagedAt}
-use Rattle.archive_open.specs.Shown.{RefusedAt}
 use Rattle.disk_seal.specs.Registered.{files_size}
 use Rattle.row_codec.specs.declared.namer.Which.{Which}
 use Rattle.ingest_workers.specs.Causes.{limit_of}

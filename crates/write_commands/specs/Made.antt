@@ -1,5 +1,5 @@
 -- What `create` answers.
-use Rattle.std.specs.Prelude.{◌≡◌, ℕ, [], option_map, Result}
+use Rattle.std.specs.Prelude.{ℕ, [], option_map, Result}
 use Rattle.log_seams.specs.Disk.{DiskState}
 use Rattle.record_format.specs.declared.header.Header.{Header}
 use Rattle.disk_journal.specs.Created.{CreateLeaves}

@@ -1,5 +1,5 @@
 -- When an ingest may begin over an archive in which new files have their names.
-use Rattle.std.specs.Prelude.{◌≡◌, ◌+◌, ◌<◌, ◌≤◌, ℕ, List, [], ◌∷◌, false, is_some, length}
+use Rattle.std.specs.Prelude.{◌≡◌, ◌+◌, ◌<◌, ◌≤◌, ℕ, List, [], ◌∷◌, false, is_some}
 use Rattle.log_seams.specs.declared.disk.Disk.{Ghosts as DiskGhosts}
 use Rattle.disk_journal.specs.declared.journal.Journal.{Journal}
 use Rattle.command_refusals.specs.GoesOn.{DiskGoesOn}

@@ -1,5 +1,5 @@
 //! What came of the files that were to be taken into an archive.
-ghost use Rattle.std.specs.Prelude.{◌≡◌, ◌≤◌, ℕ};
+ghost use Rattle.std.specs.Prelude.{◌≡◌, ◌≤◌};
 ghost use Rattle.std.specs.List.{flat_map};
 ghost use Rattle.command_refusals.specs.Refusal.{Says};
 ghost use Rattle.write_commands.specs.Taken.{error_of, file_status, graver, line_of_taken, status_of_taken};

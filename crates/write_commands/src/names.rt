@@ -1,5 +1,5 @@
 //! Which names of files are refused.
-ghost use Rattle.std.specs.Prelude.{◌≡◌, map};
+ghost use Rattle.std.specs.Prelude.{map};
 ghost use Rattle.log_sources.specs.Sources.{str_bytes};
 ghost use Rattle.write_commands.specs.Names.{RefusesMore, RefusesNames};
 

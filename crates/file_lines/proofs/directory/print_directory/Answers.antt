@@ -1,4 +1,4 @@
-use Rattle.std.proofs.Common.{◌∙◌, rules}
+use Rattle.std.proofs.Common.{◌∙◌}
 use Rattle.file_lines.proofs.DirectoryLemmas.{directory_kept, directory_step, directory_stopped, directory_unsent, on_err}
 use Rattle.file_lines.proofs.directory.print_directory.Goals as goal
 

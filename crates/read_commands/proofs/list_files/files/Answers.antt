@@ -1,4 +1,3 @@
-use Rattle.std.proofs.Common.{rules, subst, sym}
 use Rattle.std.proofs.lemmas.Result.{err_from_is_err_and}
 use Rattle.read_commands.proofs.DirectoryLemmas.{directory_done, directory_failed}
 use Rattle.read_commands.proofs.list_files.files.Goals as goal

@@ -1,4 +1,4 @@
-use Rattle.std.proofs.Common.{◌∙◌, ap, ap₂, refl, subst, sym, List, Some, map, ◌≡◌, ℕ}
+use Rattle.std.proofs.Common.{◌∙◌, ap, ap₂, refl, subst, sym, List, Some, map, ◌≡◌}
 use Rattle.log_sources.specs.Sources.{str_bytes}
 use Rattle.generated_logs.specs.Logs.{content_of}
 use Rattle.generated_logs.specs.States.{open_faults_of}

@@ -1,4 +1,4 @@
-use Rattle.std.proofs.Common.{arith, length, map, subst, sym, ◌≡◌, ◌∙◌}
+use Rattle.std.proofs.Common.{arith, map, subst, sym, ◌∙◌}
 use Rattle.std.specs.Prelude.{IfErr}
 use Rattle.std.proofs.lemmas.Result.{err_from_is_err_and}
 use Rattle.disk_journal.specs.Journal.{state_of}

@@ -1,4 +1,4 @@
-use Rattle.std.proofs.Common.{arith, ap, refl, Some, ◌∙◌, ◌∷◌, []}
+use Rattle.std.proofs.Common.{arith, ap, Some, ◌∙◌, ◌∷◌, []}
 use Rattle.std.proofs.lemmas.List.{map-append}
 use Rattle.log_sources.specs.Sources.{is_opened, refusal_of}
 use Rattle.write_commands.specs.Jobs.{opens_of, sources_of}

@@ -1,6 +1,5 @@
-use Rattle.std.proofs.Common.{arith, ap, refl, rules, sym, suc, ℕ, List, [], ◌≡◌, ◌<◌, ◌∙◌, ◌∷◌, None, Some, drop, get_or, length, map, reverse}
+use Rattle.std.proofs.Common.{arith, ap, refl, sym, ℕ, List, [], ◌<◌, ◌∙◌, ◌∷◌, None, Some, get_or, length, map}
 use Rattle.std.proofs.lemmas.List.{map-append}
-use Rattle.std.specs.Prelude.{slice_get}
 use Rattle.std.specs.Borrow.{Bor}
 use Rattle.std.proofs.lemmas.List.{get_or_default}
 use Rattle.ingest_workers.specs.declared.outcome.Outcome.{Outcome}

@@ -1,4 +1,4 @@
-use Rattle.std.proofs.Common.{refl, sym, ap, ◌∙◌, ◌≡◌, arith, rules, length, map, MutBor}
+use Rattle.std.proofs.Common.{sym, ap, ◌∙◌, arith, length, map, MutBor}
 use Rattle.std.proofs.lemmas.List.{length-map}
 use Rattle.std.proofs.lemmas.Result.{err_from_is_err_and}
 use Rattle.archive_open.specs.Kept.{Kept}

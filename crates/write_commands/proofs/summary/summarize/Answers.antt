@@ -1,4 +1,4 @@
-use Rattle.std.proofs.Common.{◌∙◌, ap, subst}
+use Rattle.std.proofs.Common.{◌∙◌, ap}
 use Rattle.std.specs.Prelude.{is_ok}
 use Rattle.std.proofs.lemmas.Result.{err_from_is_err_and}
 use Rattle.write_commands.proofs.SummaryLemmas.{printed_all, printed_front, printed_none}
