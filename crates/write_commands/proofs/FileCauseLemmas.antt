@@ -112,7 +112,7 @@ module _ {S : Type 0} (left name : S → Option (List ℕ)) (faults : S → ℕ)
 
     -- the cause of a job
     job_cause : (file : ℕ) (log : Log) (sealed : List (List ℕ)) (o : Option Cause) → HasJobCause (grounds_over full has_texts (plan_of rows j) file log.bytes j after) log j.header.version sealed o
-        → ((end need : ℕ) → HadNoRoomOver has_texts (plan_of rows j) file log.bytes j after (EndsLog full log j.header.version) sealed end need → CauseIn (Some (PartCause.ArchiveFull end need))) → is_some o ≡ not c.whole → c.messages ≡ length sealed → log.bytes ≡ logs.content c.name
+        → ((end need : ℕ) → HadNoRoomOver has_texts (plan_of rows j) file log.bytes j after (EndsLog (full log.bytes) log j.header.version) sealed end need → CauseIn (Some (PartCause.ArchiveFull end need))) → is_some o ≡ not c.whole → c.messages ≡ length sealed → log.bytes ≡ logs.content c.name
         → (Rose log.faults log.faults_now → Rose (logs.reads c.name).0 (logs.reads c.name).1) → CauseIn (option_map of_cause o)
     job_cause file log sealed None has fits whole count bytes up = not_false c.whole whole
       where
@@ -152,7 +152,7 @@ module _ {S : Type 0} (left name : S → Option (List ℕ)) (faults : S → ℕ)
         let either : is_some done.outcome.cause ≡ not c.whole = opened as_opened ∙ ap not (sym whole) in
         came_in logs into (d.state j.disk.now) (d.state after.disk.now) c (option_map of_cause done.outcome.cause) refusal
         (job_cause old.file (log_of (left_in left) (faults_in faults) its.source.before its.source.after) its.sealed done.outcome.cause its.cause
-        (fits (left_in left its.source.before) (ap (left_in left) is ∙ came.left_is) (EndsLog full (log_of (left_in left) (faults_in faults) its.source.before its.source.after) j.header.version) its.sealed (messages ∙ its.count)) either (messages ∙ its.count) (ap (left_in left) is ∙ came.left_is)
+        (fits (left_in left its.source.before) (ap (left_in left) is ∙ came.left_is) (EndsLog (full (left_in left its.source.before)) (log_of (left_in left) (faults_in faults) its.source.before its.source.after) j.header.version) its.sealed (messages ∙ its.count)) either (messages ∙ its.count) (ap (left_in left) is ∙ came.left_is)
         (λ up. reads_rose c.name s its.source.after came (its.source.keeps.named ∙ ap (name_in name) is) (counted its.source.after its.source.has) (subst (λ n. Rose n (faults_in faults its.source.after)) (ap (faults_in faults) is) up)))
         (not_whole done.outcome.cause c.whole either)
       where
