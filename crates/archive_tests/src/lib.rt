@@ -12,8 +12,6 @@ mod archive_open_tests;
 #[cfg(test)]
 mod disk_seal_tests;
 #[cfg(test)]
-mod ingest_limits_tests;
-#[cfg(test)]
 mod ingest_workers_fault_tests;
 #[cfg(test)]
 mod ingest_workers_tests;
