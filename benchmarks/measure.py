@@ -16,6 +16,7 @@ import statistics
 import subprocess
 import sys
 import time
+from typing import NamedTuple
 
 RARE, COMMON, WILD = "quorum-lost", "heartbeat", "Task*SECONDS"
 
@@ -32,6 +33,16 @@ def peak_of(pid):
         return 0
 
 
+class Run(NamedTuple):
+    """One run of a command: seconds by the clock, those of the processor, the peak of memory in KiB, lines, status."""
+
+    seconds: float
+    processor: float
+    peak: int
+    lines: int
+    status: int
+
+
 def spent():
     """The processor seconds of all commands so far that have ended."""
     usage = resource.getrusage(resource.RUSAGE_CHILDREN)
@@ -39,8 +50,8 @@ def spent():
 
 
 def run(words):
-    """Seconds, peak memory in KiB, lines of output, and the exit status."""
-    start = time.perf_counter()
+    """Runs a command with its output read and thrown away."""
+    start, before = time.perf_counter(), spent()
     with subprocess.Popen(words, stdout=subprocess.PIPE, stderr=subprocess.DEVNULL, env=dict(os.environ, LC_ALL="C")) as child:
         out = child.stdout.fileno()
         peak, lines, looked = 0, 0, 0.0
@@ -55,7 +66,25 @@ def run(words):
                     break
                 lines += part.count(b"\n")
         status = child.wait()
-    return time.perf_counter() - start, peak, lines, status
+    return Run(time.perf_counter() - start, spent() - before, peak, lines, status)
+
+
+def middle_of(runs):
+    """The medians of seconds by the clock and of the processor."""
+    return statistics.median(it.seconds for it in runs), statistics.median(it.processor for it in runs)
+
+
+HEAD = "| what | command | seconds | processor | MB/s | ratio | by processor | peak MiB | lines out |\n" + "| --- " * 9 + "|"
+
+
+def row(what, name, runs, beside, size):
+    """A row of the table: a command beside the measure of its group."""
+    seconds, processor = middle_of(runs)
+    peak, first = max(it.peak for it in runs) / 1024, runs[0]
+    note = "" if first.status in (0, 1) else f" (status {first.status})"
+    ratios = beside[0] / seconds, beside[1] / max(processor, 0.001)
+    return "| %s | %s%s | %.3f | %.3f | %.0f | %.2f | %.2f | %.1f | %d |" % (
+        what, name, note, seconds, processor, size / seconds / 1e6, *ratios, peak, first.lines)
 
 
 def single(path, form):
@@ -90,28 +119,23 @@ def main():
     with open(path, "rb") as log:  # so that the first command does not pay for the disk
         while log.read(1 << 22):
             pass
-    print("| what | command | seconds | MB/s | ratio | peak MiB | lines out |")
-    print("| --- | --- | --- | --- | --- | --- | --- |")
+    print(HEAD)
     failed = False
     for what, commands in groups(clpa, path):
         runs = {name: [] for name, _ in commands}
         for _ in range(rounds):
             for name, words in commands:
                 runs[name].append(run(words))
-        middle = {name: statistics.median(r[0] for r in all_runs) for name, all_runs in runs.items()}
-        beside = middle[commands[1][0]]
+        beside = middle_of(runs[commands[1][0]])
         for name, _ in commands:
-            _, _, lines, status = runs[name][0]
-            peak = max(r[1] for r in runs[name]) / 1024
-            note = "" if status == 0 or (status == 1 and name != "clpa scan") else f" (status {status})"
-            failed = failed or bool(note)
-            print("| %s | %s%s | %.3f | %.0f | %.2f | %.1f | %d |" % (what, name, note, middle[name], size / middle[name] / 1e6, beside / middle[name], peak, lines))
-        counts = {runs[name][0][2] for name, _ in commands}
+            failed = failed or runs[name][0].status not in ((0,) if name == "clpa scan" else (0, 1))
+            print(row(what, name, runs[name], beside, size))
+        counts = {runs[name][0].lines for name, _ in commands}
         if what != "show" and len(counts) > 1:
             failed = True
             print(f"| {what} | the commands found different lines: {sorted(counts)} | | | | | |")
     print()
-    print("ratio: the speed beside `cat` or `grep` on the same file in the same run; above 1 is faster")
+    print("ratio: the speed beside `cat` or `grep` on the same file in the same run, by the clock and by the processor; above 1 is faster")
     sys.exit(1 if failed else 0)
 
 

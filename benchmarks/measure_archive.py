@@ -9,11 +9,10 @@ import filecmp
 import os
 import re
 import shutil
-import statistics
 import subprocess
 import sys
 
-from measure import run, single
+from measure import HEAD, middle_of, row, run, single
 
 # Of each shape of log: a word in few lines of each segment, a part of a word, a common word, a wildcard,
 # and what a word looks like that stands in one line.
@@ -78,15 +77,11 @@ def table(what, commands, rounds, size, before=None):
             if before:
                 before(name)
             runs[name].append(run(words))
-    middle = {name: statistics.median(r[0] for r in all_runs) for name, all_runs in runs.items()}
-    beside, failed = middle[commands[1][0]], False
+    beside, failed = middle_of(runs[commands[1][0]]), False
     for name, _ in commands:
-        _, _, lines, status = runs[name][0]
-        failed = failed or status not in (0, 1)
-        peak = max(r[1] for r in runs[name]) / 1024
-        note = "" if status in (0, 1) else f" (status {status})"
-        print("| %s | %s%s | %.3f | %.0f | %.2f | %.1f | %d |" % (what, name, note, middle[name], size / middle[name] / 1e6, beside / middle[name], peak, lines))
-    return failed, {name: runs[name][0][2] for name, _ in commands}
+        failed = failed or runs[name][0].status not in (0, 1)
+        print(row(what, name, runs[name], beside, size), flush=True)
+    return failed, {name: runs[name][0].lines for name, _ in commands}
 
 
 def main():
@@ -95,8 +90,7 @@ def main():
     rare, part, common, wild, form = TEXTS[sys.argv[4] if len(sys.argv) > 4 else "service"]
     files = quarters(path)
     one, four, short, packed = f"{path}.one.clp", f"{path}.four.clp", f"{path}.short.clp", f"{path}.zst"
-    print("| what | command | seconds | MB/s | ratio | peak MiB | lines out |")
-    print("| --- | --- | --- | --- | --- | --- | --- |")
+    print(HEAD)
 
     def anew(name):
         if name.startswith("clpa ingest"):
@@ -126,6 +120,7 @@ def main():
         sought[:0] = [
             ("word in one segment", one, single(path, form), "-aFc"),
             (WHOLE, one, whole, "-aFc"),
+            (f"word in one segment of {SHORT:,} messages", short, single(path, form), "-aFc"),
             (f"{WHOLE} of {SHORT:,} messages", short, whole, "-aFc"),
         ]
     for name, archive, text, beside in sought:
@@ -152,7 +147,7 @@ def main():
         print(f"\n`files` reads {opened} bytes: {opened / 1e9:.3f} s at 1 GB/s")
     print()
     print(f"archive: {os.path.getsize(one)} bytes of {size}, {os.path.getsize(one) / size:.2f}; zstd -3: {os.path.getsize(packed) / size:.2f}")
-    print("ratio: the speed beside the second command of the group in the same run; above 1 is faster")
+    print("ratio: the speed beside the second command of the group in the same run, by the clock and by the processor; above 1 is faster")
     sys.exit(1 if failed else 0)
 
 

@@ -5,11 +5,10 @@ Each command runs on both logs, and on the archives made of them, in turns. The 
 shown for each size, the growth between them, and the most memory at the larger one.
 """
 import os
-import statistics
 import subprocess
 import sys
 
-from measure import run, single
+from measure import middle_of, run, single
 from measure_archive import MINUTE, SHORT, TEXTS, WHOLE, closed, in_segments, made, quarters
 
 
@@ -33,6 +32,7 @@ def commands(clpa, shape, path):
         in_segments(clpa, short, SHORT, path)
         found.append(("clpa search, word in one segment", nothing, [clpa, one, "search", single(path, form)]))
         found.append((f"clpa search, {WHOLE}", nothing, [clpa, one, "search", whole]))
+        found.append((f"clpa search, word in one segment of {SHORT:,} messages", nothing, [clpa, short, "search", single(path, form)]))
         found.append((f"clpa search, {WHOLE} of {SHORT:,} messages", nothing, [clpa, short, "search", whole]))
     for name, text in (("rare word", rare), ("part of a word", part), ("common word", common), ("wildcard", wild)):
         found.append((f"clpa search, {name}", nothing, [clpa, one, "search", text]))
@@ -47,20 +47,20 @@ def main():
     rounds, clpa, shape = int(sys.argv[1]), sys.argv[2], sys.argv[3]
     paths = sys.argv[4:6]
     sizes = [os.path.getsize(it) for it in paths]
-    print(f"| command | {sizes[0] / 1e6:.0f} MB, s | {sizes[1] / 1e6:.0f} MB, s | growth | MB/s | peak MiB |")
-    print("| --- | --- | --- | --- | --- | --- |")
+    print(f"| command | {sizes[0] / 1e6:.0f} MB, s | processor | {sizes[1] / 1e6:.0f} MB, s | processor | growth | MB/s | peak MiB |")
+    print("| --- " * 8 + "|")
     for small, large in zip(*(commands(clpa, shape, it) for it in paths)):
         times, peak = ([], []), 0
         for _ in range(rounds):
             for place, (_, before, words) in enumerate((small, large)):
                 before()
-                seconds, most, _, status = run(words)
-                if status not in (0, 1):
-                    sys.exit(f"{words} ended with {status}")
-                times[place].append(seconds)
-                peak = max(peak, most)
-        middle = [statistics.median(it) for it in times]
-        print("| %s | %.3f | %.3f | %.1f | %.0f | %.1f |" % (small[0], *middle, middle[1] / middle[0], sizes[1] / middle[1] / 1e6, peak / 1024), flush=True)
+                it = run(words)
+                if it.status not in (0, 1):
+                    sys.exit(f"{words} ended with {it.status}")
+                times[place].append(it)
+                peak = max(peak, it.peak)
+        (short, few), (long, many) = (middle_of(it) for it in times)
+        print("| %s | %.3f | %.3f | %.3f | %.3f | %.1f | %.0f | %.1f |" % (small[0], short, few, long, many, long / short, sizes[1] / long / 1e6, peak / 1024), flush=True)
     print()
     for path in paths:
         one, packed = os.path.getsize(f"{path}.one.clp"), os.path.getsize(f"{path}.zst")

@@ -12,7 +12,7 @@ import struct
 import subprocess
 import sys
 
-from measure import run, spent
+from measure import run
 from measure_archive import SHORT, TEXTS, closed, in_segments
 
 KINDS = {1: "names", 2: "types", 3: "words", 4: "segments"}
@@ -35,12 +35,10 @@ def records(path):
 
 def cost(words):
     """Processor seconds, and peak memory in MiB."""
-    before = spent()
-    _, peak, _, status = run(words)
-    after = spent()
-    if status != 0:
-        sys.exit(f"{words} ended with {status}")
-    return after - before, peak / 1024
+    it = run(words)
+    if it.status != 0:
+        sys.exit(f"{words} ended with {it.status}")
+    return it.processor, it.peak / 1024
 
 
 def least(rounds, words, before=lambda: None):
