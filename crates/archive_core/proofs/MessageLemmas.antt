@@ -1,8 +1,8 @@
--- Whether a later line of a message has a stamp, line by line.
+-- Whether a later line of a message has a stamp.
 use Rattle.std.proofs.Common.{◌≡◌, ◌≢◌, ◌⊎◌, inl, inr, ℕ, zero, suc, ◌<◌, ◌≤◌, List, [], ◌∷◌, ◌++◌, refl, sym, ◌∙◌, ap, subst, arith}
 use Rattle.std.specs.Prelude.{Bool, true, false, not, IfSome, IfNone, IsTrue, Option, Some, None, is_some, nat_le, ◌↔◌, if◌then◌else◌}
 use Rattle.std.proofs.lemmas.Bool.{le-leb, leb-true}
-use Rattle.std.proofs.lemmas.List.{append-nil, append_assoc}
+use Rattle.std.proofs.lemmas.List.{append_assoc}
 use Rattle.std.proofs.lemmas.List.Elements.{All-head, All-tail}
 use Rattle.log_messages.specs.Messages.{IsLine}
 use Rattle.row_codec.specs.Messages.{EndsLine, HasLaterStamp}
@@ -71,53 +71,6 @@ behind_later version front rest later = record {
   stamped = later.stamped;
 }
 
-empty_later : (version : ℕ) → HasLaterStamp version [] → ⊥
-empty_later version later = none_later version [] (λ k d lt. absurd (omega (arith, lt))) later
-
--- a line at the front changes nothing
-pub drop_line : (version : ℕ) (line back : List ℕ) → IsLine line → EndsLine back → HasLaterStamp version (line ++ back) → HasLaterStamp version back
-drop_line version line [] is ends later = absurd (none_later version line is (subst (λ l. HasLaterStamp version l) (append-nil line) later))
-drop_line version line (b ∷ back) is ends later =
-    let cut : line ++ (10 ∷ back) ≡ later.front ++ (10 ∷ (later.line ++ later.back)) = ap (λ c. line ++ (c ∷ back)) (sym ends) ∙ later.cut in
-    elim (first_newline line later.front back (later.line ++ later.back) is cut) as (λ z. HasLaterStamp version (b ∷ back)) [
-      | inl here ↦ record {
-        front = [];
-        line = later.line;
-        back = later.back;
-        cut = ap (λ c. c ∷ back) ends ∙ ap (λ l. 10 ∷ l) here.1;
-        is_line = later.is_line;
-        ends = later.ends;
-        stamped = later.stamped;
-      }
-      | inr past ↦ record {
-        front = 10 ∷ past.0;
-        line = later.line;
-        back = later.back;
-        cut = ap (λ c. c ∷ back) ends ∙ ap (λ l. 10 ∷ l) past.1.1;
-        is_line = later.is_line;
-        ends = later.ends;
-        stamped = later.stamped;
-      }
-    ]
-
-pub add_line : (version : ℕ) (line back : List ℕ) → HasLaterStamp version back → HasLaterStamp version (line ++ back)
-add_line version line back later = record {
-  front = line ++ later.front;
-  line = later.line;
-  back = later.back;
-  cut = ap (λ l. line ++ l) later.cut ∙ sym (append_assoc line later.front (10 ∷ (later.line ++ later.back)));
-  is_line = later.is_line;
-  ends = later.ends;
-  stamped = later.stamped;
-}
-
--- behind a line without a stamp
-pub past_line : (version : ℕ) (line back : List ℕ) → IsLine line → EndsLine back → (IsStamped version line → ⊥) → HasLaterStamp version (10 ∷ (line ++ back)) → HasLaterStamp version back
-past_line version line back is ends plain later = elim (later_next version [] line back (λ k d lt. absurd (omega (arith, lt))) is ends later) as (λ z. HasLaterStamp version back) [
-  | inl stamped ↦ absurd (plain stamped)
-  | inr behind ↦ drop_line version line back is ends behind
-]
-
 -- ---- stamps of versions that are alike
 
 zero_pattern : (b : Bool) → (if b then 11 else 1) ≤ 0 → ⊥
@@ -137,39 +90,6 @@ stamp_tells version other line None answer same is some none = (
 stamp_tells version other line (Some s) answer same is some none = (
   λ yes. stamped_alike other version line (same.1, same.0) (s.pattern, s.moment, s.len, some),
   λ stamped. cc (is),
-)
-
--- ---- the loop along the lines
-
--- behind a newline stands a line with a stamp
-pub later_here : (version : ℕ) (rest after line behind : List ℕ) (b : ℕ) → rest ≡ b ∷ after → EndsLine rest → after ≡ line ++ behind → IsLine line → EndsLine behind
-    → IsStamped version line → HasLaterStamp version rest
-later_here version [] after line behind b is ends cut is_line ends_behind stamped = absurd (cc (is))
-later_here version (c ∷ rest) after line behind b is ends cut is_line ends_behind stamped =
-    let newline : c ≡ 10 = ends in
-    let same : rest ≡ line ++ behind = cc (is, cut) in
-    subst (λ l. HasLaterStamp version l) (ap (λ d. d ∷ (line ++ behind)) (sym newline) ∙ ap (λ l. c ∷ l) (sym same)) (next_later version [] line behind is_line ends_behind stamped)
-
--- or one without, and what is behind it decides
-pub later_behind : (version : ℕ) (rest after line behind : List ℕ) (b : ℕ) → rest ≡ b ∷ after → EndsLine rest → after ≡ line ++ behind → IsLine line → EndsLine behind
-    → (IsStamped version line → ⊥) → HasLaterStamp version rest ↔ HasLaterStamp version behind
-later_behind version [] after line behind b is ends cut is_line ends_behind plain = absurd (cc (is))
-later_behind version (c ∷ rest) after line behind b is ends cut is_line ends_behind plain =
-    let newline : c ≡ 10 = ends in
-    let same : rest ≡ line ++ behind = cc (is, cut) in
-    let both : 10 ∷ (line ++ behind) ≡ c ∷ rest = ap (λ d. d ∷ (line ++ behind)) (sym newline) ∙ ap (λ l. c ∷ l) (sym same) in (
-      λ later. past_line version line behind is_line ends_behind plain (subst (λ l. HasLaterStamp version l) (sym both) later),
-      λ later. subst (λ l. HasLaterStamp version l) both (behind_later version [] (line ++ behind) (add_line version line behind later)),
-    )
-
-pub nothing_later : (version : ℕ) (rest : List ℕ) → rest ≡ [] → HasLaterStamp version rest → ⊥
-nothing_later version rest is later = empty_later version (subst (λ l. HasLaterStamp version l) is later)
-
--- whether the bytes are a message is whether the first line's later ones have a stamp
-pub first_line : (version : ℕ) (message line back : List ℕ) → message ≡ line ++ back → IsLine line → EndsLine back → HasLaterStamp version message ↔ HasLaterStamp version back
-first_line version message line back cut is ends = (
-  λ later. drop_line version line back is ends (subst (λ l. HasLaterStamp version l) cut later),
-  λ later. subst (λ l. HasLaterStamp version l) (sym cut) (add_line version line back later),
 )
 
 pub not_both : (b : Bool) → IsTrue b → IsTrue (not b) → ⊥

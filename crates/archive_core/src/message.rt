@@ -1,10 +1,10 @@
 //! Whether bytes are a message.
-ghost use Rattle.std.specs.Prelude.{◌≡◌, ℕ, ◌<◌, ◌≤◌, ◌↔◌, ◌++◌, IsTrue, length};
+ghost use Rattle.std.specs.Prelude.{ℕ, ◌<◌, ◌≤◌, ◌↔◌, IsTrue};
 ghost use Rattle.log_messages.specs.Messages.{IsLine};
-ghost use Rattle.row_codec.specs.Messages.{EndsLine, HasLaterStamp, IsGroup, IsMessage};
+ghost use Rattle.row_codec.specs.Messages.{HasLaterStamp, IsGroup, IsMessage};
 ghost use Rattle.time_patterns.specs.Stamps.{IsStamped};
 
-use memchr::memchr;
+use bstr::ByteSlice;
 use row_codec::MAX_MESSAGE_LEN;
 use time_patterns::{read_micro, read_stamp};
 
@@ -21,28 +21,17 @@ fn has_stamp(micro: bool, line: &[u8]) -> bool
     }
 }
 
-// The bytes up to the first newline, and what follows from there on.
-#[inline]
-fn split_line(bytes: &[u8]) -> (&[u8], &[u8])
-    ensures parts { bytes.now ≡ result.0.now ++ result.1.now }
-    ensures line { IsLine result.0.now }
-    ensures ends { EndsLine result.1.now }
-{
-    bytes.split_at(memchr(b'\n', bytes).unwrap_or(bytes.len()))
-}
-
 // Whether a line behind a newline of the message has a stamp.
 fn has_later_stamp(micro: bool, message: &[u8]) -> bool
     ensures { (version : ℕ) → (IsTrue micro ↔ (3 ≤ version))
         → (IsTrue result ↔ HasLaterStamp version message.now) }
 {
-    let (_, mut rest) = split_line(message);
-    while let Some((_, after)) = rest.split_first() {
-        let (line, behind) = split_line(after);
+    let mut lines = message.split_str(b"\n");
+    let _first = lines.next();
+    for line in lines {
         if has_stamp(micro, line) {
             return true;
         }
-        rest = behind;
     }
     false
 }
@@ -51,7 +40,7 @@ fn has_later_stamp(micro: bool, message: &[u8]) -> bool
 fn is_line(bytes: &[u8]) -> bool
     ensures { IsTrue result ↔ IsLine bytes.now }
 {
-    memchr(b'\n', bytes).is_none()
+    bytes.find_byte(b'\n').is_none()
 }
 
 // Whether an archive of this version has messages of several lines, and the bytes are one: a line with a

@@ -1,36 +1,32 @@
-use Rattle.std.proofs.Common.{rules}
-use Rattle.archive_core.proofs.MessageLemmas.{first_line, later_behind, later_here, nothing_later}
+use Rattle.std.proofs.Common.{◌≡◌, rules, subst, sym, List, ℕ}
+use Rattle.std.specs.Prelude.{◌↔◌}
+use Rattle.row_codec.specs.Messages.{HasLaterStamp}
+use Rattle.archive_core.proofs.SplitLemmas.{AnyStamped, after_first, none_stamped, past_plain, stamped_here}
 use Rattle.archive_core.proofs.message.has_later_stamp.Goals as goal
 
-pub loop-after-init : goal.loop-after-init
-loop-after-init c = let first = c.split_line in record {
-  ends = first.ensures.ends;
-  same = λ version tells. first_line version c.args.message.now first.result.0.now first.result.1.now first.ensures.parts first.ensures.line first.ensures.ends;
-}
+pub loop-line-init : goal.loop-line-init
+loop-line-init c =
+    let rest : c.into_iter-line-iterator.result ≡ c.next-first.new.self = search rules in
+    record {
+      same = λ version tells. subst (λ (ls : List (List ℕ)). HasLaterStamp version c.args.message.now ↔ AnyStamped version ls) (sym rest)
+          (after_first version c.args.message.now c.split_str-lines.result c.next-first.new.self c.next-first.result c.split_str-lines.ensures.value c.next-first.ensures.steps);
+    }
 
 pub returns-then-has_stamp : goal.returns-then-has_stamp
 returns-then-has_stamp c = λ version tells.
-    let now = c.loop-after in
-    let next = c.split_line-in-Some in
-    let later = later_here version now.rest.now c.in-Some.after.now next.result.0.now next.result.1.now c.in-Some.field-0-0.now (search rules) now.invariant.ends next.ensures.parts next.ensures.line
-    next.ensures.ends ((c.has_stamp.ensures version tells).0 c.if-has_stamp.true) in
-    (λ yes. (now.invariant.same version tells).1 later, λ is. search rules)
+    let here = stamped_here version c.loop-line.line-iterator c.next.new.self c.in-Some.line.now c.in-Some.ensures.steps ((c.has_stamp.ensures version tells).0 c.if-has_stamp.true) in
+    (λ is. (c.loop-line.invariant.same version tells).1 here, λ later. search rules)
 
-pub loop-after-preserved : goal.loop-after-preserved
-loop-after-preserved c =
-    let now = c.loop-after in
-    let next = c.split_line-in-Some in
-    record {
-      ends = next.ensures.ends;
-      same = λ version tells.
-          let step = later_behind version now.rest.now c.in-Some.after.now next.result.0.now next.result.1.now c.in-Some.field-0-0.now (search rules) now.invariant.ends next.ensures.parts
-          next.ensures.line next.ensures.ends (λ stamped. absurd (cc ((c.has_stamp.ensures version tells).1 stamped, c.if-has_stamp.false))) in
-          let before = now.invariant.same version tells in
-          (λ later. step.0 (before.0 later), λ later. before.1 (step.1 later));
-    }
+pub loop-line-preserved : goal.loop-line-preserved
+loop-line-preserved c = record {
+  same = λ version tells.
+      let step = past_plain version c.loop-line.line-iterator c.next.new.self c.in-Some.line.now c.in-Some.ensures.steps (λ stamped. absurd (cc ((c.has_stamp.ensures version tells).1 stamped, c.if-has_stamp.false))) in
+      let before = c.loop-line.invariant.same version tells in
+      (λ later. step.0 (before.0 later), λ any. before.1 (step.1 any));
+}
 
 pub returns : goal.returns
 returns c = λ version tells. (
-  λ yes. absurd (cc (yes)),
-  λ later. absurd (nothing_later version c.loop-after.rest.now (search rules) ((c.loop-after.invariant.same version tells).0 later)),
+  λ is. absurd (cc (is)),
+  λ later. absurd (none_stamped version c.loop-line.line-iterator (search rules) ((c.loop-line.invariant.same version tells).0 later)),
 )
