@@ -159,14 +159,19 @@ impl<'d, 'b, D: Disk> Store<'d, 'b, D> {
     /// Ends the store, stopped or not. Makes no call on the disk, and takes no memory. Take the answer
     /// apart at once: a contract follows the disk by the journal's field.
     pub fn close_store(self) -> StorePasses<'d, 'b, D>
+        // the journal
         ensures name { result.journal.disk.ghost_name ≡ self.entry.name }
         ensures disk { result.journal.disk.now ≡ self.entry.disk }
         ensures header { result.journal.header ≡ self.entry.header }
         ensures place { result.journal.place ≡ self.entry.place }
         ensures count { result.journal.count ≡ self.entry.count }
         ensures closed { result.journal.closed ≡ self.entry.closed }
+
+        // the passes with its dictionaries
         ensures types { result.types ≡ self.entry.types }
         ensures words { result.words ≡ self.entry.words }
+
+        // what every store keeps
         ensures kept { Kept (state_by D.state self.entry) }
     {
         let Store {

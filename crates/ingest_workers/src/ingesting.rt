@@ -186,12 +186,16 @@ pub fn ingest<'d, D: Disk + Send, S: Source + Send, R: Threads + Wait + Sync>(
     requires journal { MayOpen (state_of journal) }
     requires books { HoldTexts (state_of journal) types words }
     requires jobs { AreNew (first_file jobs.old) (state_of journal) jobs.old }
+
+    // where the jobs were begun
     ensures done { IfOk result (λ after. HasIngested S.left (plan_of rows journal.entry)
         jobs.old jobs.new journal.entry after) }
     ensures causes { IfOk result (λ after. HaveCauses S.left S.name S.faults
         (plan_of rows journal.entry) journal.entry after jobs.old jobs.new) }
     ensures in_turn { workers ≡ 1 → IsOk result
         → AreFullInTurn S.left (plan_of rows journal.entry) journal.entry jobs.old jobs.new }
+
+    // where there was no memory to begin
     ensures refused { IfErr result (λ r. IsAsItWas journal.entry r.journal) }
     ensures jobs { OnErr result (AreRefused jobs.old jobs.new) }
 {

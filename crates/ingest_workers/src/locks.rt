@@ -32,7 +32,11 @@ fn under_lock<'k, 'b, 'd, D: Disk + Send, S: Source + Send, R: Threads + Wait + 
     requires lock { lock_by maker.old ≡ id_of lock.now }
     requires first { made_by maker.old ≡ 0 }
     requires may { MayDoAll D.state maker.old workers.old.items jobs.old }
+
+    // what stays
     ensures lock { lock_by maker.new ≡ lock_by maker.old }
+
+    // by the answer
     ensures done { OnOk result (HasDoneAll D.state S.left S.name S.faults maker.old maker.new
         workers.old.items workers.new.items jobs.old jobs.new) }
     ensures refused { OnErr result ((maker.new ≡ maker.old) × (jobs.new ≡ jobs.old)) }
@@ -59,6 +63,8 @@ pub(crate) fn over_store<'b, 'd, D: Disk + Send, S: Source + Send, R: Threads + 
     requires jobs { length jobs.old ≤ 4294967296 }
     requires first { first < 4294967296 }
     requires may { MayDoAt D.state first store workers.old.items jobs.old }
+
+    // by the answer
     ensures done { IfOk result (λ after. HasWorked D.state S.left S.name S.faults first
         workers.old.items workers.new.items jobs.old jobs.new store.entry after) }
     ensures refused { IfErr result (λ after. IsStillStore D.state store.entry after) }

@@ -36,11 +36,17 @@ fn do_with_blanks<'b, 'd, S: Source, D: Disk, R: Wait, A: Ledger, B: Ledger, C: 
     requires may { MayAddTexts passes }
     requires with { GoWith plan passes keeper.old }
     requires new { IsNewJob D.state job.old keeper.old }
+
+    // the blanks
     requires blanks { OpensFor blanks.0 A.name A.parts × (OpensFor blanks.1 B.name B.parts
         × OpensFor blanks.2 C.name C.parts) }
+
+    // what the passes are after it
     ensures may { MayAddTexts result }
     ensures names { NamesOnly plan.version
         (WasMetBy S.left plan.rows plan.version job.old job.new.outcome) passes.entry result }
+
+    // what came of the job
     ensures done { IsDone D.state S.left S.name S.faults plan.rows plan.version
         (books_by (pass_in result.types) (pass_in result.words))
         job.old keeper.old job.new keeper.new }
@@ -76,9 +82,13 @@ fn do_job<'b, 'd, S: Source, D: Disk, R: Wait>(
     requires may { MayAddTexts passes }
     requires with { GoWith plan passes keeper.old }
     requires new { IsNewJob D.state job.old keeper.old }
+
+    // what the passes are after it
     ensures may { MayAddTexts result }
     ensures names { NamesOnly plan.version
         (WasMetBy S.left plan.rows plan.version job.old job.new.outcome) passes.entry result }
+
+    // what came of the job
     ensures done { IsDone D.state S.left S.name S.faults plan.rows plan.version
         (books_by (pass_in result.types) (pass_in result.words))
         job.old keeper.old job.new keeper.new }
