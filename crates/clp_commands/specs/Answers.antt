@@ -3,8 +3,8 @@ use Rattle.std.specs.Prelude.{◌⊎◌, ℕ, List}
 use Rattle.log_seams.specs.Disk.{DiskState}
 use Rattle.command_words.specs.Asked.{AreTaken, Asked, Asks, HaveGoodNumbers, to_bench, to_check, to_create, to_decode, to_ingest, to_list, to_scan, to_search, to_show}
 use Rattle.command_refusals.specs.Outside.{Outside}
-use Rattle.command_refusals.specs.Ending.{RefusesAtOnce}
-use Rattle.command_refusals.specs.declared.refusal.Refusal.TheVariants.{Usage, OutOfMemory}
+use Rattle.command_refusals.specs.Ending.{LacksMemoryAtOnce, RefusesAtOnce}
+use Rattle.command_refusals.specs.declared.refusal.Refusal.TheVariants.{Usage}
 use Rattle.log_commands.specs.LogAnswers.{AnswersLog, AnswersScan}
 use Rattle.log_commands.specs.Shown.{Shows}
 use Rattle.read_commands.specs.Counted.{AnswersCheck}
@@ -37,4 +37,4 @@ pub record AnswersWords (words : List (List ℕ)) (seen : Outside) (old new : Di
 
 -- What the program answers: there was no memory to read the words and nothing was done, or they were read.
 abbrev pub Answers : List (List ℕ) → Outside → DiskState → DiskState → ℕ → Type 0
-Answers words seen old new status = RefusesAtOnce seen old new status OutOfMemory ⊎ AnswersWords words seen old new status
+Answers words seen old new status = LacksMemoryAtOnce seen old new status ⊎ AnswersWords words seen old new status

@@ -9,7 +9,7 @@ use Rattle.command_refusals.specs.Outcome.{of_pattern}
 use Rattle.command_refusals.specs.Refusal.{status_of, line_of}
 use Rattle.command_refusals.specs.Ending.{IsPatternRefusal, RefusesAtOnce, RefusesPattern, RefusesPatternAtOnce, RefusesSoon, SaysIn, Stayed, TookNothing}
 use Rattle.command_refusals.specs.declared.refusal.Refusal.{Refusal}
-use Rattle.command_refusals.specs.declared.refusal.Refusal.TheVariants.{BadPattern, OutOfMemory}
+use Rattle.command_refusals.specs.declared.refusal.Refusal.TheVariants.{BadPattern}
 use Rattle.command_refusals.proofs.GoingLemmas.{KeepsBytes-same}
 use Rattle.log_seams.specs.Disk.{DiskState}
 
@@ -28,7 +28,7 @@ soon_at_once seen disk status refusal soon = record { soon = soon; bytes = Keeps
 
 pub pattern_at_once : (seen : Outside) (disk : DiskState) (status at : ℕ) → RefusesPattern seen status at → RefusesPatternAtOnce seen disk disk status at
 pattern_at_once seen disk status at (inl bad) = inl (soon_at_once seen disk status (BadPattern at) bad)
-pattern_at_once seen disk status at (inr memory) = inr (soon_at_once seen disk status OutOfMemory memory)
+pattern_at_once seen disk status at (inr memory) = inr (soon_at_once seen disk status _ memory)
 
 -- why a pattern was not read
 pub pattern_refusal : {T : Type 0} (text : List ℕ) (r : Result T PatternRefusal) (refusal : PatternRefusal) → r ≡ Err refusal → ((at : ℕ) → r ≡ Err (ReadBadPattern at) → IsLoneBackslash text at) → IsPatternRefusal text refusal

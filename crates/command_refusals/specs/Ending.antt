@@ -45,6 +45,10 @@ pub record EndsWith (seen : Outside) (name : List ℕ) (status : ℕ) (answer : 
   pub status_is : status ≡ exit_status answer
   pub said : SaysIn seen (error_line name answer)
 
+-- The call ended for want of memory.
+abbrev pub EndsWithoutMemory : Outside → ℕ → Type 0
+EndsWithoutMemory seen status = EndsWith seen [] status (Some OutOfMemory)
+
 -- The call was refused before anything was printed.
 pub record Refuses (seen : Outside) (status : ℕ) (refusal : Refusal) : Type 0 where
   pub ends : EndsWith seen [] status (Some refusal)
@@ -64,13 +68,17 @@ pub record RefusesAtOnce (seen : Outside) (old new : DiskState) (status : ℕ) (
   pub ranges : new.ranges ≡ old.ranges
   pub faults : new.faults ≡ old.faults
 
+-- There was no memory to read what was asked for, and nothing was touched.
+abbrev pub LacksMemoryAtOnce : Outside → DiskState → DiskState → ℕ → Type 0
+LacksMemoryAtOnce seen old new status = RefusesAtOnce seen old new status OutOfMemory
+
 -- A pattern with a lone backslash at this place is refused before a log is touched, or there is no memory to read it.
 abbrev pub RefusesPattern : Outside → ℕ → ℕ → Type 0
 RefusesPattern seen status at = RefusesSoon seen status (BadPattern at) ⊎ RefusesSoon seen status OutOfMemory
 
 -- the same before the archive is touched
 abbrev pub RefusesPatternAtOnce : Outside → DiskState → DiskState → ℕ → ℕ → Type 0
-RefusesPatternAtOnce seen old new status at = RefusesAtOnce seen old new status (BadPattern at) ⊎ RefusesAtOnce seen old new status OutOfMemory
+RefusesPatternAtOnce seen old new status at = RefusesAtOnce seen old new status (BadPattern at) ⊎ LacksMemoryAtOnce seen old new status
 
 -- A pattern is refused with the place of its lone backslash, or for want of memory.
 abbrev pub IsPatternRefusal : List ℕ → PatternRefusal → Type 0

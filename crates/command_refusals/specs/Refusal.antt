@@ -1,5 +1,5 @@
 -- What a refusal ends the program with: its status, and its line on the error output.
-use Rattle.std.specs.Prelude.{◌⊎◌, ℕ, List, [], ◌∷◌, ◌++◌, Option, codes}
+use Rattle.std.specs.Prelude.{◌≡◌, ◌⊎◌, ℕ, List, [], ◌∷◌, ◌++◌, Option, codes}
 use Rattle.std.specs.Fmt.{decimal}
 use Rattle.log_seams.specs.Outside.{Rose}
 use Rattle.sink_pieces.specs.Output.{Grew}
@@ -56,6 +56,10 @@ status_of refusal = (ending_of [] refusal).0
 
 abbrev pub line_of : List ℕ → Refusal → List ℕ
 line_of name refusal = (ending_of name refusal).1
+
+-- the status is that of want of memory
+abbrev pub TellsNoMemory : ℕ → Type 0
+TellsNoMemory status = status ≡ status_of OutOfMemory
 
 abbrev pub file_status_of : Refusal → ℕ
 file_status_of refusal = (file_ending_of [] refusal).0

@@ -1,5 +1,6 @@
 //! Why a command was refused, and what each refusal ends the program with.
 ghost use Rattle.std.specs.Prelude.{◌≡◌, ◌≤◌, ◌++◌, []};
+ghost use Rattle.std.specs.Fmt.{decimal};
 ghost use Rattle.std.specs.List.{flat_map};
 ghost use Rattle.command_refusals.specs.Refusal.{Says, file_line_of, file_status_of, full_at, line_of, status_of};
 
@@ -60,100 +61,56 @@ fn say<K: Sink>(err: &mut K, pieces: &[&[u8]])
     }
 }
 
-/// Writes the line of a refusal, in which `name` is the log's, and answers the status that the
-/// program ends with. Here alone a refusal has its line and its status. Takes no memory.
-pub fn report<K: Sink>(err: &mut K, name: &str, refusal: Refusal) -> u8
-    ensures status { result ≡ status_of refusal }
+/// Writes a front, a number, and what is behind it. Takes no memory.
+fn say_number<K: Sink>(err: &mut K, front: &[&[u8]], number: u64, behind: &[u8])
     ensures said { Says
         (K.written err.old) (K.written err.new) (K.faults err.old) (K.faults err.new)
-        (line_of name.now refusal) }
+        (flat_map (λ p. p.now) front.now ++ (decimal number ++ behind.now)) }
     ensures later { K.faults err.old ≤ K.faults err.new }
 {
-    let name = name.as_bytes();
-    let mut number = itoa::Buffer::new();
-    match refusal {
-        Refusal::Usage => {
-            say(
-                err,
-                &[b"clpa: usage: clpa ARCHIVE COMMAND [OPTION]... [WORD]...\n"],
-            );
-            2
-        }
-        Refusal::BadPattern { at } => {
-            let at = number.format(at).as_bytes();
-            say(err, &[b"clpa: pattern: lone backslash at ", at, b"\n"]);
-            3
-        }
-        Refusal::OpenFault => {
-            say(err, &[b"clpa: ", name, b": cannot open\n"]);
-            4
-        }
-        Refusal::ReadFault => {
-            say(err, &[b"clpa: ", name, b": read failed\n"]);
-            4
-        }
-        Refusal::LineTooLong { line } => {
-            let line = number.format(line).as_bytes();
-            say(err, &[b"clpa: ", name, b": line ", line, b" is too long\n"]);
-            4
-        }
-        Refusal::TooManyLines => {
-            say(err, &[b"clpa: ", name, b": too many lines\n"]);
-            4
-        }
-        Refusal::DiskFault => {
-            say(err, &[b"clpa: archive: disk failed\n"]);
-            5
-        }
-        Refusal::Damaged { at } => {
-            let at = number.format(at).as_bytes();
-            say(err, &[b"clpa: archive: damaged at ", at, b"\n"]);
-            6
-        }
-        Refusal::SinkFault => {
-            say(err, &[b"clpa: output failed\n"]);
-            7
-        }
-        Refusal::NotEmpty { len } => {
-            let len = number.format(len).as_bytes();
-            say(err, &[b"clpa: archive: not empty, ", len, b" bytes\n"]);
-            8
-        }
-        Refusal::NoSuchFile {
-            number: file,
-            count,
-        } => {
-            let mut digits = itoa::Buffer::new();
-            let file = number.format(file).as_bytes();
-            let count = digits.format(count).as_bytes();
-            say(
-                err,
-                &[b"clpa: no file ", file, b", the archive has ", count, b"\n"],
-            );
-            8
-        }
-        Refusal::OutOfMemory => {
-            say(err, &[b"clpa: out of memory\n"]);
-            9
-        }
-        Refusal::NameTooLong { index } => {
-            let index = number.format(index).as_bytes();
-            say(err, &[b"clpa: name ", index, b" is too long\n"]);
-            8
-        }
-        Refusal::TooManyFiles { held, more } => {
-            say_too_many(err, held, more);
-            8
-        }
-        Refusal::Full { book, count } => {
-            say_full(err, name, book, count);
-            4
-        }
-        Refusal::ArchiveFull { end, need } => {
-            say_archive_full(err, &[b"clpa: archive: full at "], end, need);
-            8
-        }
-    }
+    let mut digits = itoa::Buffer::new();
+    let number = digits.format(number).as_bytes();
+    say(err, front);
+    say(err, &[number, behind]);
+}
+
+/// Writes a front, two numbers with a text between them, and what is behind. Takes no memory.
+fn say_numbers<K: Sink>(
+    err: &mut K,
+    front: &[&[u8]],
+    first: u64,
+    between: &[u8],
+    second: u64,
+    behind: &[u8],
+)
+    ensures said { Says
+        (K.written err.old) (K.written err.new) (K.faults err.old) (K.faults err.new)
+        (flat_map (λ p. p.now) front.now
+        ++ (decimal first ++ (between.now ++ (decimal second ++ behind.now)))) }
+    ensures later { K.faults err.old ≤ K.faults err.new }
+{
+    let (mut one, mut other) = (itoa::Buffer::new(), itoa::Buffer::new());
+    let first = one.format(first).as_bytes();
+    let second = other.format(second).as_bytes();
+    say(err, front);
+    say(err, &[first, between, second, behind]);
+}
+
+/// Writes which file the archive lacks, and how many it has. Takes no memory.
+fn say_no_such_file<K: Sink>(err: &mut K, number: u64, count: u64)
+    ensures said { Says
+        (K.written err.old) (K.written err.new) (K.faults err.old) (K.faults err.new)
+        (line_of [] (Refusal.NoSuchFile number count)) }
+    ensures later { K.faults err.old ≤ K.faults err.new }
+{
+    say_numbers(
+        err,
+        &[b"clpa: no file "],
+        number,
+        b", the archive has ",
+        count,
+        b"\n",
+    );
 }
 
 /// Writes how many names an archive has, and how many more are too many. Takes no memory.
@@ -163,18 +120,13 @@ fn say_too_many<K: Sink>(err: &mut K, held: u64, more: u64)
         (line_of [] (Refusal.TooManyFiles held more)) }
     ensures later { K.faults err.old ≤ K.faults err.new }
 {
-    let (mut first, mut second) = (itoa::Buffer::new(), itoa::Buffer::new());
-    let held = first.format(held).as_bytes();
-    let more = second.format(more).as_bytes();
-    say(
+    say_numbers(
         err,
-        &[
-            b"clpa: too many files: ",
-            held,
-            b" held, ",
-            more,
-            b" more\n",
-        ],
+        &[b"clpa: too many files: "],
+        held,
+        b" held, ",
+        more,
+        b" more\n",
     );
 }
 
@@ -185,29 +137,24 @@ fn say_full<K: Sink>(err: &mut K, name: &[u8], book: Which, count: u32)
         (line_of name.now (Refusal.Full book count)) }
     ensures later { K.faults err.old ≤ K.faults err.new }
 {
-    let mut number = itoa::Buffer::new();
-    let count = number.format(count).as_bytes();
+    let count = u64::from(count);
     match book {
-        Which::Types => say(
-            err,
-            &[
-                b"clpa: ",
-                name,
-                b": dictionary of types is full at ",
+        Which::Types => {
+            say_number(
+                err,
+                &[b"clpa: ", name, b": dictionary of types is full at "],
                 count,
                 b"\n",
-            ],
-        ),
-        Which::Words => say(
-            err,
-            &[
-                b"clpa: ",
-                name,
-                b": dictionary of words is full at ",
+            );
+        }
+        Which::Words => {
+            say_number(
+                err,
+                &[b"clpa: ", name, b": dictionary of words is full at "],
                 count,
                 b"\n",
-            ],
-        ),
+            );
+        }
     }
 }
 
@@ -218,11 +165,91 @@ fn say_archive_full<K: Sink>(err: &mut K, text: &[&[u8]], end: u64, need: u64)
         (flat_map (λ p. p.now) text.now ++ full_at end need) }
     ensures later { K.faults err.old ≤ K.faults err.new }
 {
-    let (mut first, mut second) = (itoa::Buffer::new(), itoa::Buffer::new());
-    let end = first.format(end).as_bytes();
-    let need = second.format(need).as_bytes();
-    say(err, text);
-    say(err, &[end, b", ", need, b" more needed\n"]);
+    say_numbers(err, text, end, b", ", need, b" more needed\n");
+}
+
+/// Writes the line of a refusal, in which `name` is the log's. Takes no memory.
+fn say_line<K: Sink>(err: &mut K, name: &[u8], refusal: Refusal)
+    ensures said { Says
+        (K.written err.old) (K.written err.new) (K.faults err.old) (K.faults err.new)
+        (line_of name.now refusal) }
+    ensures later { K.faults err.old ≤ K.faults err.new }
+{
+    match refusal {
+        Refusal::Usage => {
+            say(
+                err,
+                &[b"clpa: usage: clpa ARCHIVE COMMAND [OPTION]... [WORD]...\n"],
+            );
+        }
+        Refusal::BadPattern { at } => {
+            say_number(
+                err,
+                &[b"clpa: pattern: lone backslash at "],
+                at as u64,
+                b"\n",
+            );
+        }
+        Refusal::OpenFault => say(err, &[b"clpa: ", name, b": cannot open\n"]),
+        Refusal::ReadFault => say(err, &[b"clpa: ", name, b": read failed\n"]),
+        Refusal::LineTooLong { line } => {
+            say_number(err, &[b"clpa: ", name, b": line "], line, b" is too long\n");
+        }
+        Refusal::TooManyLines => say(err, &[b"clpa: ", name, b": too many lines\n"]),
+        Refusal::DiskFault => say(err, &[b"clpa: archive: disk failed\n"]),
+        Refusal::Damaged { at } => say_number(err, &[b"clpa: archive: damaged at "], at, b"\n"),
+        Refusal::SinkFault => say(err, &[b"clpa: output failed\n"]),
+        Refusal::NotEmpty { len } => {
+            say_number(err, &[b"clpa: archive: not empty, "], len, b" bytes\n");
+        }
+        Refusal::NoSuchFile { number, count } => say_no_such_file(err, number, count),
+        Refusal::OutOfMemory => say(err, &[b"clpa: out of memory\n"]),
+        Refusal::NameTooLong { index } => {
+            say_number(err, &[b"clpa: name "], index as u64, b" is too long\n");
+        }
+        Refusal::TooManyFiles { held, more } => say_too_many(err, held, more),
+        Refusal::Full { book, count } => say_full(err, name, book, count),
+        Refusal::ArchiveFull { end, need } => {
+            say_archive_full(err, &[b"clpa: archive: full at "], end, need);
+        }
+    }
+}
+
+/// The status that a refusal ends the program with.
+fn status_code(refusal: Refusal) -> u8
+    ensures { result ≡ status_of refusal }
+{
+    match refusal {
+        Refusal::Usage => 2,
+        Refusal::BadPattern { .. } => 3,
+        Refusal::OpenFault
+        | Refusal::ReadFault
+        | Refusal::LineTooLong { .. }
+        | Refusal::TooManyLines
+        | Refusal::Full { .. } => 4,
+        Refusal::DiskFault => 5,
+        Refusal::Damaged { .. } => 6,
+        Refusal::SinkFault => 7,
+        Refusal::NotEmpty { .. }
+        | Refusal::NoSuchFile { .. }
+        | Refusal::NameTooLong { .. }
+        | Refusal::TooManyFiles { .. }
+        | Refusal::ArchiveFull { .. } => 8,
+        Refusal::OutOfMemory => 9,
+    }
+}
+
+/// Writes the line of a refusal, in which `name` is the log's, and answers the status that the
+/// program ends with. Takes no memory.
+pub fn report<K: Sink>(err: &mut K, name: &str, refusal: Refusal) -> u8
+    ensures status { result ≡ status_of refusal }
+    ensures said { Says
+        (K.written err.old) (K.written err.new) (K.faults err.old) (K.faults err.new)
+        (line_of name.now refusal) }
+    ensures later { K.faults err.old ≤ K.faults err.new }
+{
+    say_line(err, name.as_bytes(), refusal);
+    status_code(refusal)
 }
 
 /// Writes the line of a refusal that came of a file with this name, and answers its status. Takes no

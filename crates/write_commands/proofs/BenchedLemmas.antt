@@ -24,7 +24,6 @@ use Rattle.command_refusals.specs.declared.outcome.ReadRefusal.{ReadRefusal}
 use Rattle.command_refusals.specs.declared.outcome.ReadRefusal.TheVariants.{Damaged as ReadDamaged, DiskFault as ReadDiskFault, SinkFault as ReadSinkFault, OutOfMemory as ReadOutOfMemory}
 use Rattle.command_refusals.specs.declared.outcome.AddRefusal.{AddRefusal}
 use Rattle.command_refusals.specs.declared.outcome.PartCause.{PartCause}
-use Rattle.command_refusals.specs.declared.refusal.Refusal.TheVariants.{OutOfMemory}
 
 -- ---- logs that are not whole
 

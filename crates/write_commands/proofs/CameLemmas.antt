@@ -7,7 +7,7 @@ use Rattle.logtype_text.specs.Laws.{OneListOfParts}
 use Rattle.sink_pieces.specs.Output.{Grew, GrewByFront}
 use Rattle.command_refusals.specs.Outside.{Outside}
 use Rattle.file_lines.specs.Directory.{FileLine, directory_from}
-use Rattle.command_refusals.specs.Ending.{RoseIn, SaysIn, Stayed, TookNothing}
+use Rattle.command_refusals.specs.Ending.{EndsWithoutMemory, RoseIn, SaysIn, Stayed, TookNothing}
 use Rattle.write_commands.specs.Ingested.{EndsIngest, FileOutcome, FromArchive, HasCallCause, PrintsCame, TakesIn, TakesNothing, line_of_came}
 use Rattle.write_commands.specs.IngestPrints.{came_of, names_of}
 use Rattle.write_commands.specs.StepsCauses.{HaveFileCauses, logs_of}
@@ -16,7 +16,7 @@ use Rattle.command_refusals.specs.Refusal.{line_of, status_of}
 use Rattle.write_commands.specs.Taken.{error_of, file_error, file_status, gravest, line_of_taken, status_of_taken}
 use Rattle.command_refusals.specs.declared.outcome.AddRefusal.{AddRefusal}
 use Rattle.command_refusals.specs.Outcome.{of_add}
-use Rattle.command_refusals.specs.declared.refusal.Refusal.TheVariants.{OutOfMemory, SinkFault}
+use Rattle.command_refusals.specs.declared.refusal.Refusal.TheVariants.{SinkFault}
 use Rattle.write_commands.specs.declared.file_report.FileReport.{FileReport}
 use Rattle.write_commands.proofs.FittingLemmas.{all_fit}
 use Rattle.write_commands.proofs.WholeLemmas.{file_causes, full_in_turn}
@@ -71,5 +71,5 @@ module _ (one : OneListOfParts) (workers rows : ℕ) (names : List (List ℕ)) (
   printed_some grew is said rose = printed_came (inr (inl (record { status_is = is; said = said }, front_came grew, rose)))
 
   -- there was no memory for the lines
-  pub printed_short : GrewByFront seen.out.0 seen.out.1 (directory_from first (map line_of_taken files)) → status ≡ status_of OutOfMemory → SaysIn seen (line_of [] OutOfMemory) → Stayed seen.out_faults → EndsIngest workers rows names seen old new status
-  printed_short grew is said sink = printed_came (inr (inr (record { status_is = is; said = said }, front_came grew, sink)))
+  pub printed_short : GrewByFront seen.out.0 seen.out.1 (directory_from first (map line_of_taken files)) → EndsWithoutMemory seen status → Stayed seen.out_faults → EndsIngest workers rows names seen old new status
+  printed_short grew ends sink = printed_came (inr (inr (ends, front_came grew, sink)))

@@ -24,14 +24,13 @@ use Rattle.command_refusals.specs.Outside.{Outside}
 use Rattle.command_refusals.specs.Ending.{EndsWith, RoseIn, SaysIn, Stayed, TookNothing}
 use Rattle.write_commands.specs.Ingested.{AllFit, AreFullInTurn, FileOutcome, CameOfFile, FromArchive, RefusesIngest, TakesIn, TakesNothing}
 use Rattle.command_refusals.specs.Outcome.{answer_of, of_add, of_create, of_read}
-use Rattle.command_refusals.specs.Refusal.{status_of}
+use Rattle.command_refusals.specs.Refusal.{TellsNoMemory}
 use Rattle.write_commands.specs.StepsCauses.{HaveFileCauses, logs_of}
 use Rattle.write_commands.specs.Taken.{file_error, file_status, gravest}
 use Rattle.command_refusals.specs.declared.outcome.ReadRefusal.{ReadRefusal}
 use Rattle.command_refusals.specs.declared.outcome.ReadRefusal.TheVariants.{Damaged as ReadDamaged, DiskFault as ReadDiskFault, SinkFault as ReadSinkFault}
 use Rattle.command_refusals.specs.declared.outcome.AddRefusal.{AddRefusal}
 use Rattle.command_refusals.specs.declared.outcome.PartCause.{PartCause}
-use Rattle.command_refusals.specs.declared.refusal.Refusal.TheVariants.{OutOfMemory}
 
 -- ---- the summary
 
@@ -217,7 +216,7 @@ MetNoLimit (inr (inr takes)) = All (λ c. MeetsNoLimit c.refusal) takes.came
 -- the summary was printed, with all messages of the four logs, or memory ended
 abbrev pub SumsUpAll : ℕ → Outside → DiskState → ℕ → Type 0
 SumsUpAll lines seen new status =
-    ((status ≡ 0) × TellsSummary (Grew seen.out.0 seen.out.1) (4 * lines) new.seen) ⊎ (status ≡ status_of OutOfMemory)
+    ((status ≡ 0) × TellsSummary (Grew seen.out.0 seen.out.1) (4 * lines) new.seen) ⊎ TellsNoMemory status
 
 -- What `bench` answers. On an empty disk, where no call of the disk and no write to the output failed and no limit was met, all
 -- is summed up, or memory ended.

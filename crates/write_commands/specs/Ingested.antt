@@ -27,7 +27,7 @@ use Rattle.message_reader.specs.Versions.{MessagesOf}
 use Rattle.sink_pieces.specs.Output.{Grew, GrewByFront}
 use Rattle.command_refusals.specs.Outside.{Outside}
 use Rattle.file_lines.specs.Directory.{FileLine, directory_from}
-use Rattle.command_refusals.specs.Ending.{EndsWith, RefusesAtOnce, RoseIn, SaysIn, Stayed, TookNothing}
+use Rattle.command_refusals.specs.Ending.{EndsWith, EndsWithoutMemory, RefusesAtOnce, RoseIn, SaysIn, Stayed, TookNothing}
 use Rattle.write_commands.specs.Names.{RefusesMore, RefusesNames}
 use Rattle.command_refusals.specs.LogLimits.{IsLong, most_messages}
 use Rattle.command_refusals.specs.Reading.{OverJournal}
@@ -37,7 +37,7 @@ use Rattle.command_refusals.specs.declared.outcome.AddRefusal.{AddRefusal}
 use Rattle.command_refusals.specs.declared.outcome.PartCause.{PartCause}
 use Rattle.command_refusals.specs.declared.outcome.AddRefusal.TheVariants.{NameTooLong, TooManyFiles}
 use Rattle.command_refusals.specs.declared.outcome.PartCause.TheVariants.{OpenFault, ReadFault, LineTooLong, TooManyLines, Full}
-use Rattle.command_refusals.specs.declared.refusal.Refusal.TheVariants.{SinkFault, OutOfMemory}
+use Rattle.command_refusals.specs.declared.refusal.Refusal.TheVariants.{SinkFault}
 
 -- What came of a file: its name, how many messages of it the archive has, whether these are all, and why they are not.
 pub record FileOutcome : Type 0 where
@@ -299,7 +299,7 @@ PrintsCame came first seen status =
     × SaysIn seen (flat_map (λ c. file_error c.name c.refusal) came) × Stayed seen.out_faults)
     ⊎ (EndsWith seen [] status (Some SinkFault)
     × GrewByFront seen.out.0 seen.out.1 (directory_from first (map line_of_came came)) × RoseIn seen.out_faults)
-    ⊎ (EndsWith seen [] status (Some OutOfMemory)
+    ⊎ (EndsWithoutMemory seen status
     × GrewByFront seen.out.0 seen.out.1 (directory_from first (map line_of_came came)) × Stayed seen.out_faults)
 
 -- The names were added, from the first new number on, and the files taken in, in segments of at most so many rows. What came of each is printed.

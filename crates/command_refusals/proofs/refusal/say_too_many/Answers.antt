@@ -5,4 +5,4 @@ use Rattle.command_refusals.proofs.RefusalLemmas.{Says-same}
 use Rattle.command_refusals.proofs.refusal.say_too_many.Goals as goal
 
 pub returns-clause-said : goal.returns-clause-said
-returns-clause-said g c = Says-same _ _ _ _ _ (line_of [] (TooManyFiles c.args.held c.args.more)) (rw (c.as_bytes-held.ensures.value, c.format.ensures.text, c.as_bytes-more.ensures.value, c.format-2.ensures.text) refl) c.say.ensures.said
+returns-clause-said g c = Says-same _ _ _ _ _ (line_of [] (TooManyFiles c.args.held c.args.more)) refl c.say_numbers.ensures.said

@@ -50,7 +50,7 @@ returns-in-Ok-add_files-clause-answers g c =
     let caused = subst (λ (fs : List FileReport). HaveFileCauses (logs_around g.H.Shelf.content g.H.Shelf.open_faults g.H.Shelf.read_faults c.args.shelf.now c.add_files.new.shelf) c.args.asked.workers c.args.asked.segment (g.D.Disk.state c.args.disk.now) (g.D.Disk.state c.add_files.new.disk) (map came_of fs)) (sym files) c.in-Ok-add_files.ensures.causes in
     let taken = subst (λ (fs : List FileReport). FromArchive (g.D.Disk.state c.args.disk.now) (λ h before bytes stood. TakesIn c.args.asked.segment (g.H.Shelf.content c.args.shelf.now) h before stood (map str_bytes c.args.asked.files.now) (map came_of fs) (g.D.Disk.state c.args.disk.now) (g.D.Disk.state c.add_files.new.disk))) (sym files) c.in-Ok-add_files.ensures.taken in
     printed_short c.one_list_of_parts.ensures.one c.args.asked.workers c.args.asked.segment (map str_bytes c.args.asked.files.now) _ (g.D.Disk.state c.args.disk.now) (g.D.Disk.state c.add_files.new.disk) c.add_files.ensures.goes_on.tells _ c.from.result c.as_slice.result.now (ap names_of files ∙ c.in-Ok-add_files.ensures.names) numbered taken caused
-    c.in-Err-OutOfMemory.ensures.err c.report-in-Err-OutOfMemory.ensures.status c.report-in-Err-OutOfMemory.ensures.said (search rules)
+    c.in-Err-OutOfMemory.ensures.err (record { status_is = c.report-in-Err-OutOfMemory.ensures.status; said = c.report-in-Err-OutOfMemory.ensures.said }) (search rules)
 
 pub returns-clause-answers : goal.returns-clause-answers
 returns-clause-answers g c =
