@@ -18,7 +18,7 @@ use crate::opening::open_segment;
 use crate::query::{Judgement, Query};
 use archive_open::{FileEntry, SegmentPlace};
 use column_store::RowRef;
-use row_codec::{Names, write_fitting};
+use row_codec::{Layouts, Names, RowWriter};
 use segment_pages::SegmentPages;
 use std::alloc::AllocError;
 use std::marker::Model;
@@ -26,17 +26,20 @@ use std::sync::ledger::Ledger;
 use step_count::Steps;
 use subquery_filter::{Filter, Verdict, barren};
 
-/// What a search goes over, borrowed: the query, what the numbers of the archive stand for, what its
-/// log types and words tell, and its files. It is the same in all calls of a search.
+/// What a search goes over, borrowed: the query, what the numbers of the archive stand for, its log
+/// types cut into pieces, what they and its words tell, and its files. It is the same in all calls of
+/// a search.
 #[derive(Drop)]
 pub(crate) struct Context<'q, N: Names> {
     query: &'q Query,
     names: &'q N,
+    layouts: &'q Layouts,
     filter: &'q Filter,
     files: &'q [FileEntry],
 }
 
 impl<'q, N: Names> Model for Context<'q, N> {
+    ghost use Rattle.std.specs.Prelude.{◌≡◌};
     ghost use Rattle.query_plan.specs.Laws.{IsSearched};
     ghost use Rattle.query_plan.specs.Pieces.{wide_pieces};
     ghost use Rattle.subquery_filter.specs.Filter.{IsFilter};
@@ -51,18 +54,22 @@ impl<'q, N: Names> Model for Context<'q, N> {
 
     ghost invariant = { λ c. IsSearched c.query.now.pattern
         × IsFilter (wide_pieces c.query.now.pattern) (N.types c.names.now)
-        (N.words c.names.now) c.filter.now };
+        (N.words c.names.now) c.filter.now
+        × (c.layouts.now ≡ N.types c.names.now) };
 }
 
 impl<'q, N: Names> Context<'q, N> {
-    /// What is lent on. The filter is that of the query, over these names.
+    /// What is lent on. The layouts are those of the names' log types, and the filter is that of the
+    /// query, over these names.
     pub(crate) fn new(
         query: &'q Query,
         names: &'q N,
+        layouts: &'q Layouts,
         filter: &'q Filter,
         files: &'q [FileEntry],
     ) -> Context<'q, N>
         requires searched { IsSearched query.now.pattern }
+        requires layouts { layouts.now ≡ N.types names.now }
         requires filter { IsFilter (wide_pieces query.now.pattern) (N.types names.now)
             (N.words names.now) filter.now }
         ensures { result ≡ scope
@@ -72,6 +79,7 @@ impl<'q, N: Names> Context<'q, N> {
         Context {
             query,
             names,
+            layouts,
             filter,
             files,
         }
@@ -133,8 +141,22 @@ impl<'q, N: Names> Context<'q, N> {
         self.query.range().holds(row.pattern, row.moment)
     }
 
+    /// What writes rows of the archive, one after the other. Takes no memory.
+    pub(crate) fn writer(&self) -> RowWriter<'q>
+        ensures { result ≡ self.now.names.types }
+    {
+        RowWriter::new(self.layouts)
+    }
+
     /// Appends what a row is written as, and tells whether it can be written.
-    pub(crate) fn write(&self, row: RowRef<'_>, out: &mut Vec<u8>) -> Result<bool, AllocError>
+    pub(crate) fn write(
+        &self,
+        writer: &mut RowWriter<'_>,
+        row: RowRef<'_>,
+        out: &mut Vec<u8>,
+    ) -> Result<bool, AllocError>
+        requires { writer.old ≡ self.now.names.types }
+        ensures types { writer.new ≡ writer.old }
         ensures written { IfOk result (λ fits. IsTrue fits
             → ((text : List ℕ)
             × IsSpelling (row_of row.entry) self.now.names.types self.now.names.words text
@@ -142,7 +164,7 @@ impl<'q, N: Names> Context<'q, N> {
         ensures misfit { IfOk result (λ fits. IsFalse fits
             → ¬ HasSpelling (row_of row.entry) self.now.names.types self.now.names.words) }
     {
-        write_fitting(row, self.names, out)
+        writer.write_fitting(row, self.names, out)
     }
 
     /// Whether a message in the range is expanded, and whether it is found.

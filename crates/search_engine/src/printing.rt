@@ -14,7 +14,7 @@ use crate::query::Judgement;
 use crate::refusal::PrintRefusal;
 use column_store::{Columns, RowRef};
 use query_plan::wide_is_wider;
-use row_codec::Names;
+use row_codec::{Names, RowWriter};
 use std::alloc::AllocError;
 use std::sync::ledger::Ledger;
 use step_count::Steps;
@@ -82,12 +82,15 @@ fn is_certain(verdict: Verdict) -> bool
 /// found it is not written, and where it tells that it is expanded it is not matched for that.
 fn print_row<N: Names, M: Ledger>(
     context: &Context<'_, N>,
+    writer: &mut RowWriter<'_>,
     label: Label<'_>,
     row: RowRef<'_>,
     gathered: &mut Vec<u8>,
     counts: &mut Counts,
     expanded: &mut Steps<M>,
 ) -> Result<(), PrintRefusal>
+    requires { writer.old ≡ context.now.names.types }
+    ensures types { writer.new ≡ writer.old }
     ensures done { OnOk result ((w : Option (List ℕ)) (message : List ℕ)
         → IsCanonical context.now.names.version (row_of row.entry) context.now.names.types
         context.now.names.words message
@@ -112,7 +115,7 @@ fn print_row<N: Names, M: Ledger>(
     let len = gathered.len();
     put_label(gathered, label)?;
     let start = gathered.len();
-    if !context.write(row, gathered)? {
+    if !context.write(writer, row, gathered)? {
         return Err(PrintRefusal::Damaged);
     }
     let (_, text) = gathered.as_slice().split_at(start);
@@ -146,13 +149,14 @@ pub(crate) fn print_page<N: Names, M: Ledger>(
     ensures damaged { IsErrOf result PrintRefusal.Damaged → (messages : List (List ℕ))
         → ¬ AreRowsOf context.now.names page.now.rows messages }
 {
+    let mut writer = context.writer();
     for place in 0..page.rows() {
         let here = Label {
             name: label.name,
             number: label.number + u64::from(place),
         };
         let row = page.row(place);
-        print_row(context, here, row, gathered, counts, expanded)?;
+        print_row(context, &mut writer, here, row, gathered, counts, expanded)?;
     }
     Ok(())
 }

@@ -17,6 +17,7 @@ use crate::segments::visit_segments;
 use archive_open::{Archive, KeepsTexts};
 use column_store::Range;
 use log_seams::{Disk, Sink};
+use row_codec::Layouts;
 use std::alloc::Global;
 use std::sync::ledger::Ledger;
 use std::thread::Threads;
@@ -75,8 +76,9 @@ fn search_opened<
     let kept = archive.names();
     let known = known_words(alloc, query.plan(), kept)?;
     let names = KnownNames::new(kept, known.as_slice());
+    let layouts = Layouts::of(alloc, &names)?;
     let filter = query.filter(alloc, &names)?;
-    let context = Context::new(query, &names, &filter, files);
+    let context = Context::new(query, &names, &layouts, &filter, files);
     let count = visit_segments(rt, &context, segments, disk, out, batch, opened, expanded)?;
     batch.finish(rt, &context, out, expanded)?;
     let counts = batch.counts();

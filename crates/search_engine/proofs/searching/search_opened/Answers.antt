@@ -16,6 +16,12 @@ returns-in_err-known-clause-reads g c = reads_nothing _ c.args.query.now _ _ ref
 pub returns-in_err-known-clause-stopped : goal.returns-in_err-known-clause-stopped
 returns-in_err-known-clause-stopped g c = on_err c.from_residual.result _ (stopped_nothing _ c.args.query.now _ _ _ _ _ _ _ refl refl refl)
 
+pub returns-in_err-layouts-clause-reads : goal.returns-in_err-layouts-clause-reads
+returns-in_err-layouts-clause-reads g c = reads_nothing _ c.args.query.now _ _ refl
+
+pub returns-in_err-layouts-clause-stopped : goal.returns-in_err-layouts-clause-stopped
+returns-in_err-layouts-clause-stopped g c = on_err c.from_residual-in_err-layouts.result _ (stopped_nothing _ c.args.query.now _ _ _ _ _ _ _ refl refl refl)
+
 pub returns-in_err-filter-clause-reads : goal.returns-in_err-filter-clause-reads
 returns-in_err-filter-clause-reads g c = reads_nothing _ c.args.query.now _ _ refl
 

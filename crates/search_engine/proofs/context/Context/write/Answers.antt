@@ -1,9 +1,12 @@
-use Rattle.std.proofs.Common.{◌≡◌, ◌++◌, ℕ, List, subst}
+use Rattle.std.proofs.Common.{◌≡◌, ◌∙◌, ◌++◌, ℕ, List, ap, subst, sym}
 use Rattle.std.specs.Prelude.{IfOk, IsFalse, IsTrue}
 use Rattle.column_store.specs.Row.{row_of}
 use Rattle.row_codec.specs.Means.{HasSpelling, IsSpelling}
 use Rattle.search_engine.specs.StepsScope.{Scope}
 use Rattle.search_engine.proofs.context.Context.write.Goals as goal
+
+pub write_fitting-requires : goal.write_fitting-requires
+write_fitting-requires g c = record { types = c.requires ∙ ap (λ (s : Scope). s.names.types) (sym c.self.view_is) }
 
 pub returns-clause-written : goal.returns-clause-written
 returns-clause-written g c =
