@@ -34,70 +34,112 @@ fn leaves(disk: &MemDisk, after: usize, pending: Pending, want: &[u8]) -> Result
     Ok(disk.stopped(after, pending)?.bytes() == want)
 }
 
+// Whether a crash before the sync of a write over the last two of the bytes 1 to 4, and past them,
+// leaves this, and one before the write leaves the four.
+fn is_left(alloc: Global, pending: Pending, want: &[u8]) -> Result<bool, AllocError> {
+    let mut disk = disk(alloc, &[1, 2, 3, 4], 9, &[])?;
+    if disk.bytes().len() != 4 || disk.write(2, &[9, 8, 7, 6]).is_err() || disk.calls() != 1 {
+        return Ok(false);
+    }
+    Ok(leaves(&disk, 0, pending, &[1, 2, 3, 4])? && leaves(&disk, 1, pending, want)?)
+}
+
 #[test]
 fn a_crash_before_the_sync_leaves_what_each_kind_says(rt: HostRuntime) -> Result<(), Fail> {
-    let alloc = rt.alloc();
     for (pending, want) in LEFT {
-        let mut disk = disk(alloc, &[1, 2, 3, 4], 9, &[])?;
-        assert!(rt; disk.bytes().len() == 4);
-        assert!(rt; disk.write(2, &[9, 8, 7, 6]).is_ok() && disk.calls() == 1);
-        assert!(rt; leaves(&disk, 0, *pending, &[1, 2, 3, 4])?);
-        assert!(rt; leaves(&disk, 1, *pending, want)?, "{pending:?}");
+        let well = is_left(rt.alloc(), *pending, want)?;
+        assert!(rt; well, "{pending:?}");
     }
     Ok(())
+}
+
+// Whether a crash behind the sync of that write leaves all of it.
+fn is_kept(alloc: Global, pending: Pending) -> Result<bool, AllocError> {
+    let mut disk = disk(alloc, &[1, 2, 3, 4], 9, &[])?;
+    if disk.bytes().len() != 4 || disk.write(2, &[9, 8, 7, 6]).is_err() {
+        return Ok(false);
+    }
+    if disk.sync().is_err() || disk.calls() != 2 {
+        return Ok(false);
+    }
+    Ok(disk.bytes() == WRITTEN.as_slice() && leaves(&disk, 2, pending, &WRITTEN)?)
 }
 
 #[test]
 fn a_crash_behind_the_sync_leaves_all(rt: HostRuntime) -> Result<(), Fail> {
-    let alloc = rt.alloc();
-    let mut disk = disk(alloc, &[1, 2, 3, 4], 9, &[])?;
-    assert!(rt; disk.bytes().len() == 4);
-    assert!(rt; disk.write(2, &[9, 8, 7, 6]).is_ok());
-    assert!(rt; disk.sync().is_ok() && disk.calls() == 2);
-    assert!(rt; disk.bytes() == WRITTEN.as_slice());
     for (pending, _) in LEFT {
-        assert!(rt; leaves(&disk, 2, *pending, &WRITTEN)?, "{pending:?}");
+        let well = is_kept(rt.alloc(), *pending)?;
+        assert!(rt; well, "{pending:?}");
     }
     Ok(())
 }
 
+// What a crash of each kind leaves of two unsynced writes of two bytes and of one.
+const TWO_LEFT: &[(Pending, &[u8])] = &[
+    (Pending::Nothing, &[]),
+    (Pending::FirstHalf, &[5]),
+    (Pending::Ones, &[1, 1, 1]),
+];
+
+// Whether a crash leaves this of the two writes.
+fn is_left_of_two(alloc: Global, pending: Pending, want: &[u8]) -> Result<bool, AllocError> {
+    let mut disk = disk(alloc, &[], 9, &[])?;
+    if disk.write(0, &[5, 6]).is_err() || disk.write(2, &[7]).is_err() {
+        return Ok(false);
+    }
+    leaves(&disk, 2, pending, want)
+}
+
 #[test]
 fn a_write_behind_a_lost_one_is_lost(rt: HostRuntime) -> Result<(), Fail> {
-    let alloc = rt.alloc();
-    let mut disk = disk(alloc, &[], 9, &[])?;
-    assert!(rt; disk.write(0, &[5, 6]) == Ok(()));
-    assert!(rt; disk.write(2, &[7]) == Ok(()));
-    assert!(rt; leaves(&disk, 2, Pending::Nothing, &[])?);
-    assert!(rt; leaves(&disk, 2, Pending::FirstHalf, &[5])?);
-    assert!(rt; leaves(&disk, 2, Pending::Ones, &[1, 1, 1])?);
+    for (pending, want) in TWO_LEFT {
+        let well = is_left_of_two(rt.alloc(), *pending, want)?;
+        assert!(rt; well, "{pending:?}");
+    }
     Ok(())
+}
+
+// Whether the calls of a disk of the byte 3 fail whose second does, past its room, and past its fifth.
+fn calls_fail(disk: &mut MemDisk) -> bool {
+    let mut two = [0; 2];
+    disk.len() == Ok(1)
+        && disk.bytes().len() == 1
+        && disk.write(1, &[4]) == Err(Failed)
+        && disk.bytes() == [3].as_slice()
+        && disk.write(1, &[0; 8]) == Err(Failed)
+        && disk.read(0, &mut two) == Ok(1)
+        && two[0] == 3
+        && disk.sync() == Ok(())
+        && disk.faults() == 2
+        && disk.len() == Err(Failed)
+        && disk.faults() == 3
+        && disk.calls() == 5
 }
 
 #[test]
 fn calls_fail_by_the_list_past_the_room_and_past_the_last(rt: HostRuntime) -> Result<(), Fail> {
-    let alloc = rt.alloc();
-    let mut disk = disk(alloc, &[3], 5, &[1])?;
-    let mut two = [0; 2];
-    assert!(rt; disk.len() == Ok(1) && disk.bytes().len() == 1);
-    assert!(rt; disk.write(1, &[4]) == Err(Failed));
-    assert!(rt; disk.bytes() == [3].as_slice() && disk.calls() == 2);
+    let mut disk = disk(rt.alloc(), &[3], 5, &[1])?;
+    assert!(rt; calls_fail(&mut disk));
     // the write that failed may have reached the disk
-    assert!(rt; leaves(&disk, 2, Pending::All, &[3, 4])?);
-    assert!(rt; disk.write(1, &[0; 8]) == Err(Failed));
-    assert!(rt; disk.read(0, &mut two) == Ok(1) && two[0] == 3);
-    assert!(rt; disk.sync() == Ok(()) && disk.faults() == 2);
-    assert!(rt; disk.len() == Err(Failed) && disk.faults() == 3 && disk.calls() == 5);
+    let reached = disk.calls() == 5 && leaves(&disk, 2, Pending::All, &[3, 4])?;
+    assert!(rt; reached);
     Ok(())
+}
+
+static LONG: [u8; 9] = [3, 3, 3, 3, 3, 3, 3, 4, 3];
+
+// Whether a disk of nine bytes with less room keeps them all, and is written no further than that.
+fn stays_long(disk: &mut MemDisk) -> bool {
+    disk.bytes().len() == 9
+        && disk.write(8, &[4]) == Err(Failed)
+        && disk.bytes().len() == 9
+        && disk.write(7, &[4]) == Ok(())
+        && disk.bytes() == LONG.as_slice()
 }
 
 #[test]
 fn a_disk_may_begin_longer_than_its_room(rt: HostRuntime) -> Result<(), Fail> {
-    let alloc = rt.alloc();
-    let mut disk = disk(alloc, &[3; 9], 9, &[])?;
-    assert!(rt; disk.bytes().len() == 9);
-    assert!(rt; disk.write(8, &[4]) == Err(Failed));
-    assert!(rt; disk.bytes().len() == 9);
-    assert!(rt; disk.write(7, &[4]) == Ok(()));
-    assert!(rt; disk.bytes() == [3, 3, 3, 3, 3, 3, 3, 4, 3].as_slice());
+    let mut disk = disk(rt.alloc(), &[3; 9], 9, &[])?;
+    assert!(rt; stays_long(&mut disk));
     Ok(())
 }

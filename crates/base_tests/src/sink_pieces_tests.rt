@@ -1,21 +1,27 @@
 //! Pieces over a sink in memory.
 use log_seams::{Failed, MemSink};
 use sink_pieces::{PIECE, flush, flush_piece, write_all};
+use std::alloc::AllocError;
 use std::test::Fail;
+
+/// Whether a piece goes out once it is full, what is left by a flush, and what has no room not at all.
+fn goes_out(out: &mut MemSink, gathered: &mut Vec<u8>) -> Result<bool, AllocError> {
+    let waits = flush_piece(out, gathered) == Ok(()) && out.bytes().is_empty();
+    gathered.push(8)?;
+    let goes = flush_piece(out, gathered) == Ok(()) && out.bytes().len() == PIECE;
+    if !gathered.is_empty() {
+        return Ok(false);
+    }
+    gathered.push(9)?;
+    let ends = flush(out, gathered) == Ok(()) && out.bytes().ends_with(&[8, 9]);
+    Ok(waits && goes && ends && write_all(out, b"ab") == Err(Failed))
+}
 
 #[test]
 fn pieces_go_out_once_they_are_full(rt: HostRuntime) -> Result<(), Fail> {
-    let alloc = rt.alloc();
-    let mut out = MemSink::new(alloc, PIECE + 2, Vec::new(alloc))?;
-    let mut gathered = vec![in alloc; 7u8; PIECE - 1]?;
-    assert_eq!(rt; flush_piece(&mut out, &mut gathered), Ok(()));
-    assert!(rt; out.bytes().is_empty());
-    gathered.push(8)?;
-    assert_eq!(rt; flush_piece(&mut out, &mut gathered), Ok(()));
-    assert!(rt; gathered.is_empty() && out.bytes().len() == PIECE);
-    gathered.push(9)?;
-    assert_eq!(rt; flush(&mut out, &mut gathered), Ok(()));
-    assert_eq!(rt; out.bytes().get(PIECE - 1..), Some([8u8, 9].as_slice()));
-    assert_eq!(rt; write_all(&mut out, b"ab"), Err(Failed));
+    let mut gathered = vec![in rt.alloc(); 7u8; PIECE - 1]?;
+    let mut out = MemSink::new(rt.alloc(), PIECE + 2, Vec::new(rt.alloc()))?;
+    let well = goes_out(&mut out, &mut gathered)?;
+    assert!(rt; well);
     Ok(())
 }

@@ -138,11 +138,9 @@ fn told<R: Wait, L: Ledger>(rt: &R, alloc: Global, blank: Blank) -> Option<(u64,
 
 #[test]
 fn a_note_shows_what_another_pass_saw(rt: HostRuntime) -> Result<(), Fail> {
-    let Some((last, number, all)) = told::<_, Brand>(&rt, rt.alloc(), Blank::new(1)) else {
-        panic!(rt; "a refusal");
-    };
-    assert_eq!(rt; (last, number), (11, 77));
-    assert_eq!(rt; all.as_slice(), [77].as_slice());
+    let told = told::<_, Brand>(&rt, rt.alloc(), Blank::new(1));
+    let (last, number, all) = told.ok_or("a refusal")?;
+    assert!(rt; last == 11 && number == 77 && all.as_slice() == [77].as_slice());
     Ok(())
 }
 
@@ -216,29 +214,41 @@ fn four<R: Threads + Wait + Sync>(
     );
 }
 
-#[test]
-fn four_threads_take_a_hundred_turns_each(rt: HostRuntime) -> Result<(), Fail> {
-    let Ok((lock, mut maker)) = TurnLock::new(rt.alloc(), Numbers::new(rt.alloc(), 1000), 0) else {
-        panic!(rt; "no memory");
-    };
+/// How many passes there were, and what four threads added to one list.
+fn taken<R: Threads + Wait + Sync>(rt: &R, alloc: Global) -> Option<(u64, Vec<u64>)> {
+    let (lock, mut maker) = TurnLock::new(alloc, Numbers::new(alloc, 1000), 0).ok()?;
     let mut a = maker.pass(&lock);
     let mut b = maker.pass(&lock);
     let mut c = maker.pass(&lock);
     let mut d = maker.pass(&lock);
-    four(&rt, &mut a, &mut b, &mut c, &mut d);
+    four(rt, &mut a, &mut b, &mut c, &mut d);
     maker.join(a);
     maker.join(b);
     maker.join(c);
     maker.join(d);
-    assert_eq!(rt; maker.made(), 4);
-    let numbers = lock.close(maker);
+    let made = maker.made();
+    Some((made, lock.close(maker).all))
+}
+
+/// Whether these are a hundred numbers of each of the four threads, its own in order.
+fn are_in_order(numbers: &[u64]) -> bool {
     let mut next: [u64; 4] = [1000, 2000, 3000, 4000];
-    for number in &numbers.all {
-        let thread = (*number / 1000) as usize;
-        assert!(rt; 1 <= thread && thread <= 4);
-        assert_eq!(rt; *number, next[thread - 1]);
-        next[thread - 1] = number.wrapping_add(1);
+    for number in numbers {
+        let thread = (*number / 1000).wrapping_sub(1);
+        let Some(place) = next.get_mut(thread as usize) else {
+            return false;
+        };
+        if *place != *number {
+            return false;
+        }
+        *place = number.wrapping_add(1);
     }
-    assert_eq!(rt; next, [1100, 2100, 3100, 4100]);
+    next == [1100, 2100, 3100, 4100]
+}
+
+#[test]
+fn four_threads_take_a_hundred_turns_each(rt: HostRuntime) -> Result<(), Fail> {
+    let (made, numbers) = taken(&rt, rt.alloc()).ok_or("no memory")?;
+    assert!(rt; made == 4 && are_in_order(&numbers));
     Ok(())
 }
