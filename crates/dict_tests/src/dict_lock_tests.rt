@@ -46,13 +46,13 @@ fn named<R: Wait, L: Ledger>(
     Some(intern(pass, rt, text, turns))
 }
 
-/// Three texts, named by a worker that counts its own turns.
+/// Three texts, named by a worker that counts its own turns; None of one that was refused.
 fn three<R: Wait, L: Ledger>(
     pass: &mut Pass<'_, Book>,
     rt: &R,
     texts: [&[u8]; 3],
     blank: Blank,
-) -> [Option<Result<u32, BookRefusal>>; 3]
+) -> [Option<u32>; 3]
     requires blank { OpensFor blank L.name L.parts }
     requires ready { IsReady pass.old }
     ensures { IsStill pass.old pass.new × IsReady pass.new }
@@ -61,14 +61,18 @@ fn three<R: Wait, L: Ledger>(
     let first = named(pass, rt, texts[0], &mut turns);
     let second = named(pass, rt, texts[1], &mut turns);
     let third = named(pass, rt, texts[2], &mut turns);
-    [first, second, third]
+    [number(first), number(second), number(third)]
 }
 
-fn worker<R: Wait>(
-    pass: &mut Pass<'_, Book>,
-    rt: &R,
-    texts: [&[u8]; 3],
-) -> [Option<Result<u32, BookRefusal>>; 3]
+/// The number that a text was named.
+fn number(told: Option<Result<u32, BookRefusal>>) -> Option<u32> {
+    match told {
+        Some(Ok(number)) => Some(number),
+        _ => None,
+    }
+}
+
+fn worker<R: Wait>(pass: &mut Pass<'_, Book>, rt: &R, texts: [&[u8]; 3]) -> [Option<u32>; 3]
     requires { IsReady pass.old }
     ensures { IsStill pass.old pass.new × IsReady pass.new }
 {
@@ -79,47 +83,66 @@ fn beside<R: Threads + Wait + Sync>(
     rt: &R,
     one: &mut Pass<'_, Book>,
     two: &mut Pass<'_, Book>,
-) -> (
-    [Option<Result<u32, BookRefusal>>; 3],
-    [Option<Result<u32, BookRefusal>>; 3],
-)
+) -> ([Option<u32>; 3], [Option<u32>; 3])
     requires { IsReady one.old × IsReady two.old }
     ensures one { IsStill one.old one.new × IsReady one.new }
     ensures two { IsStill two.old two.new × IsReady two.new }
 {
     join_mut(
         rt,
-        &mut || -> [Option<Result<u32, BookRefusal>>; 3]
+        &mut || -> [Option<u32>; 3]
             requires { IsReady one.now }
             ensures { IsStill one.entry.now one.exit.now × IsReady one.exit.now }
         { worker(one, rt, [b"a", b"b", b"c"]) },
-        &mut || -> [Option<Result<u32, BookRefusal>>; 3]
+        &mut || -> [Option<u32>; 3]
             requires { IsReady two.now }
             ensures { IsStill two.entry.now two.exit.now × IsReady two.exit.now }
         { worker(two, rt, [b"c", b"a", b"b"]) },
     )
 }
 
-#[test]
-fn two_threads_share_one_book(rt: HostRuntime) -> Result<(), Fail> {
-    let alloc = rt.alloc();
-    let Ok((lock, mut maker)) = SharedBook::new(alloc, Book::new(alloc, 8), 0) else {
-        panic!(rt; "no memory");
-    };
+/// What two threads were told of one book, and the book.
+type Shared = (([Option<u32>; 3], [Option<u32>; 3]), Book);
+
+fn shared<R: Threads + Wait + Sync>(rt: &R, alloc: Global) -> Option<Shared> {
+    let (lock, mut maker) = SharedBook::new(alloc, Book::new(alloc, 8), 0).ok()?;
     let mut one = maker.pass(&lock);
     let mut two = maker.pass(&lock);
-    let (mine, theirs) = beside(&rt, &mut one, &mut two);
+    let told = beside(rt, &mut one, &mut two);
     maker.join(one);
     maker.join(two);
-    let book = lock.close(maker);
-    assert_eq!(rt; book.len(), 3);
-    for (text, told) in [b"a", b"b", b"c"].iter().zip(&mine) {
-        assert_eq!(rt; *told, book.number_of(text.as_slice()).map(Ok));
-    }
-    for (text, told) in [b"c", b"a", b"b"].iter().zip(&theirs) {
-        assert_eq!(rt; *told, book.number_of(text.as_slice()).map(Ok));
-    }
+    Some((told, lock.close(maker)))
+}
+
+/// Whether the book has these numbers for the texts.
+fn has_numbers(book: &Book, texts: [&[u8]; 3], told: [Option<u32>; 3]) -> bool {
+    told == [
+        book.number_of(texts[0]),
+        book.number_of(texts[1]),
+        book.number_of(texts[2]),
+    ]
+}
+
+#[test]
+fn two_threads_share_one_book(rt: HostRuntime) -> Result<(), Fail> {
+    let ((mine, theirs), book) = shared(&rt, rt.alloc()).ok_or("no memory")?;
+    let well = has_numbers(&book, [b"a", b"b", b"c"], mine)
+        && has_numbers(&book, [b"c", b"a", b"b"], theirs);
+    assert!(rt; well && book.len() == 3 && mine[0].is_some());
     Ok(())
+}
+
+/// Whether a pass over a book with the limit 2 names two texts, and refuses a third alone.
+fn fills<R: Wait, L: Ledger>(pass: &mut Pass<'_, Book>, rt: &R, turns: &mut Steps<L>) -> bool
+    requires { IsReady pass.old }
+    ensures { IsStill pass.old pass.new × IsReady pass.new }
+{
+    let first = named(pass, rt, b"a", turns);
+    let second = named(pass, rt, b"b", turns);
+    let third = named(pass, rt, b"c", turns);
+    let again = named(pass, rt, b"a", turns);
+    let full = Err(BookRefusal::Full { count: 2 });
+    (first, second, third, again) == (Some(Ok(0)), Some(Ok(1)), Some(full), Some(Ok(0)))
 }
 
 /// The one text that a book with the limit 2 has from the second on, once it has refused a third.
@@ -129,30 +152,25 @@ fn full<R: Wait, L: Ledger>(rt: &R, alloc: Global, blank: Blank) -> Option<TextL
     let mut turns: Steps<L> = Steps::new(blank);
     let (lock, mut maker) = SharedBook::new(alloc, Book::new(alloc, 2), 0).ok()?;
     let mut pass = maker.pass(&lock);
-    if !is_fair(pass.number(), b"a")
-        || !is_fair(pass.number(), b"b")
-        || !is_fair(pass.number(), b"c")
-    {
-        return None;
-    }
-    let first = intern(&mut pass, rt, b"a", &mut turns);
-    let second = intern(&mut pass, rt, b"b", &mut turns);
-    let third = intern(&mut pass, rt, b"c", &mut turns);
-    let again = intern(&mut pass, rt, b"a", &mut turns);
-    if (first, second, third, again) != (Ok(0), Ok(1), Err(BookRefusal::Full { count: 2 }), Ok(0)) {
+    if !fills(&mut pass, rt, &mut turns) || !is_fair(pass.number(), b"b") {
         return None;
     }
     let from = intern(&mut pass, rt, b"b", &mut turns).ok()?;
     unsaved(&mut pass, rt, from, &mut turns).ok()
 }
 
+/// Whether this is the text alone.
+fn is_alone(texts: &TextList, text: &[u8]) -> bool {
+    let [one] = texts.as_slice() else {
+        return false;
+    };
+    one.as_slice() == text
+}
+
 #[test]
 fn a_full_book_refuses_new_texts_alone(rt: HostRuntime) -> Result<(), Fail> {
-    let Some(texts) = full::<_, Brand>(&rt, rt.alloc(), Blank::new(1)) else {
-        panic!(rt; "another answer");
-    };
-    assert_eq!(rt; texts.len(), 1);
-    assert_eq!(rt; texts.as_slice()[0].as_slice(), b"b".as_slice());
+    let texts = full::<_, Brand>(&rt, rt.alloc(), Blank::new(1)).ok_or("another answer")?;
+    assert!(rt; is_alone(&texts, b"b"));
     Ok(())
 }
 
@@ -202,10 +220,8 @@ fn noted<R: Wait, L: Ledger>(rt: &R, alloc: Global, blank: Blank) -> Option<Text
 
 #[test]
 fn a_joined_note_is_seen(rt: HostRuntime) -> Result<(), Fail> {
-    let Some(texts) = noted::<_, Brand>(&rt, rt.alloc(), Blank::new(1)) else {
-        panic!(rt; "another answer");
-    };
-    assert_eq!(rt; texts.len(), 0);
+    let texts = noted::<_, Brand>(&rt, rt.alloc(), Blank::new(1)).ok_or("another answer")?;
+    assert!(rt; texts.len() == 0);
     Ok(())
 }
 
@@ -223,12 +239,12 @@ fn cached<R: Wait, L: Ledger>(rt: &R, alloc: Global, blank: Blank) -> Option<boo
     requires { OpensFor blank L.name L.parts }
 {
     let mut turns: Steps<L> = Steps::new(blank);
-    let (lock, mut maker) = SharedBook::new(alloc, Book::new(alloc, 2), 0).ok()?;
-    let pass = maker.pass(&lock);
-    let number = pass.number();
     let first = letters(alloc, b"aba")?;
     let second = letters(alloc, b"b")?;
     let third = letters(alloc, b"ac")?;
+    let (lock, mut maker) = SharedBook::new(alloc, Book::new(alloc, 2), 0).ok()?;
+    let pass = maker.pass(&lock);
+    let number = pass.number();
     if !are_fair(number, &first) || !are_fair(number, &second) || !are_fair(number, &third) {
         return None;
     }
@@ -243,10 +259,7 @@ fn cached<R: Wait, L: Ledger>(rt: &R, alloc: Global, blank: Blank) -> Option<boo
 }
 
 #[test]
-fn known_texts_are_numbered_by_the_cache(rt: HostRuntime) -> Result<(), Fail> {
-    assert_eq!(rt;
-        cached::<_, Brand>(&rt, rt.alloc(), Blank::new(1)),
-        Some(true)
-    );
-    Ok(())
+fn known_texts_are_numbered_by_the_cache(rt: HostRuntime) {
+    let well = cached::<_, Brand>(&rt, rt.alloc(), Blank::new(1));
+    assert!(rt; well == Some(true));
 }

@@ -7,6 +7,7 @@ use ingest_fork::{Works, all_are_joined, by_workers, fill, join_all};
 use std::alloc::{AllocError, Global};
 use std::sync::Wait;
 use std::test::Fail;
+use std::thread::Threads;
 use turn_lock::{Grows, Maker, TurnLock};
 
 /// A worker that writes its number into a job, and the number that the job had into the keeper.
@@ -38,26 +39,34 @@ impl Works<u32, u32> for Numbering {
     ghost fits_on = { λ js js' a b j k went fits. fits };
 }
 
-/// With one worker, two and three: the worker of each of five jobs, and what its keeper got.
-#[test]
-fn each_worker_does_a_piece(rt: HostRuntime) -> Result<(), Fail> {
-    for (count, by) in [
-        (1, [1, 1, 1, 1, 1]),
-        (2, [1, 1, 2, 2, 2]),
-        (3, [1, 2, 2, 3, 3]),
-    ] {
-        let mut workers = [
-            Numbering { number: 1 },
-            Numbering { number: 2 },
-            Numbering { number: 3 },
-        ];
-        let mut jobs = [10, 20, 30, 40, 50];
-        let mut keepers = [0; 5];
-        by_workers(&rt, &mut workers[..count], &mut jobs, &mut keepers);
-        assert_eq!(rt; jobs, by, "with {count}");
-        assert_eq!(rt; keepers, [10, 20, 30, 40, 50], "with {count}");
+/// How many workers there are, and the worker of each of five jobs.
+const PIECES: &[(usize, [u32; 5])] = &[
+    (1, [1, 1, 1, 1, 1]),
+    (2, [1, 1, 2, 2, 2]),
+    (3, [1, 2, 2, 3, 3]),
+];
+
+/// Whether of three workers so many do these jobs, and each keeper gets its job.
+fn do_pieces<R: Threads + Wait + Sync>(rt: &R, count: usize, by: [u32; 5]) -> bool {
+    if count < 1 || count > 3 {
+        return false;
     }
-    Ok(())
+    let mut workers = [
+        Numbering { number: 1 },
+        Numbering { number: 2 },
+        Numbering { number: 3 },
+    ];
+    let mut jobs = [10, 20, 30, 40, 50];
+    let mut keepers = [0; 5];
+    by_workers(rt, &mut workers[..count], &mut jobs, &mut keepers);
+    jobs == by && keepers == [10, 20, 30, 40, 50]
+}
+
+#[test]
+fn each_worker_does_a_piece(rt: HostRuntime) {
+    for &(count, by) in PIECES {
+        assert!(rt; do_pieces(&rt, count, by), "{count}");
+    }
 }
 
 /// Numbers in the order in which they were added.
@@ -101,19 +110,22 @@ fn idle(
     Ok(())
 }
 
+/// How many passes there were, and what a lock that was closed behind them has.
+fn closed(alloc: Global) -> Option<(u64, Vec<u64>)> {
+    let numbers = Numbers {
+        all: Vec::new(alloc),
+    };
+    let (lock, mut maker) = TurnLock::new(alloc, numbers, 7).ok()?;
+    let Ok(()) = idle(alloc, &lock, &mut maker, 3) else {
+        return None;
+    };
+    let made = maker.made();
+    Some((made, lock.close(maker).all))
+}
+
 #[test]
 fn a_lock_is_closed_after_its_passes(rt: HostRuntime) -> Result<(), Fail> {
-    let numbers = Numbers {
-        all: Vec::new(rt.alloc()),
-    };
-    let Ok((lock, mut maker)) = TurnLock::new(rt.alloc(), numbers, 7) else {
-        panic!(rt; "no memory");
-    };
-    let Ok(()) = idle(rt.alloc(), &lock, &mut maker, 3) else {
-        panic!(rt; "no memory");
-    };
-    assert_eq!(rt; maker.made(), 3);
-    let numbers = lock.close(maker);
-    assert_eq!(rt; numbers.all.len(), 0);
+    let (made, numbers) = closed(rt.alloc()).ok_or("no memory")?;
+    assert!(rt; made == 3 && numbers.is_empty());
     Ok(())
 }
