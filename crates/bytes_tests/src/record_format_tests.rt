@@ -1,9 +1,5 @@
-ghost use Rattle.std.specs.Prelude.{◌≡◌, ◌<◌, ◌^◌, IfOk, length};
-
-use plain_list::{Text, TextList};
 use record_format::*;
 use std::alloc::{AllocError, Global};
-use std::process::Abort;
 use std::test::Fail;
 
 /// The header of an archive that was created with no limit named.
@@ -21,8 +17,14 @@ static TYPES: [u8; 13] = [0, 0, 0, 0, 1, 0, 0, 0, 1, 0, 0, 0, b'a'];
 /// Two words from number 258 on, `x1` and one of no bytes.
 static WORDS: [u8; 18] = [2, 1, 0, 0, 2, 0, 0, 0, 2, 0, 0, 0, b'x', b'1', 0, 0, 0, 0];
 
-fn is_refused(read: &Result<TextList, FormatRefusal>) -> bool {
-    matches!(read, Err(FormatRefusal::Malformed))
+/// Whether the bytes are no names.
+fn are_no_names(alloc: Global, payload: &[u8]) -> bool {
+    read_files(alloc, payload).err() == Some(FormatRefusal::Malformed)
+}
+
+/// Whether the bytes are no texts.
+fn are_no_texts(alloc: Global, payload: &[u8]) -> bool {
+    read_texts(alloc, payload).err() == Some(FormatRefusal::Malformed)
 }
 
 #[test]
@@ -62,61 +64,85 @@ const FIELDS_OUT_OF_RANGE: &[(usize, [u8; 4], bool)] = &[
     (28, [0, 2, 0, 0], false),
 ];
 
+/// Whether the header with a field of four bytes at a place is one still.
+fn is_header(at: usize, field: [u8; 4]) -> bool {
+    let mut bytes = HEADER;
+    match bytes.get_mut(at..at.saturating_add(4)) {
+        Some(place) => place.copy_from_slice(&field),
+        None => return false,
+    }
+    read_header(&bytes).is_some()
+}
+
 #[test]
 fn fields_out_of_range(rt: HostRuntime) {
     for &(at, field, stays) in FIELDS_OUT_OF_RANGE {
-        let mut bytes = HEADER;
-        assert!(rt; at <= 28, "a field of four bytes at {at}");
-        bytes[at..at + 4].copy_from_slice(&field);
-        assert!(rt; read_header(&bytes).is_some() == stays, "{field:?} at {at}");
+        assert!(rt; is_header(at, field) == stays, "{field:?} at {at}");
     }
+}
+
+/// Whether an archive may have at most so many bytes.
+fn may_have(most: u8) -> bool {
     let mut least = HEADER;
     least[28] = 0;
     least[29] = 0;
-    least[24] = 33;
-    assert!(rt; read_header(&least).is_some(), "33 bytes");
-    least[24] = 32;
-    assert!(rt; read_header(&least).is_none(), "32 bytes");
+    least[24] = most;
+    read_header(&least).is_some()
+}
+
+#[test]
+fn the_least_length(rt: HostRuntime) {
+    assert!(rt; may_have(33) && !may_have(32));
+}
+
+/// Whether the bytes are read as the one name, and written so.
+fn is_one_name(alloc: Global, payload: &[u8], name: &[u8]) -> Result<bool, AllocError> {
+    let Ok(read) = read_files(alloc, payload) else {
+        return Ok(false);
+    };
+    let [one] = read.as_slice() else {
+        return Ok(false);
+    };
+    let written = write_files(alloc, &read)?;
+    Ok(one.as_slice() == name && written.as_slice() == payload)
 }
 
 #[test]
 fn files_both_ways(rt: HostRuntime) -> Result<(), Fail> {
-    let read = read_files(rt.alloc(), &FILES).ok().ok_or("names")?;
-    assert!(rt; read.as_slice().len() == 1);
-    for name in read.as_slice() {
-        assert!(rt; name.as_slice() == b"a.log".as_slice());
-    }
-    let written = write_files(rt.alloc(), &read)?;
-    assert!(rt; written.as_slice() == FILES.as_slice());
+    let well = is_one_name(rt.alloc(), &FILES, b"a.log")?;
+    assert!(rt; well);
     Ok(())
+}
+
+/// Whether the bytes are read as so many texts from this number on, and written so.
+fn are_texts(alloc: Global, payload: &[u8], first: u32, count: usize) -> Result<bool, AllocError> {
+    let Ok(read) = read_texts(alloc, payload) else {
+        return Ok(false);
+    };
+    let written = write_texts(alloc, read.first, &read.texts)?;
+    let told = read.first == first && read.texts.as_slice().len() == count;
+    Ok(told && written.as_slice() == payload)
 }
 
 #[test]
 fn texts_both_ways(rt: HostRuntime) -> Result<(), Fail> {
-    for (payload, first, count) in [(TYPES.as_slice(), 0, 1), (WORDS.as_slice(), 258, 2)] {
-        let read = read_texts(rt.alloc(), payload).ok().ok_or("texts")?;
-        assert!(rt; read.first == first);
-        assert!(rt; read.texts.as_slice().len() == count);
-        let written = write_texts(rt.alloc(), read.first, &read.texts)?;
-        assert!(rt; written.as_slice() == payload);
-    }
+    let types = are_texts(rt.alloc(), &TYPES, 0, 1)?;
+    let words = are_texts(rt.alloc(), &WORDS, 258, 2)?;
+    assert!(rt; types && words);
     Ok(())
 }
 
 #[test]
-fn cuts(rt: HostRuntime) {
+fn cuts_of_names(rt: HostRuntime) {
     for end in 0..FILES.len() {
-        assert!(rt;
-            is_refused(&read_files(rt.alloc(), &FILES[..end])),
-            "files cut at {end}"
-        );
+        assert!(rt; are_no_names(rt.alloc(), &FILES[..end]), "{end}");
     }
+}
+
+#[test]
+fn cuts_of_texts(rt: HostRuntime) {
     for end in 0..WORDS.len() {
-        let cut = read_texts(rt.alloc(), &WORDS[..end]);
-        assert!(rt;
-            matches!(cut, Err(FormatRefusal::Malformed)),
-            "words cut at {end}"
-        );
+        assert!(rt; are_no_texts(rt.alloc(), &WORDS[..end]), "{end}");
     }
 }
 
@@ -135,7 +161,7 @@ const NAMES_BY_ONE_OFF: &[&[u8]] = &[
 #[test]
 fn names_by_one_off(rt: HostRuntime) {
     for &payload in NAMES_BY_ONE_OFF {
-        assert!(rt; is_refused(&read_files(rt.alloc(), payload)), "{payload:?}");
+        assert!(rt; are_no_names(rt.alloc(), payload), "{payload:?}");
     }
     assert!(rt; read_files(rt.alloc(), b"\0\0\0\0").is_ok(), "no names");
 }
@@ -157,11 +183,7 @@ const TEXTS_BY_ONE_OFF: &[&[u8]] = &[
 #[test]
 fn texts_by_one_off(rt: HostRuntime) {
     for &payload in TEXTS_BY_ONE_OFF {
-        let read = read_texts(rt.alloc(), payload);
-        assert!(rt;
-            matches!(read, Err(FormatRefusal::Malformed)),
-            "{payload:?}"
-        );
+        assert!(rt; are_no_texts(rt.alloc(), payload), "{payload:?}");
     }
     assert!(rt;
         read_texts(rt.alloc(), b"\0\0\0\0\0\0\0\0").is_ok(),

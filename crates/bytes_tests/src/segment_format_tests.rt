@@ -3,7 +3,7 @@ ghost use Rattle.step_count.specs.Opens.{OpensFor};
 ghost use Rattle.segment_format.specs.Layout.{IsHead};
 
 use column_store::{Columns, RowRef};
-use plain_list::NumberList;
+use plain_list::{NumberList, Text};
 use segment_format::*;
 use std::alloc::{AllocError, Global};
 use std::marker::Brand;
@@ -85,57 +85,83 @@ fn sizes_of(alloc: Global, payload: &[u8]) -> Option<(u32, u32)> {
     Some((columns.rows(), columns.variables()))
 }
 
+/// The payload of a segment of so many rows without words.
+fn plain_payload(alloc: Global, count: u32) -> Result<Text, AllocError> {
+    let columns = plain_rows(alloc, count)?;
+    let words = NumberList::new(Vec::new(alloc));
+    write_segment(alloc, 0, 0, true, true, &columns, &words)
+}
+
+/// Whether the head in front of a payload is that of the one row.
+fn is_of_one_row(alloc: Global, payload: &[u8]) -> bool {
+    match head_of(alloc, payload) {
+        Some(head) => {
+            (head.rows, head.last, head.ended, head.stamped) == (1, true, true, false)
+                && head.types.as_slice() == [0].as_slice()
+        }
+        None => false,
+    }
+}
+
 #[test]
 fn one_row(rt: HostRuntime) -> Result<(), Fail> {
-    let alloc = rt.alloc();
-    let columns = plain_rows(alloc, 1)?;
-    let words = NumberList::new(Vec::new(alloc));
-    let segment = write_segment(alloc, 0, 0, true, true, &columns, &words)?;
-    assert!(rt; segment.as_slice() == ONE_ROW.as_slice());
-    let head = head_of(alloc, &ONE_ROW).ok_or("a head")?;
-    assert!(rt; (head.rows, head.last, head.ended, head.stamped) == (1, true, true, false));
-    assert!(rt; head.types.as_slice() == [0].as_slice());
-    assert!(rt; sizes_of(alloc, &ONE_ROW).ok_or("rows")? == (1, 0));
+    let payload = plain_payload(rt.alloc(), 1)?;
+    assert!(rt; payload.as_slice() == ONE_ROW.as_slice());
+    assert!(rt;
+        is_of_one_row(rt.alloc(), &ONE_ROW) && sizes_of(rt.alloc(), &ONE_ROW) == Some((1, 0))
+    );
     Ok(())
+}
+
+/// The rows of the segment of two.
+fn two_columns(alloc: Global) -> Result<Columns, AllocError> {
+    let mut columns = Columns::new(alloc);
+    let first = RowRef {
+        pattern: 8,
+        moment: -1_500,
+        log_type: 5,
+        words: &[7],
+    };
+    let second = RowRef {
+        pattern: 0,
+        moment: 0,
+        log_type: 2,
+        words: &[],
+    };
+    add(&mut columns, first)?;
+    add(&mut columns, second)?;
+    Ok(columns)
+}
+
+/// The payload of the segment of two.
+fn two_payload(alloc: Global) -> Result<Text, AllocError> {
+    let columns = two_columns(alloc)?;
+    let words = NumberList::new(vec![in alloc; 1, 9]?);
+    write_segment(alloc, 1, 258, false, false, &columns, &words)
 }
 
 #[test]
 fn two_rows(rt: HostRuntime) -> Result<(), Fail> {
-    let alloc = rt.alloc();
-    let mut columns = Columns::new(alloc);
-    let rows: [(u8, i64, u32, &[u64]); 2] = [(8, -1_500, 5, &[7]), (0, 0, 2, &[])];
-    for (pattern, moment, log_type, words) in rows {
-        let row = RowRef {
-            pattern,
-            moment,
-            log_type,
-            words,
-        };
-        add(&mut columns, row)?;
-    }
-    let words = NumberList::new(vec![in alloc; 1, 9]?);
-    let segment = write_segment(alloc, 1, 258, false, false, &columns, &words)?;
-    assert!(rt; segment.as_slice() == TWO_ROWS.as_slice());
-    assert!(rt; sizes_of(alloc, &TWO_ROWS).ok_or("rows")? == (2, 1));
+    let payload = two_payload(rt.alloc())?;
+    assert!(rt; payload.as_slice() == TWO_ROWS.as_slice());
+    assert!(rt; sizes_of(rt.alloc(), &TWO_ROWS) == Some((2, 1)));
     Ok(())
 }
 
 #[test]
-fn cuts_and_bytes_behind(rt: HostRuntime) -> Result<(), Fail> {
-    let alloc = rt.alloc();
+fn cuts(rt: HostRuntime) {
     for end in 0..TWO_ROWS.len() {
-        assert!(rt; sizes_of(alloc, &TWO_ROWS[..end]).is_none(), "cut at {end}");
+        let cut = sizes_of(rt.alloc(), &TWO_ROWS[..end]);
+        assert!(rt; cut.is_none(), "cut at {end}");
     }
-    let mut longer = Vec::from_slice(alloc, &TWO_ROWS)?;
+}
+
+#[test]
+fn a_byte_behind(rt: HostRuntime) -> Result<(), Fail> {
+    let mut longer = Vec::from_slice(rt.alloc(), &TWO_ROWS)?;
     longer.push(0)?;
-    assert!(rt;
-        sizes_of(alloc, longer.as_slice()).is_none(),
-        "a byte behind"
-    );
-    assert!(rt;
-        read_head(alloc, longer.as_slice()).is_err(),
-        "bytes behind a head"
-    );
+    let sizes = sizes_of(rt.alloc(), longer.as_slice());
+    assert!(rt; sizes.is_none() && read_head(rt.alloc(), longer.as_slice()).is_err());
     Ok(())
 }
 
@@ -190,10 +216,32 @@ fn pages_of<L: Ledger>(head: &Head, payload: u64, blank: Blank) -> Option<PageRe
     open_pages(head, payload, &mut steps)
 }
 
+/// The same with counters that are let go.
+fn reader_of(head: &Head, payload: u64) -> Option<PageReader>
+    requires { IsHead head.now }
+{
+    pages_of::<Brand>(head, payload, Blank::new(1))
+}
+
 /// Adds so many bytes of a payload from a place on, where they stand there.
 fn add_piece(out: &mut Vec<u8>, payload: &[u8], at: u64, len: u64) -> Result<(), AllocError> {
     let end = at.saturating_add(len) as usize;
     out.extend_from_slice(payload.get(at as usize..end).unwrap_or(&[]))
+}
+
+/// Adds the five pieces of a page, the last of which has so many bytes.
+fn add_pieces(
+    out: &mut Vec<u8>,
+    payload: &[u8],
+    ask: PageAsk,
+    words: u64,
+) -> Result<(), AllocError> {
+    let rows = u64::from(ask.rows);
+    add_piece(out, payload, ask.patterns, rows)?;
+    add_piece(out, payload, ask.moments, 8 * rows)?;
+    add_piece(out, payload, ask.types, 4 * rows)?;
+    add_piece(out, payload, ask.counts, 4 * rows)?;
+    add_piece(out, payload, ask.variables, words)
 }
 
 /// The next page out of a payload, in the memory of columns, and none where it is refused or the last
@@ -207,93 +255,117 @@ fn page_in(
     let Some(ask) = pages.ask() else {
         return Ok(None);
     };
-    let rows = u64::from(ask.rows);
+    let counts = 4 * u64::from(ask.rows);
     let mut bytes = Vec::new(alloc);
-    add_piece(&mut bytes, payload, ask.counts, 4 * rows)?;
-    if bytes.len() as u64 != 4 * rows {
+    add_piece(&mut bytes, payload, ask.counts, counts)?;
+    if bytes.len() as u64 != counts {
         return Ok(None);
     }
     let Some(words) = pages.variable_bytes(bytes.as_slice()) else {
         return Ok(None);
     };
     bytes.clear();
-    add_piece(&mut bytes, payload, ask.patterns, rows)?;
-    add_piece(&mut bytes, payload, ask.moments, 8 * rows)?;
-    add_piece(&mut bytes, payload, ask.types, 4 * rows)?;
-    add_piece(&mut bytes, payload, ask.counts, 4 * rows)?;
-    add_piece(&mut bytes, payload, ask.variables, words)?;
+    add_pieces(&mut bytes, payload, ask, words)?;
     Ok(pages.fill_page(columns, bytes.as_slice()).ok())
+}
+
+/// What is asked for behind the first of its pages.
+const LAST: PageAsk = PageAsk {
+    rows: 904,
+    patterns: 4_145,
+    moments: 37_817,
+    types: 61_433,
+    counts: 81_433,
+    variables: 85_049,
+};
+
+/// Whether a payload of 5,000 rows has two pages.
+fn has_two_pages(
+    alloc: Global,
+    pages: &mut PageReader,
+    payload: &[u8],
+) -> Result<bool, AllocError> {
+    let Some(first) = page_in(alloc, pages, Columns::new(alloc), payload)? else {
+        return Ok(false);
+    };
+    if first.rows() != PAGE_ROWS || pages.ask() != Some(LAST) {
+        return Ok(false);
+    }
+    let Some(second) = page_in(alloc, pages, first, payload)? else {
+        return Ok(false);
+    };
+    Ok(second.rows() == 904 && pages.ask().is_none())
 }
 
 #[test]
 fn places_of_pages(rt: HostRuntime) -> Result<(), Fail> {
-    let alloc = rt.alloc();
-    let columns = plain_rows(alloc, 5_000)?;
-    let words = NumberList::new(Vec::new(alloc));
-    let segment = write_segment(alloc, 0, 0, true, true, &columns, &words)?;
-    let payload = segment.as_slice();
-    let head = head_of(alloc, payload).ok_or("a head")?;
-    assert!(rt;
-        pages_of::<Brand>(&head, 85_048, Blank::new(1)).is_none(),
-        "a byte less"
-    );
-    let mut pages = pages_of::<Brand>(&head, 85_049, Blank::new(1)).ok_or("pages")?;
-    let first = page_in(alloc, &mut pages, columns, payload)?.ok_or("a page")?;
-    assert!(rt; first.rows() == PAGE_ROWS);
-    let last = PageAsk {
-        rows: 904,
-        patterns: 4_145,
-        moments: 37_817,
-        types: 61_433,
-        counts: 81_433,
-        variables: 85_049,
-    };
-    assert!(rt; pages.ask().ok_or("a second page")? == last);
-    let second = page_in(alloc, &mut pages, first, payload)?.ok_or("a page")?;
-    assert!(rt; second.rows() == 904);
-    assert!(rt; pages.ask().is_none(), "two pages");
+    let payload = plain_payload(rt.alloc(), 5_000)?;
+    let head = head_of(rt.alloc(), payload.as_slice()).ok_or("a head")?;
+    let mut pages = reader_of(&head, 85_049).ok_or("pages")?;
+    let well = has_two_pages(rt.alloc(), &mut pages, payload.as_slice())?;
+    assert!(rt; well && reader_of(&head, 85_048).is_none());
     Ok(())
+}
+
+/// A byte's place, its value, and whether the one page with the counts of words is read then.
+const COUNTED: &[(usize, u8, bool)] = &[
+    (87, 1, true),
+    (87, 0, false),
+    (87, 2, false),
+    (91, 1, false),
+];
+
+/// Whether the page of two rows is read where the byte at this place is changed, and is that page.
+fn is_page(alloc: Global, head: &Head, at: usize, byte: u8) -> Result<bool, AllocError>
+    requires { IsHead head.now }
+{
+    let mut bytes = Vec::from_slice(alloc, &TWO_ROWS)?;
+    if let Some(changed) = bytes.get_mut(at) {
+        *changed = byte;
+    }
+    let Some(mut pages) = reader_of(head, 103) else {
+        return Ok(false);
+    };
+    let Some(page) = page_in(alloc, &mut pages, Columns::new(alloc), bytes.as_slice())? else {
+        return Ok(false);
+    };
+    Ok(page.moments() == [-1_500, 0].as_slice() && page.words() == [7].as_slice())
 }
 
 #[test]
 fn pages_with_words(rt: HostRuntime) -> Result<(), Fail> {
-    let alloc = rt.alloc();
-    let head = head_of(alloc, &TWO_ROWS).ok_or("a head")?;
-    let mut pages = pages_of::<Brand>(&head, 103, Blank::new(1)).ok_or("pages")?;
-    let page = page_in(alloc, &mut pages, Columns::new(alloc), &TWO_ROWS)?.ok_or("a page")?;
-    assert!(rt; page.moments() == [-1_500, 0].as_slice());
-    assert!(rt; page.words() == [7].as_slice());
-    // A count of the one page, and whether the page is read still.
-    for (at, byte, stays) in [
-        (87, 1, true),
-        (87, 0, false),
-        (87, 2, false),
-        (91, 1, false),
-    ] {
-        let mut bytes = TWO_ROWS;
-        assert!(rt; at < 103, "a byte at {at}");
-        bytes[at] = byte;
-        let mut pages = pages_of::<Brand>(&head, 103, Blank::new(1)).ok_or("pages")?;
-        let page = page_in(alloc, &mut pages, Columns::new(alloc), &bytes)?;
-        assert!(rt; page.is_some() == stays, "{byte} at {at}");
+    let head = head_of(rt.alloc(), &TWO_ROWS).ok_or("a head")?;
+    for &(at, byte, stays) in COUNTED {
+        let well = is_page(rt.alloc(), &head, at, byte)? == stays;
+        assert!(rt; well, "{byte} at {at}");
     }
     Ok(())
 }
 
+/// Whether the reader has one page, of one row.
+fn has_one_page(alloc: Global, pages: &mut PageReader) -> bool {
+    if pages.ask().is_none() {
+        return false;
+    }
+    match pages.next_page(alloc, &ONE_ROW[49..]) {
+        Ok(page) => page.rows() == 1 && pages.ask().is_none(),
+        Err(_) => false,
+    }
+}
+
 #[test]
 fn one_page(rt: HostRuntime) -> Result<(), Fail> {
-    let alloc = rt.alloc();
-    let head = head_of(alloc, &ONE_ROW).ok_or("a head")?;
-    let mut pages = pages_of::<Brand>(&head, 66, Blank::new(1)).ok_or("pages")?;
-    if pages.ask().is_some() {
-        let page = pages.next_page(alloc, &ONE_ROW[49..]).ok().ok_or("a page")?;
-        assert!(rt; page.rows() == 1);
-    }
-    assert!(rt; pages.ask().is_none(), "one page");
+    let head = head_of(rt.alloc(), &ONE_ROW).ok_or("a head")?;
+    let mut pages = reader_of(&head, 66).ok_or("pages")?;
+    assert!(rt; has_one_page(rt.alloc(), &mut pages));
+    Ok(())
+}
+
+#[test]
+fn laws_hold() {
     heads_are_unique();
     columns_are_unique();
     segments_are_unique();
     segments_read_back();
     pages_are_the_columns();
-    Ok(())
 }

@@ -1,4 +1,0 @@
-use Rattle.bytes_tests.proofs.segment_format_tests.pages_with_words.Given as goal
-
-abbrev pub ghosts-pages_of : goal.ghosts-pages_of
-ghosts-pages_of g a = record { name = a.blank.name; parts = a.blank.parts }
