@@ -1,9 +1,8 @@
 use crate::line_cut_tests::{faulty, text};
 use line_cut::{Cut, Heads, Joiner, MAX_LINE_LEN, Mark};
-use log_seams::{MemSource, PlainSource, Source};
+use log_seams::{PlainSource, Source};
 use plain_list::Text;
 use std::alloc::{AllocError, Global};
-use std::process::Abort;
 use std::test::Fail;
 
 // Lines with a star in front begin a message.
@@ -32,56 +31,42 @@ struct Row<'a> {
     end: Result<(), Cut>,
 }
 
-// The next message by `next`.
-fn compare_piece<R: Abort, S: Source>(
-    rt: &R,
-    joiner: &mut Joiner<S, Stars>,
-    message: &[u8],
-    ended: bool,
-) {
+// Whether `next` gives this message.
+fn gives_piece<S: Source>(joiner: &mut Joiner<S, Stars>, message: &[u8], ended: bool) -> bool {
     match joiner.next() {
-        Ok(Some(piece)) => {
-            assert!(rt; piece.line.as_slice() == message);
-            assert!(rt; piece.ended == ended);
-        }
-        Ok(None) => assert!(rt; false, "the end, and no message"),
-        Err(cut) => assert!(rt; false, "no message: {cut:?}"),
+        Ok(Some(piece)) => piece.line.as_slice() == message && piece.ended == ended,
+        _ => false,
     }
 }
 
-// The end, or the error, by `next` and by `advance`.
-fn compare_end<R: Abort, S: Source>(rt: &R, joiner: &mut Joiner<S, Stars>, end: Result<(), Cut>) {
-    match joiner.next() {
-        Ok(Some(_)) => assert!(rt; false, "a message, and no end"),
-        Ok(None) => assert!(rt; end.is_ok()),
-        Err(cut) => assert!(rt; Err(cut) == end),
-    }
-    match joiner.advance() {
-        Ok(mark) => assert!(rt; mark.is_none() && end.is_ok()),
-        Err(cut) => assert!(rt; Err(cut) == end),
-    }
-    assert!(rt; joiner.line().is_empty());
+// Whether `next` and `advance` give the end, or the error.
+fn ends<S: Source>(joiner: &mut Joiner<S, Stars>, end: Result<(), Cut>) -> bool {
+    let by_next = match joiner.next() {
+        Ok(piece) => piece.is_none() && end.is_ok(),
+        Err(cut) => Err(cut) == end,
+    };
+    by_next && joiner.advance() == end.map(|()| None) && joiner.line().is_empty()
 }
 
-// Takes all that a joiner gives, by `next` and by `advance` in turn, and asks twice more behind the
-// end.
-fn compare<R: Abort, S: Source>(
-    rt: &R,
+// Whether that is all that a joiner gives, by `next` and by `advance` in turn, also where it is asked twice
+// more behind the end.
+fn gives<S: Source>(
     joiner: &mut Joiner<S, Stars>,
     messages: &[(&[u8], bool)],
     end: Result<(), Cut>,
-) {
+) -> bool {
     for (number, row) in messages.iter().enumerate() {
         let (message, ended) = *row;
-        if number % 2 == 0 {
-            compare_piece(rt, joiner, message, ended);
+        let given = if number % 2 == 0 {
+            gives_piece(joiner, message, ended)
         } else {
-            assert!(rt; joiner.advance() == Ok(Some(Mark { ended })));
+            joiner.advance() == Ok(Some(Mark { ended }))
+        };
+        if !given || joiner.line() != message {
+            return false;
         }
-        assert!(rt; joiner.line() == message);
     }
-    compare_end(rt, joiner, end);
-    compare_end(rt, joiner, end);
+    ends(joiner, end) && ends(joiner, end)
 }
 
 // Inputs with limits, and what is joined.
@@ -190,17 +175,34 @@ const ROWS: &[Row<'static>] = &[
     },
 ];
 
+// Whether a source is joined so within these limits.
+fn is_joined<S: Source + Drop>(
+    alloc: Global,
+    source: S,
+    limits: (usize, u64),
+    messages: &[(&[u8], bool)],
+    end: Result<(), Cut>,
+) -> bool {
+    let (max_line, max_messages) = limits;
+    if max_line < 1 || max_line > MAX_LINE_LEN || max_messages > MOST_MESSAGES {
+        return false;
+    }
+    match Joiner::new(alloc, source, Stars, max_line, max_messages) {
+        Ok(mut joiner) => gives(&mut joiner, messages, end),
+        Err(_) => false,
+    }
+}
+
+// The most messages that a limit may allow.
+const MOST_MESSAGES: u64 = 4_294_967_294;
+
 #[test]
 fn messages_and_limits(rt: HostRuntime) -> Result<(), Fail> {
-    let alloc = rt.alloc();
     for row in ROWS {
-        if row.max_line < 1 || row.max_line > MAX_LINE_LEN || row.max_messages > 9 {
-            continue;
-        }
-        let source = PlainSource::new(text(alloc, row.bytes)?);
-        let made = Joiner::new(alloc, source, Stars, row.max_line, row.max_messages);
-        let mut joiner = made.map_err(|_| "no memory")?;
-        compare(&rt, &mut joiner, row.messages, row.end);
+        let source = PlainSource::new(text(rt.alloc(), row.bytes)?);
+        let limits = (row.max_line, row.max_messages);
+        let well = is_joined(rt.alloc(), source, limits, row.messages, row.end);
+        assert!(rt; well, "{:?}", row.bytes);
     }
     Ok(())
 }
@@ -229,53 +231,72 @@ const FAULTY: &[Faulty] = &[
     (10, ALL, Ok(())),
 ];
 
+// Whether four lines are joined so where the read with this number fails, and the fault is counted.
+fn breaks_off(
+    alloc: Global,
+    fails: u64,
+    messages: &[(&[u8], bool)],
+    end: Result<(), Cut>,
+) -> Result<bool, AllocError> {
+    let source = faulty(alloc, b"x\n*a\nb\n*c", fails)?;
+    let Ok(mut joiner) = Joiner::new(alloc, source, Stars, 4, 9) else {
+        return Ok(false);
+    };
+    let well = gives(&mut joiner, messages, end);
+    let failed = u64::from(end == Err(Cut::ReadFault));
+    Ok(well && joiner.into_source().log.faults() == failed)
+}
+
 #[test]
 fn the_messages_before_a_fault(rt: HostRuntime) -> Result<(), Fail> {
     for (fails, messages, end) in FAULTY {
-        let source = faulty(rt.alloc(), b"x\n*a\nb\n*c", *fails)?;
-        let made = Joiner::new(rt.alloc(), source, Stars, 4, 9);
-        let mut joiner = made.map_err(|_| "no memory")?;
-        compare(&rt, &mut joiner, messages, *end);
-        let failed = u64::from(*end == Err(Cut::ReadFault));
-        assert!(rt; joiner.into_source().log.faults() == failed);
+        let well = breaks_off(rt.alloc(), *fails, messages, *end)?;
+        assert!(rt; well, "{fails}");
     }
     Ok(())
 }
 
-// A first line of 1,048,570 bytes, and one with this line behind it.
-fn long_message(alloc: Global, second: &[u8]) -> Result<(Vec<u8>, Vec<u8>), AllocError> {
-    let mut first = b"*".to_vec(alloc)?;
-    first.extend_from_slice(&vec![in alloc; b'x'; 1_048_569]?)?;
-    let mut both = first.clone()?;
+// A first line of 1,048,570 bytes, and this line behind it.
+fn long_message(alloc: Global, second: &[u8]) -> Result<Vec<u8>, AllocError> {
+    let mut both = b"*".to_vec(alloc)?;
+    both.resize(1_048_570, b'x')?;
     both.push(b'\n')?;
     both.extend_from_slice(second)?;
-    Ok((first, both))
+    Ok(both)
 }
 
 // Six bytes short of the limit, a newline and five bytes more are one message.
 #[test]
 fn a_message_of_the_greatest_limit(rt: HostRuntime) -> Result<(), Fail> {
-    let alloc = rt.alloc();
-    let (_, both) = long_message(alloc, b"12345")?;
-    let source = MemSource::new(Text::new(both.clone()?), Vec::new(alloc));
-    let made = Joiner::new(alloc, source, Stars, MAX_LINE_LEN, 4_294_967_294);
-    let mut joiner = made.map_err(|_| "no memory")?;
-    compare(&rt, &mut joiner, &[(&both, false)], Ok(()));
+    let both = long_message(rt.alloc(), b"12345")?;
+    let source = PlainSource::new(text(rt.alloc(), both.as_slice())?);
+    let limits = (MAX_LINE_LEN, MOST_MESSAGES);
+    assert!(rt;
+        is_joined(
+            rt.alloc(),
+            source,
+            limits,
+            &[(both.as_slice(), false)],
+            Ok(())
+        )
+    );
     Ok(())
 }
 
 #[test]
 fn a_line_past_the_greatest_limit_stands_alone(rt: HostRuntime) -> Result<(), Fail> {
-    let alloc = rt.alloc();
-    let (first, both) = long_message(alloc, b"123456")?;
-    let source = MemSource::new(Text::new(both), Vec::new(alloc));
-    let made = Joiner::new(alloc, source, Stars, MAX_LINE_LEN, 4_294_967_294);
-    let mut joiner = made.map_err(|_| "no memory")?;
-    compare(
-        &rt,
-        &mut joiner,
-        &[(&first, true), (b"123456", false)],
-        Ok(()),
+    let both = long_message(rt.alloc(), b"123456")?;
+    let source = PlainSource::new(text(rt.alloc(), both.as_slice())?);
+    let first = both.get(..1_048_570).unwrap_or(b"none");
+    let messages = [(first, true), (b"123456".as_slice(), false)];
+    assert!(rt;
+        is_joined(
+            rt.alloc(),
+            source,
+            (MAX_LINE_LEN, MOST_MESSAGES),
+            &messages,
+            Ok(())
+        )
     );
     Ok(())
 }
@@ -299,16 +320,22 @@ fn is_next<S: Source>(joiner: &mut Joiner<S, Stars>, len: usize) -> bool {
         && (joiner.line().ends_with(b"a\nb\n") || len == 0)
 }
 
+// Whether a joiner gives a thousand messages of those lengths, and then the end.
+fn gives_many<S: Source>(joiner: &mut Joiner<S, Stars>) -> bool {
+    for number in 0..1000usize {
+        if !is_next(joiner, number % 997) {
+            return false;
+        }
+    }
+    joiner.advance() == Ok(None)
+}
+
 // Messages of many lengths, which go over the ends of what is read at once.
 #[test]
 fn messages_over_the_ends_of_reads(rt: HostRuntime) -> Result<(), Fail> {
-    let alloc = rt.alloc();
-    let source = PlainSource::new(many_messages(alloc)?);
-    let made = Joiner::new(alloc, source, Stars, 1001, 1000);
+    let source = PlainSource::new(many_messages(rt.alloc())?);
+    let made = Joiner::new(rt.alloc(), source, Stars, 1001, 1000);
     let mut joiner = made.map_err(|_| "no memory")?;
-    for number in 0..1000usize {
-        assert!(rt; is_next(&mut joiner, number % 997));
-    }
-    assert!(rt; joiner.advance() == Ok(None));
+    assert!(rt; gives_many(&mut joiner));
     Ok(())
 }

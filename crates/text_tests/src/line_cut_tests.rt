@@ -2,7 +2,6 @@ use line_cut::{Cut, Cutter, MAX_LINE_LEN, Mark};
 use log_seams::{Failed, MemSource, PlainSource, Source};
 use plain_list::Text;
 use std::alloc::{AllocError, Global};
-use std::process::Abort;
 use std::test::Fail;
 
 // The lines that are expected, each with whether a newline followed it, and then the end or an
@@ -20,51 +19,38 @@ pub(crate) fn text(alloc: Global, bytes: &[u8]) -> Result<Text, AllocError> {
     Ok(Text::new(bytes.to_vec(alloc)?))
 }
 
-// The next line by `next`.
-fn compare_piece<R: Abort, S: Source>(rt: &R, cutter: &mut Cutter<S>, line: &[u8], ended: bool) {
+// Whether `next` gives this line.
+fn gives_piece<S: Source>(cutter: &mut Cutter<S>, line: &[u8], ended: bool) -> bool {
     match cutter.next() {
-        Ok(Some(piece)) => {
-            assert!(rt; piece.line.as_slice() == line);
-            assert!(rt; piece.ended == ended);
-        }
-        Ok(None) => assert!(rt; false, "the end, and no line"),
-        Err(cut) => assert!(rt; false, "no line: {cut:?}"),
+        Ok(Some(piece)) => piece.line.as_slice() == line && piece.ended == ended,
+        _ => false,
     }
 }
 
-// The end, or the error, by `next` and by `advance`.
-fn compare_end<R: Abort, S: Source>(rt: &R, cutter: &mut Cutter<S>, end: Result<(), Cut>) {
-    match cutter.next() {
-        Ok(Some(_)) => assert!(rt; false, "a line, and no end"),
-        Ok(None) => assert!(rt; end.is_ok()),
-        Err(cut) => assert!(rt; Err(cut) == end),
-    }
-    match cutter.advance() {
-        Ok(mark) => assert!(rt; mark.is_none() && end.is_ok()),
-        Err(cut) => assert!(rt; Err(cut) == end),
-    }
-    assert!(rt; cutter.line().is_empty());
+// Whether `next` and `advance` give the end, or the error.
+fn ends<S: Source>(cutter: &mut Cutter<S>, end: Result<(), Cut>) -> bool {
+    let by_next = match cutter.next() {
+        Ok(piece) => piece.is_none() && end.is_ok(),
+        Err(cut) => Err(cut) == end,
+    };
+    by_next && cutter.advance() == end.map(|()| None) && cutter.line().is_empty()
 }
 
-// Takes all that a cutter gives, by `next` and by `advance` in turn, and asks twice more behind the
-// end.
-fn compare<R: Abort, S: Source>(
-    rt: &R,
-    cutter: &mut Cutter<S>,
-    lines: &[(&[u8], bool)],
-    end: Result<(), Cut>,
-) {
+// Whether that is all that a cutter gives, by `next` and by `advance` in turn, also where it is asked twice
+// more behind the end.
+fn gives<S: Source>(cutter: &mut Cutter<S>, lines: &[(&[u8], bool)], end: Result<(), Cut>) -> bool {
     for (number, row) in lines.iter().enumerate() {
         let (line, ended) = *row;
-        if number % 2 == 0 {
-            compare_piece(rt, cutter, line, ended);
+        let given = if number % 2 == 0 {
+            gives_piece(cutter, line, ended)
         } else {
-            assert!(rt; cutter.advance() == Ok(Some(Mark { ended })));
+            cutter.advance() == Ok(Some(Mark { ended }))
+        };
+        if !given || cutter.line() != line {
+            return false;
         }
-        assert!(rt; cutter.line() == line);
     }
-    compare_end(rt, cutter, end);
-    compare_end(rt, cutter, end);
+    ends(cutter, end) && ends(cutter, end)
 }
 
 // Inputs with limits, and what is cut.
@@ -155,17 +141,31 @@ const ROWS: &[Row<'static>] = &[
     },
 ];
 
+// Whether a source is cut so within these limits.
+fn is_cut<S: Source + Drop>(
+    alloc: Global,
+    source: S,
+    limits: (usize, u64),
+    lines: &[(&[u8], bool)],
+    end: Result<(), Cut>,
+) -> bool {
+    let (max_line, max_lines) = limits;
+    if max_line < 1 || max_line > MAX_LINE_LEN {
+        return false;
+    }
+    match Cutter::new(alloc, source, max_line, max_lines) {
+        Ok(mut cutter) => gives(&mut cutter, lines, end),
+        Err(_) => false,
+    }
+}
+
 #[test]
 fn lines_and_limits(rt: HostRuntime) -> Result<(), Fail> {
-    let alloc = rt.alloc();
     for row in ROWS {
-        if row.max_line < 1 || row.max_line > MAX_LINE_LEN {
-            continue;
-        }
-        let source = PlainSource::new(text(alloc, row.bytes)?);
-        let made = Cutter::new(alloc, source, row.max_line, row.max_lines);
-        let mut cutter = made.map_err(|_| "no memory")?;
-        compare(&rt, &mut cutter, row.lines, row.end);
+        let source = PlainSource::new(text(rt.alloc(), row.bytes)?);
+        let limits = (row.max_line, row.max_lines);
+        let well = is_cut(rt.alloc(), source, limits, row.lines, row.end);
+        assert!(rt; well, "{:?}", row.bytes);
     }
     Ok(())
 }
@@ -222,54 +222,68 @@ pub(crate) fn faulty(alloc: Global, bytes: &[u8], fails: u64) -> Result<OneByte,
     Ok(OneByte { log })
 }
 
+// Whether three lines are cut so where the read with this number fails, and the fault is counted.
+fn breaks_off(
+    alloc: Global,
+    fails: u64,
+    max_lines: u64,
+    lines: &[(&[u8], bool)],
+    end: Result<(), Cut>,
+) -> Result<bool, AllocError> {
+    let source = faulty(alloc, b"ab\ncd\ne", fails)?;
+    let Ok(mut cutter) = Cutter::new(alloc, source, 4, max_lines) else {
+        return Ok(false);
+    };
+    let well = gives(&mut cutter, lines, end);
+    let failed = u64::from(end == Err(Cut::ReadFault));
+    Ok(well && cutter.into_source().log.faults() == failed)
+}
+
 #[test]
 fn the_whole_lines_before_a_fault(rt: HostRuntime) -> Result<(), Fail> {
     for (fails, max_lines, lines, end) in FAULTY {
-        let source = faulty(rt.alloc(), b"ab\ncd\ne", *fails)?;
-        let made = Cutter::new(rt.alloc(), source, 4, *max_lines);
-        let mut cutter = made.map_err(|_| "no memory")?;
-        compare(&rt, &mut cutter, lines, *end);
-        let failed = u64::from(*end == Err(Cut::ReadFault));
-        assert!(rt; cutter.into_source().log.faults() == failed);
+        let well = breaks_off(rt.alloc(), *fails, *max_lines, lines, *end)?;
+        assert!(rt; well, "{fails} {max_lines}");
     }
     Ok(())
 }
 
+// The most lines that a limit may allow.
+const MOST_LINES: u64 = 4_294_967_294;
+
 // Two lines, one of the byte `a` and one of so many bytes `x`.
-fn long_lines(alloc: Global, longest: &[u8], more: usize) -> Result<Text, AllocError> {
+fn long_lines(alloc: Global, len: usize) -> Result<Vec<u8>, AllocError> {
     let mut bytes = b"a\n".to_vec(alloc)?;
-    bytes.extend_from_slice(longest)?;
-    for _ in 0..more {
-        bytes.push(b'x')?;
-    }
+    bytes.resize(len, b'x')?;
     bytes.push(b'\n')?;
-    Ok(Text::new(bytes))
+    Ok(bytes)
 }
 
 #[test]
 fn lines_up_to_the_greatest_limit(rt: HostRuntime) -> Result<(), Fail> {
-    let alloc = rt.alloc();
-    let longest = vec![in alloc; b'x'; MAX_LINE_LEN]?;
-    let source = MemSource::new(long_lines(alloc, &longest, 0)?, Vec::new(alloc));
-    let made = Cutter::new(alloc, source, MAX_LINE_LEN, 4_294_967_294);
-    let mut cutter = made.map_err(|_| "no memory")?;
-    compare(&rt, &mut cutter, &[(b"a", true), (&longest, true)], Ok(()));
+    let bytes = long_lines(rt.alloc(), MAX_LINE_LEN + 2)?;
+    let source = PlainSource::new(text(rt.alloc(), bytes.as_slice())?);
+    let longest = bytes.get(2..MAX_LINE_LEN + 2).unwrap_or(b"none");
+    let lines = [(b"a".as_slice(), true), (longest, true)];
+    assert!(rt;
+        is_cut(
+            rt.alloc(),
+            source,
+            (MAX_LINE_LEN, MOST_LINES),
+            &lines,
+            Ok(())
+        )
+    );
     Ok(())
 }
 
 #[test]
 fn a_line_past_the_greatest_limit(rt: HostRuntime) -> Result<(), Fail> {
-    let alloc = rt.alloc();
-    let longest = vec![in alloc; b'x'; MAX_LINE_LEN]?;
-    let source = MemSource::new(long_lines(alloc, &longest, 1)?, Vec::new(alloc));
-    let made = Cutter::new(alloc, source, MAX_LINE_LEN, 4_294_967_294);
-    let mut cutter = made.map_err(|_| "no memory")?;
-    compare(
-        &rt,
-        &mut cutter,
-        &[(b"a", true)],
-        Err(Cut::LineTooLong { line: 2 }),
-    );
+    let bytes = long_lines(rt.alloc(), MAX_LINE_LEN + 3)?;
+    let source = PlainSource::new(Text::new(bytes));
+    let limits = (MAX_LINE_LEN, MOST_LINES);
+    let end = Err(Cut::LineTooLong { line: 2 });
+    assert!(rt; is_cut(rt.alloc(), source, limits, &[(b"a", true)], end));
     Ok(())
 }
 
@@ -291,16 +305,22 @@ fn is_next<S: Source>(cutter: &mut Cutter<S>, len: usize) -> bool {
         && cutter.line().iter().all(|b| *b == b'a')
 }
 
+// Whether a cutter gives a thousand lines of those lengths, and then the end.
+fn gives_many<S: Source>(cutter: &mut Cutter<S>) -> bool {
+    for number in 0..1000usize {
+        if !is_next(cutter, number % 997) {
+            return false;
+        }
+    }
+    cutter.advance() == Ok(None)
+}
+
 // Lines of many lengths, which go over the ends of what is read at once.
 #[test]
 fn lines_over_the_ends_of_reads(rt: HostRuntime) -> Result<(), Fail> {
-    let alloc = rt.alloc();
-    let source = PlainSource::new(many_lines(alloc)?);
-    let made = Cutter::new(alloc, source, 1000, 1000);
+    let source = PlainSource::new(many_lines(rt.alloc())?);
+    let made = Cutter::new(rt.alloc(), source, 1000, 1000);
     let mut cutter = made.map_err(|_| "no memory")?;
-    for number in 0..1000usize {
-        assert!(rt; is_next(&mut cutter, number % 997));
-    }
-    assert!(rt; cutter.advance() == Ok(None));
+    assert!(rt; gives_many(&mut cutter));
     Ok(())
 }

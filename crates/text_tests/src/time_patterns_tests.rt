@@ -1,21 +1,27 @@
 //! Worked stamps, and vectors that were computed apart from this crate.
-use std::process::Abort;
 use time_patterns::{Stamp, print_stamp, read_micro, read_stamp, stamp_ok};
 
 // A stamp's pattern, moment and length.
 type Numbers = (u8, i64, u8);
 
-// The stamp that was read is this, or none, and prints back to the line's front.
-fn assert_stamp(rt: &impl Abort, line: &[u8], read: Option<Stamp>, want: Option<Numbers>) {
-    let got = read.map(|stamp| (stamp.pattern, stamp.moment, stamp.len));
-    assert!(rt; got == want);
-    if let Some((pattern, moment, len)) = got {
-        assert!(rt; stamp_ok(pattern, moment));
-        let mut out = [0; 32];
-        let printed = print_stamp(pattern, moment, &mut out);
-        assert!(rt; printed == usize::from(len));
-        assert!(rt; Some(&out[..printed]) == line.get(..printed));
+// Whether the stamp prints as the front of the line.
+fn prints_front(line: &[u8], (pattern, moment, len): Numbers) -> bool {
+    if !stamp_ok(pattern, moment) {
+        return false;
     }
+    let mut out = [0; 32];
+    let printed = print_stamp(pattern, moment, &mut out);
+    printed == usize::from(len) && Some(&out[..printed]) == line.get(..printed)
+}
+
+// Whether the stamp that was read is this, or none, and prints back to the line's front.
+fn is_stamp(line: &[u8], read: Option<Stamp>, want: Option<Numbers>) -> bool {
+    let got = read.map(|stamp| (stamp.pattern, stamp.moment, stamp.len));
+    got == want
+        && match got {
+            Some(numbers) => prints_front(line, numbers),
+            None => true,
+        }
 }
 
 const WORKED_STAMPS_ARE_READ: &[(&[u8], Option<Numbers>)] = &[
@@ -37,7 +43,7 @@ const WORKED_STAMPS_ARE_READ: &[(&[u8], Option<Numbers>)] = &[
 #[test]
 fn worked_stamps_are_read(rt: HostRuntime) {
     for &(line, want) in WORKED_STAMPS_ARE_READ {
-        assert_stamp(&rt, line, read_stamp(line), want);
+        assert!(rt; is_stamp(line, read_stamp(line), want), "{line:?}");
     }
 }
 
@@ -109,43 +115,45 @@ const MICROSECONDS_ARE_READ: &[(&[u8], Option<Numbers>, Option<Numbers>)] = &[
 #[test]
 fn microseconds_are_read(rt: HostRuntime) {
     for &(line, micro, milli) in MICROSECONDS_ARE_READ {
-        assert_stamp(&rt, line, read_micro(line), micro);
-        assert_stamp(&rt, line, read_stamp(line), milli);
+        let well = is_stamp(line, read_micro(line), micro);
+        assert!(rt; well && is_stamp(line, read_stamp(line), milli), "{line:?}");
     }
 }
 
+// A pattern, a moment, and whether it is a stamp's.
+const MOMENTS: &[(u8, i64, bool)] = &[
+    (8, 1, false),
+    (1, 1, true),
+    (10, 946684799000, false),
+    (10, 946684800000, true),
+    (10, 4102444799000, true),
+    (10, 4102444800000, false),
+    (1, -62167219200000, true),
+    (1, -62167219200001, false),
+    (5, 253402300799999, true),
+    (5, 253402300800000, false),
+    (0, 0, false),
+    (11, 0, true),
+    (26, 946684800000000, true),
+    (26, 946684799000000, false),
+    (16, -62167219200000000, true),
+    (12, 253402300799999999, true),
+    (12, 253402300800000000, false),
+    (17, 1000, true),
+    (17, 1, false),
+    (23, 1000000, true),
+    (23, 1000, false),
+    (27, 0, false),
+    (255, 0, false),
+    (11, i64::MAX, false),
+    (1, i64::MAX, false),
+    (1, i64::MIN, false),
+];
+
 #[test]
 fn moments_are_tested(rt: HostRuntime) {
-    let rows = [
-        (8, 1, false),
-        (1, 1, true),
-        (10, 946684799000, false),
-        (10, 946684800000, true),
-        (10, 4102444799000, true),
-        (10, 4102444800000, false),
-        (1, -62167219200000, true),
-        (1, -62167219200001, false),
-        (5, 253402300799999, true),
-        (5, 253402300800000, false),
-        (0, 0, false),
-        (11, 0, true),
-        (26, 946684800000000, true),
-        (26, 946684799000000, false),
-        (16, -62167219200000000, true),
-        (12, 253402300799999999, true),
-        (12, 253402300800000000, false),
-        (17, 1000, true),
-        (17, 1, false),
-        (23, 1000000, true),
-        (23, 1000, false),
-        (27, 0, false),
-        (255, 0, false),
-        (11, i64::MAX, false),
-        (1, i64::MAX, false),
-        (1, i64::MIN, false),
-    ];
-    for (pattern, moment, want) in rows {
-        assert!(rt; stamp_ok(pattern, moment) == want);
+    for &(pattern, moment, want) in MOMENTS {
+        assert!(rt; stamp_ok(pattern, moment) == want, "{pattern} {moment}");
     }
 }
 
@@ -412,7 +420,7 @@ const VECTORS: &[(&[u8], Option<Numbers>, Option<Numbers>)] = &[
 #[test]
 fn vectors_are_read(rt: HostRuntime) {
     for &(line, milli, micro) in VECTORS {
-        assert_stamp(&rt, line, read_stamp(line), milli);
-        assert_stamp(&rt, line, read_micro(line), micro);
+        let well = is_stamp(line, read_micro(line), micro);
+        assert!(rt; well && is_stamp(line, read_stamp(line), milli), "{line:?}");
     }
 }

@@ -82,42 +82,51 @@ const DECIMAL_WORDS: &[(u64, Option<&str>)] = &[
     (0xFFFF_FFFF_FFFF_FFFF, None),
 ];
 
+// Whether the word is this text's.
+fn is_text_of(coded: Coded, text: &[u8]) -> bool {
+    let mut out = [0; 20];
+    match coded {
+        Coded::Whole(value) => {
+            let len = whole_text(value, &mut out);
+            &out[..len] == text
+        }
+        Coded::Decimal(word) => is_decimal(word, text),
+        Coded::Word => true,
+    }
+}
+
+// Whether the word is that of a decimal with this text.
+fn is_decimal(word: u64, text: &[u8]) -> bool {
+    let mut out = [0; 20];
+    if !decimal_ok(word) {
+        return false;
+    }
+    let len = decimal_text(word, &mut out);
+    &out[..len] == text
+}
+
 #[test]
 fn texts_have_their_words_and_words_their_texts(rt: HostRuntime) {
-    let mut out = [0; 20];
     for &(text, coded) in VARIABLES {
-        assert!(rt; encode(text.as_bytes()) == coded, "the word of {text}");
-        match coded {
-            Coded::Whole(value) => {
-                let len = whole_text(value, &mut out);
-                assert!(rt; &out[..len] == text.as_bytes(), "the text of {value}");
-            }
-            Coded::Decimal(word) => {
-                assert!(rt; decimal_ok(word), "a text for {word}");
-                let len = decimal_text(word, &mut out);
-                assert!(rt; &out[..len] == text.as_bytes(), "the text of {word}");
-            }
-            Coded::Word => {}
+        let well = encode(text.as_bytes()) == coded && is_text_of(coded, text.as_bytes());
+        assert!(rt; well, "{text}");
+    }
+}
+
+// Whether the word is that of a decimal with this text, which is encoded so, or of none.
+fn is_told(word: u64, text: Option<&str>) -> bool {
+    match text {
+        Some(text) => {
+            let bytes = text.as_bytes();
+            is_decimal(word, bytes) && encode(bytes) == Coded::Decimal(word)
         }
+        None => !decimal_ok(word),
     }
 }
 
 #[test]
 fn decimal_words_are_told_from_other_numbers(rt: HostRuntime) {
-    let mut out = [0; 20];
     for &(word, text) in DECIMAL_WORDS {
-        assert!(rt;
-            decimal_ok(word) == text.is_some(),
-            "whether {word} has a text"
-        );
-        if let Some(text) = text {
-            assert!(rt; decimal_ok(word));
-            let len = decimal_text(word, &mut out);
-            assert!(rt; &out[..len] == text.as_bytes(), "the text of {word}");
-            assert!(rt;
-                encode(text.as_bytes()) == Coded::Decimal(word),
-                "the word of {text}"
-            );
-        }
+        assert!(rt; is_told(word, text), "{word}");
     }
 }

@@ -140,34 +140,48 @@ fn bytes_of(alloc: Global, digits: &str) -> Result<Vec<u8>, AllocError> {
     Ok(bytes)
 }
 
-/// What reading the text and matching the message answers, in the table's words.
-fn answer_to(alloc: Global, text: &[u8], message: &[u8]) -> Result<String, AllocError> {
-    let pattern = match read_pattern(alloc, text) {
-        Ok(pattern) => pattern,
-        Err(PatternRefusal::BadPattern { at }) => return format!(in alloc; "bad{at}"),
-        Err(PatternRefusal::OutOfMemory) => return Err(AllocError),
-    };
-    let matcher = Matcher::new(alloc, &pattern)?;
-    let wide = widen(alloc, &pattern)?;
-    match (
-        matches(&pattern, message),
-        matcher.matches(message),
-        matches(&wide, message),
-    ) {
-        (true, true, true) => String::from_str(alloc, "1"),
-        (false, false, _) => String::from_str(alloc, "0"),
-        _ => String::from_str(alloc, "they differ"),
+/// Whether a pattern matches a message, or the place of a `\` that escapes nothing.
+type Answer = Result<bool, usize>;
+
+/// The answer in the table's words.
+fn answer_of(word: &[u8]) -> Option<Answer> {
+    match word {
+        b"1" => Some(Ok(true)),
+        b"0" => Some(Ok(false)),
+        [b'b', b'a', b'd', place] => Some(Err(usize::from(place.wrapping_sub(b'0')))),
+        _ => None,
     }
 }
 
-/// What the row's text and message answer, and what they are to.
+/// Whether that is what reading the text and matching the message answers.
+fn is_answered(
+    alloc: Global,
+    text: &[u8],
+    message: &[u8],
+    want: Answer,
+) -> Result<bool, AllocError> {
+    let pattern = match read_pattern(alloc, text) {
+        Ok(pattern) => pattern,
+        Err(PatternRefusal::BadPattern { at }) => return Ok(want == Err(at)),
+        Err(PatternRefusal::OutOfMemory) => return Err(AllocError),
+    };
+    let wide = widen(alloc, &pattern)?;
+    let matcher = Matcher::new(alloc, &pattern)?;
+    Ok(match want {
+        Ok(true) => both_answer(&pattern, &matcher, message, true) && matches(&wide, message),
+        Ok(false) => both_answer(&pattern, &matcher, message, false),
+        Err(_) => false,
+    })
+}
+
+/// Whether the row's text and message answer what they are to.
 fn row_holds(alloc: Global, row: &str) -> Result<bool, Fail> {
     let (text, rest) = row.split_once(' ').ok_or("a text")?;
     let (message, want) = rest.split_once(' ').ok_or("a message")?;
+    let want = answer_of(want.as_bytes()).ok_or("an answer")?;
     let text = bytes_of(alloc, text)?;
     let message = bytes_of(alloc, message)?;
-    let answer = answer_to(alloc, text.as_slice(), message.as_slice())?;
-    Ok(answer.as_str() == want)
+    Ok(is_answered(alloc, text.as_slice(), message.as_slice(), want)?)
 }
 
 #[test]
@@ -179,47 +193,46 @@ fn answers_of_a_table(rt: HostRuntime) -> Result<(), Fail> {
     Ok(())
 }
 
-/// A pattern's text, a message, the answer in the table's words.
-const LINES: &[(&[u8], &[u8], &str)] = &[
-    (b"12*34", b"12534", "1"),
-    (b"12*34", b"12 34", "1"),
-    (b"12*34", b"a12*34", "1"),
-    (b"12*34", b"1234", "1"),
-    (b"12*34", b"34 12", "0"),
-    (b"12\\*34", b"12534", "0"),
-    (b"12\\*34", b"12 34", "0"),
-    (b"12\\*34", b"a12*34", "1"),
-    (b"", b"", "1"),
-    (b"", b"any", "1"),
-    (b"?", b"", "0"),
-    (b"?", b"x", "1"),
-    (b"\\?", b"x", "0"),
-    (b"a\\\\b", b"a\\b", "1"),
-    (b"ab\\", b"ab", "bad2"),
-    (b"ab\\\\\\", b"ab", "bad4"),
+/// A pattern's text, a message, the answer.
+const LINES: &[(&[u8], &[u8], Answer)] = &[
+    (b"12*34", b"12534", Ok(true)),
+    (b"12*34", b"12 34", Ok(true)),
+    (b"12*34", b"a12*34", Ok(true)),
+    (b"12*34", b"1234", Ok(true)),
+    (b"12*34", b"34 12", Ok(false)),
+    (b"12\\*34", b"12534", Ok(false)),
+    (b"12\\*34", b"12 34", Ok(false)),
+    (b"12\\*34", b"a12*34", Ok(true)),
+    (b"", b"", Ok(true)),
+    (b"", b"any", Ok(true)),
+    (b"?", b"", Ok(false)),
+    (b"?", b"x", Ok(true)),
+    (b"\\?", b"x", Ok(false)),
+    (b"a\\\\b", b"a\\b", Ok(true)),
+    (b"ab\\", b"ab", Err(2)),
+    (b"ab\\\\\\", b"ab", Err(4)),
     (
         b"?????????????????????????????????b",
         b"a line of which too little is left b",
-        "1",
+        Ok(true),
     ),
     (
         b"a needle that is longer than the room beside it",
         b"..a needle that is longer than the room beside it",
-        "1",
+        Ok(true),
     ),
     (
         b"a needle that is longer than the room beside it",
         b"a needle that is longer than the room beside him",
-        "0",
+        Ok(false),
     ),
-    (b"x*", b"axb", "1"),
+    (b"x*", b"axb", Ok(true)),
 ];
 
 #[test]
 fn answers_for_lines(rt: HostRuntime) -> Result<(), Fail> {
-    for (text, message, want) in LINES {
-        let answer = answer_to(rt.alloc(), text, message)?;
-        let well = answer.as_str() == *want;
+    for &(text, message, want) in LINES {
+        let well = is_answered(rt.alloc(), text, message, want)?;
         assert!(rt; well, "{text:?} at {message:?}");
     }
     Ok(())
