@@ -11,10 +11,10 @@ fn words_of(alloc: Global, words: &[&str]) -> Result<Vec<String>, AllocError> {
     Ok(all)
 }
 
-/// Why the words are refused, where they are.
-fn refusal(alloc: Global, words: &[&str]) -> Result<Option<WordsRefusal>, AllocError> {
+/// Whether the words have no meaning.
+fn is_usage(alloc: Global, words: &[&str]) -> Result<bool, AllocError> {
     let all = words_of(alloc, words)?;
-    Ok(read_words(alloc, all.as_slice()).err())
+    Ok(read_words(alloc, all.as_slice()).err() == Some(WordsRefusal::Usage))
 }
 
 /// Words that are of no form.
@@ -101,11 +101,8 @@ const NO_NUMBER: &[&[&str]] = &[
 #[test]
 fn other_forms_are_refused(rt: HostRuntime) -> Result<(), Fail> {
     for &words in NO_FORM {
-        assert_eq!(rt;
-            refusal(rt.alloc(), words)?,
-            Some(WordsRefusal::Usage),
-            "{words:?}"
-        );
+        let well = is_usage(rt.alloc(), words)?;
+        assert!(rt; well, "{words:?}");
     }
     Ok(())
 }
@@ -113,11 +110,8 @@ fn other_forms_are_refused(rt: HostRuntime) -> Result<(), Fail> {
 #[test]
 fn other_options_are_refused(rt: HostRuntime) -> Result<(), Fail> {
     for &words in NO_OPTION {
-        assert_eq!(rt;
-            refusal(rt.alloc(), words)?,
-            Some(WordsRefusal::Usage),
-            "{words:?}"
-        );
+        let well = is_usage(rt.alloc(), words)?;
+        assert!(rt; well, "{words:?}");
     }
     Ok(())
 }
@@ -125,11 +119,8 @@ fn other_options_are_refused(rt: HostRuntime) -> Result<(), Fail> {
 #[test]
 fn numbers_outside_their_range_are_refused(rt: HostRuntime) -> Result<(), Fail> {
     for &words in OUTSIDE {
-        assert_eq!(rt;
-            refusal(rt.alloc(), words)?,
-            Some(WordsRefusal::Usage),
-            "{words:?}"
-        );
+        let well = is_usage(rt.alloc(), words)?;
+        assert!(rt; well, "{words:?}");
     }
     Ok(())
 }
@@ -137,11 +128,8 @@ fn numbers_outside_their_range_are_refused(rt: HostRuntime) -> Result<(), Fail> 
 #[test]
 fn other_texts_are_no_numbers(rt: HostRuntime) -> Result<(), Fail> {
     for &words in NO_NUMBER {
-        assert_eq!(rt;
-            refusal(rt.alloc(), words)?,
-            Some(WordsRefusal::Usage),
-            "{words:?}"
-        );
+        let well = is_usage(rt.alloc(), words)?;
+        assert!(rt; well, "{words:?}");
     }
     Ok(())
 }
@@ -154,14 +142,20 @@ const SHOWS: &[(&[&str], &str)] = &[
     (&["show", "--", "--"], "--"),
 ];
 
+/// Whether the words ask to show this file.
+fn shows(alloc: Global, words: &[&str], wanted: &str) -> Result<bool, AllocError> {
+    let all = words_of(alloc, words)?;
+    Ok(match read_words(alloc, all.as_slice()) {
+        Ok(Command::Show { file }) => file == wanted,
+        _ => false,
+    })
+}
+
 #[test]
 fn show_has_a_file(rt: HostRuntime) -> Result<(), Fail> {
     for &(words, wanted) in SHOWS {
-        let all = words_of(rt.alloc(), words)?;
-        let Ok(Command::Show { file }) = read_words(rt.alloc(), all.as_slice()) else {
-            return Err(Fail::from("no show"));
-        };
-        assert_eq!(rt; file, wanted);
+        let well = shows(rt.alloc(), words, wanted)?;
+        assert!(rt; well, "{words:?}");
     }
     Ok(())
 }
@@ -192,15 +186,28 @@ const CREATES: &[(&[&str], u32, u32, u32, u64)] = &[
     ),
 ];
 
+/// Whether the words ask to create an archive of this version, with these limits.
+fn creates(
+    alloc: Global,
+    words: &[&str],
+    (version, types): (u32, u32),
+    (limit, bytes): (u32, u64),
+) -> Result<bool, AllocError> {
+    let all = words_of(alloc, words)?;
+    Ok(match read_words(alloc, all.as_slice()) {
+        Ok(Command::Create { header }) => {
+            (header.version, header.types_limit) == (version, types)
+                && (header.words_limit, header.length_limit) == (limit, bytes)
+        }
+        _ => false,
+    })
+}
+
 #[test]
 fn create_has_limits(rt: HostRuntime) -> Result<(), Fail> {
     for &(words, version, types, limit, bytes) in CREATES {
-        let all = words_of(rt.alloc(), words)?;
-        let Ok(Command::Create { header }) = read_words(rt.alloc(), all.as_slice()) else {
-            return Err(Fail::from("no create"));
-        };
-        assert_eq!(rt; (header.version, header.types_limit), (version, types));
-        assert_eq!(rt; (header.words_limit, header.length_limit), (limit, bytes));
+        let well = creates(rt.alloc(), words, (version, types), (limit, bytes))?;
+        assert!(rt; well, "{words:?}");
     }
     Ok(())
 }
@@ -222,15 +229,22 @@ const INGESTS: &[(&[&str], u32, u32, usize)] = &[
     ),
 ];
 
+/// Whether the words ask to ingest so many files, by so many workers in segments of so many rows.
+fn ingests(alloc: Global, words: &[&str], wanted: (u32, u32, usize)) -> Result<bool, AllocError> {
+    let all = words_of(alloc, words)?;
+    Ok(match read_words(alloc, all.as_slice()) {
+        Ok(Command::Ingest { asked }) => {
+            (asked.workers, asked.segment, asked.files.len()) == wanted
+        }
+        _ => false,
+    })
+}
+
 #[test]
 fn ingest_has_workers_rows_and_files(rt: HostRuntime) -> Result<(), Fail> {
     for &(words, workers, segment, files) in INGESTS {
-        let all = words_of(rt.alloc(), words)?;
-        let Ok(Command::Ingest { asked }) = read_words(rt.alloc(), all.as_slice()) else {
-            return Err(Fail::from("no ingest"));
-        };
-        assert_eq!(rt; (asked.workers, asked.segment), (workers, segment));
-        assert_eq!(rt; asked.files.len(), files);
+        let well = ingests(rt.alloc(), words, (workers, segment, files))?;
+        assert!(rt; well, "{words:?}");
     }
     Ok(())
 }
@@ -264,34 +278,57 @@ const SEARCHES: &[(&[&str], Option<i64>, Option<i64>, bool, u32, &str)] = &[
     ),
 ];
 
+/// Whether the words ask to search for a pattern in these bounds, with counts or without, by so many workers.
+fn searches(
+    alloc: Global,
+    words: &[&str],
+    bounds: (Option<i64>, Option<i64>),
+    told: (bool, u32),
+    pattern: &str,
+) -> Result<bool, AllocError> {
+    let all = words_of(alloc, words)?;
+    Ok(match read_words(alloc, all.as_slice()) {
+        Ok(Command::Search { asked }) => {
+            (asked.from, asked.to) == bounds
+                && (asked.stats, asked.workers) == told
+                && asked.pattern == pattern
+        }
+        _ => false,
+    })
+}
+
 #[test]
 fn search_has_a_range_and_a_pattern(rt: HostRuntime) -> Result<(), Fail> {
     for &(words, from, to, stats, workers, pattern) in SEARCHES {
-        let all = words_of(rt.alloc(), words)?;
-        let Ok(Command::Search { asked }) = read_words(rt.alloc(), all.as_slice()) else {
-            return Err(Fail::from("no search"));
-        };
-        assert_eq!(rt; (asked.from, asked.to), (from, to));
-        assert_eq!(rt; (asked.stats, asked.workers), (stats, workers));
-        assert_eq!(rt; asked.pattern, pattern);
+        let well = searches(rt.alloc(), words, (from, to), (stats, workers), pattern)?;
+        assert!(rt; well, "{words:?}");
     }
     Ok(())
 }
 
+/// Whether the words ask to decode the file of this number.
+fn decodes(alloc: Global, words: &[&str], wanted: u32) -> Result<bool, AllocError> {
+    let all = words_of(alloc, words)?;
+    Ok(match read_words(alloc, all.as_slice()) {
+        Ok(Command::Decode { number }) => number == wanted,
+        _ => false,
+    })
+}
+
+/// Whether the words ask for generated logs of this number, so many lines each, by so many workers.
+fn benches(alloc: Global, words: &[&str], wanted: (u32, u32, u32)) -> Result<bool, AllocError> {
+    let all = words_of(alloc, words)?;
+    Ok(match read_words(alloc, all.as_slice()) {
+        Ok(Command::Bench { asked }) => (asked.number, asked.lines, asked.workers) == wanted,
+        _ => false,
+    })
+}
+
 #[test]
 fn decode_and_bench_have_numbers(rt: HostRuntime) -> Result<(), Fail> {
-    let all = words_of(rt.alloc(), &["decode", "4294967295"])?;
-    let Ok(Command::Decode { number }) = read_words(rt.alloc(), all.as_slice()) else {
-        return Err(Fail::from("no decode"));
-    };
-    assert_eq!(rt; number, u32::MAX);
-    let all = words_of(rt.alloc(), &["bench", "0", "1000000", "64"])?;
-    let Ok(Command::Bench { asked }) = read_words(rt.alloc(), all.as_slice()) else {
-        return Err(Fail::from("no bench"));
-    };
-    assert_eq!(rt;
-        (asked.number, asked.lines, asked.workers),
-        (0, 1_000_000, 64)
-    );
+    let decoded = decodes(rt.alloc(), &["decode", "4294967295"], u32::MAX)?;
+    let words = ["bench", "0", "1000000", "64"];
+    let benched = benches(rt.alloc(), &words, (0, 1_000_000, 64))?;
+    assert!(rt; decoded && benched);
     Ok(())
 }
