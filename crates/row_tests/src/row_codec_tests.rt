@@ -5,7 +5,6 @@ ghost use Rattle.row_codec.specs.declared.TheConstants.{MAX_MESSAGE_LEN};
 
 use crate::books::Books;
 use column_store::RowRef;
-use plain_list::Text;
 use row_codec::{Encoder, NameRefusal, Names, Which, encode_message, expand, row_fits, row_ok};
 use std::alloc::{AllocError, Global};
 use std::marker::Brand;
@@ -31,19 +30,38 @@ const STAMPED: &[(bool, &[u8], u8, i64)] = &[
     (false, b"\x11\x12\x13\\\xFF", 0, 0),
 ];
 
-// One encoder that is filled again holds the stamp of the message that it read last.
+// Whether an encoder holds the stamp of the message that it read last.
+fn reads_stamp(
+    encoder: &mut Encoder,
+    micro: bool,
+    line: &[u8],
+    stamp: (u8, i64),
+) -> Result<bool, AllocError> {
+    encoder.read(micro, line)?;
+    let row = encoder.row();
+    Ok((row.pattern, row.moment) == stamp)
+}
+
+// How many messages up to the first whose stamp one encoder does not hold.
+fn stamped(encoder: &mut Encoder) -> Result<usize, AllocError> {
+    for (count, row) in STAMPED.iter().enumerate() {
+        let &(micro, line, pattern, moment) = row;
+        if !reads_stamp(encoder, micro, line, (pattern, moment))? {
+            return Ok(count);
+        }
+    }
+    Ok(STAMPED.len())
+}
+
+fn stamped_by_one(alloc: Global) -> Result<usize, AllocError> {
+    let mut encoder = Encoder::new(alloc);
+    stamped(&mut encoder)
+}
+
 #[test]
 fn stamps_of_messages(rt: HostRuntime) -> Result<(), AllocError> {
-    let mut encoder = Encoder::new(rt.alloc());
-    for (micro, line, pattern, moment) in STAMPED {
-        encoder.read(*micro, line)?;
-        let row = encoder.row();
-        assert!(rt;
-            row.pattern == *pattern && row.moment == *moment,
-            "at {line:?}"
-        );
-    }
-    assert!(rt; encoder.used().is_empty());
+    let told = stamped_by_one(rt.alloc())?;
+    assert!(rt; told == STAMPED.len(), "{told}");
     Ok(())
 }
 
@@ -62,13 +80,25 @@ fn is_first(
     Ok(first && row.words == words && encoded.used.as_slice() == [0].as_slice())
 }
 
-// With empty books a message has the first numbers, and one of its type names nothing anew.
+// Whether the first message has the first numbers, and one of its type names nothing anew.
+fn are_first(alloc: Global, books: &mut Books) -> Result<bool, NameRefusal> {
+    Ok(
+        is_first(alloc, books, b"7 x7", &[7, 0])?
+            && is_first(alloc, books, b"8 x7", &[8, 0])?
+            && books.counts() == (1, 1),
+    )
+}
+
+// The same over empty books.
+fn are_first_of_all(alloc: Global) -> Result<bool, NameRefusal> {
+    let mut books = Books::new(alloc, 1, 100);
+    are_first(alloc, &mut books)
+}
+
 #[test]
 fn rows_over_two_books(rt: HostRuntime) -> Result<(), NameRefusal> {
-    let mut books = Books::new(rt.alloc(), 1, 100);
-    let first = is_first(rt.alloc(), &mut books, b"7 x7", &[7, 0])?;
-    let again = is_first(rt.alloc(), &mut books, b"8 x7", &[8, 0])?;
-    assert!(rt; first && again && books.counts() == (1, 1));
+    let well = are_first_of_all(rt.alloc())?;
+    assert!(rt; well);
     Ok(())
 }
 
@@ -86,20 +116,46 @@ const ODD_ROWS: &[(u8, i64, u32, &[u64], bool, bool)] = &[
     (8, 0, 0, &[7, 0], true, false),
 ];
 
-#[test]
-fn rows_that_are_no_encoding(rt: HostRuntime) -> Result<(), NameRefusal> {
-    let mut books = Books::new(rt.alloc(), 1, 100);
-    encode_message(rt.alloc(), b"7 x7", &mut books)?;
-    for (pattern, moment, log_type, words, fits, ok) in ODD_ROWS {
+// Names what a message has, and forgets its row.
+fn name(alloc: Global, line: &[u8], books: &mut Books) -> Result<(), NameRefusal>
+    requires short { length line.now ≤ MAX_MESSAGE_LEN }
+{
+    encode_message(alloc, line, books)?;
+    Ok(())
+}
+
+// How many rows up to the first that can be written, or is an encoding, other than told.
+fn told_rows(books: &Books) -> usize {
+    for (count, row) in ODD_ROWS.iter().enumerate() {
+        let &(pattern, moment, log_type, words, fits, ok) = row;
         let row = RowRef {
-            pattern: *pattern,
-            moment: *moment,
-            log_type: *log_type,
+            pattern,
+            moment,
+            log_type,
             words,
         };
-        let well = row_fits(row, &books) == *fits && row_ok(row, &books) == *ok;
-        assert!(rt; well, "at {words:?}");
+        if (row_fits(row, books), row_ok(row, books)) != (fits, ok) {
+            return count;
+        }
     }
+    ODD_ROWS.len()
+}
+
+// The same over books that have what a message has.
+fn told_behind(alloc: Global, books: &mut Books) -> Result<usize, NameRefusal> {
+    name(alloc, b"7 x7", books)?;
+    Ok(told_rows(books))
+}
+
+fn told_of_all(alloc: Global) -> Result<usize, NameRefusal> {
+    let mut books = Books::new(alloc, 1, 100);
+    told_behind(alloc, &mut books)
+}
+
+#[test]
+fn rows_that_are_no_encoding(rt: HostRuntime) -> Result<(), NameRefusal> {
+    let told = told_of_all(rt.alloc())?;
+    assert!(rt; told == ODD_ROWS.len(), "{told}");
     Ok(())
 }
 
@@ -114,42 +170,68 @@ fn is_refused(alloc: Global, line: &[u8], books: &mut Books) -> bool
     encode_message(alloc, line, books).err() == Some(full)
 }
 
-// A word that has no room is refused after what stands before it was named.
+// Whether a word that has no room is refused after what stands before it was named.
+fn is_full(alloc: Global, books: &mut Books) -> Result<bool, NameRefusal> {
+    name(alloc, b"7 x7", books)?;
+    Ok(is_refused(alloc, b"9 y9", books) && books.counts() == (1, 1))
+}
+
+fn is_full_at_one(alloc: Global) -> Result<bool, NameRefusal> {
+    let mut books = Books::new(alloc, 1, 1);
+    is_full(alloc, &mut books)
+}
+
 #[test]
 fn a_full_dictionary_of_words(rt: HostRuntime) -> Result<(), NameRefusal> {
-    let mut books = Books::new(rt.alloc(), 1, 1);
-    encode_message(rt.alloc(), b"7 x7", &mut books)?;
-    assert!(rt; is_refused(rt.alloc(), b"9 y9", &mut books) && books.counts() == (1, 1));
+    let well = is_full_at_one(rt.alloc())?;
+    assert!(rt; well);
     Ok(())
+}
+
+// Whether a log type, and the words before one that has no room, have their numbers.
+fn are_named_before(alloc: Global, books: &mut Books) -> bool {
+    is_refused(alloc, b"x1-a y1 z", books)
+        && books.type_number(b"\x12 \x12 z") == Some(0)
+        && books.word_number(b"x1-a") == Some(0)
+}
+
+fn are_named_before_one(alloc: Global) -> bool {
+    let mut books = Books::new(alloc, 1, 1);
+    are_named_before(alloc, &mut books)
 }
 
 #[test]
 fn words_before_a_full_dictionary(rt: HostRuntime) {
-    let mut books = Books::new(rt.alloc(), 1, 1);
-    assert!(rt; is_refused(rt.alloc(), b"x1-a y1 z", &mut books));
-    assert!(rt; books.type_number(b"\x12 \x12 z") == Some(0));
-    assert!(rt; books.word_number(b"x1-a") == Some(0));
+    let well = are_named_before_one(rt.alloc());
+    assert!(rt; well);
 }
 
-// What the row of a message is written as, where it is the encoding of one, over books without
-// texts.
-fn back<L: Ledger>(
+// Whether the row of a message is the encoding of one, and is written as the message.
+fn is_written<L: Ledger>(
     alloc: Global,
     line: &[u8],
-    version: u8,
+    books: &mut Books,
     blank: Blank,
-) -> Result<Option<Text>, NameRefusal>
+) -> Result<bool, NameRefusal>
     requires blank { OpensFor blank L.name L.parts }
     requires short { length line.now ≤ MAX_MESSAGE_LEN }
 {
-    let mut books = Books::new(alloc, version, 100);
-    let encoded = encode_message(alloc, line, &mut books)?;
+    let encoded = encode_message(alloc, line, books)?;
     let row = encoded.row.lend();
-    if !row_fits(row, &books) || !row_ok(row, &books) {
-        return Ok(None);
+    if !row_fits(row, books) || !row_ok(row, books) {
+        return Ok(false);
     }
     let mut steps: Steps<L> = Steps::new(blank);
-    Ok(Some(expand(alloc, row, &books, &mut steps)?))
+    let text = expand(alloc, row, books, &mut steps)?;
+    Ok(text.as_slice() == line)
+}
+
+// The same over books of a version without texts.
+fn comes_back(alloc: Global, line: &[u8], version: u8) -> Result<bool, NameRefusal>
+    requires { length line.now ≤ MAX_MESSAGE_LEN }
+{
+    let mut books = Books::new(alloc, version, 100);
+    is_written::<Brand>(alloc, line, &mut books, Blank::new(1))
 }
 
 // A version and a message.
@@ -169,9 +251,8 @@ const MESSAGES: &[(u8, &[u8])] = &[
 
 #[test]
 fn messages_come_back(rt: HostRuntime) -> Result<(), NameRefusal> {
-    for (version, line) in MESSAGES {
-        let text = back::<Brand>(rt.alloc(), line, *version, Blank::new(1))?;
-        let well = text.is_some_and(|text: Text| text.as_slice() == *line);
+    for &(version, line) in MESSAGES {
+        let well = comes_back(rt.alloc(), line, version)?;
         assert!(rt; well, "at {line:?}");
     }
     Ok(())

@@ -7,6 +7,7 @@ use column_store::RowRef;
 use dict_core::BookRefusal;
 use row_codec::{Layouts, NameRefusal, RowWriter, encode_message};
 use std::alloc::{AllocError, Global};
+use std::test::Fail;
 
 // Whether a writer appends the text of a row to what stands there, or nothing where there is none.
 fn appends(
@@ -51,13 +52,25 @@ fn comes_back(alloc: Global, line: &[u8], books: &mut Books) -> Result<bool, Nam
     Ok(appends(alloc, &mut writer, encoded.row.lend(), books, Some(line))?)
 }
 
+// How many messages up to the first that does not come back.
+fn come_back(alloc: Global, books: &mut Books) -> Result<usize, NameRefusal> {
+    for (count, line) in LINES.iter().enumerate() {
+        if !comes_back(alloc, line, books)? {
+            return Ok(count);
+        }
+    }
+    Ok(LINES.len())
+}
+
+fn come_back_over_new(alloc: Global) -> Result<usize, NameRefusal> {
+    let mut books = Books::new(alloc, 1, 100);
+    come_back(alloc, &mut books)
+}
+
 #[test]
 fn messages_come_back_by_a_writer(rt: HostRuntime) -> Result<(), NameRefusal> {
-    let mut books = Books::new(rt.alloc(), 1, 100);
-    for line in LINES {
-        let well = comes_back(rt.alloc(), line, &mut books)?;
-        assert!(rt; well, "at {line:?}");
-    }
+    let told = come_back_over_new(rt.alloc())?;
+    assert!(rt; told == LINES.len(), "{told}");
     Ok(())
 }
 
@@ -78,44 +91,76 @@ const ROWS: &[(u8, i64, u32, &[u64], Option<&[u8]>)] = &[
     (0, 0, 0, &[8, 0], Some(b"8 x7")),
 ];
 
-// Books of four log types, the second of which has a text that is none, and one word.
-fn four_types(alloc: Global) -> Result<Books, BookRefusal> {
-    let mut books = Books::new(alloc, 1, 100);
+// Names four log types, the second of which has a text that is none, and one word.
+fn name_four(books: &mut Books) -> Result<(), BookRefusal> {
     books.add_type(b"\x11 \x12")?;
     books.add_type(b"\x11 \\x")?;
     books.add_type(b"a\\\x11b\\\\")?;
     books.add_type(b"\x12\x12\x11")?;
     books.add_word(b"x7")?;
-    Ok(books)
-}
-
-#[test]
-fn one_writer_for_rows_of_several_types(rt: HostRuntime) -> Result<(), BookRefusal> {
-    let books = four_types(rt.alloc())?;
-    let layouts = Layouts::of(rt.alloc(), &books)?;
-    let mut writer = RowWriter::new(&layouts);
-    for (pattern, moment, log_type, words, text) in ROWS {
-        let row = RowRef {
-            pattern: *pattern,
-            moment: *moment,
-            log_type: *log_type,
-            words,
-        };
-        let well = appends(rt.alloc(), &mut writer, row, &books, *text)?;
-        assert!(rt; well, "at {words:?}");
-    }
     Ok(())
 }
 
-// Log types that came later are added to those that were cut.
+// Whether one writer writes all the rows as told.
+fn are_written(alloc: Global, writer: &mut RowWriter<'_>, books: &Books) -> Result<bool, AllocError>
+    requires types { writer.old ≡ books.now.types.texts }
+{
+    for &(pattern, moment, log_type, words, text) in ROWS {
+        let row = RowRef {
+            pattern,
+            moment,
+            log_type,
+            words,
+        };
+        if !appends(alloc, writer, row, books, text)? {
+            return Ok(false);
+        }
+    }
+    Ok(true)
+}
+
+// The same by a writer of one's own, over books of four log types.
+fn are_written_over(alloc: Global, books: &Books) -> Result<bool, AllocError> {
+    let layouts = Layouts::of(alloc, books)?;
+    let mut writer = RowWriter::new(&layouts);
+    are_written(alloc, &mut writer, books)
+}
+
+fn are_written_of_four(alloc: Global, books: &mut Books) -> Result<bool, Fail> {
+    name_four(books)?;
+    Ok(are_written_over(alloc, books)?)
+}
+
+fn are_written_over_new(alloc: Global) -> Result<bool, Fail> {
+    let mut books = Books::new(alloc, 1, 100);
+    are_written_of_four(alloc, &mut books)
+}
+
+#[test]
+fn one_writer_for_rows_of_several_types(rt: HostRuntime) -> Result<(), Fail> {
+    let well = are_written_over_new(rt.alloc())?;
+    assert!(rt; well);
+    Ok(())
+}
+
+// Whether a message of a log type that came after layouts were cut comes back, once it is added to them.
+fn comes_later(alloc: Global, books: &mut Books) -> Result<bool, NameRefusal> {
+    let mut layouts = Layouts::of(alloc, books)?;
+    let encoded = encode_message(alloc, b"7 x7", books)?;
+    layouts.extend(books)?;
+    let mut writer = RowWriter::new(&layouts);
+    let row = encoded.row.lend();
+    Ok(appends(alloc, &mut writer, row, books, Some(b"7 x7"))?)
+}
+
+fn comes_later_over_new(alloc: Global) -> Result<bool, NameRefusal> {
+    let mut books = Books::new(alloc, 1, 100);
+    comes_later(alloc, &mut books)
+}
+
 #[test]
 fn log_types_that_come_later(rt: HostRuntime) -> Result<(), NameRefusal> {
-    let mut books = Books::new(rt.alloc(), 1, 100);
-    let mut layouts = Layouts::of(rt.alloc(), &books)?;
-    let row = encode_message(rt.alloc(), b"7 x7", &mut books)?.row;
-    layouts.extend(&books)?;
-    let mut writer = RowWriter::new(&layouts);
-    let well = appends(rt.alloc(), &mut writer, row.lend(), &books, Some(b"7 x7"))?;
+    let well = comes_later_over_new(rt.alloc())?;
     assert!(rt; well);
     Ok(())
 }

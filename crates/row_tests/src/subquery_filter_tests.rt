@@ -1,5 +1,6 @@
 use crate::books::Books;
 use column_store::{Range, RowRef};
+use dict_core::BookRefusal;
 use plain_list::NumberList;
 use query_plan::Plan;
 use row_codec::row_fits;
@@ -31,17 +32,21 @@ const RUNS: &[(&[u8], &[u8], bool)] = &[
 ];
 
 /// Whether a segment of this log type alone, with no word, may match the pattern.
-fn may_have(alloc: Global, text: &[u8], pattern: &[u8]) -> Result<bool, Fail> {
+fn may_have(alloc: Global, books: &mut Books, text: &[u8], pattern: &[u8]) -> Result<bool, Fail> {
+    let number = books.add_type(text)?;
+    Ok(!barren_of(books, alloc, pattern, 1, &[number], &[])?)
+}
+
+fn may_have_over_new(alloc: Global, text: &[u8], pattern: &[u8]) -> Result<bool, Fail> {
     let mut books = Books::new(alloc, 1, 100);
-    let number = books.add_type(text).ok().ok_or("a number")?;
-    Ok(!barren_of(&books, alloc, pattern, 1, &[number], &[])?)
+    may_have(alloc, &mut books, text, pattern)
 }
 
 #[test]
 fn runs_of_log_types(rt: HostRuntime) -> Result<(), Fail> {
-    for (text, pattern, want) in RUNS {
-        let may = may_have(rt.alloc(), text, pattern)?;
-        assert!(rt; may == *want, "{text:?} {pattern:?}");
+    for &(text, pattern, want) in RUNS {
+        let may = may_have_over_new(rt.alloc(), text, pattern)?;
+        assert!(rt; may == want, "{text:?} {pattern:?}");
     }
     Ok(())
 }
@@ -73,15 +78,21 @@ const TYPES: &[&[u8]] = &[b"run \x12 x", b" INFO \x11 took \x13 s", b"a\\\\b \x1
 
 const WORDS: &[&[u8]] = &[b"task_1", b"task_2", b"xfoo1y"];
 
-/// Three log types and three words.
-fn some_books(alloc: Global) -> Result<Books, Fail> {
-    let mut books = Books::new(alloc, 1, 100);
+/// Names three log types and three words.
+fn name_some(books: &mut Books) -> Result<(), BookRefusal> {
     for text in TYPES {
-        books.add_type(text).ok().ok_or("a number")?;
+        books.add_type(text)?;
     }
     for text in WORDS {
-        books.add_word(text).ok().ok_or("a number")?;
+        books.add_word(text)?;
     }
+    Ok(())
+}
+
+/// Books of three log types and three words.
+fn some_books(alloc: Global) -> Result<Books, BookRefusal> {
+    let mut books = Books::new(alloc, 1, 100);
+    name_some(&mut books)?;
     Ok(books)
 }
 
@@ -118,14 +129,26 @@ fn barren_of(
     Ok(barren(&head, &plan, &range, books))
 }
 
+/// How many segments up to the first that is barren or not other than told.
+fn barren_segments(alloc: Global, books: &Books) -> Result<usize, Fail> {
+    for (place, row) in SEGMENTS.iter().enumerate() {
+        let &(text, rows, types, words, want) = row;
+        if barren_of(books, alloc, text, rows, types, words)? != want {
+            return Ok(place);
+        }
+    }
+    Ok(SEGMENTS.len())
+}
+
+fn barren_over_some(alloc: Global) -> Result<usize, Fail> {
+    let books = some_books(alloc)?;
+    barren_segments(alloc, &books)
+}
+
 #[test]
 fn segments_without_a_needed_text(rt: HostRuntime) -> Result<(), Fail> {
-    let alloc = rt.alloc();
-    let books = some_books(alloc)?;
-    for (text, count, types, words, want) in SEGMENTS {
-        let is_barren = barren_of(&books, alloc, text, *count, types, words)?;
-        assert!(rt; is_barren == *want, "{text:?} {words:?}");
-    }
+    let told = barren_over_some(rt.alloc())?;
+    assert!(rt; told == SEGMENTS.len(), "{told}");
     Ok(())
 }
 
@@ -154,19 +177,31 @@ fn outside(
     Ok(barren(&head, plan, range, books))
 }
 
+/// How many ranges up to the first that leaves a segment barren or not other than told.
+fn told_ranges(alloc: Global, books: &Books, plan: &Plan) -> Result<usize, Fail> {
+    for (place, row) in RANGES.iter().enumerate() {
+        let &(stamped, from, to, want) = row;
+        if outside(alloc, books, plan, stamped, &Range { from, to })? != want {
+            return Ok(place);
+        }
+    }
+    Ok(RANGES.len())
+}
+
+fn told_ranges_of(alloc: Global, text: &[u8], books: &Books) -> Result<usize, Fail> {
+    let plan = plan_of(alloc, text)?;
+    told_ranges(alloc, books, &plan)
+}
+
+fn told_ranges_over_some(alloc: Global) -> Result<usize, Fail> {
+    let books = some_books(alloc)?;
+    told_ranges_of(alloc, b"x", &books)
+}
+
 #[test]
 fn segments_outside_a_range(rt: HostRuntime) -> Result<(), Fail> {
-    let alloc = rt.alloc();
-    let books = some_books(alloc)?;
-    let plan = plan_of(alloc, b"x")?;
-    for (stamped, from, to, want) in RANGES {
-        let range = Range {
-            from: *from,
-            to: *to,
-        };
-        let is_barren = outside(alloc, &books, &plan, *stamped, &range)?;
-        assert!(rt; is_barren == *want, "{from:?} {to:?}");
-    }
+    let told = told_ranges_over_some(rt.alloc())?;
+    assert!(rt; told == RANGES.len(), "{told}");
     Ok(())
 }
 
@@ -215,21 +250,44 @@ const ROWS: &[(&[u8], u8, i64, u32, &[u64], Option<bool>)] = &[
     (b"", 0, 0, 3, &[], None),
 ];
 
-#[test]
-fn rows_that_match(rt: HostRuntime) -> Result<(), Fail> {
-    let alloc = rt.alloc();
-    let books = some_books(alloc)?;
-    for (text, pattern, moment, log_type, words, want) in ROWS {
-        let plan = plan_of(alloc, text)?;
+/// Whether a row is accepted by the plan of a pattern as told.
+fn is_accepted(
+    alloc: Global,
+    books: &Books,
+    text: &[u8],
+    row: RowRef<'_>,
+    want: Option<bool>,
+) -> Result<bool, Fail> {
+    let plan = plan_of(alloc, text)?;
+    Ok(accepted(&plan, row, books) == want)
+}
+
+/// How many rows up to the first that is accepted or not other than told.
+fn accepted_rows(alloc: Global, books: &Books) -> Result<usize, Fail> {
+    for (place, row) in ROWS.iter().enumerate() {
+        let &(text, pattern, moment, log_type, words, want) = row;
         let row = RowRef {
-            pattern: *pattern,
-            moment: *moment,
-            log_type: *log_type,
+            pattern,
+            moment,
+            log_type,
             words,
         };
-        let well = accepted(&plan, row, &books) == *want;
-        assert!(rt; well, "{text:?} {words:?}");
+        if !is_accepted(alloc, books, text, row, want)? {
+            return Ok(place);
+        }
     }
+    Ok(ROWS.len())
+}
+
+fn accepted_over_some(alloc: Global) -> Result<usize, Fail> {
+    let books = some_books(alloc)?;
+    accepted_rows(alloc, &books)
+}
+
+#[test]
+fn rows_that_match(rt: HostRuntime) -> Result<(), Fail> {
+    let told = accepted_over_some(rt.alloc())?;
+    assert!(rt; told == ROWS.len(), "{told}");
     Ok(())
 }
 
@@ -245,45 +303,80 @@ const VERDICTS: &[(&[u8], &[u8], Verdict)] = &[
     (b"\n", b"run \x12 x", Verdict::Rejected),
 ];
 
+/// The verdict on a log type by the plan of a pattern.
+fn verdict_under(alloc: Global, text: &[u8], log_type: &[u8]) -> Result<Verdict, Fail> {
+    Ok(verdict_of(&plan_of(alloc, text)?, log_type))
+}
+
 #[test]
 fn verdicts_of_log_types(rt: HostRuntime) -> Result<(), Fail> {
     for (text, log_type, want) in VERDICTS {
-        let plan = plan_of(rt.alloc(), text)?;
-        let well = verdict_of(&plan, log_type) == *want;
-        assert!(rt; well, "{text:?}");
+        let verdict = verdict_under(rt.alloc(), text, log_type)?;
+        assert!(rt; verdict == *want, "{text:?}");
     }
     Ok(())
 }
 
-/// A row is told by what its words bring, and a segment by the words that its head lists. A number
-/// that happens to be that of a word counts as the word.
-#[test]
-fn rows_by_bits(rt: HostRuntime) -> Result<(), Fail> {
-    let alloc = rt.alloc();
-    let books = some_books(alloc)?;
-    // a pattern's text, a row's log type and words, its verdict, whether its segment may match
-    let rows: [(&[u8], u32, &[u32], &[u64], Verdict, bool); 9] = [
-        (b"task", 0, &[0], &[0], Verdict::Tried, true),
-        (b"task", 0, &[2], &[2], Verdict::Rejected, false),
-        (b"run*oo", 0, &[1, 2], &[1], Verdict::Rejected, true),
-        (b"run*oo", 0, &[1, 2], &[2], Verdict::Tried, true),
-        (b"run", 0, &[1], &[1], Verdict::Certain, true),
-        (b"took", 1, &[], &[7, 0x14F32], Verdict::Certain, true),
-        (b"oo1", 1, &[], &[7, 0x14F32], Verdict::Rejected, false),
-        (b"oo1", 1, &[2], &[2, 0x14F32], Verdict::Tried, true),
-        (b"12", 0, &[0], &[0], Verdict::Tried, true),
-    ];
-    for (text, log_type, listed, words, verdict, may) in rows {
-        let plan = plan_of(alloc, text)?;
-        let filter = Filter::new(alloc, &plan, &books)?;
+/// A pattern's text, a row's log type and words, the words that its segment lists, the row's verdict, and
+/// whether the segment may match.
+const BITS: &[(&[u8], u32, &[u64], &[u32], Verdict, bool)] = &[
+    (b"task", 0, &[0], &[0], Verdict::Tried, true),
+    (b"task", 0, &[2], &[2], Verdict::Rejected, false),
+    (b"run*oo", 0, &[1], &[1, 2], Verdict::Rejected, true),
+    (b"run*oo", 0, &[2], &[1, 2], Verdict::Tried, true),
+    (b"run", 0, &[1], &[1], Verdict::Certain, true),
+    (b"took", 1, &[7, 0x14F32], &[], Verdict::Certain, true),
+    (b"oo1", 1, &[7, 0x14F32], &[], Verdict::Rejected, false),
+    (b"oo1", 1, &[2, 0x14F32], &[2], Verdict::Tried, true),
+    (b"12", 0, &[0], &[0], Verdict::Tried, true),
+];
+
+/// Whether the filter of a pattern tells this of a row and of a segment that lists the words.
+fn tells(
+    alloc: Global,
+    books: &Books,
+    text: &[u8],
+    row: RowRef<'_>,
+    listed: &[u32],
+    told: (Verdict, bool),
+) -> Result<bool, Fail> {
+    let plan = plan_of(alloc, text)?;
+    let filter = Filter::new(alloc, &plan, books)?;
+    Ok(
+        (
+            filter.verdict(row),
+            filter.may_match(&[row.log_type], listed),
+        ) == told,
+    )
+}
+
+/// How many rows up to the first that is told otherwise.
+fn told_rows(alloc: Global, books: &Books) -> Result<usize, Fail> {
+    for (place, row) in BITS.iter().enumerate() {
+        let &(text, log_type, words, listed, verdict, may) = row;
         let row = RowRef {
             pattern: 0,
             moment: 0,
             log_type,
             words,
         };
-        assert_eq!(rt; filter.verdict(row), verdict, "{text:?} {words:?}");
-        assert_eq!(rt; filter.may_match(&[log_type], listed), may, "{text:?}");
+        if !tells(alloc, books, text, row, listed, (verdict, may))? {
+            return Ok(place);
+        }
     }
+    Ok(BITS.len())
+}
+
+fn told_over_some(alloc: Global) -> Result<usize, Fail> {
+    let books = some_books(alloc)?;
+    told_rows(alloc, &books)
+}
+
+/// A row is told by what its words bring, and a segment by the words that its head lists. A number
+/// that happens to be that of a word counts as the word.
+#[test]
+fn rows_by_bits(rt: HostRuntime) -> Result<(), Fail> {
+    let told = told_over_some(rt.alloc())?;
+    assert!(rt; told == BITS.len(), "{told}");
     Ok(())
 }
