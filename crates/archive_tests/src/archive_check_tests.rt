@@ -1,27 +1,13 @@
 //! The check of a small archive, whole, cut and changed.
+use crate::worked::{WORKED, changed};
 use archive_check::{CheckRefusal, Summary, check};
 use log_seams::MemDisk;
 use plain_list::Text;
 use std::alloc::{AllocError, Global};
 use std::test::Fail;
 
-// One file `a.log` with the bytes `a` and a line end: a record of its name, one of its log type, and
-// one of its rows.
-const WORKED: [u8; 155] = [
-    0x43, 0x4C, 0x50, 0x41, 0x52, 0x43, 0x48, 0x0A, 0x01, 0x00, 0x00, 0x00, 0x00, 0x00, 0x00, 0x01,
-    0x00, 0x00, 0x00, 0x80, 0x00, 0x00, 0x00, 0x00, 0x00, 0x00, 0x00, 0x00, 0x00, 0x01, 0x00, 0x00,
-    0x01, 0x01, 0x0D, 0x00, 0x00, 0x00, 0x00, 0x00, 0x00, 0x00, 0x01, 0x00, 0x00, 0x00, 0x05, 0x00,
-    0x00, 0x00, 0x61, 0x2E, 0x6C, 0x6F, 0x67, 0x01, 0x02, 0x0D, 0x00, 0x00, 0x00, 0x00, 0x00, 0x00,
-    0x00, 0x00, 0x00, 0x00, 0x00, 0x01, 0x00, 0x00, 0x00, 0x01, 0x00, 0x00, 0x00, 0x61, 0x01, 0x04,
-    0x42, 0x00, 0x00, 0x00, 0x00, 0x00, 0x00, 0x00, 0x00, 0x00, 0x00, 0x00, 0x00, 0x00, 0x00, 0x00,
-    0x00, 0x00, 0x00, 0x00, 0x01, 0x00, 0x00, 0x00, 0x03, 0x00, 0x00, 0x00, 0x00, 0x00, 0x00, 0x00,
-    0x00, 0x00, 0x00, 0x00, 0x00, 0x00, 0x00, 0x00, 0x00, 0x01, 0x00, 0x00, 0x00, 0x00, 0x00, 0x00,
-    0x00, 0x00, 0x00, 0x00, 0x00, 0x00, 0x00, 0x00, 0x00, 0x00, 0x00, 0x00, 0x00, 0x00, 0x00, 0x00,
-    0x00, 0x00, 0x00, 0x00, 0x00, 0x00, 0x00, 0x00, 0x00, 0x00, 0x00,
-];
-
 // A byte that is changed, and the place of the damage.
-const CHANGED: [(usize, u8, u64); 14] = [
+const CHANGED: &[(usize, u8, u64)] = &[
     (0, 0x44, 0),
     (8, 4, 0),
     (33, 9, 32),
@@ -44,13 +30,9 @@ fn check_bytes(alloc: Global, bytes: &[u8]) -> Result<Result<Summary, CheckRefus
     Ok(check(alloc, &mut disk))
 }
 
-// The worked archive with another byte at this place.
-fn changed(place: usize, byte: u8) -> [u8; 155] {
-    let mut bytes = WORKED;
-    if place < bytes.len() {
-        bytes[place] = byte;
-    }
-    bytes
+/// Whether the bytes are damaged at this place.
+fn is_damaged(alloc: Global, bytes: &[u8], at: u64) -> Result<bool, AllocError> {
+    Ok(check_bytes(alloc, bytes)? == Err(CheckRefusal::Damaged { at }))
 }
 
 // The place of the gate that the first so many bytes lack, or whose record they cut.
@@ -71,25 +53,26 @@ fn a_small_archive_is_legal(rt: HostRuntime) -> Result<(), Fail> {
         files: 1,
         messages: 1,
     };
-    assert_eq!(rt; check_bytes(rt.alloc(), &WORKED)?, Ok(whole));
+    let told = check_bytes(rt.alloc(), &WORKED)?;
+    assert!(rt; told == Ok(whole));
     Ok(())
 }
 
 #[test]
 fn each_cut_is_told_at_its_gate(rt: HostRuntime) -> Result<(), Fail> {
     for len in 0..WORKED.len() {
-        let at = damage_of_cut(len);
-        let found = check_bytes(rt.alloc(), &WORKED[..len])?;
-        assert_eq!(rt; found, Err(CheckRefusal::Damaged { at }));
+        let well = is_damaged(rt.alloc(), &WORKED[..len], damage_of_cut(len))?;
+        assert!(rt; well, "{len}");
     }
     Ok(())
 }
 
 #[test]
 fn each_changed_byte_is_told_at_its_gate(rt: HostRuntime) -> Result<(), Fail> {
-    for (place, byte, at) in CHANGED {
-        let found = check_bytes(rt.alloc(), &changed(place, byte))?;
-        assert_eq!(rt; found, Err(CheckRefusal::Damaged { at }));
+    for &(place, byte, at) in CHANGED {
+        let bytes = changed(rt.alloc(), &WORKED, place, byte)?;
+        let well = is_damaged(rt.alloc(), bytes.as_slice(), at)?;
+        assert!(rt; well, "{place}");
     }
     Ok(())
 }

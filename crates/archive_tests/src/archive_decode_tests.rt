@@ -1,4 +1,5 @@
 //! The files of small archives.
+use crate::worked::{WORKED, changed};
 use archive_decode::{DecodeRefusal, decode};
 use archive_open::{PlainBooks, open_archive};
 use log_seams::{MemDisk, MemSink};
@@ -6,76 +7,54 @@ use plain_list::Text;
 use std::alloc::{AllocError, Global};
 use std::test::Fail;
 
-// One file `a.log` with the bytes `a` and a line end: a record of its name, one of its log type, and
-// one of its rows.
-const WORKED: [u8; 155] = [
-    0x43, 0x4C, 0x50, 0x41, 0x52, 0x43, 0x48, 0x0A, 0x01, 0x00, 0x00, 0x00, 0x00, 0x00, 0x00, 0x01,
-    0x00, 0x00, 0x00, 0x80, 0x00, 0x00, 0x00, 0x00, 0x00, 0x00, 0x00, 0x00, 0x00, 0x01, 0x00, 0x00,
-    0x01, 0x01, 0x0D, 0x00, 0x00, 0x00, 0x00, 0x00, 0x00, 0x00, 0x01, 0x00, 0x00, 0x00, 0x05, 0x00,
-    0x00, 0x00, 0x61, 0x2E, 0x6C, 0x6F, 0x67, 0x01, 0x02, 0x0D, 0x00, 0x00, 0x00, 0x00, 0x00, 0x00,
-    0x00, 0x00, 0x00, 0x00, 0x00, 0x01, 0x00, 0x00, 0x00, 0x01, 0x00, 0x00, 0x00, 0x61, 0x01, 0x04,
-    0x42, 0x00, 0x00, 0x00, 0x00, 0x00, 0x00, 0x00, 0x00, 0x00, 0x00, 0x00, 0x00, 0x00, 0x00, 0x00,
-    0x00, 0x00, 0x00, 0x00, 0x01, 0x00, 0x00, 0x00, 0x03, 0x00, 0x00, 0x00, 0x00, 0x00, 0x00, 0x00,
-    0x00, 0x00, 0x00, 0x00, 0x00, 0x00, 0x00, 0x00, 0x00, 0x01, 0x00, 0x00, 0x00, 0x00, 0x00, 0x00,
-    0x00, 0x00, 0x00, 0x00, 0x00, 0x00, 0x00, 0x00, 0x00, 0x00, 0x00, 0x00, 0x00, 0x00, 0x00, 0x00,
-    0x00, 0x00, 0x00, 0x00, 0x00, 0x00, 0x00, 0x00, 0x00, 0x00, 0x00,
-];
-
-// The worked archive whose segment has these flags: bit 0 is that of a last segment, bit 1 that of a
-// newline behind its last message.
-fn with_flags(flags: u8) -> [u8; 155] {
-    let mut bytes = WORKED;
-    bytes[104] = flags;
-    bytes
-}
-
-// How the decoding of file 0 ended, and what a sink with so much room took.
+/// Whether the decoding of file 0 ends so, and a sink with so much room then has these bytes.
 fn decoded(
     alloc: Global,
     bytes: &[u8],
     room: usize,
-) -> Result<(Result<(), DecodeRefusal>, Vec<u8>), AllocError> {
-    let text = Text::new(bytes.to_vec(alloc)?);
-    let mut disk = MemDisk::new(alloc, text, 400, 40, Vec::new(alloc))?;
+    end: Result<(), DecodeRefusal>,
+    want: &[u8],
+) -> Result<bool, AllocError> {
+    let mut disk = disk_of(alloc, bytes)?;
     let mut out = MemSink::new(alloc, room, Vec::new(alloc))?;
     let Ok(archive) = open_archive::<MemDisk, PlainBooks>(alloc, &mut disk) else {
-        return Err(AllocError);
+        return Ok(false);
     };
     if archive.files().as_slice().is_empty() {
-        return Err(AllocError);
+        return Ok(false);
     }
     let outcome = decode(alloc, &archive, 0, &mut disk, &mut out);
-    Ok((outcome, out.bytes().to_vec(alloc)?))
+    Ok(outcome == end && out.bytes() == want)
 }
 
+fn disk_of(alloc: Global, bytes: &[u8]) -> Result<MemDisk, AllocError> {
+    let text = Text::new(bytes.to_vec(alloc)?);
+    MemDisk::new(alloc, text, 400, 40, Vec::new(alloc))
+}
+
+/// A place of the worked archive, the byte that comes there, how its file ends then, and what it has.
+/// Byte 104 has the flags of its segment: bit 0 is that of a last segment, bit 1 that of a newline
+/// behind its last message. Byte 146 is of the row's log type.
+const CHANGED: &[(usize, u8, Result<(), DecodeRefusal>, &[u8])] = &[
+    (104, 3, Ok(()), b"a\n"),
+    (104, 1, Ok(()), b"a"),
+    (104, 0, Ok(()), b"a\n"),
+    (146, 1, Err(DecodeRefusal::Damaged), b""),
+];
+
 #[test]
-fn a_file_comes_back(rt: HostRuntime) -> Result<(), Fail> {
-    let alloc = rt.alloc();
-    let rows: [(u8, &[u8]); 3] = [(3, b"a\n"), (1, b"a"), (0, b"a\n")];
-    for (flags, want) in rows {
-        let (outcome, text) = decoded(alloc, &with_flags(flags), 99)?;
-        assert_eq!(rt; outcome, Ok(()));
-        assert_eq!(rt; text.as_slice(), want);
+fn a_file_comes_back_or_is_damaged(rt: HostRuntime) -> Result<(), Fail> {
+    for &(at, byte, end, want) in CHANGED {
+        let bytes = changed(rt.alloc(), &WORKED, at, byte)?;
+        let well = decoded(rt.alloc(), bytes.as_slice(), 99, end, want)?;
+        assert!(rt; well, "{at} {byte}");
     }
-    Ok(())
-}
-
-#[test]
-fn a_row_of_no_log_type_is_damage(rt: HostRuntime) -> Result<(), Fail> {
-    let alloc = rt.alloc();
-    let mut bytes = WORKED;
-    bytes[146] = 1;
-    let (outcome, text) = decoded(alloc, &bytes, 99)?;
-    assert_eq!(rt; outcome, Err(DecodeRefusal::Damaged));
-    assert!(rt; text.is_empty());
     Ok(())
 }
 
 #[test]
 fn a_sink_without_room_is_told(rt: HostRuntime) -> Result<(), Fail> {
-    let alloc = rt.alloc();
-    let (outcome, text) = decoded(alloc, &WORKED, 1)?;
-    assert_eq!(rt; outcome, Err(DecodeRefusal::SinkFault));
-    assert!(rt; b"a\n".starts_with(text.as_slice()));
+    let well = decoded(rt.alloc(), &WORKED, 1, Err(DecodeRefusal::SinkFault), b"")?;
+    assert!(rt; well);
     Ok(())
 }

@@ -14,34 +14,60 @@ const HEADER: Header = Header {
     length_limit: 4096,
 };
 
-fn name(alloc: Global, book: Which, text: &[u8]) -> Result<Event, AllocError> {
-    Ok(Event::Name {
-        worker: 0,
-        book,
-        text: Text::new(text.to_vec(alloc)?),
+/// An event of a worker, without memory of its own.
+#[derive(Clone, Copy)]
+enum Step {
+    Name(Which, &'static [u8]),
+    Add(u32, &'static [u8]),
+    Seal,
+    Save(Which),
+}
+
+/// The event of a step; names and seals are those of worker 0.
+fn event(alloc: Global, step: Step) -> Result<Event, AllocError> {
+    Ok(match step {
+        Step::Name(book, text) => {
+            Event::Name {
+                worker: 0,
+                book,
+                text: Text::new(text.to_vec(alloc)?),
+            }
+        }
+        Step::Add(worker, message) => {
+            Event::Add {
+                worker,
+                message: Text::new(message.to_vec(alloc)?),
+            }
+        }
+        Step::Seal => Event::Seal { worker: 0 },
+        Step::Save(book) => Event::Save { book },
     })
 }
 
-fn add(alloc: Global, worker: u32, message: &[u8]) -> Result<Event, AllocError> {
-    Ok(Event::Add {
-        worker,
-        message: Text::new(message.to_vec(alloc)?),
-    })
-}
-
-// A message of worker 0, sealed too early, saved, and sealed again until its file ends.
-fn sealing(alloc: Global) -> Result<Vec<Event>, AllocError> {
+/// What the machine is after these steps.
+fn after(alloc: Global, steps: &[Step]) -> Result<Core, AllocError> {
     let mut events = Vec::new(alloc);
-    events.push(name(alloc, Which::Types, b"\x12 done")?)?;
-    events.push(name(alloc, Which::Words, b"task_1")?)?;
-    events.push(add(alloc, 0, b"task_1 done")?)?;
-    events.push(Event::Seal { worker: 0 })?;
-    events.push(Event::Save { book: Which::Types })?;
-    events.push(Event::Save { book: Which::Words })?;
-    events.push(Event::Seal { worker: 0 })?;
-    events.push(Event::Seal { worker: 0 })?;
-    Ok(events)
+    for step in steps {
+        events.push(event(alloc, *step)?)?;
+    }
+    core_run(alloc, &HEADER, &EventList::new(events))
 }
+
+/// A message of worker 0, sealed too early, saved, and sealed again until its file ends. Then texts past
+/// the limit, and a message of another worker whose log type is not there.
+const STEPS: &[Step] = &[
+    Step::Name(Which::Types, b"\x12 done"),
+    Step::Name(Which::Words, b"task_1"),
+    Step::Add(0, b"task_1 done"),
+    Step::Seal,
+    Step::Save(Which::Types),
+    Step::Save(Which::Words),
+    Step::Seal,
+    Step::Seal,
+    Step::Name(Which::Types, b"x"),
+    Step::Name(Which::Types, b"y"),
+    Step::Add(1, b"y"),
+];
 
 // The kind of an entry, its first number, how much it holds, and whether it ends a file.
 fn told(entry: &JournalEntry) -> (u8, u64, usize, bool) {
@@ -72,32 +98,34 @@ fn has_entries(core: &Core, entries: &[(u8, u64, usize, bool)]) -> bool {
         .all(|(entry, wanted)| told(entry) == *wanted)
 }
 
+/// The entries of the journal once the file has ended.
+const ENTRIES: &[(u8, u64, usize, bool)] = &[
+    (2, 0, 1, false),
+    (3, 0, 1, false),
+    (4, 0, 1, false),
+    (4, 1, 0, true),
+];
+
 // Nothing is sealed before its texts are saved; an empty hand ends the file.
 #[test]
 fn sealing_waits_for_texts(rt: HostRuntime) -> Result<(), AllocError> {
-    let events = EventList::new(sealing(rt.alloc())?);
-    let core = core_run(rt.alloc(), &HEADER, &events)?;
-    let entries = [
-        (2, 0, 1, false),
-        (3, 0, 1, false),
-        (4, 0, 1, false),
-        (4, 1, 0, true),
-    ];
-    assert!(rt; has_entries(&core, &entries));
+    let core = after(rt.alloc(), &STEPS[..8])?;
+    assert!(rt; has_entries(&core, ENTRIES));
     Ok(())
+}
+
+/// Whether there are two log types, of which this is the second, and one hand.
+fn has_second(core: &Core, text: &[u8]) -> bool {
+    let [_, second] = core.types.as_slice() else {
+        return false;
+    };
+    second.as_slice() == text && core.hands.len() == 1
 }
 
 // A dictionary at its limit takes no text more, and a message whose log type is not there is not added.
 #[test]
 fn limits_leave_the_state(rt: HostRuntime) -> Result<(), AllocError> {
-    let alloc = rt.alloc();
-    let mut events = sealing(alloc)?;
-    events.push(name(alloc, Which::Types, b"x")?)?;
-    events.push(name(alloc, Which::Types, b"y")?)?;
-    events.push(add(alloc, 1, b"y")?)?;
-    let core = core_run(alloc, &HEADER, &EventList::new(events))?;
-    assert_eq!(rt; core.types.len(), 2);
-    assert_eq!(rt; core.types.as_slice()[1].as_slice(), b"x".as_slice());
-    assert_eq!(rt; core.hands.len(), 1);
+    let core = after(rt.alloc(), STEPS)?;
+    assert!(rt; has_second(&core, b"x"));
     Ok(())
 }

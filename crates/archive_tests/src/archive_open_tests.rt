@@ -1,5 +1,6 @@
 //! The worked archive, cut and changed, and over a disk that fails.
 
+use crate::worked::{WORKED, changed};
 use archive_core::Books;
 use archive_open::{Archive, ArchiveRefusal, PlainBooks, open_archive};
 use log_seams::MemDisk;
@@ -8,23 +9,8 @@ use row_codec::Names;
 use std::alloc::{AllocError, Global};
 use std::test::Fail;
 
-// One file `a.log` with the bytes `a` and a line end: a record of its name, one of its log type, and
-// one of its rows.
-const WORKED: [u8; 155] = [
-    0x43, 0x4C, 0x50, 0x41, 0x52, 0x43, 0x48, 0x0A, 0x01, 0x00, 0x00, 0x00, 0x00, 0x00, 0x00, 0x01,
-    0x00, 0x00, 0x00, 0x80, 0x00, 0x00, 0x00, 0x00, 0x00, 0x00, 0x00, 0x00, 0x00, 0x01, 0x00, 0x00,
-    0x01, 0x01, 0x0D, 0x00, 0x00, 0x00, 0x00, 0x00, 0x00, 0x00, 0x01, 0x00, 0x00, 0x00, 0x05, 0x00,
-    0x00, 0x00, 0x61, 0x2E, 0x6C, 0x6F, 0x67, 0x01, 0x02, 0x0D, 0x00, 0x00, 0x00, 0x00, 0x00, 0x00,
-    0x00, 0x00, 0x00, 0x00, 0x00, 0x01, 0x00, 0x00, 0x00, 0x01, 0x00, 0x00, 0x00, 0x61, 0x01, 0x04,
-    0x42, 0x00, 0x00, 0x00, 0x00, 0x00, 0x00, 0x00, 0x00, 0x00, 0x00, 0x00, 0x00, 0x00, 0x00, 0x00,
-    0x00, 0x00, 0x00, 0x00, 0x01, 0x00, 0x00, 0x00, 0x03, 0x00, 0x00, 0x00, 0x00, 0x00, 0x00, 0x00,
-    0x00, 0x00, 0x00, 0x00, 0x00, 0x00, 0x00, 0x00, 0x00, 0x01, 0x00, 0x00, 0x00, 0x00, 0x00, 0x00,
-    0x00, 0x00, 0x00, 0x00, 0x00, 0x00, 0x00, 0x00, 0x00, 0x00, 0x00, 0x00, 0x00, 0x00, 0x00, 0x00,
-    0x00, 0x00, 0x00, 0x00, 0x00, 0x00, 0x00, 0x00, 0x00, 0x00, 0x00,
-];
-
 // Its gates.
-const GATES: [usize; 4] = [32, 55, 78, 154];
+const GATES: &[usize] = &[32, 55, 78, 154];
 
 fn disk(alloc: Global, bytes: &[u8], fails: &[u64]) -> Result<MemDisk, AllocError> {
     MemDisk::new(
@@ -69,34 +55,45 @@ fn is_worked_segment(archive: &Archive<Books>) -> bool {
         && segment.head.types.len() == 1
 }
 
+fn is_worked(archive: &Archive<Books>) -> bool {
+    is_worked_file(archive)
+        && is_worked_segment(archive)
+        && archive.entries() == 3
+        && archive.end() == 155
+        && archive.header().version == 1
+        && archive.names().type_text(0) == Some(b"a".as_slice())
+}
+
 #[test]
 fn the_worked_archive_opens(rt: HostRuntime) -> Result<(), Fail> {
-    let alloc = rt.alloc();
-    let archive = open(alloc, &WORKED)?;
-    assert!(rt; is_worked_file(&archive));
-    assert!(rt; is_worked_segment(&archive));
-    assert!(rt; archive.entries() == 3 && archive.end() == 155);
-    assert!(rt; archive.header().version == 1);
-    assert!(rt; archive.names().type_text(0) == Some(b"a".as_slice()));
-    assert!(rt; archive.into_books().words.len() == 0);
+    let archive = open(rt.alloc(), &WORKED)?;
+    assert!(rt; is_worked(&archive) && archive.into_books().words.len() == 0);
     Ok(())
+}
+
+// Opens an archive of these bytes with books that are read alone.
+fn open_plain(alloc: Global, bytes: &[u8]) -> Result<Archive<PlainBooks>, ArchiveRefusal> {
+    let mut disk = disk(alloc, bytes, &[])?;
+    open_archive(alloc, &mut disk)
+}
+
+// Whether the archive has this log type, and no word.
+fn has_type(archive: &Archive<PlainBooks>, number: u32) -> bool {
+    archive.names().type_text(number) == Some(b"a".as_slice())
+        && archive.names().word_number(b"a").is_none()
 }
 
 #[test]
 fn it_opens_for_reading(rt: HostRuntime) -> Result<(), Fail> {
-    let alloc = rt.alloc();
-    let mut disk = disk(alloc, &WORKED, &[])?;
-    let archive: Archive<PlainBooks> = open_archive(alloc, &mut disk)?;
-    assert!(rt; archive.names().type_text(0) == Some(b"a".as_slice()));
-    assert!(rt; archive.names().word_number(b"a").is_none());
-    assert!(rt; archive.files().len() == 1);
+    let archive = open_plain(rt.alloc(), &WORKED)?;
+    assert!(rt; has_type(&archive, 0) && archive.files().len() == 1);
     Ok(())
 }
 
 // The last gate that is not behind so many bytes, and 0 without a header.
 fn last_gate(len: usize) -> u64 {
     let mut last = 0;
-    for gate in GATES {
+    for &gate in GATES {
         if gate <= len {
             last = gate as u64;
         }
@@ -106,16 +103,15 @@ fn last_gate(len: usize) -> u64 {
 
 #[test]
 fn cut_bytes_are_damaged_at_a_gate(rt: HostRuntime) -> Result<(), Fail> {
-    let alloc = rt.alloc();
     for len in 0..WORKED.len() {
-        let at = damage(alloc, &WORKED[..len])?;
-        assert!(rt; at == Some(last_gate(len)));
+        let at = damage(rt.alloc(), &WORKED[..len])?;
+        assert!(rt; at == Some(last_gate(len)), "{len}");
     }
     Ok(())
 }
 
 // A place, the byte that comes there, and where the damage is told.
-const CHANGES: [(usize, u8, Option<u64>); 12] = [
+const CHANGES: &[(usize, u8, Option<u64>)] = &[
     (0, 0x44, Some(0)),
     (8, 0x09, Some(0)),
     (33, 0x09, Some(32)),
@@ -130,19 +126,12 @@ const CHANGES: [(usize, u8, Option<u64>); 12] = [
     (154, 0x05, None),
 ];
 
-fn changed(alloc: Global, at: usize, byte: u8) -> Result<Option<u64>, ArchiveRefusal> {
-    let mut bytes = WORKED;
-    if at < bytes.len() {
-        bytes[at] = byte;
-    }
-    damage(alloc, &bytes)
-}
-
 #[test]
 fn changed_bytes_are_damaged_where_they_are_read(rt: HostRuntime) -> Result<(), Fail> {
-    let alloc = rt.alloc();
-    for (at, byte, told) in CHANGES {
-        assert!(rt; changed(alloc, at, byte)? == told);
+    for &(at, byte, told) in CHANGES {
+        let bytes = changed(rt.alloc(), &WORKED, at, byte)?;
+        let well = damage(rt.alloc(), bytes.as_slice())? == told;
+        assert!(rt; well, "{at}");
     }
     Ok(())
 }
@@ -159,16 +148,15 @@ fn is_fault(alloc: Global, call: u64) -> Result<bool, AllocError> {
 
 #[test]
 fn a_fault_of_the_disk_is_told(rt: HostRuntime) -> Result<(), Fail> {
-    let alloc = rt.alloc();
-    for call in 0..CALLS {
-        assert!(rt; is_fault(alloc, call)?);
+    for call in 0..=CALLS {
+        let told = is_fault(rt.alloc(), call)?;
+        assert!(rt; told == (call < CALLS), "{call}");
     }
-    assert!(rt; !is_fault(alloc, CALLS)?);
     Ok(())
 }
 
 // A header and two log types that are the same.
-const TWICE: [u8; 61] = [
+static TWICE: [u8; 61] = [
     0x43, 0x4C, 0x50, 0x41, 0x52, 0x43, 0x48, 0x0A, 0x01, 0x00, 0x00, 0x00, 0x00, 0x00, 0x00, 0x01,
     0x00, 0x00, 0x00, 0x80, 0x00, 0x00, 0x00, 0x00, 0x00, 0x00, 0x00, 0x00, 0x00, 0x01, 0x00, 0x00,
     0x01, 0x02, 0x12, 0x00, 0x00, 0x00, 0x00, 0x00, 0x00, 0x00, 0x00, 0x00, 0x00, 0x00, 0x02, 0x00,
@@ -177,10 +165,9 @@ const TWICE: [u8; 61] = [
 
 #[test]
 fn a_text_that_stands_twice_is_damage_for_books_that_name(rt: HostRuntime) -> Result<(), Fail> {
-    let alloc = rt.alloc();
-    assert!(rt; damage(alloc, &TWICE)? == Some(32));
-    let mut disk = disk(alloc, &TWICE, &[])?;
-    let archive: Archive<PlainBooks> = open_archive(alloc, &mut disk)?;
-    assert!(rt; archive.names().type_text(1) == Some(b"a".as_slice()));
+    let told = damage(rt.alloc(), &TWICE)?;
+    assert!(rt; told == Some(32));
+    let archive = open_plain(rt.alloc(), &TWICE)?;
+    assert!(rt; has_type(&archive, 1));
     Ok(())
 }

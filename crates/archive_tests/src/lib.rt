@@ -19,3 +19,5 @@ mod ingest_workers_tests;
 mod search_engine_tests;
 #[cfg(test)]
 mod segment_pages_tests;
+#[cfg(test)]
+mod worked;

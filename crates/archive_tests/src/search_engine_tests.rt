@@ -1,6 +1,7 @@
 //! Searches of small archives, which were written by another program.
 ghost use Rattle.step_count.specs.Opens.{OpensFor};
 
+use crate::worked::changed;
 use archive_open::{Archive, PlainBooks, open_archive};
 use column_store::Range;
 use log_seams::{MemDisk, MemSink};
@@ -16,7 +17,7 @@ use step_count::Steps;
 use wild_match::read_pattern;
 
 // File `a.log` with the lines `12534`, `12 34` and `a12*34`.
-const NUMBERS: [u8; 280] = [
+static NUMBERS: [u8; 280] = [
     67, 76, 80, 65, 82, 67, 72, 10, 1, 0, 0, 0, 100, 0, 0, 0, 100, 0, 0, 0, 0, 0, 0, 0, 0, 16, 0,
     0, 0, 0, 0, 0, 1, 1, 13, 0, 0, 0, 0, 0, 0, 0, 1, 0, 0, 0, 5, 0, 0, 0, 97, 46, 108, 111, 103, 1,
     2, 27, 0, 0, 0, 0, 0, 0, 0, 0, 0, 0, 0, 3, 0, 0, 0, 1, 0, 0, 0, 17, 3, 0, 0, 0, 17, 32, 17, 3,
@@ -30,7 +31,7 @@ const NUMBERS: [u8; 280] = [
 ];
 
 // File `t.log` with two lines with a stamp, and one without.
-const STAMPS: [u8; 240] = [
+static STAMPS: [u8; 240] = [
     67, 76, 80, 65, 82, 67, 72, 10, 1, 0, 0, 0, 100, 0, 0, 0, 100, 0, 0, 0, 0, 0, 0, 0, 0, 16, 0,
     0, 0, 0, 0, 0, 1, 1, 13, 0, 0, 0, 0, 0, 0, 0, 1, 0, 0, 0, 5, 0, 0, 0, 116, 46, 108, 111, 103,
     1, 2, 56, 0, 0, 0, 0, 0, 0, 0, 0, 0, 0, 0, 3, 0, 0, 0, 11, 0, 0, 0, 32, 73, 78, 70, 79, 32,
@@ -44,7 +45,7 @@ const STAMPS: [u8; 240] = [
 
 // File `a.log` with the lines `run task_1 x`, `run task_2 x` and `run task_3 x`, a segment each, and an
 // empty last one.
-const ROWS: [u8; 488] = [
+static ROWS: [u8; 488] = [
     67, 76, 80, 65, 82, 67, 72, 10, 1, 0, 0, 0, 100, 0, 0, 0, 100, 0, 0, 0, 0, 0, 0, 0, 0, 16, 0,
     0, 0, 0, 0, 0, 1, 1, 13, 0, 0, 0, 0, 0, 0, 0, 1, 0, 0, 0, 5, 0, 0, 0, 97, 46, 108, 111, 103, 1,
     2, 19, 0, 0, 0, 0, 0, 0, 0, 0, 0, 0, 0, 1, 0, 0, 0, 7, 0, 0, 0, 114, 117, 110, 32, 18, 32, 120,
@@ -65,7 +66,7 @@ const ROWS: [u8; 488] = [
 ];
 
 // File `f.log` with the lines `a b c d e` and `a b c d x`.
-const LETTERS: [u8; 197] = [
+static LETTERS: [u8; 197] = [
     67, 76, 80, 65, 82, 67, 72, 10, 1, 0, 0, 0, 100, 0, 0, 0, 100, 0, 0, 0, 0, 0, 0, 0, 0, 16, 0,
     0, 0, 0, 0, 0, 1, 1, 13, 0, 0, 0, 0, 0, 0, 0, 1, 0, 0, 0, 5, 0, 0, 0, 102, 46, 108, 111, 103,
     1, 2, 34, 0, 0, 0, 0, 0, 0, 0, 0, 0, 0, 0, 2, 0, 0, 0, 9, 0, 0, 0, 97, 32, 98, 32, 99, 32, 100,
@@ -78,9 +79,15 @@ const LETTERS: [u8; 197] = [
 /// What a search printed and answered, and how many calls of the disk it made.
 #[derive(Drop)]
 struct Outcome {
-    printed: Text,
+    printed: MemSink,
     answer: Result<Report, SearchRefusal>,
     calls: u64,
+}
+
+/// A disk with these bytes, which is read alone.
+fn disk_of(alloc: Global, bytes: &[u8]) -> Result<MemDisk, AllocError> {
+    let bytes = Text::new(bytes.to_vec(alloc)?);
+    MemDisk::new(alloc, bytes, 0, 64, Vec::new(alloc))
 }
 
 /// Searches an archive into an output with so much room, for a caller that counts nothing.
@@ -102,14 +109,13 @@ fn search_with<R: Threads + Sync, L: Ledger, M: Ledger>(
     let Ok(pattern) = read_pattern(alloc, text) else {
         return Err(AllocError);
     };
-    let bytes = Text::new(bytes.to_vec(alloc)?);
-    let mut disk = MemDisk::new(alloc, bytes, 0, 64, Vec::new(alloc))?;
+    let mut out = MemSink::new(alloc, room, Vec::new(alloc))?;
+    let mut disk = disk_of(alloc, bytes)?;
     let opening: Result<Archive<PlainBooks>, _> = open_archive(alloc, &mut disk);
     let Ok(archive) = opening else {
         return Err(AllocError);
     };
     let before = disk.calls() as u64;
-    let mut out = MemSink::new(alloc, room, Vec::new(alloc))?;
     let mut opened: Steps<L> = Steps::new(one);
     let mut expanded: Steps<M> = Steps::new(two);
     let answer = search(
@@ -125,7 +131,7 @@ fn search_with<R: Threads + Sync, L: Ledger, M: Ledger>(
         &mut expanded,
     );
     Ok(Outcome {
-        printed: Text::new(out.bytes().to_vec(alloc)?),
+        printed: out,
         answer,
         calls: (disk.calls() as u64).wrapping_sub(before),
     })
@@ -158,6 +164,22 @@ const ALL: Range = Range {
     to: None,
 };
 
+/// What a search counts.
+type Counts = (u64, u64, u64, u64);
+
+/// Whether a search counts that.
+fn counts_are(answer: &Result<Report, SearchRefusal>, counts: Counts) -> bool {
+    match answer {
+        Ok(report) => {
+            report.matched == counts.0
+                && report.expanded == counts.1
+                && report.opened == counts.2
+                && report.segments == counts.3
+        }
+        Err(_) => false,
+    }
+}
+
 /// Whether a search prints that, and counts that: found, expanded, opened, all segments.
 fn finds<R: Threads + Sync>(
     rt: &R,
@@ -167,150 +189,165 @@ fn finds<R: Threads + Sync>(
     text: &[u8],
     range: Range,
     printed: &[u8],
-    counts: (u64, u64, u64, u64),
+    counts: Counts,
 ) -> Result<bool, AllocError> {
     let outcome = searched(rt, workers, alloc, bytes, text, range, 1_000)?;
-    let Ok(report) = outcome.answer else {
-        return Ok(false);
-    };
-    let told = (
-        report.matched,
-        report.expanded,
-        report.opened,
-        report.segments,
-    );
-    Ok(outcome.printed.as_slice() == printed && told == counts)
+    Ok(outcome.printed.bytes() == printed && counts_are(&outcome.answer, counts))
 }
+
+/// A pattern over the numbers, what is printed, and what is counted.
+const OF_NUMBERS: &[(&[u8], &[u8], Counts)] = &[
+    (
+        b"12*34",
+        b"a.log:1:12534\na.log:2:12 34\na.log:3:a12*34\n",
+        (3, 3, 1, 1),
+    ),
+    (b"12\\*34", b"a.log:3:a12*34\n", (1, 1, 1, 1)),
+    (
+        b"",
+        b"a.log:1:12534\na.log:2:12 34\na.log:3:a12*34\n",
+        (3, 3, 1, 1),
+    ),
+    (b"y", b"", (0, 0, 1, 1)),
+];
 
 #[test]
 fn patterns_over_numbers(rt: HostRuntime) -> Result<(), Fail> {
-    let alloc = rt.alloc();
-    let all: &[u8] = b"a.log:1:12534\na.log:2:12 34\na.log:3:a12*34\n";
-    let last: &[u8] = b"a.log:3:a12*34\n";
-    let cases: [(&[u8], &[u8], (u64, u64, u64, u64)); 4] = [
-        (b"12*34", all, (3, 3, 1, 1)),
-        (b"12\\*34", last, (1, 1, 1, 1)),
-        (b"", all, (3, 3, 1, 1)),
-        (b"y", b"", (0, 0, 1, 1)),
-    ];
-    for (text, printed, counts) in cases {
-        assert!(rt;
-            finds(&rt, 1, alloc, &NUMBERS, text, ALL, printed, counts)?,
-            "{counts:?}"
-        );
+    for &(text, printed, counts) in OF_NUMBERS {
+        let well = finds(&rt, 1, rt.alloc(), &NUMBERS, text, ALL, printed, counts)?;
+        assert!(rt; well, "{text:?}");
     }
     Ok(())
 }
+
+const ONE: &[u8] = b"t.log:1:2023-11-14 22:13:20,000 INFO start\n";
+
+const TWO: &[u8] = b"t.log:2:2023-11-14 22:13:21,500 INFO stop\n";
+
+/// A pattern over stamps, the bounds of a range, what is printed, and what is counted.
+const OF_STAMPS: &[(&[u8], Option<i64>, Option<i64>, &[u8], Counts)] = &[
+    (
+        b"INFO",
+        Some(1_700_000_001_500),
+        Some(1_700_000_001_500),
+        TWO,
+        (1, 1, 1, 1),
+    ),
+    (
+        b"",
+        Some(1_700_000_000_000),
+        Some(1_700_000_000_000),
+        ONE,
+        (1, 1, 1, 1),
+    ),
+    (b"INFO", Some(1_700_000_002_000), None, b"", (0, 0, 0, 1)),
+    (b"INFO", Some(-5), Some(5), b"", (0, 0, 0, 1)),
+    (b"e", None, None, b"t.log:3:  no stamp here\n", (1, 1, 1, 1)),
+    (b"20,000 INFO", None, None, ONE, (1, 1, 1, 1)),
+    (b"20?000 INFO", None, None, ONE, (1, 1, 1, 1)),
+];
 
 #[test]
 fn stamps_and_ranges(rt: HostRuntime) -> Result<(), Fail> {
-    let alloc = rt.alloc();
-    let one: &[u8] = b"t.log:1:2023-11-14 22:13:20,000 INFO start\n";
-    let two: &[u8] = b"t.log:2:2023-11-14 22:13:21,500 INFO stop\n";
-    let cases: [(&[u8], Option<i64>, Option<i64>, &[u8], (u64, u64, u64, u64)); 7] = [
-        (
-            b"INFO",
-            Some(1_700_000_001_500),
-            Some(1_700_000_001_500),
-            two,
-            (1, 1, 1, 1),
-        ),
-        (
-            b"",
-            Some(1_700_000_000_000),
-            Some(1_700_000_000_000),
-            one,
-            (1, 1, 1, 1),
-        ),
-        (b"INFO", Some(1_700_000_002_000), None, b"", (0, 0, 0, 1)),
-        (b"INFO", Some(-5), Some(5), b"", (0, 0, 0, 1)),
-        (b"e", None, None, b"t.log:3:  no stamp here\n", (1, 1, 1, 1)),
-        (b"20,000 INFO", None, None, one, (1, 1, 1, 1)),
-        (b"20?000 INFO", None, None, one, (1, 1, 1, 1)),
-    ];
-    for (text, from, to, printed, counts) in cases {
+    for &(text, from, to, printed, counts) in OF_STAMPS {
         let range = Range { from, to };
-        assert!(rt;
-            finds(&rt, 1, alloc, &STAMPS, text, range, printed, counts)?,
-            "{counts:?}"
-        );
+        let well = finds(&rt, 1, rt.alloc(), &STAMPS, text, range, printed, counts)?;
+        assert!(rt; well, "{text:?}");
     }
     Ok(())
 }
 
+/// Patterns of more open tokens than are planned, what is printed, and what is counted.
+const OF_LETTERS: &[(&[u8], &[u8], Counts)] = &[
+    (b"a*b*c*d*e", b"f.log:1:a b c d e\n", (1, 2, 1, 1)),
+    (
+        b"a*b*c*d",
+        b"f.log:1:a b c d e\nf.log:2:a b c d x\n",
+        (2, 2, 1, 1),
+    ),
+];
+
 #[test]
 fn more_open_tokens_than_planned(rt: HostRuntime) -> Result<(), Fail> {
-    let alloc = rt.alloc();
-    let first: &[u8] = b"f.log:1:a b c d e\n";
-    let both: &[u8] = b"f.log:1:a b c d e\nf.log:2:a b c d x\n";
-    assert!(rt;
-        finds(
-            &rt,
-            1,
-            alloc,
-            &LETTERS,
-            b"a*b*c*d*e",
-            ALL,
-            first,
-            (1, 2, 1, 1)
-        )?
-    );
-    assert!(rt; finds(&rt, 1, alloc, &LETTERS, b"a*b*c*d", ALL, both, (2, 2, 1, 1))?);
+    for &(text, printed, counts) in OF_LETTERS {
+        let well = finds(&rt, 1, rt.alloc(), &LETTERS, text, ALL, printed, counts)?;
+        assert!(rt; well, "{text:?}");
+    }
     Ok(())
+}
+
+/// A pattern over rows, what is printed, what is counted, and how many calls of the disk there are.
+const OF_ROWS: &[(&[u8], &[u8], Counts, u64)] = &[
+    (b" task_2 ", b"a.log:2:run task_2 x\n", (1, 1, 1, 4), 5),
+    (b" task_9 ", b"", (0, 0, 0, 4), 0),
+    (b"run;x", b"", (0, 0, 3, 4), 0),
+];
+
+/// Whether a search of the rows prints that, counts that, and calls the disk so often.
+fn reads_so_much<R: Threads + Sync>(
+    rt: &R,
+    alloc: Global,
+    text: &[u8],
+    printed: &[u8],
+    counts: Counts,
+    calls: u64,
+) -> Result<bool, AllocError> {
+    let outcome = searched(rt, 1, alloc, &ROWS, text, ALL, 1_000)?;
+    let told = counts_are(&outcome.answer, counts) && outcome.calls == calls;
+    Ok(told && outcome.printed.bytes() == printed)
 }
 
 #[test]
 fn columns_that_cannot_match_stay_unread(rt: HostRuntime) -> Result<(), Fail> {
-    let alloc = rt.alloc();
-    let second: &[u8] = b"a.log:2:run task_2 x\n";
-    assert!(rt; finds(&rt, 1, alloc, &ROWS, b" task_2 ", ALL, second, (1, 1, 1, 4))?);
-    assert!(rt; finds(&rt, 1, alloc, &ROWS, b" task_9 ", ALL, b"", (0, 0, 0, 4))?);
-    assert!(rt; finds(&rt, 1, alloc, &ROWS, b"run;x", ALL, b"", (0, 0, 3, 4))?);
-    assert_eq!(rt;
-        searched(&rt, 1, alloc, &ROWS, b" task_2 ", ALL, 1_000)?.calls,
-        5
-    );
-    assert_eq!(rt;
-        searched(&rt, 1, alloc, &ROWS, b" task_9 ", ALL, 1_000)?.calls,
-        0
-    );
-    assert_eq!(rt;
-        searched(&rt, 1, alloc, &ROWS, b"run;x", ALL, 1_000)?.calls,
-        0
-    );
+    for &(text, printed, counts, calls) in OF_ROWS {
+        let well = reads_so_much(&rt, rt.alloc(), text, printed, counts, calls)?;
+        assert!(rt; well, "{text:?}");
+    }
+    Ok(())
+}
+
+#[test]
+fn laws_hold() {
     exact_expands_printed();
     one_is_found();
-    Ok(())
+}
+
+/// Whether with so many workers a search into so little room prints a front of this, and tells why.
+fn stops<R: Threads + Sync>(
+    rt: &R,
+    workers: u32,
+    alloc: Global,
+    room: usize,
+    front: &[u8],
+) -> Result<bool, AllocError> {
+    let outcome = searched(rt, workers, alloc, &NUMBERS, b"12*34", ALL, room)?;
+    let is_front = front.starts_with(outcome.printed.bytes());
+    Ok(is_front && outcome.answer == Err(SearchRefusal::SinkFault))
 }
 
 #[test]
 fn an_output_that_fails_has_a_front(rt: HostRuntime) -> Result<(), Fail> {
-    let alloc = rt.alloc();
-    let stopped = searched(&rt, 1, alloc, &NUMBERS, b"12*34", ALL, 20)?;
-    assert!(rt; stopped.answer.err() == Some(SearchRefusal::SinkFault));
-    assert!(rt; b"a.log:1:12534\na.log:2:12 34\n".starts_with(stopped.printed.as_slice()));
+    let well = stops(&rt, 1, rt.alloc(), 20, b"a.log:1:12534\na.log:2:12 34\n")?;
+    assert!(rt; well);
     Ok(())
 }
 
+const ALL_ROWS: &[u8] = b"a.log:1:run task_1 x\na.log:2:run task_2 x\na.log:3:run task_3 x\n";
+
 #[test]
 fn any_number_of_workers_prints_the_same(rt: HostRuntime) -> Result<(), Fail> {
-    let alloc = rt.alloc();
-    let all: &[u8] = b"a.log:1:run task_1 x\na.log:2:run task_2 x\na.log:3:run task_3 x\n";
-    let counts: [u32; 4] = [0, 1, 2, 5];
-    for workers in counts {
-        assert!(rt;
-            finds(
-                &rt,
-                workers,
-                alloc,
-                &ROWS,
-                b"run task_",
-                ALL,
-                all,
-                (3, 3, 3, 4)
-            )?,
-            "{workers}"
-        );
+    for &workers in &[0u32, 1, 2, 5] {
+        let well = finds(
+            &rt,
+            workers,
+            rt.alloc(),
+            &ROWS,
+            b"run task_",
+            ALL,
+            ALL_ROWS,
+            (3, 3, 3, 4),
+        )?;
+        assert!(rt; well, "{workers}");
     }
     Ok(())
 }
@@ -324,29 +361,28 @@ fn is_damaged<R: Threads + Sync>(
     printed: &[u8],
 ) -> Result<bool, AllocError> {
     let outcome = searched(rt, workers, alloc, bytes, b"run task_", ALL, 1_000)?;
-    Ok(
-        outcome.printed.as_slice() == printed
-            && outcome.answer.err() == Some(SearchRefusal::Damaged),
-    )
+    let told = outcome.answer == Err(SearchRefusal::Damaged);
+    Ok(told && outcome.printed.bytes() == printed)
 }
+
+/// How many workers there are, a place of the third segment whose byte is 9, and what is printed then:
+/// where the count of the variables is wrong, its page cannot be read; where there is no such log type,
+/// the row cannot be written.
+const DAMAGES: &[(u32, usize, &[u8])] = &[
+    (1, 421, b"a.log:1:run task_1 x\na.log:2:run task_2 x\n"),
+    (2, 421, b"a.log:1:run task_1 x\na.log:2:run task_2 x\n"),
+    (5, 421, b"a.log:1:run task_1 x\na.log:2:run task_2 x\n"),
+    (1, 417, b""),
+    (2, 417, b""),
+    (5, 417, b""),
+];
 
 #[test]
 fn damage_is_met_alike_by_any_number_of_workers(rt: HostRuntime) -> Result<(), Fail> {
-    let alloc = rt.alloc();
-    let two: &[u8] = b"a.log:1:run task_1 x\na.log:2:run task_2 x\n";
-    let counts: [u32; 3] = [1, 2, 5];
-    for workers in counts {
-        // In the third segment the count of the variables is wrong, so that its page cannot be read.
-        let mut unread = ROWS;
-        unread[421] = 9;
-        assert!(rt; is_damaged(&rt, workers, alloc, &unread, two)?, "{workers}");
-        // There is no such log type, so that the row cannot be written.
-        let mut unwritten = ROWS;
-        unwritten[417] = 9;
-        assert!(rt;
-            is_damaged(&rt, workers, alloc, &unwritten, b"")?,
-            "{workers}"
-        );
+    for &(workers, at, printed) in DAMAGES {
+        let bytes = changed(rt.alloc(), &ROWS, at, 9)?;
+        let well = is_damaged(&rt, workers, rt.alloc(), bytes.as_slice(), printed)?;
+        assert!(rt; well, "{workers} {at}");
     }
     Ok(())
 }

@@ -1,6 +1,7 @@
 //! A segment behind ten bytes of a disk, whole, changed and over a disk that fails.
 ghost use Rattle.step_count.specs.Opens.{OpensFor};
 
+use crate::worked::changed;
 use column_store::Columns;
 use log_seams::MemDisk;
 use plain_list::Text;
@@ -21,7 +22,7 @@ const LEN: usize = 103;
 
 /// Rows 258 and 259 of file 1: one with pattern 8, moment -1500, log type 5 and the word 7, and one
 /// without stamp of log type 2 without words. The dictionary words are said to be 1 and 9.
-const TWO_ROWS: [u8; LEN] = [
+static TWO_ROWS: [u8; LEN] = [
     1, 0, 0, 0, 2, 1, 0, 0, 0, 0, 0, 0, 2, 0, 0, 0, 4, 0x24, 0xFA, 0xFF, 0xFF, 0xFF, 0xFF, 0xFF,
     0xFF, 0x24, 0xFA, 0xFF, 0xFF, 0xFF, 0xFF, 0xFF, 0xFF, 2, 0, 0, 0, 2, 0, 0, 0, 1, 0, 0, 0, 2, 0,
     0, 0, 5, 0, 0, 0, 1, 0, 0, 0, 9, 0, 0, 0, 8, 0, 0x24, 0xFA, 0xFF, 0xFF, 0xFF, 0xFF, 0xFF, 0xFF,
@@ -60,23 +61,36 @@ fn page_of<L: Ledger>(
     Ok(page)
 }
 
+/// Whether a page has these rows.
+fn is_page(page: &Columns) -> bool {
+    page.moments() == [-1_500, 0].as_slice()
+        && page.types() == [5, 2].as_slice()
+        && page.words() == [7].as_slice()
+}
+
+/// Whether the page of the disk has its rows, and took so many reads.
+fn takes_reads(alloc: Global, calls: usize) -> Result<bool, AllocError> {
+    let Ok(head) = read_head(alloc, &TWO_ROWS[..HEAD_LEN]) else {
+        return Ok(false);
+    };
+    let mut disk = disk(alloc, &TWO_ROWS, &[])?;
+    let Ok(page) = page_of::<Brand>(alloc, &head, &mut disk, Blank::new(1)) else {
+        return Ok(false);
+    };
+    Ok(is_page(&page) && disk.calls() == calls)
+}
+
 #[test]
 fn a_page_is_read_by_five_reads(rt: HostRuntime) -> Result<(), Fail> {
-    let alloc = rt.alloc();
-    let head = read_head(alloc, &TWO_ROWS[..HEAD_LEN])
-        .ok()
-        .ok_or("a head")?;
-    let mut disk = disk(alloc, &TWO_ROWS, &[])?;
-    let page = page_of::<Brand>(alloc, &head, &mut disk, Blank::new(1))
-        .ok()
-        .ok_or("a page")?;
-    assert_eq!(rt; page.moments(), [-1_500, 0].as_slice());
-    assert_eq!(rt; page.types(), [5, 2].as_slice());
-    assert_eq!(rt; page.words(), [7].as_slice());
-    assert_eq!(rt; disk.calls(), 5);
+    let well = takes_reads(rt.alloc(), 5)?;
+    assert!(rt; well);
+    Ok(())
+}
+
+#[test]
+fn laws_hold() {
     segments_are_held();
     none_are_left();
-    Ok(())
 }
 
 /// Why the page of a disk with this payload is refused.
@@ -93,16 +107,22 @@ fn refusal(
 }
 
 #[test]
-fn what_is_damaged_and_what_fails(rt: HostRuntime) -> Result<(), Fail> {
-    let alloc = rt.alloc();
-    let short = &TWO_ROWS[..LEN - 1];
-    assert!(rt; refusal(alloc, short, &[])? == Some(PageRefusal::Damaged));
-    let mut fewer = TWO_ROWS;
-    fewer[87] = 0;
-    assert!(rt; refusal(alloc, &fewer, &[])? == Some(PageRefusal::Damaged));
-    for call in 0..5 {
-        assert!(rt; refusal(alloc, &TWO_ROWS, &[call])? == Some(PageRefusal::DiskFault));
+fn what_is_damaged_is_refused(rt: HostRuntime) -> Result<(), Fail> {
+    let short = refusal(rt.alloc(), &TWO_ROWS[..LEN - 1], &[])?;
+    let fewer = changed(rt.alloc(), &TWO_ROWS, 87, 0)?;
+    let fewer = refusal(rt.alloc(), fewer.as_slice(), &[])?;
+    assert!(rt; (short, fewer) == (Some(PageRefusal::Damaged), Some(PageRefusal::Damaged)));
+    Ok(())
+}
+
+#[test]
+fn each_read_may_fail(rt: HostRuntime) -> Result<(), Fail> {
+    for call in 0..6 {
+        let told = refusal(rt.alloc(), &TWO_ROWS, &[call])?;
+        assert!(rt;
+            told == (call < 5).then_some(PageRefusal::DiskFault),
+            "{call}"
+        );
     }
-    assert!(rt; refusal(alloc, &TWO_ROWS, &[5])?.is_none());
     Ok(())
 }
