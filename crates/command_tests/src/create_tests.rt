@@ -1,6 +1,6 @@
 //! The making of an archive over a disk in memory.
-use crate::log_tests::{AMPLE, Outcome, Rooms, call, disk};
-use log_seams::{Disk, MemDisk, MemShelf};
+use crate::outside::{AMPLE, NEVER, Rooms, Told, call, disk, over_bytes, shelf, told};
+use log_seams::Disk;
 use std::alloc::{AllocError, Global};
 use std::sync::Wait;
 use std::test::Fail;
@@ -19,20 +19,8 @@ static SMALL: [u8; 33] = [
     0x00,
 ];
 
-/// Calls `run` with these words, over the archive's disk.
-fn over<R: Threads + Wait + Sync>(
-    rt: &R,
-    alloc: Global,
-    words: &[&str],
-    archive: &mut MemDisk,
-    rooms: Rooms,
-) -> Result<Outcome, AllocError> {
-    let mut logs = MemShelf::new(alloc, Vec::new(alloc), Vec::new(alloc));
-    call(rt, alloc, words, &mut logs, archive, rooms)
-}
-
-// words, and whether they ask for the small archive
-const AN_EMPTY_DISK: &[(&[&str], bool)] = &[
+/// Words, and whether they ask for the small archive.
+const MADE: &[(&[&str], bool)] = &[
     (&["create"], false),
     (&["create", "--types=2", "--words", "3", "--bytes=60"], true),
     (
@@ -41,53 +29,63 @@ const AN_EMPTY_DISK: &[(&[&str], bool)] = &[
     ),
 ];
 
+/// Whether the words leave these bytes on an empty disk, and say nothing.
+fn makes<R: Threads + Wait + Sync>(
+    rt: &R,
+    alloc: Global,
+    words: &[&str],
+    want: &[u8],
+) -> Result<bool, AllocError> {
+    let mut logs = shelf(alloc, &[], NEVER)?;
+    let mut archive = disk(alloc, &[], NEVER)?;
+    let outcome = call(rt, alloc, words, &mut logs, &mut archive, AMPLE)?;
+    let called = archive.calls() == 3 && archive.faults() == 0;
+    Ok(outcome.is(0, b"", b"") && archive.bytes() == want && called)
+}
+
 #[test]
 fn an_empty_disk_becomes_an_archive(rt: HostRuntime) -> Result<(), Fail> {
-    let alloc = rt.alloc();
-    for &(words, is_small) in AN_EMPTY_DISK {
+    for &(words, is_small) in MADE {
         let want = if is_small { &SMALL } else { &EMPTY };
-        let mut archive = disk(alloc, &[], &[])?;
-        let outcome = over(&rt, alloc, words, &mut archive, AMPLE)?;
-        assert!(rt; outcome.is(0, b"", b""));
-        assert!(rt; archive.bytes() == want.as_slice());
-        assert!(rt; archive.calls() == 3);
-        assert!(rt; archive.faults() == 0);
+        let well = makes(&rt, rt.alloc(), words, want)?;
+        assert!(rt; well, "{words:?}");
     }
     Ok(())
+}
+
+/// How much the error output takes, and what is said of an archive that is there.
+const LEFT: &[(usize, &[u8])] = &[(99, b"clpa: archive: not empty, 33 bytes\n"), (0, b"")];
+
+/// Whether a disk with bytes is left as it is, after one call.
+fn leaves<R: Threads + Wait + Sync>(
+    rt: &R,
+    alloc: Global,
+    err: usize,
+    line: &[u8],
+) -> Result<bool, AllocError> {
+    let mut logs = shelf(alloc, &[], NEVER)?;
+    let mut archive = disk(alloc, &SMALL, NEVER)?;
+    let rooms = Rooms { out: 0, err };
+    let outcome = call(rt, alloc, &["create"], &mut logs, &mut archive, rooms)?;
+    Ok(outcome.is(8, b"", line) && archive.bytes() == SMALL.as_slice() && archive.calls() == 1)
 }
 
 #[test]
 fn a_disk_with_bytes_is_left_alone(rt: HostRuntime) -> Result<(), Fail> {
-    let alloc = rt.alloc();
-    let mut bytes = EMPTY.to_vec(alloc)?;
-    for _ in 33..155u8 {
-        bytes.push(7)?;
-    }
-    let line = b"clpa: archive: not empty, 155 bytes\n";
-    let no_room = Rooms {
-        out: 0,
-        err: 0,
-        out_fails: 0,
-    };
-    let rows: [(Rooms, &[u8]); 2] = [(AMPLE, line), (no_room, b"")];
-    for (rooms, want) in rows {
-        let mut archive = disk(alloc, bytes.as_slice(), &[])?;
-        let outcome = over(&rt, alloc, &["create"], &mut archive, rooms)?;
-        assert!(rt; outcome.is(8, b"", want));
-        assert!(rt; archive.bytes() == bytes.as_slice());
-        assert!(rt; archive.calls() == 1);
+    for &(err, line) in LEFT {
+        let well = leaves(&rt, rt.alloc(), err, line)?;
+        assert!(rt; well, "{err}");
     }
     Ok(())
 }
 
+const FAILED: &Told = &(&["create"], 5, b"", b"clpa: archive: disk failed\n");
+
 #[test]
 fn each_call_on_the_disk_may_fail(rt: HostRuntime) -> Result<(), Fail> {
-    let alloc = rt.alloc();
     for fault in 0..3u64 {
-        let mut archive = disk(alloc, &[], &[fault])?;
-        let outcome = over(&rt, alloc, &["create"], &mut archive, AMPLE)?;
-        assert!(rt; outcome.is(5, b"", b"clpa: archive: disk failed\n"));
-        assert!(rt; archive.faults() == 1);
+        let well = told(&rt, rt.alloc(), &[], fault, FAILED)?;
+        assert!(rt; well, "{fault}");
     }
     Ok(())
 }

@@ -12,4 +12,6 @@ mod ingest_tests;
 #[cfg(test)]
 mod log_tests;
 #[cfg(test)]
+mod outside;
+#[cfg(test)]
 mod search_tests;
