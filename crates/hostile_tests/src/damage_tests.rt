@@ -1,20 +1,10 @@
 //! Archives that were cut or changed.
 
-use crate::outside::{NEVER, Outcome, WORKED, disk, reading};
+use crate::outside::{NEVER, WORKED, disk, reading};
 use std::alloc::{AllocError, Global};
 use std::sync::Wait;
 use std::test::Fail;
 use std::thread::Threads;
-
-/// What the words answer over an archive with these bytes.
-fn over<R: Threads + Wait + Sync>(
-    rt: &R,
-    alloc: Global,
-    words: &[&str],
-    bytes: &[u8],
-) -> Result<Outcome, AllocError> {
-    reading(rt, alloc, words, &mut disk(alloc, bytes, NEVER)?)
-}
 
 // The first length of a front that this line is said of, which is so of all up to the next row.
 const CUTS: &[(usize, usize, &[u8])] = &[
@@ -25,15 +15,41 @@ const CUTS: &[(usize, usize, &[u8])] = &[
     (154, 154, b"clpa: archive: damaged at 154\n"),
 ];
 
+/// Whether the words answer this over an archive with these bytes.
+fn is_told<R: Threads + Wait + Sync>(
+    rt: &R,
+    alloc: Global,
+    words: &[&str],
+    bytes: &[u8],
+    told: (u8, &[u8], &[u8]),
+) -> Result<bool, AllocError> {
+    let (status, out, err) = told;
+    let mut archive = disk(alloc, bytes, NEVER)?;
+    Ok(reading(rt, alloc, words, &mut archive)?.is(status, out, err))
+}
+
+/// Whether each front of these lengths is damaged so.
+fn are_damaged<R: Threads + Wait + Sync>(
+    rt: &R,
+    alloc: Global,
+    first: usize,
+    last: usize,
+    line: &[u8],
+) -> Result<bool, AllocError> {
+    for length in first..=last {
+        let front = WORKED.get(..length).unwrap_or(&[]);
+        if !is_told(rt, alloc, &["check"], front, (6, b"", line))? {
+            return Ok(false);
+        }
+    }
+    Ok(true)
+}
+
 #[test]
 fn each_front_of_an_archive_is_damaged_at_its_gate(rt: HostRuntime) -> Result<(), Fail> {
-    let alloc = rt.alloc();
     for &(first, last, line) in CUTS {
-        for length in first..=last {
-            let front = WORKED.get(..length).ok_or("no front")?;
-            let outcome = over(&rt, alloc, &["check"], front)?;
-            assert!(rt; outcome.is(6, b"", line), "{length}");
-        }
+        let well = are_damaged(&rt, rt.alloc(), first, last, line)?;
+        assert!(rt; well, "{first}");
     }
     Ok(())
 }
@@ -52,27 +68,21 @@ const DAMAGES: &[(usize, u8, &[u8])] = &[
     (104, 0x02, b"clpa: archive: damaged at 78\n"),
 ];
 
-/// What the words answer over the worked archive with one byte changed.
-fn changed<R: Threads + Wait + Sync>(
-    rt: &R,
-    alloc: Global,
-    words: &[&str],
-    at: usize,
-    byte: u8,
-) -> Result<Outcome, AllocError> {
+/// The worked archive with one byte changed.
+fn changed(alloc: Global, at: usize, byte: u8) -> Result<Vec<u8>, AllocError> {
     let mut bytes = WORKED.to_vec(alloc)?;
     if let Some(place) = bytes.get_mut(at) {
         *place = byte;
     }
-    over(rt, alloc, words, bytes.as_slice())
+    Ok(bytes)
 }
 
 #[test]
 fn a_changed_byte_is_damage_at_its_record(rt: HostRuntime) -> Result<(), Fail> {
-    let alloc = rt.alloc();
     for &(at, byte, line) in DAMAGES {
-        let outcome = changed(&rt, alloc, &["check"], at, byte)?;
-        assert!(rt; outcome.is(6, b"", line), "{at}");
+        let bytes = changed(rt.alloc(), at, byte)?;
+        let well = is_told(&rt, rt.alloc(), &["check"], &bytes, (6, b"", line))?;
+        assert!(rt; well, "{at}");
     }
     Ok(())
 }
@@ -90,10 +100,10 @@ const OTHER_ARCHIVES: &[(usize, u8, &[&str], &[u8])] = &[
 
 #[test]
 fn a_changed_byte_may_make_another_archive(rt: HostRuntime) -> Result<(), Fail> {
-    let alloc = rt.alloc();
     for &(at, byte, words, want) in OTHER_ARCHIVES {
-        let outcome = changed(&rt, alloc, words, at, byte)?;
-        assert!(rt; outcome.is(0, want, b""), "{at}");
+        let bytes = changed(rt.alloc(), at, byte)?;
+        let well = is_told(&rt, rt.alloc(), words, &bytes, (0, want, b""))?;
+        assert!(rt; well, "{at}");
     }
     Ok(())
 }

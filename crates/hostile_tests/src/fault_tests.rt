@@ -32,12 +32,11 @@ fn takes_the_log<R: Threads + Wait + Sync>(
     alloc: Global,
     archive: &mut MemDisk,
 ) -> Result<bool, AllocError> {
-    let checked = reading(rt, alloc, &["check"], archive)?;
+    if reading(rt, alloc, &["check"], archive)?.status != 0 {
+        return Ok(false);
+    }
     let again = ingest(rt, alloc, archive)?;
-    Ok(
-        checked.status == 0
-            && (again.is(0, b"1 1 whole b.log\n", b"") || again.is(0, b"2 1 whole b.log\n", b"")),
-    )
+    Ok(again.is(0, b"1 1 whole b.log\n", b"") || again.is(0, b"2 1 whole b.log\n", b""))
 }
 
 /// Whether the ingest is refused where the call with this number fails, and the disk has an archive then.
@@ -48,20 +47,27 @@ fn refuses_and_leaves_an_archive<R: Threads + Wait + Sync>(
     has_number: bool,
 ) -> Result<bool, AllocError> {
     let mut archive = disk(alloc, &WORKED, fault)?;
+    let refused = is_refused(&ingest(rt, alloc, &mut archive)?, has_number);
+    Ok(refused && takes_the_log(rt, alloc, &mut archive)?)
+}
+
+/// How many calls of the disk it takes to add the log; none where it is not added.
+fn calls_of_ingest<R: Threads + Wait + Sync>(rt: &R, alloc: Global) -> Result<u64, AllocError> {
+    let mut archive = disk(alloc, &WORKED, NEVER)?;
     let outcome = ingest(rt, alloc, &mut archive)?;
-    Ok(is_refused(&outcome, has_number) && takes_the_log(rt, alloc, &mut archive)?)
+    if !outcome.is(0, b"1 1 whole b.log\n", b"") {
+        return Ok(0);
+    }
+    Ok(archive.calls() as u64)
 }
 
 // The last twelve calls append three records of the log, behind four that append its name.
 #[test]
 fn each_call_of_ingest_that_fails_leaves_an_archive(rt: HostRuntime) -> Result<(), Fail> {
-    let alloc = rt.alloc();
-    let mut archive = disk(alloc, &WORKED, NEVER)?;
-    let outcome = ingest(&rt, alloc, &mut archive)?;
-    assert!(rt; outcome.is(0, b"1 1 whole b.log\n", b""));
-    let calls = archive.calls() as u64;
+    let calls = calls_of_ingest(&rt, rt.alloc())?;
+    assert!(rt; calls > 12);
     for fault in 0..calls {
-        let well = refuses_and_leaves_an_archive(&rt, alloc, fault, calls - fault <= 12)?;
+        let well = refuses_and_leaves_an_archive(&rt, rt.alloc(), fault, calls - fault <= 12)?;
         assert!(rt; well, "{fault}");
     }
     Ok(())
@@ -75,6 +81,31 @@ const READINGS: &[(&[&str], &[u8])] = &[
     (&["check"], b"entries 3 files 1 messages 1\n"),
 ];
 
+/// How many calls of the disk it takes to print this; None where another text is printed.
+fn calls_of<R: Threads + Wait + Sync>(
+    rt: &R,
+    alloc: Global,
+    words: &[&str],
+    text: &[u8],
+) -> Result<Option<u64>, AllocError> {
+    let mut archive = disk(alloc, &WORKED, NEVER)?;
+    let well = reading(rt, alloc, words, &mut archive)?.is(0, text, b"");
+    Ok(well.then_some(archive.calls() as u64))
+}
+
+/// Whether the failure of a call of the disk is told, and the archive stays.
+fn is_told<R: Threads + Wait + Sync>(
+    rt: &R,
+    alloc: Global,
+    words: &[&str],
+    text: &[u8],
+    fault: u64,
+) -> Result<bool, AllocError> {
+    let mut archive = disk(alloc, &WORKED, fault)?;
+    let well = reading(rt, alloc, words, &mut archive)?.has_front(5, text, DISK_FAILED);
+    Ok(well && archive.bytes() == WORKED.as_slice())
+}
+
 /// The number of a call of the disk whose failure is not told as it is to be; None where there is none.
 fn bad_fault<R: Threads + Wait + Sync>(
     rt: &R,
@@ -82,15 +113,11 @@ fn bad_fault<R: Threads + Wait + Sync>(
     words: &[&str],
     text: &[u8],
 ) -> Result<Option<u64>, AllocError> {
-    let mut archive = disk(alloc, &WORKED, NEVER)?;
-    if !reading(rt, alloc, words, &mut archive)?.is(0, text, b"") {
+    let Some(calls) = calls_of(rt, alloc, words, text)? else {
         return Ok(Some(NEVER));
-    }
-    let calls = archive.calls() as u64;
+    };
     for fault in 0..calls {
-        let mut archive = disk(alloc, &WORKED, fault)?;
-        let outcome = reading(rt, alloc, words, &mut archive)?;
-        if !outcome.has_front(5, text, DISK_FAILED) || archive.bytes() != WORKED.as_slice() {
+        if !is_told(rt, alloc, words, text, fault)? {
             return Ok(Some(fault));
         }
     }
@@ -127,20 +154,25 @@ fn ingest_two<R: Threads + Wait + Sync>(
     )
 }
 
+/// How many calls of the disk it takes to add the two logs where the call of this number fails, and the
+/// status.
+fn calls_of_two<R: Threads + Wait + Sync>(
+    rt: &R,
+    alloc: Global,
+    fault: u64,
+) -> Result<(u64, u8), AllocError> {
+    let mut archive = disk(alloc, &WORKED, fault)?;
+    let status = ingest_two(rt, alloc, &mut archive)?.status;
+    Ok((archive.calls() as u64, status))
+}
+
 #[test]
 fn a_disk_that_failed_is_called_no_more(rt: HostRuntime) -> Result<(), Fail> {
-    let alloc = rt.alloc();
-    let mut archive = disk(alloc, &WORKED, NEVER)?;
-    let outcome = ingest_two(&rt, alloc, &mut archive)?;
-    assert!(rt; outcome.status == 0);
-    let calls = archive.calls();
+    let (calls, status) = calls_of_two(&rt, rt.alloc(), NEVER)?;
+    assert!(rt; status == 0);
     for fault in 0..calls {
-        let mut archive = disk(alloc, &WORKED, fault as u64)?;
-        let outcome = ingest_two(&rt, alloc, &mut archive)?;
-        assert!(rt;
-            outcome.status == 5 && archive.calls() == fault + 1,
-            "{fault}"
-        );
+        let told = calls_of_two(&rt, rt.alloc(), fault)?;
+        assert!(rt; told == (fault + 1, 5), "{fault}");
     }
     Ok(())
 }

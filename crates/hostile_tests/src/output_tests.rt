@@ -3,6 +3,7 @@
 use crate::outside::{
     EMPTY, Faults, Log, NEVER, Outcome, SOUND, WORKED, call, disk, reading, shelf,
 };
+use log_seams::{MemDisk, MemShelf};
 use std::alloc::{AllocError, Global};
 use std::sync::Wait;
 use std::test::Fail;
@@ -40,12 +41,23 @@ fn printing<R: Threads + Wait + Sync>(
     call(rt, alloc, words, &mut logs, &mut archive, faults)
 }
 
+/// Whether the words print this, and tell it where the first write fails.
+fn tells_fault<R: Threads + Wait + Sync>(
+    rt: &R,
+    alloc: Global,
+    words: &[&str],
+    text: &[u8],
+) -> Result<bool, AllocError> {
+    Ok(
+        printing(rt, alloc, words, 0)?.is(7, b"", OUTPUT_FAILED)
+            && printing(rt, alloc, words, NEVER)?.is(0, text, b""),
+    )
+}
+
 #[test]
 fn a_first_write_that_fails_is_told(rt: HostRuntime) -> Result<(), Fail> {
     for &(words, text) in PRINTS {
-        let failed = printing(&rt, rt.alloc(), words, 0)?;
-        let sound = printing(&rt, rt.alloc(), words, NEVER)?;
-        let well = failed.is(7, b"", OUTPUT_FAILED) && sound.is(0, text, b"");
+        let well = tells_fault(&rt, rt.alloc(), words, text)?;
         assert!(rt; well, "{words:?}");
     }
     Ok(())
@@ -57,17 +69,43 @@ const ERROR_WRITES: &[(u64, &[u8])] = &[
     (NEVER, b"clpa: a.log: dictionary of types is full at 2\n"),
 ];
 
+/// Whether an ingest into a dictionary that is full prints what it does where the write to the error output
+/// with this number fails, and says this.
+fn prints_unsaid<R: Threads + Wait + Sync>(
+    rt: &R,
+    alloc: Global,
+    err: u64,
+    said: &[u8],
+    logs: &mut MemShelf,
+    archive: &mut MemDisk,
+) -> Result<bool, AllocError> {
+    let faults = Faults { out: NEVER, err };
+    Ok(
+        reading(rt, alloc, &["create", "--types", "2"], archive)?.is(0, b"", b"")
+            && call(rt, alloc, &["ingest", "a.log"], logs, archive, faults)?.is(
+                4,
+                b"0 2 part a.log\n",
+                said,
+            ),
+    )
+}
+
+fn prints_unsaid_anew<R: Threads + Wait + Sync>(
+    rt: &R,
+    alloc: Global,
+    err: u64,
+    said: &[u8],
+) -> Result<bool, AllocError> {
+    let mut logs = shelf(alloc, &[("a.log", b"x\ny\nz\n", NEVER)], NEVER)?;
+    let mut archive = disk(alloc, &[], NEVER)?;
+    prints_unsaid(rt, alloc, err, said, &mut logs, &mut archive)
+}
+
 #[test]
 fn an_error_output_that_fails_changes_nothing_else(rt: HostRuntime) -> Result<(), Fail> {
-    let alloc = rt.alloc();
     for &(err, said) in ERROR_WRITES {
-        let mut logs = shelf(alloc, &[("a.log", b"x\ny\nz\n", NEVER)], NEVER)?;
-        let mut archive = disk(alloc, &[], NEVER)?;
-        let _made = reading(&rt, alloc, &["create", "--types", "2"], &mut archive)?;
-        let faults = Faults { out: NEVER, err };
-        let words = ["ingest", "a.log"];
-        let outcome = call(&rt, alloc, &words, &mut logs, &mut archive, faults)?;
-        assert!(rt; outcome.is(4, b"0 2 part a.log\n", said));
+        let well = prints_unsaid_anew(&rt, rt.alloc(), err, said)?;
+        assert!(rt; well, "{err}");
     }
     Ok(())
 }
@@ -101,20 +139,40 @@ fn long_print<R: Threads + Wait + Sync>(
     alloc: Global,
     words: &[&str],
     out: u64,
+    logs: &mut MemShelf,
+    archive: &mut MemDisk,
 ) -> Result<Outcome, AllocError> {
-    let log = long_text(alloc, false)?;
-    let mut logs = shelf(alloc, &[("l.log", log.as_slice(), NEVER)], NEVER)?;
-    let mut archive = disk(alloc, &EMPTY, NEVER)?;
-    let _added = call(
-        rt,
-        alloc,
-        &["ingest", "--segment=1", "l.log"],
-        &mut logs,
-        &mut archive,
-        SOUND,
-    )?;
+    let ingest = ["ingest", "--segment=1", "l.log"];
+    let _added = call(rt, alloc, &ingest, logs, archive, SOUND)?;
     let faults = Faults { out, err: NEVER };
-    call(rt, alloc, words, &mut logs, &mut archive, faults)
+    call(rt, alloc, words, logs, archive, faults)
+}
+
+/// The shelf with the long log.
+fn long_shelf(alloc: Global) -> Result<MemShelf, AllocError> {
+    let log = long_text(alloc, false)?;
+    shelf(alloc, &[("l.log", log.as_slice(), NEVER)], NEVER)
+}
+
+/// Whether the text is printed whole where the write with this number would fail, or a front of it, and the
+/// fault is told.
+fn is_told<R: Threads + Wait + Sync>(
+    rt: &R,
+    alloc: Global,
+    words: &[&str],
+    text: &[u8],
+    fault: u64,
+) -> Result<Option<bool>, AllocError> {
+    let mut logs = long_shelf(alloc)?;
+    let mut archive = disk(alloc, &EMPTY, NEVER)?;
+    let outcome = long_print(rt, alloc, words, fault, &mut logs, &mut archive)?;
+    Ok(if outcome.is(0, text, b"") {
+        Some(true)
+    } else if outcome.has_front(7, text, OUTPUT_FAILED) {
+        Some(false)
+    } else {
+        None
+    })
 }
 
 /// How many writes the text takes, each of which is told where it fails; None where one is not.
@@ -125,23 +183,66 @@ fn told_writes<R: Threads + Wait + Sync>(
     text: &[u8],
 ) -> Result<Option<u64>, AllocError> {
     for fault in 0..20u64 {
-        let outcome = long_print(rt, alloc, words, fault)?;
-        if outcome.is(0, text, b"") {
-            return Ok(Some(fault));
-        }
-        if !outcome.has_front(7, text, OUTPUT_FAILED) {
-            return Ok(None);
+        match is_told(rt, alloc, words, text, fault)? {
+            Some(true) => return Ok(Some(fault)),
+            Some(false) => {}
+            None => return Ok(None),
         }
     }
     Ok(None)
 }
 
+/// How many pages a search has read when its first write fails, told by the calls of the disk.
+fn calls_before_write<R: Threads + Wait + Sync>(
+    rt: &R,
+    alloc: Global,
+    workers: &str,
+    logs: &mut MemShelf,
+    archive: &mut MemDisk,
+) -> Result<usize, AllocError> {
+    let words = ["search", workers, "x"];
+    let outcome = long_print(rt, alloc, &words, 0, logs, archive)?;
+    if !outcome.has_front(7, b"", OUTPUT_FAILED) {
+        return Ok(0);
+    }
+    Ok(archive.calls())
+}
+
+/// The same over a new archive of the long log.
+fn calls_by<R: Threads + Wait + Sync>(
+    rt: &R,
+    alloc: Global,
+    workers: &str,
+) -> Result<usize, AllocError> {
+    let mut logs = long_shelf(alloc)?;
+    let mut archive = disk(alloc, &EMPTY, NEVER)?;
+    calls_before_write(rt, alloc, workers, &mut logs, &mut archive)
+}
+
+// One worker holds a page, and two hold eight of the nine, which nine workers hold all.
+#[test]
+fn a_search_holds_as_many_pages_as_its_workers_take(rt: HostRuntime) -> Result<(), Fail> {
+    let one = calls_by(&rt, rt.alloc(), "--workers=1")?;
+    let two = calls_by(&rt, rt.alloc(), "--workers=2")?;
+    let nine = calls_by(&rt, rt.alloc(), "--workers=9")?;
+    assert!(rt; 0 < one && one < two && two < nine, "{one} {two} {nine}");
+    Ok(())
+}
+
+fn told_writes_of<R: Threads + Wait + Sync>(
+    rt: &R,
+    alloc: Global,
+    words: &[&str],
+    numbered: bool,
+) -> Result<Option<u64>, AllocError> {
+    let text = long_text(alloc, numbered)?;
+    told_writes(rt, alloc, words, text.as_slice())
+}
+
 #[test]
 fn each_write_that_fails_leaves_a_front(rt: HostRuntime) -> Result<(), Fail> {
-    let alloc = rt.alloc();
     for &(words, numbered) in LONG_PRINTS {
-        let text = long_text(alloc, numbered)?;
-        let writes = told_writes(&rt, alloc, words, text.as_slice())?;
+        let writes = told_writes_of(&rt, rt.alloc(), words, numbered)?;
         assert!(rt; writes >= Some(3), "{words:?} {writes:?}");
     }
     Ok(())

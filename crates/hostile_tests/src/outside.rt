@@ -41,19 +41,19 @@ pub(crate) static WORKED: [u8; 155] = [
 #[derive(Drop)]
 pub(crate) struct Outcome {
     pub(crate) status: u8,
-    pub(crate) out: Vec<u8>,
-    pub(crate) err: Vec<u8>,
+    out: MemSink,
+    err: MemSink,
 }
 
 impl Outcome {
     /// Whether the call answered this and wrote these bytes.
     pub(crate) fn is(&self, status: u8, out: &[u8], err: &[u8]) -> bool {
-        self.status == status && self.out.as_slice() == out && self.err.as_slice() == err
+        self.status == status && self.out.bytes() == out && self.err.bytes() == err
     }
 
     /// Whether the call answered this, said this, and wrote a front of these bytes.
     pub(crate) fn has_front(&self, status: u8, out: &[u8], err: &[u8]) -> bool {
-        self.status == status && out.starts_with(self.out.as_slice()) && self.err.as_slice() == err
+        self.status == status && out.starts_with(self.out.bytes()) && self.err.bytes() == err
     }
 }
 
@@ -97,6 +97,24 @@ pub(crate) const SOUND: Faults = Faults {
     err: NEVER,
 };
 
+/// The words of a command line.
+fn list_of(alloc: Global, words: &[&str]) -> Result<Vec<String>, AllocError> {
+    let mut list = Vec::new(alloc);
+    for word in words {
+        list.push(String::from_str(alloc, word)?)?;
+    }
+    Ok(list)
+}
+
+/// What a call wrote that was not made yet.
+fn nothing(alloc: Global, faults: Faults) -> Result<Outcome, AllocError> {
+    Ok(Outcome {
+        status: 0,
+        out: MemSink::new(alloc, 1 << 20, vec![in alloc; faults.out; 1]?)?,
+        err: MemSink::new(alloc, 1 << 12, vec![in alloc; faults.err; 1]?)?,
+    })
+}
+
 /// Calls `run` with these words, over logs, the archive's disk and outputs whose writes may fail.
 pub(crate) fn call<R: Threads + Wait + Sync, H: Shelf>(
     rt: &R,
@@ -109,28 +127,20 @@ pub(crate) fn call<R: Threads + Wait + Sync, H: Shelf>(
 where
     H::Src: Send,
 {
-    let mut list = Vec::new(alloc);
-    for word in words {
-        list.push(String::from_str(alloc, word)?)?;
-    }
+    let words = list_of(alloc, words)?;
     let mut second = MemDisk::new(alloc, Text::new(Vec::new(alloc)), 0, 0, Vec::new(alloc))?;
-    let mut out = MemSink::new(alloc, 1 << 20, vec![in alloc; faults.out; 1]?)?;
-    let mut err = MemSink::new(alloc, 1 << 12, vec![in alloc; faults.err; 1]?)?;
-    let status = run(
+    let mut outcome = nothing(alloc, faults)?;
+    outcome.status = run(
         rt,
         alloc,
-        list.as_slice(),
+        words.as_slice(),
         logs,
         archive,
         &mut second,
-        &mut out,
-        &mut err,
+        &mut outcome.out,
+        &mut outcome.err,
     );
-    Ok(Outcome {
-        status,
-        out: out.bytes().to_vec(alloc)?,
-        err: err.bytes().to_vec(alloc)?,
-    })
+    Ok(outcome)
 }
 
 /// Calls `run` with these words over no log.

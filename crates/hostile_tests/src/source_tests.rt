@@ -1,7 +1,11 @@
 //! Logs that cannot be opened or read.
 
 use crate::outside::{EMPTY, Log, NEVER, SOUND, call, disk, reading, shelf};
+use log_seams::MemDisk;
+use std::alloc::{AllocError, Global};
+use std::sync::Wait;
 use std::test::Fail;
+use std::thread::Threads;
 
 const LOG: &[u8] = b"7 x7\n8";
 
@@ -12,16 +16,40 @@ const READS: &[(u64, &[u8], &[u8])] = &[
     (1, b"0 1 part b.log\n", b"7 x7\n"),
 ];
 
+/// Whether a log whose read of this number fails leaves this.
+fn leaves<R: Threads + Wait + Sync>(
+    rt: &R,
+    alloc: Global,
+    fault: u64,
+    out: &[u8],
+    text: &[u8],
+    archive: &mut MemDisk,
+) -> Result<bool, AllocError> {
+    let mut logs = shelf(alloc, &[("b.log", LOG, fault)], NEVER)?;
+    Ok(
+        call(rt, alloc, &["ingest", "b.log"], &mut logs, archive, SOUND)?.is(
+            4,
+            out,
+            b"clpa: b.log: read failed\n",
+        ) && reading(rt, alloc, &["decode", "0"], archive)?.is(0, text, b""),
+    )
+}
+
+fn leaves_anew<R: Threads + Wait + Sync>(
+    rt: &R,
+    alloc: Global,
+    fault: u64,
+    out: &[u8],
+    text: &[u8],
+) -> Result<bool, AllocError> {
+    let mut archive = disk(alloc, &EMPTY, NEVER)?;
+    leaves(rt, alloc, fault, out, text, &mut archive)
+}
+
 #[test]
 fn a_read_that_fails_leaves_the_messages_before(rt: HostRuntime) -> Result<(), Fail> {
-    let alloc = rt.alloc();
     for &(fault, out, text) in READS {
-        let mut logs = shelf(alloc, &[("b.log", LOG, fault)], NEVER)?;
-        let mut archive = disk(alloc, &EMPTY, NEVER)?;
-        let words = ["ingest", "b.log"];
-        let added = call(&rt, alloc, &words, &mut logs, &mut archive, SOUND)?;
-        let decoded = reading(&rt, alloc, &["decode", "0"], &mut archive)?;
-        let well = added.is(4, out, b"clpa: b.log: read failed\n") && decoded.is(0, text, b"");
+        let well = leaves_anew(&rt, rt.alloc(), fault, out, text)?;
         assert!(rt; well, "{fault}");
     }
     Ok(())
@@ -33,20 +61,39 @@ const THREE: &[Log<'static>] = &[
     ("c.log", b"c\n", NEVER),
 ];
 
+/// Whether the words answer this over the three logs, whose opening of this number fails.
+fn is_told<R: Threads + Wait + Sync>(
+    rt: &R,
+    alloc: Global,
+    words: &[&str],
+    opening: u64,
+    archive: &mut MemDisk,
+    told: (u8, &[u8], &[u8]),
+) -> Result<bool, AllocError> {
+    let (status, out, err) = told;
+    let mut logs = shelf(alloc, THREE, opening)?;
+    Ok(call(rt, alloc, words, &mut logs, archive, SOUND)?.is(status, out, err))
+}
+
+const OTHERS: &[u8] = b"0 1 whole a.log\n1 0 part b.log\n2 1 whole c.log\n";
+
+fn is_told_anew<R: Threads + Wait + Sync>(
+    rt: &R,
+    alloc: Global,
+    words: &[&str],
+    opening: u64,
+    told: (u8, &[u8], &[u8]),
+) -> Result<bool, AllocError> {
+    let mut archive = disk(alloc, &EMPTY, NEVER)?;
+    is_told(rt, alloc, words, opening, &mut archive, told)
+}
+
 #[test]
 fn an_opening_that_fails_leaves_the_other_logs_whole(rt: HostRuntime) -> Result<(), Fail> {
-    let alloc = rt.alloc();
-    let mut logs = shelf(alloc, THREE, 1)?;
-    let mut archive = disk(alloc, &EMPTY, NEVER)?;
     let words = ["ingest", "a.log", "b.log", "c.log"];
-    let outcome = call(&rt, alloc, &words, &mut logs, &mut archive, SOUND)?;
-    assert!(rt;
-        outcome.is(
-            4,
-            b"0 1 whole a.log\n1 0 part b.log\n2 1 whole c.log\n",
-            b"clpa: b.log: cannot open\n",
-        )
-    );
+    let told = (4, OTHERS, b"clpa: b.log: cannot open\n".as_slice());
+    let well = is_told_anew(&rt, rt.alloc(), &words, 1, told)?;
+    assert!(rt; well);
     Ok(())
 }
 
@@ -59,14 +106,28 @@ const ONE_NAME_TWICE: &[(&[&str], &[u8])] = &[
     (&["search", "a"], b"a.log:1:a\na.log:1:a\n"),
 ];
 
+/// Whether the calls of that table are told so, one after the other.
+fn are_told<R: Threads + Wait + Sync>(
+    rt: &R,
+    alloc: Global,
+    archive: &mut MemDisk,
+) -> Result<bool, AllocError> {
+    for &(words, text) in ONE_NAME_TWICE {
+        if !is_told(rt, alloc, words, NEVER, archive, (0, text, b""))? {
+            return Ok(false);
+        }
+    }
+    Ok(true)
+}
+
+fn are_told_anew<R: Threads + Wait + Sync>(rt: &R, alloc: Global) -> Result<bool, AllocError> {
+    let mut archive = disk(alloc, &EMPTY, NEVER)?;
+    are_told(rt, alloc, &mut archive)
+}
+
 #[test]
 fn a_name_that_is_given_twice_is_two_files(rt: HostRuntime) -> Result<(), Fail> {
-    let alloc = rt.alloc();
-    let mut archive = disk(alloc, &EMPTY, NEVER)?;
-    for &(words, text) in ONE_NAME_TWICE {
-        let mut logs = shelf(alloc, THREE, NEVER)?;
-        let outcome = call(&rt, alloc, words, &mut logs, &mut archive, SOUND)?;
-        assert!(rt; outcome.is(0, text, b""));
-    }
+    let well = are_told_anew(&rt, rt.alloc())?;
+    assert!(rt; well);
     Ok(())
 }

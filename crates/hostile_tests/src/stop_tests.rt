@@ -104,21 +104,60 @@ fn stands<R: Threads + Wait + Sync>(
     rt: &R,
     alloc: Global,
     name: &str,
-    mut image: MemDisk,
+    image: &mut MemDisk,
     state: Option<&State>,
 ) -> Result<bool, AllocError> {
     let Some(&(counts, files, again)) = state else {
         return Ok(false);
     };
     Ok(
-        reading(rt, alloc, &["check"], &mut image)?.is(0, counts, b"")
-            && reading(rt, alloc, &["files"], &mut image)?.is(0, files, b"")
-            && ingest(rt, alloc, name, &mut image)?.is(0, again, b""),
+        reading(rt, alloc, &["check"], image)?.is(0, counts, b"")
+            && reading(rt, alloc, &["files"], image)?.is(0, files, b"")
+            && ingest(rt, alloc, name, image)?.is(0, again, b""),
     )
 }
 
-/// Adds the log to an archive of these bytes, and answers a count of calls after which a crash leaves
-/// another archive than it is to leave; None where there is none.
+/// Whether a crash of this kind after so many calls leaves the archive that it is to leave.
+fn leaves<R: Threads + Wait + Sync>(
+    rt: &R,
+    alloc: Global,
+    name: &str,
+    archive: &MemDisk,
+    after: usize,
+    pending: Pending,
+    states: &[State],
+) -> Result<bool, AllocError> {
+    let calls = archive.calls();
+    if after > calls {
+        return Ok(false);
+    }
+    let mut image = archive.stopped(after, pending)?;
+    let state = states.get(records_left(calls - after, pending));
+    stands(rt, alloc, name, &mut image, state)
+}
+
+/// A count of calls after which a crash leaves another archive than it is to leave; None where there is
+/// none.
+fn bad_crash<R: Threads + Wait + Sync>(
+    rt: &R,
+    alloc: Global,
+    name: &str,
+    archive: &MemDisk,
+    states: &[State],
+) -> Result<Option<(usize, Pending)>, AllocError> {
+    let calls = archive.calls();
+    // Before the first write of the records a crash leaves the bytes as they were.
+    for after in calls.saturating_sub(4 * RECORDS)..=calls {
+        for &pending in PENDING {
+            if !leaves(rt, alloc, name, archive, after, pending, states)? {
+                return Ok(Some((after, pending)));
+            }
+        }
+    }
+    Ok(None)
+}
+
+/// The same of an archive of these bytes to which the log was added.
 fn bad_stop<R: Threads + Wait + Sync>(
     rt: &R,
     alloc: Global,
@@ -128,18 +167,7 @@ fn bad_stop<R: Threads + Wait + Sync>(
 ) -> Result<Option<(usize, Pending)>, AllocError> {
     let mut archive = disk(alloc, bytes, NEVER)?;
     let _told = ingest(rt, alloc, name, &mut archive)?;
-    let calls = archive.calls();
-    // Before the first write of the records a crash leaves the bytes as they were.
-    for after in calls.saturating_sub(4 * RECORDS)..=calls {
-        for &pending in PENDING {
-            let image = archive.stopped(after, pending)?;
-            let state = states.get(records_left(calls - after, pending));
-            if !stands(rt, alloc, name, image, state)? {
-                return Ok(Some((after, pending)));
-            }
-        }
-    }
-    Ok(None)
+    bad_crash(rt, alloc, name, &archive, states)
 }
 
 #[test]
