@@ -14,13 +14,16 @@ fn read_eight<D: Disk + Send>(disk: &mut D, at: u64) -> (Result<usize, Failed>, 
     (disk.read(at, &mut buf), buf)
 }
 
+/// A disk over the file at a path.
+type PathDisk<'p> = DiskFile<FilePath<'p, HostRuntime>, File>;
+
 /// A disk over the file at a path, which may be written.
-fn written_at<'p>(rt: &'p HostRuntime, path: &'p str) -> DiskFile<FilePath<'p, HostRuntime>, File> {
+fn written_at<'p>(rt: &'p HostRuntime, path: &'p str) -> PathDisk<'p> {
     DiskFile::to_write(FilePath { rt, path })
 }
 
 /// A disk over the file at a path, which is read alone.
-fn read_at<'p>(rt: &'p HostRuntime, path: &'p str) -> DiskFile<FilePath<'p, HostRuntime>, File> {
+fn read_at<'p>(rt: &'p HostRuntime, path: &'p str) -> PathDisk<'p> {
     DiskFile::to_read(FilePath { rt, path })
 }
 
@@ -30,62 +33,95 @@ fn own_path(rt: &HostRuntime, name: &str) -> io::Result<PathBuf> {
     Ok(env::temp_dir(rt)?.join(rt.alloc(), name.as_str())?)
 }
 
+/// Whether the disk is empty, reads so, and is synced with no file made.
+fn is_absent(disk: &mut PathDisk<'_>) -> bool {
+    disk.len() == Ok(0) && read_eight(disk, 0) == (Ok(0), [0; 8]) && disk.sync() == Ok(())
+}
+
+/// Whether the disk takes `abcdghijk` in two writes over each other.
+fn takes_nine(disk: &mut PathDisk<'_>) -> bool {
+    disk.write(0, b"abcdef") == Ok(())
+        && disk.write(4, b"ghijk") == Ok(())
+        && disk.sync() == Ok(())
+        && disk.sync() == Ok(())
+        && disk.len() == Ok(9)
+        && read_eight(disk, 5) == (Ok(4), *b"hijk\0\0\0\0")
+}
+
+/// Places past the end of nine bytes.
+const ENDS: &[u64] = &[9, (1 << 63) - 9, (1 << 63) - 4, 1 << 63, u64::MAX];
+
+/// Whether another that only reads has those bytes, none past them, and writes nothing.
+fn gives_nine(disk: &mut PathDisk<'_>) -> bool {
+    for &end in ENDS {
+        if read_eight(disk, end) != (Ok(0), [0; 8]) {
+            return false;
+        }
+    }
+    read_eight(disk, 0) == (Ok(8), *b"abcdghij")
+        && disk.write(9, b"lm") == Err(Failed)
+        && disk.faults() == 1
+}
+
+/// Whether what is written at a path that has no file is read there.
+fn is_kept(rt: &HostRuntime, path: &str) -> bool {
+    let mut disk = written_at(rt, path);
+    let mut again = read_at(rt, path);
+    takes_nine(&mut disk)
+        && gives_nine(&mut again)
+        && disk.write(9, b"lm") == Ok(())
+        && again.len() == Ok(11)
+        && disk.faults() == 0
+}
+
 #[test]
 fn what_was_written_is_read(rt: HostRuntime) -> Result<(), Fail> {
     let path = own_path(&rt, "written")?;
-    let mut disk = written_at(&rt, path.as_str());
-    assert_eq!(rt; disk.len(), Ok(0));
-    assert_eq!(rt; read_eight(&mut disk, 0), (Ok(0), [0; 8]));
-    assert_eq!(rt; disk.sync(), Ok(()));
-    assert!(rt; !fs::exists(&rt, path.as_str())?);
-    assert_eq!(rt; disk.write(0, b"abcdef"), Ok(()));
-    assert_eq!(rt; disk.write(4, b"ghijk"), Ok(()));
-    assert_eq!(rt; disk.sync(), Ok(()));
-    assert_eq!(rt; disk.sync(), Ok(()));
-    assert_eq!(rt; disk.len(), Ok(9));
-    let mut again = read_at(&rt, path.as_str());
-    assert_eq!(rt; read_eight(&mut again, 0), (Ok(8), *b"abcdghij"));
-    assert_eq!(rt; read_eight(&mut disk, 5), (Ok(4), *b"hijk\0\0\0\0"));
-    for end in [9, (1 << 63) - 9, (1 << 63) - 4, 1 << 63, u64::MAX] {
-        assert_eq!(rt; read_eight(&mut again, end), (Ok(0), [0; 8]), "at {end}");
-    }
-    assert_eq!(rt; again.write(9, b"lm"), Err(Failed));
-    assert_eq!(rt; disk.write(9, b"lm"), Ok(()));
-    assert_eq!(rt; again.len(), Ok(11));
-    assert_eq!(rt; (disk.faults(), again.faults()), (0, 1));
+    let absent = is_absent(&mut written_at(&rt, path.as_str()));
+    let made = fs::exists(&rt, path.as_str())?;
+    let kept = is_kept(&rt, path.as_str());
     fs::remove_file(&rt, path.as_str())?;
+    assert!(rt; absent && !made && kept);
     Ok(())
+}
+
+/// What a length, a read, a write of one byte and a sync answer, and how many faults that is.
+fn tried(disk: &mut PathDisk<'_>) -> ([bool; 4], u64) {
+    let told = [
+        disk.len().is_ok(),
+        read_eight(disk, 0).0.is_ok(),
+        disk.write(0, b"a").is_ok(),
+        disk.sync().is_ok(),
+    ];
+    (told, disk.faults())
 }
 
 #[test]
 fn each_call_that_failed_is_counted(rt: HostRuntime) -> Result<(), Fail> {
     let path = own_path(&rt, "no-folder/a.clp")?;
-    let mut absent = written_at(&rt, path.as_str());
-    assert_eq!(rt; absent.len(), Ok(0));
-    assert_eq!(rt; absent.write(0, b"a"), Err(Failed));
-    assert_eq!(rt; absent.sync(), Ok(()));
-    assert_eq!(rt; absent.faults(), 1);
-
-    let mut full = written_at(&rt, "/dev/full");
-    assert_eq!(rt; full.write(0, b"a"), Err(Failed));
-    assert_eq!(rt; full.sync(), Err(Failed));
-    assert_eq!(rt; full.faults(), 2);
-
-    let mut folder = read_at(&rt, "/dev");
-    assert_eq!(rt; folder.len(), Err(Failed));
-    assert_eq!(rt; read_eight(&mut folder, 0), (Err(Failed), [0; 8]));
-    assert_eq!(rt; folder.sync(), Err(Failed));
-    assert_eq!(rt; folder.faults(), 3);
+    let absent = tried(&mut written_at(&rt, path.as_str()));
+    assert!(rt; absent == ([true, true, false, true], 1));
     Ok(())
 }
 
 #[test]
-fn a_file_that_can_only_be_read(rt: HostRuntime) -> Result<(), Fail> {
-    let mut version = written_at(&rt, "/proc/version");
-    assert_eq!(rt; read_eight(&mut version, 0), (Ok(8), *b"Linux ve"));
-    assert_eq!(rt; version.write(0, b"a"), Err(Failed));
-    assert_eq!(rt; version.faults(), 1);
-    Ok(())
+fn each_call_that_failed_on_a_device_is_counted(rt: HostRuntime) {
+    let full = tried(&mut written_at(&rt, "/dev/full"));
+    assert!(rt; full.0[2] == false && full.0[3] == false);
+    let folder = tried(&mut read_at(&rt, "/dev"));
+    assert!(rt; folder == ([false; 4], 4));
+}
+
+/// Whether the file is read, and is not written.
+fn is_read_only(disk: &mut PathDisk<'_>) -> bool {
+    read_eight(disk, 0) == (Ok(8), *b"Linux ve")
+        && disk.write(0, b"a") == Err(Failed)
+        && disk.faults() == 1
+}
+
+#[test]
+fn a_file_that_can_only_be_read(rt: HostRuntime) {
+    assert!(rt; is_read_only(&mut written_at(&rt, "/proc/version")));
 }
 
 /// How many bytes the file at a path has for one that writes it, and whether it may be written.
@@ -100,27 +136,47 @@ fn is_only_read(rt: &HostRuntime, path: &str) -> bool {
         && read_eight(&mut read_at(rt, path), 0) == (Ok(2), *b"ab\0\0\0\0\0\0")
 }
 
+/// Whether one that wrote the file at a path first has its lock, by a link too, as long as it is there;
+/// one that found nothing there before never has.
+fn has_lock(rt: &HostRuntime, late: &mut PathDisk<'_>, path: &str, link: &str) -> io::Result<bool> {
+    let mut first = written_at(rt, path);
+    let wrote = first.write(0, b"ab") == Ok(()) && late.write(0, b"d") == Err(Failed);
+    fs::hard_link(rt, path, link)?;
+    Ok(wrote && is_only_read(rt, path) && is_only_read(rt, link))
+}
+
+/// Whether the file is free again by both its names.
+fn is_free(rt: &HostRuntime, late: &mut PathDisk<'_>, path: &str, link: &str) -> bool {
+    late.write(0, b"d") == Err(Failed)
+        && length_and_write(rt, link) == (Ok(2), Ok(()))
+        && length_and_write(rt, path) == (Ok(2), Ok(()))
+}
+
 #[test]
 fn one_at_a_time_writes_a_file(rt: HostRuntime) -> Result<(), Fail> {
     let path = own_path(&rt, "locked")?;
     let link = own_path(&rt, "link")?;
     let mut late = written_at(&rt, path.as_str());
-    {
-        let mut first = written_at(&rt, path.as_str());
-        assert_eq!(rt; first.write(0, b"ab"), Ok(()));
-        // made by one, and so by no other that found nothing there
-        assert_eq!(rt; late.write(0, b"d"), Err(Failed));
-        fs::hard_link(&rt, path.as_str(), link.as_str())?;
-        assert!(rt; is_only_read(&rt, path.as_str()));
-        assert!(rt; is_only_read(&rt, link.as_str()));
-    }
-    // the lock goes with the one that held it
-    assert_eq!(rt; late.write(0, b"d"), Err(Failed));
-    assert_eq!(rt; length_and_write(&rt, link.as_str()), (Ok(2), Ok(())));
-    assert_eq!(rt; length_and_write(&rt, path.as_str()), (Ok(2), Ok(())));
+    let locked = has_lock(&rt, &mut late, path.as_str(), link.as_str())?;
+    let free = is_free(&rt, &mut late, path.as_str(), link.as_str());
     fs::remove_file(&rt, path.as_str())?;
     fs::remove_file(&rt, link.as_str())?;
+    assert!(rt; locked && free);
     Ok(())
+}
+
+/// Whether the shelf beside a disk that may be written has no log of the disk's own file, has another
+/// file's, and none that is not there.
+fn keeps_apart(rt: &HostRuntime, path: &str, other: &str) -> bool {
+    let disk = written_at(rt, path);
+    let mut logs = LogFiles::new(rt, disk.locked_id());
+    logs.open_log(path).is_err() && logs.open_log(other).is_ok() && logs.open_log("gone").is_err()
+}
+
+/// Whether the shelf beside a disk that is read alone has a log of its file.
+fn shares(rt: &HostRuntime, path: &str) -> bool {
+    let mut logs = LogFiles::new(rt, read_at(rt, path).locked_id());
+    logs.open_log(path).is_ok()
 }
 
 #[test]
@@ -129,14 +185,9 @@ fn what_is_written_is_no_log(rt: HostRuntime) -> Result<(), Fail> {
     let other = own_path(&rt, "other")?;
     fs::write(&rt, path.as_str(), b"a")?;
     fs::write(&rt, other.as_str(), b"a")?;
-    let disk = written_at(&rt, path.as_str());
-    let mut logs = LogFiles::new(&rt, disk.locked_id());
-    assert!(rt; logs.open_log(path.as_str()).is_err());
-    assert!(rt; logs.open_log(other.as_str()).is_ok());
-    assert!(rt; logs.open_log("gone").is_err());
-    let mut logs = LogFiles::new(&rt, read_at(&rt, path.as_str()).locked_id());
-    assert!(rt; logs.open_log(path.as_str()).is_ok());
+    let well = keeps_apart(&rt, path.as_str(), other.as_str()) && shares(&rt, path.as_str());
     fs::remove_file(&rt, path.as_str())?;
     fs::remove_file(&rt, other.as_str())?;
+    assert!(rt; well);
     Ok(())
 }

@@ -1,4 +1,6 @@
 //! The adapters over files and streams whose calls are interrupted, and give or take a part.
+ghost use Rattle.std.specs.Prelude.{◌≤◌, length};
+
 use crate::disk_file::DiskFile;
 use crate::halting::{Halting, HaltingPlace};
 use crate::log_file::LogFile;
@@ -17,36 +19,41 @@ fn sample(alloc: Global) -> Result<Vec<u8>, AllocError> {
     Ok(bytes)
 }
 
-#[test]
-fn a_log_is_read_whole(rt: HostRuntime) -> Result<(), Fail> {
-    let alloc = rt.alloc();
-    let trace = Cell::new(0);
-    for fails in [u64::MAX, 7] {
-        let mut log = LogFile::new(Halting::new(sample(alloc)?, fails, &trace));
-        let mut got = Vec::new(alloc);
-        let mut buf = [0; 64];
-        let mut faults = 0u64;
-        for _ in 0..1000u64 {
-            match log.read(&mut buf) {
-                Ok(0) => break,
-                Ok(count) => got.extend_from_slice(&buf[..count])?,
-                Err(Failed) => faults = faults.wrapping_add(1),
-            }
+/// Reads a log to its end, and answers how many reads failed.
+fn read_all<S: Source>(log: &mut S, got: &mut Vec<u8>) -> Result<u64, AllocError> {
+    let mut buf = [0; 64];
+    let mut faults = 0u64;
+    for _ in 0..1000u64 {
+        match log.read(&mut buf) {
+            Ok(0) => break,
+            Ok(count) => got.extend_from_slice(&buf[..count])?,
+            Err(Failed) => faults = faults.wrapping_add(1),
         }
-        assert_eq!(rt; faults, u64::from(fails == 7));
-        assert_eq!(rt; got.as_slice(), sample(alloc)?.as_slice());
     }
-    Ok(())
+    Ok(faults)
+}
+
+/// Whether a log whose call of this number fails is read whole, and so many reads fail.
+fn is_read_whole(alloc: Global, fails: u64, faults: u64) -> Result<bool, AllocError> {
+    let trace = Cell::new(0);
+    let mut got = Vec::new(alloc);
+    let mut log = LogFile::new(Halting::new(sample(alloc)?, fails, &trace));
+    let failed = read_all(&mut log, &mut got)?;
+    Ok(failed == faults && got.as_slice() == sample(alloc)?.as_slice())
 }
 
 #[test]
-fn a_stream_takes_all(rt: HostRuntime) -> Result<(), Fail> {
-    let alloc = rt.alloc();
-    let trace = Cell::new(0);
-    let bytes = sample(alloc)?;
-    let mut stream = Stream::new(Halting::new(Vec::new(alloc), 4, &trace));
+fn a_log_is_read_whole(rt: HostRuntime) -> Result<(), Fail> {
+    let sound = is_read_whole(rt.alloc(), u64::MAX, 0)?;
+    let failing = is_read_whole(rt.alloc(), 7, 1)?;
+    assert!(rt; sound && failing);
+    Ok(())
+}
+
+/// Writes the bytes in pieces, and answers how many writes failed.
+fn write_pieces<K: Sink>(stream: &mut K, bytes: &[u8]) -> u64 {
     let mut faults = 0u64;
-    let mut rest = bytes.as_slice();
+    let mut rest = bytes;
     for _ in 0..1000u64 {
         let piece = &rest[..rest.len().min(100)];
         if piece.is_empty() {
@@ -57,43 +64,67 @@ fn a_stream_takes_all(rt: HostRuntime) -> Result<(), Fail> {
             Err(Failed) => faults = faults.wrapping_add(1),
         }
     }
-    assert_eq!(rt; faults, 1);
-    assert!(rt; stream.to().bytes.as_slice() == bytes.as_slice());
-    Ok(())
+    faults
 }
 
 #[test]
-fn a_file_is_written_read_and_synced(rt: HostRuntime) -> Result<(), Fail> {
+fn a_stream_takes_all(rt: HostRuntime) -> Result<(), Fail> {
     let trace = Cell::new(0);
-    let sample = sample(rt.alloc())?;
-    let bytes = sample.as_slice();
-    assert_eq!(rt; bytes.len(), 1000);
-    let (front, back) = bytes.split_at(500);
-    // made, locked, its length asked, and written in two calls of three parts; then the file and its
-    // folder are synced; the folder again where it failed
-    for (folder_fails, answer, want) in [
-        (false, Ok(()), 146_777_777_232),
-        (true, Err(Failed), 1_467_777_772_323),
-    ] {
-        trace.set(0);
-        let mut buf = [7; 1001];
-        let mut place = HaltingPlace::empty(rt.alloc(), &trace);
-        place.folder_fails = folder_fails;
-        let mut disk = DiskFile::to_write(place);
-        assert_eq!(rt; disk.sync(), Ok(()));
-        assert_eq!(rt; disk.read(0, &mut buf), Ok(0));
-        assert_eq!(rt; disk.write(0, front), Ok(()));
-        assert_eq!(rt; disk.write(500, back), Ok(()));
-        assert_eq!(rt; disk.sync(), answer);
-        assert_eq!(rt; disk.sync(), answer);
-        assert_eq!(rt; trace.get(), want);
-        assert_eq!(rt; disk.len(), Ok(1000));
-        assert_eq!(rt; disk.read(0, &mut buf), Ok(1000));
-        assert!(rt; buf.starts_with(bytes));
-        let mut end = [7; 5];
-        assert_eq!(rt; disk.read(995, &mut end), Ok(5));
-        assert!(rt; bytes.ends_with(&end));
+    let bytes = sample(rt.alloc())?;
+    let mut stream = Stream::new(Halting::new(Vec::new(rt.alloc()), 4, &trace));
+    let faults = write_pieces(&mut stream, bytes.as_slice());
+    assert!(rt; faults == 1 && stream.to().bytes.as_slice() == bytes.as_slice());
+    Ok(())
+}
+
+/// A disk over a file whose calls are interrupted and give or take a part.
+type Interrupted<'t> = DiskFile<HaltingPlace<'t>, Halting<'t>>;
+
+/// Whether the disk is empty at first, takes the two halves of 1,000 bytes, and answers two syncs so.
+fn takes(disk: &mut Interrupted<'_>, front: &[u8], back: &[u8], synced: Result<(), Failed>) -> bool
+    requires { (length front.now ≤ 1000) × (length back.now ≤ 1000) }
+{
+    disk.sync() == Ok(())
+        && disk.read(0, &mut [7; 9]) == Ok(0)
+        && disk.write(0, front) == Ok(())
+        && disk.write(500, back) == Ok(())
+        && disk.sync() == synced
+        && disk.sync() == synced
+}
+
+/// Whether the disk has these 1,000 bytes.
+fn gives_back(disk: &mut Interrupted<'_>, bytes: &[u8]) -> bool {
+    let mut buf = [7; 1001];
+    let mut end = [7; 5];
+    disk.len() == Ok(1000)
+        && disk.read(0, &mut buf) == Ok(1000)
+        && buf.starts_with(bytes)
+        && disk.read(995, &mut end) == Ok(5)
+        && bytes.ends_with(&end)
+}
+
+/// Whether a file is written, read and synced by these calls, where the sync of its folder answers so.
+fn is_kept(alloc: Global, synced: Result<(), Failed>, calls: u64) -> Result<bool, AllocError> {
+    let trace = Cell::new(0);
+    let bytes = sample(alloc)?;
+    if bytes.len() != 1000 {
+        return Ok(false);
     }
+    let (front, back) = bytes.as_slice().split_at(500);
+    let mut place = HaltingPlace::empty(alloc, &trace);
+    place.folder_fails = synced.is_err();
+    let mut disk = DiskFile::to_write(place);
+    let well = takes(&mut disk, front, back, synced) && trace.get() == calls;
+    Ok(well && gives_back(&mut disk, bytes.as_slice()))
+}
+
+// Made, locked, its length asked, and written in two calls of three parts; then the file and its folder
+// are synced; the folder again where it failed.
+#[test]
+fn a_file_is_written_read_and_synced(rt: HostRuntime) -> Result<(), Fail> {
+    let sound = is_kept(rt.alloc(), Ok(()), 146_777_777_232)?;
+    let failing = is_kept(rt.alloc(), Err(Failed), 1_467_777_772_323)?;
+    assert!(rt; sound && failing);
     Ok(())
 }
 
@@ -107,49 +138,59 @@ fn answers<D: Disk>(disk: &mut D) -> [bool; 4] {
     ]
 }
 
-#[test]
-fn the_lock_comes_before_all_else(rt: HostRuntime) -> Result<(), Fail> {
+/// A place at which a file of one byte stands.
+fn place_of_one<'t>(alloc: Global, trace: &'t Cell<u64>, lock_taken: bool) -> HaltingPlace<'t> {
+    let mut place = HaltingPlace::empty(alloc, trace);
+    place.is_there = true;
+    place.bytes = b"a";
+    place.lock_taken = lock_taken;
+    place
+}
+
+/// Whether a disk that may be written answers so, by these calls, where another may have the lock.
+fn writes(alloc: Global, lock_taken: bool, want: [bool; 4], calls: u64) -> bool {
     let trace = Cell::new(0);
-    // whether it is written, whether another has the lock, the answers, and the calls: one that has no
-    // lock meets none
-    for (writes, lock_taken, want, calls) in [
-        (true, false, [true; 4], 4_655_723),
-        (true, true, [false; 4], 4),
-        (false, true, [true, true, false, true], 65_523),
-    ] {
-        trace.set(0);
-        let mut place = HaltingPlace::empty(rt.alloc(), &trace);
-        place.is_there = true;
-        place.bytes = b"a";
-        place.lock_taken = lock_taken;
-        let mut disk = if writes {
-            DiskFile::to_write(place)
-        } else {
-            DiskFile::to_read(place)
-        };
-        assert_eq!(rt; disk.locked_id().is_some(), writes && !lock_taken);
-        assert_eq!(rt; answers(&mut disk), want);
-        assert_eq!(rt; trace.get(), calls);
-    }
-    Ok(())
+    let mut disk = DiskFile::to_write(place_of_one(alloc, &trace, lock_taken));
+    let is_locked = disk.locked_id().is_some();
+    is_locked != lock_taken && answers(&mut disk) == want && trace.get() == calls
+}
+
+// One that has no lock makes no call behind the one for the lock.
+#[test]
+fn the_lock_comes_before_all_else(rt: HostRuntime) {
+    assert!(rt; writes(rt.alloc(), false, [true; 4], 4_655_723));
+    assert!(rt; writes(rt.alloc(), true, [false; 4], 4));
+}
+
+/// Whether a disk that is read alone asks for no lock.
+fn reads(alloc: Global) -> bool {
+    let trace = Cell::new(0);
+    let mut disk = DiskFile::to_read(place_of_one(alloc, &trace, true));
+    let is_locked = disk.locked_id().is_some();
+    !is_locked && answers(&mut disk) == [true, true, false, true] && trace.get() == 65_523
 }
 
 #[test]
-fn of_two_that_make_a_file_one_does(rt: HostRuntime) -> Result<(), Fail> {
+fn what_is_read_alone_is_not_locked(rt: HostRuntime) {
+    assert!(rt; reads(rt.alloc()));
+}
+
+/// Whether a file that is made is not written, by these calls: between making and locking it another took
+/// the lock, or wrote a byte and is gone.
+fn yields_to(alloc: Global, lock_taken: bool, calls: u64) -> bool {
     let trace = Cell::new(0);
-    // between making and locking another took the lock, or wrote and is gone
-    for (lock_taken, calls) in [(true, 14), (false, 146)] {
-        trace.set(0);
-        let mut place = HaltingPlace::empty(rt.alloc(), &trace);
-        place.lock_taken = lock_taken;
-        if !lock_taken {
-            place.bytes = b"a";
-        }
-        let mut disk = DiskFile::to_write(place);
-        assert_eq!(rt; disk.len(), Ok(0));
-        assert_eq!(rt; disk.write(0, b"b"), Err(Failed));
-        assert_eq!(rt; trace.get(), calls);
-        assert_eq!(rt; disk.faults(), 1);
+    let mut place = HaltingPlace::empty(alloc, &trace);
+    place.lock_taken = lock_taken;
+    if !lock_taken {
+        place.bytes = b"a";
     }
-    Ok(())
+    let mut disk = DiskFile::to_write(place);
+    let failed = disk.len() == Ok(0) && disk.write(0, b"b") == Err(Failed);
+    failed && trace.get() == calls && disk.faults() == 1
+}
+
+#[test]
+fn of_two_that_make_a_file_one_does(rt: HostRuntime) {
+    assert!(rt; yields_to(rt.alloc(), true, 14));
+    assert!(rt; yields_to(rt.alloc(), false, 146));
 }
