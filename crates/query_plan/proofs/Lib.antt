@@ -15,3 +15,4 @@ mod NeedsLemmas
 mod BringLemmas
 mod TailLemmas
 mod TokenLemmas
+mod ChunkLemmas

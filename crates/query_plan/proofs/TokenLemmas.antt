@@ -1,17 +1,17 @@
--- A token of the pattern that can stand in no stamp stands among the constant bytes, or in a variable.
+-- A token of the pattern stands in the stamp, among the constant bytes, or in a variable.
 use Rattle.std.proofs.Common.{◌≡◌, ℕ, Bool, true, false, zero, suc, List, [], ◌∷◌, ◌++◌, refl, sym, ◌∙◌, ap, subst, arith, inl, inr, append_assoc, append-nil}
 use Rattle.std.specs.Prelude.{◌⊎◌, ◌||◌, not, Option, All, IsTrue}
 use Rattle.std.specs.List.{AllByRecursion, Contains}
 use Rattle.std.proofs.lemmas.List.Elements.{recursion_from_All}
 use Rattle.token_rules.specs.Tokens.{IsDelimiter}
 use Rattle.time_patterns.specs.Laws.{is_stamp_byte}
-use Rattle.logtype_text.specs.Parts.{Part}
+use Rattle.logtype_text.specs.Parts.{AreParts, Part}
 use Rattle.logtype_text.specs.Cut.{PartsAreCut, plains}
 use Rattle.wild_match.specs.declared.pattern.Item.{Item}
 use Rattle.wild_match.specs.declared.pattern.Item.TheVariants.{Many}
 use Rattle.query_plan.specs.declared.pieces.Piece.{Piece}
 use Rattle.query_plan.specs.declared.pieces.Piece.TheVariants.{Gap, Mark, Word as WordPiece}
-use Rattle.query_plan.specs.Laws.{ForeignStandsInNoStamp, TokensAreBrought}
+use Rattle.query_plan.specs.Laws.{ForeignStandsInNoStamp, TokensAreBrought, TokensStand}
 use Rattle.query_plan.specs.Needs.{HeldIn, around, is_foreign, marked}
 use Rattle.query_plan.specs.Pieces.{IsCut, IsInner, IsSomeInner, bytes, flat}
 use Rattle.query_plan.specs.Readings.{Breaks, IsBodyBehind}
@@ -28,24 +28,24 @@ contains_cases x y xs (suc k, lt, e) = inr (k, omega (arith, lt), e)
 
 -- ---- a token of the pattern stands in what the pattern matches
 
-bytes_any : (q : List Item) (t s : List ℕ) → Steps (bytes t q) s → Steps (bytes t (Many ∷ [])) s
+pub bytes_any : (q : List Item) (t s : List ℕ) → Steps (bytes t q) s → Steps (bytes t (Many ∷ [])) s
 bytes_any q [] s m = many_all s
 bytes_any q (b ∷ t) [] m = elim m [ ]
 bytes_any q (b ∷ t) (c ∷ s) (byte m) = byte (bytes_any q t s m)
 
-bytes_in : (t : List ℕ) (q : List Item) → ((u : List ℕ) → Steps q u → Steps (around t) u) → (w s : List ℕ) → Steps (bytes w q) s → Steps (around t) s
+pub bytes_in : (t : List ℕ) (q : List Item) → ((u : List ℕ) → Steps q u → Steps (around t) u) → (w s : List ℕ) → Steps (bytes w q) s → Steps (around t) s
 bytes_in t q f [] s m = f s m
 bytes_in t q f (b ∷ w) [] m = elim m [ ]
 bytes_in t q f (b ∷ w) (c ∷ s) (byte m) = takes (bytes_in t q f w s m)
 
-many_in : (t : List ℕ) (q : List Item) → ((u : List ℕ) → Steps q u → Steps (around t) u) → (s : List ℕ) → Steps (Many ∷ q) s → Steps (around t) s
+pub many_in : (t : List ℕ) (q : List Item) → ((u : List ℕ) → Steps q u → Steps (around t) u) → (s : List ℕ) → Steps (Many ∷ q) s → Steps (around t) s
 many_in t q f s (drops m) = f s m
 many_in t q f (b ∷ s) (takes m) = takes (many_in t q f s m)
 
 same_word : (t w : List ℕ) → WordPiece w ≡ WordPiece t → w ≡ t
 same_word t w e = cc (e)
 
-has_word : (t : List ℕ) (ps : List Piece) → Contains ps (WordPiece t) → (s : List ℕ) → Steps (flat ps) s → Steps (around t) s
+pub has_word : (t : List ℕ) (ps : List Piece) → Contains ps (WordPiece t) → (s : List ℕ) → Steps (flat ps) s → Steps (around t) s
 has_word t [] has s m = absurd (contains_none (WordPiece t) has)
 has_word t (Gap ∷ ps) has s m = elim (contains_cases Gap (WordPiece t) ps has) [
   | inl e ↦ absurd (cc (e))
@@ -65,7 +65,7 @@ inner_of : (t : List ℕ) → IsSomeInner t → IsInner t
 inner_of [] c = absurd c
 inner_of (b ∷ t) c = c
 
-word_inner : (t : List ℕ) (ps : List Piece) → IsCut ps → Contains ps (WordPiece t) → IsSomeInner t
+pub word_inner : (t : List ℕ) (ps : List Piece) → IsCut ps → Contains ps (WordPiece t) → IsSomeInner t
 word_inner t [] c has = absurd (contains_none (WordPiece t) has)
 word_inner t (Gap ∷ ps) c has = elim (contains_cases Gap (WordPiece t) ps has) [
   | inl e ↦ absurd (cc (e))
@@ -90,11 +90,11 @@ foreign_of : (x : Bool) (y : Bool) → x ≡ true → y ≡ false → (not x || 
 foreign_of true y one two = two
 foreign_of false y one two = absurd (cc (one))
 
-in_stamp : (q : List Item) (body : List ℕ) → Breaks body → (t s : List ℕ) → AllStamp s → IsInner t → Steps (bytes t q) (s ++ body) → is_foreign t ≡ false
-in_stamp q body breaks [] s all i m = refl
-in_stamp q [] breaks (b ∷ t) [] all i m = elim m [ ]
-in_stamp q (d ∷ body) breaks (b ∷ t) [] all i (byte m) = absurd (clash b i.0 breaks)
-in_stamp q body breaks (b ∷ t) (c ∷ s) all i (byte m) = foreign_of (is_stamp_byte c) (is_foreign t) all.0 (in_stamp q body breaks t s all.1 i.1 m)
+no_foreign : (q : List Item) (body : List ℕ) → Breaks body → (t s : List ℕ) → AllStamp s → IsInner t → Steps (bytes t q) (s ++ body) → is_foreign t ≡ false
+no_foreign q body breaks [] s all i m = refl
+no_foreign q [] breaks (b ∷ t) [] all i m = elim m [ ]
+no_foreign q (d ∷ body) breaks (b ∷ t) [] all i (byte m) = absurd (clash b i.0 breaks)
+no_foreign q body breaks (b ∷ t) (c ∷ s) all i (byte m) = foreign_of (is_stamp_byte c) (is_foreign t) all.0 (no_foreign q body breaks t s all.1 i.1 m)
 
 true_not : (x : Bool) → x ≡ true → x ≡ false → ⊥
 true_not x one two = cc (one, two)
@@ -102,15 +102,11 @@ true_not x one two = cc (one, two)
 past_stamp : (t body : List ℕ) → Breaks body → IsInner t → is_foreign t ≡ true → (s : List ℕ) → AllStamp s → Steps (around t) (s ++ body) → Steps (around t) body
 past_stamp t body breaks i foreign [] all m = m
 past_stamp t body breaks i foreign (c ∷ s) all (takes m) = past_stamp t body breaks i foreign s all.1 m
-past_stamp t body breaks i foreign (c ∷ s) all (drops m) = absurd (true_not (is_foreign t) foreign (in_stamp (Many ∷ []) body breaks t (c ∷ s) all i m))
-
-behind_stamp : (t body s : List ℕ) → IsBodyBehind s body → IsInner t → is_foreign t ≡ true → AllStamp s → Steps (around t) (s ++ body) → Steps (around t) body
-behind_stamp t body [] behind i foreign all m = m
-behind_stamp t body (c ∷ s) behind i foreign all m = past_stamp t body behind i foreign (c ∷ s) all m
+past_stamp t body breaks i foreign (c ∷ s) all (drops m) = absurd (true_not (is_foreign t) foreign (no_foreign (Many ∷ []) body breaks t (c ∷ s) all i m))
 
 -- ---- it stands among the constants, or in a variable
 
-record Run (t v : List ℕ) : Type 0 where
+pub record Run (t v : List ℕ) : Type 0 where
   pub rest : List ℕ
   pub joins : v ≡ t ++ rest
 
@@ -124,7 +120,7 @@ around_run : (t v m : List ℕ) → Run t v → Steps (around t) (v ++ m)
 around_run t v m r =
     subst (Steps (around t)) (sym (ap (λ x. x ++ m) r.joins ∙ append_assoc t r.rest m)) (drops (bytes_match t (many_all (r.rest ++ m))))
 
-around_alone : (t v : List ℕ) → Run t v → Steps (around t) v
+pub around_alone : (t v : List ℕ) → Run t v → Steps (around t) v
 around_alone t v r = subst (Steps (around t)) (sym r.joins) (drops (bytes_match t (many_all r.rest)))
 
 on_left : {A B C : Type 0} → (A → C) → A ⊎ B → C ⊎ B
@@ -189,12 +185,32 @@ foreign_stands ps t s cut has foreign all m =
     not_nothing t i
     (past_stamp t [] tt (inner_of t i) foreign s (all_stamp s all) (subst (Steps (around t)) (sym (append-nil s)) (steps (around t) s m)))
 
-pub tokens_brought : PartsAreCut → TokensAreBrought
-tokens_brought law ps s body parts t cut has foreign all behind are m =
-    let i = word_inner t ps cut has in
-    let whole : Steps (around t) (s ++ body) = has_word t ps has (s ++ body) (steps (flat ps) (s ++ body) m) in
-    let in_body = behind_stamp t body s behind (inner_of t i) foreign (all_stamp s all) whole in
-    elim (in_parts t i (symbols_of law body parts are) in_body) [
+-- a body behind a stamp begins with a delimiter, so a token does not lie across
+in_stamp : (t body s : List ℕ) → IsBodyBehind s body → IsInner t → Steps (around t) (s ++ body) → Steps (around t) s ⊎ Steps (around t) body
+in_stamp t body [] behind i m = inr m
+in_stamp t body (c ∷ s) behind i m = in_variable (Steps (around t) body) t body i behind (λ n. n) (c ∷ s) m
+
+-- a token that stands in a body
+pub in_body : PartsAreCut → (t body : List ℕ) (parts : List Part) → IsSomeInner t → AreParts body parts → Steps (around t) body
+    → Match (around t) (marked 10 parts) ⊎ HeldIn t parts
+in_body law t body parts i are m =
+    elim (in_parts t i (symbols_of law body parts are) m) [
       | inl among ↦ inl (stepped among)
       | inr held ↦ inr held
+    ]
+
+pub tokens_stand : PartsAreCut → TokensStand
+tokens_stand law ps s body parts t cut has behind are m =
+    let i = word_inner t ps cut has in
+    let whole : Steps (around t) (s ++ body) = has_word t ps has (s ++ body) (steps (flat ps) (s ++ body) m) in
+    elim (in_stamp t body s behind (inner_of t i) whole) [
+      | inl here ↦ inl (stepped here)
+      | inr there ↦ inr (in_body law t body parts i are there)
+    ]
+
+pub tokens_brought : PartsAreCut → TokensAreBrought
+tokens_brought law ps s body parts t cut has foreign all behind are m =
+    elim (tokens_stand law ps s body parts t cut has behind are m) [
+      | inl here ↦ absurd (foreign_stands ps t s cut has foreign all here)
+      | inr there ↦ there
     ]

@@ -1,10 +1,11 @@
 -- What holds of readings and of the pattern that a search is planned over.
-use Rattle.std.specs.Prelude.{◌≡◌, ◌⊎◌, ◌↔◌, ◌≢◌, true, ℕ, ◌≤◌, List, [], ◌∷◌, ◌++◌, IsTrue}
+use Rattle.std.specs.Prelude.{◌≡◌, ◌⊎◌, ◌↔◌, ◌≢◌, true, ℕ, ◌<◌, ◌≤◌, List, [], ◌∷◌, ◌++◌, length, IsTrue}
 use Rattle.std.specs.List.{All, AllZip, Contains}
+use Rattle.token_rules.specs.Tokens.{IsDelimiter}
 use Rattle.time_patterns.specs.Laws.{is_stamp_byte}
 use Rattle.logtype_text.specs.Parts.{Part, AreParts, joined}
 use Rattle.query_plan.specs.declared.pieces.Piece.{Piece}
-use Rattle.query_plan.specs.declared.pieces.Piece.TheVariants.{Word}
+use Rattle.query_plan.specs.declared.pieces.Piece.TheVariants.{Gap, Mark, Word}
 use Rattle.query_plan.specs.declared.pieces.TheConstants.{MAX_OPEN_TOKENS}
 use Rattle.query_plan.specs.Needs.{skeleton_of, constants, marked, needed_variables_of, Brings, HeldIn, around, is_foreign}
 use Rattle.query_plan.specs.Pieces.{Free, IsCut, flat, wide, wide_pieces, open_tokens, needed_of}
@@ -119,3 +120,61 @@ abbrev pub ForeignStandsInNoStamp : Type 0
 ForeignStandsInNoStamp =
     (ps : List Piece) (t s : List ℕ) → IsCut ps → Contains ps (Word t) → is_foreign t ≡ true → All (λ b. IsTrue (is_stamp_byte b)) s
     → ¬ Match (around t) s
+
+-- A message that pieces match has each of their tokens: in the stamp's text, among its constant bytes,
+-- where a newline stands for each variable, or in a variable.
+abbrev pub TokensStand : Type 0
+TokensStand =
+    (ps : List Piece) (s body : List ℕ) (parts : List Part) (t : List ℕ) → IsCut ps → Contains ps (Word t)
+    → IsBodyBehind s body → AreParts body parts → Match (flat ps) (s ++ body)
+    → Match (around t) s ⊎ (Match (around t) (marked 10 parts) ⊎ HeldIn t parts)
+
+-- no piece is a gap
+abbrev pub NoGap : List Piece → Type 0
+NoGap [] = Unit {0}
+NoGap (Gap ∷ ps) = ⊥
+NoGap (Mark d ∷ ps) = NoGap ps
+NoGap (Word t ∷ ps) = NoGap ps
+
+-- the bytes of pieces, where none is a gap
+abbrev pub chunk_text : List Piece → List ℕ
+chunk_text [] = []
+chunk_text (Gap ∷ ps) = chunk_text ps
+chunk_text (Mark d ∷ ps) = d ∷ chunk_text ps
+chunk_text (Word t ∷ ps) = t ++ chunk_text ps
+
+-- some of the pieces in a row, none of them a gap: what they match stands in a row too
+pub record IsChunk (ps chunk : List Piece) : Type 0 where
+  pub before : List Piece
+  pub behind : List Piece
+  pub stands : ps ≡ before ++ (chunk ++ behind)
+  pub whole : NoGap chunk
+
+-- a delimiter comes first
+abbrev pub BeginsMark : List ℕ → Type 0
+BeginsMark [] = ⊥
+BeginsMark (b ∷ w) = IsDelimiter b
+
+-- The text lies over the border of a stamp and a body: a front of it ends the stamp, and the body begins with
+-- the rest of it, which begins with a delimiter.
+pub record Across (text s body : List ℕ) : Type 0 where
+  pub front : List ℕ
+  pub back : List ℕ
+  pub before : List ℕ
+  pub behind : List ℕ
+  pub joins : text ≡ front ++ back
+  pub some : 0 < length front
+  pub marks : BeginsMark back
+  pub ends : s ≡ before ++ front
+  pub begins : body ≡ back ++ behind
+
+-- A message that pieces match has the text of each chunk of them: in the stamp's text, over the border of the
+-- stamp and the body, or in the body, and then each token of the chunk as tokens stand in a body.
+abbrev pub ChunksAreBrought : Type 0
+ChunksAreBrought =
+    (ps chunk : List Piece) (s body : List ℕ) (parts : List Part) → IsCut ps → IsChunk ps chunk
+    → IsBodyBehind s body → AreParts body parts → Match (flat ps) (s ++ body)
+    → Match (around (chunk_text chunk)) s
+    ⊎ (Across (chunk_text chunk) s body
+    ⊎ (Match (around (chunk_text chunk)) body
+      × ((t : List ℕ) → Contains chunk (Word t) → Match (around t) (marked 10 parts) ⊎ HeldIn t parts)))

@@ -2,7 +2,7 @@
 //! they promise holds of every pattern and every message.
 ghost use Rattle.query_plan.specs.Laws.{ConstantsSuffice, NeededWordsAreBrought, SkeletonIsNeeded};
 ghost use Rattle.query_plan.specs.Laws.{ReadingsAreExact, SearchesAreSearched, WideIsExact};
-ghost use Rattle.query_plan.specs.Laws.{ForeignStandsInNoStamp, TokensAreBrought};
+ghost use Rattle.query_plan.specs.Laws.{ChunksAreBrought, ForeignStandsInNoStamp, TokensAreBrought, TokensStand};
 ghost use Rattle.query_plan.specs.Laws.{WideIsWidened, WideIsWider};
 
 use logtype_text::parts_are_cut;
@@ -41,12 +41,23 @@ pub fn constants_suffice()
     ensures { ConstantsSuffice }
 {}
 
-/// A message that a pattern matches has each token of the pattern that can stand in no stamp, because
-/// it has a byte that no stamp has: among its constant bytes, or in a variable. It does not lie across,
-/// since a variable is a whole token.
+/// A message that a pattern matches has each token of the pattern: in its stamp's text, among its
+/// constant bytes, or in a variable. It does not lie across, since a variable is a whole token, and
+/// since a body behind a stamp begins with a delimiter. One that has a byte which no stamp has
+/// stands in no stamp.
 pub fn tokens_are_brought()
+    ensures stand { TokensStand }
     ensures brought { TokensAreBrought }
     ensures foreign { ForeignStandsInNoStamp }
+{
+    parts_are_cut();
+}
+
+/// A message that a pattern matches has the text of each run of the pattern's pieces between two
+/// gaps: in its stamp's text, in its body, or over the border of the two. Over the border it goes on
+/// in the body with a delimiter.
+pub fn chunks_are_brought()
+    ensures { ChunksAreBrought }
 {
     parts_are_cut();
 }

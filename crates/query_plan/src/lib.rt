@@ -10,7 +10,8 @@ mod skeleton;
 mod symbols;
 
 pub use laws::{
-    constants_suffice, needs_are_brought, readings_are_exact, tokens_are_brought, wide_is_wider,
+    chunks_are_brought, constants_suffice, needs_are_brought, readings_are_exact,
+    tokens_are_brought, wide_is_wider,
 };
 pub use letters::{Letters, matches_letters};
 pub use pieces::{MAX_OPEN_TOKENS, Piece};
