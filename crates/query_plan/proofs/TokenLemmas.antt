@@ -7,6 +7,7 @@ use Rattle.token_rules.specs.Tokens.{IsDelimiter}
 use Rattle.time_patterns.specs.Laws.{is_stamp_byte}
 use Rattle.logtype_text.specs.Parts.{AreParts, Part}
 use Rattle.logtype_text.specs.Cut.{PartsAreCut, plains}
+use Rattle.wild_match.specs.Matches.{Match}
 use Rattle.wild_match.specs.declared.pattern.Item.{Item}
 use Rattle.wild_match.specs.declared.pattern.Item.TheVariants.{Many}
 use Rattle.query_plan.specs.declared.pieces.Piece.{Piece}
