@@ -1,0 +1,4 @@
+mod FitLemmas
+mod PlaceLemmas
+mod TableLemmas
+mod RiseLemmas
