@@ -1,16 +1,15 @@
 -- A run of pieces between gaps stands in the stamp, over the border, or in the body.
-use Rattle.std.proofs.Common.{◌≡◌, ℕ, List, [], ◌∷◌, ◌++◌, length, refl, sym, ◌∙◌, ap, subst, arith, inl, inr}
+use Rattle.std.proofs.Common.{◌≡◌, ℕ, List, [], ◌∷◌, ◌++◌, refl, sym, ◌∙◌, ap, subst, arith, inl, inr}
 use Rattle.std.specs.Prelude.{◌⊎◌}
 use Rattle.std.specs.List.{Contains}
 use Rattle.std.proofs.lemmas.List.Elements.{Contains-append_left}
-use Rattle.logtype_text.specs.Parts.{Part, AreParts}
 use Rattle.logtype_text.specs.Cut.{PartsAreCut}
 use Rattle.wild_match.specs.declared.pattern.Item.{Item}
 use Rattle.wild_match.specs.declared.pattern.Item.TheVariants.{Byte, Many}
 use Rattle.query_plan.specs.declared.pieces.Piece.{Piece}
 use Rattle.query_plan.specs.declared.pieces.Piece.TheVariants.{Gap, Mark, Word}
 use Rattle.query_plan.specs.Laws.{Across, BeginsMark, ChunksAreBrought, IsChunk, NoGap, chunk_text}
-use Rattle.query_plan.specs.Needs.{HeldIn, around, marked}
+use Rattle.query_plan.specs.Needs.{around}
 use Rattle.query_plan.specs.Pieces.{IsCut, IsSomeInner, bytes, flat}
 use Rattle.query_plan.specs.Readings.{Breaks, IsBodyBehind}
 use Rattle.query_plan.proofs.MatchLemmas.{Steps, byte, drops, takes, steps, stepped}

@@ -177,4 +177,4 @@ ChunksAreBrought =
     → Match (around (chunk_text chunk)) s
     ⊎ (Across (chunk_text chunk) s body
     ⊎ (Match (around (chunk_text chunk)) body
-      × ((t : List ℕ) → Contains chunk (Word t) → Match (around t) (marked 10 parts) ⊎ HeldIn t parts)))
+    × ((t : List ℕ) → Contains chunk (Word t) → Match (around t) (marked 10 parts) ⊎ HeldIn t parts)))

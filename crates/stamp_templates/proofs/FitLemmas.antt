@@ -1,14 +1,12 @@
 -- What a form prints fits the form's zeros.
-use Rattle.std.proofs.Common.{◌≡◌, ℕ, zero, suc, ◌+◌, ◌-◌, ◌%◌, ◌/◌, ◌<◌, ◌≤◌, List, [], ◌∷◌, ◌++◌, length, drop, refl, sym, ap, subst, ◌∙◌, arith}
-use Rattle.std.specs.Prelude.{Bool, true, false, IsTrue, ◌==◌, if◌then◌else◌, slice_get, slice_index, Option, Some, None, ℤ}
-use Rattle.std.specs.Int.{is_in_range}
+use Rattle.std.proofs.Common.{◌≡◌, ℕ, zero, suc, ◌+◌, ◌-◌, ◌%◌, ◌/◌, ◌<◌, List, [], ◌∷◌, ◌++◌, length, drop, refl, sym, ap, subst, ◌∙◌, arith}
+use Rattle.std.specs.Prelude.{true, slice_get, slice_index, Option, Some, None}
 use Rattle.time_patterns.specs.declared.field.Field.{Field}
 use Rattle.time_patterns.specs.declared.form.Form.{Form}
 use Rattle.time_patterns.specs.Digits.{byte_text, digits, field_text, fields_text}
 use Rattle.time_patterns.specs.Forms.{fields_of, forms, fraction_text, tail_text}
-use Rattle.time_patterns.specs.Stamps.{Prints}
 use Rattle.stamp_templates.specs.Laws.{TextsFit}
-use Rattle.stamp_templates.specs.Templates.{Fits, allows, template_of, zeros_of, zeros_of_some}
+use Rattle.stamp_templates.specs.Templates.{Fits, allows, zeros_of, zeros_of_some}
 
 -- byte by byte
 abbrev Each : List ℕ → List ℕ → Type 0

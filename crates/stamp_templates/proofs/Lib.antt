@@ -2,3 +2,4 @@ mod FitLemmas
 mod PlaceLemmas
 mod TableLemmas
 mod RiseLemmas
+mod SearchLemmas

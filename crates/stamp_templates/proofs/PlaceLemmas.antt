@@ -1,13 +1,10 @@
 -- Where a text stands in a stamp.
-use Rattle.std.proofs.Common.{◌≡◌, ℕ, zero, suc, ◌+◌, ◌-◌, ◌<◌, ◌≤◌, List, [], ◌∷◌, ◌++◌, length, take, drop, get_or, refl, sym, ap, subst, ◌∙◌, arith, inl, inr, length-append}
-use Rattle.std.specs.Prelude.{◌⊎◌, IsTrue, slice_index, ℤ}
+use Rattle.std.proofs.Common.{◌≡◌, ℕ, suc, ◌+◌, ◌<◌, List, [], ◌∷◌, ◌++◌, length, take, drop, get_or, refl, sym, ap, subst, ◌∙◌, arith, inl, inr, length-append}
+use Rattle.std.specs.Prelude.{IsTrue, slice_index}
 use Rattle.std.proofs.lemmas.List.{get_or-take, get_or-drop}
 use Rattle.std.proofs.Math.Seq.{drop-append_seam, take-length}
-use Rattle.time_patterns.specs.Stamps.{Prints}
 use Rattle.wild_match.specs.Matches.{Match, OfSomeRest}
-use Rattle.wild_match.specs.declared.pattern.Item.{Item}
-use Rattle.wild_match.specs.declared.pattern.Item.TheVariants.{Byte, Many}
-use Rattle.query_plan.specs.Needs.{around}
+use Rattle.wild_match.specs.declared.pattern.Item.TheVariants.{Many}
 use Rattle.query_plan.specs.Pieces.{bytes}
 use Rattle.stamp_templates.specs.Laws.{EndsNone, MatchesStand, PlacesFit, StandsAt, StandsInNone, TextsFit}
 use Rattle.stamp_templates.specs.Templates.{Fits, FitsAt, allows, template_of}
@@ -63,4 +60,3 @@ pub stands_in_none : MatchesStand → PlacesFit → (k : ℕ) (text : List ℕ) 
 stands_in_none stand law k text none m stamp p found =
     let at = stand text stamp found in
     none at.0 (law k m stamp text at.0 p at.1)
-

@@ -1,8 +1,6 @@
 -- The texts of a pattern rise with the moment.
 use Rattle.std.proofs.Common.{◌≡◌, ℕ, zero, suc, ◌+◌, ◌-◌, ◌*◌, ◌/◌, ◌%◌, ◌^◌, ◌<◌, ◌≤◌, ◌⊎◌, inl, inr, List, [], ◌∷◌, ◌++◌, length, Option, Some, None, ℤ, pos, negsuc, ◌*ℤ◌, ◌<ℤ◌, ◌≤ℤ◌, unsigned_abs, refl, sym, ap, subst, ◌∙◌, arith, append_assoc}
 use Rattle.std.proofs.lemmas.Bool.{cases_order}
-use Rattle.jiff_core.specs.declared.civil.date.Date.{Date}
-use Rattle.jiff_core.specs.Date.{epoch_day}
 use Rattle.jiff_core.proofs.DateLemmas.{IsEarlier, cases_date, epoch_day-lt, epoch_day_same}
 use Rattle.jiff_core.proofs.SignedLemmas.{signed_arith}
 use Rattle.time_patterns.specs.declared.civil_time.CivilTime.{CivilTime}
@@ -60,11 +58,11 @@ digits_below zero x y less small = let few : y < 1 = small in absurd (omega arit
 digits_below (suc n) x y less small =
     elim (cases_order (x / 10) (y / 10)) [
       | inl same ↦
-        let last : 48 + x % 10 < 48 + y % 10 = omega arith in
-        subst (λ q. Below (digits n (x / 10) ++ (48 + x % 10) ∷ []) (digits n q ++ (48 + y % 10) ∷ [])) same
-        (below_after (digits n (x / 10)) ((48 + x % 10) ∷ []) ((48 + y % 10) ∷ []) (inl last))
+          let last : 48 + x % 10 < 48 + y % 10 = omega arith in
+          subst (λ q. Below (digits n (x / 10) ++ (48 + x % 10) ∷ []) (digits n q ++ (48 + y % 10) ∷ [])) same
+          (below_after (digits n (x / 10)) ((48 + x % 10) ∷ []) ((48 + y % 10) ∷ []) (inl last))
       | inr (inl lt) ↦
-        below_append (digits n (x / 10)) (digits n (y / 10)) ((48 + x % 10) ∷ []) ((48 + y % 10) ∷ []) (digits_below n (x / 10) (y / 10) lt (omega arith))
+          below_append (digits n (x / 10)) (digits n (y / 10)) ((48 + x % 10) ∷ []) ((48 + y % 10) ∷ []) (digits_below n (x / 10) (y / 10) lt (omega arith))
       | inr (inr gt) ↦ absurd (omega arith)
     ]
 
@@ -131,7 +129,7 @@ clocks_precede : (P : Type 0) (t u : CivilTime) → clock_of t ≤ clock_of u �
 clocks_precede P t u le p =
     elim (cases_order t.hour u.hour) [
       | inl same ↦
-        inr (same, minutes_precede P t.minute u.minute t.second u.second t.microsecond u.microsecond t.second_in u.second_in t.microsecond_in u.microsecond_in (omega arith) p)
+          inr (same, minutes_precede P t.minute u.minute t.second u.second t.microsecond u.microsecond t.second_in u.second_in t.microsecond_in u.microsecond_in (omega arith) p)
       | inr (inl lt) ↦ inl lt
       | inr (inr gt) ↦ absurd (omega (arith, t.minute_in, u.minute_in, t.second_in, u.second_in, t.microsecond_in, u.microsecond_in))
     ]
@@ -154,9 +152,9 @@ numbers_precede P first t u low le p =
       | inl earlier ↦ earlier_precede P first t u low earlier
       | inr (inl later) ↦ absurd (omega (arith, signed_arith, epoch_day-lt u.date t.date later, clock_small t, clock_small u))
       | inr (inr same) ↦
-        let days = epoch_day_same t.date u.date same.0 same.1 same.2 in
-        let clocks : clock_of t ≤ clock_of u = omega (arith, signed_arith, days) in
-        inr (ap (λ y. unsigned_abs y - first) same.0, inr (same.1, inr (same.2, clocks_precede P t u clocks p)))
+          let days = epoch_day_same t.date u.date same.0 same.1 same.2 in
+          let clocks : clock_of t ≤ clock_of u = omega (arith, signed_arith, days) in
+          inr (ap (λ y. unsigned_abs y - first) same.0, inr (same.1, inr (same.2, clocks_precede P t u clocks p)))
     ]
 
 -- ---- a form's texts
@@ -191,13 +189,13 @@ form_rise form s m l text other le a b =
     let x = t.microsecond / form.unit in
     let y = u.microsecond / form.unit in
     let tails : t.microsecond ≤ u.microsecond → IsNotAbove (tail_text form x) (tail_text form y) = λ less.
-        fraction_rise form.fraction x y (units_rise (digits_of form.fraction) form.unit t.microsecond u.microsecond s.unit less)
-        (units_below form s u.microsecond u.microsecond_in) (byte_text form.close) in
+    fraction_rise form.fraction x y (units_rise (digits_of form.fraction) form.unit t.microsecond u.microsecond s.unit less)
+    (units_below form s u.microsecond u.microsecond_in) (byte_text form.close) in
     let order = numbers_precede (IsNotAbove (tail_text form x) (tail_text form y)) first t u (a.2).from_year
-        (micros_rise form.unit form.tick s.tick m l _ _ le a.1 b.1) tails in
+    (micros_rise form.unit form.tick s.tick m l _ _ le a.1 b.1) tails in
     let rise : IsNotAbove (text_of form t) (text_of form u) =
-        fields_rise (fields_of form.shape) (numbers_of first t) (numbers_of first u) (tail_text form x) (tail_text form y)
-        (six_numbers form.shape first t) (within_shape form.shape u (b.2).from_year (b.2).to_year) order in
+    fields_rise (fields_of form.shape) (numbers_of first t) (numbers_of first u) (tail_text form x) (tail_text form y)
+    (six_numbers form.shape first t) (within_shape form.shape u (b.2).from_year (b.2).to_year) order in
     subst (λ z. IsNotAbove z other) (sym a.3) (subst (λ z. IsNotAbove (text_of form t) z) (sym b.3) rise)
 
 pub texts_rise : TextsRise

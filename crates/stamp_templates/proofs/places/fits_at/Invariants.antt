@@ -1,4 +1,4 @@
-use Rattle.std.proofs.Common.{◌≡◌, ◌+◌, ◌<◌, ℕ, slice_index, IsTrue}
+use Rattle.std.proofs.Common.{◌+◌, ◌<◌, ℕ, slice_index, IsTrue}
 use Rattle.stamp_templates.specs.Templates.{allows}
 use Rattle.stamp_templates.proofs.places.fits_at.Given as goal
 
