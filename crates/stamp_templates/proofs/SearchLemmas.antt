@@ -9,7 +9,7 @@ use Rattle.time_patterns.proofs.PlaceLemmas.{IsForm_bound}
 use Rattle.wild_match.specs.Matches.{Match}
 use Rattle.query_plan.specs.Needs.{around}
 use Rattle.stamp_templates.specs.Laws.{EndsNone, MatchesStand, PlacesFit, StandsAt, StandsInNone, TextsFit}
-use Rattle.stamp_templates.specs.Templates.{ArePlaces, FitsAt, template_of}
+use Rattle.stamp_templates.specs.Templates.{ArePlaces, FitsAt, FitsEnd, template_of}
 use Rattle.stamp_templates.proofs.PlaceLemmas.{ends_none, stands_in_none}
 use Rattle.stamp_templates.proofs.TableLemmas.{short_template}
 
@@ -101,6 +101,11 @@ ends_by law k template text r is iff shut =
     let place : at ≡ length template - length text = omega arith in
     not_so r (FitsAt template text (length template - length text)) iff shut
     (subst (λ x. FitsAt x text (length template - length text)) (sym is) (subst (FitsAt (template_of k) text) place f)))
+
+pub fits_end : (k : ℕ) (template text : List ℕ) (r : Bool) → template ≡ template_of k
+    → (IsTrue r ↔ FitsAt template text (length template - length text)) → length text ≤ length template → r ≡ true → FitsEnd (template_of k) text
+fits_end k template text r is iff short may =
+    subst (λ x. FitsEnd x text) is (length template - length text, omega arith, iff.0 may)
 
 pub ends_long : TextsFit → (k : ℕ) (template text : List ℕ) → template ≡ template_of k → length template < length text → EndsNone k text
 ends_long law k template text is long =

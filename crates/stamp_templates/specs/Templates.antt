@@ -38,3 +38,7 @@ Fits template text =
 -- each place of the template from which on it allows the text is among these
 abbrev pub ArePlaces : List ℕ → List ℕ → List ℕ → Type 0
 ArePlaces template text places = (at : ℕ) → FitsAt template text at → Contains places at
+
+-- the template's last bytes allow the text
+abbrev pub FitsEnd : List ℕ → List ℕ → Type 0
+FitsEnd template text = (at : ℕ) × (at + length text ≡ length template) × FitsAt template text at

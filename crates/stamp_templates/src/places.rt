@@ -5,7 +5,7 @@ ghost use Rattle.time_patterns.specs.Stamps.{Prints};
 ghost use Rattle.wild_match.specs.Matches.{Match};
 ghost use Rattle.query_plan.specs.Needs.{around};
 ghost use Rattle.stamp_templates.specs.Laws.{EndsNone, StandsAt, StandsInNone};
-ghost use Rattle.stamp_templates.specs.Templates.{ArePlaces, FitsAt, template_of};
+ghost use Rattle.stamp_templates.specs.Templates.{ArePlaces, FitsAt, FitsEnd, template_of};
 
 use crate::laws::{matches_stand, places_fit, texts_fit};
 use crate::templates::{LONGEST, PATTERNS, allows, template};
@@ -81,7 +81,8 @@ pub fn may_stand(text: &[u8]) -> bool
 
 /// Whether a stamp of the pattern may end with the text, by its template alone.
 pub fn may_end(pattern: u8, text: &[u8]) -> bool
-    ensures { IsFalse result → EndsNone pattern text.now }
+    ensures may { IsTrue result → FitsEnd (template_of pattern) text.now }
+    ensures none { IsFalse result → EndsNone pattern text.now }
 {
     texts_fit();
     let template = template(pattern);
