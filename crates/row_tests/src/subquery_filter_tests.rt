@@ -327,8 +327,8 @@ const BITS: &[(&[u8], u32, &[u64], &[u32], Verdict, bool)] = &[
     (b"run", 0, &[1], &[1], Verdict::Certain, true),
     (b"took", 1, &[7, 0x14F32], &[], Verdict::Certain, true),
     (b"oo1", 1, &[7, 0x14F32], &[], Verdict::Rejected, false),
-    (b"oo1", 1, &[2, 0x14F32], &[2], Verdict::Tried, true),
-    (b"12", 0, &[0], &[0], Verdict::Tried, true),
+    (b"oo1", 1, &[2, 0x14F32], &[2], Verdict::Rejected, false),
+    (b"12", 0, &[0], &[0], Verdict::Rejected, true),
 ];
 
 /// Whether the filter of a pattern tells this of a row and of a segment that lists the words.
@@ -373,10 +373,181 @@ fn told_over_some(alloc: Global) -> Result<usize, Fail> {
 }
 
 /// A row is told by what its words bring, and a segment by the words that its head lists. A number
-/// that happens to be that of a word counts as the word.
+/// that happens to be that of a word brings nothing of the word.
 #[test]
 fn rows_by_bits(rt: HostRuntime) -> Result<(), Fail> {
     let told = told_over_some(rt.alloc())?;
     assert!(rt; told == BITS.len(), "{told}");
+    Ok(())
+}
+
+const NUMBER_TYPES: &[&[u8]] = &[
+    b" from \x12 in \x11 ms",
+    b" load \x13 of \x12",
+    b"\x11 \x11 \x11 \x11 \x11 \x11 \x11 \x11 \x11",
+];
+
+const NUMBER_WORDS: &[&[u8]] = &[
+    b"10.0.2.7",
+    b"10.2.15.191",
+    b"007",
+    b"-0",
+    b"+5",
+    b"1.",
+    b"a-404",
+];
+
+/// The log types and words of rows that are told by numbers.
+fn number_books(alloc: Global) -> Result<Books, Fail> {
+    let mut books = Books::new(alloc, 1, 100);
+    for text in NUMBER_TYPES {
+        books.add_type(text).ok().ok_or("a number")?;
+    }
+    for text in NUMBER_WORDS {
+        books.add_word(text).ok().ok_or("a number")?;
+    }
+    Ok(books)
+}
+
+/// The words of `0.335`, `1.5` and `-0.5`.
+const DECIMALS: [u64; 3] = [0x14F32, 0xF10, 0x8000_0000_0000_0510];
+
+/// `2025-03-01 00:00:00,404` and `2021-11-12 11:11:11,111` by the first pattern.
+const MOMENTS: [i64; 2] = [1_740_787_200_404, 1_636_715_471_111];
+
+/// A pattern's text, a row's stamp, log type and words, its verdict.
+const NUMBER_ROWS: &[(&[u8], u8, i64, u32, &[u64], Verdict)] = &[
+    // a whole number, in words, numbers and stamps
+    (b" 404 ", 0, 0, 0, &[1, 404], Verdict::Tried),
+    (b" 404 ", 0, 0, 0, &[1, 405], Verdict::Rejected),
+    (b" 404 ", 1, MOMENTS[1], 0, &[1, 405], Verdict::Rejected),
+    (b"404", 1, MOMENTS[0], 0, &[1, 405], Verdict::Tried),
+    (b"404", 0, 0, 0, &[6, 405], Verdict::Tried),
+    (b"404", 0, 0, 0, &[1, 70_404], Verdict::Tried),
+    (b"404", 0, 0, 0, &[1, 70_405], Verdict::Rejected),
+    (b"-404", 0, 0, 0, &[6, 0], Verdict::Tried),
+    (b"-404", 0, 0, 0, &[1, u64::MAX - 403], Verdict::Tried),
+    (b"-404", 0, 0, 0, &[1, 404], Verdict::Rejected),
+    // a decimal
+    (b"0.335", 0, 0, 1, &[DECIMALS[0], 0], Verdict::Tried),
+    (b"0.335", 0, 0, 1, &[DECIMALS[1], 0], Verdict::Rejected),
+    (b"335", 1, MOMENTS[1], 1, &[DECIMALS[0], 0], Verdict::Tried),
+    (b"0.335", 1, MOMENTS[0], 0, &[0, 335], Verdict::Rejected),
+    // addresses: a number that is that of a marked word is no such word
+    (b"10.0.", 0, 0, 0, &[0, 7], Verdict::Tried),
+    (b"10.0.", 0, 0, 0, &[1, 0], Verdict::Rejected),
+    (b"10.0.", 0, 0, 1, &[0, 1], Verdict::Rejected),
+    (b"10.2.15.191", 1, MOMENTS[0], 0, &[1, 7], Verdict::Tried),
+    (b"10.2.15.191", 1, MOMENTS[0], 0, &[0, 7], Verdict::Rejected),
+    // words that look like numbers
+    (b"-0", 0, 0, 0, &[3, 1], Verdict::Tried),
+    (b"-0", 0, 0, 0, &[1, 0], Verdict::Rejected),
+    (b"-0", 0, 0, 1, &[DECIMALS[2], 1], Verdict::Tried),
+    (b"007", 0, 0, 0, &[2, 1], Verdict::Tried),
+    (b"007", 0, 0, 0, &[1, 7], Verdict::Rejected),
+    (b"007", 0, 0, 0, &[1, 10_070], Verdict::Tried),
+    (b"+5", 0, 0, 0, &[4, 1], Verdict::Tried),
+    (b"+5", 0, 0, 0, &[1, 5], Verdict::Rejected),
+    (b"1.", 0, 0, 0, &[5, 1], Verdict::Tried),
+    (b"1.", 0, 0, 1, &[DECIMALS[1], 3], Verdict::Tried),
+    (b"1.", 0, 0, 0, &[3, 1], Verdict::Rejected),
+    // stamps
+    (b"00:00", 0, 0, 0, &[3, 1], Verdict::Rejected),
+    (b"00:00", 1, MOMENTS[0], 0, &[3, 1], Verdict::Tried),
+    (b"00:00", 1, MOMENTS[1], 0, &[3, 1], Verdict::Rejected),
+    (b"2025-03-01 00", 1, MOMENTS[0], 0, &[3, 1], Verdict::Tried),
+    (
+        b"2025-03-01 00",
+        1,
+        MOMENTS[1],
+        0,
+        &[3, 1],
+        Verdict::Rejected,
+    ),
+    // nine tokens: the first and the last share a bit
+    (
+        b"1 2 3 4 5 6 7 8 9",
+        0,
+        0,
+        2,
+        &[1, 2, 3, 4, 5, 6, 7, 8, 9],
+        Verdict::Tried,
+    ),
+    (
+        b"1 2 3 4 5 6 7 8 9",
+        0,
+        0,
+        2,
+        &[1, 2, 3, 4, 5, 6, 7, 8, 1],
+        Verdict::Tried,
+    ),
+    (
+        b"1 2 3 4 5 6 7 8 9",
+        0,
+        0,
+        2,
+        &[1, 2, 3, 4, 5, 6, 7, 7, 9],
+        Verdict::Rejected,
+    ),
+];
+
+/// What the filter of a pattern tells of a row, and whether the row is accepted.
+fn told(
+    alloc: Global,
+    books: &Books,
+    text: &[u8],
+    row: RowRef<'_>,
+) -> Result<(Verdict, Option<bool>), Fail> {
+    let plan = plan_of(alloc, text)?;
+    let filter = Filter::new(alloc, &plan, books)?;
+    Ok((filter.verdict(row), accepted(&plan, row, books)))
+}
+
+/// A row is told by the texts of its words and numbers and by its stamp. None that matches is left
+/// out.
+#[test]
+fn rows_by_numbers(rt: HostRuntime) -> Result<(), Fail> {
+    let alloc = rt.alloc();
+    let books = number_books(alloc)?;
+    for (text, pattern, moment, log_type, words, want) in NUMBER_ROWS {
+        let row = RowRef {
+            pattern: *pattern,
+            moment: *moment,
+            log_type: *log_type,
+            words,
+        };
+        let (verdict, matches) = told(alloc, &books, text, row)?;
+        assert!(rt; verdict == *want, "{text:?} {words:?}");
+        let left_out = verdict == Verdict::Rejected && matches != Some(false);
+        assert!(rt; !left_out, "{text:?} {words:?}");
+    }
+    Ok(())
+}
+
+/// A pattern's text, a segment's log types and words, whether it may match: its words are asked
+/// only where no stamp and no number may bring what is missing.
+const NUMBER_SEGMENTS: &[(&[u8], &[u32], &[u32], bool)] = &[
+    (b"10.0.", &[0], &[0], true),
+    (b"10.0.", &[0], &[1, 2], false),
+    (b"10.0.", &[2], &[0], false),
+    (b"404", &[2], &[], true),
+    (b"+5", &[0, 1], &[4], true),
+    (b"+5", &[0, 1], &[1], false),
+    (b"00:00", &[0], &[], true),
+    (b"-12345", &[0], &[], true),
+    (b"-12345.", &[0], &[], false),
+    (b"-12345.", &[1], &[], true),
+];
+
+#[test]
+fn segments_by_numbers(rt: HostRuntime) -> Result<(), Fail> {
+    let alloc = rt.alloc();
+    let books = number_books(alloc)?;
+    for (text, types, words, want) in NUMBER_SEGMENTS {
+        let plan = plan_of(alloc, text)?;
+        let filter = Filter::new(alloc, &plan, &books)?;
+        let may = filter.may_match(types, words);
+        assert!(rt; may == *want, "{text:?} {types:?}");
+    }
     Ok(())
 }

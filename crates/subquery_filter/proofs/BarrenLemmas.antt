@@ -1,12 +1,11 @@
 -- Why a barren segment has no match.
-use Rattle.std.proofs.Common.{◌≡◌, ◌≢◌, ℕ, zero, suc, ◌+◌, ◌<◌, ◌≤◌, Bool, true, false, cond, List, [], ◌∷◌, ◌++◌, length, get_or, map, refl, sym, ◌∙◌, ap, subst, arith, inl, inr, ⊎_elim, append_assoc}
+use Rattle.std.proofs.Common.{◌≡◌, ◌≢◌, ℕ, zero, suc, Bool, true, false, cond, List, [], ◌∷◌, ◌++◌, length, map, refl, sym, ◌∙◌, ap, subst, arith, inl, inr, append_assoc}
 use Rattle.std.specs.Prelude.{◌⊎◌, ◌↔◌, ℤ, ◌<ℤ◌, ◌≤ℤ◌, not, Option, None, Some, All, IfSome, IsTrue, nat_eq, filter, slice_get}
 use Rattle.std.specs.List.{AllZip, Contains, flat_map, fold}
 use Rattle.std.specs.Option.{IsSomeAnd, MatchOption}
 use Rattle.std.specs.Ordering.{int_cmp, is_lt, ord_max, ord_min}
 use Rattle.std.specs.declared.cmp.Ordering.{Ordering}
 use Rattle.std.specs.declared.cmp.Ordering.TheVariants.{Less, Equal, Greater}
-use Rattle.std.proofs.lemmas.Bool.{cases_Bool}
 use Rattle.std.proofs.lemmas.Bool.Decides.{nat_tests}
 use Rattle.std.proofs.lemmas.Cmp.{int_ranked}
 use Rattle.std.proofs.lemmas.Int.{ints}
@@ -15,7 +14,7 @@ use Rattle.std.proofs.lemmas.List.{map-append}
 use Rattle.std.proofs.lemmas.List.Elements.{All-nil, Contains-append_left, Contains-append_right}
 use Rattle.std.proofs.lemmas.Option.{get_or_from_slice_get}
 use Rattle.std.proofs.lemmas.Slice.Zip.{AllZip-left}
-use Rattle.token_rules.specs.Tokens.{IsDelimiter, is_token_byte}
+use Rattle.token_rules.specs.Tokens.{IsDelimiter}
 use Rattle.var_codec.specs.Codes.{Codes}
 use Rattle.var_codec.specs.declared.Coded.TheVariants.{Whole as WholeWord, Decimal as DecimalWord, Word as DictionaryWord}
 use Rattle.time_patterns.specs.Laws.{ShortTexts, is_stamp_byte}
@@ -42,7 +41,7 @@ use Rattle.query_plan.specs.Laws.{IsWidened, NeededWordsAreBrought, ReadingsAreE
 use Rattle.query_plan.specs.Needs.{Brings, Owns, Shows, needed_variables_of}
 use Rattle.query_plan.specs.Pieces.{Free, needed_of, wide, wide_pieces}
 use Rattle.query_plan.specs.Readings.{Breaks, IsBodyBehind, SomeReads}
-use Rattle.subquery_filter.specs.Barren.{HasConstants, HoldsConstants, IsBounded, IsNeeded, LacksTypes, LacksWord}
+use Rattle.subquery_filter.specs.Barren.{IsBounded, LacksTypes, LacksWord}
 use Rattle.subquery_filter.specs.Laws.{BarrenHasNoMatch, words_of}
 use Rattle.subquery_filter.specs.Runs.{HoldsRun, IsRunEnd, ends_run, may_begin}
 

@@ -1,10 +1,12 @@
 -- What the bits of a filter tell of rows.
-use Rattle.std.proofs.Common.{◌≡◌, ◌≢◌, ℕ, zero, suc, ◌+◌, ◌<◌, ◌≤◌, true, false, List, [], ◌∷◌, ◌++◌, length, get_or, map, refl, sym, ◌∙◌, ap, subst, arith, inl, inr, length-append}
-use Rattle.std.specs.Prelude.{◌⊎◌, ◌↔◌, Option, Some, bit_or, slice_get, slice_index_or}
+use Rattle.std.proofs.Common.{◌≡◌, ℕ, zero, suc, ◌+◌, ◌<◌, ◌≤◌, false, List, [], ◌∷◌, ◌++◌, length, get_or, map, refl, sym, ◌∙◌, ap, subst, arith, inl, inr, length-append}
+use Rattle.std.specs.Prelude.{◌⊎◌, ◌↔◌, Option, None, Some, bit_or, slice_get, slice_index_or}
 use Rattle.std.specs.List.{Contains}
 use Rattle.std.specs.Int.{bit_at}
 use Rattle.std.proofs.lemmas.Nat.Bits.{bit_at_or, same_from_bits}
-use Rattle.std.proofs.lemmas.Bool.{cases_eq, cases_lt}
+use Rattle.std.proofs.lemmas.Bool.{cases_lt}
+use Rattle.std.specs.Fmt.{signed_decimal}
+use Rattle.std.specs.Int.{cast_signed, w64}
 use Rattle.std.proofs.lemmas.List.{get_or_append_left, get_or_default, get_or_past}
 use Rattle.std.proofs.lemmas.List.Elements.{All-push}
 use Rattle.std.proofs.lemmas.Option.{slice_get_within}
@@ -15,23 +17,27 @@ use Rattle.logtype_text.specs.TypeText.{type_text}
 use Rattle.column_store.specs.declared.row.Row.{Row}
 use Rattle.wild_match.specs.Matches.{Match}
 use Rattle.wild_match.specs.declared.pattern.Item.{Item}
-use Rattle.row_codec.specs.Means.{IsCanonical}
-use Rattle.row_codec.specs.Numbers.{kinds_from, numbers_of_row, word_numbers}
+use Rattle.row_codec.specs.Means.{HasStampText, HasWord, IsCanonical}
+use Rattle.row_codec.specs.Numbers.{numbers_of_row, word_numbers}
+use Rattle.row_codec.proofs.EncoderLemmas.{slots}
 use Rattle.query_plan.specs.declared.pieces.Piece.{Piece}
 use Rattle.query_plan.specs.declared.pieces.Piece.TheVariants.{Word as WordPiece}
 use Rattle.query_plan.specs.Laws.{IsSearched}
-use Rattle.query_plan.specs.Needs.{around, is_foreign}
+use Rattle.query_plan.specs.Needs.{around}
 use Rattle.query_plan.specs.Pieces.{flat, wide_pieces}
 use Rattle.subquery_filter.specs.declared.filter.Filter.{Filter}
-use Rattle.subquery_filter.specs.declared.filter.TypeTest.{TypeTest}
+use Rattle.subquery_filter.specs.declared.slots.Slot.{Slot}
+use Rattle.subquery_filter.specs.declared.slots.TypeTest.{TypeTest}
 use Rattle.subquery_filter.specs.declared.token.Token.{Token}
 use Rattle.subquery_filter.specs.declared.verdicts.Verdict.{Verdict}
 use Rattle.subquery_filter.specs.declared.verdicts.Verdict.TheVariants.{Rejected, Certain, Tried}
-use Rattle.subquery_filter.specs.Filter.{AreMarks, AreTests, Has, HasNoMatch, IsFilter, IsRight, IsRowVerdict, Marks, Needs, unknown}
-use Rattle.subquery_filter.specs.StepsFilter.{AreTokens, HasEach, IsShut}
-use Rattle.subquery_filter.specs.Tokens.{IsTokenOf, StandsInType, RowsBringTokens}
+use Rattle.subquery_filter.specs.Filter.{AreMarks, AreSmall, AreTests, Covers, Has, HasNoMatch, IsFilter, IsListed, IsRight, IsRowVerdict, IsSlot, IsTest, Marks}
+use Rattle.subquery_filter.specs.StepsFilter.{AreTokens, HasEach, IsShut, Lacks, Stays, may_by}
+use Rattle.subquery_filter.specs.StepsLetters.{kinds_in}
+use Rattle.subquery_filter.specs.Tokens.{IsTokenOf, RowsBringTokens}
 use Rattle.subquery_filter.specs.Verdicts.{CertainAlwaysMatches, IsCertain, IsRejected, RejectedNeverMatches}
-use Rattle.subquery_filter.proofs.BarrenLemmas.{contains_cases, contains_none, contains_first, contains_rest}
+use Rattle.subquery_filter.proofs.BarrenLemmas.{contains_first, contains_rest, row_numbers}
+use Rattle.subquery_filter.proofs.TokenLemmas.{kinds_are}
 
 -- ---- bits
 
@@ -50,6 +56,9 @@ has_left a b c has = has_bits (bit_or a b) c (λ i. let x = bits_of a c has i in
 pub has_right : (a b : ℕ) → Has (bit_or a b) b
 has_right a b = has_bits (bit_or a b) b (λ i. omega (arith, bit_at_or a b i))
 
+pub has_self : (a : ℕ) → Has a a
+has_self a = has_bits a a (λ i. omega arith)
+
 pub has_both : (all a b : ℕ) → Has all a → Has all b → Has all (bit_or a b)
 has_both all a b one two = has_bits all (bit_or a b) (λ i. let x = bits_of all a one i in let y = bits_of all b two i in omega (arith, x, y, bit_at_or a b i))
 
@@ -67,24 +76,24 @@ before_step xs P Q i x lt is weaker here before k d below = elim (cases_lt k i) 
       subst (λ j. Q (get_or xs j d)) same (subst Q (is ∙ get_or_default xs i x d lt) here)
 ]
 
-abbrev pub MarksBefore : List Token → List ℕ → ℕ → ℕ → Type 0
-MarksBefore tokens text i bits = (k : ℕ) (d : Token) → k < i → Match (get_or tokens k d).matcher.items text → Has bits (get_or tokens k d).bit
+-- the bit of each token so far of which P holds is among these
+abbrev pub EachBefore : (Token → Type 0) → List Token → ℕ → ℕ → Type 0
+EachBefore P tokens i bits = (k : ℕ) (d : Token) → k < i → P (get_or tokens k d) → Has bits (get_or tokens k d).bit
 
-pub marks_step : (tokens : List Token) (text : List ℕ) (i bits mark : ℕ) (token : Token) → i < length tokens → token ≡ get_or tokens i token → (Match token.matcher.items text → mark ≡ token.bit)
-    → MarksBefore tokens text i bits → MarksBefore tokens text (i + 1) (bit_or bits mark)
-marks_step tokens text i bits mark token lt is marks before =
-    before_step tokens (λ (k : Token). Match k.matcher.items text → Has bits k.bit) (λ (k : Token). Match k.matcher.items text → Has (bit_or bits mark) k.bit) i token lt is
+pub each_step : (P : Token → Type 0) (tokens : List Token) (i bits mark : ℕ) (token : Token) → i < length tokens → token ≡ get_or tokens i token → (P token → mark ≡ token.bit)
+    → EachBefore P tokens i bits → EachBefore P tokens (i + 1) (bit_or bits mark)
+each_step P tokens i bits mark token lt is marks before =
+    before_step tokens (λ (k : Token). P k → Has bits k.bit) (λ (k : Token). P k → Has (bit_or bits mark) k.bit) i token lt is
     (λ k f m. has_left bits mark k.bit (f m)) (λ m. subst (Has (bit_or bits mark)) (marks m) (has_right bits mark)) before
 
-abbrev pub NeedsBefore : List Token → List ℕ → ℕ → ℕ → Type 0
-NeedsBefore tokens text i bits =
-    (all : ℕ) → ((k : ℕ) (d : Token) → k < i → StandsInType (get_or tokens k d).matcher.items text ⊎ Has all (get_or tokens k d).bit) → Has all bits
+-- bits that are among any that have those of the tokens so far
+abbrev pub WantedBefore : List Token → ℕ → ℕ → Type 0
+WantedBefore tokens i bits = (all : ℕ) → ((k : ℕ) (d : Token) → k < i → Has all (get_or tokens k d).bit) → Has all bits
 
-pub needs_step : (tokens : List Token) (text : List ℕ) (i bits need : ℕ) (token : Token) → token ≡ get_or tokens i token
-    → ((all : ℕ) → StandsInType token.matcher.items text ⊎ Has all token.bit → Has all need) → NeedsBefore tokens text i bits → NeedsBefore tokens text (i + 1) (bit_or bits need)
-needs_step tokens text i bits need token is here before all each =
-    has_both all bits need (before all (λ k d lt. each k d (omega (arith, lt))))
-    (here all (subst (λ (k : Token). StandsInType k.matcher.items text ⊎ Has all k.bit) (sym is) (each i token (omega arith))))
+pub wanted_step : (tokens : List Token) (i bits : ℕ) (token : Token) → token ≡ get_or tokens i token → WantedBefore tokens i bits → WantedBefore tokens (i + 1) (bit_or bits token.bit)
+wanted_step tokens i bits token is before all each =
+    has_both all bits token.bit (before all (λ k d lt. each k d (omega (arith, lt))))
+    (subst (λ (k : Token). Has all k.bit) (sym is) (each i token (omega arith)))
 
 abbrev pub HasBefore : List ℕ → List ℕ → ℕ → ℕ → Type 0
 HasBefore marks numbers i bits = (k d : ℕ) → k < i → Has bits (get_or marks (get_or numbers k d) 0)
@@ -102,6 +111,32 @@ has_next marks numbers i bits mark lt read before =
 
 pub has_end : (marks numbers : List ℕ) (i bits : ℕ) → length numbers ≤ i → HasBefore marks numbers i bits → HasEach marks numbers bits
 has_end marks numbers i bits le before n (k, lt, e) = subst (λ (x : ℕ). Has bits (get_or marks x 0)) e (before k n (omega (arith, lt, le)))
+
+-- the bits of the numbers so far are among these
+abbrev pub AnyBefore : List ℕ → ℕ → ℕ → Type 0
+AnyBefore marks i bits = (k d : ℕ) → k < i → Has bits (get_or marks k d)
+
+pub any_step : (marks : List ℕ) (i bits : ℕ) → i < length marks → AnyBefore marks i bits → AnyBefore marks (i + 1) (bit_or bits (get_or marks i 0))
+any_step marks i bits lt before =
+    let here = get_or marks i 0 in
+    before_step marks (λ (n : ℕ). Has bits n) (λ (n : ℕ). Has (bit_or bits here) n) i here lt (get_or_default marks i 0 here lt) (λ n h. has_left bits here n h) (has_right bits here) before
+
+pub any_end : (marks : List ℕ) (i bits : ℕ) → length marks ≤ i → AnyBefore marks i bits → (n : ℕ) → Has bits (get_or marks n 0)
+any_end marks i bits le before n = elim (cases_lt n i) [
+  | inl less ↦ before n 0 less
+  | inr past ↦ subst (Has bits) (sym (get_or_past marks n 0 (omega (arith, le, past)))) (has_none bits)
+]
+
+-- the log types so far are shut
+abbrev pub ShutBefore : Filter → ℕ → List ℕ → ℕ → Type 0
+ShutBefore f brought types i = (k d : ℕ) → k < i → IsShut f brought (get_or types k d)
+
+pub shut_step : (f : Filter) (brought : ℕ) (types : List ℕ) (i : ℕ) → i < length types → IsShut f brought (get_or types i 0) → ShutBefore f brought types i → ShutBefore f brought types (i + 1)
+shut_step f brought types i lt here before =
+    before_step types (λ (n : ℕ). IsShut f brought n) (λ (n : ℕ). IsShut f brought n) i (get_or types i 0) lt (get_or_default types i 0 (get_or types i 0) lt) (λ n h. h) here before
+
+pub shut_end : (f : Filter) (brought : ℕ) (types : List ℕ) (i : ℕ) → length types ≤ i → ShutBefore f brought types i → (t : ℕ) → Contains types t → IsShut f brought t
+shut_end f brought types i le before t (k, lt, e) = subst (λ (x : ℕ). IsShut f brought x) e (before k t (omega (arith, lt, le)))
 
 abbrev pub MarkedBefore : List Token → List (List ℕ) → ℕ → List ℕ → Type 0
 MarkedBefore tokens words count marks = (n : ℕ) (text : List ℕ) → n < count → slice_get words n ≡ Some text → Marks tokens text (get_or marks n 0)
@@ -128,36 +163,64 @@ marked_step tokens words count old new text mark size is word marks before n oth
 pub marked_end : (tokens : List Token) (words : List (List ℕ)) (count : ℕ) (marks : List ℕ) → length words ≤ count → MarkedBefore tokens words count marks → AreMarks tokens words marks
 marked_end tokens words count marks le before n text there = before n text (omega (arith, le, slice_get_within words n text there)) there
 
-tests_at : (tests : List TypeTest) (test : TypeTest) (n : ℕ) → get_or (tests ++ test ∷ []) (length tests) unknown ≡ test
-tests_at [] test n = refl
-tests_at (t ∷ tests) test n = tests_at tests test n
+pub push_cases : {X : Type 0} (old : List X) (x : X) (n : ℕ) (y : X) → slice_get (old ++ x ∷ []) n ≡ Some y → (slice_get old n ≡ Some y) ⊎ ((n ≡ length old) × (x ≡ y))
+push_cases [] x zero y is = inr (refl, cc (is))
+push_cases [] x (suc n) y is = absurd (cc is)
+push_cases (o ∷ old) x zero y is = inl is
+push_cases (o ∷ old) x (suc n) y is = elim (push_cases old x n y is) [
+  | inl there ↦ inl there
+  | inr (e, same) ↦ inr (ap suc e, same)
+]
 
-pub tests_step : (ps : List Piece) (tokens : List Token) (types : List (List ℕ)) (count : ℕ) (old new : List TypeTest) (text : List ℕ) (test : TypeTest) → length old ≡ count → new ≡ old ++ test ∷ [] → slice_get types count ≡ Some text
-    → IsRight ps text test.verdict → Needs tokens text test.needs → AreTests ps tokens types old → AreTests ps tokens types new
-tests_step ps tokens types count old new text test size is there right needs before t other found =
-    subst (λ (l : List TypeTest). IsRight ps other (get_or l t unknown).verdict × Needs tokens other (get_or l t unknown).needs) (sym is)
-    (elim (cases_lt t (length old)) [
-      | inl less ↦ subst (λ (x : TypeTest). IsRight ps other x.verdict × Needs tokens other x.needs) (sym (get_or_append_left old (test ∷ []) unknown t less)) (before t other found)
-      | inr past ↦ elim (cases_eq t (length old)) [
-        | inl same ↦
-            let at : get_or (old ++ test ∷ []) t unknown ≡ test = ap (λ (j : ℕ). get_or (old ++ test ∷ []) j unknown) same ∙ tests_at old test 0 in
-            let texts : text ≡ other = some_same (slice_get types count) text other there (ap (λ (j : ℕ). slice_get types j) (sym (same ∙ size)) ∙ found) in
-            subst (λ (x : TypeTest). IsRight ps other x.verdict × Needs tokens other x.needs) (sym at) (subst (λ x. IsRight ps x test.verdict × Needs tokens x test.needs) texts (right, needs))
-        | inr more ↦
-            let none : get_or (old ++ test ∷ []) t unknown ≡ unknown = get_or_past (old ++ test ∷ []) t unknown (omega (arith, past, more, length-append old (test ∷ []))) in
-            subst (λ (x : TypeTest). IsRight ps other x.verdict × Needs tokens other x.needs) (sym none) (tt, λ all each. has_none all)
-      ]
-    ])
+pub push_got : {X : Type 0} (old : List X) (x : X) (n : ℕ) (y : X) → slice_get old n ≡ Some y → slice_get (old ++ x ∷ []) n ≡ Some y
+push_got [] x n y is = absurd (cc is)
+push_got (o ∷ old) x zero y is = is
+push_got (o ∷ old) x (suc n) y is = push_got old x n y is
 
-pub tests_none : (ps : List Piece) (tokens : List Token) (types : List (List ℕ)) (tests : List TypeTest) → tests ≡ [] → AreTests ps tokens types tests
-tests_none ps tokens types tests none t text found = subst (λ (l : List TypeTest). IsRight ps text (get_or l t unknown).verdict × Needs tokens text (get_or l t unknown).needs) (sym none) (nothing t)
-  where
-    nothing : (k : ℕ) → IsRight ps text (get_or [] k unknown).verdict × Needs tokens text (get_or [] k unknown).needs
-    nothing zero = (tt, λ all each. has_none all)
-    nothing (suc k) = (tt, λ all each. has_none all)
+pub push_last : {X : Type 0} (old : List X) (x : X) → slice_get (old ++ x ∷ []) (length old) ≡ Some x
+push_last [] x = refl
+push_last (o ∷ old) x = push_last old x
 
-pub grown : (old new : List TypeTest) (test : TypeTest) (n : ℕ) → length old ≡ n → new ≡ old ++ test ∷ [] → length new ≡ n + 1
-grown old new test n size is = omega (arith, size, ap length is, length-append old (test ∷ []))
+pub listed_stays : (tokens : List Token) (old new : List Slot) (first end place : ℕ) (kind : Kind) → Stays old new → IsListed tokens old first end place kind → (more : ℕ) → end ≤ more → IsListed tokens new first more place kind
+listed_stays tokens old new first end place kind stays h more le =
+    record { at = h.at; from = h.from; to = omega (arith, h.to, le); slot = h.slot; is = stays h.at h.slot h.is; same_place = h.same_place; same_kind = h.same_kind; covers = h.covers }
+
+pub slot_stays : (tokens : List Token) (old new : List Slot) (first end known place : ℕ) (kind : Kind) → Stays old new → (more : ℕ) → end ≤ more → IsSlot tokens old first end known place kind → IsSlot tokens new first more known place kind
+slot_stays tokens old new first end known place kind stays more le (inl h) = inl (listed_stays tokens old new first end place kind stays h more le)
+slot_stays tokens old new first end known place kind stays more le (inr h) = inr h
+
+test_stays : (ps : List Piece) (tokens : List Token) (old new : List Slot) (text : List ℕ) (test : TypeTest) → Stays old new → IsTest ps tokens old text test → IsTest ps tokens new text test
+test_stays ps tokens old new text test stays h = record {
+  right = h.right;
+  gives = h.gives;
+  slots_are = λ tried place kind at. slot_stays tokens old new test.first test.end test.has place kind stays test.end (omega arith) (h.slots_are tried place kind at);
+}
+
+pub tests_step : (ps : List Piece) (tokens : List Token) (types : List (List ℕ)) (count : ℕ) (slots more : List Slot) (old new : List TypeTest) (text : List ℕ) (test : TypeTest) → length old ≡ count → new ≡ old ++ test ∷ [] → slice_get types count ≡ Some text
+    → Stays slots more → IsTest ps tokens more text test → AreTests ps tokens types slots old → AreTests ps tokens types more new
+tests_step ps tokens types count slots more old new text test size is there stays here before t other found type_is test_is =
+    elim (push_cases old test t found (subst (λ (l : List TypeTest). slice_get l t ≡ Some found) is test_is)) [
+      | inl earlier ↦ test_stays ps tokens slots more other found stays (before t other found type_is earlier)
+      | inr (e, same) ↦
+          let texts : text ≡ other = some_same (slice_get types count) text other there (ap (λ (j : ℕ). slice_get types j) (sym (e ∙ size)) ∙ type_is) in
+          subst (λ (x : TypeTest). IsTest ps tokens more other x) same (subst (λ x. IsTest ps tokens more x test) texts here)
+    ]
+
+pub tests_none : (ps : List Piece) (tokens : List Token) (types : List (List ℕ)) (slots : List Slot) (tests : List TypeTest) → tests ≡ [] → AreTests ps tokens types slots tests
+tests_none ps tokens types slots tests none t text test found at = absurd (let e : None ≡ Some test = ap (λ (l : List TypeTest). slice_get l t) (sym none) ∙ at in cc)
+
+pub small_step : (tokens : List Token) (count : ℕ) (old new : List ℕ) (mark : ℕ) → length old ≡ count → new ≡ old ++ mark ∷ [] → Marks tokens (signed_decimal (cast_signed w64 count)) mark → AreSmall tokens old → AreSmall tokens new
+small_step tokens count old new mark size is marks before n bits at =
+    elim (push_cases old mark n bits (subst (λ (l : List ℕ). slice_get l n ≡ Some bits) is at)) [
+      | inl earlier ↦ before n bits earlier
+      | inr (e, same) ↦ subst (λ (b : ℕ). Marks tokens (signed_decimal (cast_signed w64 n)) b) same (subst (λ (j : ℕ). Marks tokens (signed_decimal (cast_signed w64 j)) mark) (sym (e ∙ size)) marks)
+    ]
+
+pub small_none : (tokens : List Token) (small : List ℕ) → small ≡ [] → AreSmall tokens small
+small_none tokens small none n bits at = absurd (let e : None ≡ Some bits = ap (λ (l : List ℕ). slice_get l n) (sym none) ∙ at in cc)
+
+pub grown : {X : Type 0} (old new : List X) (x : X) (n : ℕ) → length old ≡ n → new ≡ old ++ x ∷ [] → length new ≡ n + 1
+grown old new x n size is = omega (arith, size, ap length is, length-append old (x ∷ []))
 
 pub right_verdict : (ps : List Piece) (text : List ℕ) (v : Verdict) → ((parts : List Part) → text ≡ type_text (map symbol_of parts) → (v ≡ Rejected) ↔ IsRejected ps parts)
     → ((parts : List Part) → text ≡ type_text (map symbol_of parts) → v ≡ Certain → IsCertain ps parts) → IsRight ps text v
@@ -165,94 +228,122 @@ right_verdict ps text Rejected rejected certain = λ parts is. (rejected parts i
 right_verdict ps text Certain rejected certain = λ parts is. certain parts is refl
 right_verdict ps text Tried rejected certain = tt
 
-pub tokens_push : (ps : List Piece) (old new : List Token) (token : Token) (t : List ℕ) → new ≡ old ++ token ∷ [] → Contains ps (WordPiece t) → is_foreign t ≡ true → token.matcher.items ≡ around t
+pub tokens_push : (ps : List Piece) (old new : List Token) (token : Token) (t : List ℕ) → new ≡ old ++ token ∷ [] → Contains ps (WordPiece t) → token.matcher.items ≡ around t
     → AreTokens ps old → AreTokens ps new
-tokens_push ps old new token t is has foreign same are =
-    subst (AreTokens ps) (sym is) (All-push (λ (k : Token). IsTokenOf ps k.matcher.items) old token are (t, has, foreign, same))
+tokens_push ps old new token t is has same are =
+    subst (AreTokens ps) (sym is) (All-push (λ (k : Token). IsTokenOf ps k.matcher.items) old token are (t, has, same))
 
-pub no_needs : (tests : List TypeTest) (i : ℕ) → length tests ≤ i → ((k : ℕ) (d : TypeTest) → k < i → (get_or tests k d).needs ≡ 0) → (t : ℕ) → (get_or tests t unknown).needs ≡ 0
-no_needs tests i le each t = elim (cases_lt t i) [
-  | inl less ↦ each t unknown less
-  | inr past ↦ ap (λ (x : TypeTest). x.needs) (get_or_past tests t unknown (omega (arith, le, past)))
-]
+-- ---- a row's dictionary numbers
 
--- ---- a row's dictionary numbers are among its words
+number_among : (kinds : List Kind) (row : List ℕ) (place word : ℕ) → slice_get kinds place ≡ Some Word → slice_get row place ≡ Some word → Contains (word_numbers kinds row) word
+number_among [] row place word kind at = absurd (cc kind)
+number_among (k ∷ kinds) [] place word kind at = absurd (cc at)
+number_among (Word ∷ kinds) (w ∷ row) zero word kind at = contains_first w word (word_numbers kinds row) (cc (at))
+number_among (Whole ∷ kinds) (w ∷ row) zero word kind at = absurd (cc kind)
+number_among (Decimal ∷ kinds) (w ∷ row) zero word kind at = absurd (cc kind)
+number_among (Word ∷ kinds) (w ∷ row) (suc place) word kind at = contains_rest w word (word_numbers kinds row) (number_among kinds row place word kind at)
+number_among (Whole ∷ kinds) (w ∷ row) (suc place) word kind at = number_among kinds row place word kind at
+number_among (Decimal ∷ kinds) (w ∷ row) (suc place) word kind at = number_among kinds row place word kind at
 
-numbers_among : (kinds : List Kind) (row : List ℕ) (n : ℕ) → Contains (word_numbers kinds row) n → Contains row n
-numbers_among [] row n has = absurd (contains_none n has)
-numbers_among (kind ∷ kinds) [] n has = absurd (contains_none n has)
-numbers_among (Whole ∷ kinds) (w ∷ row) n has = contains_rest w n row (numbers_among kinds row n has)
-numbers_among (Decimal ∷ kinds) (w ∷ row) n has = contains_rest w n row (numbers_among kinds row n has)
-numbers_among (Word ∷ kinds) (w ∷ row) n has = elim (contains_cases w n (word_numbers kinds row) has) [
-  | inl e ↦ contains_first w n row e
-  | inr there ↦ contains_rest w n row (numbers_among kinds row n there)
-]
+pub row_number : (types : List (List ℕ)) (row : Row) (parts : List Part) → slice_get types row.log_type ≡ Some (type_text (map symbol_of parts)) → (place word : ℕ)
+    → slice_get (kinds_in false (type_text (map symbol_of parts))) place ≡ Some Word → slice_get row.words place ≡ Some word → Contains (numbers_of_row types row) word
+row_number types row parts typed place word kind at =
+    subst (λ l. Contains l word) (sym (row_numbers types row parts typed))
+    (number_among (slots parts) row.words place word (subst (λ (l : List Kind). slice_get l place ≡ Some Word) (kinds_are parts) kind) at)
 
 -- ---- what bits tell of a row
 
-lacks_bits : RowsBringTokens → (ps : List Piece) (types words : List (List ℕ)) (f : Filter) → IsFilter ps types words f → (row : Row) (bits : ℕ)
-    → (slice_index_or f.tests.items row.log_type unknown).needs ≢ 0
-    → ((n : ℕ) → Contains (numbers_of_row types row) n → Has bits (slice_index_or f.marks.items n 0)) → ¬ Has bits (slice_index_or f.tests.items row.log_type unknown).needs
-    → (version : ℕ) (message : List ℕ) → IsCanonical version row types words message → ¬ Match (flat ps) message
-lacks_bits law ps types words f is row bits some each lacks version message canonical matches =
+-- these bits are all that a row brings by its variables
+abbrev pub ByVariables : Filter → TypeTest → List (List ℕ) → List ℕ → List ℕ → ℕ → Type 0
+ByVariables f test words text row bits =
+    (place : ℕ) (kind : Kind) (word : ℕ) (variable : List ℕ) → slice_get (kinds_in false text) place ≡ Some kind → slice_get row place ≡ Some word
+    → IsListed f.tokens.items f.slots.items test.first test.end place kind → HasWord words kind variable word → Marks f.tokens.items variable bits
+
+-- a row that does not bring all that is wanted is not matched
+lacks_bits : RowsBringTokens → (ps : List Piece) (types words : List (List ℕ)) (f : Filter) → IsFilter ps types words f → (row : Row) (test : TypeTest) (bits : ℕ)
+    → slice_get f.tests.items row.log_type ≡ Some test → test.verdict ≡ Tried → Has bits test.has
+    → ((s : List ℕ) → HasStampText row.pattern row.moment s → Marks f.tokens.items s bits)
+    → ((parts : List Part) → slice_get types row.log_type ≡ Some (type_text (map symbol_of parts)) → ByVariables f test words (type_text (map symbol_of parts)) row.words bits)
+    → ¬ Has bits f.wanted → (version : ℕ) (message : List ℕ) → IsCanonical version row types words message → ¬ Match (flat ps) message
+lacks_bits law ps types words f is row test bits at tried has stamp variables lacks version message canonical matches =
     let text = type_text (map symbol_of canonical.means.parts) in
     let typed = canonical.means.typed in
-    lacks ((is.tests row.log_type text typed).1 bits (λ j d lt.
-    let k : Token = slice_index_or is.tokens j d in
+    let here = is.tests row.log_type text test typed at in
+    lacks (is.wanted bits (λ j d lt.
+    let k : Token = slice_index_or f.tokens.items j d in
     elim (law version ps row types words text message k.matcher.items is.cut canonical matches (is.are j d lt) typed) [
-      | inl there ↦ inl there
-      | inr (n, w, has, word, fits) ↦ inr (has_through bits (slice_index_or f.marks.items n 0) k.bit (each n has) (is.marks row.log_type some n w word j d lt fits))
+      | inl (s, stamped, fits) ↦ stamp s stamped j d lt fits
+      | inr (inl there) ↦ has_through bits test.has k.bit has (here.gives tried j d lt there)
+      | inr (inr v) ↦ elim (here.slots_are tried v.place v.kind v.slot) [
+        | inl listed ↦ variables canonical.means.parts typed v.place v.kind v.word v.variable v.slot v.at listed v.has j d lt v.fits
+        | inr covered ↦ has_through bits test.has k.bit has (covered words v.variable v.word v.has j d lt v.fits)
+      ]
     ]))
 
-zero_or : (n : ℕ) → (n ≡ 0) ⊎ (n ≢ 0)
-zero_or zero = inl refl
-zero_or (suc n) = inr (λ e. omega (arith, e))
+pub row_lacks : RowsBringTokens → (p : List Item) (types words : List (List ℕ)) (f : Filter) → IsFilter (wide_pieces p) types words f → (row : Row) (test : TypeTest)
+    → slice_get f.tests.items row.log_type ≡ Some test → test.verdict ≡ Tried → Lacks f test row → IsRowVerdict (wide_pieces p) types words row Rejected
+row_lacks law p types words f is row test at tried h =
+    lacks_bits law (wide_pieces p) types words f is row test h.bits at tried h.has (h.stamp is.stamps)
+    (λ parts typed place kind word variable slot there listed has j d lt fits.
+    let same : (k : Kind) → k ≡ kind → HasWord words k variable word = λ k e. subst (λ (x : Kind). HasWord words x variable word) (sym e) has in
+    h.slots listed.at listed.from listed.to listed.slot word listed.is (subst (λ (n : ℕ). slice_get row.words n ≡ Some word) (sym listed.same_place) there) words variable
+    (λ w. is.marks listed.at listed.slot listed.is w) is.small (same listed.slot.kind listed.same_kind) j d lt fits (listed.covers words variable word has j d lt fits))
+    h.lacks
 
--- and of one of whose needs it is not known that there are any
-lacks_any : RowsBringTokens → (ps : List Piece) (types words : List (List ℕ)) (f : Filter) → IsFilter ps types words f → (row : Row) (bits : ℕ)
-    → ((n : ℕ) → Contains (numbers_of_row types row) n → Has bits (slice_index_or f.marks.items n 0)) → ¬ Has bits (slice_index_or f.tests.items row.log_type unknown).needs
-    → (version : ℕ) (message : List ℕ) → IsCanonical version row types words message → ¬ Match (flat ps) message
-lacks_any law ps types words f is row bits each lacks =
-    elim (zero_or (slice_index_or f.tests.items row.log_type unknown).needs) [
-      | inl none ↦ absurd (lacks (subst (Has bits) (sym none) (has_none bits)))
-      | inr some ↦ lacks_bits law ps types words f is row bits some each lacks
-    ]
-
-pub row_lacks : RowsBringTokens → (p : List Item) (types words : List (List ℕ)) (f : Filter) → IsFilter (wide_pieces p) types words f → (row : Row) (bits : ℕ)
-    → HasEach f.marks.items row.words bits → ¬ Has bits (slice_index_or f.tests.items row.log_type unknown).needs → IsRowVerdict (wide_pieces p) types words row Rejected
-row_lacks law p types words f is row bits each lacks =
-    lacks_any law (wide_pieces p) types words f is row bits (λ n has. each n (numbers_among (kinds_from false (slice_index_or types row.log_type [])) row.words n has)) lacks
-
-rejected_row : RejectedNeverMatches → (p : List Item) → IsSearched p → (types words : List (List ℕ)) (f : Filter) → IsFilter (wide_pieces p) types words f → (row : Row)
-    → (slice_index_or f.tests.items row.log_type unknown).verdict ≡ Rejected → IsRowVerdict (wide_pieces p) types words row Rejected
-rejected_row law p searched types words f is row rejected version message canonical =
+rejected_row : RejectedNeverMatches → (p : List Item) → IsSearched p → (types words : List (List ℕ)) (f : Filter) → IsFilter (wide_pieces p) types words f → (row : Row) (test : TypeTest)
+    → slice_get f.tests.items row.log_type ≡ Some test → test.verdict ≡ Rejected → IsRowVerdict (wide_pieces p) types words row Rejected
+rejected_row law p searched types words f is row test at rejected version message canonical =
     let text = type_text (map symbol_of canonical.means.parts) in
-    let right = subst (IsRight (wide_pieces p) text) rejected (is.tests row.log_type text canonical.means.typed).0 in
+    let right = subst (IsRight (wide_pieces p) text) rejected (is.tests row.log_type text test canonical.means.typed at).right in
     law version p row types words canonical.means.parts message searched canonical.means.typed (right canonical.means.parts refl) canonical
 
-certain_row : CertainAlwaysMatches → (p : List Item) (types words : List (List ℕ)) (f : Filter) → IsFilter (wide_pieces p) types words f → (row : Row)
-    → (slice_index_or f.tests.items row.log_type unknown).verdict ≡ Certain → IsRowVerdict (wide_pieces p) types words row Certain
-certain_row law p types words f is row certain message spelled =
+certain_row : CertainAlwaysMatches → (p : List Item) (types words : List (List ℕ)) (f : Filter) → IsFilter (wide_pieces p) types words f → (row : Row) (test : TypeTest)
+    → slice_get f.tests.items row.log_type ≡ Some test → test.verdict ≡ Certain → IsRowVerdict (wide_pieces p) types words row Certain
+certain_row law p types words f is row test at certain message spelled =
     let text = type_text (map symbol_of spelled.parts) in
-    let right = subst (IsRight (wide_pieces p) text) certain (is.tests row.log_type text spelled.typed).0 in
+    let right = subst (IsRight (wide_pieces p) text) certain (is.tests row.log_type text test spelled.typed at).right in
     law (wide_pieces p) row types words spelled.parts message spelled.typed (right spelled.parts refl) spelled
 
-verdict_by : RejectedNeverMatches → CertainAlwaysMatches → (p : List Item) → IsSearched p → (types words : List (List ℕ)) (f : Filter) → IsFilter (wide_pieces p) types words f → (row : Row) (v : Verdict)
-    → (slice_index_or f.tests.items row.log_type unknown).verdict ≡ v → IsRowVerdict (wide_pieces p) types words row v
-verdict_by rejected certain p searched types words f is row Rejected same = rejected_row rejected p searched types words f is row same
-verdict_by rejected certain p searched types words f is row Certain same = certain_row certain p types words f is row same
-verdict_by rejected certain p searched types words f is row Tried same = tt
+verdict_by : RejectedNeverMatches → CertainAlwaysMatches → (p : List Item) → IsSearched p → (types words : List (List ℕ)) (f : Filter) → IsFilter (wide_pieces p) types words f → (row : Row) (test : TypeTest) (v : Verdict)
+    → slice_get f.tests.items row.log_type ≡ Some test → test.verdict ≡ v → IsRowVerdict (wide_pieces p) types words row v
+verdict_by rejected certain p searched types words f is row test Rejected at same = rejected_row rejected p searched types words f is row test at same
+verdict_by rejected certain p searched types words f is row test Certain at same = certain_row certain p types words f is row test at same
+verdict_by rejected certain p searched types words f is row test Tried at same = tt
 
 pub row_verdict : RejectedNeverMatches → CertainAlwaysMatches → (p : List Item) → IsSearched p → (types words : List (List ℕ)) (f : Filter) → IsFilter (wide_pieces p) types words f → (row : Row) (test : TypeTest)
-    → test ≡ slice_index_or f.tests.items row.log_type unknown → IsRowVerdict (wide_pieces p) types words row test.verdict
-row_verdict rejected certain p searched types words f is row test same =
-    verdict_by rejected certain p searched types words f is row test.verdict (sym (ap (λ (t : TypeTest). t.verdict) same))
+    → slice_get f.tests.items row.log_type ≡ Some test → IsRowVerdict (wide_pieces p) types words row test.verdict
+row_verdict rejected certain p searched types words f is row test at = verdict_by rejected certain p searched types words f is row test test.verdict at refl
+
+-- ---- what they tell of a segment
+
+may_listed : (f : Filter) (types words : List (List ℕ)) (ps : List Piece) → IsFilter ps types words f → (brought bits : ℕ) (numbers : List ℕ) → HasEach f.marks.items numbers brought
+    → (at : ℕ) (slot : Slot) → slice_get f.slots.items at ≡ Some slot → (kind : Kind) → slot.kind ≡ kind → Has bits (may_by kind slot.bits brought)
+    → (word : ℕ) (variable : List ℕ) → (kind ≡ Word → Contains numbers word) → HasWord words kind variable word → Covers f.tokens.items kind slot.bits → Marks f.tokens.items variable bits
+may_listed f types words ps is brought bits numbers each at slot there Whole same has word variable listed has_word covers =
+    λ j d lt fits. has_through bits slot.bits (slice_index_or f.tokens.items j d).bit has (covers words variable word has_word j d lt fits)
+may_listed f types words ps is brought bits numbers each at slot there Decimal same has word variable listed has_word covers =
+    λ j d lt fits. has_through bits slot.bits (slice_index_or f.tokens.items j d).bit has (covers words variable word has_word j d lt fits)
+may_listed f types words ps is brought bits numbers each at slot there Word same has word variable listed has_word covers =
+    λ j d lt fits. has_through bits brought (slice_index_or f.tokens.items j d).bit has
+    (has_through brought (slice_index_or f.marks.items word 0) (slice_index_or f.tokens.items j d).bit (each word (listed refl)) (is.marks at slot there same word variable has_word.1 j d lt fits))
+
+stamp_may : (f : Filter) (types words : List (List ℕ)) (ps : List Piece) → IsFilter ps types words f → (row : Row) (bits : ℕ) → Has bits f.stamped → (s : List ℕ) → HasStampText row.pattern row.moment s → Marks f.tokens.items s bits
+stamp_may f types words ps is row bits has s stamped = λ j d lt fits.
+    has_through bits f.stamped (slice_index_or f.tokens.items j d).bit has
+    (has_through f.stamped (slice_index_or f.stamps.items row.pattern 0) (slice_index_or f.tokens.items j d).bit (is.stamped row.pattern) (is.stamps row.pattern row.moment s stamped j d lt fits))
 
 pub none_may : RejectedNeverMatches → RowsBringTokens → (p : List Item) → IsSearched p → (types words : List (List ℕ)) (f : Filter) → IsFilter (wide_pieces p) types words f
-    → (listed numbers : List ℕ) (bits : ℕ) → HasEach f.marks.items numbers bits
-    → ((t : ℕ) → Contains listed t → IsShut (slice_index_or f.tests.items t unknown) bits) → HasNoMatch (wide_pieces p) types words listed numbers
-none_may rejected law p searched types words f is listed numbers bits each shut version row message lists among canonical =
-    elim (shut row.log_type lists) [
-      | inl never ↦ rejected_row rejected p searched types words f is row never version message canonical
-      | inr lacks ↦ lacks_any law (wide_pieces p) types words f is row bits (λ n has. each n (among n has)) lacks version message canonical
+    → (listed numbers : List ℕ) (brought : ℕ) → HasEach f.marks.items numbers brought
+    → ((t : ℕ) → Contains listed t → IsShut f brought t) → HasNoMatch (wide_pieces p) types words listed numbers
+none_may rejected law p searched types words f is listed numbers brought each shut version row message lists among canonical =
+    let (test, at, how) = shut row.log_type lists in
+    elim how [
+      | inl never ↦ rejected_row rejected p searched types words f is row test at never version message canonical
+      | inr (tried, h) ↦
+          lacks_bits law (wide_pieces p) types words f is row test h.bits at tried h.has (stamp_may f types words (wide_pieces p) is row h.bits h.stamps)
+          (λ parts typed place kind word variable slot there l has.
+          may_listed f types words (wide_pieces p) is brought h.bits numbers each l.at l.slot l.is kind l.same_kind
+          (subst (λ (k : Kind). Has h.bits (may_by k l.slot.bits brought)) l.same_kind (h.slots l.at l.slot l.from l.to l.is)) word variable
+          (λ w. among word (row_number types row parts typed place word (subst (λ (k : Kind). slice_get (kinds_in false (type_text (map symbol_of parts))) place ≡ Some k) w slot) there)) has l.covers)
+          h.lacks version message canonical
     ]

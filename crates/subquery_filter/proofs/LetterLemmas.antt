@@ -10,8 +10,7 @@ use Rattle.std.proofs.lemmas.Int.{to_z-of_z}
 use Rattle.std.proofs.lemmas.List.{append-nil, drop_all, drop_more, take-append-le}
 use Rattle.std.proofs.lemmas.Option.{get_or_from_slice_get, unwrap_or-slice_get}
 use Rattle.std.specs.Option.{unwrap_or}
-use Rattle.var_codec.specs.Codes.{DecimalParts, IsDecimal, IsDecimalText, IsDecimalWord, HasText, digits_of, word_of}
-use Rattle.var_codec.specs.Fields.{AreFields}
+use Rattle.var_codec.specs.Codes.{IsDecimalText, IsDecimalWord, digits_of}
 use Rattle.var_codec.proofs.Printed.{fields_print, word_of_text}
 use Rattle.var_codec.proofs.Words.{same_text, value_fits}
 use Rattle.logtype_text.specs.declared.symbols.Kind.{Kind}
@@ -25,7 +24,7 @@ use Rattle.column_store.specs.declared.row.Row.{Row}
 use Rattle.row_codec.specs.Means.{EachWord, HasSpelling, HasStampText, IsSpelling, IsWritten}
 use Rattle.row_codec.proofs.MeansLemmas.{one_spelling}
 use Rattle.row_codec.specs.StepsBody.{HasNoText}
-use Rattle.subquery_filter.specs.StepsLetters.{body_from, byte_text, count_in, decimal_in, digits_in, is_decimal, kind_at, left_of, places_in, shown, text_at}
+use Rattle.subquery_filter.specs.StepsLetters.{body_from, byte_text, count_in, decimal_in, is_decimal, kind_at, left_of, places_in, shown, text_at}
 
 -- ---- the text of a variable
 

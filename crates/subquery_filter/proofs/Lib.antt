@@ -5,3 +5,6 @@ mod BarrenLemmas
 mod VerdictLemmas
 mod TokenLemmas
 mod FilterLemmas
+mod NumberLemmas
+mod SlotLemmas
+mod StampLemmas

@@ -1,10 +1,10 @@
 -- Runs, symbol by symbol.
-use Rattle.std.proofs.Common.{◌≡◌, ℕ, Bool, true, false, List, [], ◌∷◌, ◌++◌, length, map, refl, sym, ◌∙◌, ap, subst, arith, append_assoc}
+use Rattle.std.proofs.Common.{◌≡◌, ℕ, Bool, true, List, [], ◌∷◌, ◌++◌, length, map, refl, sym, ◌∙◌, ap, subst, arith, append_assoc}
 use Rattle.std.specs.Prelude.{◌≢◌, ◌↔◌, IsTrue}
 use Rattle.logtype_text.specs.declared.symbols.Symbol.{Symbol}
 use Rattle.logtype_text.specs.declared.symbols.Symbol.TheVariants.{Byte}
 use Rattle.logtype_text.specs.TypeText.{text_of_symbol, type_text}
-use Rattle.logtype_text.proofs.TextLemmas.{first_same, some_byte}
+use Rattle.logtype_text.proofs.TextLemmas.{first_same}
 use Rattle.subquery_filter.specs.Runs.{BeginsRun, HoldsRunFrom, IsRunEnd, ends_run, may_begin}
 
 -- another symbol is no constant byte like this

@@ -1,118 +1,95 @@
--- A token of the pattern stands among the constant bytes of a row's log type, or within a word of the row.
-use Rattle.std.proofs.Common.{◌≡◌, ℕ, suc, ◌<◌, Bool, true, false, List, [], ◌∷◌, ◌++◌, length, map, refl, sym, subst, arith, inl, inr}
-use Rattle.std.specs.Prelude.{◌==◌, ◌||◌, ◌&&◌, ℤ, pos, negsuc, Option, Some, All, IsTrue, nat_le, slice_get}
-use Rattle.std.specs.List.{Contains}
-use Rattle.std.specs.Char.{digit_value}
-use Rattle.std.specs.Fmt.{decimal, signed_decimal, sign_text}
-use Rattle.std.specs.Str.Parse.{AllDigits}
-use Rattle.std.proofs.lemmas.Bool.Decides.{nat_tests}
-use Rattle.std.proofs.lemmas.Str.Parse.{digit_from_value}
-use Rattle.std.proofs.lemmas.List.Elements.{All-cons, All-nil}
-use Rattle.time_patterns.specs.Laws.{ShortTexts, is_stamp_byte}
+-- A token of the pattern stands in a row's stamp, among the constant bytes of its log type, or in the text of a
+-- variable.
+use Rattle.std.proofs.Common.{◌≡◌, ℕ, zero, suc, Bool, true, false, cond, List, [], ◌∷◌, ◌++◌, length, map, refl, sym, ◌∙◌, ap, subst, inl, inr}
+use Rattle.std.specs.Prelude.{Option, Some, slice_get}
 use Rattle.time_patterns.specs.Stamps.{HasStamp}
-use Rattle.var_codec.specs.Codes.{Codes}
-use Rattle.var_codec.specs.declared.Coded.TheVariants.{Whole as WholeWord, Decimal as DecimalWord}
-use Rattle.var_codec.proofs.Texts.{all_digits}
+use Rattle.logtype_text.specs.declared.symbols.Kind.{Kind}
 use Rattle.logtype_text.specs.declared.symbols.Kind.TheVariants.{Whole, Word, Decimal}
+use Rattle.logtype_text.specs.declared.symbols.Symbol.TheVariants.{Byte, Slot}
 use Rattle.logtype_text.specs.Parts.{Part, Constant, Variable, joined, symbol_of}
-use Rattle.logtype_text.specs.TypeText.{type_text}
+use Rattle.logtype_text.specs.TypeText.{is_escaped, text_of_symbol, type_text}
 use Rattle.wild_match.specs.Matches.{Match}
 use Rattle.row_codec.specs.Means.{EachWord, HasWord}
-use Rattle.row_codec.specs.Numbers.{word_numbers}
 use Rattle.row_codec.proofs.EncoderLemmas.{slots}
-use Rattle.query_plan.specs.Laws.{ForeignStandsInNoStamp, TokensAreBrought}
+use Rattle.query_plan.specs.Laws.{TokensStand}
 use Rattle.query_plan.specs.Needs.{HeldIn, around}
 use Rattle.query_plan.specs.Pieces.{flat}
-use Rattle.subquery_filter.specs.StepsLetters.{marked_from}
+use Rattle.subquery_filter.specs.StepsLetters.{kind_at, kind_before, kinds_in, marked_from}
 use Rattle.subquery_filter.specs.Tokens.{RowsBringTokens, StandsInType}
-use Rattle.subquery_filter.proofs.BarrenLemmas.{body_behind, contains_first, contains_rest, row_numbers, stamp_bytes}
+use Rattle.subquery_filter.proofs.BarrenLemmas.{body_behind}
+use Rattle.subquery_filter.proofs.LetterLemmas.{no_escape, no_kind}
 use Rattle.subquery_filter.proofs.VerdictLemmas.{marked_are}
 
--- ---- a number has bytes of stamps alone
+-- ---- the kinds of the slots
 
-abbrev AllStamp : List ℕ → Type 0
-AllStamp [] = Unit {0}
-AllStamp (b ∷ s) = (is_stamp_byte b ≡ true) × AllStamp s
+kinds_by : (e : Bool) (b : ℕ) (after : List ℕ) → is_escaped b ≡ e → kinds_in false (cond e (0x5C ∷ b ∷ []) (b ∷ []) ++ after) ≡ kinds_in false after
+kinds_by true b after is = ap (λ t. cond t (kinds_in false after) []) is
+kinds_by false b after is =
+    ap (λ t. cond t (kinds_in true after) (kind_before (kind_at b) (kinds_in false after))) (no_escape b is)
+    ∙ ap (λ k. kind_before k (kinds_in false after)) (no_kind b is)
 
-stamp_all : (s : List ℕ) → AllStamp s → All (λ b. IsTrue (is_stamp_byte b)) s
-stamp_all [] h = All-nil (λ b. IsTrue (is_stamp_byte b))
-stamp_all (b ∷ s) h = All-cons (λ b. IsTrue (is_stamp_byte b)) b s h.0 (stamp_all s h.1)
+pub kinds_byte : (b : ℕ) (after : List ℕ) → kinds_in false (text_of_symbol (Byte b) ++ after) ≡ kinds_in false after
+kinds_byte b after = kinds_by (is_escaped b) b after refl
 
-first_true : (r a b c d e f g h i j : Bool) → r ≡ true → (r || a || b || c || d || e || f || g || h || i || j) ≡ true
-first_true true a b c d e f g h i j is = refl
-first_true false a b c d e f g h i j is = absurd (cc (is))
+pub kinds_slot : (kind : Kind) (after : List ℕ) → kinds_in false (text_of_symbol (Slot kind) ++ after) ≡ kind ∷ kinds_in false after
+kinds_slot Whole after = refl
+kinds_slot Word after = refl
+kinds_slot Decimal after = refl
 
-stamp_digit : (c : ℕ) → digit_value c < 10 → is_stamp_byte c ≡ true
-stamp_digit c lt =
-    let within = digit_from_value c lt in
-    let digit : (nat_le 48 c && nat_le c 57) ≡ true = grind (arith, nat_tests, within) in
-    first_true (nat_le 48 c && nat_le c 57) (c == 45) (c == 46) (c == 84) (c == 90) (c == 58) (c == 44) (c == 47) (c == 91) (c == 93) (c == 32) digit
+pub kinds_are : (parts : List Part) → kinds_in false (type_text (map symbol_of parts)) ≡ slots parts
+kinds_are [] = refl
+kinds_are (Constant b ∷ parts) = kinds_byte b (type_text (map symbol_of parts)) ∙ kinds_are parts
+kinds_are (Variable kind text ∷ parts) = kinds_slot kind (type_text (map symbol_of parts)) ∙ ap (λ l. kind ∷ l) (kinds_are parts)
 
-stamp_digits : (s : List ℕ) → AllDigits 10 s → AllStamp s
-stamp_digits [] d = tt
-stamp_digits (c ∷ s) d = (stamp_digit c d.0, stamp_digits s d.1)
+-- ---- the variable that a text stands in
 
-stamp_append : (a b : List ℕ) → AllStamp a → AllStamp b → AllStamp (a ++ b)
-stamp_append [] b one two = two
-stamp_append (c ∷ a) b one two = (one.0, stamp_append a b one.1 two)
+record InSlot (t : List ℕ) (words : List (List ℕ)) (kinds : List Kind) (row : List ℕ) : Type 0 where
+  pub place : ℕ
+  pub kind : Kind
+  pub word : ℕ
+  pub variable : List ℕ
+  pub slot : slice_get kinds place ≡ Some kind
+  pub at : slice_get row place ≡ Some word
+  pub has : HasWord words kind variable word
+  pub fits : Match (around t) variable
 
-stamp_sign : (negative : Bool) → AllStamp (sign_text negative)
-stamp_sign true = (refl, tt)
-stamp_sign false = tt
+later : (t : List ℕ) (words : List (List ℕ)) (kinds : List Kind) (row : List ℕ) (kind : Kind) (w : ℕ) → InSlot t words kinds row → InSlot t words (kind ∷ kinds) (w ∷ row)
+later t words kinds row kind w h = record { place = suc h.place; kind = h.kind; word = h.word; variable = h.variable; slot = h.slot; at = h.at; has = h.has; fits = h.fits }
 
-stamp_signed : (n : ℤ) → Codes (signed_decimal n) (WholeWord n) → AllStamp (signed_decimal n)
-stamp_signed (pos n) is = stamp_digits (decimal n) (all_digits n (omega (arith, is.fits.sfits)))
-stamp_signed (negsuc n) is = (refl, stamp_digits (decimal (suc n)) (all_digits (suc n) (omega (arith, is.fits.sfits))))
-
-stamp_whole : (text : List ℕ) (n : ℤ) → Codes text (WholeWord n) → AllStamp text
-stamp_whole text n is = subst AllStamp (sym is.prints) (stamp_signed n (subst (λ t. Codes t (WholeWord n)) is.prints is))
-
-stamp_decimal : (text : List ℕ) (word : ℕ) → Codes text (DecimalWord word) → AllStamp text
-stamp_decimal text word is =
-    subst AllStamp (sym is.prints)
-    (stamp_append (sign_text is.parts.negative) (is.parts.before ++ (46 ∷ is.parts.after)) (stamp_sign is.parts.negative)
-    (stamp_append is.parts.before (46 ∷ is.parts.after) (stamp_digits is.parts.before is.decimal.before) (refl, stamp_digits is.parts.after is.decimal.after.1)))
-
--- ---- the word of the dictionary
-
-record InWord (t : List ℕ) (words : List (List ℕ)) (numbers : List ℕ) : Type 0 where
-  pub n : ℕ
-  pub text : List ℕ
-  pub has : Contains numbers n
-  pub is : slice_get words n ≡ Some text
-  pub fits : Match (around t) text
-
-later : (t : List ℕ) (words : List (List ℕ)) (w : ℕ) (numbers : List ℕ) → InWord t words numbers → InWord t words (w ∷ numbers)
-later t words w numbers h = record { n = h.n; text = h.text; has = contains_rest w h.n numbers h.has; is = h.is; fits = h.fits }
-
-held_word : (words : List (List ℕ)) (t : List ℕ) → ((s : List ℕ) → All (λ b. IsTrue (is_stamp_byte b)) s → ¬ Match (around t) s) → (parts : List Part) (row : List ℕ) → EachWord (HasWord words) parts row → HeldIn t parts → InWord t words (word_numbers (slots parts) row)
-held_word words t none [] row has held = absurd held
-held_word words t none (Constant b ∷ parts) row has held = held_word words t none parts row has held
-held_word words t none (Variable kind text ∷ parts) [] has held = absurd has
-held_word words t none (Variable Whole text ∷ parts) (w ∷ row) has (inl m) = let (n, is, packs) = has.0 in absurd (none text (stamp_all text (stamp_whole text n is)) m)
-held_word words t none (Variable Whole text ∷ parts) (w ∷ row) has (inr held) = held_word words t none parts row has.1 held
-held_word words t none (Variable Decimal text ∷ parts) (w ∷ row) has (inl m) = absurd (none text (stamp_all text (stamp_decimal text w has.0)) m)
-held_word words t none (Variable Decimal text ∷ parts) (w ∷ row) has (inr held) = held_word words t none parts row has.1 held
-held_word words t none (Variable Word text ∷ parts) (w ∷ row) has (inl m) =
-    record { n = w; text = text; has = contains_first w w (word_numbers (slots parts) row) refl; is = has.0.1; fits = m }
-held_word words t none (Variable Word text ∷ parts) (w ∷ row) has (inr held) = later t words w (word_numbers (slots parts) row) (held_word words t none parts row has.1 held)
+held_slot : (words : List (List ℕ)) (t : List ℕ) (parts : List Part) (row : List ℕ) → EachWord (HasWord words) parts row → HeldIn t parts → InSlot t words (slots parts) row
+held_slot words t [] row has held = absurd held
+held_slot words t (Constant b ∷ parts) row has held = held_slot words t parts row has held
+held_slot words t (Variable kind text ∷ parts) [] has held = absurd has
+held_slot words t (Variable kind text ∷ parts) (w ∷ row) has (inl m) =
+    record { place = zero; kind = kind; word = w; variable = text; slot = refl; at = refl; has = has.0; fits = m }
+held_slot words t (Variable kind text ∷ parts) (w ∷ row) has (inr held) = later t words (slots parts) row kind w (held_slot words t parts row has.1 held)
 
 -- ---- the law
 
-same_text : (o : Option (List ℕ)) (a b : List ℕ) → o ≡ Some a → o ≡ Some b → a ≡ b
+pub same_text : (o : Option (List ℕ)) (a b : List ℕ) → o ≡ Some a → o ≡ Some b → a ≡ b
 same_text o a b one two = cc (one, two)
 
-pub rows_bring_tokens : TokensAreBrought → ForeignStandsInNoStamp → ShortTexts → RowsBringTokens
-rows_bring_tokens brought none short version ps row types words text message items cut is matches (t, has, foreign, items_are) here =
+pub rows_bring_tokens : TokensStand → RowsBringTokens
+rows_bring_tokens stand version ps row types words text message items cut is matches (t, has, items_are) here =
     let means = is.means in
     let body = joined means.parts in
-    let stamp = stamp_bytes short row.pattern row.moment means.stamp means.stamped in
     let behind = body_behind version row.pattern row.moment means.stamp body (subst (λ m. HasStamp version m row.pattern row.moment (length means.stamp)) means.is is.stamp) in
     let typed : type_text (map symbol_of means.parts) ≡ text = same_text (slice_get types row.log_type) (type_text (map symbol_of means.parts)) text means.typed here in
-    elim (brought ps means.stamp body means.parts t cut has foreign stamp behind is.body (subst (Match (flat ps)) means.is matches)) [
-      | inl among ↦ inl (subst (λ x. StandsInType x text) (sym items_are)
-          (subst (λ x. Match (around t) (marked_from false (10 ∷ []) x)) typed (subst (Match (around t)) (sym (marked_are 10 means.parts)) among)))
-      | inr held ↦
-          let w = held_word words t (λ s all m. none ps t s cut has foreign all m) means.parts row.words means.coded held in
-          inr (w.n, w.text, subst (λ l. Contains l w.n) (sym (row_numbers types row means.parts means.typed)) w.has, w.is, subst (λ x. Match x w.text) (sym items_are) w.fits)
+    let kinds : slots means.parts ≡ kinds_in false text = sym (kinds_are means.parts) ∙ ap (kinds_in false) typed in
+    elim (stand ps means.stamp body means.parts t cut has behind is.body (subst (Match (flat ps)) means.is matches)) [
+      | inl in_stamp ↦ inl (means.stamp, means.stamped, subst (λ x. Match x means.stamp) (sym items_are) in_stamp)
+      | inr (inl among) ↦ inr (inl (subst (λ x. StandsInType x text) (sym items_are)
+          (subst (λ x. Match (around t) (marked_from false (10 ∷ []) x)) typed (subst (Match (around t)) (sym (marked_are 10 means.parts)) among))))
+      | inr (inr held) ↦
+          let v = held_slot words t means.parts row.words means.coded held in
+          inr (inr (record {
+            place = v.place;
+            kind = v.kind;
+            word = v.word;
+            variable = v.variable;
+            slot = subst (λ l. slice_get l v.place ≡ Some v.kind) kinds v.slot;
+            at = v.at;
+            has = v.has;
+            fits = subst (λ x. Match x v.variable) (sym items_are) v.fits;
+          }))
     ]

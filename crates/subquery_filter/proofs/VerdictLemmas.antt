@@ -1,6 +1,6 @@
 -- The constant bytes of a log type.
-use Rattle.std.proofs.Common.{◌≡◌, ◌≢◌, ℕ, Bool, true, false, cond, List, [], ◌∷◌, ◌++◌, length, map, refl, sym, ◌∙◌, ap, subst, arith, inl, inr}
-use Rattle.std.specs.Prelude.{◌↔◌, ◌==◌, ℤ, Option, None, Some, IsTrue, slice_get}
+use Rattle.std.proofs.Common.{◌≡◌, ◌≢◌, ℕ, Bool, true, false, cond, List, [], ◌∷◌, ◌++◌, length, map, refl, sym, ◌∙◌, ap, subst, inl, inr}
+use Rattle.std.specs.Prelude.{◌↔◌, ◌==◌, None, Some, IsTrue, slice_get}
 use Rattle.std.proofs.lemmas.Bool.{cases_Bool}
 use Rattle.logtype_text.specs.declared.symbols.Kind.{Kind}
 use Rattle.logtype_text.specs.declared.symbols.Kind.TheVariants.{Whole, Word, Decimal}
@@ -20,7 +20,7 @@ use Rattle.query_plan.specs.Laws.{ConstantsSuffice, HasNot, NoOne, SkeletonIsNee
 use Rattle.query_plan.specs.Needs.{constants, marked, skeleton_of}
 use Rattle.query_plan.specs.Pieces.{bytes, flat, wide, wide_pieces}
 use Rattle.subquery_filter.specs.StepsLetters.{kind_at, mark_of, mark_text, marked_from}
-use Rattle.subquery_filter.specs.Verdicts.{BeginsMany, CertainAlwaysMatches, IsCertain, IsRejected, RejectedNeverMatches}
+use Rattle.subquery_filter.specs.Verdicts.{BeginsMany, CertainAlwaysMatches, IsCertain, RejectedNeverMatches}
 use Rattle.subquery_filter.proofs.BarrenLemmas.{body_behind, stamp_bytes}
 use Rattle.subquery_filter.proofs.RuleLemmas.{tells_not}
 use Rattle.subquery_filter.proofs.LetterLemmas.{no_escape, no_kind, other_byte, same_byte}

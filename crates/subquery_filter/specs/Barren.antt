@@ -1,6 +1,6 @@
 -- Which segments are barren: their heads tell that no row within the range can match.
 -- Everything is said of the pieces of the pattern that the search is planned over.
-use Rattle.std.specs.Prelude.{◌≡◌, ◌⊎◌, ℕ, ℤ, ◌<ℤ◌, Bool, true, false, List, Option, None, Some, slice_get}
+use Rattle.std.specs.Prelude.{◌≡◌, ◌⊎◌, ℕ, ℤ, ◌<ℤ◌, Bool, true, false, List, Some, slice_get}
 use Rattle.std.specs.List.{Contains}
 use Rattle.var_codec.specs.Codes.{Codes}
 use Rattle.var_codec.specs.declared.Coded.TheVariants.{Word as DictionaryWord}

@@ -1,19 +1,26 @@
 -- What a filter knows of the words and the log types of an archive.
-use Rattle.std.specs.Prelude.{◌≡◌, ◌≢◌, ◌⊎◌, ℕ, List, All, Some, bit_or, map, slice_get, slice_index_or}
+use Rattle.std.specs.Prelude.{◌≡◌, ◌⊎◌, ◌<◌, ◌≤◌, ℕ, ℤ, List, All, Some, bit_or, false, map, slice_get, slice_index_or}
 use Rattle.std.specs.List.{Contains}
+use Rattle.std.specs.Fmt.{signed_decimal}
+use Rattle.std.specs.Int.{cast_signed, w64}
 use Rattle.column_store.specs.declared.row.Row.{Row}
+use Rattle.logtype_text.specs.declared.symbols.Kind.{Kind}
+use Rattle.logtype_text.specs.declared.symbols.Kind.TheVariants.{Whole, Word, Decimal}
 use Rattle.logtype_text.specs.Parts.{Part, symbol_of}
 use Rattle.logtype_text.specs.TypeText.{type_text}
 use Rattle.wild_match.specs.Matches.{Match}
-use Rattle.row_codec.specs.Means.{IsCanonical, IsSpelling}
+use Rattle.row_codec.specs.Means.{HasStampText, HasWord, IsCanonical, IsSpelling}
 use Rattle.row_codec.specs.Numbers.{numbers_of_row}
 use Rattle.query_plan.specs.declared.pieces.Piece.{Piece}
 use Rattle.query_plan.specs.Pieces.{IsCut, flat}
 use Rattle.subquery_filter.specs.declared.filter.Filter.{Filter}
-use Rattle.subquery_filter.specs.declared.filter.TypeTest.{TypeTest}
+use Rattle.subquery_filter.specs.declared.slots.Slot.{Slot}
+use Rattle.subquery_filter.specs.declared.slots.KindBits.{KindBits}
+use Rattle.subquery_filter.specs.declared.slots.TypeTest.{TypeTest}
 use Rattle.subquery_filter.specs.declared.token.Token.{Token}
 use Rattle.subquery_filter.specs.declared.verdicts.Verdict.{Verdict}
 use Rattle.subquery_filter.specs.declared.verdicts.Verdict.TheVariants.{Rejected, Certain, Tried}
+use Rattle.subquery_filter.specs.StepsLetters.{kinds_in}
 use Rattle.subquery_filter.specs.Tokens.{IsTokenOf, StandsInType}
 use Rattle.subquery_filter.specs.Verdicts.{IsCertain, IsRejected}
 
@@ -21,14 +28,46 @@ use Rattle.subquery_filter.specs.Verdicts.{IsCertain, IsRejected}
 abbrev pub Has : ℕ → ℕ → Type 0
 Has bits some = bit_or bits some ≡ bits
 
+-- ---- what brings which tokens
+
 -- the bit of each token that stands in the text is among these
 abbrev pub Marks : List Token → List ℕ → ℕ → Type 0
 Marks tokens text bits = All (λ k. Match k.matcher.items text → Has bits k.bit) tokens
 
--- these bits are among any that have the bit of each token which does not stand in the log type's constants
-abbrev pub Needs : List Token → List ℕ → ℕ → Type 0
-Needs tokens text bits =
-    (all : ℕ) → All (λ k. StandsInType k.matcher.items text ⊎ Has all k.bit) tokens → Has all bits
+-- the bit of each token that stands among the constant bytes of the log type is among these
+abbrev pub Gives : List Token → List ℕ → ℕ → Type 0
+Gives tokens text bits = All (λ k. StandsInType k.matcher.items text → Has bits k.bit) tokens
+
+-- the bit of each token that stands in the text of some variable of this kind is among these
+abbrev pub Covers : List Token → Kind → ℕ → Type 0
+Covers tokens kind bits =
+    (words : List (List ℕ)) (variable : List ℕ) (word : ℕ) → HasWord words kind variable word → Marks tokens variable bits
+
+-- these bits are among any that have the bit of each token
+abbrev pub IsWanted : List Token → ℕ → Type 0
+IsWanted tokens bits = (all : ℕ) → All (λ k. Has all k.bit) tokens → Has all bits
+
+-- the bits that each kind of variable may bring
+pub record AreKindBits (tokens : List Token) (bits : KindBits) : Type 0 where
+  pub whole : Covers tokens Whole bits.whole
+  pub decimal : Covers tokens Decimal bits.decimal
+  pub word : Covers tokens Word bits.word
+
+-- each word's marks stand at its number
+abbrev pub AreMarks : List Token → List (List ℕ) → List ℕ → Type 0
+AreMarks tokens words marks =
+    (n : ℕ) (text : List ℕ) → slice_get words n ≡ Some text → Marks tokens text (slice_index_or marks n 0)
+
+-- the marks of the whole numbers whose words are small stand at their words
+abbrev pub AreSmall : List Token → List ℕ → Type 0
+AreSmall tokens small = (n bits : ℕ) → slice_get small n ≡ Some bits → Marks tokens (signed_decimal (cast_signed w64 n)) bits
+
+-- what each pattern's stamps may bring stands at its number
+abbrev pub AreStamps : List Token → List ℕ → Type 0
+AreStamps tokens stamps =
+    (pattern : ℕ) (moment : ℤ) (s : List ℕ) → HasStampText pattern moment s → Marks tokens s (slice_index_or stamps pattern 0)
+
+-- ---- what is known of a log type
 
 -- the verdict is right of the log types with this text
 abbrev pub IsRight : List Piece → List ℕ → Verdict → Type 0
@@ -36,28 +75,53 @@ IsRight ps text Rejected = (parts : List Part) → text ≡ type_text (map symbo
 IsRight ps text Certain = (parts : List Part) → text ≡ type_text (map symbol_of parts) → IsCertain ps parts
 IsRight ps text Tried = Unit {0}
 
--- nothing is known of a log type
-abbrev pub unknown : TypeTest
-unknown = record { verdict = Tried; needs = 0 }
+-- a slot of this place and kind is listed between the two, with all bits that it may bring
+pub record IsListed (tokens : List Token) (slots : List Slot) (first end place : ℕ) (kind : Kind) : Type 0 where
+  pub at : ℕ
+  pub from : first ≤ at
+  pub to : at < end
+  pub slot : Slot
+  pub is : slice_get slots at ≡ Some slot
+  pub same_place : slot.place ≡ place
+  pub same_kind : slot.kind ≡ kind
+  pub covers : Covers tokens kind slot.bits
+
+-- a slot of this place and kind is listed, or brings no bit beyond those that are known
+abbrev pub IsSlot : List Token → List Slot → ℕ → ℕ → ℕ → ℕ → Kind → Type 0
+IsSlot tokens slots first end known place kind = IsListed tokens slots first end place kind ⊎ Covers tokens kind known
+
+-- so it is of each slot of the log type
+abbrev pub AreSlots : List Token → List ℕ → List Slot → ℕ → ℕ → ℕ → Type 0
+AreSlots tokens text slots first end known =
+    (place : ℕ) (kind : Kind) → slice_get (kinds_in false text) place ≡ Some kind → IsSlot tokens slots first end known place kind
+
+-- what is known of the log types with this text: the rest matters where the verdict leaves it open
+pub record IsTest (ps : List Piece) (tokens : List Token) (slots : List Slot) (text : List ℕ) (test : TypeTest) : Type 0 where
+  pub right : IsRight ps text test.verdict
+  pub gives : test.verdict ≡ Tried → Gives tokens text test.has
+  pub slots_are : test.verdict ≡ Tried → AreSlots tokens text slots test.first test.end test.has
 
 -- what is known of each log type is right
-abbrev pub AreTests : List Piece → List Token → List (List ℕ) → List TypeTest → Type 0
-AreTests ps tokens types tests =
-    (t : ℕ) (text : List ℕ) → slice_get types t ≡ Some text
-    → IsRight ps text (slice_index_or tests t unknown).verdict × Needs tokens text (slice_index_or tests t unknown).needs
+abbrev pub AreTests : List Piece → List Token → List (List ℕ) → List Slot → List TypeTest → Type 0
+AreTests ps tokens types slots tests =
+    (t : ℕ) (text : List ℕ) (test : TypeTest) → slice_get types t ≡ Some text → slice_get tests t ≡ Some test
+    → IsTest ps tokens slots text test
 
--- each word's marks stand at its number
-abbrev pub AreMarks : List Token → List (List ℕ) → List ℕ → Type 0
-AreMarks tokens words marks = (n : ℕ) (text : List ℕ) → slice_get words n ≡ Some text → Marks tokens text (slice_index_or marks n 0)
+-- ---- the filter
 
 -- The filter is one of the pattern with these pieces, over an archive with these log types and words. The
--- words are marked where a log type needs them.
+-- words are marked where a slot of a word is listed.
 pub record IsFilter (ps : List Piece) (types words : List (List ℕ)) (f : Filter) : Type 0 where
   pub cut : IsCut ps
-  pub tokens : List Token
-  pub are : All (λ k. IsTokenOf ps k.matcher.items) tokens
-  pub tests : AreTests ps tokens types f.tests.items
-  pub marks : (t : ℕ) → (slice_index_or f.tests.items t unknown).needs ≢ 0 → AreMarks tokens words f.marks.items
+  pub are : All (λ k. IsTokenOf ps k.matcher.items) f.tokens.items
+  pub wanted : IsWanted f.tokens.items f.wanted
+  pub tests : AreTests ps f.tokens.items types f.slots.items f.tests.items
+  pub marks :
+      (at : ℕ) (slot : Slot) → slice_get f.slots.items at ≡ Some slot → slot.kind ≡ Word
+      → AreMarks f.tokens.items words f.marks.items
+  pub small : AreSmall f.tokens.items f.small.items
+  pub stamps : AreStamps f.tokens.items f.stamps.items
+  pub stamped : (pattern : ℕ) → Has f.stamped (slice_index_or f.stamps.items pattern 0)
 
 -- the pattern matches no message of a row that is rejected, and each one of a row that is certain
 abbrev pub IsRowVerdict : List Piece → List (List ℕ) → List (List ℕ) → Row → Verdict → Type 0

@@ -1,5 +1,5 @@
 -- What follows of barren segments.
-use Rattle.std.specs.Prelude.{◌≡◌, ℕ, Bool, List, All}
+use Rattle.std.specs.Prelude.{ℕ, Bool, List}
 use Rattle.std.specs.List.{Contains, flat_map}
 use Rattle.column_store.specs.Range.{Holds}
 use Rattle.column_store.specs.declared.range.Range.{Range}

@@ -1,21 +1,112 @@
 -- What the parts of a filter tell each other.
-use Rattle.std.specs.Prelude.{◌≡◌, ◌⊎◌, ℕ, List, All, slice_index_or}
+use Rattle.std.specs.Prelude.{◌≡◌, ◌⊎◌, ◌+◌, ◌<◌, ◌≤◌, ◌&&◌, ◌==◌, ℕ, Bool, true, false, List, [], ◌∷◌, All, Some, drop, if◌then◌else◌, length, slice_get, slice_index_or}
 use Rattle.std.specs.List.{Contains}
+use Rattle.std.specs.Int.{is_in_range}
+use Rattle.column_store.specs.declared.row.Row.{Row}
+use Rattle.logtype_text.specs.declared.symbols.Kind.{Kind}
+use Rattle.logtype_text.specs.declared.symbols.Kind.TheVariants.{Whole, Word, Decimal}
+use Rattle.wild_match.specs.Matches.{Match}
+use Rattle.row_codec.specs.Means.{HasStampText, HasWord}
 use Rattle.query_plan.specs.declared.pieces.Piece.{Piece}
+use Rattle.subquery_filter.specs.declared.filter.Filter.{Filter}
+use Rattle.subquery_filter.specs.declared.slots.KindBits.{KindBits}
+use Rattle.subquery_filter.specs.declared.slots.Slot.{Slot}
+use Rattle.subquery_filter.specs.declared.slots.TypeTest.{TypeTest}
 use Rattle.subquery_filter.specs.declared.token.Token.{Token}
-use Rattle.subquery_filter.specs.declared.filter.TypeTest.{TypeTest}
-use Rattle.subquery_filter.specs.declared.verdicts.Verdict.TheVariants.{Rejected}
-use Rattle.subquery_filter.specs.Filter.{Has}
+use Rattle.subquery_filter.specs.declared.verdicts.Verdict.TheVariants.{Rejected, Tried}
+use Rattle.subquery_filter.specs.Filter.{AreKindBits, AreMarks, AreSmall, AreStamps, Has, IsSlot, Marks}
+use Rattle.subquery_filter.specs.StepsLetters.{kinds_in}
 use Rattle.subquery_filter.specs.Tokens.{IsTokenOf}
 
 -- tokens of these pieces
 abbrev pub AreTokens : List Piece → List Token → Type 0
 AreTokens ps tokens = All (λ k. IsTokenOf ps k.matcher.items) tokens
 
+-- the bit of each token is among these
+abbrev pub HasAll : List Token → ℕ → Type 0
+HasAll tokens bits = All (λ k. Has bits k.bit) tokens
+
 -- the marks of each of these words are among the bits
 abbrev pub HasEach : List ℕ → List ℕ → ℕ → Type 0
 HasEach marks numbers bits = (n : ℕ) → Contains numbers n → Has bits (slice_index_or marks n 0)
 
--- no row of a log type of which this is known, whose words have these bits, is matched
-abbrev pub IsShut : TypeTest → ℕ → Type 0
-IsShut test bits = (test.verdict ≡ Rejected) ⊎ (¬ Has bits test.needs)
+-- the slots so far stay where they are
+abbrev pub Stays : List Slot → List Slot → Type 0
+Stays old new = (at : ℕ) (slot : Slot) → slice_get old at ≡ Some slot → slice_get new at ≡ Some slot
+
+-- The slots are listed up to a place of the log type's text, of which this is left.
+pub record ListedUpTo (bits : KindBits) (text rest : List ℕ) (place first known : ℕ) (slots : List Slot) : Type 0 where
+  pub left : kinds_in false rest ≡ drop place (kinds_in false text)
+  pub room : place + length rest ≤ length text
+  pub listed :
+      (tokens : List Token) → AreKindBits tokens bits → (k : ℕ) (kind : Kind) → k < place
+      → slice_get (kinds_in false text) k ≡ Some kind → IsSlot tokens slots first (length slots) known k kind
+
+-- ---- texts of numbers
+
+-- behind a `-` or none
+abbrev pub unsigned : List ℕ → List ℕ
+unsigned [] = []
+unsigned (b ∷ t) = if b == 45 then t else b ∷ t
+
+-- digits alone, and one point where it is allowed
+abbrev pub is_digits : Bool → List ℕ → Bool
+is_digits point [] = true
+is_digits point (b ∷ t) = if is_in_range 48 57 b then is_digits point t else (point && (b == 46)) && is_digits false t
+
+-- a text that may stand in that of a number
+abbrev pub is_number_part : Bool → List ℕ → Bool
+is_number_part point t = is_digits point (unsigned t)
+
+-- ---- what is tested of a row
+
+-- the bit of each token that may stand in the slot, and stands in the text of this word there, is among
+-- these
+abbrev pub SlotGives : Filter → Slot → ℕ → ℕ → Type 0
+SlotGives f slot word bits =
+    (words : List (List ℕ)) (variable : List ℕ) → (slot.kind ≡ Word → AreMarks f.tokens.items words f.marks.items)
+    → AreSmall f.tokens.items f.small.items → HasWord words slot.kind variable word
+    → All (λ k. Match k.matcher.items variable → Has slot.bits k.bit → Has bits k.bit) f.tokens.items
+
+-- so it is of the slot that is listed at this place
+abbrev pub SlotIs : Filter → ℕ → List ℕ → ℕ → Type 0
+SlotIs f at row bits =
+    (slot : Slot) (word : ℕ) → slice_get f.slots.items at ≡ Some slot → slice_get row slot.place ≡ Some word
+    → SlotGives f slot word bits
+
+-- the row brings no more than these bits, which are not all that are wanted
+pub record Lacks (f : Filter) (test : TypeTest) (row : Row) : Type 0 where
+  pub bits : ℕ
+  pub has : Has bits test.has
+  pub slots : (at : ℕ) → test.first ≤ at → at < test.end → SlotIs f at row.words bits
+  pub stamp :
+      AreStamps f.tokens.items f.stamps.items → (s : List ℕ) → HasStampText row.pattern row.moment s
+      → Marks f.tokens.items s bits
+  pub lacks : ¬ Has bits f.wanted
+
+-- ---- what is tested of a segment
+
+-- what a slot may bring where the words of a segment bring these bits
+abbrev pub may_by : Kind → ℕ → ℕ → ℕ
+may_by Whole own brought = own
+may_by Decimal own brought = own
+may_by Word own brought = brought
+
+abbrev pub slot_may : Slot → ℕ → ℕ
+slot_may slot brought = may_by slot.kind slot.bits brought
+
+-- no row of a log type of which this is known brings all that is wanted, where the words bring these bits
+pub record LacksAll (f : Filter) (test : TypeTest) (brought : ℕ) : Type 0 where
+  pub bits : ℕ
+  pub has : Has bits test.has
+  pub slots :
+      (at : ℕ) (slot : Slot) → test.first ≤ at → at < test.end → slice_get f.slots.items at ≡ Some slot
+      → Has bits (slot_may slot brought)
+  pub stamps : Has bits f.stamped
+  pub lacks : ¬ Has bits f.wanted
+
+-- no row of the log type with this number is matched, where the words bring these bits
+abbrev pub IsShut : Filter → ℕ → ℕ → Type 0
+IsShut f brought t =
+    (test : TypeTest) × (slice_get f.tests.items t ≡ Some test)
+    × ((test.verdict ≡ Rejected) ⊎ ((test.verdict ≡ Tried) × LacksAll f test brought))

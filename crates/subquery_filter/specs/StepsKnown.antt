@@ -1,5 +1,5 @@
 -- Words of a dictionary that were looked up before they are asked for.
-use Rattle.std.specs.Prelude.{◌≡◌, ℕ, List, All, Option, Some, None, slice_get}
+use Rattle.std.specs.Prelude.{◌≡◌, ℕ, List, All, Some, None, slice_get}
 use Rattle.plain_list.specs.Texts.{IsNew}
 use Rattle.subquery_filter.specs.declared.known.KnownWord.{KnownWord}
 

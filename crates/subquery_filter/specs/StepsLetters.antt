@@ -1,8 +1,8 @@
 -- What a row is written as, as a function that is total: what a row cannot be written as ends it.
-use Rattle.std.specs.Prelude.{ℕ, ◌+◌, ◌-◌, ◌/◌, ◌%◌, ◌^◌, ◌==◌, nat_lt, nat_le, nat_eq, ◌&&◌, Bool, true, false, if◌then◌else◌, Option, Some, None, List, [], ◌∷◌, ◌++◌, length, take, drop, slice_index_or, slice_range}
+use Rattle.std.specs.Prelude.{ℕ, ◌+◌, ◌-◌, ◌/◌, ◌%◌, ◌^◌, ◌==◌, nat_lt, nat_le, nat_eq, ◌&&◌, Bool, true, false, if◌then◌else◌, Option, Some, None, List, [], ◌∷◌, ◌++◌, take, drop, slice_index_or, slice_range}
 use Rattle.std.specs.Int.{cast_signed, w64}
 use Rattle.std.specs.Fmt.{signed_decimal}
-use Rattle.var_codec.specs.Codes.{DecimalParts, text_of}
+use Rattle.var_codec.specs.Codes.{text_of}
 use Rattle.var_codec.specs.Fields.{padded}
 use Rattle.logtype_text.specs.declared.symbols.Kind.{Kind}
 use Rattle.logtype_text.specs.declared.symbols.Kind.TheVariants.{Whole, Word, Decimal}
@@ -78,6 +78,16 @@ marked_from escaped mark [] = []
 marked_from true mark (b ∷ text) = if is_escaped b then b ∷ marked_from false mark text else []
 marked_from false mark (b ∷ text) =
     if b == 0x5C then marked_from true mark text else mark_text mark (marked_from false mark text) (kind_at b) b
+
+-- the kinds of the slots of a log type's text; `escaped` tells that a `\` stands before it
+abbrev pub kind_before : Option Kind → List Kind → List Kind
+kind_before None kinds = kinds
+kind_before (Some kind) kinds = kind ∷ kinds
+
+abbrev pub kinds_in : Bool → List ℕ → List Kind
+kinds_in escaped [] = []
+kinds_in true (b ∷ text) = if is_escaped b then kinds_in false text else []
+kinds_in false (b ∷ text) = if b == 0x5C then kinds_in true text else kind_before (kind_at b) (kinds_in false text)
 
 -- none, or one byte
 abbrev pub mark_of : Option ℕ → List ℕ

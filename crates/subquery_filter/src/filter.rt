@@ -1,59 +1,50 @@
 //! What a search knows of an archive's words and log types, so that rows are tested by bits alone.
-ghost use Rattle.std.specs.Prelude.{◌≡◌, ◌≢◌, ℕ, List, IfOk, IsFalse, IsTrue, slice_index_or};
+ghost use Rattle.std.specs.Prelude.{◌≡◌, ◌<◌, ◌≤◌, ℕ, List, All, IfOk, IsFalse, IsTrue, Some, slice_get};
 ghost use Rattle.std.specs.List.{Contains};
 ghost use Rattle.column_store.specs.Row.{row_of};
+ghost use Rattle.logtype_text.specs.declared.symbols.Kind.TheVariants.{Word};
 ghost use Rattle.wild_match.specs.declared.pattern.Item.{Item};
+ghost use Rattle.row_codec.specs.Means.{HasStampText, HasWord};
 ghost use Rattle.query_plan.specs.Laws.{IsSearched};
 ghost use Rattle.query_plan.specs.Pieces.{wide_pieces};
-ghost use Rattle.subquery_filter.specs.Filter.{AreMarks, AreTests, Has, HasNoMatch, IsFilter, IsRight, IsRowVerdict, Needs, unknown};
-ghost use Rattle.subquery_filter.specs.StepsFilter.{HasEach, IsShut};
+ghost use Rattle.subquery_filter.specs.declared.slots.Slot.{Slot};
+ghost use Rattle.subquery_filter.specs.Filter.{AreMarks, AreSmall, AreStamps, Has, HasNoMatch, IsFilter, IsRowVerdict, Marks};
+ghost use Rattle.subquery_filter.specs.StepsFilter.{HasEach, IsShut, Lacks, LacksAll, SlotGives, SlotIs, slot_may};
 
+use crate::bits::{has, mark_at};
 use crate::laws::{rows_bring_tokens, verdicts_hold};
+use crate::numbers::{decimal_bits, kind_bits, mark_small, whole_bits};
+use crate::slots::{Slot, TypeTest, has_kind, test_types};
+use crate::stamps::{any_stamp, mark_stamps, stamp_bits};
 use crate::token::Token;
-use crate::tokens::{marks_of, needs_of, tokens_of};
-use crate::verdicts::{Verdict, verdict_of};
+use crate::tokens::{all_bits, marks_of, tokens_of};
+use crate::verdicts::Verdict;
 use column_store::RowRef;
+use logtype_text::Kind;
 use query_plan::Plan;
 use row_codec::Names;
 use std::alloc::{AllocError, Global};
 
-/// What is known of a log type: its verdict, and the bits that the words of a row must have.
-#[derive(Clone, Copy, Debug)]
-pub(crate) struct TypeTest {
-    verdict: Verdict,
-    needs: u8,
-}
-
 /// What is known of the log types and the words of an archive, for one search.
 ///
-/// Each token of the pattern that can stand in no stamp has a bit. A word has the bits of the tokens
-/// that stand in it, and a log type needs the bits of those that do not stand among its constant
-/// bytes: a row whose words do not bring them cannot match.
+/// Each token of the pattern has a bit. A row brings the bits of the tokens that stand among the
+/// constant bytes of its log type, in the texts of its variables or in its stamp: one that does not
+/// bring all of them cannot match.
 #[derive(Debug, Drop)]
 pub struct Filter {
+    tokens: Vec<Token>,
+    /// The bits of all tokens.
+    wanted: u8,
+    /// What is known of the log types, by their numbers, and their slots.
     tests: Vec<TypeTest>,
+    slots: Vec<Slot>,
+    /// The bits of the words, by their numbers, where a slot of a word is listed.
     marks: Vec<u8>,
-}
-
-/// The bits at a number, none where there are none.
-#[inline]
-fn mark_at(marks: &[u8], number: u64) -> u8
-    ensures { result ≡ slice_index_or marks.now number 0 }
-{
-    let place = number as usize;
-    if place < marks.len() { marks[place] } else { 0 }
-}
-
-/// The bits that the words of a row have.
-#[inline]
-fn bits_of_row(marks: &[u8], numbers: &[u64]) -> u8
-    ensures { HasEach marks.now numbers.now result }
-{
-    let mut bits = 0;
-    for number in numbers {
-        bits |= mark_at(marks, *number);
-    }
-    bits
+    /// The bits of small whole numbers, where a slot of a whole number is listed.
+    small: Vec<u8>,
+    /// The bits that stamps may bring, by the numbers of their patterns, and those of all patterns.
+    stamps: Vec<u8>,
+    stamped: u8,
 }
 
 /// The bits that listed words have.
@@ -65,22 +56,6 @@ fn bits_of_list(marks: &[u8], numbers: &[u32]) -> u8
         bits |= mark_at(marks, u64::from(*number));
     }
     bits
-}
-
-/// Whether all of some bits are among these.
-#[inline]
-fn has(bits: u8, some: u8) -> bool
-    ensures { IsFalse result → ¬ Has bits some }
-{
-    bits | some == bits
-}
-
-/// Whether the words of a row lack some of the bits that are needed.
-#[inline]
-fn lacks(marks: &[u8], numbers: &[u64], needs: u8) -> bool
-    ensures { IsTrue result → (bits : ℕ) × HasEach marks.now numbers.now bits × (¬ Has bits needs) }
-{
-    needs != 0 && !has(bits_of_row(marks, numbers), needs)
 }
 
 /// The bits of all words, by their numbers.
@@ -100,81 +75,40 @@ fn mark_words<N: Names>(alloc: Global, tokens: &[Token], names: &N) -> Result<Ve
     Ok(marks)
 }
 
-/// The bits that the words of a row must have: none where the rows of a log type are all told alike.
-fn needs_by(verdict: Verdict, tokens: &[Token], text: &[u8]) -> u8
-    ensures { Needs tokens.now text.now result }
-{
-    match verdict {
-        Verdict::Tried => needs_of(tokens, text),
-        Verdict::Rejected | Verdict::Certain => 0,
-    }
-}
-
-/// What is known of a log type with this text.
-fn test_of(plan: &Plan, tokens: &[Token], text: &[u8]) -> TypeTest
-    ensures right { IsRight plan.now text.now result.verdict }
-    ensures needs { Needs tokens.now text.now result.needs }
-{
-    let verdict = verdict_of(plan, text);
-    TypeTest {
-        verdict,
-        needs: needs_by(verdict, tokens, text),
-    }
-}
-
-/// What is known of all log types, by their numbers.
-fn test_types<N: Names>(
-    alloc: Global,
-    plan: &Plan,
-    tokens: &[Token],
-    names: &N,
-) -> Result<Vec<TypeTest>, AllocError>
-    ensures { IfOk result (λ tests. AreTests plan.now tokens.now (N.types names.now) tests.items) }
-{
-    let mut tests = Vec::new(alloc);
-    for number in 0..u32::MAX {
-        let Some(text) = names.type_text(number) else {
-            return Ok(tests);
-        };
-        tests.push(test_of(plan, tokens, text))?;
-    }
-    Ok(tests)
-}
-
-/// Whether it is known that a log type's messages are not matched.
-fn is_rejected(verdict: Verdict) -> bool
-    ensures { IsTrue result → verdict ≡ Verdict.Rejected }
-{
-    matches!(verdict, Verdict::Rejected)
-}
-
-/// Whether some log type needs a word.
-fn needs_words(tests: &[TypeTest]) -> bool
-    ensures { IsFalse result → (t : ℕ) → (slice_index_or tests.now t unknown).needs ≡ 0 }
-{
-    for test in tests {
-        if test.needs != 0 {
-            return true;
-        }
-    }
-    false
-}
-
-/// The bits of all words where some log type needs one, and none otherwise.
+/// The bits of all words where a slot of a word is listed, and none otherwise.
 fn mark_needed<N: Names>(
     alloc: Global,
-    tests: &[TypeTest],
+    slots: &[Slot],
     tokens: &[Token],
     names: &N,
 ) -> Result<Vec<u8>, AllocError>
-    ensures { IfOk result (λ marks. (t : ℕ) → (slice_index_or tests.now t unknown).needs ≢ 0
-        → AreMarks tokens.now (N.words names.now) marks.items) }
+    ensures { IfOk result (λ marks. (at : ℕ) (slot : Slot) → slice_get slots.now at ≡ Some slot
+        → slot.kind ≡ Word → AreMarks tokens.now (N.words names.now) marks.items) }
 {
-    if !needs_words(tests) {
+    if !has_kind(slots, Kind::Word) {
         return Ok(Vec::new(alloc));
     }
     let marks = mark_words(alloc, tokens, names)?;
     Ok(marks)
+}
+
+/// The bits of small whole numbers where a slot of a whole number is listed, and none otherwise.
+fn small_needed(alloc: Global, slots: &[Slot], tokens: &[Token]) -> Result<Vec<u8>, AllocError>
+    ensures { IfOk result (λ small. AreSmall tokens.now small.items) }
+{
+    if !has_kind(slots, Kind::Whole) {
+        return Ok(Vec::new(alloc));
+    }
+    let small = mark_small(alloc, tokens)?;
+    Ok(small)
+}
+
+/// The word at a place.
+#[inline]
+fn word_at(words: &[u64], place: usize) -> Option<u64>
+    ensures { result ≡ slice_get words.now place }
+{
+    words.get(place).copied()
 }
 
 impl Filter {
@@ -183,26 +117,133 @@ impl Filter {
         ensures { IfOk result (IsFilter plan.now (N.types names.now) (N.words names.now)) }
     {
         let tokens = tokens_of(alloc, plan.pieces())?;
-        let wanted = tokens.as_slice();
-        let tests = test_types(alloc, plan, wanted, names)?;
-        let marks = mark_needed(alloc, tests.as_slice(), wanted, names)?;
-        Ok(Filter { tests, marks })
+        let looked = tokens.as_slice();
+        let mut slots = Vec::new(alloc);
+        let mut tests = Vec::new(alloc);
+        test_types(
+            plan,
+            looked,
+            &kind_bits(looked),
+            names,
+            &mut slots,
+            &mut tests,
+        )?;
+        let marks = mark_needed(alloc, slots.as_slice(), looked, names)?;
+        let small = small_needed(alloc, slots.as_slice(), looked)?;
+        let stamps = mark_stamps(alloc, looked)?;
+        let wanted = all_bits(looked);
+        let stamped = any_stamp(stamps.as_slice());
+        Ok(Filter {
+            tokens,
+            wanted,
+            tests,
+            slots,
+            marks,
+            small,
+            stamps,
+            stamped,
+        })
     }
 
     /// What is known of a log type.
     #[inline]
-    fn test_at(&self, number: u32) -> TypeTest
-        ensures { result ≡ slice_index_or self.now.tests.items number unknown }
+    fn test_at(&self, number: u32) -> Option<TypeTest>
+        ensures { result ≡ slice_get self.now.tests.items number }
     {
-        let place = number as usize;
-        if place < self.tests.len() {
-            self.tests[place]
-        } else {
-            TypeTest {
-                verdict: Verdict::Tried,
-                needs: 0,
-            }
+        self.tests.get(number as usize).copied()
+    }
+
+    /// The slot that is listed at a place.
+    #[inline]
+    fn slot_at(&self, at: usize) -> Option<Slot>
+        ensures { result ≡ slice_get self.now.slots.items at }
+    {
+        self.slots.get(at).copied()
+    }
+
+    /// The bits of the tokens that stand in the text of a variable.
+    #[inline]
+    fn variable_bits(&self, kind: Kind, word: u64) -> u8
+        ensures { (words : List (List ℕ)) (variable : List ℕ)
+            → (kind ≡ Word → AreMarks self.now.tokens.items words self.now.marks.items)
+            → AreSmall self.now.tokens.items self.now.small.items
+            → HasWord words kind variable word → Marks self.now.tokens.items variable result }
+    {
+        match kind {
+            Kind::Word => mark_at(self.marks.as_slice(), word),
+            Kind::Whole => whole_bits(self.tokens.as_slice(), self.small.as_slice(), word),
+            Kind::Decimal => decimal_bits(self.tokens.as_slice(), word),
         }
+    }
+
+    /// The bits that a row brings by a slot.
+    #[inline]
+    fn word_bits(&self, slot: Slot, words: &[u64]) -> u8
+        ensures { (all : ℕ) → Has all result → (word : ℕ)
+            → slice_get words.now slot.place ≡ Some word → SlotGives self.now slot word all }
+    {
+        match word_at(words, slot.place) {
+            Some(word) => self.variable_bits(slot.kind, word),
+            None => 0,
+        }
+    }
+
+    /// The bits that a row brings by the slot that is listed at a place, beyond those that it has.
+    #[inline]
+    fn slot_bits(&self, at: usize, words: &[u64], bits: u8) -> u8
+        ensures { (all : ℕ) → Has all bits → Has all result → SlotIs self.now at words.now all }
+    {
+        let Some(slot) = self.slot_at(at) else {
+            return 0;
+        };
+        if has(bits, slot.bits) {
+            return 0;
+        }
+        self.word_bits(slot, words)
+    }
+
+    /// These bits, and those that a row brings by its variables.
+    #[inline]
+    fn with_slots(&self, test: &TypeTest, words: &[u64], bits: u8) -> u8
+        ensures more { Has result bits }
+        ensures slots { (at : ℕ) → test.now.first ≤ at → at < test.now.end
+            → SlotIs self.now at words.now result }
+    {
+        let mut all = bits;
+        for at in test.first..test.end {
+            all |= self.slot_bits(at, words, all);
+        }
+        all
+    }
+
+    /// These bits, and those that a row brings by its stamp, which is printed only where its pattern
+    /// may bring all that is missing.
+    #[inline]
+    fn with_stamp(&self, row: RowRef<'_>, bits: u8) -> u8
+        ensures more { Has result bits }
+        ensures stamp { AreStamps self.now.tokens.items self.now.stamps.items → (s : List ℕ)
+            → HasStampText row.entry.pattern row.entry.moment s
+            → Marks self.now.tokens.items s result }
+    {
+        let may = mark_at(self.stamps.as_slice(), u64::from(row.pattern));
+        if !has(bits | may, self.wanted) {
+            return bits | may;
+        }
+        bits | stamp_bits(self.tokens.as_slice(), may, row.pattern, row.moment)
+    }
+
+    /// Whether a row of a log type does not bring all tokens: by its constant bytes, its variables,
+    /// and at last by its stamp.
+    #[inline]
+    fn lacks(&self, test: &TypeTest, row: RowRef<'_>) -> bool
+        ensures { IsTrue result → Lacks self.now test.now (row_of row.entry) }
+    {
+        let bits = self.with_slots(test, row.words, test.has);
+        if has(bits, self.wanted) {
+            return false;
+        }
+        let all = self.with_stamp(row, bits);
+        !has(all, self.wanted)
     }
 
     /// What is known of a row: whether the pattern matches its message, or cannot. Takes no memory.
@@ -214,30 +255,60 @@ impl Filter {
     {
         verdicts_hold();
         rows_bring_tokens();
-        let test = self.test_at(row.log_type);
-        if lacks(self.marks.as_slice(), row.words, test.needs) {
-            Verdict::Rejected
-        } else {
-            test.verdict
+        let Some(test) = self.test_at(row.log_type) else {
+            return Verdict::Tried;
+        };
+        if test.verdict == Verdict::Tried && self.lacks(&test, row) {
+            return Verdict::Rejected;
+        }
+        test.verdict
+    }
+
+    /// The bits that the slot which is listed at a place may bring.
+    fn slot_may(&self, at: usize, brought: u8) -> u8
+        ensures { (slot : Slot) → slice_get self.now.slots.items at ≡ Some slot
+            → result ≡ slot_may slot brought }
+    {
+        let Some(slot) = self.slot_at(at) else {
+            return 0;
+        };
+        match slot.kind {
+            Kind::Word => brought,
+            Kind::Whole | Kind::Decimal => slot.bits,
         }
     }
 
-    /// Whether a row of a log type may match, whose words have these bits.
-    fn may_be(&self, number: u32, bits: u8) -> bool
-        ensures { IsFalse result
-            → IsShut (slice_index_or self.now.tests.items number unknown) bits }
+    /// Whether no row of a log type brings all tokens, where the words bring these bits.
+    fn lacks_all(&self, test: &TypeTest, brought: u8) -> bool
+        ensures { IsTrue result → LacksAll self.now test.now brought }
     {
-        let test = self.test_at(number);
-        !is_rejected(test.verdict) && has(bits, test.needs)
+        let mut all = test.has | self.stamped;
+        for at in test.first..test.end {
+            all |= self.slot_may(at, brought);
+        }
+        !has(all, self.wanted)
     }
 
-    /// Whether a row of one of these log types may match, whose words have these bits.
-    fn some_may(&self, types: &[u32], bits: u8) -> bool
-        ensures { IsFalse result → (t : ℕ) → Contains types.now t
-            → IsShut (slice_index_or self.now.tests.items t unknown) bits }
+    /// Whether a row of a log type may match, whose words bring these bits.
+    fn may_be(&self, number: u32, brought: u8) -> bool
+        ensures { IsFalse result → IsShut self.now brought number }
+    {
+        let Some(test) = self.test_at(number) else {
+            return true;
+        };
+        match test.verdict {
+            Verdict::Rejected => false,
+            Verdict::Certain => true,
+            Verdict::Tried => !self.lacks_all(&test, brought),
+        }
+    }
+
+    /// Whether a row of one of these log types may match, whose words bring these bits.
+    fn some_may(&self, types: &[u32], brought: u8) -> bool
+        ensures { IsFalse result → (t : ℕ) → Contains types.now t → IsShut self.now brought t }
     {
         for number in types {
-            if self.may_be(*number, bits) {
+            if self.may_be(*number, brought) {
                 return true;
             }
         }
@@ -246,6 +317,8 @@ impl Filter {
 
     /// Whether the pattern may match a message of a segment, which has rows of these log types with
     /// these words: what its head lists. Takes no memory.
+    ///
+    /// The words are asked only where no stamp and no number may bring what is missing.
     pub fn may_match(&self, types: &[u32], words: &[u32]) -> bool
         ensures { IsFalse result → (p : List Item) (names : List (List ℕ)) (texts : List (List ℕ))
             → IsSearched p → IsFilter (wide_pieces p) names texts self.now
@@ -253,7 +326,10 @@ impl Filter {
     {
         verdicts_hold();
         rows_bring_tokens();
-        let bits = bits_of_list(self.marks.as_slice(), words);
-        self.some_may(types, bits)
+        if self.some_may(types, 0) {
+            return true;
+        }
+        let brought = bits_of_list(self.marks.as_slice(), words);
+        self.some_may(types, brought)
     }
 }

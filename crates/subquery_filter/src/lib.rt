@@ -5,13 +5,17 @@
 #![tactic(auto)]
 
 mod accepting;
+mod bits;
 mod filter;
 mod known;
 mod known_names;
 mod laws;
 mod letters;
+mod numbers;
 mod rules;
 mod runs;
+mod slots;
+mod stamps;
 mod token;
 mod tokens;
 mod verdicts;

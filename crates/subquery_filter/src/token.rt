@@ -1,11 +1,15 @@
 //! A token that is looked for.
 ghost use Rattle.std.specs.Prelude.{◌≡◌};
+ghost use Rattle.query_plan.specs.Needs.{around};
 
+use plain_list::Text;
 use wild_match::{Matcher, Pattern};
 
 /// A token of a pattern, made ready to be looked for, and its bit.
 #[derive(Debug, Drop)]
 pub(crate) struct Token {
+    /// Its bytes.
+    pub(crate) text: Text,
     /// Matches the texts that the token stands in.
     pub(crate) matcher: Matcher,
     /// The same as a pattern.
@@ -13,4 +17,5 @@ pub(crate) struct Token {
     /// One of eight bits.
     pub(crate) bit: u8,
     pub(crate) ghost same: { matcher.items ≡ pattern },
+    pub(crate) ghost stands: { pattern ≡ around text },
 }

@@ -1,16 +1,17 @@
-//! The tokens of a pattern that can stand in no stamp, and in which texts they stand.
-ghost use Rattle.std.specs.Prelude.{◌≡◌, ◌⊎◌, ℕ, List, IfOk, OnOk};
+//! The tokens of a pattern, and in which texts they stand.
+ghost use Rattle.std.specs.Prelude.{◌≡◌, ◌⊎◌, ℕ, List, All, IfOk, OnOk, true};
 ghost use Rattle.std.specs.List.{Contains};
 ghost use Rattle.wild_match.specs.Matches.{Match};
 ghost use Rattle.query_plan.specs.declared.pieces.Piece.{Piece};
-ghost use Rattle.subquery_filter.specs.Filter.{Has, Marks, Needs};
-ghost use Rattle.subquery_filter.specs.StepsFilter.{AreTokens};
+ghost use Rattle.subquery_filter.specs.Filter.{Gives, Has, IsWanted, Marks};
+ghost use Rattle.subquery_filter.specs.StepsFilter.{AreTokens, HasAll};
 ghost use Rattle.query_plan.specs.Needs.{around};
 ghost use Rattle.subquery_filter.specs.Tokens.{StandsInType};
 
 use crate::token::Token;
 use crate::verdicts::matches_marked;
-use query_plan::{Piece, is_foreign};
+use plain_list::Text;
+use query_plan::Piece;
 use std::alloc::{AllocError, Global};
 use wild_match::{Item, Matcher, Pattern};
 
@@ -41,7 +42,7 @@ fn bit_behind(count: usize) -> u8 {
     }
 }
 
-/// Appends a piece where it is a token that can stand in no stamp.
+/// Appends a piece where it is a token.
 fn push_token(alloc: Global, tokens: &mut Vec<Token>, piece: &Piece) -> Result<(), AllocError>
     ensures { OnOk result ((ps : List Piece) → Contains ps piece.now
         → AreTokens ps tokens.old.items → AreTokens ps tokens.new.items) }
@@ -49,13 +50,12 @@ fn push_token(alloc: Global, tokens: &mut Vec<Token>, piece: &Piece) -> Result<(
     let Piece::Word(text) = piece else {
         return Ok(());
     };
-    if !is_foreign(text.as_slice()) {
-        return Ok(());
-    }
     let pattern = around(alloc, text.as_slice())?;
     let matcher = Matcher::new(alloc, &pattern)?;
     let bit = bit_behind(tokens.len());
+    let bytes = Vec::from_slice(alloc, text.as_slice())?;
     tokens.push(Token {
+        text: Text::new(bytes),
         matcher,
         pattern,
         bit,
@@ -63,7 +63,7 @@ fn push_token(alloc: Global, tokens: &mut Vec<Token>, piece: &Piece) -> Result<(
     Ok(())
 }
 
-/// The tokens among the pieces of a pattern that can stand in no stamp.
+/// The tokens among the pieces of a pattern.
 pub(crate) fn tokens_of(alloc: Global, pieces: &[Piece]) -> Result<Vec<Token>, AllocError>
     ensures { IfOk result (λ tokens. AreTokens pieces.now tokens.items) }
 {
@@ -74,7 +74,20 @@ pub(crate) fn tokens_of(alloc: Global, pieces: &[Piece]) -> Result<Vec<Token>, A
     Ok(tokens)
 }
 
+/// The bits of all tokens.
+pub(crate) fn all_bits(tokens: &[Token]) -> u8
+    ensures each { HasAll tokens.now result }
+    ensures only { IsWanted tokens.now result }
+{
+    let mut bits = 0;
+    for token in tokens {
+        bits |= token.bit;
+    }
+    bits
+}
+
 /// The bit of a token where it stands in a text.
+#[inline]
 fn mark_of(token: &Token, text: &[u8]) -> u8
     ensures { Match token.now.matcher.items text.now → result ≡ token.now.bit }
 {
@@ -96,26 +109,24 @@ pub(crate) fn marks_of(tokens: &[Token], text: &[u8]) -> u8
     bits
 }
 
-/// The bit of a token where it does not stand among the constant bytes of a log type.
-fn need_of(token: &Token, text: &[u8]) -> u8
-    ensures { (all : ℕ) → StandsInType token.now.matcher.items text.now ⊎ Has all token.now.bit
-        → Has all result }
+/// The bit of a token where it stands among the constant bytes of a log type.
+fn gift_of(token: &Token, text: &[u8]) -> u8
+    ensures { StandsInType token.now.matcher.items text.now → result ≡ token.now.bit }
 {
     if matches_marked(token.pattern.as_slice(), text) {
-        0
-    } else {
         token.bit
+    } else {
+        0
     }
 }
 
-/// The bits of the tokens that do not stand among the constant bytes of a log type, so that the
-/// words of a row have to bring them.
-pub(crate) fn needs_of(tokens: &[Token], text: &[u8]) -> u8
-    ensures { Needs tokens.now text.now result }
+/// The bits of the tokens that stand among the constant bytes of a log type.
+pub(crate) fn gifts_of(tokens: &[Token], text: &[u8]) -> u8
+    ensures { Gives tokens.now text.now result }
 {
     let mut bits = 0;
     for token in tokens {
-        bits |= need_of(token, text);
+        bits |= gift_of(token, text);
     }
     bits
 }

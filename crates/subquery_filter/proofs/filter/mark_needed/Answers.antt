@@ -1,8 +1,8 @@
 use Rattle.std.proofs.Common.{rules}
 use Rattle.subquery_filter.proofs.filter.mark_needed.Goals as goal
 
-pub returns-then-not-needs_words : goal.returns-then-not-needs_words
-returns-then-not-needs_words g c = λ t some. absurd (some (c.needs_words.ensures (search rules) t))
+pub returns-then-not-has_kind : goal.returns-then-not-has_kind
+returns-then-not-has_kind g c = λ at slot there is. absurd (c.has_kind.ensures (search rules) at slot there is)
 
 pub returns : goal.returns
-returns g c = λ t some. c.in_ok-marks.ensures
+returns g c = λ at slot there is. c.in_ok-marks.ensures

@@ -2,4 +2,4 @@ use Rattle.subquery_filter.proofs.TokenLemmas.{rows_bring_tokens}
 use Rattle.subquery_filter.proofs.laws.rows_bring_tokens.Goals as goal
 
 pub returns : goal.returns
-returns c = rows_bring_tokens c.tokens_are_brought.ensures.brought c.tokens_are_brought.ensures.foreign c.stamp_texts_are_short.ensures
+returns c = rows_bring_tokens c.tokens_are_brought.ensures.stand

@@ -1,7 +1,7 @@
 use Rattle.std.proofs.Common.{take}
 use Rattle.std.specs.Int.{w64}
 use Rattle.std.proofs.lemmas.Int.{to_z-of_z}
-use Rattle.row_codec.proofs.StampLemmas.{stamp_none, stamp_printed, stamp_writing}
+use Rattle.row_codec.proofs.StampLemmas.{stamp_printed, stamp_writing}
 use Rattle.subquery_filter.proofs.letters.put_stamp.Goals as goal
 
 pub print_stamp-requires : goal.print_stamp-requires

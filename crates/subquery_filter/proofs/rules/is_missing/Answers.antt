@@ -1,4 +1,4 @@
-use Rattle.std.proofs.Common.{rules, ◌≡◌, ◌∙◌, refl, sym, subst, IsTrue}
+use Rattle.std.proofs.Common.{rules, refl, sym, subst, IsTrue}
 use Rattle.std.specs.Prelude.{◌↔◌}
 use Rattle.std.specs.List.{Contains}
 use Rattle.subquery_filter.proofs.RuleLemmas.{missing_by, missing_new, not_found}

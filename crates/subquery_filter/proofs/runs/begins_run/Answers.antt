@@ -1,5 +1,5 @@
 use Rattle.std.proofs.Common.{rules}
-use Rattle.subquery_filter.proofs.RunLemmas.{begins_end, begins_other, begins_then}
+use Rattle.subquery_filter.proofs.RunLemmas.{begins_end}
 use Rattle.subquery_filter.proofs.runs.begins_run.Goals as goal
 
 pub returns : goal.returns

@@ -1,6 +1,4 @@
 use Rattle.logtype_text.specs.declared.symbols.Symbol.TheVariants.{Byte}
-use Rattle.std.proofs.Common.{sym, subst}
-use Rattle.std.specs.Prelude.{IfNone}
 use Rattle.subquery_filter.proofs.runs.past_byte.Goals as goal
 
 pub returns-in_err-symbol-clause-none : goal.returns-in_err-symbol-clause-none

@@ -1,4 +1,4 @@
-use Rattle.std.proofs.Common.{rules, ◌≡◌, ℕ, ◌∷◌, [], length}
+use Rattle.std.proofs.Common.{rules, ◌≡◌, ◌∷◌, length}
 use Rattle.subquery_filter.specs.StepsLetters.{left_of}
 use Rattle.subquery_filter.proofs.LetterLemmas.{left_slot, left_stuck, nothing_there}
 use Rattle.subquery_filter.proofs.letters.RowLettersLetters.letter.Goals as goal

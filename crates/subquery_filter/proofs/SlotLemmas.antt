@@ -1,0 +1,202 @@
+-- The slots of log types, and what rows bring by them.
+use Rattle.std.proofs.Common.{◌≡◌, ◌≢◌, ℕ, zero, suc, ◌+◌, ◌<◌, ◌≤◌, true, false, cond, List, [], ◌∷◌, ◌++◌, length, drop, refl, sym, ◌∙◌, ap, subst, arith, inl, inr, length-append}
+use Rattle.std.specs.Prelude.{◌==◌, ℤ, Option, None, Some, bit_or, slice_get, slice_index_or}
+use Rattle.std.proofs.lemmas.Bool.{cases_Bool, cases_lt}
+use Rattle.column_store.specs.declared.row.Row.{Row}
+use Rattle.row_codec.specs.Means.{HasStampText, HasWord}
+use Rattle.logtype_text.specs.declared.symbols.Kind.{Kind}
+use Rattle.logtype_text.specs.declared.symbols.Kind.TheVariants.{Word}
+use Rattle.logtype_text.specs.declared.symbols.Symbol.{Symbol}
+use Rattle.logtype_text.specs.declared.symbols.Symbol.TheVariants.{Byte, Slot as SlotSymbol}
+use Rattle.logtype_text.specs.TypeText.{is_escaped, text_of_symbol}
+use Rattle.logtype_text.proofs.TextLemmas.{byte_symbol, plain_symbol, symbol_longer}
+use Rattle.subquery_filter.specs.declared.filter.Filter.{Filter}
+use Rattle.subquery_filter.specs.declared.slots.KindBits.{KindBits}
+use Rattle.subquery_filter.specs.declared.slots.Slot.{Slot}
+use Rattle.subquery_filter.specs.declared.slots.TypeTest.{TypeTest}
+use Rattle.subquery_filter.specs.declared.token.Token.{Token}
+use Rattle.subquery_filter.specs.Filter.{AreKindBits, AreMarks, AreSlots, AreSmall, AreStamps, Covers, Has, IsSlot, Marks}
+use Rattle.subquery_filter.specs.StepsFilter.{Lacks, ListedUpTo, SlotGives, SlotIs, Stays, slot_may}
+use Rattle.subquery_filter.specs.StepsLetters.{kind_at, kind_before, kinds_in}
+use Rattle.subquery_filter.proofs.FilterLemmas.{has_left, has_right, has_through, push_got, push_last, slot_stays}
+use Rattle.subquery_filter.proofs.LetterLemmas.{other_byte, same_byte}
+use Rattle.subquery_filter.proofs.TokenLemmas.{kinds_byte, kinds_slot}
+
+-- ---- a text that no symbol begins
+
+stuck_escape : (text : List ℕ) → ((symbol : Symbol) (rest : List ℕ) → 0x5C ∷ text ≢ text_of_symbol symbol ++ rest) → kinds_in true text ≡ []
+stuck_escape [] none = refl
+stuck_escape (b ∷ text) none = elim (cases_Bool (is_escaped b)) [
+  | inl is ↦ absurd (none (Byte b) text (sym (ap (λ t. cond t (0x5C ∷ b ∷ []) (b ∷ []) ++ text) is)))
+  | inr other ↦ ap (λ t. cond t (kinds_in false text) []) other
+]
+
+kinds_stuck : (text : List ℕ) → ((symbol : Symbol) (rest : List ℕ) → text ≢ text_of_symbol symbol ++ rest) → kinds_in false text ≡ []
+kinds_stuck [] none = refl
+kinds_stuck (b ∷ text) none = elim (cases_Bool (b == 0x5C)) [
+  | inl is ↦
+      ap (λ t. cond t (kinds_in true text) (kind_before (kind_at b) (kinds_in false text))) is
+      ∙ stuck_escape text (λ symbol rest same. none symbol rest (ap (λ x. x ∷ text) (same_byte b is) ∙ same))
+  | inr other ↦ absurd (none (plain_symbol b) text (sym (ap (λ l. l ++ text) (byte_symbol b (other_byte b other)))))
+]
+
+-- ---- a slot is listed
+
+pub slot_pushed : (tokens : List Token) (bits : KindBits) (old new : List Slot) (slot : Slot) (known place : ℕ) (kind : Kind) → new ≡ old ++ slot ∷ [] → slot.place ≡ place → slot.kind ≡ kind → Covers tokens kind slot.bits
+    → (first : ℕ) → first ≤ length old → IsSlot tokens new first (length new) known place kind
+slot_pushed tokens bits old new slot known place kind is same_place same_kind covers first le =
+    inl (record {
+      at = length old;
+      from = le;
+      to = omega (arith, ap length is, length-append old (slot ∷ []));
+      slot = slot;
+      is = subst (λ (l : List Slot). slice_get l (length old) ≡ Some slot) (sym is) (push_last old slot);
+      same_place = same_place;
+      same_kind = same_kind;
+      covers = covers;
+    })
+
+pub slot_covered : (tokens : List Token) (slots : List Slot) (known bits place first end : ℕ) (kind : Kind) → Has known bits → Covers tokens kind bits → IsSlot tokens slots first end known place kind
+slot_covered tokens slots known bits place first end kind has covers =
+    inr (λ words variable word is j d lt m. has_through known bits _ has (covers words variable word is j d lt m))
+
+pub stays_same : (slots : List Slot) → Stays slots slots
+stays_same slots at slot is = is
+
+pub stays_pushed : (old new : List Slot) (slot : Slot) → new ≡ old ++ slot ∷ [] → Stays old new
+stays_pushed old new slot is at other there = subst (λ (l : List Slot). slice_get l at ≡ Some other) (sym is) (push_got old slot at other there)
+
+pub stays_through : (a b c : List Slot) → Stays a b → Stays b c → Stays a c
+stays_through a b c one two at slot is = two at slot (one at slot is)
+
+-- ---- the loop over a log type's text
+
+pub listed_none : (bits : KindBits) (text : List ℕ) (first known : ℕ) (slots : List Slot) → ListedUpTo bits text text 0 first known slots
+listed_none bits text first known slots = record {
+  left = refl;
+  room = omega arith;
+  listed = λ tokens are k kind lt at. absurd (omega (arith, lt));
+}
+
+drop_first : {X : Type 0} (xs : List X) (n : ℕ) (x : X) (rest : List X) → x ∷ rest ≡ drop n xs → (slice_get xs n ≡ Some x) × (rest ≡ drop (suc n) xs)
+drop_first [] zero x rest is = absurd (cc is)
+drop_first [] (suc n) x rest is = absurd (cc is)
+drop_first (y ∷ xs) zero x rest is = let head : x ≡ y = cc (is) in let tail : rest ≡ xs = cc (is) in (ap Some (sym head), tail)
+drop_first (y ∷ xs) (suc n) x rest is = drop_first xs n x rest is
+
+drop_none : {X : Type 0} (xs : List X) (n k : ℕ) (x : X) → [] ≡ drop n xs → slice_get xs k ≡ Some x → k < n
+drop_none [] n k x none at = absurd (cc at)
+drop_none (y ∷ xs) zero k x none at = absurd (cc none)
+drop_none (y ∷ xs) (suc n) zero x none at = omega arith
+drop_none (y ∷ xs) (suc n) (suc k) x none at = let lt = drop_none xs n k x none at in omega (arith, lt)
+
+pub listed_slot : (bits : KindBits) (text rest after : List ℕ) (place first known : ℕ) (kind : Kind) (symbol : Symbol) (old new : List Slot) → rest ≡ text_of_symbol symbol ++ after → symbol ≡ SlotSymbol kind
+    → Stays old new → length old ≤ length new → first ≤ length old
+    → ((tokens : List Token) → AreKindBits tokens bits → (n : ℕ) → n ≤ length old → IsSlot tokens new n (length new) known place kind)
+    → ListedUpTo bits text rest place first known old → ListedUpTo bits text after (place + 1) first known new
+listed_slot bits text rest after place first known kind symbol old new is same stays more le here h =
+    let kinds : kind ∷ kinds_in false after ≡ drop place (kinds_in false text) =
+    sym (kinds_slot kind after) ∙ ap (λ (s : Symbol). kinds_in false (text_of_symbol s ++ after)) (sym same) ∙ ap (kinds_in false) (sym is) ∙ h.left in
+    let found = drop_first (kinds_in false text) place kind (kinds_in false after) kinds in
+    let next : suc place ≡ place + 1 = omega arith in
+    record {
+      left = found.1 ∙ ap (λ n. drop n (kinds_in false text)) next;
+      room = let longer = symbol_longer symbol after in omega (arith, ap length is, longer, h.room);
+      listed = λ tokens are k other lt at. elim (cases_lt k place) [
+        | inl less ↦ slot_stays tokens old new first (length old) known k other stays (length new) more (h.listed tokens are k other less at)
+        | inr past ↦
+            let e : place ≡ k = omega (arith, lt, past) in
+            let there : slice_get (kinds_in false text) k ≡ Some kind = subst (λ n. slice_get (kinds_in false text) n ≡ Some kind) e found.0 in
+            let kinds_same : kind ≡ other = same_kinds (slice_get (kinds_in false text) k) kind other there at in
+            subst (λ n. IsSlot tokens new first (length new) known n other) e (subst (λ (x : Kind). IsSlot tokens new first (length new) known place x) kinds_same (here tokens are first le))
+      ];
+    }
+  where
+    same_kinds : (o : Option Kind) (a b : Kind) → o ≡ Some a → o ≡ Some b → a ≡ b
+    same_kinds o a b one two = cc (one, two)
+
+pub listed_all : (bits : KindBits) (text rest : List ℕ) (place first known : ℕ) (slots : List Slot) → ((symbol : Symbol) (after : List ℕ) → rest ≢ text_of_symbol symbol ++ after) → ListedUpTo bits text rest place first known slots
+    → (tokens : List Token) → AreKindBits tokens bits → AreSlots tokens text slots first (length slots) known
+listed_all bits text rest place first known slots none h tokens are k kind at =
+    h.listed tokens are k kind (drop_none (kinds_in false text) place k kind (sym (kinds_stuck rest none) ∙ h.left) at) at
+
+-- ---- what a row brings by its slots
+
+pub gives_more : (f : Filter) (slot : Slot) (word bits more : ℕ) → Has more bits → SlotGives f slot word bits → SlotGives f slot word more
+gives_more f slot word bits more has gives words variable marks small is j d lt m own = has_through more bits _ has (gives words variable marks small is j d lt m own)
+
+pub is_more : (f : Filter) (at : ℕ) (row : List ℕ) (bits more : ℕ) → Has more bits → SlotIs f at row bits → SlotIs f at row more
+is_more f at row bits more has is slot word there here = gives_more f slot word bits more has (is slot word there here)
+
+-- the slots listed from the first up to a place
+abbrev pub SlotsBefore : Filter → List ℕ → ℕ → ℕ → ℕ → Type 0
+SlotsBefore f row first end bits = (at : ℕ) → first ≤ at → at < end → SlotIs f at row bits
+
+pub slots_step : (f : Filter) (row : List ℕ) (first end bits more : ℕ) → Has (bit_or bits more) bits → SlotIs f end row (bit_or bits more) → SlotsBefore f row first end bits → SlotsBefore f row first (end + 1) (bit_or bits more)
+slots_step f row first end bits more has here before at from to = elim (cases_lt at end) [
+  | inl less ↦ is_more f at row bits (bit_or bits more) has (before at from less)
+  | inr past ↦ subst (λ n. SlotIs f n row (bit_or bits more)) (omega (arith, to, past)) here
+]
+
+same_slots : (o : Option Slot) (a b : Slot) → o ≡ Some a → o ≡ Some b → a ≡ b
+same_slots o a b one two = cc (one, two)
+
+pub is_covered : (f : Filter) (at : ℕ) (row : List ℕ) (all bits : ℕ) (mine : Slot) → Some mine ≡ slice_get f.slots.items at → Has all bits → Has bits mine.bits → SlotIs f at row all
+is_covered f at row all bits mine got more has slot word there here words variable marks small is j d lt m own =
+    let same = same_slots (slice_get f.slots.items at) mine slot (sym got) there in
+    has_through all slot.bits _ (has_through all bits slot.bits more (subst (λ (x : Slot). Has bits x.bits) same has)) own
+
+pub is_given : (f : Filter) (at : ℕ) (row : List ℕ) (all : ℕ) (mine : Slot) → Some mine ≡ slice_get f.slots.items at → ((word : ℕ) → slice_get row mine.place ≡ Some word → SlotGives f mine word all) → SlotIs f at row all
+is_given f at row all mine got gives slot word there here =
+    let same = same_slots (slice_get f.slots.items at) mine slot (sym got) there in
+    subst (λ (x : Slot). SlotGives f x word all) same (gives word (subst (λ (x : Slot). slice_get row x.place ≡ Some word) (sym same) here))
+
+pub gives_short : (f : Filter) (slot : Slot) (row : List ℕ) (all : ℕ) → None ≡ slice_get row slot.place → (word : ℕ) → slice_get row slot.place ≡ Some word → SlotGives f slot word all
+gives_short f slot row all none word here = absurd (let e : None ≡ Some word = none ∙ here in cc)
+
+pub gives_brought : (f : Filter) (slot : Slot) (row : List ℕ) (all bits w : ℕ) → Some w ≡ slice_get row slot.place → Has all bits
+    → ((words : List (List ℕ)) (variable : List ℕ) → (slot.kind ≡ Word → AreMarks f.tokens.items words f.marks.items) → AreSmall f.tokens.items f.small.items → HasWord words slot.kind variable w → Marks f.tokens.items variable bits)
+    → (word : ℕ) → slice_get row slot.place ≡ Some word → SlotGives f slot word all
+gives_brought f slot row all bits w got more brings word here words variable marks small is j d lt m own =
+    let word_same : w ≡ word = same_words (slice_get row slot.place) w word (sym got) here in
+    has_through all bits _ more (brings words variable marks small (subst (λ n. HasWord words slot.kind variable n) (sym word_same) is) j d lt m)
+  where
+    same_words : (o : Option ℕ) (a b : ℕ) → o ≡ Some a → o ≡ Some b → a ≡ b
+    same_words o a b one two = cc (one, two)
+
+-- ---- what a segment may bring by its slots
+
+abbrev pub MayBefore : Filter → ℕ → ℕ → ℕ → ℕ → Type 0
+MayBefore f first end brought bits = (at : ℕ) (slot : Slot) → first ≤ at → at < end → slice_get f.slots.items at ≡ Some slot → Has bits (slot_may slot brought)
+
+pub may_step : (f : Filter) (first end brought bits more : ℕ) → ((slot : Slot) → slice_get f.slots.items end ≡ Some slot → more ≡ slot_may slot brought)
+    → MayBefore f first end brought bits → MayBefore f first (end + 1) brought (bit_or bits more)
+may_step f first end brought bits more here before at slot from to there = elim (cases_lt at end) [
+  | inl less ↦ has_left bits more (slot_may slot brought) (before at slot from less there)
+  | inr past ↦
+      let e : at ≡ end = omega (arith, to, past) in
+      subst (Has (bit_or bits more)) (here slot (subst (λ n. slice_get f.slots.items n ≡ Some slot) e there)) (has_right bits more)
+]
+
+-- ---- what a row lacks
+
+pub lacks_by : (f : Filter) (test : TypeTest) (row : Row) (bits all : ℕ) → Has bits test.has → ((at : ℕ) → test.first ≤ at → at < test.end → SlotIs f at row.words bits) → Has all bits
+    → (AreStamps f.tokens.items f.stamps.items → (s : List ℕ) → HasStampText row.pattern row.moment s → Marks f.tokens.items s all) → ¬ Has all f.wanted → Lacks f test row
+lacks_by f test row bits all has slots more stamp lacks = record {
+  bits = all;
+  has = has_through all bits test.has more has;
+  slots = λ at from to. is_more f at row.words bits all more (slots at from to);
+  stamp = stamp;
+  lacks = lacks;
+}
+
+pub stamp_more : (tokens : List Token) (s : List ℕ) (bits more : ℕ) → Marks tokens s more → Marks tokens s (bit_or bits more)
+stamp_more tokens s bits more marks j d lt m = has_through (bit_or bits more) more _ (has_right bits more) (marks j d lt m)
+
+pub stamp_brings : (tokens looked : List Token) (may bits brought pattern : ℕ) (moment : ℤ) (stamps : List ℕ) → looked ≡ tokens → may ≡ slice_index_or stamps pattern 0
+    → ((s : List ℕ) → (HasStampText pattern moment s → Marks looked s may) → HasStampText pattern moment s → Marks looked s brought)
+    → AreStamps tokens stamps → (s : List ℕ) → HasStampText pattern moment s → Marks tokens s (bit_or bits brought)
+stamp_brings tokens looked may bits brought pattern moment stamps same is tells are s stamped =
+    stamp_more tokens s bits brought
+    (subst (λ (l : List Token). Marks l s brought) same
+    (tells s (λ h. subst (λ (n : ℕ). Marks looked s n) (sym is) (subst (λ (l : List Token). Marks l s (slice_index_or stamps pattern 0)) (sym same) (are pattern moment s h))) stamped))

@@ -1,0 +1,26 @@
+use Rattle.std.proofs.Common.{arith, length}
+use Rattle.subquery_filter.proofs.SlotLemmas.{listed_all, listed_none, listed_slot, stays_same, stays_through}
+use Rattle.subquery_filter.proofs.slots.list_slots.Goals as goal
+
+pub loop-symbol-init : goal.loop-symbol-init
+loop-symbol-init c =
+    let slots = c.args.slots.now.items in
+    (listed_none c.args.kinds.now c.args.text.now (length slots) c.args.known slots, stays_same slots, omega arith)
+
+pub loop-symbol-preserved-in_ok-list_slot : goal.loop-symbol-preserved-in_ok-list_slot
+loop-symbol-preserved-in_ok-list_slot c =
+    let l = c.loop-symbol in
+    let first = c.args.slots.now.items in
+    let old = l.slots.items in
+    let new = c.list_slot.new.slots.items in
+    let told = c.in_ok-list_slot.ensures in (
+      listed_slot c.args.kinds.now c.args.text.now l.rest.now c.in-Some.after.now l.place (length first) c.args.known c.in-Slot.kind c.in-Some.symbol old new
+          c.in-Some.ensures.some c.in-Slot.is told.stays told.more l.invariant.2 told.listed l.invariant.0,
+      stays_through first old new l.invariant.1 told.stays,
+      omega (arith, l.invariant.2, told.more),
+    )
+
+pub returns-clause-listed : goal.returns-clause-listed
+returns-clause-listed c =
+    let l = c.loop-symbol in
+    listed_all c.args.kinds.now c.args.text.now l.rest.now l.place (length c.args.slots.now.items) c.args.known l.slots.items c.in_default.ensures.none l.invariant.0

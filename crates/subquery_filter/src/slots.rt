@@ -1,0 +1,170 @@
+//! The slots of log types that may bring tokens.
+ghost use Rattle.std.specs.Prelude.{◌≡◌, ◌≢◌, ◌≤◌, ℕ, List, [], IfOk, IsFalse, OnOk, Some, length, slice_get};
+ghost use Rattle.subquery_filter.specs.declared.token.Token.{Token};
+ghost use Rattle.subquery_filter.specs.Filter.{AreKindBits, AreSlots, AreTests, Covers, IsSlot, IsTest};
+ghost use Rattle.subquery_filter.specs.StepsFilter.{Stays};
+ghost use Rattle.subquery_filter.specs.declared.slots.Slot.{Slot};
+
+use crate::bits::has;
+use crate::token::Token;
+use crate::tokens::gifts_of;
+use crate::verdicts::{Verdict, verdict_of};
+use logtype_text::{Kind, Symbol, first_symbol};
+use query_plan::Plan;
+use row_codec::Names;
+use std::alloc::{AllocError, Global};
+
+/// The bits that each kind of variable may bring.
+#[derive(Clone, Copy, Debug)]
+pub(crate) struct KindBits {
+    pub(crate) whole: u8,
+    pub(crate) decimal: u8,
+    pub(crate) word: u8,
+}
+
+/// A slot of a log type in which a token may stand.
+#[derive(Clone, Copy, Debug)]
+pub(crate) struct Slot {
+    /// The place of its word among those of a row.
+    pub(crate) place: usize,
+    pub(crate) kind: Kind,
+    /// The bits of the tokens that may stand there.
+    pub(crate) bits: u8,
+}
+
+/// What is known of a log type: its verdict and, where that leaves it open, the bits of the tokens
+/// that its constant bytes bring, and where its slots are listed.
+#[derive(Clone, Copy, Debug)]
+pub(crate) struct TypeTest {
+    pub(crate) verdict: Verdict,
+    pub(crate) has: u8,
+    pub(crate) first: usize,
+    pub(crate) end: usize,
+}
+
+impl KindBits {
+    /// The bits that a variable of this kind may bring.
+    fn of(&self, kind: Kind) -> u8
+        ensures { (tokens : List Token) → AreKindBits tokens self.now → Covers tokens kind result }
+    {
+        match kind {
+            Kind::Whole => self.whole,
+            Kind::Decimal => self.decimal,
+            Kind::Word => self.word,
+        }
+    }
+}
+
+/// Lists a slot, where it may bring a bit beyond those that are known.
+fn list_slot(
+    slots: &mut Vec<Slot>,
+    kinds: &KindBits,
+    known: u8,
+    kind: Kind,
+    place: usize,
+) -> Result<(), AllocError>
+    ensures listed { OnOk result ((tokens : List Token) → AreKindBits tokens kinds.now
+        → (first : ℕ) → first ≤ length slots.old.items
+        → IsSlot tokens slots.new.items first (length slots.new.items) known place kind) }
+    ensures stays { OnOk result (Stays slots.old.items slots.new.items) }
+    ensures more { OnOk result (length slots.old.items ≤ length slots.new.items) }
+{
+    let bits = kinds.of(kind);
+    if has(known, bits) {
+        return Ok(());
+    }
+    slots.push(Slot { place, kind, bits })?;
+    Ok(())
+}
+
+/// Lists the slots of a log type that may bring a bit beyond those that are known.
+fn list_slots(
+    slots: &mut Vec<Slot>,
+    kinds: &KindBits,
+    known: u8,
+    text: &[u8],
+) -> Result<(), AllocError>
+    ensures listed { OnOk result ((tokens : List Token) → AreKindBits tokens kinds.now
+        → AreSlots tokens text.now slots.new.items (length slots.old.items)
+        (length slots.new.items) known) }
+    ensures stays { OnOk result (Stays slots.old.items slots.new.items) }
+{
+    let mut rest = text;
+    let mut place = 0;
+    while let Some((symbol, after)) = first_symbol(rest) {
+        if let Symbol::Slot(kind) = symbol {
+            list_slot(slots, kinds, known, kind, place)?;
+            place += 1;
+        }
+        rest = after;
+    }
+    Ok(())
+}
+
+/// What is known of a log type with this text, whose slots are listed behind those before.
+fn test_of(
+    plan: &Plan,
+    tokens: &[Token],
+    kinds: &KindBits,
+    slots: &mut Vec<Slot>,
+    text: &[u8],
+) -> Result<TypeTest, AllocError>
+    ensures test { IfOk result (λ test. AreKindBits tokens.now kinds.now
+        → IsTest plan.now tokens.now slots.new.items text.now test) }
+    ensures stays { IfOk result (λ _. Stays slots.old.items slots.new.items) }
+{
+    let verdict = verdict_of(plan, text);
+    let first = slots.len();
+    if verdict != Verdict::Tried {
+        return Ok(TypeTest {
+            verdict,
+            has: 0,
+            first,
+            end: first,
+        });
+    }
+    let known = gifts_of(tokens, text);
+    list_slots(slots, kinds, known, text)?;
+    Ok(TypeTest {
+        verdict,
+        has: known,
+        first,
+        end: slots.len(),
+    })
+}
+
+/// What is known of all log types, by their numbers, and their slots.
+pub(crate) fn test_types<N: Names>(
+    plan: &Plan,
+    tokens: &[Token],
+    kinds: &KindBits,
+    names: &N,
+    slots: &mut Vec<Slot>,
+    tests: &mut Vec<TypeTest>,
+) -> Result<(), AllocError>
+    requires { tests.old.items ≡ [] }
+    ensures { OnOk result (AreKindBits tokens.now kinds.now → AreTests plan.now tokens.now
+        (N.types names.now) slots.new.items tests.new.items) }
+{
+    for number in 0..u32::MAX {
+        let Some(text) = names.type_text(number) else {
+            return Ok(());
+        };
+        let test = test_of(plan, tokens, kinds, slots, text)?;
+        tests.push(test)?;
+    }
+    Ok(())
+}
+
+/// Whether a slot of this kind is listed.
+pub(crate) fn has_kind(slots: &[Slot], kind: Kind) -> bool
+    ensures { IsFalse result → (at : ℕ) (slot : Slot) → slice_get slots.now at ≡ Some slot
+        → slot.kind ≢ kind }
+{
+    for slot in slots {
+        if slot.kind == kind {
+            return true;
+        }
+    }
+    false
+}
