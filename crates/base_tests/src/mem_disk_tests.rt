@@ -143,3 +143,14 @@ fn a_disk_may_begin_longer_than_its_room(rt: HostRuntime) -> Result<(), Fail> {
     assert!(rt; stays_long(&mut disk));
     Ok(())
 }
+
+#[test]
+fn a_write_behind_the_end_fails(rt: HostRuntime) -> Result<(), Fail> {
+    let alloc = rt.alloc();
+    let mut disk = disk(alloc, &[3], 9, &[])?;
+    assert!(rt; disk.write(2, &[4]) == Err(Failed));
+    assert!(rt; disk.bytes() == [3].as_slice() && disk.faults() == 1);
+    assert!(rt; disk.write(1, &[4]) == Ok(()));
+    assert!(rt; disk.bytes() == [3, 4].as_slice());
+    Ok(())
+}

@@ -1,5 +1,5 @@
 -- Words ask for one thing alone, so what that answers is what the program answers.
-use Rattle.std.proofs.Common.{◌≡◌, ◌≢◌, ◌≤◌, arith, refl, subst, inl, inr, ℕ, List, [], ◌∷◌, length, map, Some, Result, Ok, Err}
+use Rattle.std.proofs.Common.{◌≡◌, ◌≢◌, ◌≤◌, arith, refl, subst, inl, inr, ℕ, List, [], ◌∷◌, length, map, Option, Some, Result, Ok, Err}
 use Rattle.std.specs.Prelude.{IfErr}
 use Rattle.log_seams.specs.Disk.{DiskState}
 use Rattle.command_words.specs.Asked.{AreTaken, Asked, Asks, HaveGoodNumbers, IsAnswer, asked_by}
@@ -11,6 +11,7 @@ use Rattle.command_refusals.specs.Ending.{RefusesAtOnce}
 use Rattle.command_refusals.specs.declared.outcome.AddRefusal.{AddRefusal}
 use Rattle.write_commands.specs.Names.{RefusesNames}
 use Rattle.write_commands.specs.Ingested.{AnswersIngest, EndsIngest}
+use Rattle.write_commands.specs.Known.{KnownArchive, over}
 use Rattle.clp_commands.specs.Answers.{Answers, AnswersAsked}
 use Rattle.command_refusals.specs.Outcome.{of_add, of_words}
 
@@ -18,11 +19,11 @@ use Rattle.command_refusals.specs.Outcome.{of_add, of_words}
 only : (words : List (List ℕ)) (read : Result Command WordsRefusal) (command : Command) → read ≡ Ok command → ((a : Asked) → Asks words a → IsAnswer a read) → (a : Asked) → Asks words a → asked_by command ≡ a
 only words read command is all a asks = subst (IsAnswer a) is (all a asks)
 
-pub Answers-asked : (words : List (List ℕ)) (seen : Outside) (old new : DiskState) (status : ℕ) (read : Result Command WordsRefusal) (command : Command) (a : Asked) → read ≡ Ok command → Asks words a → ((b : Asked) → Asks words b → IsAnswer b read)
-    → AnswersAsked a seen old new status → Answers words seen old new status
-Answers-asked words seen old new status read command a is asks all answers = inr (record {
+pub Answers-asked : (known : Option KnownArchive) (words : List (List ℕ)) (seen : Outside) (old new : DiskState) (status : ℕ) (read : Result Command WordsRefusal) (command : Command) (a : Asked) → read ≡ Ok command → Asks words a → ((b : Asked) → Asks words b → IsAnswer b read)
+    → AnswersAsked known a seen old new status → Answers known words seen old new status
+Answers-asked known words seen old new status read command a is asks all answers = inr (record {
   usage = λ none. absurd (none a asks);
-  asked_for = λ b also. subst (λ x. AnswersAsked x seen old new status) (same b also) answers;
+  asked_for = λ b also. subst (λ x. AnswersAsked known x seen old new status) (same b also) answers;
   taken = λ taken good. (a, asks);
 })
   where
@@ -30,9 +31,9 @@ Answers-asked words seen old new status read command a is asks all answers = inr
     same b also = let one = only words read command is all a asks in let other = only words read command is all b also in cc
 
 -- words that ask for nothing, or that there was no memory to read
-pub Answers-refused : (words : List (List ℕ)) (seen : Outside) (old new : DiskState) (status : ℕ) (read : Result Command WordsRefusal) (refusal : WordsRefusal) → read ≡ Err refusal → ((a : Asked) → Asks words a → IsAnswer a read)
-    → (AreTaken words → HaveGoodNumbers words → IfErr read (λ r. r ≡ WordsOutOfMemory)) → RefusesAtOnce seen old new status (of_words refusal) → Answers words seen old new status
-Answers-refused words seen old new status read WordsUsage is all taken refuses = inr (record {
+pub Answers-refused : (known : Option KnownArchive) (words : List (List ℕ)) (seen : Outside) (old new : DiskState) (status : ℕ) (read : Result Command WordsRefusal) (refusal : WordsRefusal) → read ≡ Err refusal → ((a : Asked) → Asks words a → IsAnswer a read)
+    → (AreTaken words → HaveGoodNumbers words → IfErr read (λ r. r ≡ WordsOutOfMemory)) → RefusesAtOnce seen old new status (of_words refusal) → Answers known words seen old new status
+Answers-refused known words seen old new status read WordsUsage is all taken refuses = inr (record {
   usage = λ _. refuses;
   asked_for = λ a asks. absurd (subst (IsAnswer a) is (all a asks));
   taken = λ passes good. absurd (other (subst (λ r. IfErr r (λ x. x ≡ WordsOutOfMemory)) is (taken passes good)));
@@ -40,7 +41,7 @@ Answers-refused words seen old new status read WordsUsage is all taken refuses =
   where
     other : WordsUsage ≡ WordsOutOfMemory → ⊥
     other e = cc
-Answers-refused words seen old new status read WordsOutOfMemory is all taken refuses = inl refuses
+Answers-refused known words seen old new status read WordsOutOfMemory is all taken refuses = inl refuses
 
 -- a list has an element where its image has one
 pub some_of : {A B : Type 0} (f : A → B) (xs : List A) → map f xs ≢ [] → 1 ≤ length xs
@@ -48,6 +49,6 @@ some_of f [] some = absurd (some refl)
 some_of f (x ∷ xs) some = omega arith
 
 -- what `ingest` answers, by its names and by how it ends
-pub ingest_answers : (workers rows : ℕ) (names : List (List ℕ)) (seen : Outside) (old new : DiskState) (status : ℕ) → ((refusal : AddRefusal) → RefusesNames names (Some refusal) → RefusesAtOnce seen old new status (of_add refusal))
-    → EndsIngest workers rows names seen old new status → AnswersIngest workers rows names seen old new status
-ingest_answers workers rows names seen old new status first ends = record { names_first = first; ends = ends }
+pub ingest_answers : (known : Option KnownArchive) (workers rows : ℕ) (names : List (List ℕ)) (seen : Outside) (old new : DiskState) (status : ℕ) → ((refusal : AddRefusal) → RefusesNames names (Some refusal) → RefusesAtOnce seen old new status (of_add refusal))
+    → EndsIngest workers rows names seen (over known old old) (over known old new) status → AnswersIngest known workers rows names seen old new status
+ingest_answers known workers rows names seen old new status first ends = record { names_first = first; ends = ends }

@@ -8,4 +8,3 @@ mod top_call;
 
 pub use command_refusals::Refusal;
 pub use top_call::run;
-pub use write_commands::Telling;

@@ -1,11 +1,12 @@
 //! The top call.
-ghost use Rattle.std.specs.Prelude.{◌≡◌, ℕ, List, map, string_bytes};
+ghost use Rattle.std.specs.Prelude.{◌≡◌, ℕ, List, Option, map, string_bytes};
 ghost use Rattle.clp_commands.specs.Answers.{Answers, AnswersAsked};
 ghost use Rattle.clp_commands.specs.Words.{AskNoArchive, AskNoWriting, MayWrite, UsesArchive};
 ghost use Rattle.command_refusals.specs.GoesOn.{DiskGoesOn, OutsideGoesOn};
 ghost use Rattle.command_refusals.specs.Outside.{around};
 ghost use Rattle.command_words.specs.Asked.{IsInRange, asked_by};
 ghost use Rattle.log_seams.specs.Disk.{KeepsBytes};
+ghost use Rattle.write_commands.specs.Known.{KnownArchive};
 
 use command_refusals::{
     answer, refusal_of_create, refusal_of_file, refusal_of_read, refusal_of_words, report,
@@ -13,12 +14,13 @@ use command_refusals::{
 use command_words::{Command, read_words};
 use disk_journal::create;
 use log_commands::{scan, show};
-use log_seams::{Shelf, Sink};
+use log_seams::{Disk, Shelf, Sink};
 use read_commands::{check, decode_file, files, search_messages};
 use std::alloc::Global;
+use std::marker::Brand;
 use std::sync::Wait;
 use std::thread::Threads;
-use write_commands::{NewLogs, Telling, bench, ingest_files};
+use write_commands::{Base, NewLogs, bench, ingest_files};
 
 /// Does what the words ask for, and answers the status that the program ends with.
 ///
@@ -31,9 +33,11 @@ use write_commands::{NewLogs, Telling, bench, ingest_files};
 ///
 /// `ingest` adds logs to the archive, and prints of each what `files` prints. `bench` makes an archive of
 /// generated logs, and prints a summary of it. `disk` is the archive's.
+/// What is said of the bytes that `ingest` leaves holds for each archive `known` whose bytes the disk had
+/// at the start: whatever archive it had, and it is not asked for when the program runs.
 /// `rt` starts the threads of `ingest`. `second` is the disk beside the archive's for commands that
 /// write a new one; no command here needs it yet.
-pub fn run<R: Threads + Wait + Sync, H: Shelf, D: Telling + Send, K: Sink>(
+pub fn run<R: Threads + Wait + Sync, H: Shelf, D: Disk + Send, K: Sink>(
     rt: &R,
     alloc: Global,
     words: &[String],
@@ -45,8 +49,11 @@ pub fn run<R: Threads + Wait + Sync, H: Shelf, D: Telling + Send, K: Sink>(
 ) -> u8
 where
     H::Src: Send,
+    // the archive that the disk is known to hold, if any
+    ghost known: { Option KnownArchive }
+
     // by the words
-    ensures answers { Answers (map string_bytes words.now)
+    ensures answers { Answers known (map string_bytes words.now)
         (around H.content H.unread H.open_faults H.read_faults K.written K.faults
         shelf.old shelf.new out.old out.new err.old err.new)
         (D.state disk.old) (D.state disk.new) result }
@@ -68,11 +75,11 @@ where
         Ok(command) => command,
         Err(refusal) => return report(err, "", refusal_of_words(refusal)),
     };
-    carry_out(rt, alloc, &command, shelf, disk, out, err)
+    carry_out::<R, H, D, K, Brand>(rt, alloc, &command, shelf, disk, out, err)
 }
 
 /// Does what a command asks for, and answers the status.
-fn carry_out<R: Threads + Wait + Sync, H: Shelf, D: Telling + Send, K: Sink>(
+fn carry_out<R: Threads + Wait + Sync, H: Shelf, D: Disk + Send, K: Sink, B: Base>(
     rt: &R,
     alloc: Global,
     command: &Command<'_>,
@@ -84,7 +91,7 @@ fn carry_out<R: Threads + Wait + Sync, H: Shelf, D: Telling + Send, K: Sink>(
 where
     H::Src: Send,
     requires { IsInRange (asked_by command.now) }
-    ensures answers { AnswersAsked (asked_by command.now)
+    ensures answers { AnswersAsked B.archive (asked_by command.now)
         (around H.content H.unread H.open_faults H.read_faults K.written K.faults
         shelf.old shelf.new out.old out.new err.old err.new)
         (D.state disk.old) (D.state disk.new) result }
@@ -109,7 +116,8 @@ where
             answer(refusal_of_create(outcome), "", err)
         }
         Command::Ingest { asked } => {
-            ingest_files(rt, alloc, NewLogs::of(asked), shelf, disk, out, err)
+            let logs = NewLogs::of(asked);
+            ingest_files::<R, H, D, K, B>(rt, alloc, logs, shelf, disk, out, err)
         }
         Command::Files => {
             let outcome = files(alloc, disk, out);

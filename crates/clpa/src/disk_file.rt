@@ -6,7 +6,6 @@ use crate::file_id::FileId;
 use crate::locked_file::LockedFile;
 use crate::offsets::read_full;
 use crate::place::{OffsetFile, Place};
-use clp_commands::Telling;
 use log_seams::{Disk, Failed};
 use std::io::{self, ErrorKind};
 
@@ -193,11 +192,4 @@ impl<P: Place> Disk for DiskFile<P, P::File> {
       only_now = λ _ _. tt;
       wider = λ _ _ _ _ _. tt;
     } };
-}
-
-/// Nothing is known of the bytes of a file.
-impl<P: Place> Telling for DiskFile<P, P::File> {
-    fn tells(&self) -> bool {
-        false
-    }
 }

@@ -1,11 +1,11 @@
 -- How the events, the content and the images of a disk in memory go on.
-use Rattle.std.proofs.Common.{◌≡◌, ◌⊎◌, inl, inr, ⊎_elim, ℕ, zero, suc, ◌+◌, ◌-◌, ◌/◌, ◌<◌, ◌≤◌, get_or, replicate, length-take, Bool, true, false, List, [], ◌∷◌, ◌++◌, length, take, drop, refl, sym, ◌∙◌, ap, subst, arith, length-append, length-drop}
+use Rattle.std.proofs.Common.{◌≡◌, ◌⊎◌, inl, inr, ⊎_elim, ℕ, zero, suc, ◌+◌, ◌-◌, ◌/◌, ◌<◌, ◌≤◌, get_or, replicate, length-take, Bool, true, false, List, [], ◌∷◌, ◌++◌, length, take, drop, refl, sym, ◌∙◌, ap, subst, arith, rules, length-append, length-drop}
 use Rattle.std.proofs.lemmas.List.{take-append-le, drop-append-le, drop-drop, take_at, drop_at, length-take-le, append_assoc, take_all, drop_more, take_more, length-replicate}
 use Rattle.std.proofs.lemmas.Bool.Decides.{nat_tests}
 use Rattle.log_seams.specs.Disk.{laid, Torn, Follows, NoMore, Elapses}
 use Rattle.log_seams.specs.Replay.{Event, wrote, read, synced, other, logged, event_of, events_after, events, after_event, content, IsImage, IsSince, held, torn_by, left_by}
 use Rattle.log_seams.specs.StepsReplay.{total, reads_as, IsQuiet}
-use Rattle.log_seams.specs.MemDisk.{first_of, events_of, disk_state}
+use Rattle.log_seams.specs.MemDisk.{first_of, bytes_of, events_of, disk_state, lacks_room}
 use Rattle.log_seams.specs.declared.mem_disk.MemDisk.{MemDisk}
 use Rattle.log_seams.specs.declared.mem_disk.Call.{Call}
 use Rattle.log_seams.specs.declared.mem_disk.Call.TheVariants.{Wrote, Read, Synced, Other}
@@ -204,3 +204,7 @@ left_image pending first (wrote done at bytes ∷ older) = inr (left_by pending 
 left_image pending first (read at n ∷ older) = left_image pending first older
 left_image pending first (synced ∷ older) = refl
 left_image pending first (other ∷ older) = left_image pending first older
+
+-- a write for which there is room begins within the bytes
+pub within_end : (m : MemDisk) (at n : ℕ) → lacks_room m at n ≡ false → at ≤ length (bytes_of m)
+within_end m at n none = search (rules, nat_tests, none)

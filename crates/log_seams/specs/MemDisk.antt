@@ -40,9 +40,9 @@ disk_state m = record {
 abbrev pub fails_next : MemDisk → Bool
 fails_next m = nat_le m.call_limit (length m.calls.items) || list_any (λ n. nat_eq n (length m.calls.items)) m.fails.items
 
--- a write of n bytes there would take the disk or the recorded bytes past the room
+-- a write of n bytes there would begin behind the end, or take the disk or the recorded bytes past the room
 abbrev pub lacks_room : MemDisk → ℕ → ℕ → Bool
-lacks_room m at n = nat_lt m.room (at + n) || nat_lt m.room (length m.log.items + n)
+lacks_room m at n = nat_lt (length m.bytes.items) at || nat_lt m.room (at + n) || nat_lt m.room (length m.log.items + n)
 
 -- how a disk is bounded and what it began with stay
 pub record SameBut (old new : MemDisk) : Type 0 where

@@ -5,7 +5,7 @@
 //! crash; all other bytes stay. After a sync that succeeds a crash leaves what a read gives. A call
 //! that failed raised the disk's count of faults; a write or a sync that failed leaves the same
 //! freedom over its range.
-ghost use Rattle.std.specs.Prelude.{◌≡◌, ◌+◌, ◌^◌, ◌≤◌, List, ℕ, length, IfSome};
+ghost use Rattle.std.specs.Prelude.{◌≡◌, ◌+◌, ◌^◌, ◌≤◌, List, ℕ, length};
 ghost use Rattle.log_seams.specs.Disk.{DiskState, IsLawful, HasLength, HasRead, HasWritten, HasSynced};
 
 use crate::Failed;
@@ -26,10 +26,10 @@ pub trait Disk {
     fn read(&mut self, at: u64, buf: &mut [u8]) -> Result<usize, Failed>
         ensures { HasRead at buf.old buf.new result (state self.old) (state self.new) };
 
-    /// Writes over what stands at the place `at`, and past the end. Until a sync succeeds a crash may
-    /// leave any bytes in the range. Fails only where the count of faults rose.
+    /// Writes over what stands at the place `at`, and past the end. A write that would begin behind the
+    /// end may fail. Until a sync succeeds a crash may leave any bytes in the range. Fails only where the
+    /// count of faults rose.
     fn write(&mut self, at: u64, bytes: &[u8]) -> Result<(), Failed>
-        requires place { IfSome (state self.old).seen (λ old. at ≤ length old) }
         requires end { at + length bytes.now ≤ 2 ^ 62 }
         ensures { HasWritten at bytes.now result (state self.old) (state self.new) };
 

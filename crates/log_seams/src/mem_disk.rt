@@ -185,9 +185,9 @@ impl MemDisk {
     ghost use Rattle.log_seams.specs.MemDisk.{first_of, bytes_of, calls_of, events_of, events_until, disk_state, fails_next, lacks_room, SameBut, Recorded, IsNewDisk};
 
     /// A disk that begins with these bytes, which may be more than `room`. It fails at each write that
-    /// would end past `room` or take the sum of the bytes that it records past it, at the calls whose
-    /// numbers, from 0, stand in `fails`, and at each call from the number `call_limit` on, which it
-    /// does not record. All its room is taken here.
+    /// would begin behind its end, would end past `room`, or would take the sum of the bytes that it
+    /// records past it; at the calls whose numbers, from 0, stand in `fails`; and at each call from the
+    /// number `call_limit` on, which it does not record. All its room is taken here.
     pub fn new(
         alloc: Global,
         bytes: Text,
@@ -264,12 +264,15 @@ impl MemDisk {
         self.calls.len() >= self.call_limit || self.fails.contains(&(self.calls.len() as u64))
     }
 
-    // Whether a write there would go past the room.
+    // Whether a write there would begin behind the end, or go past the room.
     fn lacks_room(&self, at: u64, count: usize) -> bool
         requires { at + count < 2 ^ 63 }
         ensures { result ≡ lacks_room self.now at count }
     {
-        at as usize + count > self.room || count > self.room || self.log.len() > self.room - count
+        at as usize > self.bytes.len()
+            || at as usize + count > self.room
+            || count > self.room
+            || self.log.len() > self.room - count
     }
 
     // Records a call that changed no byte.
@@ -286,7 +289,6 @@ impl MemDisk {
 
     // Records a write, which is done or has failed.
     fn put(&mut self, at: u64, bytes: &[u8], done: bool)
-        requires place { at ≤ length (bytes_of self.old) }
         requires within { lacks_room self.old at (length bytes.now) ≡ false }
         requires room { calls_of self.old < self.old.call_limit }
         ensures events { events_of self.new ≡ wrote done at bytes.now ∷ events_of self.old }
@@ -319,7 +321,7 @@ impl MemDisk {
 }
 
 impl Disk for MemDisk {
-    ghost use Rattle.std.specs.Prelude.{not, ◌||◌, is_ok, OnErr, IfSome};
+    ghost use Rattle.std.specs.Prelude.{not, ◌||◌, is_ok, OnErr};
     ghost use Rattle.log_seams.specs.Disk.{HasLength, HasRead, HasWritten, HasSynced};
     ghost use Rattle.log_seams.specs.MemDisk.{disk_state, bytes_of, events_of, Recorded, fails_next, lacks_room};
 
@@ -352,7 +354,6 @@ impl Disk for MemDisk {
     }
 
     fn write(&mut self, at: u64, bytes: &[u8]) -> Result<(), Failed>
-        requires place { IfSome (disk_state self.old).seen (λ old. at ≤ length old) }
         requires end { at + length bytes.now ≤ 2 ^ 62 }
         ensures call { HasWritten at bytes.now result (disk_state self.old) (disk_state self.new) }
         ensures kept { OnErr result (bytes_of self.new ≡ bytes_of self.old) }

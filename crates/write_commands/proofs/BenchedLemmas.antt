@@ -15,7 +15,7 @@ use Rattle.disk_journal.specs.declared.refusals.CreateRefusal.{CreateRefusal}
 use Rattle.disk_journal.specs.declared.refusals.CreateRefusal.TheVariants.{DiskFault as CreateDiskFault, NotEmpty as CreateNotEmpty}
 use Rattle.generated_logs.specs.Logs.{content_of as generated}
 use Rattle.command_refusals.specs.Outside.{Outside}
-use Rattle.write_commands.specs.Benched.{AnswersBench, EndsBench, HasLogsCause, IsSpared, IsTakenWhole, MayRefuseLog, MeetsNoLimit, MetNoLimit, PrintsSummary, RefusesMaking, SumsUp, SumsUpAll, TakesLogs, TellsParts, TellsSummary, as_made, at_moment, default_header, generated_names, with_logs, segment_rows}
+use Rattle.write_commands.specs.Benched.{AnswersBench, EndsBench, HasLogsCause, IsSpared, IsTakenWhole, MayRefuseLog, MeetsNoLimit, MetNoLimit, PrintsSummary, RefusesMaking, SumsUp, SumsUpAll, TakesLogs, TellsParts, TellsSummary, as_made, at_moment, default_header, made_bytes, generated_names, with_logs, segment_rows}
 use Rattle.command_refusals.specs.Ending.{EndsWith, RoseIn}
 use Rattle.write_commands.specs.Ingested.{FileOutcome, CameOfFile, HasFileCause, StandsForEither, TakesIn}
 use Rattle.command_refusals.specs.Outcome.{answer_of, of_add, of_read}
@@ -117,7 +117,7 @@ module _ (number lines workers : ℕ) (seen : Outside) (old new : DiskState) (st
 
   none_damaged : (at : ℕ) → RefusedAt at new.seen → ⊥
   none_damaged at damaged =
-      let from = subst (λ (o : Option (List ℕ)). IfSome o (λ was. (was ≡ []) × ((t : ℕ) × (old.clock ≤ t) × ((bytes : List ℕ) × ((stood : StandsFor bytes default_header []) × Leaves (at_moment t old) bytes stood))))) none takes.disk in
+      let from = subst (λ (o : Option (List ℕ)). IfSome o (λ was. (was ≡ []) × ((t : ℕ) × ((old.clock ≤ t) × new.since t made_bytes) × ((bytes : List ℕ) × ((stood : StandsFor bytes default_header []) × Leaves (at_moment t old) bytes stood))))) none takes.disk in
       let leaves = from.1.2.1.1.leaves in
       stands default_header _ leaves.tail at new.seen (told ∙ ap is_some none) leaves.reads damaged
 

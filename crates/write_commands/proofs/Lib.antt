@@ -10,6 +10,7 @@ pub mod FittingLemmas
 pub mod InTurnLemmas
 pub mod JobLemmas
 pub mod JoinLemmas
+pub mod KnownLemmas
 pub mod LeavesLemmas
 pub mod LineLemmas
 pub mod LogCauseLemmas

@@ -6,7 +6,7 @@ use Rattle.std.proofs.lemmas.List.{length-append}
 use Rattle.std.proofs.lemmas.List.Concat.{length-flat_map}
 use Rattle.std.proofs.lemmas.Option.{IfSome_then}
 use Rattle.std.proofs.lemmas.List.Elements.{All-cons, All-head, All-nil, All-tail, All-weaker}
-use Rattle.log_seams.specs.Disk.{DiskState, Only}
+use Rattle.log_seams.specs.Disk.{DiskState, IsLawful, Only}
 use Rattle.log_seams.specs.Outside.{CountsOf, Rose}
 use Rattle.logtype_text.specs.Laws.{OneListOfParts}
 use Rattle.record_format.specs.declared.header.Header.{Header}
@@ -26,15 +26,15 @@ use Rattle.archive_meaning.specs.Held.{Held, nothing_held}
 use Rattle.archive_meaning.specs.Spelled.{end_of}
 use Rattle.archive_meaning.specs.Stands.{StandsFor}
 use Rattle.archive_meaning.proofs.RunLemmas.{one_held}
-use Rattle.archive_check.specs.Checked.{DamagedAt}
-use Rattle.archive_meaning.proofs.UniqueLemmas.{journals_are_whole}
+use Rattle.archive_open.specs.Shown.{StandsForNone}
+use Rattle.command_refusals.specs.GoesOn.{DiskGoesOn}
 use Rattle.command_refusals.specs.Outside.{Outside}
 use Rattle.write_commands.specs.Benched.{AnswersBench, EndsLogs, FromEmpty, HasLogsCause, IsTakenWhole, RefusesLogs, RefusesMaking, TakesLogs, as_made, at_moment, default_header, generated_names, made_bytes, segment_rows, with_logs}
 use Rattle.command_refusals.specs.Ending.{SaysIn, Stayed, TookNothing}
 use Rattle.command_refusals.specs.Outcome.{answer_of, of_create}
-use Rattle.command_refusals.specs.Reading.{OverJournal}
+use Rattle.command_refusals.specs.Reading.{IsArchive, OverJournal}
 use Rattle.command_refusals.specs.Refusal.{line_of, status_of}
-use Rattle.write_commands.specs.Ingested.{FileOutcome, FitIn, FromArchive, HasCallCause, LeavesJournal, TakesIn, TakesNothing}
+use Rattle.write_commands.specs.Ingested.{FileOutcome, FitIn, FromArchive, GoPast, HasCallCause, LeavesJournal, TakesIn, TakesNothing}
 use Rattle.write_commands.specs.Names.{IsFirstTooLong, IsShortName}
 use Rattle.write_commands.specs.StepsCauses.{CameIn, HaveFileCauses, IsTarget, Logs, logs_of}
 use Rattle.command_refusals.specs.declared.refusal.Refusal.{Refusal}
@@ -62,6 +62,11 @@ empty_stands = record {
   stands = record { gate = CLOSED_GATE; rest = []; spells = ap (λ bytes. bytes ++ CLOSED_GATE ∷ []) (sym (append-nil (header_bytes default_header))); closed = λ e. absurd (cc (e)) };
 }
 
+-- the bytes that were made are an archive
+pub made_archive : (told : Option (List ℕ)) → IfSome told (λ bytes. bytes ≡ header_bytes default_header ++ CLOSED_GATE ∷ []) → IfSome told IsArchive
+made_archive None made = tt
+made_archive (Some bytes) made = record { h = default_header; es = []; stands = subst (λ b. StandsFor b default_header []) (sym made) empty_stands }
+
 -- the names of the four logs take few bytes
 text_size : (text : List ℕ) → length (text_bytes text) ≡ 4 + length text
 text_size text = omega (arith, length-append (four_bytes (length text)) text, length-four_bytes (length text))
@@ -84,19 +89,19 @@ All-back : {X : Type 0} (P : X → Type 0) (xs ys : List X) → All P (xs ++ ys)
 All-back P [] ys all = all
 All-back P (x ∷ xs) ys all = All-back P xs ys (All-tail P x (xs ++ ys) all)
 
-module _ (old mid : DiskState) (made : MakesEmpty default_header old mid) (tells : is_some mid.seen ≡ is_some old.seen) (later : old.clock ≤ mid.clock) (steady : mid.faults ≡ old.faults) where
-  from_empty : (P : (h : Header) (before : List JournalEntry) (bytes : List ℕ) → StandsFor bytes h before → Type 0) (Q : DiskState → (bytes : List ℕ) → StandsFor bytes default_header [] → Type 0) → FromArchive mid P
-      → ((bytes : List ℕ) (stood : StandsFor bytes default_header []) → P default_header [] bytes stood → Q (at_moment mid.clock old) bytes stood) → FromEmpty old Q
-  from_empty P Q from step = go old.seen mid.seen made.none made.made tells made.synced from
+module _ (old mid : DiskState) (made : MakesEmpty default_header old mid) (tells : is_some mid.seen ≡ is_some old.seen) (later : old.clock ≤ mid.clock) (steady : mid.faults ≡ old.faults) (law : IsLawful mid) where
+  from_empty : (new : DiskState) → DiskGoesOn mid new → (P : (h : Header) (before : List JournalEntry) (bytes : List ℕ) → StandsFor bytes h before → Type 0) (Q : DiskState → (bytes : List ℕ) → StandsFor bytes default_header [] → Type 0) → FromArchive mid P
+      → ((bytes : List ℕ) (stood : StandsFor bytes default_header []) → P default_header [] bytes stood → Q (at_moment mid.clock old) bytes stood) → FromEmpty old new Q
+  from_empty new goes P Q from step = go old.seen mid.seen made.none made.made tells made.synced law.reads_as from
     where
-      go : (was now : Option (List ℕ)) → IfSome was (λ told. told ≡ []) → IfSome now (λ told. told ≡ header_bytes default_header ++ CLOSED_GATE ∷ []) → is_some now ≡ is_some was → Only now mid.images
+      go : (was now : Option (List ℕ)) → IfSome was (λ told. told ≡ []) → IfSome now (λ told. told ≡ header_bytes default_header ++ CLOSED_GATE ∷ []) → is_some now ≡ is_some was → Only now mid.images → IfSome now mid.images
           → IfSome now (λ bytes. (h : Header) (before : List JournalEntry) (stood : StandsFor bytes h before) → ((c : List ℕ) → mid.images c → StandsFor c h before) → P h before bytes stood)
-          → IfSome was (λ w. (w ≡ []) × ((t : ℕ) × (old.clock ≤ t) × ((bytes : List ℕ) × ((stood : StandsFor bytes default_header []) × Q (at_moment t old) bytes stood))))
-      go None now none made tells only from = tt
-      go (Some was) None none made tells only from = absurd (cc (tells))
-      go (Some was) (Some bytes) none made tells only from =
+          → IfSome was (λ w. (w ≡ []) × ((t : ℕ) × ((old.clock ≤ t) × new.since t made_bytes) × ((bytes : List ℕ) × ((stood : StandsFor bytes default_header []) × Q (at_moment t old) bytes stood))))
+      go None now none made tells only reads from = tt
+      go (Some was) None none made tells only reads from = absurd (cc (tells))
+      go (Some was) (Some bytes) none made tells only reads from =
           let stood : StandsFor bytes default_header [] = subst (λ b. StandsFor b default_header []) (sym made) empty_stands in
-          (none, (mid.clock, later, (bytes, (stood, step bytes stood (from default_header [] stood (λ c image. subst (λ b. StandsFor b default_header []) (sym (only c image)) stood))))))
+          (none, (mid.clock, (later, goes.moments.keeps mid.clock made_bytes (omega arith) (law.counts_now mid.clock made_bytes (omega arith) (subst mid.images made reads))), (bytes, (stood, step bytes stood (from default_header [] stood (λ c image. subst (λ b. StandsFor b default_header []) (sym (only c image)) stood))))))
 
   -- where the bytes are told, they stand for the empty journal
   told_empty : (R : List ℕ → Type 0) → IfSome mid.seen R → ((bytes : List ℕ) → StandsFor bytes default_header [] → R bytes → ⊥) → IfSome old.seen (λ _. ⊥)
@@ -117,14 +122,14 @@ module _ (old mid : DiskState) (made : MakesEmpty default_header old mid) (tells
     since = leaves.since;
   }
 
-  nothing_from : (new : DiskState) → FromArchive mid (λ h before bytes stood. TakesNothing h before mid new) → FromEmpty old (λ from bytes stood. TakesNothing default_header [] from new)
-  nothing_from new from =
-      from_empty (λ h before bytes stood. TakesNothing h before mid new) (λ start bytes stood. TakesNothing default_header [] start new) from (λ bytes stood nothing. record { leaves = leaves_from [] new nothing.leaves })
+  nothing_from : (new : DiskState) → DiskGoesOn mid new → FromArchive mid (λ h before bytes stood. TakesNothing h before mid new) → FromEmpty old new (λ from bytes stood. TakesNothing default_header [] from new)
+  nothing_from new goes from =
+      from_empty new goes (λ h before bytes stood. TakesNothing h before mid new) (λ start bytes stood. TakesNothing default_header [] start new) from (λ bytes stood nothing. record { leaves = leaves_from [] new nothing.leaves })
 
-  takes_from : (content : List ℕ → Option (List ℕ)) (came : List FileOutcome) (new : DiskState) → FromArchive mid (λ h before bytes stood. TakesIn segment_rows content h before stood generated_names came mid new)
-      → FromEmpty old (λ from bytes stood. TakesIn segment_rows content default_header [] stood generated_names came from new)
-  takes_from content came new from =
-      from_empty (λ h before bytes stood. TakesIn segment_rows content h before stood generated_names came mid new) (λ start bytes stood. TakesIn segment_rows content default_header [] stood generated_names came start new) from
+  takes_from : (content : List ℕ → Option (List ℕ)) (came : List FileOutcome) (new : DiskState) → DiskGoesOn mid new → FromArchive mid (λ h before bytes stood. TakesIn segment_rows content h before stood generated_names came mid new)
+      → FromEmpty old new (λ from bytes stood. TakesIn segment_rows content default_header [] stood generated_names came from new)
+  takes_from content came new goes from =
+      from_empty new goes (λ h before bytes stood. TakesIn segment_rows content h before stood generated_names came mid new) (λ start bytes stood. TakesIn segment_rows content default_header [] stood generated_names came start new) from
       (λ bytes stood takes. record { added = takes.added; each = takes.each; leaves = leaves_from _ new takes.leaves; files = takes.files; content_is = takes.content_is; fronts = takes.fronts; cuts = takes.cuts })
 
   -- ---- causes
@@ -144,9 +149,9 @@ module _ (old mid : DiskState) (made : MakesEmpty default_header old mid) (tells
   none_full : (end need : ℕ) → end ≡ end_of default_header [] → need ≡ files_size generated_names → default_header.length_limit < end + need → ⊥
   none_full end need at is full = omega (arith, at, is, full, empty_size, names_size)
 
-  none_seen : (told : Option (List ℕ)) → IfSome told (λ w. (w ≡ []) × ((t : ℕ) × (old.clock ≤ t) × ((bytes : List ℕ) × (StandsFor bytes default_header [] × ⊥)))) → IfSome told (λ _. ⊥)
-  none_seen None holds = tt
-  none_seen (Some was) (none, (t, low, (bytes, (stood, bad)))) = bad
+  none_seen : (new : DiskState) (told : Option (List ℕ)) → IfSome told (λ w. (w ≡ []) × ((t : ℕ) × ((old.clock ≤ t) × new.since t made_bytes) × ((bytes : List ℕ) × (StandsFor bytes default_header [] × ⊥)))) → IfSome told (λ _. ⊥)
+  none_seen new None holds = tt
+  none_seen new (Some was) (none, (t, low, (bytes, (stood, bad)))) = bad
 
   over_told : (P : Held → Type 0) (told : Option (List ℕ)) → OverJournal told P → IfSome told (λ bytes. (h : Header) (es : List JournalEntry) (stood : StandsFor bytes h es) → P stood.legal.held)
   over_told P None over = tt
@@ -157,18 +162,18 @@ module _ (old mid : DiskState) (made : MakesEmpty default_header old mid) (tells
       let nothing : stood.legal.held ≡ nothing_held = one_held default_header nothing_held stood.legal.held nothing_held [] stood.legal.run refl in
       omega (arith, four, many, over default_header [] stood, ap (λ (k : Held). length k.names) nothing)
 
-  cause_made : (new : DiskState) (refusal : AddRefusal) → HasCallCause generated_names mid new refusal → HasLogsCause old new refusal
-  cause_made new (NameTooLong index) cause = none_long index cause
-  cause_made new (TooManyFiles held more) (inl (short, zero, many)) = absurd (omega (arith, short.count_is, many))
-  cause_made new (TooManyFiles held more) (inr (refuses, counted, over)) =
+  cause_made : (new : DiskState) → DiskGoesOn mid new → (refusal : AddRefusal) → HasCallCause generated_names mid new refusal → HasLogsCause old new refusal
+  cause_made new goes (NameTooLong index) cause = none_long index cause
+  cause_made new goes (TooManyFiles held more) (inl (short, zero, many)) = absurd (omega (arith, short.count_is, many))
+  cause_made new goes (TooManyFiles held more) (inr (refuses, counted, over)) =
       told_empty (λ bytes. (h : Header) (es : List JournalEntry) (stood : StandsFor bytes h es) → held ≡ length stood.legal.held.names) (over_told (λ (k : Held). held ≡ length k.names) mid.seen over) (few_held held more counted refuses.1)
-  cause_made new DiskFault cause = subst (λ n. Rose n new.faults) steady cause
-  cause_made new (Damaged at) cause = told_empty (λ bytes. DamagedAt at bytes) cause (λ bytes stood damaged. journals_are_whole bytes default_header [] at stood damaged)
-  cause_made new OutOfMemory cause = tt
-  cause_made new (ArchiveFull end need) cause =
-      none_seen old.seen
-      (from_empty (λ h before bytes stood. (end ≡ end_of h before) × (need ≡ files_size generated_names) × (h.length_limit < end + need)) (λ start bytes stood. ⊥) cause
-      (λ bytes stood full. none_full end need full.0 full.1 full.2))
+  cause_made new goes DiskFault cause = subst (λ n. Rose n new.faults) steady cause.0
+  cause_made new goes (Damaged at) cause = told_empty StandsForNone cause (λ bytes stood none. none default_header [] stood)
+  cause_made new goes OutOfMemory cause = tt
+  cause_made new goes (ArchiveFull end need) cause =
+      none_seen new old.seen
+      (from_empty new goes (λ h before bytes stood. GoPast generated_names h before (length stood.legal.held.names) end need) (λ start bytes stood. ⊥) cause
+      (λ bytes stood full. none_full end need full.ends full.needs full.past))
 
   -- ---- what came of the logs
 
@@ -196,25 +201,25 @@ module _ (old mid : DiskState) (made : MakesEmpty default_header old mid) (tells
         in_turn = have.in_turn;
       }
 
-  all_taken : (number lines : ℕ) (came : List FileOutcome) (new : DiskState) → map (λ (c : FileOutcome). c.name) came ≡ generated_names → FromEmpty old (λ from bytes stood. TakesIn segment_rows (generated number lines) default_header [] stood generated_names came from new)
+  all_taken : (number lines : ℕ) (came : List FileOutcome) (new : DiskState) → map (λ (c : FileOutcome). c.name) came ≡ generated_names → FromEmpty old new (λ from bytes stood. TakesIn segment_rows (generated number lines) default_header [] stood generated_names came from new)
       → All IsTakenWhole came → IfSome old.seen (λ _. sum_by (λ (c : FileOutcome). c.messages) came ≡ 4 * lines)
   all_taken number lines came new are takes whole = IfSome_then old.seen takes (λ was took. all_counted number lines came took.1.2.1.1.files are took.1.2.1.1.fronts whole)
 
   -- ---- the answer
 
-  pub answers_made : OneListOfParts → (number lines workers : ℕ) (seen : Outside) (new : DiskState) (status : ℕ) → is_some new.seen ≡ is_some mid.seen → EndsLogs (generated number lines) workers seen mid new status → AnswersBench number lines workers seen old new status
-  answers_made one number lines workers seen new status told (inl refused) =
+  pub answers_made : OneListOfParts → (number lines workers : ℕ) (seen : Outside) (new : DiskState) (status : ℕ) → DiskGoesOn mid new → EndsLogs (generated number lines) workers seen mid new status → AnswersBench number lines workers seen old new status
+  answers_made one number lines workers seen new status goes (inl refused) =
       let refuses : RefusesLogs seen old new status = record {
         refusal = refused.refusal;
         ends = refused.ends;
         nothing = refused.nothing;
         sink = refused.sink;
-        cause = cause_made new refused.refusal refused.cause;
-        disk = nothing_from new refused.disk;
+        cause = cause_made new goes refused.refusal refused.cause;
+        disk = nothing_from new goes refused.disk;
       } in
-      bench_answers number lines workers seen old new status (told ∙ tells) (inr (inl refuses))
-  answers_made one number lines workers seen new status told (inr adds) =
-      let disk = takes_from (generated number lines) adds.came new adds.disk in
+      bench_answers number lines workers seen old new status (goes.tells ∙ tells) (inr (inl refuses))
+  answers_made one number lines workers seen new status goes (inr adds) =
+      let disk = takes_from (generated number lines) adds.came new goes adds.disk in
       let causes = causes_from (logs_of (with_logs (generated number lines) seen)) workers segment_rows adds.came new adds.causes in
       let takes : TakesLogs number lines workers seen old new status = record {
         came = adds.came;
@@ -222,12 +227,12 @@ module _ (old mid : DiskState) (made : MakesEmpty default_header old mid) (tells
         disk = disk;
         each = file_causes workers segment_rows generated_names (with_logs (generated number lines) seen) (as_made old) new adds.came adds.names_are causes;
         in_turn = full_in_turn workers segment_rows (with_logs (generated number lines) seen) (as_made old) new adds.came causes;
-        fits = made_from (λ h before bytes stood. (book : Which) → FitIn (generated number lines) h before adds.came book) (all_fit segment_rows one (generated number lines) generated_names adds.came mid new told adds.disk);
+        fits = made_from (λ h before bytes stood. (book : Which) → FitIn (generated number lines) h before adds.came book) (all_fit segment_rows one (generated number lines) generated_names adds.came mid new goes.tells adds.disk);
         spared = adds.spared;
         all = all_taken number lines adds.came new adds.names_are disk;
         told = ⊎_elim (λ parts. inl parts) (λ sums. inr (sums_sooner adds.came seen old mid new status (omega (arith, steady)) sums)) adds.told;
       } in
-      bench_answers number lines workers seen old new status (told ∙ tells) (inr (inr takes))
+      bench_answers number lines workers seen old new status (goes.tells ∙ tells) (inr (inr takes))
 
 -- the archive was not made
 refused_by : (seen : Outside) (old new : DiskState) (status : ℕ) (outcome : Result Unit CreateRefusal) (refusal : Refusal) → Some refusal ≡ option_map of_create (answer_of outcome) → status ≡ status_of refusal → SaysIn seen (line_of [] refusal)

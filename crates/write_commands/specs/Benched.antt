@@ -152,11 +152,11 @@ as_made d = record {
 abbrev pub at_moment : ℕ → DiskState → DiskState
 at_moment t d = record { seen = d.seen; images = d.images; clock = t; since = d.since; ranges = d.ranges; faults = d.faults }
 
--- Where the disk tells its bytes, it had none, and an empty archive was made of it. From some moment of the call on this
--- holds of it.
-abbrev pub FromEmpty : DiskState → (DiskState → (bytes : List ℕ) → StandsFor bytes default_header [] → Type 0) → Type 0
-FromEmpty old P =
-    IfSome old.seen (λ was. (was ≡ []) × ((t : ℕ) × (old.clock ≤ t) × ((bytes : List ℕ) × ((stood : StandsFor bytes default_header []) × P (at_moment t old) bytes stood))))
+-- Where the disk tells its bytes, it had none, and an empty archive was made of it: from a moment of the call on, at which a crash left that archive, this holds
+-- of the disk.
+abbrev pub FromEmpty : DiskState → DiskState → (DiskState → (bytes : List ℕ) → StandsFor bytes default_header [] → Type 0) → Type 0
+FromEmpty old new P =
+    IfSome old.seen (λ was. (was ≡ []) × ((t : ℕ) × ((old.clock ≤ t) × new.since t made_bytes) × ((bytes : List ℕ) × ((stood : StandsFor bytes default_header []) × P (at_moment t old) bytes stood))))
 
 -- The archive was not made.
 pub record RefusesMaking (seen : Outside) (old new : DiskState) (status : ℕ) : Type 0 where
@@ -182,14 +182,14 @@ pub record RefusesLogs (seen : Outside) (old new : DiskState) (status : ℕ) : T
   pub nothing : TookNothing seen.out
   pub sink : Stayed seen.out_faults
   pub cause : HasLogsCause old new refusal
-  pub disk : FromEmpty old (λ from bytes stood. TakesNothing default_header [] from new)
+  pub disk : FromEmpty old new (λ from bytes stood. TakesNothing default_header [] from new)
 
 -- The four logs were taken into the archive that was made, and it was told what came of them. Of each the cause is told as
 -- `ingest` tells it, with one worker too, and what was taken in fits in the dictionaries. Where all are whole, each has as many messages as lines.
 pub record TakesLogs (number lines workers : ℕ) (seen : Outside) (old new : DiskState) (status : ℕ) : Type 0 where
   pub came : List FileOutcome
   pub names_are : map (λ c. c.name) came ≡ generated_names
-  pub disk : FromEmpty old (λ from bytes stood. TakesIn segment_rows (generated number lines) default_header [] stood generated_names came from new)
+  pub disk : FromEmpty old new (λ from bytes stood. TakesIn segment_rows (generated number lines) default_header [] stood generated_names came from new)
   pub each : All (CameOfFile segment_rows generated_names (with_logs (generated number lines) seen) (as_made old) new) came
   pub in_turn : workers ≡ 1 → AreFullInTurn segment_rows (generated number lines) (as_made old) came
   pub fits : AllFit (generated number lines) (as_made old) came

@@ -3,7 +3,7 @@
 use Rattle.std.specs.Prelude.{◌≡◌, ◌≢◌, ◌+◌, ◌<◌, ◌≤◌, ◌⊎◌, ℕ, Bool, true, false, List, [], ◌∷◌, ◌++◌, length, map, take, All, Option, Some, None, IfSome, slice_get}
 use Rattle.std.specs.List.{AllZip, Contains, filter_map, flat_map}
 use mathlib.Core.List.{IsPrefix}
-use Rattle.log_seams.specs.Disk.{DiskState}
+use Rattle.log_seams.specs.Disk.{DiskState, NoMore}
 use Rattle.log_seams.specs.Outside.{Rose}
 use Rattle.record_format.specs.declared.header.Header.{Header}
 use Rattle.row_codec.specs.Messages.{IsTypeOf, IsWordOf}
@@ -13,7 +13,7 @@ use Rattle.archive_meaning.specs.declared.entry.JournalEntry.TheVariants.{Files,
 use Rattle.archive_meaning.specs.Held.{File, content_of}
 use Rattle.archive_meaning.specs.Stands.{StandsFor}
 use Rattle.archive_meaning.specs.Spelled.{end_of}
-use Rattle.archive_check.specs.Checked.{DamagedAt}
+use Rattle.archive_open.specs.Shown.{StandsForNone}
 use Rattle.disk_seal.specs.Registered.{files_size}
 use Rattle.row_codec.specs.declared.namer.Which.{Which}
 use Rattle.ingest_workers.specs.Causes.{limit_of}
@@ -28,6 +28,7 @@ use Rattle.sink_pieces.specs.Output.{Grew, GrewByFront}
 use Rattle.command_refusals.specs.Outside.{Outside}
 use Rattle.file_lines.specs.Directory.{FileLine, directory_from}
 use Rattle.command_refusals.specs.Ending.{EndsWith, EndsWithoutMemory, RefusesAtOnce, RoseIn, SaysIn, Stayed, TookNothing}
+use Rattle.write_commands.specs.Known.{KnownArchive, over}
 use Rattle.write_commands.specs.Names.{RefusesMore, RefusesNames}
 use Rattle.command_refusals.specs.LogLimits.{IsLong, most_messages}
 use Rattle.command_refusals.specs.Reading.{OverJournal}
@@ -201,18 +202,33 @@ pub record CameOfFile (rows : ℕ) (names : List (List ℕ)) (seen : Outside) (o
   pub cause : HasFileCause rows names seen old new c c.refusal
   pub part : c.refusal ≢ None → c.whole ≡ false
 
--- What a refusal of the whole call rests on.
+-- the bytes are as they were, and no image came: nothing was written
+abbrev pub WroteNothing : DiskState → DiskState → Type 0
+WroteNothing old new = (new.seen ≡ old.seen) × NoMore old.images new.images
+
+-- with these names the archive of before has not too many files
+abbrev pub AreFewFor : List (List ℕ) → DiskState → Type 0
+AreFewFor names old = FromArchive old (λ h before bytes stood. RefusesMore (length stood.legal.held.names) (length names) None)
+
+-- The names go past the archive's limit of length: the archive ends there, and their record needs so many bytes. They are not too many.
+pub record GoPast (names : List (List ℕ)) (h : Header) (before : List JournalEntry) (held end need : ℕ) : Type 0 where
+  pub ends : end ≡ end_of h before
+  pub needs : need ≡ files_size names
+  pub past : h.length_limit < end + need
+  pub few : RefusesMore held (length names) None
+
+-- What a refusal of the whole call rests on. That there are too many files is found before the disk is written and before it is asked whether the names fit.
 abbrev pub HasCallCause : List (List ℕ) → DiskState → DiskState → AddRefusal → Type 0
 HasCallCause names old new (NameTooLong index) = RefusesNames names (Some (NameTooLong index))
 HasCallCause names old new (TooManyFiles held more) =
     RefusesNames names (Some (TooManyFiles held more))
     ⊎ (RefusesMore held more (Some (TooManyFiles held more)) × (more ≡ length names)
     × OverJournal old.seen (λ journal. held ≡ length journal.names))
-HasCallCause names old new AddRefusal.DiskFault = Rose old.faults new.faults
-HasCallCause names old new (AddRefusal.Damaged at) = IfSome old.seen (DamagedAt at)
+HasCallCause names old new AddRefusal.DiskFault = Rose old.faults new.faults × (WroteNothing old new ⊎ AreFewFor names old)
+HasCallCause names old new (AddRefusal.Damaged at) = IfSome old.seen StandsForNone
 HasCallCause names old new AddRefusal.OutOfMemory = Unit {0}
 HasCallCause names old new (AddRefusal.ArchiveFull end need) =
-    FromArchive old (λ h before bytes stood. (end ≡ end_of h before) × (need ≡ files_size names) × (h.length_limit < end + need))
+    FromArchive old (λ h before bytes stood. GoPast names h before (length stood.legal.held.names) end need)
 
 -- ---- a full dictionary with one worker, which takes the files in their order
 
@@ -323,7 +339,8 @@ pub record TakesFiles (workers rows : ℕ) (names : List (List ℕ)) (seen : Out
 abbrev pub EndsIngest : ℕ → ℕ → List (List ℕ) → Outside → DiskState → DiskState → ℕ → Type 0
 EndsIngest workers rows names seen old new status = RefusesIngest names seen old new status ⊎ TakesFiles workers rows names seen old new status
 
--- What `ingest` answers. Names that are refused by themselves are refused before all else, whatever the disk tells, and nothing is touched.
-pub record AnswersIngest (workers rows : ℕ) (names : List (List ℕ)) (seen : Outside) (old new : DiskState) (status : ℕ) : Type 0 where
+-- What `ingest` answers, whatever archive is known. Names that are refused by themselves are refused before all else, whatever the disk tells, and nothing is
+-- touched. What is said of the disk's bytes, and of the journal that they stand for, holds where they were those of the known archive at the start.
+pub record AnswersIngest (known : Option KnownArchive) (workers rows : ℕ) (names : List (List ℕ)) (seen : Outside) (old new : DiskState) (status : ℕ) : Type 0 where
   pub names_first : (refusal : AddRefusal) → RefusesNames names (Some refusal) → RefusesAtOnce seen old new status (of_add refusal)
-  pub ends : EndsIngest workers rows names seen old new status
+  pub ends : EndsIngest workers rows names seen (over known old old) (over known old new) status

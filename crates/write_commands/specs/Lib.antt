@@ -3,6 +3,7 @@ pub mod IngestPrints
 pub mod Ingested
 pub mod Jobs
 pub mod JournalLeft
+pub mod Known
 pub mod Made
 pub mod Names
 pub mod Naming

@@ -1,5 +1,5 @@
 //! The command `bench`: an archive of the generated logs, and its summary.
-ghost use Rattle.std.specs.Prelude.{◌≡◌, ◌+◌, ◌≤◌, ◌⊎◌, map, All, IsFalse, IsTrue, None};
+ghost use Rattle.std.specs.Prelude.{◌≡◌, ◌+◌, ◌≤◌, ◌⊎◌, map, All, IfSome, IsFalse, IsTrue, None};
 ghost use Rattle.std.specs.List.{sum_by};
 ghost use Rattle.log_seams.specs.Disk.{KeepsBytes};
 ghost use Rattle.generated_logs.specs.Logs.{content_of};
@@ -8,6 +8,7 @@ ghost use Rattle.ingest_fork.specs.declared.works.TheConstants.{MAX_WORKERS};
 ghost use Rattle.write_commands.specs.Benched.{AnswersBench, EndsLogs, SumsUp, TellsParts, generated_names};
 ghost use Rattle.command_refusals.specs.Outside.{AroundSinks};
 ghost use Rattle.command_refusals.specs.GoesOn.{DiskGoesOn};
+ghost use Rattle.command_refusals.specs.Reading.{IsArchive};
 ghost use Rattle.write_commands.specs.IngestPrints.{came_of};
 ghost use Rattle.write_commands.specs.declared.file_report.FileReport.{FileReport};
 
@@ -15,7 +16,6 @@ use crate::file_report::{FileReport, report_taken};
 use crate::ingest::{NewLogs, add_files};
 use crate::names::refuse_names;
 use crate::summary::summarize;
-use crate::telling::Telling;
 use command_refusals::{Refusal, refusal_of_add, refusal_of_create, refusal_of_read, report};
 use command_words::BenchWords;
 use disk_journal::create;
@@ -92,7 +92,7 @@ fn sum_up<R: Threads + Sync, D: Disk, K: Sink>(
 }
 
 /// Takes the four logs into the archive of a disk, and tells what came of them.
-fn add_logs<R: Threads + Wait + Sync, D: Telling + Send, K: Sink>(
+fn add_logs<R: Threads + Wait + Sync, D: Disk + Send, K: Sink>(
     rt: &R,
     alloc: Global,
     asked: BenchWords,
@@ -102,6 +102,7 @@ fn add_logs<R: Threads + Wait + Sync, D: Telling + Send, K: Sink>(
 ) -> u8
     requires lines { asked.lines ≤ 1000000 }
     requires workers { (1 ≤ asked.workers) × (asked.workers ≤ MAX_WORKERS) }
+    requires archive { IfSome (D.state disk.old).seen IsArchive }
     ensures ends { AroundSinks K.written K.faults out.old out.new err.old err.new (λ seen.
         EndsLogs (content_of asked.number asked.lines) asked.workers seen
         (D.state disk.old) (D.state disk.new) result) }
@@ -131,7 +132,7 @@ fn add_logs<R: Threads + Wait + Sync, D: Telling + Send, K: Sink>(
 /// Makes an archive with the default limits on an empty disk, takes the four generated logs into it,
 /// and prints how many messages there are, how many of them a pattern matches, and how many segments
 /// there are. Where a log is not whole, its line goes to `err` and nothing is printed.
-pub fn bench<R: Threads + Wait + Sync, D: Telling + Send, K: Sink>(
+pub fn bench<R: Threads + Wait + Sync, D: Disk + Send, K: Sink>(
     rt: &R,
     alloc: Global,
     asked: BenchWords,

@@ -1,5 +1,5 @@
 //! The command `ingest`: logs become the files of an archive.
-ghost use Rattle.std.specs.Prelude.{◌≡◌, ◌+◌, ◌≤◌, ℕ, List, [], length, map, slice_get, vec_len, vec_capacity, All, IfErr, IfOk, OnErr, OnOk, None, Some};
+ghost use Rattle.std.specs.Prelude.{◌≡◌, ◌+◌, ◌≤◌, ℕ, List, [], length, map, slice_get, vec_len, vec_capacity, All, IfErr, IfOk, IfSome, IsTrue, OnErr, OnOk, is_some, None, Some};
 ghost use Rattle.std.specs.List.{AllZip};
 ghost use Rattle.disk_journal.specs.Journal.{state_of};
 ghost use Rattle.disk_seal.specs.Opening.{MayOpen};
@@ -10,6 +10,7 @@ ghost use Rattle.log_sources.specs.Sources.{CameOf, is_opened, refusal_of, str_b
 ghost use Rattle.command_refusals.specs.GoesOn.{DiskGoesOn, OutsideGoesOn};
 ghost use Rattle.ingest_fork.specs.declared.works.TheConstants.{MAX_WORKERS};
 ghost use Rattle.write_commands.specs.Ingested.{EndsIngest, FromArchive, HasCallCause, TakesIn, TakesNothing};
+ghost use Rattle.write_commands.specs.Known.{over, told_if};
 ghost use Rattle.write_commands.specs.IngestPrints.{came_of, names_of};
 ghost use Rattle.write_commands.specs.Jobs.{DidJobs, IsNotBegun, IsToldBy, opens_of, refusal_by, sources_of};
 ghost use Rattle.write_commands.specs.StepsCauses.{AreFullInto, CameIn, HaveFileCauses, into_journal, logs_around};
@@ -17,14 +18,14 @@ ghost use Rattle.write_commands.specs.JournalLeft.{TakesInto};
 ghost use Rattle.write_commands.specs.Names.{RefusesNames};
 ghost use Rattle.write_commands.specs.Naming.{AreNumbered, HasGoneOn, IsNamed};
 ghost use Rattle.command_refusals.specs.Ending.{RefusesAtOnce};
-ghost use Rattle.command_refusals.specs.Reading.{OverJournal};
+ghost use Rattle.command_refusals.specs.Reading.{IsArchive, OverJournal};
 ghost use Rattle.command_refusals.specs.declared.outcome.AddRefusal.{AddRefusal};
 ghost use Rattle.command_refusals.specs.Outcome.{of_add};
 
 use crate::file_report::{FileReport, report_taken};
+use crate::founded::{Base, Founded, Lent};
 use crate::names::refuse_names;
 use crate::register::{Named, open_and_register};
-use crate::telling::{Telling, check_told};
 use command_refusals::{AddRefusal, PartCause, Refusal, refusal_of_add, report};
 use command_words::IngestWords;
 use dict_core::Book;
@@ -36,6 +37,7 @@ use log_sources::{LogSource, close_logs, open_logs};
 use logtype_text::one_list_of_parts;
 use sink_pieces::PrintRefusal;
 use std::alloc::{AllocError, Global};
+use std::marker::{Brand, PhantomData};
 use std::sync::Wait;
 use std::thread::Threads;
 
@@ -335,7 +337,7 @@ where
 }
 
 /// Adds the logs to the archive of a disk. Answers the number of the first new file.
-pub(crate) fn add_files<'a, R: Threads + Wait + Sync, H: Shelf, D: Telling + Send>(
+pub(crate) fn add_files<'a, R: Threads + Wait + Sync, H: Shelf, D: Disk + Send>(
     rt: &R,
     alloc: Global,
     asked: NewLogs<'a>,
@@ -351,6 +353,7 @@ where
     requires some { 1 ≤ length asked.files.now }
     requires none { taken.old.items ≡ [] }
     requires room { length asked.files.now ≤ vec_capacity taken.old }
+    requires archive { IfSome (D.state disk.old).seen IsArchive }
 
     // taken in
     ensures names { OnOk result
@@ -378,7 +381,6 @@ where
     ensures opens { (n : List ℕ) → H.open_faults shelf.old n ≤ H.open_faults shelf.new n }
     ensures reads { (n : List ℕ) → H.read_faults shelf.old n ≤ H.read_faults shelf.new n }
 {
-    check_told(alloc, disk)?;
     let header = start(disk)?;
     let mut journal = Journal::begin(disk, header);
     let named = open_and_register(alloc, &mut journal, asked.files)?;
@@ -387,8 +389,122 @@ where
     Ok(first)
 }
 
+/// The same over a disk that is lent, which is an archive where its bytes are to be told. Gives the disk
+/// back.
+fn add_lent<'a, 'd, R: Threads + Wait + Sync, H: Shelf, D: Disk + Send, L: Lent + Send>(
+    rt: &R,
+    alloc: Global,
+    asked: NewLogs<'a>,
+    shelf: &mut H,
+    disk: &'d mut D,
+    taken: &mut Vec<FileReport<'a>>,
+) -> (Result<u32, AddRefusal>, &'d mut D)
+where
+    H::Src: Send,
+    requires workers { (1 ≤ asked.workers) × (asked.workers ≤ MAX_WORKERS) }
+    requires segment { (1 ≤ asked.segment) × (asked.segment ≤ 65536) }
+    requires names { RefusesNames (map str_bytes asked.files.now) None }
+    requires some { 1 ≤ length asked.files.now }
+    requires none { taken.old.items ≡ [] }
+    requires room { length asked.files.now ≤ vec_capacity taken.old }
+    requires lent { disk.ghost_name ≡ L.name }
+    requires told { is_some (D.state disk.old).seen ≡ L.told }
+    requires archive { IsTrue L.tells → IfSome (D.state disk.old).seen IsArchive }
+
+    // taken in
+    ensures names { OnOk result.0
+        (names_of taken.new.items ≡ map str_bytes asked.entry.files.now) }
+    ensures number { IfOk result.0 (λ first.
+        OverJournal (told_if L.tells (D.state disk.old)).seen (λ journal. first ≡ length journal.names)) }
+    ensures taken { OnOk result.0 (FromArchive (told_if L.tells (D.state disk.old))
+        (λ h before bytes stood. TakesIn asked.entry.segment (H.content shelf.old) h before stood
+        (map str_bytes asked.entry.files.now) (map came_of taken.new.items)
+        (told_if L.tells (D.state disk.old)) (told_if L.tells (D.state result.1.now)))) }
+    ensures causes { OnOk result.0 (HaveFileCauses
+        (logs_around H.content H.open_faults H.read_faults shelf.old shelf.new)
+        asked.entry.workers asked.entry.segment (told_if L.tells (D.state disk.old))
+        (told_if L.tells (D.state result.1.now)) (map came_of taken.new.items)) }
+
+    // refused
+    ensures nothing { OnErr result.0 (FromArchive (told_if L.tells (D.state disk.old))
+        (λ h before bytes stood. TakesNothing h before
+        (told_if L.tells (D.state disk.old)) (told_if L.tells (D.state result.1.now)))) }
+    ensures cause { IfErr result.0 (HasCallCause (map str_bytes asked.entry.files.now)
+        (told_if L.tells (D.state disk.old)) (told_if L.tells (D.state result.1.now))) }
+
+    // whatever the answer
+    ensures back { result.1.ghost_name ≡ disk.entry.ghost_name }
+    ensures goes_on { DiskGoesOn (D.state disk.old) (D.state result.1.now) }
+    ensures logs { (n : List ℕ) → H.content shelf.new n ≡ H.content shelf.old n }
+    ensures opens { (n : List ℕ) → H.open_faults shelf.old n ≤ H.open_faults shelf.new n }
+    ensures reads { (n : List ℕ) → H.read_faults shelf.old n ≤ H.read_faults shelf.new n }
+{
+    let mut founded = Founded::<'d, D, L> {
+        disk,
+        lent: PhantomData,
+    };
+    let answer = add_files(rt, alloc, asked, shelf, &mut founded, taken);
+    let Founded { disk, .. } = founded;
+    (answer, disk)
+}
+
+/// The same over any disk: what is said of its bytes is said where they are those of the archive that
+/// is known.
+fn add_known<'a, R: Threads + Wait + Sync, H: Shelf, D: Disk + Send, B: Base>(
+    rt: &R,
+    alloc: Global,
+    asked: NewLogs<'a>,
+    shelf: &mut H,
+    disk: &mut D,
+    taken: &mut Vec<FileReport<'a>>,
+) -> Result<u32, AddRefusal>
+where
+    H::Src: Send,
+    requires workers { (1 ≤ asked.workers) × (asked.workers ≤ MAX_WORKERS) }
+    requires segment { (1 ≤ asked.segment) × (asked.segment ≤ 65536) }
+    requires names { RefusesNames (map str_bytes asked.files.now) None }
+    requires some { 1 ≤ length asked.files.now }
+    requires none { taken.old.items ≡ [] }
+    requires room { length asked.files.now ≤ vec_capacity taken.old }
+
+    // taken in
+    ensures names { OnOk result
+        (names_of taken.new.items ≡ map str_bytes asked.entry.files.now) }
+    ensures number { IfOk result (λ first.
+        OverJournal (over B.archive (D.state disk.old) (D.state disk.old)).seen
+        (λ journal. first ≡ length journal.names)) }
+    ensures taken { OnOk result (FromArchive (over B.archive (D.state disk.old)
+        (D.state disk.old)) (λ h before bytes stood. TakesIn asked.entry.segment (H.content shelf.old) h before stood
+        (map str_bytes asked.entry.files.now) (map came_of taken.new.items)
+        (over B.archive (D.state disk.old) (D.state disk.old))
+        (over B.archive (D.state disk.old) (D.state disk.new)))) }
+    ensures causes { OnOk result (HaveFileCauses
+        (logs_around H.content H.open_faults H.read_faults shelf.old shelf.new)
+        asked.entry.workers asked.entry.segment
+        (over B.archive (D.state disk.old) (D.state disk.old))
+        (over B.archive (D.state disk.old) (D.state disk.new)) (map came_of taken.new.items)) }
+
+    // refused
+    ensures nothing { OnErr result (FromArchive (over B.archive (D.state disk.old)
+        (D.state disk.old)) (λ h before bytes stood. TakesNothing h before
+        (over B.archive (D.state disk.old) (D.state disk.old))
+        (over B.archive (D.state disk.old) (D.state disk.new)))) }
+    ensures cause { IfErr result (HasCallCause (map str_bytes asked.entry.files.now)
+        (over B.archive (D.state disk.old) (D.state disk.old))
+        (over B.archive (D.state disk.old) (D.state disk.new))) }
+
+    // whatever the answer
+    ensures goes_on { DiskGoesOn (D.state disk.old) (D.state disk.new) }
+    ensures logs { (n : List ℕ) → H.content shelf.new n ≡ H.content shelf.old n }
+    ensures opens { (n : List ℕ) → H.open_faults shelf.old n ≤ H.open_faults shelf.new n }
+    ensures reads { (n : List ℕ) → H.read_faults shelf.old n ≤ H.read_faults shelf.new n }
+{
+    let (answer, _disk) = add_lent::<R, H, D, Brand>(rt, alloc, asked, shelf, disk, taken);
+    answer
+}
+
 /// Adds logs to an archive, and tells what came of each.
-pub fn ingest_files<R: Threads + Wait + Sync, H: Shelf, D: Telling + Send, K: Sink>(
+pub fn ingest_files<R: Threads + Wait + Sync, H: Shelf, D: Disk + Send, K: Sink, B: Base>(
     rt: &R,
     alloc: Global,
     asked: NewLogs<'_>,
@@ -412,7 +528,8 @@ where
         (map str_bytes asked.entry.files.now)
         (around H.content H.unread H.open_faults H.read_faults K.written K.faults
         shelf.old shelf.new out.old out.new err.old err.new)
-        (D.state disk.old) (D.state disk.new) result }
+        (over B.archive (D.state disk.old) (D.state disk.old))
+        (over B.archive (D.state disk.old) (D.state disk.new)) result }
 
     // whatever the answer
     ensures outside { OutsideGoesOn
@@ -428,7 +545,7 @@ where
     let Ok(mut taken) = Vec::with_capacity(alloc, asked.files.len()) else {
         return report(err, "", Refusal::OutOfMemory);
     };
-    match add_files(rt, alloc, asked, shelf, disk, &mut taken) {
+    match add_known::<R, H, D, B>(rt, alloc, asked, shelf, disk, &mut taken) {
         Ok(first) => {
             match print_directory(alloc, u64::from(first), taken.as_slice(), out) {
                 Ok(()) => report_taken(err, taken.as_slice()),

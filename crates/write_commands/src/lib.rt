@@ -3,12 +3,12 @@
 
 mod bench_archive;
 mod file_report;
+mod founded;
 mod ingest;
 mod names;
 mod register;
 mod summary;
-mod telling;
 
 pub use bench_archive::bench;
+pub use founded::Base;
 pub use ingest::{NewLogs, ingest_files};
-pub use telling::Telling;

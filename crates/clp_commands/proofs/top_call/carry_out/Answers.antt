@@ -74,7 +74,7 @@ ingest_files-requires-clause-some g c κs within =
 
 pub returns-in-Ingest-clause-answers : goal.returns-in-Ingest-clause-answers
 returns-in-Ingest-clause-answers g c =
-    rw (c.in-Ingest.is) (rw (← c.of.ensures.files) (rw (← c.of.ensures.segment) (rw (← c.of.ensures.workers) (ingest_answers _ _ _ _ _ _ _ c.ingest_files.ensures.names c.ingest_files.ensures.answers))))
+    rw (c.in-Ingest.is) (rw (← c.of.ensures.files) (rw (← c.of.ensures.segment) (rw (← c.of.ensures.workers) (ingest_answers _ _ _ _ _ _ _ _ c.ingest_files.ensures.names c.ingest_files.ensures.answers))))
 
 pub returns-in-Ingest-clause-keeps : goal.returns-in-Ingest-clause-keeps
 returns-in-Ingest-clause-keeps g c = λ none. absurd (none (rw (c.in-Ingest.is) tt))

@@ -4,7 +4,7 @@ use Rattle.generated_logs.specs.Logs.{content_of}
 use Rattle.generated_logs.specs.States.{open_faults_of}
 use Rattle.write_commands.specs.Benched.{generated_names, segment_rows}
 use Rattle.write_commands.specs.IngestPrints.{came_of, names_of}
-use Rattle.write_commands.specs.Ingested.{FileOutcome, FromArchive, TakesIn}
+use Rattle.write_commands.specs.Ingested.{FileOutcome, FromArchive, HasCallCause, TakesIn}
 use Rattle.write_commands.specs.Names.{RefusesNames}
 use Rattle.write_commands.specs.StepsCauses.{HaveFileCauses}
 use Rattle.command_refusals.specs.declared.outcome.AddRefusal.TheVariants.{OutOfMemory}
@@ -49,3 +49,10 @@ returns-in-Ok-add_files-clause-ends g c = λ content unread opens reads.
     (log_causes c.args.asked.number c.args.asked.lines c.requires.lines c.new-shelf.result c.add_files.new.shelf c.args.asked.workers segment_rows old mid new c.sum_up.ensures.keeps.seen c.sum_up.ensures.disk (map came_of c.as_slice.result.now) named causes)
     (logs_spared c.args.asked.number c.args.asked.lines c.requires.lines c.new-shelf.result c.add_files.new.shelf c.args.asked.workers segment_rows old mid new c.sum_up.ensures.keeps.seen c.sum_up.ensures.disk (map came_of c.as_slice.result.now) named causes)
     (c.sum_up.ensures.told content unread opens reads)
+
+pub returns-clause-ends : goal.returns-clause-ends
+returns-clause-ends g c = λ content unread opens reads.
+    let old = g.D.Disk.state c.args.disk.now in
+    let new = g.D.Disk.state c.add_files.new.disk in
+    refused_logs _ _ _ old new _ c.in-Err.refusal (rw (← c.refusal_of_add-in-Err.ensures) c.report-in-Err.ensures.status) (rw (← c.refusal_of_add-in-Err.ensures) c.report-in-Err.ensures.said) refl refl
+    (subst (λ ns. HasCallCause ns old new c.in-Err.refusal) c.log_names-names.ensures c.in-Err.ensures.cause) c.in-Err.ensures.nothing

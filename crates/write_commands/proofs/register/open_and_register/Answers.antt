@@ -66,7 +66,7 @@ pub returns-in_err-archive-clause-cause : goal.returns-in_err-archive-clause-cau
 returns-in_err-archive-clause-cause g c =
     let p = err_from_is_err_and c.from_residual.result c.from_residual.ensures.1 in
     let opened = c.open_for_append.ensures in
-    refused_with (map str_bytes c.args.names.now) (g.D.Disk.state c.args.journal.now.disk.now) (g.D.Disk.state c.open_for_append.new.journal.disk.now) c.from_residual.result p.0 _ p.1 p.2 (archive_cause (map str_bytes c.args.names.now) (g.D.Disk.state c.args.journal.now.disk.now) (g.D.Disk.state c.open_for_append.new.journal.disk.now) c.open_for_append.result c.in_err-archive.field-0.0 c.in_err-archive.was c.requires.archive opened.damaged opened.counts)
+    refused_with (map str_bytes c.args.names.now) (g.D.Disk.state c.args.journal.now.disk.now) (g.D.Disk.state c.open_for_append.new.journal.disk.now) c.from_residual.result p.0 _ p.1 p.2 (archive_cause (map str_bytes c.args.names.now) (g.D.Disk.state c.args.journal.now.disk.now) (g.D.Disk.state c.open_for_append.new.journal.disk.now) c.open_for_append.result c.in_err-archive.field-0.0 c.in_err-archive.was opened.looks.rests opened.damaged opened.counts)
 
 pub returns-in-Some-clause-nothing : goal.returns-in-Some-clause-nothing
 returns-in-Some-clause-nothing g c = read_nothing _ _ (g.met.D.Disk.lawful c.args.journal.now.disk.now) (g.met.D.Disk.lawful c.open_for_append.new.journal.disk.now) c.open_for_append.ensures.looks.rests
@@ -108,4 +108,5 @@ returns-in_err-first-clause-cause g c =
     refused_with (map str_bytes c.args.names.now) (g.D.Disk.state c.args.journal.now.disk.now) (g.D.Disk.state c.register.new.journal.disk.now) c.from_residual-in_err-first.result p.0 _ p.1 p.2
     (register_cause (map str_bytes c.args.names.now) (state_of c.args.journal.now) (state_of c.open_for_append.new.journal) (state_of c.register.new.journal) _
     (record { begins = c.requires.begins; archive = c.requires.archive; looks = opened.looks; opened = c.in_ok-archive.ensures.opened; header = c.in_ok-archive.ensures.header; ends = c.in_ok-archive.ensures.at_end })
+    (length c.as_slice.result.now) (ap length (c.as_slice.ensures ∙ c.files.ensures)) (omega (arith, c.in_default.ensures, length-map c.args.names.now str_bytes))
     c.register.result c.in_err-first.field-0.0 c.in_err-first.was opened.counts.later (λ end need e. rw (c.in_ok-texts.ensures) at (named.full end need e).0) named.counts)

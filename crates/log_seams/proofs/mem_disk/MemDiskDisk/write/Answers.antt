@@ -1,13 +1,14 @@
-use Rattle.std.proofs.Common.{◌≤◌, length, ap, arith, rules, refl, true, false, List, ℕ, Some}
+use Rattle.std.proofs.Common.{◌≡◌, ◌≤◌, length, ap, arith, rules, refl, true, false, List, ℕ, Some}
 use Rattle.log_seams.specs.Replay.{Event, wrote, content, reads_of}
-use Rattle.log_seams.specs.MemDisk.{events_of}
-use Rattle.log_seams.proofs.EventLemmas.{wrote_follows, elapses}
+use Rattle.log_seams.specs.MemDisk.{events_of, lacks_room}
+use Rattle.log_seams.proofs.EventLemmas.{wrote_follows, elapses, within_end}
 use Rattle.log_seams.proofs.mem_disk.MemDiskDisk.write.Goals as goal
 
 -- a write that failed
 pub returns-then-fails_next-clause-call : goal.returns-then-fails_next-clause-call
 returns-then-fails_next-clause-call c =
-    let place : c.args.at ≤ length (content c.args.self.now.first (events_of c.args.self.now)) = omega (arith, ap (λ (l : List ℕ). length l) c.args.self.now.same, c.requires.place) in
+    let inside : lacks_room c.args.self.now c.args.at (length c.args.bytes.now) ≡ false = search rules in
+    let place : c.args.at ≤ length (content c.args.self.now.first (events_of c.args.self.now)) = omega (arith, ap (λ (l : List ℕ). length l) c.args.self.now.same, within_end c.args.self.now c.args.at (length c.args.bytes.now) inside) in
     let same = c.put.ensures.recorded.same.first in
     let is = c.put.ensures.events in
     let time = elapses c.args.self.now c.put.new.self (wrote false c.args.at c.args.bytes.now) same is in
@@ -23,7 +24,8 @@ returns-then-fails_next-clause-call c =
 -- one that was done
 pub returns-clause-call : goal.returns-clause-call
 returns-clause-call c =
-    let place : c.args.at ≤ length (content c.args.self.now.first (events_of c.args.self.now)) = omega (arith, ap (λ (l : List ℕ). length l) c.args.self.now.same, c.requires.place) in
+    let inside : lacks_room c.args.self.now c.args.at (length c.args.bytes.now) ≡ false = search rules in
+    let place : c.args.at ≤ length (content c.args.self.now.first (events_of c.args.self.now)) = omega (arith, ap (λ (l : List ℕ). length l) c.args.self.now.same, within_end c.args.self.now c.args.at (length c.args.bytes.now) inside) in
     let same = c.put-2.ensures.recorded.same.first in
     let is = c.put-2.ensures.events in
     record {
