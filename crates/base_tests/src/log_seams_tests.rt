@@ -36,28 +36,44 @@ fn reads<S: Source>(
 // What the reads give where the first and the third fail.
 const READS: &[Option<&[u8]>] = &[None, Some(b"ab"), None, Some(b"cd"), Some(b"e"), Some(b"")];
 
+// How many of those reads a source gives.
+fn told_reads(alloc: Global, source: &mut MemSource) -> Result<usize, AllocError> {
+    for (count, want) in READS.iter().enumerate() {
+        if !reads(alloc, &mut &mut *source, 2, *want)? {
+            return Ok(count);
+        }
+    }
+    Ok(READS.len())
+}
+
+fn fails_twice(alloc: Global) -> Result<bool, AllocError> {
+    let mut source = MemSource::new(text(alloc, b"abcde")?, numbers(alloc, &[0, 2])?);
+    Ok(told_reads(alloc, &mut source)? == READS.len() && source.faults() == 2)
+}
+
 #[test]
 fn sources_fail_at_the_listed_reads(rt: HostRuntime) -> Result<(), Fail> {
-    let alloc = rt.alloc();
-    let mut source = MemSource::new(text(alloc, b"abcde")?, numbers(alloc, &[0, 2])?);
-    for want in READS {
-        let well = reads(alloc, &mut &mut source, 2, *want)?;
-        assert!(rt; well, "{want:?}");
-    }
-    assert!(rt; source.faults() == 2);
+    let well = fails_twice(rt.alloc())?;
+    assert!(rt; well);
     Ok(())
 }
 
 const PLAIN_READS: &[&[u8]] = &[b"xy", b"z", b"", b""];
 
+fn gives_plainly(alloc: Global) -> Result<usize, AllocError> {
+    let mut plain = PlainSource::new(text(alloc, b"xyz")?);
+    for (count, want) in PLAIN_READS.iter().enumerate() {
+        if !reads(alloc, &mut plain, 2, Some(want))? {
+            return Ok(count);
+        }
+    }
+    Ok(PLAIN_READS.len())
+}
+
 #[test]
 fn a_plain_source_gives_all(rt: HostRuntime) -> Result<(), Fail> {
-    let alloc = rt.alloc();
-    let mut plain = PlainSource::new(text(alloc, b"xyz")?);
-    for want in PLAIN_READS {
-        let well = reads(alloc, &mut plain, 2, Some(want))?;
-        assert!(rt; well, "{want:?}");
-    }
+    let told = gives_plainly(rt.alloc())?;
+    assert!(rt; told == PLAIN_READS.len(), "{told}");
     Ok(())
 }
 
@@ -71,18 +87,26 @@ const WRITES: &[(&[u8], Result<usize, Failed>)] = &[
     (b"e", Err(Failed)),
 ];
 
+// How many of those writes a sink answers.
+fn told_writes(sink: &mut MemSink) -> usize {
+    for (count, row) in WRITES.iter().enumerate() {
+        let (bytes, want) = row;
+        if bytes.is_empty() || sink.write(bytes) != *want {
+            return count;
+        }
+    }
+    WRITES.len()
+}
+
+fn takes_three(alloc: Global) -> Result<bool, AllocError> {
+    let mut sink = MemSink::new(alloc, 3, numbers(alloc, &[1])?)?;
+    Ok(told_writes(&mut sink) == WRITES.len() && sink.bytes() == b"abc".as_slice())
+}
+
 #[test]
 fn sinks_fail_past_their_room_and_at_the_listed_writes(rt: HostRuntime) -> Result<(), Fail> {
-    let alloc = rt.alloc();
-    let mut sink = MemSink::new(alloc, 3, numbers(alloc, &[1])?)?;
-    for (bytes, want) in WRITES {
-        if bytes.is_empty() {
-            continue;
-        }
-        let written = (&mut sink).write(bytes);
-        assert!(rt; written == *want);
-    }
-    assert!(rt; sink.bytes() == b"abc".as_slice());
+    let well = takes_three(rt.alloc())?;
+    assert!(rt; well);
     Ok(())
 }
 
@@ -131,13 +155,25 @@ fn opens(
     Ok(well)
 }
 
+// How many of those openings a shelf answers.
+fn told_openings(alloc: Global, shelf: &mut MemShelf) -> Result<usize, AllocError> {
+    for (count, row) in OPENED.iter().enumerate() {
+        let (name, want) = row;
+        if !opens(alloc, shelf, name, *want)? {
+            return Ok(count);
+        }
+    }
+    Ok(OPENED.len())
+}
+
+fn told_openings_anew(alloc: Global) -> Result<usize, AllocError> {
+    let mut shelf = MemShelf::new(alloc, some_files(alloc)?, numbers(alloc, &[2])?);
+    told_openings(alloc, &mut shelf)
+}
+
 #[test]
 fn shelves_open_their_files_by_name(rt: HostRuntime) -> Result<(), Fail> {
-    let alloc = rt.alloc();
-    let mut shelf = MemShelf::new(alloc, some_files(alloc)?, numbers(alloc, &[2])?);
-    for (name, want) in OPENED {
-        let well = opens(alloc, &mut shelf, name, *want)?;
-        assert!(rt; well, "{name}");
-    }
+    let told = told_openings_anew(rt.alloc())?;
+    assert!(rt; told == OPENED.len(), "{told}");
     Ok(())
 }

@@ -116,13 +116,23 @@ fn calls_fail(disk: &mut MemDisk) -> bool {
         && disk.calls() == 5
 }
 
+// The same, and whether the write that failed may have reached the disk.
+fn calls_fail_and_reach(disk: &mut MemDisk) -> Result<bool, AllocError> {
+    if !calls_fail(disk) || disk.calls() != 5 {
+        return Ok(false);
+    }
+    leaves(disk, 2, Pending::All, &[3, 4])
+}
+
+fn calls_fail_anew(alloc: Global) -> Result<bool, AllocError> {
+    let mut disk = disk(alloc, &[3], 5, &[1])?;
+    calls_fail_and_reach(&mut disk)
+}
+
 #[test]
 fn calls_fail_by_the_list_past_the_room_and_past_the_last(rt: HostRuntime) -> Result<(), Fail> {
-    let mut disk = disk(rt.alloc(), &[3], 5, &[1])?;
-    assert!(rt; calls_fail(&mut disk));
-    // the write that failed may have reached the disk
-    let reached = disk.calls() == 5 && leaves(&disk, 2, Pending::All, &[3, 4])?;
-    assert!(rt; reached);
+    let well = calls_fail_anew(rt.alloc())?;
+    assert!(rt; well);
     Ok(())
 }
 
@@ -137,10 +147,15 @@ fn stays_long(disk: &mut MemDisk) -> bool {
         && disk.bytes() == LONG.as_slice()
 }
 
+fn stays_long_anew(alloc: Global) -> Result<bool, AllocError> {
+    let mut disk = disk(alloc, &[3; 9], 9, &[])?;
+    Ok(stays_long(&mut disk))
+}
+
 #[test]
 fn a_disk_may_begin_longer_than_its_room(rt: HostRuntime) -> Result<(), Fail> {
-    let mut disk = disk(rt.alloc(), &[3; 9], 9, &[])?;
-    assert!(rt; stays_long(&mut disk));
+    let well = stays_long_anew(rt.alloc())?;
+    assert!(rt; well);
     Ok(())
 }
 
