@@ -32,27 +32,62 @@ fn names(book: &mut Book, text: &[u8], want: Result<u32, BookRefusal>) -> bool {
     book.intern(text) == want && book.number_of(text) == want.ok()
 }
 
+/// How many of those texts a book of two names as told.
+fn told_names(book: &mut Book) -> usize {
+    for (count, row) in NAMED.iter().enumerate() {
+        let &(text, want) = row;
+        if !names(book, text, want) {
+            return count;
+        }
+    }
+    NAMED.len()
+}
+
+/// Whether a book of two texts names them, and no more.
+fn names_two(book: &mut Book) -> bool {
+    told_names(book) == NAMED.len()
+        && book.count() == 2
+        && book.len() == 2
+        && book.text_of(1) == Some(b"x7".as_slice())
+        && book.text_of(2) == None
+}
+
+fn names_two_anew(alloc: Global) -> bool {
+    let mut book = Book::new(alloc, 2);
+    names_two(&mut book)
+}
+
 #[test]
 fn a_book_names_texts_up_to_its_limit(rt: HostRuntime) {
-    let mut book = Book::new(rt.alloc(), 2);
-    for (text, want) in NAMED {
-        let well = names(&mut book, text, *want);
-        assert!(rt; well, "{text:?}");
+    let well = names_two_anew(rt.alloc());
+    assert!(rt; well);
+}
+
+/// Whether this is the text alone.
+fn is_alone(texts: &TextList, text: &[u8]) -> bool {
+    let [one] = texts.as_slice() else {
+        return false;
+    };
+    one.as_slice() == text
+}
+
+/// Whether a book of two texts is copied from the second on.
+fn is_copied(book: &mut Book) -> Result<bool, AllocError> {
+    if !names(book, b"\x11 \x12", Ok(0)) || !names(book, b"x7", Ok(1)) || book.len() != 2 {
+        return Ok(false);
     }
-    assert!(rt; book.count() == 2 && book.len() == 2);
-    assert!(rt; book.text_of(1) == Some(b"x7".as_slice()) && book.text_of(2) == None);
+    Ok(is_alone(&book.copy_from(1)?, b"x7"))
+}
+
+fn is_copied_anew(alloc: Global) -> Result<bool, AllocError> {
+    let mut book = Book::new(alloc, 2);
+    is_copied(&mut book)
 }
 
 #[test]
 fn a_book_is_copied_from_a_text_on(rt: HostRuntime) -> Result<(), Fail> {
-    let mut book = Book::new(rt.alloc(), 2);
-    assert!(rt; names(&mut book, b"\x11 \x12", Ok(0)) && names(&mut book, b"x7", Ok(1)));
-    assert!(rt; book.len() == 2);
-    let copied = book.copy_from(1)?;
-    assert!(rt; copied.as_slice().len() == 1);
-    for text in copied.as_slice() {
-        assert!(rt; text.as_slice() == b"x7".as_slice());
-    }
+    let well = is_copied_anew(rt.alloc())?;
+    assert!(rt; well);
     Ok(())
 }
 
@@ -62,25 +97,31 @@ fn names_anew(book: &mut Book, text: &[u8], number: u32) -> bool {
     book.number_of(text).is_none() && names(book, text, Ok(number))
 }
 
-/// A book of the three texts of one hash.
-fn book_of_one_hash(alloc: Global) -> Result<Book, Fail> {
+/// Whether the book names the three texts of one hash.
+fn names_three(book: &mut Book) -> bool {
+    let [first, second, third] = ONE_HASH;
+    names_anew(book, first, 0) && names_anew(book, second, 1) && names_anew(book, third, 2)
+}
+
+/// Whether the three texts have numbers of their own, and others none.
+fn have_numbers(book: &mut Book) -> bool {
+    names_three(book)
+        && book.number_of(ONE_HASH[0]) == Some(0)
+        && book.number_of(ONE_HASH[1]) == Some(1)
+        && book.number_of(ONE_HASH[2]) == Some(2)
+        && book.number_of(NOT_THERE) == None
+        && book.number_of(b"other") == None
+}
+
+fn have_numbers_anew(alloc: Global) -> bool {
     let mut book = Book::new(alloc, 8);
-    for (text, number) in ONE_HASH.iter().zip([0, 1, 2]) {
-        if !names_anew(&mut book, text, number) {
-            return Err(Fail::from("another number"));
-        }
-    }
-    Ok(book)
+    have_numbers(&mut book)
 }
 
 #[test]
-fn texts_of_one_hash_have_numbers_of_their_own(rt: HostRuntime) -> Result<(), Fail> {
-    let book = book_of_one_hash(rt.alloc())?;
-    for (text, number) in ONE_HASH.iter().zip([0, 1, 2]) {
-        assert!(rt; book.number_of(text) == Some(number), "{number}");
-    }
-    assert!(rt; book.number_of(NOT_THERE) == None && book.number_of(b"other") == None);
-    Ok(())
+fn texts_of_one_hash_have_numbers_of_their_own(rt: HostRuntime) {
+    let well = have_numbers_anew(rt.alloc());
+    assert!(rt; well);
 }
 
 /// These texts without a book.
@@ -92,15 +133,38 @@ fn list_of(alloc: Global, rows: &[&[u8]]) -> Result<TextList, AllocError> {
     Ok(TextList::new(list))
 }
 
-#[test]
-fn many_texts_are_looked_up_in_order(rt: HostRuntime) -> Result<(), Fail> {
-    let book = book_of_one_hash(rt.alloc())?;
+/// Whether the book has these numbers for the texts.
+fn has_all(
+    alloc: Global,
+    book: &mut Book,
+    texts: &TextList,
+    want: &[u32],
+) -> Result<bool, AllocError> {
+    let mut numbers = Vec::with_capacity(alloc, texts.count())?;
+    book.numbers_of(texts, &mut numbers);
+    Ok(numbers.as_slice() == want)
+}
+
+/// Whether the book of the three looks up many texts in order.
+fn looks_up(alloc: Global, book: &mut Book) -> Result<bool, AllocError> {
     let [first, second, third] = ONE_HASH;
     let rows = [third, NOT_THERE, first, b"other", second, third];
-    let texts = list_of(rt.alloc(), &rows)?;
-    let mut numbers = Vec::with_capacity(rt.alloc(), texts.count())?;
-    book.numbers_of(&texts, &mut numbers);
-    assert!(rt; numbers.as_slice() == [2, NO_NUMBER, 0, NO_NUMBER, 1, 2].as_slice());
+    let texts = list_of(alloc, &rows)?;
+    if !names_three(book) {
+        return Ok(false);
+    }
+    has_all(alloc, book, &texts, &[2, NO_NUMBER, 0, NO_NUMBER, 1, 2])
+}
+
+fn looks_up_anew(alloc: Global) -> Result<bool, AllocError> {
+    let mut book = Book::new(alloc, 8);
+    looks_up(alloc, &mut book)
+}
+
+#[test]
+fn many_texts_are_looked_up_in_order(rt: HostRuntime) -> Result<(), Fail> {
+    let well = looks_up_anew(rt.alloc())?;
+    assert!(rt; well);
     Ok(())
 }
 
@@ -109,17 +173,29 @@ fn names_and_finds(book: &mut Book, text: &[u8], number: u32) -> bool {
     names(book, text, Ok(number)) && book.text_of(number) == Some(text)
 }
 
-#[test]
-fn a_book_that_was_cut_short_goes_on(rt: HostRuntime) -> Result<(), Fail> {
-    let mut book = book_of_one_hash(rt.alloc())?;
+/// Whether the book of the three, cut short, goes on from there.
+fn goes_on(book: &mut Book) -> bool {
+    if !names_three(book) {
+        return false;
+    }
     book.truncate(1);
-    assert!(rt; names_and_finds(&mut book, ONE_HASH[2], 1));
-    assert!(rt; names_and_finds(&mut book, ONE_HASH[0], 0));
-    assert!(rt; names_and_finds(&mut book, b"other", 2));
-    assert!(rt; names_and_finds(&mut book, ONE_HASH[1], 3));
+    let named = names_and_finds(book, ONE_HASH[2], 1)
+        && names_and_finds(book, ONE_HASH[0], 0)
+        && names_and_finds(book, b"other", 2)
+        && names_and_finds(book, ONE_HASH[1], 3);
     book.truncate(0);
-    assert!(rt; book.number_of(ONE_HASH[0]) == None && book.intern(b"other") == Ok(0));
-    Ok(())
+    named && book.number_of(ONE_HASH[0]) == None && book.intern(b"other") == Ok(0)
+}
+
+fn goes_on_anew(alloc: Global) -> bool {
+    let mut book = Book::new(alloc, 8);
+    goes_on(&mut book)
+}
+
+#[test]
+fn a_book_that_was_cut_short_goes_on(rt: HostRuntime) {
+    let well = goes_on_anew(rt.alloc());
+    assert!(rt; well);
 }
 
 fn texts_of(alloc: Global, rows: &[&[u8]]) -> Result<Texts, AllocError> {
@@ -157,38 +233,78 @@ fn has_number(texts: &Texts, text: &[u8], want: Option<u32>) -> bool {
     found && texts.number_of(text) == want
 }
 
+/// How many of those texts have their numbers.
+fn found_texts(texts: &Texts) -> usize {
+    for (count, row) in NUMBERS.iter().enumerate() {
+        let &(text, number) = row;
+        if !has_number(texts, text, number) {
+            return count;
+        }
+    }
+    NUMBERS.len()
+}
+
+fn are_found(alloc: Global) -> Result<bool, AllocError> {
+    let texts = texts_of(alloc, TEXTS)?;
+    Ok(found_texts(&texts) == NUMBERS.len() && texts.text_of(7) == None)
+}
+
 #[test]
 fn texts_are_found_by_their_bytes(rt: HostRuntime) -> Result<(), Fail> {
-    let texts = texts_of(rt.alloc(), TEXTS)?;
-    for (text, number) in NUMBERS {
-        let well = has_number(&texts, text, *number);
-        assert!(rt; well, "{text:?}");
-    }
-    assert!(rt; texts.text_of(7) == None);
+    let well = are_found(rt.alloc())?;
+    assert!(rt; well);
     Ok(())
+}
+
+/// How many texts of those stand behind the first four.
+fn behind_four(alloc: Global) -> Result<usize, AllocError> {
+    let texts = texts_of(alloc, TEXTS)?;
+    if texts.len() != 7 {
+        return Ok(0);
+    }
+    Ok(texts.copy_from(alloc, 4)?.as_slice().len())
+}
+
+/// Why they are no book.
+fn no_book(alloc: Global) -> Result<Option<IndexRefusal>, AllocError> {
+    let texts = texts_of(alloc, TEXTS)?;
+    if texts.len() != 7 {
+        return Ok(None);
+    }
+    Ok(Book::from_texts(alloc, texts, 7).err())
 }
 
 #[test]
 fn texts_with_a_repeated_one_are_no_book(rt: HostRuntime) -> Result<(), Fail> {
-    let texts = texts_of(rt.alloc(), TEXTS)?;
-    assert!(rt; texts.len() == 7);
-    let copied = texts.copy_from(rt.alloc(), 4)?;
-    assert!(rt; copied.as_slice().len() == 3);
-    let repeated = Book::from_texts(rt.alloc(), texts, 7);
-    assert!(rt; repeated.err() == Some(IndexRefusal::Repeated { number: 4 }));
+    let behind = behind_four(rt.alloc())?;
+    let refused = no_book(rt.alloc())?;
+    assert!(rt; behind == 3 && refused == Some(IndexRefusal::Repeated { number: 4 }));
     Ok(())
+}
+
+/// Whether the book of the three texts names one more, up to its limit.
+fn names_a_fourth(book: &mut Book) -> bool {
+    book.intern(ONE_HASH[1]) == Ok(1)
+        && book.intern(ONE_HASH[2]) == Ok(2)
+        && book.intern(b"new") == Ok(3)
+        && book.intern(b"newer") == Err(BookRefusal::Full { count: 4 })
+        && book.intern(ONE_HASH[0]) == Ok(0)
+}
+
+/// Whether a book that is made of the texts goes on with them.
+fn goes_on_with(alloc: Global, texts: Texts) -> bool {
+    if texts.len() != 3 {
+        return false;
+    }
+    match Book::from_texts(alloc, texts, 4) {
+        Ok(mut book) => names_a_fourth(&mut book),
+        Err(_) => false,
+    }
 }
 
 #[test]
 fn a_book_of_texts_goes_on_with_them(rt: HostRuntime) -> Result<(), Fail> {
     let texts = texts_of(rt.alloc(), &ONE_HASH)?;
-    assert!(rt; texts.len() == 3);
-    let Ok(mut book) = Book::from_texts(rt.alloc(), texts, 4) else {
-        return Err(Fail::from("no book of distinct texts"));
-    };
-    assert!(rt; book.intern(ONE_HASH[1]) == Ok(1) && book.intern(ONE_HASH[2]) == Ok(2));
-    assert!(rt; book.intern(b"new") == Ok(3));
-    assert!(rt; book.intern(b"newer") == Err(BookRefusal::Full { count: 4 }));
-    assert!(rt; book.intern(ONE_HASH[0]) == Ok(0));
+    assert!(rt; goes_on_with(rt.alloc(), texts));
     Ok(())
 }
