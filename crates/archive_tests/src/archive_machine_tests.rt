@@ -106,11 +106,21 @@ const ENTRIES: &[(u8, u64, usize, bool)] = &[
     (4, 1, 0, true),
 ];
 
+// Whether the steps leave these entries.
+fn leave(
+    alloc: Global,
+    steps: &[Step],
+    entries: &[(u8, u64, usize, bool)],
+) -> Result<bool, AllocError> {
+    let core = after(alloc, steps)?;
+    Ok(has_entries(&core, entries))
+}
+
 // Nothing is sealed before its texts are saved; an empty hand ends the file.
 #[test]
 fn sealing_waits_for_texts(rt: HostRuntime) -> Result<(), AllocError> {
-    let core = after(rt.alloc(), &STEPS[..8])?;
-    assert!(rt; has_entries(&core, ENTRIES));
+    let well = leave(rt.alloc(), &STEPS[..8], ENTRIES)?;
+    assert!(rt; well);
     Ok(())
 }
 
@@ -122,10 +132,15 @@ fn has_second(core: &Core, text: &[u8]) -> bool {
     second.as_slice() == text && core.hands.len() == 1
 }
 
+fn leave_second(alloc: Global, text: &[u8]) -> Result<bool, AllocError> {
+    let core = after(alloc, STEPS)?;
+    Ok(has_second(&core, text))
+}
+
 // A dictionary at its limit takes no text more, and a message whose log type is not there is not added.
 #[test]
 fn limits_leave_the_state(rt: HostRuntime) -> Result<(), AllocError> {
-    let core = after(rt.alloc(), STEPS)?;
-    assert!(rt; has_second(&core, b"x"));
+    let well = leave_second(rt.alloc(), b"x")?;
+    assert!(rt; well);
     Ok(())
 }

@@ -64,10 +64,15 @@ fn is_worked(archive: &Archive<Books>) -> bool {
         && archive.names().type_text(0) == Some(b"a".as_slice())
 }
 
+fn opens_worked(alloc: Global) -> Result<bool, ArchiveRefusal> {
+    let archive = open(alloc, &WORKED)?;
+    Ok(is_worked(&archive) && archive.into_books().words.len() == 0)
+}
+
 #[test]
 fn the_worked_archive_opens(rt: HostRuntime) -> Result<(), Fail> {
-    let archive = open(rt.alloc(), &WORKED)?;
-    assert!(rt; is_worked(&archive) && archive.into_books().words.len() == 0);
+    let well = opens_worked(rt.alloc())?;
+    assert!(rt; well);
     Ok(())
 }
 
@@ -83,10 +88,21 @@ fn has_type(archive: &Archive<PlainBooks>, number: u32) -> bool {
         && archive.names().word_number(b"a").is_none()
 }
 
+// Whether an archive of these bytes opens for reading, and has so many files and this log type.
+fn opens_plain(
+    alloc: Global,
+    bytes: &[u8],
+    files: usize,
+    number: u32,
+) -> Result<bool, ArchiveRefusal> {
+    let archive = open_plain(alloc, bytes)?;
+    Ok(archive.files().len() == files && has_type(&archive, number))
+}
+
 #[test]
 fn it_opens_for_reading(rt: HostRuntime) -> Result<(), Fail> {
-    let archive = open_plain(rt.alloc(), &WORKED)?;
-    assert!(rt; has_type(&archive, 0) && archive.files().len() == 1);
+    let well = opens_plain(rt.alloc(), &WORKED, 1, 0)?;
+    assert!(rt; well);
     Ok(())
 }
 
@@ -166,8 +182,7 @@ static TWICE: [u8; 61] = [
 #[test]
 fn a_text_that_stands_twice_is_damage_for_books_that_name(rt: HostRuntime) -> Result<(), Fail> {
     let told = damage(rt.alloc(), &TWICE)?;
-    assert!(rt; told == Some(32));
-    let archive = open_plain(rt.alloc(), &TWICE)?;
-    assert!(rt; has_type(&archive, 1));
+    let well = opens_plain(rt.alloc(), &TWICE, 0, 1)?;
+    assert!(rt; well && told == Some(32));
     Ok(())
 }
