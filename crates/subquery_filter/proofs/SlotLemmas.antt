@@ -20,7 +20,7 @@ use Rattle.subquery_filter.specs.StepsFilter.{Lacks, ListedUpTo, SlotGives, Slot
 use Rattle.subquery_filter.specs.StepsLetters.{kind_at, kind_before, kinds_in}
 use Rattle.subquery_filter.proofs.FilterLemmas.{has_left, has_right, has_through, push_got, push_last, slot_stays}
 use Rattle.subquery_filter.proofs.LetterLemmas.{other_byte, same_byte}
-use Rattle.subquery_filter.proofs.TokenLemmas.{kinds_byte, kinds_slot}
+use Rattle.subquery_filter.proofs.TokenLemmas.{kinds_slot}
 
 -- ---- a text that no symbol begins
 
