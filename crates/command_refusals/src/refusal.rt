@@ -1,7 +1,8 @@
 //! Why a command was refused, and what each refusal ends the program with.
-ghost use Rattle.std.specs.Prelude.{◌≡◌, ◌≤◌, ◌++◌, []};
+ghost use Rattle.std.specs.Prelude.{◌≡◌, ◌≤◌, ◌++◌, [], IsFalse};
 ghost use Rattle.std.specs.Fmt.{decimal};
 ghost use Rattle.std.specs.List.{flat_map};
+ghost use Rattle.log_seams.specs.Outside.{Rose};
 ghost use Rattle.command_refusals.specs.Refusal.{Says, file_line_of, file_status_of, full_at, line_of, status_of};
 
 use log_seams::Sink;
@@ -47,18 +48,31 @@ pub enum Refusal {
     ArchiveFull { end: u64, need: u64 },
 }
 
-/// Writes the pieces one after the other, until one fails. Takes no memory.
+/// Writes the pieces one after the other, until one fails, and tells whether all went out. Takes no
+/// memory.
+fn goes_out<K: Sink>(err: &mut K, pieces: &[&[u8]]) -> bool
+    ensures said { Says
+        (K.written err.old) (K.written err.new) (K.faults err.old) (K.faults err.new)
+        (flat_map (λ p. p.now) pieces.now) }
+    ensures stopped { IsFalse result → Rose (K.faults err.old) (K.faults err.new) }
+    ensures later { K.faults err.old ≤ K.faults err.new }
+{
+    for piece in pieces {
+        if write_all(err, piece).is_err() {
+            return false;
+        }
+    }
+    true
+}
+
+/// Writes the pieces of a line, until one fails. Takes no memory.
 fn say<K: Sink>(err: &mut K, pieces: &[&[u8]])
     ensures said { Says
         (K.written err.old) (K.written err.new) (K.faults err.old) (K.faults err.new)
         (flat_map (λ p. p.now) pieces.now) }
     ensures later { K.faults err.old ≤ K.faults err.new }
 {
-    for piece in pieces {
-        if write_all(err, piece).is_err() {
-            return;
-        }
-    }
+    let _all = goes_out(err, pieces);
 }
 
 /// Writes a front, a number, and what is behind it. Takes no memory.
@@ -70,8 +84,9 @@ fn say_number<K: Sink>(err: &mut K, front: &[&[u8]], number: u64, behind: &[u8])
 {
     let mut digits = itoa::Buffer::new();
     let number = digits.format(number).as_bytes();
-    say(err, front);
-    say(err, &[number, behind]);
+    if goes_out(err, front) {
+        say(err, &[number, behind]);
+    }
 }
 
 /// Writes a front, two numbers with a text between them, and what is behind. Takes no memory.
@@ -92,8 +107,9 @@ fn say_numbers<K: Sink>(
     let (mut one, mut other) = (itoa::Buffer::new(), itoa::Buffer::new());
     let first = one.format(first).as_bytes();
     let second = other.format(second).as_bytes();
-    say(err, front);
-    say(err, &[first, between, second, behind]);
+    if goes_out(err, front) {
+        say(err, &[first, between, second, behind]);
+    }
 }
 
 /// Writes which file the archive lacks, and how many it has. Takes no memory.
