@@ -351,7 +351,8 @@ fn has_many_segments<R: Threads + Wait + Sync>(
 
 const MANY: &[u8] = b"0 4100 whole a.log\n";
 
-const FOUND: &[u8] = b"\na.log:4100:a\nmatched 4100 expanded 4100 opened 4100 segments 4100\n";
+// the last segment has no rows: the log ended behind a full one
+const FOUND: &[u8] = b"\na.log:4100:a\nmatched 4100 expanded 4100 opened 4100 segments 4101\n";
 
 /// A shelf with a log of so many lines.
 fn long_log(alloc: Global, lines: usize) -> Result<MemShelf, AllocError> {
