@@ -1,0 +1,153 @@
+-- How opening by places begins and ends.
+use Rattle.std.proofs.Common.{◌≡◌, ℕ, zero, suc, ◌+◌, ◌-◌, ◌<◌, List, [], ◌∷◌, length, map, take, get_or, set, Option, Some, None, refl, sym, ◌∙◌, ap, subst, arith}
+use Rattle.std.specs.List.Sorted.{IsPermutation, IsNonDecreasingBy, SwapsInRange, apply_swaps}
+use Rattle.std.specs.List.{swap}
+use Rattle.std.proofs.lemmas.List.{length-map, map-set, take_all}
+use Rattle.record_format.specs.declared.header.Header.{Header}
+use Rattle.log_seams.specs.Disk.{DiskState, KeepsBytes}
+use Rattle.disk_journal.specs.State.{BeginsWith, IsAtFirst, JournalState}
+use Rattle.archive_meaning.proofs.UniqueLemmas.{stands_begins}
+use Rattle.archive_open.specs.declared.segments.SegmentPlace.{SegmentPlace}
+use Rattle.archive_open.specs.Kept.{Kept, none_of}
+use Rattle.archive_open.specs.Shown.{IsLastGate, order_of, places_of}
+use Rattle.archive_open.specs.StepsNext.{AreWhole, Built, EndsWith, IsBuilt, LastGateTold, Looks}
+use Rattle.archive_open.proofs.OpenLemmas.{goes_first}
+use Rattle.word_places.specs.declared.place.WordsPlace.{WordsPlace}
+use Rattle.archive_places.specs.declared.front.SegmentFront.{SegmentFront}
+use Rattle.archive_places.specs.declared.places.Places.{Places}
+use Rattle.archive_places.specs.declared.opening.Opening.{Opening}
+use Rattle.archive_places.specs.Fronts.{front_of_place, order_of_front}
+use Rattle.archive_places.specs.Opened.{EndsAtGate, OpensPlaces}
+use Rattle.archive_places.specs.StepsGoing.{Going, GoneTo, RunOn, Shows, WordsTold}
+use Rattle.archive_places.specs.Words.{words_places_of}
+
+-- ---- segments in order
+
+-- an exchange of fronts is one of places
+get_or_mapped : {X Y : Type 0} (f : X → Y) (xs : List X) (i : ℕ) (d : X) → get_or (map f xs) i (f d) ≡ f (get_or xs i d)
+get_or_mapped f [] i d = refl
+get_or_mapped f (x ∷ xs) zero d = refl
+get_or_mapped f (x ∷ xs) (suc i) d = get_or_mapped f xs i d
+
+swap_mapped : {X Y : Type 0} (f : X → Y) (xs : List X) (i j : ℕ) → swap (map f xs) i j ≡ map f (swap xs i j)
+swap_mapped f [] i j = refl
+swap_mapped f (x ∷ xs) i j =
+    (λ k. set (set (map f (x ∷ xs)) i (get_or_mapped f (x ∷ xs) j x k)) j (get_or_mapped f (x ∷ xs) i x k))
+    ∙ ap (λ l. set l j (f (get_or (x ∷ xs) i x))) (sym (map-set f (x ∷ xs) i (get_or (x ∷ xs) j x)))
+    ∙ sym (map-set f (set (x ∷ xs) i (get_or (x ∷ xs) j x)) j (get_or (x ∷ xs) i x))
+
+moves_mapped : {X Y : Type 0} (f : X → Y) (xs : List X) (moves : List (ℕ × ℕ)) → apply_swaps (map f xs) moves ≡ map f (apply_swaps xs moves)
+moves_mapped f xs [] = refl
+moves_mapped f xs (p ∷ moves) = ap (λ l. swap l p.0 p.1) (moves_mapped f xs moves) ∙ swap_mapped f (apply_swaps xs moves) p.0 p.1
+
+-- fronts in another order are those of places in another order
+pub record HasOrder (places : List SegmentPlace) (fronts : List SegmentFront) : Type 0 where
+  pub ordered : List SegmentPlace
+  pub are : IsPermutation places ordered
+  pub sorted : IsNonDecreasingBy order_of ordered
+  pub fronts_are : fronts ≡ map front_of_place ordered
+
+has_order : (places : List SegmentPlace) (fronts : List SegmentFront) → IsPermutation (map front_of_place places) fronts → IsNonDecreasingBy order_of_front fronts → HasOrder places fronts
+has_order places fronts same sorted =
+    let ordered : List SegmentPlace = apply_swaps places same.moves in
+    let is : fronts ≡ map front_of_place ordered = same.is ∙ moves_mapped front_of_place places same.moves in
+    let rises : IsNonDecreasingBy order_of_front (map front_of_place ordered) = subst (IsNonDecreasingBy order_of_front) is sorted in
+    record {
+      ordered = ordered;
+      are = record { moves = same.moves; below = subst (λ (n : ℕ). SwapsInRange n same.moves) (length-map places front_of_place) same.below; is = refl };
+      sorted = λ i j d le lt.
+          let within : j < length (map front_of_place ordered) = omega (arith, lt, length-map ordered front_of_place) in
+          let one = ap order_of_front (get_or_mapped front_of_place ordered i d) in
+          let two = ap order_of_front (get_or_mapped front_of_place ordered j d) in
+          omega (arith, rises i j (front_of_place d) le within, one, two);
+      fronts_are = is;
+    }
+
+-- ---- the beginning
+
+pub shows_first : (o : Opening) (b : Built) (h : Header) → b.kept ≡ none_of h → b.files ≡ [] → b.segments ≡ [] → o.types ≡ [] → o.types_limit ≡ h.types_limit → o.words_count ≡ 0
+    → o.words_limit ≡ h.words_limit → o.files.items ≡ [] → o.segments.items ≡ [] → Shows o b
+shows_first o b h kept no_files no_segments types types_limit words words_limit files segments = record {
+  types = types ∙ ap (λ (k : Kept). k.types) (sym kept);
+  types_limit = types_limit ∙ ap (λ (k : Kept). k.types_limit) (sym kept);
+  words = words ∙ ap (λ (k : Kept). length k.words) (sym kept);
+  words_limit = words_limit ∙ ap (λ (k : Kept). k.words_limit) (sym kept);
+  files = files ∙ sym no_files;
+  segments = segments ∙ ap (map front_of_place) (sym no_segments);
+}
+
+pub words_told_first : (seen : Option (List ℕ)) (count : ℕ) (places : List WordsPlace) → count ≡ 0 → places ≡ [] → WordsTold seen count places
+words_told_first None count places none empty = tt
+words_told_first (Some bytes) count places none empty = λ h es begins few. empty ∙ ap (λ (n : ℕ). words_places_of (take n es)) (sym none)
+
+-- ---- the end
+
+-- what was found, by what was kept of all records
+pub record IsFound (a : Places) (o : Opening) (h : Header) (place count : ℕ) : Type 0 where
+  pub header : a.header ≡ h
+  pub types : a.types ≡ o.types
+  pub words : a.words ≡ o.words.items
+  pub files : a.files ≡ o.files.items
+  pub same : IsPermutation o.segments.items a.segments
+  pub sorted : IsNonDecreasingBy order_of_front a.segments
+  pub entries : a.entries ≡ count
+  pub end : a.end ≡ place + 1
+
+opens_told : (seen : Option (List ℕ)) (b : Built) (o : Opening) (header : Header) (place count : ℕ) (a : Places) → AreWhole b header place count seen → Shows o b → WordsTold seen count o.words.items
+    → IsFound a o header place count → OpensPlaces seen a
+opens_told None b o header place count a whole shows words is = tt
+opens_told (Some bytes) b o header place count a whole shows words is = λ h es stood.
+    let w = whole h es stood in
+    let built : IsBuilt b h es stood.legal.held = w.built stood.legal.held stood.legal.run in
+    let all : count ≡ length es = w.all in
+    let told = words h es (stands_begins bytes h es stood) (omega (arith, all)) in
+    let fronts : o.segments.items ≡ map front_of_place (places_of es) = shows.segments ∙ ap (map front_of_place) built.segments in
+    let order = has_order (places_of es) a.segments (subst (λ (l : List SegmentFront). IsPermutation l a.segments) fronts is.same) is.sorted in
+    record {
+      header = is.header ∙ sym w.one;
+      types = is.types ∙ shows.types ∙ ap (λ (k : Kept). k.types) built.kept;
+      words = is.words ∙ told ∙ ap words_places_of (take_all count es (omega (arith, all)));
+      files = is.files ∙ shows.files ∙ built.files;
+      ordered = order.ordered;
+      are = order.are;
+      sorted = order.sorted;
+      segments = order.fronts_are;
+      entries = is.entries ∙ all;
+      end = is.end ∙ ap (λ n. n + 1) w.gate;
+    }
+
+pub opens : (o : Opening) (old new : JournalState) (a : Places) → Looks old new → GoneTo o new → IsFound a o old.header new.place new.count → OpensPlaces old.disk.seen a
+opens o old new a looks gone is =
+    opens_told old.disk.seen gone.b o new.header new.place new.count a
+    (subst (λ s. AreWhole gone.b new.header new.place new.count s) looks.rests.seen gone.ends.whole) gone.shows (subst (λ s. WordsTold s new.count o.words.items) looks.rests.seen gone.words)
+    (subst (λ (h : Header). IsFound a o h new.place new.count) (sym looks.header) is)
+
+last_gate_told : (seen : Option (List ℕ)) (place : ℕ) (a : Places) → LastGateTold place seen → a.end ≡ place + 1 → EndsAtGate seen a
+last_gate_told None place a last end = tt
+last_gate_told (Some bytes) place a last end =
+    let same : place ≡ a.end - 1 = omega (arith, end) in
+    subst (λ n. IsLastGate n bytes) same last
+
+pub has_last_gate : (b : Built) (old new : JournalState) (a : Places) → Looks old new → EndsWith b new → a.end ≡ new.place + 1 → EndsAtGate old.disk.seen a
+has_last_gate b old new a looks ends end =
+    last_gate_told old.disk.seen new.place a (subst (λ s. LastGateTold new.place s) looks.rests.seen ends.last) end
+
+-- nothing was kept yet
+pub going_first : (o : Opening) (j : JournalState) → IsAtFirst j → BeginsWith j.header j.disk → o.types ≡ [] → o.types_limit ≡ j.header.types_limit → o.words.items ≡ [] → o.words_count ≡ 0
+    → o.words_limit ≡ j.header.words_limit → o.files.items ≡ [] → o.segments.items ≡ [] → Going o j
+going_first o j first begins types types_limit words words_count words_limit files segments =
+    let b : Built = record { kept = none_of j.header; files = []; segments = [] } in
+    record {
+      b = b;
+      shows = shows_first o b j.header refl refl refl types types_limit words_count words_limit files segments;
+      goes = goes_first b j first begins refl refl refl;
+      words = words_told_first j.disk.seen j.count o.words.items first.count words;
+      order = subst (λ (ps : List WordsPlace). RunOn 0 ps o.words_count) (sym words) (sym words_count);
+    }
+
+-- what is found of a disk that was only read
+pub opens_before : (old mid : DiskState) (a : Places) → KeepsBytes old mid → OpensPlaces mid.seen a → OpensPlaces old.seen a
+opens_before old mid a keeps is = subst (λ s. OpensPlaces s a) keeps.seen is
+
+pub gate_before : (old mid : DiskState) (a : Places) → KeepsBytes old mid → EndsAtGate mid.seen a → EndsAtGate old.seen a
+gate_before old mid a keeps is = subst (λ s. EndsAtGate s a) keeps.seen is

@@ -1,0 +1,5 @@
+pub mod WordLemmas
+pub mod FrontLemmas
+pub mod GoingLemmas
+pub mod EndLemmas
+pub mod TypeLemmas

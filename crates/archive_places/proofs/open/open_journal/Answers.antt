@@ -1,0 +1,37 @@
+use Rattle.std.proofs.Common.{List, refl, sym, subst, rules, arith}
+use Rattle.std.specs.List.Sorted.{IsPermutation, IsNonDecreasingBy}
+use Rattle.disk_journal.specs.Journal.{state_of}
+use Rattle.word_places.specs.Places.{AreInOrder}
+use Rattle.archive_places.specs.declared.front.SegmentFront.{SegmentFront}
+use Rattle.archive_places.specs.Fronts.{order_of_front}
+use Rattle.archive_places.proofs.EndLemmas.{going_first, has_last_gate, opens}
+use Rattle.archive_places.proofs.WordLemmas.{run_in_order}
+use Rattle.archive_places.proofs.open.open_journal.Goals as goal
+
+pub keep_all-requires-clause-going : goal.keep_all-requires-clause-going
+keep_all-requires-clause-going g c =
+    going_first _ (state_of c.args.journal.now) c.requires.first c.requires.begins (search rules) (search rules) (search rules) (search rules) (search rules) (search rules) (search rules)
+
+pub returns-clause-opened : goal.returns-clause-opened
+returns-clause-opened g c =
+    let opening = c.keep_all.new.opening in
+    opens opening (state_of c.args.journal.now) (state_of c.keep_all.new.journal) _ c.keep_all.ensures.looks c.in_ok-keep_all.ensures.ended (record {
+      header = c.header-header.ensures;
+      types = refl;
+      words = c.new-5.ensures;
+      files = c.new-6.ensures;
+      same = subst (λ (l : List SegmentFront). IsPermutation opening.segments.items l) (sym c.new-7.ensures) c.sort.ensures.same;
+      sorted = subst (λ (l : List SegmentFront). IsNonDecreasingBy order_of_front l) (sym c.new-7.ensures) c.sort.ensures.sorted;
+      entries = c.count.ensures;
+      end = c.end.ensures;
+    })
+
+pub returns-clause-order : goal.returns-clause-order
+returns-clause-order g c =
+    let opening = c.keep_all.new.opening in
+    subst (AreInOrder 0) (sym c.new-5.ensures) (run_in_order 0 opening.words.items opening.words_count c.in_ok-keep_all.ensures.ended.order (omega (arith, opening.within, opening.few)))
+
+pub returns-clause-last : goal.returns-clause-last
+returns-clause-last g c =
+    let gone = c.in_ok-keep_all.ensures.ended in
+    has_last_gate gone.b (state_of c.args.journal.now) (state_of c.keep_all.new.journal) _ c.keep_all.ensures.looks gone.ends c.end.ensures

@@ -1,0 +1,15 @@
+use Rattle.std.proofs.Common.{◌≡◌, ◌<◌, ◌≤◌}
+use Rattle.disk_journal.specs.Journal.{state_of}
+use Rattle.archive_open.specs.Shown.{Looks, Spares}
+use Rattle.archive_places.specs.StepsGoing.{Going}
+use Rattle.archive_places.proofs.walk.keep_all.Given as goal
+
+abbrev pub invariant-loop : goal.invariant-loop
+invariant-loop g l = record {
+  looks : Looks (state_of l.initial.journal) (state_of l.journal);
+  ranges : Spares (state_of l.initial.journal).disk.seen (state_of l.initial.journal).disk.ranges (state_of l.journal).disk.ranges;
+  going : Going l.opening (state_of l.journal);
+  counts : (state_of l.journal).disk.faults ≡ (state_of l.initial.journal).disk.faults;
+  far : l.journal.count < l.journal.place;
+  counted : l.counter ≤ l.journal.count;
+}

@@ -1,0 +1,5 @@
+pub mod Words
+pub mod Fronts
+pub mod Opened
+pub mod Laws
+pub mod StepsGoing

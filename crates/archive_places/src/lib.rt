@@ -1,0 +1,19 @@
+//! Opening an archive by places: its words and the lists of its heads are left on the disk.
+//!
+//! What is kept of each record is what its front says: of words where they stand and their numbers, of a
+//! segment the fixed part of its head. Names of files and log types are kept whole.
+#![tactic(auto)]
+
+mod front;
+mod laws;
+mod open;
+mod opening;
+mod places;
+mod records;
+mod segments;
+mod walk;
+
+pub use front::{FrontList, SegmentFront};
+pub use laws::words_stand;
+pub use open::open_places;
+pub use places::{PlaceList, Places};

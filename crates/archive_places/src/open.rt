@@ -1,0 +1,94 @@
+//! Opening an archive by places.
+ghost use Rattle.std.specs.Prelude.{◌≡◌, ℕ, IfOk, IsErrOf};
+ghost use Rattle.log_seams.specs.Disk.{KeepsBytes};
+ghost use Rattle.log_seams.specs.Outside.{CountsOf};
+ghost use Rattle.disk_journal.specs.Journal.{state_of};
+ghost use Rattle.disk_journal.specs.State.{BeginsWith, IsAtFirst};
+ghost use Rattle.archive_open.specs.Shown.{Looks, RefusedAt, Spares};
+ghost use Rattle.word_places.specs.Places.{AreInOrder};
+ghost use Rattle.archive_places.specs.Opened.{EndsAtGate, OpensPlaces};
+
+use crate::front::FrontList;
+use crate::opening::Opening;
+use crate::places::{PlaceList, Places};
+use crate::segments::sort;
+use crate::walk::keep_all;
+use archive_open::{ArchiveRefusal, FileList};
+use dict_core::Texts;
+use disk_journal::{Journal, start};
+use log_seams::Disk;
+use std::alloc::Global;
+
+// Opens the archive of a journal before its first record, as `open_places` does that of a disk.
+fn open_journal<D: Disk>(
+    alloc: Global,
+    journal: &mut Journal<'_, D>,
+) -> Result<Places, ArchiveRefusal>
+    requires first { IsAtFirst (state_of journal.old) }
+    requires begins { BeginsWith journal.old.header (D.state journal.old.disk.now) }
+
+    // what stays
+    ensures looks { Looks (state_of journal.old) (state_of journal.new) }
+    ensures ranges { Spares (D.state journal.old.disk.now).seen
+        (D.state journal.old.disk.now).ranges (D.state journal.new.disk.now).ranges }
+
+    // by the answer, and causes
+    ensures opened { IfOk result (λ places.
+        OpensPlaces (D.state journal.old.disk.now).seen places) }
+    ensures order { IfOk result (λ places. AreInOrder 0 places.words) }
+    ensures last { IfOk result (λ places.
+        EndsAtGate (D.state journal.old.disk.now).seen places) }
+    ensures damaged { (at : ℕ) → IsErrOf result (ArchiveRefusal.Damaged at)
+        → RefusedAt at (D.state journal.old.disk.now).seen }
+    ensures counts { CountsOf ArchiveRefusal.DiskFault
+        (D.state journal.old.disk.now).faults (D.state journal.new.disk.now).faults result }
+{
+    let header = *journal.header();
+    let mut opening = Opening {
+        types: Texts::new(alloc),
+        types_limit: header.types_limit,
+        words: Vec::new(alloc),
+        words_count: 0,
+        words_limit: header.words_limit,
+        files: Vec::new(alloc),
+        segments: Vec::new(alloc),
+    };
+    keep_all(alloc, journal, &mut opening)?;
+    sort(&mut opening.segments);
+    Ok(Places {
+        header,
+        types: opening.types,
+        words: PlaceList::new(opening.words),
+        files: FileList::new(opening.files),
+        segments: FrontList::new(opening.segments),
+        entries: journal.count(),
+        end: journal.end(),
+    })
+}
+
+/// Opens the archive of a disk by places. Where its bytes stand for an archive, what is found is that
+/// archive's; where they stand for none, the answer may be `Damaged`, with a gate that is not before the
+/// first damage. Of a record of words 8 bytes are read, of a segment 45, and no more of them is noticed.
+///
+/// # Errors
+///
+/// `DiskFault`, where the disk's count of faults rose, `Damaged`, or `OutOfMemory`.
+pub fn open_places<D: Disk>(alloc: Global, disk: &mut D) -> Result<Places, ArchiveRefusal>
+    // what stays
+    ensures keeps { KeepsBytes (D.state disk.old) (D.state disk.new) }
+    ensures ranges { Spares (D.state disk.old).seen
+        (D.state disk.old).ranges (D.state disk.new).ranges }
+
+    // by the answer, and causes
+    ensures opened { IfOk result (λ places. OpensPlaces (D.state disk.old).seen places) }
+    ensures order { IfOk result (λ places. AreInOrder 0 places.words) }
+    ensures last { IfOk result (λ places. EndsAtGate (D.state disk.old).seen places) }
+    ensures damaged { (at : ℕ) → IsErrOf result (ArchiveRefusal.Damaged at)
+        → RefusedAt at (D.state disk.old).seen }
+    ensures counts { CountsOf ArchiveRefusal.DiskFault
+        (D.state disk.old).faults (D.state disk.new).faults result }
+{
+    let header = start(disk)?;
+    let mut journal = Journal::begin(disk, header);
+    open_journal(alloc, &mut journal)
+}

@@ -1,0 +1,30 @@
+//! An archive that is opened by places.
+
+use crate::front::FrontList;
+use archive_open::FileList;
+use dict_core::Texts;
+use plain_list::ListOf;
+use record_format::Header;
+use word_places::WordsPlace;
+
+/// Places of records of words, in the order of their numbers.
+pub type PlaceList = ListOf<WordsPlace>;
+
+/// What [`open_places`](crate::open_places) found: names and log types, and where the rest stands.
+#[derive(Drop)]
+pub struct Places {
+    /// The header.
+    pub header: Header,
+    /// The texts of log types, each at its number.
+    pub types: Texts,
+    /// Where the records of words stand, in the order of their numbers.
+    pub words: PlaceList,
+    /// The files, each at its number.
+    pub files: FileList,
+    /// The segments, sorted by file and first message.
+    pub segments: FrontList,
+    /// How many records the archive has.
+    pub entries: u64,
+    /// How many bytes the archive has, up to and with the closed gate.
+    pub end: u64,
+}

@@ -1,0 +1,106 @@
+-- The texts of a payload by their starts.
+use Rattle.std.proofs.Common.{◌≡◌, ℕ, ◌+◌, ◌-◌, ◌^◌, ◌<◌, ◌≤◌, List, [], ◌∷◌, ◌++◌, length, map, get_or, take, drop, All, refl, sym, ap, subst, ◌∙◌, append_assoc, arith, length-append}
+use Rattle.std.specs.List.{flat_map}
+use Rattle.std.specs.Prelude.{Option, Some, None, IfNone, option_map, slice_get}
+use Rattle.std.proofs.lemmas.List.{drop-drop, drop_at, take_at, map-append, length-drop, length-map}
+use Rattle.std.proofs.lemmas.List.Elements.{All-nil, All-cons, All-append}
+use Rattle.std.proofs.lemmas.Option.{slice_get-get_or, slice_get-map}
+use Rattle.byteorder.specs.Endian.{little_number}
+use Rattle.byteorder.specs.Numbers.{little_number-reads_back}
+use Rattle.record_format.specs.Lists.{four_bytes, list_bytes, text_bytes}
+use Rattle.record_format.proofs.ListLemmas.{IsReadTo, length-four_bytes, read_all, read_more, same_number}
+use Rattle.word_places.specs.declared.place.WordsPlace.{WordsPlace}
+use Rattle.word_places.specs.Places.{Spells}
+use Rattle.word_places.specs.Record.{AreWalked, IsTextAt, text_from}
+
+number_read : (n : ℕ) (rest : List ℕ) → n < 2 ^ 32 → little_number 4 (four_bytes n ++ rest) ≡ n
+unfolding four_bytes
+number_read n rest lt = little_number-reads_back 4 n rest lt
+
+-- what stands at a start is its text
+pub text_is : (bytes text rest : List ℕ) (start : ℕ) → length text < 2 ^ 32 → drop start bytes ≡ text_bytes text ++ rest → text_from bytes start ≡ text
+text_is bytes text rest start fits is =
+    let apart : drop start bytes ≡ four_bytes (length text) ++ (text ++ rest) = is ∙ append_assoc (four_bytes (length text)) text rest in
+    let number : little_number 4 (drop start bytes) ≡ length text = ap (little_number 4) apart ∙ number_read (length text) (text ++ rest) fits in
+    let behind : drop (start + 4) bytes ≡ text ++ rest =
+    sym (drop-drop 4 start bytes) ∙ ap (λ (l : List ℕ). drop 4 l) apart ∙ drop_at (four_bytes (length text)) (text ++ rest) 4 (length-four_bytes (length text)) in
+    (λ i. take (number i) (behind i)) ∙ take_at text rest (length text) refl
+
+-- ---- looking a text up
+
+pub start_within : (bytes : List ℕ) (start : ℕ) → IsTextAt bytes start → start ≤ length bytes
+start_within bytes start is =
+    omega (arith, ap (λ (l : List ℕ). length l) is.3, length-drop start bytes, length-append (text_bytes is.0) is.1, length-append (four_bytes (length is.0)) is.0, length-four_bytes (length is.0))
+
+pub text_got : (bytes starts text rest : List ℕ) (at start : ℕ) → at < length starts → start ≡ get_or starts at 0 → length text < 2 ^ 32
+    → drop start bytes ≡ text_bytes text ++ rest → slice_get (map (text_from bytes) starts) at ≡ Some text
+text_got bytes starts text rest at start within is fits stands =
+    slice_get-map (text_from bytes) starts at ∙ ap (option_map (text_from bytes)) (slice_get-get_or starts at 0 within)
+    ∙ ap Some (ap (text_from bytes) (sym is) ∙ text_is bytes text rest start fits stands)
+
+-- ---- walking a payload
+
+-- one text more, which begins where the rest did
+pub walk_more : (bytes texts front rest text after starts : List ℕ) (count start : ℕ) → IsReadTo (four_bytes count ++ texts) count (map (text_from bytes) starts) rest
+    → bytes ≡ front ++ rest → start ≡ length bytes - length rest → length text < 2 ^ 32 → rest ≡ text_bytes text ++ after
+    → IsReadTo (four_bytes count ++ texts) count (map (text_from bytes) (starts ++ start ∷ [])) after
+walk_more bytes texts front rest text after starts count start read parts is fits begins =
+    let at : start ≡ length front = omega (arith, is, ap (λ (l : List ℕ). length l) parts, length-append front rest) in
+    let stands : drop start bytes ≡ text_bytes text ++ after = ap (λ (n : ℕ). drop n bytes) at ∙ ap (λ (l : List ℕ). drop (length front) l) parts ∙ drop_at front rest (length front) refl ∙ begins in
+    let one : map (text_from bytes) (starts ++ start ∷ []) ≡ map (text_from bytes) starts ++ text ∷ [] =
+    map-append (text_from bytes) starts (start ∷ []) ∙ ap (λ (t : List ℕ). map (text_from bytes) starts ++ t ∷ []) (text_is bytes text after start fits stands) in
+    subst (λ (ts : List (List ℕ)). IsReadTo (four_bytes count ++ texts) count ts after) (sym one) (read_more (four_bytes count ++ texts) count (map (text_from bytes) starts) rest text after read fits begins)
+
+pub starts_more : (bytes front rest text after starts : List ℕ) (start : ℕ) → All (IsTextAt bytes) starts
+    → bytes ≡ front ++ rest → start ≡ length bytes - length rest → length text < 2 ^ 32 → rest ≡ text_bytes text ++ after
+    → All (IsTextAt bytes) (starts ++ start ∷ [])
+starts_more bytes front rest text after starts start all parts is fits begins =
+    let at : start ≡ length front = omega (arith, is, ap (λ (l : List ℕ). length l) parts, length-append front rest) in
+    let stands : drop start bytes ≡ text_bytes text ++ after = ap (λ (n : ℕ). drop n bytes) at ∙ ap (λ (l : List ℕ). drop (length front) l) parts ∙ drop_at front rest (length front) refl ∙ begins in
+    All-append (IsTextAt bytes) starts (start ∷ []) all (All-cons (IsTextAt bytes) start [] (text, after, fits, stands) (All-nil (IsTextAt bytes)))
+
+pub front_more : (bytes front rest text after : List ℕ) → bytes ≡ front ++ rest → rest ≡ text_bytes text ++ after → (longer : List ℕ) × (bytes ≡ longer ++ after)
+front_more bytes front rest text after parts begins =
+    (front ++ text_bytes text, parts ∙ ap (λ (l : List ℕ). front ++ l) begins ∙ sym (append_assoc front (text_bytes text) after))
+
+pub walk_none : (bytes texts : List ℕ) (count : ℕ) → IsReadTo (four_bytes count ++ texts) count (map (text_from bytes) []) texts
+walk_none bytes texts count = record { parts = refl; lengths = All-nil (λ text. length text < 2 ^ 32) }
+
+pub walk_all : (bytes texts rest starts : List ℕ) (count : ℕ) → count < 2 ^ 32 → IsReadTo (four_bytes count ++ texts) count (map (text_from bytes) starts) rest
+    → All (IsTextAt bytes) starts → length starts ≡ count → rest ≡ [] → AreWalked count texts bytes starts
+walk_all bytes texts rest starts count lt read all len none = record {
+  stand = all;
+  are = record { count = omega (arith, lt, len, length-map starts (text_from bytes)); lengths = read.lengths };
+  spelled = read_all (four_bytes count ++ texts) count (map (text_from bytes) starts) rest read (length-map starts (text_from bytes) ∙ len) none;
+}
+
+-- ---- what a payload spells
+
+pub none_then : {X P Q : Type 0} (o : Option X) → IfNone o P → (P → Q) → IfNone o Q
+none_then None p f = f p
+none_then (Some x) p f = tt
+
+-- the numbers at the front of a payload that spells texts, and what stands behind them
+pub spells_parts : (p : WordsPlace) (bytes rest : List ℕ) (texts : List (List ℕ)) (first count : ℕ) → Spells p bytes texts → first < 2 ^ 32 → count < 2 ^ 32
+    → bytes ≡ four_bytes first ++ (four_bytes count ++ rest) → (first ≡ p.first) × (count ≡ p.count) × (four_bytes count ++ rest ≡ list_bytes texts)
+spells_parts p bytes rest texts first count spells lt_first lt_count parts =
+    let one = same_number first p.first (four_bytes count ++ rest) (list_bytes texts) lt_first spells.first (sym parts ∙ spells.spelled) in
+    let two = same_number count (length texts) rest (flat_map text_bytes texts) lt_count spells.are.count one.1 in
+    (one.0, two.0 ∙ spells.count, one.1)
+
+-- what stands behind them
+pub spells_rest : (p : WordsPlace) (bytes rest : List ℕ) (texts : List (List ℕ)) (first count : ℕ) → Spells p bytes texts → first < 2 ^ 32 → count < 2 ^ 32
+    → bytes ≡ four_bytes first ++ (four_bytes count ++ rest) → rest ≡ flat_map text_bytes texts
+spells_rest p bytes rest texts first count spells lt_first lt_count parts =
+    (same_number count (length texts) rest (flat_map text_bytes texts) lt_count spells.are.count (spells_parts p bytes rest texts first count spells lt_first lt_count parts).2).1
+
+-- texts that were walked are spelled
+pub walked_spells : (p : WordsPlace) (bytes rest starts : List ℕ) (first : ℕ) → length bytes ≡ p.length → p.first < 2 ^ 32 → p.count < 2 ^ 32 → first ≡ p.first
+    → bytes ≡ four_bytes first ++ (four_bytes p.count ++ rest) → AreWalked p.count rest bytes starts → Spells p bytes (map (text_from bytes) starts)
+walked_spells p bytes rest starts first size lt lt_count same parts walked = record {
+  size = size;
+  are = walked.are;
+  first = lt;
+  count = sym (same_number p.count (length (map (text_from bytes) starts)) rest (flat_map text_bytes (map (text_from bytes) starts)) lt_count walked.are.count walked.spelled).0;
+  spelled = parts ∙ ap (λ (l : List ℕ). four_bytes first ++ l) walked.spelled ∙ ap (λ (n : ℕ). four_bytes n ++ list_bytes (map (text_from bytes) starts)) same;
+}

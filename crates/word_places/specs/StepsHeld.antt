@@ -1,0 +1,25 @@
+-- Steps on the way to words that are held.
+use Rattle.std.specs.Prelude.{◌≡◌, ◌<◌, ◌≤◌, ℕ, Bool, List, ◌∷◌, set, is_some, Option, Some, None, slice_get}
+use Rattle.logtype_text.specs.declared.symbols.Kind.{Kind}
+use Rattle.word_places.specs.declared.held.HeldRecord.{HeldRecord}
+
+-- the record at a place begins with a number that is not above this
+abbrev pub StartsBy : List HeldRecord → ℕ → ℕ → Type 0
+StartsBy records at number = (r : HeldRecord) → slice_get records at ≡ Some r → r.place.first ≤ number
+
+-- with one that is above it, if there is a record at this place
+abbrev pub StartsPast : List HeldRecord → ℕ → ℕ → Type 0
+StartsPast records at number = (r : HeldRecord) → slice_get records at ≡ Some r → number < r.place.first
+
+-- this tells whether the record at a place was read
+abbrev pub TellsRead : List HeldRecord → ℕ → Bool → Type 0
+TellsRead records at read = (r : HeldRecord) → slice_get records at ≡ Some r → read ≡ is_some r.words
+
+-- the record at a place got these words
+abbrev pub Puts : List HeldRecord → ℕ → List (List ℕ) → List HeldRecord → Type 0
+Puts old at words new = (r : HeldRecord) → slice_get old at ≡ Some r → new ≡ set old at (record { place = r.place; words = Some words })
+
+-- the kinds, behind this one if there is one
+abbrev pub with_kind : Option Kind → List Kind → List Kind
+with_kind None kinds = kinds
+with_kind (Some kind) kinds = kind ∷ kinds

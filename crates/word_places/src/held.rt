@@ -1,0 +1,106 @@
+//! The words of an archive, of which some records are held in memory.
+ghost use Rattle.std.specs.Prelude.{◌≡◌, length, map, IfOk};
+ghost use Rattle.word_places.specs.Held.{AreNumbered, HeldNames, unread};
+ghost use Rattle.word_places.specs.Places.{AreInOrder};
+
+use crate::lending::{number_in, text_in};
+use crate::place::WordsPlace;
+use crate::record::RecordWords;
+use dict_core::Texts;
+use row_codec::Names;
+use std::alloc::{AllocError, Global};
+use std::marker::Model;
+
+/// The first version whose moments count microseconds.
+const MICRO_VERSION: u32 = 3;
+
+/// A record of words: where it stands, and its words, once they are read.
+#[derive(Debug, Drop)]
+pub struct HeldRecord {
+    pub(crate) place: WordsPlace,
+    pub(crate) words: Option<RecordWords>,
+}
+
+/// The log types of an archive, and its words as far as their records were read. As [`Names`] it has an
+/// empty text for each word of a record that was not read.
+#[derive(Drop)]
+pub struct HeldWords {
+    pub(crate) alloc: Global,
+    pub(crate) types: Texts,
+    pub(crate) version: u32,
+    pub(crate) records: Vec<HeldRecord>,
+}
+
+impl Model for HeldWords {
+    ghost use Rattle.word_places.specs.Held.{AreNumbered, HeldNames};
+
+    ghost Value = { HeldNames };
+
+    ghost view = { λ h. record { types = h.types; version = h.version; records = h.records.items } };
+
+    ghost invariant = { λ h. AreNumbered 0 h.records.items };
+}
+
+impl HeldWords {
+    /// The words of records at these places, none of which is read, beside the log types of an archive
+    /// of this version.
+    pub fn new(
+        alloc: Global,
+        types: Texts,
+        version: u32,
+        places: &[WordsPlace],
+    ) -> Result<HeldWords, AllocError>
+        requires { AreInOrder 0 places.now }
+        ensures types { IfOk result (λ held. held.types ≡ types) }
+        ensures version { IfOk result (λ held. held.version ≡ version) }
+        ensures records { IfOk result (λ held. held.records ≡ map unread places.now) }
+    {
+        let mut records = Vec::with_capacity(alloc, places.len())?;
+        for place in places {
+            records.push_reserved(HeldRecord {
+                place: *place,
+                words: None,
+            });
+        }
+        Ok(HeldWords {
+            alloc,
+            types,
+            version,
+            records,
+        })
+    }
+
+    /// How many records there are. The numbers of their words go on from one to the next.
+    pub fn record_count(&self) -> usize
+        ensures count { result ≡ length self.now.records }
+        ensures numbered { AreNumbered 0 self.now.records }
+    {
+        self.records.len()
+    }
+}
+
+impl Names for HeldWords {
+    ghost use Rattle.word_places.specs.Held.{lends};
+
+    ghost types = { λ h. h.types };
+
+    ghost words = { λ h. lends h.records };
+
+    ghost version = { λ h. h.version };
+
+    fn micro(&self) -> bool {
+        self.version >= MICRO_VERSION
+    }
+
+    fn type_text(&self, number: u32) -> Option<&[u8]> {
+        self.types.text_of(number)
+    }
+
+    fn word_text(&self, number: u32) -> Option<&[u8]> {
+        text_in(self.records.as_slice(), number)
+    }
+
+    fn word_number(&self, text: &[u8]) -> Option<u32> {
+        number_in(self.records.as_slice(), text)
+    }
+}

@@ -1,0 +1,27 @@
+//! Words that stay on the disk: where each record of them stands, and what reads them from there.
+//!
+//! An archive that is opened for reading keeps of its records of words the places alone. A search reads
+//! what it asks: one pass over the payloads finds the words that hold a needle, and the words of a row
+//! are read with their record when they are first wanted.
+#![tactic(auto)]
+
+mod held;
+mod holding;
+mod laws;
+mod lending;
+mod needle;
+mod order;
+mod pass;
+mod place;
+mod reading;
+mod record;
+mod refusal;
+mod slots;
+
+pub use held::{HeldRecord, HeldWords};
+pub use laws::{held_agree, held_stay, holders_have, rows_are_local};
+pub use needle::Fit;
+pub use pass::{add_all, add_holders, add_record, word_found};
+pub use place::WordsPlace;
+pub use record::RecordWords;
+pub use refusal::HoldRefusal;
