@@ -60,21 +60,21 @@ returns-in-Search-clause-untouched g c = λ none. absurd (none (rw (c.in-Search.
 pub ingest_files-requires-clause-workers : goal.ingest_files-requires-clause-workers
 ingest_files-requires-clause-workers g c κs within =
     let range = rw (c.in-Ingest.is) at c.requires in
-    rw (c.of.ensures.workers) (range.workers_are.low, range.workers_are.high)
+    rw (c.of-logs.ensures.workers) (range.workers_are.low, range.workers_are.high)
 
 pub ingest_files-requires-clause-segment : goal.ingest_files-requires-clause-segment
 ingest_files-requires-clause-segment g c κs within =
     let range = rw (c.in-Ingest.is) at c.requires in
-    rw (c.of.ensures.segment) (range.segment_is.low, range.segment_is.high)
+    rw (c.of-logs.ensures.segment) (range.segment_is.low, range.segment_is.high)
 
 pub ingest_files-requires-clause-some : goal.ingest_files-requires-clause-some
 ingest_files-requires-clause-some g c κs within =
     let range = rw (c.in-Ingest.is) at c.requires in
-    rw (c.of.ensures.files) (some_of str_bytes c.in-Ingest.asked.files.items range.some)
+    rw (c.of-logs.ensures.files) (some_of str_bytes c.in-Ingest.asked.files.items range.some)
 
 pub returns-in-Ingest-clause-answers : goal.returns-in-Ingest-clause-answers
 returns-in-Ingest-clause-answers g c =
-    rw (c.in-Ingest.is) (rw (← c.of.ensures.files) (rw (← c.of.ensures.segment) (rw (← c.of.ensures.workers) (ingest_answers _ _ _ _ _ _ _ _ c.ingest_files.ensures.names c.ingest_files.ensures.answers))))
+    rw (c.in-Ingest.is) (rw (← c.of-logs.ensures.files) (rw (← c.of-logs.ensures.segment) (rw (← c.of-logs.ensures.workers) (ingest_answers _ _ _ _ _ _ _ _ c.ingest_files.ensures.names c.ingest_files.ensures.answers))))
 
 pub returns-in-Ingest-clause-keeps : goal.returns-in-Ingest-clause-keeps
 returns-in-Ingest-clause-keeps g c = λ none. absurd (none (rw (c.in-Ingest.is) tt))
