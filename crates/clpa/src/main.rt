@@ -21,12 +21,14 @@ mod writing;
 use clp_commands::run;
 use disk_file::DiskFile;
 use log_file::LogFiles;
-use log_seams::Sink;
+use log_seams::{Disk, Shelf, Sink};
 use place::FilePath;
-use std::alloc::AllocError;
+use std::alloc::{AllocError, Global};
 use std::env;
 use std::io::ErrorKind;
 use std::process::ExitCode;
+use std::sync::Wait;
+use std::thread::Threads;
 use stream::{Standard, Stream};
 use writing::ask_to_write;
 
@@ -71,6 +73,23 @@ fn command_line(rt: &HostRuntime) -> Result<CommandLine, AllocError> {
     })
 }
 
+/// What `run` answers where nothing is known of what the archive's file holds.
+fn answer<R: Threads + Wait + Sync, H: Shelf, D: Disk + Send, K: Sink>(
+    rt: &R,
+    alloc: Global,
+    words: &[String],
+    logs: &mut H,
+    archive: &mut D,
+    second: &mut D,
+    out: &mut K,
+    err: &mut K,
+) -> u8
+where
+    H::Src: Send,
+{
+    run(rt, alloc, words, logs, archive, second, out, err)
+}
+
 fn main(rt: HostRuntime) -> ExitCode {
     let mut out = Stream::new(Standard::Output(rt.stdout()));
     let mut err = Stream::new(Standard::Errors(rt.stderr()));
@@ -93,7 +112,7 @@ fn main(rt: HostRuntime) -> ExitCode {
         rt: &rt,
         path: line.second.as_str(),
     });
-    let status = run(
+    let status = answer(
         &rt,
         rt.alloc(),
         line.words.as_slice(),

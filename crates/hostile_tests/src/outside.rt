@@ -1,7 +1,7 @@
 //! What is outside of a call, in memory, and what came of the call.
 
 use clp_commands::run;
-use log_seams::{MemDisk, MemFile, MemShelf, MemSink, Shelf};
+use log_seams::{Disk, MemDisk, MemFile, MemShelf, MemSink, Shelf, Sink};
 use plain_list::Text;
 use std::alloc::{AllocError, Global};
 use std::sync::Wait;
@@ -115,6 +115,23 @@ fn nothing(alloc: Global, faults: Faults) -> Result<Outcome, AllocError> {
     })
 }
 
+/// What `run` answers where no archive is known that the disk holds.
+fn answer<R: Threads + Wait + Sync, H: Shelf, D: Disk + Send, K: Sink>(
+    rt: &R,
+    alloc: Global,
+    words: &[String],
+    logs: &mut H,
+    archive: &mut D,
+    second: &mut D,
+    out: &mut K,
+    err: &mut K,
+) -> u8
+where
+    H::Src: Send,
+{
+    run(rt, alloc, words, logs, archive, second, out, err)
+}
+
 /// Calls `run` with these words, over logs, the archive's disk and outputs whose writes may fail.
 pub(crate) fn call<R: Threads + Wait + Sync, H: Shelf>(
     rt: &R,
@@ -130,7 +147,7 @@ where
     let words = list_of(alloc, words)?;
     let mut second = MemDisk::new(alloc, Text::new(Vec::new(alloc)), 0, 0, Vec::new(alloc))?;
     let mut outcome = nothing(alloc, faults)?;
-    outcome.status = run(
+    outcome.status = answer(
         rt,
         alloc,
         words.as_slice(),

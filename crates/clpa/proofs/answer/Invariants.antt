@@ -1,6 +1,6 @@
 use Rattle.std.specs.Prelude.{None}
-use Rattle.clpa.proofs.main.Given as goal
+use Rattle.clpa.proofs.answer.Given as goal
 
 -- nothing is known of what the file holds
 abbrev pub ghost-run : goal.ghost-run
-ghost-run a = None
+ghost-run g a = None
