@@ -95,11 +95,13 @@ pub fn by_workers<J: Send, K: Send, W: Works<J, K> + Send, R: Threads + Wait + S
         rt,
         &mut ||
             requires shared { IsSync R.row }
+            // the front half of the workers, with the front half of the jobs
             requires workers { (0 < length these.now) × (length these.now ≤ MAX_WORKERS) }
             requires few { length front.now ≤ 4294967296 }
             requires same { length front.now ≡ length front_keepers.now }
             requires ready { AllReady W.ready these.now }
             requires fits { AllFit W.fits these.now front.now front_keepers.now }
+            // what became of them
             ensures went { AllWent W.ready W.went front.entry.now front.exit.now
                 these.entry.now these.exit.now }
             ensures did { AllDone W.went W.did these.entry.now these.exit.now
@@ -108,11 +110,13 @@ pub fn by_workers<J: Send, K: Send, W: Works<J, K> + Send, R: Threads + Wait + S
         { by_workers(rt, these, front, front_keepers) },
         &mut ||
             requires shared { IsSync R.row }
+            // the workers behind them, with the jobs behind
             requires workers { (0 < length others.now) × (length others.now ≤ MAX_WORKERS) }
             requires few { length back.now ≤ 4294967296 }
             requires same { length back.now ≡ length back_keepers.now }
             requires ready { AllReady W.ready others.now }
             requires fits { AllFit W.fits others.now back.now back_keepers.now }
+            // what became of them
             ensures went { AllWent W.ready W.went back.entry.now back.exit.now
                 others.entry.now others.exit.now }
             ensures did { AllDone W.went W.did others.entry.now others.exit.now
