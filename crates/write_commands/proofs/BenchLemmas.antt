@@ -15,9 +15,9 @@ use Rattle.write_commands.specs.Benched.{AddsLogs, EndsLogs, IsSpared, IsTakenWh
 use Rattle.command_refusals.specs.Ending.{EndsWith, SaysIn, Stayed, TookNothing}
 use Rattle.command_refusals.specs.GoesOn.{DiskGoesOn}
 use Rattle.write_commands.specs.IngestPrints.{came_of, names_of}
-use Rattle.write_commands.specs.Ingested.{FileOutcome, FromArchive, HasCallCause, LeavesJournal, StandsForEither, TakesIn, TakesNothing}
+use Rattle.write_commands.specs.Ingested.{FileOutcome, FromArchive, HasCallCause, LeavesJournal, StandsForEither, TakesIn, TakesNothing, logs_of}
 use Rattle.command_refusals.specs.Refusal.{line_of, status_of}
-use Rattle.write_commands.specs.StepsCauses.{HaveFileCauses, logs_of}
+use Rattle.write_commands.specs.StepsCauses.{HaveFileCauses}
 use Rattle.command_refusals.specs.declared.refusal.Refusal.{Refusal}
 use Rattle.command_refusals.specs.declared.outcome.AddRefusal.{AddRefusal}
 use Rattle.sink_pieces.specs.Output.{Grew}

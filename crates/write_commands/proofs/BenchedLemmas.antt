@@ -34,23 +34,23 @@ IsFree r = (r ≡ None) ⊎ (r ≡ Some PartCause.OutOfMemory)
 abbrev IsFreeOf : FileOutcome → Type 0
 IsFreeOf c = IsFree c.refusal
 
-one_free : (rows : ℕ) (names : List (List ℕ)) (seen : Outside) (old new : DiskState) (c : FileOutcome) (r : Option PartCause) → HasFileCause rows names seen old new c r → MayRefuseLog r → MeetsNoLimit r → ¬ Rose old.faults new.faults → IsFree r
-one_free rows names seen old new c None cause may met steady = inl refl
-one_free rows names seen old new c (Some PartCause.OutOfMemory) cause may met steady = inr refl
-one_free rows names seen old new c (Some PartCause.DiskFault) cause may met steady = absurd (steady cause)
-one_free rows names seen old new c (Some (PartCause.Full book count)) cause may met steady = absurd met
-one_free rows names seen old new c (Some (PartCause.ArchiveFull end need)) cause may met steady = absurd met
-one_free rows names seen old new c (Some PartCause.OpenFault) cause may met steady = absurd may
-one_free rows names seen old new c (Some PartCause.ReadFault) cause may met steady = absurd may
-one_free rows names seen old new c (Some (PartCause.LineTooLong line)) cause may met steady = absurd may
-one_free rows names seen old new c (Some PartCause.TooManyLines) cause may met steady = absurd may
+one_free : (rows : ℕ) (all : List FileOutcome) (seen : Outside) (old new : DiskState) (c : FileOutcome) (r : Option PartCause) → HasFileCause rows all seen old new c r → MayRefuseLog r → MeetsNoLimit r → ¬ Rose old.faults new.faults → IsFree r
+one_free rows all seen old new c None cause may met steady = inl refl
+one_free rows all seen old new c (Some PartCause.OutOfMemory) cause may met steady = inr refl
+one_free rows all seen old new c (Some PartCause.DiskFault) cause may met steady = absurd (steady cause)
+one_free rows all seen old new c (Some (PartCause.Full book count)) cause may met steady = absurd met
+one_free rows all seen old new c (Some (PartCause.ArchiveFull end need)) cause may met steady = absurd met
+one_free rows all seen old new c (Some PartCause.OpenFault) cause may met steady = absurd may
+one_free rows all seen old new c (Some PartCause.ReadFault) cause may met steady = absurd may
+one_free rows all seen old new c (Some (PartCause.LineTooLong line)) cause may met steady = absurd may
+one_free rows all seen old new c (Some PartCause.TooManyLines) cause may met steady = absurd may
 
-all_free : (rows : ℕ) (names : List (List ℕ)) (seen : Outside) (old new : DiskState) (came : List FileOutcome) → All (CameOfFile rows names seen old new) came → All IsSpared came → All (λ (c : FileOutcome). MeetsNoLimit c.refusal) came → ¬ Rose old.faults new.faults → All IsFreeOf came
-all_free rows names seen old new [] each spared met steady = All-nil IsFreeOf
-all_free rows names seen old new (c ∷ came) each spared met steady =
-    let one : CameOfFile rows names seen old new c = All-head (CameOfFile rows names seen old new) c came each in
-    All-cons IsFreeOf c came (one_free rows names seen old new c c.refusal one.cause (All-head IsSpared c came spared) (All-head (λ (x : FileOutcome). MeetsNoLimit x.refusal) c came met) steady)
-    (all_free rows names seen old new came (All-tail (CameOfFile rows names seen old new) c came each) (All-tail IsSpared c came spared) (All-tail (λ (x : FileOutcome). MeetsNoLimit x.refusal) c came met) steady)
+all_free : (rows : ℕ) (all : List FileOutcome) (seen : Outside) (old new : DiskState) (came : List FileOutcome) → All (CameOfFile rows all seen old new) came → All IsSpared came → All (λ (c : FileOutcome). MeetsNoLimit c.refusal) came → ¬ Rose old.faults new.faults → All IsFreeOf came
+all_free rows all seen old new [] each spared met steady = All-nil IsFreeOf
+all_free rows all seen old new (c ∷ came) each spared met steady =
+    let one : CameOfFile rows all seen old new c = All-head (CameOfFile rows all seen old new) c came each in
+    All-cons IsFreeOf c came (one_free rows all seen old new c c.refusal one.cause (All-head IsSpared c came spared) (All-head (λ (x : FileOutcome). MeetsNoLimit x.refusal) c came met) steady)
+    (all_free rows all seen old new came (All-tail (CameOfFile rows all seen old new) c came each) (All-tail IsSpared c came spared) (All-tail (λ (x : FileOutcome). MeetsNoLimit x.refusal) c came met) steady)
 
 abbrev statuses : List FileOutcome → List ℕ
 statuses came = map (λ (c : FileOutcome). file_status c.refusal) came
@@ -123,7 +123,7 @@ module _ (number lines workers : ℕ) (seen : Outside) (old new : DiskState) (st
 
   logs_taken : ¬ Rose old.faults new.faults → ¬ RoseIn seen.out_faults → All (λ (c : FileOutcome). MeetsNoLimit c.refusal) takes.came → TellsParts takes.came seen status ⊎ SumsUp takes.came seen old new status → SumsUpAll lines seen new status
   logs_taken steady sent met (inl parts) =
-      inr (parts.status_is ∙ parts_free takes.came (all_free segment_rows generated_names (with_logs (generated number lines) seen) (as_made old) new takes.came takes.each takes.spared met steady) parts.part)
+      inr (parts.status_is ∙ parts_free takes.came (all_free segment_rows takes.came (with_logs (generated number lines) seen) (as_made old) new takes.came takes.each takes.spared met steady) parts.part)
   logs_taken steady sent met (inr sums) =
       let same : sum_by (λ (c : FileOutcome). c.messages) takes.came ≡ 4 * lines = subst (λ (o : Option (List ℕ)). IfSome o (λ _. sum_by (λ (c : FileOutcome). c.messages) takes.came ≡ 4 * lines)) none (takes.all sums.whole) in
       sums_complete lines seen old new status _ steady sent same sums.answer sums.ends sums.prints sums.disk sums.sink (λ at e. none_damaged at (sums.damaged at e))

@@ -8,9 +8,9 @@ use Rattle.sink_pieces.specs.Output.{Grew, GrewByFront}
 use Rattle.command_refusals.specs.Outside.{Outside}
 use Rattle.file_lines.specs.Directory.{FileLine, directory_from}
 use Rattle.command_refusals.specs.Ending.{EndsWithoutMemory, RoseIn, SaysIn, Stayed, TookNothing}
-use Rattle.write_commands.specs.Ingested.{EndsIngest, FileOutcome, FromArchive, HasCallCause, PrintsCame, TakesIn, TakesNothing, line_of_came}
+use Rattle.write_commands.specs.Ingested.{EndsIngest, FileOutcome, FromArchive, HasCallCause, PrintsCame, TakesIn, TakesNothing, line_of_came, logs_of}
 use Rattle.write_commands.specs.IngestPrints.{came_of, names_of}
-use Rattle.write_commands.specs.StepsCauses.{HaveFileCauses, logs_of}
+use Rattle.write_commands.specs.StepsCauses.{HaveFileCauses}
 use Rattle.command_refusals.specs.Reading.{OverJournal}
 use Rattle.command_refusals.specs.Refusal.{line_of, status_of}
 use Rattle.write_commands.specs.Taken.{error_of, file_error, file_status, gravest, line_of_taken, status_of_taken}
@@ -48,7 +48,7 @@ module _ (one : OneListOfParts) (workers rows : ℕ) (names : List (List ℕ)) (
   printed_came : PrintsCame (map came_of files) first seen status → EndsIngest workers rows names seen old new status
   printed_came printed = inr (record {
     adds = record { came = map came_of files; first = first; names_are = names_came files ∙ named; numbered = numbered; disk = disk; printed = printed };
-    each = file_causes workers rows names seen old new (map came_of files) (names_came files ∙ named) caused;
+    each = file_causes workers rows seen old new (map came_of files) caused;
     in_turn = full_in_turn workers rows seen old new (map came_of files) caused;
     fits = all_fit rows one seen.content names (map came_of files) old new tells disk;
   })

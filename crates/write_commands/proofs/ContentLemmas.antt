@@ -1,5 +1,5 @@
 -- What the archive holds of files that were taken in.
-use Rattle.std.proofs.Common.{◌≡◌, ◌≢◌, not, ◌+◌, ◌<◌, ◌≤◌, ◌&&◌, ◌⊎◌, inl, inr, refl, sym, ap, ap₂, subst, ◌∙◌, ℕ, zero, suc, Bool, true, false, List, [], ◌∷◌, ◌++◌, length, map, Option, Some, None, arith, append_assoc}
+use Rattle.std.proofs.Common.{◌≡◌, ◌≢◌, not, ◌+◌, ◌<◌, ◌≤◌, ◌&&◌, ◌⊎◌, ⊎_elim, inl, inr, refl, sym, ap, ap₂, subst, ◌∙◌, ℕ, zero, suc, Bool, true, false, List, [], ◌∷◌, ◌++◌, length, map, Option, Some, None, arith, append_assoc}
 use Rattle.std.specs.Prelude.{All, IfSome, is_some, option_map, slice_get}
 use Rattle.std.specs.List.{AllZip, Contains, filter_map}
 use Rattle.column_store.specs.Columns.{IsFull}
@@ -33,7 +33,7 @@ use Rattle.ingest_workers.specs.JobDone.{in_source}
 use Rattle.ingest_workers.specs.Locked.{in_file}
 use Rattle.ingest_workers.specs.Parts.{IsCut, IsOpen, Part, columns_of, front, messages_in, rest_of, segments_from}
 use Rattle.ingest_workers.specs.Worker.{IsGiven as IsGivenByJobs}
-use Rattle.write_commands.specs.Ingested.{FileOutcome, IsCutInto, IsFront, IsGiven, IsOfNew, LeavesJournal, TakesIn}
+use Rattle.write_commands.specs.Ingested.{FileOutcome, IsCutInto, IsFront, IsGiven, IsGivenBy, IsOfNew, LeavesJournal, TakesIn}
 use Rattle.write_commands.specs.JournalLeft.{HasNames, IsLogOf}
 use Rattle.write_commands.proofs.JoinLemmas.{HasNone, content_grows, new_file, with_names}
 use Rattle.write_commands.proofs.LeavesLemmas.{left_leaves, of_told, same_leaves}
@@ -161,11 +161,11 @@ all_left P xs ys all = subst (All P) (take-append_seam xs ys) (All-take P (lengt
 all_right : {A : Type 0} (P : A → Type 0) (xs ys : List A) → All P (xs ++ ys) → All P ys
 all_right P xs ys all = subst (All P) (drop-append_seam xs ys) (All-drop P (length xs) (xs ++ ys) all)
 
-module _ {S : Type 0} (left : S → Option (List ℕ)) (content : List ℕ → Option (List ℕ)) (version : ℕ) (names : List (List ℕ)) (first : ℕ) (js : List (Job S)) where
-  -- the jobs are those of the names
+module _ {S : Type 0} (left : S → Option (List ℕ)) (content : List ℕ → Option (List ℕ)) (version : ℕ) (came : List FileOutcome) (first : ℕ) (js : List (Job S)) where
+  -- the jobs are those of the files
   pub record AreJobsOf : Type 0 where
     pub file : (i : ℕ) (job : Job S) → slice_get js i ≡ Some job → job.file ≡ first + i
-    pub log : (i : ℕ) (job : Job S) → slice_get js i ≡ Some job → (name : List ℕ) × (slice_get names i ≡ Some name) × IsLogOf (content name) (in_source left job.source)
+    pub log : (i : ℕ) (job : Job S) → slice_get js i ≡ Some job → (c : FileOutcome) × (slice_get came i ≡ Some c) × IsLogOf content c (in_source left job.source)
 
   nothing_given : (m : List ℕ) → ((messages : List (List ℕ)) (ended : Bool) → MessagesOf version [] messages ended → Contains messages m) → ⊥
   nothing_given m given = none_in (given [] true (messages_none version))
@@ -173,49 +173,49 @@ module _ {S : Type 0} (left : S → Option (List ℕ)) (content : List ℕ → O
       none_in : Contains [] m → ⊥
       none_in c = absurd (omega (arith, c.1))
 
-  pub given_of_names : AreJobsOf → (m : List ℕ) → IsGivenByJobs left version js m → IsGiven content version names m
+  -- a message of a job is one of a file whose log could be opened
+  pub given_of_names : AreJobsOf → (m : List ℕ) → IsGivenByJobs left version js m → IsGiven content version came m
   given_of_names of m given =
       let log = of.log given.0 given.1 given.2 in (
         log.0,
-        contains_at names given.0 log.0 log.1,
-        by_log (content log.0) (in_source left given.1.source) log.2 given.3,
+        contains_at came given.0 log.0 log.1,
+        by_log log.0 (in_source left given.1.source) log.2 given.3,
       )
     where
-      contains_at : (l : List (List ℕ)) (i : ℕ) (name : List ℕ) → slice_get l i ≡ Some name → Contains l name
-      contains_at l i name at = (i, slice_get_within l i name at, get_or_from_slice_get l i name name at)
+      contains_at : (l : List FileOutcome) (i : ℕ) (c : FileOutcome) → slice_get l i ≡ Some c → Contains l c
+      contains_at l i c at = (i, slice_get_within l i c at, get_or_from_slice_get l i c c at)
 
-      by_log : (log told : Option (List ℕ)) → IsLogOf log told → IfSome told (λ b. (messages : List (List ℕ)) (ended : Bool) → MessagesOf version b messages ended → Contains messages m)
-          → IfSome log (λ b. (messages : List (List ℕ)) (ended : Bool) → MessagesOf version b messages ended → Contains messages m)
-      by_log log told (inl same) one = subst (λ (o : Option (List ℕ)). IfSome o (λ b. (messages : List (List ℕ)) (ended : Bool) → MessagesOf version b messages ended → Contains messages m)) same one
-      by_log log told (inr none) one =
+      by_log : (c : FileOutcome) (told : Option (List ℕ)) → IsLogOf content c told → IfSome told (λ b. (messages : List (List ℕ)) (ended : Bool) → MessagesOf version b messages ended → Contains messages m) → IsGivenBy content version c m
+      by_log c told (inl same) one = (same.1, subst (λ (o : Option (List ℕ)). IfSome o (λ b. (messages : List (List ℕ)) (ended : Bool) → MessagesOf version b messages ended → Contains messages m)) same.0 one)
+      by_log c told (inr none) one =
           absurd (nothing_given m (subst (λ (o : Option (List ℕ)). IfSome o (λ b. (messages : List (List ℕ)) (ended : Bool) → MessagesOf version b messages ended → Contains messages m)) none one))
 
-  all_of_names : AreJobsOf → (es : List JournalEntry) → All (IsOfJobs js) es → All (IsTypeGiven left version js) (types_of es) → All (IsWordGiven left version js) (words_of es) → All (IsOfNew content version names first) es
-  all_of_names of [] each types words = All-nil (IsOfNew content version names first)
+  all_of_names : AreJobsOf → (es : List JournalEntry) → All (IsOfJobs js) es → All (IsTypeGiven left version js) (types_of es) → All (IsWordGiven left version js) (words_of es) → All (IsOfNew content version came first) es
+  all_of_names of [] each types words = All-nil (IsOfNew content version came first)
   all_of_names of (e ∷ es) each types words =
-      All-cons (IsOfNew content version names first) e es
+      All-cons (IsOfNew content version came first) e es
       (entry e (All-head (IsOfJobs js) e es each) (all_left (IsTypeGiven left version js) (types_in e) (types_of es) types) (all_left (IsWordGiven left version js) (words_in e) (words_of es) words))
       (all_of_names of es (All-tail (IsOfJobs js) e es each) (all_right (IsTypeGiven left version js) (types_in e) (types_of es) types) (all_right (IsWordGiven left version js) (words_in e) (words_of es) words))
     where
-      entry : (e : JournalEntry) → IsOfJobs js e → All (IsTypeGiven left version js) (types_in e) → All (IsWordGiven left version js) (words_in e) → IsOfNew content version names first e
+      entry : (e : JournalEntry) → IsOfJobs js e → All (IsTypeGiven left version js) (types_in e) → All (IsWordGiven left version js) (words_in e) → IsOfNew content version came first e
       entry (Files more) is t w = is
-      entry (Types number texts) is t w = All-weaker (IsTypeGiven left version js) (λ text. (m : List ℕ) × IsGiven content version names m × IsTypeOf version m text) (λ text g. (g.0, given_of_names of g.0 g.1, g.2)) texts t
-      entry (Words number texts) is t w = All-weaker (IsWordGiven left version js) (λ text. (m : List ℕ) × IsGiven content version names m × IsWordOf version m text) (λ text g. (g.0, given_of_names of g.0 g.1, g.2)) texts w
+      entry (Types number texts) is t w = All-weaker (IsTypeGiven left version js) (λ text. (m : List ℕ) × IsGiven content version came m × IsTypeOf version m text) (λ text g. (g.0, given_of_names of g.0 g.1, g.2)) texts t
+      entry (Words number texts) is t w = All-weaker (IsWordGiven left version js) (λ text. (m : List ℕ) × IsGiven content version came m × IsWordOf version m text) (λ text g. (g.0, given_of_names of g.0 g.1, g.2)) texts w
       entry (Segment s) is t w =
           let file : is.1.file ≡ first + is.0 = of.file is.0 is.1 is.2 in
           let named = of.log is.0 is.1 is.2 in
-          (omega (arith, file, is.3), omega (arith, file, is.3, slice_get_within names is.0 named.0 named.1))
+          (omega (arith, file, is.3), omega (arith, file, is.3, slice_get_within came is.0 named.0 named.1))
 
-new_from : (content : List ℕ → Option (List ℕ)) (version : ℕ) (names : List (List ℕ)) (first : ℕ) (e : JournalEntry) → IsOfNew content version names first e → IsNewFrom first e
-new_from content version names first (Files more) new = new
-new_from content version names first (Types number texts) new = tt
-new_from content version names first (Words number texts) new = tt
-new_from content version names first (Segment s) new = new.0
+new_from : (content : List ℕ → Option (List ℕ)) (version : ℕ) (came : List FileOutcome) (first : ℕ) (e : JournalEntry) → IsOfNew content version came first e → IsNewFrom first e
+new_from content version came first (Files more) new = new
+new_from content version came first (Types number texts) new = tt
+new_from content version came first (Words number texts) new = tt
+new_from content version came first (Segment s) new = new.0
 
 -- ---- the archive with the new files
 
 module _ (content : List ℕ → Option (List ℕ)) (h : Header) (before : List JournalEntry) (names : List (List ℕ)) {bytes : List ℕ} (stood : StandsFor bytes h before) (fresh : List JournalEntry)
-    (legal : IsLegal h (before ++ (Files names ∷ fresh))) (new : All (IsOfNew content h.version names (length stood.legal.held.names)) fresh) where
+    (legal : IsLegal h (before ++ (Files names ∷ fresh))) (came : List FileOutcome) (new : All (IsOfNew content h.version came (length stood.legal.held.names)) fresh) where
   abbrev first : ℕ
   first = length stood.legal.held.names
 
@@ -229,7 +229,7 @@ module _ (content : List ℕ → Option (List ℕ)) (h : Header) (before : List 
       subst (λ (x : Held). Run h x fresh legal.held) (split.2.1 ∙ ap (λ (x : Held). with_names x names) same) split.2.2
 
   grown_of_new : HasGrown first mid legal.held
-  grown_of_new = grown h first mid legal.held fresh run_of_new (All-weaker (IsOfNew content h.version names first) (IsNewFrom first) (new_from content h.version names first) fresh new)
+  grown_of_new = grown h first mid legal.held fresh run_of_new (All-weaker (IsOfNew content h.version came first) (IsNewFrom first) (new_from content h.version came first) fresh new)
 
   content_of_new : content_of legal.held ≡ content_of stood.legal.held ++ files_from first names legal.held.pieces
   content_of_new =
@@ -238,9 +238,9 @@ module _ (content : List ℕ → Option (List ℕ)) (h : Header) (before : List 
       ∙ ap (λ ps. content_of stood.legal.held ++ files_from first names ps) (sym grown_of_new.pieces))
 
   -- what is told of each file makes what the archive has of them
-  pub taken_in : (rows : ℕ) (old late : DiskState) → LeavesJournal h before (before ++ (Files names ∷ fresh)) old late → (came : List FileOutcome) → map (λ (c : FileOutcome). c.name) came ≡ names
+  pub taken_in : (rows : ℕ) (old late : DiskState) → LeavesJournal h before (before ++ (Files names ∷ fresh)) old late → map (λ (c : FileOutcome). c.name) came ≡ names
       → ((i : ℕ) (c : FileOutcome) → slice_get came i ≡ Some c → IsTold content h.version rows fresh legal.held.pieces (first + i) c) → TakesIn rows content h before stood names came old late
-  taken_in rows old late leaves came are each = record {
+  taken_in rows old late leaves are each = record {
     added = fresh;
     each = new;
     leaves = leaves;
@@ -279,7 +279,7 @@ module _ (content : List ℕ → Option (List ℕ)) (h : Header) (before : List 
   -- of a file whose job was done these are
   pub file_told : {S D : Type 0} {d : DiskGhosts D} (left : S → Option (List ℕ)) (j : Journal D d) → HasNames h before names (state_of j) → (rows i : ℕ) (c : FileOutcome) (old done : Job S) → i < length names → old.file ≡ first + i
       → IsFileOf left (plan_of rows j) j fresh old done → c.messages ≡ done.outcome.messages → c.whole ≡ done.outcome.whole
-      → IsLogOf (content c.name) (in_source left old.source) → (c.refusal ≡ None → (in_source left old.source ≡ content c.name) × (old.is_open ≡ true) × (done.outcome.cause ≡ None)) → IsTold content h.version rows fresh legal.held.pieces (first + i) c
+      → IsLogOf content c (in_source left old.source) → (c.refusal ≡ None → (in_source left old.source ≡ content c.name) × (old.is_open ≡ true) × (done.outcome.cause ≡ None)) → IsTold content h.version rows fresh legal.held.pieces (first + i) c
   file_told {S} {D} {d} left j named rows i c old done within number is count whole log opened =
       record {
         covered = is.covered;
@@ -287,7 +287,7 @@ module _ (content : List ℕ → Option (List ℕ)) (h : Header) (before : List 
         holds = holds;
         count = count ∙ is.count;
         cut = parts;
-        first = front_by (content c.name) (in_source left old.source) log first_told;
+        first = front_by (content c.name) (in_source left old.source) (⊎_elim (λ same. inl same.0) (λ none. inr none) log) first_told;
         all = λ spared.
             let full : done.outcome.whole ≡ true = all_of (opened spared).1 (opened spared).2 in
             (whole ∙ full, all_by (content c.name) (subst (λ (o : Option (List ℕ)). OfMessages h.version o (λ messages e. (is.covered ≡ messages) × (is.ended ≡ e))) (opened spared).0 (all_told full)));
@@ -368,8 +368,8 @@ named_at came names are i c at =
     subst (λ l. slice_get l i ≡ Some c.name) are (slice_get-map (λ (x : FileOutcome). x.name) came i ∙ ap (option_map (λ (x : FileOutcome). x.name)) at)
 
 module _ {S D : Type 0} {d : DiskGhosts D} (left : S → Option (List ℕ)) (content : List ℕ → Option (List ℕ)) (h : Header) (before : List JournalEntry) (names : List (List ℕ)) {bytes : List ℕ} (stood : StandsFor bytes h before)
-    (j after : Journal D d) (law : IsLawful (d.state after.disk.now)) (named : HasNames h before names (state_of j)) (js js' : List (Job S)) (of : AreJobsOf left content h.version names (length stood.legal.held.names) js)
-    (came : List FileOutcome) (are : map (λ (c : FileOutcome). c.name) came ≡ names) (each : (i : ℕ) (c : FileOutcome) → slice_get came i ≡ Some c → CameOfJob left content js js' i c) where
+    (j after : Journal D d) (law : IsLawful (d.state after.disk.now)) (named : HasNames h before names (state_of j)) (js js' : List (Job S)) (came : List FileOutcome) (of : AreJobsOf left content h.version came (length stood.legal.held.names) js)
+    (are : map (λ (c : FileOutcome). c.name) came ≡ names) (each : (i : ℕ) (c : FileOutcome) → slice_get came i ≡ Some c → CameOfJob left content js js' i c) where
   -- the jobs were done
   pub ingested_takes_in : (rows : ℕ) → HasIngested left (plan_of rows j) js js' j after → TakesIn rows content h before stood names came (d.state j.disk.now) (d.state after.disk.now)
   ingested_takes_in rows done =
@@ -381,17 +381,17 @@ module _ {S D : Type 0} {d : DiskGhosts D} (left : S → Option (List ℕ)) (con
       let legal : IsLegal h (before ++ (Files names ∷ s.fresh)) =
       subst (IsLegal h) grown
       (legal_front h (journal_of (state_by d.state done.store)) k.under (subst (λ x. IsLegal x (journal_of (state_by d.state done.store) ++ k.under)) (s.left_by.header ∙ named.header) (of_told (tells (state_by d.state done.store)) told k.legal))) in
-      let new : All (IsOfNew content h.version names (length stood.legal.held.names)) s.fresh =
-      all_of_names left content h.version names (length stood.legal.held.names) js of s.fresh s.others (subst (λ v. All (IsTypeGiven left v js) (types_of s.fresh)) version done.types) (subst (λ v. All (IsWordGiven left v js) (words_of s.fresh)) version done.words) in
-      taken_in content h before names stood s.fresh legal new rows (d.state j.disk.now) (d.state after.disk.now) (left_leaves h before names j after law named done.store s.left_by s.fresh s.grown) came are
+      let new : All (IsOfNew content h.version came (length stood.legal.held.names)) s.fresh =
+      all_of_names left content h.version came (length stood.legal.held.names) js of s.fresh s.others (subst (λ v. All (IsTypeGiven left v js) (types_of s.fresh)) version done.types) (subst (λ v. All (IsWordGiven left v js) (words_of s.fresh)) version done.words) in
+      taken_in content h before names stood s.fresh legal came new rows (d.state j.disk.now) (d.state after.disk.now) (left_leaves h before names j after law named done.store s.left_by s.fresh s.grown) are
       (λ i c at.
       let one = each i c at in
       let its = s.files i one.old one.at in
       let log = of.log i one.old one.at in
       let same : its.0 ≡ one.done = some_is its.0 one.done (sym its.1 ∙ one.at_done) in
-      let name : log.0 ≡ c.name = some_is log.0 c.name (sym log.1 ∙ named_at came names are i c at) in
-      file_told content h before names stood s.fresh legal new left j named rows i c one.old one.done (slice_get_within names i log.0 log.1) (of.file i one.old one.at)
-      (subst (λ (x : Job S). IsFileOf left (plan_of rows j) j s.fresh one.old x) same its.2) one.messages one.whole (subst (λ n. IsLogOf (content n) (in_source left one.old.source)) name log.2) one.opened)
+      let file : log.0 ≡ c = some_is log.0 c (sym log.1 ∙ at) in
+      file_told content h before names stood s.fresh legal came new left j named rows i c one.old one.done (slice_get_within names i c.name (named_at came names are i c at)) (of.file i one.old one.at)
+      (subst (λ (x : Job S). IsFileOf left (plan_of rows j) j s.fresh one.old x) same its.2) one.messages one.whole (subst (λ (x : FileOutcome). IsLogOf content x (in_source left one.old.source)) file log.2) one.opened)
     where
       some_is : {A : Type 0} (x y : A) → Some x ≡ Some y → x ≡ y
       some_is x y e = cc (e)
@@ -400,10 +400,10 @@ module _ {S D : Type 0} {d : DiskGhosts D} (left : S → Option (List ℕ)) (con
   pub refused_takes_in : (rows : ℕ) → 0 < rows → IsLawful (d.state j.disk.now) → ((c : List ℕ) → (d.state j.disk.now).images c → StandsFor c h (before ++ Files names ∷ [])) → IsLegal h (before ++ Files names ∷ []) → IsAsItWas j after → AreRefused js js'
       → TakesIn rows content h before stood names came (d.state j.disk.now) (d.state after.disk.now)
   refused_takes_in rows some law_j only legal stayed refused =
-      taken_in content h before names stood [] legal (All-nil (IsOfNew content h.version names (length stood.legal.held.names))) rows (d.state j.disk.now) (d.state after.disk.now) (same_leaves h before names j after law named law_j only stayed) came are
+      taken_in content h before names stood [] legal came (All-nil (IsOfNew content h.version came (length stood.legal.held.names))) rows (d.state j.disk.now) (d.state after.disk.now) (same_leaves h before names j after law named law_j only stayed) are
       (λ i c at.
       let one = each i c at in
       let none = refused.each i one.done one.at_done in
-      none_told content h before names stood [] legal (All-nil (IsOfNew content h.version names (length stood.legal.held.names))) rows i c some (slice_get_within names i c.name (named_at came names are i c at)) refl
+      none_told content h before names stood [] legal came (All-nil (IsOfNew content h.version came (length stood.legal.held.names))) rows i c some (slice_get_within names i c.name (named_at came names are i c at)) refl
       (one.messages ∙ ap (λ (o : Outcome). o.messages) none) (one.whole ∙ ap (λ (o : Outcome). o.whole) none)
       (λ spared. absurd (cc (sym (ap (λ (o : Outcome). o.cause) none) ∙ (one.opened spared).2))))

@@ -20,19 +20,21 @@ use Rattle.disk_seal.specs.View.{StoreView}
 use Rattle.disk_seal.proofs.ToldLemmas.{told_map}
 use Rattle.row_codec.specs.declared.namer.Which.{Which}
 use Rattle.row_codec.specs.declared.namer.Which.TheVariants.{Types as WhichTypes, Words as WhichWords}
-use Rattle.ingest_workers.specs.Full.{IsNextOf, IsTextOf}
+use Rattle.ingest_workers.specs.Full.{AreAllOf, IsNextOf, IsTextOf}
 use Rattle.ingest_workers.proofs.FullLemmas.{full_by_wider}
 use Rattle.write_commands.proofs.ContentLemmas.{AreJobsOf, given_of_names}
 use Rattle.ingest_workers.specs.declared.job.Job.{Job}
 use Rattle.ingest_workers.specs.declared.outcome.Cause.{Cause}
 use Rattle.ingest_workers.specs.declared.outcome.Outcome.{Outcome}
-use Rattle.ingest_workers.specs.Causes.{EndsLog, HasJobCause, Log, log_of}
+use Rattle.ingest_workers.specs.Causes.{EndsLog, HasJobCause, HasLogCause, Log, log_of}
+use Rattle.ingest_workers.proofs.SealLemmas.{of_told}
+use Rattle.message_reader.specs.Taken.{IsBeforeLong, IsReadShort}
 use Rattle.ingest_workers.specs.Ingested.{AreRefused, HadNoRoomOver, HasItsCause, HasStored, HaveCauses, IsAsItWas, IsFullByGiven as IsFullByJobs, IsThereOrGiven as IsThereOrGivenByJobs, WereGiven as WereGivenByJobs, grounds_over, not_begun, plan_of, told_entries}
 use Rattle.ingest_workers.specs.Outcome.{nothing_done}
 use Rattle.write_commands.specs.IngestPrints.{came_of}
-use Rattle.write_commands.specs.Ingested.{FileOutcome, HasMoreThan, IsNextTooLong, IsThereOrGiven, WasCutShort}
+use Rattle.write_commands.specs.Ingested.{FileOutcome, HasEnded, HasMoreThan, IsNextTooLong, IsStoppedBy, IsThereOrGiven, Logs, WasCutShort}
 use Rattle.write_commands.specs.Jobs.{DidJobs, IsNotBegun, of_cause, of_opening, refusal_by, sources_of}
-use Rattle.write_commands.specs.StepsCauses.{CameIn, HasCauseIn, Logs, Target, into_journal}
+use Rattle.write_commands.specs.StepsCauses.{CameIn, HasCauseIn, Target, into_journal}
 use Rattle.command_refusals.specs.LogLimits.{IsLong, most_messages}
 use Rattle.command_refusals.specs.declared.outcome.PartCause.{PartCause}
 use Rattle.write_commands.specs.declared.file_report.FileReport.{FileReport}
@@ -82,9 +84,9 @@ module _ {S : Type 0} (left name : S → Option (List ℕ)) (faults : S → ℕ)
       let none : is_utf8 no_name ≡ true = subst (λ n. is_utf8 n ≡ true) (sym same) is.text in
       absurd (cc (none, no_text))
 
-  module _ {D : Type 0} {d : DiskGhosts D} (j after : Journal D d) (names : List (List ℕ)) (rows first : ℕ) (js : List (Job (LogSource S))) (of : AreJobsOf (left_in left) logs.content j.header.version names first js) (c : FileOutcome) where
+  module _ {D : Type 0} {d : DiskGhosts D} (j after : Journal D d) (came : List FileOutcome) (rows first : ℕ) (js : List (Job (LogSource S))) (of : AreJobsOf (left_in left) logs.content j.header.version came first js) (c : FileOutcome) where
     abbrev into : Target
-    into = into_journal (state_of j) rows first names
+    into = into_journal (state_of j) rows first came
 
     abbrev full : Option (List ℕ) → List (List ℕ) → Which → ℕ → Type 0
     full = IsFullByJobs (left_in left) (plan_of rows j) js j
@@ -99,16 +101,35 @@ module _ {S : Type 0} (left name : S → Option (List ℕ)) (faults : S → ℕ)
     CauseIn = HasCauseIn logs into (d.state j.disk.now) (d.state after.disk.now) c
 
     -- a text of the encoding of a message of a job is one of a message of a given file
-    of_given : (book : Which) (t : List ℕ) → IsThereOrGivenByJobs (left_in left) (plan_of rows j) js j book t → IsThereOrGiven logs.content j.header.version names (told_entries (state_of j)) book t
+    of_given : (book : Which) (t : List ℕ) → IsThereOrGivenByJobs (left_in left) (plan_of rows j) js j book t → IsThereOrGiven logs.content j.header.version came (told_entries (state_of j)) book t
     of_given WhichTypes t (inl there) = inl there
-    of_given WhichTypes t (inr given) = inr (given.0, given_of_names (left_in left) logs.content j.header.version names first js of given.0 given.1, given.2)
+    of_given WhichTypes t (inr given) = inr (given.0, given_of_names (left_in left) logs.content j.header.version came first js of given.0 given.1, given.2)
     of_given WhichWords t (inl there) = inl there
-    of_given WhichWords t (inr given) = inr (given.0, given_of_names (left_in left) logs.content j.header.version names first js of given.0 given.1, given.2)
+    of_given WhichWords t (inr given) = inr (given.0, given_of_names (left_in left) logs.content j.header.version came first js of given.0 given.1, given.2)
 
     -- a text of the log's next message is one of the next message of the named file
     next_in : (bytes : Option (List ℕ)) (sealed : List (List ℕ)) (book : Which) (t : List ℕ) → bytes ≡ logs.content c.name → IsTextOf j.header.version (IsNextOf j.header.version bytes sealed) book t
         → IsTextOf j.header.version (IsNextOf j.header.version (logs.content c.name) sealed) book t
     next_in bytes sealed book t is next = subst (λ (o : Option (List ℕ)). IsTextOf j.header.version (IsNextOf j.header.version o sealed) book t) is next
+
+    -- where a job's log has ended, the log of the named file has
+    stopped_by : (log : Log) → log.bytes ≡ logs.content c.name → (Rose log.faults log.faults_now → Rose (logs.reads c.name).0 (logs.reads c.name).1) → is_some (d.state j.disk.now).seen ≡ true → (taken : List (List ℕ)) (cause : Cause)
+        → HasLogCause (full log.bytes) log j.header.version taken cause → IsStoppedBy logs came j.header (told_entries (state_of j)) c.name taken (of_cause cause)
+    stopped_by log bytes up told taken Cause.ReadFault has =
+        (up has.0, subst (λ (o : Option (List ℕ)). IfSome o (λ b. (behind : Option (List ℕ)) × IsReadShort j.header.version b taken behind)) bytes (IfSome_then log.bytes has.1 (λ b short. (log.behind, short))))
+    stopped_by log bytes up told taken (Cause.LineTooLong line) has = (has.1, subst (λ (o : Option (List ℕ)). IfSome o (IsBeforeLong j.header.version taken)) bytes has.2)
+    stopped_by log bytes up told taken Cause.TooManyLines has = (has.1, subst (λ (o : Option (List ℕ)). HasMoreThan most_messages j.header.version o) bytes has.2)
+    stopped_by log bytes up told taken (Cause.Full book n) has =
+        let is = of_told (is_some (d.state j.disk.now).seen) _ told has.1 in
+        (is.0, full_by_wider _ _ _ _ (of_given book) (λ t next. next_in log.bytes taken book t bytes next) n is.1)
+    stopped_by log bytes up told taken (Cause.DiskFault opened now) has = has
+    stopped_by log bytes up told taken Cause.OutOfMemory has = has
+    stopped_by log bytes up told taken (Cause.ArchiveFull end need) has = has
+
+    has_ended : (log : Log) → log.bytes ≡ logs.content c.name → (Rose log.faults log.faults_now → Rose (logs.reads c.name).0 (logs.reads c.name).1) → is_some (d.state j.disk.now).seen ≡ true → (taken : List (List ℕ))
+        → EndsLog (full log.bytes) log j.header.version taken → HasEnded logs came j.header (told_entries (state_of j)) c.name taken
+    has_ended log bytes up told taken (inl all) = inl (subst (λ (o : Option (List ℕ)). AreAllOf j.header.version o taken) bytes all)
+    has_ended log bytes up told taken (inr why) = inr (of_cause why.0, stopped_by log bytes up told taken why.0 why.1)
 
     -- the cause of a job
     job_cause : (file : ℕ) (log : Log) (sealed : List (List ℕ)) (o : Option Cause) → HasJobCause (grounds_over full has_texts (plan_of rows j) file log.bytes j after) log j.header.version sealed o
@@ -141,19 +162,22 @@ module _ {S : Type 0} (left name : S → Option (List ℕ)) (faults : S → ℕ)
     done_in : (s : LogSource S) (old done : Job (LogSource S)) → CameFrom c.name s → old.source ≡ Some s → old.is_open ≡ is_opened s
         → c.messages ≡ done.outcome.messages → c.whole ≡ done.outcome.whole → c.refusal ≡ refusal_by (refusal_of s) done.outcome.cause
         → HasItsCause full has_texts (left_in left) (name_in name) (faults_in faults) (plan_of rows j) j after old done
-        → ((bytes : Option (List ℕ)) → bytes ≡ logs.content c.name → (last : List (List ℕ) → Type 0) (sealed : List (List ℕ)) → c.messages ≡ length sealed → (end need : ℕ) → HadNoRoomOver has_texts (plan_of rows j) old.file bytes j after last sealed end need → CauseIn (Some (PartCause.ArchiveFull end need)))
+        → ((bytes : Option (List ℕ)) → bytes ≡ logs.content c.name → (last : List (List ℕ) → Type 0) → (is_some (d.state j.disk.now).seen ≡ true → (taken : List (List ℕ)) → last taken → HasEnded logs came j.header (told_entries (state_of j)) c.name taken) → (sealed : List (List ℕ)) → c.messages ≡ length sealed → (end need : ℕ) → HadNoRoomOver has_texts (plan_of rows j) old.file bytes j after last sealed end need → CauseIn (Some (PartCause.ArchiveFull end need)))
         → (old.is_open ≡ true → is_some done.outcome.cause ≡ not done.outcome.whole) → (old.is_open ≡ false → done.outcome ≡ nothing_done)
         → ((t : LogSource S) → done.source ≡ Some t → IsCounted name faults reads reads_now t) → In
-    done_in (Unopened cause n) old done came has as_opened messages whole refusal its fits opened unopened counted =
+    done_in (Unopened cause n) old done came_from has as_opened messages whole refusal its fits opened unopened counted =
         let none = unopened as_opened in
-        opening_in into (d.state j.disk.now) (d.state after.disk.now) c cause n came (messages ∙ ap (λ (o : Outcome). o.messages) none) (whole ∙ ap (λ (o : Outcome). o.whole) none) refusal
-    done_in (Opened s) old done came has as_opened messages whole refusal its fits opened unopened counted =
+        opening_in into (d.state j.disk.now) (d.state after.disk.now) c cause n came_from (messages ∙ ap (λ (o : Outcome). o.messages) none) (whole ∙ ap (λ (o : Outcome). o.whole) none) refusal
+    done_in (Opened s) old done came_from has as_opened messages whole refusal its fits opened unopened counted =
         let is : its.source.before ≡ Opened s = some_is its.source.before (Opened s) (sym its.source.had ∙ has) in
         let either : is_some done.outcome.cause ≡ not c.whole = opened as_opened ∙ ap not (sym whole) in
+        let log : Log = log_of (left_in left) (faults_in faults) its.source.before its.source.after in
+        let bytes : log.bytes ≡ logs.content c.name = ap (left_in left) is ∙ came_from.left_is in
+        let up : Rose log.faults log.faults_now → Rose (logs.reads c.name).0 (logs.reads c.name).1 =
+        λ risen. reads_rose c.name s its.source.after came_from (its.source.keeps.named ∙ ap (name_in name) is) (counted its.source.after its.source.has) (subst (λ n. Rose n (faults_in faults its.source.after)) (ap (faults_in faults) is) risen) in
         came_in logs into (d.state j.disk.now) (d.state after.disk.now) c (option_map of_cause done.outcome.cause) refusal
-        (job_cause old.file (log_of (left_in left) (faults_in faults) its.source.before its.source.after) its.sealed done.outcome.cause its.cause
-        (fits (left_in left its.source.before) (ap (left_in left) is ∙ came.left_is) (EndsLog (full (left_in left its.source.before)) (log_of (left_in left) (faults_in faults) its.source.before its.source.after) j.header.version) its.sealed (messages ∙ its.count)) either (messages ∙ its.count) (ap (left_in left) is ∙ came.left_is)
-        (λ up. reads_rose c.name s its.source.after came (its.source.keeps.named ∙ ap (name_in name) is) (counted its.source.after its.source.has) (subst (λ n. Rose n (faults_in faults its.source.after)) (ap (faults_in faults) is) up)))
+        (job_cause old.file log its.sealed done.outcome.cause its.cause
+        (fits log.bytes bytes (EndsLog (full log.bytes) log j.header.version) (has_ended log bytes up) its.sealed (messages ∙ its.count)) either (messages ∙ its.count) bytes up)
         (not_whole done.outcome.cause c.whole either)
       where
         some_is : (x y : LogSource S) → Some x ≡ Some y → x ≡ y
@@ -161,16 +185,16 @@ module _ {S : Type 0} (left name : S → Option (List ℕ)) (faults : S → ℕ)
 
     -- it was not begun
     refused_in : (s : LogSource S) (done : Job (LogSource S)) → CameFrom c.name s → c.messages ≡ done.outcome.messages → c.whole ≡ done.outcome.whole → c.refusal ≡ refusal_by (refusal_of s) done.outcome.cause → done.outcome ≡ not_begun → In
-    refused_in (Unopened cause n) done came messages whole refusal none =
-        opening_in into (d.state j.disk.now) (d.state after.disk.now) c cause n came (messages ∙ ap (λ (o : Outcome). o.messages) none) (whole ∙ ap (λ (o : Outcome). o.whole) none) refusal
-    refused_in (Opened s) done came messages whole refusal none =
+    refused_in (Unopened cause n) done came_from messages whole refusal none =
+        opening_in into (d.state j.disk.now) (d.state after.disk.now) c cause n came_from (messages ∙ ap (λ (o : Outcome). o.messages) none) (whole ∙ ap (λ (o : Outcome). o.whole) none) refusal
+    refused_in (Opened s) done came_from messages whole refusal none =
         no_memory logs into (d.state j.disk.now) (d.state after.disk.now) c (refusal ∙ ap (λ (o : Outcome). option_map of_cause o.cause) none) (whole ∙ ap (λ (o : Outcome). o.whole) none)
 
   -- ---- all files
 
-  module _ {D : Type 0} {d : DiskGhosts D} (j after : Journal D d) (names : List (List ℕ)) (rows first : ℕ) (js js' : List (Job (LogSource S))) (of : AreJobsOf (left_in left) logs.content j.header.version names first js) (came : List FileOutcome) (each : (i : ℕ) (c : FileOutcome) → slice_get came i ≡ Some c → CameOfLog CameFrom js js' i c) where
+  module _ {D : Type 0} {d : DiskGhosts D} (j after : Journal D d) (came : List FileOutcome) (rows first : ℕ) (js js' : List (Job (LogSource S))) (of : AreJobsOf (left_in left) logs.content j.header.version came first js) (each : (i : ℕ) (c : FileOutcome) → slice_get came i ≡ Some c → CameOfLog CameFrom js js' i c) where
     abbrev AllIn : Type 0
-    AllIn = All (CameIn logs (into_journal (state_of j) rows first names) (d.state j.disk.now) (d.state after.disk.now)) came
+    AllIn = All (CameIn logs (into_journal (state_of j) rows first came) (d.state j.disk.now) (d.state after.disk.now)) came
 
     source_at : (given : List (LogSource S)) → map Some given ≡ sources_of js' → (i : ℕ) (done : Job (LogSource S)) (t : LogSource S) → slice_get js' i ≡ Some done → done.source ≡ Some t → slice_get given i ≡ Some t
     source_at given are i done t at has = go (slice_get given i)
@@ -180,17 +204,17 @@ module _ {S : Type 0} (left name : S → Option (List ℕ)) (faults : S → ℕ)
         go None is = absurd (cc (is))
         go (Some u) is = cc (is, has)
 
-    all_done : IsLawful (d.state after.disk.now) → map (λ (c : FileOutcome). c.name) came ≡ names → (store : StoreView D) → HasStored (left_in left) (plan_of rows j) js js' j after store → HaveCauses (left_in left) (name_in name) (faults_in faults) (plan_of rows j) j after js js'
+    all_done : IsLawful (d.state after.disk.now) → (store : StoreView D) → HasStored (left_in left) (plan_of rows j) js js' j after store → HaveCauses (left_in left) (name_in name) (faults_in faults) (plan_of rows j) j after js js'
         → (given : List (LogSource S)) → map Some given ≡ sources_of js' → All (IsCounted name faults reads reads_now) given → AllIn
-    all_done law named store stored causes given are counted = each_of (CameIn logs (into_journal (state_of j) rows first names) (d.state j.disk.now) (d.state after.disk.now)) came (λ i c at.
+    all_done law store stored causes given are counted = each_of (CameIn logs (into_journal (state_of j) rows first came) (d.state j.disk.now) (d.state after.disk.now)) came (λ i c at.
         let one = each i c at in
         let file = stored.files i one.old one.at in
         let same : file.0 ≡ one.done = some_is file.0 one.done (sym file.1 ∙ one.at_done) in
         let cause = causes.each i one.old one.at in
         let alike : cause.0 ≡ one.done = some_is cause.0 one.done (sym cause.1 ∙ one.at_done) in
         let its = subst (λ (x : Job (LogSource S)). HasItsCause (IsFullByJobs (left_in left) (plan_of rows j) js j) (WereGivenByJobs (left_in left) (plan_of rows j) js) (left_in left) (name_in name) (faults_in faults) (plan_of rows j) j after one.old x) alike cause.2 in
-        done_in j after names rows first js of c one.source one.old one.done one.came one.has one.opened one.messages one.whole one.refusal its
-        (fit_of_job (left_in left) logs.content j after names rows first js of law store stored.left_by i one.old one.at c (name_at i c at))
+        done_in j after came rows first js of c one.source one.old one.done one.came one.has one.opened one.messages one.whole one.refusal its
+        (fit_of_job (left_in left) logs j after came rows first js of law store stored.left_by i one.old one.at c at)
         (subst (λ (x : Job (LogSource S)). one.old.is_open ≡ true → is_some x.outcome.cause ≡ not x.outcome.whole) same file.2.cause)
         (subst (λ (x : Job (LogSource S)). one.old.is_open ≡ false → x.outcome ≡ nothing_done) same file.2.unopened)
         (λ t has. at_of (IsCounted name faults reads reads_now) given i t counted (source_at given are i one.done t one.at_done has)))
@@ -198,18 +222,15 @@ module _ {S : Type 0} (left name : S → Option (List ℕ)) (faults : S → ℕ)
         some_is : (x y : Job (LogSource S)) → Some x ≡ Some y → x ≡ y
         some_is x y e = cc (e)
 
-        name_at : (i : ℕ) (c : FileOutcome) → slice_get came i ≡ Some c → slice_get names i ≡ Some c.name
-        name_at i c at = ap (λ (l : List (List ℕ)). slice_get l i) (sym named) ∙ (slice_get-map (λ (x : FileOutcome). x.name) came i ∙ ap (option_map (λ (x : FileOutcome). x.name)) at)
-
     all_refused : IsAsItWas j after → AreRefused js js' → AllIn
-    all_refused stayed refused = each_of (CameIn logs (into_journal (state_of j) rows first names) (d.state j.disk.now) (d.state after.disk.now)) came (λ i c at.
+    all_refused stayed refused = each_of (CameIn logs (into_journal (state_of j) rows first came) (d.state j.disk.now) (d.state after.disk.now)) came (λ i c at.
         let one = each i c at in
-        refused_in j after names rows first js of c one.source one.done one.came one.messages one.whole one.refusal (refused.each i one.done one.at_done))
+        refused_in j after came rows first js of c one.source one.done one.came one.messages one.whole one.refusal (refused.each i one.done one.at_done))
 
-    pub all_came : IsLawful (d.state after.disk.now) → map (λ (c : FileOutcome). c.name) came ≡ names → (workers : ℕ) → DidJobs (left_in left) (name_in name) (faults_in faults) workers rows j after js js'
+    pub all_came : IsLawful (d.state after.disk.now) → (workers : ℕ) → DidJobs (left_in left) (name_in name) (faults_in faults) workers rows j after js js'
         → (given : List (LogSource S)) → map Some given ≡ sources_of js' → All (IsCounted name faults reads reads_now) given → AllIn
-    all_came law named workers (inl done) given are counted = all_done law named done.ingested.store done.ingested.stored done.causes given are counted
-    all_came law named workers (inr none) given are counted = all_refused none.journal none.jobs
+    all_came law workers (inl done) given are counted = all_done law done.ingested.store done.ingested.stored done.causes given are counted
+    all_came law workers (inr none) given are counted = all_refused none.journal none.jobs
 
 -- without memory to begin
 pub all_unbegun : (logs : Logs) (into : Target) (old new : DiskState) (taken : List FileReport) → All IsNotBegun taken → All (CameIn logs into old new) (map came_of taken)

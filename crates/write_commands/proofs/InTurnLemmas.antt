@@ -33,7 +33,7 @@ use Rattle.command_refusals.specs.declared.outcome.PartCause.{PartCause}
 use Rattle.write_commands.specs.declared.file_report.FileReport.{FileReport}
 use Rattle.write_commands.proofs.ContentLemmas.{AreJobsOf}
 use Rattle.write_commands.proofs.FileCauseLemmas.{at_of}
-use Rattle.write_commands.proofs.TakeInLemmas.{CameOfLog}
+use Rattle.write_commands.proofs.TakeInLemmas.{CameOfLog, not_opening}
 
 -- ---- the first elements of a list
 
@@ -107,26 +107,16 @@ module _ {S : Type 0} (left name : S → Option (List ℕ)) (faults : S → ℕ)
   met_in rows version c m (Unopened cause n) o came messages refusal met = absurd (none_met version (met_by rows o) m met)
   met_in rows version c m (Opened s) o came messages refusal met =
       let as_many : met_by rows o ≡ c.messages + unsealed_of rows c.refusal = ap₂ (λ a b. a + b) (sym messages) (sym (ap (unsealed_of rows) refusal ∙ unsealed_same rows o.cause)) in
-      subst (λ (bytes : Option (List ℕ)). IsAmongFirst version bytes (c.messages + unsealed_of rows c.refusal) m) came.left_is (subst (λ n. IsAmongFirst version (left s) n m) as_many met)
+      (λ failed. not_opening o.cause (sym refusal ∙ failed), subst (λ (bytes : Option (List ℕ)). IsAmongFirst version bytes (c.messages + unsealed_of rows c.refusal) m) came.left_is (subst (λ n. IsAmongFirst version (left s) n m) as_many met))
 
-  module _ {D : Type 0} {d : DiskGhosts D} (j : Journal D d) (names : List (List ℕ)) (rows first : ℕ) (js js' : List (Job (LogSource S))) (of : AreJobsOf (left_in left) content j.header.version names first js)
-      (came : List FileOutcome) (named : map (λ (c : FileOutcome). c.name) came ≡ names) (each : (i : ℕ) (c : FileOutcome) → slice_get came i ≡ Some c → CameOfLog From js js' i c) where
-    -- there is a file for each job
-    file_at : (i : ℕ) (old : Job (LogSource S)) → slice_get js i ≡ Some old → (c : FileOutcome) × (slice_get came i ≡ Some c)
-    file_at i old at =
-        let log = of.log i old at in
-        go log.0 (slice_get came i) refl (sym (slice_get-map (λ (x : FileOutcome). x.name) came i) ∙ (ap (λ (l : List (List ℕ)). slice_get l i) named ∙ log.1))
-      where
-        go : (n : List ℕ) (o : Option FileOutcome) → slice_get came i ≡ o → option_map (λ (x : FileOutcome). x.name) o ≡ Some n → (c : FileOutcome) × (slice_get came i ≡ Some c)
-        go n None here is = absurd (cc (is))
-        go n (Some c) here is = (c, here)
-
+  module _ {D : Type 0} {d : DiskGhosts D} (j : Journal D d) (came : List FileOutcome) (rows first : ℕ) (js js' : List (Job (LogSource S))) (of : AreJobsOf (left_in left) content j.header.version came first js)
+      (each : (i : ℕ) (c : FileOutcome) → slice_get came i ≡ Some c → CameOfLog From js js' i c) where
     -- what was met by one of the first jobs was met in one of the first files
     met_among : (n : ℕ) (m : List ℕ) → WasMet (left_in left) rows j.header.version (take n js) (take n js') m → WasMetInOneOf rows content j.header.version (take n came) m
     met_among n m met =
         let old = first_at js n met.0 met.1 met.3 in
         let done = first_at js' n met.0 met.2 met.4 in
-        let file = file_at met.0 met.1 old.1 in
+        let file = of.log met.0 met.1 old.1 in
         let log = each met.0 file.0 file.1 in
         let source : met.1.source ≡ Some log.source = ap (λ (x : Job (LogSource S)). x.source) (some_is met.1 log.old (sym old.1 ∙ log.at)) ∙ log.has in
         let outcome : met.2.outcome ≡ log.done.outcome = ap (λ (x : Job (LogSource S)). x.outcome) (some_is met.2 log.done (sym done.1 ∙ log.at_done)) in (
@@ -154,7 +144,7 @@ module _ {S : Type 0} (left name : S → Option (List ℕ)) (faults : S → ℕ)
         (subst (λ n. IsTextOf j.header.version (IsMessageAt j.header.version (in_source (left_in left) old.source) n) book t) (sym count) next)
 
     -- the jobs were done
-    done_in_turn : AreFullInTurn (left_in left) (plan_of rows j) j js js' → AreFullInto content (into_journal (state_of j) rows first names) came
+    done_in_turn : AreFullInTurn (left_in left) (plan_of rows j) j js js' → AreFullInto content (into_journal (state_of j) rows first came) came
     done_in_turn turn = λ place c book count at is.
         let one = each place c at in
         let by = stopped c.name one.source one.done.outcome.cause book count one.came (sym one.refusal ∙ is) in
@@ -163,14 +153,14 @@ module _ {S : Type 0} (left name : S → Option (List ℕ)) (faults : S → ℕ)
         (turn place one.old one.done book count one.at one.at_done by.1)
 
     -- none of them was begun
-    refused_in_turn : AreRefused js js' → AreFullInto content (into_journal (state_of j) rows first names) came
+    refused_in_turn : AreRefused js js' → AreFullInto content (into_journal (state_of j) rows first came) came
     refused_in_turn refused = λ place c book count at is.
         let one = each place c at in
         let by = stopped c.name one.source one.done.outcome.cause book count one.came (sym one.refusal ∙ is) in
         let none : Some Cause.OutOfMemory ≡ Some (Cause.Full book count) = sym (ap (λ (o : Outcome). o.cause) (refused.each place one.done one.at_done)) ∙ by.1 in
         absurd (cc (none))
 
-    pub did_in_turn : (after : Journal D d) (workers : ℕ) → DidJobs (left_in left) (name_in name) (faults_in faults) workers rows j after js js' → workers ≡ 1 → AreFullInto content (into_journal (state_of j) rows first names) came
+    pub did_in_turn : (after : Journal D d) (workers : ℕ) → DidJobs (left_in left) (name_in name) (faults_in faults) workers rows j after js js' → workers ≡ 1 → AreFullInto content (into_journal (state_of j) rows first came) came
     did_in_turn after workers (inl done) one = done_in_turn (done.in_turn one)
     did_in_turn after workers (inr none) one = refused_in_turn none.jobs
 

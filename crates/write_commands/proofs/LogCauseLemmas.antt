@@ -18,9 +18,9 @@ use Rattle.archive_meaning.specs.Held.{File}
 use Rattle.disk_seal.proofs.ToldLemmas.{told_map}
 use Rattle.write_commands.specs.Benched.{IsSpared, IsTakenWhole, MayRefuseLog, generated_names}
 use Rattle.command_refusals.specs.Ending.{RoseIn}
-use Rattle.write_commands.specs.Ingested.{FileOutcome, HasMoreThan, IsFront}
+use Rattle.write_commands.specs.Ingested.{FileOutcome, HasMoreThan, IsFront, Logs, names_in}
 use Rattle.command_refusals.specs.LogLimits.{IsLong, most_messages}
-use Rattle.write_commands.specs.StepsCauses.{CameIn, HasCauseIn, HaveFileCauses, Logs, Target}
+use Rattle.write_commands.specs.StepsCauses.{CameIn, HasCauseIn, HaveFileCauses, Target}
 use Rattle.command_refusals.specs.declared.outcome.PartCause.{PartCause}
 use Rattle.write_commands.proofs.BenchLemmas.{rose_on}
 use Rattle.write_commands.proofs.FileCauseLemmas.{at_of}
@@ -40,9 +40,6 @@ all_generated =
     (All-cons IsGenerated (name_of 1) (name_of 2 ∷ name_of 3 ∷ []) (record { log = 1; four = omega arith; named = refl })
     (All-cons IsGenerated (name_of 2) (name_of 3 ∷ []) (record { log = 2; four = omega arith; named = refl })
     (All-cons IsGenerated (name_of 3) [] (record { log = 3; four = omega arith; named = refl }) (All-nil IsGenerated))))
-
-abbrev names_in : List FileOutcome → List (List ℕ)
-names_in came = map (λ (c : FileOutcome). c.name) came
 
 all_named : (came : List FileOutcome) → names_in came ≡ generated_names → All IsGenerated (names_in came)
 all_named came are = subst (All IsGenerated) (sym are) all_generated
@@ -147,7 +144,7 @@ module _ (number lines : ℕ) where
     spares c is (Some (PartCause.LineTooLong line)) cause = absurd (none_long c.name is line cause.0)
     spares c is (Some PartCause.TooManyLines) cause = absurd (none_many most into.header.version c.name is cause.1)
     spares c is (Some (PartCause.Full book count)) cause = (cause, tt)
-    spares c is (Some (PartCause.ArchiveFull end need)) cause = ((cause.0, told_map into.told (fit_later (generated number lines) into.rows into.first into.names into.header into.entries mid new same c end need) cause.1), tt)
+    spares c is (Some (PartCause.ArchiveFull end need)) cause = ((cause.0, told_map into.told (fit_later (generated number lines) opens (λ name. (0, 0)) (λ name. (0, 0)) into.rows into.first into.came into.header into.entries mid new same c end need) cause.1), tt)
     spares c is (Some PartCause.DiskFault) cause = (rose_on old.faults mid.faults new.faults later cause, tt)
     spares c is (Some PartCause.OutOfMemory) cause = (tt, tt)
 
@@ -177,7 +174,7 @@ module _ (number lines : ℕ) where
     opens_in name = (open_faults_of s name, open_faults_of later name)
 
     pub log_causes : HaveFileCauses (told_with opens_in) workers rows old mid came → HaveFileCauses (told_with (λ name. (0, 0))) workers rows old new came
-    log_causes have = record { into = have.into; names = have.names; rows_are = have.rows_are; told = have.told; each = each_after most opens_in (calm s later) have.into old mid new same counts came (all_named came are) have.each; in_turn = have.in_turn }
+    log_causes have = record { into = have.into; came_are = have.came_are; rows_are = have.rows_are; told = have.told; each = each_after most opens_in (calm s later) have.into old mid new same counts came (all_named came are) have.each; in_turn = have.in_turn }
 
     pub logs_spared : HaveFileCauses (told_with opens_in) workers rows old mid came → All IsSpared came
     logs_spared have = each_spared most opens_in (calm s later) have.into old mid new same counts came (all_named came are) have.each

@@ -34,9 +34,9 @@ use Rattle.command_refusals.specs.Ending.{SaysIn, Stayed, TookNothing}
 use Rattle.command_refusals.specs.Outcome.{answer_of, of_create}
 use Rattle.command_refusals.specs.Reading.{IsArchive, OverJournal}
 use Rattle.command_refusals.specs.Refusal.{line_of, status_of}
-use Rattle.write_commands.specs.Ingested.{FileOutcome, FitIn, FromArchive, GoPast, HasCallCause, LeavesJournal, TakesIn, TakesNothing}
+use Rattle.write_commands.specs.Ingested.{FileOutcome, FitIn, FromArchive, GoPast, HasCallCause, LeavesJournal, Logs, TakesIn, TakesNothing, logs_of}
 use Rattle.write_commands.specs.Names.{IsFirstTooLong, IsShortName}
-use Rattle.write_commands.specs.StepsCauses.{CameIn, HaveFileCauses, IsTarget, Logs, logs_of}
+use Rattle.write_commands.specs.StepsCauses.{CameIn, HaveFileCauses, IsTarget}
 use Rattle.command_refusals.specs.declared.refusal.Refusal.{Refusal}
 use Rattle.command_refusals.specs.declared.outcome.AddRefusal.{AddRefusal}
 use Rattle.command_refusals.specs.declared.outcome.AddRefusal.TheVariants.{NameTooLong, TooManyFiles, ArchiveFull, DiskFault, Damaged, OutOfMemory}
@@ -194,7 +194,7 @@ module _ (old mid : DiskState) (made : MakesEmpty default_header old mid) (tells
       let low : old.faults ≤ mid.faults = omega (arith, steady) in
       record {
         into = have.into;
-        names = have.names;
+        came_are = have.came_are;
         rows_are = have.rows_are;
         told = made_from (λ h before bytes stood. IsTarget have.into h before (length stood.legal.held.names)) have.told;
         each = All-weaker (CameIn logs have.into mid new) (CameIn logs have.into (as_made old) new) (came_on logs have.into (as_made old) mid new low) came have.each;
@@ -225,7 +225,7 @@ module _ (old mid : DiskState) (made : MakesEmpty default_header old mid) (tells
         came = adds.came;
         names_are = adds.names_are;
         disk = disk;
-        each = file_causes workers segment_rows generated_names (with_logs (generated number lines) seen) (as_made old) new adds.came adds.names_are causes;
+        each = file_causes workers segment_rows (with_logs (generated number lines) seen) (as_made old) new adds.came causes;
         in_turn = full_in_turn workers segment_rows (with_logs (generated number lines) seen) (as_made old) new adds.came causes;
         fits = made_from (λ h before bytes stood. (book : Which) → FitIn (generated number lines) h before adds.came book) (all_fit segment_rows one (generated number lines) generated_names adds.came mid new goes.tells adds.disk);
         spared = adds.spared;

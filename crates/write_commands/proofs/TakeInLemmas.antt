@@ -30,7 +30,7 @@ use Rattle.ingest_workers.specs.Ingested.{AreRefused, HasIngested, IsAsItWas, pl
 use Rattle.ingest_workers.specs.JobDone.{in_source}
 use Rattle.write_commands.specs.IngestPrints.{came_of, names_of}
 use Rattle.write_commands.specs.Ingested.{FileOutcome, IsOfNew}
-use Rattle.write_commands.specs.Jobs.{DidJobs, IsNotBegun, IsToldBy, opens_of, refusal_by, sources_of}
+use Rattle.write_commands.specs.Jobs.{DidJobs, IsNotBegun, IsToldBy, of_cause, opens_of, refusal_by, sources_of}
 use Rattle.write_commands.specs.JournalLeft.{HasNames, IsLogOf, TakesInto}
 use Rattle.write_commands.specs.Naming.{AreNumbered}
 use Rattle.command_refusals.specs.declared.outcome.PartCause.{PartCause}
@@ -67,11 +67,11 @@ pub none_takes_into : {D : Type 0} {d : DiskGhosts D} (rows : ℕ) → 0 < rows 
     → (j : Journal D d) → IsLawful (d.state j.disk.now) → MayOpen (state_of j) → TakesInto rows content names first (map came_of taken) (state_of j) (d.state j.disk.now)
 none_takes_into {D} {d} rows some content names first taken named none j law may = λ h before bytes stood has number.
     let stands = stands_named h before names (state_of j) may has in
-    let nothing = All-nil (IsOfNew content h.version names (length stood.legal.held.names)) in
-    taken_in content h before names stood [] stands.0 nothing rows (d.state j.disk.now) (d.state j.disk.now) (same_leaves h before names j j law has law stands.1 (inl refl)) came are
+    let nothing = All-nil (IsOfNew content h.version came (length stood.legal.held.names)) in
+    taken_in content h before names stood [] stands.0 came nothing rows (d.state j.disk.now) (d.state j.disk.now) (same_leaves h before names j j law has law stands.1 (inl refl)) are
     (λ i c at.
     let refused = refused_at i c at in
-    none_told content h before names stood [] stands.0 nothing rows i c some (slice_get_within names i c.name (named_at came names are i c at)) refl refused.0 refused.1 (λ spared. absurd (cc (sym refused.2 ∙ spared))))
+    none_told content h before names stood [] stands.0 came nothing rows i c some (slice_get_within names i c.name (named_at came names are i c at)) refl refused.0 refused.1 (λ spared. absurd (cc (sym refused.2 ∙ spared))))
   where
     came : List FileOutcome
     came = map came_of taken
@@ -127,6 +127,17 @@ open_at {S} sources js same i job s at source_at =
     some_is : {x y : Bool} → Some x ≡ Some y → x ≡ y
     some_is e = cc (e)
 
+-- what a job met is no fault of an opening
+pub not_opening : (cause : Option Cause) → option_map of_cause cause ≡ Some PartCause.OpenFault → ⊥
+not_opening None is = absurd (cc (is))
+not_opening (Some Cause.ReadFault) is = absurd (cc (is))
+not_opening (Some (Cause.LineTooLong line)) is = absurd (cc (is))
+not_opening (Some Cause.TooManyLines) is = absurd (cc (is))
+not_opening (Some (Cause.Full book count)) is = absurd (cc (is))
+not_opening (Some (Cause.DiskFault opened now)) is = absurd (cc (is))
+not_opening (Some Cause.OutOfMemory) is = absurd (cc (is))
+not_opening (Some (Cause.ArchiveFull end need)) is = absurd (cc (is))
+
 -- What is told of a file: its job, before and after it was done, and the log of its name, of which this was made.
 pub record CameOfLog {S : Type 0} (R : List ℕ → LogSource S → Type 0) (js js' : List (Job (LogSource S))) (i : ℕ) (c : FileOutcome) : Type 0 where
   pub source : LogSource S
@@ -145,9 +156,10 @@ module _ {S : Type 0} (left name : S → Option (List ℕ)) (faults : S → ℕ)
   abbrev Came_of : List ℕ → LogSource S → Type 0
   Came_of = CameOf left name faults content opens opens_now
 
-  log_of : (asked : List ℕ) (s : LogSource S) → Came_of asked s → IsLogOf (content asked) (left_in left s)
-  log_of asked (Opened s) came = inl came.left_is
-  log_of asked (Unopened cause n) came = inr refl
+  -- where a log was opened, it is not told of the file that it could not be
+  log_of : (c : FileOutcome) (s : LogSource S) (cause : Option Cause) → Came_of c.name s → c.refusal ≡ refusal_by (refusal_of s) cause → IsLogOf content c (left_in left s)
+  log_of c (Opened s) cause came is = inl (came.left_is, λ failed. not_opening cause (sym is ∙ failed))
+  log_of c (Unopened opening n) cause came is = inr refl
 
   opened_log : (asked : List ℕ) (s : LogSource S) → Came_of asked s → refusal_of s ≡ None → left_in left s ≡ content asked
   opened_log asked (Opened s) came none = came.left_is
@@ -158,14 +170,6 @@ module _ {S : Type 0} (left name : S → Option (List ℕ)) (faults : S → ℕ)
   is_open (Unopened cause n) none = absurd (cc (none))
 
   module _ (names : List (List ℕ)) (sources : List (LogSource S)) (opened : AllZip Came_of names sources) (first : ℕ) (js : List (Job (LogSource S))) (sourced : sources_of js ≡ map Some sources) (opening : opens_of js ≡ map is_opened sources) (numbered : AreNumbered first js) where
-    pub are_jobs_of : (version : ℕ) → AreJobsOf (left_in left) content version names first js
-    are_jobs_of version = record {
-      file = λ i job at. (numbered_at first js i job numbered at).1;
-      log = λ i job at.
-          let p = place_of Came_of names sources js opened sourced i job at in
-          (p.name, p.name_at, subst (λ (o : Option (LogSource S)). IsLogOf (content p.name) (in_source (left_in left) o)) (sym p.has) (log_of p.name p.source p.came));
-    }
-
     -- each file is told by its job, and by the opening of its log
     module _ (openings : List (Option OpenRefused)) (openings_are : openings ≡ map refusal_of sources) (js' : List (Job (LogSource S))) (taken : List FileReport) (named : names_of taken ≡ names)
         (told : (i : ℕ) (file : FileReport) → slice_get taken i ≡ Some file → IsToldBy openings js' i file) where
@@ -203,6 +207,28 @@ module _ {S : Type 0} (left name : S → Option (List ℕ)) (faults : S → ℕ)
               some_is : {X : Type 0} (x y : X) → Some x ≡ Some y → x ≡ y
               some_is x y e = cc (e)
 
+      -- there is a file for each job
+      file_at : (i : ℕ) (name : List ℕ) → slice_get names i ≡ Some name → (c : FileOutcome) × (slice_get (map came_of taken) i ≡ Some c)
+      file_at i name at = go (slice_get (map came_of taken) i) refl (sym (slice_get-map (λ (x : FileOutcome). x.name) (map came_of taken) i) ∙ (ap (λ (l : List (List ℕ)). slice_get l i) came_named ∙ at))
+        where
+          go : (o : Option FileOutcome) → slice_get (map came_of taken) i ≡ o → option_map (λ (x : FileOutcome). x.name) o ≡ Some name → (c : FileOutcome) × (slice_get (map came_of taken) i ≡ Some c)
+          go None here is = absurd (cc (is))
+          go (Some c) here is = (c, here)
+
+      pub are_jobs_of : (version : ℕ) → AreJobsOf (left_in left) content version (map came_of taken) first js
+      are_jobs_of version = record {
+        file = λ i job at. (numbered_at first js i job numbered at).1;
+        log = λ i job at.
+            let p = place_of Came_of names sources js opened sourced i job at in
+            let f = file_at i p.name p.name_at in
+            let l = came_of_log i f.0 f.1 in
+            let has : job.source ≡ Some l.source = ap (λ (x : Job (LogSource S)). x.source) (some_is job l.old (sym at ∙ l.at)) ∙ l.has in
+            (f.0, f.1, subst (λ (o : Option (LogSource S)). IsLogOf content f.0 (in_source (left_in left) o)) (sym has) (log_of f.0 l.source l.done.outcome.cause l.came l.refusal));
+      }
+        where
+          some_is : (x y : Job (LogSource S)) → Some x ≡ Some y → x ≡ y
+          some_is x y e = cc (e)
+
       came_of_jobs : (i : ℕ) (c : FileOutcome) → slice_get (map came_of taken) i ≡ Some c → CameOfJob (left_in left) content js js' i c
       came_of_jobs i c at = let l = came_of_log i c at in record {
         old = l.old;
@@ -227,13 +253,13 @@ module _ {S : Type 0} (left name : S → Option (List ℕ)) (faults : S → ℕ)
       module _ {D : Type 0} {d : DiskGhosts D} (j after : Journal D d) (law : IsLawful (d.state after.disk.now)) where
         done_takes_into : (rows : ℕ) → HasIngested (left_in left) (plan_of rows j) js js' j after → TakesInto rows content names first (map came_of taken) (state_of j) (d.state after.disk.now)
         done_takes_into rows done = λ h before bytes stood has number.
-            ingested_takes_in (left_in left) content h before names stood j after law has js js' (subst (λ n. AreJobsOf (left_in left) content h.version names n js) number (are_jobs_of h.version)) (map came_of taken) came_named came_of_jobs rows done
+            ingested_takes_in (left_in left) content h before names stood j after law has js js' (map came_of taken) (subst (λ n. AreJobsOf (left_in left) content h.version (map came_of taken) n js) number (are_jobs_of h.version)) came_named came_of_jobs rows done
 
         -- none was begun
         refused_takes_into : (rows : ℕ) → 0 < rows → IsLawful (d.state j.disk.now) → MayOpen (state_of j) → IsAsItWas j after → AreRefused js js' → TakesInto rows content names first (map came_of taken) (state_of j) (d.state after.disk.now)
         refused_takes_into rows some law_j may stayed refused = λ h before bytes stood has number.
             let stands = stands_named h before names (state_of j) may has in
-            refused_takes_in (left_in left) content h before names stood j after law has js js' (subst (λ n. AreJobsOf (left_in left) content h.version names n js) number (are_jobs_of h.version)) (map came_of taken) came_named came_of_jobs
+            refused_takes_in (left_in left) content h before names stood j after law has js js' (map came_of taken) (subst (λ n. AreJobsOf (left_in left) content h.version (map came_of taken) n js) number (are_jobs_of h.version)) came_named came_of_jobs
             rows some law_j stands.1 stands.0 stayed refused
 
         pub did_take_into : IsLawful (d.state j.disk.now) → MayOpen (state_of j) → (workers rows : ℕ) → 0 < rows → DidJobs (left_in left) (name_in name) (faults_in faults) workers rows j after js js'

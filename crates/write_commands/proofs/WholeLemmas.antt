@@ -19,8 +19,8 @@ use Rattle.log_seams.proofs.MomentLemmas.{rose}
 use Rattle.record_format.specs.declared.header.Header.{Header}
 use Rattle.disk_journal.specs.State.{JournalState}
 use Rattle.command_refusals.specs.Outside.{Outside}
-use Rattle.write_commands.specs.Ingested.{AreFullInTurn, CameOfFile, DidNotFit, FileOutcome, FromArchive, HasFileCause, HasMoreThan, IsFullByGiven, IsFullInTurn, IsGiven, IsNextTooLong, OfTaken, WasCutShort, WasMetInOneOf}
-use Rattle.write_commands.specs.StepsCauses.{AreFullInto, CameIn, HasCauseIn, HaveFileCauses, IsTarget, Logs, Target, into_journal, logs_of}
+use Rattle.write_commands.specs.Ingested.{AreFullInTurn, CameOfFile, DidNotFit, FileOutcome, FromArchive, HasFileCause, HasMoreThan, IsFullByGiven, IsFullInTurn, IsGiven, IsNextTooLong, Logs, OfTaken, WasCutShort, WasMetInOneOf, logs_of, names_in}
+use Rattle.write_commands.specs.StepsCauses.{AreFullInto, CameIn, HasCauseIn, HaveFileCauses, IsTarget, Target, into_journal}
 use Rattle.write_commands.specs.JournalLeft.{AddsNamesTo, HasNames}
 use Rattle.command_refusals.specs.LogLimits.{most_messages}
 use Rattle.command_refusals.specs.declared.outcome.PartCause.{PartCause}
@@ -50,10 +50,10 @@ texts_named names es before is WhichTypes = ap types_of is ∙ (types_joined bef
 texts_named names es before is WhichWords = ap words_of is ∙ (words_joined before (Files names ∷ []) ∙ append-nil (words_of before))
 
 pub causes_sooner : (old mid late : DiskState) → Looked old mid late → (logs : Logs) (workers rows : ℕ) (names : List (List ℕ)) (first : ℕ) (j : JournalState) (new : DiskState) (came : List FileOutcome) → late.faults ≤ j.disk.faults → map (λ (c : FileOutcome). c.name) came ≡ names
-    → FromArchive late (λ h before bytes stood. AddsNamesTo h before stood names first late j) → All (CameIn logs (into_journal j rows first names) j.disk new) came → (workers ≡ 1 → AreFullInto logs.content (into_journal j rows first names) came) → HaveFileCauses logs workers rows old new came
-causes_sooner old mid late looked logs workers rows names first j new came risen named added each in_turn = let into = into_journal j rows first names in record {
+    → FromArchive late (λ h before bytes stood. AddsNamesTo h before stood names first late j) → All (CameIn logs (into_journal j rows first came) j.disk new) came → (workers ≡ 1 → AreFullInto logs.content (into_journal j rows first came) came) → HaveFileCauses logs workers rows old new came
+causes_sooner old mid late looked logs workers rows names first j new came risen named added each in_turn = let into = into_journal j rows first came in record {
   into = into;
-  names = sym named;
+  came_are = refl;
   rows_are = refl;
   told = from_archive old late (λ h before bytes stood. AddsNamesTo h before stood names first late j) (λ h before bytes stood. IsTarget into h before (length stood.legal.held.names)) (same_bytes old mid late looked) (no_more old mid late looked)
       (λ h before bytes stood only adds. is_target h before (length stood.legal.held.names) adds.has adds.number) added;
@@ -61,8 +61,8 @@ causes_sooner old mid late looked logs workers rows names first j new came risen
   in_turn = in_turn;
 }
   where
-    is_target : (h : Header) (before : List JournalEntry) (held : ℕ) → HasNames h before names j → first ≡ held → IsTarget (into_journal j rows first names) h before held
-    is_target h before held has numbered = record { told = has.told; header = has.header; entries = has.entries; first = numbered }
+    is_target : (h : Header) (before : List JournalEntry) (held : ℕ) → HasNames h before names j → first ≡ held → IsTarget (into_journal j rows first came) h before held
+    is_target h before held has numbered = record { told = has.told; header = has.header; entries = has.entries ∙ ap (λ (ns : List (List ℕ)). before ++ Files ns ∷ []) (sym named); first = numbered }
 
 -- ---- as it is told
 
@@ -70,25 +70,25 @@ module _ (seen : Outside) (old new : DiskState) (into : Target) (told : FromArch
   from_header : (P : Header → Type 0) → P into.header → FromArchive old (λ h before bytes stood. P h)
   from_header P p = from_archive old old (λ h before bytes stood. IsTarget into h before (length stood.legal.held.names)) (λ h before bytes stood. P h) refl (λ c image. image) (λ h before bytes stood only is. subst P is.header p) told
 
-  full_of : (h : Header) (before : List JournalEntry) (held : ℕ) (c : FileOutcome) (book : Which) (count : ℕ) → IsTarget into h before held → IsFullByGiven seen.content into.names into.header into.entries c book count → IsFullByGiven seen.content into.names h before c book count
-  full_of h before held c book count is full = subst (λ (x : Header). FullBy x (book_texts book before)) is.header (subst (FullBy into.header) (texts_named into.names into.entries before is.entries book) full)
+  full_of : (h : Header) (before : List JournalEntry) (held : ℕ) (c : FileOutcome) (book : Which) (count : ℕ) → IsTarget into h before held → IsFullByGiven seen.content into.came into.header into.entries c book count → IsFullByGiven seen.content into.came h before c book count
+  full_of h before held c book count is full = subst (λ (x : Header). FullBy x (book_texts book before)) is.header (subst (FullBy into.header) (texts_named (names_in into.came) into.entries before is.entries book) full)
     where
       -- by a book's texts in the journal
       FullBy : Header → List (List ℕ) → Type 0
       FullBy x texts = (count ≡ limit_of (header_limits x) book)
-          × OfTaken c (λ sealed. IsFullBy (λ t. Contains texts t ⊎ IsTextOf x.version (IsGiven seen.content x.version into.names) book t) (IsTextOf x.version (IsNextOf x.version (seen.content c.name) sealed) book) count)
+          × OfTaken c (λ sealed. IsFullBy (λ t. Contains texts t ⊎ IsTextOf x.version (IsGiven seen.content x.version into.came) book t) (IsTextOf x.version (IsNextOf x.version (seen.content c.name) sealed) book) count)
 
-  from_full : (c : FileOutcome) (book : Which) (count : ℕ) → IfTold into.told (IsFullByGiven seen.content into.names into.header into.entries c book count) → FromArchive old (λ h before bytes stood. IsFullByGiven seen.content into.names h before c book count)
-  from_full c book count cause = from_archive old old (λ h before bytes stood. IsTarget into h before (length stood.legal.held.names)) (λ h before bytes stood. IsFullByGiven seen.content into.names h before c book count) refl (λ c image. image)
+  from_full : (c : FileOutcome) (book : Which) (count : ℕ) → IfTold into.told (IsFullByGiven seen.content into.came into.header into.entries c book count) → FromArchive old (λ h before bytes stood. IsFullByGiven seen.content into.came h before c book count)
+  from_full c book count cause = from_archive old old (λ h before bytes stood. IsTarget into h before (length stood.legal.held.names)) (λ h before bytes stood. IsFullByGiven seen.content into.came h before c book count) refl (λ c image. image)
       (λ h before bytes stood only is. full_of h before (length stood.legal.held.names) c book count is (of_told into.told is.told cause)) told
 
-  from_fit : (c : FileOutcome) (end need : ℕ) → IfTold into.told (DidNotFit seen.content into.rows into.first into.names into.header into.entries new c end need)
-      → FromArchive old (λ h before bytes stood. DidNotFit seen.content into.rows (length stood.legal.held.names) into.names h (before ++ Files into.names ∷ []) new c end need)
+  from_fit : (c : FileOutcome) (end need : ℕ) → IfTold into.told (DidNotFit (logs_of seen) into.rows into.first into.came into.header into.entries new c end need)
+      → FromArchive old (λ h before bytes stood. DidNotFit (logs_of seen) into.rows (length stood.legal.held.names) into.came h (before ++ Files (names_in into.came) ∷ []) new c end need)
   from_fit c end need cause = from_archive old old (λ h before bytes stood. IsTarget into h before (length stood.legal.held.names))
-      (λ h before bytes stood. DidNotFit seen.content into.rows (length stood.legal.held.names) into.names h (before ++ Files into.names ∷ []) new c end need) refl (λ c image. image)
-      (λ h before bytes stood only is. fit_into seen.content into h before (length stood.legal.held.names) is new c end need (of_told into.told is.told cause)) told
+      (λ h before bytes stood. DidNotFit (logs_of seen) into.rows (length stood.legal.held.names) into.came h (before ++ Files (names_in into.came) ∷ []) new c end need) refl (λ c image. image)
+      (λ h before bytes stood only is. fit_into (logs_of seen) into h before (length stood.legal.held.names) is new c end need (of_told into.told is.told cause)) told
 
-  file_cause : (c : FileOutcome) (r : Option PartCause) → HasCauseIn (logs_of seen) into old new c r → HasFileCause into.rows into.names seen old new c r
+  file_cause : (c : FileOutcome) (r : Option PartCause) → HasCauseIn (logs_of seen) into old new c r → HasFileCause into.rows into.came seen old new c r
   file_cause c None cause = cause
   file_cause c (Some PartCause.OpenFault) cause = cause
   file_cause c (Some PartCause.ReadFault) cause = (cause.0, from_header (λ h. IfSome (seen.content c.name) (WasCutShort h.version c)) cause.1)
@@ -102,7 +102,7 @@ module _ (seen : Outside) (old new : DiskState) (into : Target) (told : FromArch
   -- by the files up to the one that was stopped
   turn_of : (h : Header) (before : List JournalEntry) (held : ℕ) (met : List FileOutcome) (c : FileOutcome) (book : Which) (count : ℕ) → IsTarget into h before held → IsFullInTurn into.rows seen.content into.header into.entries met c book count
       → IsFullInTurn into.rows seen.content h before met c book count
-  turn_of h before held met c book count is full = subst (λ (x : Header). FullBy x (book_texts book before)) is.header (subst (FullBy into.header) (texts_named into.names into.entries before is.entries book) full)
+  turn_of h before held met c book count is full = subst (λ (x : Header). FullBy x (book_texts book before)) is.header (subst (FullBy into.header) (texts_named (names_in into.came) into.entries before is.entries book) full)
     where
       -- by a book's texts in the journal
       FullBy : Header → List (List ℕ) → Type 0
@@ -114,10 +114,10 @@ module _ (seen : Outside) (old new : DiskState) (into : Target) (told : FromArch
       from_archive old old (λ h before bytes stood. IsTarget into h before (length stood.legal.held.names)) (λ h before bytes stood. IsFullInTurn into.rows seen.content h before (take (place + 1) came) c book count) refl (λ c image. image)
       (λ h before bytes stood only target. turn_of h before (length stood.legal.held.names) (take (place + 1) came) c book count target (of_told into.told target.told (turns place c book count at is))) told
 
-pub file_causes : (workers rows : ℕ) (names : List (List ℕ)) (seen : Outside) (old new : DiskState) (came : List FileOutcome) → map (λ (c : FileOutcome). c.name) came ≡ names → HaveFileCauses (logs_of seen) workers rows old new came → All (CameOfFile rows names seen old new) came
-file_causes workers rows names seen old new came named have = subst (λ ns. All (CameOfFile rows ns seen old new) came) (have.names ∙ named)
-    (subst (λ n. All (CameOfFile n have.into.names seen old new) came) have.rows_are
-    (All-weaker (CameIn (logs_of seen) have.into old new) (CameOfFile have.into.rows have.into.names seen old new) (λ c is. record { cause = file_cause seen old new have.into have.told c c.refusal is.cause; part = is.part }) came have.each))
+pub file_causes : (workers rows : ℕ) (seen : Outside) (old new : DiskState) (came : List FileOutcome) → HaveFileCauses (logs_of seen) workers rows old new came → All (CameOfFile rows came seen old new) came
+file_causes workers rows seen old new came have = subst (λ (cs : List FileOutcome). All (CameOfFile rows cs seen old new) came) have.came_are
+    (subst (λ n. All (CameOfFile n have.into.came seen old new) came) have.rows_are
+    (All-weaker (CameIn (logs_of seen) have.into old new) (CameOfFile have.into.rows have.into.came seen old new) (λ c is. record { cause = file_cause seen old new have.into have.told c c.refusal is.cause; part = is.part }) came have.each))
 
 pub full_in_turn : (workers rows : ℕ) (seen : Outside) (old new : DiskState) (came : List FileOutcome) → HaveFileCauses (logs_of seen) workers rows old new came → workers ≡ 1 → AreFullInTurn rows seen.content old came
 full_in_turn workers rows seen old new came have one = subst (λ n. AreFullInTurn n seen.content old came) have.rows_are (from_turns seen old new have.into have.told came (have.in_turn one))

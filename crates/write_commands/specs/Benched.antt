@@ -22,10 +22,10 @@ use Rattle.disk_journal.specs.declared.refusals.CreateRefusal.{CreateRefusal}
 use Rattle.generated_logs.specs.Logs.{content_of as generated, name_of}
 use Rattle.command_refusals.specs.Outside.{Outside}
 use Rattle.command_refusals.specs.Ending.{EndsWith, RoseIn, SaysIn, Stayed, TookNothing}
-use Rattle.write_commands.specs.Ingested.{AllFit, AreFullInTurn, FileOutcome, CameOfFile, FromArchive, RefusesIngest, TakesIn, TakesNothing}
+use Rattle.write_commands.specs.Ingested.{AllFit, AreFullInTurn, FileOutcome, CameOfFile, FromArchive, RefusesIngest, TakesIn, TakesNothing, logs_of}
 use Rattle.command_refusals.specs.Outcome.{answer_of, of_add, of_create, of_read}
 use Rattle.command_refusals.specs.Refusal.{TellsNoMemory}
-use Rattle.write_commands.specs.StepsCauses.{HaveFileCauses, logs_of}
+use Rattle.write_commands.specs.StepsCauses.{HaveFileCauses}
 use Rattle.write_commands.specs.Taken.{file_error, file_status, gravest}
 use Rattle.command_refusals.specs.declared.outcome.ReadRefusal.{ReadRefusal}
 use Rattle.command_refusals.specs.declared.outcome.ReadRefusal.TheVariants.{Damaged as ReadDamaged, DiskFault as ReadDiskFault, SinkFault as ReadSinkFault}
@@ -190,7 +190,7 @@ pub record TakesLogs (number lines workers : ℕ) (seen : Outside) (old new : Di
   pub came : List FileOutcome
   pub names_are : map (λ c. c.name) came ≡ generated_names
   pub disk : FromEmpty old new (λ from bytes stood. TakesIn segment_rows (generated number lines) default_header [] stood generated_names came from new)
-  pub each : All (CameOfFile segment_rows generated_names (with_logs (generated number lines) seen) (as_made old) new) came
+  pub each : All (CameOfFile segment_rows came (with_logs (generated number lines) seen) (as_made old) new) came
   pub in_turn : workers ≡ 1 → AreFullInTurn segment_rows (generated number lines) (as_made old) came
   pub fits : AllFit (generated number lines) (as_made old) came
   pub spared : All IsSpared came

@@ -17,7 +17,7 @@ use Rattle.archive_open.specs.Shown.{StandsForNone}
 use Rattle.disk_seal.specs.Registered.{files_size}
 use Rattle.row_codec.specs.declared.namer.Which.{Which}
 use Rattle.ingest_workers.specs.Causes.{limit_of}
-use Rattle.ingest_workers.specs.Full.{AreFirstOf, IsAmongFirst, IsFullBy, IsMessageAt, IsNextOf, IsTextOf}
+use Rattle.ingest_workers.specs.Full.{AreAllOf, AreFirstOf, IsAmongFirst, IsFullBy, IsMessageAt, IsNextOf, IsTextOf}
 use Rattle.ingest_workers.specs.Ingested.{HasTextsBehind, book_texts, header_limits}
 use Rattle.ingest_workers.specs.Locked.{in_file}
 use Rattle.ingest_workers.specs.NoRoom.{HadNoRoom}
@@ -47,27 +47,38 @@ pub record FileOutcome : Type 0 where
   pub whole : Bool
   pub refusal : Option PartCause
 
+abbrev pub names_in : List FileOutcome → List (List ℕ)
+names_in came = map (λ c. c.name) came
+
+-- its log could not be opened: this was refused of it
+abbrev pub CouldNotOpen : FileOutcome → Type 0
+CouldNotOpen c = c.refusal ≡ Some OpenFault
+
 abbrev pub line_of_came : FileOutcome → FileLine
 line_of_came c = record { name = c.name; messages = c.messages; whole = c.whole }
 
 -- ---- the journal
 
--- where the bytes of the name are told, the message is one of them
+-- where the bytes of the name are told, the message is one of theirs
 abbrev pub IsMessageIn : (List ℕ → Option (List ℕ)) → ℕ → List ℕ → List ℕ → Type 0
 IsMessageIn content version name message =
     IfSome (content name) (λ bytes. (messages : List (List ℕ)) (ended : Bool) → MessagesOf version bytes messages ended → Contains messages message)
 
--- the message is one of a given file
-abbrev pub IsGiven : (List ℕ → Option (List ℕ)) → ℕ → List (List ℕ) → List ℕ → Type 0
-IsGiven content version names message = (name : List ℕ) × Contains names name × IsMessageIn content version name message
+-- The message is one of the log of a file. A log that could not be opened has none; of one that was, and whose bytes are not told, nothing is said.
+abbrev pub IsGivenBy : (List ℕ → Option (List ℕ)) → ℕ → FileOutcome → List ℕ → Type 0
+IsGivenBy content version c message = ¬ CouldNotOpen c × IsMessageIn content version c.name message
+
+-- it is one of these files
+abbrev pub IsGiven : (List ℕ → Option (List ℕ)) → ℕ → List FileOutcome → List ℕ → Type 0
+IsGiven content version came message = (c : FileOutcome) × Contains came c × IsGivenBy content version c message
 
 -- An entry that may stand behind the names of new files, which are numbered on from `first`: a segment of one of them, or
--- texts of the encodings of given messages.
-abbrev pub IsOfNew : (List ℕ → Option (List ℕ)) → ℕ → List (List ℕ) → ℕ → JournalEntry → Type 0
-IsOfNew content version names first (Files more) = ⊥
-IsOfNew content version names first (Types number texts) = All (λ text. (m : List ℕ) × IsGiven content version names m × IsTypeOf version m text) texts
-IsOfNew content version names first (Words number texts) = All (λ text. (m : List ℕ) × IsGiven content version names m × IsWordOf version m text) texts
-IsOfNew content version names first (Segment s) = (first ≤ s.file) × (s.file < first + length names)
+-- texts of the encodings of their messages.
+abbrev pub IsOfNew : (List ℕ → Option (List ℕ)) → ℕ → List FileOutcome → ℕ → JournalEntry → Type 0
+IsOfNew content version came first (Files more) = ⊥
+IsOfNew content version came first (Types number texts) = All (λ text. (m : List ℕ) × IsGiven content version came m × IsTypeOf version m text) texts
+IsOfNew content version came first (Words number texts) = All (λ text. (m : List ℕ) × IsGiven content version came m × IsWordOf version m text) texts
+IsOfNew content version came first (Segment s) = (first ≤ s.file) × (s.file < first + length came)
 
 -- ---- the content
 
@@ -115,7 +126,7 @@ pub record IsCutInto (rows number : ℕ) (f : File) (added : List JournalEntry) 
 -- The names were added to the journal, and then what came of each file, in segments of at most so many rows.
 pub record TakesIn {bytes : List ℕ} (rows : ℕ) (content : List ℕ → Option (List ℕ)) (h : Header) (before : List JournalEntry) (stood : StandsFor bytes h before) (names : List (List ℕ)) (came : List FileOutcome) (old new : DiskState) : Type 0 where
   pub added : List JournalEntry
-  pub each : All (IsOfNew content h.version names (length stood.legal.held.names)) added
+  pub each : All (IsOfNew content h.version came (length stood.legal.held.names)) added
   pub leaves : LeavesJournal h before (before ++ (Files names ∷ added)) old new
   pub files : List File
   pub content_is : (image : List ℕ) (stands : StandsFor image h (before ++ (Files names ∷ added))) → content_of stands.legal.held ≡ content_of stood.legal.held ++ files
@@ -130,14 +141,23 @@ FromArchive old P =
 
 -- ---- causes
 
+-- what is told of the logs around a call: their bytes, and the counts of faults in opening and in reading them
+pub record Logs : Type 0 where
+  pub content : List ℕ → Option (List ℕ)
+  pub opens : List ℕ → ℕ × ℕ
+  pub reads : List ℕ → ℕ × ℕ
+
+abbrev pub logs_of : Outside → Logs
+logs_of seen = record { content = seen.content; opens = seen.opens; reads = seen.reads }
+
 -- where the bytes are told, they have more messages than so many
 abbrev pub HasMoreThan : ℕ → ℕ → Option (List ℕ) → Type 0
 HasMoreThan count version told =
     IfSome told (λ bytes. (messages : List (List ℕ)) (ended : Bool) → MessagesOf version bytes messages ended → count < length messages)
 
 -- the text is one of the book in the journal, or one of the encoding of a message of these files
-abbrev pub IsThereOrGiven : (List ℕ → Option (List ℕ)) → ℕ → List (List ℕ) → List JournalEntry → Which → List ℕ → Type 0
-IsThereOrGiven content version names es book text = Contains (book_texts book es) text ⊎ IsTextOf version (IsGiven content version names) book text
+abbrev pub IsThereOrGiven : (List ℕ → Option (List ℕ)) → ℕ → List FileOutcome → List JournalEntry → Which → List ℕ → Type 0
+IsThereOrGiven content version came es book text = Contains (book_texts book es) text ⊎ IsTextOf version (IsGiven content version came) book text
 
 -- this holds of the messages of a file that were taken in
 pub record OfTaken (c : FileOutcome) (P : List (List ℕ) → Type 0) : Type 0 where
@@ -145,27 +165,45 @@ pub record OfTaken (c : FileOutcome) (P : List (List ℕ) → Type 0) : Type 0 w
   pub count : c.messages ≡ length sealed
   pub holds : P sealed
 
--- A book may have so many texts, and there are as many of the journal and of these files. One more is of the encoding of the file's next message, behind those
--- that were taken in.
-abbrev pub IsFullByGiven : (List ℕ → Option (List ℕ)) → List (List ℕ) → Header → List JournalEntry → FileOutcome → Which → ℕ → Type 0
-IsFullByGiven content names h es c book count =
-    (count ≡ limit_of (header_limits h) book)
-    × OfTaken c (λ sealed. IsFullBy (IsThereOrGiven content h.version names es book) (IsTextOf h.version (IsNextOf h.version (content c.name) sealed) book) count)
+-- There are as many texts of the journal and of these files, and one more is of the encoding of a log's next message, behind those that were taken of it.
+abbrev pub IsFullBehind : (List ℕ → Option (List ℕ)) → List FileOutcome → Header → List JournalEntry → List ℕ → List (List ℕ) → Which → ℕ → Type 0
+IsFullBehind content came h es name taken book count =
+    IsFullBy (IsThereOrGiven content h.version came es book) (IsTextOf h.version (IsNextOf h.version (content name) taken) book) count
+
+-- A book may have so many texts, and is full behind the messages of the file that were taken in.
+abbrev pub IsFullByGiven : (List ℕ → Option (List ℕ)) → List FileOutcome → Header → List JournalEntry → FileOutcome → Which → ℕ → Type 0
+IsFullByGiven content came h es c book count =
+    (count ≡ limit_of (header_limits h) book) × OfTaken c (λ sealed. IsFullBehind content came h es c.name sealed book count)
 
 -- The texts of a book are those of the entries, and others of the encodings of messages of these files.
-abbrev pub WereGiven : (List ℕ → Option (List ℕ)) → ℕ → List (List ℕ) → List JournalEntry → Which → List (List ℕ) → Type 0
-WereGiven content version names front book texts = HasTextsBehind (IsTextOf version (IsGiven content version names) book) (book_texts book front) texts
+abbrev pub WereGiven : (List ℕ → Option (List ℕ)) → ℕ → List FileOutcome → List JournalEntry → Which → List (List ℕ) → Type 0
+WereGiven content version came front book texts = HasTextsBehind (IsTextOf version (IsGiven content version came) book) (book_texts book front) texts
+
+-- Why no further message of a log of this name was taken than these, into an archive with these entries: a read of it failed behind them, the next line is too
+-- long, there are too many, or a dictionary is full at the next one.
+abbrev pub IsStoppedBy : Logs → List FileOutcome → Header → List JournalEntry → List ℕ → List (List ℕ) → PartCause → Type 0
+IsStoppedBy logs came h es name taken ReadFault =
+    RoseIn (logs.reads name) × IfSome (logs.content name) (λ bytes. (behind : Option (List ℕ)) × IsReadShort h.version bytes taken behind)
+IsStoppedBy logs came h es name taken (LineTooLong line) = (line ≡ lines_count taken + 1) × IfSome (logs.content name) (IsBeforeLong h.version taken)
+IsStoppedBy logs came h es name taken TooManyLines = (length taken ≡ most_messages) × HasMoreThan most_messages h.version (logs.content name)
+IsStoppedBy logs came h es name taken (Full book count) = (count ≡ limit_of (header_limits h) book) × IsFullBehind logs.content came h es name taken book count
+IsStoppedBy logs came h es name taken _ = ⊥
+
+-- The log has ended with these messages: they are all of its messages, or there is such a cause.
+abbrev pub HasEnded : Logs → List FileOutcome → Header → List JournalEntry → List ℕ → List (List ℕ) → Type 0
+HasEnded logs came h es name taken = AreAllOf h.version (logs.content name) taken ⊎ ((cause : PartCause) × IsStoppedBy logs came h es name taken cause)
 
 -- the entries begin with these ones, and where the disk's bytes are told and stand for a journal, it begins with the entries
 abbrev pub StandFirst : Header → List JournalEntry → DiskState → List JournalEntry → Type 0
 StandFirst h named new front = IsPrefix named front × IfSome new.seen (λ bytes. (es : List JournalEntry) → StandsFor bytes h es → IsPrefix front es)
 
--- Behind the messages of a file that were taken in, its next segment of at most so many rows did not fit. The archive's end is that of entries which begin
--- with the names of these files, numbered on from `first`, and the bytes are those of the segment and of the texts before it.
-pub record DidNotFit (content : List ℕ → Option (List ℕ)) (rows first : ℕ) (names : List (List ℕ)) (h : Header) (named : List JournalEntry) (new : DiskState) (c : FileOutcome) (end need : ℕ) : Type 0 where
+-- Behind the messages of a file that were taken in, its next segment did not fit: the next whole part, of at most so many rows, or the rest, where no whole
+-- part is left and the log has ended. The archive's end is that of entries which begin with the names of these files, numbered on from `first`, and the bytes
+-- are those of the segment and of the texts before it.
+pub record DidNotFit (logs : Logs) (rows first : ℕ) (came : List FileOutcome) (h : Header) (named : List JournalEntry) (new : DiskState) (c : FileOutcome) (end need : ℕ) : Type 0 where
   pub place : ℕ
-  pub at : slice_get names place ≡ Some c.name
-  pub room : OfTaken c (λ sealed. HadNoRoom h rows h.version (first + place) (StandFirst h named new) (WereGiven content h.version names) (AreFirstOf h.version (content c.name)) (λ _. Unit {0}) sealed end need)
+  pub at : slice_get came place ≡ Some c
+  pub room : OfTaken c (λ sealed. HadNoRoom h rows h.version (first + place) (StandFirst h named new) (WereGiven logs.content h.version came) (AreFirstOf h.version (logs.content c.name)) (HasEnded logs came h named c.name) sealed end need)
 
 -- A read of a log with these bytes failed, and the messages that were taken in are those of the bytes before the fault.
 pub record WasCutShort (version : ℕ) (c : FileOutcome) (bytes : List ℕ) : Type 0 where
@@ -181,25 +219,25 @@ pub record IsNextTooLong (version : ℕ) (c : FileOutcome) (line : ℕ) (bytes :
   pub follows : line ≡ lines_count taken + 1
   pub before : IsBeforeLong version taken bytes
 
--- What a refusal that came of a file rests on, where these files were given, in segments of at most so many rows. Want of memory is free.
-abbrev pub HasFileCause : ℕ → List (List ℕ) → Outside → DiskState → DiskState → FileOutcome → Option PartCause → Type 0
-HasFileCause rows names seen old new c None = c.whole ≡ true
-HasFileCause rows names seen old new c (Some OpenFault) = RoseIn (seen.opens c.name) × (c.messages ≡ 0)
-HasFileCause rows names seen old new c (Some ReadFault) =
+-- What a refusal that came of a file rests on, where this came of all files that were given, in segments of at most so many rows. Want of memory is free.
+abbrev pub HasFileCause : ℕ → List FileOutcome → Outside → DiskState → DiskState → FileOutcome → Option PartCause → Type 0
+HasFileCause rows came seen old new c None = c.whole ≡ true
+HasFileCause rows came seen old new c (Some OpenFault) = RoseIn (seen.opens c.name) × (c.messages ≡ 0)
+HasFileCause rows came seen old new c (Some ReadFault) =
     RoseIn (seen.reads c.name) × FromArchive old (λ h before bytes stood. IfSome (seen.content c.name) (WasCutShort h.version c))
-HasFileCause rows names seen old new c (Some (LineTooLong line)) =
+HasFileCause rows came seen old new c (Some (LineTooLong line)) =
     IfSome (seen.content c.name) (λ bytes. IsLong bytes line) × FromArchive old (λ h before bytes stood. IfSome (seen.content c.name) (IsNextTooLong h.version c line))
-HasFileCause rows names seen old new c (Some TooManyLines) =
+HasFileCause rows came seen old new c (Some TooManyLines) =
     (c.messages ≡ most_messages) × FromArchive old (λ h before bytes stood. HasMoreThan most_messages h.version (seen.content c.name))
-HasFileCause rows names seen old new c (Some (Full book count)) = FromArchive old (λ h before bytes stood. IsFullByGiven seen.content names h before c book count)
-HasFileCause rows names seen old new c (Some (PartCause.ArchiveFull end need)) =
-    FromArchive old (λ h before bytes stood. DidNotFit seen.content rows (length stood.legal.held.names) names h (before ++ Files names ∷ []) new c end need)
-HasFileCause rows names seen old new c (Some PartCause.DiskFault) = Rose old.faults new.faults
-HasFileCause rows names seen old new c (Some PartCause.OutOfMemory) = Unit {0}
+HasFileCause rows came seen old new c (Some (Full book count)) = FromArchive old (λ h before bytes stood. IsFullByGiven seen.content came h before c book count)
+HasFileCause rows came seen old new c (Some (PartCause.ArchiveFull end need)) =
+    FromArchive old (λ h before bytes stood. DidNotFit (logs_of seen) rows (length stood.legal.held.names) came h (before ++ Files (names_in came) ∷ []) new c end need)
+HasFileCause rows came seen old new c (Some PartCause.DiskFault) = Rose old.faults new.faults
+HasFileCause rows came seen old new c (Some PartCause.OutOfMemory) = Unit {0}
 
 -- A file is whole exactly where nothing was refused of it, and a refusal has its cause.
-pub record CameOfFile (rows : ℕ) (names : List (List ℕ)) (seen : Outside) (old new : DiskState) (c : FileOutcome) : Type 0 where
-  pub cause : HasFileCause rows names seen old new c c.refusal
+pub record CameOfFile (rows : ℕ) (came : List FileOutcome) (seen : Outside) (old new : DiskState) (c : FileOutcome) : Type 0 where
+  pub cause : HasFileCause rows came seen old new c c.refusal
   pub part : c.refusal ≢ None → c.whole ≡ false
 
 -- the bytes are as they were, and no image came: nothing was written
@@ -244,9 +282,9 @@ unsealed_of rows (Some (Full book count)) = 1
 unsealed_of rows (Some _) = rows
 
 module _ (rows : ℕ) (content : List ℕ → Option (List ℕ)) where
-  -- the message was met in this file
+  -- the message was met in this file, whose log was opened
   abbrev pub WasMetIn : ℕ → FileOutcome → List ℕ → Type 0
-  WasMetIn version c m = IsAmongFirst version (content c.name) (c.messages + unsealed_of rows c.refusal) m
+  WasMetIn version c m = ¬ CouldNotOpen c × IsAmongFirst version (content c.name) (c.messages + unsealed_of rows c.refusal) m
 
   -- it was met in one of these files
   abbrev pub WasMetInOneOf : ℕ → List FileOutcome → List ℕ → Type 0
@@ -331,7 +369,7 @@ pub record AddsFiles (rows : ℕ) (names : List (List ℕ)) (seen : Outside) (ol
 -- taken in fits in the dictionaries.
 pub record TakesFiles (workers rows : ℕ) (names : List (List ℕ)) (seen : Outside) (old new : DiskState) (status : ℕ) : Type 0 where
   pub adds : AddsFiles rows names seen old new status
-  pub each : All (CameOfFile rows names seen old new) adds.came
+  pub each : All (CameOfFile rows adds.came seen old new) adds.came
   pub in_turn : workers ≡ 1 → AreFullInTurn rows seen.content old adds.came
   pub fits : AllFit seen.content old adds.came
 

@@ -8,22 +8,12 @@ use Rattle.archive_meaning.specs.declared.entry.JournalEntry.TheVariants.{Files}
 use Rattle.disk_journal.specs.State.{JournalState}
 use Rattle.disk_seal.specs.Told.{IfTold}
 use Rattle.ingest_workers.specs.Ingested.{told_entries}
-use Rattle.command_refusals.specs.Outside.{Outside}
 use Rattle.command_refusals.specs.Ending.{RoseIn}
-use Rattle.write_commands.specs.Ingested.{FileOutcome, DidNotFit, FromArchive, HasMoreThan, IsFullByGiven, IsFullInTurn, IsNextTooLong, OfStopped, WasCutShort}
+use Rattle.write_commands.specs.Ingested.{FileOutcome, DidNotFit, FromArchive, HasMoreThan, IsFullByGiven, IsFullInTurn, IsNextTooLong, Logs, OfStopped, WasCutShort, names_in}
 use Rattle.command_refusals.specs.LogLimits.{IsLong, most_messages}
 use Rattle.command_refusals.specs.declared.outcome.PartCause.{PartCause}
 
--- what is told of the logs around a call: their bytes, and the counts of faults in opening and in reading them
-pub record Logs : Type 0 where
-  pub content : List ℕ → Option (List ℕ)
-  pub opens : List ℕ → ℕ × ℕ
-  pub reads : List ℕ → ℕ × ℕ
-
-abbrev pub logs_of : Outside → Logs
-logs_of seen = record { content = seen.content; opens = seen.opens; reads = seen.reads }
-
--- what a shelf tells of them
+-- what a shelf tells of the logs around a call
 abbrev pub logs_around : {H : Type 0} → (H → List ℕ → Option (List ℕ)) → (H → List ℕ → ℕ) → (H → List ℕ → ℕ) → H → H → Logs
 logs_around content open_faults read_faults shelf shelf_after = record {
   content = content shelf;
@@ -31,24 +21,24 @@ logs_around content open_faults read_faults shelf shelf_after = record {
   reads = λ name. (read_faults shelf name, read_faults shelf_after name);
 }
 
--- What files are taken into, where it is told: an archive with this header and these entries, which have their names. They are numbered on from `first`, and
--- cut into segments of at most so many rows.
+-- What files are taken into, where it is told: an archive with this header and these entries, which have their names: what came of
+-- them. They are numbered on from `first`, and cut into segments of at most so many rows.
 pub record Target : Type 0 where
   pub told : Bool
   pub header : Header
   pub entries : List JournalEntry
   pub rows : ℕ
   pub first : ℕ
-  pub names : List (List ℕ)
+  pub came : List FileOutcome
 
-abbrev pub into_journal : JournalState → ℕ → ℕ → List (List ℕ) → Target
-into_journal j rows first names = record { told = is_some j.disk.seen; header = j.header; entries = told_entries j; rows = rows; first = first; names = names }
+abbrev pub into_journal : JournalState → ℕ → ℕ → List FileOutcome → Target
+into_journal j rows first came = record { told = is_some j.disk.seen; header = j.header; entries = told_entries j; rows = rows; first = first; came = came }
 
 -- it is told, and is this archive of so many files, with the names
 pub record IsTarget (into : Target) (h : Header) (before : List JournalEntry) (held : ℕ) : Type 0 where
   pub told : into.told ≡ true
   pub header : into.header ≡ h
-  pub entries : into.entries ≡ before ++ Files into.names ∷ []
+  pub entries : into.entries ≡ before ++ Files (names_in into.came) ∷ []
   pub first : into.first ≡ held
 
 -- What a refusal of a file rests on.
@@ -59,9 +49,9 @@ HasCauseIn logs into old new c (Some PartCause.ReadFault) = RoseIn (logs.reads c
 HasCauseIn logs into old new c (Some (PartCause.LineTooLong line)) =
     IfSome (logs.content c.name) (λ bytes. IsLong bytes line) × IfSome (logs.content c.name) (IsNextTooLong into.header.version c line)
 HasCauseIn logs into old new c (Some PartCause.TooManyLines) = (c.messages ≡ most_messages) × HasMoreThan most_messages into.header.version (logs.content c.name)
-HasCauseIn logs into old new c (Some (PartCause.Full book count)) = IfTold into.told (IsFullByGiven logs.content into.names into.header into.entries c book count)
+HasCauseIn logs into old new c (Some (PartCause.Full book count)) = IfTold into.told (IsFullByGiven logs.content into.came into.header into.entries c book count)
 HasCauseIn logs into old new c (Some (PartCause.ArchiveFull end need)) =
-    (into.header.length_limit < end + need) × IfTold into.told (DidNotFit logs.content into.rows into.first into.names into.header into.entries new c end need)
+    (into.header.length_limit < end + need) × IfTold into.told (DidNotFit logs into.rows into.first into.came into.header into.entries new c end need)
 HasCauseIn logs into old new c (Some PartCause.DiskFault) = Rose old.faults new.faults
 HasCauseIn logs into old new c (Some PartCause.OutOfMemory) = Unit {0}
 
@@ -77,7 +67,7 @@ pub record CameIn (logs : Logs) (into : Target) (old new : DiskState) (c : FileO
 -- so it is of each file, by the archive where the disk tells it; with one worker each full dictionary was so in turn
 pub record HaveFileCauses (logs : Logs) (workers rows : ℕ) (old new : DiskState) (came : List FileOutcome) : Type 0 where
   pub into : Target
-  pub names : into.names ≡ map (λ c. c.name) came
+  pub came_are : into.came ≡ came
   pub rows_are : into.rows ≡ rows
   pub told : FromArchive old (λ h before bytes stood. IsTarget into h before (length stood.legal.held.names))
   pub each : All (CameIn logs into old new) came

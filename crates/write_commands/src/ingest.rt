@@ -295,12 +295,12 @@ where
     ensures causes { All (CameIn
         (logs_around H.content H.open_faults H.read_faults shelf.old shelf.new)
         (into_journal (state_of journal.entry) asked.entry.segment named.first
-        (map str_bytes asked.entry.files.now))
+        (map came_of taken.new.items))
         (state_of journal.entry).disk (D.state result.disk.now))
         (map came_of taken.new.items) }
     ensures in_turn { asked.entry.workers ≡ 1 → AreFullInto (H.content shelf.old)
         (into_journal (state_of journal.entry) asked.entry.segment named.first
-        (map str_bytes asked.entry.files.now))
+        (map came_of taken.new.items))
         (map came_of taken.new.items) }
 
     // the logs

@@ -28,7 +28,7 @@ returns-in_default-clause-causes g c = all_unbegun _ _ _ _ c.refuse_all.new.take
 
 pub returns-in_default-clause-in_turn : goal.returns-in_default-clause-in_turn
 returns-in_default-clause-in_turn g c = λ one.
-    unbegun_in_turn _ (into_journal (state_of c.args.journal) c.args.asked.segment c.args.named.first (map str_bytes c.args.asked.files.now)) c.refuse_all.new.taken.items c.refuse_all.ensures.begun
+    unbegun_in_turn _ (into_journal (state_of c.args.journal) c.args.asked.segment c.args.named.first (map came_of c.refuse_all.new.taken.items)) c.refuse_all.new.taken.items c.refuse_all.ensures.begun
 
 -- ---- the jobs
 
@@ -101,13 +101,12 @@ returns-clause-causes g c =
     let reads_sooner : (n : List ℕ) → g.H.Shelf.read_faults c.args.shelf.now n ≤ g.H.Shelf.read_faults c.open_all.new.shelf n = λ n. omega (arith, c.open_all.ensures.reads n) in
     let reads_later : (n : List ℕ) → g.H.Shelf.read_faults c.close_logs.new.shelf n ≤ g.H.Shelf.read_faults c.close_logs.new.shelf n = λ n. omega arith in
     let of = are_jobs_of g.H.Src.Source.left g.H.Src.Source.name g.H.Src.Source.faults (g.H.Shelf.content c.args.shelf.now) (g.H.Shelf.open_faults c.args.shelf.now) (g.H.Shelf.open_faults c.open_all.new.shelf)
-    (map str_bytes c.args.asked.files.now) c.in-Ok.opened.sources.items c.in-Ok.ensures.came c.args.named.first c.as_mut_slice.result.now sourced opening numbered c.args.journal.header.version in
+    (map str_bytes c.args.asked.files.now) c.in-Ok.opened.sources.items c.in-Ok.ensures.came c.args.named.first c.as_mut_slice.result.now sourced opening numbered c.as_slice.result.now openings c.do_jobs-journal.new.jobs c.end_jobs.new.taken.items c.end_jobs.ensures.names told c.args.journal.header.version in
     let each = came_of_log g.H.Src.Source.left g.H.Src.Source.name g.H.Src.Source.faults (g.H.Shelf.content c.args.shelf.now) (g.H.Shelf.open_faults c.args.shelf.now) (g.H.Shelf.open_faults c.open_all.new.shelf)
     (map str_bytes c.args.asked.files.now) c.in-Ok.opened.sources.items c.in-Ok.ensures.came c.args.named.first c.as_mut_slice.result.now sourced opening numbered c.as_slice.result.now openings c.do_jobs-journal.new.jobs c.end_jobs.new.taken.items c.end_jobs.ensures.names told in
-    let named = names_came c.end_jobs.new.taken.items ∙ c.end_jobs.ensures.names in
     all_came g.H.Src.Source.left g.H.Src.Source.name g.H.Src.Source.faults logs (g.H.Shelf.open_faults c.open_all.new.shelf) (g.H.Shelf.read_faults c.open_all.new.shelf) (g.H.Shelf.read_faults c.close_logs.new.shelf) opens_later reads_sooner reads_later
-    c.args.journal c.do_jobs-journal.result (map str_bytes c.args.asked.files.now) c.args.asked.segment c.args.named.first c.as_mut_slice.result.now c.do_jobs-journal.new.jobs of (map came_of c.end_jobs.new.taken.items) each
-    (law _) named c.args.asked.workers c.do_jobs-journal.ensures c.end_jobs.new.sources.items
+    c.args.journal c.do_jobs-journal.result (map came_of c.end_jobs.new.taken.items) c.args.asked.segment c.args.named.first c.as_mut_slice.result.now c.do_jobs-journal.new.jobs of each
+    (law _) c.args.asked.workers c.do_jobs-journal.ensures c.end_jobs.new.sources.items
     (c.end_jobs.ensures.sources ∙ ap sources_of (lent_back c.begin_jobs.new.jobs.len c.do_jobs-journal.new.jobs _ (omega (arith, counted, ap length is, c.begin_jobs.new.jobs.ok.0)))) c.close_logs.ensures.counted
 
 -- with one worker
@@ -121,10 +120,9 @@ returns-clause-in_turn g c =
     let counted = as_many_done _ _ _ _ _ c.args.journal c.do_jobs-journal.result c.as_mut_slice.result.now c.do_jobs-journal.new.jobs c.do_jobs-journal.ensures in
     let told = told_back (λ (jobs : List (Job _)) (i : ℕ) (file : FileReport). IsToldBy c.as_slice.result.now jobs i file) c.end_jobs.new.taken.items c.begin_jobs.new.jobs.len c.do_jobs-journal.new.jobs _ (omega (arith, counted, ap length is, c.begin_jobs.new.jobs.ok.0)) c.end_jobs.ensures.told in
     let of = are_jobs_of g.H.Src.Source.left g.H.Src.Source.name g.H.Src.Source.faults (g.H.Shelf.content c.args.shelf.now) (g.H.Shelf.open_faults c.args.shelf.now) (g.H.Shelf.open_faults c.open_all.new.shelf)
-    (map str_bytes c.args.asked.files.now) c.in-Ok.opened.sources.items c.in-Ok.ensures.came c.args.named.first c.as_mut_slice.result.now sourced opening numbered c.args.journal.header.version in
+    (map str_bytes c.args.asked.files.now) c.in-Ok.opened.sources.items c.in-Ok.ensures.came c.args.named.first c.as_mut_slice.result.now sourced opening numbered c.as_slice.result.now openings c.do_jobs-journal.new.jobs c.end_jobs.new.taken.items c.end_jobs.ensures.names told c.args.journal.header.version in
     let each = came_of_log g.H.Src.Source.left g.H.Src.Source.name g.H.Src.Source.faults (g.H.Shelf.content c.args.shelf.now) (g.H.Shelf.open_faults c.args.shelf.now) (g.H.Shelf.open_faults c.open_all.new.shelf)
     (map str_bytes c.args.asked.files.now) c.in-Ok.opened.sources.items c.in-Ok.ensures.came c.args.named.first c.as_mut_slice.result.now sourced opening numbered c.as_slice.result.now openings c.do_jobs-journal.new.jobs c.end_jobs.new.taken.items c.end_jobs.ensures.names told in
-    let named = names_came c.end_jobs.new.taken.items ∙ c.end_jobs.ensures.names in
     did_in_turn g.H.Src.Source.left g.H.Src.Source.name g.H.Src.Source.faults (g.H.Shelf.content c.args.shelf.now) (g.H.Shelf.open_faults c.args.shelf.now) (g.H.Shelf.open_faults c.open_all.new.shelf)
-    c.args.journal (map str_bytes c.args.asked.files.now) c.args.asked.segment c.args.named.first c.as_mut_slice.result.now c.do_jobs-journal.new.jobs of (map came_of c.end_jobs.new.taken.items) named each
+    c.args.journal (map came_of c.end_jobs.new.taken.items) c.args.asked.segment c.args.named.first c.as_mut_slice.result.now c.do_jobs-journal.new.jobs of each
     c.do_jobs-journal.result c.args.asked.workers c.do_jobs-journal.ensures
