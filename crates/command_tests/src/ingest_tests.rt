@@ -6,6 +6,7 @@ use std::alloc::{AllocError, Global};
 use std::sync::Wait;
 use std::test::Fail;
 use std::thread::Threads;
+use write_commands::{rests_end_their_log, unopened_give_nothing};
 
 /// Logs, of which the reads of `b.log` fail.
 const LOGS: &[Log<'static>] = &[
@@ -172,6 +173,36 @@ const UNFIT: &[(&str, Told)] = &[
             b"clpa: a.log: archive full at 65, 224 more needed\n",
         ),
     ),
+    // a log that could not be opened gives the dictionary no text
+    (
+        "--types=1",
+        (
+            &["ingest", "gone.log", "a.log"],
+            4,
+            b"0 0 part gone.log\n1 1 part a.log\n",
+            b"clpa: gone.log: cannot open\nclpa: a.log: dictionary of types is full at 1\n",
+        ),
+    ),
+    // a whole part of two messages needs 151 bytes, also where one more is left
+    (
+        "--bytes=206",
+        (
+            &["ingest", "--segment=2", "a.log"],
+            4,
+            b"0 0 part a.log\n",
+            b"clpa: a.log: archive full at 56, 151 more needed\n",
+        ),
+    ),
+    // and the rest needs those of the one that is left at the end of the log
+    (
+        "--bytes=352",
+        (
+            &["ingest", "--segment=2", "a.log"],
+            4,
+            b"0 2 part a.log\n",
+            b"clpa: a.log: archive full at 207, 146 more needed\n",
+        ),
+    ),
 ];
 
 /// Whether this is told over a new archive with a limit, on an empty disk, which then is legal.
@@ -325,6 +356,12 @@ fn names_are_kept_up_to_their_greatest_length(rt: HostRuntime) -> Result<(), Fai
         assert!(rt; well, "{len}");
     }
     Ok(())
+}
+
+#[test]
+fn laws_of_ingest_hold() {
+    unopened_give_nothing();
+    rests_end_their_log::<MemDisk>();
 }
 
 /// A disk with room for thousands of segments.

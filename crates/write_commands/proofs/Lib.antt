@@ -11,6 +11,7 @@ pub mod InTurnLemmas
 pub mod JobLemmas
 pub mod JoinLemmas
 pub mod KnownLemmas
+pub mod LawLemmas
 pub mod LeavesLemmas
 pub mod LineLemmas
 pub mod LogCauseLemmas

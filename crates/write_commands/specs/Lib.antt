@@ -4,6 +4,7 @@ pub mod Ingested
 pub mod Jobs
 pub mod JournalLeft
 pub mod Known
+pub mod Laws
 pub mod Made
 pub mod Names
 pub mod Naming

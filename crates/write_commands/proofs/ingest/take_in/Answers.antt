@@ -10,7 +10,6 @@ use Rattle.write_commands.specs.declared.file_report.FileReport.{FileReport}
 use Rattle.ingest_workers.specs.declared.job.Job.{Job}
 use Rattle.write_commands.proofs.JobLemmas.{are_new, as_many, as_many_done, did_go_on}
 use Rattle.write_commands.proofs.PopLemmas.{lent_back, told_back}
-use Rattle.write_commands.proofs.CameLemmas.{names_came}
 use Rattle.write_commands.proofs.FileCauseLemmas.{all_came, all_unbegun}
 use Rattle.write_commands.proofs.InTurnLemmas.{did_in_turn, unbegun_in_turn}
 use Rattle.write_commands.proofs.TakeInLemmas.{are_jobs_of, came_of_log, did_take_into, none_takes_into}

@@ -1,0 +1,61 @@
+-- What follows from the definitions of what an ingest leaves and tells.
+use Rattle.std.specs.Prelude.{◌≡◌, ◌⊎◌, ◌+◌, ◌≤◌, ℕ, Bool, List, ◌++◌, length, All, Option, Some, IsSome}
+use Rattle.std.specs.List.{Contains}
+use Rattle.log_seams.specs.Disk.{DiskState}
+use Rattle.record_format.specs.declared.header.Header.{Header}
+use Rattle.archive_meaning.specs.declared.entry.JournalEntry.{JournalEntry}
+use Rattle.message_reader.specs.Versions.{MessagesOf}
+use Rattle.row_codec.specs.declared.namer.Which.{Which}
+use Rattle.ingest_workers.specs.Parts.{IsCut, IsOpen, Part}
+use Rattle.command_refusals.specs.Ending.{RoseIn}
+use Rattle.command_refusals.specs.LogLimits.{IsLong, most_messages}
+use Rattle.write_commands.specs.Ingested.{CouldNotOpen, DidNotFit, FileOutcome, IsFullBehind, IsGiven, Logs}
+
+-- ---- logs that could not be opened
+
+-- the log could not be opened, or its bytes are told
+abbrev pub IsUnopenedOrTold : (List ℕ → Option (List ℕ)) → FileOutcome → Type 0
+IsUnopenedOrTold content c = CouldNotOpen c ⊎ IsSome (content c.name)
+
+-- the file's log could be opened, its bytes are told, and the message is one of theirs
+pub record IsOfTold (content : List ℕ → Option (List ℕ)) (version : ℕ) (c : FileOutcome) (message : List ℕ) : Type 0 where
+  pub opened : ¬ CouldNotOpen c
+  pub bytes : List ℕ
+  pub told : content c.name ≡ Some bytes
+  pub messages : List (List ℕ)
+  pub ended : Bool
+  pub are : MessagesOf version bytes messages ended
+  pub one : Contains messages message
+
+-- A name whose log could not be opened, and of which nothing is told, says nothing of the messages of the others: each that is given is one of told bytes.
+abbrev pub UnopenedGiveNothing : Type 0
+UnopenedGiveNothing =
+    (content : List ℕ → Option (List ℕ)) (version : ℕ) (came : List FileOutcome) (message : List ℕ) → All (IsUnopenedOrTold content) came → IsGiven content version came message
+    → (c : FileOutcome) × Contains came c × IsOfTold content version c message
+
+-- ---- a rest that did not fit
+
+-- Nothing keeps a log with these messages from being read to its end: its bytes are told, no read of it failed, none of its lines is too long, it has not too
+-- many messages, and no dictionary is full at one of them.
+pub record IsReadable (logs : Logs) (came : List FileOutcome) (h : Header) (es : List JournalEntry) (name : List ℕ) (messages : List (List ℕ)) : Type 0 where
+  pub bytes : List ℕ
+  pub told : logs.content name ≡ Some bytes
+  pub ended : Bool
+  pub are : MessagesOf h.version bytes messages ended
+  pub read : ¬ RoseIn (logs.reads name)
+  pub short : (line : ℕ) → ¬ IsLong bytes line
+  pub few : length messages ≤ most_messages
+  pub free : (taken : List (List ℕ)) (book : Which) (count : ℕ) → ¬ IsFullBehind logs.content came h es name taken book count
+
+-- The part stands behind the messages that were taken in, and is whole, or is less and has all that are left.
+pub record IsWholeOrRest (rows : ℕ) (messages : List (List ℕ)) (c : FileOutcome) : Type 0 where
+  pub sealed : List (List ℕ)
+  pub count : c.messages ≡ length sealed
+  pub part : Part
+  pub cut : IsCut rows part ⊎ (IsOpen rows part × (sealed ++ part.messages ≡ messages))
+
+-- What did not fit of such a log, behind which the disk is so, is the next whole part, or all that is left of it.
+abbrev pub RestsEndTheirLog : DiskState → Type 0
+RestsEndTheirLog new =
+    (logs : Logs) (rows first : ℕ) (came : List FileOutcome) (h : Header) (named : List JournalEntry) (c : FileOutcome) (end need : ℕ) (messages : List (List ℕ))
+    → DidNotFit logs rows first came h named new c end need → IsReadable logs came h named c.name messages → IsWholeOrRest rows messages c
