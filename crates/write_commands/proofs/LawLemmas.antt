@@ -1,6 +1,6 @@
 -- Laws of what an ingest leaves and tells.
-use Rattle.std.proofs.Common.{◌≡◌, ◌+◌, ◌<◌, ◌++◌, ◌⊎◌, ⊎_elim, inl, inr, refl, subst, ℕ, Bool, List, length, Option, Some, None, arith}
-use Rattle.std.specs.Prelude.{All, IfSome, IsSome}
+use Rattle.std.proofs.Common.{◌≡◌, ◌<◌, ◌++◌, ⊎_elim, inl, inr, refl, subst, ℕ, Bool, List, length, Option, Some, None, arith}
+use Rattle.std.specs.Prelude.{IfSome, IsSome}
 use Rattle.std.specs.List.{Contains}
 use Rattle.std.proofs.lemmas.List.Elements.{All-contains}
 use Rattle.message_reader.specs.Versions.{MessagesOf}

@@ -1,5 +1,5 @@
 -- What `bench` answers, on the archive that it made.
-use Rattle.std.proofs.Common.{◌≡◌, ◌⊎◌, ◌<◌, ◌≤◌, inl, inr, ⊎_elim, refl, sym, ap, subst, ◌∙◌, ℕ, ◌*◌, ◌+◌, map, List, [], ◌∷◌, ◌++◌, Option, None, Some, Result, Ok, Err, option_map, length, append-nil, arith}
+use Rattle.std.proofs.Common.{◌≡◌, ◌<◌, ◌≤◌, inl, inr, ⊎_elim, refl, sym, ap, subst, ◌∙◌, ℕ, ◌*◌, ◌+◌, map, List, [], ◌∷◌, ◌++◌, Option, None, Some, Result, Ok, Err, option_map, length, append-nil, arith}
 use Rattle.std.specs.Prelude.{IfSome, is_some}
 use Rattle.std.specs.List.{All, sum_by}
 use Rattle.std.proofs.lemmas.List.{length-append}

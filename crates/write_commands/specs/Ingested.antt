@@ -64,7 +64,8 @@ abbrev pub IsMessageIn : (List ℕ → Option (List ℕ)) → ℕ → List ℕ �
 IsMessageIn content version name message =
     IfSome (content name) (λ bytes. (messages : List (List ℕ)) (ended : Bool) → MessagesOf version bytes messages ended → Contains messages message)
 
--- The message is one of the log of a file. A log that could not be opened has none; of one that was, and whose bytes are not told, nothing is said.
+-- The message is one of the log of a file. A log that could not be opened has none; of one that was, and whose bytes are not
+-- told, nothing is said.
 abbrev pub IsGivenBy : (List ℕ → Option (List ℕ)) → ℕ → FileOutcome → List ℕ → Type 0
 IsGivenBy content version c message = ¬ CouldNotOpen c × IsMessageIn content version c.name message
 
@@ -165,10 +166,13 @@ pub record OfTaken (c : FileOutcome) (P : List (List ℕ) → Type 0) : Type 0 w
   pub count : c.messages ≡ length sealed
   pub holds : P sealed
 
--- There are as many texts of the journal and of these files, and one more is of the encoding of a log's next message, behind those that were taken of it.
-abbrev pub IsFullBehind : (List ℕ → Option (List ℕ)) → List FileOutcome → Header → List JournalEntry → List ℕ → List (List ℕ) → Which → ℕ → Type 0
+-- There are as many texts of the journal and of these files, and one more is of the encoding of a log's next message, behind those
+-- that were taken of it.
+abbrev pub IsFullBehind : (List ℕ → Option (List ℕ)) → List FileOutcome → Header → List JournalEntry → List ℕ → List (List ℕ)
+    → Which → ℕ → Type 0
 IsFullBehind content came h es name taken book count =
-    IsFullBy (IsThereOrGiven content h.version came es book) (IsTextOf h.version (IsNextOf h.version (content name) taken) book) count
+    IsFullBy (IsThereOrGiven content h.version came es book)
+    (IsTextOf h.version (IsNextOf h.version (content name) taken) book) count
 
 -- A book may have so many texts, and is full behind the messages of the file that were taken in.
 abbrev pub IsFullByGiven : (List ℕ → Option (List ℕ)) → List FileOutcome → Header → List JournalEntry → FileOutcome → Which → ℕ → Type 0
@@ -179,31 +183,38 @@ IsFullByGiven content came h es c book count =
 abbrev pub WereGiven : (List ℕ → Option (List ℕ)) → ℕ → List FileOutcome → List JournalEntry → Which → List (List ℕ) → Type 0
 WereGiven content version came front book texts = HasTextsBehind (IsTextOf version (IsGiven content version came) book) (book_texts book front) texts
 
--- Why no further message of a log of this name was taken than these, into an archive with these entries: a read of it failed behind them, the next line is too
--- long, there are too many, or a dictionary is full at the next one.
+-- Why no further message of a log of this name was taken than these, into an archive with these entries: a read of it failed behind
+-- them, the next line is too long, there are too many, or a dictionary is full at the next one.
 abbrev pub IsStoppedBy : Logs → List FileOutcome → Header → List JournalEntry → List ℕ → List (List ℕ) → PartCause → Type 0
-IsStoppedBy logs came h es name taken ReadFault =
-    RoseIn (logs.reads name) × IfSome (logs.content name) (λ bytes. (behind : Option (List ℕ)) × IsReadShort h.version bytes taken behind)
-IsStoppedBy logs came h es name taken (LineTooLong line) = (line ≡ lines_count taken + 1) × IfSome (logs.content name) (IsBeforeLong h.version taken)
-IsStoppedBy logs came h es name taken TooManyLines = (length taken ≡ most_messages) × HasMoreThan most_messages h.version (logs.content name)
-IsStoppedBy logs came h es name taken (Full book count) = (count ≡ limit_of (header_limits h) book) × IsFullBehind logs.content came h es name taken book count
+IsStoppedBy logs came h es name taken ReadFault = RoseIn (logs.reads name)
+    × IfSome (logs.content name) (λ bytes. (behind : Option (List ℕ)) × IsReadShort h.version bytes taken behind)
+IsStoppedBy logs came h es name taken (LineTooLong line) =
+    (line ≡ lines_count taken + 1) × IfSome (logs.content name) (IsBeforeLong h.version taken)
+IsStoppedBy logs came h es name taken TooManyLines =
+    (length taken ≡ most_messages) × HasMoreThan most_messages h.version (logs.content name)
+IsStoppedBy logs came h es name taken (Full book count) =
+    (count ≡ limit_of (header_limits h) book) × IsFullBehind logs.content came h es name taken book count
 IsStoppedBy logs came h es name taken _ = ⊥
 
 -- The log has ended with these messages: they are all of its messages, or there is such a cause.
 abbrev pub HasEnded : Logs → List FileOutcome → Header → List JournalEntry → List ℕ → List (List ℕ) → Type 0
-HasEnded logs came h es name taken = AreAllOf h.version (logs.content name) taken ⊎ ((cause : PartCause) × IsStoppedBy logs came h es name taken cause)
+HasEnded logs came h es name taken = AreAllOf h.version (logs.content name) taken
+    ⊎ ((cause : PartCause) × IsStoppedBy logs came h es name taken cause)
 
 -- the entries begin with these ones, and where the disk's bytes are told and stand for a journal, it begins with the entries
 abbrev pub StandFirst : Header → List JournalEntry → DiskState → List JournalEntry → Type 0
 StandFirst h named new front = IsPrefix named front × IfSome new.seen (λ bytes. (es : List JournalEntry) → StandsFor bytes h es → IsPrefix front es)
 
--- Behind the messages of a file that were taken in, its next segment did not fit: the next whole part, of at most so many rows, or the rest, where no whole
--- part is left and the log has ended. The archive's end is that of entries which begin with the names of these files, numbered on from `first`, and the bytes
--- are those of the segment and of the texts before it.
-pub record DidNotFit (logs : Logs) (rows first : ℕ) (came : List FileOutcome) (h : Header) (named : List JournalEntry) (new : DiskState) (c : FileOutcome) (end need : ℕ) : Type 0 where
+-- Behind the messages of a file that were taken in, its next segment did not fit: the next whole part, of at most so many rows, or
+-- the rest, where no whole part is left and the log has ended. The archive's end is that of entries which begin with the names of
+-- these files, numbered on from `first`, and the bytes are those of the segment and of the texts before it.
+pub record DidNotFit (logs : Logs) (rows first : ℕ) (came : List FileOutcome) (h : Header) (named : List JournalEntry)
+    (new : DiskState) (c : FileOutcome) (end need : ℕ) : Type 0 where
   pub place : ℕ
   pub at : slice_get came place ≡ Some c
-  pub room : OfTaken c (λ sealed. HadNoRoom h rows h.version (first + place) (StandFirst h named new) (WereGiven logs.content h.version came) (AreFirstOf h.version (logs.content c.name)) (HasEnded logs came h named c.name) sealed end need)
+  pub room : OfTaken c (λ sealed. HadNoRoom h rows h.version (first + place) (StandFirst h named new)
+      (WereGiven logs.content h.version came) (AreFirstOf h.version (logs.content c.name)) (HasEnded logs came h named c.name)
+      sealed end need)
 
 -- A read of a log with these bytes failed, and the messages that were taken in are those of the bytes before the fault.
 pub record WasCutShort (version : ℕ) (c : FileOutcome) (bytes : List ℕ) : Type 0 where

@@ -1,5 +1,5 @@
 -- What follows from the definitions of what an ingest leaves and tells.
-use Rattle.std.specs.Prelude.{◌≡◌, ◌⊎◌, ◌+◌, ◌≤◌, ℕ, Bool, List, ◌++◌, length, All, Option, Some, IsSome}
+use Rattle.std.specs.Prelude.{◌≡◌, ◌⊎◌, ◌≤◌, ℕ, Bool, List, ◌++◌, length, All, Option, Some, IsSome}
 use Rattle.std.specs.List.{Contains}
 use Rattle.log_seams.specs.Disk.{DiskState}
 use Rattle.record_format.specs.declared.header.Header.{Header}
@@ -27,17 +27,20 @@ pub record IsOfTold (content : List ℕ → Option (List ℕ)) (version : ℕ) (
   pub are : MessagesOf version bytes messages ended
   pub one : Contains messages message
 
--- A name whose log could not be opened, and of which nothing is told, says nothing of the messages of the others: each that is given is one of told bytes.
+-- A log that could not be opened, of whose bytes nothing is told, says nothing of the messages of the others: each that is given
+-- is one of told bytes.
 abbrev pub UnopenedGiveNothing : Type 0
 UnopenedGiveNothing =
-    (content : List ℕ → Option (List ℕ)) (version : ℕ) (came : List FileOutcome) (message : List ℕ) → All (IsUnopenedOrTold content) came → IsGiven content version came message
+    (content : List ℕ → Option (List ℕ)) (version : ℕ) (came : List FileOutcome) (message : List ℕ)
+    → All (IsUnopenedOrTold content) came → IsGiven content version came message
     → (c : FileOutcome) × Contains came c × IsOfTold content version c message
 
 -- ---- a rest that did not fit
 
--- Nothing keeps a log with these messages from being read to its end: its bytes are told, no read of it failed, none of its lines is too long, it has not too
--- many messages, and no dictionary is full at one of them.
-pub record IsReadable (logs : Logs) (came : List FileOutcome) (h : Header) (es : List JournalEntry) (name : List ℕ) (messages : List (List ℕ)) : Type 0 where
+-- Nothing keeps a log with these messages from being read to its end: its bytes are told, no read of it failed, none of its lines is
+-- too long, it has not too many messages, and no dictionary is full at one of them.
+pub record IsReadable (logs : Logs) (came : List FileOutcome) (h : Header) (es : List JournalEntry) (name : List ℕ)
+    (messages : List (List ℕ)) : Type 0 where
   pub bytes : List ℕ
   pub told : logs.content name ≡ Some bytes
   pub ended : Bool
@@ -57,5 +60,7 @@ pub record IsWholeOrRest (rows : ℕ) (messages : List (List ℕ)) (c : FileOutc
 -- What did not fit of such a log, behind which the disk is so, is the next whole part, or all that is left of it.
 abbrev pub RestsEndTheirLog : DiskState → Type 0
 RestsEndTheirLog new =
-    (logs : Logs) (rows first : ℕ) (came : List FileOutcome) (h : Header) (named : List JournalEntry) (c : FileOutcome) (end need : ℕ) (messages : List (List ℕ))
-    → DidNotFit logs rows first came h named new c end need → IsReadable logs came h named c.name messages → IsWholeOrRest rows messages c
+    (logs : Logs) (rows first : ℕ) (came : List FileOutcome) (h : Header) (named : List JournalEntry) (c : FileOutcome)
+    (end need : ℕ) (messages : List (List ℕ))
+    → DidNotFit logs rows first came h named new c end need → IsReadable logs came h named c.name messages
+    → IsWholeOrRest rows messages c

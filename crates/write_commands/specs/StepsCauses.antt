@@ -21,8 +21,8 @@ logs_around content open_faults read_faults shelf shelf_after = record {
   reads = λ name. (read_faults shelf name, read_faults shelf_after name);
 }
 
--- What files are taken into, where it is told: an archive with this header and these entries, which have their names: what came of
--- them. They are numbered on from `first`, and cut into segments of at most so many rows.
+-- What files are taken into, of which this came, where it is told: an archive with this header and these entries, which have their
+-- names. They are numbered on from `first`, and cut into segments of at most so many rows.
 pub record Target : Type 0 where
   pub told : Bool
   pub header : Header
