@@ -2,34 +2,17 @@
 //! commands run over, and the status that the process ends with.
 #![tactic(auto)]
 
-mod disk_file;
-#[cfg(test)]
-mod disk_tests;
-#[cfg(test)]
-mod edge_tests;
-mod faults;
-mod file_id;
-#[cfg(test)]
-mod halting;
-mod locked_file;
-mod log_file;
-mod offsets;
-mod place;
-mod stream;
 mod writing;
 
 use clp_commands::run;
-use disk_file::DiskFile;
-use log_file::LogFiles;
+use host_files::{DiskFile, FilePath, LogFiles, Standard, Stream};
 use log_seams::{Disk, Shelf, Sink};
-use place::FilePath;
 use std::alloc::{AllocError, Global};
 use std::env;
 use std::io::ErrorKind;
 use std::process::ExitCode;
 use std::sync::Wait;
 use std::thread::Threads;
-use stream::{Standard, Stream};
 use writing::ask_to_write;
 
 /// What the words of the command line behind the program's name give.

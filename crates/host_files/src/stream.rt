@@ -6,7 +6,7 @@ use log_seams::{Failed, Sink};
 use std::io::{self, ErrorKind, Print, Stderr, Stdout};
 
 /// What takes bytes, and keeps them in order.
-pub(crate) trait Output: Drop {
+pub trait Output: Drop {
     /// The bytes that were taken, where they are told.
     ghost taken: { Self → Option (List ℕ) };
 
@@ -22,7 +22,7 @@ pub(crate) trait Output: Drop {
 
 /// The two standard streams that are written.
 #[derive(Clone, Copy)]
-pub(crate) enum Standard {
+pub enum Standard {
     Output(Stdout),
     Errors(Stderr),
 }
@@ -59,14 +59,14 @@ fn write_again<W: Output>(to: &mut W, bytes: &[u8]) -> io::Result<usize>
 
 /// A stream that is written to. It tells what its end tells.
 #[derive(Drop)]
-pub(crate) struct Stream<W> {
+pub struct Stream<W> {
     to: W,
     faults: u64,
 }
 
 impl<W> Stream<W> {
     /// The stream to an end, to which nothing was written yet.
-    pub(crate) fn new(to: W) -> Self
+    pub fn new(to: W) -> Self
         ensures to { result.to ≡ to }
         ensures faults { result.faults ≡ 0 }
     {

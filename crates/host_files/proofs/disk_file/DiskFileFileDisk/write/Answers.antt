@@ -1,6 +1,6 @@
 use Rattle.std.proofs.Common.{inl, refl, arith, rules}
 use Rattle.std.proofs.Math.Nat.{le-max_left}
-use Rattle.clpa.proofs.disk_file.DiskFileFileDisk.write.Goals as goal
+use Rattle.host_files.proofs.disk_file.DiskFileFileDisk.write.Goals as goal
 
 -- what may be left now might have been left before, and then it is torn nowhere
 pub returns : goal.returns

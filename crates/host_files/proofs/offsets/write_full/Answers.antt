@@ -1,8 +1,8 @@
 use Rattle.std.proofs.Common.{rules, ◌∙◌}
 use Rattle.std.proofs.lemmas.List.{take_rest}
-use Rattle.clpa.proofs.OffsetLemmas.{Laid-nothing, Laid-more}
-use Rattle.clpa.proofs.offsets.write_full.Goals as goal
-use Rattle.clpa.proofs.offsets.write_full.Goals.{in-Ok, in-Err}
+use Rattle.host_files.proofs.OffsetLemmas.{Laid-nothing, Laid-more}
+use Rattle.host_files.proofs.offsets.write_full.Goals as goal
+use Rattle.host_files.proofs.offsets.write_full.Goals.{in-Ok, in-Err}
 
 pub loop-init : goal.loop-init
 loop-init g c = (search rules, search rules, λ there. Laid-nothing _ c.args.bytes.now _ there)

@@ -1,5 +1,5 @@
 use Rattle.std.proofs.Common.{◌≡◌}
-use Rattle.clpa.proofs.stream.write_again.Given as goal
+use Rattle.host_files.proofs.stream.write_again.Given as goal
 
 -- a write that was interrupted wrote nothing
 abbrev pub invariant-loop : goal.invariant-loop

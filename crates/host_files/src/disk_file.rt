@@ -113,21 +113,21 @@ impl<P: Place> PlacedFile<P, P::File> {
 /// file, and fails where another made it meanwhile or a link leads nowhere. A file that can only be read
 /// fails at each write.
 #[derive(Drop)]
-pub(crate) struct DiskFile<P, F: OffsetFile> {
+pub struct DiskFile<P, F: OffsetFile> {
     file: PlacedFile<P, F>,
     faults: u64,
 }
 
 impl<P: Place> DiskFile<P, P::File> {
     /// A disk that is read alone, and takes no lock. Its file was not looked for yet; each write fails.
-    pub(crate) fn to_read(place: P) -> Self
+    pub fn to_read(place: P) -> Self
         ensures { result.faults ≡ 0 }
     {
         DiskFile::new(place, Held::Reading(None))
     }
 
     /// A disk that may be written. Its file is opened and locked now, where it is there.
-    pub(crate) fn to_write(place: P) -> Self
+    pub fn to_write(place: P) -> Self
         ensures { result.faults ≡ 0 }
     {
         let held = hold(&place).unwrap_or(Held::Refused);
@@ -148,7 +148,7 @@ impl<P: Place> DiskFile<P, P::File> {
     }
 
     /// Which file it is, where its lock is held.
-    pub(crate) fn locked_id(&self) -> Option<FileId> {
+    pub fn locked_id(&self) -> Option<FileId> {
         match &self.file.held {
             Held::Locked(locked) => Some(locked.id()),
             Held::Reading(_) | Held::Absent | Held::Refused => None,

@@ -6,7 +6,7 @@ use Rattle.std.proofs.lemmas.Slice.{take-put_mid_below}
 use Rattle.std.proofs.Math.Seq.{take-add, take-append-add, take-append_seam, drop-append_seam}
 use borrow.Rule.Slice.PartMut.{put_mid, post_of}
 use Rattle.log_seams.specs.Disk.{laid}
-use Rattle.clpa.specs.Offset.{GaveSome}
+use Rattle.host_files.specs.Offset.{GaveSome}
 
 -- the first so many of the buffer are the bytes at the offset
 pub record Filled (bytes : List ℕ) (at n : ℕ) (buf : List ℕ) : Type 0 where

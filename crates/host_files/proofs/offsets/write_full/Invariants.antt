@@ -1,7 +1,7 @@
 use Rattle.std.proofs.Common.{◌≡◌, ◌≤◌, true, length, take, option_map}
 use Rattle.std.specs.Prelude.{IfSome}
 use Rattle.log_seams.specs.Disk.{laid}
-use Rattle.clpa.proofs.offsets.write_full.Given as goal
+use Rattle.host_files.proofs.offsets.write_full.Given as goal
 
 -- the lock is held, and the first so many of the bytes are written
 abbrev pub invariant-loop : goal.invariant-loop

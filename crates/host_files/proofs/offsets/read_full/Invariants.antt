@@ -1,7 +1,7 @@
 use Rattle.std.proofs.Common.{◌≡◌, ◌≤◌, length}
 use Rattle.std.specs.Prelude.{IfSome}
-use Rattle.clpa.proofs.OffsetLemmas.{Filled}
-use Rattle.clpa.proofs.offsets.read_full.Given as goal
+use Rattle.host_files.proofs.OffsetLemmas.{Filled}
+use Rattle.host_files.proofs.offsets.read_full.Given as goal
 
 -- what was filled is no more than was wanted and holds the bytes at the offset; the buffer keeps its length, and the
 -- file is as it was

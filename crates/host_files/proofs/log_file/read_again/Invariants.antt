@@ -1,5 +1,5 @@
 use Rattle.std.proofs.Common.{◌≡◌, length}
-use Rattle.clpa.proofs.log_file.read_again.Given as goal
+use Rattle.host_files.proofs.log_file.read_again.Given as goal
 
 -- a read that was interrupted took nothing, and the buffer keeps its length
 abbrev pub invariant-loop : goal.invariant-loop

@@ -6,7 +6,7 @@ use std::os::unix::fs::MetadataExt;
 /// The number of a file, and that of the device that has it. Two open files of one identity are one
 /// file.
 #[derive(Clone, Copy, Debug, PartialEq, Eq)]
-pub(crate) struct FileId {
+pub struct FileId {
     device: u64,
     number: u64,
 }

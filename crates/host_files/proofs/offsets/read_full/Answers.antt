@@ -1,7 +1,7 @@
 use Rattle.std.proofs.Common.{rules}
-use Rattle.clpa.proofs.OffsetLemmas.{Filled-more, Filled-same}
-use Rattle.clpa.proofs.offsets.read_full.Goals as goal
-use Rattle.clpa.proofs.offsets.read_full.Goals.{in-Ok, in-Err}
+use Rattle.host_files.proofs.OffsetLemmas.{Filled-more, Filled-same}
+use Rattle.host_files.proofs.offsets.read_full.Goals as goal
+use Rattle.host_files.proofs.offsets.read_full.Goals.{in-Ok, in-Err}
 
 pub loop-preserved : goal.loop-preserved
 loop-preserved g c =

@@ -2,7 +2,7 @@
 ghost use Rattle.std.specs.Prelude.{◌≡◌, ◌≢◌, ◌<◌, ◌≤◌, ◌+◌, ◌-◌, ◌^◌, ◌↔◌, ◌⊎◌, ℕ, Bool, List, Option, length, take, true, None, Ok, Err, Some, IfOk, IfErr, IfSome, OnErr, OnOk, IsTrue, option_map};
 ghost use Rattle.std.specs.IoError.{error_kind};
 ghost use Rattle.log_seams.specs.Disk.{laid};
-ghost use Rattle.clpa.specs.Offset.{GaveSome};
+ghost use Rattle.host_files.specs.Offset.{GaveSome};
 
 use crate::file_id::FileId;
 use std::fs::{File, OpenOptions};
@@ -13,7 +13,7 @@ use std::path::Path;
 use std::rt::Files;
 
 /// A file that is read and written at offsets.
-pub(crate) trait OffsetFile: Drop {
+pub trait OffsetFile: Drop {
     /// Its bytes, where they are told.
     ghost content: { Self → Option (List ℕ) };
 
@@ -96,7 +96,7 @@ impl OffsetFile for File {
 }
 
 /// The place of one file.
-pub(crate) trait Place {
+pub trait Place {
     /// The file there.
     type File: OffsetFile;
 
@@ -160,11 +160,11 @@ fn folder_of(path: &str) -> Path<'_> {
 
 /// A path in the file system that the runtime has.
 #[derive(Drop)]
-pub(crate) struct FilePath<'p, R> {
+pub struct FilePath<'p, R> {
     /// What opens files.
-    pub(crate) rt: &'p R,
+    pub rt: &'p R,
     /// The path.
-    pub(crate) path: &'p str,
+    pub path: &'p str,
 }
 
 impl<R: Files<File = File>> Place for FilePath<'_, R> {

@@ -10,7 +10,7 @@ use std::io::{self, ErrorKind, Read};
 use std::rt::Files;
 
 /// What is read from its start to its end.
-pub(crate) trait Input: Drop {
+pub trait Input: Drop {
     /// The bytes that are left, where they are told.
     ghost left: { Self → Option (List ℕ) };
 
@@ -49,14 +49,14 @@ fn read_again<F: Input>(file: &mut F, buf: &mut [u8]) -> io::Result<usize>
 
 /// An open log. It tells the bytes that its file tells.
 #[derive(Drop)]
-pub(crate) struct LogFile<F> {
+pub struct LogFile<F> {
     file: F,
     faults: u64,
 }
 
 impl<F> LogFile<F> {
     /// The log of a file that was opened.
-    pub(crate) fn new(file: F) -> Self
+    pub fn new(file: F) -> Self
         ensures file { result.file ≡ file }
         ensures faults { result.faults ≡ 0 }
     {
@@ -89,7 +89,7 @@ fn unless_written(written: Option<FileId>, log: FileId) -> io::Result<()>
 /// The files that the runtime can open, but for the one that is written. It tells no content, and has
 /// one count of faults in opening and one in reading, each for all names.
 #[derive(Drop)]
-pub(crate) struct LogFiles<'r, R> {
+pub struct LogFiles<'r, R> {
     rt: &'r R,
     written: Option<FileId>,
     open_faults: u64,
@@ -98,7 +98,7 @@ pub(crate) struct LogFiles<'r, R> {
 
 impl<'r, R> LogFiles<'r, R> {
     /// No file was opened yet. `written` is the file that a command writes, which is no log of its own.
-    pub(crate) fn new(rt: &'r R, written: Option<FileId>) -> Self {
+    pub fn new(rt: &'r R, written: Option<FileId>) -> Self {
         LogFiles {
             rt,
             written,

@@ -1,0 +1,23 @@
+//! The system's files and streams behind the traits of `log_seams`.
+#![tactic(auto)]
+
+mod disk_file;
+#[cfg(test)]
+mod disk_tests;
+#[cfg(test)]
+mod edge_tests;
+mod faults;
+mod file_id;
+#[cfg(test)]
+mod halting;
+mod locked_file;
+mod log_file;
+mod offsets;
+mod place;
+mod stream;
+
+pub use disk_file::DiskFile;
+pub use file_id::FileId;
+pub use log_file::{Input, LogFile, LogFiles};
+pub use place::{FilePath, OffsetFile, Place};
+pub use stream::{Output, Standard, Stream};
