@@ -4,6 +4,10 @@
 #[cfg(test)]
 mod generated_logs_tests;
 #[cfg(test)]
+mod halting;
+#[cfg(test)]
+mod host_files_tests;
+#[cfg(test)]
 mod log_seams_tests;
 #[cfg(test)]
 mod log_sources_tests;
@@ -11,6 +15,8 @@ mod log_sources_tests;
 mod mem_disk_tests;
 #[cfg(test)]
 mod plain_list_tests;
+#[cfg(test)]
+mod real_disk_tests;
 #[cfg(test)]
 mod sink_pieces_tests;
 #[cfg(test)]

@@ -7,8 +7,10 @@ use std::os::unix::fs::MetadataExt;
 /// file.
 #[derive(Clone, Copy, Debug, PartialEq, Eq)]
 pub struct FileId {
-    device: u64,
-    number: u64,
+    /// The number of the device.
+    pub device: u64,
+    /// The number of the file on it.
+    pub number: u64,
 }
 
 impl FileId {
@@ -19,11 +21,5 @@ impl FileId {
             device: metadata.dev(),
             number: metadata.ino(),
         })
-    }
-
-    /// The identity of a file of the tests.
-    #[cfg(test)]
-    pub(crate) fn numbered(number: u64) -> FileId {
-        FileId { device: 0, number }
     }
 }

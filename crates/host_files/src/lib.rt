@@ -2,14 +2,8 @@
 #![tactic(auto)]
 
 mod disk_file;
-#[cfg(test)]
-mod disk_tests;
-#[cfg(test)]
-mod edge_tests;
 mod faults;
 mod file_id;
-#[cfg(test)]
-mod halting;
 mod locked_file;
 mod log_file;
 mod offsets;

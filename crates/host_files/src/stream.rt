@@ -74,8 +74,9 @@ impl<W> Stream<W> {
     }
 
     /// The end that it writes to.
-    #[cfg(test)]
-    pub(crate) fn to(&self) -> &W {
+    pub fn to(&self) -> &W
+        ensures { result.now ≡ self.now.to }
+    {
         &self.to
     }
 }

@@ -1,7 +1,5 @@
 //! Disks over real files, in the system's folder for files that do not stay.
-use crate::disk_file::DiskFile;
-use crate::log_file::LogFiles;
-use crate::place::FilePath;
+use host_files::{DiskFile, FilePath, LogFiles};
 use log_seams::{Disk, Failed, Shelf};
 use std::fs::File;
 use std::path::PathBuf;

@@ -2,10 +2,7 @@
 //! what they are asked for.
 ghost use Rattle.std.specs.Prelude.{◌≤◌, None, length, true, IfOk};
 
-use crate::file_id::FileId;
-use crate::log_file::Input;
-use crate::place::{OffsetFile, Place};
-use crate::stream::Output;
+use host_files::{FileId, Input, OffsetFile, Output, Place};
 use std::alloc::Global;
 use std::cell::Cell;
 use std::io::{self, ErrorKind};
@@ -100,7 +97,10 @@ impl OffsetFile for Halting<'_> {
     ghost is_locked = { λ _. true };
 
     fn id(&mut self) -> io::Result<FileId> {
-        Ok(FileId::numbered(1))
+        Ok(FileId {
+            device: 0,
+            number: 1,
+        })
     }
 
     fn take_lock(&mut self) -> io::Result<()> {

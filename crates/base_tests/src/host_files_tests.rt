@@ -1,10 +1,8 @@
 //! The adapters over files and streams whose calls are interrupted, and give or take a part.
 ghost use Rattle.std.specs.Prelude.{◌≤◌, length};
 
-use crate::disk_file::DiskFile;
 use crate::halting::{Halting, HaltingPlace};
-use crate::log_file::LogFile;
-use crate::stream::Stream;
+use host_files::{DiskFile, LogFile, Stream};
 use log_seams::{Disk, Failed, Sink, Source};
 use std::alloc::{AllocError, Global};
 use std::cell::Cell;
