@@ -1,8 +1,8 @@
 -- The record of the names of files.
-use Rattle.std.specs.Prelude.{◌≡◌, ℕ, List, [], length, is_some}
+use Rattle.std.specs.Prelude.{◌≡◌, ◌≤◌, ◌+◌, ℕ, List, [], ◌∷◌, length, is_some}
 use Rattle.disk_journal.specs.Record.{Saved, frame_of}
 use Rattle.disk_journal.specs.State.{JournalState}
-use Rattle.disk_journal.specs.Calls.{IsFull}
+use Rattle.disk_journal.specs.Calls.{HasAdded, IsFull}
 use Rattle.archive_meaning.specs.Spelled.{record_of}
 use Rattle.archive_meaning.specs.Stands.{IsLegal}
 use Rattle.archive_meaning.specs.declared.entry.JournalEntry.TheVariants.{Files}
@@ -29,3 +29,10 @@ HoldsNames held j =
 -- a store could be opened over a journal with so many names, and can be over the one with further names
 abbrev pub StaysOpen : ℕ → JournalState → JournalState → Type 0
 StaysOpen held old new = MayOpen old → HoldsNames held old → MayOpen new
+
+-- The record of the names stands behind the others and within the archive's limit of length, and a store can be opened over
+-- the journal where one could be before.
+pub record HasRegistered (held : ℕ) (names : List (List ℕ)) (old new : JournalState) : Type 0 where
+  pub added : HasAdded (files_record names ∷ []) (files_size names) old new
+  pub fits : old.place + 1 + files_size names ≤ old.header.length_limit
+  pub opens : StaysOpen held old new

@@ -1,11 +1,11 @@
 //! Naming files.
-ghost use Rattle.std.specs.Prelude.{◌≡◌, ◌+◌, ◌≤◌, ℕ, [], ◌∷◌, IfOk, OnOk, OnErr, IsErrOf};
+ghost use Rattle.std.specs.Prelude.{◌≡◌, ◌⊎◌, ℕ, IfOk, OnOk, OnErr, IsErrOf};
 ghost use Rattle.log_seams.specs.Outside.{CountsOf};
 ghost use Rattle.disk_journal.specs.State.{IsAtEnd};
 ghost use Rattle.disk_journal.specs.Journal.{state_of};
-ghost use Rattle.disk_journal.specs.Calls.{GoesOn, HasAdded, IsPast, LeavesBeforeOrAfter, StaysAt};
+ghost use Rattle.disk_journal.specs.Calls.{GoesOn, IsPast, LeavesBeforeOrAfter, StaysAt};
 ghost use Rattle.archive_meaning.specs.Sums.{AddsNames};
-ghost use Rattle.disk_seal.specs.Registered.{files_record, files_size, IsFullFor, StaysOpen};
+ghost use Rattle.disk_seal.specs.Registered.{files_record, files_size, HasRegistered, IsFullFor};
 ghost use Rattle.disk_seal.specs.declared.files.RegisterRefusal.TheVariants.{OutOfMemory};
 
 use disk_journal::{AppendRefusal, Journal, frame};
@@ -57,20 +57,16 @@ pub fn register<D: Disk>(
 
     // by the answer
     ensures number { IfOk result (λ first. first ≡ held) }
-    ensures added { OnOk result (HasAdded (files_record names.now ∷ []) (files_size names.now)
+    ensures registered { OnOk result (HasRegistered held names.now
         (state_of journal.old) (state_of journal.new)) }
-    ensures fits { OnOk result (journal.old.place + 1 + files_size names.now
-        ≤ journal.old.header.length_limit) }
-    ensures opens { OnOk result (StaysOpen held (state_of journal.old) (state_of journal.new)) }
     ensures stays { OnErr result (StaysAt (state_of journal.old) (state_of journal.new)) }
 
     // causes
     ensures full { (end need : ℕ) → IsErrOf result (RegisterRefusal.ArchiveFull end need)
         → IsFullFor names.now end need (state_of journal.old)
         × (journal.new.disk ≡ journal.old.disk) }
-    ensures past { IsPast (files_size names.now) (state_of journal.old)
-        → journal.new.disk ≡ journal.old.disk }
-    ensures memory { IsErrOf result RegisterRefusal.OutOfMemory
+    ensures alone { IsPast (files_size names.now) (state_of journal.old)
+        ⊎ IsErrOf result RegisterRefusal.OutOfMemory
         → journal.new.disk ≡ journal.old.disk }
     ensures counts { CountsOf RegisterRefusal.DiskFault
         (D.state journal.old.disk.now).faults (D.state journal.new.disk.now).faults result }
