@@ -1,4 +1,4 @@
-use Rattle.std.proofs.Common.{sym, ap, ◌∙◌, arith, length, map, MutBor}
+use Rattle.std.proofs.Common.{inl, inr, sym, ap, ◌∙◌, arith, length, map, MutBor}
 use Rattle.std.proofs.lemmas.List.{length-map}
 use Rattle.std.proofs.lemmas.Result.{err_from_is_err_and}
 use Rattle.archive_open.specs.Kept.{Kept}
@@ -30,9 +30,9 @@ returns-clause-named g c =
     (record {
       adds = may_add (length c.as_slice.result.now) (map str_bytes c.args.names.now) c.requires.names (omega (arith, c.requires.some, length-map c.args.names.now str_bytes)) (omega (arith, c.in_default.ensures, length-map c.args.names.now str_bytes));
       goes = named.goes_on;
-      added = rw (c.in_ok-texts.ensures) at named.added;
-      fits = rw (c.in_ok-texts.ensures) at named.fits;
-      opens = named.opens;
+      added = rw (c.in_ok-texts.ensures) at named.registered.added;
+      fits = rw (c.in_ok-texts.ensures) at named.registered.fits;
+      opens = named.registered.opens;
     })
     c.into_books-types.result.types c.into_books-types.result.words
     (record { types_are = sym (ap (λ (k : Kept). k.types) books); words_are = sym (ap (λ (k : Kept). k.words) books); types_limit = sym (ap (λ (k : Kept). k.types_limit) books); words_limit = sym (ap (λ (k : Kept). k.words_limit) books) })
@@ -49,9 +49,9 @@ returns-clause-names g c =
     (record {
       adds = may_add (length c.as_slice.result.now) (map str_bytes c.args.names.now) c.requires.names (omega (arith, c.requires.some, length-map c.args.names.now str_bytes)) (omega (arith, c.in_default.ensures, length-map c.args.names.now str_bytes));
       goes = named.goes_on;
-      added = rw (c.in_ok-texts.ensures) at named.added;
-      fits = rw (c.in_ok-texts.ensures) at named.fits;
-      opens = named.opens;
+      added = rw (c.in_ok-texts.ensures) at named.registered.added;
+      fits = rw (c.in_ok-texts.ensures) at named.registered.fits;
+      opens = named.registered.opens;
     })
     (rw (c.in_ok-texts.ensures) at named.moments)
     c.in_ok-first.first named.number
@@ -88,7 +88,7 @@ pub returns-in_err-first-clause-nothing : goal.returns-in_err-first-clause-nothi
 returns-in_err-first-clause-nothing g c =
     let opened = c.open_for_append.ensures in
     let named = c.register.ensures in
-    let past = rw (c.in_ok-texts.ensures) at named.past in
+    let alone = rw (c.in_ok-texts.ensures) at named.alone in
     on_err c.from_residual-in_err-first.result
     (not_named (state_of c.args.journal.now) (state_of c.open_for_append.new.journal) (state_of c.register.new.journal) _
     (record { begins = c.requires.begins; archive = c.requires.archive; looks = opened.looks; opened = c.in_ok-archive.ensures.opened; header = c.in_ok-archive.ensures.header; ends = c.in_ok-archive.ensures.at_end })
@@ -96,9 +96,9 @@ returns-in_err-first-clause-nothing g c =
     (length c.as_slice.result.now) (ap length (c.as_slice.ensures ∙ c.files.ensures)) (map str_bytes c.args.names.now)
     (may_add (length c.as_slice.result.now) (map str_bytes c.args.names.now) c.requires.names (omega (arith, c.requires.some, length-map c.args.names.now str_bytes)) (omega (arith, c.in_default.ensures, length-map c.args.names.now str_bytes)))
     (rw (c.in_ok-texts.ensures) at named.moments)
-    (λ far. ap (λ (x : MutBor g.row.D.Denot). g.D.Disk.state x.now) (past far))
+    (λ far. ap (λ (x : MutBor g.row.D.Denot). g.D.Disk.state x.now) (alone (inl far)))
     (ended_alone (state_of c.open_for_append.new.journal) (state_of c.register.new.journal) c.register.result c.in_err-first.field-0.0 c.in_err-first.was
-    (λ e. ap (λ (x : MutBor g.row.D.Denot). g.D.Disk.state x.now) (named.memory e)) (λ end need e. ap (λ (x : MutBor g.row.D.Denot). g.D.Disk.state x.now) (named.full end need e).1) named.counts))
+    (λ e. ap (λ (x : MutBor g.row.D.Denot). g.D.Disk.state x.now) (alone (inr e))) (λ end need e. ap (λ (x : MutBor g.row.D.Denot). g.D.Disk.state x.now) (named.full end need e).1) named.counts))
 
 pub returns-in_err-first-clause-cause : goal.returns-in_err-first-clause-cause
 returns-in_err-first-clause-cause g c =
