@@ -11,7 +11,8 @@ abbrev pub AreMeant : List (List ℕ) → List (List ℕ) → List Row → List 
 AreMeant types words rows messages = AllZip (λ row message. Means row types words message) rows messages
 
 -- the bytes hold a segment at a place, whose rows mean the messages
-pub record HoldsMessages (types words : List (List ℕ)) (place : SegmentPlace) (bytes : List ℕ) (messages : List (List ℕ)) : Type 0 where
+pub record HoldsMessages (types words : List (List ℕ)) (place : SegmentPlace)
+    (bytes : List ℕ) (messages : List (List ℕ)) : Type 0 where
   pub rows : List Row
   pub holds : HoldsSegment place.payload place.length place.head bytes rows
   pub meant : AreMeant types words rows messages

@@ -32,9 +32,13 @@ pub record HasLines (start now : Option (List ℕ)) (lines : Lines) (messages : 
 -- these messages came behind those before
 abbrev pub Adds : Option (List ℕ) → Option (List ℕ) → Lines → Lines → List (List ℕ) → Type 0
 Adds old new lines lines_new messages =
-    (start : Option (List ℕ)) (before : List (List ℕ)) → HasLines start old lines before → HasLines start new lines_new (before ++ messages)
+    (start : Option (List ℕ)) (before : List (List ℕ))
+    → HasLines start old lines before
+    → HasLines start new lines_new (before ++ messages)
 
 -- the sink took a front of the messages before and of these
 abbrev pub AddsFront : Option (List ℕ) → Option (List ℕ) → Lines → List (List ℕ) → Type 0
 AddsFront old new lines messages =
-    (start : Option (List ℕ)) (before : List (List ℕ)) → HasLines start old lines before → GrewByFront start new (text_from true (before ++ messages))
+    (start : Option (List ℕ)) (before : List (List ℕ))
+    → HasLines start old lines before
+    → GrewByFront start new (text_from true (before ++ messages))
