@@ -1,5 +1,6 @@
 -- The machine of one archive: its state, and what each event does to it, in whatever order workers come.
-use Rattle.std.specs.Prelude.{◌≡◌, ◌⊎◌, ℕ, ◌+◌, ◌^◌, ◌<◌, ◌≤◌, ◌==◌, ◌||◌, ◌&&◌, Bool, true, false, if◌then◌else◌, List, [], ◌∷◌, ◌++◌, length, take, drop, All}
+use Rattle.std.specs.Prelude.{◌≡◌, ◌⊎◌, ℕ, ◌+◌, ◌^◌, ◌<◌, ◌≤◌, ◌==◌, ◌||◌, ◌&&◌, Bool, true, false}
+use Rattle.std.specs.Prelude.{if◌then◌else◌, List, [], ◌∷◌, ◌++◌, length, take, drop, All}
 use Rattle.logtype_text.specs.Fair.{IsFairType, IsFairWord}
 use Rattle.record_format.specs.declared.header.Header.{Header}
 use Rattle.column_store.specs.declared.row.Row.{Row}
@@ -32,7 +33,9 @@ rows_of worker (hand ∷ hands) = if hand.worker == worker then hand.rows else r
 -- and the hands where it has these
 abbrev pub with_rows : ℕ → List Row → List Hand → List Hand
 with_rows worker rows [] = record { worker = worker; rows = rows } ∷ []
-with_rows worker rows (hand ∷ hands) = if hand.worker == worker then record { worker = hand.worker; rows = rows } ∷ hands else hand ∷ with_rows worker rows hands
+with_rows worker rows (hand ∷ hands) =
+    if hand.worker == worker then record { worker = hand.worker; rows = rows } ∷ hands
+    else hand ∷ with_rows worker rows hands
 
 -- how many messages of a file are in the journal
 abbrev pub count_of : ℕ → List JournalEntry → ℕ
@@ -84,17 +87,27 @@ sealed file first (row ∷ rows) = record { file = file; first = first; last = f
 
 -- the event is possible, and leads from one state to the other
 abbrev pub Leads : Header → Core → Event → Core → Type 0
-Leads h c (Name worker OfTypes text) d = CanName IsFairType h.types_limit c.types text × (d ≡ record c { types = c.types ++ text ∷ [] })
-Leads h c (Name worker OfWords text) d = CanName IsFairWord h.words_limit c.words text × (d ≡ record c { words = c.words ++ text ∷ [] })
+Leads h c (Name worker OfTypes text) d =
+    CanName IsFairType h.types_limit c.types text
+    × (d ≡ record c { types = c.types ++ text ∷ [] })
+Leads h c (Name worker OfWords text) d =
+    CanName IsFairWord h.words_limit c.words text
+    × (d ≡ record c { words = c.words ++ text ∷ [] })
 Leads h c (Add worker message) d =
     (row : Row) × CanAdd h c worker message row
     × (d ≡ record c { hands = with_rows worker (rows_of worker c.hands ++ row ∷ []) c.hands })
 Leads h c (Save OfTypes) d =
     (c.saved_types < length c.types)
-    × (d ≡ record c { saved_types = length c.types; journal = c.journal ++ Types c.saved_types (drop c.saved_types c.types) ∷ [] })
+    × (d ≡ record c {
+      saved_types = length c.types;
+      journal = c.journal ++ Types c.saved_types (drop c.saved_types c.types) ∷ [];
+    })
 Leads h c (Save OfWords) d =
     (c.saved_words < length c.words)
-    × (d ≡ record c { saved_words = length c.words; journal = c.journal ++ Words c.saved_words (drop c.saved_words c.words) ∷ [] })
+    × (d ≡ record c {
+      saved_words = length c.words;
+      journal = c.journal ++ Words c.saved_words (drop c.saved_words c.words) ∷ [];
+    })
 Leads h c (Seal worker) d =
     CanSeal c worker
     × (d ≡ record c {
