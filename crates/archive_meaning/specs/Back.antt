@@ -1,6 +1,7 @@
 -- The entry that a record is of. It is told by the bytes alone, whatever they are; a record of a legal
 -- journal gives the entry that it is spelled from.
-use Rattle.std.specs.Prelude.{ℕ, zero, suc, ◌+◌, ◌*◌, ◌/◌, ◌%◌, ◌==◌, ℤ, pos, if◌then◌else◌, List, [], ◌∷◌, map, take, drop, slice_index, slice_index_or}
+use Rattle.std.specs.Prelude.{ℕ, zero, suc, ◌+◌, ◌*◌, ◌/◌, ◌%◌, ◌==◌, ℤ, pos, if◌then◌else◌}
+use Rattle.std.specs.Prelude.{List, [], ◌∷◌, map, take, drop, slice_index, slice_index_or}
 use Rattle.std.specs.Int.{w64, cast_signed}
 use Rattle.byteorder.specs.Endian.{little_number}
 use Rattle.record_format.specs.declared.kinds.TheConstants.{FILES_KIND, TYPES_KIND, WORDS_KIND}
