@@ -1,5 +1,6 @@
 -- What an opened archive shows of its journal.
-use Rattle.std.specs.Prelude.{◌≡◌, ◌⊎◌, ◌≤◌, ◌^◌, ℕ, ◌+◌, ◌-◌, ◌*◌, List, [], ◌∷◌, ◌++◌, length, map, Option, Some, None, option_map, All}
+use Rattle.std.specs.Prelude.{◌≡◌, ◌⊎◌, ◌≤◌, ◌^◌, ℕ, ◌+◌, ◌-◌, ◌*◌, List, [], ◌∷◌}
+use Rattle.std.specs.Prelude.{◌++◌, length, map, Option, Some, None, option_map, All}
 use Rattle.std.specs.List.Sorted.{IsPermutation, IsNonDecreasingBy}
 use Rattle.log_seams.specs.Disk.{Rests}
 use Rattle.record_format.specs.declared.header.Header.{Header}
@@ -29,7 +30,13 @@ pub record Shown : Type 0 where
 
 -- the texts that are held, under a header
 abbrev pub kept_of : Header → Held → Kept
-kept_of h held = record { types = held.types; words = held.words; types_limit = h.types_limit; words_limit = h.words_limit; version = h.version }
+kept_of h held = record {
+  types = held.types;
+  words = held.words;
+  types_limit = h.types_limit;
+  words_limit = h.words_limit;
+  version = h.version;
+}
 
 -- a file, with the count of its messages in their place
 abbrev pub counted : File → FileEntry
@@ -47,12 +54,19 @@ abbrev pub placed : ℕ → List (List ℕ) → JournalEntry → List SegmentPla
 placed at types (Files names) = []
 placed at types (Types first texts) = []
 placed at types (Words first texts) = []
-placed at types (Segment s) = record { at = at; payload = at + 10; length = length (record_of types (Segment s)).payload; head = head_in types s } ∷ []
+placed at types (Segment s) = record {
+  at = at;
+  payload = at + 10;
+  length = length (record_of types (Segment s)).payload;
+  head = head_in types s;
+} ∷ []
 
 -- the segments among entries, the first of which has its gate at a place
 abbrev pub places_from : ℕ → List (List ℕ) → List JournalEntry → List SegmentPlace
 places_from at types [] = []
-places_from at types (e ∷ es) = placed at types e ++ places_from (at + 10 + length (record_of types e).payload) (types ++ types_in e) es
+places_from at types (e ∷ es) =
+    placed at types e
+    ++ places_from (at + 10 + length (record_of types e).payload) (types ++ types_in e) es
 
 abbrev pub places_of : List JournalEntry → List SegmentPlace
 places_of es = places_from 32 [] es

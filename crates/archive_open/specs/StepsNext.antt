@@ -1,5 +1,6 @@
 -- How what was built goes on with a record.
-use Rattle.std.specs.Prelude.{◌≡◌, ◌≤◌, ℕ, ◌+◌, List, [], ◌∷◌, ◌++◌, length, take, drop, false, true, Option, Some, None, option_map, All}
+use Rattle.std.specs.Prelude.{◌≡◌, ◌≤◌, ℕ, ◌+◌, List, [], ◌∷◌, ◌++◌, length, take}
+use Rattle.std.specs.Prelude.{drop, false, true, Option, Some, None, option_map, All}
 use Rattle.log_seams.specs.Disk.{IsSynced}
 use Rattle.record_format.specs.declared.header.Header.{Header}
 use Rattle.record_format.specs.Header.{IsHeader}
@@ -48,11 +49,16 @@ pub record IsNext (at kind : ℕ) (payload : List ℕ) (h : Header) (es : List J
 -- whatever entry the record is of, it is built
 abbrev pub BuildsNext : ℕ → ℕ → List ℕ → Built → Built → Type 0
 BuildsNext at kind payload old new =
-    (h : Header) (es : List JournalEntry) (e : JournalEntry) → IsNext at kind payload h es e → Builds old h es → Builds new h (es ++ e ∷ [])
+    (h : Header) (es : List JournalEntry) (e : JournalEntry)
+    → IsNext at kind payload h es e
+    → Builds old h es
+    → Builds new h (es ++ e ∷ [])
 
 -- the record is of no entry that may follow
 abbrev pub NoneNext : ℕ → ℕ → List ℕ → Built → Type 0
-NoneNext at kind payload old = (h : Header) (es : List JournalEntry) (e : JournalEntry) → IsNext at kind payload h es e → Builds old h es → ⊥
+NoneNext at kind payload old =
+    (h : Header) (es : List JournalEntry) (e : JournalEntry)
+    → IsNext at kind payload h es e → Builds old h es → ⊥
 
 -- the same of a record whose payload stands on the disk, where its bytes are told
 abbrev pub payload_in : RecordPlace → List ℕ → List ℕ
@@ -108,7 +114,8 @@ ReadsHead p (Some bytes) old new =
 pub record IsOpening (b : Built) (header : Header) (place count : ℕ) (bytes : List ℕ) : Type 0 where
   pub one : (h : Header) (es : List JournalEntry) → Begins bytes h es → h ≡ header
   pub past : 32 ≤ place
-  pub stood : (h : Header) (es : List JournalEntry) → Begins bytes h es → count ≤ length es → place ≡ length (front_of h (take count es))
+  pub stood : (h : Header) (es : List JournalEntry)
+      → Begins bytes h es → count ≤ length es → place ≡ length (front_of h (take count es))
   pub built : (h : Header) (es : List JournalEntry) → Begins bytes h es → count ≤ length es → Builds b h (take count es)
   pub behind : (h : Header) (es : List JournalEntry) → Begins bytes h es → length es ≤ count → length (front_of h es) ≤ place
   pub far : (h : Header) (es : List JournalEntry) → StandsFor bytes h es → count ≤ length es
@@ -138,7 +145,9 @@ pub record IsWhole (b : Built) (header : Header) (place count : ℕ) (h : Header
 
 abbrev pub AreWhole : Built → Header → ℕ → ℕ → Option (List ℕ) → Type 0
 AreWhole b header place count None = Unit {0}
-AreWhole b header place count (Some bytes) = (h : Header) (es : List JournalEntry) → StandsFor bytes h es → IsWhole b header place count h es
+AreWhole b header place count (Some bytes) =
+    (h : Header) (es : List JournalEntry)
+    → StandsFor bytes h es → IsWhole b header place count h es
 
 -- where the bytes are told, this is their last gate
 abbrev pub LastGateTold : ℕ → Option (List ℕ) → Type 0
