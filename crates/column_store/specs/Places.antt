@@ -1,5 +1,6 @@
 -- The rows of columns by their places in the arrays.
-use Rattle.std.specs.Prelude.{◌≡◌, ◌<◌, ◌≤◌, ℕ, zero, suc, ◌*◌, ℤ, pos, List, length, map, slice_index, slice_index_or, slice_range}
+use Rattle.std.specs.Prelude.{◌≡◌, ◌<◌, ◌≤◌, ℕ, zero, suc, ◌*◌, ℤ, pos, List, length}
+use Rattle.std.specs.Prelude.{map, slice_index, slice_index_or, slice_range}
 use Rattle.std.specs.List.{range_with_len}
 use Rattle.column_store.specs.declared.row.Row.{Row}
 
