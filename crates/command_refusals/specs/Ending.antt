@@ -8,7 +8,8 @@ use Rattle.command_refusals.specs.declared.refusal.Refusal.{Refusal}
 use Rattle.command_refusals.specs.declared.refusal.Refusal.TheVariants.{BadPattern, OutOfMemory}
 use Rattle.wild_match.specs.Reading.{IsLoneBackslash}
 use Rattle.wild_match.specs.declared.read.PatternRefusal.{PatternRefusal}
-use Rattle.wild_match.specs.declared.read.PatternRefusal.TheVariants.{BadPattern as ReadBadPattern, OutOfMemory as ReadOutOfMemory}
+use Rattle.wild_match.specs.declared.read.PatternRefusal.TheVariants.{BadPattern as ReadBadPattern}
+use Rattle.wild_match.specs.declared.read.PatternRefusal.TheVariants.{OutOfMemory as ReadOutOfMemory}
 
 -- the count of faults rose during the call
 abbrev pub RoseIn : ℕ × ℕ → Type 0
@@ -78,7 +79,9 @@ RefusesPattern seen status at = RefusesSoon seen status (BadPattern at) ⊎ Refu
 
 -- the same before the archive is touched
 abbrev pub RefusesPatternAtOnce : Outside → DiskState → DiskState → ℕ → ℕ → Type 0
-RefusesPatternAtOnce seen old new status at = RefusesAtOnce seen old new status (BadPattern at) ⊎ LacksMemoryAtOnce seen old new status
+RefusesPatternAtOnce seen old new status at =
+    RefusesAtOnce seen old new status (BadPattern at)
+    ⊎ LacksMemoryAtOnce seen old new status
 
 -- A pattern is refused with the place of its lone backslash, or for want of memory.
 abbrev pub IsPatternRefusal : List ℕ → PatternRefusal → Type 0

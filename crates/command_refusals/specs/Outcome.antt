@@ -1,13 +1,22 @@
 -- How the commands of each kind end, and which refusal that is.
 use Rattle.std.specs.Prelude.{ℕ, Option, Some, None, Result, Ok, Err}
 use Rattle.disk_journal.specs.declared.refusals.CreateRefusal.{CreateRefusal}
-use Rattle.disk_journal.specs.declared.refusals.CreateRefusal.TheVariants.{DiskFault as CreateDiskFault, NotEmpty as CreateNotEmpty}
+use Rattle.disk_journal.specs.declared.refusals.CreateRefusal.TheVariants.{DiskFault as CreateDiskFault}
+use Rattle.disk_journal.specs.declared.refusals.CreateRefusal.TheVariants.{NotEmpty as CreateNotEmpty}
 use Rattle.wild_match.specs.declared.read.PatternRefusal.{PatternRefusal}
-use Rattle.wild_match.specs.declared.read.PatternRefusal.TheVariants.{BadPattern as ReadBadPattern, OutOfMemory as ReadOutOfMemory}
+use Rattle.wild_match.specs.declared.read.PatternRefusal.TheVariants.{BadPattern as ReadBadPattern}
+use Rattle.wild_match.specs.declared.read.PatternRefusal.TheVariants.{OutOfMemory as ReadOutOfMemory}
 use Rattle.command_words.specs.declared.command.WordsRefusal.{WordsRefusal}
 use Rattle.command_words.specs.declared.command.WordsRefusal.TheVariants.{Usage as WordsUsage, OutOfMemory as WordsOutOfMemory}
 use Rattle.command_refusals.specs.declared.outcome.LogRefusal.{LogRefusal}
-use Rattle.command_refusals.specs.declared.outcome.LogRefusal.TheVariants.{OpenFault as LogOpenFault, ReadFault as LogReadFault, LineTooLong as LogLineTooLong, TooManyLines as LogTooManyLines, SinkFault as LogSinkFault, OutOfMemory as LogOutOfMemory}
+use Rattle.command_refusals.specs.declared.outcome.LogRefusal.TheVariants.{
+  OpenFault as LogOpenFault,
+  ReadFault as LogReadFault,
+  LineTooLong as LogLineTooLong,
+  TooManyLines as LogTooManyLines,
+  SinkFault as LogSinkFault,
+  OutOfMemory as LogOutOfMemory,
+}
 use Rattle.archive_open.specs.declared.refusal.ArchiveRefusal.{ArchiveRefusal}
 use Rattle.disk_journal.specs.declared.refusals.StartRefusal.{StartRefusal}
 use Rattle.disk_seal.specs.declared.files.RegisterRefusal.{RegisterRefusal}
@@ -20,7 +29,10 @@ use Rattle.command_refusals.specs.declared.outcome.FileRefusal.{FileRefusal}
 use Rattle.command_refusals.specs.declared.outcome.PartCause.{PartCause}
 use Rattle.command_refusals.specs.declared.outcome.ReadRefusal.{ReadRefusal}
 use Rattle.command_refusals.specs.declared.refusal.Refusal.{Refusal}
-use Rattle.command_refusals.specs.declared.refusal.Refusal.TheVariants.{Usage, BadPattern, OpenFault, ReadFault, LineTooLong, TooManyLines, DiskFault, Damaged, SinkFault, NotEmpty, NoSuchFile, OutOfMemory, NameTooLong, TooManyFiles, Full, ArchiveFull}
+use Rattle.command_refusals.specs.declared.refusal.Refusal.TheVariants.{Usage, BadPattern, OpenFault, ReadFault}
+use Rattle.command_refusals.specs.declared.refusal.Refusal.TheVariants.{LineTooLong, TooManyLines, DiskFault, Damaged}
+use Rattle.command_refusals.specs.declared.refusal.Refusal.TheVariants.{SinkFault, NotEmpty, NoSuchFile, OutOfMemory}
+use Rattle.command_refusals.specs.declared.refusal.Refusal.TheVariants.{NameTooLong, TooManyFiles, Full, ArchiveFull}
 
 -- the answer of a call that may refuse, where no refusal is `None`
 abbrev pub answer_of : {E : Type 0} → Result Unit E → Option E
@@ -101,7 +113,8 @@ from_decode at DecodeRefusal.Damaged = FileRefusal.Damaged at
 from_decode at DecodeRefusal.SinkFault = FileRefusal.SinkFault
 from_decode at DecodeRefusal.OutOfMemory = FileRefusal.OutOfMemory
 
--- why no file was added where the check of the archive was refused, the reading of its header, the opening, and the naming of the files
+-- why no file was added where the check of the archive was refused,
+-- the reading of its header, the opening, and the naming of the files
 abbrev pub add_from_check : CheckRefusal → AddRefusal
 add_from_check CheckRefusal.DiskFault = AddRefusal.DiskFault
 add_from_check (CheckRefusal.Damaged at) = AddRefusal.Damaged at

@@ -14,7 +14,11 @@ pub record Outside : Type 0 where
   pub err_faults : ℕ × ℕ
 
 -- what a shelf and two sinks tell around a call
-abbrev pub around : {H K : Type 0} → (H → List ℕ → Option (List ℕ)) → (H → List ℕ → Option (List ℕ)) → (H → List ℕ → ℕ) → (H → List ℕ → ℕ) → (K → Option (List ℕ)) → (K → ℕ) → H → H → K → K → K → K → Outside
+abbrev pub around : {H K : Type 0}
+    → (H → List ℕ → Option (List ℕ)) → (H → List ℕ → Option (List ℕ))
+    → (H → List ℕ → ℕ) → (H → List ℕ → ℕ)
+    → (K → Option (List ℕ)) → (K → ℕ)
+    → H → H → K → K → K → K → Outside
 around content unread open_faults read_faults written faults shelf shelf_after out out_after err err_after = record {
   content = content shelf;
   unread = unread shelf_after;

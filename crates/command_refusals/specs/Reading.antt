@@ -29,7 +29,9 @@ pub record EndsReading (seen : Outside) (old new : DiskState) (status : ℕ) (an
 -- was asked, or memory ended.
 abbrev pub IsComplete : Outside → DiskState → DiskState → Result Unit ReadRefusal → Type 0
 IsComplete seen old new answer =
-    (bytes : List ℕ) (h : Header) (es : List JournalEntry) → old.seen ≡ Some bytes → StandsFor bytes h es → ¬ Rose old.faults new.faults → ¬ RoseIn seen.out_faults
+    (bytes : List ℕ) (h : Header) (es : List JournalEntry)
+    → old.seen ≡ Some bytes → StandsFor bytes h es
+    → ¬ Rose old.faults new.faults → ¬ RoseIn seen.out_faults
     → (answer ≡ Ok tt) ⊎ (answer ≡ Err OutOfMemory)
 
 -- the bytes are an archive: they stand for a legal journal

@@ -4,7 +4,10 @@ use Rattle.std.specs.Fmt.{decimal}
 use Rattle.log_seams.specs.Outside.{Rose}
 use Rattle.sink_pieces.specs.Output.{Grew}
 use Rattle.command_refusals.specs.declared.refusal.Refusal.{Refusal}
-use Rattle.command_refusals.specs.declared.refusal.Refusal.TheVariants.{Usage, BadPattern, OpenFault, ReadFault, LineTooLong, TooManyLines, DiskFault, Damaged, SinkFault, NotEmpty, NoSuchFile, OutOfMemory, NameTooLong, TooManyFiles, Full, ArchiveFull}
+use Rattle.command_refusals.specs.declared.refusal.Refusal.TheVariants.{Usage, BadPattern, OpenFault, ReadFault}
+use Rattle.command_refusals.specs.declared.refusal.Refusal.TheVariants.{LineTooLong, TooManyLines, DiskFault, Damaged}
+use Rattle.command_refusals.specs.declared.refusal.Refusal.TheVariants.{SinkFault, NotEmpty, NoSuchFile, OutOfMemory}
+use Rattle.command_refusals.specs.declared.refusal.Refusal.TheVariants.{NameTooLong, TooManyFiles, Full, ArchiveFull}
 use Rattle.row_codec.specs.declared.namer.Which.{Which}
 use Rattle.row_codec.specs.declared.namer.Which.TheVariants.{Types, Words}
 
@@ -33,13 +36,17 @@ ending_of name DiskFault = (5, line (codes "clpa: archive: disk failed"))
 ending_of name (Damaged at) = (6, codes "clpa: archive: damaged at " ++ line (decimal at))
 ending_of name SinkFault = (7, line (codes "clpa: output failed"))
 ending_of name (NotEmpty len) = (8, codes "clpa: archive: not empty, " ++ (decimal len ++ line (codes " bytes")))
-ending_of name (NoSuchFile number count) = (8, codes "clpa: no file " ++ (decimal number ++ (codes ", the archive has " ++ line (decimal count))))
+ending_of name (NoSuchFile number count) =
+    (8, codes "clpa: no file " ++ (decimal number ++ (codes ", the archive has " ++ line (decimal count))))
 ending_of name OutOfMemory = (9, line (codes "clpa: out of memory"))
 ending_of name (NameTooLong index) = (8, codes "clpa: name " ++ (decimal index ++ line (codes " is too long")))
 ending_of name (TooManyFiles held more) =
     (8, codes "clpa: too many files: " ++ (decimal held ++ (codes " held, " ++ (decimal more ++ line (codes " more")))))
-ending_of name (Full book count) =
-    (4, codes "clpa: " ++ (name ++ (codes ": dictionary of " ++ (book_name book ++ (codes " is full at " ++ line (decimal count))))))
+ending_of name (Full book count) = (
+  4,
+  codes "clpa: " ++ (name ++ (codes ": dictionary of "
+      ++ (book_name book ++ (codes " is full at " ++ line (decimal count))))),
+)
 ending_of name (ArchiveFull end need) = (8, codes "clpa: archive: full at " ++ full_at end need)
 
 -- The same of a refusal that came of a file: the disk, the memory and the archive's limit of length are then told with the
