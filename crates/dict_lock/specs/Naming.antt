@@ -12,7 +12,8 @@ use Rattle.dict_lock.specs.Shared.{BookPass, GoesOn, IsFull}
 abbrev pub AreNumbers : List (List ℕ) → List ℕ → List (List ℕ) → Type 0
 AreNumbers known numbers texts = AllZip (λ number text. slice_get known number ≡ Some text) numbers texts
 
--- The pass goes on. The book was `before` at the take, or what the pass had seen where no turn was taken, and the pass has added none but some of these texts behind it.
+-- The pass goes on. The book was `before` at the take, or what the pass had seen where
+-- no turn was taken, and the pass has added none but some of these texts behind it.
 pub record NamesMore (old new : BookPass) (texts : List (List ℕ)) : Type 0 where
   pub goes_on : GoesOn old new
   pub before : List (List ℕ)
@@ -31,7 +32,8 @@ pub record MeetsLimit (pass : BookPass) (cache : CacheState) (texts : List (List
   pub before : HoldsFront cache texts at
   pub full : IsFull pass count
 
--- The cache holds some of these texts more, behind the others. Where there was an answer, there were no more turns than such texts.
+-- The cache holds some of these texts more, behind the others. Where
+-- there was an answer, there were no more turns than such texts.
 pub record Learns (answered : Type 0) (old new : CacheState) (texts : List (List ℕ)) (turns now : ℕ) : Type 0 where
   pub more : List (List ℕ)
   pub behind : new.texts ≡ old.texts ++ more

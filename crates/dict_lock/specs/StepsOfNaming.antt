@@ -11,7 +11,8 @@ use Rattle.dict_lock.specs.declared.naming.TheConstants.{UNKNOWN}
 -- a number for each text, or a mark
 pub record IsMarked (Named : List ℕ → ℕ → Type 0) (numbers : List ℕ) (texts : List (List ℕ)) : Type 0 where
   pub long : length numbers ≡ length texts
-  pub known : (k n : ℕ) (text : List ℕ) → slice_get numbers k ≡ Some n → slice_get texts k ≡ Some text → n ≢ UNKNOWN → Named text n
+  pub known : (k n : ℕ) (text : List ℕ) → slice_get numbers k ≡ Some n → slice_get texts k ≡ Some text
+      → n ≢ UNKNOWN → Named text n
 
 -- none of the numbers is a mark
 abbrev pub HasNoMark : List ℕ → Type 0
