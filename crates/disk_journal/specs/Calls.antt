@@ -1,5 +1,6 @@
 -- What each call leaves of a journal.
-use Rattle.std.specs.Prelude.{◌≡◌, ◌<◌, ℕ, ◌+◌, List, length, take, drop, option_map, is_some, IsTrue, IsNone, IfSome, true, false}
+use Rattle.std.specs.Prelude.{◌≡◌, ◌<◌, ℕ, ◌+◌, List, length, take, drop, option_map}
+use Rattle.std.specs.Prelude.{is_some, IsTrue, IsNone, IfSome, true, false}
 use Rattle.log_seams.specs.Disk.{DiskState, KeepsBytes, LeavesOnly, ReadsOnly, Rests, with_range}
 use Rattle.record_format.specs.Header.{header_bytes}
 use Rattle.record_format.specs.declared.header.TheConstants.{HEADER_LEN}
@@ -58,7 +59,8 @@ pub record GaveFewer (at n place : ℕ) (old new : JournalState) : Type 0 where
   pub fewer : count < n
   pub range : new.disk.ranges ≡ with_range at count old.disk.ranges
 
--- The same journal, which goes on at a closed gate. Nothing was read, and the disk goes on telling its bytes, or not telling them.
+-- The same journal, which goes on at a closed gate. Nothing was
+-- read, and the disk goes on telling its bytes, or not telling them.
 pub record GoesOn (old new : JournalState) : Type 0 where
   pub name : new.name ≡ old.name
   pub header : new.header ≡ old.header

@@ -1,6 +1,7 @@
 -- Where a journal has come to on its disk, and what its calls leave there. Over a disk that does not tell its bytes
 -- each of these words says nothing.
-use Rattle.std.specs.Prelude.{◌≡◌, ◌≢◌, ◌⊎◌, ℕ, ◌+◌, ◌^◌, get_or, ◌≤◌, ◌<◌, List, [], ◌∷◌, ◌++◌, length, take, drop, Option, Some, None}
+use Rattle.std.specs.Prelude.{◌≡◌, ◌≢◌, ◌⊎◌, ℕ, ◌+◌, ◌^◌, get_or, ◌≤◌, ◌<◌, List, []}
+use Rattle.std.specs.Prelude.{◌∷◌, ◌++◌, length, take, drop, Option, Some, None}
 use Rattle.log_seams.specs.Disk.{Torn}
 use Rattle.record_format.specs.Header.{IsHeader, header_bytes}
 use Rattle.record_format.specs.declared.header.Header.{Header}
@@ -47,7 +48,9 @@ NoHeader (Some bytes) = (h : Header) → IsHeader h → take HEADER_LEN bytes �
 -- the gate there is missing, or is open and no whole record follows it
 abbrev pub IsDamaged : ℕ → Option (List ℕ) → Type 0
 IsDamaged at None = Unit {0}
-IsDamaged at (Some bytes) = (length bytes ≤ at) ⊎ ((get_or bytes at 0 ≡ OPEN_GATE) × (length bytes < at + FRONT_LEN + payload_len (drop at bytes)))
+IsDamaged at (Some bytes) =
+    (length bytes ≤ at)
+    ⊎ ((get_or bytes at 0 ≡ OPEN_GATE) × (length bytes < at + FRONT_LEN + payload_len (drop at bytes)))
 
 -- a gate is there, and it is closed
 pub record HasClosedGate (at : ℕ) (bytes : List ℕ) : Type 0 where
@@ -62,7 +65,9 @@ ClosedAt at (Some bytes) = HasClosedGate at bytes
 pub record HasRecord (at kind len : ℕ) (bytes : List ℕ) : Type 0 where
   pub within : at + FRONT_LEN + len ≤ length bytes
   pub fits : len < 2 ^ 64
-  pub spells : drop at bytes ≡ OPEN_GATE ∷ body (record { kind = kind; payload = take len (drop (at + FRONT_LEN) bytes) }) ++ drop (at + FRONT_LEN + len) bytes
+  pub spells : drop at bytes
+      ≡ OPEN_GATE ∷ body (record { kind = kind; payload = take len (drop (at + FRONT_LEN) bytes) })
+      ++ drop (at + FRONT_LEN + len) bytes
 
 abbrev pub OpenAt : ℕ → ℕ → ℕ → Option (List ℕ) → Type 0
 OpenAt at kind len None = Unit {0}
@@ -72,7 +77,10 @@ OpenAt at kind len (Some bytes) = HasRecord at kind len bytes
 abbrev pub Passed : Option (List ℕ) → ℕ → ℕ → ℕ → ℕ → Type 0
 Passed None count kind payload len = Unit {0}
 Passed (Some bytes) count kind payload len =
-    (payload + len ≤ length bytes) × (records (count + 1) (drop HEADER_LEN bytes) ≡ records count (drop HEADER_LEN bytes) ++ (record { kind = kind; payload = take len (drop payload bytes) }) ∷ [])
+    (payload + len ≤ length bytes)
+    × (records (count + 1) (drop HEADER_LEN bytes)
+    ≡ records count (drop HEADER_LEN bytes)
+    ++ (record { kind = kind; payload = take len (drop payload bytes) }) ∷ [])
 
 -- so many bytes from a place on are there
 abbrev pub HasRange : ℕ → ℕ → List ℕ → Type 0
@@ -102,4 +110,5 @@ WithFirstTold head (Some bytes) count new c = WithFirst head (records count (dro
 abbrev pub UnderWay : List ℕ → Option (List ℕ) → ℕ → List Saved → ℕ → List ℕ → Type 0
 UnderWay head None count new k c = Unit {0}
 UnderWay head (Some bytes) count new k c =
-    Stands head (records count (drop HEADER_LEN bytes) ++ take k new) c ⊎ Stands head (records count (drop HEADER_LEN bytes) ++ take (k + 1) new) c
+    Stands head (records count (drop HEADER_LEN bytes) ++ take k new) c
+    ⊎ Stands head (records count (drop HEADER_LEN bytes) ++ take (k + 1) new) c
