@@ -15,7 +15,8 @@ line_of_file file = record { name = file.name; messages = file.messages; whole =
 -- the number of a file, how many messages the archive has of it, whether these are all, and its name
 abbrev pub directory_line : ℕ → FileLine → List ℕ
 directory_line number file =
-    decimal number ++ (32 ∷ (decimal file.messages ++ ((if file.whole then codes " whole " else codes " part ") ++ (file.name ++ 10 ∷ []))))
+    decimal number ++ (32 ∷ (decimal file.messages
+    ++ ((if file.whole then codes " whole " else codes " part ") ++ (file.name ++ 10 ∷ []))))
 
 -- the lines of files that are numbered on from this number
 abbrev pub directory_from : ℕ → List FileLine → List ℕ
