@@ -1,5 +1,6 @@
 -- The logs that are made from a number.
-use Rattle.std.specs.Prelude.{ℕ, zero, suc, ◌+◌, ◌*◌, ◌/◌, ◌%◌, ◌==◌, List, [], ◌∷◌, ◌++◌, Option, Some, None, codes, option_map, if◌then◌else◌}
+use Rattle.std.specs.Prelude.{ℕ, zero, suc, ◌+◌, ◌*◌, ◌/◌, ◌%◌, ◌==◌, List, [], ◌∷◌, ◌++◌}
+use Rattle.std.specs.Prelude.{Option, Some, None, codes, option_map, if◌then◌else◌}
 use Rattle.std.specs.Fmt.{decimal}
 use Rattle.std.specs.List.{flat_map}
 use Rattle.std.specs.Str.{bytes_eq}
@@ -22,7 +23,8 @@ seconds_at i = 80000 + i / 100
 
 abbrev pub stamp_of_seconds : ℕ → List ℕ
 stamp_of_seconds s =
-    codes "2023-11-" ++ (two_digits (14 + s / 86400) ++ (codes " " ++ (two_digits (s % 86400 / 3600) ++ (codes ":" ++ (two_digits (s % 3600 / 60) ++ (codes ":" ++ two_digits (s % 60)))))))
+    codes "2023-11-" ++ (two_digits (14 + s / 86400) ++ (codes " " ++ (two_digits (s % 86400 / 3600)
+    ++ (codes ":" ++ (two_digits (s % 3600 / 60) ++ (codes ":" ++ two_digits (s % 60)))))))
 
 abbrev pub stamp_at : ℕ → List ℕ
 stamp_at i = stamp_of_seconds (seconds_at i) ++ (codes "," ++ three_digits (i % 100 * 10))
