@@ -1,5 +1,6 @@
 -- What a cutter is to its callers, and what its answers mean.
-use Rattle.std.specs.Prelude.{◌≡◌, ◌≢◌, ◌+◌, ◌<◌, ◌≤◌, ℕ, Bool, true, false, List, [], ◌∷◌, ◌++◌, length, Option, None, Result, Ok, Err, option_map, IfSome, if◌then◌else◌}
+use Rattle.std.specs.Prelude.{◌≡◌, ◌≢◌, ◌+◌, ◌<◌, ◌≤◌, ℕ, Bool, true, false, List, [], ◌∷◌, ◌++◌, length}
+use Rattle.std.specs.Prelude.{Option, None, Result, Ok, Err, option_map, IfSome, if◌then◌else◌}
 use Rattle.log_seams.specs.Outside.{Rose}
 use Rattle.log_messages.specs.Messages.{IsLine, Messages}
 use Rattle.line_cut.specs.Length.{BeginsTooLong, bytes_left}
@@ -98,7 +99,8 @@ HasCause faults old new TooManyLines = (old.given ≡ old.max_lines) × (0 < len
 HasCause faults old new OutOfMemory = Unit {0}
 
 -- A cutter refused: it gave nothing and is at no line, and what is left is as it was.
-pub record RefusedBy {S : Type 0} (left : S → Option (List ℕ)) (faults : S → ℕ) (old new : CutterState S) (cut : Cut) : Type 0 where
+pub record RefusedBy {S : Type 0} (left : S → Option (List ℕ)) (faults : S → ℕ)
+    (old new : CutterState S) (cut : Cut) : Type 0 where
   pub progress : new.progress ≡ Refused cut
   pub given : new.given ≡ old.given
   pub no_line : new.line ≡ []

@@ -15,4 +15,6 @@ LongLineStaysLong = (max : ℕ) (bytes rest : List ℕ) → BeginsTooLong max by
 
 -- where nothing is left no line is given
 abbrev pub NothingIsNotGiven : Type 0
-NothingIsNotGiven = (ended : Bool) (line : List ℕ) (after : Option (List ℕ)) → (ended ≡ false → line ≢ []) → Parts ended line (Some []) after → ⊥
+NothingIsNotGiven =
+    (ended : Bool) (line : List ℕ) (after : Option (List ℕ))
+    → (ended ≡ false → line ≢ []) → Parts ended line (Some []) after → ⊥

@@ -1,5 +1,6 @@
 -- What a joiner is to its callers, and what its answers mean: a joiner gives messages that are groups of lines.
-use Rattle.std.specs.Prelude.{◌≡◌, ◌≢◌, ◌⊎◌, ◌+◌, ◌<◌, ◌≤◌, ℕ, Bool, true, false, List, [], ◌∷◌, ◌++◌, All, length, Option, None, IfSome, if◌then◌else◌}
+use Rattle.std.specs.Prelude.{◌≡◌, ◌≢◌, ◌⊎◌, ◌+◌, ◌<◌, ◌≤◌, ℕ, Bool, true, false, List, []}
+use Rattle.std.specs.Prelude.{◌∷◌, ◌++◌, All, length, Option, None, IfSome, if◌then◌else◌}
 use Rattle.log_seams.specs.Outside.{Rose}
 use Rattle.log_messages.specs.Messages.{IsLine}
 use Rattle.log_messages.specs.Groups.{Group, lines_of, text_of, last_line, IsGroup, IsFollowed, FirstLine, GroupMessages}
@@ -54,7 +55,8 @@ IsFirstOfGroups stamped limit false text before after = GroupMessages stamped li
 
 -- A joiner gave a message, with its last newline or at the end of the input without. What is left begins another message.
 -- It looks at no line behind a message that is a line without a stamp, since each line behind that begins another.
-pub record GaveMessage {S T : Type 0} (left : S → Option (List ℕ)) (starts : T → List ℕ → Type 0) (ended : Bool) (text : List ℕ) (old new : JoinerState S T) : Type 0 where
+pub record GaveMessage {S T : Type 0} (left : S → Option (List ℕ)) (starts : T → List ℕ → Type 0)
+    (ended : Bool) (text : List ℕ) (old new : JoinerState S T) : Type 0 where
   pub was_open : old.cutter.progress ≡ Open
   pub progress : new.cutter.progress ≡ (if ended then Open else Ended)
   pub within : old.cutter.given < old.cutter.max_lines
@@ -62,10 +64,12 @@ pub record GaveMessage {S T : Type 0} (left : S → Option (List ℕ)) (starts :
   pub count : ℕ
   pub lines : new.lines ≡ old.lines + count
   pub is_group : IsOneGroup (stamped_by starts old) old.cutter.max_line ended count text
-  pub followed : ended ≡ true → IfSome (left_of left new.cutter) (IsFollowed (stamped_by starts old) old.cutter.max_line is_group.group)
+  pub followed : ended ≡ true
+      → IfSome (left_of left new.cutter) (IsFollowed (stamped_by starts old) old.cutter.max_line is_group.group)
   pub alone : new.behind ≡ None → ended ≡ true → IsLine text × (¬ stamped_by starts old text)
   pub parts : Parts ended text (left_of left old.cutter) (left_of left new.cutter)
-  pub message : IfSome (left_of left old.cutter) (λ before. IfSome (left_of left new.cutter) (IsFirstOfGroups (stamped_by starts old) old.cutter.max_line ended text before))
+  pub message : IfSome (left_of left old.cutter) (λ before. IfSome (left_of left new.cutter)
+      (IsFirstOfGroups (stamped_by starts old) old.cutter.max_line ended text before))
 
 -- A joiner came to the end of the input, and is at no message.
 pub record EndedJoining {S T : Type 0} (left : S → Option (List ℕ)) (old new : JoinerState S T) : Type 0 where
@@ -87,7 +91,8 @@ pub record IsTornGroup (stamped : List ℕ → Type 0) (limit : ℕ) (bytes : Li
 -- A read failed, and the bytes that were taken and not given are the front of a line, behind a message behind which nothing
 -- was looked at; or, where a message may still be given, a group that begins with a stamp, and the front of a line. So the
 -- messages that were given are those of the lines that ended in the bytes taken, without the last one where it has a stamp.
-pub record IsJoinCutShort {S T : Type 0} (faults : S → ℕ) (starts : T → List ℕ → Type 0) (old new : JoinerState S T) : Type 0 where
+pub record IsJoinCutShort {S T : Type 0} (faults : S → ℕ) (starts : T → List ℕ → Type 0)
+    (old new : JoinerState S T) : Type 0 where
   pub rose : Rose (faults old.cutter.source) (faults new.cutter.source)
   pub torn :
       ((old.behind ≡ None) × IsLine new.cutter.pending × (length new.cutter.pending ≤ old.cutter.max_line))
@@ -103,14 +108,19 @@ pub record IsOneTooMany {S T : Type 0} (left : S → Option (List ℕ)) (old new
 
 -- Why a joiner that was open refused: a read failed; a line is above the limit, with its number among all lines; or a line
 -- within it is one message more than the limit. A line's length is tested first.
-abbrev pub HasJoinCause : {S T : Type 0} → (S → Option (List ℕ)) → (S → ℕ) → (T → List ℕ → Type 0) → JoinerState S T → JoinerState S T → Cut → Type 0
+abbrev pub HasJoinCause : {S T : Type 0}
+    → (S → Option (List ℕ)) → (S → ℕ) → (T → List ℕ → Type 0)
+    → JoinerState S T → JoinerState S T → Cut → Type 0
 HasJoinCause left faults starts old new ReadFault = IsJoinCutShort faults starts old new
-HasJoinCause left faults starts old new (LineTooLong line) = (line ≡ old.lines + 1) × BeginsTooLong old.cutter.max_line new.cutter.pending
+HasJoinCause left faults starts old new (LineTooLong line) =
+    (line ≡ old.lines + 1)
+    × BeginsTooLong old.cutter.max_line new.cutter.pending
 HasJoinCause left faults starts old new TooManyLines = IsOneTooMany left old new
 HasJoinCause left faults starts old new OutOfMemory = old.cutter.given < old.cutter.max_lines
 
 -- A joiner refused: it gave nothing and is at no message, and what is left is as it was.
-pub record RefusedToJoin {S T : Type 0} (left : S → Option (List ℕ)) (faults : S → ℕ) (starts : T → List ℕ → Type 0) (old new : JoinerState S T) (cut : Cut) : Type 0 where
+pub record RefusedToJoin {S T : Type 0} (left : S → Option (List ℕ)) (faults : S → ℕ) (starts : T → List ℕ → Type 0)
+    (old new : JoinerState S T) (cut : Cut) : Type 0 where
   pub progress : new.cutter.progress ≡ Refused cut
   pub given : new.cutter.given ≡ old.cutter.given
   pub lines : new.lines ≡ old.lines

@@ -1,5 +1,6 @@
 -- What is found at the front of the bytes held, where lines are joined.
-use Rattle.std.specs.Prelude.{◌≡◌, ◌≢◌, ◌⊎◌, ◌+◌, ◌<◌, ◌≤◌, ℕ, Bool, true, false, List, [], ◌++◌, All, IsTrue, IsFalse, length, take, drop, slice_get, Option, None, Some, IfSome}
+use Rattle.std.specs.Prelude.{◌≡◌, ◌≢◌, ◌⊎◌, ◌+◌, ◌<◌, ◌≤◌, ℕ, Bool, true, false, List, [], ◌++◌, All}
+use Rattle.std.specs.Prelude.{IsTrue, IsFalse, length, take, drop, slice_get, Option, None, Some, IfSome}
 use Rattle.log_messages.specs.Messages.{IsLine}
 use Rattle.log_messages.specs.Groups.{Group, lines_of, text_of, last_line, IsGroup, IsFollowed, FirstLine}
 use Rattle.line_cut.specs.Length.{BeginsTooLong}
@@ -48,7 +49,8 @@ IsApart stamped limit held from Nothing = Unit {0}
 IsApart stamped limit held from TooLong = Unit {0}
 
 -- it is this line, which goes on in the group
-pub record IsFurther (stamped : List ℕ → Type 0) (limit : ℕ) (held : List ℕ) (from : ℕ) (next : NextLine) (more : Further) : Type 0 where
+pub record IsFurther (stamped : List ℕ → Type 0) (limit : ℕ) (held : List ℕ) (from : ℕ)
+    (next : NextLine) (more : Further) : Type 0 where
   pub is : next ≡ Whole more.len more.ended
   pub fits : from + more.len ≤ limit
   pub no_stamp : ¬ stamped (take more.len (drop from held))

@@ -1,5 +1,6 @@
 -- What is found at the front of the bytes held.
-use Rattle.std.specs.Prelude.{◌≡◌, ◌+◌, ◌<◌, ◌≤◌, ℕ, Bool, List, [], length, take, drop, slice_get, Option, Some, IfSome, if◌then◌else◌}
+use Rattle.std.specs.Prelude.{◌≡◌, ◌+◌, ◌<◌, ◌≤◌, ℕ, Bool, List, [], length, take}
+use Rattle.std.specs.Prelude.{drop, slice_get, Option, Some, IfSome, if◌then◌else◌}
 use Rattle.log_messages.specs.Messages.{IsLine}
 use Rattle.line_cut.specs.Length.{BeginsTooLong}
 use Rattle.line_cut.specs.Standing.{EndsAt}
@@ -25,7 +26,9 @@ pub record Limits : Type 0 where
 
 -- with limits to the length of a line and to the number of lines, of which some were given; `rose` says that a read failed
 abbrev pub Sees : Limits → List ℕ → Option (List ℕ) → Type 0 → Looked → Type 0
-Sees l held left rose (Line len ended) = (l.given < l.max_lines) × (len ≤ l.max_line) × IsLine (take len held) × EndsAt ended len held left
+Sees l held left rose (Line len ended) =
+    (l.given < l.max_lines) × (len ≤ l.max_line)
+    × IsLine (take len held) × EndsAt ended len held left
 Sees l held left rose End = (held ≡ []) × IfSome left (λ rest. rest ≡ [])
 Sees l held left rose (Refused ReadFault) = rose × IsLine held × (length held ≤ l.max_line) × (l.given ≡ l.max_lines → held ≡ [])
 Sees l held left rose (Refused (LineTooLong line)) =
