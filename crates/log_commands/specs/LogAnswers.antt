@@ -6,7 +6,8 @@ use Rattle.command_refusals.specs.Outside.{Outside}
 use Rattle.command_refusals.specs.Ending.{EndsWith, NoneAdded, RefusesPattern, RoseIn, Stayed, TookNothing}
 use Rattle.command_refusals.specs.Outcome.{of_log}
 use Rattle.command_refusals.specs.declared.outcome.LogRefusal.{LogRefusal}
-use Rattle.command_refusals.specs.declared.outcome.LogRefusal.TheVariants.{OpenFault, ReadFault, LineTooLong, TooManyLines, SinkFault, OutOfMemory as LogOutOfMemory}
+use Rattle.command_refusals.specs.declared.outcome.LogRefusal.TheVariants.{OpenFault, ReadFault, LineTooLong, TooManyLines}
+use Rattle.command_refusals.specs.declared.outcome.LogRefusal.TheVariants.{SinkFault, OutOfMemory as LogOutOfMemory}
 use Rattle.log_commands.specs.Printing.{Printed}
 use Rattle.log_commands.specs.Scanned.{Finds}
 

@@ -1,19 +1,26 @@
 -- What is printed of the messages of a log.
-use Rattle.std.specs.Prelude.{◌≡◌, ◌<◌, ◌≤◌, ◌+◌, ◌-◌, ℕ, List, [], ◌∷◌, ◌++◌, Bool, true, false, Option, Some, None, IfSome, All, length, take}
+use Rattle.std.specs.Prelude.{◌≡◌, ◌<◌, ◌≤◌, ◌+◌, ◌-◌, ℕ, List, [], ◌∷◌, ◌++◌, Bool, true}
+use Rattle.std.specs.Prelude.{false, Option, Some, None, IfSome, All, length, take}
 use Rattle.log_messages.specs.Messages.{IsLine, Messages, joined}
 use Rattle.sink_pieces.specs.Output.{GrewByFront, Moves, Gathers, Took}
 use Rattle.line_cut.specs.Cutting.{CutterState}
 use Rattle.line_cut.specs.declared.cut.Cut.{Cut}
-use Rattle.line_cut.specs.declared.cut.Cut.TheVariants.{ReadFault as CutReadFault, LineTooLong as CutLineTooLong, TooManyLines as CutTooManyLines, OutOfMemory as CutOutOfMemory}
+use Rattle.line_cut.specs.declared.cut.Cut.TheVariants.{ReadFault as CutReadFault, LineTooLong as CutLineTooLong}
+use Rattle.line_cut.specs.declared.cut.Cut.TheVariants.{TooManyLines as CutTooManyLines, OutOfMemory as CutOutOfMemory}
 use Rattle.line_cut.specs.declared.cut.Progress.TheVariants.{Open}
 use Rattle.command_refusals.specs.declared.outcome.LogRefusal.{LogRefusal}
 use Rattle.command_refusals.specs.LogLimits.{IsLong, most_bytes, most_messages}
-use Rattle.command_refusals.specs.declared.outcome.LogRefusal.TheVariants.{OpenFault, ReadFault, LineTooLong, TooManyLines, SinkFault, OutOfMemory}
+use Rattle.command_refusals.specs.declared.outcome.LogRefusal.TheVariants.{OpenFault, ReadFault, LineTooLong}
+use Rattle.command_refusals.specs.declared.outcome.LogRefusal.TheVariants.{TooManyLines, SinkFault, OutOfMemory}
 
--- The texts of the messages one after the other, where the first message has this number and `tells` says which text a message of a number has.
+-- The texts of the messages one after the other, where the first message
+-- has this number and `tells` says which text a message of a number has.
 abbrev pub Prints : (ℕ → List ℕ → List ℕ → Type 0) → ℕ → List (List ℕ) → List ℕ → Type 0
 Prints tells number [] text = text ≡ []
-Prints tells number (message ∷ messages) text = (first : List ℕ) × (rest : List ℕ) × (text ≡ first ++ rest) × tells number message first × Prints tells (number + 1) messages rest
+Prints tells number (message ∷ messages) text =
+    (first : List ℕ) × (rest : List ℕ)
+    × (text ≡ first ++ rest)
+    × tells number message first × Prints tells (number + 1) messages rest
 
 -- no message of these is too long
 abbrev pub AreShort : List (List ℕ) → Type 0
@@ -49,7 +56,8 @@ pub record HasMore (bytes : List ℕ) (count : ℕ) : Type 0 where
 abbrev pub PrintsSome : (ℕ → List ℕ → List ℕ → Type 0) → List ℕ → List ℕ → Type 0
 PrintsSome tells bytes text = (count : ℕ) × PrintsFirst tells bytes count text
 
--- The text is that of the lines that ended with a newline in the bytes before these, which were not read. A line that was begun is not
+-- The text is that of the lines that ended with a newline in the bytes
+-- before these, which were not read. A line that was begun is not
 -- too long yet, and none was begun behind as many as may be.
 pub record PrintsBefore (tells : ℕ → List ℕ → List ℕ → Type 0) (bytes unread text : List ℕ) : Type 0 where
   pub lines : List (List ℕ)
@@ -69,7 +77,9 @@ abbrev pub ComesTo : (ℕ → List ℕ → List ℕ → Type 0) → Option LogRe
 ComesTo tells None bytes unread text = PrintsAll tells bytes text
 ComesTo tells (Some OpenFault) bytes unread text = text ≡ []
 ComesTo tells (Some ReadFault) bytes unread text = (rest : List ℕ) × (unread ≡ Some rest) × PrintsBefore tells bytes rest text
-ComesTo tells (Some (LineTooLong line)) bytes unread text = (line ≤ most_messages) × IsLong bytes line × PrintsFirst tells bytes (line - 1) text
+ComesTo tells (Some (LineTooLong line)) bytes unread text =
+    (line ≤ most_messages) × IsLong bytes line
+    × PrintsFirst tells bytes (line - 1) text
 ComesTo tells (Some TooManyLines) bytes unread text = HasMore bytes most_messages × PrintsFirst tells bytes most_messages text
 ComesTo tells (Some SinkFault) bytes unread text = PrintsSome tells bytes text
 ComesTo tells (Some OutOfMemory) bytes unread text = PrintsSome tells bytes text
@@ -80,14 +90,18 @@ is_whole (Some SinkFault) = false
 is_whole (Some OutOfMemory) = false
 is_whole _ = true
 
--- What the printing of a log has printed when it ends with this answer: where the log's bytes are told, it is the text of its messages, of those before the fault, or a front of such a text.
-pub record Printed (tells : ℕ → List ℕ → List ℕ → Type 0) (answer : Option LogRefusal) (bytes unread old new : Option (List ℕ)) : Type 0 where
+-- What the printing of a log has printed when it ends with this answer: where the log's bytes are
+-- told, it is the text of its messages, of those before the fault, or a front of such a text.
+pub record Printed (tells : ℕ → List ℕ → List ℕ → Type 0) (answer : Option LogRefusal)
+    (bytes unread old new : Option (List ℕ)) : Type 0 where
   pub text : List ℕ
   pub comes_to : IfSome bytes (λ b. ComesTo tells answer b unread text)
   pub took : Took (is_whole answer) old new text
 
--- What the printing has come to when it ends with this answer: what has to go out is still gathered in part, unless it ends with a sink that failed or without memory.
-pub record Reaches (tells : ℕ → List ℕ → List ℕ → Type 0) (answer : Option LogRefusal) (bytes unread start now : Option (List ℕ)) (gathered : List ℕ) : Type 0 where
+-- What the printing has come to when it ends with this answer: what has to go out is
+-- still gathered in part, unless it ends with a sink that failed or without memory.
+pub record Reaches (tells : ℕ → List ℕ → List ℕ → Type 0) (answer : Option LogRefusal)
+    (bytes unread start now : Option (List ℕ)) (gathered : List ℕ) : Type 0 where
   pub text : List ℕ
   pub comes_to : IfSome bytes (λ b. ComesTo tells answer b unread text)
   pub kept : is_whole answer ≡ true → Gathers start now gathered text
@@ -109,13 +123,15 @@ pub record IsFresh {S : Type 0} (cutter : CutterState S) : Type 0 where
   pub max_lines : cutter.max_lines ≡ most_messages
 
 -- The text of a message is gathered behind the others, and some of it all may have gone out.
-pub record TellsNext (tells : ℕ → List ℕ → List ℕ → Type 0) (number : ℕ) (message : List ℕ) (old new : Option (List ℕ)) (gathered rest : List ℕ) : Type 0 where
+pub record TellsNext (tells : ℕ → List ℕ → List ℕ → Type 0) (number : ℕ) (message : List ℕ)
+    (old new : Option (List ℕ)) (gathered rest : List ℕ) : Type 0 where
   pub text : List ℕ
   pub told : tells number message text
   pub moves : Moves old new (gathered ++ text) rest
 
 -- The sink failed with the text of a message gathered behind the others.
-pub record FailsAfter (tells : ℕ → List ℕ → List ℕ → Type 0) (number : ℕ) (message : List ℕ) (old new : Option (List ℕ)) (gathered : List ℕ) : Type 0 where
+pub record FailsAfter (tells : ℕ → List ℕ → List ℕ → Type 0) (number : ℕ) (message : List ℕ)
+    (old new : Option (List ℕ)) (gathered : List ℕ) : Type 0 where
   pub text : List ℕ
   pub told : tells number message text
   pub grew : GrewByFront old new (gathered ++ text)

@@ -10,4 +10,6 @@ found_line name number message = name ++ (58 ∷ (decimal number ++ (58 ∷ (mes
 
 -- a message that the pattern matches is printed, and no other one
 abbrev pub Finds : List ℕ → List Item → ℕ → List ℕ → List ℕ → Type 0
-Finds name pattern number message text = (Match pattern message × (text ≡ found_line name number message)) ⊎ ((¬ Match pattern message) × (text ≡ []))
+Finds name pattern number message text =
+    (Match pattern message × (text ≡ found_line name number message))
+    ⊎ ((¬ Match pattern message) × (text ≡ []))

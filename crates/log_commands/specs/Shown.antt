@@ -37,7 +37,10 @@ ShowsPart (Variable kind text) shown = (coded : Coded) × Codes text coded × (s
 -- the parts one after the other
 abbrev pub ShowsParts : List Part → List ℕ → Type 0
 ShowsParts [] shown = shown ≡ []
-ShowsParts (part ∷ parts) shown = (first : List ℕ) × (rest : List ℕ) × (shown ≡ first ++ rest) × ShowsPart part first × ShowsParts parts rest
+ShowsParts (part ∷ parts) shown =
+    (first : List ℕ) × (rest : List ℕ)
+    × (shown ≡ first ++ rest)
+    × ShowsPart part first × ShowsParts parts rest
 
 -- the text that a message is shown as: its parts, and a newline
 pub record Shows (message text : List ℕ) : Type 0 where
