@@ -2,7 +2,8 @@
 use Rattle.std.specs.Prelude.{◌≡◌, ◌≢◌, ◌⊎◌, ℕ, Bool, true, false, List, [], ◌∷◌, ◌++◌, All, IsTrue}
 use Rattle.log_messages.specs.Messages.{IsLine}
 use Rattle.log_messages.specs.Laws.{file_text}
-use Rattle.log_messages.specs.Groups.{Group, lines_of, text_of, last_line, BeginsBehind, GoesOn, IsGroup, IsFollowed, GroupMessages}
+use Rattle.log_messages.specs.Groups.{Group, lines_of, text_of, last_line, BeginsBehind}
+use Rattle.log_messages.specs.Groups.{GoesOn, IsGroup, IsFollowed, GroupMessages}
 
 -- the lines that a test takes for stamped ones
 abbrev pub Passes : (List ℕ → Bool) → List ℕ → Type 0

@@ -44,7 +44,8 @@ pub record AreGroups (stamped : List ℕ → Type 0) (limit : ℕ) (lines : List
   pub apart : AreApart stamped limit groups
 
 -- The messages of these bytes where a message is a group of lines, and whether the last line had its newline.
-pub record GroupMessages (stamped : List ℕ → Type 0) (limit : ℕ) (bytes : List ℕ) (messages : List (List ℕ)) (ended : Bool) : Type 0 where
+pub record GroupMessages (stamped : List ℕ → Type 0) (limit : ℕ) (bytes : List ℕ) (messages : List (List ℕ))
+    (ended : Bool) : Type 0 where
   pub lines : List (List ℕ)
   pub are_lines : Messages bytes lines ended
   pub groups : List Group
