@@ -1,6 +1,7 @@
 -- What a disk tells, and what each of its calls does to that. A disk need not tell its bytes; where it does not, nothing
 -- is said of them.
-use Rattle.std.specs.Prelude.{◌≡◌, ◌⊎◌, ℕ, ◌+◌, ◌-◌, ◌≤◌, min, max, List, [], ◌∷◌, ◌++◌, length, take, drop, Option, Some, None, option_map, is_some, IfSome, Result, IfOk, OnOk, OnErr}
+use Rattle.std.specs.Prelude.{◌≡◌, ◌⊎◌, ℕ, ◌+◌, ◌-◌, ◌≤◌, min, max, List, [], ◌∷◌, ◌++◌, length, take, drop}
+use Rattle.std.specs.Prelude.{Option, Some, None, option_map, is_some, IfSome, Result, IfOk, OnOk, OnErr}
 use Rattle.log_seams.specs.Outside.{Counts}
 
 -- the bytes that a read gives, where they are told; the images that a crash now may leave; the moment; the images that a

@@ -1,5 +1,6 @@
 -- What the counts of faults say, and what a read of a source takes.
-use Rattle.std.specs.Prelude.{◌≡◌, ◌≢◌, ◌<◌, ◌≤◌, ◌⊎◌, ℕ, ◌+◌, ◌-◌, ◌^◌, List, [], length, take, drop, Option, None, Some, Result, OnOk, OnErr, IsErrOf}
+use Rattle.std.specs.Prelude.{◌≡◌, ◌≢◌, ◌<◌, ◌≤◌, ◌⊎◌, ℕ, ◌+◌, ◌-◌, ◌^◌, List, [], length}
+use Rattle.std.specs.Prelude.{take, drop, Option, None, Some, Result, OnOk, OnErr, IsErrOf}
 
 -- A count of faults never falls. It rose where it is larger, or stands at the last value of u64.
 abbrev pub Rose : ℕ → ℕ → Type 0

@@ -1,6 +1,7 @@
 -- The calls that a disk in memory keeps, as events with the newest first, and what follows from them:
 -- its bytes, the images that a crash may leave, and the ranges read.
-use Rattle.std.specs.Prelude.{◌≡◌, ◌⊎◌, ℕ, ◌+◌, ◌/◌, ◌≤◌, Bool, nat_le, if◌then◌else◌, List, [], ◌∷◌, ◌++◌, length, take, drop, replicate}
+use Rattle.std.specs.Prelude.{◌≡◌, ◌⊎◌, ℕ, ◌+◌, ◌/◌, ◌≤◌, Bool, nat_le, if◌then◌else◌}
+use Rattle.std.specs.Prelude.{List, [], ◌∷◌, ◌++◌, length, take, drop, replicate}
 use Rattle.log_seams.specs.Disk.{laid, Torn}
 use Rattle.log_seams.specs.declared.mem_disk.Call.{Call}
 use Rattle.log_seams.specs.declared.mem_disk.Call.TheVariants.{Wrote, Read, Synced, Other}
@@ -61,7 +62,8 @@ reads_of (other ∷ older) = reads_of older
 abbrev pub IsImage : List ℕ → List Event → List ℕ → Type 0
 IsImage first [] c = c ≡ first
 IsImage first (wrote done at bytes ∷ older) c =
-    (c ≡ after_event (wrote done at bytes) (content first older)) ⊎ ((d : List ℕ) × IsImage first older d × Torn at (length bytes) d c)
+    (c ≡ after_event (wrote done at bytes) (content first older))
+    ⊎ ((d : List ℕ) × IsImage first older d × Torn at (length bytes) d c)
 IsImage first (read at n ∷ older) c = IsImage first older c
 IsImage first (synced ∷ older) c = c ≡ content first older
 IsImage first (other ∷ older) c = IsImage first older c

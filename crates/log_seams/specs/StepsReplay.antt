@@ -29,16 +29,20 @@ pub counts_now : (first : List ℕ) (events : List Event) (t : ℕ) (c : List �
 counts_now first [] t c now = now
 counts_now first (e ∷ older) t c now = inl now
 
-pub only_now : (first : List ℕ) (events : List Event) (c : List ℕ) → IsSince first events (length events) c → IsImage first events c
+pub only_now : (first : List ℕ) (events : List Event) (c : List ℕ)
+    → IsSince first events (length events) c
+    → IsImage first events c
 only_now first [] c left = left
 only_now first (e ∷ older) c (inl now) = now
 only_now first (e ∷ older) c (inr was) = let late = was.0 in absurd (omega arith)
 
-pub wider : (first : List ℕ) (events : List Event) (s t : ℕ) (c : List ℕ) → s ≤ t → IsSince first events t c → IsSince first events s c
+pub wider : (first : List ℕ) (events : List Event) (s t : ℕ) (c : List ℕ)
+    → s ≤ t → IsSince first events t c → IsSince first events s c
 wider first [] s t c le left = left
 wider first (e ∷ older) s t c le (inl now) = inl now
 wider first (e ∷ older) s t c le (inr was) = let late = was.0 in inr (omega arith, wider first older s t c le was.1)
 
 -- what is read at a place of the content is an image of it too
-pub reads_now : (first : List ℕ) (events : List Event) (bytes : List ℕ) → bytes ≡ content first events → IsImage first events bytes
+pub reads_now : (first : List ℕ) (events : List Event) (bytes : List ℕ)
+    → bytes ≡ content first events → IsImage first events bytes
 reads_now first events bytes same = subst (IsImage first events) (sym same) (reads_as first events)
