@@ -25,7 +25,8 @@ is_opened (Unopened cause faults) = false
 abbrev pub no_name : List ℕ
 no_name = 255 ∷ []
 
--- A log that was not opened has no bytes, and each read of it fails. By its name it is told from those that were opened, also after reads.
+-- A log that was not opened has no bytes, and each read of it fails. By
+-- its name it is told from those that were opened, also after reads.
 abbrev pub left_in : {S : Type 0} → (S → Option (List ℕ)) → LogSource S → Option (List ℕ)
 left_in left (Opened s) = left s
 left_in left (Unopened cause faults) = Some []
@@ -39,14 +40,18 @@ faults_in faults (Opened s) = faults s
 faults_in faults (Unopened cause n) = n
 
 -- an opened log: its name is text, the bytes of its name are left, where they are told, and no read of it has failed
-pub record IsOpened {S : Type 0} (left name : S → Option (List ℕ)) (faults : S → ℕ) (content : Option (List ℕ)) (asked : List ℕ) (s : S) : Type 0 where
+pub record IsOpened {S : Type 0} (left name : S → Option (List ℕ)) (faults : S → ℕ)
+    (content : Option (List ℕ)) (asked : List ℕ) (s : S) : Type 0 where
   pub text : is_utf8 asked ≡ true
   pub left_is : left s ≡ content
   pub named : IfSome (name s) (λ n. n ≡ asked)
   pub fresh : faults s ≡ 0
 
 -- What came of the opening of a name. That it failed comes only where the count of faults in opening this name rose.
-abbrev pub CameOf : {S : Type 0} → (S → Option (List ℕ)) → (S → Option (List ℕ)) → (S → ℕ) → (List ℕ → Option (List ℕ)) → (List ℕ → ℕ) → (List ℕ → ℕ) → List ℕ → LogSource S → Type 0
+abbrev pub CameOf : {S : Type 0}
+    → (S → Option (List ℕ)) → (S → Option (List ℕ)) → (S → ℕ)
+    → (List ℕ → Option (List ℕ)) → (List ℕ → ℕ) → (List ℕ → ℕ)
+    → List ℕ → LogSource S → Type 0
 CameOf left name faults content old new asked (Opened s) = IsOpened left name faults (content asked) asked s
 CameOf left name faults content old new asked (Unopened Failed n) = (n ≡ 0) × Rose (old asked) (new asked)
 CameOf left name faults content old new asked (Unopened OutOfMemory n) = n ≡ 0
