@@ -1,5 +1,6 @@
 -- What a reader of messages is to its callers, and what its answers mean.
-use Rattle.std.specs.Prelude.{◌≡◌, ◌≢◌, ◌⊎◌, ◌+◌, ◌<◌, ◌≤◌, ℕ, Bool, true, false, List, [], ◌∷◌, ◌++◌, length, Option, None, Result, Ok, Err, IfSome, if◌then◌else◌}
+use Rattle.std.specs.Prelude.{◌≡◌, ◌≢◌, ◌⊎◌, ◌+◌, ◌<◌, ◌≤◌, ℕ, Bool, true, false, List, [], ◌∷◌}
+use Rattle.std.specs.Prelude.{◌++◌, length, Option, None, Result, Ok, Err, IfSome, if◌then◌else◌}
 use Rattle.log_seams.specs.Outside.{Rose}
 use Rattle.log_messages.specs.Messages.{IsLine}
 use Rattle.log_messages.specs.Groups.{FirstLine}
@@ -126,7 +127,8 @@ HasReadCause left faults old new TooManyLines = IsOneMore left old new
 HasReadCause left faults old new OutOfMemory = ⊥
 
 -- A reader refused: it gave nothing and is at no message, and what is left is as it was.
-pub record RefusedToRead {S : Type 0} (left : S → Option (List ℕ)) (faults : S → ℕ) (old new : ReaderState S) (cut : Cut) : Type 0 where
+pub record RefusedToRead {S : Type 0} (left : S → Option (List ℕ)) (faults : S → ℕ)
+    (old new : ReaderState S) (cut : Cut) : Type 0 where
   pub progress : new.progress ≡ Refused cut
   pub given : new.given ≡ old.given
   pub lines : new.lines ≡ old.lines

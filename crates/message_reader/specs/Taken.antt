@@ -1,5 +1,6 @@
 -- What the messages that a reader gave are of all the bytes of its source.
-use Rattle.std.specs.Prelude.{◌≡◌, ◌⊎◌, ◌+◌, ℕ, Bool, true, false, List, [], ◌∷◌, ◌++◌, length, Option, None, Some, IfSome, option_map}
+use Rattle.std.specs.Prelude.{◌≡◌, ◌⊎◌, ◌+◌, ℕ, Bool, true, false, List, [], ◌∷◌}
+use Rattle.std.specs.Prelude.{◌++◌, length, Option, None, Some, IfSome, option_map}
 use Rattle.log_messages.specs.Messages.{IsLine, joined}
 use Rattle.line_cut.specs.Length.{BeginsTooLong}
 use Rattle.line_cut.specs.declared.cut.Cut.{Cut}
@@ -39,7 +40,8 @@ lines_count [] = 0
 lines_count (message ∷ messages) = line_count message + lines_count messages
 
 -- A reader for this version gave these messages of a source that told these bytes, each with its newline.
-pub record HasRead {S : Type 0} (left : S → Option (List ℕ)) (version : ℕ) (bytes : Option (List ℕ)) (taken : List (List ℕ)) (r : ReaderState S) : Type 0 where
+pub record HasRead {S : Type 0} (left : S → Option (List ℕ)) (version : ℕ) (bytes : Option (List ℕ))
+    (taken : List (List ℕ)) (r : ReaderState S) : Type 0 where
   pub version_is : r.version ≡ version
   pub given : r.given ≡ length taken
   pub lines : r.lines ≡ lines_count taken
