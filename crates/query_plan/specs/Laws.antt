@@ -90,7 +90,8 @@ HasNot m (Many ∷ q) = HasNot m q
 abbrev pub SkeletonIsNeeded : Type 0
 SkeletonIsNeeded =
     (p : List Item) (s body : List ℕ) (parts : List Part) → IsSearched p → All (λ b. IsTrue (is_stamp_byte b)) s
-    → IsBodyBehind s body → AreParts body parts → Match (wide p) (s ++ body) → Match (skeleton_of (wide_pieces p)) (constants parts)
+    → IsBodyBehind s body → AreParts body parts → Match (wide p) (s ++ body)
+    → Match (skeleton_of (wide_pieces p)) (constants parts)
 
 -- Where the pattern matches the constant bytes with a byte of no item for each variable, it matches each
 -- message with these constant bytes.
@@ -118,7 +119,9 @@ TokensAreBrought =
 -- and such a token stands in no text that has bytes of stamps alone
 abbrev pub ForeignStandsInNoStamp : Type 0
 ForeignStandsInNoStamp =
-    (ps : List Piece) (t s : List ℕ) → IsCut ps → Contains ps (Word t) → is_foreign t ≡ true → All (λ b. IsTrue (is_stamp_byte b)) s
+    (ps : List Piece) (t s : List ℕ)
+    → IsCut ps → Contains ps (Word t)
+    → is_foreign t ≡ true → All (λ b. IsTrue (is_stamp_byte b)) s
     → ¬ Match (around t) s
 
 -- A message that pieces match has each of their tokens: in the stamp's text, among its constant bytes,
