@@ -12,5 +12,8 @@ FilesAreUnique = (ms ns : List (List ℕ)) → AreTexts ms → AreTexts ns → f
 
 abbrev pub TextsAreUnique : Type 0
 TextsAreUnique =
-    (m n : ℕ) (ms ns : List (List ℕ)) → m < 2 ^ 32 → n < 2 ^ 32 → AreTexts ms → AreTexts ns → texts_payload m ms ≡ texts_payload n ns
+    (m n : ℕ) (ms ns : List (List ℕ))
+    → m < 2 ^ 32 → n < 2 ^ 32
+    → AreTexts ms → AreTexts ns
+    → texts_payload m ms ≡ texts_payload n ns
     → (m ≡ n) × (ms ≡ ns)
