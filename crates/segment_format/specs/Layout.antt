@@ -1,5 +1,6 @@
 -- The bytes of a segment: a head, and the columns of its rows.
-use Rattle.std.specs.Prelude.{◌≡◌, ◌<◌, ◌+◌, ◌*◌, ◌^◌, if◌then◌else◌, nat_lt, nat_eq, ℕ, ℤ, pos, List, [], ◌∷◌, ◌++◌, Bool, true, false, not, length, map, filter, All}
+use Rattle.std.specs.Prelude.{◌≡◌, ◌<◌, ◌+◌, ◌*◌, ◌^◌, if◌then◌else◌, nat_lt, nat_eq, ℕ, ℤ, pos, List}
+use Rattle.std.specs.Prelude.{[], ◌∷◌, ◌++◌, Bool, true, false, not, length, map, filter, All}
 use Rattle.std.specs.List.{flat_map, fold}
 use Rattle.std.specs.Ordering.{int_cmp, ord_min, ord_max}
 use Rattle.std.specs.List.Sorted.{IsStrictlyIncreasing}
@@ -83,12 +84,15 @@ pub record IsHead (h : Head) : Type 0 where
 -- then the words of all rows
 unfoldable pub fields_bytes : List ℕ → List ℤ → List ℕ → List ℕ → List ℕ → List ℕ
 fields_bytes patterns moments types counts words =
-    patterns ++ (flat_map moment_bytes moments ++ (flat_map four_bytes types ++ (flat_map four_bytes counts ++ flat_map eight_bytes words)))
+    patterns ++ (flat_map moment_bytes moments ++ (flat_map four_bytes types
+    ++ (flat_map four_bytes counts ++ flat_map eight_bytes words)))
 
 -- the one spelling of rows as columns
 abbrev pub columns_bytes : List Row → List ℕ
 columns_bytes rows =
-    fields_bytes (map (λ r. r.pattern) rows) (map (λ r. r.moment) rows) (map (λ r. r.log_type) rows) (map (λ r. length r.words) rows) (flat_map (λ r. r.words) rows)
+    fields_bytes
+    (map (λ r. r.pattern) rows) (map (λ r. r.moment) rows) (map (λ r. r.log_type) rows)
+    (map (λ r. length r.words) rows) (flat_map (λ r. r.words) rows)
 
 -- ---- a segment of rows
 

@@ -17,7 +17,13 @@ pub record Pages : Type 0 where
   pub variable : ℕ
 
 abbrev pub pages_at : ℕ → ℕ → ℕ → ℕ → ℕ → Pages
-pages_at start rows variables row variable = record { start = start; rows = rows; variables = variables; row = row; variable = variable }
+pages_at start rows variables row variable = record {
+  start = start;
+  rows = rows;
+  variables = variables;
+  row = row;
+  variable = variable;
+}
 
 abbrev pub first_page : Head → Pages
 first_page h = pages_at (head_length (fixed_of h)) h.rows h.variables 0 0

@@ -7,7 +7,8 @@ use Rattle.segment_format.specs.Layout.{fields_bytes}
 
 -- the arrays hold what the bytes spell
 pub record AreFilled (arrays : Arrays) (bytes : List ℕ) (rows count : ℕ) : Type 0 where
-  pub spelled : bytes ≡ fields_bytes arrays.patterns.items arrays.moments.items arrays.types.items arrays.counts.items arrays.words.items
+  pub spelled : bytes ≡ fields_bytes arrays.patterns.items arrays.moments.items arrays.types.items
+      arrays.counts.items arrays.words.items
   pub as_patterns : length arrays.patterns.items ≡ rows
   pub as_moments : length arrays.moments.items ≡ rows
   pub as_types : length arrays.types.items ≡ rows
