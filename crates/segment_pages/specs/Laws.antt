@@ -13,7 +13,9 @@ use Rattle.segment_pages.specs.Paged.{HoldsLeft, HoldsSegment, Paged}
 -- where the bytes stand for a journal, they hold the rows of each of its segments, behind gate, kind and length
 abbrev pub SegmentsAreHeld : Type 0
 SegmentsAreHeld =
-    (bytes : List ℕ) (h : Header) (es before after : List JournalEntry) (s : SegmentEntry) → StandsFor bytes h es → es ≡ before ++ Segment s ∷ after
+    (bytes : List ℕ) (h : Header) (es before after : List JournalEntry) (s : SegmentEntry)
+    → StandsFor bytes h es
+    → es ≡ before ++ Segment s ∷ after
     → HoldsSegment (length (front_of h before) + 10) (length (record_of (types_of before) (Segment s)).payload)
     (head_of s.file s.first s.last s.ended s.rows (words_named (types_of before) s.rows)) bytes s.rows
 

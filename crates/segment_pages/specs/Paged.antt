@@ -60,7 +60,9 @@ pub record HoldsLeft (p : Paged) (bytes : List ℕ) (rows : List Row) : Type 0 w
 
 -- whatever rows the bytes hold, these are the first of them, and from the later page on they hold the others
 abbrev pub AreNext : Paged → Paged → List Row → List ℕ → Type 0
-AreNext old new rows bytes = (all : List Row) → HoldsLeft old bytes all → (left : List Row) × (all ≡ rows ++ left) × HoldsLeft new bytes left
+AreNext old new rows bytes =
+    (all : List Row) → HoldsLeft old bytes all
+    → (left : List Row) × (all ≡ rows ++ left) × HoldsLeft new bytes left
 
 -- the same of the bytes of a disk, where they are told
 abbrev pub AreNextTold : Option (List ℕ) → Paged → Paged → List Row → Type 0
