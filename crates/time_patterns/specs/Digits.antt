@@ -1,5 +1,6 @@
 -- Numbers with all their digits, and fields of a text that are made of them.
-use Rattle.std.specs.Prelude.{ℕ, zero, suc, ◌+◌, ◌/◌, ◌%◌, ◌^◌, ◌<◌, ◌≡◌, List, [], ◌∷◌, ◌++◌, drop, slice_index, Option, Some, None}
+use Rattle.std.specs.Prelude.{ℕ, zero, suc, ◌+◌, ◌/◌, ◌%◌, ◌^◌, ◌<◌, ◌≡◌, List, []}
+use Rattle.std.specs.Prelude.{◌∷◌, ◌++◌, drop, slice_index, Option, Some, None}
 use Rattle.time_patterns.specs.declared.field.Field.{Field}
 
 -- the last n decimal digits of a number, as bytes: zeros in front where it has fewer

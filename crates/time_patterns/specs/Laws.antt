@@ -1,5 +1,6 @@
 -- What is true of all patterns, moments and lines.
-use Rattle.std.specs.Prelude.{◌≡◌, ℕ, ◌%◌, ◌<◌, ◌≤◌, ◌||◌, ◌==◌, ◌↔◌, Bool, IsTrue, List, ◌∷◌, ◌++◌, length, take, ℤ, pos, neg_ℤ, ◌<ℤ◌, ◌≤ℤ◌, unsigned_abs, All}
+use Rattle.std.specs.Prelude.{◌≡◌, ℕ, ◌%◌, ◌<◌, ◌≤◌, ◌||◌, ◌==◌, ◌↔◌, Bool, IsTrue, List, ◌∷◌}
+use Rattle.std.specs.Prelude.{◌++◌, length, take, ℤ, pos, neg_ℤ, ◌<ℤ◌, ◌≤ℤ◌, unsigned_abs, All}
 use Rattle.std.specs.Int.{is_in_range}
 use Rattle.time_patterns.specs.Stamps.{Prints, EndsStamp, Fits, HasStamp, IsPatternOf, IsPrintable, IsStampOf}
 

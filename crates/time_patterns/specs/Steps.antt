@@ -1,5 +1,6 @@
 -- What is known on the way to a stamp.
-use Rattle.std.specs.Prelude.{◌≡◌, ◌≢◌, ℕ, ◌/◌, ◌%◌, ◌^◌, ◌<◌, ◌≤◌, ◌⊎◌, List, ◌++◌, length, map, slice_index, Option, Some, None, ℤ, pos, ◌≤ℤ◌}
+use Rattle.std.specs.Prelude.{◌≡◌, ◌≢◌, ℕ, ◌/◌, ◌%◌, ◌^◌, ◌<◌, ◌≤◌, ◌⊎◌, List, ◌++◌}
+use Rattle.std.specs.Prelude.{length, map, slice_index, Option, Some, None, ℤ, pos, ◌≤ℤ◌}
 use Rattle.time_patterns.specs.declared.field.Field.{Field}
 use Rattle.time_patterns.specs.declared.form.Form.{Form}
 use Rattle.time_patterns.specs.declared.shape.Shape.{Shape}
