@@ -1,5 +1,6 @@
 -- What 64 bytes of a text are, a bit for each.
-use Rattle.std.specs.Prelude.{◌≡◌, ℕ, zero, suc, ◌+◌, ◌<◌, ◌≤◌, Bool, true, false, ◌||◌, ◌&&◌, List, length, slice_index, slice_range, IsTrue, ◌==◌}
+use Rattle.std.specs.Prelude.{◌≡◌, ℕ, zero, suc, ◌+◌, ◌<◌, ◌≤◌, Bool, true, false, ◌||◌}
+use Rattle.std.specs.Prelude.{◌&&◌, List, length, slice_index, slice_range, IsTrue, ◌==◌}
 use Rattle.std.specs.Int.{bit_at}
 use Rattle.std.specs.List.{list_all, list_any}
 use Rattle.token_rules.specs.Tokens.{IsDelimiter, is_digit, is_hexadecimal, is_letter, is_token_byte}

@@ -1,7 +1,8 @@
 -- Which bytes are delimiters, what a token of a text is, and which tokens are variables.
 -- A text is the list of its bytes. The rules are those of a log's variables by their spelling:
 -- numbers, names with a digit in them, values after `=`, and hexadecimal names.
-use Rattle.std.specs.Prelude.{ℕ, ◌-◌, ◌<◌, ◌≤◌, zero, suc, Bool, false, ◌||◌, ◌&&◌, List, length, Option, Some, None, IsTrue, IsFalse, slice_get, slice_index, slice_range, ◌==◌, nat_le}
+use Rattle.std.specs.Prelude.{ℕ, ◌-◌, ◌<◌, ◌≤◌, zero, suc, Bool, false, ◌||◌, ◌&&◌, List, length, Option, Some}
+use Rattle.std.specs.Prelude.{None, IsTrue, IsFalse, slice_get, slice_index, slice_range, ◌==◌, nat_le}
 use Rattle.std.specs.List.{list_any, list_all}
 use Rattle.std.specs.Int.{is_in_range}
 
