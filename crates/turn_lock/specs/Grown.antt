@@ -1,6 +1,8 @@
 -- The rule of a lock, over plain data.
--- The words are the ticket that is drawn next, the ticket that is served, the length of the history, and the number that the next pass gets. The one slot has the value, or nothing while a seat has its turn.
--- The history is the one list of entries that the value had since the lock was made. It only grows, and each element that a pass added has the number of that pass.
+-- The words are the ticket that is drawn next, the ticket that is served, the length of the history, and
+-- the number that the next pass gets. The one slot has the value, or nothing while a seat has its turn.
+-- The history is the one list of entries that the value had since the lock was made.
+-- It only grows, and each element that a pass added has the number of that pass.
 use Rattle.std.specs.Prelude.{◌≡◌, ◌≢◌, ◌⊎◌, ℕ, ◌+◌, ◌<◌, ◌≤◌, Bool, true, false, List, [], ◌∷◌, length, Option, Some, None}
 use mathlib.Core.Option.{some}
 use mathlib.Core.Option as maybe
@@ -48,7 +50,9 @@ pub record Knowing {E F : Type 0} (base : About F) (about : Option (About F)) (s
   pub is : (a : About F) → about ≡ Some a → (a ≡ base) × (base.start ≤ length seen)
 
 -- the numbers that one seat has, and where what was added under them stands
-pub record Owning {E : Type 0} (first count : ℕ) (h : List (Mark E)) (number gone : Option ℕ) (ended : List ℕ) (made : Option ℕ) (inside : Bool) (seen also : List (Mark E)) : Type 0 where
+pub record Owning {E : Type 0} (first count : ℕ) (h : List (Mark E))
+    (number gone : Option ℕ) (ended : List ℕ) (made : Option ℕ)
+    (inside : Bool) (seen also : List (Mark E)) : Type 0 where
   pub bound : (n : ℕ) → (number ≡ Some n) ⊎ ((gone ≡ Some n) ⊎ Has ended n) → (first ≤ n) × (n < count)
   pub alone : (n : ℕ) → number ≡ Some n → (gone ≡ Some n) ⊎ Has ended n → ⊥
   pub mine : (n : ℕ) → number ≡ Some n → Stands h n (length seen)
@@ -98,7 +102,8 @@ module _ {E F : Type 0} where
     pub whole : Someone (λ v. (v.seen ≡ history) ⊎ (v.also ≡ history)) views
 
   -- the numbers that were dealt, each with one seat, and what was added under them
-  pub record Dealt (may : ℕ → E → Type 0) (base : About F) (count : ℕ) (history : List (Mark E)) (views : List (View E F)) : Type 0 where
+  pub record Dealt (may : ℕ → E → Type 0) (base : About F) (count : ℕ)
+      (history : List (Mark E)) (views : List (View E F)) : Type 0 where
     pub low : base.first < 4294967296
     pub opened : base.start ≤ length history
     pub room : (base.first ≤ count) × (count ≤ base.first + 4294967296)
@@ -111,9 +116,12 @@ module _ {E F : Type 0} where
 
 -- the value at home has the history as its entries, and the fixed part of the value that the lock was made with
 abbrev pub AtHome : {V E F : Type 0} → (V → List E) → (V → F) → About F → List (Mark E) → List (maybe.Option (Option V)) → Type 0
-AtHome {V} entries fixed base history homes = (y : V) × (get_elem? homes 0 ≡ some (some (Some y))) × (entries y ≡ entries_of history) × (fixed y ≡ base.fixed)
+AtHome {V} entries fixed base history homes =
+    (y : V) × (get_elem? homes 0 ≡ some (some (Some y)))
+    × (entries y ≡ entries_of history) × (fixed y ≡ base.fixed)
 
-pub record Kept {V E F : Type 0} (entries : V → List E) (fixed : V → F) (may : ℕ → E → Type 0) (base : About F) (opening : List E) (s : State (Option V) (View E F)) : Type 0 where
+pub record Kept {V E F : Type 0} (entries : V → List E) (fixed : V → F) (may : ℕ → E → Type 0)
+    (base : About F) (opening : List E) (s : State (Option V) (View E F)) : Type 0 where
   pub next : ℕ
   pub serving : ℕ
   pub history : List (Mark E)
@@ -134,7 +142,17 @@ module _ {V E F : Type 0} (entries : V → List E) where
 
   -- the view of the maker's seat at the start
   abbrev pub starting : About F → V → View E F
-  starting base y = record { ticket = None; inside = false; seen = unmarked (entries y); also = []; number = None; gone = None; ended = []; made = Some 0; about = Some base }
+  starting base y = record {
+    ticket = None;
+    inside = false;
+    seen = unmarked (entries y);
+    also = [];
+    number = None;
+    gone = None;
+    ended = [];
+    made = Some 0;
+    about = Some base;
+  }
 
   -- the rule of a lock that was told this when it was made
   abbrev pub KeepsRule : (V → F) → (ℕ → E → Type 0) → Opening V → State (Option V) (View E F) → Type 0

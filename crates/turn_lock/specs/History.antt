@@ -1,6 +1,8 @@
--- The history of a lock: the list of entries that its value has had since the lock was made, each past the opening with the number of the pass that added it. It only grows.
+-- The history of a lock: the list of entries that its value has had since the lock was
+-- made, each past the opening with the number of the pass that added it. It only grows.
 -- The own list of a number: the places of what was added under it, with the entries.
-use Rattle.std.specs.Prelude.{◌≡◌, ◌⊎◌, ℕ, ◌+◌, ◌==◌, Bool, false, List, [], ◌∷◌, map, if◌then◌else◌, Option, Some, None, slice_get}
+use Rattle.std.specs.Prelude.{◌≡◌, ◌⊎◌, ℕ, ◌+◌, ◌==◌, Bool, false, List, [], ◌∷◌}
+use Rattle.std.specs.Prelude.{map, if◌then◌else◌, Option, Some, None, slice_get}
 use mathlib.Core.List.{IsPrefix}
 
 -- an entry, and the number of the pass that added it; the entries of the opening have no number

@@ -1,5 +1,6 @@
 -- What each step does to the view of the seat that makes it, and what the step tells.
-use Rattle.std.specs.Prelude.{◌≡◌, ◌≢◌, ◌⊎◌, ℕ, ◌+◌, ◌≤◌, true, false, List, [], ◌∷◌, ◌++◌, map, length, drop, Option, Some, None, All}
+use Rattle.std.specs.Prelude.{◌≡◌, ◌≢◌, ◌⊎◌, ℕ, ◌+◌, ◌≤◌, true, false, List, [], ◌∷◌}
+use Rattle.std.specs.Prelude.{◌++◌, map, length, drop, Option, Some, None, All}
 use mathlib.Core.Option.{some}
 use mathlib.Core.List.{IsPrefix}
 use lib.ListN.{get_elem?}
@@ -48,7 +49,17 @@ module _ {E F : Type 0} where
 
   -- a new seat, which has seen the same and has the number o
   abbrev pub fresh : Option ℕ → View E F → View E F
-  fresh o v = record { ticket = None; inside = false; seen = v.seen; also = []; number = o; gone = None; ended = []; made = None; about = v.about }
+  fresh o v = record {
+    ticket = None;
+    inside = false;
+    seen = v.seen;
+    also = [];
+    number = o;
+    gone = None;
+    ended = [];
+    made = None;
+    about = v.about;
+  }
 
   abbrev pub unnumbered : View E F → View E F
   unnumbered v = record v { number = None }
@@ -64,7 +75,17 @@ module _ {E F : Type 0} where
     pub kept : w.number ≢ None → v.made ≢ None
 
   abbrev pub spent : View E F
-  spent = record { ticket = None; inside = false; seen = []; also = []; number = None; gone = None; ended = []; made = None; about = None }
+  spent = record {
+    ticket = None;
+    inside = false;
+    seen = [];
+    also = [];
+    number = None;
+    gone = None;
+    ended = [];
+    made = None;
+    about = None;
+  }
 
   -- the entries go on where the seat's list ends, with some that its number may add
   abbrev pub MayAdd : (ℕ → E → Type 0) → List E → View E F → Type 0
@@ -79,10 +100,16 @@ module _ {V E F : Type 0} where
   abbrev pub Entered : (V → List E) → (V → F) → (ℕ → E → Type 0) → View E F → List (Mark E) → V → Type 0
   Entered entries fixed may v h y = IsPrefix v.seen h × (entries y ≡ entries_of h) × Agrees fixed v y
       × ((n : ℕ) → v.number ≡ Some n → Stands h n (length v.seen))
-      × ((a : About F) (j : ℕ) (x : Mark E) → v.about ≡ Some a → a.start ≤ j → get_elem? h j ≡ some x → Added a.first (a.first + 4294967296) may x)
+      × ((a : About F) (j : ℕ) (x : Mark E)
+      → v.about ≡ Some a → a.start ≤ j
+      → get_elem? h j ≡ some x
+      → Added a.first (a.first + 4294967296) may x)
 
   abbrev pub Came : (V → List E) → (V → F) → (ℕ → E → Type 0) → Me (Option V) (View E F) → Me (Option V) (View E F) → Type 0
-  Came entries fixed may m m' = (y : V) × (h : List (Mark E)) × (m' ≡ (enters m.0 h, (0, Some y) ∷ m.1)) × Entered entries fixed may m.0 h y
+  Came entries fixed may m m' =
+      (y : V) × (h : List (Mark E))
+      × (m' ≡ (enters m.0 h, (0, Some y) ∷ m.1))
+      × Entered entries fixed may m.0 h y
 
   -- both lists that were seen begin the one that is seen now, and what was added under a number of the seat stands where it stood
   abbrev pub Learned : Me (Option V) (View E F) → Me (Option V) (View E F) → Type 0
@@ -93,7 +120,9 @@ module _ {V E F : Type 0} where
   abbrev pub drew : Step (Option V) → Me (Option V) (View E F) → ℕ → Me (Option V) (View E F) → Type 0
   drew st m n m' = (n ≡ st.first → m' ≡ (waits m.0 n, m.1)) × (n ≢ st.first → m' ≡ m)
 
-  abbrev pub looked : (V → List E) → (V → F) → (ℕ → E → Type 0) → Step (Option V) → Me (Option V) (View E F) → ℕ → Me (Option V) (View E F) → Type 0
+  abbrev pub looked : (V → List E) → (V → F) → (ℕ → E → Type 0)
+      → Step (Option V) → Me (Option V) (View E F)
+      → ℕ → Me (Option V) (View E F) → Type 0
   looked entries fixed may st m n m' = (t : ℕ) → m.0.ticket ≡ Some t → (n ≡ t → Came entries fixed may m m') × (n ≢ t → m' ≡ m)
 
   abbrev pub published : List E → Step (Option V) → Me (Option V) (View E F) → ℕ → Me (Option V) (View E F) → Type 0
@@ -107,5 +136,8 @@ module _ {V E F : Type 0} where
 
   -- the number is the lock's next, and nothing that was seen has it
   abbrev pub numbered : Step (Option V) → Me (Option V) (View E F) → ℕ → Me (Option V) (View E F) → Type 0
-  numbered st m n m' = (m' ≡ (numbers n m.0, m.1)) × ((a : About F) (k : ℕ) → m.0.about ≡ Some a → m.0.made ≡ Some k → n ≡ a.first + k)
+  numbered st m n m' =
+      (m' ≡ (numbers n m.0, m.1))
+      × ((a : About F) (k : ℕ) → m.0.about ≡ Some a → m.0.made ≡ Some k
+      → n ≡ a.first + k)
       × ((j : ℕ) (x : Mark E) → get_elem? m.0.seen j ≡ some x → x.1 ≢ Some n)
