@@ -1,5 +1,6 @@
 -- Which text has which word.
-use Rattle.std.specs.Prelude.{◌≡◌, ℕ, ◌+◌, ◌-◌, ◌*◌, ◌/◌, ◌%◌, ◌^◌, ◌<◌, ◌≤◌, Bool, if◌then◌else◌, List, ◌∷◌, ◌++◌, length, ℤ, FitsSigned}
+use Rattle.std.specs.Prelude.{◌≡◌, ℕ, ◌+◌, ◌-◌, ◌*◌, ◌/◌, ◌%◌, ◌^◌, ◌<◌, ◌≤◌, Bool}
+use Rattle.std.specs.Prelude.{if◌then◌else◌, List, ◌∷◌, ◌++◌, length, ℤ, FitsSigned}
 use Rattle.std.specs.Fmt.{signed_decimal, sign_text}
 use Rattle.std.specs.Str.Parse.{AllDigits, IsNumeral, digits_value}
 use mir.Syntax.{w64}
@@ -26,9 +27,14 @@ pub record IsDecimal (d : DecimalParts) : Type 0 where
 abbrev pub text_of : DecimalParts → List ℕ
 text_of d = sign_text d.negative ++ (d.before ++ (46 ∷ d.after))
 
--- from the top: 1 bit for the sign, 1 bit that is zero, 54 bits for the digits read as one number, 4 bits for the count of digits less 1, 4 bits for the digits after the point less 1
+-- from the top: 1 bit for the sign, 1 bit that is zero, 54 bits for the digits read as one
+-- number, 4 bits for the count of digits less 1, 4 bits for the digits after the point less 1
 abbrev pub word_of : DecimalParts → ℕ
-word_of d = (if d.negative then 2 ^ 63 else 0) + 2 ^ 8 * digits_value 10 (digits_of d) + 16 * (length (digits_of d) - 1) + (length d.after - 1)
+word_of d =
+    (if d.negative then 2 ^ 63 else 0)
+    + 2 ^ 8 * digits_value 10 (digits_of d)
+    + 16 * (length (digits_of d) - 1)
+    + (length d.after - 1)
 
 -- the text is the plain print of the number, which has 64 signed bits
 pub record IsWholeText (text : List ℕ) (n : ℤ) : Type 0 where
@@ -52,7 +58,8 @@ Codes text Word = ((n : ℤ) → ¬ IsWholeText text n) × ((word : ℕ) → ¬ 
 abbrev pub HasText : ℕ → Type 0
 HasText word = (text : List ℕ) × Codes text (Decimal word)
 
--- what a word of 64 bits has to be for that: bit 62 is zero, the number of the digits is below 10 to their count, and no more digits stand after the point than there are
+-- what a word of 64 bits has to be for that: bit 62 is zero, the number of the digits
+-- is below 10 to their count, and no more digits stand after the point than there are
 pub record IsDecimalWord (word : ℕ) : Type 0 where
   pub zero_bit : word / 2 ^ 62 % 2 ≡ 0
   pub digits : word / 2 ^ 8 % 2 ^ 54 < 10 ^ (word / 2 ^ 4 % 2 ^ 4 + 1)

@@ -1,5 +1,6 @@
 -- What a text without its sign reads as.
-use Rattle.std.specs.Prelude.{◌≡◌, ℕ, ◌≢◌, ◌<◌, Bool, true, false, List, ◌∷◌, ◌++◌, length, slice_index, Option, None, Some, ℤ, pos, ◌+ℤ◌, ◌-ℤ◌}
+use Rattle.std.specs.Prelude.{◌≡◌, ℕ, ◌≢◌, ◌<◌, Bool, true, false, List, ◌∷◌, ◌++◌, length}
+use Rattle.std.specs.Prelude.{slice_index, Option, None, Some, ℤ, pos, ◌+ℤ◌, ◌-ℤ◌}
 use Rattle.std.specs.Str.Parse.{AllDigits, digits_value}
 
 -- digits, one point among them, and the number of the digits without the point
