@@ -24,4 +24,7 @@ IsSearchPattern text pattern = (items : List Item) × Spells text items × (patt
 
 -- a `\` that escapes nothing ends the text, at this place: what stands before it spells some items
 abbrev pub IsLoneBackslash : List ℕ → ℕ → Type 0
-IsLoneBackslash text at = (front : List ℕ) × (items : List Item) × Spells front items × (text ≡ front ++ 92 ∷ []) × (at ≡ length front)
+IsLoneBackslash text at =
+    (front : List ℕ) × (items : List Item)
+    × Spells front items
+    × (text ≡ front ++ 92 ∷ []) × (at ≡ length front)

@@ -7,4 +7,6 @@ use Rattle.wild_match.specs.Matches.{joined}
 
 -- the front alone, or the front, Many, and what is behind it
 abbrev pub items_of_matcher : Inside → List Item
-items_of_matcher m = if m.has_many then m.front.items ++ Many ∷ joined m.behind.pieces.items m.behind.tail.items else m.front.items
+items_of_matcher m =
+    if m.has_many then m.front.items ++ Many ∷ joined m.behind.pieces.items m.behind.tail.items
+    else m.front.items
