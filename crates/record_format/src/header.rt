@@ -1,6 +1,6 @@
 //! The header: what stands in the first 32 bytes of an archive.
 
-ghost use Rattle.std.specs.Prelude.{◌≡◌, ◌≢◌, IsTrue, IsFalse, IfSome, IsNone};
+ghost use Rattle.std.specs.Prelude.{◌≡◌, ◌≢◌, IsTrue, IfSome, IsNone};
 ghost use Rattle.record_format.specs.Header.{IsHeader, IsLaidOut, header_bytes, header_in};
 
 use byteorder::{ByteOrder, LittleEndian};
