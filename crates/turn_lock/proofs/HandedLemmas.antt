@@ -1,6 +1,5 @@
 -- A pass's seat before a turn, in it, and after it.
 use Rattle.std.proofs.Common.{◌≡◌, ◌≢◌, ℕ, ◌+◌, ◌%◌, ◌^◌, ◌<◌, ◌≤◌, List, [], ◌∷◌, ◌++◌, length, sym, ap, ◌∙◌, subst, arith, Option, Some, None, All, slice_get}
-use mathlib.Core.Option.{some}
 use mathlib.Core.Option as maybe
 use lib.ListN.{length-map}
 use Rattle.atomic_table.specs.Table.{Me, rest, step, Allows}

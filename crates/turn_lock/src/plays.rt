@@ -1,5 +1,5 @@
 //! What each step on the table tells.
-ghost use Rattle.std.specs.Prelude.{ℕ, List, [], None};
+ghost use Rattle.std.specs.Prelude.{List, [], None};
 ghost use Rattle.turn_lock.specs.StepPlays.{drew, looked, published, served, learned, numbered};
 ghost use Rattle.turn_lock.specs.StepPlays.{unnumbered, fresh, joined, spent};
 

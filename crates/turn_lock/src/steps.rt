@@ -4,9 +4,9 @@ ghost use Rattle.turn_lock.specs.Seats.{IsTable, SitsAt, IsFree, IsInLine, Learn
 ghost use Rattle.turn_lock.specs.StepPlays.{Came, Learned, MayAdd, TakesIn};
 ghost use Rattle.turn_lock.specs.StepPlays.{waits, publishes, joined};
 
-use crate::board::{Board, LENGTH, NUMBERS, Place, SERVING, TICKET};
+use crate::board::{Board, LENGTH, Place, SERVING, TICKET};
 use crate::grows::Grows;
-use crate::plays::{Both, Draw, Learn, Look, Number, Publish, Tells};
+use crate::plays::{Both, Draw, Learn, Look, Publish, Tells};
 use std::hint;
 use std::sync::Wait;
 use std::time::Duration;
