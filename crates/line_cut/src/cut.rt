@@ -1,5 +1,4 @@
 //! The answers of a cutter.
-ghost use Rattle.std.specs.Prelude.{◌≡◌};
 
 use plain_list::Text;
 use thiserror::Error;

@@ -1,10 +1,10 @@
 //! Lines in a window that are one message, joined where they stand.
-ghost use Rattle.std.specs.Prelude.{◌≡◌, ◌+◌, ◌*◌, ◌<◌, ◌≤◌, IfOk, IfSome, IfNone, IsTrue, OnErr, length, take, drop};
+ghost use Rattle.std.specs.Prelude.{◌≡◌, ◌+◌, ◌*◌, ◌<◌, ◌≤◌, IfOk, IfSome, IfNone, OnErr, length, take, drop};
 ghost use Rattle.log_messages.specs.Messages.{IsLine};
 ghost use Rattle.log_seams.specs.Outside.{Counts};
 ghost use Rattle.line_cut.specs.Joining.{IsTornGroup};
 ghost use Rattle.line_cut.specs.Length.{bytes_left};
-ghost use Rattle.line_cut.specs.Standing.{EndsAt, Stands};
+ghost use Rattle.line_cut.specs.Standing.{EndsAt};
 ghost use Rattle.line_cut.specs.StepsJoining.{Growing, IsApart, IsFurther, IsInFront, Reaches};
 ghost use Rattle.line_cut.specs.declared.cutter.TheConstants.{MAX_LINE_LEN};
 

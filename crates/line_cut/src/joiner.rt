@@ -1,5 +1,5 @@
 //! The messages of a source, where a message is a group of lines.
-ghost use Rattle.std.specs.Prelude.{◌≡◌, ◌≢◌, ◌+◌, ◌*◌, ◌^◌, ◌<◌, ◌≤◌, [], length, take, drop, IfOk, IfErr, IfSome, IfNone, IsErrOf, None, nat_lt};
+ghost use Rattle.std.specs.Prelude.{◌≡◌, ◌≢◌, ◌+◌, ◌*◌, ◌<◌, ◌≤◌, [], length, take, drop, IfOk, IfErr, IfSome, IfNone, IsErrOf, None, nat_lt};
 ghost use Rattle.log_seams.specs.Outside.{CountsOf, Rose};
 ghost use Rattle.line_cut.specs.Cutting.{Repeats, left_of, without_line};
 ghost use Rattle.line_cut.specs.Joining.{EndedJoining, GaveMessage, IsNewJoiner, JoinerStays, RefusedToJoin, stamped_by};
