@@ -1,8 +1,8 @@
 -- What a shelf in memory tells.
-use Rattle.std.specs.Prelude.{ℕ, ◌+◌, List, [], ◌∷◌, Option, find, is_some, option_map, if◌then◌else◌}
+use Rattle.std.specs.Prelude.{◌≡◌, ℕ, ◌+◌, List, [], ◌∷◌, Option, Some, IfSome, find, is_some, option_map, if◌then◌else◌}
 use Rattle.std.specs.Str.{bytes_eq}
 use Rattle.std.specs.String.{string_bytes}
-use Rattle.log_seams.specs.Memory.{CallState, ClosedState}
+use Rattle.log_seams.specs.Memory.{CallState, ClosedState, NamedState}
 use Rattle.log_seams.specs.declared.mem_shelf.MemFile.{MemFile}
 
 -- the first of the files that has this name
@@ -42,3 +42,11 @@ shelf_read_faults s name = faults_in s.closed name
 -- what was left of the log of this name that was closed last
 abbrev pub shelf_unread : ShelfState → List ℕ → Option (List ℕ)
 shelf_unread s name = option_map (λ c. c.left) (find (λ c. bytes_eq c.name name) s.closed)
+
+-- A log of this file's bytes under this name, of which nothing was read, and of whose reads those of the file's numbers fail.
+pub record IsOpened (file : Option MemFile) (name : List ℕ) (s : NamedState) : Type 0 where
+  pub left : Some s.log.left ≡ option_map (λ f. f.bytes) file
+  pub named : s.name ≡ name
+  pub faults : s.log.faults ≡ 0
+  pub made : s.log.calls.made ≡ 0
+  pub fails : IfSome file (λ f. s.log.calls.fails ≡ f.read_fails.items)

@@ -1,9 +1,8 @@
 //! Logs in memory that are opened by name.
-ghost use Rattle.std.specs.Prelude.{◌≡◌, ◌≢◌, ◌+◌, ◌-◌, ◌^◌, ◌<◌, ◌≤◌, ◌↔◌, ◌⊎◌, List, ℕ, ◌∷◌, min, length, IfOk, IfSome, IsOk, IsSome, IsNone, IsErr, IsErrOf, OnErr, OnOk, ◌++◌, [], Contains, option_copied, if◌then◌else◌};
-ghost use Rattle.std.specs.Str.{bytes_eq};
-ghost use Rattle.log_seams.specs.MemShelf.{file_of};
+ghost use Rattle.std.specs.Prelude.{◌≡◌, ◌≢◌, ◌+◌, ◌-◌, ◌<◌, ◌≤◌, ◌↔◌, ◌⊎◌, List, ℕ, ◌∷◌, min, length, IfOk, IfSome, IsSome, IsNone, IsErr, IsErrOf, OnErr, OnOk, ◌++◌, [], Contains, option_copied};
+ghost use Rattle.log_seams.specs.MemShelf.{file_of, IsOpened};
 ghost use Rattle.log_seams.specs.Memory.{CalledOnce};
-ghost use Rattle.log_seams.specs.Outside.{Adds, Counts, Rose, Takes};
+ghost use Rattle.log_seams.specs.Outside.{Counts, Rose, Takes};
 
 use crate::calls::Calls;
 use crate::closed_logs::ClosedLogs;
@@ -166,16 +165,11 @@ impl Shelf for MemShelf {
 
     fn open_log(&mut self, name: &str) -> Result<ShelfSource, OpenRefused>
         // What stays.
-        ensures files { self.new.files ≡ self.old.files }
-        ensures closed { self.new.closed ≡ self.old.closed }
+        ensures stays { (self.new.files ≡ self.old.files) × (self.new.closed ≡ self.old.closed) }
         ensures calls { CalledOnce self.old.calls self.new.calls }
 
         // The opened log.
-        ensures left { IfOk result (λ s. Some s.log.left ≡ shelf_content self.old name.now) }
-        ensures named { IfOk result (λ s. s.name ≡ name.now) }
-        ensures fresh { IfOk result (λ s. (s.log.faults ≡ 0) × (s.log.calls.made ≡ 0)) }
-        ensures fails { IfOk result (λ s. IfSome (file_of self.old.files name.now)
-            (λ f. s.log.calls.fails ≡ f.read_fails.items)) }
+        ensures opened { IfOk result (IsOpened (file_of self.old.files name.now) name.now) }
 
         // The counts in opening.
         ensures opens { (n : List ℕ) → shelf_open_faults self.old n ≤ shelf_open_faults self.new n }
