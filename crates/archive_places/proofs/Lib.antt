@@ -3,3 +3,4 @@ pub mod FrontLemmas
 pub mod GoingLemmas
 pub mod EndLemmas
 pub mod TypeLemmas
+pub mod HeadLemmas

@@ -68,12 +68,12 @@ words_spelled bytes h es before after first texts stood is =
     record { size = ap length payload; are = form.1; first = form.0; count = refl; spelled = payload }
 
 -- the place behind an entry
-behind_entry : (h : Header) (before : List JournalEntry) (e : JournalEntry) → length (front_of h (before ++ e ∷ [])) ≡ length (front_of h before) + 10 + length (record_of (types_of before) e).payload
+pub behind_entry : (h : Header) (before : List JournalEntry) (e : JournalEntry) → length (front_of h (before ++ e ∷ [])) ≡ length (front_of h before) + 10 + length (record_of (types_of before) e).payload
 behind_entry h before e =
     let more : end_of h (before ++ e ∷ []) ≡ end_of h before + 10 + length (record_of (types_of before) e).payload = end_more h before e in
     omega (arith, more)
 
-types_behind : (before : List JournalEntry) (e : JournalEntry) → types_of (before ++ e ∷ []) ≡ types_of before ++ types_in e
+pub types_behind : (before : List JournalEntry) (e : JournalEntry) → types_of (before ++ e ∷ []) ≡ types_of before ++ types_in e
 types_behind [] e = append-nil (types_in e)
 types_behind (b ∷ before) e = ap (λ l. types_in b ++ l) (types_behind before e) ∙ sym (append_assoc (types_in b) (types_of before) (types_in e))
 

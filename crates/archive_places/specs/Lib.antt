@@ -1,5 +1,7 @@
 pub mod Words
 pub mod Fronts
+pub mod Heads
 pub mod Opened
 pub mod Laws
 pub mod StepsGoing
+pub mod StepsHeads

@@ -1,7 +1,13 @@
-//! Where the words of a journal stand: the contract of a function that does nothing.
-ghost use Rattle.archive_places.specs.Laws.{WordsStand};
+//! Where the words and the heads of a journal stand: contracts of functions that do nothing.
+ghost use Rattle.archive_places.specs.Laws.{HeadsStand, WordsStand};
 
 /// Where the bytes of a disk stand for a journal, its words stand at the places of its records of words.
 pub fn words_stand()
     ensures { WordsStand }
+{}
+
+/// Where the bytes of a disk stand for a journal, the head of each of its segments stands at the front of
+/// the segment's payload.
+pub fn heads_stand()
+    ensures { HeadsStand }
 {}

@@ -5,6 +5,7 @@
 #![tactic(auto)]
 
 mod front;
+mod heads;
 mod laws;
 mod open;
 mod opening;
@@ -14,6 +15,7 @@ mod segments;
 mod walk;
 
 pub use front::{FrontList, SegmentFront};
-pub use laws::words_stand;
+pub use heads::load_segment;
+pub use laws::{heads_stand, words_stand};
 pub use open::open_places;
 pub use places::{PlaceList, Places};
