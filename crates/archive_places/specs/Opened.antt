@@ -29,7 +29,8 @@ pub record ArePlacesOf (a : Places) (h : Header) (es : List JournalEntry) (held 
 -- where the bytes are told and stand for a journal, the places are that journal's
 abbrev pub OpensPlaces : Option (List ℕ) → Places → Type 0
 OpensPlaces None a = Unit {0}
-OpensPlaces (Some bytes) a = (h : Header) (es : List JournalEntry) (stood : StandsFor bytes h es) → ArePlacesOf a h es stood.legal.held
+OpensPlaces (Some bytes) a =
+    (h : Header) (es : List JournalEntry) (stood : StandsFor bytes h es) → ArePlacesOf a h es stood.legal.held
 
 -- where the bytes are told, the last byte of the archive is a gate that the first damage is not behind
 abbrev pub EndsAtGate : Option (List ℕ) → Places → Type 0

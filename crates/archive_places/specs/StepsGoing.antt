@@ -42,8 +42,8 @@ WordsTold (Some bytes) count places =
 abbrev pub WordsNext : RecordPlace → Option (List ℕ) → List WordsPlace → List WordsPlace → Type 0
 WordsNext p None old new = Unit {0}
 WordsNext p (Some bytes) old new =
-    (h : Header) (es : List JournalEntry) (e : JournalEntry) → IsNext p.at p.kind (payload_in p bytes) h es e → old ≡ words_places_of es
-    → new ≡ words_places_of (es ++ e ∷ [])
+    (h : Header) (es : List JournalEntry) (e : JournalEntry) → IsNext p.at p.kind (payload_in p bytes) h es e
+    → old ≡ words_places_of es → new ≡ words_places_of (es ++ e ∷ [])
 
 -- ---- all that is kept
 
@@ -71,11 +71,15 @@ pub record KeepsListed (at kind : ℕ) (payload : List ℕ) (old new : Opening) 
 abbrev pub KeepsNoneListed : ℕ → ℕ → List ℕ → Opening → Type 0
 KeepsNoneListed at kind payload old = (b : Built) → Shows old b → NoneNext at kind payload b
 
+-- the place of so many words, from a number on
+abbrev pub place_by : RecordPlace → ℕ → ℕ → WordsPlace
+place_by p first count = record { payload = p.payload; length = p.length; first = first; count = count }
+
 -- the place of a record of words was added, which go on with the numbers, and there is room for them
 pub record AddsWords (p : RecordPlace) (first count : ℕ) (old new : Opening) : Type 0 where
   pub first_is : first ≡ old.words_count
   pub room : old.words_count + count ≤ old.words_limit
-  pub words : new.words.items ≡ old.words.items ++ (record { payload = p.payload; length = p.length; first = first; count = count }) ∷ []
+  pub words : new.words.items ≡ old.words.items ++ place_by p first count ∷ []
   pub words_count : new.words_count ≡ old.words_count + count
   pub types : new.types ≡ old.types
   pub types_limit : new.types_limit ≡ old.types_limit

@@ -20,7 +20,8 @@ words_placed at types (Segment s) = []
 -- those of entries, the first of which has its gate at a place
 abbrev pub words_from : ℕ → List (List ℕ) → List JournalEntry → List WordsPlace
 words_from at types [] = []
-words_from at types (e ∷ es) = words_placed at types e ++ words_from (at + 10 + length (record_of types e).payload) (types ++ types_in e) es
+words_from at types (e ∷ es) =
+    words_placed at types e ++ words_from (at + 10 + length (record_of types e).payload) (types ++ types_in e) es
 
 abbrev pub words_places_of : List JournalEntry → List WordsPlace
 words_places_of es = words_from 32 [] es

@@ -5,13 +5,13 @@ ghost use Rattle.log_seams.specs.Outside.{CountsOf};
 ghost use Rattle.archive_open.specs.Shown.{RefusedAt};
 ghost use Rattle.read_commands.specs.Listing.{PrintsDirectory};
 
-use archive_open::{Archive, PlainBooks, open_archive};
+use archive_places::open_places;
 use command_refusals::ReadRefusal;
 use file_lines::print_directory;
 use log_seams::{Disk, Sink};
 use std::alloc::Global;
 
-/// Opens the archive of a disk, and prints the lines of its files.
+/// Opens the archive of a disk by places, which reads no word, and prints the lines of its files.
 pub fn files<D: Disk, K: Sink>(alloc: Global, disk: &mut D, out: &mut K) -> Result<(), ReadRefusal>
     // what stays
     ensures keeps { KeepsBytes (D.state disk.old) (D.state disk.new) }
@@ -27,7 +27,7 @@ pub fn files<D: Disk, K: Sink>(alloc: Global, disk: &mut D, out: &mut K) -> Resu
         (D.state disk.old).faults (D.state disk.new).faults result }
     ensures sink { CountsOf ReadRefusal.SinkFault (K.faults out.old) (K.faults out.new) result }
 {
-    let archive: Archive<PlainBooks> = open_archive(alloc, disk)?;
-    print_directory(alloc, 0, archive.files().as_slice(), out)?;
+    let places = open_places(alloc, disk)?;
+    print_directory(alloc, 0, places.files.as_slice(), out)?;
     Ok(())
 }

@@ -5,3 +5,4 @@ pub mod HeldLemmas
 pub mod HolderLemmas
 pub mod ReadLemmas
 pub mod SlotLemmas
+pub mod FoundLemmas

@@ -23,4 +23,5 @@ HeldStay =
 abbrev pub HoldersHave : Type 0
 HoldersHave =
     (fit : Fit) (needle text : List ℕ) (first at : ℕ) (texts : List (List ℕ)) (numbers : List ℕ)
-    → Holders fit needle first texts numbers → slice_get texts at ≡ Some text → HasNeedle fit needle text → Contains numbers (first + at)
+    → Holders fit needle first texts numbers → slice_get texts at ≡ Some text → HasNeedle fit needle text
+    → Contains numbers (first + at)

@@ -6,3 +6,4 @@ pub mod Local
 pub mod Reads
 pub mod Laws
 pub mod StepsHeld
+pub mod StepsFound

@@ -17,7 +17,8 @@ TellsRead records at read = (r : HeldRecord) → slice_get records at ≡ Some r
 
 -- the record at a place got these words
 abbrev pub Puts : List HeldRecord → ℕ → List (List ℕ) → List HeldRecord → Type 0
-Puts old at words new = (r : HeldRecord) → slice_get old at ≡ Some r → new ≡ set old at (record { place = r.place; words = Some words })
+Puts old at words new =
+    (r : HeldRecord) → slice_get old at ≡ Some r → new ≡ set old at (record { place = r.place; words = Some words })
 
 -- the kinds, behind this one if there is one
 abbrev pub with_kind : Option Kind → List Kind → List Kind

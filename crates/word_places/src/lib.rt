@@ -5,6 +5,7 @@
 //! are read with their record when they are first wanted.
 #![tactic(auto)]
 
+mod finding;
 mod held;
 mod holding;
 mod laws;
@@ -18,10 +19,11 @@ mod record;
 mod refusal;
 mod slots;
 
+pub use finding::find_words;
 pub use held::{HeldRecord, HeldWords};
 pub use laws::{held_agree, held_stay, holders_have, rows_are_local};
-pub use needle::Fit;
-pub use pass::{add_all, add_holders, add_record, word_found};
+pub use needle::{Fit, Needle};
+pub use pass::{add_holders, word_found};
 pub use place::WordsPlace;
 pub use record::RecordWords;
 pub use refusal::HoldRefusal;

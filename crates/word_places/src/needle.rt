@@ -1,5 +1,5 @@
-//! Whether a word has a needle.
-ghost use Rattle.std.specs.Prelude.{◌↔◌, IsTrue};
+//! Needles, and whether a word has one.
+ghost use Rattle.std.specs.Prelude.{◌≡◌, ◌↔◌, IsTrue};
 ghost use Rattle.word_places.specs.Holders.{HasNeedle};
 
 use memchr::memmem::Finder;
@@ -11,6 +11,28 @@ pub enum Fit {
     Within,
     /// That the word is the needle.
     Whole,
+}
+
+/// What words are asked for.
+#[derive(Drop)]
+pub struct Needle<'n> {
+    /// What is asked of a word and the needle.
+    pub fit: Fit,
+    /// The search for the needle in a text.
+    pub finder: Finder<'n>,
+}
+
+impl<'n> Needle<'n> {
+    /// A text that is looked for within words, or as the whole word.
+    pub fn new(fit: Fit, text: &'n [u8]) -> Needle<'n>
+        ensures fit { result.fit ≡ fit }
+        ensures text { result.finder ≡ text.now }
+    {
+        Needle {
+            fit,
+            finder: Finder::new(text),
+        }
+    }
 }
 
 /// Whether a text has the needle.

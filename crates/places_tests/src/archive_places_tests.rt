@@ -1,0 +1,258 @@
+//! An archive that is opened by places, cut and changed, and over a disk that fails.
+
+use crate::archive::{ARCHIVE, changed, disk};
+use archive_open::{Archive, ArchiveRefusal, PlainBooks, SegmentPlace, open_archive};
+use archive_places::{
+    Places, SegmentFront, heads_stand, load_segment, open_places, words_stand,
+};
+use segment_pages::PageRefusal;
+use std::alloc::{AllocError, Global};
+use std::test::Fail;
+use word_places::WordsPlace;
+
+// Opens an archive of these bytes by places.
+fn open(alloc: Global, bytes: &[u8]) -> Result<Places, ArchiveRefusal> {
+    let mut disk = disk(alloc, bytes, &[])?;
+    open_places(alloc, &mut disk)
+}
+
+// Opens an archive of these bytes with all texts and heads.
+fn open_whole(alloc: Global, bytes: &[u8]) -> Result<Archive<PlainBooks>, ArchiveRefusal> {
+    let mut disk = disk(alloc, bytes, &[])?;
+    open_archive(alloc, &mut disk)
+}
+
+// Where the words stand.
+const WORDS: &[WordsPlace] = &[
+    WordsPlace {
+        payload: 91,
+        length: 29,
+        first: 0,
+        count: 3,
+    },
+    WordsPlace {
+        payload: 247,
+        length: 24,
+        first: 3,
+        count: 2,
+    },
+];
+
+fn has_words(places: &Places) -> bool {
+    places.words.as_slice() == WORDS
+}
+
+fn has_file(places: &Places) -> bool {
+    let [file] = places.files.as_slice() else {
+        return false;
+    };
+    file.name.as_slice() == b"a.log".as_slice() && file.messages == 3 && file.whole && file.ended
+}
+
+fn has_type(places: &Places) -> bool {
+    places.types.len() == 1 && places.types.text_of(0) == Some(b"of \x12".as_slice())
+}
+
+fn opens(alloc: Global) -> Result<bool, ArchiveRefusal> {
+    let places = open(alloc, &ARCHIVE)?;
+    Ok(has_words(&places)
+        && has_file(&places)
+        && has_type(&places)
+        && places.header.version == 1
+        && places.entries == 6
+        && places.end == 360)
+}
+
+#[test]
+fn an_archive_opens_by_places(rt: HostRuntime) -> Result<(), Fail> {
+    let well = opens(rt.alloc())?;
+    assert!(rt; well);
+    Ok(())
+}
+
+// Whether a front says of a segment what its place says.
+fn is_front_of(front: &SegmentFront, place: &SegmentPlace) -> bool {
+    front.at == place.at
+        && front.payload == place.payload
+        && front.length == place.length
+        && front.first == place.head.first
+        && front.rows == place.head.rows
+        && front.last == place.head.last
+        && front.types as usize == place.head.types.len()
+        && front.words as usize == place.head.words.len()
+}
+
+// How many fronts are those of the segments, up to the first that is not.
+fn count_alike(places: &Places, archive: &Archive<PlainBooks>) -> usize {
+    let mut count = 0;
+    for (front, place) in places
+        .segments
+        .as_slice()
+        .iter()
+        .zip(archive.segments().as_slice())
+    {
+        if !is_front_of(front, place) {
+            return count;
+        }
+        count += 1;
+    }
+    count
+}
+
+// Whether both openings find the same segments.
+fn finds_segments(alloc: Global) -> Result<bool, ArchiveRefusal> {
+    let places = open(alloc, &ARCHIVE)?;
+    let archive = open_whole(alloc, &ARCHIVE)?;
+    Ok(places.segments.len() == 2
+        && archive.segments().len() == 2
+        && count_alike(&places, &archive) == 2)
+}
+
+#[test]
+fn its_segments_are_those_of_whole_heads(rt: HostRuntime) -> Result<(), Fail> {
+    let well = finds_segments(rt.alloc())?;
+    assert!(rt; well);
+    Ok(())
+}
+
+// The segment at an index of an archive, read from a disk with these bytes, of which these calls fail.
+fn load(
+    alloc: Global,
+    bytes: &[u8],
+    fails: &[u64],
+    index: usize,
+) -> Result<SegmentPlace, PageRefusal> {
+    let Ok(places) = open(alloc, &ARCHIVE) else {
+        return Err(PageRefusal::OutOfMemory);
+    };
+    let Some(front) = places.segments.as_slice().get(index) else {
+        return Err(PageRefusal::OutOfMemory);
+    };
+    let mut disk = disk(alloc, bytes, fails)?;
+    load_segment(alloc, &mut disk, front)
+}
+
+// Whether the segment at an index has these lists.
+fn has_lists(
+    alloc: Global,
+    index: usize,
+    types: &[u32],
+    words: &[u32],
+) -> Result<bool, PageRefusal> {
+    let place = load(alloc, &ARCHIVE, &[], index)?;
+    Ok(place.head.types.as_slice() == types && place.head.words.as_slice() == words)
+}
+
+#[test]
+fn heads_are_loaded(rt: HostRuntime) -> Result<(), Fail> {
+    let first = has_lists(rt.alloc(), 0, &[0], &[0, 2]);
+    let second = has_lists(rt.alloc(), 1, &[0], &[1]);
+    assert!(rt; (first, second) == (Ok(true), Ok(true)));
+    Ok(())
+}
+
+// Why the first segment is not loaded from these bytes.
+fn refusal(alloc: Global, bytes: &[u8], fails: &[u64]) -> Option<PageRefusal> {
+    load(alloc, bytes, fails, 0).err()
+}
+
+// A place in the first segment, and the byte that comes there: the lists hold 0, and 0 and 2.
+const HEAD_CHANGES: &[(usize, u8, Option<PageRefusal>)] = &[
+    (134, 9, Some(PageRefusal::Damaged)),
+    (146, 8, Some(PageRefusal::Damaged)),
+    (146, 1, Some(PageRefusal::Damaged)),
+    (175, 1, None),
+    (179, 2, Some(PageRefusal::Damaged)),
+    (183, 0, Some(PageRefusal::Damaged)),
+    (183, 1, None),
+    (187, 9, None),
+];
+
+#[test]
+fn a_head_that_is_another_is_damaged(rt: HostRuntime) -> Result<(), Fail> {
+    for &(at, byte, told) in HEAD_CHANGES {
+        let bytes = changed(rt.alloc(), at, byte)?;
+        let well = refusal(rt.alloc(), bytes.as_slice(), &[]) == told;
+        assert!(rt; well, "{at}");
+    }
+    Ok(())
+}
+
+#[test]
+fn a_head_that_breaks_off_is_damaged(rt: HostRuntime) -> Result<(), Fail> {
+    let short = refusal(rt.alloc(), &ARCHIVE[..186], &[]);
+    let whole = refusal(rt.alloc(), &ARCHIVE[..187], &[]);
+    assert!(rt; (short, whole) == (Some(PageRefusal::Damaged), None));
+    Ok(())
+}
+
+#[test]
+fn the_read_of_a_head_may_fail(rt: HostRuntime) -> Result<(), Fail> {
+    let first = refusal(rt.alloc(), &ARCHIVE, &[0]);
+    let second = refusal(rt.alloc(), &ARCHIVE, &[1]);
+    assert!(rt; (first, second) == (Some(PageRefusal::DiskFault), None));
+    Ok(())
+}
+
+// The place of the damage that opening tells.
+fn damage(alloc: Global, bytes: &[u8]) -> Result<Option<u64>, ArchiveRefusal> {
+    match open(alloc, bytes) {
+        Ok(_) => Ok(None),
+        Err(ArchiveRefusal::Damaged { at }) => Ok(Some(at)),
+        Err(refusal) => Err(refusal),
+    }
+}
+
+// A place, the byte that comes there, and where opening tells damage. What stands in a list or in a
+// record behind the count of its words is not read.
+const CHANGES: &[(usize, u8, Option<u64>)] = &[
+    (0, 0x44, Some(0)),
+    (33, 0x09, Some(32)),
+    (42, 0x02, Some(32)),
+    (65, 0x01, Some(55)),
+    (91, 0x01, Some(81)),
+    (95, 0x04, Some(237)),
+    (99, 0x09, None),
+    (134, 0x01, Some(120)),
+    (146, 0x08, Some(120)),
+    (163, 0xFF, Some(120)),
+    (183, 0x00, None),
+    (247, 0x02, Some(237)),
+    (255, 0xFF, None),
+    (359, 0x05, None),
+];
+
+#[test]
+fn changed_bytes_are_damaged_where_opening_reads_them(rt: HostRuntime) -> Result<(), Fail> {
+    for &(at, byte, told) in CHANGES {
+        let bytes = changed(rt.alloc(), at, byte)?;
+        let well = damage(rt.alloc(), bytes.as_slice())? == told;
+        assert!(rt; well, "{at}");
+    }
+    Ok(())
+}
+
+// How many calls of the disk it takes to open the archive.
+const CALLS: u64 = 21;
+
+// Whether opening answers a fault where this call of the disk fails.
+fn is_fault(alloc: Global, call: u64) -> Result<bool, AllocError> {
+    let mut disk = disk(alloc, &ARCHIVE, &[call])?;
+    let opened = open_places(alloc, &mut disk);
+    Ok(matches!(opened, Err(ArchiveRefusal::DiskFault)))
+}
+
+#[test]
+fn each_call_of_opening_may_fail(rt: HostRuntime) -> Result<(), Fail> {
+    for call in 0..=CALLS {
+        let told = is_fault(rt.alloc(), call)?;
+        assert!(rt; told == (call < CALLS), "{call}");
+    }
+    Ok(())
+}
+
+#[test]
+fn laws_hold() {
+    words_stand();
+    heads_stand();
+}

@@ -1,0 +1,9 @@
+//! Tests of archives whose words stay on the disk, over the public calls of their crates.
+#![tactic(auto)]
+
+#[cfg(test)]
+mod archive;
+#[cfg(test)]
+mod archive_places_tests;
+#[cfg(test)]
+mod word_places_tests;
