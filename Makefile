@@ -1,8 +1,12 @@
-# `make` proves and builds the program and leaves it at bin/clpa; `make demo` shows it at once.
+# `make` proves and builds the program and leaves it at bin/clpa; `make demo` shows it at once; `make dist`
+# packs it for machines that have nothing of this.
 PROGRAM := bin/clpa
 PREFIX ?= /usr/local
+SHARE = $(DESTDIR)$(PREFIX)/share
+# where zsh looks: below $(PREFIX)
+ZSH ?= share/zsh/site-functions
 
-.PHONY: build demo test install clean rt
+.PHONY: build demo test dist install clean rt
 
 build: rt
 	cd crates/clpa && rt run -- - show data/service.log > /dev/null
@@ -15,17 +19,31 @@ demo:
 test: rt
 	.ci/run
 
+dist: build
+	tools/dist $(PROGRAM)
+
 install:
 	@[ -x $(PROGRAM) ] || { echo 'make install: there is no $(PROGRAM): run make first' >&2; exit 1; }
-	install -d $(DESTDIR)$(PREFIX)/bin $(DESTDIR)$(PREFIX)/share/man/man1 \
-	    $(DESTDIR)$(PREFIX)/share/bash-completion/completions
+	install -d $(DESTDIR)$(PREFIX)/bin $(SHARE)/man/man1 $(SHARE)/bash-completion/completions \
+	    $(DESTDIR)$(PREFIX)/$(ZSH) $(SHARE)/fish/vendor_completions.d $(SHARE)/clpa \
+	    $(SHARE)/doc/clpa/docs $(SHARE)/doc/clpa/examples
 	install -m 755 $(PROGRAM) $(DESTDIR)$(PREFIX)/bin/clpa
-	install -m 644 docs/clpa.1 $(DESTDIR)$(PREFIX)/share/man/man1/clpa.1
-	install -m 644 completions/clpa.bash $(DESTDIR)$(PREFIX)/share/bash-completion/completions/clpa
+	install -m 644 docs/clpa.1 $(SHARE)/man/man1/clpa.1
+	install -m 644 completions/clpa.bash $(SHARE)/bash-completion/completions/clpa
+	install -m 644 completions/_clpa $(DESTDIR)$(PREFIX)/$(ZSH)/_clpa
+	install -m 644 completions/clpa.fish $(SHARE)/fish/vendor_completions.d/clpa.fish
+	install -m 755 examples/take-in examples/search-all $(SHARE)/clpa
+	install -m 644 README.md CHANGELOG.md VERSION $(SHARE)/doc/clpa
+	install -m 644 docs/*.md $(SHARE)/doc/clpa/docs
+	install -m 644 crates/clpa/data/service.log $(SHARE)/doc/clpa/examples
+	for file in logrotate/service systemd/clpa-archive.service systemd/clpa-archive.timer; do \
+	    install -d $(SHARE)/doc/clpa/examples/$${file%/*} && \
+	    sed 's|/usr/local/share/clpa|$(PREFIX)/share/clpa|g' examples/$$file > $(SHARE)/doc/clpa/examples/$$file && \
+	    chmod 644 $(SHARE)/doc/clpa/examples/$$file || exit 1; \
+	done
 
 clean:
-	rm -rf bin crates/*/out
+	rm -rf bin dist crates/*/out
 
 rt:
-	@command -v rt > /dev/null || { \
-	    echo "make: Rattle's command rt is not on the path (CONTRIBUTING.md says where it comes from)" >&2; exit 1; }
+	@tools/needs-rt
