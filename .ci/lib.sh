@@ -1,3 +1,4 @@
+# shellcheck shell=bash
 # What the checks of the built program share: its place, a folder for their files, and how a call is
 # compared. Sourced by the scripts beside it.
 set -u
