@@ -4,9 +4,9 @@ PROGRAM := bin/clpa
 PREFIX ?= /usr/local
 SHARE = $(DESTDIR)$(PREFIX)/share
 # Where zsh and fish look for completions. Fish looks below /usr/local only where XDG_DATA_DIRS names it;
-# FISH=/etc/fish/completions serves without.
-ZSH ?= $(PREFIX)/share/zsh/site-functions
-FISH ?= $(PREFIX)/share/fish/vendor_completions.d
+# FISH_COMPLETIONS=/etc/fish/completions serves without.
+ZSH_COMPLETIONS ?= $(PREFIX)/share/zsh/site-functions
+FISH_COMPLETIONS ?= $(PREFIX)/share/fish/vendor_completions.d
 
 .PHONY: build demo test dist install clean rt
 
@@ -27,13 +27,13 @@ dist: build
 install:
 	@[ -x $(PROGRAM) ] || { echo 'make install: there is no $(PROGRAM): run make first' >&2; exit 1; }
 	install -d $(DESTDIR)$(PREFIX)/bin $(SHARE)/man/man1 $(SHARE)/bash-completion/completions \
-	    $(DESTDIR)$(ZSH) $(DESTDIR)$(FISH) $(SHARE)/clpa \
+	    $(DESTDIR)$(ZSH_COMPLETIONS) $(DESTDIR)$(FISH_COMPLETIONS) $(SHARE)/clpa \
 	    $(SHARE)/doc/clpa/docs $(SHARE)/doc/clpa/examples
 	install -m 755 $(PROGRAM) $(DESTDIR)$(PREFIX)/bin/clpa
 	install -m 644 docs/clpa.1 $(SHARE)/man/man1/clpa.1
 	install -m 644 completions/clpa.bash $(SHARE)/bash-completion/completions/clpa
-	install -m 644 completions/_clpa $(DESTDIR)$(ZSH)/_clpa
-	install -m 644 completions/clpa.fish $(DESTDIR)$(FISH)/clpa.fish
+	install -m 644 completions/_clpa $(DESTDIR)$(ZSH_COMPLETIONS)/_clpa
+	install -m 644 completions/clpa.fish $(DESTDIR)$(FISH_COMPLETIONS)/clpa.fish
 	install -m 755 examples/take-in examples/search-all $(SHARE)/clpa
 	install -m 644 README.md CHANGELOG.md VERSION $(SHARE)/doc/clpa
 	install -m 644 docs/*.md $(SHARE)/doc/clpa/docs
