@@ -4,7 +4,7 @@ if [[ -z $GOT ]]; then
     zmodload zsh/zpty
     export COMPLETIONS=$1 GOT=$PWD/complete.got SELF=${0:A}
     # waits until the last line of the file is this word
-    wait_for() { for ((n = 0; n < 200; n++)); do [[ -e $GOT && $(tail -n 1 $GOT) == $1 ]] && return; sleep 0.05; done; exit 1 }
+    wait_for() { for ((n = 0; n < 1200; n++)); do [[ -e $GOT && $(tail -n 1 $GOT) == $1 ]] && return; sleep 0.05; done; print "zsh did not answer"; exit 1 }
     rm -f $GOT
     zpty within zsh -f -i
     zpty -w within 'source $SELF'
