@@ -1,3 +1,6 @@
+pub mod SlotsLemmas
+pub mod HeldLemmas
+pub mod LogTypeLemmas
 pub mod TextsLemmas
 pub mod MessageLemmas
 pub mod SplitLemmas

@@ -1,14 +1,14 @@
 -- Whether a later line of a message has a stamp.
 use Rattle.std.proofs.Common.{◌≡◌, ◌≢◌, ◌⊎◌, inl, inr, ℕ, zero, suc, ◌<◌, ◌≤◌, List, [], ◌∷◌, ◌++◌, refl, sym, ◌∙◌, ap, subst, arith}
-use Rattle.std.specs.Prelude.{Bool, true, false, not, IfSome, IfNone, IsTrue, Option, Some, None, is_some, nat_le, ◌↔◌, if◌then◌else◌}
+use Rattle.std.specs.Prelude.{ℤ, Bool, true, false, not, IfSome, IfNone, IsTrue, Option, Some, None, is_some, nat_le, ◌↔◌, if◌then◌else◌}
 use Rattle.std.proofs.lemmas.Bool.{le-leb, leb-true}
 use Rattle.std.proofs.lemmas.List.{append_assoc}
 use Rattle.std.proofs.lemmas.List.Elements.{All-head, All-tail}
 use Rattle.log_messages.specs.Messages.{IsLine}
 use Rattle.row_codec.specs.Messages.{EndsLine, HasLaterStamp}
 use Rattle.time_patterns.specs.declared.stamps.Stamp.{Stamp}
-use Rattle.time_patterns.specs.Stamps.{HasNoStamp, IsStampOf, IsStamped}
-use Rattle.time_patterns.proofs.VersionLemmas.{alike_versions}
+use Rattle.time_patterns.specs.Stamps.{HasNoStamp, HasStamp, IsStampOf, IsStamped}
+use Rattle.time_patterns.proofs.VersionLemmas.{alike_versions, one_stamp_of}
 
 -- a newline is the first one behind a line, or stands behind that one
 first_newline : (line front x y : List ℕ) → IsLine line → line ++ (10 ∷ x) ≡ front ++ (10 ∷ y)
@@ -102,3 +102,10 @@ not_true false other = refl
 
 pub from_three : (version : ℕ) → IsTrue (nat_le 3 version) ↔ (3 ≤ version)
 from_three version = (leb-true 3 version, le-leb 3 version)
+
+-- the stamp that was found tells which one the message has
+pub stamp_found : (version : ℕ) (message : List ℕ) (k j : ℕ) (m l : ℤ) (n : ℕ) → HasStamp version message k m n → ((k ≡ j) × (m ≡ l)) ↔ ((o : ℕ) × HasStamp version message j l o)
+stamp_found version message k j m l n has = (
+  λ same. (n, subst (λ x. HasStamp version message j x n) same.1 (subst (λ x. HasStamp version message x m n) same.0 has)),
+  λ (o, other). let same = one_stamp_of version message k j m l n o has other in (same.0, same.1),
+)

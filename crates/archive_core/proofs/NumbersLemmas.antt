@@ -1,6 +1,6 @@
 -- The slots of a text and their words, one by one.
-use Rattle.std.proofs.Common.{◌≡◌, ℕ, zero, suc, take, slice_get, ◌+◌, ◌^◌, ◌<◌, ◌≤◌, List, [], ◌∷◌, ◌++◌, All, drop, get_or, length, refl, sym, ◌∙◌, ap, subst, arith, length-append}
-use Rattle.std.specs.Prelude.{Bool, Option, Some}
+use Rattle.std.proofs.Common.{◌≡◌, ℕ, zero, suc, take, slice_get, ◌+◌, ◌^◌, ◌<◌, ◌≤◌, List, [], ◌∷◌, ◌++◌, All, drop, get_or, length, map, refl, sym, ◌∙◌, ap, subst, arith, length-append}
+use Rattle.std.specs.Prelude.{Bool, IfNone, IfSome, None, Option, Some}
 use Rattle.std.specs.List.{flat_map}
 use Rattle.std.proofs.lemmas.List.{append-nil, append_assoc, drop_at, drop_more, take_at}
 use Rattle.std.proofs.lemmas.List.Concat.{flat_map-cons}
@@ -8,8 +8,12 @@ use Rattle.std.proofs.lemmas.List.Elements.{All-drop, All-take}
 use Rattle.std.proofs.Math.Seq.{get_or-append_seam}
 use Rattle.logtype_text.specs.declared.symbols.Kind.{Kind}
 use Rattle.logtype_text.specs.declared.symbols.Kind.TheVariants.{Word}
-use Rattle.row_codec.specs.Numbers.{kinds_from, word_numbers}
+use Rattle.column_store.specs.declared.row.Row.{Row}
+use Rattle.row_codec.specs.Numbers.{kinds_from, numbers_of_row, word_numbers}
 use Rattle.archive_core.specs.Numbers.{IsWide, TakesWord, with_kind}
+use Rattle.archive_core.specs.declared.slots.Slot.{Slot}
+use Rattle.archive_core.specs.Slots.{slots_of}
+use Rattle.archive_core.proofs.SlotsLemmas.{kind_in, kinds_of_slots}
 
 no_words : (kinds : List Kind) → word_numbers kinds [] ≡ []
 no_words [] = refl
@@ -39,6 +43,17 @@ kinds_here escaped next text i byte slot kind within is step some =
     ∙ ap (λ b. kinds_from escaped (b ∷ drop (i + 1) text)) (sym is)
     ∙ step (drop (i + 1) text) ∙ ap (λ s. with_kind s (kinds_from next (drop (i + 1) text))) some
 
+-- the words that slots number are those that a row names
+pub slot_numbers : (types : List (List ℕ)) (row : Row) (slots : List Slot) → slots ≡ slots_of (get_or types row.log_type []) → word_numbers (map kind_in slots) row.words ≡ numbers_of_row types row
+slot_numbers types row slots are =
+    ap (λ (l : List Slot). word_numbers (map kind_in l) row.words) are ∙ ap (λ (kinds : List Kind). word_numbers kinds row.words) (kinds_of_slots (get_or types row.log_type []))
+
+-- the slots from one on
+pub kinds_slot : (slots : List Slot) (i : ℕ) (slot : Slot) → slice_get slots i ≡ Some slot → map kind_in (drop i slots) ≡ slot.kind ∷ map kind_in (drop (suc i) slots)
+kinds_slot [] i slot at = absurd (cc (at))
+kinds_slot (s ∷ slots) zero slot at = let same : s ≡ slot = cc (at) in ap (λ (x : Slot). x.kind ∷ map kind_in slots) same
+kinds_slot (s ∷ slots) (suc i) slot at = kinds_slot slots i slot at
+
 -- ---- rows
 
 pub flat_map_push : {X : Type 0} (f : X → List ℕ) (xs : List X) (x : X) → flat_map f (xs ++ x ∷ []) ≡ flat_map f xs ++ f x
@@ -65,3 +80,12 @@ part_of_all P f (y ∷ xs) zero x at all =
 part_of_all P f (y ∷ xs) (suc i) x at all =
     part_of_all P f xs i x at
     (subst (All P) (drop_at (f y) (flat_map f xs) (length (f y)) refl) (All-drop P (length (f y)) (f y ++ flat_map f xs) (subst (All P) (flat_map-cons f y xs) all)))
+
+-- what is told of an answer tells more
+pub some_then : {A : Type 0} (o : Option A) (P Q : A → Type 0) → ((x : A) → P x → Q x) → IfSome o P → IfSome o Q
+some_then None P Q more told = tt
+some_then (Some x) P Q more told = more x told
+
+pub none_then : {A : Type 0} (o : Option A) (P Q : Type 0) → (P → Q) → IfNone o P → IfNone o Q
+none_then None P Q more told = more told
+none_then (Some x) P Q more told = tt

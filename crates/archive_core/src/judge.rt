@@ -12,6 +12,7 @@ ghost use Rattle.archive_core.specs.Part.{segment_of};
 ghost use Rattle.archive_meaning.specs.Sums.{AddsNames, Admits, Sums};
 
 use crate::books::Books;
+use crate::log_types::{LogType, add_types};
 use crate::numbers::words_of;
 use crate::refusal::JudgeRefusal;
 use crate::rows::{Rows, rows_say};
@@ -21,7 +22,7 @@ use archive_meaning::{FileSum, MAX_FILES, MAX_NAME_LEN, MAX_NAMES};
 use dict_core::Book;
 use plain_list::{NumberList, Text, TextList};
 use record_format::{Header, MIN_ARCHIVE_LEN, room_for};
-use row_codec::Which;
+use row_codec::{Layouts, Which};
 use std::alloc::{AllocError, Global};
 use std::marker::Model;
 
@@ -39,8 +40,13 @@ const NO_MESSAGES: FileSum = FileSum {
 pub struct Judge {
     header: Header,
     books: Books,
+    // What is known of each log type.
+    known: Vec<LogType>,
+    // Those of the first log types: of all that there were at the last segment.
+    layouts: Layouts,
     files: Vec<FileSum>,
     end: u64,
+    alloc: Global,
 }
 
 impl Model for Judge {
@@ -58,7 +64,7 @@ impl Model for Judge {
     } };
 
     ghost invariant = { λ j. IsJudge j.header j.books.version j.books.types j.books.words
-        j.files.items j.end };
+        j.known.items j.layouts j.files.items j.end };
 }
 
 // How many bytes the payload of a record of texts takes, or the greatest number where they are more.
@@ -98,8 +104,11 @@ impl Judge {
                 words: Book::new(alloc, header.words_limit),
                 version: header.version,
             },
+            known: Vec::new(alloc),
+            layouts: Layouts::new(alloc),
             files: Vec::new(alloc),
             end: MIN_ARCHIVE_LEN,
+            alloc,
         }
     }
 
@@ -158,7 +167,7 @@ impl Judge {
         if !self.goes_on(self.books.types.len(), first, payload, texts) {
             return Err(JudgeRefusal::Illegal);
         }
-        add_texts(&mut self.books.types, Which::Types, texts)?;
+        add_types(self.alloc, &mut self.books.types, &mut self.known, texts)?;
         self.end += FRAME_LEN + payload as u64;
         Ok(())
     }
@@ -215,7 +224,16 @@ impl Judge {
         if !may_follow(sum, part, rows) {
             return Err(JudgeRefusal::Illegal);
         }
-        let Some(open_end) = rows_say(alloc, &self.books, sum.open_end, rows)? else {
+        self.layouts.extend(&self.books)?;
+        let found = rows_say(
+            alloc,
+            &self.books,
+            &mut self.known,
+            &self.layouts,
+            sum.open_end,
+            rows,
+        )?;
+        let Some(open_end) = found else {
             return Err(JudgeRefusal::Illegal);
         };
         if !ends_well(part, open_end) {
@@ -244,7 +262,7 @@ impl Judge {
         ensures none { IfOk result (λ found. IfNone found (
             ¬ All (λ n. n < 2 ^ 32) (flat_map (numbers_of_row self.now.types) (R.rows rows.now)))) }
     {
-        words_of(alloc, &self.books, rows)
+        words_of(alloc, self.known.as_slice(), rows)
     }
 
     /// How many files have names, and how many messages all files have.

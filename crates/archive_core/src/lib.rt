@@ -5,12 +5,15 @@
 #![tactic(auto)]
 
 mod books;
+mod held;
 mod judge;
+mod log_types;
 mod message;
 mod numbers;
 mod refusal;
 mod rows;
 mod segment;
+mod slots;
 mod texts;
 
 pub use books::Books;

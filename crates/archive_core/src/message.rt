@@ -1,12 +1,13 @@
 //! Whether bytes are a message.
-ghost use Rattle.std.specs.Prelude.{ℕ, ◌<◌, ◌≤◌, ◌↔◌, IsTrue};
+ghost use Rattle.std.specs.Prelude.{◌≡◌, ℕ, ◌<◌, ◌≤◌, ◌↔◌, IsTrue};
 ghost use Rattle.log_messages.specs.Messages.{IsLine};
 ghost use Rattle.row_codec.specs.Messages.{HasLaterStamp, IsGroup, IsMessage};
-ghost use Rattle.time_patterns.specs.Stamps.{IsStamped};
+ghost use Rattle.row_codec.specs.Steps.{front_of};
+ghost use Rattle.time_patterns.specs.Stamps.{HasStamp, IsStamped};
 
 use bstr::ByteSlice;
 use row_codec::MAX_MESSAGE_LEN;
-use time_patterns::{read_micro, read_stamp};
+use time_patterns::{Stamp, read_micro, read_stamp};
 
 // Whether a line begins with a stamp, where moments count microseconds or milliseconds.
 #[inline]
@@ -19,6 +20,58 @@ fn has_stamp(micro: bool, line: &[u8]) -> bool
     } else {
         read_stamp(line).is_some()
     }
+}
+
+// The pattern and the moment of a stamp, which are 0 without one.
+#[derive(Clone, Copy)]
+struct Mark {
+    pattern: u8,
+    moment: i64,
+}
+
+#[inline]
+fn mark_of(stamp: Option<Stamp>) -> Mark
+    ensures pattern { result.pattern ≡ (front_of stamp).pattern }
+    ensures moment { result.moment ≡ (front_of stamp).moment }
+{
+    match stamp {
+        Some(found) => Mark {
+            pattern: found.pattern,
+            moment: found.moment,
+        },
+        None => Mark {
+            pattern: 0,
+            moment: 0,
+        },
+    }
+}
+
+// Those of a message's stamp, where moments count microseconds or milliseconds.
+fn mark_in(micro: bool, message: &[u8]) -> Mark
+    ensures { (version : ℕ) → (IsTrue micro ↔ (3 ≤ version))
+        → (n : ℕ) × HasStamp version message.now result.pattern result.moment n }
+{
+    if micro {
+        return mark_of(read_micro(message));
+    }
+    mark_of(read_stamp(message))
+}
+
+// Whether these are the pattern and the moment.
+fn is_mark(mark: Mark, pattern: u8, moment: i64) -> bool
+    ensures { IsTrue result ↔ ((mark.pattern ≡ pattern) × (mark.moment ≡ moment)) }
+{
+    mark.pattern == pattern && mark.moment == moment
+}
+
+/// Whether a message has a stamp of this pattern and moment, which are 0 for a message without one.
+/// `micro` tells whether moments count microseconds.
+pub(crate) fn stamp_is(micro: bool, message: &[u8], pattern: u8, moment: i64) -> bool
+    ensures { (version : ℕ) → (IsTrue micro ↔ (3 ≤ version))
+        → IsTrue result ↔ ((n : ℕ) × HasStamp version message.now pattern moment n) }
+{
+    let mark = mark_in(micro, message);
+    is_mark(mark, pattern, moment)
 }
 
 // Whether a line behind a newline of the message has a stamp.

@@ -1,16 +1,18 @@
 //! The numbers of dictionary words that rows have.
-ghost use Rattle.std.specs.Prelude.{◌≡◌, ℕ, ◌<◌, ◌≤◌, ◌^◌, ◌++◌, [], ◌∷◌, false, slice_index_or, List, All, IfNone, IfOk, IfSome, IsFalse, IsTrue, length};
+ghost use Rattle.std.specs.Prelude.{◌≡◌, ℕ, ◌<◌, ◌≤◌, ◌^◌, ◌++◌, [], ◌∷◌, false, slice_index_or, List, All, IfNone, IfOk, IfSome, IsFalse, IsTrue, length, map};
 ghost use Rattle.std.specs.List.{flat_map};
 ghost use Rattle.column_store.specs.Row.{variable_count};
 ghost use Rattle.row_codec.specs.Numbers.{kinds_from, numbers_of_row, word_numbers};
 ghost use Rattle.archive_meaning.specs.Spelled.{words_named};
+ghost use Rattle.archive_core.specs.LogTypes.{AreKnown};
 ghost use Rattle.archive_core.specs.Numbers.{IsWide, TakesWord, with_kind};
+ghost use Rattle.archive_core.specs.Slots.{slots_of};
 
-use crate::books::Books;
+use crate::log_types::LogType;
 use crate::rows::Rows;
+use crate::slots::Slot;
 use logtype_text::Kind;
 use plain_list::NumberList;
-use row_codec::Names;
 use segment_format::set_of;
 use std::alloc::{AllocError, Global};
 
@@ -82,28 +84,47 @@ pub fn push_numbers(text: &[u8], words: &[u64], out: &mut Vec<u32>) -> Result<bo
     Ok(true)
 }
 
-// The text of a log type, which is empty where there is none with this number.
-fn text_at(books: &Books, number: u32) -> &[u8]
-    ensures { result.now ≡ slice_index_or books.now.types.texts number [] }
+// Adds the numbers of dictionary words that stand in these slots, from left to right; false where one
+// has more than 32 bits.
+fn push_slots(slots: &[Slot], words: &[u64], out: &mut Vec<u32>) -> Result<bool, AllocError>
+    ensures yes { IfOk result (λ fit. IsTrue fit → out.new.items
+        ≡ out.old.items ++ word_numbers (map (λ s. s.kind) slots.now) words.now) }
+    ensures none { IfOk result (λ fit. IsFalse fit
+        → ¬ All (λ n. n < 2 ^ 32) (word_numbers (map (λ s. s.kind) slots.now) words.now)) }
 {
-    match books.type_text(number) {
-        Some(text) => text,
+    let mut left = words;
+    for slot in slots {
+        let Some(behind) = take_word(slot.kind, left, out)? else {
+            return Ok(false);
+        };
+        left = behind;
+    }
+    Ok(true)
+}
+
+// The slots of a log type, of which there are none where no log type has this number.
+fn slots_at(known: &[LogType], number: u32) -> &[Slot]
+    ensures { (texts : List (List ℕ)) → AreKnown texts known.now
+        → result.now ≡ slots_of (slice_index_or texts number []) }
+{
+    match known.get(number as usize) {
+        Some(log_type) => log_type.slots.as_slice(),
         None => &[],
     }
 }
 
 // Adds the numbers of dictionary words of all rows; false where one has more than 32 bits.
-fn push_all<R: Rows>(books: &Books, rows: &R, out: &mut Vec<u32>) -> Result<bool, AllocError>
+fn push_all<R: Rows>(known: &[LogType], rows: &R, out: &mut Vec<u32>) -> Result<bool, AllocError>
     requires { length out.old.items ≡ 0 }
-    ensures yes { IfOk result (λ fit. IsTrue fit
-        → out.new.items ≡ flat_map (numbers_of_row books.now.types.texts) (R.rows rows.now)) }
-    ensures none { IfOk result (λ fit. IsFalse fit
-        → ¬ All (λ n. n < 2 ^ 32)
-        (flat_map (numbers_of_row books.now.types.texts) (R.rows rows.now))) }
+    ensures yes { IfOk result (λ fit. IsTrue fit → (texts : List (List ℕ)) → AreKnown texts known.now
+        → out.new.items ≡ flat_map (numbers_of_row texts) (R.rows rows.now)) }
+    ensures none { IfOk result (λ fit. IsFalse fit → (texts : List (List ℕ))
+        → AreKnown texts known.now
+        → ¬ All (λ n. n < 2 ^ 32) (flat_map (numbers_of_row texts) (R.rows rows.now))) }
 {
     for place in 0..rows.count() {
         let row = rows.at(place);
-        if !push_numbers(text_at(books, row.log_type), row.words, out)? {
+        if !push_slots(slots_at(known, row.log_type), row.words, out)? {
             return Ok(false);
         }
     }
@@ -114,19 +135,19 @@ fn push_all<R: Rows>(books: &Books, rows: &R, out: &mut Vec<u32>) -> Result<bool
 /// 32 bits, as no row has that is the encoding of a message.
 pub(crate) fn words_of<R: Rows>(
     alloc: Global,
-    books: &Books,
+    known: &[LogType],
     rows: &R,
 ) -> Result<Option<NumberList>, AllocError>
-    ensures some { IfOk result (λ found. IfSome found (λ numbers.
-        numbers ≡ words_named books.now.types.texts (R.rows rows.now))) }
-    ensures few { IfOk result (λ found. IfSome found (λ numbers.
-        length numbers ≤ variable_count (R.rows rows.now))) }
-    ensures none { IfOk result (λ found. IfNone found (
-        ¬ All (λ n. n < 2 ^ 32)
-        (flat_map (numbers_of_row books.now.types.texts) (R.rows rows.now)))) }
+    ensures some { IfOk result (λ found. IfSome found (λ numbers. (texts : List (List ℕ))
+        → AreKnown texts known.now → numbers ≡ words_named texts (R.rows rows.now))) }
+    ensures few { IfOk result (λ found. IfSome found (λ numbers. (texts : List (List ℕ))
+        → AreKnown texts known.now → length numbers ≤ variable_count (R.rows rows.now))) }
+    ensures none { IfOk result (λ found. IfNone found ((texts : List (List ℕ))
+        → AreKnown texts known.now
+        → ¬ All (λ n. n < 2 ^ 32) (flat_map (numbers_of_row texts) (R.rows rows.now)))) }
 {
     let mut numbers = Vec::new(alloc);
-    if !push_all(books, rows, &mut numbers)? {
+    if !push_all(known, rows, &mut numbers)? {
         return Ok(None);
     }
     Ok(Some(NumberList::new(set_of(alloc, numbers.as_slice())?)))

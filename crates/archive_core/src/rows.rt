@@ -2,15 +2,18 @@
 ghost use Rattle.std.specs.Prelude.{◌≡◌, ℕ, ◌<◌, ◌^◌, ◌↔◌, All, Bool, IfOk, IfNone, IfSome, IsFalse, IsTrue, List, Some, length, slice_get};
 ghost use Rattle.column_store.specs.declared.row.Row.{Row};
 ghost use Rattle.column_store.specs.Row.{IsRow, row_of, variable_count};
-ghost use Rattle.row_codec.specs.Means.{IsCanonical};
+ghost use Rattle.row_codec.specs.Means.{IsCanonical, IsEncoding};
 ghost use Rattle.archive_meaning.specs.Held.{ends_open};
 ghost use Rattle.archive_meaning.specs.Sums.{open_after};
+ghost use Rattle.archive_core.specs.LogTypes.{AreKnown, IsCutRow};
 ghost use Rattle.archive_core.specs.Rows.{AreMessages, IsMessageOf};
 
 use crate::books::Books;
-use crate::message::is_message;
+use crate::held::are_held;
+use crate::log_types::LogType;
+use crate::message::{is_message, stamp_is};
 use column_store::{Columns, RowRef};
-use row_codec::{row_ok, write_onto};
+use row_codec::{Layouts, Names, RowWriter, row_ok};
 use std::alloc::{AllocError, Global};
 
 /// Rows in order, which are lent one by one.
@@ -58,8 +61,46 @@ impl Rows for Columns {
     }
 }
 
+// Whether a row's parts are cut by the rule of tokens; not where it is the encoding of no message. The
+// first row of a log type is tested whole, and of further ones the words.
+fn is_cut(books: &Books, known: &mut Vec<LogType>, row: RowRef<'_>) -> bool
+    requires { AreKnown books.now.types.texts known.old.items }
+    ensures known { AreKnown books.now.types.texts known.new.items }
+    ensures yes { IsTrue result
+        → IsCutRow books.now.types.texts books.now.words.texts (row_of row.entry) }
+    ensures none { IsFalse result → ¬ IsEncoding books.now.version (row_of row.entry)
+        books.now.types.texts books.now.words.texts }
+{
+    let number = row.log_type as usize;
+    let Some(log_type) = known.get(number) else {
+        return false;
+    };
+    if log_type.tested {
+        return are_held(log_type.slots.as_slice(), row.words, books);
+    }
+    if !row_ok(row, books) {
+        return false;
+    }
+    known[number].tested = true;
+    true
+}
+
 // Whether a row is the encoding of a message, which then stands in `message`.
-fn find_message(books: &Books, row: RowRef<'_>, message: &mut Vec<u8>) -> Result<bool, AllocError>
+fn find_message(
+    books: &Books,
+    known: &mut Vec<LogType>,
+    writer: &mut RowWriter<'_>,
+    row: RowRef<'_>,
+    message: &mut Vec<u8>,
+) -> Result<bool, AllocError>
+    requires writer { writer.old ≡ books.now.types.texts }
+    requires known { AreKnown books.now.types.texts known.old.items }
+
+    // what stays
+    ensures writer { writer.new ≡ writer.old }
+    ensures known { AreKnown books.now.types.texts known.new.items }
+
+    // by the answer
     ensures yes { IfOk result (λ found. IsTrue found
         → IsCanonical books.now.version (row_of row.entry)
         books.now.types.texts books.now.words.texts message.new.items) }
@@ -68,11 +109,13 @@ fn find_message(books: &Books, row: RowRef<'_>, message: &mut Vec<u8>) -> Result
         books.now.types.texts books.now.words.texts m) }
 {
     message.clear();
-    if !row_ok(row, books) {
+    if !is_cut(books, known, row) {
         return Ok(false);
     }
-    write_onto(row, books, message)?;
-    Ok(true)
+    if !writer.write_fitting(row, books, message)? {
+        return Ok(false);
+    }
+    Ok(stamp_is(books.micro(), message.as_slice(), row.pattern, row.moment))
 }
 
 // Whether the bytes end without a newline and are not empty.
@@ -89,9 +132,19 @@ fn is_open(bytes: &[u8]) -> bool
 // message. The message is put together in `message`.
 fn row_says(
     books: &Books,
+    known: &mut Vec<LogType>,
+    writer: &mut RowWriter<'_>,
     row: RowRef<'_>,
     message: &mut Vec<u8>,
 ) -> Result<Option<bool>, AllocError>
+    requires writer { writer.old ≡ books.now.types.texts }
+    requires known { AreKnown books.now.types.texts known.old.items }
+
+    // what stays
+    ensures writer { writer.new ≡ writer.old }
+    ensures known { AreKnown books.now.types.texts known.new.items }
+
+    // by the answer
     ensures some { IfOk result (λ says. IfSome says (λ open_end. (m : List ℕ)
         × IsMessageOf books.now.version books.now.types.texts books.now.words.texts
         (row_of row.entry) m
@@ -100,7 +153,7 @@ fn row_says(
         → ¬ IsMessageOf books.now.version books.now.types.texts books.now.words.texts
         (row_of row.entry) m)) }
 {
-    if !find_message(books, row, message)? {
+    if !find_message(books, known, writer, row, message)? {
         return Ok(None);
     }
     if !is_message(books.version, message.as_slice()) {
@@ -110,13 +163,23 @@ fn row_says(
 }
 
 /// Whether the last of the rows' messages may be a last line without newline, where `before` tells it of
-/// the messages before them; nothing where some row is the encoding of no message.
+/// the messages before them; nothing where some row is the encoding of no message. The layouts are those
+/// of all log types.
 pub(crate) fn rows_say<R: Rows>(
     alloc: Global,
     books: &Books,
+    known: &mut Vec<LogType>,
+    layouts: &Layouts,
     before: bool,
     rows: &R,
 ) -> Result<Option<bool>, AllocError>
+    requires layouts { layouts.now ≡ books.now.types.texts }
+    requires known { AreKnown books.now.types.texts known.old.items }
+
+    // what stays
+    ensures known { AreKnown books.now.types.texts known.new.items }
+
+    // by the answer
     ensures some { IfOk result (λ says. IfSome says (λ open_end. (messages : List (List ℕ))
         × AreMessages books.now.version books.now.types.texts books.now.words.texts
         (R.rows rows.now) messages
@@ -125,10 +188,11 @@ pub(crate) fn rows_say<R: Rows>(
         → ¬ AreMessages books.now.version books.now.types.texts books.now.words.texts
         (R.rows rows.now) messages)) }
 {
+    let mut writer = RowWriter::new(layouts);
     let mut message = Vec::new(alloc);
     let mut open_end = before;
     for place in 0..rows.count() {
-        match row_says(books, rows.at(place), &mut message)? {
+        match row_says(books, known, &mut writer, rows.at(place), &mut message)? {
             Some(open) => open_end = open,
             None => return Ok(None),
         }

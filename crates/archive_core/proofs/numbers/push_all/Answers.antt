@@ -1,22 +1,19 @@
 use Rattle.std.proofs.Common.{rules, ℕ, List, ◌++◌, ◌∙◌, All, ap, subst, sym, ◌^◌, ◌<◌}
-use Rattle.std.specs.Prelude.{false}
 use Rattle.column_store.specs.Row.{row_of}
-use Rattle.row_codec.specs.Numbers.{kinds_from, numbers_of_row, word_numbers}
-use Rattle.archive_core.proofs.NumbersLemmas.{flat_map_more, part_of_all}
+use Rattle.row_codec.specs.Numbers.{numbers_of_row}
+use Rattle.archive_core.proofs.NumbersLemmas.{flat_map_more, part_of_all, slot_numbers}
 use Rattle.archive_core.proofs.numbers.push_all.Goals as goal
 
 pub returns-then-not-branch-clause-none : goal.returns-then-not-branch-clause-none
-returns-then-not-branch-clause-none g c = λ is all.
-    let types = c.args.books.now.types.texts in
-    let here = part_of_all (λ n. n < 2 ^ 32) (numbers_of_row types) (g.R.Rows.rows c.args.rows.now) c.loop-place.place (row_of c.at-row.result) c.at-row.ensures all in
-    c.in_ok-push_numbers.ensures.none (search rules)
-    (subst (λ t. All (λ n. n < 2 ^ 32) (word_numbers (kinds_from false t) c.at-row.result.words.now)) (sym c.text_at.ensures) here)
+returns-then-not-branch-clause-none g c = λ is texts known all.
+    let row = row_of c.at-row.result in
+    let here = part_of_all (λ n. n < 2 ^ 32) (numbers_of_row texts) (g.R.Rows.rows c.args.rows.now) c.loop-place.place row c.at-row.ensures all in
+    c.in_ok-push_slots.ensures.none (search rules) (subst (All (λ n. n < 2 ^ 32)) (sym (slot_numbers texts row c.slots_at.result.now (c.slots_at.ensures texts known))) here)
 
 pub loop-place-preserved : goal.loop-place-preserved
-loop-place-preserved g c =
-    let types = c.args.books.now.types.texts in
-    let words : List ℕ = c.at-row.result.words.now in
-    c.in_ok-push_numbers.ensures.yes (search rules)
-    ∙ ap (λ t. c.loop-place.out.items ++ word_numbers (kinds_from false t) words) c.text_at.ensures
-    ∙ ap (λ (l : List ℕ). l ++ numbers_of_row types (row_of c.at-row.result)) c.loop-place.invariant
-    ∙ sym (flat_map_more (numbers_of_row types) (g.R.Rows.rows c.args.rows.now) c.loop-place.place (row_of c.at-row.result) c.at-row.ensures)
+loop-place-preserved g c = λ texts known.
+    let row = row_of c.at-row.result in
+    c.in_ok-push_slots.ensures.yes (search rules)
+    ∙ ap (λ l. c.loop-place.out.items ++ l) (slot_numbers texts row c.slots_at.result.now (c.slots_at.ensures texts known))
+    ∙ ap (λ (l : List ℕ). l ++ numbers_of_row texts row) (c.loop-place.invariant texts known)
+    ∙ sym (flat_map_more (numbers_of_row texts) (g.R.Rows.rows c.args.rows.now) c.loop-place.place row c.at-row.ensures)

@@ -1,20 +1,36 @@
-use Rattle.std.proofs.Common.{rules, List, ℕ, ◌++◌, ◌∙◌, ap, subst, sym}
+use Rattle.std.proofs.Common.{rules, List, ℕ, ◌++◌, ◌∙◌, ap, subst, sym, w64, to_z, of_z, ◌≡◌}
 use Rattle.column_store.specs.Row.{row_of}
+use Rattle.time_patterns.specs.Stamps.{HasStamp}
 use Rattle.row_codec.specs.Means.{IsCanonical}
-use Rattle.row_codec.proofs.MeansLemmas.{meaning_is_spelling, one_spelling}
+use Rattle.archive_core.proofs.LogTypeLemmas.{cut_means, encoding_spelled, stamp_means}
 use Rattle.archive_core.proofs.rows.find_message.Goals as goal
 
-pub write_onto-requires : goal.write_onto-requires
-write_onto-requires c =
+pub returns-then-not-branch-clause-none : goal.returns-then-not-branch-clause-none
+returns-then-not-branch-clause-none c = λ is m canonical.
     let books = c.args.books.now in
-    let is = c.row_ok.ensures.0 (search rules) in
-    (is.0, meaning_is_spelling (row_of c.args.row) books.types.texts books.words.texts is.0 is.1.means)
+    c.in_ok-write_fitting.ensures.misfit (search rules) (encoding_spelled books.version (row_of c.args.row) books.types.texts books.words.texts m canonical)
 
 pub returns-clause-yes : goal.returns-clause-yes
 returns-clause-yes c = λ yes.
     let books = c.args.books.now in
     let row = row_of c.args.row in
-    let is = c.row_ok.ensures.0 (search rules) in
-    let written = c.in_ok-write_onto.ensures.written in
-    let same = one_spelling row books.types.texts books.words.texts written.0 is.0 written.1 (meaning_is_spelling row books.types.texts books.words.texts is.0 is.1.means) in
-    subst (λ m. IsCanonical books.version row books.types.texts books.words.texts m) (sym (written.2 ∙ ap (λ (l : List ℕ). l ++ written.0) c.clear.ensures.items ∙ same)) is.1
+    let moment : to_z w64 (of_z w64 c.args.row.moment) ≡ c.args.row.moment = search rules in
+    let tells = rw moment at (c.stamp_is.ensures books.version c.micro.ensures) in
+    let written = c.in_ok-write_fitting.ensures.written (search rules) in
+    let same = written.2 ∙ ap (λ (l : List ℕ). l ++ written.0) c.clear.ensures.items in
+    let has = tells.0 yes in
+    let stamp = subst (λ m. HasStamp books.version m row.pattern row.moment has.0) (c.as_slice.ensures.value ∙ same) has.1 in
+    subst (λ m. IsCanonical books.version row books.types.texts books.words.texts m) (sym same)
+    (cut_means books.version row books.types.texts books.words.texts written.0 has.0 (c.is_cut.ensures.yes (search rules)) written.1 stamp)
+
+pub returns-clause-none : goal.returns-clause-none
+returns-clause-none c = λ not m canonical.
+    let books = c.args.books.now in
+    let row = row_of c.args.row in
+    let moment : to_z w64 (of_z w64 c.args.row.moment) ≡ c.args.row.moment = search rules in
+    let tells = rw moment at (c.stamp_is.ensures books.version c.micro.ensures) in
+    let written = c.in_ok-write_fitting.ensures.written (search rules) in
+    let same = written.2 ∙ ap (λ (l : List ℕ). l ++ written.0) c.clear.ensures.items in
+    let has = stamp_means books.version row books.types.texts books.words.texts written.0 m written.1 canonical in
+    let stamp = subst (λ l. HasStamp books.version l row.pattern row.moment has.0) (sym (c.as_slice.ensures.value ∙ same)) has.1 in
+    cc (tells.1 (has.0, stamp), not)

@@ -1,4 +1,4 @@
-use Rattle.std.proofs.Common.{suc, ◌+◌, ◌≡◌, ℕ, List, take, arith, subst}
+use Rattle.std.proofs.Common.{rules, suc, ◌+◌, ◌≡◌, ℕ, List, take, arith, subst}
 use Rattle.column_store.specs.Row.{row_of}
 use Rattle.archive_meaning.specs.Sums.{open_after}
 use Rattle.archive_core.specs.Rows.{AreMessages}
@@ -19,5 +19,9 @@ loop-place-preserved g c =
     let place = c.loop-place.place in
     let step : suc place ≡ place + 1 = omega arith in
     let here = at_some c.in_ok-open.field-0 _ c.in-Some.open c.in_ok-open.ensures.some c.in-Some.is in
-    subst (λ k. (messages : List (List ℕ)) × AreMessages books.version books.types.texts books.words.texts (take k rows) messages × (c.in-Some.open ≡ open_after c.args.before messages)) step
-    (rows_more books.version books.types.texts books.words.texts rows place (row_of c.at.result) c.args.before c.loop-place.open_end c.in-Some.open c.at.ensures c.loop-place.invariant here)
+    record {
+      says = subst (λ k. (messages : List (List ℕ)) × AreMessages books.version books.types.texts books.words.texts (take k rows) messages × (c.in-Some.open ≡ open_after c.args.before messages)) step
+          (rows_more books.version books.types.texts books.words.texts rows place (row_of c.at.result) c.args.before c.loop-place.open_end c.in-Some.open c.at.ensures c.loop-place.invariant.says here);
+      writer = search rules;
+      known = search rules;
+    }

@@ -17,7 +17,7 @@ returns-in_default-clause-illegal g c = λ is more admits.
     let messages : List (List ℕ) = admits.0.1.0 in
     let there = subst (λ (s : Sums). AreMessages s.header.version s.types s.words rows messages) (sym c.self.view_is) (admits.0.1.1.canonical, admits.0.1.1.each) in
     let here = subst (λ v. AreMessages v inside.books.types.texts inside.books.words.texts rows messages) (sym c.self.invariant.same_version) there in
-    at_none c.in_ok-open_end.field-0 _ c.in_ok-open_end.ensures.none c.in_default.is messages here
+    at_none c.in_ok-found.found _ c.in_ok-found.ensures.none c.in_default.is messages here
 
 pub returns-then-not-ends_well-clause-illegal : goal.returns-then-not-ends_well-clause-illegal
 returns-then-not-ends_well-clause-illegal g c = λ is more admits.
@@ -32,7 +32,7 @@ returns-then-not-ends_well-clause-illegal g c = λ is more admits.
     let there = subst (λ (s : Sums). AddsRows s.header.version (get_or s.files file no_messages) s.types s.words segment messages) (sym c.self.view_is) admits.0.1.1 in
     let here = subst (λ v. AddsRows v (get_or inside.files.items file no_messages) types words segment messages) (sym c.self.invariant.same_version) there in
     let adds = subst (λ (x : FileSum). AddsRows inside.books.version x types words segment messages) (sym sum) here in
-    let found = at_some c.in_ok-open_end.field-0 _ c.in-Some.open_end c.in_ok-open_end.ensures.some c.in-Some.is in
+    let found = at_some c.in_ok-found.found _ c.in-Some.open_end c.in_ok-found.ensures.some c.in-Some.is in
     let ends = ends_of inside.books.version c.index-sum.result.now types words c.args.part rows messages found.0 c.in-Some.open_end adds found.1 found.2 in
     cc (c.ends_well.ensures.1 ends, c.if-not-ends_well.true)
 
@@ -46,7 +46,7 @@ returns-clause-admitted g c =
     let segment : SegmentEntry = segment_of c.args.part rows in
     let old : Sums = record { header = inside.header; types = types; words = words; files = inside.files.items; end = inside.end } in
     let sum : c.index-sum.result.now ≡ get_or inside.files.items file no_messages = other_default inside.files.items file c.index-sum.result.now no_messages (search rules) c.index-sum.ensures in
-    let found = at_some c.in_ok-open_end.field-0 _ c.in-Some.open_end c.in_ok-open_end.ensures.some c.in-Some.is in
+    let found = at_some c.in_ok-found.found _ c.in-Some.open_end c.in_ok-found.ensures.some c.in-Some.is in
     let here = adds_rows inside.books.version c.index-sum.result.now types words c.args.part rows found.0 c.in-Some.open_end (c.may_follow.ensures.0 (search rules)) c.fit.ensures found.1 found.2
     (c.ends_well.ensures.0 (search rules)) in
     let named = subst (λ v. AddsRows v c.index-sum.result.now types words segment found.0) c.self.invariant.same_version here in

@@ -1,0 +1,9 @@
+use Rattle.std.proofs.Common.{rules}
+use Rattle.archive_core.proofs.HeldLemmas.{held_short}
+use Rattle.archive_core.proofs.held.are_held.Goals as goal
+
+pub returns-in_default : goal.returns-in_default
+returns-in_default c = (
+  λ yes. absurd (cc (yes)),
+  λ all. absurd (held_short c.args.books.now.words.texts c.args.slots.now c.loop-slot.slot-index c.args.words.now c.loop-slot.left.now (search rules) c.in_default.len_below c.loop-slot.invariant all),
+)
