@@ -190,11 +190,12 @@ fn a_record_is_held_from_its_first_use_on(rt: HostRuntime) -> Result<(), Fail> {
 
 // Holds the words of a row of the log type.
 fn hold_row(held: &mut HeldWords, disk: &mut MemDisk, word: u64) -> Result<(), HoldRefusal> {
+    let words = [word];
     let row = RowRef {
         pattern: 0,
         moment: 0,
         log_type: 0,
-        words: &[word],
+        words: &words,
     };
     held.hold_row(disk, row)
 }

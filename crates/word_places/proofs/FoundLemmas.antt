@@ -10,7 +10,7 @@ use Rattle.record_format.specs.Lists.{AreTexts, text_bytes}
 use Rattle.word_places.specs.declared.place.WordsPlace.{WordsPlace}
 use Rattle.word_places.specs.declared.needle.Needle.{Needle}
 use Rattle.word_places.specs.Holders.{AddsHolders, FoundEach, Holders}
-use Rattle.word_places.specs.Places.{AreWords, OfTexts, OfWords}
+use Rattle.word_places.specs.Places.{OfTexts, OfWords}
 use Rattle.word_places.specs.StepsFound.{AddsEach, AddsFor}
 use Rattle.word_places.proofs.HolderLemmas.{Gone, gone_all, gone_more, gone_none}
 

@@ -1,5 +1,5 @@
 -- How the lists of a pass for several needles grow.
-use Rattle.std.specs.Prelude.{◌≡◌, ◌<◌, ◌≤◌, ℕ, List, [], Some, slice_get, slice_index_or}
+use Rattle.std.specs.Prelude.{◌≡◌, ℕ, List, [], Some, slice_get, slice_index_or}
 use Rattle.word_places.specs.declared.needle.Needle.{Needle}
 use Rattle.word_places.specs.Holders.{AddsHolders}
 

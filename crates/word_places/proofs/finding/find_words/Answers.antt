@@ -1,7 +1,7 @@
-use Rattle.std.proofs.Common.{◌≡◌, ◌∙◌, arith, rules}
+use Rattle.std.proofs.Common.{◌∙◌, arith, rules}
 use Rattle.std.proofs.lemmas.Result.{err_from_is_err_and}
 use Rattle.log_seams.proofs.MomentLemmas.{rests_on}
-use Rattle.word_places.proofs.FoundLemmas.{gone_first, gone_on, gone_through}
+use Rattle.word_places.proofs.FoundLemmas.{gone_on, gone_through}
 use Rattle.word_places.proofs.HeldLemmas.{contained, none_at}
 use Rattle.word_places.proofs.HolderLemmas.{order_at}
 use Rattle.word_places.proofs.ReadLemmas.{other_disk, words_on, words_one}
