@@ -1,4 +1,4 @@
-use Rattle.std.proofs.Common.{◌≡◌, sym, ◌∙◌, rules}
+use Rattle.std.proofs.Common.{sym, ◌∙◌, rules}
 use Rattle.archive_places.proofs.HeadLemmas.{front_found, one_head}
 use Rattle.archive_places.proofs.heads.segment_of.Goals as goal
 
