@@ -26,12 +26,13 @@ use Rattle.query_plan.specs.Laws.{IsSearched}
 use Rattle.query_plan.specs.Needs.{around}
 use Rattle.query_plan.specs.Pieces.{flat, wide_pieces}
 use Rattle.subquery_filter.specs.declared.filter.Filter.{Filter}
+use Rattle.subquery_filter.specs.declared.marks.WordMarks.{WordMarks}
 use Rattle.subquery_filter.specs.declared.slots.Slot.{Slot}
 use Rattle.subquery_filter.specs.declared.slots.TypeTest.{TypeTest}
 use Rattle.subquery_filter.specs.declared.token.Token.{Token}
 use Rattle.subquery_filter.specs.declared.verdicts.Verdict.{Verdict}
 use Rattle.subquery_filter.specs.declared.verdicts.Verdict.TheVariants.{Rejected, Certain, Tried}
-use Rattle.subquery_filter.specs.Filter.{AreMarks, AreSmall, AreTests, Covers, Has, HasNoMatch, IsFilter, IsListed, IsRight, IsRowVerdict, IsSlot, IsTest, Marks}
+use Rattle.subquery_filter.specs.Filter.{AreSmall, AreTests, Covers, Has, HasNoMatch, IsFilter, IsListed, IsRight, IsRowVerdict, IsSlot, IsTest, Marks, marks_at}
 use Rattle.subquery_filter.specs.StepsFilter.{AreTokens, HasEach, IsShut, Lacks, Stays, may_by}
 use Rattle.subquery_filter.specs.StepsLetters.{kinds_in}
 use Rattle.subquery_filter.specs.Tokens.{IsTokenOf, RowsBringTokens}
@@ -67,7 +68,7 @@ has_none all = has_bits all 0 (λ i. omega arith)
 
 -- ---- loops
 
-before_step : {X : Type 0} (xs : List X) (P Q : X → Type 0) (i : ℕ) (x : X) → i < length xs → x ≡ get_or xs i x → ((y : X) → P y → Q y) → Q x
+pub before_step : {X : Type 0} (xs : List X) (P Q : X → Type 0) (i : ℕ) (x : X) → i < length xs → x ≡ get_or xs i x → ((y : X) → P y → Q y) → Q x
     → ((k : ℕ) (d : X) → k < i → P (get_or xs k d)) → (k : ℕ) (d : X) → k < i + 1 → Q (get_or xs k d)
 before_step xs P Q i x lt is weaker here before k d below = elim (cases_lt k i) [
   | inl less ↦ weaker (get_or xs k d) (before k d less)
@@ -95,22 +96,22 @@ wanted_step tokens i bits token is before all each =
     has_both all bits token.bit (before all (λ k d lt. each k d (omega (arith, lt))))
     (subst (λ (k : Token). Has all k.bit) (sym is) (each i token (omega arith)))
 
-abbrev pub HasBefore : List ℕ → List ℕ → ℕ → ℕ → Type 0
-HasBefore marks numbers i bits = (k d : ℕ) → k < i → Has bits (get_or marks (get_or numbers k d) 0)
+abbrev pub HasBefore : WordMarks → List ℕ → ℕ → ℕ → Type 0
+HasBefore marks numbers i bits = (k d : ℕ) → k < i → Has bits (marks_at marks (get_or numbers k d))
 
-has_step : (marks numbers : List ℕ) (i bits mark number : ℕ) → i < length numbers → number ≡ get_or numbers i number → mark ≡ get_or marks number 0
+has_step : (marks : WordMarks) (numbers : List ℕ) (i bits mark number : ℕ) → i < length numbers → number ≡ get_or numbers i number → mark ≡ marks_at marks number
     → HasBefore marks numbers i bits → HasBefore marks numbers (i + 1) (bit_or bits mark)
 has_step marks numbers i bits mark number lt is read before =
-    before_step numbers (λ (n : ℕ). Has bits (get_or marks n 0)) (λ (n : ℕ). Has (bit_or bits mark) (get_or marks n 0)) i number lt is
-    (λ n h. has_left bits mark (get_or marks n 0) h) (subst (Has (bit_or bits mark)) read (has_right bits mark)) before
+    before_step numbers (λ (n : ℕ). Has bits (marks_at marks n)) (λ (n : ℕ). Has (bit_or bits mark) (marks_at marks n)) i number lt is
+    (λ n h. has_left bits mark (marks_at marks n) h) (subst (Has (bit_or bits mark)) read (has_right bits mark)) before
 
-pub has_next : (marks numbers : List ℕ) (i bits mark : ℕ) → i < length numbers → mark ≡ get_or marks (get_or numbers i 0) 0
+pub has_next : (marks : WordMarks) (numbers : List ℕ) (i bits mark : ℕ) → i < length numbers → mark ≡ marks_at marks (get_or numbers i 0)
     → HasBefore marks numbers i bits → HasBefore marks numbers (i + 1) (bit_or bits mark)
 has_next marks numbers i bits mark lt read before =
     has_step marks numbers i bits mark (get_or numbers i 0) lt (get_or_default numbers i 0 (get_or numbers i 0) lt) read before
 
-pub has_end : (marks numbers : List ℕ) (i bits : ℕ) → length numbers ≤ i → HasBefore marks numbers i bits → HasEach marks numbers bits
-has_end marks numbers i bits le before n (k, lt, e) = subst (λ (x : ℕ). Has bits (get_or marks x 0)) e (before k n (omega (arith, lt, le)))
+pub has_end : (marks : WordMarks) (numbers : List ℕ) (i bits : ℕ) → length numbers ≤ i → HasBefore marks numbers i bits → HasEach marks numbers bits
+has_end marks numbers i bits le before n (k, lt, e) = subst (λ (x : ℕ). Has bits (marks_at marks x)) e (before k n (omega (arith, lt, le)))
 
 -- the bits of the numbers so far are among these
 abbrev pub AnyBefore : List ℕ → ℕ → ℕ → Type 0
@@ -138,30 +139,8 @@ shut_step f brought types i lt here before =
 pub shut_end : (f : Filter) (brought : ℕ) (types : List ℕ) (i : ℕ) → length types ≤ i → ShutBefore f brought types i → (t : ℕ) → Contains types t → IsShut f brought t
 shut_end f brought types i le before t (k, lt, e) = subst (λ (x : ℕ). IsShut f brought x) e (before k t (omega (arith, lt, le)))
 
-abbrev pub MarkedBefore : List Token → List (List ℕ) → ℕ → List ℕ → Type 0
-MarkedBefore tokens words count marks = (n : ℕ) (text : List ℕ) → n < count → slice_get words n ≡ Some text → Marks tokens text (get_or marks n 0)
-
 some_same : (o : Option (List ℕ)) (a b : List ℕ) → o ≡ Some a → o ≡ Some b → a ≡ b
 some_same o a b one two = cc (one, two)
-
-pub marked_step : (tokens : List Token) (words : List (List ℕ)) (count : ℕ) (old new : List ℕ) (text : List ℕ) (mark : ℕ) → length old ≡ count → new ≡ old ++ mark ∷ [] → slice_get words count ≡ Some text
-    → Marks tokens text mark → MarkedBefore tokens words count old → MarkedBefore tokens words (count + 1) new
-marked_step tokens words count old new text mark size is word marks before n other below there =
-    subst (λ (l : List ℕ). Marks tokens other (get_or l n 0)) (sym is)
-    (elim (cases_lt n count) [
-      | inl less ↦ subst (Marks tokens other) (sym (get_or_append_left old (mark ∷ []) 0 n (omega (arith, less, size)))) (before n other less there)
-      | inr past ↦
-          let same : n ≡ count = omega (arith, below, past) in
-          let at : get_or (old ++ mark ∷ []) n 0 ≡ mark = ap (λ (j : ℕ). get_or (old ++ mark ∷ []) j 0) (same ∙ sym size) ∙ get_or-at_end old mark 0 in
-          subst (Marks tokens other) (sym at) (subst (λ t. Marks tokens t mark) (some_same (slice_get words count) text other word (ap (λ (j : ℕ). slice_get words j) (sym same) ∙ there)) marks)
-    ])
-  where
-    get_or-at_end : (xs : List ℕ) (x d : ℕ) → get_or (xs ++ x ∷ []) (length xs) d ≡ x
-    get_or-at_end [] x d = refl
-    get_or-at_end (y ∷ xs) x d = get_or-at_end xs x d
-
-pub marked_end : (tokens : List Token) (words : List (List ℕ)) (count : ℕ) (marks : List ℕ) → length words ≤ count → MarkedBefore tokens words count marks → AreMarks tokens words marks
-marked_end tokens words count marks le before n text there = before n text (omega (arith, le, slice_get_within words n text there)) there
 
 pub push_cases : {X : Type 0} (old : List X) (x : X) (n : ℕ) (y : X) → slice_get (old ++ x ∷ []) n ≡ Some y → (slice_get old n ≡ Some y) ⊎ ((n ≡ length old) × (x ≡ y))
 push_cases [] x zero y is = inr (refl, cc (is))
@@ -268,10 +247,10 @@ lacks_bits : RowsBringTokens → (ps : List Piece) (types words : List (List ℕ
 lacks_bits law ps types words f is row test bits at tried has stamp variables lacks version message canonical matches =
     let text = type_text (map symbol_of canonical.means.parts) in
     let typed = canonical.means.typed in
-    let here = is.tests row.log_type text test typed at in
-    lacks (is.wanted bits (λ j d lt.
+    let here = is.asks.tests row.log_type text test typed at in
+    lacks (is.asks.wanted bits (λ j d lt.
     let k : Token = slice_index_or f.tokens.items j d in
-    elim (law version ps row types words text message k.matcher.items is.cut canonical matches (is.are j d lt) typed) [
+    elim (law version ps row types words text message k.matcher.items is.asks.cut canonical matches (is.asks.are j d lt) typed) [
       | inl (s, stamped, fits) ↦ stamp s stamped j d lt fits
       | inr (inl there) ↦ has_through bits test.has k.bit has (here.gives tried j d lt there)
       | inr (inr v) ↦ elim (here.slots_are tried v.place v.kind v.slot) [
@@ -283,25 +262,25 @@ lacks_bits law ps types words f is row test bits at tried has stamp variables la
 pub row_lacks : RowsBringTokens → (p : List Item) (types words : List (List ℕ)) (f : Filter) → IsFilter (wide_pieces p) types words f → (row : Row) (test : TypeTest)
     → slice_get f.tests.items row.log_type ≡ Some test → test.verdict ≡ Tried → Lacks f test row → IsRowVerdict (wide_pieces p) types words row Rejected
 row_lacks law p types words f is row test at tried h =
-    lacks_bits law (wide_pieces p) types words f is row test h.bits at tried h.has (h.stamp is.stamps)
+    lacks_bits law (wide_pieces p) types words f is row test h.bits at tried h.has (h.stamp is.asks.stamps)
     (λ parts typed place kind word variable slot there listed has j d lt fits.
     let same : (k : Kind) → k ≡ kind → HasWord words k variable word = λ k e. subst (λ (x : Kind). HasWord words x variable word) (sym e) has in
     h.slots listed.at listed.from listed.to listed.slot word listed.is (subst (λ (n : ℕ). slice_get row.words n ≡ Some word) (sym listed.same_place) there) words variable
-    (λ w. is.marks listed.at listed.slot listed.is w) is.small (same listed.slot.kind listed.same_kind) j d lt fits (listed.covers words variable word has j d lt fits))
+    (λ w. is.marks listed.at listed.slot listed.is w) is.asks.small (same listed.slot.kind listed.same_kind) j d lt fits (listed.covers words variable word has j d lt fits))
     h.lacks
 
 rejected_row : RejectedNeverMatches → (p : List Item) → IsSearched p → (types words : List (List ℕ)) (f : Filter) → IsFilter (wide_pieces p) types words f → (row : Row) (test : TypeTest)
     → slice_get f.tests.items row.log_type ≡ Some test → test.verdict ≡ Rejected → IsRowVerdict (wide_pieces p) types words row Rejected
 rejected_row law p searched types words f is row test at rejected version message canonical =
     let text = type_text (map symbol_of canonical.means.parts) in
-    let right = subst (IsRight (wide_pieces p) text) rejected (is.tests row.log_type text test canonical.means.typed at).right in
+    let right = subst (IsRight (wide_pieces p) text) rejected (is.asks.tests row.log_type text test canonical.means.typed at).right in
     law version p row types words canonical.means.parts message searched canonical.means.typed (right canonical.means.parts refl) canonical
 
 certain_row : CertainAlwaysMatches → (p : List Item) (types words : List (List ℕ)) (f : Filter) → IsFilter (wide_pieces p) types words f → (row : Row) (test : TypeTest)
     → slice_get f.tests.items row.log_type ≡ Some test → test.verdict ≡ Certain → IsRowVerdict (wide_pieces p) types words row Certain
 certain_row law p types words f is row test at certain message spelled =
     let text = type_text (map symbol_of spelled.parts) in
-    let right = subst (IsRight (wide_pieces p) text) certain (is.tests row.log_type text test spelled.typed at).right in
+    let right = subst (IsRight (wide_pieces p) text) certain (is.asks.tests row.log_type text test spelled.typed at).right in
     law (wide_pieces p) row types words spelled.parts message spelled.typed (right spelled.parts refl) spelled
 
 verdict_by : RejectedNeverMatches → CertainAlwaysMatches → (p : List Item) → IsSearched p → (types words : List (List ℕ)) (f : Filter) → IsFilter (wide_pieces p) types words f → (row : Row) (test : TypeTest) (v : Verdict)
@@ -316,7 +295,7 @@ row_verdict rejected certain p searched types words f is row test at = verdict_b
 
 -- ---- what they tell of a segment
 
-may_listed : (f : Filter) (types words : List (List ℕ)) (ps : List Piece) → IsFilter ps types words f → (brought bits : ℕ) (numbers : List ℕ) → HasEach f.marks.items numbers brought
+may_listed : (f : Filter) (types words : List (List ℕ)) (ps : List Piece) → IsFilter ps types words f → (brought bits : ℕ) (numbers : List ℕ) → HasEach f.marks numbers brought
     → (at : ℕ) (slot : Slot) → slice_get f.slots.items at ≡ Some slot → (kind : Kind) → slot.kind ≡ kind → Has bits (may_by kind slot.bits brought)
     → (word : ℕ) (variable : List ℕ) → (kind ≡ Word → Contains numbers word) → HasWord words kind variable word → Covers f.tokens.items kind slot.bits → Marks f.tokens.items variable bits
 may_listed f types words ps is brought bits numbers each at slot there Whole same has word variable listed has_word covers =
@@ -325,15 +304,15 @@ may_listed f types words ps is brought bits numbers each at slot there Decimal s
     λ j d lt fits. has_through bits slot.bits (slice_index_or f.tokens.items j d).bit has (covers words variable word has_word j d lt fits)
 may_listed f types words ps is brought bits numbers each at slot there Word same has word variable listed has_word covers =
     λ j d lt fits. has_through bits brought (slice_index_or f.tokens.items j d).bit has
-    (has_through brought (slice_index_or f.marks.items word 0) (slice_index_or f.tokens.items j d).bit (each word (listed refl)) (is.marks at slot there same word variable has_word.1 j d lt fits))
+    (has_through brought (marks_at f.marks word) (slice_index_or f.tokens.items j d).bit (each word (listed refl)) (is.marks at slot there same word variable has_word.1 j d lt fits))
 
 stamp_may : (f : Filter) (types words : List (List ℕ)) (ps : List Piece) → IsFilter ps types words f → (row : Row) (bits : ℕ) → Has bits f.stamped → (s : List ℕ) → HasStampText row.pattern row.moment s → Marks f.tokens.items s bits
 stamp_may f types words ps is row bits has s stamped = λ j d lt fits.
     has_through bits f.stamped (slice_index_or f.tokens.items j d).bit has
-    (has_through f.stamped (slice_index_or f.stamps.items row.pattern 0) (slice_index_or f.tokens.items j d).bit (is.stamped row.pattern) (is.stamps row.pattern row.moment s stamped j d lt fits))
+    (has_through f.stamped (slice_index_or f.stamps.items row.pattern 0) (slice_index_or f.tokens.items j d).bit (is.asks.stamped row.pattern) (is.asks.stamps row.pattern row.moment s stamped j d lt fits))
 
 pub none_may : RejectedNeverMatches → RowsBringTokens → (p : List Item) → IsSearched p → (types words : List (List ℕ)) (f : Filter) → IsFilter (wide_pieces p) types words f
-    → (listed numbers : List ℕ) (brought : ℕ) → HasEach f.marks.items numbers brought
+    → (listed numbers : List ℕ) (brought : ℕ) → HasEach f.marks numbers brought
     → ((t : ℕ) → Contains listed t → IsShut f brought t) → HasNoMatch (wide_pieces p) types words listed numbers
 none_may rejected law p searched types words f is listed numbers brought each shut version row message lists among canonical =
     let (test, at, how) = shut row.log_type lists in

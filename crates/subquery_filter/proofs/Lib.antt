@@ -8,3 +8,4 @@ mod FilterLemmas
 mod NumberLemmas
 mod SlotLemmas
 mod StampLemmas
+mod MarkLemmas

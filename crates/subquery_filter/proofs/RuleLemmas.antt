@@ -1,6 +1,6 @@
 -- The rules of barren segments, place by place.
-use Rattle.std.proofs.Common.{◌≡◌, ℕ, ◌+◌, suc, ◌<◌, ◌≤◌, Bool, true, false, List, [], ◌∷◌, length, get_or, refl, sym, ◌∙◌, ap, subst, arith, inl, inr, ⊎_elim}
-use Rattle.std.specs.Prelude.{◌↔◌, ◌⊎◌, Result, Ok, Err, Some, IsTrue, if◌then◌else◌, slice_get}
+use Rattle.std.proofs.Common.{◌≡◌, ℕ, ◌+◌, suc, ◌<◌, ◌≤◌, Bool, true, false, List, [], ◌∷◌, length, get_or, refl, sym, ◌∙◌, ap, subst, arith, inl, inr, of_z, to_z, ⊎_elim}
+use Rattle.std.specs.Prelude.{◌↔◌, ◌⊎◌, Option, Result, Ok, Err, None, Some, IsTrue, if◌then◌else◌, slice_get, slice_index_or}
 use Rattle.std.specs.List.{Contains, HoldsAt}
 use Rattle.std.specs.List.Sorted.{IsBinarySearchResult, IsStrictlyIncreasing}
 use Rattle.std.specs.Ordering.{nat_cmp}
@@ -12,7 +12,13 @@ use Rattle.std.proofs.lemmas.List.Sorted.{searched}
 use Rattle.std.proofs.lemmas.Option.{get_or_from_slice_get, slice_get-get_or, slice_get_within}
 use Rattle.var_codec.specs.Codes.{Codes}
 use Rattle.var_codec.specs.declared.Coded.TheVariants.{Word as DictionaryWord}
-use Rattle.subquery_filter.specs.Barren.{HasConstants, HoldsConstants, IsMissing, IsNeeded, LacksTypes, LacksWord}
+use Rattle.std.specs.Int.{w64}
+use Rattle.std.proofs.lemmas.Int.{to_z-of_z}
+use Rattle.column_store.specs.declared.range.Range.{Range}
+use Rattle.segment_format.specs.Layout.{IsHead}
+use Rattle.segment_format.specs.declared.head.Head.{Head}
+use Rattle.subquery_filter.specs.Barren.{HasConstants, HoldsConstants, IsBounded, IsMissing, IsNeeded, IsOutside, LacksTypes, LacksWord, LeavesOut}
+use Rattle.subquery_filter.specs.Found.{AreNumbers, IsNumber}
 use Rattle.subquery_filter.specs.Runs.{HoldsRun}
 use Rattle.plain_list.specs.Texts.{AreDistinct, IsNew}
 use Rattle.query_plan.specs.declared.pieces.Piece.{Piece}
@@ -180,14 +186,34 @@ missing_by words listed text n b distinct coded at tells = (
 pub missing_new : (words : List (List ℕ)) (listed : List ℕ) (text : List ℕ) → Codes text DictionaryWord → IsNew words text → IsMissing words listed text
 missing_new words listed text coded new = (coded, λ n at has. new n at)
 
+-- the number that was found of a needed word
+pub found_number : (known words : List (List ℕ)) (found : List (Option ℕ)) (n : ℕ) (text : List ℕ) (number : Option ℕ) → slice_get words n ≡ Some text → number ≡ slice_index_or found n None → AreNumbers known words found
+    → IsNumber known text number
+found_number known words found n text number here read are = subst (IsNumber known text) (sym read) (are n text here)
+
+-- ---- moments
+
+-- what is told of the moments of a head, as they are passed
+pub outside_tells : (range : Range) (head : Head) (b : Bool) → IsHead head
+    → (IsTrue b ↔ ((head.rows ≡ 0) ⊎ (IsBounded range × LeavesOut range head.stamped (to_z w64 (of_z w64 head.least)) (to_z w64 (of_z w64 head.greatest)))))
+    → IsTrue b ↔ ((head.rows ≡ 0) ⊎ (IsBounded range × IsOutside range head))
+outside_tells range head b is tells =
+    let least = to_z-of_z w64 head.least is.fixed.least in
+    let greatest = to_z-of_z w64 head.greatest is.fixed.greatest in
+    subst (λ m. IsTrue b ↔ ((head.rows ≡ 0) ⊎ (IsBounded range × LeavesOut range head.stamped head.least m))) greatest
+    (subst (λ m. IsTrue b ↔ ((head.rows ≡ 0) ⊎ (IsBounded range × LeavesOut range head.stamped m (to_z w64 (of_z w64 head.greatest))))) least tells)
+
 -- ---- all rules
 
-pub last_rule : {A B C D : Type 0} (b : Bool) → ¬ A → ¬ B → ¬ C → (IsTrue b ↔ D) → IsTrue b ↔ (A ⊎ (B ⊎ (C ⊎ D)))
-last_rule b not_a not_b not_c tells = (
+pub last_rules : {A B C D : Type 0} (b : Bool) → ¬ (A ⊎ B) → ¬ C → (IsTrue b ↔ D) → IsTrue b ↔ (A ⊎ (B ⊎ (C ⊎ D)))
+last_rules b neither not_c tells = (
   λ so. inr (inr (inr (tells.0 so))),
-  λ any. ⊎_elim (λ x. absurd (not_a x)) (λ more. ⊎_elim (λ x. absurd (not_b x)) (λ rest. ⊎_elim (λ x. absurd (not_c x)) (λ x. tells.1 x) rest) more) any,
+  λ any. ⊎_elim (λ x. absurd (neither (inl x))) (λ more. ⊎_elim (λ x. absurd (neither (inr x))) (λ rest. ⊎_elim (λ x. absurd (not_c x)) (λ x. tells.1 x) rest) more) any,
 )
 
 pub first_rules : {A B C D : Type 0} → A ⊎ B → IsTrue true ↔ (A ⊎ (B ⊎ (C ⊎ D)))
 first_rules (inl x) = (λ so. inl x, λ any. refl)
 first_rules (inr x) = (λ so. inr (inl x), λ any. refl)
+
+pub third_rule : {A B C D : Type 0} (b : Bool) → b ≡ true → (IsTrue b ↔ C) → IsTrue b ↔ (A ⊎ (B ⊎ (C ⊎ D)))
+third_rule b yes_so tells = (λ so. inr (inr (inl (tells.0 so))), λ any. yes_so)

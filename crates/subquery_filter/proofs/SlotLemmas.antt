@@ -155,7 +155,7 @@ pub gives_short : (f : Filter) (slot : Slot) (row : List ℕ) (all : ℕ) → No
 gives_short f slot row all none word here = absurd (let e : None ≡ Some word = none ∙ here in cc)
 
 pub gives_brought : (f : Filter) (slot : Slot) (row : List ℕ) (all bits w : ℕ) → Some w ≡ slice_get row slot.place → Has all bits
-    → ((words : List (List ℕ)) (variable : List ℕ) → (slot.kind ≡ Word → AreMarks f.tokens.items words f.marks.items) → AreSmall f.tokens.items f.small.items → HasWord words slot.kind variable w → Marks f.tokens.items variable bits)
+    → ((words : List (List ℕ)) (variable : List ℕ) → (slot.kind ≡ Word → AreMarks f.tokens.items words f.marks) → AreSmall f.tokens.items f.small.items → HasWord words slot.kind variable w → Marks f.tokens.items variable bits)
     → (word : ℕ) → slice_get row slot.place ≡ Some word → SlotGives f slot word all
 gives_brought f slot row all bits w got more brings word here words variable marks small is j d lt m own =
     let word_same : w ≡ word = same_words (slice_get row slot.place) w word (sym got) here in

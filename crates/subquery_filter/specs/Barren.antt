@@ -20,12 +20,16 @@ IsNeeded ps variable text =
 abbrev pub IsBounded : Range → Type 0
 IsBounded range = ((m : ℤ) × (range.from ≡ Some m)) ⊎ ((m : ℤ) × (range.to ≡ Some m))
 
--- no row has a stamp, or one bound for itself leaves out all of them
+-- no row has a stamp, or one bound for itself leaves out all moments from the least to the greatest
+abbrev pub LeavesOut : Range → Bool → ℤ → ℤ → Type 0
+LeavesOut range stamped least greatest =
+    (stamped ≡ false)
+    ⊎ (((m : ℤ) × (range.from ≡ Some m) × (greatest <ℤ m))
+    ⊎ ((m : ℤ) × (range.to ≡ Some m) × (m <ℤ least)))
+
+-- so it is of the moments of a segment
 abbrev pub IsOutside : Range → Head → Type 0
-IsOutside range head =
-    (head.stamped ≡ false)
-    ⊎ (((m : ℤ) × (range.from ≡ Some m) × (head.greatest <ℤ m))
-    ⊎ ((m : ℤ) × (range.to ≡ Some m) × (m <ℤ head.least)))
+IsOutside range head = LeavesOut range head.stamped head.least head.greatest
 
 -- a variable with this text is a word of the dictionary, and no number of it is listed
 abbrev pub IsMissing : List (List ℕ) → List ℕ → List ℕ → Type 0

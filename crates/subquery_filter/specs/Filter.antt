@@ -1,5 +1,5 @@
 -- What a filter knows of the words and the log types of an archive.
-use Rattle.std.specs.Prelude.{◌≡◌, ◌⊎◌, ◌<◌, ◌≤◌, ℕ, ℤ, List, All, Some, bit_or, false, map, slice_get, slice_index_or}
+use Rattle.std.specs.Prelude.{◌≡◌, ◌⊎◌, ◌<◌, ◌≤◌, ℕ, ℤ, List, All, Some, bit_and, bit_or, false, map, slice_get, slice_index_or}
 use Rattle.std.specs.List.{Contains}
 use Rattle.std.specs.Fmt.{signed_decimal}
 use Rattle.std.specs.Int.{cast_signed, w64}
@@ -14,6 +14,7 @@ use Rattle.row_codec.specs.Numbers.{numbers_of_row}
 use Rattle.query_plan.specs.declared.pieces.Piece.{Piece}
 use Rattle.query_plan.specs.Pieces.{IsCut, flat}
 use Rattle.subquery_filter.specs.declared.filter.Filter.{Filter}
+use Rattle.subquery_filter.specs.declared.marks.WordMarks.{WordMarks}
 use Rattle.subquery_filter.specs.declared.slots.Slot.{Slot}
 use Rattle.subquery_filter.specs.declared.slots.KindBits.{KindBits}
 use Rattle.subquery_filter.specs.declared.slots.TypeTest.{TypeTest}
@@ -53,10 +54,13 @@ pub record AreKindBits (tokens : List Token) (bits : KindBits) : Type 0 where
   pub decimal : Covers tokens Decimal bits.decimal
   pub word : Covers tokens Word bits.word
 
--- each word's marks stand at its number
-abbrev pub AreMarks : List Token → List (List ℕ) → List ℕ → Type 0
-AreMarks tokens words marks =
-    (n : ℕ) (text : List ℕ) → slice_get words n ≡ Some text → Marks tokens text (slice_index_or marks n 0)
+-- the marks that stand behind the low bits of a number
+abbrev pub marks_at : WordMarks → ℕ → ℕ
+marks_at marks n = slice_index_or marks.table.items (bit_and n marks.mask) 0
+
+-- each word's marks stand behind its number, and maybe more
+abbrev pub AreMarks : List Token → List (List ℕ) → WordMarks → Type 0
+AreMarks tokens words marks = (n : ℕ) (text : List ℕ) → slice_get words n ≡ Some text → Marks tokens text (marks_at marks n)
 
 -- the marks of the whole numbers whose words are small stand at their words
 abbrev pub AreSmall : List Token → List ℕ → Type 0
@@ -109,19 +113,30 @@ AreTests ps tokens types slots tests =
 
 -- ---- the filter
 
--- The filter is one of the pattern with these pieces, over an archive with these log types and words. The
--- words are marked where a slot of a word is listed.
-pub record IsFilter (ps : List Piece) (types words : List (List ℕ)) (f : Filter) : Type 0 where
+-- the texts of the tokens, in their order
+abbrev pub AreTexts : List Token → List (List ℕ) → Type 0
+AreTexts tokens texts = (j : ℕ) (k : Token) → slice_get tokens j ≡ Some k → slice_get texts j ≡ Some k.text
+
+-- The filter is one of the pattern with these pieces, over an archive with these log types. Where a slot of a
+-- word is listed, its needles are the texts of all tokens.
+pub record AsksTypes (ps : List Piece) (types : List (List ℕ)) (f : Filter) : Type 0 where
   pub cut : IsCut ps
   pub are : All (λ k. IsTokenOf ps k.matcher.items) f.tokens.items
   pub wanted : IsWanted f.tokens.items f.wanted
   pub tests : AreTests ps f.tokens.items types f.slots.items f.tests.items
-  pub marks :
+  pub needles :
       (at : ℕ) (slot : Slot) → slice_get f.slots.items at ≡ Some slot → slot.kind ≡ Word
-      → AreMarks f.tokens.items words f.marks.items
+      → AreTexts f.tokens.items f.needles.items
   pub small : AreSmall f.tokens.items f.small.items
   pub stamps : AreStamps f.tokens.items f.stamps.items
   pub stamped : (pattern : ℕ) → Has f.stamped (slice_index_or f.stamps.items pattern 0)
+
+-- The same over an archive with these words too, which are marked where a slot of a word is listed.
+pub record IsFilter (ps : List Piece) (types words : List (List ℕ)) (f : Filter) : Type 0 where
+  pub asks : AsksTypes ps types f
+  pub marks :
+      (at : ℕ) (slot : Slot) → slice_get f.slots.items at ≡ Some slot → slot.kind ≡ Word
+      → AreMarks f.tokens.items words f.marks
 
 -- the pattern matches no message of a row that is rejected, and each one of a row that is certain
 abbrev pub IsRowVerdict : List Piece → List (List ℕ) → List (List ℕ) → Row → Verdict → Type 0

@@ -1,5 +1,5 @@
 -- What the parts of a filter tell each other.
-use Rattle.std.specs.Prelude.{◌≡◌, ◌⊎◌, ◌+◌, ◌<◌, ◌≤◌, ◌&&◌, ◌==◌, ℕ, Bool, true, false, List, [], ◌∷◌, All, Some, drop, if◌then◌else◌, length, slice_get, slice_index_or}
+use Rattle.std.specs.Prelude.{◌≡◌, ◌⊎◌, ◌+◌, ◌<◌, ◌≤◌, ◌&&◌, ◌==◌, ℕ, Bool, true, false, List, [], ◌∷◌, All, Some, bit_and, drop, if◌then◌else◌, length, slice_get, slice_index_or}
 use Rattle.std.specs.List.{Contains}
 use Rattle.std.specs.Int.{is_in_range}
 use Rattle.column_store.specs.declared.row.Row.{Row}
@@ -9,12 +9,13 @@ use Rattle.wild_match.specs.Matches.{Match}
 use Rattle.row_codec.specs.Means.{HasStampText, HasWord}
 use Rattle.query_plan.specs.declared.pieces.Piece.{Piece}
 use Rattle.subquery_filter.specs.declared.filter.Filter.{Filter}
+use Rattle.subquery_filter.specs.declared.marks.WordMarks.{WordMarks}
 use Rattle.subquery_filter.specs.declared.slots.KindBits.{KindBits}
 use Rattle.subquery_filter.specs.declared.slots.Slot.{Slot}
 use Rattle.subquery_filter.specs.declared.slots.TypeTest.{TypeTest}
 use Rattle.subquery_filter.specs.declared.token.Token.{Token}
 use Rattle.subquery_filter.specs.declared.verdicts.Verdict.TheVariants.{Rejected, Tried}
-use Rattle.subquery_filter.specs.Filter.{AreKindBits, AreMarks, AreSmall, AreStamps, Has, IsSlot, Marks}
+use Rattle.subquery_filter.specs.Filter.{AreKindBits, AreMarks, AreSmall, AreStamps, Has, IsSlot, Marks, marks_at}
 use Rattle.subquery_filter.specs.StepsLetters.{kinds_in}
 use Rattle.subquery_filter.specs.Tokens.{IsTokenOf}
 
@@ -27,8 +28,21 @@ abbrev pub HasAll : List Token → ℕ → Type 0
 HasAll tokens bits = All (λ k. Has bits k.bit) tokens
 
 -- the marks of each of these words are among the bits
-abbrev pub HasEach : List ℕ → List ℕ → ℕ → Type 0
-HasEach marks numbers bits = (n : ℕ) → Contains numbers n → Has bits (slice_index_or marks n 0)
+abbrev pub HasEach : WordMarks → List ℕ → ℕ → Type 0
+HasEach marks numbers bits = (n : ℕ) → Contains numbers n → Has bits (marks_at marks n)
+
+-- the bit stands behind the low bits of each of these numbers
+abbrev pub HasAt : List ℕ → ℕ → ℕ → List ℕ → Type 0
+HasAt table mask bit numbers = (n : ℕ) → Contains numbers n → Has (slice_index_or table (bit_and n mask) 0) bit
+
+-- what stood in the table still does
+abbrev pub KeepsBits : List ℕ → List ℕ → Type 0
+KeepsBits old new = (at : ℕ) → Has (slice_index_or new at 0) (slice_index_or old at 0)
+
+-- the bit of each token stands behind the numbers of the list at its place
+abbrev pub HasLists : List ℕ → ℕ → List Token → List (List ℕ) → Type 0
+HasLists table mask tokens lists =
+    (j : ℕ) (k : Token) → slice_get tokens j ≡ Some k → HasAt table mask k.bit (slice_index_or lists j [])
 
 -- the slots so far stay where they are
 abbrev pub Stays : List Slot → List Slot → Type 0
@@ -64,7 +78,7 @@ is_number_part point t = is_digits point (unsigned t)
 -- these
 abbrev pub SlotGives : Filter → Slot → ℕ → ℕ → Type 0
 SlotGives f slot word bits =
-    (words : List (List ℕ)) (variable : List ℕ) → (slot.kind ≡ Word → AreMarks f.tokens.items words f.marks.items)
+    (words : List (List ℕ)) (variable : List ℕ) → (slot.kind ≡ Word → AreMarks f.tokens.items words f.marks)
     → AreSmall f.tokens.items f.small.items → HasWord words slot.kind variable word
     → All (λ k. Match k.matcher.items variable → Has slot.bits k.bit → Has bits k.bit) f.tokens.items
 

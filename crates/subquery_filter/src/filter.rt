@@ -7,20 +7,25 @@ ghost use Rattle.wild_match.specs.declared.pattern.Item.{Item};
 ghost use Rattle.row_codec.specs.Means.{HasStampText, HasWord};
 ghost use Rattle.query_plan.specs.Laws.{IsSearched};
 ghost use Rattle.query_plan.specs.Pieces.{wide_pieces};
+ghost use Rattle.query_plan.specs.declared.pieces.Piece.{Piece};
 ghost use Rattle.subquery_filter.specs.declared.slots.Slot.{Slot};
-ghost use Rattle.subquery_filter.specs.Filter.{AreMarks, AreSmall, AreStamps, Has, HasNoMatch, IsFilter, IsRowVerdict, Marks};
+ghost use Rattle.subquery_filter.specs.Filter.{AreMarks, AreSmall, AreStamps, AsksTypes, Has, HasNoMatch, IsFilter, IsRowVerdict, Marks};
+ghost use Rattle.subquery_filter.specs.Found.{HaveAll};
 ghost use Rattle.subquery_filter.specs.StepsFilter.{HasEach, IsShut, Lacks, LacksAll, SlotGives, SlotIs, slot_may};
 
 use crate::bits::{has, mark_at};
 use crate::laws::{rows_bring_tokens, verdicts_hold};
+use crate::marks::WordMarks;
+use crate::needles::{lists_with, needles_of};
 use crate::numbers::{decimal_bits, kind_bits, mark_small, whole_bits};
 use crate::slots::{Slot, TypeTest, has_kind, test_types};
 use crate::stamps::{any_stamp, mark_stamps, stamp_bits};
 use crate::token::Token;
-use crate::tokens::{all_bits, marks_of, tokens_of};
+use crate::tokens::{all_bits, tokens_of};
 use crate::verdicts::Verdict;
 use column_store::RowRef;
 use logtype_text::Kind;
+use plain_list::{NumberList, Text};
 use query_plan::Plan;
 use row_codec::Names;
 use std::alloc::{AllocError, Global};
@@ -38,8 +43,10 @@ pub struct Filter {
     /// What is known of the log types, by their numbers, and their slots.
     tests: Vec<TypeTest>,
     slots: Vec<Slot>,
-    /// The bits of the words, by their numbers, where a slot of a word is listed.
-    marks: Vec<u8>,
+    /// The texts that are looked for in words, where a slot of a word is listed.
+    needles: Vec<Text>,
+    /// The bits of the words, where a slot of a word is listed.
+    marks: WordMarks,
     /// The bits of small whole numbers, where a slot of a whole number is listed.
     small: Vec<u8>,
     /// The bits that stamps may bring, by the numbers of their patterns, and those of all patterns.
@@ -48,48 +55,14 @@ pub struct Filter {
 }
 
 /// The bits that listed words have.
-fn bits_of_list(marks: &[u8], numbers: &[u32]) -> u8
+fn bits_of_list(marks: &WordMarks, numbers: &[u32]) -> u8
     ensures { HasEach marks.now numbers.now result }
 {
     let mut bits = 0;
     for number in numbers {
-        bits |= mark_at(marks, u64::from(*number));
+        bits |= marks.at(u64::from(*number));
     }
     bits
-}
-
-/// The bits of all words, by their numbers.
-fn mark_words<N: Names>(alloc: Global, tokens: &[Token], names: &N) -> Result<Vec<u8>, AllocError>
-    ensures { IfOk result (λ marks. AreMarks tokens.now (N.words names.now) marks.items) }
-{
-    let mut marks = Vec::new(alloc);
-    for number in 0..u32::MAX {
-        let Some(text) = names.word_text(number) else {
-            return Ok(marks);
-        };
-        marks.push(marks_of(tokens, text))?;
-    }
-    if let Some(text) = names.word_text(u32::MAX) {
-        marks.push(marks_of(tokens, text))?;
-    }
-    Ok(marks)
-}
-
-/// The bits of all words where a slot of a word is listed, and none otherwise.
-fn mark_needed<N: Names>(
-    alloc: Global,
-    slots: &[Slot],
-    tokens: &[Token],
-    names: &N,
-) -> Result<Vec<u8>, AllocError>
-    ensures { IfOk result (λ marks. (at : ℕ) (slot : Slot) → slice_get slots.now at ≡ Some slot
-        → slot.kind ≡ Word → AreMarks tokens.now (N.words names.now) marks.items) }
-{
-    if !has_kind(slots, Kind::Word) {
-        return Ok(Vec::new(alloc));
-    }
-    let marks = mark_words(alloc, tokens, names)?;
-    Ok(marks)
 }
 
 /// The bits of small whole numbers where a slot of a whole number is listed, and none otherwise.
@@ -112,9 +85,9 @@ fn word_at(words: &[u64], place: usize) -> Option<u64>
 }
 
 impl Filter {
-    /// Asks all log types of an archive, and all its words where a log type needs one.
-    pub fn new<N: Names>(alloc: Global, plan: &Plan, names: &N) -> Result<Filter, AllocError>
-        ensures { IfOk result (IsFilter plan.now (N.types names.now) (N.words names.now)) }
+    /// Asks all log types of an archive, and no word.
+    pub fn begin<N: Names>(alloc: Global, plan: &Plan, names: &N) -> Result<Filter, AllocError>
+        ensures { IfOk result (AsksTypes plan.now (N.types names.now)) }
     {
         let tokens = tokens_of(alloc, plan.pieces())?;
         let looked = tokens.as_slice();
@@ -128,7 +101,7 @@ impl Filter {
             &mut slots,
             &mut tests,
         )?;
-        let marks = mark_needed(alloc, slots.as_slice(), looked, names)?;
+        let needles = needles_of(alloc, slots.as_slice(), looked)?;
         let small = small_needed(alloc, slots.as_slice(), looked)?;
         let stamps = mark_stamps(alloc, looked)?;
         let wanted = all_bits(looked);
@@ -138,11 +111,41 @@ impl Filter {
             wanted,
             tests,
             slots,
-            marks,
+            needles,
+            marks: WordMarks::none(alloc),
             small,
             stamps,
             stamped,
         })
+    }
+
+    /// The texts that have to be looked for in words. There are none where no log type asks its words.
+    pub fn needles(&self) -> &[Text]
+        ensures { result.now ≡ self.now.needles.items }
+    {
+        self.needles.as_slice()
+    }
+
+    /// Marks the words: for each needle there is a list of the numbers of the words in which it stands.
+    /// Where there are no needles, no lists are needed.
+    ///
+    /// Takes memory for the marks: some bytes for each number, and at most one for each word.
+    pub fn mark(self, alloc: Global, lists: &[NumberList]) -> Result<Filter, AllocError>
+        ensures { IfOk result (λ f. (ps : List Piece) (types : List (List ℕ))
+            (words : List (List ℕ)) → AsksTypes ps types self
+            → HaveAll self.needles.items words lists.now → IsFilter ps types words f) }
+    {
+        let marks = WordMarks::of(alloc, self.tokens.as_slice(), lists)?;
+        Ok(Filter { marks, ..self })
+    }
+
+    /// Asks all log types of an archive, and all its words where a log type needs one.
+    pub fn new<N: Names>(alloc: Global, plan: &Plan, names: &N) -> Result<Filter, AllocError>
+        ensures { IfOk result (IsFilter plan.now (N.types names.now) (N.words names.now)) }
+    {
+        let filter = Filter::begin(alloc, plan, names)?;
+        let lists = lists_with(alloc, filter.needles(), names)?;
+        filter.mark(alloc, lists.as_slice())
     }
 
     /// What is known of a log type.
@@ -165,12 +168,12 @@ impl Filter {
     #[inline]
     fn variable_bits(&self, kind: Kind, word: u64) -> u8
         ensures { (words : List (List ℕ)) (variable : List ℕ)
-            → (kind ≡ Word → AreMarks self.now.tokens.items words self.now.marks.items)
+            → (kind ≡ Word → AreMarks self.now.tokens.items words self.now.marks)
             → AreSmall self.now.tokens.items self.now.small.items
             → HasWord words kind variable word → Marks self.now.tokens.items variable result }
     {
         match kind {
-            Kind::Word => mark_at(self.marks.as_slice(), word),
+            Kind::Word => self.marks.at(word),
             Kind::Whole => whole_bits(self.tokens.as_slice(), self.small.as_slice(), word),
             Kind::Decimal => decimal_bits(self.tokens.as_slice(), word),
         }
@@ -329,7 +332,7 @@ impl Filter {
         if self.some_may(types, 0) {
             return true;
         }
-        let brought = bits_of_list(self.marks.as_slice(), words);
+        let brought = bits_of_list(&self.marks, words);
         self.some_may(types, brought)
     }
 }

@@ -1,9 +1,11 @@
 //! Which segments are barren.
-ghost use Rattle.std.specs.Prelude.{◌≡◌, ◌⊎◌, ◌↔◌, ℕ, List, IsTrue, false, true};
+ghost use Rattle.std.specs.Prelude.{◌≡◌, ◌⊎◌, ◌↔◌, ◌<◌, ◌<ℤ◌, ℕ, ℤ, List, IsTrue, None, Some, false, length, slice_index_or, true};
 ghost use Rattle.std.specs.List.Sorted.{IsStrictlyIncreasing};
 ghost use Rattle.plain_list.specs.Texts.{AreDistinct};
 ghost use Rattle.segment_format.specs.Layout.{IsHead};
-ghost use Rattle.subquery_filter.specs.Barren.{HasConstants, HoldsConstants, IsBarren, IsBounded, IsMissing, IsOutside, LacksTypes, LacksWord};
+ghost use Rattle.subquery_filter.specs.Barren.{HasConstants, HoldsConstants, IsBarren, IsBounded, IsMissing, LacksTypes, LacksWord, LeavesOut};
+ghost use Rattle.subquery_filter.specs.Found.{AreNumbers, IsNumber};
+ghost use Rattle.query_plan.specs.Pieces.{Free, needed_of};
 ghost use Rattle.subquery_filter.specs.Runs.{HoldsRun};
 
 use crate::runs::holds_run;
@@ -30,24 +32,75 @@ pub fn barren<N: Names>(head: &Head, plan: &Plan, range: &Range, names: &N) -> b
         → IsTrue result ↔ IsBarren plan.now range.now (N.types names.now) (N.words names.now)
         head.now }
 {
-    if head.rows == 0 || is_outside(range, head) {
+    if is_outside(head.rows, head.stamped, head.least, head.greatest, range) {
         return true;
     }
     lacks_word(plan, head.words.as_slice(), names)
         || lacks_types(plan, head.types.as_slice(), names)
 }
 
-/// Whether a bound is given, and leaves out all rows.
-fn is_outside(range: &Range, head: &Head) -> bool
-    ensures { IsTrue result ↔ (IsBounded range.now × IsOutside range.now head.now) }
+/// The same as [`barren`], where the numbers of the needed words were found before: for each needed word
+/// of the plan, in their order, its number, and none where it is no word.
+///
+/// Costs a binary search for each needed variable, and then a walk over the texts of the head's log
+/// types up to the first that has all.
+pub fn barren_by<N: Names>(
+    head: &Head,
+    plan: &Plan,
+    range: &Range,
+    names: &N,
+    found: &[Option<u32>],
+) -> bool
+    requires { length found.now ≡ length (needed_of Free plan.now) }
+    ensures { (words : List (List ℕ)) → IsHead head.now → AreDistinct words
+        → AreNumbers words (needed_of Free plan.now) found.now
+        → IsTrue result ↔ IsBarren plan.now range.now (N.types names.now) words head.now }
+{
+    if is_outside(head.rows, head.stamped, head.least, head.greatest, range) {
+        return true;
+    }
+    lacks_found(plan, head.words.as_slice(), found)
+        || lacks_types(plan, head.types.as_slice(), names)
+}
+
+/// Whether a segment has no rows, or a bound is given that leaves out all of them. These are the rules
+/// that need no list of its head.
+pub fn is_outside(rows: u32, stamped: bool, least: i64, greatest: i64, range: &Range) -> bool
+    ensures { IsTrue result
+        ↔ ((rows ≡ 0) ⊎ (IsBounded range.now × LeavesOut range.now stamped least greatest)) }
+{
+    rows == 0 || leaves_out(range, stamped, least, greatest)
+}
+
+/// Whether a bound is given, and leaves out all moments from the least to the greatest, or no row has a
+/// stamp.
+fn leaves_out(range: &Range, stamped: bool, least: i64, greatest: i64) -> bool
+    ensures { IsTrue result
+        ↔ (IsBounded range.now × LeavesOut range.now stamped least greatest) }
 {
     match (range.from, range.to) {
         (None, None) => false,
-        (from, to) => {
-            !head.stamped
-                || from.is_some_and(|least| head.greatest < least)
-                || to.is_some_and(|greatest| greatest < head.least)
-        }
+        (from, to) => { !stamped || is_past(from, greatest) || is_ahead(to, least) }
+    }
+}
+
+/// Whether a least moment is asked for, and the greatest there is lies before it.
+fn is_past(from: Option<i64>, greatest: i64) -> bool
+    ensures { IsTrue result ↔ ((m : ℤ) × (from ≡ Some m) × (greatest <ℤ m)) }
+{
+    match from {
+        Some(bound) => greatest < bound,
+        None => false,
+    }
+}
+
+/// Whether a greatest moment is asked for, and the least there is lies behind it.
+fn is_ahead(to: Option<i64>, least: i64) -> bool
+    ensures { IsTrue result ↔ ((m : ℤ) × (to ≡ Some m) × (m <ℤ least)) }
+{
+    match to {
+        Some(bound) => bound < least,
+        None => false,
     }
 }
 
@@ -82,6 +135,56 @@ fn lacks_word<N: Names>(plan: &Plan, listed: &[u32], names: &N) -> bool
     let variables = plan.needed_variables();
     for place in 0..words.len() {
         if is_missing_variable(variables[place], words[place].as_slice(), listed, names) {
+            return true;
+        }
+    }
+    false
+}
+
+/// Whether a needed variable is to be a word of the dictionary, and the list has not its number.
+fn is_unlisted(text: &[u8], number: Option<u32>, listed: &[u32]) -> bool
+    ensures { (words : List (List ℕ)) → IsStrictlyIncreasing listed.now → AreDistinct words
+        → IsNumber words text.now number
+        → IsTrue result ↔ IsMissing words listed.now text.now }
+{
+    let Coded::Word = encode(text) else {
+        return false;
+    };
+    match number {
+        Some(number) => listed.binary_search(&number).is_err(),
+        None => true,
+    }
+}
+
+/// The same of a needed word, which is a variable or not.
+fn is_unlisted_variable(variable: bool, text: &[u8], number: Option<u32>, listed: &[u32]) -> bool
+    ensures { (words : List (List ℕ)) → IsStrictlyIncreasing listed.now → AreDistinct words
+        → IsNumber words text.now number
+        → IsTrue result ↔ ((variable ≡ true) × IsMissing words listed.now text.now) }
+{
+    variable && is_unlisted(text, number, listed)
+}
+
+/// The number that was found of the needed word at a place.
+fn number_at(found: &[Option<u32>], place: usize) -> Option<u32>
+    requires { place < length found.now }
+    ensures { result ≡ slice_index_or found.now place None }
+{
+    found[place]
+}
+
+/// Whether the number of some needed variable is missing.
+fn lacks_found(plan: &Plan, listed: &[u32], found: &[Option<u32>]) -> bool
+    requires { length found.now ≡ length (needed_of Free plan.now) }
+    ensures { (words : List (List ℕ)) → IsStrictlyIncreasing listed.now → AreDistinct words
+        → AreNumbers words (needed_of Free plan.now) found.now
+        → IsTrue result ↔ LacksWord plan.now words listed.now }
+{
+    let words = plan.needed().as_slice();
+    let variables = plan.needed_variables();
+    for place in 0..words.len() {
+        let number = number_at(found, place);
+        if is_unlisted_variable(variables[place], words[place].as_slice(), number, listed) {
             return true;
         }
     }

@@ -1,9 +1,7 @@
-use Rattle.std.proofs.Common.{subst}
-use Rattle.subquery_filter.specs.StepsFilter.{HasEach}
 use Rattle.subquery_filter.proofs.FilterLemmas.{none_may}
 use Rattle.subquery_filter.proofs.filter.Filter.may_match.Goals as goal
 
 pub returns : goal.returns
 returns c = λ shut p names texts searched is.
     none_may c.verdicts_hold.ensures.rejected c.rows_bring_tokens.ensures p searched names texts c.args.self.now is c.args.types.now c.args.words.now c.bits_of_list-brought.result
-    (subst (λ m. HasEach m c.args.words.now c.bits_of_list-brought.result) c.as_slice.ensures.value c.bits_of_list-brought.ensures) (c.some_may-2.ensures shut)
+    c.bits_of_list-brought.ensures (c.some_may-2.ensures shut)

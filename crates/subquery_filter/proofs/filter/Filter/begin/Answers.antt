@@ -1,0 +1,30 @@
+use Rattle.std.proofs.Common.{◌≡◌, ℕ, List, subst}
+use Rattle.std.specs.Prelude.{Some, slice_get, slice_index_or}
+use Rattle.logtype_text.specs.declared.symbols.Kind.TheVariants.{Word}
+use Rattle.query_plan.specs.Pieces.{IsCut}
+use Rattle.subquery_filter.specs.declared.slots.Slot.{Slot}
+use Rattle.subquery_filter.specs.declared.token.Token.{Token}
+use Rattle.subquery_filter.specs.Filter.{AreSmall, AreStamps, AreTests, AreTexts, Has, IsWanted}
+use Rattle.subquery_filter.specs.StepsFilter.{AreTokens}
+use Rattle.subquery_filter.proofs.filter.Filter.begin.Goals as goal
+
+pub returns : goal.returns
+returns g c =
+    let types = g.N.Names.types c.args.names.now in
+    let tokens = c.in_ok-tokens.tokens.items in
+    let slots = c.test_types.new.slots.items in
+    let tests = c.test_types.new.tests.items in
+    let looked = c.as_slice-looked.ensures.value in
+    let needles = c.in_ok-needles.needles.items in
+    record {
+      cut = subst IsCut c.pieces.ensures.pieces c.pieces.ensures.cut;
+      are = subst (λ ps. AreTokens ps tokens) c.pieces.ensures.pieces c.in_ok-tokens.ensures;
+      wanted = subst (λ (l : List Token). IsWanted l c.all_bits-wanted.result) looked c.all_bits-wanted.ensures.only;
+      tests = subst (λ (l : List Token). AreTests c.args.plan.now l types slots tests) looked (c.in_ok-test_types.ensures c.kind_bits.ensures);
+      needles =
+          subst (λ (l : List Token). (at : ℕ) (slot : Slot) → slice_get slots at ≡ Some slot → slot.kind ≡ Word → AreTexts l needles) looked
+          (subst (λ (x : List Slot). (at : ℕ) (slot : Slot) → slice_get x at ≡ Some slot → slot.kind ≡ Word → AreTexts c.as_slice-looked.result.now needles) c.as_slice.ensures.value c.in_ok-needles.ensures);
+      small = subst (λ (l : List Token). AreSmall l c.in_ok-small.small.items) looked c.in_ok-small.ensures;
+      stamps = subst (λ (l : List Token). AreStamps l c.in_ok-stamps.stamps.items) looked c.in_ok-stamps.ensures;
+      stamped = subst (λ (l : List ℕ). (pattern : ℕ) → Has c.any_stamp-stamped.result (slice_index_or l pattern 0)) c.as_slice-3.ensures.value c.any_stamp-stamped.ensures;
+    }
