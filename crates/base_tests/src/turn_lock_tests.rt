@@ -4,7 +4,7 @@ ghost use Rattle.std.specs.Thread.{IsSync};
 ghost use mathlib.Core.List.{IsPrefix};
 ghost use Rattle.step_count.specs.Opens.{OpensFor};
 ghost use Rattle.turn_lock.specs.declared.board.About.{About};
-ghost use Rattle.turn_lock.specs.Words.{number_of, seen, about, IsReady, IsStill};
+ghost use Rattle.turn_lock.specs.Words.{lock_of, number_of, seen, about, IsReady, IsStill};
 
 use std::alloc::Global;
 use std::marker::Brand;
@@ -109,8 +109,32 @@ fn number_at<R: Wait, L: Ledger>(
     number
 }
 
-/// What one pass adds, another reads once it has joined a note: the two numbers, of which the limit
-/// leaves room for the first, and the first as the reader finds it.
+/// What the writer adds, as the reader finds it once it has joined a note. None where the limit refuses it,
+/// or leaves room for another.
+fn passed_on<R: Wait, L: Ledger>(
+    rt: &R,
+    writer: &mut Pass<'_, Numbers>,
+    reader: &mut Pass<'_, Numbers>,
+    turns: &mut Steps<L>,
+) -> Option<u64>
+    requires ready { IsReady writer.old × IsReady reader.old }
+    requires lock { lock_of writer.old ≡ lock_of reader.old }
+    ensures writer { IsStill writer.old writer.new × IsReady writer.new }
+    ensures reader { IsStill reader.old reader.new × IsReady reader.new }
+{
+    if writer.number() > 77 {
+        return None;
+    }
+    let place = added(writer, rt, 77, turns)?;
+    let refused = added(writer, rt, 78, turns);
+    let note = writer.note();
+    reader.join(note);
+    let number = number_at(reader, rt, place, turns);
+    refused.is_none().then_some(number)
+}
+
+/// What one pass adds, another reads once it has joined a note: the number of the reader, what it finds, and
+/// all that was added within a limit of one.
 fn told<R: Wait, L: Ledger>(rt: &R, alloc: Global, blank: Blank) -> Option<(u64, u64, Vec<u64>)>
     requires { OpensFor blank L.name L.parts }
 {
@@ -118,22 +142,12 @@ fn told<R: Wait, L: Ledger>(rt: &R, alloc: Global, blank: Blank) -> Option<(u64,
     let (lock, mut maker) = TurnLock::new(alloc, Numbers::new(alloc, 1), 10).ok()?;
     let mut writer = maker.pass(&lock);
     let mut reader = maker.pass(&lock);
-    if writer.number() > 77 {
-        return None;
-    }
-    let place = added(&mut writer, rt, 77, &mut turns)?;
-    let refused = added(&mut writer, rt, 78, &mut turns);
-    let note = writer.note();
-    reader.join(note);
-    let number = number_at(&mut reader, rt, place, &mut turns);
+    let found = passed_on(rt, &mut writer, &mut reader, &mut turns);
     let last = reader.number();
     maker.join(writer);
     maker.join(reader);
-    let numbers = lock.close(maker);
-    if refused.is_some() {
-        return None;
-    }
-    Some((last, number, numbers.all))
+    let numbers = lock.close(maker).all;
+    Some((last, found?, numbers))
 }
 
 #[test]
