@@ -2,9 +2,7 @@
 
 use crate::archive::{ARCHIVE, changed, disk};
 use archive_open::{Archive, ArchiveRefusal, PlainBooks, SegmentPlace, open_archive};
-use archive_places::{
-    Places, SegmentFront, heads_stand, load_segment, open_places, words_stand,
-};
+use archive_places::{Places, SegmentFront, heads_stand, load_segment, open_places, words_stand};
 use segment_pages::PageRefusal;
 use std::alloc::{AllocError, Global};
 use std::test::Fail;
@@ -55,12 +53,14 @@ fn has_type(places: &Places) -> bool {
 
 fn opens(alloc: Global) -> Result<bool, ArchiveRefusal> {
     let places = open(alloc, &ARCHIVE)?;
-    Ok(has_words(&places)
-        && has_file(&places)
-        && has_type(&places)
-        && places.header.version == 1
-        && places.entries == 6
-        && places.end == 360)
+    Ok(
+        has_words(&places)
+            && has_file(&places)
+            && has_type(&places)
+            && places.header.version == 1
+            && places.entries == 6
+            && places.end == 360,
+    )
 }
 
 #[test]
@@ -225,7 +225,7 @@ fn changed_bytes_are_damaged_where_opening_reads_them(rt: HostRuntime) -> Result
 }
 
 // How many calls of the disk it takes to open the archive.
-const CALLS: u64 = 21;
+const CALLS: u64 = 22;
 
 // Whether opening answers a fault where this call of the disk fails.
 fn is_fault(alloc: Global, call: u64) -> Result<bool, AllocError> {

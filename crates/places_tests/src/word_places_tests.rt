@@ -99,12 +99,14 @@ fn finds_each(alloc: Global) -> Result<bool, HoldRefusal> {
     let [within, whole, none] = lists.as_slice() else {
         return Ok(false);
     };
-    Ok(within.as_slice() == [0, 2, 3].as_slice()
-        && whole.as_slice() == [1].as_slice()
-        && none.as_slice().is_empty()
-        && word_found(whole.as_slice()) == Some(1)
-        && word_found(none.as_slice()).is_none()
-        && disk.calls() == WORDS.len())
+    Ok(
+        within.as_slice() == [0, 2, 3].as_slice()
+            && whole.as_slice() == [1].as_slice()
+            && none.as_slice().is_empty()
+            && word_found(whole.as_slice()) == Some(1)
+            && word_found(none.as_slice()).is_none()
+            && disk.calls() == WORDS.len(),
+    )
 }
 
 #[test]
@@ -123,7 +125,10 @@ fn refusal(alloc: Global, bytes: &[u8], fails: &[u64]) -> Option<HoldRefusal> {
 fn each_read_of_a_pass_may_fail(rt: HostRuntime) -> Result<(), Fail> {
     for call in 0..3 {
         let told = refusal(rt.alloc(), &ARCHIVE, &[call]);
-        assert!(rt; told == (call < 2).then_some(HoldRefusal::DiskFault), "{call}");
+        assert!(rt;
+            told == (call < 2).then_some(HoldRefusal::DiskFault),
+            "{call}"
+        );
     }
     Ok(())
 }
@@ -173,12 +178,14 @@ fn holds_by_record(alloc: Global) -> Result<bool, HoldRefusal> {
     held.hold(&mut disk, 3)?;
     held.hold(&mut disk, 4)?;
     held.hold(&mut disk, 9)?;
-    Ok(lends(&held, &[b"", b"", b"", b"alphabet", b""])
-        && held.word_number(b"alphabet") == Some(3)
-        && held.word_number(b"alpha").is_none()
-        && held.record_count() == 2
-        && !held.micro()
-        && disk.calls() == 1)
+    Ok(
+        lends(&held, &[b"", b"", b"", b"alphabet", b""])
+            && held.word_number(b"alphabet") == Some(3)
+            && held.word_number(b"alpha").is_none()
+            && held.record_count() == 2
+            && !held.micro()
+            && disk.calls() == 1,
+    )
 }
 
 #[test]

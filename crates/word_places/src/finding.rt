@@ -78,7 +78,14 @@ fn add_each(
     for index in 0..needles.len() {
         let needle = needle_at(needles, index);
         let mut numbers = take_list(alloc, lists, index);
-        let whole = add_holders(bytes, first, count, needle.fit, &needle.finder, &mut numbers)?;
+        let whole = add_holders(
+            bytes,
+            first,
+            count,
+            needle.fit,
+            &needle.finder,
+            &mut numbers,
+        )?;
         put_list(lists, index, numbers);
         if !whole {
             return Ok(false);

@@ -1,5 +1,5 @@
 //! Reading the words that are wanted, each with its record.
-ghost use Rattle.std.specs.Prelude.{◌≡◌, ◌<◌, length, map, IfOk, OnOk, IsErrOf, IfSome, IsNone, slice_get, Some, None, slice_index_or, []};
+ghost use Rattle.std.specs.Prelude.{◌≡◌, ◌<◌, length, OnOk, IsErrOf, IfSome, IsNone, slice_get, Some, None, slice_index_or, []};
 ghost use Rattle.log_seams.specs.Disk.{Rests};
 ghost use Rattle.log_seams.specs.Outside.{CountsOf};
 ghost use Rattle.column_store.specs.Row.{row_of};

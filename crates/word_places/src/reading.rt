@@ -1,5 +1,5 @@
 //! Reading the payload of a record of words.
-ghost use Rattle.std.specs.Prelude.{◌≡◌, ◌≤◌, ℕ, List, length, take, drop, IfOk, IfSome, OnOk, IsErrOf};
+ghost use Rattle.std.specs.Prelude.{◌≡◌, ◌≤◌, length, take, IfOk, IfSome, OnOk, IsErrOf};
 ghost use Rattle.log_seams.specs.Disk.{ReadsOnly, Rests};
 ghost use Rattle.log_seams.specs.Outside.{CountsOf};
 ghost use Rattle.word_places.specs.Places.{OfTexts, Spells, payload_in};
