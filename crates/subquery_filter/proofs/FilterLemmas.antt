@@ -32,8 +32,8 @@ use Rattle.subquery_filter.specs.declared.slots.TypeTest.{TypeTest}
 use Rattle.subquery_filter.specs.declared.token.Token.{Token}
 use Rattle.subquery_filter.specs.declared.verdicts.Verdict.{Verdict}
 use Rattle.subquery_filter.specs.declared.verdicts.Verdict.TheVariants.{Rejected, Certain, Tried}
-use Rattle.subquery_filter.specs.Filter.{AreSmall, AreTests, Covers, Has, HasNoMatch, IsFilter, IsListed, IsRight, IsRowVerdict, IsSlot, IsTest, Marks, marks_at}
-use Rattle.subquery_filter.specs.StepsFilter.{AreTokens, HasEach, IsShut, Lacks, Stays, may_by}
+use Rattle.subquery_filter.specs.Filter.{AreSmall, AreTests, AsksTypes, Covers, Has, HasNoMatch, IsFilter, IsListed, IsRight, IsRowVerdict, IsSlot, IsTest, LacksAll, Marks, marks_at, may_by}
+use Rattle.subquery_filter.specs.StepsFilter.{AreTokens, HasEach, IsShut, Lacks, LacksTokens, Stays}
 use Rattle.subquery_filter.specs.StepsLetters.{kinds_in}
 use Rattle.subquery_filter.specs.Tokens.{IsTokenOf, RowsBringTokens}
 use Rattle.subquery_filter.specs.Verdicts.{CertainAlwaysMatches, IsCertain, IsRejected, RejectedNeverMatches}
@@ -259,7 +259,7 @@ lacks_bits law ps types words f is row test bits at tried has stamp variables la
       ]
     ]))
 
-pub row_lacks : RowsBringTokens → (p : List Item) (types words : List (List ℕ)) (f : Filter) → IsFilter (wide_pieces p) types words f → (row : Row) (test : TypeTest)
+row_lacks : RowsBringTokens → (p : List Item) (types words : List (List ℕ)) (f : Filter) → IsFilter (wide_pieces p) types words f → (row : Row) (test : TypeTest)
     → slice_get f.tests.items row.log_type ≡ Some test → test.verdict ≡ Tried → Lacks f test row → IsRowVerdict (wide_pieces p) types words row Rejected
 row_lacks law p types words f is row test at tried h =
     lacks_bits law (wide_pieces p) types words f is row test h.bits at tried h.has (h.stamp is.asks.stamps)
@@ -276,20 +276,20 @@ rejected_row law p searched types words f is row test at rejected version messag
     let right = subst (IsRight (wide_pieces p) text) rejected (is.asks.tests row.log_type text test canonical.means.typed at).right in
     law version p row types words canonical.means.parts message searched canonical.means.typed (right canonical.means.parts refl) canonical
 
-certain_row : CertainAlwaysMatches → (p : List Item) (types words : List (List ℕ)) (f : Filter) → IsFilter (wide_pieces p) types words f → (row : Row) (test : TypeTest)
+certain_row : CertainAlwaysMatches → (p : List Item) (types words : List (List ℕ)) (f : Filter) → AsksTypes (wide_pieces p) types f → (row : Row) (test : TypeTest)
     → slice_get f.tests.items row.log_type ≡ Some test → test.verdict ≡ Certain → IsRowVerdict (wide_pieces p) types words row Certain
-certain_row law p types words f is row test at certain message spelled =
+certain_row law p types words f asks row test at certain message spelled =
     let text = type_text (map symbol_of spelled.parts) in
-    let right = subst (IsRight (wide_pieces p) text) certain (is.asks.tests row.log_type text test spelled.typed at).right in
+    let right = subst (IsRight (wide_pieces p) text) certain (asks.tests row.log_type text test spelled.typed at).right in
     law (wide_pieces p) row types words spelled.parts message spelled.typed (right spelled.parts refl) spelled
 
 verdict_by : RejectedNeverMatches → CertainAlwaysMatches → (p : List Item) → IsSearched p → (types words : List (List ℕ)) (f : Filter) → IsFilter (wide_pieces p) types words f → (row : Row) (test : TypeTest) (v : Verdict)
     → slice_get f.tests.items row.log_type ≡ Some test → test.verdict ≡ v → IsRowVerdict (wide_pieces p) types words row v
 verdict_by rejected certain p searched types words f is row test Rejected at same = rejected_row rejected p searched types words f is row test at same
-verdict_by rejected certain p searched types words f is row test Certain at same = certain_row certain p types words f is row test at same
+verdict_by rejected certain p searched types words f is row test Certain at same = certain_row certain p types words f is.asks row test at same
 verdict_by rejected certain p searched types words f is row test Tried at same = tt
 
-pub row_verdict : RejectedNeverMatches → CertainAlwaysMatches → (p : List Item) → IsSearched p → (types words : List (List ℕ)) (f : Filter) → IsFilter (wide_pieces p) types words f → (row : Row) (test : TypeTest)
+row_verdict : RejectedNeverMatches → CertainAlwaysMatches → (p : List Item) → IsSearched p → (types words : List (List ℕ)) (f : Filter) → IsFilter (wide_pieces p) types words f → (row : Row) (test : TypeTest)
     → slice_get f.tests.items row.log_type ≡ Some test → IsRowVerdict (wide_pieces p) types words row test.verdict
 row_verdict rejected certain p searched types words f is row test at = verdict_by rejected certain p searched types words f is row test test.verdict at refl
 
@@ -311,6 +311,17 @@ stamp_may f types words ps is row bits has s stamped = λ j d lt fits.
     has_through bits f.stamped (slice_index_or f.tokens.items j d).bit has
     (has_through f.stamped (slice_index_or f.stamps.items row.pattern 0) (slice_index_or f.tokens.items j d).bit (is.asks.stamped row.pattern) (is.asks.stamps row.pattern row.moment s stamped j d lt fits))
 
+-- a row of a log type that brings less than is wanted, where the row's words bring no more than these bits
+row_shut : RowsBringTokens → (p : List Item) (types words : List (List ℕ)) (f : Filter) → IsFilter (wide_pieces p) types words f → (row : Row) (test : TypeTest) (brought : ℕ)
+    → slice_get f.tests.items row.log_type ≡ Some test → test.verdict ≡ Tried → LacksAll f test brought → HasEach f.marks (numbers_of_row types row) brought → IsRowVerdict (wide_pieces p) types words row Rejected
+row_shut law p types words f is row test brought at tried h each version message canonical =
+    lacks_bits law (wide_pieces p) types words f is row test h.bits at tried h.has (stamp_may f types words (wide_pieces p) is row h.bits h.stamps)
+    (λ parts typed place kind word variable slot there l has.
+    may_listed f types words (wide_pieces p) is brought h.bits (numbers_of_row types row) each l.at l.slot l.is kind l.same_kind
+    (subst (λ (k : Kind). Has h.bits (may_by k l.slot.bits brought)) l.same_kind (h.slots l.at l.slot l.from l.to l.is)) word variable
+    (λ w. row_number types row parts typed place word (subst (λ (k : Kind). slice_get (kinds_in false (type_text (map symbol_of parts))) place ≡ Some k) w slot) there) has l.covers)
+    h.lacks version message canonical
+
 pub none_may : RejectedNeverMatches → RowsBringTokens → (p : List Item) → IsSearched p → (types words : List (List ℕ)) (f : Filter) → IsFilter (wide_pieces p) types words f
     → (listed numbers : List ℕ) (brought : ℕ) → HasEach f.marks numbers brought
     → ((t : ℕ) → Contains listed t → IsShut f brought t) → HasNoMatch (wide_pieces p) types words listed numbers
@@ -318,11 +329,41 @@ none_may rejected law p searched types words f is listed numbers brought each sh
     let (test, at, how) = shut row.log_type lists in
     elim how [
       | inl never ↦ rejected_row rejected p searched types words f is row test at never version message canonical
-      | inr (tried, h) ↦
-          lacks_bits law (wide_pieces p) types words f is row test h.bits at tried h.has (stamp_may f types words (wide_pieces p) is row h.bits h.stamps)
-          (λ parts typed place kind word variable slot there l has.
-          may_listed f types words (wide_pieces p) is brought h.bits numbers each l.at l.slot l.is kind l.same_kind
-          (subst (λ (k : Kind). Has h.bits (may_by k l.slot.bits brought)) l.same_kind (h.slots l.at l.slot l.from l.to l.is)) word variable
-          (λ w. among word (row_number types row parts typed place word (subst (λ (k : Kind). slice_get (kinds_in false (type_text (map symbol_of parts))) place ≡ Some k) w slot) there)) has l.covers)
-          h.lacks version message canonical
+      | inr (tried, h) ↦ row_shut law p types words f is row test brought at tried h (λ n has. each n (among n has)) version message canonical
     ]
+
+-- ---- what is told of all rows of a log type
+
+pub told_verdict : RejectedNeverMatches → CertainAlwaysMatches → RowsBringTokens → (p : List Item) → IsSearched p → (types words : List (List ℕ)) (f : Filter) → IsFilter (wide_pieces p) types words f → (row : Row) (v : Verdict)
+    → slice_get f.verdicts.items row.log_type ≡ Some v → IsRowVerdict (wide_pieces p) types words row v
+told_verdict rejected certain law p searched types words f is row v there =
+    let (test, at, how) = is.asks.told row.log_type v there in
+    elim how [
+      | inl same ↦ subst (IsRowVerdict (wide_pieces p) types words row) (sym same) (row_verdict rejected certain p searched types words f is row test at)
+      | inr (never, tried, h) ↦
+          subst (IsRowVerdict (wide_pieces p) types words row) (sym never)
+          (row_shut law p types words f is row test f.brought at tried h (λ n has. is.asks.brought n))
+    ]
+
+pub told_certain : CertainAlwaysMatches → (p : List Item) (types words : List (List ℕ)) (f : Filter) → AsksTypes (wide_pieces p) types f → (row : Row) (v : Verdict)
+    → slice_get f.verdicts.items row.log_type ≡ Some v → v ≡ Certain → IsRowVerdict (wide_pieces p) types words row Certain
+told_certain certain p types words f asks row v there is_certain =
+    let (test, at, how) = asks.told row.log_type v there in
+    elim how [
+      | inl same ↦ certain_row certain p types words f asks row test at (sym same ∙ is_certain)
+      | inr (never, tried, h) ↦ absurd (let e : Rejected ≡ Certain = sym never ∙ is_certain in cc)
+    ]
+
+-- a row that lacks tokens, whose log type leaves it open
+pub row_lacks_tokens : RowsBringTokens → (p : List Item) (types words : List (List ℕ)) (f : Filter) → IsFilter (wide_pieces p) types words f → (row : Row) (v : Verdict)
+    → slice_get f.verdicts.items row.log_type ≡ Some v → v ≡ Tried → LacksTokens f row → IsRowVerdict (wide_pieces p) types words row Rejected
+row_lacks_tokens law p types words f is row v there tried (test, at, lacks) =
+    let (other, here, how) = is.asks.told row.log_type v there in
+    let same : other ≡ test = same_tests (slice_get f.tests.items row.log_type) other test here at in
+    elim how [
+      | inl told ↦ row_lacks law p types words f is row test at (ap (λ (t : TypeTest). t.verdict) (sym same) ∙ sym told ∙ tried) lacks
+      | inr (never, other_tried, h) ↦ absurd (let e : Rejected ≡ Tried = sym never ∙ tried in cc)
+    ]
+  where
+    same_tests : (o : Option TypeTest) (a b : TypeTest) → o ≡ Some a → o ≡ Some b → a ≡ b
+    same_tests o a b one two = cc (one, two)

@@ -13,13 +13,16 @@ use Rattle.wild_match.proofs.Occurring.{Match-run, stands}
 use Rattle.query_plan.specs.Needs.{around}
 use Rattle.query_plan.specs.Pieces.{bytes}
 use Rattle.subquery_filter.specs.declared.marks.WordMarks.{WordMarks}
+use Rattle.subquery_filter.specs.declared.slots.Slot.{Slot}
+use Rattle.subquery_filter.specs.declared.slots.TypeTest.{TypeTest}
 use Rattle.subquery_filter.specs.declared.token.Token.{Token}
+use Rattle.subquery_filter.specs.declared.verdicts.Verdict.{Verdict}
 use Rattle.query_plan.specs.declared.pieces.Piece.{Piece}
 use Rattle.subquery_filter.specs.declared.filter.Filter.{Filter}
-use Rattle.subquery_filter.specs.Filter.{AreMarks, AreTexts, AsksTypes, Has, IsFilter, marks_at}
+use Rattle.subquery_filter.specs.Filter.{AreMarks, AreTexts, AreTold, AsksTypes, Has, IsFilter, IsTold, LacksAll, marks_at}
 use Rattle.subquery_filter.specs.Found.{HaveAll, HaveNumbers}
 use Rattle.subquery_filter.specs.StepsFilter.{HasAt, HasLists, KeepsBits}
-use Rattle.subquery_filter.proofs.FilterLemmas.{before_step, has_left, has_right, has_self, has_through, push_cases, push_got, push_last}
+use Rattle.subquery_filter.proofs.FilterLemmas.{before_step, has_left, has_none, has_right, has_self, has_through, push_cases, push_got, push_last}
 use Rattle.subquery_filter.proofs.NumberLemmas.{stands_in}
 
 -- ---- a token stands in the texts that its items match
@@ -191,3 +194,51 @@ pub marked_ok : {E : Type 0} (ps : List Piece) (types words : List (List ℕ)) (
     → IfOk r (IsFilter ps types words)
 marked_ok ps types words f lists lent (Ok g) same told asks have = told ps types words asks (subst (λ l. HaveAll f.needles.items words l) (sym same) have)
 marked_ok ps types words f lists lent (Err e) same told asks have = tt
+
+-- ---- what is told of all rows of a log type
+
+pub none_brought : (brought marks : ℕ) → marks ≡ 0 → Has brought marks
+none_brought brought marks none = subst (Has brought) (sym none) (has_none brought)
+
+pub told_none : (f : Filter) (verdicts : List Verdict) → verdicts ≡ [] → AreTold f verdicts
+told_none f verdicts none t v at = absurd (let e : None ≡ Some v = ap (λ (l : List Verdict). slice_get l t) (sym none) ∙ at in cc)
+
+pub told_step : (f : Filter) (i : ℕ) (old new : List Verdict) (test : TypeTest) (v : Verdict) → length old ≡ i → new ≡ old ++ v ∷ [] → slice_get f.tests.items i ≡ Some test → IsTold f test v → AreTold f old → AreTold f new
+told_step f i old new test v size is there here before t other at =
+    elim (push_cases old v t other (subst (λ (l : List Verdict). slice_get l t ≡ Some other) is at)) [
+      | inl earlier ↦ before t other earlier
+      | inr (e, same) ↦ (test, subst (λ n. slice_get f.tests.items n ≡ Some test) (sym (e ∙ size)) there, subst (IsTold f test) same here)
+    ]
+
+pub told_ok : {E : Type 0} (ps : List Piece) (types : List (List ℕ)) (f : Filter) (r : Result Filter E) → IfOk r (λ g. (qs : List Piece) (kinds : List (List ℕ)) → AsksTypes qs kinds f → AsksTypes qs kinds g)
+    → AsksTypes ps types f → IfOk r (AsksTypes ps types)
+told_ok ps types f (Ok g) told asks = told ps types asks
+told_ok ps types f (Err e) told asks = tt
+
+pub filter_ok : {E : Type 0} (old : Filter) (lists : List (List ℕ)) (f : Filter) (r : Result Filter E) → IfOk r (λ g. (ps : List Piece) (types words : List (List ℕ)) → IsFilter ps types words f → IsFilter ps types words g)
+    → ((ps : List Piece) (types words : List (List ℕ)) → AsksTypes ps types old → HaveAll old.needles.items words lists → IsFilter ps types words f)
+    → IfOk r (λ g. (ps : List Piece) (types words : List (List ℕ)) → AsksTypes ps types old → HaveAll old.needles.items words lists → IsFilter ps types words g)
+filter_ok old lists f (Ok g) told is = λ ps types words asks have. told ps types words (is ps types words asks have)
+filter_ok old lists f (Err e) told is = tt
+
+lacks_again : (f g : Filter) (test : TypeTest) (brought : ℕ) → f.slots.items ≡ g.slots.items → f.wanted ≡ g.wanted → f.stamped ≡ g.stamped → LacksAll f test brought → LacksAll g test brought
+lacks_again f g test brought slots wanted stamped h = record {
+  bits = h.bits;
+  has = h.has;
+  slots = λ at slot from to there. h.slots at slot from to (subst (λ (l : List Slot). slice_get l at ≡ Some slot) (sym slots) there);
+  stamps = subst (Has h.bits) stamped h.stamps;
+  lacks = λ has. h.lacks (subst (Has h.bits) (sym wanted) has);
+}
+
+-- what is told of the log types by one filter is told by another with the same tests and slots
+pub told_again : (f g : Filter) (verdicts : List Verdict) → f.slots.items ≡ g.slots.items → f.wanted ≡ g.wanted → f.stamped ≡ g.stamped → f.brought ≡ g.brought → f.tests.items ≡ g.tests.items
+    → AreTold f verdicts → AreTold g verdicts
+told_again f g verdicts slots wanted stamped brought tests told t v at =
+    let (test, there, how) = told t v at in (
+      test,
+      subst (λ (l : List TypeTest). slice_get l t ≡ Some test) tests there,
+      elim how [
+        | inl same ↦ inl same
+        | inr (never, tried, h) ↦ inr (never, tried, subst (LacksAll g test) brought (lacks_again f g test f.brought slots wanted stamped h))
+      ],
+    )

@@ -15,8 +15,8 @@ use Rattle.subquery_filter.specs.declared.slots.KindBits.{KindBits}
 use Rattle.subquery_filter.specs.declared.slots.Slot.{Slot}
 use Rattle.subquery_filter.specs.declared.slots.TypeTest.{TypeTest}
 use Rattle.subquery_filter.specs.declared.token.Token.{Token}
-use Rattle.subquery_filter.specs.Filter.{AreKindBits, AreMarks, AreSlots, AreSmall, AreStamps, Covers, Has, IsSlot, Marks}
-use Rattle.subquery_filter.specs.StepsFilter.{Lacks, ListedUpTo, SlotGives, SlotIs, Stays, slot_may}
+use Rattle.subquery_filter.specs.Filter.{AreKindBits, AreMarks, AreSlots, AreSmall, AreStamps, Covers, Has, IsSlot, Marks, slot_may}
+use Rattle.subquery_filter.specs.StepsFilter.{Lacks, ListedUpTo, SlotGives, SlotIs, Stays}
 use Rattle.subquery_filter.specs.StepsLetters.{kind_at, kind_before, kinds_in}
 use Rattle.subquery_filter.proofs.FilterLemmas.{has_left, has_right, has_through, push_got, push_last, slot_stays}
 use Rattle.subquery_filter.proofs.LetterLemmas.{other_byte, same_byte}

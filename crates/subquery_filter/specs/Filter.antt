@@ -111,6 +111,38 @@ AreTests ps tokens types slots tests =
     (t : ℕ) (text : List ℕ) (test : TypeTest) → slice_get types t ≡ Some text → slice_get tests t ≡ Some test
     → IsTest ps tokens slots text test
 
+-- ---- what rows of a log type may bring
+
+-- what a slot may bring where the words bring these bits
+abbrev pub may_by : Kind → ℕ → ℕ → ℕ
+may_by Whole own brought = own
+may_by Decimal own brought = own
+may_by Word own brought = brought
+
+abbrev pub slot_may : Slot → ℕ → ℕ
+slot_may slot brought = may_by slot.kind slot.bits brought
+
+-- no row of a log type of which this is known brings all that is wanted, where the words bring these bits
+pub record LacksAll (f : Filter) (test : TypeTest) (brought : ℕ) : Type 0 where
+  pub bits : ℕ
+  pub has : Has bits test.has
+  pub slots :
+      (at : ℕ) (slot : Slot) → test.first ≤ at → at < test.end → slice_get f.slots.items at ≡ Some slot
+      → Has bits (slot_may slot brought)
+  pub stamps : Has bits f.stamped
+  pub lacks : ¬ Has bits f.wanted
+
+-- the verdict is that of the log type's text, or no row of the log type brings all that is wanted
+abbrev pub IsTold : Filter → TypeTest → Verdict → Type 0
+IsTold f test verdict =
+    (verdict ≡ test.verdict) ⊎ ((verdict ≡ Rejected) × (test.verdict ≡ Tried) × LacksAll f test f.brought)
+
+-- so it is of each log type, by their numbers
+abbrev pub AreTold : Filter → List Verdict → Type 0
+AreTold f verdicts =
+    (t : ℕ) (verdict : Verdict) → slice_get verdicts t ≡ Some verdict
+    → (test : TypeTest) × (slice_get f.tests.items t ≡ Some test) × IsTold f test verdict
+
 -- ---- the filter
 
 -- the texts of the tokens, in their order
@@ -127,6 +159,8 @@ pub record AsksTypes (ps : List Piece) (types : List (List ℕ)) (f : Filter) : 
   pub needles :
       (at : ℕ) (slot : Slot) → slice_get f.slots.items at ≡ Some slot → slot.kind ≡ Word
       → AreTexts f.tokens.items f.needles.items
+  pub told : AreTold f f.verdicts.items
+  pub brought : (n : ℕ) → Has f.brought (marks_at f.marks n)
   pub small : AreSmall f.tokens.items f.small.items
   pub stamps : AreStamps f.tokens.items f.stamps.items
   pub stamped : (pattern : ℕ) → Has f.stamped (slice_index_or f.stamps.items pattern 0)

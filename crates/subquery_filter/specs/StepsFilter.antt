@@ -4,7 +4,7 @@ use Rattle.std.specs.List.{Contains}
 use Rattle.std.specs.Int.{is_in_range}
 use Rattle.column_store.specs.declared.row.Row.{Row}
 use Rattle.logtype_text.specs.declared.symbols.Kind.{Kind}
-use Rattle.logtype_text.specs.declared.symbols.Kind.TheVariants.{Whole, Word, Decimal}
+use Rattle.logtype_text.specs.declared.symbols.Kind.TheVariants.{Word}
 use Rattle.wild_match.specs.Matches.{Match}
 use Rattle.row_codec.specs.Means.{HasStampText, HasWord}
 use Rattle.query_plan.specs.declared.pieces.Piece.{Piece}
@@ -15,7 +15,7 @@ use Rattle.subquery_filter.specs.declared.slots.Slot.{Slot}
 use Rattle.subquery_filter.specs.declared.slots.TypeTest.{TypeTest}
 use Rattle.subquery_filter.specs.declared.token.Token.{Token}
 use Rattle.subquery_filter.specs.declared.verdicts.Verdict.TheVariants.{Rejected, Tried}
-use Rattle.subquery_filter.specs.Filter.{AreKindBits, AreMarks, AreSmall, AreStamps, Has, IsSlot, Marks, marks_at}
+use Rattle.subquery_filter.specs.Filter.{AreKindBits, AreMarks, AreSmall, AreStamps, Has, IsSlot, LacksAll, Marks, marks_at}
 use Rattle.subquery_filter.specs.StepsLetters.{kinds_in}
 use Rattle.subquery_filter.specs.Tokens.{IsTokenOf}
 
@@ -98,26 +98,11 @@ pub record Lacks (f : Filter) (test : TypeTest) (row : Row) : Type 0 where
       → Marks f.tokens.items s bits
   pub lacks : ¬ Has bits f.wanted
 
+-- so it is by what is known of its log type
+abbrev pub LacksTokens : Filter → Row → Type 0
+LacksTokens f row = (test : TypeTest) × (slice_get f.tests.items row.log_type ≡ Some test) × Lacks f test row
+
 -- ---- what is tested of a segment
-
--- what a slot may bring where the words of a segment bring these bits
-abbrev pub may_by : Kind → ℕ → ℕ → ℕ
-may_by Whole own brought = own
-may_by Decimal own brought = own
-may_by Word own brought = brought
-
-abbrev pub slot_may : Slot → ℕ → ℕ
-slot_may slot brought = may_by slot.kind slot.bits brought
-
--- no row of a log type of which this is known brings all that is wanted, where the words bring these bits
-pub record LacksAll (f : Filter) (test : TypeTest) (brought : ℕ) : Type 0 where
-  pub bits : ℕ
-  pub has : Has bits test.has
-  pub slots :
-      (at : ℕ) (slot : Slot) → test.first ≤ at → at < test.end → slice_get f.slots.items at ≡ Some slot
-      → Has bits (slot_may slot brought)
-  pub stamps : Has bits f.stamped
-  pub lacks : ¬ Has bits f.wanted
 
 -- no row of the log type with this number is matched, where the words bring these bits
 abbrev pub IsShut : Filter → ℕ → ℕ → Type 0

@@ -19,3 +19,14 @@ pub(crate) fn mark_at(marks: &[u8], number: u64) -> u8
     let place = number as usize;
     if place < marks.len() { marks[place] } else { 0 }
 }
+
+/// The bits that stand at some number.
+pub(crate) fn any_of(marks: &[u8]) -> u8
+    ensures { (number : ℕ) → Has result (slice_index_or marks.now number 0) }
+{
+    let mut bits = 0;
+    for mark in marks {
+        bits |= *mark;
+    }
+    bits
+}

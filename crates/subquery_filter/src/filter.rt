@@ -1,5 +1,5 @@
 //! What a search knows of an archive's words and log types, so that rows are tested by bits alone.
-ghost use Rattle.std.specs.Prelude.{◌≡◌, ◌<◌, ◌≤◌, ℕ, List, All, IfOk, IsFalse, IsTrue, Some, slice_get};
+ghost use Rattle.std.specs.Prelude.{◌≡◌, ◌<◌, ◌≤◌, ℕ, List, All, IfOk, IsFalse, IsTrue, Some, length, slice_get};
 ghost use Rattle.std.specs.List.{Contains};
 ghost use Rattle.column_store.specs.Row.{row_of};
 ghost use Rattle.logtype_text.specs.declared.symbols.Kind.TheVariants.{Word};
@@ -9,17 +9,18 @@ ghost use Rattle.query_plan.specs.Laws.{IsSearched};
 ghost use Rattle.query_plan.specs.Pieces.{wide_pieces};
 ghost use Rattle.query_plan.specs.declared.pieces.Piece.{Piece};
 ghost use Rattle.subquery_filter.specs.declared.slots.Slot.{Slot};
-ghost use Rattle.subquery_filter.specs.Filter.{AreMarks, AreSmall, AreStamps, AsksTypes, Has, HasNoMatch, IsFilter, IsRowVerdict, Marks};
+ghost use Rattle.subquery_filter.specs.Filter.{AreMarks, AreSmall, AreStamps, AreTold, AsksTypes, Has, HasNoMatch, IsFilter, IsRowVerdict, IsTold, LacksAll, Marks, slot_may};
+ghost use Rattle.subquery_filter.specs.declared.verdicts.Verdict.TheVariants.{Certain};
 ghost use Rattle.subquery_filter.specs.Found.{HaveAll};
-ghost use Rattle.subquery_filter.specs.StepsFilter.{HasEach, IsShut, Lacks, LacksAll, SlotGives, SlotIs, slot_may};
+ghost use Rattle.subquery_filter.specs.StepsFilter.{HasEach, IsShut, Lacks, LacksTokens, SlotGives, SlotIs};
 
-use crate::bits::{has, mark_at};
+use crate::bits::{any_of, has, mark_at};
 use crate::laws::{rows_bring_tokens, verdicts_hold};
 use crate::marks::WordMarks;
 use crate::needles::{lists_with, needles_of};
 use crate::numbers::{decimal_bits, kind_bits, mark_small, whole_bits};
 use crate::slots::{Slot, TypeTest, has_kind, test_types};
-use crate::stamps::{any_stamp, mark_stamps, stamp_bits};
+use crate::stamps::{mark_stamps, stamp_bits};
 use crate::token::Token;
 use crate::tokens::{all_bits, tokens_of};
 use crate::verdicts::Verdict;
@@ -40,6 +41,8 @@ pub struct Filter {
     tokens: Vec<Token>,
     /// The bits of all tokens.
     wanted: u8,
+    /// What is told of all rows of a log type, by their numbers.
+    verdicts: Vec<Verdict>,
     /// What is known of the log types, by their numbers, and their slots.
     tests: Vec<TypeTest>,
     slots: Vec<Slot>,
@@ -47,6 +50,8 @@ pub struct Filter {
     needles: Vec<Text>,
     /// The bits of the words, where a slot of a word is listed.
     marks: WordMarks,
+    /// The bits that words may bring.
+    brought: u8,
     /// The bits of small whole numbers, where a slot of a whole number is listed.
     small: Vec<u8>,
     /// The bits that stamps may bring, by the numbers of their patterns, and those of all patterns.
@@ -105,18 +110,63 @@ impl Filter {
         let small = small_needed(alloc, slots.as_slice(), looked)?;
         let stamps = mark_stamps(alloc, looked)?;
         let wanted = all_bits(looked);
-        let stamped = any_stamp(stamps.as_slice());
-        Ok(Filter {
+        let stamped = any_of(stamps.as_slice());
+        let filter = Filter {
             tokens,
             wanted,
+            verdicts: Vec::new(alloc),
             tests,
             slots,
             needles,
             marks: WordMarks::none(alloc),
+            brought: wanted,
             small,
             stamps,
             stamped,
-        })
+        };
+        filter.told(alloc)
+    }
+
+    /// The verdict on all rows of a log type. It is given up where its rows cannot bring all tokens,
+    /// whatever their words are.
+    fn type_verdict(&self, test: &TypeTest) -> Verdict
+        ensures { IsTold self.now test.now result }
+    {
+        if test.verdict == Verdict::Tried && self.lacks_all(test, self.brought) {
+            return Verdict::Rejected;
+        }
+        test.verdict
+    }
+
+    /// What is known of the log type at a place.
+    fn test_here(&self, place: usize) -> TypeTest
+        requires { place < length self.now.tests.items }
+        ensures { slice_get self.now.tests.items place ≡ Some result }
+    {
+        self.tests[place]
+    }
+
+    /// The verdicts on all log types.
+    fn type_verdicts(&self, alloc: Global) -> Result<Vec<Verdict>, AllocError>
+        ensures { IfOk result (λ verdicts. AreTold self.now verdicts.items) }
+    {
+        let mut verdicts = Vec::new(alloc);
+        for place in 0..self.tests.len() {
+            let test = self.test_here(place);
+            verdicts.push(self.type_verdict(&test))?;
+        }
+        Ok(verdicts)
+    }
+
+    /// The same with the verdicts on all log types.
+    fn told(self, alloc: Global) -> Result<Filter, AllocError>
+        ensures asks { IfOk result (λ f. (ps : List Piece) (types : List (List ℕ))
+            → AsksTypes ps types self → AsksTypes ps types f) }
+        ensures marked { IfOk result (λ f. (ps : List Piece) (types : List (List ℕ))
+            (words : List (List ℕ)) → IsFilter ps types words self → IsFilter ps types words f) }
+    {
+        let verdicts = self.type_verdicts(alloc)?;
+        Ok(Filter { verdicts, ..self })
     }
 
     /// The texts that have to be looked for in words. There are none where no log type asks its words.
@@ -136,7 +186,13 @@ impl Filter {
             → HaveAll self.needles.items words lists.now → IsFilter ps types words f) }
     {
         let marks = WordMarks::of(alloc, self.tokens.as_slice(), lists)?;
-        Ok(Filter { marks, ..self })
+        let filter = Filter {
+            brought: marks.all(),
+            marks,
+            verdicts: Vec::new(alloc),
+            ..self
+        };
+        filter.told(alloc)
     }
 
     /// Asks all log types of an archive, and all its words where a log type needs one.
@@ -249,22 +305,46 @@ impl Filter {
         !has(all, self.wanted)
     }
 
+    /// What is told of all rows of a log type.
+    #[inline]
+    fn verdict_at(&self, number: u32) -> Option<Verdict>
+        ensures { result ≡ slice_get self.now.verdicts.items number }
+    {
+        self.verdicts.get(number as usize).copied()
+    }
+
+    /// Whether a row does not bring all tokens.
+    #[inline]
+    fn lacks_tokens(&self, row: RowRef<'_>) -> bool
+        ensures { IsTrue result → LacksTokens self.now (row_of row.entry) }
+    {
+        match self.test_at(row.log_type) {
+            Some(test) => self.lacks(&test, row),
+            None => false,
+        }
+    }
+
     /// What is known of a row: whether the pattern matches its message, or cannot. Takes no memory.
+    ///
+    /// That it matches is told by the log types alone, so it holds with any words.
     #[inline]
     pub fn verdict(&self, row: RowRef<'_>) -> Verdict
-        ensures { (p : List Item) (types : List (List ℕ)) (words : List (List ℕ)) → IsSearched p
-            → IsFilter (wide_pieces p) types words self.now
+        ensures told { (p : List Item) (types : List (List ℕ)) (words : List (List ℕ))
+            → IsSearched p → IsFilter (wide_pieces p) types words self.now
             → IsRowVerdict (wide_pieces p) types words (row_of row.entry) result }
+        ensures certain { result ≡ Certain → (p : List Item) (types : List (List ℕ))
+            → AsksTypes (wide_pieces p) types self.now → (words : List (List ℕ))
+            → IsRowVerdict (wide_pieces p) types words (row_of row.entry) Certain }
     {
         verdicts_hold();
         rows_bring_tokens();
-        let Some(test) = self.test_at(row.log_type) else {
+        let Some(verdict) = self.verdict_at(row.log_type) else {
             return Verdict::Tried;
         };
-        if test.verdict == Verdict::Tried && self.lacks(&test, row) {
+        if verdict == Verdict::Tried && self.lacks_tokens(row) {
             return Verdict::Rejected;
         }
-        test.verdict
+        verdict
     }
 
     /// The bits that the slot which is listed at a place may bring.

@@ -3,7 +3,7 @@ ghost use Rattle.std.specs.Prelude.{◌≡◌, ◌<◌, ◌^◌, ℕ, List, [], 
 ghost use Rattle.subquery_filter.specs.Filter.{Has, marks_at};
 ghost use Rattle.subquery_filter.specs.StepsFilter.{HasAt, HasLists, KeepsBits};
 
-use crate::bits::mark_at;
+use crate::bits::{any_of, mark_at};
 use crate::token::Token;
 use plain_list::NumberList;
 use std::alloc::{AllocError, Global};
@@ -130,7 +130,9 @@ fn add_lists(
 
 impl WordMarks {
     /// No marks.
-    pub(crate) fn none(alloc: Global) -> WordMarks {
+    pub(crate) fn none(alloc: Global) -> WordMarks
+        ensures { (n : ℕ) → marks_at result n ≡ 0 }
+    {
         WordMarks {
             table: Vec::new(alloc),
             mask: 0,
@@ -150,6 +152,13 @@ impl WordMarks {
         let mut table = Vec::new(alloc);
         add_lists(&mut table, mask, tokens, lists)?;
         Ok(WordMarks { table, mask })
+    }
+
+    /// The marks of all numbers.
+    pub(crate) fn all(&self) -> u8
+        ensures { (n : ℕ) → Has result (marks_at self.now n) }
+    {
+        any_of(self.table.as_slice())
     }
 
     /// The marks of a number.

@@ -1,9 +1,9 @@
 //! Which tokens stand in stamps.
-ghost use Rattle.std.specs.Prelude.{◌≡◌, ℕ, ℤ, List, IfOk, slice_index_or};
+ghost use Rattle.std.specs.Prelude.{◌≡◌, ℕ, ℤ, List, IfOk};
 ghost use Rattle.row_codec.specs.Means.{HasStampText};
 ghost use Rattle.time_patterns.specs.Stamps.{Prints};
 ghost use Rattle.wild_match.specs.Matches.{Match};
-ghost use Rattle.subquery_filter.specs.Filter.{AreStamps, Has, Marks};
+ghost use Rattle.subquery_filter.specs.Filter.{AreStamps, Marks};
 
 use crate::token::Token;
 use crate::tokens::marks_of;
@@ -49,17 +49,6 @@ pub(crate) fn mark_stamps(alloc: Global, tokens: &[Token]) -> Result<Vec<u8>, Al
         stamps.push(pattern_bits(tokens, pattern))?;
     }
     Ok(stamps)
-}
-
-/// The bits of the tokens that may stand in a stamp of some pattern.
-pub(crate) fn any_stamp(stamps: &[u8]) -> u8
-    ensures { (pattern : ℕ) → Has result (slice_index_or stamps.now pattern 0) }
-{
-    let mut bits = 0;
-    for mark in stamps {
-        bits |= *mark;
-    }
-    bits
 }
 
 /// The bits of the tokens that stand in a row's stamp, of those that its pattern may bring.

@@ -1,0 +1,36 @@
+use Rattle.std.proofs.Common.{refl}
+use Rattle.subquery_filter.proofs.MarkLemmas.{told_again}
+use Rattle.subquery_filter.proofs.filter.Filter.told.Goals as goal
+
+pub returns-clause-asks : goal.returns-clause-asks
+returns-clause-asks c = λ ps types a. record {
+  cut = a.cut;
+  are = a.are;
+  wanted = a.wanted;
+  tests = a.tests;
+  needles = a.needles;
+  told = told_again c.args.self _ c.in_ok-verdicts.verdicts.items refl refl refl refl refl c.in_ok-verdicts.ensures;
+  brought = a.brought;
+  small = a.small;
+  stamps = a.stamps;
+  stamped = a.stamped;
+}
+
+pub returns-clause-marked : goal.returns-clause-marked
+returns-clause-marked c = λ ps types words is.
+    let a = is.asks in
+    record {
+      asks = record {
+        cut = a.cut;
+        are = a.are;
+        wanted = a.wanted;
+        tests = a.tests;
+        needles = a.needles;
+        told = told_again c.args.self _ c.in_ok-verdicts.verdicts.items refl refl refl refl refl c.in_ok-verdicts.ensures;
+        brought = a.brought;
+        small = a.small;
+        stamps = a.stamps;
+        stamped = a.stamped;
+      };
+      marks = is.marks;
+    }
