@@ -3,11 +3,11 @@ use column_store::{Range, RowRef};
 use dict_core::BookRefusal;
 use plain_list::NumberList;
 use query_plan::Plan;
-use row_codec::row_fits;
+use row_codec::{Names, row_fits};
 use segment_format::Head;
 use std::alloc::{AllocError, Global};
 use std::test::Fail;
-use subquery_filter::{Filter, Verdict, accepts, barren, verdict_of};
+use subquery_filter::{Filter, Verdict, accepts, barren, barren_by, is_outside, verdict_of};
 use wild_match::read_pattern;
 
 /// The plan of a pattern's text.
@@ -126,7 +126,22 @@ fn barren_of(
         from: None,
         to: None,
     };
-    Ok(barren(&head, &plan, &range, books))
+    let told = barren(&head, &plan, &range, books);
+    if found_tells(&head, &plan, &range, books).is_some_and(|found| found != told) {
+        return Err("a number that was found".into());
+    }
+    Ok(told)
+}
+
+/// Whether a segment is barren by the number of the needed word that was found before, where the plan
+/// has one needed word.
+fn found_tells(head: &Head, plan: &Plan, range: &Range, books: &Books) -> Option<bool> {
+    let needed = plan.needed().as_slice();
+    if needed.len() != 1 {
+        return None;
+    }
+    let number = books.word_number(needed[0].as_slice());
+    Some(barren_by(head, plan, range, books, &[number]))
 }
 
 /// How many segments up to the first that is barren or not other than told.
@@ -174,7 +189,8 @@ fn outside(
     range: &Range,
 ) -> Result<bool, AllocError> {
     let head = head_of(alloc, 1, stamped, &[0], &[])?;
-    Ok(barren(&head, plan, range, books))
+    let left_out = is_outside(head.rows, head.stamped, head.least, head.greatest, range);
+    Ok(barren(&head, plan, range, books) && left_out)
 }
 
 /// How many ranges up to the first that leaves a segment barren or not other than told.
@@ -578,6 +594,66 @@ fn segments_by_numbers(rt: HostRuntime) -> Result<(), Fail> {
         let filter = Filter::new(alloc, &plan, &books)?;
         let may = filter.may_match(types, words);
         assert!(rt; may == *want, "{text:?} {types:?}");
+    }
+    Ok(())
+}
+
+/// A pattern's text, the numbers of the words in which its only token stands, a row's log type and
+/// words, its verdict.
+const MARKED: &[(&[u8], &[u32], u32, &[u64], Verdict)] = &[
+    (b"task", &[0, 1], 0, &[1], Verdict::Tried),
+    (b"task", &[0, 1], 0, &[2], Verdict::Rejected),
+    (b"task", &[], 0, &[0], Verdict::Rejected),
+    (b"task", &[70_000, 4_000_000], 0, &[4_000_000], Verdict::Tried),
+    (b"task", &[70_000, 4_000_000], 0, &[4_000_001], Verdict::Rejected),
+    (b"run", &[], 0, &[0], Verdict::Certain),
+];
+
+/// The verdict on a row by a filter whose words are marked by these numbers.
+fn marked(
+    alloc: Global,
+    books: &Books,
+    text: &[u8],
+    numbers: &[u32],
+    row: RowRef<'_>,
+) -> Result<Verdict, Fail> {
+    let plan = plan_of(alloc, text)?;
+    let filter = Filter::begin(alloc, &plan, books)?;
+    let list = NumberList::new(Vec::from_slice(alloc, numbers)?);
+    let filter = filter.mark(alloc, &[list])?;
+    Ok(filter.verdict(row))
+}
+
+/// Words are marked by the numbers of those that have the token: no word is looked at, and a log type
+/// whose rows cannot bring the token is given up.
+#[test]
+fn rows_by_marks(rt: HostRuntime) -> Result<(), Fail> {
+    let alloc = rt.alloc();
+    let books = some_books(alloc).ok().ok_or("a name")?;
+    for (text, numbers, log_type, words, want) in MARKED {
+        let row = RowRef {
+            pattern: 0,
+            moment: 0,
+            log_type: *log_type,
+            words,
+        };
+        let verdict = marked(alloc, &books, text, numbers, row)?;
+        assert!(rt; verdict == *want, "{text:?} {words:?}");
+    }
+    Ok(())
+}
+
+/// A pattern's text, how many texts are looked for in words.
+const NEEDLES: &[(&[u8], usize)] = &[(b"task", 1), (b"task*oo", 2), (b" took ", 0), (b"run", 1)];
+
+#[test]
+fn texts_looked_for(rt: HostRuntime) -> Result<(), Fail> {
+    let alloc = rt.alloc();
+    let books = some_books(alloc).ok().ok_or("a name")?;
+    for (text, want) in NEEDLES {
+        let plan = plan_of(alloc, text)?;
+        let filter = Filter::begin(alloc, &plan, &books)?;
+        assert!(rt; filter.needles().len() == *want, "{text:?}");
     }
     Ok(())
 }
