@@ -160,12 +160,14 @@ fn held(alloc: Global) -> Result<HeldWords, AllocError> {
 
 // Whether the words are these.
 fn lends(held: &HeldWords, words: &[&[u8]]) -> bool {
-    for (number, text) in words.iter().enumerate() {
-        if held.word_text(number as u32) != Some(*text) {
+    let mut number: u32 = 0;
+    for text in words {
+        if held.word_text(number) != Some(*text) {
             return false;
         }
+        number = number.saturating_add(1);
     }
-    held.word_text(words.len() as u32).is_none()
+    held.word_text(number).is_none()
 }
 
 // Whether the words of a record are lent once one of them is held, and empty ones before.
