@@ -2,7 +2,7 @@
 ghost use Rattle.step_count.specs.Opens.{OpensFor};
 
 use crate::worked::changed;
-use archive_open::{Archive, PlainBooks, open_archive};
+use archive_places::open_places;
 use column_store::Range;
 use log_seams::{MemDisk, MemSink};
 use plain_list::Text;
@@ -111,8 +111,7 @@ fn search_with<R: Threads + Sync, L: Ledger, M: Ledger>(
     };
     let mut out = MemSink::new(alloc, room, Vec::new(alloc))?;
     let mut disk = disk_of(alloc, bytes)?;
-    let opening: Result<Archive<PlainBooks>, _> = open_archive(alloc, &mut disk);
-    let Ok(archive) = opening else {
+    let Ok(places) = open_places(alloc, &mut disk) else {
         return Err(AllocError);
     };
     let before = disk.calls() as u64;
@@ -122,7 +121,7 @@ fn search_with<R: Threads + Sync, L: Ledger, M: Ledger>(
         rt,
         workers,
         alloc,
-        &archive,
+        places,
         &mut disk,
         &pattern,
         &range,

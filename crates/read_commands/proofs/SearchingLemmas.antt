@@ -8,8 +8,7 @@ use Rattle.sink_pieces.proofs.OutputLemmas.{Grew-append, Grew-nothing}
 use Rattle.record_format.specs.declared.header.Header.{Header}
 use Rattle.archive_meaning.specs.declared.entry.JournalEntry.{JournalEntry}
 use Rattle.archive_meaning.specs.Held.{Held}
-use Rattle.archive_open.specs.declared.segments.SegmentPlace.{SegmentPlace}
-use Rattle.archive_open.specs.Shown.{IsArchiveOf, Misses, Opens, ReadsAside, Shown, Spares, places_of}
+use Rattle.archive_open.specs.Shown.{Misses, ReadsAside, Spares, places_of}
 use Rattle.search_engine.specs.declared.report.Report.{Report}
 use Rattle.search_engine.specs.Scan.{Asked, lines_of}
 use Rattle.search_engine.specs.Searched.{HasSearched, HasStopped, MissesBarren, OfJournal, ReadsNoBarren}
@@ -28,50 +27,51 @@ text_unopened h es held q stats old = record {
 }
 
 -- a front of the lines
-text_stopped : (h : Header) (es : List JournalEntry) (held : Held) (q : Asked) (stats : Bool) (a : Shown) (old new : Option (List ℕ)) (o0 o1 e0 e1 : ℕ) → IsArchiveOf a h es held → HasStopped h held q a.segments old new o0 o1 e0 e1 → PrintsText false h es held q stats old new
-text_stopped h es held q stats a old new o0 o1 e0 e1 is stopped = record {
-  segments = a.segments;
-  are_segments = is.segments;
+text_stopped : (h : Header) (es : List JournalEntry) (held : Held) (q : Asked) (stats : Bool) (old new : Option (List ℕ)) (o0 o1 e0 e1 : ℕ) → HasStopped h es held q old new o0 o1 e0 e1 → PrintsText false h es held q stats old new
+text_stopped h es held q stats old new o0 o1 e0 e1 stopped = record {
+  segments = stopped.all;
+  are_segments = stopped.are_all.are;
   there = λ e. absurd (cc (e));
   took = λ f.
       let p = stopped.printed f.found f.are_found in
-      let line : List ℕ = if stats then found_counts (report_of f.found f.tried f.opened a.segments) else [] in
+      let line : List ℕ = if stats then found_counts (report_of f.found f.tried f.opened stopped.all) else [] in
       (p.0, p.1 ++ line, ap (λ t. t ++ line) p.2 ∙ append_assoc p.0 p.1 line, p.3);
 }
 
 -- a search that is done found what there is
-report_is : (h : Header) (held : Held) (q : Asked) (ps : List SegmentPlace) (r : Report) (old new : Option (List ℕ)) (o0 o1 e0 e1 : ℕ) (s : HasSearched h held q ps r old new o0 o1 e0 e1) (f : Found h held q ps) → report_of f.found f.tried f.opened ps ≡ r
-report_is h held q ps r old new o0 o1 e0 e1 s f =
-    ap (λ x. report_of x f.tried f.opened ps) (picks_once _ _ f.found s.found f.are_found s.are_found)
-    ∙ (ap (λ x. report_of s.found x f.opened ps) (picks_once _ _ f.tried s.tried f.are_tried s.are_tried)
-    ∙ (ap (λ x. report_of s.found s.tried x ps) (picks_once _ _ f.opened s.segments f.are_opened s.are_opened) ∙ sym s.report))
+report_is : (h : Header) (es : List JournalEntry) (held : Held) (q : Asked) (r : Report) (old new : Option (List ℕ)) (o0 o1 e0 e1 : ℕ) (s : HasSearched h es held q r old new o0 o1 e0 e1) (f : Found h held q s.all)
+    → report_of f.found f.tried f.opened s.all ≡ r
+report_is h es held q r old new o0 o1 e0 e1 s f =
+    ap (λ x. report_of x f.tried f.opened s.all) (picks_once _ _ f.found s.found f.are_found s.are_found)
+    ∙ (ap (λ x. report_of s.found x f.opened s.all) (picks_once _ _ f.tried s.tried f.are_tried s.are_tried)
+    ∙ (ap (λ x. report_of s.found s.tried x s.all) (picks_once _ _ f.opened s.segments f.are_opened s.are_opened) ∙ sym s.report))
 
-text_is : (h : Header) (held : Held) (q : Asked) (stats : Bool) (ps : List SegmentPlace) (r : Report) (old new : Option (List ℕ)) (o0 o1 e0 e1 : ℕ) (s : HasSearched h held q ps r old new o0 o1 e0 e1) (f : Found h held q ps)
-    → found_text stats f.found (report_of f.found f.tried f.opened ps) ≡ found_text stats s.found r
-text_is h held q stats ps r old new o0 o1 e0 e1 s f =
-    ap₂ (λ x y. found_text stats x y) (picks_once _ _ f.found s.found f.are_found s.are_found) (report_is h held q ps r old new o0 o1 e0 e1 s f)
+text_is : (h : Header) (es : List JournalEntry) (held : Held) (q : Asked) (stats : Bool) (r : Report) (old new : Option (List ℕ)) (o0 o1 e0 e1 : ℕ) (s : HasSearched h es held q r old new o0 o1 e0 e1) (f : Found h held q s.all)
+    → found_text stats f.found (report_of f.found f.tried f.opened s.all) ≡ found_text stats s.found r
+text_is h es held q stats r old new o0 o1 e0 e1 s f =
+    ap₂ (λ x y. found_text stats x y) (picks_once _ _ f.found s.found f.are_found s.are_found) (report_is h es held q r old new o0 o1 e0 e1 s f)
 
 -- the lines, and the line of the counts where it is asked for
-text_done : (h : Header) (es : List JournalEntry) (held : Held) (q : Asked) (stats : Bool) (a : Shown) (r : Report) (old mid new : Option (List ℕ)) (o0 o1 e0 e1 : ℕ) → IsArchiveOf a h es held → HasSearched h held q a.segments r old mid o0 o1 e0 e1
+text_done : (h : Header) (es : List JournalEntry) (held : Held) (q : Asked) (stats : Bool) (r : Report) (old mid new : Option (List ℕ)) (o0 o1 e0 e1 : ℕ) → HasSearched h es held q r old mid o0 o1 e0 e1
     → Grew mid new (if stats then found_counts r else []) → PrintsText true h es held q stats old new
-text_done h es held q stats a r old mid new o0 o1 e0 e1 is s grew = record {
-  segments = a.segments;
-  are_segments = is.segments;
+text_done h es held q stats r old mid new o0 o1 e0 e1 s grew = record {
+  segments = s.all;
+  are_segments = s.are_all.are;
   there = λ e. record { found = s.found; tried = s.tried; opened = s.segments; are_found = s.are_found; are_tried = s.are_tried; are_opened = s.are_opened };
-  took = λ f. subst (λ t. Grew old new t) (sym (text_is h held q stats a.segments r old mid o0 o1 e0 e1 s f)) (Grew-append old mid new (lines_of s.found) (if stats then found_counts r else []) s.printed grew);
+  took = λ f. subst (λ t. Grew old new t) (sym (text_is h es held q stats r old mid o0 o1 e0 e1 s f)) (Grew-append old mid new (lines_of s.found) (if stats then found_counts r else []) s.printed grew);
 }
 
 -- the lines, and a front of the line of the counts
-text_uncounted : (h : Header) (es : List JournalEntry) (held : Held) (q : Asked) (stats : Bool) (a : Shown) (r : Report) (old mid new : Option (List ℕ)) (o0 o1 e0 e1 : ℕ) → IsArchiveOf a h es held → HasSearched h held q a.segments r old mid o0 o1 e0 e1
+text_uncounted : (h : Header) (es : List JournalEntry) (held : Held) (q : Asked) (stats : Bool) (r : Report) (old mid new : Option (List ℕ)) (o0 o1 e0 e1 : ℕ) → HasSearched h es held q r old mid o0 o1 e0 e1
     → GrewByFront mid new (if stats then found_counts r else []) → PrintsText false h es held q stats old new
-text_uncounted h es held q stats a r old mid new o0 o1 e0 e1 is s g = record {
-  segments = a.segments;
-  are_segments = is.segments;
+text_uncounted h es held q stats r old mid new o0 o1 e0 e1 s g = record {
+  segments = s.all;
+  are_segments = s.are_all.are;
   there = λ e. absurd (cc (e));
   took = λ f. (
     lines_of s.found ++ g.0,
     g.1,
-    text_is h held q stats a.segments r old mid o0 o1 e0 e1 s f ∙ (ap (λ t. lines_of s.found ++ t) g.2 ∙ sym (append_assoc (lines_of s.found) g.0 g.1)),
+    text_is h es held q stats r old mid o0 o1 e0 e1 s f ∙ (ap (λ t. lines_of s.found ++ t) g.2 ∙ sym (append_assoc (lines_of s.found) g.0 g.1)),
     Grew-append old mid new (lines_of s.found) g.0 s.printed g.3,
   );
 }
@@ -88,27 +88,27 @@ pub found_unopened : (done : Bool) (q : Asked) (stats : Bool) (seen old : Option
 found_unopened done q stats None old not_done = tt
 found_unopened done q stats (Some bytes) old not_done = subst (λ b. PrintsFound b q stats (Some bytes) old old) (sym not_done) (λ h es stood. text_unopened h es stood.legal.held q stats old)
 
-pub found_stopped : (done : Bool) (q : Asked) (stats : Bool) (seen later : Option (List ℕ)) (a : Shown) (old new : Option (List ℕ)) (o0 o1 e0 e1 : ℕ) → done ≡ false → later ≡ seen → Opens seen a
-    → OfJournal later (λ h _ held. HasStopped h held q a.segments old new o0 o1 e0 e1) → PrintsFound done q stats seen old new
-found_stopped done q stats None later a old new o0 o1 e0 e1 not_done same opened stopped = tt
-found_stopped done q stats (Some bytes) later a old new o0 o1 e0 e1 not_done same opened stopped =
-    let here = subst (λ x. OfJournal x (λ h _ held. HasStopped h held q a.segments old new o0 o1 e0 e1)) same stopped in
-    subst (λ b. PrintsFound b q stats (Some bytes) old new) (sym not_done) (λ h es stood. text_stopped h es stood.legal.held q stats a old new o0 o1 e0 e1 (opened h es stood) (here h es stood))
+pub found_stopped : (done : Bool) (q : Asked) (stats : Bool) (seen later : Option (List ℕ)) (old new : Option (List ℕ)) (o0 o1 e0 e1 : ℕ) → done ≡ false → later ≡ seen
+    → OfJournal later (λ h es held. HasStopped h es held q old new o0 o1 e0 e1) → PrintsFound done q stats seen old new
+found_stopped done q stats None later old new o0 o1 e0 e1 not_done same stopped = tt
+found_stopped done q stats (Some bytes) later old new o0 o1 e0 e1 not_done same stopped =
+    let here = subst (λ x. OfJournal x (λ h es held. HasStopped h es held q old new o0 o1 e0 e1)) same stopped in
+    subst (λ b. PrintsFound b q stats (Some bytes) old new) (sym not_done) (λ h es stood. text_stopped h es stood.legal.held q stats old new o0 o1 e0 e1 (here h es stood))
 
-pub found_done : (q : Asked) (stats : Bool) (seen later : Option (List ℕ)) (a : Shown) (r : Report) (old mid new : Option (List ℕ)) (o0 o1 e0 e1 : ℕ) → later ≡ seen → Opens seen a
-    → OfJournal later (λ h _ held. HasSearched h held q a.segments r old mid o0 o1 e0 e1) → Grew mid new (if stats then found_counts r else []) → PrintsFound true q stats seen old new
-found_done q stats None later a r old mid new o0 o1 e0 e1 same opened searched grew = tt
-found_done q stats (Some bytes) later a r old mid new o0 o1 e0 e1 same opened searched grew =
-    let here = subst (λ x. OfJournal x (λ h _ held. HasSearched h held q a.segments r old mid o0 o1 e0 e1)) same searched in
-    λ h es stood. text_done h es stood.legal.held q stats a r old mid new o0 o1 e0 e1 (opened h es stood) (here h es stood) grew
+pub found_done : (q : Asked) (stats : Bool) (seen later : Option (List ℕ)) (r : Report) (old mid new : Option (List ℕ)) (o0 o1 e0 e1 : ℕ) → later ≡ seen
+    → OfJournal later (λ h es held. HasSearched h es held q r old mid o0 o1 e0 e1) → Grew mid new (if stats then found_counts r else []) → PrintsFound true q stats seen old new
+found_done q stats None later r old mid new o0 o1 e0 e1 same searched grew = tt
+found_done q stats (Some bytes) later r old mid new o0 o1 e0 e1 same searched grew =
+    let here = subst (λ x. OfJournal x (λ h es held. HasSearched h es held q r old mid o0 o1 e0 e1)) same searched in
+    λ h es stood. text_done h es stood.legal.held q stats r old mid new o0 o1 e0 e1 (here h es stood) grew
 
-pub found_uncounted : (done : Bool) (q : Asked) (stats : Bool) (seen later : Option (List ℕ)) (a : Shown) (r : Report) (old mid new : Option (List ℕ)) (o0 o1 e0 e1 : ℕ) → done ≡ false → stats ≡ true → later ≡ seen → Opens seen a
-    → OfJournal later (λ h _ held. HasSearched h held q a.segments r old mid o0 o1 e0 e1) → GrewByFront mid new (found_counts r) → PrintsFound done q stats seen old new
-found_uncounted done q stats None later a r old mid new o0 o1 e0 e1 not_done asked same opened searched g = tt
-found_uncounted done q stats (Some bytes) later a r old mid new o0 o1 e0 e1 not_done asked same opened searched g =
-    let here = subst (λ x. OfJournal x (λ h _ held. HasSearched h held q a.segments r old mid o0 o1 e0 e1)) same searched in
+pub found_uncounted : (done : Bool) (q : Asked) (stats : Bool) (seen later : Option (List ℕ)) (r : Report) (old mid new : Option (List ℕ)) (o0 o1 e0 e1 : ℕ) → done ≡ false → stats ≡ true → later ≡ seen
+    → OfJournal later (λ h es held. HasSearched h es held q r old mid o0 o1 e0 e1) → GrewByFront mid new (found_counts r) → PrintsFound done q stats seen old new
+found_uncounted done q stats None later r old mid new o0 o1 e0 e1 not_done asked same searched g = tt
+found_uncounted done q stats (Some bytes) later r old mid new o0 o1 e0 e1 not_done asked same searched g =
+    let here = subst (λ x. OfJournal x (λ h es held. HasSearched h es held q r old mid o0 o1 e0 e1)) same searched in
     let front : GrewByFront mid new (if stats then found_counts r else []) = subst (λ b. GrewByFront mid new (if b then found_counts r else [])) (sym asked) g in
-    subst (λ b. PrintsFound b q stats (Some bytes) old new) (sym not_done) (λ h es stood. text_uncounted h es stood.legal.held q stats a r old mid new o0 o1 e0 e1 (opened h es stood) (here h es stood) front)
+    subst (λ b. PrintsFound b q stats (Some bytes) old new) (sym not_done) (λ h es stood. text_uncounted h es stood.legal.held q stats r old mid new o0 o1 e0 e1 (here h es stood) front)
 
 -- ---- what is read
 

@@ -12,7 +12,7 @@ use Rattle.archive_open.specs.Shown.{RefusedAt, places_of}
 use Rattle.search_engine.specs.declared.report.Report.{Report}
 use Rattle.search_engine.specs.Opened.{AreOpened}
 use Rattle.search_engine.specs.Scan.{AreFound, AreTried, Asked, Placed, all_placed, lines_of}
-use Rattle.search_engine.specs.Searched.{OfJournal, ReadsNoBarren, asked, names_of}
+use Rattle.search_engine.specs.Searched.{OfJournal, ReadsNoBarren, asked}
 use Rattle.wild_match.specs.Reading.{IsSearchPattern, IsLoneBackslash}
 use Rattle.wild_match.specs.declared.pattern.Item.{Item}
 use Rattle.command_refusals.specs.Ending.{RefusesPatternAtOnce}
@@ -34,7 +34,7 @@ pub record Found (h : Header) (held : Held) (q : Asked) (segments : List Segment
   pub opened : List SegmentPlace
   pub are_found : AreFound h.version q (all_placed (content_of held)) found
   pub are_tried : AreTried h.version q (all_placed (content_of held)) tried
-  pub are_opened : AreOpened (names_of h held) q segments opened
+  pub are_opened : AreOpened held.types held.words q segments opened
 
 -- its counts
 abbrev pub report_of : List Placed → List Placed → List SegmentPlace → List SegmentPlace → Report

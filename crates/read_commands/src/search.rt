@@ -11,7 +11,7 @@ ghost use Rattle.command_refusals.specs.GoesOn.{DiskGoesOn};
 ghost use Rattle.command_refusals.specs.Outside.{AroundSinks};
 ghost use Rattle.read_commands.specs.Searching.{AnswersPattern, PrintsFound, SparesBarren, found_counts};
 
-use archive_open::{Archive, PlainBooks, open_archive};
+use archive_places::open_places;
 use column_store::Range;
 use command_refusals::{
     ReadRefusal, answer, of_search, refusal_of_pattern, refusal_of_read, report,
@@ -97,14 +97,15 @@ fn search_with<R: Threads + Sync, D: Disk, K: Sink, L: Ledger, M: Ledger>(
         (D.state disk.old).faults (D.state disk.new).faults result }
     ensures sink { CountsOf ReadRefusal.SinkFault (K.faults out.old) (K.faults out.new) result }
 {
-    let archive: Archive<PlainBooks> = open_archive(alloc, disk)?;
+    let places = open_places(alloc, disk)?;
+    let last = places.end.saturating_sub(1);
     let mut opened: Steps<L> = Steps::new(opened);
     let mut expanded: Steps<M> = Steps::new(expanded);
     let answer = search(
         rt,
         workers,
         alloc,
-        &archive,
+        places,
         disk,
         pattern,
         range,
@@ -115,7 +116,7 @@ fn search_with<R: Threads + Sync, D: Disk, K: Sink, L: Ledger, M: Ledger>(
     let report = match answer {
         Ok(report) => report,
         // The search tells no place. The first damage is not behind the last gate.
-        Err(refusal) => return Err(of_search(refusal, archive.last_gate())),
+        Err(refusal) => return Err(of_search(refusal, last)),
     };
     if stats {
         print_counts(alloc, &report, out)?;

@@ -21,8 +21,7 @@ use Rattle.archive_open.specs.declared.files.FileEntry.{FileEntry}
 use Rattle.archive_open.specs.declared.segments.SegmentPlace.{SegmentPlace}
 use Rattle.archive_open.specs.Shown.{IsArchiveOf, Shown, counted, order_of, places_from, places_of}
 use Rattle.search_engine.specs.Scan.{Placed, all_placed, numbered, placed}
-use Rattle.search_engine.specs.Held.{HaveMessages, Named}
-use Rattle.search_engine.specs.Searched.{names_of}
+use Rattle.search_engine.proofs.RowsHeld.{HasRows, HaveRows, Texts, texts_of}
 use Rattle.search_engine.proofs.HeldLemmas.{held_from, is_of, or_false, piece_messages, piece_whole, place_in, same_file}
 use Rattle.search_engine.proofs.OrderLemmas.{AreAbove, AreAtLeast, NeverFall, Rise, above_from, least_lower, never_fall, sorted_filter}
 
@@ -90,15 +89,15 @@ module _ (h : Header) (number : ℕ) where
 
 -- the segments of a file in the archive of a journal hold the file's messages
 file_held : (bytes : List ℕ) (h : Header) (es : List JournalEntry) (a : Shown) (number : ℕ) (f : FileEntry) (stood : StandsFor bytes h es) → slice_get a.files number ≡ Some f → IsArchiveOf a h es stood.legal.held
-    → HaveMessages bytes (names_of h stood.legal.held) a.files (filter (is_of number) a.segments) (numbered f.name 1 (messages_of number stood.legal.held.pieces))
+    → HaveRows bytes (texts_of h stood.legal.held) a.files (filter (is_of number) a.segments) (numbered f.name 1 (messages_of number stood.legal.held.pieces))
 file_held bytes h es a number f stood is_file is =
     let held = stood.legal.held in
     let start : 32 ≡ length (front_of h []) = omega (arith, front_length h []) in
     let from = held_from bytes h es stood a.files number f is_file [] es nothing_held held 32 [] refl stood.legal.run start refl refl in
     let order = ordered h number 32 [] es nothing_held held stood.legal.run in
     let sorted = sorted_filter order_of (is_of number) (places_of es) a.segments is.segments is.sorted order.rise in
-    subst (λ l. HaveMessages bytes (names_of h held) a.files l (numbered f.name 1 (messages_of number held.pieces))) (sym sorted)
-    (subst (λ m. HaveMessages bytes (names_of h held) a.files (filter (is_of number) (places_of es)) (numbered f.name 1 m)) (sym from.are) from.hold)
+    subst (λ l. HaveRows bytes (texts_of h held) a.files l (numbered f.name 1 (messages_of number held.pieces))) (sym sorted)
+    (subst (λ m. HaveRows bytes (texts_of h held) a.files (filter (is_of number) (places_of es)) (numbered f.name 1 m)) (sym from.are) from.hold)
 
 -- ---- by file
 
@@ -162,9 +161,9 @@ cut k m (p ∷ ps) fall least below = elim (cases_lt k p.head.file) as (λ z. Cu
       }
 ]
 
-have_append : (bytes : List ℕ) (n : Named) (files : List FileEntry) (ps qs : List SegmentPlace) (all more : List Placed) → HaveMessages bytes n files ps all → HaveMessages bytes n files qs more
-    → HaveMessages bytes n files (ps ++ qs) (all ++ more)
-have_append bytes n files [] qs all more one two = subst (λ l. HaveMessages bytes n files qs (l ++ more)) (sym one) two
+have_append : (bytes : List ℕ) (n : Texts) (files : List FileEntry) (ps qs : List SegmentPlace) (all more : List Placed) → HaveRows bytes n files ps all → HaveRows bytes n files qs more
+    → HaveRows bytes n files (ps ++ qs) (all ++ more)
+have_append bytes n files [] qs all more one two = subst (λ l. HaveRows bytes n files qs (l ++ more)) (sym one) two
 have_append bytes n files (p ∷ ps) qs all more one two = (
   one.0,
   one.1,
@@ -175,27 +174,27 @@ have_append bytes n files (p ∷ ps) qs all more one two = (
   ap (λ (l : List Placed). l ++ more) one.6 ∙ append_assoc (numbered one.0.name (p.head.first + 1) one.1) one.2 more,
 )
 
-grouped : (bytes : List ℕ) (n : Named) (files : List FileEntry) (pieces : List Piece) (k : ℕ) (names : List (List ℕ)) (ps : List SegmentPlace) → NeverFall file_no ps → AreAtLeast file_no k ps → AreBelow (k + length names) ps
-    → ((j : ℕ) (name : List ℕ) → slice_get names j ≡ Some name → HaveMessages bytes n files (filter (is_of (k + j)) ps) (numbered name 1 (messages_of (k + j) pieces)))
-    → HaveMessages bytes n files ps (all_placed (files_from k names pieces))
+grouped : (bytes : List ℕ) (n : Texts) (files : List FileEntry) (pieces : List Piece) (k : ℕ) (names : List (List ℕ)) (ps : List SegmentPlace) → NeverFall file_no ps → AreAtLeast file_no k ps → AreBelow (k + length names) ps
+    → ((j : ℕ) (name : List ℕ) → slice_get names j ≡ Some name → HaveRows bytes n files (filter (is_of (k + j)) ps) (numbered name 1 (messages_of (k + j) pieces)))
+    → HaveRows bytes n files ps (all_placed (files_from k names pieces))
 grouped bytes n files pieces k [] [] fall least below each = refl
 grouped bytes n files pieces k [] (p ∷ ps) fall least below each = absurd (omega (arith, least.0, below.0))
 grouped bytes n files pieces k (name ∷ names) ps fall least below each =
     let c = cut k (k + length (name ∷ names)) ps fall least below in
     let zero_k : k + 0 ≡ k = omega arith in
-    let own : HaveMessages bytes n files c.front (numbered name 1 (messages_of k pieces)) =
-    subst (λ l. HaveMessages bytes n files l (numbered name 1 (messages_of k pieces))) c.own
-    (subst (λ i. HaveMessages bytes n files (filter (is_of i) ps) (numbered name 1 (messages_of i pieces))) zero_k (each 0 name refl)) in
+    let own : HaveRows bytes n files c.front (numbered name 1 (messages_of k pieces)) =
+    subst (λ l. HaveRows bytes n files l (numbered name 1 (messages_of k pieces))) c.own
+    (subst (λ i. HaveRows bytes n files (filter (is_of i) ps) (numbered name 1 (messages_of i pieces))) zero_k (each 0 name refl)) in
     let count : k + length (name ∷ names) ≡ k + 1 + length names = omega arith in
-    let rest : HaveMessages bytes n files c.rest (all_placed (files_from (k + 1) names pieces)) =
+    let rest : HaveRows bytes n files c.rest (all_placed (files_from (k + 1) names pieces)) =
     grouped bytes n files pieces (k + 1) names c.rest c.fall c.least (subst (λ m. AreBelow m c.rest) count c.below)
     (λ j other is.
     let next : k + suc j ≡ k + 1 + j = omega arith in
-    subst (λ l. HaveMessages bytes n files l (numbered other 1 (messages_of (k + 1 + j) pieces))) (c.others (k + 1 + j) (omega arith))
-    (subst (λ i. HaveMessages bytes n files (filter (is_of i) ps) (numbered other 1 (messages_of i pieces))) next (each (suc j) other is))) in
+    subst (λ l. HaveRows bytes n files l (numbered other 1 (messages_of (k + 1 + j) pieces))) (c.others (k + 1 + j) (omega arith))
+    (subst (λ i. HaveRows bytes n files (filter (is_of i) ps) (numbered other 1 (messages_of i pieces))) next (each (suc j) other is))) in
     let file : File = record { name = name; messages = messages_of k pieces; whole = is_whole k pieces; ended = is_ended k pieces } in
-    subst (λ l. HaveMessages bytes n files l (all_placed (files_from k (name ∷ names) pieces))) (sym c.whole)
-    (subst (λ l. HaveMessages bytes n files (c.front ++ c.rest) l) (sym (flat_map-cons (λ (f : File). numbered f.name 1 f.messages) file (files_from (k + 1) names pieces)))
+    subst (λ l. HaveRows bytes n files l (all_placed (files_from k (name ∷ names) pieces))) (sym c.whole)
+    (subst (λ l. HaveRows bytes n files (c.front ++ c.rest) l) (sym (flat_map-cons (λ (f : File). numbered f.name 1 f.messages) file (files_from (k + 1) names pieces)))
     (have_append bytes n files c.front c.rest (numbered name 1 (messages_of k pieces)) (all_placed (files_from (k + 1) names pieces)) own rest))
 
 -- ---- where the segments lie
@@ -276,19 +275,19 @@ file_named k (other ∷ names) pieces zero name is = record { f = _; is = refl; 
 file_named k (other ∷ names) pieces (suc j) name is = let r = file_named (k + 1) names pieces j name is in record { f = r.f; is = r.is; called = r.called }
 
 pub shown_have : (bytes : List ℕ) (h : Header) (es : List JournalEntry) (a : Shown) (stood : StandsFor bytes h es) → IsArchiveOf a h es stood.legal.held
-    → HaveMessages bytes (names_of h stood.legal.held) a.files a.segments (all_placed (content_of stood.legal.held))
+    → HaveRows bytes (texts_of h stood.legal.held) a.files a.segments (all_placed (content_of stood.legal.held))
 shown_have bytes h es a stood is =
     let held = stood.legal.held in
     let fit : All (IsPlaced (length held.names)) a.segments =
     All-permutation (IsPlaced (length held.names)) (places_of es) a.segments is.segments (places_fit h 32 [] es nothing_held held stood.legal.run stood.legal.named) in
-    grouped bytes (names_of h held) a.files held.pieces 0 held.names a.segments (file_falls (length held.names) a.segments fit (never_fall order_of a.segments is.sorted)) (least_zero a.segments)
+    grouped bytes (texts_of h held) a.files held.pieces 0 held.names a.segments (file_falls (length held.names) a.segments fit (never_fall order_of a.segments is.sorted)) (least_zero a.segments)
     (subst (λ m. AreBelow m a.segments) (omega arith) (all_below (length held.names) a.segments fit))
     (λ j name named.
     let f = file_named 0 held.names held.pieces j name named in
     let here : slice_get a.files j ≡ Some f.f = subst (λ l. slice_get l j ≡ Some f.f) (sym is.files) f.is in
     let zero_j : j ≡ 0 + j = omega arith in
-    subst (λ i. HaveMessages bytes (names_of h held) a.files (filter (is_of i) a.segments) (numbered name 1 (messages_of i held.pieces))) zero_j
-    (subst (λ x. HaveMessages bytes (names_of h held) a.files (filter (is_of j) a.segments) (numbered x 1 (messages_of j held.pieces))) f.called (file_held bytes h es a j f.f stood here is)))
+    subst (λ i. HaveRows bytes (texts_of h held) a.files (filter (is_of i) a.segments) (numbered name 1 (messages_of i held.pieces))) zero_j
+    (subst (λ x. HaveRows bytes (texts_of h held) a.files (filter (is_of j) a.segments) (numbered x 1 (messages_of j held.pieces))) f.called (file_held bytes h es a j f.f stood here is)))
 
 -- ---- few messages
 

@@ -31,8 +31,7 @@ use Rattle.archive_open.specs.declared.files.FileEntry.{FileEntry}
 use Rattle.archive_open.specs.declared.segments.SegmentPlace.{SegmentPlace}
 use Rattle.archive_open.specs.Shown.{head_in, places_from}
 use Rattle.search_engine.specs.Scan.{numbered}
-use Rattle.search_engine.specs.Held.{HasMessages, HaveMessages}
-use Rattle.search_engine.specs.Searched.{names_of}
+use Rattle.search_engine.proofs.RowsHeld.{HasRows, HaveRows, Texts, texts_of}
 use Rattle.search_engine.proofs.SofarLemmas.{numbered_append}
 
 -- the segment is one of the file of a number
@@ -141,7 +140,7 @@ module _ (bytes : List ℕ) (h : Header) (all : List JournalEntry) (stood : Stan
   pub record AddsHeld (at : ℕ) (types : List (List ℕ)) (es : List JournalEntry) (old more : Held) : Type 0 where
     pub messages : List (List ℕ)
     pub are : messages_of number more.pieces ≡ messages_of number old.pieces ++ messages
-    pub hold : HaveMessages bytes (names_of h more) files (places at types es) (numbered f.name (length (messages_of number old.pieces) + 1) messages)
+    pub hold : HaveRows bytes (texts_of h more) files (places at types es) (numbered f.name (length (messages_of number old.pieces) + 1) messages)
 
   segment_held : (before after : List JournalEntry) (s : SegmentEntry) (messages : List (List ℕ)) (old mid more : Held) (at : ℕ) (types : List (List ℕ))
       → all ≡ before ++ Segment s ∷ after → AddsSegment h.version old s messages → (mid ≡ record old { pieces = old.pieces ++ piece_of s messages ∷ [] })
@@ -155,7 +154,7 @@ module _ (bytes : List ℕ) (h : Header) (all : List JournalEntry) (stood : Stan
       next : ℕ
       next = at + 10 + length (record_of types (Segment s)).payload
 
-      here : HasMessages bytes (names_of h more) (place_in at types s) messages
+      here : HasRows bytes (texts_of h more) (place_in at types s) messages
       here = record {
         rows = s.rows;
         holds = subst (λ t. HoldsSegment (at + 10) (length (record_of t (Segment s)).payload) (head_in t s) bytes s.rows) (sym ts)
@@ -170,7 +169,7 @@ module _ (bytes : List ℕ) (h : Header) (all : List JournalEntry) (stood : Stan
       by_test true t = record {
         messages = messages ++ later.messages;
         are = later.are ∙ (ap (λ l. l ++ later.messages) (grown ∙ ap (λ b. messages_of number old.pieces ++ (if b then messages else [])) t) ∙ append_assoc (messages_of number old.pieces) messages later.messages);
-        hold = subst (λ b. HaveMessages bytes (names_of h more) files (cond b (place_in at types s ∷ places next (types ++ []) after) (places next (types ++ []) after)) (numbered f.name (length (messages_of number old.pieces) + 1) (messages ++ later.messages))) (sym t)
+        hold = subst (λ b. HaveRows bytes (texts_of h more) files (cond b (place_in at types s ∷ places next (types ++ []) after) (places next (types ++ []) after)) (numbered f.name (length (messages_of number old.pieces) + 1) (messages ++ later.messages))) (sym t)
             (f, messages, numbered f.name (length (messages_of number mid.pieces) + 1) later.messages, subst (λ n. slice_get files n ≡ Some f) (sym same) is_file, here, later.hold, parts);
       }
         where
@@ -189,8 +188,8 @@ module _ (bytes : List ℕ) (h : Header) (all : List JournalEntry) (stood : Stan
       by_test false t = record {
         messages = later.messages;
         are = later.are ∙ ap (λ l. l ++ later.messages) same_old;
-        hold = subst (λ b. HaveMessages bytes (names_of h more) files (cond b (place_in at types s ∷ places next (types ++ []) after) (places next (types ++ []) after)) (numbered f.name (length (messages_of number old.pieces) + 1) later.messages)) (sym t)
-            (subst (λ l. HaveMessages bytes (names_of h more) files (places next (types ++ []) after) (numbered f.name (length l + 1) later.messages)) same_old later.hold);
+        hold = subst (λ b. HaveRows bytes (texts_of h more) files (cond b (place_in at types s ∷ places next (types ++ []) after) (places next (types ++ []) after)) (numbered f.name (length (messages_of number old.pieces) + 1) later.messages)) (sym t)
+            (subst (λ l. HaveRows bytes (texts_of h more) files (places next (types ++ []) after) (numbered f.name (length l + 1) later.messages)) same_old later.hold);
       }
         where
           same_old : messages_of number mid.pieces ≡ messages_of number old.pieces
@@ -200,14 +199,14 @@ module _ (bytes : List ℕ) (h : Header) (all : List JournalEntry) (stood : Stan
   kept_pieces at types es a b more same adds = record {
     messages = adds.messages;
     are = adds.are ∙ ap (λ p. messages_of number p ++ adds.messages) same;
-    hold = subst (λ p. HaveMessages bytes (names_of h more) files (places at types es) (numbered f.name (length (messages_of number p) + 1) adds.messages)) same adds.hold;
+    hold = subst (λ p. HaveRows bytes (texts_of h more) files (places at types es) (numbered f.name (length (messages_of number p) + 1) adds.messages)) same adds.hold;
   }
 
   skipped : (at next : ℕ) (types more_types : List (List ℕ)) (e : JournalEntry) (es : List JournalEntry) (old more : Held) → places at types (e ∷ es) ≡ places next more_types es → AddsHeld next more_types es old more → AddsHeld at types (e ∷ es) old more
   skipped at next types more_types e es old more same adds = record {
     messages = adds.messages;
     are = adds.are;
-    hold = subst (λ ps. HaveMessages bytes (names_of h more) files ps (numbered f.name (length (messages_of number old.pieces) + 1) adds.messages)) (sym same) adds.hold;
+    hold = subst (λ ps. HaveRows bytes (texts_of h more) files ps (numbered f.name (length (messages_of number old.pieces) + 1) adds.messages)) (sym same) adds.hold;
   }
 
   pub held_from : (before es : List JournalEntry) (old more : Held) (at : ℕ) (types : List (List ℕ)) → all ≡ before ++ es → Run h old es more → at ≡ length (front_of h before) → types ≡ types_of before → old.types ≡ types → AddsHeld at types es old more

@@ -8,8 +8,14 @@ pub mod VerdictLemmas
 pub mod SegmentLemmas
 pub mod RunLemmas
 pub mod OrderLemmas
+pub mod RowsHeld
 pub mod HeldLemmas
 pub mod GroupLemmas
 pub mod AsideLemmas
+pub mod FrontLemmas
+pub mod AskLemmas
 pub mod SearchLemmas
+pub mod JournalLemmas
 pub mod LawLemmas
+pub mod ReadyLemmas
+pub mod PagesReadLemmas

@@ -1,18 +1,19 @@
 -- What the pages of a segment have passed.
-use Rattle.std.proofs.Common.{◌≡◌, inl, ℕ, suc, ◌+◌, ◌*◌, ◌≤◌, List, [], ◌∷◌, ◌++◌, length, Option, Some, None, refl, sym, ◌∙◌, ap, ap₂, subst, arith, length-append}
+use Rattle.std.proofs.Common.{◌≡◌, inl, inr, ⊎_elim, ℕ, suc, ◌+◌, ◌*◌, ◌≤◌, List, [], ◌∷◌, ◌++◌, length, Option, Some, None, refl, sym, ◌∙◌, ap, ap₂, subst, arith, length-append}
 use Rattle.std.proofs.lemmas.List.{append-nil, append_assoc}
-use Rattle.log_seams.specs.Disk.{DiskState, Rests}
+use Rattle.log_seams.specs.Disk.{DiskState}
 use Rattle.column_store.specs.declared.row.Row.{Row}
-use Rattle.segment_pages.specs.Reads.{OnlyReadsIn}
 use Rattle.segment_format.specs.Pages.{page_rows}
-use Rattle.segment_pages.specs.Paged.{AreNextTold, HoldsNoneTold, Paged, ReadsColumns, columns_size}
+use Rattle.segment_pages.specs.Paged.{AreNextTold, HoldsNoneTold, Paged, columns_size}
 use Rattle.segment_pages.specs.Laws.{NoneAreLeft}
-use Rattle.segment_pages.proofs.ReadLemmas.{none_within, reads_on}
+use Rattle.subquery_filter.specs.declared.verdicts.Verdict.{Verdict}
+use Rattle.search_engine.specs.PagesRead.{IsOfPage, ReadsPage}
 use Rattle.search_engine.specs.Scan.{Asked, numbered}
 use Rattle.search_engine.specs.Waiting.{Blames, Halts, Page, Pending, Reaches, State, page, sofar_of, state}
 use Rattle.search_engine.specs.Sofar.{sofar}
 use Rattle.search_engine.specs.Held.{AreRowsOf, Named, OfLeft}
 use Rattle.search_engine.specs.StepsPast.{PageGone, PagesPast, PastTold}
+use Rattle.search_engine.proofs.PagesReadLemmas.{such_none, such_on, such_weaker}
 use Rattle.search_engine.proofs.SofarLemmas.{front_none, numbered_append}
 use Rattle.search_engine.proofs.WaitingLemmas.{halts_behind, halts_here, halts_more, reaches_none, reaches_on, reaches_page}
 
@@ -27,24 +28,31 @@ pub record Parts (n : Named) (rows others : List Row) (messages : List (List ℕ
   pub second : AreRowsOf n others left
 
 pub parts_of : (n : Named) (rows others : List Row) (messages : List (List ℕ)) → AreRowsOf n (rows ++ others) messages → Parts n rows others messages
-parts_of n [] others messages are = record { gone = []; left = messages; all = refl; counted = refl; first = tt; second = are }
-parts_of n (r ∷ rows) others [] are = absurd are
+parts_of n [] others messages are = record { gone = []; left = messages; all = refl; counted = refl; first = record { told = are.told; are = tt }; second = are }
+parts_of n (r ∷ rows) others [] are = absurd are.are
 parts_of n (r ∷ rows) others (m ∷ messages) are =
-    let p = parts_of n rows others messages are.1 in
-    record { gone = m ∷ p.gone; left = p.left; all = ap (λ (l : List (List ℕ)). m ∷ l) p.all; counted = ap suc p.counted; first = (are.0, p.first); second = p.second }
+    let p = parts_of n rows others messages (record { told = are.told; are = are.are.1 }) in
+    record {
+      gone = m ∷ p.gone;
+      left = p.left;
+      all = ap (λ (l : List (List ℕ)). m ∷ l) p.all;
+      counted = ap suc p.counted;
+      first = record { told = are.told; are = (are.are.0, p.first.are) };
+      second = p.second;
+    }
 
 -- ---- one page
 
 -- a page was read, and waits
-pub page_past : (seen : Option (List ℕ)) (start now : Paged) (n : Named) (q : Asked) (name : List ℕ) (number count : ℕ) (rows : List Row) (w : Option (List ℕ)) (x y z : Pending) (t : ℕ) (p : Page) → AreNextTold seen start now rows
-    → count ≡ length rows → y ≡ x → p ≡ page name number rows → z ≡ record { gathered = y.gathered; counts = y.counts; pages = y.pages ++ p ∷ [] } → PastTold seen start n q name number now count (state w x t) (state w z t)
-page_past None start now n q name number count rows w x y z t p next long still is added = tt
-page_past (Some bytes) start now n q name number count rows w x y z t p next long still is added = λ all messages holds are.
+pub page_past : (seen : Option (List ℕ)) (start now : Paged) (n : Named) (q : Asked) (name : List ℕ) (number count : ℕ) (rows : List Row) (verdicts : List Verdict) (w : Option (List ℕ)) (x y z : Pending) (t : ℕ) (p : Page) → AreNextTold seen start now rows
+    → count ≡ length rows → y ≡ x → p ≡ page name number rows verdicts → z ≡ record { gathered = y.gathered; counts = y.counts; pages = y.pages ++ p ∷ [] } → PastTold seen start n q name number now count (state w x t) (state w z t)
+page_past None start now n q name number count rows verdicts w x y z t p next long still is added = tt
+page_past (Some bytes) start now n q name number count rows verdicts w x y z t p next long still is added = λ all messages holds are.
     let behind = next all holds in
     let parts = parts_of n rows behind.0 messages (subst (λ l. AreRowsOf n l messages) behind.1 are) in
     let same : sofar_of (state w z t) ≡ sofar_of (state w x t) =
     ap (λ (e : Pending). sofar w e.gathered e.counts t) added ∙ ap (λ (e : Pending). sofar w e.gathered e.counts t) still in
-    let pages : z.pages ≡ x.pages ++ page name number rows ∷ [] =
+    let pages : z.pages ≡ x.pages ++ page name number rows verdicts ∷ [] =
     ap (λ (e : Pending). e.pages) added ∙ ap₂ (λ (e : Pending) (o : Page). e.pages ++ o ∷ []) still is in
     record {
       gone = parts.gone;
@@ -54,7 +62,7 @@ page_past (Some bytes) start now n q name number count rows w x y z t p next lon
       counted = parts.counted ∙ sym long;
       holds = behind.2;
       are = parts.second;
-      reaches = reaches_page n q (state w x t) (state w z t) name number rows parts.gone parts.first same pages;
+      reaches = reaches_page n q (state w x t) (state w z t) name number rows verdicts parts.gone parts.first same pages;
     }
 
 -- the pages that waited were searched
@@ -130,7 +138,7 @@ past_on (Some bytes) later start mid now n q name number at k m all a b c same p
 
 no_messages : (n : Named) (rows : List Row) (messages : List (List ℕ)) → rows ≡ [] → AreRowsOf n rows messages → messages ≡ []
 no_messages n rows [] none are = refl
-no_messages n rows (m ∷ messages) none are = absurd (subst (λ l. AreRowsOf n l (m ∷ messages)) none are)
+no_messages n rows (m ∷ messages) none are = absurd (subst (λ l. AreRowsOf n l (m ∷ messages)) none are).are
 
 pub past_end : (seen : Option (List ℕ)) (start now : Paged) (n : Named) (q : Asked) (name : List ℕ) (number count : ℕ) (a b : State) → NoneAreLeft → now.pages.rows ≤ now.pages.row
     → PastTold seen start n q name number now count a b → OfLeft seen start n (λ messages. Reaches n q (numbered name number messages) a b)
@@ -164,35 +172,24 @@ left_nothing seen start n never = absurd never
 
 -- ---- the disk
 
-rests_none : (d : DiskState) → Rests d d
-rests_none d = record {
-  seen = refl;
-  no_more = λ c is. is;
-  no_fewer = λ c is. is;
-  time = record { later = omega arith; nothing_else = λ t c le is. inl is; keeps = λ t c le is. is };
-}
-
-pub reads_none : (at n : ℕ) (d : DiskState) → OnlyReadsIn at n d d
-reads_none at n d = record { rests = rests_none d; ranges = none_within at n d.ranges d.ranges refl }
-
 -- ---- the loop over pages
 
 -- the columns of a reader that went on are the same
-same_columns : (start now : Paged) (old new : DiskState) → (now.at ≡ start.at) × (now.pages.start ≡ start.pages.start) × (now.pages.rows ≡ start.pages.rows) × (now.pages.variables ≡ start.pages.variables)
-    → ReadsColumns now old new → ReadsColumns start old new
-same_columns start now old new same reads =
+same_columns : (n : Named) (start now : Paged) (old new : DiskState) → (now.at ≡ start.at) × (now.pages.start ≡ start.pages.start) × (now.pages.rows ≡ start.pages.rows) × (now.pages.variables ≡ start.pages.variables)
+    → ReadsPage n now old new → ReadsPage n start old new
+same_columns n start now old new same reads =
     let from : now.at + now.pages.start ≡ start.at + start.pages.start = ap₂ (λ (x y : ℕ). x + y) same.0 same.1 in
     let size : columns_size now.pages ≡ columns_size start.pages = ap₂ (λ (x y : ℕ). 17 * x + 8 * y) same.2 same.3 in
-    subst (λ k. OnlyReadsIn k (columns_size start.pages) old new) from (subst (λ k. OnlyReadsIn (now.at + now.pages.start) k old new) size reads)
+    such_weaker (IsOfPage n now) (IsOfPage n start) old new
+    (λ r is. ⊎_elim (λ within. inl (omega (arith, within.0, from), omega (arith, within.1, from, size))) (λ words. inr words) is) reads
 
 pub pages_reads : (seen : Option (List ℕ)) (old mid new : DiskState) (start now : Paged) (n : Named) (q : Asked) (name : List ℕ) (number at : ℕ) (a b : State) → PagesPast seen old mid start now n q name number at a b
-    → ReadsColumns now mid new → ReadsColumns start old new
-pages_reads seen old mid new start now n q name number at a b past reads =
-    reads_on (start.at + start.pages.start) (columns_size start.pages) old mid new past.reads (same_columns start now mid new past.same reads)
+    → ReadsPage n now mid new → ReadsPage n start old new
+pages_reads seen old mid new start now n q name number at a b past reads = such_on (IsOfPage n start) old mid new past.reads (same_columns n start now mid new past.same reads)
 
 pub pages_first : (d : DiskState) (start : Paged) (n : Named) (q : Asked) (name : List ℕ) (number : ℕ) (a : State) → start.pages.row ≡ 0 → PagesPast d.seen d d start start n q name number number a a
 pages_first d start n q name number a zero = record {
-  reads = reads_none (start.at + start.pages.start) (columns_size start.pages) d;
+  reads = such_none (IsOfPage n start) d;
   faults = refl;
   place = omega (arith, zero);
   same = (refl, refl, refl, refl);
@@ -200,7 +197,7 @@ pages_first d start n q name number a zero = record {
 }
 
 pub pages_next : (old mid new : DiskState) (start now later : Paged) (n : Named) (q : Asked) (name : List ℕ) (number at next count : ℕ) (a b c : State) → PagesPast old.seen old mid start now n q name number at a b
-    → ReadsColumns now mid new → new.faults ≡ mid.faults → PageGone now later count → next ≡ at + count
+    → ReadsPage n now mid new → new.faults ≡ mid.faults → PageGone now later count → next ≡ at + count
     → PastTold mid.seen now n q name at later count b c → PagesPast old.seen old new start later n q name number next a c
 pages_next old mid new start now later n q name number at next count a b c past reads faults gone place more =
     let is = gone.1 in

@@ -125,7 +125,7 @@ row_passes version q range row types words name number message text w g g1 g2 h 
 
 -- ---- the rows of a page
 
-drop_here : (rows : List Row) (k : ℕ) (row : Row) → slice_get rows k ≡ Some row → drop k rows ≡ row ∷ drop (k + 1) rows
+pub drop_here : (rows : List Row) (k : ℕ) (row : Row) → slice_get rows k ≡ Some row → drop k rows ≡ row ∷ drop (k + 1) rows
 drop_here rows k row is =
     let next : suc k ≡ k + 1 = omega arith in
     drop-cons rows k row (slice_get_within rows k row is) ∙ ap₂ (λ (r : Row) (n : ℕ). r ∷ drop n rows) (get_or_from_slice_get rows k row row is) next
@@ -139,8 +139,8 @@ pub record HasNextRow (n : Named) (row : Row) (others : List Row) (messages : Li
   pub are : AreRowsOf n others left
 
 first_row : (n : Named) (row : Row) (others : List Row) (messages : List (List ℕ)) → AreRowsOf n (row ∷ others) messages → HasNextRow n row others messages
-first_row n row others [] are = absurd are
-first_row n row others (m ∷ messages) are = record { message = m; left = messages; all = refl; is = are.0; are = are.1 }
+first_row n row others [] are = absurd are.are
+first_row n row others (m ∷ messages) are = record { message = m; left = messages; all = refl; is = are.are.0; are = record { told = are.told; are = are.are.1 } }
 
 next_row : (n : Named) (rows : List Row) (k : ℕ) (row : Row) (messages : List (List ℕ)) → slice_get rows k ≡ Some row → AreRowsOf n (drop k rows) messages → HasNextRow n row (drop (k + 1) rows) messages
 next_row n rows k row messages is are = first_row n row (drop (k + 1) rows) messages (subst (λ l. AreRowsOf n l messages) (drop_here rows k row is) are)
@@ -174,7 +174,7 @@ rows_next n q name number at rows k row messages a b c place is past one =
 
 none_left : (n : Named) (rows : List Row) (messages : List (List ℕ)) → rows ≡ [] → AreRowsOf n rows messages → messages ≡ []
 none_left n rows [] none are = refl
-none_left n rows (m ∷ messages) none are = absurd (subst (λ l. AreRowsOf n l (m ∷ messages)) none are)
+none_left n rows (m ∷ messages) none are = absurd (subst (λ l. AreRowsOf n l (m ∷ messages)) none are).are
 
 pub rows_end : (n : Named) (q : Asked) (name : List ℕ) (number : ℕ) (rows : List Row) (k : ℕ) (messages : List (List ℕ)) (a b : Option (List ℕ) → Sofar) → length rows ≤ k
     → PastRows n q name number rows k messages a b → (w : Option (List ℕ)) → Passes n.version q (numbered name number messages) (a w) (b w)

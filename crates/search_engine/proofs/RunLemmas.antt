@@ -1,22 +1,19 @@
 -- The loop over segments.
-use Rattle.std.proofs.Common.{◌≡◌, ℕ, suc, ◌+◌, ◌<◌, ◌≤◌, List, [], ◌∷◌, ◌++◌, length, take, drop, get_or, Option, Some, None, option_map, refl, sym, ◌∙◌, ap, ap₂, subst, arith, length-append, take-append-drop}
+use Rattle.std.proofs.Common.{◌≡◌, inl, inr, ⊎_elim, ℕ, suc, ◌+◌, ◌<◌, ◌≤◌, List, [], ◌∷◌, ◌++◌, length, take, drop, get_or, Option, Some, None, option_map, refl, sym, ◌∙◌, ap, ap₂, subst, arith, length-append, take-append-drop}
 use Rattle.std.specs.List.{Contains}
 use Rattle.std.proofs.lemmas.List.{append-nil, append_assoc, take_all}
 use Rattle.std.proofs.lemmas.List.Elements.{All-append, All-weaker, Contains-get_or}
 use Rattle.std.proofs.Math.Seq.{drop-cons, take-add}
 use Rattle.std.proofs.Math.ListN.{drop_of_length-le}
-use Rattle.log_seams.specs.Disk.{DiskState, Rests}
-use Rattle.log_seams.proofs.MomentLemmas.{rests_on}
 use Rattle.archive_open.specs.declared.files.FileEntry.{FileEntry}
 use Rattle.archive_open.specs.declared.segments.SegmentPlace.{SegmentPlace}
 use Rattle.search_engine.specs.Scan.{Asked, Placed, numbered}
 use Rattle.search_engine.specs.Waiting.{Blames, Halts, State}
 use Rattle.search_engine.specs.Held.{HaveMessages, Named, OfSegments}
 use Rattle.search_engine.specs.Opened.{AreOpened, IsBarrenFor, IsRead, ReadsOpened, Searched, Stopped}
-use Rattle.search_engine.specs.StepsPast.{SegmentsPastTold, SegmentsRun}
+use Rattle.search_engine.specs.StepsPast.{SegmentsPastTold}
 use Rattle.search_engine.proofs.SofarLemmas.{picks_append, picks_once, picks_split}
 use Rattle.search_engine.proofs.WaitingLemmas.{halts_behind, halts_more, reaches_none, reaches_on}
-use Rattle.search_engine.proofs.SegmentLemmas.{nothing_read, rests_none}
 
 -- ---- the next segment
 
@@ -64,7 +61,8 @@ reads_one n q ps p old new here reads = record {
   more = reads.more;
   added = reads.added;
   each = All-weaker (IsRead n q (p ∷ [])) (IsRead n q ps)
-      (λ r is. record { p = is.p; is = only p is.p ps here is.is; opened = is.opened; start = is.start; end = is.end }) reads.more reads.each;
+      (λ r is. ⊎_elim (λ c. inl (record { p = c.p; is = only p c.p ps here c.is; opened = c.opened; start = c.start; end = c.end }))
+          (λ other. inr (⊎_elim (λ h. inl (record { p = h.p; is = only p h.p ps here h.is; start = h.start; end = h.end })) (λ words. inr words) other)) is) reads.more reads.each;
 }
 
 two_added : (old mid new : Option (List (ℕ × ℕ))) (a b : List (ℕ × ℕ)) → mid ≡ option_map (λ ranges. ranges ++ a) old → new ≡ option_map (λ ranges. ranges ++ b) mid
@@ -72,7 +70,7 @@ two_added : (old mid new : Option (List (ℕ × ℕ))) (a b : List (ℕ × ℕ))
 two_added None mid new a b one two = two ∙ ap (option_map (λ ranges. ranges ++ b)) one
 two_added (Some ranges) mid new a b one two = two ∙ ap (option_map (λ ranges. ranges ++ b)) one ∙ ap Some (append_assoc ranges a b)
 
-reads_joined : (n : Named) (q : Asked) (ps : List SegmentPlace) (old mid new : Option (List (ℕ × ℕ))) → ReadsOpened n q ps old mid → ReadsOpened n q ps mid new → ReadsOpened n q ps old new
+pub reads_joined : (n : Named) (q : Asked) (ps : List SegmentPlace) (old mid new : Option (List (ℕ × ℕ))) → ReadsOpened n q ps old mid → ReadsOpened n q ps mid new → ReadsOpened n q ps old new
 reads_joined n q ps old mid new one two = record {
   more = one.more ++ two.more;
   added = two_added old mid new one.more two.more one.added two.added;
@@ -81,7 +79,7 @@ reads_joined n q ps old mid new one two = record {
 
 -- ---- the loop
 
-past_none : (seen : Option (List ℕ)) (n : Named) (files : List FileEntry) (q : Asked) (ps : List SegmentPlace) (a : State) (t : ℕ) → SegmentsPastTold seen n files q ps 0 a a t t 0
+pub past_none : (seen : Option (List ℕ)) (n : Named) (files : List FileEntry) (q : Asked) (ps : List SegmentPlace) (a : State) (t : ℕ) → SegmentsPastTold seen n files q ps 0 a a t t 0
 past_none None n files q ps a t = tt
 past_none (Some bytes) n files q ps a t = λ all distinct have. record {
   gone = [];
@@ -91,16 +89,7 @@ past_none (Some bytes) n files q ps a t = λ all distinct have. record {
   searched = record { reaches = reaches_none n q a; opened = []; are_opened = refl; ticked = omega arith; counted = refl };
 }
 
-pub run_first : (d : DiskState) (n : Named) (files : List FileEntry) (q : Asked) (ps : List SegmentPlace) (a : State) (t : ℕ) → SegmentsRun d d n files q ps 0 a a t t 0
-run_first d n files q ps a t = record {
-  rests = rests_none d;
-  faults = refl;
-  reads = nothing_read d.seen n files q ps d.ranges d.ranges refl;
-  past = past_none d.seen n files q ps a t;
-  few = omega arith;
-}
-
-past_next : (seen later : Option (List ℕ)) (n : Named) (files : List FileEntry) (q : Asked) (ps : List SegmentPlace) (k : ℕ) (p : SegmentPlace) (a b c : State) (t u v count more all : ℕ) → later ≡ seen → k < length ps → p ≡ get_or ps k p
+pub past_next : (seen later : Option (List ℕ)) (n : Named) (files : List FileEntry) (q : Asked) (ps : List SegmentPlace) (k : ℕ) (p : SegmentPlace) (a b c : State) (t u v count more all : ℕ) → later ≡ seen → k < length ps → p ≡ get_or ps k p
     → all ≡ count + more → SegmentsPastTold seen n files q ps k a b t u count → OfSegments later n files (p ∷ []) (λ _ own. Searched n q (p ∷ []) own b c u v more)
     → SegmentsPastTold seen n files q ps (k + 1) a c t v all
 past_next None later n files q ps k p a b c t u v count more all same lt is total past one = tt
@@ -116,14 +105,14 @@ past_next (Some bytes) later n files q ps k p a b c t u v count more all same lt
       searched = record {
         reaches = reaches_on n q before.gone next.own a b c before.searched.reaches step.reaches;
         opened = before.searched.opened ++ step.opened;
-        are_opened = subst (λ l. AreOpened n q l (before.searched.opened ++ step.opened)) (sym (take_one ps k p lt is))
-            (picks_append (λ x. ¬ IsBarrenFor n q x) (take k ps) (p ∷ []) before.searched.opened step.opened before.searched.are_opened step.are_opened);
+        are_opened = subst (λ l. AreOpened n.types n.words q l (before.searched.opened ++ step.opened)) (sym (take_one ps k p lt is))
+            (picks_append (λ x. ¬ IsBarrenFor n.types n.words q x) (take k ps) (p ∷ []) before.searched.opened step.opened before.searched.are_opened step.are_opened);
         ticked = omega (arith, before.searched.ticked, step.ticked, length-append before.searched.opened step.opened);
         counted = omega (arith, total, before.searched.counted, step.counted, length-append before.searched.opened step.opened);
       };
     }
 
-reads_next : (seen later : Option (List ℕ)) (n : Named) (files : List FileEntry) (q : Asked) (ps : List SegmentPlace) (k : ℕ) (p : SegmentPlace) (a b : State) (t u count : ℕ) (old mid new : Option (List (ℕ × ℕ))) → later ≡ seen → k < length ps
+pub reads_next : (seen later : Option (List ℕ)) (n : Named) (files : List FileEntry) (q : Asked) (ps : List SegmentPlace) (k : ℕ) (p : SegmentPlace) (a b : State) (t u count : ℕ) (old mid new : Option (List (ℕ × ℕ))) → later ≡ seen → k < length ps
     → p ≡ get_or ps k p → SegmentsPastTold seen n files q ps k a b t u count → OfSegments seen n files ps (λ _ _. ReadsOpened n q ps old mid) → OfSegments later n files (p ∷ []) (λ _ _. ReadsOpened n q (p ∷ []) mid new)
     → OfSegments seen n files ps (λ _ _. ReadsOpened n q ps old new)
 reads_next None later n files q ps k p a b t u count old mid new same lt is past reads one = tt
@@ -133,35 +122,19 @@ reads_next (Some bytes) later n files q ps k p a b t u count old mid new same lt
     let step = subst (λ s. OfSegments s n files (p ∷ []) (λ _ _. ReadsOpened n q (p ∷ []) mid new)) same one next.own distinct next.one in
     reads_joined n q ps old mid new (reads every distinct have) (reads_one n q ps p mid new (contained ps k p lt is) step)
 
-pub run_reads : (old mid new : DiskState) (n : Named) (files : List FileEntry) (q : Asked) (ps : List SegmentPlace) (k : ℕ) (p : SegmentPlace) (a b : State) (t u count : ℕ) → k < length ps → p ≡ get_or ps k p
-    → SegmentsRun old mid n files q ps k a b t u count → OfSegments mid.seen n files (p ∷ []) (λ _ _. ReadsOpened n q (p ∷ []) mid.ranges new.ranges) → OfSegments old.seen n files ps (λ _ _. ReadsOpened n q ps old.ranges new.ranges)
-run_reads old mid new n files q ps k p a b t u count lt is run one =
-    reads_next old.seen mid.seen n files q ps k p a b t u count old.ranges mid.ranges new.ranges run.rests.seen lt is run.past run.reads one
-
-pub run_next : (old mid new : DiskState) (n : Named) (files : List FileEntry) (q : Asked) (ps : List SegmentPlace) (k : ℕ) (p : SegmentPlace) (a b c : State) (t u v count more all : ℕ) → k < length ps → p ≡ get_or ps k p → all ≡ count + more → more ≤ 1
-    → SegmentsRun old mid n files q ps k a b t u count → Rests mid new → new.faults ≡ mid.faults → OfSegments mid.seen n files (p ∷ []) (λ _ _. ReadsOpened n q (p ∷ []) mid.ranges new.ranges)
-    → OfSegments mid.seen n files (p ∷ []) (λ _ own. Searched n q (p ∷ []) own b c u v more) → SegmentsRun old new n files q ps (k + 1) a c t v all
-run_next old mid new n files q ps k p a b c t u v count more all lt is total few run rests faults reads one = record {
-  rests = rests_on old mid new run.rests rests;
-  faults = faults ∙ run.faults;
-  reads = run_reads old mid new n files q ps k p a b t u count lt is run reads;
-  past = past_next old.seen mid.seen n files q ps k p a b c t u v count more all run.rests.seen lt is total run.past one;
-  few = omega (arith, run.few, total, few);
-}
-
-pub run_end : (seen : Option (List ℕ)) (n : Named) (files : List FileEntry) (q : Asked) (ps : List SegmentPlace) (k : ℕ) (a b : State) (t u count : ℕ) → length ps ≤ k → SegmentsPastTold seen n files q ps k a b t u count
+pub past_end : (seen : Option (List ℕ)) (n : Named) (files : List FileEntry) (q : Asked) (ps : List SegmentPlace) (k : ℕ) (a b : State) (t u count : ℕ) → length ps ≤ k → SegmentsPastTold seen n files q ps k a b t u count
     → OfSegments seen n files ps (λ _ all. Searched n q ps all a b t u count)
-run_end None n files q ps k a b t u count end past = tt
-run_end (Some bytes) n files q ps k a b t u count end past = λ every distinct have.
+past_end None n files q ps k a b t u count end past = tt
+past_end (Some bytes) n files q ps k a b t u count end past = λ every distinct have.
     let before = past every distinct have in
     let none : before.left ≡ [] = subst (λ l. HaveMessages bytes n files l before.left) (drop_of_length-le ps end) before.have in
     let all : every ≡ before.gone = before.parts ∙ ap (λ (l : List Placed). before.gone ++ l) none ∙ append-nil before.gone in
     subst (λ l. Searched n q ps l a b t u count) (sym all) (subst (λ l. Searched n q l before.gone a b t u count) (take_all k ps end) before.searched)
 
-pub run_stops : (seen later : Option (List ℕ)) (n : Named) (files : List FileEntry) (q : Asked) (ps : List SegmentPlace) (k : ℕ) (p : SegmentPlace) (a b : State) (w : Option (List ℕ)) (e t u v count : ℕ) → later ≡ seen → k < length ps
+pub past_stops : (seen later : Option (List ℕ)) (n : Named) (files : List FileEntry) (q : Asked) (ps : List SegmentPlace) (k : ℕ) (p : SegmentPlace) (a b : State) (w : Option (List ℕ)) (e t u v count : ℕ) → later ≡ seen → k < length ps
     → p ≡ get_or ps k p → SegmentsPastTold seen n files q ps k a b t u count → OfSegments later n files (p ∷ []) (λ _ own. Stopped n q (p ∷ []) own b w e u v) → OfSegments seen n files ps (λ _ all. Stopped n q ps all a w e t v)
-run_stops None later n files q ps k p a b w e t u v count same lt is past one = tt
-run_stops (Some bytes) later n files q ps k p a b w e t u v count same lt is past one = λ every distinct have.
+past_stops None later n files q ps k p a b w e t u v count same lt is past one = tt
+past_stops (Some bytes) later n files q ps k p a b w e t u v count same lt is past one = λ every distinct have.
     let before = past every distinct have in
     let next = next_one bytes n files ps k p before.left lt is before.have in
     let step = subst (λ s. OfSegments s n files (p ∷ []) (λ _ own. Stopped n q (p ∷ []) own b w e u v)) same one next.own distinct next.one in
@@ -171,9 +144,9 @@ run_stops (Some bytes) later n files q ps k p a b w e t u v count same lt is pas
       halts = subst (λ l. Halts n q l a w e) (sym all)
           (halts_behind n q before.gone (next.own ++ next.rest) a b w e before.searched.reaches (halts_more n q next.own next.rest b w e step.halts));
       most = λ opened are.
-          let s = picks_split (λ x. ¬ IsBarrenFor n q x) (take k ps) (p ∷ drop (k + 1) ps) opened (subst (λ l. AreOpened n q l opened) cut are) in
-          let r = picks_split (λ x. ¬ IsBarrenFor n q x) (p ∷ []) (drop (k + 1) ps) s.b s.second in
-          let one : s.a ≡ before.searched.opened = picks_once (λ x. ¬ IsBarrenFor n q x) (take k ps) s.a before.searched.opened s.first before.searched.are_opened in
+          let s = picks_split (λ x. ¬ IsBarrenFor n.types n.words q x) (take k ps) (p ∷ drop (k + 1) ps) opened (subst (λ l. AreOpened n.types n.words q l opened) cut are) in
+          let r = picks_split (λ x. ¬ IsBarrenFor n.types n.words q x) (p ∷ []) (drop (k + 1) ps) s.b s.second in
+          let one : s.a ≡ before.searched.opened = picks_once (λ x. ¬ IsBarrenFor n.types n.words q x) (take k ps) s.a before.searched.opened s.first before.searched.are_opened in
           omega (
             arith,
             step.most r.a r.first,
@@ -186,10 +159,10 @@ run_stops (Some bytes) later n files q ps k p a b w e t u v count same lt is pas
           );
     }
 
-pub run_damaged : (seen later : Option (List ℕ)) (n : Named) (files : List FileEntry) (q : Asked) (ps : List SegmentPlace) (k : ℕ) (p : SegmentPlace) (a b : State) (t u count : ℕ) → later ≡ seen → k < length ps
+pub past_damaged : (seen later : Option (List ℕ)) (n : Named) (files : List FileEntry) (q : Asked) (ps : List SegmentPlace) (k : ℕ) (p : SegmentPlace) (a b : State) (t u count : ℕ) → later ≡ seen → k < length ps
     → p ≡ get_or ps k p → SegmentsPastTold seen n files q ps k a b t u count → Blames n b.pending.pages (OfSegments later n files (p ∷ []) (λ _ _. ⊥)) → Blames n a.pending.pages (OfSegments seen n files ps (λ _ _. ⊥))
-run_damaged None later n files q ps k p a b t u count same lt is past one = λ early waits. tt
-run_damaged (Some bytes) later n files q ps k p a b t u count same lt is past one = λ early waits every distinct have.
+past_damaged None later n files q ps k p a b t u count same lt is past one = λ early waits. tt
+past_damaged (Some bytes) later n files q ps k p a b t u count same lt is past one = λ early waits every distinct have.
     let before = past every distinct have in
     let next = next_one bytes n files ps k p before.left lt is before.have in
     let went = before.searched.reaches early waits in

@@ -1,16 +1,17 @@
 -- What was done over the segments of an archive is said of the journal that the bytes stand for.
-use Rattle.std.proofs.Common.{◌≡◌, refl, sym, ap, subst, ◌∙◌, ℕ, List, [], ◌++◌, Option, None, Some, length, arith}
+use Rattle.std.proofs.Common.{◌≡◌, refl, sym, ap, ap₂, subst, ◌∙◌, ℕ, All, List, [], ◌∷◌, ◌++◌, map, Option, None, Some, length, arith}
 use Rattle.std.specs.Prelude.{option_map}
 use Rattle.std.proofs.lemmas.List.{append-nil}
 use Rattle.std.proofs.lemmas.List.Elements.{All-nil}
+use Rattle.std.proofs.lemmas.List.Sorted.{All-permutation}
 use Rattle.record_format.specs.declared.header.Header.{Header}
 use Rattle.archive_meaning.specs.declared.entry.JournalEntry.{JournalEntry}
 use Rattle.archive_meaning.specs.Held.{Held, content_of, nothing_held}
 use Rattle.archive_meaning.specs.Stands.{StandsFor}
 use Rattle.archive_open.specs.declared.files.FileEntry.{FileEntry}
 use Rattle.archive_open.specs.declared.segments.SegmentPlace.{SegmentPlace}
-use Rattle.archive_open.specs.Kept.{Kept}
-use Rattle.archive_open.specs.Shown.{IsArchiveOf, Opens, Shown, kept_of}
+use Rattle.archive_meaning.specs.Spelled.{end_of}
+use Rattle.archive_open.specs.Shown.{IsArchiveOf, Shown, kept_of, places_of as segments_of}
 use Rattle.column_store.specs.declared.range.Range.{Range}
 use Rattle.wild_match.specs.declared.pattern.Item.{Item}
 use Rattle.search_engine.specs.declared.counts.Counts.{Counts}
@@ -19,49 +20,84 @@ use Rattle.sink_pieces.specs.Output.{GrewByFront}
 use Rattle.sink_pieces.proofs.OutputLemmas.{Grew-nothing}
 use Rattle.search_engine.specs.Sofar.{Passes, Sofar, sofar}
 use Rattle.search_engine.specs.Waiting.{Blames, Halts, Pending, Reaches, State, WaitFor, no_counts, nothing_pending, state}
-use Rattle.search_engine.specs.Held.{Named, OfSegments, named}
-use Rattle.search_engine.specs.Opened.{IsBarrenFor, Searched, Stopped}
-use Rattle.search_engine.specs.Searched.{HasSearched, HasStopped, MissesBarren, OfJournal, ReadsNoBarren, asked, names_of}
+use Rattle.archive_places.specs.declared.front.SegmentFront.{SegmentFront}
+use Rattle.archive_places.specs.declared.places.Places.{Places}
+use Rattle.archive_places.specs.Heads.{HasHeadAt}
+use Rattle.archive_places.specs.Laws.{HeadsStand, WordsStand}
+use Rattle.archive_places.specs.Opened.{ArePlacesOf, OpensPlaces}
+use Rattle.archive_places.specs.Words.{words_places_of}
+use Rattle.word_places.specs.declared.place.WordsPlace.{WordsPlace}
+use Rattle.word_places.specs.Held.{HeldNames, places_of, unread}
+use Rattle.search_engine.specs.Held.{Named, OfSegments, named, words_told}
+use Rattle.search_engine.specs.Opened.{IsBarrenFor, OfFronts, Searched, Stopped}
+use Rattle.search_engine.specs.Searched.{AreSegmentsOf, HasSearched, HasStopped, MissesBarren, OfJournal, ReadsNoBarren, asked}
 use Rattle.search_engine.proofs.SofarLemmas.{all_went, picks_once, picks_short}
 use Rattle.search_engine.proofs.WaitingLemmas.{halts_behind, reaches_end, reaches_on}
 use Rattle.search_engine.proofs.HeldLemmas.{nothing_distinct, run_distinct}
+use Rattle.search_engine.proofs.ReadyLemmas.{words_are}
+use Rattle.search_engine.proofs.RowsHeld.{names_in, rows_told}
 use Rattle.search_engine.proofs.GroupLemmas.{content_small, shown_have}
 
--- the names that the code asks are those of the archive
-pub record Knows (n : Named) (k : Kept) : Type 0 where
-  pub types : n.types ≡ k.types
-  pub words : n.words ≡ k.words
-  pub version : n.version ≡ k.version
+-- the names that the code asks are those at the places
+pub record Knows (seen : Option (List ℕ)) (a : Places) (n : Named) : Type 0 where
+  pub types : n.types ≡ a.types
+  pub version : n.version ≡ a.header.version
+  pub words : n.words ≡ words_told seen a.words
+  pub told : n.told ≡ seen
+  pub places : n.places ≡ a.words
 
-pub knows : (version : ℕ) (types words : List (List ℕ)) (own k : Kept) → own ≡ k → (types ≡ own.types) × (words ≡ own.words) × (version ≡ own.version) → Knows (named version types words) k
-knows version types words own k same is = record {
-  types = is.0 ∙ ap (λ (x : Kept). x.types) same;
-  words = is.1 ∙ ap (λ (x : Kept). x.words) same;
-  version = is.2 ∙ ap (λ (x : Kept). x.version) same;
-}
+pub places_unread : (ps : List WordsPlace) → places_of (map unread ps) ≡ ps
+places_unread [] = refl
+places_unread (p ∷ ps) = ap (λ (l : List WordsPlace). p ∷ l) (places_unread ps)
 
-named_so : (n : Named) (a : Shown) (h : Header) (held : Held) → Knows n a.kept → a.kept ≡ kept_of h held → n ≡ names_of h held
-named_so n a h held known is = λ i. record {
-  version = (known.version ∙ ap (λ (x : Kept). x.version) is) i;
-  types = (known.types ∙ ap (λ (x : Kept). x.types) is) i;
-  words = (known.words ∙ ap (λ (x : Kept). x.words) is) i;
+pub knows : (seen later : Option (List ℕ)) (a : Places) (held : HeldNames) (n : Named) → later ≡ seen → held.types ≡ a.types → held.version ≡ a.header.version → held.records ≡ map unread a.words → n ≡ named later held → Knows seen a n
+knows seen later a held n same types version records is =
+    let places : places_of held.records ≡ a.words = ap places_of records ∙ places_unread a.words in
+    subst (Knows seen a) (sym is) (record {
+      types = types;
+      version = version;
+      words = ap₂ words_told same places;
+      told = same;
+      places = places;
+    })
+
+named_so : (bytes : List ℕ) (h : Header) (es : List JournalEntry) (stood : StandsFor bytes h es) (a : Places) (n : Named) → WordsStand → Knows (Some bytes) a n → ArePlacesOf a h es stood.legal.held
+    → n ≡ names_in bytes h es stood.legal.held
+named_so bytes h es stood a n law known is = λ i. record {
+  version = (known.version ∙ ap (λ (x : Header). x.version) is.header) i;
+  types = (known.types ∙ is.types) i;
+  words = (known.words ∙ ap (words_told (Some bytes)) is.words ∙ words_are 0 (words_places_of es) bytes stood.legal.held.words (law bytes h es stood)) i;
+  told = known.told i;
+  places = (known.places ∙ is.words) i;
 }
 
 -- ---- from segments to the journal
 
-pub of_journal : (seen : Option (List ℕ)) (a : Shown) (n : Named) (files : List FileEntry) (ps : List SegmentPlace) (P : Named → List SegmentPlace → List ℕ → List Placed → Type 0) (Q : Header → List JournalEntry → Held → Type 0)
-    → files ≡ a.files → ps ≡ a.segments → Opens seen a → Knows n a.kept → OfSegments seen n files ps (P n ps)
-    → ((bytes : List ℕ) (h : Header) (es : List JournalEntry) (stood : StandsFor bytes h es) → IsArchiveOf a h es stood.legal.held → P (names_of h stood.legal.held) a.segments bytes (all_placed (content_of stood.legal.held)) → Q h es stood.legal.held)
+-- the places as an archive that is shown whole
+abbrev shown_whole : (a : Places) (h : Header) (es : List JournalEntry) (held : Held) → ArePlacesOf a h es held → Shown
+shown_whole a h es held is = record { header = h; kept = kept_of h held; files = a.files; segments = is.ordered; entries = length es; end = end_of h es }
+
+whole_is : (a : Places) (h : Header) (es : List JournalEntry) (held : Held) (is : ArePlacesOf a h es held) → IsArchiveOf (shown_whole a h es held is) h es held
+whole_is a h es held is = record { header = refl; kept = refl; files = is.files; segments = is.are; sorted = is.sorted; entries = refl; end = refl }
+
+pub of_journal : (seen : Option (List ℕ)) (a : Places) (n : Named) (files : List FileEntry) (fronts : List SegmentFront) (P : Named → List SegmentPlace → List ℕ → List Placed → Type 0) (Q : Header → List JournalEntry → Held → Type 0)
+    → WordsStand → HeadsStand → files ≡ a.files → fronts ≡ a.segments → OpensPlaces seen a → Knows seen a n → OfFronts fronts (λ ps. OfSegments seen n files ps (P n ps))
+    → ((bytes : List ℕ) (h : Header) (es : List JournalEntry) (stood : StandsFor bytes h es) (is : ArePlacesOf a h es stood.legal.held)
+    → P (names_in bytes h es stood.legal.held) is.ordered bytes (all_placed (content_of stood.legal.held)) → Q h es stood.legal.held)
     → OfJournal seen Q
-of_journal None a n files ps P Q same_files same_ps opens known has step = tt
-of_journal (Some bytes) a n files ps P Q same_files same_ps opens known has step = λ h es stood.
+of_journal None a n files fronts P Q words_law heads_law same_files same_fronts opens known has step = tt
+of_journal (Some bytes) a n files fronts P Q words_law heads_law same_files same_fronts opens known has step = λ h es stood.
     let is = opens h es stood in
     let held = stood.legal.held in
-    let same : n ≡ names_of h held = named_so n a h held known is.kept in
-    let told : OfSegments (Some bytes) (names_of h held) a.files a.segments (P (names_of h held) a.segments) =
-    subst (λ m. OfSegments (Some bytes) m a.files a.segments (P m a.segments)) same
-    (subst (λ l. OfSegments (Some bytes) n a.files l (P n l)) same_ps (subst (λ l. OfSegments (Some bytes) n l ps (P n ps)) same_files has)) in
-    step bytes h es stood is (told (all_placed (content_of held)) (run_distinct h nothing_held held es nothing_distinct stood.legal.run) (shown_have bytes h es a stood is))
+    let m : Named = names_in bytes h es held in
+    let same : n ≡ m = named_so bytes h es stood a n words_law known is in
+    let all : List Placed = all_placed (content_of held) in
+    let told : OfSegments (Some bytes) m a.files is.ordered (P m is.ordered) =
+    subst (λ x. OfSegments (Some bytes) x a.files is.ordered (P x is.ordered)) same
+    (subst (λ l. OfSegments (Some bytes) n l is.ordered (P n is.ordered)) same_files (has is.ordered (sym is.segments ∙ sym same_fronts))) in
+    let heads : All (HasHeadAt bytes) is.ordered = All-permutation (HasHeadAt bytes) (segments_of es) is.ordered is.are (heads_law bytes h es stood) in
+    let have = rows_told bytes h es held a.files is.ordered all (words_law bytes h es stood) heads (shown_have bytes h es (shown_whole a h es held is) stood (whole_is a h es held is)) in
+    step bytes h es stood is (told all (run_distinct h nothing_held held es nothing_distinct stood.legal.run) have)
 
 pub asked_is : (q : Asked) (pattern : List Item) (range : Range) → q.pattern ≡ pattern → q.range ≡ range → q ≡ asked pattern range
 asked_is q pattern range one two = λ i. record { pattern = one i; range = two i }
@@ -69,21 +105,21 @@ asked_is q pattern range one two = λ i. record { pattern = one i; range = two i
 -- ---- what was done
 
 pub has_searched : (bytes : List ℕ) (h : Header) (es : List JournalEntry) (q : Asked) (ps : List SegmentPlace) (counts : Counts) (count : ℕ) (w0 w2 : Option (List ℕ)) (y z : Pending) (b : State) (o0 o1 e0 e2 : ℕ) (stood : StandsFor bytes h es)
-    → y ≡ nothing_pending → counts ≡ z.counts → Searched (names_of h stood.legal.held) q ps (all_placed (content_of stood.legal.held)) (state w0 y e0) b o0 o1 count → Reaches (names_of h stood.legal.held) q [] b (state w2 z e2)
+    → AreSegmentsOf es ps → y ≡ nothing_pending → counts ≡ z.counts → Searched (names_in bytes h es stood.legal.held) q ps (all_placed (content_of stood.legal.held)) (state w0 y e0) b o0 o1 count → Reaches (names_in bytes h es stood.legal.held) q [] b (state w2 z e2)
     → (z.pages ≡ []) × (z.gathered ≡ [])
-    → HasSearched h stood.legal.held q ps (record { matched = counts.matched; expanded = counts.expanded; opened = count; segments = length ps }) w0 w2 o0 o1 e0 e2
-has_searched bytes h es q ps counts count w0 w2 y z b o0 o1 e0 e2 stood none counted started finished done =
-    let searched = subst (λ (x : Pending). Searched (names_of h stood.legal.held) q ps (all_placed (content_of stood.legal.held)) (state w0 x e0) b o0 o1 count) none started in
+    → HasSearched h es stood.legal.held q (record { matched = counts.matched; expanded = counts.expanded; opened = count; segments = length ps }) w0 w2 o0 o1 e0 e2
+has_searched bytes h es q ps counts count w0 w2 y z b o0 o1 e0 e2 stood are none counted started finished done =
+    let searched = subst (λ (x : Pending). Searched (names_in bytes h es stood.legal.held) q ps (all_placed (content_of stood.legal.held)) (state w0 x e0) b o0 o1 count) none started in
     let all : List Placed = all_placed (content_of stood.legal.held) in
     let small = content_small bytes h es stood in
     let a : Sofar = sofar w0 [] no_counts e0 in
     let c : Sofar = sofar w2 z.gathered counts e2 in
-    let whole : Reaches (names_of h stood.legal.held) q all (state w0 nothing_pending e0) (state w2 z e2) =
-    subst (λ l. Reaches (names_of h stood.legal.held) q l (state w0 nothing_pending e0) (state w2 z e2)) (append-nil all)
-    (reaches_on (names_of h stood.legal.held) q all [] (state w0 nothing_pending e0) b (state w2 z e2) searched.reaches finished) in
+    let whole : Reaches (names_in bytes h es stood.legal.held) q all (state w0 nothing_pending e0) (state w2 z e2) =
+    subst (λ l. Reaches (names_in bytes h es stood.legal.held) q l (state w0 nothing_pending e0) (state w2 z e2)) (append-nil all)
+    (reaches_on (names_in bytes h es stood.legal.held) q all [] (state w0 nothing_pending e0) b (state w2 z e2) searched.reaches finished) in
     let p : Passes h.version q all a c =
     subst (λ t. Passes h.version q all a (sofar w2 z.gathered t e2)) (sym counted)
-    (reaches_end (names_of h stood.legal.held) q all (state w0 nothing_pending e0) (state w2 z e2) refl done.0 whole) in
+    (reaches_end (names_in bytes h es stood.legal.held) q all (state w0 nothing_pending e0) (state w2 z e2) refl done.0 whole) in
     let found_short = picks_short (λ x. IsFound h.version q x.message) all p.found p.are_found in
     let tried_short = picks_short (λ x. IsTried h.version q x.message) all p.tried p.are_tried in
     let m : counts.matched ≡ length p.found = p.advances.matched (omega (arith, found_short, small)) ∙ omega arith in
@@ -91,7 +127,9 @@ has_searched bytes h es q ps counts count w0 w2 y z b o0 o1 e0 e2 stood none cou
     record {
       found = p.found;
       tried = p.tried;
+      all = ps;
       segments = searched.opened;
+      are_all = are;
       are_found = p.are_found;
       are_tried = p.are_tried;
       are_opened = searched.are_opened;
@@ -101,12 +139,14 @@ has_searched bytes h es q ps counts count w0 w2 y z b o0 o1 e0 e2 stood none cou
       report = λ i. record { matched = m i; expanded = e i; opened = searched.counted i; segments = length ps };
     }
 
-pub has_stopped : (h : Header) (held : Held) (q : Asked) (ps : List SegmentPlace) (w0 w : Option (List ℕ)) (z : Pending) (o0 o1 e0 e1 : ℕ) → z ≡ nothing_pending
-    → Stopped (names_of h held) q ps (all_placed (content_of held)) (state w0 z e0) w e1 o0 o1 → HasStopped h held q ps w0 w o0 o1 e0 e1
-has_stopped h held q ps w0 w z o0 o1 e0 e1 none stopped =
-    let stops = stopped.halts [] (subst (λ p. WaitFor (names_of h held) p.pages []) (sym none) refl) in
+pub has_stopped : (bytes : List ℕ) (h : Header) (es : List JournalEntry) (q : Asked) (ps : List SegmentPlace) (w0 w : Option (List ℕ)) (z : Pending) (o0 o1 e0 e1 : ℕ) (stood : StandsFor bytes h es) → AreSegmentsOf es ps → z ≡ nothing_pending
+    → Stopped (names_in bytes h es stood.legal.held) q ps (all_placed (content_of stood.legal.held)) (state w0 z e0) w e1 o0 o1 → HasStopped h es stood.legal.held q w0 w o0 o1 e0 e1
+has_stopped bytes h es q ps w0 w z o0 o1 e0 e1 stood are none stopped =
+    let stops = stopped.halts [] (subst (λ p. WaitFor (names_in bytes h es stood.legal.held) p.pages []) (sym none) refl) in
     record {
-      printed = λ found are. subst (λ p. GrewByFront w0 w (p.gathered ++ lines_of found)) none (stops.front found are);
+      printed = λ found are_found. subst (λ p. GrewByFront w0 w (p.gathered ++ lines_of found)) none (stops.front found are_found);
+      all = ps;
+      are_all = are;
       opens = stopped.most;
       expands = stops.most;
     }
@@ -117,7 +157,7 @@ pub last_stopped : (n : Named) (q : Asked) (ps : List SegmentPlace) (all : List 
 last_stopped n q ps all a b w k o0 o1 count searched halts = record {
   halts = subst (λ l. Halts n q l a w k) (append-nil all) (halts_behind n q all [] a b w k searched.reaches halts);
   most = λ opened are.
-      let same = picks_once (λ x. ¬ IsBarrenFor n q x) ps opened searched.opened are searched.are_opened in
+      let same = picks_once (λ x. ¬ IsBarrenFor n.types n.words q x) ps opened searched.opened are searched.are_opened in
       omega (arith, searched.ticked, ap (λ (l : List SegmentPlace). length l) same);
 }
 
@@ -144,17 +184,21 @@ reads_nothing (Some bytes) q old new same = λ h es stood. record {
   each = All-nil (λ r. MissesBarren h es stood.legal.held q r.0 r.1);
 }
 
-pub stopped_nothing : (seen : Option (List ℕ)) (q : Asked) (ps : List SegmentPlace) (old new : Option (List ℕ)) (o0 o1 e0 e1 : ℕ) → new ≡ old → o1 ≡ o0 → e1 ≡ e0
-    → OfJournal seen (λ h _ held. HasStopped h held q ps old new o0 o1 e0 e1)
-stopped_nothing None q ps old new o0 o1 e0 e1 same opened ticked = tt
-stopped_nothing (Some bytes) q ps old new o0 o1 e0 e1 same opened ticked = λ h es stood. record {
-  printed = λ found are. ([], lines_of found, refl, same ∙ Grew-nothing old);
-  opens = λ segments are. omega (arith, opened);
-  expands = λ tried are. omega (arith, ticked);
-}
+pub stopped_nothing : (seen : Option (List ℕ)) (a : Places) (q : Asked) (old new : Option (List ℕ)) (o0 o1 e0 e1 : ℕ) → OpensPlaces seen a → new ≡ old → o1 ≡ o0 → e1 ≡ e0
+    → OfJournal seen (λ h es held. HasStopped h es held q old new o0 o1 e0 e1)
+stopped_nothing None a q old new o0 o1 e0 e1 opens same opened ticked = tt
+stopped_nothing (Some bytes) a q old new o0 o1 e0 e1 opens same opened ticked = λ h es stood.
+    let is = opens h es stood in
+    record {
+      printed = λ found are. ([], lines_of found, refl, same ∙ Grew-nothing old);
+      all = is.ordered;
+      are_all = record { are = is.are; sorted = is.sorted };
+      opens = λ segments are. omega (arith, opened);
+      expands = λ tried are. omega (arith, ticked);
+    }
 
 -- ---- before a search
 
--- a disk that was only read shows the same archive
-pub opens_later : (old new : Option (List ℕ)) (a : Shown) → new ≡ old → Opens old a → Opens new a
-opens_later old new a same opens = subst (λ s. Opens s a) (sym same) opens
+-- a disk that was only read shows the same places
+pub opens_later : (old new : Option (List ℕ)) (a : Places) → new ≡ old → OpensPlaces old a → OpensPlaces new a
+opens_later old new a same opens = subst (λ s. OpensPlaces s a) (sym same) opens

@@ -1,19 +1,17 @@
 -- A segment that is searched, and one that is barren.
-use Rattle.std.proofs.Common.{◌≡◌, map, inl, inr, ℕ, zero, suc, ◌+◌, ◌<◌, ◌≤◌, Bool, false, List, [], ◌∷◌, ◌++◌, length, Option, Some, None, refl, sym, ◌∙◌, ap, ap₂, subst, arith}
+use Rattle.std.proofs.Common.{◌≡◌, map, inl, inr, ⊎_elim, ℕ, zero, suc, ◌+◌, ◌<◌, ◌≤◌, Bool, false, List, [], ◌∷◌, ◌++◌, length, Option, Some, None, refl, sym, ◌∙◌, ap, ap₂, subst, arith}
 use Rattle.std.specs.Prelude.{slice_get, IsTrue, ◌↔◌}
 use Rattle.std.specs.List.{Contains, flat_map}
 use Rattle.std.proofs.lemmas.List.{append-nil, length-map}
 use Rattle.std.proofs.Math.ListN.{get_or-map}
 use Rattle.std.proofs.lemmas.List.Elements.{All-nil, All-weaker, Contains-append_left, Contains-append_right, Contains-push}
 use Rattle.std.proofs.lemmas.Option.{slice_get_within}
-use Rattle.log_seams.specs.Disk.{DiskState, Rests}
-use Rattle.column_store.specs.declared.range.Range.{Range}
+use Rattle.log_seams.specs.Disk.{DiskState}
 use Rattle.column_store.specs.declared.row.Row.{Row}
-use Rattle.row_codec.specs.Means.{IsCanonical}
+use Rattle.row_codec.specs.Means.{AreCanonical, IsCanonical}
 use Rattle.plain_list.specs.Texts.{AreDistinct}
 use Rattle.segment_format.specs.Layout.{sorted_set, IsHead, head_of}
-use Rattle.segment_format.specs.Pages.{first_page}
-use Rattle.segment_pages.specs.Paged.{HoldsLeft, HoldsSegment, Paged, ReadsColumns, columns_size, paged_first}
+use Rattle.segment_pages.specs.Paged.{HoldsLeft, HoldsSegment, Paged, paged_first}
 use Rattle.archive_meaning.specs.declared.TheConstants.{MAX_MESSAGES}
 use Rattle.query_plan.specs.declared.pieces.Piece.{Piece}
 use Rattle.query_plan.specs.Laws.{IsSearched, WideIsWider}
@@ -24,8 +22,9 @@ use Rattle.archive_open.specs.declared.files.FileEntry.{FileEntry}
 use Rattle.archive_open.specs.declared.segments.SegmentPlace.{SegmentPlace}
 use Rattle.search_engine.specs.Scan.{Asked, IsFound, IsTried, Picks, Placed, numbered}
 use Rattle.search_engine.specs.Waiting.{Halts, Reaches, State}
-use Rattle.search_engine.specs.Held.{AreRowsOf, HasMessages, HaveMessages, Named, OfLeft, OfSegments}
-use Rattle.search_engine.specs.Opened.{AreOpened, IsBarrenFor, IsRead, ReadsOpened, Searched, Stopped, columns_at}
+use Rattle.search_engine.specs.Held.{HasMessages, HaveMessages, IsTold, Named, OfLeft, OfSegments}
+use Rattle.search_engine.specs.PagesRead.{IsOfPage, ReadsPage}
+use Rattle.search_engine.specs.Opened.{AreOpened, IsBarrenFor, IsRead, ReadsOpened, Searched, Stopped}
 use Rattle.subquery_filter.specs.Filter.{HasNoMatch}
 use Rattle.row_codec.specs.Numbers.{numbers_of_row}
 use Rattle.segment_format.specs.declared.head.Head.{Head}
@@ -68,7 +67,7 @@ single bytes n files f p all is have =
 
 -- ---- barren segments
 
-nothing_picked : (n : Named) (P : List ℕ → Type 0) (name : List ℕ) (k : ℕ) (whole rest : List Row) (messages : List (List ℕ)) → AreRowsOf n rest messages → ((r : Row) → Contains rest r → Contains whole r)
+nothing_picked : (n : Named) (P : List ℕ → Type 0) (name : List ℕ) (k : ℕ) (whole rest : List Row) (messages : List (List ℕ)) → AreCanonical n.version rest n.types n.words messages → ((r : Row) → Contains rest r → Contains whole r)
     → ((r : Row) (m : List ℕ) → Contains whole r → IsCanonical n.version r n.types n.words m → ¬ P m) → Picks (λ (p : Placed). P p.message) (numbered name k messages) []
 nothing_picked n P name k whole rest [] are within none = refl
 nothing_picked n P name k whole [] (m ∷ messages) are within none = absurd are
@@ -76,20 +75,20 @@ nothing_picked n P name k whole (r ∷ rest) (m ∷ messages) are within none =
     let here : Contains (r ∷ rest) r = Contains-append_left (r ∷ []) rest r (Contains-push [] r) in
     inr (none r m (within r here) are.0, nothing_picked n P name (k + 1) whole rest messages are.1 (λ x is. within x (Contains-append_right (r ∷ []) rest x is)) none)
 
-barren_tried : (n : Named) (q : Asked) (p : SegmentPlace) (rows : List Row) → BarrenHasNoMatch → IsSearched q.pattern → IsBarrenFor n q p → p.head ≡ head_of p.head.file p.head.first p.head.last p.head.ended rows (words_of n.types rows)
+barren_tried : (n : Named) (q : Asked) (p : SegmentPlace) (rows : List Row) → BarrenHasNoMatch → IsSearched q.pattern → IsBarrenFor n.types n.words q p → p.head ≡ head_of p.head.file p.head.first p.head.last p.head.ended rows (words_of n.types rows)
     → (r : Row) (m : List ℕ) → Contains rows r → IsCanonical n.version r n.types n.words m → ¬ IsTried n.version q m
 barren_tried n q p rows law searched barren head r m is canonical tried =
     law n.version p.head.file p.head.first p.head.last p.head.ended rows n.types n.words q.pattern q.range searched
     (subst (IsBarren (wide_pieces q.pattern) q.range n.types n.words) head barren) r m is canonical
     (of_range n.version q.range r n.types n.words m canonical tried.inside) tried.matched
 
-barren_found : (n : Named) (q : Asked) (p : SegmentPlace) (rows : List Row) → WideIsWider → BarrenHasNoMatch → IsSearched q.pattern → IsBarrenFor n q p
+barren_found : (n : Named) (q : Asked) (p : SegmentPlace) (rows : List Row) → WideIsWider → BarrenHasNoMatch → IsSearched q.pattern → IsBarrenFor n.types n.words q p
     → p.head ≡ head_of p.head.file p.head.first p.head.last p.head.ended rows (words_of n.types rows)
     → (r : Row) (m : List ℕ) → Contains rows r → IsCanonical n.version r n.types n.words m → ¬ IsFound n.version q m
 barren_found n q p rows wider law searched barren head r m is canonical found =
     barren_tried n q p rows law searched barren head r m is canonical (record { matched = wider q.pattern m found.matched; inside = found.inside })
 
-barren_searched : (bytes : List ℕ) (n : Named) (f : FileEntry) (q : Asked) (p : SegmentPlace) (all : List Placed) (a : State) (t : ℕ) → WideIsWider → BarrenHasNoMatch → IsSearched q.pattern → IsBarrenFor n q p
+pub barren_searched : (bytes : List ℕ) (n : Named) (f : FileEntry) (q : Asked) (p : SegmentPlace) (all : List Placed) (a : State) (t : ℕ) → WideIsWider → BarrenHasNoMatch → IsSearched q.pattern → IsBarrenFor n.types n.words q p
     → Single bytes n f p all → Searched n q (p ∷ []) all a a t t 0
 barren_searched bytes n f q p all a t wider law searched barren one =
     let has = one.has in
@@ -97,9 +96,9 @@ barren_searched bytes n f q p all a t wider law searched barren one =
       reaches =
           reaches_over n q all a
           (subst (λ l. Picks (λ (x : Placed). IsFound n.version q x.message) l []) (sym one.parts)
-          (nothing_picked n (IsFound n.version q) f.name (p.head.first + 1) has.rows has.rows one.messages has.are (λ r is. is) (barren_found n q p has.rows wider law searched barren has.head)))
+          (nothing_picked n (IsFound n.version q) f.name (p.head.first + 1) has.rows has.rows one.messages has.are.are (λ r is. is) (barren_found n q p has.rows wider law searched barren has.head)))
           (subst (λ l. Picks (λ (x : Placed). IsTried n.version q x.message) l []) (sym one.parts)
-          (nothing_picked n (IsTried n.version q) f.name (p.head.first + 1) has.rows has.rows one.messages has.are (λ r is. is) (barren_tried n q p has.rows law searched barren has.head)));
+          (nothing_picked n (IsTried n.version q) f.name (p.head.first + 1) has.rows has.rows one.messages has.are.are (λ r is. is) (barren_tried n q p has.rows law searched barren has.head)));
       opened = [];
       are_opened = inr (λ no. no barren, refl);
       ticked = omega arith;
@@ -108,23 +107,17 @@ barren_searched bytes n f q p all a t wider law searched barren one =
 
 -- what the code tells of a head
 abbrev pub Tells : Named → Asked → SegmentPlace → Bool → Type 0
-Tells n q p b = IsHead p.head → AreDistinct n.words → IsTrue b ↔ IsBarrenFor n q p
-
-pub tells : (n : Named) (q : Asked) (p : SegmentPlace) (b : Bool) (ps : List Piece) (range : Range) → ps ≡ wide_pieces q.pattern → range ≡ q.range
-    → (IsHead p.head → AreDistinct n.words → IsTrue b ↔ IsBarren ps range n.types n.words p.head) → Tells n q p b
-tells n q p b ps range same_ps same_range told =
-    subst (λ r. IsHead p.head → AreDistinct n.words → IsTrue b ↔ IsBarren (wide_pieces q.pattern) r n.types n.words p.head) same_range
-    (subst (λ l. IsHead p.head → AreDistinct n.words → IsTrue b ↔ IsBarren l range n.types n.words p.head) same_ps told)
+Tells n q p b = IsTold n → IsHead p.head → AreDistinct n.words → IsTrue b ↔ IsBarrenFor n.types n.words q p
 
 pub barren_done : (seen : Option (List ℕ)) (n : Named) (files : List FileEntry) (q : Asked) (p : SegmentPlace) (b : Bool) (a : State) (t : ℕ) → WideIsWider → BarrenHasNoMatch → IsSearched q.pattern → Tells n q p b → IsTrue b
     → OfSegments seen n files (p ∷ []) (λ _ all. Searched n q (p ∷ []) all a a t t 0)
 barren_done None n files q p b a t wider law searched told truly = tt
 barren_done (Some bytes) n files q p b a t wider law searched told truly = λ all distinct have.
     let one = single bytes n files have.0 p all have.3 have in
-    barren_searched bytes n have.0 q p all a t wider law searched ((told one.has.holds.is_head distinct).0 truly) one
+    barren_searched bytes n have.0 q p all a t wider law searched ((told one.has.are.told one.has.holds.is_head distinct).0 truly) one
 
-not_barren : (n : Named) (q : Asked) (p : SegmentPlace) (b : Bool) → Tells n q p b → b ≡ false → IsHead p.head → AreDistinct n.words → ¬ IsBarrenFor n q p
-not_barren n q p b told shut head distinct barren = absurd (cc (shut, (told head distinct).1 barren))
+not_barren : (n : Named) (q : Asked) (p : SegmentPlace) (b : Bool) → Tells n q p b → b ≡ false → IsTold n → IsHead p.head → AreDistinct n.words → ¬ IsBarrenFor n.types n.words q p
+not_barren n q p b told shut truth head distinct barren = absurd (cc (shut, (told truth head distinct).1 barren))
 
 -- ---- opened segments
 
@@ -143,7 +136,7 @@ number_listed types rows r k is has = has_sorted_set (flat_map (numbers_of_row t
 
 -- one of whose rows none is matched, as its head's lists tell
 pub unmatched_done : (seen : Option (List ℕ)) (n : Named) (files : List FileEntry) (q : Asked) (p : SegmentPlace) (b : Bool) (a : State) (t u : ℕ) → WideIsWider → Tells n q p b → b ≡ false
-    → (listed numbers : List ℕ) → listed ≡ p.head.types → numbers ≡ p.head.words → HasNoMatch (wide_pieces q.pattern) n.types n.words listed numbers → u ≡ t + 1
+    → (listed numbers : List ℕ) → listed ≡ p.head.types → numbers ≡ p.head.words → (IsTold n → HasNoMatch (wide_pieces q.pattern) n.types n.words listed numbers) → u ≡ t + 1
     → OfSegments seen n files (p ∷ []) (λ _ all. Searched n q (p ∷ []) all a a t u 1)
 unmatched_done None n files q p b a t u wider told shut listed numbers of_types of_words unmatched ticked = tt
 unmatched_done (Some bytes) n files q p b a t u wider told shut listed numbers of_types of_words unmatched ticked = λ all distinct have.
@@ -152,18 +145,18 @@ unmatched_done (Some bytes) n files q p b a t u wider told shut listed numbers o
     let types : listed ≡ sorted_set (map (λ (x : Row). x.log_type) has.rows) = of_types ∙ ap (λ (h : Head). h.types) has.head in
     let words : numbers ≡ words_of n.types has.rows = of_words ∙ ap (λ (h : Head). h.words) has.head in
     let none : (r : Row) (m : List ℕ) → Contains has.rows r → IsCanonical n.version r n.types n.words m → ¬ IsTried n.version q m =
-    λ r m here canonical f. unmatched n.version r m (subst (λ l. Contains l r.log_type) (sym types) (type_listed has.rows r here))
+    λ r m here canonical f. unmatched has.are.told n.version r m (subst (λ l. Contains l r.log_type) (sym types) (type_listed has.rows r here))
     (λ k is. subst (λ l. Contains l k) (sym words) (number_listed n.types has.rows r k here is)) canonical f.matched in
     record {
       reaches =
           reaches_over n q all a
           (subst (λ l. Picks (λ (x : Placed). IsFound n.version q x.message) l []) (sym one.parts)
-          (nothing_picked n (IsFound n.version q) have.0.name (p.head.first + 1) has.rows has.rows one.messages has.are (λ r is. is)
+          (nothing_picked n (IsFound n.version q) have.0.name (p.head.first + 1) has.rows has.rows one.messages has.are.are (λ r is. is)
           (λ r m here canonical f. none r m here canonical (record { matched = wider q.pattern m f.matched; inside = f.inside }))))
           (subst (λ l. Picks (λ (x : Placed). IsTried n.version q x.message) l []) (sym one.parts)
-          (nothing_picked n (IsTried n.version q) have.0.name (p.head.first + 1) has.rows has.rows one.messages has.are (λ r is. is) none));
+          (nothing_picked n (IsTried n.version q) have.0.name (p.head.first + 1) has.rows has.rows one.messages has.are.are (λ r is. is) none));
       opened = p ∷ [];
-      are_opened = inl ([], not_barren n q p b told shut has.holds.is_head distinct, refl, refl);
+      are_opened = inl ([], not_barren n q p b told shut has.are.told has.holds.is_head distinct, refl, refl);
       ticked = ticked;
       counted = refl;
     }
@@ -178,7 +171,7 @@ opened_done (Some bytes) n files f q p b pages name number a z t u told shut fil
     record {
       reaches = subst (λ l. Reaches n q l a z) (ap₂ (λ (x : List ℕ) (k : ℕ). numbered x k one.messages) called first ∙ sym one.parts) rest;
       opened = p ∷ [];
-      are_opened = inl ([], not_barren n q p b told shut one.has.holds.is_head distinct, refl, refl);
+      are_opened = inl ([], not_barren n q p b told shut one.has.are.told one.has.holds.is_head distinct, refl, refl);
       ticked = ticked;
       counted = refl;
     }
@@ -190,11 +183,11 @@ opened_stops None n files f q p b pages name number a w k t u told shut file cal
 opened_stops (Some bytes) n files f q p b pages name number a w k t u told shut file called first opens stops ticked = λ all distinct have.
     let one = single bytes n files f p all file have in
     let rest = stops one.has.rows one.messages (opens bytes one.has.rows one.has.holds) one.has.are in
-    let own : AreOpened n q (p ∷ []) (p ∷ []) = inl ([], not_barren n q p b told shut one.has.holds.is_head distinct, refl, refl) in
+    let own : AreOpened n.types n.words q (p ∷ []) (p ∷ []) = inl ([], not_barren n q p b told shut one.has.are.told one.has.holds.is_head distinct, refl, refl) in
     record {
       halts = subst (λ l. Halts n q l a w k) (ap₂ (λ (x : List ℕ) (k : ℕ). numbered x k one.messages) called first ∙ sym one.parts) rest;
       most = λ opened are.
-          let same : opened ≡ p ∷ [] = picks_once (λ x. ¬ IsBarrenFor n q x) (p ∷ []) opened (p ∷ []) are own in
+          let same : opened ≡ p ∷ [] = picks_once (λ x. ¬ IsBarrenFor n.types n.words q x) (p ∷ []) opened (p ∷ []) are own in
           omega (arith, ticked, ap (λ (l : List SegmentPlace). length l) same);
     }
 
@@ -226,22 +219,14 @@ nothing_read None n files q ps old new same = tt
 nothing_read (Some bytes) n files q ps old new same = λ all distinct have. subst (ReadsOpened n q ps old) (sym same) (none_read n q ps old)
 
 pub columns_read : (seen : Option (List ℕ)) (n : Named) (files : List FileEntry) (q : Asked) (p : SegmentPlace) (b : Bool) (pages : Paged) (old new : DiskState) → Tells n q p b → b ≡ false → pages ≡ paged_first p.payload p.head
-    → ReadsColumns pages old new → OfSegments seen n files (p ∷ []) (λ _ _. ReadsOpened n q (p ∷ []) old.ranges new.ranges)
+    → ReadsPage n pages old new → OfSegments seen n files (p ∷ []) (λ _ _. ReadsOpened n q (p ∷ []) old.ranges new.ranges)
 columns_read None n files q p b pages old new told shut is reads = tt
 columns_read (Some bytes) n files q p b pages old new told shut is reads = λ all distinct have.
-    let own : ReadsColumns (paged_first p.payload p.head) old new = subst (λ x. ReadsColumns x old new) is reads in
-    let no_barren : ¬ IsBarrenFor n q p = not_barren n q p b told shut have.4.holds.is_head distinct in
+    let own : ReadsPage n (paged_first p.payload p.head) old new = subst (λ x. ReadsPage n x old new) is reads in
+    let no_barren : ¬ IsBarrenFor n.types n.words q p = not_barren n q p b told shut have.4.are.told have.4.holds.is_head distinct in
     record {
-      more = own.ranges.more;
-      added = own.ranges.added;
-      each = All-weaker (λ r. (columns_at p ≤ r.0) × (r.0 + r.1 ≤ columns_at p + columns_size (first_page p.head))) (IsRead n q (p ∷ []))
-          (λ r within. record { p = p; is = Contains-push [] p; opened = no_barren; start = within.0; end = within.1 }) own.ranges.more own.ranges.within;
+      more = own.more;
+      added = own.added;
+      each = All-weaker (IsOfPage n (paged_first p.payload p.head)) (IsRead n q (p ∷ []))
+          (λ r is. ⊎_elim (λ within. inl (record { p = p; is = Contains-push [] p; opened = no_barren; start = within.0; end = within.1 })) (λ words. inr (inr words)) is) own.more own.each;
     }
-
-pub rests_none : (d : DiskState) → Rests d d
-rests_none d = record {
-  seen = refl;
-  no_more = λ c is. is;
-  no_fewer = λ c is. is;
-  time = record { later = omega arith; nothing_else = λ t c le is. inl is; keeps = λ t c le is. is };
-}

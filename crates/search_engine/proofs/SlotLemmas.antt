@@ -11,6 +11,10 @@ use Rattle.search_engine.specs.declared.counts.Counts.{Counts}
 use Rattle.search_engine.specs.Refused.{from_print}
 use Rattle.search_engine.specs.Scan.{Asked, IsFound, IsTried, Placed, lines_of, numbered}
 use Rattle.search_engine.specs.Sofar.{Counted, Goes, Passes, Sofar, Stops, sofar}
+use Rattle.subquery_filter.specs.declared.verdicts.Verdict.{Verdict}
+use Rattle.word_places.specs.Held.{HeldNames}
+use Rattle.search_engine.specs.Ready.{IsReadyPage}
+use Rattle.search_engine.specs.Worked.{IsWorkedBy}
 use Rattle.search_engine.specs.Held.{AreRowsOf, Named}
 use Rattle.search_engine.specs.Waiting.{IsWorked, OfAllWorked, OfWorked, Page, PrintsPage, Slotted, WaitFor, no_counts, page, pages_of}
 use Rattle.search_engine.proofs.SofarLemmas.{front_none, on_ok_to, passes_none, passes_on, picks_once, picks_short, stops_behind, stops_here, stops_more, ticks_same}
@@ -24,15 +28,15 @@ length_numbered name k (m ∷ messages) = ap suc (length_numbered name (k + 1) m
 
 as_many : (n : Named) (rows : List Row) (messages : List (List ℕ)) → AreRowsOf n rows messages → length messages ≡ length rows
 as_many n [] [] are = refl
-as_many n [] (m ∷ messages) are = absurd are
-as_many n (r ∷ rows) [] are = absurd are
-as_many n (r ∷ rows) (m ∷ messages) are = ap suc (as_many n rows messages are.1)
+as_many n [] (m ∷ messages) are = absurd are.are
+as_many n (r ∷ rows) [] are = absurd are.are
+as_many n (r ∷ rows) (m ∷ messages) are = ap suc (as_many n rows messages (record { told = are.told; are = are.are.1 }))
 
 -- what a page counts in its counts is exact
-pub prints : (n : Named) (q : Asked) (name : List ℕ) (number : ℕ) (rows : List Row) (g text : List ℕ) (a b : Counts) (k j : ℕ) → g ≡ [] → a ≡ no_counts → number + length rows < 2 ^ 64
+pub prints : (n : Named) (q : Asked) (name : List ℕ) (number : ℕ) (rows : List Row) (verdicts : List Verdict) (g text : List ℕ) (a b : Counts) (k j : ℕ) → g ≡ [] → a ≡ no_counts → number + length rows < 2 ^ 64
     → ((w : Option (List ℕ)) (messages : List (List ℕ)) → AreRowsOf n rows messages → Passes n.version q (numbered name number messages) (sofar w g a k) (sofar w text b j))
-    → PrintsPage n q (page name number rows) text b
-prints n q name number rows g text a b k j none start small passes = λ w messages are.
+    → PrintsPage n q (page name number rows verdicts) text b
+prints n q name number rows verdicts g text a b k j none start small passes = λ w messages are.
     let p = passes w messages are in
     let short = picks_short (λ x. IsTried n.version q x.message) (numbered name number messages) p.tried p.are_tried in
     let expanded : Counted 0 b.expanded (length p.tried) = subst (λ (t : Counts). Counted t.expanded b.expanded (length p.tried)) start p.advances.expanded in
@@ -116,14 +120,19 @@ print_damaged_from PrintRefusal.Damaged is = refl
 print_damaged_from PrintRefusal.OutOfMemory is = absurd (cc (is))
 
 -- what the search of a page left is in its slot
-pub worked_so : (n : Named) (q : Asked) (x y : Slotted) (p : Page) (r : Result (Unit {0}) PrintRefusal) → x ≡ y → y.page ≡ p → OnOk r (PrintsPage n q p y.text y.counts)
-    → (IsErrOf r PrintRefusal.Damaged → (messages : List (List ℕ)) → ¬ AreRowsOf n p.rows messages) → IsWorked n q (record { page = x.page; text = x.text; counts = x.counts; answer = r })
-worked_so n q x y p r same same_page done damaged = record {
-  done = on_ok_to r (PrintsPage n q p y.text y.counts) (PrintsPage n q x.page x.text x.counts)
-      (λ prints. subst (λ (s : Slotted). PrintsPage n q s.page s.text s.counts) (sym same) (subst (λ (o : Page). PrintsPage n q o y.text y.counts) (sym same_page) prints)) done;
-  damaged = λ is messages.
-      subst (λ (s : Slotted). ¬ AreRowsOf n s.page.rows messages) (sym same) (subst (λ (o : Page). ¬ AreRowsOf n o.rows messages) (sym same_page) (damaged is messages));
-}
+pub worked_so : (q : Asked) (held : HeldNames) (x y : Slotted) (p : Page) (r : Result (Unit {0}) PrintRefusal) → x ≡ y → y.page ≡ p
+    → OnOk r ((n : Named) → IsReadyPage n q held p.rows p.verdicts → PrintsPage n q p y.text y.counts)
+    → (IsErrOf r PrintRefusal.Damaged → (n : Named) → IsReadyPage n q held p.rows p.verdicts → (messages : List (List ℕ)) → ¬ AreRowsOf n p.rows messages)
+    → IsWorkedBy q held (record { page = x.page; text = x.text; counts = x.counts; answer = r })
+worked_so q held x y p r same same_page done damaged = λ n ready.
+    let own : IsReadyPage n q held p.rows p.verdicts =
+    subst (λ (o : Page). IsReadyPage n q held o.rows o.verdicts) same_page (subst (λ (s : Slotted). IsReadyPage n q held s.page.rows s.page.verdicts) same ready) in
+    record {
+      done = on_ok_to r ((m : Named) → IsReadyPage m q held p.rows p.verdicts → PrintsPage m q p y.text y.counts) (PrintsPage n q x.page x.text x.counts)
+          (λ prints. subst (λ (s : Slotted). PrintsPage n q s.page s.text s.counts) (sym same) (subst (λ (o : Page). PrintsPage n q o y.text y.counts) (sym same_page) (prints n own))) done;
+      damaged = λ is messages.
+          subst (λ (s : Slotted). ¬ AreRowsOf n s.page.rows messages) (sym same) (subst (λ (o : Page). ¬ AreRowsOf n o.rows messages) (sym same_page) (damaged is n own messages));
+    }
 
 -- ---- all pages of a batch
 

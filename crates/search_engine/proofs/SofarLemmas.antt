@@ -1,6 +1,6 @@
 -- A search that goes on over parts of a list goes on over the whole, and one that stops in a part stops in the whole.
 use Rattle.std.proofs.Common.{◌≡◌, inl, inr, ℕ, ◌+◌, ◌≤◌, List, [], ◌∷◌, ◌++◌, length, Option, refl, sym, ◌∙◌, ap, subst, arith, length-append}
-use Rattle.std.specs.Prelude.{Result, Ok, Err, OnErr, OnOk}
+use Rattle.std.specs.Prelude.{Result, Ok, Err, IfOk, OnErr, OnOk}
 use Rattle.std.proofs.lemmas.List.{append-nil, append_assoc}
 use Rattle.std.proofs.lemmas.List.Concat.{flat_map-append}
 use Rattle.sink_pieces.specs.Output.{Grew, GrewByFront, Moves}
@@ -198,3 +198,7 @@ goes_moved a b moves = record { front = moves.front; splits = append-nil a.gathe
 -- a text of two parts, of which the first went out, and the second in part or whole
 pub front_second : (old mid new : Option (List ℕ)) (a b : List ℕ) → Grew old mid a → GrewByFront mid new b → GrewByFront old new (a ++ b)
 front_second old mid new a b grew f = (a ++ f.0, f.1, ap (λ (l : List ℕ). a ++ l) f.2 ∙ sym (append_assoc a f.0 f.1), Grew-append old mid new a f.0 grew f.3)
+
+pub if_ok_to : {T E : Type 0} (r : Result T E) (P Q : T → Type 0) → ((t : T) → P t → Q t) → IfOk r P → IfOk r Q
+if_ok_to (Ok t) P Q step has = step t has
+if_ok_to (Err e) P Q step has = tt

@@ -1,28 +1,70 @@
--- What the verdict on a row tells of its message.
-use Rattle.std.proofs.Common.{◌≡◌, ℕ, List, [], ◌∷◌, ◌++◌, length, drop, Option, refl, ◌∙◌, ap₂, subst, sym}
+-- What was decided of a row, and what that tells of its message.
+use Rattle.std.proofs.Common.{◌≡◌, ◌≢◌, ℕ, List, [], ◌∷◌, ◌++◌, length, drop, Option, refl, ◌∙◌, ap, ap₂, subst, sym}
 use Rattle.std.proofs.lemmas.List.{drop_at}
+use Rattle.column_store.specs.Range.{Holds}
+use Rattle.column_store.specs.declared.range.Range.{Range}
 use Rattle.column_store.specs.declared.row.Row.{Row}
 use Rattle.wild_match.specs.Matches.{Match}
 use Rattle.query_plan.specs.Laws.{WideIsWider}
 use Rattle.query_plan.specs.Pieces.{wide, wide_pieces}
-use Rattle.row_codec.specs.Means.{IsCanonical, IsSpelling}
+use Rattle.row_codec.specs.Means.{HasSpelling, IsCanonical, IsSpelling}
+use Rattle.row_codec.specs.Numbers.{numbers_of_row}
 use Rattle.subquery_filter.specs.Filter.{IsRowVerdict}
 use Rattle.subquery_filter.specs.declared.verdicts.Verdict.{Verdict}
-use Rattle.subquery_filter.specs.declared.verdicts.Verdict.TheVariants.{Rejected, Certain}
-use Rattle.search_engine.specs.Scan.{Asked, placed}
+use Rattle.subquery_filter.specs.declared.verdicts.Verdict.TheVariants.{Rejected, Certain, Tried}
+use Rattle.word_places.specs.Held.{HeldNames, lends}
+use Rattle.word_places.specs.Local.{Agree, EncodingIsLocal, SpellingIsLocal}
+use Rattle.search_engine.specs.Scan.{Asked, IsTried, placed}
+use Rattle.search_engine.specs.Held.{Named}
+use Rattle.search_engine.specs.Ready.{IsDecided, IsLent}
 use Rattle.search_engine.specs.Sofar.{Passes, sofar}
 use Rattle.search_engine.specs.declared.counts.Counts.{Counts}
-use Rattle.search_engine.proofs.RowLemmas.{passed}
+use Rattle.search_engine.proofs.RowLemmas.{has_spelling, of_range, passed}
 
-pub rejected_passes : (version : ℕ) (q : Asked) (row : Row) (types words : List (List ℕ)) (name : List ℕ) (number : ℕ) (message : List ℕ) (w : Option (List ℕ)) (g : List ℕ) (a : Counts) (t : ℕ) (v : Verdict)
-    → WideIsWider → v ≡ Rejected → IsRowVerdict (wide_pieces q.pattern) types words row v → IsCanonical version row types words message
-    → Passes version q (placed name number message ∷ []) (sofar w g a t) (sofar w g a t)
-rejected_passes version q row types words name number message w g a t v wider is told canonical =
-    let no = subst (IsRowVerdict (wide_pieces q.pattern) types words row) is told version message canonical in
-    passed version q (placed name number message) w g g a a t t (λ f. no (wider q.pattern message f.matched)) (λ f. no f.matched) refl refl refl
+-- ---- deciding
 
-pub certain_matches : (q : Asked) (row : Row) (types words : List (List ℕ)) (text g1 g2 judged : List ℕ) (n : ℕ) (v : Verdict) → v ≡ Certain → IsRowVerdict (wide_pieces q.pattern) types words row v
-    → IsSpelling row types words text → n ≡ length g1 → g2 ≡ g1 ++ text → judged ≡ drop n g2 → Match (wide q.pattern) judged
-certain_matches q row types words text g1 g2 judged n v is told spelled size wrote cut =
+-- by its moment
+pub decided_outside : (n : Named) (q : Asked) (range : Range) (row : Row) → range ≡ q.range → ¬ Holds range row.pattern row.moment → IsDecided n q row Rejected
+decided_outside n q range row same out = λ message is tried.
+    out (subst (λ (r : Range). Holds r row.pattern row.moment) (sym same) (of_range n.version q.range row n.types n.words message is tried.inside))
+
+-- by its numbers
+pub decided_by : (n : Named) (q : Asked) (row : Row) (v : Verdict) → Holds q.range row.pattern row.moment → IsRowVerdict (wide_pieces q.pattern) n.types n.words row v → IsDecided n q row v
+decided_by n q row Rejected holds told = λ message is tried. told n.version message is tried.matched
+decided_by n q row Certain holds told = (holds, told)
+decided_by n q row Tried holds told = holds
+
+-- ---- what was decided
+
+pub rejected_row : (n : Named) (q : Asked) (row : Row) (v : Verdict) (name : List ℕ) (number : ℕ) (message : List ℕ) (w : Option (List ℕ)) (g : List ℕ) (a : Counts) (t : ℕ) → WideIsWider → v ≡ Rejected → IsDecided n q row v
+    → IsCanonical n.version row n.types n.words message → Passes n.version q (placed name number message ∷ []) (sofar w g a t) (sofar w g a t)
+rejected_row n q row v name number message w g a t wider is decided canonical =
+    let no : ¬ IsTried n.version q message = subst (IsDecided n q row) is decided message canonical in
+    passed n.version q (placed name number message) w g g a a t t (λ f. no (record { matched = wider q.pattern message f.matched; inside = f.inside })) no refl refl refl
+
+pub decided_inside : (n : Named) (q : Asked) (row : Row) (v : Verdict) → v ≢ Rejected → IsDecided n q row v → Holds q.range row.pattern row.moment
+decided_inside n q row Rejected not decided = absurd (not refl)
+decided_inside n q row Certain not decided = decided.0
+decided_inside n q row Tried not decided = decided
+
+-- ---- by the words that are held
+
+pub lent_canonical : (n : Named) (q : Asked) (held : HeldNames) (row : Row) (v : Verdict) (message : List ℕ) → EncodingIsLocal → v ≢ Rejected → IsLent n q held row v → IsCanonical n.version row n.types n.words message
+    → IsCanonical n.version row n.types (lends held.records) message
+lent_canonical n q held row v message local not lent is = local n.version row n.types n.words (lends held.records) message (lent.agree not) is
+
+pub lent_spelling : (n : Named) (q : Asked) (held : HeldNames) (row : Row) (v : Verdict) (text : List ℕ) → IsLent n q held row v → IsSpelling row held.types (lends held.records) text → IsSpelling row n.types (lends held.records) text
+lent_spelling n q held row v text lent spelled = subst (λ ts. IsSpelling row ts (lends held.records) text) lent.types spelled
+
+pub lent_has : (n : Named) (q : Asked) (held : HeldNames) (row : Row) (v : Verdict) (message : List ℕ) → EncodingIsLocal → v ≢ Rejected → IsLent n q held row v → IsCanonical n.version row n.types n.words message
+    → HasSpelling row held.types (lends held.records)
+lent_has n q held row v message local not lent is =
+    subst (λ ts. HasSpelling row ts (lends held.records)) (sym lent.types) (has_spelling n.version row n.types (lends held.records) message (lent_canonical n q held row v message local not lent is))
+
+pub certain_matches : (n : Named) (q : Asked) (held : HeldNames) (row : Row) (v : Verdict) (text g1 g2 judged : List ℕ) (k : ℕ) → SpellingIsLocal → v ≡ Certain → v ≢ Rejected → IsLent n q held row v
+    → IsSpelling row held.types (lends held.records) text → k ≡ length g1 → g2 ≡ g1 ++ text → judged ≡ drop k g2 → Match (wide q.pattern) judged
+certain_matches n q held row v text g1 g2 judged k local is not lent spelled size wrote cut =
+    let agree : Agree (numbers_of_row n.types row) n.words (lends held.records) = lent.agree not in
+    let own : IsSpelling row n.types n.words text = local row n.types (lends held.records) n.words text (λ m at. sym (agree m at)) (lent_spelling n q held row v text lent spelled) in
     let read : judged ≡ text = cut ∙ ap₂ (λ (k : ℕ) (l : List ℕ). drop k l) size wrote ∙ drop_at g1 text (length g1) refl in
-    subst (Match (wide q.pattern)) (sym read) (subst (IsRowVerdict (wide_pieces q.pattern) types words row) is told text spelled)
+    subst (Match (wide q.pattern)) (sym read) ((subst (IsDecided n q row) is lent.decided).1 text own)

@@ -2,6 +2,7 @@
 use Rattle.std.proofs.Common.{◌≡◌, ℕ, List, [], ◌∷◌, ◌++◌, Option, refl, sym, ◌∙◌, ap, subst}
 use Rattle.std.proofs.lemmas.List.{append-nil, append_assoc}
 use Rattle.column_store.specs.declared.row.Row.{Row}
+use Rattle.subquery_filter.specs.declared.verdicts.Verdict.{Verdict}
 use Rattle.sink_pieces.specs.Output.{Grew, GrewByFront}
 use Rattle.sink_pieces.proofs.OutputLemmas.{Moves-all}
 use Rattle.search_engine.specs.Scan.{Asked, IsFound, IsTried, Picks, Placed, numbered}
@@ -101,8 +102,9 @@ waits_split n (p ∷ ps) qs all is =
       both = is.4 ∙ ap (λ (l : List Placed). numbered p.name p.number is.0 ++ l) r.both ∙ sym (append_assoc (numbered p.name p.number is.0) r.front r.back);
     }
 
-pub waits_one : (n : Named) (name : List ℕ) (number : ℕ) (rows : List Row) (messages : List (List ℕ)) → AreRowsOf n rows messages → WaitFor n (page name number rows ∷ []) (numbered name number messages)
-waits_one n name number rows messages are = (messages, [], are, refl, sym (append-nil (numbered name number messages)))
+pub waits_one : (n : Named) (name : List ℕ) (number : ℕ) (rows : List Row) (verdicts : List Verdict) (messages : List (List ℕ)) → AreRowsOf n rows messages
+    → WaitFor n (page name number rows verdicts ∷ []) (numbered name number messages)
+waits_one n name number rows verdicts messages are = (messages, [], are, refl, sym (append-nil (numbered name number messages)))
 
 -- ---- going on
 
@@ -133,13 +135,13 @@ reaches_on n q xs ys a b c one two = λ early waits.
     }
 
 -- a page waits
-pub reaches_page : (n : Named) (q : Asked) (a b : State) (name : List ℕ) (number : ℕ) (rows : List Row) (messages : List (List ℕ)) → AreRowsOf n rows messages → sofar_of b ≡ sofar_of a
-    → b.pending.pages ≡ a.pending.pages ++ page name number rows ∷ [] → Reaches n q (numbered name number messages) a b
-reaches_page n q a b name number rows messages are still added = λ early waits. record {
+pub reaches_page : (n : Named) (q : Asked) (a b : State) (name : List ℕ) (number : ℕ) (rows : List Row) (verdicts : List Verdict) (messages : List (List ℕ)) → AreRowsOf n rows messages → sofar_of b ≡ sofar_of a
+    → b.pending.pages ≡ a.pending.pages ++ page name number rows verdicts ∷ [] → Reaches n q (numbered name number messages) a b
+reaches_page n q a b name number rows verdicts messages are still added = λ early waits. record {
   done = [];
   later = early ++ numbered name number messages;
   waits = subst (λ l. WaitFor n l (early ++ numbered name number messages)) (sym added)
-      (waits_both n a.pending.pages (page name number rows ∷ []) early (numbered name number messages) waits (waits_one n name number rows messages are));
+      (waits_both n a.pending.pages (page name number rows verdicts ∷ []) early (numbered name number messages) waits (waits_one n name number rows verdicts messages are));
   same = same_all n.version q (early ++ numbered name number messages);
   passes = subst (Passes n.version q [] (sofar_of a)) (sym still) (passes_none n.version q (sofar_of a));
 }

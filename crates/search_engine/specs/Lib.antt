@@ -2,6 +2,10 @@ pub mod Scan
 pub mod Sofar
 pub mod Held
 pub mod Waiting
+pub mod Ready
+pub mod Worked
+pub mod Told
+pub mod PagesRead
 pub mod Refused
 pub mod Judged
 pub mod Opened

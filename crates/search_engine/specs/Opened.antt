@@ -1,5 +1,5 @@
 -- Which segments a search opens, and what it reads of them.
-use Rattle.std.specs.Prelude.{◌≡◌, ◌≤◌, ◌+◌, ℕ, List, ◌++◌, length, slice_get, Option, Some, option_map, All}
+use Rattle.std.specs.Prelude.{◌≡◌, ◌⊎◌, ◌≤◌, ◌+◌, ℕ, List, ◌++◌, length, map, slice_get, Option, Some, option_map, All}
 use Rattle.std.specs.List.{Contains}
 use Rattle.segment_format.specs.Layout.{fixed_of, head_length}
 use Rattle.segment_format.specs.Pages.{first_page}
@@ -11,29 +11,47 @@ use Rattle.subquery_filter.specs.Barren.{IsBarren}
 use Rattle.log_seams.specs.Disk.{DiskState}
 use Rattle.archive_open.specs.declared.files.FileEntry.{FileEntry}
 use Rattle.archive_open.specs.declared.segments.SegmentPlace.{SegmentPlace}
+use Rattle.archive_places.specs.declared.front.SegmentFront.{SegmentFront}
+use Rattle.archive_places.specs.Fronts.{front_of_place}
+use Rattle.word_places.specs.Reads.{IsOfWords}
 use Rattle.search_engine.specs.Scan.{Asked, Picks, Placed}
 use Rattle.search_engine.specs.Held.{Named, OfSegments}
 use Rattle.search_engine.specs.Waiting.{Halts, Reaches, State}
 
--- the segment's head tells that none of its rows is found
-abbrev pub IsBarrenFor : Named → Asked → SegmentPlace → Type 0
-IsBarrenFor n q p = IsBarren (wide_pieces q.pattern) q.range n.types n.words p.head
+-- by these log types and words the segment's head tells that none of its rows is found
+abbrev pub IsBarrenFor : List (List ℕ) → List (List ℕ) → Asked → SegmentPlace → Type 0
+IsBarrenFor types words q p = IsBarren (wide_pieces q.pattern) q.range types words p.head
 
 -- of these segments those are opened that are not barren
-abbrev pub AreOpened : Named → Asked → List SegmentPlace → List SegmentPlace → Type 0
-AreOpened n q ps opened = Picks (λ p. ¬ IsBarrenFor n q p) ps opened
+abbrev pub AreOpened : List (List ℕ) → List (List ℕ) → Asked → List SegmentPlace → List SegmentPlace → Type 0
+AreOpened types words q ps opened = Picks (λ p. ¬ IsBarrenFor types words q p) ps opened
 
 -- where the columns of a segment begin
 abbrev pub columns_at : SegmentPlace → ℕ
 columns_at p = p.payload + head_length (fixed_of p.head)
 
+-- P holds of the segments with these fronts, whatever their heads list
+abbrev pub OfFronts : List SegmentFront → (List SegmentPlace → Type 0) → Type 0
+OfFronts fronts P = (ps : List SegmentPlace) → map front_of_place ps ≡ fronts → P ps
+
 -- the range lies within the columns of one of the segments, which is not barren
-pub record IsRead (n : Named) (q : Asked) (ps : List SegmentPlace) (r : ℕ × ℕ) : Type 0 where
+pub record IsOfColumns (n : Named) (q : Asked) (ps : List SegmentPlace) (r : ℕ × ℕ) : Type 0 where
   pub p : SegmentPlace
   pub is : Contains ps p
-  pub opened : ¬ IsBarrenFor n q p
+  pub opened : ¬ IsBarrenFor n.types n.words q p
   pub start : columns_at p ≤ r.0
   pub end : r.0 + r.1 ≤ columns_at p + columns_size (first_page p.head)
+
+-- the range lies within the head of one of the segments
+pub record IsOfHead (ps : List SegmentPlace) (r : ℕ × ℕ) : Type 0 where
+  pub p : SegmentPlace
+  pub is : Contains ps p
+  pub start : p.payload ≤ r.0
+  pub end : r.0 + r.1 ≤ columns_at p
+
+-- a range that a search of the segments reads
+abbrev pub IsRead : Named → Asked → List SegmentPlace → ℕ × ℕ → Type 0
+IsRead n q ps r = IsOfColumns n q ps r ⊎ (IsOfHead ps r ⊎ IsOfWords n.places r.0 r.1)
 
 -- each range that was read since is such
 pub record ReadsOpened (n : Named) (q : Asked) (ps : List SegmentPlace) (old new : Option (List (ℕ × ℕ))) : Type 0 where
@@ -53,14 +71,14 @@ pub record IsOpened (files : List FileEntry) (p : SegmentPlace) (f : FileEntry) 
 pub record Searched (n : Named) (q : Asked) (ps : List SegmentPlace) (all : List Placed) (a b : State) (ticks later count : ℕ) : Type 0 where
   pub reaches : Reaches n q all a b
   pub opened : List SegmentPlace
-  pub are_opened : AreOpened n q ps opened
+  pub are_opened : AreOpened n.types n.words q ps opened
   pub ticked : later ≡ ticks + length opened
   pub counted : count ≡ length opened
 
 -- the search stopped among the segments, and opened no more
 pub record Stopped (n : Named) (q : Asked) (ps : List SegmentPlace) (all : List Placed) (a : State) (written : Option (List ℕ)) (expanded ticks later : ℕ) : Type 0 where
   pub halts : Halts n q all a written expanded
-  pub most : (opened : List SegmentPlace) → AreOpened n q ps opened → later ≤ ticks + length opened
+  pub most : (opened : List SegmentPlace) → AreOpened n.types n.words q ps opened → later ≤ ticks + length opened
 
 -- What is said of segments where the bytes of the disk are told and hold their messages: what was read of them, that
 -- they were searched, that the search stopped among them, and that the bytes do not hold them.
@@ -75,3 +93,16 @@ StoppedTold seen n files q ps a written expanded ticks later = OfSegments seen n
 
 abbrev pub NoneTold : Option (List ℕ) → Named → List FileEntry → List SegmentPlace → Type 0
 NoneTold seen n files ps = OfSegments seen n files ps (λ _ _. ⊥)
+
+-- The same of segments by their fronts.
+abbrev pub ReadsFronts : DiskState → DiskState → Named → List FileEntry → Asked → List SegmentFront → Type 0
+ReadsFronts old new n files q fronts = OfFronts fronts (λ ps. ReadsTold old new n files q ps)
+
+abbrev pub SearchedFronts : Option (List ℕ) → Named → List FileEntry → Asked → List SegmentFront → State → State → ℕ → ℕ → ℕ → Type 0
+SearchedFronts seen n files q fronts a b ticks later count = OfFronts fronts (λ ps. SearchedTold seen n files q ps a b ticks later count)
+
+abbrev pub StoppedFronts : Option (List ℕ) → Named → List FileEntry → Asked → List SegmentFront → State → Option (List ℕ) → ℕ → ℕ → ℕ → Type 0
+StoppedFronts seen n files q fronts a written expanded ticks later = OfFronts fronts (λ ps. StoppedTold seen n files q ps a written expanded ticks later)
+
+abbrev pub NoFronts : Option (List ℕ) → Named → List FileEntry → List SegmentFront → Type 0
+NoFronts seen n files fronts = OfFronts fronts (λ ps. NoneTold seen n files ps)

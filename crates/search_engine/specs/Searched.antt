@@ -1,5 +1,6 @@
 -- What a search of an archive has done, said of the journal that the disk's bytes stand for.
 use Rattle.std.specs.Prelude.{◌≡◌, ◌⊎◌, ◌≤◌, ◌+◌, ℕ, List, ◌∷◌, ◌++◌, length, Option, Some, None, option_map, All}
+use Rattle.std.specs.List.Sorted.{IsNonDecreasingBy, IsPermutation}
 use Rattle.record_format.specs.declared.header.Header.{Header}
 use Rattle.archive_meaning.specs.declared.entry.SegmentEntry.{SegmentEntry}
 use Rattle.archive_meaning.specs.declared.entry.JournalEntry.{JournalEntry}
@@ -12,40 +13,44 @@ use Rattle.wild_match.specs.declared.pattern.Item.{Item}
 use Rattle.query_plan.specs.Pieces.{wide_pieces}
 use Rattle.subquery_filter.specs.Barren.{IsBarren}
 use Rattle.archive_open.specs.declared.segments.SegmentPlace.{SegmentPlace}
-use Rattle.archive_open.specs.Shown.{columns_begin, columns_end, head_in}
+use Rattle.archive_open.specs.Shown.{columns_begin, columns_end, head_in, order_of, places_of}
 use Rattle.search_engine.specs.declared.report.Report.{Report}
 use Rattle.search_engine.specs.Scan.{AreFound, AreTried, Asked, Placed, all_placed, lines_of}
 use Rattle.sink_pieces.specs.Output.{Grew, GrewByFront}
-use Rattle.search_engine.specs.Held.{Named, named}
 use Rattle.search_engine.specs.Opened.{AreOpened}
-
--- what the rows of a journal's segments stand for
-abbrev pub names_of : Header → Held → Named
-names_of h held = named h.version held.types held.words
 
 -- P holds of the journal that the bytes stand for, where they are told and stand for one
 abbrev pub OfJournal : Option (List ℕ) → (Header → List JournalEntry → Held → Type 0) → Type 0
 OfJournal None P = Unit {0}
 OfJournal (Some bytes) P = (h : Header) (es : List JournalEntry) (stood : StandsFor bytes h es) → P h es stood.legal.held
 
+-- these are a journal's segments, sorted by file and first message
+pub record AreSegmentsOf (es : List JournalEntry) (ps : List SegmentPlace) : Type 0 where
+  pub are : IsPermutation (places_of es) ps
+  pub sorted : IsNonDecreasingBy order_of ps
+
 -- All was searched: what is printed are the lines of the messages that are found, in order, and the counts are those of
 -- what is found, expanded and opened.
-pub record HasSearched (h : Header) (held : Held) (q : Asked) (ps : List SegmentPlace) (r : Report) (old new : Option (List ℕ)) (opened opened_new expanded expanded_new : ℕ) : Type 0 where
+pub record HasSearched (h : Header) (es : List JournalEntry) (held : Held) (q : Asked) (r : Report) (old new : Option (List ℕ)) (opened opened_new expanded expanded_new : ℕ) : Type 0 where
   pub found : List Placed
   pub tried : List Placed
+  pub all : List SegmentPlace
   pub segments : List SegmentPlace
+  pub are_all : AreSegmentsOf es all
   pub are_found : AreFound h.version q (all_placed (content_of held)) found
   pub are_tried : AreTried h.version q (all_placed (content_of held)) tried
-  pub are_opened : AreOpened (names_of h held) q ps segments
+  pub are_opened : AreOpened held.types held.words q all segments
   pub printed : Grew old new (lines_of found)
   pub opens : opened_new ≡ opened + length segments
   pub expands : expanded_new ≡ expanded + length tried
-  pub report : r ≡ record { matched = length found; expanded = length tried; opened = length segments; segments = length ps }
+  pub report : r ≡ record { matched = length found; expanded = length tried; opened = length segments; segments = length all }
 
 -- The search was stopped: what is printed is a front of those lines, and no more was opened and expanded.
-pub record HasStopped (h : Header) (held : Held) (q : Asked) (ps : List SegmentPlace) (old new : Option (List ℕ)) (opened opened_new expanded expanded_new : ℕ) : Type 0 where
+pub record HasStopped (h : Header) (es : List JournalEntry) (held : Held) (q : Asked) (old new : Option (List ℕ)) (opened opened_new expanded expanded_new : ℕ) : Type 0 where
   pub printed : (found : List Placed) → AreFound h.version q (all_placed (content_of held)) found → GrewByFront old new (lines_of found)
-  pub opens : (segments : List SegmentPlace) → AreOpened (names_of h held) q ps segments → opened_new ≤ opened + length segments
+  pub all : List SegmentPlace
+  pub are_all : AreSegmentsOf es all
+  pub opens : (segments : List SegmentPlace) → AreOpened held.types held.words q all segments → opened_new ≤ opened + length segments
   pub expands : (tried : List Placed) → AreTried h.version q (all_placed (content_of held)) tried → expanded_new ≤ expanded + length tried
 
 -- n bytes from a place on are none of the columns of a barren segment

@@ -3,12 +3,14 @@ use Rattle.std.specs.Prelude.{◌≡◌, ◌≤◌, ◌+◌, ℕ, List, ◌++◌
 use Rattle.column_store.specs.declared.row.Row.{Row}
 use Rattle.log_seams.specs.Disk.{DiskState, Rests}
 use Rattle.segment_format.specs.Pages.{page_rows}
-use Rattle.segment_pages.specs.Paged.{HoldsLeft, Paged, ReadsColumns, paged_after}
+use Rattle.segment_pages.specs.Paged.{HoldsLeft, Paged, paged_after}
 use Rattle.archive_open.specs.declared.files.FileEntry.{FileEntry}
 use Rattle.archive_open.specs.declared.segments.SegmentPlace.{SegmentPlace}
 use Rattle.search_engine.specs.Held.{AreRowsOf, HaveMessages, Named, OfSegments}
 use Rattle.search_engine.specs.Scan.{Asked, Placed, numbered}
-use Rattle.search_engine.specs.Opened.{ReadsOpened, Searched}
+use Rattle.search_engine.specs.PagesRead.{ReadsPage}
+use Rattle.search_engine.specs.Opened.{OfFronts, ReadsFronts, Searched}
+use Rattle.archive_places.specs.declared.front.SegmentFront.{SegmentFront}
 use Rattle.search_engine.specs.Sofar.{Passes, Sofar}
 use Rattle.search_engine.specs.Waiting.{Reaches, State}
 
@@ -43,7 +45,7 @@ PageGone old new count = (rows : List Row) × (new ≡ paged_after old rows) × 
 
 -- what a search of pages has done so far
 pub record PagesPast (seen : Option (List ℕ)) (old new : DiskState) (start now : Paged) (n : Named) (q : Asked) (name : List ℕ) (number at : ℕ) (a b : State) : Type 0 where
-  pub reads : ReadsColumns start old new
+  pub reads : ReadsPage n start old new
   pub faults : new.faults ≡ old.faults
   pub place : at ≡ number + now.pages.row
   pub same : (now.at ≡ start.at) × (now.pages.start ≡ start.pages.start) × (now.pages.rows ≡ start.pages.rows) × (now.pages.variables ≡ start.pages.variables)
@@ -62,9 +64,9 @@ SegmentsPastTold seen n files q ps place a b ticks later count =
     OfSegments seen n files ps (λ bytes all. SegmentsPast bytes n files q ps place all a b ticks later count)
 
 -- what a search of segments has done so far
-pub record SegmentsRun (old new : DiskState) (n : Named) (files : List FileEntry) (q : Asked) (ps : List SegmentPlace) (place : ℕ) (a b : State) (ticks later count : ℕ) : Type 0 where
+pub record SegmentsRun (old new : DiskState) (n : Named) (files : List FileEntry) (q : Asked) (fronts : List SegmentFront) (place : ℕ) (a b : State) (ticks later count : ℕ) : Type 0 where
   pub rests : Rests old new
   pub faults : new.faults ≡ old.faults
-  pub reads : OfSegments old.seen n files ps (λ _ _. ReadsOpened n q ps old.ranges new.ranges)
-  pub past : SegmentsPastTold old.seen n files q ps place a b ticks later count
+  pub reads : ReadsFronts old new n files q fronts
+  pub past : OfFronts fronts (λ ps. SegmentsPastTold old.seen n files q ps place a b ticks later count)
   pub few : count ≤ place

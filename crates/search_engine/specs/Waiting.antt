@@ -1,6 +1,7 @@
 -- Pages that were read and wait to be searched, and how far a search has come that has some.
 use Rattle.std.specs.Prelude.{◌≡◌, ◌↔◌, ◌<◌, ℕ, List, [], ◌∷◌, ◌++◌, length, slice_index_or, map, Option, Result, OnOk, IsErrOf, All}
 use Rattle.column_store.specs.declared.row.Row.{Row}
+use Rattle.subquery_filter.specs.declared.verdicts.Verdict.{Verdict}
 use Rattle.search_engine.specs.declared.refusal.PrintRefusal.{PrintRefusal}
 use Rattle.search_engine.specs.declared.counts.Counts.{Counts}
 use Rattle.search_engine.specs.Scan.{Asked, IsFound, IsTried, Picks, Placed, numbered}
@@ -9,14 +10,15 @@ use Rattle.search_engine.specs.Held.{AreRowsOf, Named}
 
 -- ---- pages
 
--- the rows of a page, the name of its file, and the number of its first message
+-- the rows of a page and what was decided of each, the name of its file, and the number of its first message
 pub record Page : Type 0 where
   pub name : List ℕ
   pub number : ℕ
   pub rows : List Row
+  pub verdicts : List Verdict
 
-abbrev pub page : List ℕ → ℕ → List Row → Page
-page name number rows = record { name = name; number = number; rows = rows }
+abbrev pub page : List ℕ → ℕ → List Row → List Verdict → Page
+page name number rows verdicts = record { name = name; number = number; rows = rows; verdicts = verdicts }
 
 -- the rows of the pages are the encodings of these messages
 abbrev pub WaitFor : Named → List Page → List Placed → Type 0
@@ -52,12 +54,6 @@ pub record IsWorked (n : Named) (q : Asked) (s : Slotted) : Type 0 where
 
 abbrev pub pages_of : List Slotted → List Page
 pages_of slots = map (λ s. s.page) slots
-
--- the slots have the pages that they had, and these were searched
-pub record AreMatched (n : Named) (q : Asked) (old new : List Slotted) : Type 0 where
-  pub len : length new ≡ length old
-  pub pages : (k : ℕ) (d : Slotted) → k < length old → (slice_index_or new k d).page ≡ (slice_index_or old k d).page
-  pub worked : All (IsWorked n q) new
 
 -- P holds of the messages of a page that was searched
 abbrev pub OfWorked : Slotted → (Named → Asked → List Placed → Type 0) → Type 0

@@ -1,87 +1,93 @@
 //! What each call of a search lends on to the next.
-ghost use Rattle.std.specs.Prelude.{◌≡◌, ◌++◌, ◌∷◌, ◌↔◌, [], ℕ, List, Option, IfOk, IfSome, IsFalse, IsNone, IsTrue};
+ghost use Rattle.std.specs.Prelude.{◌≡◌, ◌⊎◌, ◌++◌, ◌∷◌, ◌↔◌, [], ℕ, List, Option, IfOk, IfSome, IsFalse, IsNone, IsTrue};
 ghost use Rattle.plain_list.specs.Texts.{AreDistinct};
-ghost use Rattle.column_store.specs.Range.{Holds};
 ghost use Rattle.column_store.specs.Row.{row_of};
-ghost use Rattle.segment_format.specs.Layout.{IsHead};
-ghost use Rattle.wild_match.specs.Matches.{Match};
-ghost use Rattle.row_codec.specs.Means.{HasSpelling, IsSpelling};
+ghost use Rattle.segment_format.specs.Layout.{IsFixed, IsHead};
+ghost use Rattle.archive_places.specs.Fronts.{fixed_in};
 ghost use Rattle.query_plan.specs.Laws.{IsSearched};
-ghost use Rattle.query_plan.specs.Pieces.{wide, wide_pieces};
-ghost use Rattle.subquery_filter.specs.Filter.{HasNoMatch, IsFilter, IsRowVerdict};
-ghost use Rattle.search_engine.specs.Held.{Named, named};
-ghost use Rattle.search_engine.specs.Judged.{Judges};
+ghost use Rattle.query_plan.specs.Pieces.{wide_pieces};
+ghost use Rattle.subquery_filter.specs.Barren.{IsBounded, LeavesOut};
+ghost use Rattle.subquery_filter.specs.Filter.{HasNoMatch};
+ghost use Rattle.search_engine.specs.Held.{IsTold, Named, named};
 ghost use Rattle.search_engine.specs.Opened.{IsBarrenFor, IsOpened, NoneTold};
-ghost use Rattle.search_engine.specs.StepsScope.{scope};
+ghost use Rattle.search_engine.specs.Ready.{IsDecided};
+ghost use Rattle.search_engine.specs.StepsScope.{IsScope, scope};
 
 use crate::opening::open_segment;
-use crate::query::{Judgement, Query};
+use crate::printing::Printer;
+use crate::query::Query;
 use archive_open::{FileEntry, SegmentPlace};
+use archive_places::SegmentFront;
 use column_store::RowRef;
-use row_codec::{Layouts, Names, RowWriter};
+use log_seams::Disk;
+use query_plan::wide_is_wider;
+use row_codec::Layouts;
 use segment_pages::SegmentPages;
-use std::alloc::AllocError;
 use std::marker::Model;
+use std::snapshot::Snapshot;
 use std::sync::ledger::Ledger;
 use step_count::Steps;
-use subquery_filter::{Filter, Verdict, barren};
+use subquery_filter::{Filter, Verdict, barren_by, is_outside};
+use word_places::HeldWords;
 
-/// What a search goes over, borrowed: the query, what the numbers of the archive stand for, its log
-/// types cut into pieces, what they and its words tell, and its files. It is the same in all calls of
-/// a search.
+/// What a search goes over, borrowed: the query, the log types cut into pieces, what they and the words
+/// tell, and the files. It is the same in all calls of a search.
 #[derive(Drop)]
-pub(crate) struct Context<'q, N: Names> {
+pub(crate) struct Context<'q, D: Disk> {
     query: &'q Query,
-    names: &'q N,
     layouts: &'q Layouts,
     filter: &'q Filter,
     files: &'q [FileEntry],
+    /// The numbers of the needed words.
+    found: &'q [Option<u32>],
+    /// For proofs alone: what was held when the search began, and the disk, which tells the words.
+    held: Snapshot<HeldWords>,
+    disk: Snapshot<D>,
 }
 
-impl<'q, N: Names> Model for Context<'q, N> {
+impl<'q, D: Disk> Model for Context<'q, D> {
     ghost use Rattle.std.specs.Prelude.{◌≡◌};
     ghost use Rattle.query_plan.specs.Laws.{IsSearched};
     ghost use Rattle.query_plan.specs.Pieces.{wide_pieces};
-    ghost use Rattle.subquery_filter.specs.Filter.{IsFilter};
-    ghost use Rattle.search_engine.specs.Held.{named};
-    ghost use Rattle.search_engine.specs.StepsScope.{Scope, scope};
+    ghost use Rattle.subquery_filter.specs.Barren.{IsBounded, LeavesOut};
+ghost use Rattle.subquery_filter.specs.Filter.{IsFilter};
+    ghost use Rattle.search_engine.specs.Held.{IsTold, named};
+    ghost use Rattle.search_engine.specs.StepsScope.{IsScope, Scope, scope};
 
     ghost Value = { Scope };
 
-    ghost view = { λ c. scope
-        (named (N.version c.names.now) (N.types c.names.now) (N.words c.names.now))
+    ghost view = { λ c. scope (named (D.state c.disk.value).seen c.held.value)
         c.query.now c.files.now };
 
-    ghost invariant = { λ c. IsSearched c.query.now.pattern
-        × IsFilter (wide_pieces c.query.now.pattern) (N.types c.names.now)
-        (N.words c.names.now) c.filter.now
-        × (c.layouts.now ≡ N.types c.names.now) };
+    ghost invariant = { λ c. IsScope (named (D.state c.disk.value).seen c.held.value)
+        c.query.now c.layouts.now c.filter.now c.found.now };
 }
 
-impl<'q, N: Names> Context<'q, N> {
-    /// What is lent on. The layouts are those of the names' log types, and the filter is that of the
-    /// query, over these names.
+impl<'q, D: Disk> Context<'q, D> {
+    /// What is lent on. The layouts are those of the log types, and the filter is that of the query,
+    /// over these and over the words that stand on the disk, of which the needed ones have the numbers
+    /// that were found.
     pub(crate) fn new(
         query: &'q Query,
-        names: &'q N,
         layouts: &'q Layouts,
         filter: &'q Filter,
         files: &'q [FileEntry],
-    ) -> Context<'q, N>
-        requires searched { IsSearched query.now.pattern }
-        requires layouts { layouts.now ≡ N.types names.now }
-        requires filter { IsFilter (wide_pieces query.now.pattern) (N.types names.now)
-            (N.words names.now) filter.now }
-        ensures { result ≡ scope
-            (named (N.version names.now) (N.types names.now) (N.words names.now))
-            query.now files.now }
+        found: &'q [Option<u32>],
+        held: &HeldWords,
+        disk: &D,
+    ) -> Context<'q, D>
+        requires { IsScope (named (D.state disk.now).seen held.now)
+            query.now layouts.now filter.now found.now }
+        ensures { result ≡ scope (named (D.state disk.now).seen held.now) query.now files.now }
     {
         Context {
             query,
-            names,
             layouts,
             filter,
             files,
+            found,
+            held: Snapshot::of(held),
+            disk: Snapshot::of(disk),
         }
     }
 
@@ -99,24 +105,45 @@ impl<'q, N: Names> Context<'q, N> {
         open_segment(self.files, segment, opened)
     }
 
-    /// Whether a segment's head tells that none of its messages is found. The pattern is one that
-    /// was read, as the laws of barren segments ask.
-    pub(crate) fn is_barren(&self, segment: &SegmentPlace) -> bool
-        ensures told { IsHead segment.now.head → AreDistinct self.now.names.words
-            → IsTrue result ↔ IsBarrenFor self.now.names self.now.query segment.now }
+    /// Whether a segment's front tells that none of its messages is found. The pattern is one that was
+    /// read, as the laws of barren segments ask.
+    pub(crate) fn is_outside(&self, front: &SegmentFront) -> bool
+        ensures told { IsTrue result → IsFixed (fixed_in front.now) → (front.now.rows ≡ 0)
+            ⊎ (IsBounded self.now.query.range × LeavesOut self.now.query.range
+            front.now.stamped front.now.least front.now.greatest) }
         ensures searched { IsSearched self.now.query.pattern }
     {
-        barren(
+        is_outside(
+            front.rows,
+            front.stamped,
+            front.least,
+            front.greatest,
+            self.query.range(),
+        )
+    }
+
+    /// Whether a segment's head tells that none of its messages is found. The pattern is one that was
+    /// read, as the laws of barren segments ask.
+    pub(crate) fn is_barren(&self, held: &HeldWords, segment: &SegmentPlace) -> bool
+        requires { held.now.types ≡ self.now.names.types }
+        ensures told { IsTold self.now.names → IsHead segment.now.head
+            → AreDistinct self.now.names.words → IsTrue result ↔ IsBarrenFor
+            self.now.names.types self.now.names.words self.now.query segment.now }
+        ensures searched { IsSearched self.now.query.pattern }
+    {
+        barren_by(
             &segment.head,
             self.query.plan(),
             self.query.range(),
-            self.names,
+            held,
+            self.found,
         )
     }
 
     /// Whether the log types and words that a segment's head lists leave one of its messages.
     pub(crate) fn may_match(&self, segment: &SegmentPlace) -> bool
-        ensures { IsFalse result → HasNoMatch (wide_pieces self.now.query.pattern)
+        ensures { IsFalse result → IsTold self.now.names
+            → HasNoMatch (wide_pieces self.now.query.pattern)
             self.now.names.types self.now.names.words
             segment.now.head.types segment.now.head.words }
     {
@@ -125,55 +152,28 @@ impl<'q, N: Names> Context<'q, N> {
             .may_match(head.types.as_slice(), head.words.as_slice())
     }
 
-    /// What is told of a row by its numbers alone.
-    pub(crate) fn verdict(&self, row: RowRef<'_>) -> Verdict
-        ensures { IsRowVerdict (wide_pieces self.now.query.pattern)
-            self.now.names.types self.now.names.words (row_of row.entry) result }
+    /// What is told of a row by its moment, and by its numbers alone. One that is out of the range counts
+    /// as rejected.
+    pub(crate) fn decide(&self, row: RowRef<'_>) -> Verdict
+        ensures { IsTold self.now.names
+            → IsDecided self.now.names self.now.query (row_of row.entry) result }
     {
+        // What the pattern matches, the one that the search is planned over matches too.
+        wide_is_wider();
+        if !self.query.range().holds(row.pattern, row.moment) {
+            return Verdict::Rejected;
+        }
         self.filter.verdict(row)
     }
 
-    /// Whether a row lies in the range.
-    pub(crate) fn is_inside(&self, row: RowRef<'_>) -> bool
-        ensures { IsTrue result
-            ↔ Holds self.now.query.range row.entry.pattern row.entry.moment }
+    /// What prints rows that were decided.
+    pub(crate) fn printer(&self) -> Printer<'q>
+        ensures query { result.query.now ≡ self.now.query }
+        ensures types { result.layouts.now ≡ self.now.names.types }
     {
-        self.query.range().holds(row.pattern, row.moment)
-    }
-
-    /// What writes rows of the archive, one after the other. Takes no memory.
-    pub(crate) fn writer(&self) -> RowWriter<'q>
-        ensures { result ≡ self.now.names.types }
-    {
-        RowWriter::new(self.layouts)
-    }
-
-    /// Appends what a row is written as, and tells whether it can be written.
-    pub(crate) fn write(
-        &self,
-        writer: &mut RowWriter<'_>,
-        row: RowRef<'_>,
-        out: &mut Vec<u8>,
-    ) -> Result<bool, AllocError>
-        requires { writer.old ≡ self.now.names.types }
-        ensures types { writer.new ≡ writer.old }
-        ensures written { IfOk result (λ fits. IsTrue fits
-            → ((text : List ℕ)
-            × IsSpelling (row_of row.entry) self.now.names.types self.now.names.words text
-            × (out.new.items ≡ out.old.items ++ text))) }
-        ensures misfit { IfOk result (λ fits. IsFalse fits
-            → ¬ HasSpelling (row_of row.entry) self.now.names.types self.now.names.words) }
-    {
-        writer.write_fitting(row, self.names, out)
-    }
-
-    /// Whether a message in the range is expanded, and whether it is found.
-    ///
-    /// `certain` tells that the pattern that the search is planned over matches it.
-    pub(crate) fn judge(&self, certain: bool, text: &[u8]) -> Judgement
-        requires { IsTrue certain → Match (wide self.now.query.pattern) text.now }
-        ensures { Judges self.now.query text.now result }
-    {
-        self.query.judge(certain, text)
+        Printer {
+            query: self.query,
+            layouts: self.layouts,
+        }
     }
 }

@@ -1,8 +1,10 @@
 //! Searching an archive: the lines of all messages that a pattern matches, in order.
 #![tactic(auto)]
 
+mod asking;
 mod context;
 mod counts;
+mod deciding;
 mod gathering;
 mod label;
 mod laws;

@@ -2,7 +2,10 @@
 ghost use Rattle.std.specs.Prelude.{◌≡◌, ◌<◌, ◌+◌, ◌^◌, ◌++◌, ◌∷◌, [], List, length, IfOk, OnOk, OnErr, IsErrOf};
 ghost use Rattle.log_seams.specs.Outside.{CountsOf};
 ghost use Rattle.segment_format.specs.Pages.{page_rows};
-ghost use Rattle.segment_pages.specs.Paged.{AreNextTold, HoldsNoneTold, ReadsColumns, paged_after};
+ghost use Rattle.segment_pages.specs.Paged.{AreNextTold, paged_after};
+ghost use Rattle.search_engine.specs.Held.{OfLeft};
+ghost use Rattle.search_engine.specs.PagesRead.{ReadsPage};
+ghost use Rattle.search_engine.specs.Ready.{IsReadyPage, IsServed};
 ghost use Rattle.search_engine.specs.Scan.{Placed};
 ghost use Rattle.search_engine.specs.Sofar.{Passes, Stops, sofar};
 ghost use Rattle.search_engine.specs.Waiting.{Blames, Halts, Reaches, WaitFor, nothing_pending, page, pages_of, state};
@@ -14,7 +17,6 @@ use crate::label::Label;
 use crate::page_slot::{NO_COUNTS, PageSlot, match_pages};
 use crate::refusal::SearchRefusal;
 use log_seams::{Disk, Sink};
-use row_codec::Names;
 use segment_pages::SegmentPages;
 use sink_pieces::flush;
 use std::alloc::{AllocError, Global};
@@ -23,15 +25,17 @@ use std::mem::swap;
 use std::sync::ledger::Ledger;
 use std::thread::Threads;
 use step_count::Steps;
+use word_places::HeldWords;
 
 /// How many pages of a batch each worker has.
 const PAGES: usize = 4;
 
 /// Searches pages that are in memory, in at most so many threads, and sends on what they left, in order.
-fn match_and_send<R: Threads + Sync, N: Names + Sync, K: Sink, M: Ledger>(
+fn match_and_send<R: Threads + Sync, D: Disk, K: Sink, M: Ledger>(
     rt: &R,
     workers: usize,
-    context: &Context<'_, N>,
+    context: &Context<'_, D>,
+    held: &HeldWords,
     slots: &mut [PageSlot],
     out: &mut K,
     gathered: &mut Vec<u8>,
@@ -39,6 +43,8 @@ fn match_and_send<R: Threads + Sync, N: Names + Sync, K: Sink, M: Ledger>(
     expanded: &mut Steps<M>,
 ) -> Result<(), SearchRefusal>
     requires workers { 0 < workers }
+    requires served { IsServed context.now.names context.now.query held.now
+        (pages_of slots.old) }
 
     // by the answer
     ensures done { OnOk result ((all : List Placed)
@@ -59,7 +65,7 @@ fn match_and_send<R: Threads + Sync, N: Names + Sync, K: Sink, M: Ledger>(
     ensures sink_counts { CountsOf SearchRefusal.SinkFault
         (K.faults out.old) (K.faults out.new) result }
 {
-    match_pages(rt, workers, context, slots);
+    match_pages(rt, workers, &context.printer(), held, slots);
     gather_all(slots, out, gathered, counts, expanded)
 }
 
@@ -120,31 +126,40 @@ impl PageBatch {
         self.alloc
     }
 
-    /// Reads the next page of a segment, whose first message has this label. It does not wait yet.
+    /// Reads the next page of a segment, whose first message has this label, and the words by which its
+    /// rows may have to be written. It does not wait yet.
     pub(crate) fn read<D: Disk>(
         &mut self,
+        context: &Context<'_, D>,
+        held: &mut HeldWords,
         label: Label<'_>,
         pages: &mut SegmentPages,
         disk: &mut D,
     ) -> Result<PageSlot, SearchRefusal>
         requires left { pages.old.pages.row < pages.old.pages.rows }
         requires small { label.number + 4096 < 2 ^ 64 }
+        requires served { IsServed context.now.names context.now.query held.old self.old.pages }
+        requires told { (D.state disk.old).seen ≡ context.now.names.told }
 
         // what stays
         ensures kept { self.new ≡ self.old }
-        ensures reads { ReadsColumns pages.old (D.state disk.old) (D.state disk.new) }
+        ensures reads { ReadsPage context.now.names pages.old
+            (D.state disk.old) (D.state disk.new) }
+        ensures served { IsServed context.now.names context.now.query held.new self.old.pages }
 
         // by the answer
-        ensures page { IfOk result (λ s.
-            s.page ≡ page label.entry.name.now label.entry.number s.page.rows) }
+        ensures page { IfOk result (λ s. s.page
+            ≡ page label.entry.name.now label.entry.number s.page.rows s.page.verdicts) }
+        ensures ready { IfOk result (λ s. IsReadyPage context.now.names context.now.query
+            held.new s.page.rows s.page.verdicts) }
         ensures next { IfOk result (λ s.
             AreNextTold (D.state disk.old).seen pages.old pages.new s.page.rows) }
         ensures after { IfOk result (λ s. pages.new ≡ paged_after pages.old s.page.rows) }
         ensures count { IfOk result (λ s. length s.page.rows ≡ page_rows pages.old.pages) }
 
         // causes
-        ensures damaged { IsErrOf result SearchRefusal.Damaged
-            → HoldsNoneTold (D.state disk.old).seen pages.old }
+        ensures damaged { IsErrOf result SearchRefusal.Damaged → OfLeft
+            (D.state disk.old).seen pages.old context.now.names (λ _. ⊥) }
         ensures counts { CountsOf SearchRefusal.DiskFault
             (D.state disk.old).faults (D.state disk.new).faults result }
         ensures sink { ¬ IsErrOf result SearchRefusal.SinkFault }
@@ -153,7 +168,7 @@ impl PageBatch {
             Some(slot) => slot,
             None => PageSlot::new(self.alloc),
         };
-        slot.read(label, pages, disk, &mut self.bytes)
+        slot.read(context, held, label, pages, disk, &mut self.bytes)
     }
 
     /// Lets a page wait. A refusal changes nothing.
@@ -175,13 +190,16 @@ impl PageBatch {
     }
 
     /// Searches the pages that wait, and sends on what they left.
-    pub(crate) fn run<R: Threads + Sync, N: Names + Sync, K: Sink, M: Ledger>(
+    pub(crate) fn run<R: Threads + Sync, D: Disk, K: Sink, M: Ledger>(
         &mut self,
         rt: &R,
-        context: &Context<'_, N>,
+        context: &Context<'_, D>,
+        held: &HeldWords,
         out: &mut K,
         expanded: &mut Steps<M>,
     ) -> Result<(), SearchRefusal>
+        requires served { IsServed context.now.names context.now.query held.now self.old.pages }
+
         // by the answer
         ensures done { OnOk result (Reaches
             context.now.names context.now.query []
@@ -204,6 +222,7 @@ impl PageBatch {
             rt,
             self.workers,
             context,
+            held,
             self.waiting.as_mut_slice(),
             out,
             &mut self.gathered,
@@ -216,13 +235,16 @@ impl PageBatch {
     }
 
     /// Searches the pages that wait, and sends out all that is at hand.
-    pub(crate) fn finish<R: Threads + Sync, N: Names + Sync, K: Sink, M: Ledger>(
+    pub(crate) fn finish<R: Threads + Sync, D: Disk, K: Sink, M: Ledger>(
         &mut self,
         rt: &R,
-        context: &Context<'_, N>,
+        context: &Context<'_, D>,
+        held: &HeldWords,
         out: &mut K,
         expanded: &mut Steps<M>,
     ) -> Result<(), SearchRefusal>
+        requires served { IsServed context.now.names context.now.query held.now self.old.pages }
+
         // by the answer
         ensures done { OnOk result (Reaches
             context.now.names context.now.query []
@@ -241,7 +263,7 @@ impl PageBatch {
         ensures sink_counts { CountsOf SearchRefusal.SinkFault
             (K.faults out.old) (K.faults out.new) result }
     {
-        self.run(rt, context, out, expanded)?;
+        self.run(rt, context, held, out, expanded)?;
         flush(out, &mut self.gathered)?;
         Ok(())
     }

@@ -3,25 +3,31 @@ ghost use Rattle.std.specs.Prelude.{◌≡◌, ◌<◌, ◌+◌, ◌^◌, ℕ, L
 ghost use Rattle.log_seams.specs.Outside.{CountsOf};
 ghost use Rattle.step_count.specs.Opens.{OpensFor};
 ghost use Rattle.segment_format.specs.Pages.{page_rows};
-ghost use Rattle.segment_pages.specs.Paged.{AreNextTold, HoldsNoneTold, ReadsColumns, paged_after};
-ghost use Rattle.search_engine.specs.Held.{AreRowsOf};
-ghost use Rattle.search_engine.specs.Waiting.{AreMatched, IsWorked, PrintsPage, Slotted, page};
+ghost use Rattle.segment_pages.specs.Paged.{AreNextTold, paged_after};
+ghost use Rattle.word_places.specs.Held.{Grow};
+ghost use Rattle.search_engine.specs.Held.{AreRowsOf, Named, OfLeft};
+ghost use Rattle.search_engine.specs.PagesRead.{ReadsPage};
+ghost use Rattle.search_engine.specs.Ready.{IsReadyPage, Serves};
+ghost use Rattle.search_engine.specs.Waiting.{PrintsPage, Slotted, page};
+ghost use Rattle.search_engine.specs.Worked.{AreMatched, IsWorkedBy};
 
 use crate::context::Context;
 use crate::counts::Counts;
+use crate::deciding::decide_rows;
 use crate::label::Label;
-use crate::printing::print_page;
+use crate::printing::{Printer, print_page};
 use crate::refusal::{PrintRefusal, SearchRefusal};
 use column_store::Columns;
 use log_seams::Disk;
 use rayon::prelude::par_chunks_mut_for_each;
-use row_codec::Names;
 use segment_pages::SegmentPages;
 use std::alloc::Global;
 use std::marker::{Brand, Model};
 use std::sync::ledger::{Blank, Ledger};
 use std::thread::Threads;
 use step_count::Steps;
+use subquery_filter::Verdict;
+use word_places::HeldWords;
 
 /// The counts of no search.
 pub(crate) const NO_COUNTS: Counts = Counts {
@@ -29,8 +35,8 @@ pub(crate) const NO_COUNTS: Counts = Counts {
     expanded: 0,
 };
 
-/// A page in memory, and what its search left: the lines of the messages that are found, the counts,
-/// and whether it went through.
+/// A page in memory, what was decided of its rows, and what its search left: the lines of the messages
+/// that are found, the counts, and whether it went through.
 #[derive(Drop)]
 pub(crate) struct PageSlot {
     /// The name of the file.
@@ -38,25 +44,28 @@ pub(crate) struct PageSlot {
     /// The number of the first message.
     number: u64,
     columns: Columns,
+    /// What was decided of each row.
+    verdicts: Vec<Verdict>,
     text: Vec<u8>,
     counts: Counts,
     answer: Result<(), PrintRefusal>,
 }
 
 impl Model for PageSlot {
-    ghost use Rattle.std.specs.Prelude.{◌<◌, ◌+◌, ◌^◌, length};
+    ghost use Rattle.std.specs.Prelude.{◌≡◌, ◌<◌, ◌+◌, ◌^◌, length};
     ghost use Rattle.search_engine.specs.Waiting.{Slotted, page};
 
     ghost Value = { Slotted };
 
     ghost view = { λ s. record {
-      page = page s.name.items s.number s.columns.rows;
+      page = page s.name.items s.number s.columns.rows s.verdicts.items;
       text = s.text.items;
       counts = s.counts;
       answer = s.answer;
     } };
 
-    ghost invariant = { λ s. s.number + length s.columns.rows < 2 ^ 64 };
+    ghost invariant = { λ s. (s.number + length s.columns.rows < 2 ^ 64)
+        × (length s.verdicts.items ≡ length s.columns.rows) };
 }
 
 impl PageSlot {
@@ -66,6 +75,7 @@ impl PageSlot {
             name: Vec::new(alloc),
             number: 0,
             columns: Columns::new(alloc),
+            verdicts: Vec::new(alloc),
             text: Vec::new(alloc),
             counts: NO_COUNTS,
             answer: Ok(()),
@@ -100,9 +110,12 @@ impl PageSlot {
         self.answer
     }
 
-    /// Reads the next page in the place of the one that it has.
+    /// Reads the next page in the place of the one that it has, decides its rows, and reads the words
+    /// by which they may have to be written.
     pub(crate) fn read<D: Disk>(
         self,
+        context: &Context<'_, D>,
+        held: &mut HeldWords,
         label: Label<'_>,
         pages: &mut SegmentPages,
         disk: &mut D,
@@ -110,21 +123,28 @@ impl PageSlot {
     ) -> Result<PageSlot, SearchRefusal>
         requires left { pages.old.pages.row < pages.old.pages.rows }
         requires small { label.number + 4096 < 2 ^ 64 }
+        requires serves { Serves context.now.names held.old }
+        requires told { (D.state disk.old).seen ≡ context.now.names.told }
 
-        // what stays
-        ensures reads { ReadsColumns pages.old (D.state disk.old) (D.state disk.new) }
+        // what stays, and what grows
+        ensures reads { ReadsPage context.now.names pages.old
+            (D.state disk.old) (D.state disk.new) }
+        ensures serves { Serves context.now.names held.new }
+        ensures grow { Grow held.old.records held.new.records }
 
         // by the answer
-        ensures page { IfOk result (λ s.
-            s.page ≡ page label.entry.name.now label.entry.number s.page.rows) }
+        ensures page { IfOk result (λ s. s.page
+            ≡ page label.entry.name.now label.entry.number s.page.rows s.page.verdicts) }
+        ensures ready { IfOk result (λ s. IsReadyPage context.now.names context.now.query
+            held.new s.page.rows s.page.verdicts) }
         ensures next { IfOk result (λ s.
             AreNextTold (D.state disk.old).seen pages.old pages.new s.page.rows) }
         ensures after { IfOk result (λ s. pages.new ≡ paged_after pages.old s.page.rows) }
         ensures count { IfOk result (λ s. length s.page.rows ≡ page_rows pages.old.pages) }
 
         // causes
-        ensures damaged { IsErrOf result SearchRefusal.Damaged
-            → HoldsNoneTold (D.state disk.old).seen pages.old }
+        ensures damaged { IsErrOf result SearchRefusal.Damaged → OfLeft
+            (D.state disk.old).seen pages.old context.now.names (λ _. ⊥) }
         ensures counts { CountsOf SearchRefusal.DiskFault
             (D.state disk.old).faults (D.state disk.new).faults result }
         ensures sink { ¬ IsErrOf result SearchRefusal.SinkFault }
@@ -133,6 +153,7 @@ impl PageSlot {
             name: mut kept,
             number: _,
             columns,
+            mut verdicts,
             text,
             counts,
             answer,
@@ -140,10 +161,12 @@ impl PageSlot {
         kept.clear();
         kept.extend_from_slice(label.name)?;
         let columns = pages.next_page(disk, bytes, columns)?;
+        decide_rows(context, &columns, held, disk, &mut verdicts)?;
         Ok(PageSlot {
             name: kept,
             number: label.number,
             columns,
+            verdicts,
             text,
             counts,
             answer,
@@ -152,18 +175,21 @@ impl PageSlot {
 }
 
 // Searches a page, with a counter of its own. Its counts are exact, as a page is small.
-fn match_counted<N: Names, M: Ledger>(
-    context: &Context<'_, N>,
+fn match_counted<M: Ledger>(
+    printer: &Printer<'_>,
+    held: &HeldWords,
     slot: &mut PageSlot,
     blank: Blank,
 ) -> Result<(), PrintRefusal>
     requires blank { OpensFor blank M.name M.parts }
+    requires types { held.now.types ≡ printer.now.layouts.now }
     ensures page { slot.new.page ≡ slot.old.page }
-    ensures done { OnOk result (PrintsPage
-        context.now.names context.now.query
-        slot.old.page slot.new.text slot.new.counts) }
-    ensures damaged { IsErrOf result PrintRefusal.Damaged → (messages : List (List ℕ))
-        → ¬ AreRowsOf context.now.names slot.old.page.rows messages }
+    ensures done { OnOk result ((n : Named) → IsReadyPage n printer.now.query.now held.now
+        slot.old.page.rows slot.old.page.verdicts
+        → PrintsPage n printer.now.query.now slot.old.page slot.new.text slot.new.counts) }
+    ensures damaged { IsErrOf result PrintRefusal.Damaged → (n : Named)
+        → IsReadyPage n printer.now.query.now held.now slot.old.page.rows slot.old.page.verdicts
+        → (messages : List (List ℕ)) → ¬ AreRowsOf n slot.old.page.rows messages }
 {
     let mut expanded: Steps<M> = Steps::new(blank);
     slot.text.clear();
@@ -173,9 +199,11 @@ fn match_counted<N: Names, M: Ledger>(
         number: slot.number,
     };
     print_page(
-        context,
+        printer,
+        held,
         label,
         &slot.columns,
+        slot.verdicts.as_slice(),
         &mut slot.text,
         &mut slot.counts,
         &mut expanded,
@@ -183,41 +211,45 @@ fn match_counted<N: Names, M: Ledger>(
 }
 
 /// Searches a page that is in memory.
-pub(crate) fn match_page<N: Names>(context: &Context<'_, N>, slot: &mut PageSlot)
+pub(crate) fn match_page(printer: &Printer<'_>, held: &HeldWords, slot: &mut PageSlot)
+    requires types { held.now.types ≡ printer.now.layouts.now }
     ensures page { slot.new.page ≡ slot.old.page }
-    ensures worked { IsWorked context.now.names context.now.query slot.new }
+    ensures worked { IsWorkedBy printer.now.query.now held.now slot.new }
 {
-    let answer = match_counted::<N, Brand>(context, slot, Blank::new(1));
+    let answer = match_counted::<Brand>(printer, held, slot, Blank::new(1));
     slot.answer = answer;
 }
 
 /// Searches pages that are in memory, one after the other.
-fn match_chunk<N: Names>(context: &Context<'_, N>, slots: &mut [PageSlot])
-    ensures { AreMatched context.now.names context.now.query slots.old slots.new }
+fn match_chunk(printer: &Printer<'_>, held: &HeldWords, slots: &mut [PageSlot])
+    requires types { held.now.types ≡ printer.now.layouts.now }
+    ensures { AreMatched printer.now.query.now held.now slots.old slots.new }
 {
     for slot in slots.iter_mut() {
-        match_page(context, slot);
+        match_page(printer, held, slot);
     }
 }
 
 /// Searches pages that are in memory, in at most so many threads. Each has as many pages, but for the
 /// last.
-pub(crate) fn match_pages<R: Threads + Sync, N: Names + Sync>(
+pub(crate) fn match_pages<R: Threads + Sync>(
     rt: &R,
     workers: usize,
-    context: &Context<'_, N>,
+    printer: &Printer<'_>,
+    held: &HeldWords,
     slots: &mut [PageSlot],
 )
     requires workers { 0 < workers }
+    requires types { held.now.types ≡ printer.now.layouts.now }
     ensures len { length slots.new ≡ length slots.old }
     ensures pages { (k : ℕ) (d : Slotted) → k < length slots.old
         → (slice_index_or slots.new k d).page ≡ (slice_index_or slots.old k d).page }
-    ensures worked { All (IsWorked context.now.names context.now.query) slots.new }
+    ensures worked { All (IsWorkedBy printer.now.query.now held.now) slots.new }
 {
     let size = slots.len().div_ceil(workers).max(1);
     // One chunk needs no other thread, and no look at how many processors there are.
     if slots.len() <= size {
-        match_chunk(context, slots);
+        match_chunk(printer, held, slots);
         return;
     }
     par_chunks_mut_for_each(
@@ -225,8 +257,9 @@ pub(crate) fn match_pages<R: Threads + Sync, N: Names + Sync>(
         slots,
         size,
         |_start: usize, chunk: &mut [PageSlot]|
-            ensures { AreMatched context.entry.now.names context.entry.now.query
-                chunk.entry.now chunk.exit.now }
-        { match_chunk(context, chunk) },
+            requires { held.now.types ≡ printer.now.layouts.now }
+            ensures { AreMatched printer.entry.now.query.now
+                held.entry.now chunk.entry.now chunk.exit.now }
+        { match_chunk(printer, held, chunk) },
     );
 }

@@ -1,7 +1,8 @@
 //! The pages of a segment, read one after the other.
 ghost use Rattle.std.specs.Prelude.{◌≡◌, ◌≤◌, ◌<◌, ◌+◌, ◌^◌, ℕ, List, length, IfOk, OnOk, OnErr, IsErrOf};
 ghost use Rattle.log_seams.specs.Outside.{CountsOf};
-ghost use Rattle.segment_pages.specs.Paged.{ReadsColumns};
+ghost use Rattle.search_engine.specs.PagesRead.{ReadsPage};
+ghost use Rattle.search_engine.specs.Ready.{IsServed};
 ghost use Rattle.search_engine.specs.Held.{OfLeft};
 ghost use Rattle.search_engine.specs.Scan.{numbered};
 ghost use Rattle.search_engine.specs.StepsPast.{PageGone, PastTold};
@@ -12,18 +13,19 @@ use crate::label::Label;
 use crate::page_batch::PageBatch;
 use crate::refusal::SearchRefusal;
 use log_seams::{Disk, Sink};
-use row_codec::Names;
 use segment_pages::SegmentPages;
 use std::sync::ledger::Ledger;
 use std::thread::Threads;
 use step_count::Steps;
+use word_places::HeldWords;
 
 /// Reads the next page, whose first message has this label, and lets it wait. Once a batch is full it
 /// is searched. Where a page cannot be read, the pages before it are searched and sent out first, but
 /// not after a fault of the disk.
-fn read_next<R: Threads + Sync, N: Names + Sync, D: Disk, K: Sink, M: Ledger>(
+fn read_next<R: Threads + Sync, D: Disk, K: Sink, M: Ledger>(
     rt: &R,
-    context: &Context<'_, N>,
+    context: &Context<'_, D>,
+    held: &mut HeldWords,
     label: Label<'_>,
     pages: &mut SegmentPages,
     disk: &mut D,
@@ -33,9 +35,13 @@ fn read_next<R: Threads + Sync, N: Names + Sync, D: Disk, K: Sink, M: Ledger>(
 ) -> Result<u32, SearchRefusal>
     requires left { pages.old.pages.row < pages.old.pages.rows }
     requires small { label.number + 4096 < 2 ^ 64 }
+    requires served { IsServed context.now.names context.now.query held.old batch.old.pages }
+    requires told { (D.state disk.old).seen ≡ context.now.names.told }
 
     // what stays
-    ensures reads { ReadsColumns pages.old (D.state disk.old) (D.state disk.new) }
+    ensures reads { ReadsPage context.now.names pages.old (D.state disk.old) (D.state disk.new) }
+    ensures served { OnOk result (IsServed context.now.names context.now.query
+        held.new batch.new.pages) }
 
     // by the answer
     ensures gone { IfOk result (λ rows. PageGone pages.old pages.new rows) }
@@ -58,12 +64,12 @@ fn read_next<R: Threads + Sync, N: Names + Sync, D: Disk, K: Sink, M: Ledger>(
     ensures sink_counts { CountsOf SearchRefusal.SinkFault
         (K.faults out.old) (K.faults out.new) result }
 {
-    let slot = match batch.read(label, pages, disk) {
+    let slot = match batch.read(context, held, label, pages, disk) {
         Ok(slot) => slot,
         // An output that fails too would be a second fault.
         Err(SearchRefusal::DiskFault) => return Err(SearchRefusal::DiskFault),
         Err(refusal) => {
-            batch.finish(rt, context, out, expanded)?;
+            batch.finish(rt, context, held, out, expanded)?;
             return Err(refusal);
         }
     };
@@ -72,14 +78,15 @@ fn read_next<R: Threads + Sync, N: Names + Sync, D: Disk, K: Sink, M: Ledger>(
     if !batch.is_full() {
         return Ok(rows);
     }
-    batch.run(rt, context, out, expanded)?;
+    batch.run(rt, context, held, out, expanded)?;
     Ok(rows)
 }
 
 /// Reads the pages of a segment, whose first message has this label.
-pub(crate) fn read_pages<R: Threads + Sync, N: Names + Sync, D: Disk, K: Sink, M: Ledger>(
+pub(crate) fn read_pages<R: Threads + Sync, D: Disk, K: Sink, M: Ledger>(
     rt: &R,
-    context: &Context<'_, N>,
+    context: &Context<'_, D>,
+    held: &mut HeldWords,
     label: Label<'_>,
     pages: SegmentPages,
     disk: &mut D,
@@ -89,9 +96,13 @@ pub(crate) fn read_pages<R: Threads + Sync, N: Names + Sync, D: Disk, K: Sink, M
 ) -> Result<(), SearchRefusal>
     requires first { pages.pages.row ≡ 0 }
     requires small { label.number + pages.pages.rows + 4096 < 2 ^ 64 }
+    requires served { IsServed context.now.names context.now.query held.old batch.old.pages }
+    requires told { (D.state disk.old).seen ≡ context.now.names.told }
 
     // what stays
-    ensures reads { ReadsColumns pages (D.state disk.old) (D.state disk.new) }
+    ensures reads { ReadsPage context.now.names pages (D.state disk.old) (D.state disk.new) }
+    ensures served { OnOk result (IsServed context.now.names context.now.query
+        held.new batch.new.pages) }
 
     // by the answer
     ensures done { OnOk result (OfLeft (D.state disk.old).seen pages
@@ -120,7 +131,9 @@ pub(crate) fn read_pages<R: Threads + Sync, N: Names + Sync, D: Disk, K: Sink, M
             name: label.name,
             number: at,
         };
-        let rows = read_next(rt, context, here, &mut pages, disk, out, batch, expanded)?;
+        let rows = read_next(
+            rt, context, held, here, &mut pages, disk, out, batch, expanded,
+        )?;
         at += u64::from(rows);
     }
     Ok(())

@@ -1,24 +1,32 @@
 //! Rows that are printed.
-ghost use Rattle.std.specs.Prelude.{◌≡◌, ◌<◌, ◌+◌, ◌^◌, ◌++◌, ◌∷◌, [], ℕ, List, Option, length, IsTrue, OnOk, OnErr, IsErrOf};
+ghost use Rattle.std.specs.Prelude.{◌≡◌, ◌≢◌, ◌<◌, ◌+◌, ◌^◌, ◌++◌, ◌∷◌, [], ℕ, List, Option, length, IsFalse, IsTrue, OnOk, OnErr, IsErrOf, Some, slice_get};
 ghost use Rattle.column_store.specs.Row.{row_of};
 ghost use Rattle.row_codec.specs.Means.{IsCanonical};
-ghost use Rattle.search_engine.specs.Held.{AreRowsOf};
+ghost use Rattle.search_engine.specs.Held.{AreRowsOf, Named};
 ghost use Rattle.search_engine.specs.Judged.{Keeps, label_of};
+ghost use Rattle.search_engine.specs.Ready.{IsLent, IsReadyPage};
 ghost use Rattle.search_engine.specs.Scan.{numbered, placed};
 ghost use Rattle.search_engine.specs.Sofar.{Passes, TicksWithin, sofar};
 
-use crate::context::Context;
 use crate::counts::Counts;
 use crate::label::Label;
-use crate::query::Judgement;
+use crate::query::{Judgement, Query};
 use crate::refusal::PrintRefusal;
 use column_store::{Columns, RowRef};
 use query_plan::wide_is_wider;
-use row_codec::{Names, RowWriter};
+use row_codec::{Layouts, RowWriter};
 use std::alloc::AllocError;
 use std::sync::ledger::Ledger;
 use step_count::Steps;
 use subquery_filter::Verdict;
+use word_places::{HeldWords, rows_are_local};
+
+/// What rows that were decided are printed by: the query, and the log types cut into pieces.
+#[derive(Clone, Copy)]
+pub(crate) struct Printer<'q> {
+    pub(crate) query: &'q Query,
+    pub(crate) layouts: &'q Layouts,
+}
 
 /// Appends what stands before a message in its line.
 fn put_label(gathered: &mut Vec<u8>, label: Label<'_>) -> Result<(), AllocError>
@@ -62,8 +70,9 @@ fn keep<M: Ledger>(
 }
 
 /// Whether it is known that a row's message is not expanded.
-fn is_rejected(verdict: Verdict) -> bool
-    ensures { IsTrue result → verdict ≡ Verdict.Rejected }
+pub(crate) fn is_rejected(verdict: Verdict) -> bool
+    ensures yes { IsTrue result → verdict ≡ Verdict.Rejected }
+    ensures no { IsFalse result → verdict ≢ Verdict.Rejected }
 {
     matches!(verdict, Verdict::Rejected)
 }
@@ -78,85 +87,111 @@ fn is_certain(verdict: Verdict) -> bool
 /// Writes the line of a row behind what is gathered, where its message is found.
 ///
 /// A message in the range is written and then matched: one that is not found is taken back, which
-/// costs less than a match over the row as it is stored. Where the filter tells that it cannot be
-/// found it is not written, and where it tells that it is expanded it is not matched for that.
-fn print_row<N: Names, M: Ledger>(
-    context: &Context<'_, N>,
+/// costs less than a match over the row as it is stored. Where it was decided that it cannot be found
+/// it is not written, and where that it is expanded it is not matched for that.
+fn print_row<M: Ledger>(
+    query: &Query,
+    held: &HeldWords,
     writer: &mut RowWriter<'_>,
     label: Label<'_>,
     row: RowRef<'_>,
+    verdict: Verdict,
     gathered: &mut Vec<u8>,
     counts: &mut Counts,
     expanded: &mut Steps<M>,
 ) -> Result<(), PrintRefusal>
-    requires { writer.old ≡ context.now.names.types }
+    requires { writer.old ≡ held.now.types }
     ensures types { writer.new ≡ writer.old }
-    ensures done { OnOk result ((w : Option (List ℕ)) (message : List ℕ)
-        → IsCanonical context.now.names.version (row_of row.entry) context.now.names.types
-        context.now.names.words message
-        → Passes context.now.names.version context.now.query
+    ensures done { OnOk result ((n : Named) → IsLent n query.now held.now (row_of row.entry) verdict
+        → (w : Option (List ℕ)) (message : List ℕ)
+        → IsCanonical n.version (row_of row.entry) n.types n.words message
+        → Passes n.version query.now
         (placed label.entry.name.now label.entry.number message ∷ [])
         (sofar w gathered.old.items counts.old expanded.old)
         (sofar w gathered.new.items counts.new expanded.new)) }
     ensures ticks { OnErr result (expanded.new ≡ expanded.old) }
-    ensures damaged { IsErrOf result PrintRefusal.Damaged → (message : List ℕ)
-        → ¬ IsCanonical context.now.names.version (row_of row.entry) context.now.names.types
-        context.now.names.words message }
+    ensures damaged { IsErrOf result PrintRefusal.Damaged → (n : Named)
+        → IsLent n query.now held.now (row_of row.entry) verdict → (message : List ℕ)
+        → ¬ IsCanonical n.version (row_of row.entry) n.types n.words message }
 {
-    // What the pattern matches, the one that the search is planned over matches too.
+    // What the pattern matches, the one that the search is planned over matches too; and a row whose
+    // words are held is written by these as by all words.
     wide_is_wider();
-    let verdict = context.verdict(row);
+    rows_are_local();
     if is_rejected(verdict) {
-        return Ok(());
-    }
-    if !context.is_inside(row) {
         return Ok(());
     }
     let len = gathered.len();
     put_label(gathered, label)?;
     let start = gathered.len();
-    if !context.write(writer, row, gathered)? {
+    if !writer.write_fitting(row, held, gathered)? {
         return Err(PrintRefusal::Damaged);
     }
     let (_, text) = gathered.as_slice().split_at(start);
-    let judgement = context.judge(is_certain(verdict), text);
+    let judgement = query.judge(is_certain(verdict), text);
     keep(judgement, len, gathered, counts, expanded)?;
     Ok(())
 }
 
+/// The verdict at a place.
+fn verdict_at(verdicts: &[Verdict], place: u32) -> Verdict
+    requires { place < length verdicts.now }
+    ensures { slice_get verdicts.now place ≡ Some result }
+{
+    verdicts[place as usize]
+}
+
 /// Writes the lines of the rows of a page that are found behind what is gathered. The first row has
-/// this label.
-pub(crate) fn print_page<N: Names, M: Ledger>(
-    context: &Context<'_, N>,
+/// this label, and each has its verdict.
+pub(crate) fn print_page<M: Ledger>(
+    printer: &Printer<'_>,
+    held: &HeldWords,
     label: Label<'_>,
     page: &Columns,
+    verdicts: &[Verdict],
     gathered: &mut Vec<u8>,
     counts: &mut Counts,
     expanded: &mut Steps<M>,
 ) -> Result<(), PrintRefusal>
+    requires types { held.now.types ≡ printer.now.layouts.now }
     requires small { label.number + length page.now.rows < 2 ^ 64 }
-    ensures done { OnOk result ((w : Option (List ℕ)) (messages : List (List ℕ))
-        → AreRowsOf context.now.names page.now.rows messages
-        → Passes context.now.names.version context.now.query
+    requires decided { length verdicts.now ≡ length page.now.rows }
+    ensures done { OnOk result ((n : Named)
+        → IsReadyPage n printer.now.query.now held.now page.now.rows verdicts.now
+        → (w : Option (List ℕ)) (messages : List (List ℕ)) → AreRowsOf n page.now.rows messages
+        → Passes n.version printer.now.query.now
         (numbered label.entry.name.now label.entry.number messages)
         (sofar w gathered.old.items counts.old expanded.old)
         (sofar w gathered.new.items counts.new expanded.new)) }
-    ensures ticks { OnErr result ((messages : List (List ℕ))
-        → AreRowsOf context.now.names page.now.rows messages
-        → TicksWithin context.now.names.version context.now.query
+    ensures ticks { OnErr result ((n : Named)
+        → IsReadyPage n printer.now.query.now held.now page.now.rows verdicts.now
+        → (messages : List (List ℕ)) → AreRowsOf n page.now.rows messages
+        → TicksWithin n.version printer.now.query.now
         (numbered label.entry.name.now label.entry.number messages)
         expanded.old expanded.new) }
-    ensures damaged { IsErrOf result PrintRefusal.Damaged → (messages : List (List ℕ))
-        → ¬ AreRowsOf context.now.names page.now.rows messages }
+    ensures damaged { IsErrOf result PrintRefusal.Damaged → (n : Named)
+        → IsReadyPage n printer.now.query.now held.now page.now.rows verdicts.now
+        → (messages : List (List ℕ)) → ¬ AreRowsOf n page.now.rows messages }
 {
-    let mut writer = context.writer();
+    let mut writer = RowWriter::new(printer.layouts);
     for place in 0..page.rows() {
         let here = Label {
             name: label.name,
             number: label.number + u64::from(place),
         };
         let row = page.row(place);
-        print_row(context, &mut writer, here, row, gathered, counts, expanded)?;
+        let verdict = verdict_at(verdicts, place);
+        print_row(
+            printer.query,
+            held,
+            &mut writer,
+            here,
+            row,
+            verdict,
+            gathered,
+            counts,
+            expanded,
+        )?;
     }
     Ok(())
 }

@@ -2,15 +2,12 @@
 ghost use Rattle.std.specs.Prelude.{◌≡◌, IfOk, IsTrue};
 ghost use Rattle.query_plan.specs.Pieces.{wide, wide_pieces};
 ghost use Rattle.wild_match.specs.Matches.{Match};
-ghost use Rattle.subquery_filter.specs.Filter.{IsFilter};
 ghost use Rattle.search_engine.specs.Judged.{Judges};
 
 use column_store::Range;
 use query_plan::{Plan, wide_is_wider};
-use row_codec::Names;
 use std::alloc::{AllocError, Global};
 use std::marker::Model;
-use subquery_filter::Filter;
 use wild_match::{Item, Matcher, Pattern};
 
 /// What is told of a message.
@@ -92,15 +89,6 @@ impl Query {
         &self.plan
     }
 
-    /// What an archive's log types and words tell of its rows.
-    pub(crate) fn filter<N: Names>(&self, alloc: Global, names: &N) -> Result<Filter, AllocError>
-        ensures { IfOk result (IsFilter (wide_pieces self.now.pattern) (N.types names.now)
-            (N.words names.now)) }
-    {
-        let filter = Filter::new(alloc, self.plan(), names)?;
-        Ok(filter)
-    }
-
     /// The range.
     pub(crate) fn range(&self) -> &Range
         ensures { result.now ≡ self.now.range }
@@ -112,8 +100,8 @@ impl Query {
     ///
     /// `certain` tells that the pattern that the search is planned over matches it.
     pub(crate) fn judge(&self, certain: bool, text: &[u8]) -> Judgement
-        requires { IsTrue certain → Match (wide self.now.pattern) text.now }
-        ensures { Judges self.now text.now result }
+        ensures { (IsTrue certain → Match (wide self.now.pattern) text.now)
+            → Judges self.now text.now result }
     {
         // What the pattern matches, the one that the search is planned over matches too.
         wide_is_wider();

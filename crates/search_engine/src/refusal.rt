@@ -2,12 +2,13 @@
 ghost use Rattle.std.specs.Prelude.{◌≡◌};
 ghost use Rattle.search_engine.specs.declared.refusal.PrintRefusal.TheVariants.{OutOfMemory as NoMemory};
 ghost use Rattle.search_engine.specs.declared.refusal.SearchRefusal.TheVariants.{OutOfMemory, SinkFault};
-ghost use Rattle.search_engine.specs.Refused.{from_page, from_print};
+ghost use Rattle.search_engine.specs.Refused.{from_hold, from_page, from_print};
 
 use log_seams::Failed;
 use segment_pages::PageRefusal;
 use std::alloc::AllocError;
 use thiserror::Error;
+use word_places::HoldRefusal;
 
 /// Why a search has stopped.
 #[derive(Clone, Copy, Debug, PartialEq, Eq, Error)]
@@ -50,6 +51,18 @@ impl From<PageRefusal> for SearchRefusal {
             PageRefusal::DiskFault => SearchRefusal::DiskFault,
             PageRefusal::Damaged => SearchRefusal::Damaged,
             PageRefusal::OutOfMemory => SearchRefusal::OutOfMemory,
+        }
+    }
+}
+
+impl From<HoldRefusal> for SearchRefusal {
+    ghost from_gives = { λ r e. e ≡ from_hold r };
+
+    fn from(refusal: HoldRefusal) -> Self {
+        match refusal {
+            HoldRefusal::DiskFault => SearchRefusal::DiskFault,
+            HoldRefusal::Damaged => SearchRefusal::Damaged,
+            HoldRefusal::OutOfMemory => SearchRefusal::OutOfMemory,
         }
     }
 }

@@ -3,18 +3,19 @@ ghost use Rattle.std.specs.Prelude.{◌≡◌, [], IfOk, OnErr, IsErrOf};
 ghost use Rattle.log_seams.specs.Disk.{Rests};
 ghost use Rattle.log_seams.specs.Outside.{CountsOf};
 ghost use Rattle.query_plan.specs.Laws.{IsSearched};
-ghost use Rattle.archive_open.specs.Archive.{shown};
-ghost use Rattle.archive_open.specs.Shown.{Opens};
+ghost use Rattle.archive_places.specs.Opened.{OpensPlaces};
+ghost use Rattle.word_places.specs.Places.{AreInOrder};
 ghost use Rattle.search_engine.specs.Waiting.{nothing_pending};
 ghost use Rattle.search_engine.specs.Searched.{HasSearched, HasStopped, OfJournal, ReadsNoBarren, asked};
 
+use crate::asking::ask_words;
 use crate::context::Context;
 use crate::page_batch::PageBatch;
 use crate::query::Query;
 use crate::refusal::SearchRefusal;
 use crate::report::Report;
 use crate::segments::visit_segments;
-use archive_open::{Archive, KeepsTexts};
+use archive_places::{Places, heads_stand, words_stand};
 use column_store::Range;
 use log_seams::{Disk, Sink};
 use row_codec::Layouts;
@@ -22,21 +23,15 @@ use std::alloc::Global;
 use std::sync::ledger::Ledger;
 use std::thread::Threads;
 use step_count::Steps;
-use subquery_filter::{KnownNames, known_words};
+use subquery_filter::Filter;
 use wild_match::Pattern;
+use word_places::HeldWords;
 
 /// Searches the segments of an archive, with nothing gathered, and sends out what is left.
-fn search_opened<
-    R: Threads + Sync,
-    T: KeepsTexts + Drop + Sync,
-    D: Disk,
-    K: Sink,
-    L: Ledger,
-    M: Ledger,
->(
+fn search_opened<R: Threads + Sync, D: Disk, K: Sink, L: Ledger, M: Ledger>(
     rt: &R,
     query: &Query,
-    archive: &Archive<T>,
+    places: Places,
     disk: &mut D,
     out: &mut K,
     batch: &mut PageBatch,
@@ -44,7 +39,8 @@ fn search_opened<
     expanded: &mut Steps<M>,
 ) -> Result<Report, SearchRefusal>
     requires searched { IsSearched query.now.pattern }
-    requires opens { Opens (D.state disk.old).seen (shown T.kept archive.now) }
+    requires opens { OpensPlaces (D.state disk.old).seen places }
+    requires order { AreInOrder 0 places.words }
     requires empty { batch.old ≡ nothing_pending }
 
     // what stays
@@ -53,14 +49,12 @@ fn search_opened<
         query.now (D.state disk.old).ranges (D.state disk.new).ranges) }
 
     // by the answer
-    ensures done { IfOk result (λ r. OfJournal (D.state disk.old).seen (λ h _ held. HasSearched
-        h held query.now (shown T.kept archive.now).segments r
-        (K.written out.old) (K.written out.new) opened.old opened.new
-        expanded.old expanded.new)) }
-    ensures stopped { OnErr result (OfJournal (D.state disk.old).seen (λ h _ held. HasStopped
-        h held query.now (shown T.kept archive.now).segments
-        (K.written out.old) (K.written out.new) opened.old opened.new
-        expanded.old expanded.new)) }
+    ensures done { IfOk result (λ r. OfJournal (D.state disk.old).seen (λ h es held. HasSearched
+        h es held query.now r (K.written out.old) (K.written out.new)
+        opened.old opened.new expanded.old expanded.new)) }
+    ensures stopped { OnErr result (OfJournal (D.state disk.old).seen (λ h es held. HasStopped
+        h es held query.now (K.written out.old) (K.written out.new)
+        opened.old opened.new expanded.old expanded.new)) }
 
     // causes
     ensures damaged { IsErrOf result SearchRefusal.Damaged
@@ -70,35 +64,53 @@ fn search_opened<
     ensures sink_counts { CountsOf SearchRefusal.SinkFault
         (K.faults out.old) (K.faults out.new) result }
 {
+    // A journal's words and heads stand where its places say.
+    words_stand();
+    heads_stand();
+    let Places {
+        header,
+        types,
+        words,
+        files,
+        segments,
+        entries: _,
+        end: _,
+    } = places;
     let alloc = batch.alloc();
-    let files = archive.files().as_slice();
-    let segments = archive.segments().as_slice();
-    let kept = archive.names();
-    let known = known_words(alloc, query.plan(), kept)?;
-    let names = KnownNames::new(kept, known.as_slice());
-    let layouts = Layouts::of(alloc, &names)?;
-    let filter = query.filter(alloc, &names)?;
-    let context = Context::new(query, &names, &layouts, &filter, files);
-    let count = visit_segments(rt, &context, segments, disk, out, batch, opened, expanded)?;
-    batch.finish(rt, &context, out, expanded)?;
+    let records = words.as_slice();
+    let mut held = HeldWords::new(alloc, types, header.version, records)?;
+    let layouts = Layouts::of(alloc, &held)?;
+    let filter = Filter::begin(alloc, query.plan(), &held)?;
+    let told = ask_words(alloc, query, filter, records, disk)?;
+    let names = files.as_slice();
+    let found = told.found.as_slice();
+    let context = Context::new(query, &layouts, &told.filter, names, found, &held, disk);
+    let fronts = segments.as_slice();
+    let count = visit_segments(
+        rt, &context, &mut held, fronts, disk, out, batch, opened, expanded,
+    )?;
+    batch.finish(rt, &context, &held, out, expanded)?;
     let counts = batch.counts();
     Ok(Report {
         matched: counts.matched,
         expanded: counts.expanded,
         opened: count,
-        segments: segments.len() as u64,
+        segments: fronts.len() as u64,
     })
 }
 
 /// Prints the messages of an archive that a pattern matches, in the range: each with the name of its
 /// file and its number in the file, by file and then by number. The pattern is one that
-/// [`read_pattern`](wild_match::read_pattern) read, and the archive the one of the disk.
+/// [`read_pattern`](wild_match::read_pattern) read, and the places those of the disk.
+///
+/// Words are read where they are wanted: all of them once, where some log type leaves the decision to
+/// its words; and then with its record each word of a message that is written.
 ///
 /// As many pages as four for each of the `workers` are searched in as many threads, and one thread reads
 /// and prints. With any number of workers the same is printed and counted.
 ///
-/// A barren segment is not read: its head tells that no message of it in the range matches. Of the
-/// others `opened` counts each, and `expanded` counts the messages in the range that the widened
+/// Of a barren segment no column is read: its head tells that no message of it in the range matches. Of
+/// the others `opened` counts each, and `expanded` counts the messages in the range that the widened
 /// pattern matches.
 ///
 /// # Errors
@@ -106,18 +118,11 @@ fn search_opened<
 /// `DiskFault` or `SinkFault`, where the count of faults of the disk or of the output rose; `Damaged`,
 /// where the disk's bytes are no archive; or `OutOfMemory`. The output then has a front of what is
 /// to be printed.
-pub fn search<
-    R: Threads + Sync,
-    T: KeepsTexts + Drop + Sync,
-    D: Disk,
-    K: Sink,
-    L: Ledger,
-    M: Ledger,
->(
+pub fn search<R: Threads + Sync, D: Disk, K: Sink, L: Ledger, M: Ledger>(
     rt: &R,
     workers: u32,
     alloc: Global,
-    archive: &Archive<T>,
+    places: Places,
     disk: &mut D,
     pattern: &Pattern,
     range: &Range,
@@ -126,7 +131,8 @@ pub fn search<
     expanded: &mut Steps<M>,
 ) -> Result<Report, SearchRefusal>
     requires searched { IsSearched pattern.now }
-    requires opens { Opens (D.state disk.old).seen (shown T.kept archive.now) }
+    requires opens { OpensPlaces (D.state disk.old).seen places }
+    requires order { AreInOrder 0 places.words }
 
     // what stays
     ensures rests { Rests (D.state disk.old) (D.state disk.new) }
@@ -134,14 +140,12 @@ pub fn search<
         (asked pattern.now range.now) (D.state disk.old).ranges (D.state disk.new).ranges) }
 
     // by the answer
-    ensures done { IfOk result (λ r. OfJournal (D.state disk.old).seen (λ h _ held. HasSearched
-        h held (asked pattern.now range.now) (shown T.kept archive.now).segments r
-        (K.written out.old) (K.written out.new) opened.old opened.new
-        expanded.old expanded.new)) }
-    ensures stopped { OnErr result (OfJournal (D.state disk.old).seen (λ h _ held. HasStopped
-        h held (asked pattern.now range.now) (shown T.kept archive.now).segments
-        (K.written out.old) (K.written out.new) opened.old opened.new
-        expanded.old expanded.new)) }
+    ensures done { IfOk result (λ r. OfJournal (D.state disk.old).seen (λ h es held. HasSearched
+        h es held (asked pattern.now range.now) r (K.written out.old) (K.written out.new)
+        opened.old opened.new expanded.old expanded.new)) }
+    ensures stopped { OnErr result (OfJournal (D.state disk.old).seen (λ h es held. HasStopped
+        h es held (asked pattern.now range.now) (K.written out.old) (K.written out.new)
+        opened.old opened.new expanded.old expanded.new)) }
 
     // causes
     ensures damaged { IsErrOf result SearchRefusal.Damaged
@@ -153,5 +157,5 @@ pub fn search<
 {
     let query = Query::new(alloc, pattern, range)?;
     let mut batch = PageBatch::new(alloc, workers);
-    search_opened(rt, &query, archive, disk, out, &mut batch, opened, expanded)
+    search_opened(rt, &query, places, disk, out, &mut batch, opened, expanded)
 }

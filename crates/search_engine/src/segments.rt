@@ -1,8 +1,12 @@
 //! The segments of an archive, searched one after the other.
-ghost use Rattle.std.specs.Prelude.{[], ◌∷◌, IfOk, OnErr, IsErrOf, cond};
-ghost use Rattle.log_seams.specs.Disk.{Rests};
+ghost use Rattle.std.specs.Prelude.{◌≡◌, ◌<◌, [], ◌∷◌, length, slice_get, Some, IfOk, OnErr, IsErrOf, cond};
+ghost use Rattle.log_seams.specs.Disk.{ReadsOnly, Rests};
 ghost use Rattle.log_seams.specs.Outside.{CountsOf};
-ghost use Rattle.search_engine.specs.Opened.{NoneTold, ReadsTold, SearchedTold, StoppedTold};
+ghost use Rattle.segment_format.specs.Layout.{head_length};
+ghost use Rattle.archive_places.specs.Fronts.{fixed_in, front_of_place};
+ghost use Rattle.archive_places.specs.Heads.{OfFront};
+ghost use Rattle.search_engine.specs.Opened.{NoFronts, NoneTold, ReadsFronts, ReadsTold, SearchedFronts, SearchedTold, StoppedFronts, StoppedTold};
+ghost use Rattle.search_engine.specs.Ready.{IsServed};
 ghost use Rattle.search_engine.specs.Waiting.{Blames, state};
 
 use crate::context::Context;
@@ -11,19 +15,22 @@ use crate::page_batch::PageBatch;
 use crate::paging::read_pages;
 use crate::refusal::SearchRefusal;
 use archive_open::SegmentPlace;
+use archive_places::{SegmentFront, load_segment};
 use log_seams::{Disk, Sink};
 use query_plan::wide_is_wider;
-use row_codec::Names;
+use std::alloc::Global;
 use std::sync::ledger::Ledger;
 use std::thread::Threads;
 use step_count::Steps;
 use subquery_filter::barren_has_no_match;
+use word_places::HeldWords;
 
-/// Searches a segment, and tells whether it was opened: a barren one is not. Where it cannot be opened,
-/// the pages before it are searched and sent out first.
-fn visit_segment<R: Threads + Sync, N: Names + Sync, D: Disk, K: Sink, L: Ledger, M: Ledger>(
+/// Searches a segment whose head is loaded, and tells whether it was opened: a barren one is not. Where
+/// it cannot be opened, the pages before it are searched and sent out first.
+fn search_segment<R: Threads + Sync, D: Disk, K: Sink, L: Ledger, M: Ledger>(
     rt: &R,
-    context: &Context<'_, N>,
+    context: &Context<'_, D>,
+    held: &mut HeldWords,
     segment: &SegmentPlace,
     disk: &mut D,
     out: &mut K,
@@ -31,10 +38,15 @@ fn visit_segment<R: Threads + Sync, N: Names + Sync, D: Disk, K: Sink, L: Ledger
     opened: &mut Steps<L>,
     expanded: &mut Steps<M>,
 ) -> Result<bool, SearchRefusal>
+    requires served { IsServed context.now.names context.now.query held.old batch.old.pages }
+    requires told { (D.state disk.old).seen ≡ context.now.names.told }
+
     // what stays
     ensures rests { Rests (D.state disk.old) (D.state disk.new) }
     ensures reads { ReadsTold (D.state disk.old) (D.state disk.new)
         context.now.names context.now.files context.now.query (segment.now ∷ []) }
+    ensures served { IfOk result (λ _. IsServed context.now.names context.now.query
+        held.new batch.new.pages) }
 
     // by the answer
     ensures done { IfOk result (λ yes. SearchedTold (D.state disk.old).seen
@@ -61,11 +73,11 @@ fn visit_segment<R: Threads + Sync, N: Names + Sync, D: Disk, K: Sink, L: Ledger
     // matches; and what the pattern matches, that one matches too.
     barren_has_no_match();
     wide_is_wider();
-    if context.is_barren(segment) {
+    if context.is_barren(held, segment) {
         return Ok(false);
     }
     let Some((file, pages)) = context.begin_segment(segment, opened) else {
-        batch.finish(rt, context, out, expanded)?;
+        batch.finish(rt, context, held, out, expanded)?;
         return Err(SearchRefusal::Damaged);
     };
     if !context.may_match(segment) {
@@ -76,6 +88,7 @@ fn visit_segment<R: Threads + Sync, N: Names + Sync, D: Disk, K: Sink, L: Ledger
     read_pages(
         rt,
         context,
+        held,
         Label { name, number },
         pages,
         disk,
@@ -86,53 +99,154 @@ fn visit_segment<R: Threads + Sync, N: Names + Sync, D: Disk, K: Sink, L: Ledger
     Ok(true)
 }
 
-/// Searches the segments in their order, and answers how many were opened.
-pub(crate) fn visit_segments<
-    R: Threads + Sync,
-    N: Names + Sync,
-    D: Disk,
-    K: Sink,
-    L: Ledger,
-    M: Ledger,
->(
+// Loads the head of a segment.
+fn load<D: Disk>(
+    alloc: Global,
+    disk: &mut D,
+    front: &SegmentFront,
+) -> Result<SegmentPlace, SearchRefusal>
+    // what stays
+    ensures rests { Rests (D.state disk.old) (D.state disk.new) }
+    ensures reads { ReadsOnly front.now.payload (head_length (fixed_in front.now))
+        (D.state disk.old) (D.state disk.new) }
+
+    // by the answer
+    ensures front { IfOk result (λ p. front_of_place p ≡ front.now) }
+    ensures loaded { IfOk result (λ p. OfFront (D.state disk.old).seen front.now (λ q. p ≡ q)) }
+
+    // causes
+    ensures damaged { IsErrOf result SearchRefusal.Damaged
+        → OfFront (D.state disk.old).seen front.now (λ _. ⊥) }
+    ensures counts { CountsOf SearchRefusal.DiskFault
+        (D.state disk.old).faults (D.state disk.new).faults result }
+    ensures sink { ¬ IsErrOf result SearchRefusal.SinkFault }
+{
+    let segment = load_segment(alloc, disk, front)?;
+    Ok(segment)
+}
+
+/// Searches a segment by its front, and tells whether it was opened. One that is out of the range is not
+/// read; of any other the head is loaded. Where that cannot be done, the pages before it are searched and
+/// sent out first, but not after a fault of the disk.
+fn visit_segment<R: Threads + Sync, D: Disk, K: Sink, L: Ledger, M: Ledger>(
     rt: &R,
-    context: &Context<'_, N>,
-    segments: &[SegmentPlace],
+    context: &Context<'_, D>,
+    held: &mut HeldWords,
+    front: &SegmentFront,
     disk: &mut D,
     out: &mut K,
     batch: &mut PageBatch,
     opened: &mut Steps<L>,
     expanded: &mut Steps<M>,
-) -> Result<u64, SearchRefusal>
+) -> Result<bool, SearchRefusal>
+    requires served { IsServed context.now.names context.now.query held.old batch.old.pages }
+    requires told { (D.state disk.old).seen ≡ context.now.names.told }
+
     // what stays
     ensures rests { Rests (D.state disk.old) (D.state disk.new) }
-    ensures reads { ReadsTold (D.state disk.old) (D.state disk.new)
-        context.now.names context.now.files context.now.query segments.now }
+    ensures reads { ReadsFronts (D.state disk.old) (D.state disk.new)
+        context.now.names context.now.files context.now.query (front.now ∷ []) }
+    ensures served { IfOk result (λ _. IsServed context.now.names context.now.query
+        held.new batch.new.pages) }
 
     // by the answer
-    ensures done { IfOk result (λ count. SearchedTold (D.state disk.old).seen
-        context.now.names context.now.files context.now.query segments.now
+    ensures done { IfOk result (λ yes. SearchedFronts (D.state disk.old).seen
+        context.now.names context.now.files context.now.query (front.now ∷ [])
         (state (K.written out.old) batch.old expanded.old)
         (state (K.written out.new) batch.new expanded.new)
-        opened.old opened.new count) }
-    ensures stopped { OnErr result (StoppedTold (D.state disk.old).seen
-        context.now.names context.now.files context.now.query segments.now
+        opened.old opened.new (cond yes 1 0)) }
+    ensures stopped { OnErr result (StoppedFronts (D.state disk.old).seen
+        context.now.names context.now.files context.now.query (front.now ∷ [])
         (state (K.written out.old) batch.old expanded.old)
         (K.written out.new) expanded.new opened.old opened.new) }
 
     // causes
     ensures damaged { IsErrOf result SearchRefusal.Damaged → Blames
         context.now.names batch.old.pages
-        (NoneTold (D.state disk.old).seen context.now.names context.now.files
-        segments.now) }
+        (NoFronts (D.state disk.old).seen context.now.names context.now.files
+        (front.now ∷ [])) }
+    ensures disk_counts { CountsOf SearchRefusal.DiskFault
+        (D.state disk.old).faults (D.state disk.new).faults result }
+    ensures sink_counts { CountsOf SearchRefusal.SinkFault
+        (K.faults out.old) (K.faults out.new) result }
+{
+    // One that is out of the range is barren, and what the pattern matches, the one that the search is
+    // planned over matches too.
+    barren_has_no_match();
+    wide_is_wider();
+    if context.is_outside(front) {
+        return Ok(false);
+    }
+    let segment = match load(batch.alloc(), disk, front) {
+        Ok(segment) => segment,
+        // An output that fails too would be a second fault.
+        Err(SearchRefusal::DiskFault) => return Err(SearchRefusal::DiskFault),
+        Err(refusal) => {
+            batch.finish(rt, context, held, out, expanded)?;
+            return Err(refusal);
+        }
+    };
+    search_segment(
+        rt, context, held, &segment, disk, out, batch, opened, expanded,
+    )
+}
+
+/// The front at a place.
+fn front_at(fronts: &[SegmentFront], place: usize) -> &SegmentFront
+    requires { place < length fronts.now }
+    ensures { slice_get fronts.now place ≡ Some result.now }
+{
+    &fronts[place]
+}
+
+/// Searches the segments in their order, and answers how many were opened.
+pub(crate) fn visit_segments<R: Threads + Sync, D: Disk, K: Sink, L: Ledger, M: Ledger>(
+    rt: &R,
+    context: &Context<'_, D>,
+    held: &mut HeldWords,
+    fronts: &[SegmentFront],
+    disk: &mut D,
+    out: &mut K,
+    batch: &mut PageBatch,
+    opened: &mut Steps<L>,
+    expanded: &mut Steps<M>,
+) -> Result<u64, SearchRefusal>
+    requires served { IsServed context.now.names context.now.query held.old batch.old.pages }
+    requires told { (D.state disk.old).seen ≡ context.now.names.told }
+
+    // what stays
+    ensures rests { Rests (D.state disk.old) (D.state disk.new) }
+    ensures reads { ReadsFronts (D.state disk.old) (D.state disk.new)
+        context.now.names context.now.files context.now.query fronts.now }
+    ensures served { IfOk result (λ _. IsServed context.now.names context.now.query
+        held.new batch.new.pages) }
+
+    // by the answer
+    ensures done { IfOk result (λ count. SearchedFronts (D.state disk.old).seen
+        context.now.names context.now.files context.now.query fronts.now
+        (state (K.written out.old) batch.old expanded.old)
+        (state (K.written out.new) batch.new expanded.new)
+        opened.old opened.new count) }
+    ensures stopped { OnErr result (StoppedFronts (D.state disk.old).seen
+        context.now.names context.now.files context.now.query fronts.now
+        (state (K.written out.old) batch.old expanded.old)
+        (K.written out.new) expanded.new opened.old opened.new) }
+
+    // causes
+    ensures damaged { IsErrOf result SearchRefusal.Damaged → Blames
+        context.now.names batch.old.pages
+        (NoFronts (D.state disk.old).seen context.now.names context.now.files fronts.now) }
     ensures disk_counts { CountsOf SearchRefusal.DiskFault
         (D.state disk.old).faults (D.state disk.new).faults result }
     ensures sink_counts { CountsOf SearchRefusal.SinkFault
         (K.faults out.old) (K.faults out.new) result }
 {
     let mut count = 0;
-    for segment in segments {
-        let yes = visit_segment(rt, context, segment, disk, out, batch, opened, expanded)?;
+    for place in 0..fronts.len() {
+        let front = front_at(fronts, place);
+        let yes = visit_segment(
+            rt, context, held, front, disk, out, batch, opened, expanded,
+        )?;
         count += u64::from(yes);
     }
     Ok(count)

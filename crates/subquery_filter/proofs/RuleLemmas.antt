@@ -187,9 +187,9 @@ pub missing_new : (words : List (List ℕ)) (listed : List ℕ) (text : List ℕ
 missing_new words listed text coded new = (coded, λ n at has. new n at)
 
 -- the number that was found of a needed word
-pub found_number : (known words : List (List ℕ)) (found : List (Option ℕ)) (n : ℕ) (text : List ℕ) (number : Option ℕ) → slice_get words n ≡ Some text → number ≡ slice_index_or found n None → AreNumbers known words found
-    → IsNumber known text number
-found_number known words found n text number here read are = subst (IsNumber known text) (sym read) (are n text here)
+pub found_number : (known words : List (List ℕ)) (flags : List Bool) (found : List (Option ℕ)) (n : ℕ) (text : List ℕ) (number : Option ℕ) → slice_get words n ≡ Some text → n < length flags
+    → number ≡ slice_index_or found n None → AreNumbers known words flags found → get_or flags n false ≡ true → IsNumber known text number
+found_number known words flags found n text number here within read are flag = subst (IsNumber known text) (sym read) (are n text here (flag_at flags n true within flag))
 
 -- ---- moments
 

@@ -1,5 +1,5 @@
 -- What a search finds out of the words of an archive, before it tests its rows.
-use Rattle.std.specs.Prelude.{◌≡◌, ℕ, List, [], Option, Some, None, MatchOption, slice_get, slice_index_or}
+use Rattle.std.specs.Prelude.{◌≡◌, ℕ, Bool, true, List, [], Option, Some, None, MatchOption, slice_get, slice_index_or}
 use Rattle.std.specs.List.{Contains}
 use Rattle.wild_match.specs.Runs.{Occurs}
 use Rattle.plain_list.specs.Texts.{IsNew}
@@ -17,7 +17,8 @@ HaveAll needles words lists =
 abbrev pub IsNumber : List (List ℕ) → List ℕ → Option ℕ → Type 0
 IsNumber words text found = MatchOption found (IsNew words text) (λ n. slice_get words n ≡ Some text)
 
--- so it is of each text and the number at its place
-abbrev pub AreNumbers : List (List ℕ) → List (List ℕ) → List (Option ℕ) → Type 0
-AreNumbers words texts found =
-    (k : ℕ) (text : List ℕ) → slice_get texts k ≡ Some text → IsNumber words text (slice_index_or found k None)
+-- so it is of each text that is a variable, and the number at its place
+abbrev pub AreNumbers : List (List ℕ) → List (List ℕ) → List Bool → List (Option ℕ) → Type 0
+AreNumbers words texts variables found =
+    (k : ℕ) (text : List ℕ) → slice_get texts k ≡ Some text → slice_get variables k ≡ Some true
+    → IsNumber words text (slice_index_or found k None)

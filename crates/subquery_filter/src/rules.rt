@@ -5,6 +5,7 @@ ghost use Rattle.plain_list.specs.Texts.{AreDistinct};
 ghost use Rattle.segment_format.specs.Layout.{IsHead};
 ghost use Rattle.subquery_filter.specs.Barren.{HasConstants, HoldsConstants, IsBarren, IsBounded, IsMissing, LacksTypes, LacksWord, LeavesOut};
 ghost use Rattle.subquery_filter.specs.Found.{AreNumbers, IsNumber};
+ghost use Rattle.query_plan.specs.Needs.{needed_variables_of};
 ghost use Rattle.query_plan.specs.Pieces.{Free, needed_of};
 ghost use Rattle.subquery_filter.specs.Runs.{HoldsRun};
 
@@ -40,7 +41,7 @@ pub fn barren<N: Names>(head: &Head, plan: &Plan, range: &Range, names: &N) -> b
 }
 
 /// The same as [`barren`], where the numbers of the needed words were found before: for each needed word
-/// of the plan, in their order, its number, and none where it is no word.
+/// of the plan that is a variable, at its place, its number, and none where it is no word.
 ///
 /// Costs a binary search for each needed variable, and then a walk over the texts of the head's log
 /// types up to the first that has all.
@@ -53,7 +54,7 @@ pub fn barren_by<N: Names>(
 ) -> bool
     requires { length found.now ≡ length (needed_of Free plan.now) }
     ensures { (words : List (List ℕ)) → IsHead head.now → AreDistinct words
-        → AreNumbers words (needed_of Free plan.now) found.now
+        → AreNumbers words (needed_of Free plan.now) (needed_variables_of Free plan.now) found.now
         → IsTrue result ↔ IsBarren plan.now range.now (N.types names.now) words head.now }
 {
     if is_outside(head.rows, head.stamped, head.least, head.greatest, range) {
@@ -159,7 +160,7 @@ fn is_unlisted(text: &[u8], number: Option<u32>, listed: &[u32]) -> bool
 /// The same of a needed word, which is a variable or not.
 fn is_unlisted_variable(variable: bool, text: &[u8], number: Option<u32>, listed: &[u32]) -> bool
     ensures { (words : List (List ℕ)) → IsStrictlyIncreasing listed.now → AreDistinct words
-        → IsNumber words text.now number
+        → (variable ≡ true → IsNumber words text.now number)
         → IsTrue result ↔ ((variable ≡ true) × IsMissing words listed.now text.now) }
 {
     variable && is_unlisted(text, number, listed)
@@ -177,7 +178,7 @@ fn number_at(found: &[Option<u32>], place: usize) -> Option<u32>
 fn lacks_found(plan: &Plan, listed: &[u32], found: &[Option<u32>]) -> bool
     requires { length found.now ≡ length (needed_of Free plan.now) }
     ensures { (words : List (List ℕ)) → IsStrictlyIncreasing listed.now → AreDistinct words
-        → AreNumbers words (needed_of Free plan.now) found.now
+        → AreNumbers words (needed_of Free plan.now) (needed_variables_of Free plan.now) found.now
         → IsTrue result ↔ LacksWord plan.now words listed.now }
 {
     let words = plan.needed().as_slice();

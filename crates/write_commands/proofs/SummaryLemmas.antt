@@ -4,18 +4,18 @@ use Rattle.std.proofs.lemmas.List.Sorted.{length_permutation}
 use Rattle.sink_pieces.specs.Output.{Grew, GrewByFront}
 use Rattle.wild_match.specs.Reading.{IsSearchPattern}
 use Rattle.wild_match.specs.declared.pattern.Item.{Item}
-use Rattle.archive_open.specs.Shown.{Opens, Shown, places_of}
+use Rattle.archive_open.specs.Shown.{places_of}
 use Rattle.search_engine.specs.declared.report.Report.{Report}
 use Rattle.search_engine.specs.Searched.{HasSearched, OfJournal, asked}
 use Rattle.write_commands.specs.Benched.{AreCounted, PrintsSummary, sought, summary}
 
 -- ---- what a search has found
 
-pub counted_done : (seen later : Option (List ℕ)) (a : Shown) (items : List Item) (r : Report) (old mid : Option (List ℕ)) (o0 o1 e0 e1 : ℕ) → later ≡ seen → Opens seen a → IsSearchPattern sought items
-    → OfJournal later (λ h _ held. HasSearched h held (asked items (record { from = None; to = None })) a.segments r old mid o0 o1 e0 e1) → OfJournal seen (λ h es held. AreCounted h es held r.matched r.segments)
-counted_done None later a items r old mid o0 o1 e0 e1 same opened pattern searched = tt
-counted_done (Some bytes) later a items r old mid o0 o1 e0 e1 same opened pattern searched =
-    let here = subst (λ x. OfJournal x (λ h _ held. HasSearched h held (asked items (record { from = None; to = None })) a.segments r old mid o0 o1 e0 e1)) same searched in
+pub counted_done : (seen later : Option (List ℕ)) (items : List Item) (r : Report) (old mid : Option (List ℕ)) (o0 o1 e0 e1 : ℕ) → later ≡ seen → IsSearchPattern sought items
+    → OfJournal later (λ h es held. HasSearched h es held (asked items (record { from = None; to = None })) r old mid o0 o1 e0 e1) → OfJournal seen (λ h es held. AreCounted h es held r.matched r.segments)
+counted_done None later items r old mid o0 o1 e0 e1 same pattern searched = tt
+counted_done (Some bytes) later items r old mid o0 o1 e0 e1 same pattern searched =
+    let here = subst (λ x. OfJournal x (λ h es held. HasSearched h es held (asked items (record { from = None; to = None })) r old mid o0 o1 e0 e1)) same searched in
     λ h es stood.
     let s = here h es stood in
     record {
@@ -24,7 +24,7 @@ counted_done (Some bytes) later a items r old mid o0 o1 e0 e1 same opened patter
       found = s.found;
       are_found = s.are_found;
       matched_is = ap (λ (x : Report). x.matched) s.report;
-      segments_is = ap (λ (x : Report). x.segments) s.report ∙ length_permutation (places_of es) a.segments (opened h es stood).segments;
+      segments_is = ap (λ (x : Report). x.segments) s.report ∙ length_permutation (places_of es) s.all s.are_all.are;
     }
 
 -- ---- what is printed

@@ -9,7 +9,7 @@ ghost use Rattle.archive_open.specs.Shown.{RefusedAt};
 ghost use Rattle.search_engine.specs.Searched.{OfJournal};
 ghost use Rattle.write_commands.specs.Benched.{AreCounted, PrintsSummary, sought, summary};
 
-use archive_open::{Archive, PlainBooks, open_archive};
+use archive_places::open_places;
 use column_store::Range;
 use command_refusals::{ReadRefusal, of_search};
 use log_seams::{Disk, Failed, Sink};
@@ -77,14 +77,15 @@ fn count_with<R: Threads + Sync, D: Disk, L: Ledger, M: Ledger>(
         from: None,
         to: None,
     };
-    let archive: Archive<PlainBooks> = open_archive(alloc, disk)?;
+    let places = open_places(alloc, disk)?;
+    let last = places.end.saturating_sub(1);
     let mut opened: Steps<L> = Steps::new(opened);
     let mut expanded: Steps<M> = Steps::new(expanded);
     let answer = search(
         rt,
         1,
         alloc,
-        &archive,
+        places,
         disk,
         &pattern,
         &range,
@@ -94,7 +95,7 @@ fn count_with<R: Threads + Sync, D: Disk, L: Ledger, M: Ledger>(
     );
     match answer {
         Ok(report) => Ok(report),
-        Err(refusal) => Err(of_search(refusal, archive.last_gate())),
+        Err(refusal) => Err(of_search(refusal, last)),
     }
 }
 

@@ -1,8 +1,6 @@
-use Rattle.search_engine.specs.Held.{Named}
 use Rattle.search_engine.proofs.SlotLemmas.{worked_so}
 use Rattle.search_engine.proofs.page_slot.match_page.Goals as goal
 
 pub returns-clause-worked : goal.returns-clause-worked
-returns-clause-worked g c =
-    let n : Named = c.args.context.now.names in
-    worked_so n c.args.context.now.query _ _ _ c.match_counted-answer.result c.slot.view_is c.match_counted-answer.ensures.page c.match_counted-answer.ensures.done c.match_counted-answer.ensures.damaged
+returns-clause-worked c =
+    worked_so c.args.printer.now.query.now c.args.held.now _ _ _ c.match_counted-answer.result c.slot.view_is c.match_counted-answer.ensures.page c.match_counted-answer.ensures.done c.match_counted-answer.ensures.damaged

@@ -1,4 +1,4 @@
 use Rattle.search_engine.proofs.page_slot.match_page.Given as goal
 
 abbrev pub ghosts-match_counted : goal.ghosts-match_counted
-ghosts-match_counted g a = record { name = a.blank.name; parts = a.blank.parts }
+ghosts-match_counted a = record { name = a.blank.name; parts = a.blank.parts }

@@ -1,7 +1,8 @@
 use Rattle.std.proofs.Common.{refl, subst}
 use Rattle.std.specs.Prelude.{IfOk, OnErr}
 use Rattle.search_engine.specs.Searched.{HasSearched, HasStopped, OfJournal, ReadsNoBarren, asked}
-use Rattle.search_engine.proofs.SearchLemmas.{asked_is, reads_nothing}
+use Rattle.search_engine.proofs.SofarLemmas.{on_err}
+use Rattle.search_engine.proofs.SearchLemmas.{asked_is, reads_nothing, stopped_nothing}
 use Rattle.search_engine.proofs.searching.search.Goals as goal
 
 pub returns-clause-reads : goal.returns-clause-reads
@@ -12,16 +13,19 @@ returns-clause-reads g c =
 pub returns-clause-done : goal.returns-clause-done
 returns-clause-done g c =
     subst
-    (λ q. IfOk c.search_opened.result (λ r. OfJournal (g.D.Disk.state c.args.disk.now).seen (λ h _ held. HasSearched h held q c.args.archive.now.segments r (g.K.Sink.written c.args.out.now) (g.K.Sink.written c.search_opened.new.out)
+    (λ q. IfOk c.search_opened.result (λ r. OfJournal (g.D.Disk.state c.args.disk.now).seen (λ h es held. HasSearched h es held q r (g.K.Sink.written c.args.out.now) (g.K.Sink.written c.search_opened.new.out)
     c.args.opened.now c.search_opened.new.opened c.args.expanded.now c.search_opened.new.expanded)))
     (asked_is c.in_ok-query.query c.args.pattern.now c.args.range.now c.in_ok-query.ensures.pattern c.in_ok-query.ensures.range) c.search_opened.ensures.done
 
 pub returns-clause-stopped : goal.returns-clause-stopped
 returns-clause-stopped g c =
     subst
-    (λ q. OnErr c.search_opened.result (OfJournal (g.D.Disk.state c.args.disk.now).seen (λ h _ held. HasStopped h held q c.args.archive.now.segments (g.K.Sink.written c.args.out.now) (g.K.Sink.written c.search_opened.new.out)
+    (λ q. OnErr c.search_opened.result (OfJournal (g.D.Disk.state c.args.disk.now).seen (λ h es held. HasStopped h es held q (g.K.Sink.written c.args.out.now) (g.K.Sink.written c.search_opened.new.out)
     c.args.opened.now c.search_opened.new.opened c.args.expanded.now c.search_opened.new.expanded)))
     (asked_is c.in_ok-query.query c.args.pattern.now c.args.range.now c.in_ok-query.ensures.pattern c.in_ok-query.ensures.range) c.search_opened.ensures.stopped
 
 pub returns-in_err-query-clause-reads : goal.returns-in_err-query-clause-reads
 returns-in_err-query-clause-reads g c = reads_nothing _ (asked c.args.pattern.now c.args.range.now) _ _ refl
+
+pub returns-in_err-query-clause-stopped : goal.returns-in_err-query-clause-stopped
+returns-in_err-query-clause-stopped g c = on_err c.from_residual.result _ (stopped_nothing _ c.args.places (asked c.args.pattern.now c.args.range.now) _ _ _ _ _ _ c.requires.opens refl refl refl)

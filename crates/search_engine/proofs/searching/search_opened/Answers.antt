@@ -1,118 +1,183 @@
-use Rattle.std.proofs.Common.{◌∙◌, ap, sym, subst, rules, refl, length, []}
-use Rattle.archive_open.specs.Archive.{shown}
-use Rattle.search_engine.specs.Opened.{NoneTold, ReadsOpened, ReadsTold, Searched, SearchedTold, Stopped, StoppedTold}
+use Rattle.std.proofs.Common.{◌≡◌, ◌∙◌, ap, map, sym, subst, rules, refl, length, [], ℕ, List}
+use Rattle.std.specs.Prelude.{Option}
+use Rattle.log_seams.proofs.MomentLemmas.{rests_on}
+use Rattle.word_places.specs.Held.{unread}
+use Rattle.query_plan.specs.declared.pieces.Piece.{Piece}
+use Rattle.search_engine.specs.Held.{Named, named}
+use Rattle.search_engine.specs.Opened.{NoFronts, ReadsFronts, SearchedFronts, StoppedFronts}
+use Rattle.search_engine.specs.Ready.{IsServed}
 use Rattle.search_engine.specs.StepsScope.{Scope}
-use Rattle.search_engine.specs.Searched.{HasSearched}
-use Rattle.search_engine.specs.Waiting.{Blames, Halts, Reaches, state}
+use Rattle.search_engine.specs.Waiting.{Blames, Halts, Pending, Reaches, state}
+use Rattle.subquery_filter.specs.Filter.{AsksTypes}
+use Rattle.query_plan.specs.Needs.{needed_variables_of}
+use Rattle.query_plan.specs.Pieces.{Free, needed_of, wide_pieces}
+use Rattle.subquery_filter.specs.Found.{AreNumbers}
+use Rattle.word_places.specs.Places.{AreInOrder}
+use Rattle.search_engine.proofs.PagesReadLemmas.{rests_same}
 use Rattle.search_engine.proofs.SofarLemmas.{on_err}
-use Rattle.search_engine.proofs.AsideLemmas.{reads_aside}
-use Rattle.search_engine.proofs.SegmentLemmas.{of_all}
-use Rattle.search_engine.proofs.SearchLemmas.{has_searched, has_stopped, knows, last_damaged, last_stopped, of_journal, reads_nothing, stopped_nothing, waits_none}
+use Rattle.search_engine.proofs.ReadyLemmas.{named_words, served_first}
+use Rattle.search_engine.proofs.SearchLemmas.{knows, reads_nothing, stopped_nothing, waits_none}
+use Rattle.search_engine.proofs.JournalLemmas.{all_damaged, all_read, all_searched, all_stopped, last_blamed, last_halted, words_damaged, words_only}
 use Rattle.search_engine.proofs.searching.search_opened.Goals as goal
 
-pub returns-in_err-known-clause-reads : goal.returns-in_err-known-clause-reads
-returns-in_err-known-clause-reads g c = reads_nothing _ c.args.query.now _ _ refl
+pub returns-in_err-held-clause-reads : goal.returns-in_err-held-clause-reads
+returns-in_err-held-clause-reads g c = reads_nothing _ c.args.query.now _ _ refl
 
-pub returns-in_err-known-clause-stopped : goal.returns-in_err-known-clause-stopped
-returns-in_err-known-clause-stopped g c = on_err c.from_residual.result _ (stopped_nothing _ c.args.query.now _ _ _ _ _ _ _ refl refl refl)
+pub returns-in_err-held-clause-stopped : goal.returns-in_err-held-clause-stopped
+returns-in_err-held-clause-stopped g c = on_err c.from_residual.result _ (stopped_nothing _ c.args.places c.args.query.now _ _ _ _ _ _ c.requires.opens refl refl refl)
 
 pub returns-in_err-layouts-clause-reads : goal.returns-in_err-layouts-clause-reads
 returns-in_err-layouts-clause-reads g c = reads_nothing _ c.args.query.now _ _ refl
 
 pub returns-in_err-layouts-clause-stopped : goal.returns-in_err-layouts-clause-stopped
-returns-in_err-layouts-clause-stopped g c = on_err c.from_residual-in_err-layouts.result _ (stopped_nothing _ c.args.query.now _ _ _ _ _ _ _ refl refl refl)
+returns-in_err-layouts-clause-stopped g c = on_err c.from_residual-in_err-layouts.result _ (stopped_nothing _ c.args.places c.args.query.now _ _ _ _ _ _ c.requires.opens refl refl refl)
 
 pub returns-in_err-filter-clause-reads : goal.returns-in_err-filter-clause-reads
 returns-in_err-filter-clause-reads g c = reads_nothing _ c.args.query.now _ _ refl
 
 pub returns-in_err-filter-clause-stopped : goal.returns-in_err-filter-clause-stopped
-returns-in_err-filter-clause-stopped g c = on_err c.from_residual-in_err-filter.result _ (stopped_nothing _ c.args.query.now _ _ _ _ _ _ _ refl refl refl)
+returns-in_err-filter-clause-stopped g c = on_err c.from_residual-in_err-filter.result _ (stopped_nothing _ c.args.places c.args.query.now _ _ _ _ _ _ c.requires.opens refl refl refl)
+
+pub ask_words-requires : goal.ask_words-requires
+ask_words-requires g c = subst (AreInOrder 0) (sym c.as_slice-records.ensures) c.requires.order
+
+pub returns-in_err-told-clause-reads : goal.returns-in_err-told-clause-reads
+returns-in_err-told-clause-reads g c = words_only _ c.args.places c.args.query.now c.as_slice-records.result.now _ _ c.as_slice-records.ensures c.requires.opens c.ask_words.ensures.reads
+
+pub returns-in_err-told-clause-stopped : goal.returns-in_err-told-clause-stopped
+returns-in_err-told-clause-stopped g c = on_err c.from_residual-in_err-told.result _ (stopped_nothing _ c.args.places c.args.query.now _ _ _ _ _ _ c.requires.opens refl refl refl)
+
+pub returns-in_err-told-clause-damaged : goal.returns-in_err-told-clause-damaged
+returns-in_err-told-clause-damaged g c = λ is. words_damaged _ c.args.places c.as_slice-records.result.now c.words_stand.ensures c.as_slice-records.ensures c.requires.opens (c.in_err-told.ensures.damaged (search rules))
+
+pub new-context-requires : goal.new-context-requires
+new-context-requires g c =
+    let q = c.args.query.now in
+    let d0 = g.D.Disk.state c.args.disk.now in
+    let d1 = g.D.Disk.state c.ask_words.new.disk in
+    record {
+      searched = c.requires.searched;
+      layouts_are = c.in_ok-layouts.ensures;
+      count = ap (λ (l : List (Option ℕ)). length l) c.as_slice-found.ensures.value ∙ c.in_ok-told.ensures.count;
+      filtered = λ told. named_words d0.seen d1.seen c.as_slice-records.result.now c.in_ok-held.held _ c.ask_words.ensures.rests.seen c.in_ok-held.ensures.records c.in_ok-told.ensures.filter told c.in_ok-held.held.types
+          (subst (λ (l : List Piece). AsksTypes l c.in_ok-held.held.types c.in_ok-filter.filter) c.plan.ensures c.in_ok-filter.ensures);
+      numbered = λ told.
+          subst (λ (l : List (Option ℕ)). AreNumbers (named d1.seen c.in_ok-held.held).words (needed_of Free (wide_pieces q.pattern)) (needed_variables_of Free (wide_pieces q.pattern)) l) (sym c.as_slice-found.ensures.value)
+          (named_words d0.seen d1.seen c.as_slice-records.result.now c.in_ok-held.held (λ words. AreNumbers words (needed_of Free (wide_pieces q.pattern)) (needed_variables_of Free (wide_pieces q.pattern)) c.in_ok-told.told.found.items)
+          c.ask_words.ensures.rests.seen c.in_ok-held.ensures.records c.in_ok-told.ensures.found told);
+    }
+
+pub visit_segments-requires-clause-served : goal.visit_segments-requires-clause-served
+visit_segments-requires-clause-served g c = λ _ _.
+    subst (λ (s : Scope). IsServed s.names s.query c.in_ok-held.held c.args.batch.now.pages) (sym c.new-context.ensures)
+    (served_first (g.D.Disk.state c.ask_words.new.disk).seen c.args.query.now c.in_ok-held.held c.as_slice-records.result.now c.args.batch.now.pages c.in_ok-held.ensures.records
+    (subst (AreInOrder 0) (sym c.as_slice-records.ensures) c.requires.order) (ap (λ (p : Pending). p.pages) c.requires.empty))
+
+pub visit_segments-requires-clause-told : goal.visit_segments-requires-clause-told
+visit_segments-requires-clause-told g c = λ _ _. ap (λ (s : Scope). s.names.told) (sym c.new-context.ensures)
 
 pub returns-in_err-count-clause-reads : goal.returns-in_err-count-clause-reads
 returns-in_err-count-clause-reads g c =
-    let a = shown g.T.KeepsTexts.kept c.args.archive.now in
-    of_journal _ a _ _ _ (λ m l _ _. ReadsOpened m c.args.query.now l (g.D.Disk.state c.args.disk.now).ranges (g.D.Disk.state c.visit_segments.new.disk).ranges) _
-    (c.as_slice-files.ensures ∙ c.files.ensures) (c.as_slice-segments.ensures ∙ c.segments.ensures) c.requires.opens
-    (knows _ _ _ _ _ (ap g.T.KeepsTexts.kept c.new-names.ensures ∙ c.names-kept.ensures) ((g.met.T.KeepsTexts g.world.𝓛 g.world.𝓜 g.world.𝓡 ((λ s x. x), (λ x. x), (λ x. x), λ x. x)).named c.new-names.result.names.now))
-    (subst (λ (s : Scope). ReadsTold (g.D.Disk.state c.args.disk.now) (g.D.Disk.state c.visit_segments.new.disk) s.names s.files s.query c.as_slice-segments.result.now) c.new-context.ensures c.visit_segments.ensures.reads)
-    (λ bytes h es stood is has. reads_aside bytes h es a c.args.query.now _ _ stood is has)
-
-pub returns-in_err-count-clause-stopped : goal.returns-in_err-count-clause-stopped
-returns-in_err-count-clause-stopped g c =
-    let a = shown g.T.KeepsTexts.kept c.args.archive.now in
-    on_err c.from_residual-in_err-count.result _
-    (of_journal _ a _ _ _
-    (λ m l _ all. Stopped m c.args.query.now l all (state (g.K.Sink.written c.args.out.now) c.args.batch.now c.args.expanded.now) (g.K.Sink.written c.visit_segments.new.out) c.visit_segments.new.expanded c.args.opened.now c.visit_segments.new.opened) _
-    (c.as_slice-files.ensures ∙ c.files.ensures) (c.as_slice-segments.ensures ∙ c.segments.ensures) c.requires.opens
-    (knows _ _ _ _ _ (ap g.T.KeepsTexts.kept c.new-names.ensures ∙ c.names-kept.ensures) ((g.met.T.KeepsTexts g.world.𝓛 g.world.𝓜 g.world.𝓡 ((λ s x. x), (λ x. x), (λ x. x), λ x. x)).named c.new-names.result.names.now))
-    (subst (λ (s : Scope). StoppedTold (g.D.Disk.state c.args.disk.now).seen s.names s.files s.query c.as_slice-segments.result.now (state (g.K.Sink.written c.args.out.now) c.args.batch.now c.args.expanded.now) (g.K.Sink.written c.visit_segments.new.out) c.visit_segments.new.expanded c.args.opened.now c.visit_segments.new.opened) c.new-context.ensures c.in_err-count.ensures.stopped)
-    (λ bytes h es stood is has. has_stopped h stood.legal.held c.args.query.now a.segments _ _ _ _ _ _ _ c.requires.empty has))
-
-pub returns-in_err-count-clause-damaged : goal.returns-in_err-count-clause-damaged
-returns-in_err-count-clause-damaged g c = λ is.
-    let a = shown g.T.KeepsTexts.kept c.args.archive.now in
-    of_journal _ a _ _ _ (λ _ _ _ _. ⊥) _
-    (c.as_slice-files.ensures ∙ c.files.ensures) (c.as_slice-segments.ensures ∙ c.segments.ensures) c.requires.opens
-    (knows _ _ _ _ _ (ap g.T.KeepsTexts.kept c.new-names.ensures ∙ c.names-kept.ensures) ((g.met.T.KeepsTexts g.world.𝓛 g.world.𝓜 g.world.𝓡 ((λ s x. x), (λ x. x), (λ x. x), λ x. x)).named c.new-names.result.names.now))
-    (subst (λ (s : Scope). NoneTold (g.D.Disk.state c.args.disk.now).seen s.names s.files c.as_slice-segments.result.now) c.new-context.ensures (c.in_err-count.ensures.damaged (search rules) [] (waits_none _ c.args.batch.now c.requires.empty)))
-    (λ bytes h es stood is has. has)
+    let q = c.args.query.now in
+    let d0 = g.D.Disk.state c.args.disk.now in
+    let d1 = g.D.Disk.state c.ask_words.new.disk in
+    let a = c.args.places in
+    let n : Named = named d1.seen c.in_ok-held.held in
+    let known = knows d0.seen d1.seen a c.in_ok-held.held n c.ask_words.ensures.rests.seen c.in_ok-held.ensures.types c.in_ok-held.ensures.version (c.in_ok-held.ensures.records ∙ ap (map unread) c.as_slice-records.ensures) refl in
+    all_read d0.seen d1.seen a n c.as_slice-names.result.now c.as_slice-fronts.result.now c.words_stand.ensures c.heads_stand.ensures c.as_slice-names.ensures c.as_slice-fronts.ensures c.requires.opens known c.ask_words.ensures.rests.seen q c.as_slice-records.result.now d0 d1 (g.D.Disk.state c.visit_segments.new.disk) c.ask_words.ensures.rests.seen c.as_slice-records.ensures c.ask_words.ensures.reads
+    (subst (λ (s : Scope). ReadsFronts d1 (g.D.Disk.state c.visit_segments.new.disk) s.names s.files s.query c.as_slice-fronts.result.now) c.new-context.ensures c.visit_segments.ensures.reads)
 
 pub returns-in_err-finish-clause-reads : goal.returns-in_err-finish-clause-reads
 returns-in_err-finish-clause-reads g c =
-    let a = shown g.T.KeepsTexts.kept c.args.archive.now in
-    of_journal _ a _ _ _ (λ m l _ _. ReadsOpened m c.args.query.now l (g.D.Disk.state c.args.disk.now).ranges (g.D.Disk.state c.visit_segments.new.disk).ranges) _
-    (c.as_slice-files.ensures ∙ c.files.ensures) (c.as_slice-segments.ensures ∙ c.segments.ensures) c.requires.opens
-    (knows _ _ _ _ _ (ap g.T.KeepsTexts.kept c.new-names.ensures ∙ c.names-kept.ensures) ((g.met.T.KeepsTexts g.world.𝓛 g.world.𝓜 g.world.𝓡 ((λ s x. x), (λ x. x), (λ x. x), λ x. x)).named c.new-names.result.names.now))
-    (subst (λ (s : Scope). ReadsTold (g.D.Disk.state c.args.disk.now) (g.D.Disk.state c.visit_segments.new.disk) s.names s.files s.query c.as_slice-segments.result.now) c.new-context.ensures c.visit_segments.ensures.reads)
-    (λ bytes h es stood is has. reads_aside bytes h es a c.args.query.now _ _ stood is has)
-
-pub returns-in_err-finish-clause-stopped : goal.returns-in_err-finish-clause-stopped
-returns-in_err-finish-clause-stopped g c =
-    let a = shown g.T.KeepsTexts.kept c.args.archive.now in
-    on_err c.from_residual-in_err-finish.result _
-    (of_journal _ a _ _ _
-    (λ m l _ all. Searched m c.args.query.now l all (state (g.K.Sink.written c.args.out.now) c.args.batch.now c.args.expanded.now)
-    (state (g.K.Sink.written c.visit_segments.new.out) c.visit_segments.new.batch c.visit_segments.new.expanded) c.args.opened.now c.visit_segments.new.opened c.in_ok-count.count
-    × Halts m c.args.query.now [] (state (g.K.Sink.written c.visit_segments.new.out) c.visit_segments.new.batch c.visit_segments.new.expanded) (g.K.Sink.written c.finish.new.out) c.finish.new.expanded) _
-    (c.as_slice-files.ensures ∙ c.files.ensures) (c.as_slice-segments.ensures ∙ c.segments.ensures) c.requires.opens
-    (knows _ _ _ _ _ (ap g.T.KeepsTexts.kept c.new-names.ensures ∙ c.names-kept.ensures) ((g.met.T.KeepsTexts g.world.𝓛 g.world.𝓜 g.world.𝓡 ((λ s x. x), (λ x. x), (λ x. x), λ x. x)).named c.new-names.result.names.now))
-    (of_all _ _ _ _ _ _ (λ bytes all has. (has, (subst (λ (s : Scope). Halts s.names s.query [] (state (g.K.Sink.written c.visit_segments.new.out) c.visit_segments.new.batch c.visit_segments.new.expanded) (g.K.Sink.written c.finish.new.out) c.finish.new.expanded) c.new-context.ensures c.in_err-finish.ensures.stopped))) (subst (λ (s : Scope). SearchedTold (g.D.Disk.state c.args.disk.now).seen s.names s.files s.query c.as_slice-segments.result.now (state (g.K.Sink.written c.args.out.now) c.args.batch.now c.args.expanded.now) (state (g.K.Sink.written c.visit_segments.new.out) c.visit_segments.new.batch c.visit_segments.new.expanded) c.args.opened.now c.visit_segments.new.opened c.in_ok-count.count) c.new-context.ensures c.in_ok-count.ensures.done))
-    (λ bytes h es stood is has. has_stopped h stood.legal.held c.args.query.now a.segments _ _ _ _ _ _ _ c.requires.empty
-    (last_stopped _ c.args.query.now a.segments _ _ _ _ _ _ _ _ has.0 has.1)))
-
-pub returns-in_err-finish-clause-damaged : goal.returns-in_err-finish-clause-damaged
-returns-in_err-finish-clause-damaged g c = λ is.
-    let a = shown g.T.KeepsTexts.kept c.args.archive.now in
-    of_journal _ a _ _ _ (λ _ _ _ _. ⊥) _
-    (c.as_slice-files.ensures ∙ c.files.ensures) (c.as_slice-segments.ensures ∙ c.segments.ensures) c.requires.opens
-    (knows _ _ _ _ _ (ap g.T.KeepsTexts.kept c.new-names.ensures ∙ c.names-kept.ensures) ((g.met.T.KeepsTexts g.world.𝓛 g.world.𝓜 g.world.𝓡 ((λ s x. x), (λ x. x), (λ x. x), λ x. x)).named c.new-names.result.names.now))
-    (of_all _ _ _ _ _ _ (λ bytes all has. last_damaged _ c.args.query.now _ all (state (g.K.Sink.written c.args.out.now) c.args.batch.now c.args.expanded.now) (state (g.K.Sink.written c.visit_segments.new.out) c.visit_segments.new.batch c.visit_segments.new.expanded) _ _ _ c.requires.empty has (subst (λ (s : Scope). Blames s.names c.visit_segments.new.batch.pages ⊥) c.new-context.ensures (c.in_err-finish.ensures.damaged (search rules)))) (subst (λ (s : Scope). SearchedTold (g.D.Disk.state c.args.disk.now).seen s.names s.files s.query c.as_slice-segments.result.now (state (g.K.Sink.written c.args.out.now) c.args.batch.now c.args.expanded.now) (state (g.K.Sink.written c.visit_segments.new.out) c.visit_segments.new.batch c.visit_segments.new.expanded) c.args.opened.now c.visit_segments.new.opened c.in_ok-count.count) c.new-context.ensures c.in_ok-count.ensures.done))
-    (λ bytes h es stood is has. has)
+    let q = c.args.query.now in
+    let d0 = g.D.Disk.state c.args.disk.now in
+    let d1 = g.D.Disk.state c.ask_words.new.disk in
+    let a = c.args.places in
+    let n : Named = named d1.seen c.in_ok-held.held in
+    let known = knows d0.seen d1.seen a c.in_ok-held.held n c.ask_words.ensures.rests.seen c.in_ok-held.ensures.types c.in_ok-held.ensures.version (c.in_ok-held.ensures.records ∙ ap (map unread) c.as_slice-records.ensures) refl in
+    all_read d0.seen d1.seen a n c.as_slice-names.result.now c.as_slice-fronts.result.now c.words_stand.ensures c.heads_stand.ensures c.as_slice-names.ensures c.as_slice-fronts.ensures c.requires.opens known c.ask_words.ensures.rests.seen q c.as_slice-records.result.now d0 d1 (g.D.Disk.state c.visit_segments.new.disk) c.ask_words.ensures.rests.seen c.as_slice-records.ensures c.ask_words.ensures.reads
+    (subst (λ (s : Scope). ReadsFronts d1 (g.D.Disk.state c.visit_segments.new.disk) s.names s.files s.query c.as_slice-fronts.result.now) c.new-context.ensures c.visit_segments.ensures.reads)
 
 pub returns-clause-reads : goal.returns-clause-reads
 returns-clause-reads g c =
-    let a = shown g.T.KeepsTexts.kept c.args.archive.now in
-    of_journal _ a _ _ _ (λ m l _ _. ReadsOpened m c.args.query.now l (g.D.Disk.state c.args.disk.now).ranges (g.D.Disk.state c.visit_segments.new.disk).ranges) _
-    (c.as_slice-files.ensures ∙ c.files.ensures) (c.as_slice-segments.ensures ∙ c.segments.ensures) c.requires.opens
-    (knows _ _ _ _ _ (ap g.T.KeepsTexts.kept c.new-names.ensures ∙ c.names-kept.ensures) ((g.met.T.KeepsTexts g.world.𝓛 g.world.𝓜 g.world.𝓡 ((λ s x. x), (λ x. x), (λ x. x), λ x. x)).named c.new-names.result.names.now))
-    (subst (λ (s : Scope). ReadsTold (g.D.Disk.state c.args.disk.now) (g.D.Disk.state c.visit_segments.new.disk) s.names s.files s.query c.as_slice-segments.result.now) c.new-context.ensures c.visit_segments.ensures.reads)
-    (λ bytes h es stood is has. reads_aside bytes h es a c.args.query.now _ _ stood is has)
+    let q = c.args.query.now in
+    let d0 = g.D.Disk.state c.args.disk.now in
+    let d1 = g.D.Disk.state c.ask_words.new.disk in
+    let a = c.args.places in
+    let n : Named = named d1.seen c.in_ok-held.held in
+    let known = knows d0.seen d1.seen a c.in_ok-held.held n c.ask_words.ensures.rests.seen c.in_ok-held.ensures.types c.in_ok-held.ensures.version (c.in_ok-held.ensures.records ∙ ap (map unread) c.as_slice-records.ensures) refl in
+    all_read d0.seen d1.seen a n c.as_slice-names.result.now c.as_slice-fronts.result.now c.words_stand.ensures c.heads_stand.ensures c.as_slice-names.ensures c.as_slice-fronts.ensures c.requires.opens known c.ask_words.ensures.rests.seen q c.as_slice-records.result.now d0 d1 (g.D.Disk.state c.visit_segments.new.disk) c.ask_words.ensures.rests.seen c.as_slice-records.ensures c.ask_words.ensures.reads
+    (subst (λ (s : Scope). ReadsFronts d1 (g.D.Disk.state c.visit_segments.new.disk) s.names s.files s.query c.as_slice-fronts.result.now) c.new-context.ensures c.visit_segments.ensures.reads)
+
+pub returns-in_err-count-clause-rests : goal.returns-in_err-count-clause-rests
+returns-in_err-count-clause-rests g c = rests_on _ (g.D.Disk.state c.ask_words.new.disk) _ c.ask_words.ensures.rests c.visit_segments.ensures.rests
+
+pub returns-in_err-finish-clause-rests : goal.returns-in_err-finish-clause-rests
+returns-in_err-finish-clause-rests g c = rests_on _ (g.D.Disk.state c.ask_words.new.disk) _ c.ask_words.ensures.rests c.visit_segments.ensures.rests
+
+pub returns-clause-rests : goal.returns-clause-rests
+returns-clause-rests g c = rests_on _ (g.D.Disk.state c.ask_words.new.disk) _ c.ask_words.ensures.rests c.visit_segments.ensures.rests
+
+pub returns-in_err-count-clause-stopped : goal.returns-in_err-count-clause-stopped
+returns-in_err-count-clause-stopped g c =
+    let q = c.args.query.now in
+    let d0 = g.D.Disk.state c.args.disk.now in
+    let d1 = g.D.Disk.state c.ask_words.new.disk in
+    let a = c.args.places in
+    let n : Named = named d1.seen c.in_ok-held.held in
+    let known = knows d0.seen d1.seen a c.in_ok-held.held n c.ask_words.ensures.rests.seen c.in_ok-held.ensures.types c.in_ok-held.ensures.version (c.in_ok-held.ensures.records ∙ ap (map unread) c.as_slice-records.ensures) refl in
+    on_err c.from_residual-in_err-count.result _
+    (all_stopped d0.seen d1.seen a n c.as_slice-names.result.now c.as_slice-fronts.result.now c.words_stand.ensures c.heads_stand.ensures c.as_slice-names.ensures c.as_slice-fronts.ensures c.requires.opens known c.ask_words.ensures.rests.seen q (g.K.Sink.written c.args.out.now) (g.K.Sink.written c.visit_segments.new.out) c.args.batch.now c.args.expanded.now c.visit_segments.new.expanded c.args.opened.now c.visit_segments.new.opened c.requires.empty
+    (subst (λ (s : Scope). StoppedFronts d1.seen s.names s.files s.query c.as_slice-fronts.result.now (state (g.K.Sink.written c.args.out.now) c.args.batch.now c.args.expanded.now) (g.K.Sink.written c.visit_segments.new.out) c.visit_segments.new.expanded c.args.opened.now c.visit_segments.new.opened)
+    c.new-context.ensures c.in_err-count.ensures.stopped))
+
+pub returns-in_err-count-clause-damaged : goal.returns-in_err-count-clause-damaged
+returns-in_err-count-clause-damaged g c = λ is.
+    let q = c.args.query.now in
+    let d0 = g.D.Disk.state c.args.disk.now in
+    let d1 = g.D.Disk.state c.ask_words.new.disk in
+    let a = c.args.places in
+    let n : Named = named d1.seen c.in_ok-held.held in
+    let known = knows d0.seen d1.seen a c.in_ok-held.held n c.ask_words.ensures.rests.seen c.in_ok-held.ensures.types c.in_ok-held.ensures.version (c.in_ok-held.ensures.records ∙ ap (map unread) c.as_slice-records.ensures) refl in
+    all_damaged d0.seen d1.seen a n c.as_slice-names.result.now c.as_slice-fronts.result.now c.words_stand.ensures c.heads_stand.ensures c.as_slice-names.ensures c.as_slice-fronts.ensures c.requires.opens known c.ask_words.ensures.rests.seen
+    (subst (λ (s : Scope). NoFronts d1.seen s.names s.files c.as_slice-fronts.result.now) c.new-context.ensures
+    (c.in_err-count.ensures.damaged (search rules) [] (waits_none _ c.args.batch.now c.requires.empty)))
+
+pub returns-in_err-finish-clause-stopped : goal.returns-in_err-finish-clause-stopped
+returns-in_err-finish-clause-stopped g c =
+    let q = c.args.query.now in
+    let d0 = g.D.Disk.state c.args.disk.now in
+    let d1 = g.D.Disk.state c.ask_words.new.disk in
+    let a = c.args.places in
+    let n : Named = named d1.seen c.in_ok-held.held in
+    let known = knows d0.seen d1.seen a c.in_ok-held.held n c.ask_words.ensures.rests.seen c.in_ok-held.ensures.types c.in_ok-held.ensures.version (c.in_ok-held.ensures.records ∙ ap (map unread) c.as_slice-records.ensures) refl in
+    on_err c.from_residual-in_err-finish.result _
+    (last_halted d0.seen d1.seen a n c.as_slice-names.result.now c.as_slice-fronts.result.now c.words_stand.ensures c.heads_stand.ensures c.as_slice-names.ensures c.as_slice-fronts.ensures c.requires.opens known c.ask_words.ensures.rests.seen q (g.K.Sink.written c.args.out.now) (g.K.Sink.written c.finish.new.out) c.args.batch.now (state (g.K.Sink.written c.visit_segments.new.out) c.visit_segments.new.batch c.visit_segments.new.expanded) c.args.expanded.now c.finish.new.expanded c.args.opened.now c.visit_segments.new.opened c.in_ok-count.count c.requires.empty
+    (subst (λ (s : Scope). SearchedFronts d1.seen s.names s.files s.query c.as_slice-fronts.result.now (state (g.K.Sink.written c.args.out.now) c.args.batch.now c.args.expanded.now) (state (g.K.Sink.written c.visit_segments.new.out) c.visit_segments.new.batch c.visit_segments.new.expanded) c.args.opened.now c.visit_segments.new.opened c.in_ok-count.count) c.new-context.ensures c.in_ok-count.ensures.done)
+    (subst (λ (s : Scope). Halts s.names s.query [] (state (g.K.Sink.written c.visit_segments.new.out) c.visit_segments.new.batch c.visit_segments.new.expanded) (g.K.Sink.written c.finish.new.out) c.finish.new.expanded) c.new-context.ensures c.in_err-finish.ensures.stopped))
+
+pub returns-in_err-finish-clause-damaged : goal.returns-in_err-finish-clause-damaged
+returns-in_err-finish-clause-damaged g c = λ is.
+    let q = c.args.query.now in
+    let d0 = g.D.Disk.state c.args.disk.now in
+    let d1 = g.D.Disk.state c.ask_words.new.disk in
+    let a = c.args.places in
+    let n : Named = named d1.seen c.in_ok-held.held in
+    let known = knows d0.seen d1.seen a c.in_ok-held.held n c.ask_words.ensures.rests.seen c.in_ok-held.ensures.types c.in_ok-held.ensures.version (c.in_ok-held.ensures.records ∙ ap (map unread) c.as_slice-records.ensures) refl in
+    last_blamed d0.seen d1.seen a n c.as_slice-names.result.now c.as_slice-fronts.result.now c.words_stand.ensures c.heads_stand.ensures c.as_slice-names.ensures c.as_slice-fronts.ensures c.requires.opens known c.ask_words.ensures.rests.seen q (g.K.Sink.written c.args.out.now) c.args.batch.now (state (g.K.Sink.written c.visit_segments.new.out) c.visit_segments.new.batch c.visit_segments.new.expanded) c.args.expanded.now c.args.opened.now c.visit_segments.new.opened c.in_ok-count.count c.requires.empty
+    (subst (λ (s : Scope). SearchedFronts d1.seen s.names s.files s.query c.as_slice-fronts.result.now (state (g.K.Sink.written c.args.out.now) c.args.batch.now c.args.expanded.now) (state (g.K.Sink.written c.visit_segments.new.out) c.visit_segments.new.batch c.visit_segments.new.expanded) c.args.opened.now c.visit_segments.new.opened c.in_ok-count.count) c.new-context.ensures c.in_ok-count.ensures.done)
+    (subst (λ (s : Scope). Blames s.names c.visit_segments.new.batch.pages ⊥) c.new-context.ensures (c.in_err-finish.ensures.damaged (search rules)))
 
 pub returns-clause-done : goal.returns-clause-done
 returns-clause-done g c =
-    let a = shown g.T.KeepsTexts.kept c.args.archive.now in
-    let ps = c.as_slice-segments.ensures ∙ c.segments.ensures in
-    of_journal _ a _ _ _
-    (λ m l _ all. Searched m c.args.query.now l all (state (g.K.Sink.written c.args.out.now) c.args.batch.now c.args.expanded.now)
-    (state (g.K.Sink.written c.visit_segments.new.out) c.visit_segments.new.batch c.visit_segments.new.expanded) c.args.opened.now c.visit_segments.new.opened c.in_ok-count.count
-    × Reaches m c.args.query.now [] (state (g.K.Sink.written c.visit_segments.new.out) c.visit_segments.new.batch c.visit_segments.new.expanded) (state (g.K.Sink.written c.finish.new.out) c.finish.new.self c.finish.new.expanded)) _
-    (c.as_slice-files.ensures ∙ c.files.ensures) ps c.requires.opens
-    (knows _ _ _ _ _ (ap g.T.KeepsTexts.kept c.new-names.ensures ∙ c.names-kept.ensures) ((g.met.T.KeepsTexts g.world.𝓛 g.world.𝓜 g.world.𝓡 ((λ s x. x), (λ x. x), (λ x. x), λ x. x)).named c.new-names.result.names.now))
-    (of_all _ _ _ _ _ _ (λ bytes all has. (has, (subst (λ (s : Scope). Reaches s.names s.query [] (state (g.K.Sink.written c.visit_segments.new.out) c.visit_segments.new.batch c.visit_segments.new.expanded) (state (g.K.Sink.written c.finish.new.out) c.finish.new.self c.finish.new.expanded)) c.new-context.ensures c.in_ok-finish.ensures.done))) (subst (λ (s : Scope). SearchedTold (g.D.Disk.state c.args.disk.now).seen s.names s.files s.query c.as_slice-segments.result.now (state (g.K.Sink.written c.args.out.now) c.args.batch.now c.args.expanded.now) (state (g.K.Sink.written c.visit_segments.new.out) c.visit_segments.new.batch c.visit_segments.new.expanded) c.args.opened.now c.visit_segments.new.opened c.in_ok-count.count) c.new-context.ensures c.in_ok-count.ensures.done))
-    (λ bytes h es stood is has.
-    subst
-    (λ l. HasSearched h stood.legal.held c.args.query.now a.segments
-    (record { matched = c.counts-counts.result.matched; expanded = c.counts-counts.result.expanded; opened = c.in_ok-count.count; segments = length l }) (g.K.Sink.written c.args.out.now) (g.K.Sink.written c.finish.new.out) c.args.opened.now
-    c.visit_segments.new.opened c.args.expanded.now c.finish.new.expanded)
-    (sym ps)
-    (has_searched bytes h es c.args.query.now a.segments c.counts-counts.result c.in_ok-count.count _ _ c.args.batch.now c.finish.new.self _ _ _ _ _ stood c.requires.empty c.counts-counts.ensures has.0 has.1 c.in_ok-finish.ensures.empty))
+    let q = c.args.query.now in
+    let d0 = g.D.Disk.state c.args.disk.now in
+    let d1 = g.D.Disk.state c.ask_words.new.disk in
+    let a = c.args.places in
+    let n : Named = named d1.seen c.in_ok-held.held in
+    let known = knows d0.seen d1.seen a c.in_ok-held.held n c.ask_words.ensures.rests.seen c.in_ok-held.ensures.types c.in_ok-held.ensures.version (c.in_ok-held.ensures.records ∙ ap (map unread) c.as_slice-records.ensures) refl in
+    all_searched d0.seen d1.seen a n c.as_slice-names.result.now c.as_slice-fronts.result.now c.words_stand.ensures c.heads_stand.ensures c.as_slice-names.ensures c.as_slice-fronts.ensures c.requires.opens known c.ask_words.ensures.rests.seen q c.counts-counts.result c.in_ok-count.count (g.K.Sink.written c.args.out.now) (g.K.Sink.written c.finish.new.out) c.args.batch.now c.finish.new.self (state (g.K.Sink.written c.visit_segments.new.out) c.visit_segments.new.batch c.visit_segments.new.expanded) c.args.opened.now c.visit_segments.new.opened c.args.expanded.now
+    c.finish.new.expanded c.requires.empty c.counts-counts.ensures
+    (subst (λ (s : Scope). SearchedFronts d1.seen s.names s.files s.query c.as_slice-fronts.result.now (state (g.K.Sink.written c.args.out.now) c.args.batch.now c.args.expanded.now) (state (g.K.Sink.written c.visit_segments.new.out) c.visit_segments.new.batch c.visit_segments.new.expanded) c.args.opened.now c.visit_segments.new.opened c.in_ok-count.count) c.new-context.ensures c.in_ok-count.ensures.done)
+    (subst (λ (s : Scope). Reaches s.names s.query [] (state (g.K.Sink.written c.visit_segments.new.out) c.visit_segments.new.batch c.visit_segments.new.expanded) (state (g.K.Sink.written c.finish.new.out) c.finish.new.self c.finish.new.expanded)) c.new-context.ensures c.in_ok-finish.ensures.done)
+    c.in_ok-finish.ensures.empty

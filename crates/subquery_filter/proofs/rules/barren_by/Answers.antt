@@ -2,6 +2,7 @@ use Rattle.std.proofs.Common.{List, ℕ, ap, subst}
 use Rattle.std.specs.Prelude.{◌↔◌, IsTrue}
 use Rattle.std.specs.List.Sorted.{IsStrictlyIncreasing}
 use Rattle.plain_list.specs.Texts.{AreDistinct}
+use Rattle.query_plan.specs.Needs.{needed_variables_of}
 use Rattle.query_plan.specs.Pieces.{Free, needed_of}
 use Rattle.subquery_filter.specs.Barren.{LacksTypes, LacksWord}
 use Rattle.subquery_filter.specs.Found.{AreNumbers}
@@ -17,7 +18,7 @@ returns-then-is_outside g c = λ words is_head distinct numbers.
 pub returns-else-lacks_found : goal.returns-else-lacks_found
 returns-else-lacks_found g c = λ known is_head distinct numbers.
     let plan = c.args.plan.now in
-    let words = subst (λ l. (w : List (List ℕ)) → IsStrictlyIncreasing l → AreDistinct w → AreNumbers w (needed_of Free plan) c.args.found.now → IsTrue c.lacks_found.result ↔ LacksWord plan w l) c.as_slice.ensures c.lacks_found.ensures in
+    let words = subst (λ l. (w : List (List ℕ)) → IsStrictlyIncreasing l → AreDistinct w → AreNumbers w (needed_of Free plan) (needed_variables_of Free plan) c.args.found.now → IsTrue c.lacks_found.result ↔ LacksWord plan w l) c.as_slice.ensures c.lacks_found.ensures in
     let types = subst (λ l. IsTrue c.lacks_types.result ↔ LacksTypes plan (g.N.Names.types c.args.names.now) l) c.as_slice-else-lacks_found.ensures c.lacks_types.ensures in
     last_rules c.lacks_types.result (tells_not c.is_outside.result (outside_tells c.args.range.now c.args.head.now c.is_outside.result is_head c.is_outside.ensures) c.if-is_outside.false)
     (tells_not c.lacks_found.result (words known is_head.words.rise distinct numbers) c.if-lacks_found.false) types
@@ -25,5 +26,5 @@ returns-else-lacks_found g c = λ known is_head distinct numbers.
 pub returns-then-lacks_found : goal.returns-then-lacks_found
 returns-then-lacks_found g c = λ known is_head distinct numbers.
     let plan = c.args.plan.now in
-    let words = subst (λ l. (w : List (List ℕ)) → IsStrictlyIncreasing l → AreDistinct w → AreNumbers w (needed_of Free plan) c.args.found.now → IsTrue c.lacks_found.result ↔ LacksWord plan w l) c.as_slice.ensures c.lacks_found.ensures in
+    let words = subst (λ l. (w : List (List ℕ)) → IsStrictlyIncreasing l → AreDistinct w → AreNumbers w (needed_of Free plan) (needed_variables_of Free plan) c.args.found.now → IsTrue c.lacks_found.result ↔ LacksWord plan w l) c.as_slice.ensures c.lacks_found.ensures in
     third_rule c.lacks_found.result c.if-lacks_found.true (words known is_head.words.rise distinct numbers)

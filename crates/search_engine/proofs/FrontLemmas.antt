@@ -1,0 +1,181 @@
+-- Segments by their fronts, one and then all.
+use Rattle.std.proofs.Common.{◌≡◌, inl, inr, ⊎_elim, ℕ, zero, suc, ◌+◌, ◌<◌, ◌≤◌, List, [], ◌∷◌, length, map, get_or, Bool, Option, Some, None, refl, sym, ◌∙◌, ap, subst, arith}
+use Rattle.std.specs.Prelude.{◌⊎◌, IsTrue}
+use Rattle.std.proofs.lemmas.List.{get_or_default, length-map}
+use Rattle.std.proofs.Math.ListN.{get_or-map}
+use Rattle.std.proofs.lemmas.List.Elements.{All-cons, All-nil, Contains-push}
+use Rattle.log_seams.specs.Disk.{DiskState, ReadsOnly, Rests}
+use Rattle.log_seams.proofs.MomentLemmas.{rests_on}
+use Rattle.segment_format.specs.Layout.{IsFixed, head_length}
+use Rattle.query_plan.specs.Laws.{IsSearched, WideIsWider}
+use Rattle.subquery_filter.specs.Barren.{IsBounded, LeavesOut}
+use Rattle.subquery_filter.specs.Laws.{BarrenHasNoMatch}
+use Rattle.archive_open.specs.declared.files.FileEntry.{FileEntry}
+use Rattle.archive_open.specs.declared.segments.SegmentPlace.{SegmentPlace}
+use Rattle.archive_places.specs.declared.front.SegmentFront.{SegmentFront}
+use Rattle.archive_places.specs.Fronts.{fixed_in, front_of_place}
+use Rattle.archive_places.specs.Heads.{OfFront}
+use Rattle.search_engine.specs.Scan.{Asked, Placed}
+use Rattle.search_engine.specs.Waiting.{Blames, Halts, State}
+use Rattle.search_engine.specs.Held.{Named, OfSegments}
+use Rattle.search_engine.specs.Opened.{IsBarrenFor, IsRead, NoFronts, OfFronts, ReadsFronts, ReadsOpened, ReadsTold, Searched, SearchedFronts, Stopped, StoppedFronts}
+use Rattle.search_engine.specs.StepsPast.{SegmentsRun}
+use Rattle.search_engine.proofs.PagesReadLemmas.{none_added, rests_same}
+use Rattle.search_engine.proofs.SegmentLemmas.{barren_searched, nothing_read, single}
+use Rattle.search_engine.proofs.RunLemmas.{past_damaged, past_end, past_next, past_none, past_stops, reads_joined, reads_next}
+use Rattle.search_engine.proofs.WaitingLemmas.{halts_more}
+
+-- ---- one segment
+
+-- what holds of the segment whose head was loaded holds of each with this front
+pub loaded_all : (seen : Option (List ℕ)) (n : Named) (files : List FileEntry) (front : SegmentFront) (p : SegmentPlace) (X : List SegmentPlace → List ℕ → List Placed → Type 0) → OfFront seen front (λ r. p ≡ r)
+    → OfSegments seen n files (p ∷ []) (X (p ∷ [])) → (ps : List SegmentPlace) → map front_of_place ps ≡ front ∷ [] → OfSegments seen n files ps (X ps)
+loaded_all None n files front p X loaded has ps is = tt
+loaded_all (Some bytes) n files front p X loaded has [] is = absurd (cc (is))
+loaded_all (Some bytes) n files front p X loaded has (r ∷ s ∷ ps) is = absurd (cc (is))
+loaded_all (Some bytes) n files front p X loaded has (r ∷ []) is = λ all distinct have.
+    let own : front_of_place r ≡ front = cc (is) in
+    subst (λ (x : SegmentPlace). OfSegments (Some bytes) n files (x ∷ []) (X (x ∷ []))) (loaded r own have.4.stands) has all distinct have
+
+-- no segment has this front
+pub loaded_none : (seen : Option (List ℕ)) (n : Named) (files : List FileEntry) (front : SegmentFront) → OfFront seen front (λ _. ⊥) → NoFronts seen n files (front ∷ [])
+loaded_none None n files front none ps is = tt
+loaded_none (Some bytes) n files front none [] is = absurd (cc (is))
+loaded_none (Some bytes) n files front none (r ∷ s ∷ ps) is = absurd (cc (is))
+loaded_none (Some bytes) n files front none (r ∷ []) is = λ all distinct have.
+    let own : front_of_place r ≡ front = cc (is) in none r own have.4.stands
+
+-- the head was read
+head_read : (n : Named) (q : Asked) (front : SegmentFront) (p : SegmentPlace) (old new : DiskState) → front_of_place p ≡ front → ReadsOnly front.payload (head_length (fixed_in front)) old new
+    → ReadsOpened n q (p ∷ []) old.ranges new.ranges
+head_read n q front p old new is (inl same) = record { more = []; added = same ∙ none_added old.ranges; each = All-nil (IsRead n q (p ∷ [])) }
+head_read n q front p old new is (inr read) =
+    let most : read.0 ≤ head_length (fixed_in (front_of_place p)) = subst (λ (f : SegmentFront). read.0 ≤ head_length (fixed_in f)) (sym is) read.1 in
+    let at : p.payload ≡ front.payload = ap (λ (f : SegmentFront). f.payload) is in
+    record {
+      more = (front.payload, read.0) ∷ [];
+      added = read.2;
+      each = All-cons (IsRead n q (p ∷ [])) (front.payload, read.0) [] (inr (inl (record { p = p; is = Contains-push [] p; start = omega (arith, at); end = omega (arith, at, most) }))) (All-nil (IsRead n q (p ∷ [])));
+    }
+
+pub head_reads : (seen : Option (List ℕ)) (n : Named) (files : List FileEntry) (q : Asked) (front : SegmentFront) (old new : DiskState) → ReadsOnly front.payload (head_length (fixed_in front)) old new
+    → OfFronts (front ∷ []) (λ ps. OfSegments seen n files ps (λ _ _. ReadsOpened n q ps old.ranges new.ranges))
+head_reads None n files q front old new reads ps is = tt
+head_reads (Some bytes) n files q front old new reads [] is = absurd (cc (is))
+head_reads (Some bytes) n files q front old new reads (r ∷ s ∷ ps) is = absurd (cc (is))
+head_reads (Some bytes) n files q front old new reads (r ∷ []) is = λ all distinct have.
+    let own : front_of_place r ≡ front = cc (is) in head_read n q front r old new own reads
+
+-- and then what the search of the segment reads
+reads_loaded : (seen : Option (List ℕ)) (n : Named) (files : List FileEntry) (q : Asked) (front : SegmentFront) (p : SegmentPlace) (old mid new : DiskState) → OfFront seen front (λ r. p ≡ r)
+    → ReadsOnly front.payload (head_length (fixed_in front)) old mid → OfSegments seen n files (p ∷ []) (λ _ _. ReadsOpened n q (p ∷ []) mid.ranges new.ranges)
+    → OfFronts (front ∷ []) (λ ps. OfSegments seen n files ps (λ _ _. ReadsOpened n q ps old.ranges new.ranges))
+reads_loaded None n files q front p old mid new loaded head reads ps is = tt
+reads_loaded (Some bytes) n files q front p old mid new loaded head reads [] is = absurd (cc (is))
+reads_loaded (Some bytes) n files q front p old mid new loaded head reads (r ∷ s ∷ ps) is = absurd (cc (is))
+reads_loaded (Some bytes) n files q front p old mid new loaded head reads (r ∷ []) is = λ all distinct have.
+    let own : front_of_place r ≡ front = cc (is) in
+    reads_joined n q (r ∷ []) old.ranges mid.ranges new.ranges (head_read n q front r old mid own head)
+    (subst (λ (x : SegmentPlace). OfSegments (Some bytes) n files (x ∷ []) (λ _ _. ReadsOpened n q (x ∷ []) mid.ranges new.ranges)) (loaded r own have.4.stands) reads all distinct have)
+
+pub segment_reads : (n : Named) (files : List FileEntry) (q : Asked) (front : SegmentFront) (p : SegmentPlace) (old mid new : DiskState) → mid.seen ≡ old.seen → OfFront old.seen front (λ r. p ≡ r)
+    → ReadsOnly front.payload (head_length (fixed_in front)) old mid → ReadsTold mid new n files q (p ∷ []) → ReadsFronts old new n files q (front ∷ [])
+segment_reads n files q front p old mid new same loaded head reads =
+    reads_loaded old.seen n files q front p old mid new loaded head (subst (λ s. OfSegments s n files (p ∷ []) (λ _ _. ReadsOpened n q (p ∷ []) mid.ranges new.ranges)) same reads)
+
+-- what holds of the segment that was loaded, said of the disk before
+pub later_all : (seen later : Option (List ℕ)) (n : Named) (files : List FileEntry) (front : SegmentFront) (p : SegmentPlace) (X : List SegmentPlace → List ℕ → List Placed → Type 0) → later ≡ seen → OfFront seen front (λ r. p ≡ r)
+    → OfSegments later n files (p ∷ []) (X (p ∷ [])) → OfFronts (front ∷ []) (λ ps. OfSegments seen n files ps (X ps))
+later_all seen later n files front p X same loaded has = loaded_all seen n files front p X loaded (subst (λ s. OfSegments s n files (p ∷ []) (X (p ∷ []))) same has)
+
+-- a segment whose front is out of the range
+pub outside_done : (seen : Option (List ℕ)) (n : Named) (files : List FileEntry) (q : Asked) (front : SegmentFront) (a : State) (t : ℕ) → WideIsWider → BarrenHasNoMatch → IsSearched q.pattern
+    → (IsFixed (fixed_in front) → (front.rows ≡ 0) ⊎ (IsBounded q.range × LeavesOut q.range front.stamped front.least front.greatest)) → SearchedFronts seen n files q (front ∷ []) a a t t 0
+outside_done None n files q front a t wider law searched out ps is = tt
+outside_done (Some bytes) n files q front a t wider law searched out [] is = absurd (cc (is))
+outside_done (Some bytes) n files q front a t wider law searched out (r ∷ s ∷ ps) is = absurd (cc (is))
+outside_done (Some bytes) n files q front a t wider law searched out (r ∷ []) is = λ all distinct have.
+    let own : front_of_place r ≡ front = cc (is) in
+    let mine = subst (λ (f : SegmentFront). (f.rows ≡ 0) ⊎ (IsBounded q.range × LeavesOut q.range f.stamped f.least f.greatest)) (sym own)
+    (out (subst (λ (f : SegmentFront). IsFixed (fixed_in f)) own have.4.stands.fits.fixed)) in
+    let barren : IsBarrenFor n.types n.words q r = ⊎_elim (λ none. inl none) (λ far. inr (inl far)) mine in
+    barren_searched bytes n have.0 q r all a t wider law searched barren (single bytes n files have.0 r all have.3 have)
+
+-- the search stopped before the segment
+pub halted_stops : (seen : Option (List ℕ)) (n : Named) (files : List FileEntry) (q : Asked) (fronts : List SegmentFront) (a : State) (w : Option (List ℕ)) (k t u : ℕ) → Halts n q [] a w k → u ≡ t
+    → StoppedFronts seen n files q fronts a w k t u
+halted_stops None n files q fronts a w k t u halts same ps is = tt
+halted_stops (Some bytes) n files q fronts a w k t u halts same ps is = λ all distinct have. record {
+  halts = halts_more n q [] all a w k halts;
+  most = λ opened are. omega (arith, same);
+}
+
+-- ---- all segments
+
+-- a segment of the list, by its front
+record HasFront (ps : List SegmentPlace) (k : ℕ) (front : SegmentFront) : Type 0 where
+  pub p : SegmentPlace
+  pub within : k < length ps
+  pub is : p ≡ get_or ps k p
+  pub same : map front_of_place (p ∷ []) ≡ front ∷ []
+
+element : (ps : List SegmentPlace) (k : ℕ) → k < length ps → (p : SegmentPlace) × (p ≡ get_or ps k p)
+element [] k lt = absurd (omega (arith, lt))
+element (p ∷ ps) zero lt = (p, refl)
+element (p ∷ ps) (suc k) lt = element ps k (omega (arith, lt))
+
+front_at : (ps : List SegmentPlace) (fronts : List SegmentFront) (k : ℕ) (front : SegmentFront) → map front_of_place ps ≡ fronts → k < length fronts → front ≡ get_or fronts k front → HasFront ps k front
+front_at ps fronts k front is lt at =
+    let long : length ps ≡ length fronts = sym (length-map ps front_of_place) ∙ ap (λ (l : List SegmentFront). length l) is in
+    let within : k < length ps = omega (arith, lt, long) in
+    let e = element ps k within in
+    let own : front_of_place e.0 ≡ front =
+    ap front_of_place e.1 ∙ sym (get_or-map front_of_place ps k e.0) ∙ ap (λ (l : List SegmentFront). get_or l k (front_of_place e.0)) is
+    ∙ get_or_default fronts k (front_of_place e.0) front lt ∙ sym at in
+    record { p = e.0; within = within; is = e.1; same = ap (λ (f : SegmentFront). f ∷ []) own }
+
+pub run_first : (d : DiskState) (n : Named) (files : List FileEntry) (q : Asked) (fronts : List SegmentFront) (a : State) (t : ℕ) → SegmentsRun d d n files q fronts 0 a a t t 0
+run_first d n files q fronts a t = record {
+  rests = rests_same d;
+  faults = refl;
+  reads = λ ps is. nothing_read d.seen n files q ps d.ranges d.ranges refl;
+  past = λ ps is. past_none d.seen n files q ps a t;
+  few = omega arith;
+}
+
+pub run_reads : (old mid new : DiskState) (n : Named) (files : List FileEntry) (q : Asked) (fronts : List SegmentFront) (k : ℕ) (front : SegmentFront) (a b : State) (t u count : ℕ) → k < length fronts
+    → front ≡ get_or fronts k front → SegmentsRun old mid n files q fronts k a b t u count → ReadsFronts mid new n files q (front ∷ []) → ReadsFronts old new n files q fronts
+run_reads old mid new n files q fronts k front a b t u count lt at run one = λ ps is.
+    let f = front_at ps fronts k front is lt at in
+    reads_next old.seen mid.seen n files q ps k f.p a b t u count old.ranges mid.ranges new.ranges run.rests.seen f.within f.is (run.past ps is) (run.reads ps is) (one (f.p ∷ []) f.same)
+
+pub run_next : (old mid new : DiskState) (n : Named) (files : List FileEntry) (q : Asked) (fronts : List SegmentFront) (k : ℕ) (front : SegmentFront) (a b c : State) (t u v count more all : ℕ) → k < length fronts
+    → front ≡ get_or fronts k front → all ≡ count + more → more ≤ 1 → SegmentsRun old mid n files q fronts k a b t u count → Rests mid new → new.faults ≡ mid.faults → ReadsFronts mid new n files q (front ∷ [])
+    → SearchedFronts mid.seen n files q (front ∷ []) b c u v more → SegmentsRun old new n files q fronts (k + 1) a c t v all
+run_next old mid new n files q fronts k front a b c t u v count more all lt at total few run rests faults reads one = record {
+  rests = rests_on old mid new run.rests rests;
+  faults = faults ∙ run.faults;
+  reads = run_reads old mid new n files q fronts k front a b t u count lt at run reads;
+  past = λ ps is.
+      let f = front_at ps fronts k front is lt at in
+      past_next old.seen mid.seen n files q ps k f.p a b c t u v count more all run.rests.seen f.within f.is total (run.past ps is) (one (f.p ∷ []) f.same);
+  few = omega (arith, run.few, total, few);
+}
+
+pub run_end : (old mid : DiskState) (n : Named) (files : List FileEntry) (q : Asked) (fronts : List SegmentFront) (k : ℕ) (a b : State) (t u count : ℕ) → length fronts ≤ k → SegmentsRun old mid n files q fronts k a b t u count
+    → SearchedFronts old.seen n files q fronts a b t u count
+run_end old mid n files q fronts k a b t u count end run = λ ps is.
+    let long : length ps ≡ length fronts = sym (length-map ps front_of_place) ∙ ap (λ (l : List SegmentFront). length l) is in
+    past_end old.seen n files q ps k a b t u count (omega (arith, end, long)) (run.past ps is)
+
+pub run_stops : (old mid : DiskState) (n : Named) (files : List FileEntry) (q : Asked) (fronts : List SegmentFront) (k : ℕ) (front : SegmentFront) (a b : State) (w : Option (List ℕ)) (e t u v count : ℕ) → k < length fronts
+    → front ≡ get_or fronts k front → SegmentsRun old mid n files q fronts k a b t u count → StoppedFronts mid.seen n files q (front ∷ []) b w e u v → StoppedFronts old.seen n files q fronts a w e t v
+run_stops old mid n files q fronts k front a b w e t u v count lt at run one = λ ps is.
+    let f = front_at ps fronts k front is lt at in
+    past_stops old.seen mid.seen n files q ps k f.p a b w e t u v count run.rests.seen f.within f.is (run.past ps is) (one (f.p ∷ []) f.same)
+
+pub run_damaged : (old mid : DiskState) (n : Named) (files : List FileEntry) (q : Asked) (fronts : List SegmentFront) (k : ℕ) (front : SegmentFront) (a b : State) (t u count : ℕ) → k < length fronts
+    → front ≡ get_or fronts k front → SegmentsRun old mid n files q fronts k a b t u count → Blames n b.pending.pages (NoFronts mid.seen n files (front ∷ [])) → Blames n a.pending.pages (NoFronts old.seen n files fronts)
+run_damaged old mid n files q fronts k front a b t u count lt at run one = λ early waits ps is.
+    let f = front_at ps fronts k front is lt at in
+    past_damaged old.seen mid.seen n files q ps k f.p a b t u count run.rests.seen f.within f.is (run.past ps is) (λ later there. one later there (f.p ∷ []) f.same) early waits

@@ -1,0 +1,90 @@
+use Rattle.std.proofs.Common.{rules, refl}
+use Rattle.search_engine.specs.Held.{Named}
+use Rattle.search_engine.proofs.PagesReadLemmas.{rests_same}
+use Rattle.search_engine.proofs.SofarLemmas.{on_err}
+use Rattle.search_engine.proofs.SegmentLemmas.{barren_done, columns_read, left_none, nothing_read, of_none, opened_done, opened_stops, unmatched_done}
+use Rattle.search_engine.proofs.segments.search_segment.Goals as goal
+
+pub returns-then-is_barren-clause-reads : goal.returns-then-is_barren-clause-reads
+returns-then-is_barren-clause-reads g c = nothing_read _ _ c.args.context.now.files c.args.context.now.query _ _ _ (search rules)
+
+pub returns-then-is_barren-clause-rests : goal.returns-then-is_barren-clause-rests
+returns-then-is_barren-clause-rests g c = rests_same _
+
+pub returns-then-is_barren-clause-done : goal.returns-then-is_barren-clause-done
+returns-then-is_barren-clause-done g c =
+    let n : Named = c.args.context.now.names in
+    let told = c.is_barren.ensures.told in
+    barren_done _ n c.args.context.now.files c.args.context.now.query c.args.segment.now c.is_barren.result _ _ c.wide_is_wider.ensures.wider c.barren_has_no_match.ensures c.is_barren.ensures.searched told (search rules)
+
+pub returns-in_err-finish-clause-rests : goal.returns-in_err-finish-clause-rests
+returns-in_err-finish-clause-rests g c = rests_same _
+
+pub returns-in_err-finish-clause-reads : goal.returns-in_err-finish-clause-reads
+returns-in_err-finish-clause-reads g c = nothing_read _ _ c.args.context.now.files c.args.context.now.query _ _ _ (search rules)
+
+pub returns-in_err-finish-clause-stopped : goal.returns-in_err-finish-clause-stopped
+returns-in_err-finish-clause-stopped g c = on_err c.from_residual.result _ (of_none _ _ c.args.context.now.files _ _ (c.begin_segment.ensures.none (search rules) _ _))
+
+pub returns-in_err-finish-clause-damaged : goal.returns-in_err-finish-clause-damaged
+returns-in_err-finish-clause-damaged g c = λ _ early waits. c.begin_segment.ensures.none (search rules) _ _
+
+pub returns-in_default-clause-rests : goal.returns-in_default-clause-rests
+returns-in_default-clause-rests g c = rests_same _
+
+pub returns-in_default-clause-reads : goal.returns-in_default-clause-reads
+returns-in_default-clause-reads g c = nothing_read _ _ c.args.context.now.files c.args.context.now.query _ _ _ (search rules)
+
+pub returns-in_default-clause-stopped : goal.returns-in_default-clause-stopped
+returns-in_default-clause-stopped g c = of_none _ _ c.args.context.now.files _ _ (c.begin_segment.ensures.none (search rules) _ _)
+
+pub returns-in_default-clause-damaged : goal.returns-in_default-clause-damaged
+returns-in_default-clause-damaged g c = λ _ early waits. c.begin_segment.ensures.none (search rules) _ _
+
+pub returns-in_err-read_pages-clause-reads : goal.returns-in_err-read_pages-clause-reads
+returns-in_err-read_pages-clause-reads g c =
+    let n : Named = c.args.context.now.names in
+    let told = c.is_barren.ensures.told in
+    columns_read _ n c.args.context.now.files c.args.context.now.query c.args.segment.now c.is_barren.result c.in-Some.pages _ _ told (search rules) c.in-Some.ensures.some.starts c.read_pages.ensures.reads
+
+pub returns-in_err-read_pages-clause-stopped : goal.returns-in_err-read_pages-clause-stopped
+returns-in_err-read_pages-clause-stopped g c =
+    let n : Named = c.args.context.now.names in
+    let told = c.is_barren.ensures.told in
+    on_err c.from_residual-in_err-read_pages.result _
+    (opened_stops _ n c.args.context.now.files c.in-Some.file.now c.args.context.now.query c.args.segment.now c.is_barren.result c.in-Some.pages c.as_slice-name.result.now _ _ _ _ _ _ told (search rules) (search rules) (search rules) refl c.in-Some.ensures.some.holds
+    c.in_err-read_pages.ensures.stopped c.in-Some.ensures.some.ticked)
+
+pub returns-in_err-read_pages-clause-damaged : goal.returns-in_err-read_pages-clause-damaged
+returns-in_err-read_pages-clause-damaged g c = λ is early waits.
+    left_none _ _ c.args.context.now.files c.args.segment.now c.in-Some.pages c.in-Some.ensures.some.holds (c.in_err-read_pages.ensures.damaged (search rules) early waits)
+
+pub returns-clause-reads : goal.returns-clause-reads
+returns-clause-reads g c =
+    let n : Named = c.args.context.now.names in
+    let told = c.is_barren.ensures.told in
+    columns_read _ n c.args.context.now.files c.args.context.now.query c.args.segment.now c.is_barren.result c.in-Some.pages _ _ told (search rules) c.in-Some.ensures.some.starts c.read_pages.ensures.reads
+
+pub returns-clause-done : goal.returns-clause-done
+returns-clause-done g c =
+    let n : Named = c.args.context.now.names in
+    let told = c.is_barren.ensures.told in
+    opened_done _ n c.args.context.now.files c.in-Some.file.now c.args.context.now.query c.args.segment.now c.is_barren.result c.in-Some.pages c.as_slice-name.result.now _ _ _ _ _ told (search rules) (search rules) (search rules) refl c.in-Some.ensures.some.holds
+    c.in_ok-read_pages.ensures.done c.in-Some.ensures.some.ticked
+
+pub returns-then-not-may_match-clause-reads : goal.returns-then-not-may_match-clause-reads
+returns-then-not-may_match-clause-reads g c = nothing_read _ _ c.args.context.now.files c.args.context.now.query _ _ _ (search rules)
+
+pub returns-then-not-may_match-clause-rests : goal.returns-then-not-may_match-clause-rests
+returns-then-not-may_match-clause-rests g c = rests_same _
+
+pub returns-then-not-may_match-clause-done : goal.returns-then-not-may_match-clause-done
+returns-then-not-may_match-clause-done g c =
+    let n : Named = c.args.context.now.names in
+    let told = c.is_barren.ensures.told in
+    let none = c.may_match.ensures (search rules) in
+    unmatched_done _ n c.args.context.now.files c.args.context.now.query c.args.segment.now c.is_barren.result _ _ _ c.wide_is_wider.ensures.wider told (search rules)
+    c.args.segment.now.head.types c.args.segment.now.head.words refl refl none c.in-Some.ensures.some.ticked
+
+pub is_barren-requires : goal.is_barren-requires
+is_barren-requires g c = c.requires.served.serves.types
