@@ -233,7 +233,7 @@ reads_aside bytes h es ps q old new stood are reads = record {
   added = reads.added;
   each = All-weaker (IsRead (names_in bytes h es stood.legal.held) q ps) (λ r. MissesBarren h es stood.legal.held q r.0 r.1)
       (λ r read. ⊎_elim (λ c. misses bytes h es q c.p r.0 r.1 stood (segment_there h es ps c.p are c.is) c.opened c.start c.end)
-          (λ other. ⊎_elim (λ d. head_misses bytes h es q d.p r.0 r.1 stood (segment_there h es ps d.p are d.is) d.start d.end) (λ words. words_aside bytes h es q r stood words) other) read)
+      (λ other. ⊎_elim (λ d. head_misses bytes h es q d.p r.0 r.1 stood (segment_there h es ps d.p are d.is) d.start d.end) (λ words. words_aside bytes h es q r stood words) other) read)
       reads.more reads.each;
 }
 

@@ -65,8 +65,8 @@ have_all within whole words lists marks law found is = λ j needle at n text the
     front_get (x ∷ xs) (suc m) zero lt = refl
     front_get (x ∷ xs) (suc m) (suc k) lt = front_get xs m k (omega (arith, lt))
 
-pub have_none : (within words marks : List (List ℕ)) → within ≡ [] → HaveAll within words marks
-have_none within words marks none = λ j needle at n text there occurs. absurd (omega (arith, slice_get_within within j needle at, ap (λ (l : List (List ℕ)). length l) none))
+pub have_none : (within words marks : List (List ℕ)) → length within ≡ 0 → HaveAll within words marks
+have_none within words marks none = λ j needle at n text there occurs. absurd (omega (arith, slice_get_within within j needle at, none))
 
 behind_get : (xs : List (List ℕ)) (m k : ℕ) → get_or (drop m xs) k [] ≡ get_or xs (m + k) []
 behind_get xs zero k = let e : k ≡ 0 + k = omega arith in ap (λ (n : ℕ). get_or xs n []) e

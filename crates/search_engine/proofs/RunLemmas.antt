@@ -62,7 +62,7 @@ reads_one n q ps p old new here reads = record {
   added = reads.added;
   each = All-weaker (IsRead n q (p ∷ [])) (IsRead n q ps)
       (λ r is. ⊎_elim (λ c. inl (record { p = c.p; is = only p c.p ps here c.is; opened = c.opened; start = c.start; end = c.end }))
-          (λ other. inr (⊎_elim (λ h. inl (record { p = h.p; is = only p h.p ps here h.is; start = h.start; end = h.end })) (λ words. inr words) other)) is) reads.more reads.each;
+      (λ other. inr (⊎_elim (λ h. inl (record { p = h.p; is = only p h.p ps here h.is; start = h.start; end = h.end })) (λ words. inr words) other)) is) reads.more reads.each;
 }
 
 two_added : (old mid new : Option (List (ℕ × ℕ))) (a b : List (ℕ × ℕ)) → mid ≡ option_map (λ ranges. ranges ++ a) old → new ≡ option_map (λ ranges. ranges ++ b) mid

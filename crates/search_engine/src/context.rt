@@ -50,7 +50,7 @@ impl<'q, D: Disk> Model for Context<'q, D> {
     ghost use Rattle.query_plan.specs.Laws.{IsSearched};
     ghost use Rattle.query_plan.specs.Pieces.{wide_pieces};
     ghost use Rattle.subquery_filter.specs.Barren.{IsBounded, LeavesOut};
-ghost use Rattle.subquery_filter.specs.Filter.{IsFilter};
+    ghost use Rattle.subquery_filter.specs.Filter.{IsFilter};
     ghost use Rattle.search_engine.specs.Held.{IsTold, named};
     ghost use Rattle.search_engine.specs.StepsScope.{IsScope, Scope, scope};
 

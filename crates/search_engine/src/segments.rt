@@ -244,9 +244,7 @@ pub(crate) fn visit_segments<R: Threads + Sync, D: Disk, K: Sink, L: Ledger, M: 
     let mut count = 0;
     for place in 0..fronts.len() {
         let front = front_at(fronts, place);
-        let yes = visit_segment(
-            rt, context, held, front, disk, out, batch, opened, expanded,
-        )?;
+        let yes = visit_segment(rt, context, held, front, disk, out, batch, opened, expanded)?;
         count += u64::from(yes);
     }
     Ok(count)

@@ -14,7 +14,7 @@ loop-word-init c = c.loop-text.invariant ∙ ap (map within_needle) (take_all c.
 
 pub loop-word-preserved : goal.loop-word-preserved
 loop-word-preserved c =
-    c.in_ok-push.ensures.items ∙ ap (λ l. l ++ c.word_needle.result ∷ []) c.loop-word.invariant
+    c.in_ok-push-2.ensures.items ∙ ap (λ l. l ++ c.word_needle.result ∷ []) c.loop-word.invariant
     ∙ append_assoc (map within_needle c.args.within.now) (map whole_needle (take c.loop-word.word-index c.args.whole.now)) (c.word_needle.result ∷ [])
     ∙ ap (λ x. map within_needle c.args.within.now ++ (map whole_needle (take c.loop-word.word-index c.args.whole.now) ++ x ∷ [])) c.word_needle.ensures
     ∙ ap (λ l. map within_needle c.args.within.now ++ l) (sym (needles_more whole_needle c.args.whole.now c.loop-word.word-index _ (search rules) c.word-item.is))
