@@ -5,4 +5,4 @@ pub search-answer-requires-clause-searched : goal.search-answer-requires-clause-
 search-answer-requires-clause-searched g c κs within = c.wide_is_wider.ensures.searched _ _ c.in-Ok.ensures.items
 
 pub search-answer-requires-clause-opens : goal.search-answer-requires-clause-opens
-search-answer-requires-clause-opens g c κs within = opens_later _ _ _ c.open_archive-opening.ensures.keeps.seen c.in-Ok-opening.ensures.opened
+search-answer-requires-clause-opens g c κs within = opens_later _ _ _ c.open_places-opening.ensures.keeps.seen c.in-Ok-opening.ensures.opened
