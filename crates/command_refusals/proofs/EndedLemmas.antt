@@ -22,7 +22,7 @@ none_found None none = tt
 none_found (Some bytes) none = none
 
 -- the places as an archive of which the end is known
-with_end : Places → Shown
+abbrev with_end : Places → Shown
 with_end a = record { header = a.header; kept = none_of a.header; files = a.files; segments = []; entries = a.entries; end = a.end }
 
 gate_is : (seen : Option (List ℕ)) (a : Places) → EndsAtGate seen a → HasLastGate seen (with_end a)
