@@ -12,7 +12,7 @@ use std::alloc::{AllocError, Global};
 const SPREAD: u64 = 1024;
 
 /// How many places there are at least, but one.
-const LEAST: u64 = 65_535;
+const LEAST: u64 = 1_048_575;
 
 /// The marks of words: those of a number stand behind its low bits. So a number that is not marked may
 /// seem so, which is rare, and none that is marked seems not to be.
