@@ -604,8 +604,20 @@ const MARKED: &[(&[u8], &[u32], u32, &[u64], Verdict)] = &[
     (b"task", &[0, 1], 0, &[1], Verdict::Tried),
     (b"task", &[0, 1], 0, &[2], Verdict::Rejected),
     (b"task", &[], 0, &[0], Verdict::Rejected),
-    (b"task", &[70_000, 4_000_000], 0, &[4_000_000], Verdict::Tried),
-    (b"task", &[70_000, 4_000_000], 0, &[4_000_001], Verdict::Rejected),
+    (
+        b"task",
+        &[70_000, 4_000_000],
+        0,
+        &[4_000_000],
+        Verdict::Tried,
+    ),
+    (
+        b"task",
+        &[70_000, 4_000_000],
+        0,
+        &[4_000_001],
+        Verdict::Rejected,
+    ),
     (b"run", &[], 0, &[0], Verdict::Certain),
 ];
 
