@@ -116,7 +116,8 @@ fn slots_at(known: &[LogType], number: u32) -> &[Slot]
 // Adds the numbers of dictionary words of all rows; false where one has more than 32 bits.
 fn push_all<R: Rows>(known: &[LogType], rows: &R, out: &mut Vec<u32>) -> Result<bool, AllocError>
     requires { length out.old.items ≡ 0 }
-    ensures yes { IfOk result (λ fit. IsTrue fit → (texts : List (List ℕ)) → AreKnown texts known.now
+    ensures yes { IfOk result (λ fit. IsTrue fit → (texts : List (List ℕ))
+        → AreKnown texts known.now
         → out.new.items ≡ flat_map (numbers_of_row texts) (R.rows rows.now)) }
     ensures none { IfOk result (λ fit. IsFalse fit → (texts : List (List ℕ))
         → AreKnown texts known.now
