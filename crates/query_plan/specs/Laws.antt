@@ -33,6 +33,10 @@ NoOne (Byte b ∷ q) = NoOne q
 NoOne (One ∷ q) = ⊥
 NoOne (Many ∷ q) = NoOne q
 
+-- no `?`, and no more open tokens than stay in the pattern that a search is planned over
+abbrev pub IsPlain : List Item → Type 0
+IsPlain p = NoOne p × (open_tokens p ≤ MAX_OPEN_TOKENS)
+
 -- any bytes come last
 abbrev pub EndsMany : List Item → Type 0
 EndsMany [] = ⊥

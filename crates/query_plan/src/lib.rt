@@ -5,6 +5,7 @@ mod laws;
 mod letters;
 mod needed;
 mod pieces;
+mod plain;
 mod planning;
 mod skeleton;
 mod symbols;
@@ -15,6 +16,7 @@ pub use laws::{
 };
 pub use letters::{Letters, matches_letters};
 pub use pieces::{MAX_OPEN_TOKENS, Piece};
+pub use plain::is_plain;
 pub use planning::Plan;
 pub use skeleton::is_foreign;
 pub use symbols::{VarSymbol, VarSymbols};
