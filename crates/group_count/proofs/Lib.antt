@@ -1,0 +1,6 @@
+mod CountLemmas
+mod GroupLemmas
+mod LawLemmas
+mod MinuteLemmas
+mod ShapeLemmas
+mod TypeLemmas

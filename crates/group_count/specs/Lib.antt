@@ -1,0 +1,5 @@
+pub mod Groups
+pub mod Laws
+pub mod Printed
+pub mod StepsTypes
+pub mod Tables
