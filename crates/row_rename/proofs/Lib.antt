@@ -1,0 +1,4 @@
+pub mod KindLemmas
+pub mod PathLemmas
+pub mod RenameLemmas
+pub mod TableLemmas
