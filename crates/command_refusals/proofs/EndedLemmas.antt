@@ -6,8 +6,8 @@ use Rattle.archive_open.specs.Kept.{none_of}
 use Rattle.archive_open.proofs.OpenLemmas.{refused_at_last}
 use Rattle.archive_places.specs.declared.places.Places.{Places}
 use Rattle.archive_places.specs.Opened.{EndsAtGate}
-use Rattle.search_engine.specs.declared.refusal.SearchRefusal.{SearchRefusal}
-use Rattle.search_engine.specs.Searched.{OfJournal}
+use Rattle.search_walk.specs.declared.refusal.SearchRefusal.{SearchRefusal}
+use Rattle.search_walk.specs.Journal.{OfJournal}
 use Rattle.command_refusals.specs.Outcome.{from_search}
 use Rattle.command_refusals.specs.declared.outcome.ReadRefusal.{ReadRefusal}
 

@@ -23,7 +23,7 @@ use Rattle.disk_seal.specs.declared.files.RegisterRefusal.{RegisterRefusal}
 use Rattle.archive_check.specs.declared.checking.CheckRefusal.{CheckRefusal}
 use Rattle.sink_pieces.specs.declared.refusal.PrintRefusal.{PrintRefusal}
 use Rattle.archive_decode.specs.declared.refusal.DecodeRefusal.{DecodeRefusal}
-use Rattle.search_engine.specs.declared.refusal.SearchRefusal.{SearchRefusal}
+use Rattle.search_walk.specs.declared.refusal.SearchRefusal.{SearchRefusal}
 use Rattle.command_refusals.specs.declared.outcome.AddRefusal.{AddRefusal}
 use Rattle.command_refusals.specs.declared.outcome.FileRefusal.{FileRefusal}
 use Rattle.command_refusals.specs.declared.outcome.PartCause.{PartCause}

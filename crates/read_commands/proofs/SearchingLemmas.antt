@@ -10,9 +10,10 @@ use Rattle.archive_meaning.specs.declared.entry.JournalEntry.{JournalEntry}
 use Rattle.archive_meaning.specs.Held.{Held}
 use Rattle.archive_open.specs.Shown.{Misses, ReadsAside, Spares, places_of}
 use Rattle.search_engine.specs.declared.report.Report.{Report}
-use Rattle.search_engine.specs.Scan.{Asked, lines_of}
-use Rattle.search_engine.specs.Searched.{HasSearched, HasStopped, MissesBarren, OfJournal, ReadsNoBarren}
-use Rattle.search_engine.proofs.SofarLemmas.{picks_once}
+use Rattle.search_walk.specs.Scan.{Asked, lines_of}
+use Rattle.search_engine.specs.Searched.{HasSearched, HasStopped}
+use Rattle.search_walk.specs.Journal.{MissesBarren, OfJournal, ReadsNoBarren}
+use Rattle.search_walk.proofs.PickLemmas.{picks_once}
 use Rattle.read_commands.specs.Searching.{Found, PrintsFound, PrintsText, SparesBarren, found_counts, found_text, report_of}
 
 -- ---- what is printed

@@ -10,9 +10,9 @@ use Rattle.archive_meaning.specs.Held.{Held, content_of}
 use Rattle.archive_open.specs.declared.segments.SegmentPlace.{SegmentPlace}
 use Rattle.archive_open.specs.Shown.{RefusedAt, places_of}
 use Rattle.search_engine.specs.declared.report.Report.{Report}
-use Rattle.search_engine.specs.Opened.{AreOpened}
-use Rattle.search_engine.specs.Scan.{AreFound, AreTried, Asked, Placed, all_placed, lines_of}
-use Rattle.search_engine.specs.Searched.{OfJournal, ReadsNoBarren, asked}
+use Rattle.search_walk.specs.Opened.{AreOpened}
+use Rattle.search_walk.specs.Scan.{AreFound, AreTried, Asked, Placed, all_placed, lines_of}
+use Rattle.search_walk.specs.Journal.{OfJournal, ReadsNoBarren, asked}
 use Rattle.wild_match.specs.Reading.{IsSearchPattern, IsLoneBackslash}
 use Rattle.wild_match.specs.declared.pattern.Item.{Item}
 use Rattle.command_refusals.specs.Ending.{RefusesPatternAtOnce}

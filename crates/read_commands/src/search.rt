@@ -6,7 +6,7 @@ ghost use Rattle.sink_pieces.specs.Output.{Grew, GrewByFront};
 ghost use Rattle.step_count.specs.Opens.{OpensFor};
 ghost use Rattle.query_plan.specs.Laws.{IsSearched};
 ghost use Rattle.archive_open.specs.Shown.{RefusedAt};
-ghost use Rattle.search_engine.specs.Searched.{asked};
+ghost use Rattle.search_walk.specs.Journal.{asked};
 ghost use Rattle.command_refusals.specs.GoesOn.{DiskGoesOn};
 ghost use Rattle.command_refusals.specs.Outside.{AroundSinks};
 ghost use Rattle.read_commands.specs.Searching.{AnswersPattern, PrintsFound, SparesBarren, found_counts};

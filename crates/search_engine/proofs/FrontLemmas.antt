@@ -1,6 +1,6 @@
 -- Segments by their fronts, one and then all.
-use Rattle.std.proofs.Common.{◌≡◌, inl, inr, ⊎_elim, ℕ, zero, suc, ◌+◌, ◌<◌, ◌≤◌, List, [], ◌∷◌, length, map, get_or, Bool, Option, Some, None, refl, sym, ◌∙◌, ap, subst, arith}
-use Rattle.std.specs.Prelude.{◌⊎◌, IsTrue}
+use Rattle.std.proofs.Common.{◌≡◌, inl, inr, ⊎_elim, ℕ, zero, suc, ◌+◌, ◌<◌, ◌≤◌, List, [], ◌∷◌, length, map, get_or, Option, Some, None, refl, sym, ◌∙◌, ap, subst, arith}
+use Rattle.std.specs.Prelude.{◌⊎◌}
 use Rattle.std.proofs.lemmas.List.{get_or_default, length-map}
 use Rattle.std.proofs.Math.ListN.{get_or-map}
 use Rattle.std.proofs.lemmas.List.Elements.{All-cons, All-nil, Contains-push}
@@ -15,13 +15,15 @@ use Rattle.archive_open.specs.declared.segments.SegmentPlace.{SegmentPlace}
 use Rattle.archive_places.specs.declared.front.SegmentFront.{SegmentFront}
 use Rattle.archive_places.specs.Fronts.{fixed_in, front_of_place}
 use Rattle.archive_places.specs.Heads.{OfFront}
-use Rattle.search_engine.specs.Scan.{Asked, Placed}
+use Rattle.search_walk.specs.Scan.{Asked, Placed}
 use Rattle.search_engine.specs.Waiting.{Blames, Halts, State}
-use Rattle.search_engine.specs.Held.{Named, OfSegments}
-use Rattle.search_engine.specs.Opened.{IsBarrenFor, IsRead, NoFronts, OfFronts, ReadsFronts, ReadsOpened, ReadsTold, Searched, SearchedFronts, Stopped, StoppedFronts}
+use Rattle.search_walk.specs.Held.{Named, OfSegments}
+use Rattle.search_walk.specs.Opened.{IsBarrenFor, IsRead, NoFronts, OfFronts, ReadsFronts, ReadsOpened, ReadsTold}
+use Rattle.search_engine.specs.SegmentsDone.{SearchedFronts, StoppedFronts}
 use Rattle.search_engine.specs.StepsPast.{SegmentsRun}
-use Rattle.search_engine.proofs.PagesReadLemmas.{none_added, rests_same}
-use Rattle.search_engine.proofs.SegmentLemmas.{barren_searched, nothing_read, single}
+use Rattle.search_walk.proofs.PagesReadLemmas.{none_added, rests_same}
+use Rattle.search_engine.proofs.SegmentLemmas.{barren_searched}
+use Rattle.search_walk.proofs.SegmentLemmas.{nothing_read, single}
 use Rattle.search_engine.proofs.RunLemmas.{past_damaged, past_end, past_next, past_none, past_stops, reads_joined, reads_next}
 use Rattle.search_engine.proofs.WaitingLemmas.{halts_more}
 

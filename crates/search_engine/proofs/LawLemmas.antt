@@ -1,9 +1,9 @@
 -- What is found and what is expanded.
 use Rattle.std.proofs.Common.{◌≡◌, inl, inr, List, [], ◌∷◌, sym, ◌∙◌, ap}
 use Rattle.query_plan.specs.Laws.{WideIsExact, WideIsWider}
-use Rattle.search_engine.specs.Scan.{IsFound, IsTried, Picks, Placed}
+use Rattle.search_walk.specs.Scan.{IsFound, IsTried, Picks, Placed}
 use Rattle.search_engine.specs.Laws.{ExactExpandsPrinted, OneIsFound}
-use Rattle.search_engine.proofs.SofarLemmas.{picks_once}
+use Rattle.search_walk.proofs.PickLemmas.{picks_once}
 
 picks_same : {A : Type 0} (P Q : A → Type 0) → ((x : A) → P x → Q x) → ((x : A) → Q x → P x) → (xs a b : List A) → Picks P xs a → Picks Q xs b → a ≡ b
 picks_same P Q to from [] a b one two = one ∙ sym two

@@ -7,14 +7,15 @@ use Rattle.segment_format.specs.Pages.{page_rows}
 use Rattle.segment_pages.specs.Paged.{AreNextTold, HoldsNoneTold, Paged, columns_size}
 use Rattle.segment_pages.specs.Laws.{NoneAreLeft}
 use Rattle.subquery_filter.specs.declared.verdicts.Verdict.{Verdict}
-use Rattle.search_engine.specs.PagesRead.{IsOfPage, ReadsPage}
-use Rattle.search_engine.specs.Scan.{Asked, numbered}
+use Rattle.search_walk.specs.PagesRead.{IsOfPage, ReadsPage}
+use Rattle.search_walk.specs.Scan.{Asked, numbered}
 use Rattle.search_engine.specs.Waiting.{Blames, Halts, Page, Pending, Reaches, State, page, sofar_of, state}
 use Rattle.search_engine.specs.Sofar.{sofar}
-use Rattle.search_engine.specs.Held.{AreRowsOf, Named, OfLeft}
+use Rattle.search_walk.specs.Held.{AreRowsOf, Named, OfLeft}
 use Rattle.search_engine.specs.StepsPast.{PageGone, PagesPast, PastTold}
-use Rattle.search_engine.proofs.PagesReadLemmas.{such_none, such_on, such_weaker}
-use Rattle.search_engine.proofs.SofarLemmas.{front_none, numbered_append}
+use Rattle.search_walk.proofs.PagesReadLemmas.{such_none, such_on, such_weaker}
+use Rattle.search_engine.proofs.SofarLemmas.{front_none}
+use Rattle.search_walk.proofs.PickLemmas.{numbered_append}
 use Rattle.search_engine.proofs.WaitingLemmas.{halts_behind, halts_here, halts_more, reaches_none, reaches_on, reaches_page}
 
 -- ---- rows in two parts

@@ -1,28 +1,31 @@
 -- What a row's message is told, and what the loop over rows has passed.
-use Rattle.std.proofs.Common.{◌≡◌, inl, inr, ℕ, suc, ◌+◌, ◌<◌, ◌≤◌, ◌^◌, List, [], ◌∷◌, ◌++◌, length, take, drop, Option, Some, None, refl, sym, ◌∙◌, ap, ap₂, subst, arith, length-append}
+use Rattle.std.proofs.Common.{◌≡◌, inl, inr, ℕ, ◌+◌, ◌<◌, ◌≤◌, ◌^◌, List, [], ◌∷◌, ◌++◌, length, take, drop, Option, Some, None, refl, sym, ◌∙◌, ap, ap₂, subst, arith, length-append}
 use Rattle.std.specs.Prelude.{slice_get}
 use Rattle.std.proofs.lemmas.List.{append-nil, append_assoc, take_at, drop_at}
-use Rattle.std.proofs.lemmas.Option.{get_or_from_slice_get, slice_get_within}
-use Rattle.std.proofs.Math.Seq.{drop-cons}
 use Rattle.std.proofs.Math.ListN.{drop_of_length-le}
 use Rattle.std.specs.Fmt.{decimal}
 use Rattle.column_store.specs.Range.{Holds}
 use Rattle.column_store.specs.declared.range.Range.{Range}
 use Rattle.column_store.specs.declared.row.Row.{Row}
-use Rattle.time_patterns.proofs.VersionLemmas.{one_stamp_of}
-use Rattle.row_codec.specs.Means.{HasSpelling, IsCanonical, IsSpelling}
-use Rattle.row_codec.proofs.MeansLemmas.{meaning_is_spelling}
+use Rattle.row_codec.specs.Means.{IsCanonical, IsSpelling}
 use Rattle.row_codec.proofs.CanonicalLemmas.{rows_return}
-use Rattle.search_engine.specs.declared.query.Judgement.{Judgement}
-use Rattle.search_engine.specs.declared.query.Judgement.TheVariants.{Left, Tried, Found}
+use Rattle.search_walk.specs.declared.query.Judgement.{Judgement}
+use Rattle.search_walk.specs.declared.query.Judgement.TheVariants.{Left, Tried, Found}
 use Rattle.search_engine.specs.declared.counts.Counts.{Counts}
-use Rattle.search_engine.specs.Scan.{Asked, IsFound, IsInRange, IsTried, Placed, line_of, numbered, placed}
+use Rattle.search_walk.specs.Scan.{Asked, IsFound, IsInRange, IsTried, Placed, line_of, numbered, placed}
 use Rattle.search_engine.specs.Sofar.{Passes, Sofar, TicksWithin, sofar}
-use Rattle.search_engine.specs.Held.{AreRowsOf, Named}
-use Rattle.search_engine.specs.Judged.{Judges, Keeps, label_of}
+use Rattle.search_walk.specs.Held.{AreRowsOf, Named}
+use Rattle.search_walk.specs.Judged.{Judges}
+use Rattle.search_engine.specs.Kept.{Keeps, label_of}
 use Rattle.search_engine.specs.StepsPast.{PastRows}
 use Rattle.sink_pieces.proofs.OutputLemmas.{Grew-nothing}
-use Rattle.search_engine.proofs.SofarLemmas.{numbered_append, passes_none, passes_on, ticks_behind, ticks_same}
+use Rattle.search_walk.proofs.PickLemmas.{numbered_append}
+use Rattle.search_engine.proofs.SofarLemmas.{passes_none, passes_on, ticks_behind, ticks_same}
+use Rattle.query_plan.specs.Laws.{WideIsWider}
+use Rattle.subquery_filter.specs.declared.verdicts.Verdict.{Verdict}
+use Rattle.subquery_filter.specs.declared.verdicts.Verdict.TheVariants.{Rejected, Tried}
+use Rattle.search_walk.specs.Ready.{IsDecided}
+use Rattle.search_walk.proofs.RowLemmas.{of_range, in_range, next_row, none_left}
 
 -- ---- one message
 
@@ -72,15 +75,6 @@ found version q p w g h a b t u is_found is_tried more matched expanded ticks = 
   };
 }
 
--- the range of a message is that of its row
-in_range : (version : ℕ) (range : Range) (row : Row) (types words : List (List ℕ)) (message : List ℕ) → IsCanonical version row types words message → Holds range row.pattern row.moment → IsInRange version range message
-in_range version range row types words message is holds = (row.pattern, row.moment, length is.means.stamp, is.stamp, holds)
-
-pub of_range : (version : ℕ) (range : Range) (row : Row) (types words : List (List ℕ)) (message : List ℕ) → IsCanonical version row types words message → IsInRange version range message → Holds range row.pattern row.moment
-of_range version range row types words message is inside =
-    let same = one_stamp_of version message row.pattern inside.0 row.moment inside.1 (length is.means.stamp) inside.2 is.stamp inside.3 in
-    subst (λ k. Holds range k row.moment) (sym same.0) (subst (λ m. Holds range inside.0 m) (sym same.1) inside.4)
-
 -- a message that is out of the range
 pub outside_passes : (version : ℕ) (q : Asked) (range : Range) (row : Row) (types words : List (List ℕ)) (name : List ℕ) (number : ℕ) (message : List ℕ) (w : Option (List ℕ)) (g : List ℕ) (a : Counts) (t : ℕ)
     → range ≡ q.range → ¬ Holds range row.pattern row.moment → IsCanonical version row types words message
@@ -88,9 +82,6 @@ pub outside_passes : (version : ℕ) (q : Asked) (range : Range) (row : Row) (ty
 outside_passes version q range row types words name number message w g a t same out is =
     let no : IsInRange version q.range message → ⊥ = λ inside. out (of_range version range row types words message is (subst (λ r. IsInRange version r message) (sym same) inside)) in
     passed version q (placed name number message) w g g a a t t (λ f. no f.inside) (λ f. no f.inside) refl refl refl
-
-pub has_spelling : (version : ℕ) (row : Row) (types words : List (List ℕ)) (message : List ℕ) → IsCanonical version row types words message → HasSpelling row types words
-has_spelling version row types words message is = (message, meaning_is_spelling row types words message is.means)
 
 -- the line of a message
 line_written : (name : List ℕ) (number : ℕ) (message g : List ℕ) → ((g ++ label_of name number) ++ message) ++ 10 ∷ [] ≡ g ++ line_of (placed name number message)
@@ -123,28 +114,6 @@ row_passes version q range row types words name number message text w g g1 g2 h 
     ap (take kept) (whole ∙ append_assoc g (label_of name number) message) ∙ take_at g (label_of name number ++ message) kept (sym size) in
     row_judged version q name number message w g g2 h a b t u j kept inside (subst (λ l. Judges q l j) read judges) back whole keeps
 
--- ---- the rows of a page
-
-pub drop_here : (rows : List Row) (k : ℕ) (row : Row) → slice_get rows k ≡ Some row → drop k rows ≡ row ∷ drop (k + 1) rows
-drop_here rows k row is =
-    let next : suc k ≡ k + 1 = omega arith in
-    drop-cons rows k row (slice_get_within rows k row is) ∙ ap₂ (λ (r : Row) (n : ℕ). r ∷ drop n rows) (get_or_from_slice_get rows k row row is) next
-
--- the message of the next row, and those of the others
-pub record HasNextRow (n : Named) (row : Row) (others : List Row) (messages : List (List ℕ)) : Type 0 where
-  pub message : List ℕ
-  pub left : List (List ℕ)
-  pub all : messages ≡ message ∷ left
-  pub is : IsCanonical n.version row n.types n.words message
-  pub are : AreRowsOf n others left
-
-first_row : (n : Named) (row : Row) (others : List Row) (messages : List (List ℕ)) → AreRowsOf n (row ∷ others) messages → HasNextRow n row others messages
-first_row n row others [] are = absurd are.are
-first_row n row others (m ∷ messages) are = record { message = m; left = messages; all = refl; is = are.are.0; are = record { told = are.told; are = are.are.1 } }
-
-next_row : (n : Named) (rows : List Row) (k : ℕ) (row : Row) (messages : List (List ℕ)) → slice_get rows k ≡ Some row → AreRowsOf n (drop k rows) messages → HasNextRow n row (drop (k + 1) rows) messages
-next_row n rows k row messages is are = first_row n row (drop (k + 1) rows) messages (subst (λ l. AreRowsOf n l messages) (drop_here rows k row is) are)
-
 pub rows_first : (n : Named) (q : Asked) (name : List ℕ) (number : ℕ) (rows : List Row) (messages : List (List ℕ)) (g : List ℕ) (a : Counts) (t : ℕ) → AreRowsOf n rows messages
     → PastRows n q name number rows 0 messages (λ w. sofar w g a t) (λ w. sofar w g a t)
 rows_first n q name number rows messages g a t are = record {
@@ -172,10 +141,6 @@ rows_next n q name number at rows k row messages a b c place is past one =
           (passes_on n.version q (numbered name number past.gone) (placed name at next.message ∷ []) (a w) (b w) (c w) (past.passes w) (one w next.message next.is));
     }
 
-none_left : (n : Named) (rows : List Row) (messages : List (List ℕ)) → rows ≡ [] → AreRowsOf n rows messages → messages ≡ []
-none_left n rows [] none are = refl
-none_left n rows (m ∷ messages) none are = absurd (subst (λ l. AreRowsOf n l (m ∷ messages)) none are).are
-
 pub rows_end : (n : Named) (q : Asked) (name : List ℕ) (number : ℕ) (rows : List Row) (k : ℕ) (messages : List (List ℕ)) (a b : Option (List ℕ) → Sofar) → length rows ≤ k
     → PastRows n q name number rows k messages a b → (w : Option (List ℕ)) → Passes n.version q (numbered name number messages) (a w) (b w)
 rows_end n q name number rows k messages a b end past w =
@@ -195,3 +160,11 @@ pub rows_damaged : (n : Named) (q : Asked) (name : List ℕ) (number : ℕ) (row
     → ((message : List ℕ) → ¬ IsCanonical n.version row n.types n.words message) → PastRows n q name number rows k messages a b → ⊥
 rows_damaged n q name number rows k row messages a b is none past =
     let next = next_row n rows k row past.left is past.are in none next.message next.is
+
+-- ---- what was decided
+
+pub rejected_row : (n : Named) (q : Asked) (row : Row) (v : Verdict) (name : List ℕ) (number : ℕ) (message : List ℕ) (w : Option (List ℕ)) (g : List ℕ) (a : Counts) (t : ℕ) → WideIsWider → v ≡ Rejected → IsDecided n q row v
+    → IsCanonical n.version row n.types n.words message → Passes n.version q (placed name number message ∷ []) (sofar w g a t) (sofar w g a t)
+rejected_row n q row v name number message w g a t wider is decided canonical =
+    let no : ¬ IsTried n.version q message = subst (IsDecided n q row) is decided message canonical in
+    passed n.version q (placed name number message) w g g a a t t (λ f. no (record { matched = wider q.pattern message f.matched; inside = f.inside })) no refl refl refl

@@ -7,12 +7,13 @@ use Rattle.std.proofs.Math.Seq.{drop-cons, take-add}
 use Rattle.std.proofs.Math.ListN.{drop_of_length-le}
 use Rattle.archive_open.specs.declared.files.FileEntry.{FileEntry}
 use Rattle.archive_open.specs.declared.segments.SegmentPlace.{SegmentPlace}
-use Rattle.search_engine.specs.Scan.{Asked, Placed, numbered}
+use Rattle.search_walk.specs.Scan.{Asked, Placed, numbered}
 use Rattle.search_engine.specs.Waiting.{Blames, Halts, State}
-use Rattle.search_engine.specs.Held.{HaveMessages, Named, OfSegments}
-use Rattle.search_engine.specs.Opened.{AreOpened, IsBarrenFor, IsRead, ReadsOpened, Searched, Stopped}
+use Rattle.search_walk.specs.Held.{HaveMessages, Named, OfSegments}
+use Rattle.search_walk.specs.Opened.{AreOpened, IsBarrenFor, IsRead, ReadsOpened}
+use Rattle.search_engine.specs.SegmentsDone.{Searched, Stopped}
 use Rattle.search_engine.specs.StepsPast.{SegmentsPastTold}
-use Rattle.search_engine.proofs.SofarLemmas.{picks_append, picks_once, picks_split}
+use Rattle.search_walk.proofs.PickLemmas.{picks_append, picks_once, picks_split}
 use Rattle.search_engine.proofs.WaitingLemmas.{halts_behind, halts_more, reaches_none, reaches_on}
 
 -- ---- the next segment

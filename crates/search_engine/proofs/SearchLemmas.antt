@@ -1,106 +1,29 @@
 -- What was done over the segments of an archive is said of the journal that the bytes stand for.
-use Rattle.std.proofs.Common.{◌≡◌, refl, sym, ap, ap₂, subst, ◌∙◌, ℕ, All, List, [], ◌∷◌, ◌++◌, map, Option, None, Some, length, arith}
-use Rattle.std.specs.Prelude.{option_map}
+use Rattle.std.proofs.Common.{◌≡◌, refl, sym, ap, subst, ◌∙◌, ℕ, List, [], ◌++◌, Option, None, Some, length, arith}
 use Rattle.std.proofs.lemmas.List.{append-nil}
-use Rattle.std.proofs.lemmas.List.Elements.{All-nil}
-use Rattle.std.proofs.lemmas.List.Sorted.{All-permutation}
 use Rattle.record_format.specs.declared.header.Header.{Header}
 use Rattle.archive_meaning.specs.declared.entry.JournalEntry.{JournalEntry}
-use Rattle.archive_meaning.specs.Held.{Held, content_of, nothing_held}
+use Rattle.archive_meaning.specs.Held.{content_of}
 use Rattle.archive_meaning.specs.Stands.{StandsFor}
-use Rattle.archive_open.specs.declared.files.FileEntry.{FileEntry}
 use Rattle.archive_open.specs.declared.segments.SegmentPlace.{SegmentPlace}
-use Rattle.archive_meaning.specs.Spelled.{end_of}
-use Rattle.archive_open.specs.Shown.{IsArchiveOf, Shown, kept_of, places_of as segments_of}
-use Rattle.column_store.specs.declared.range.Range.{Range}
-use Rattle.wild_match.specs.declared.pattern.Item.{Item}
 use Rattle.search_engine.specs.declared.counts.Counts.{Counts}
-use Rattle.search_engine.specs.Scan.{Asked, IsFound, IsTried, Placed, all_placed, lines_of}
+use Rattle.search_walk.specs.Scan.{Asked, IsFound, IsTried, Placed, all_placed, lines_of}
 use Rattle.sink_pieces.specs.Output.{GrewByFront}
 use Rattle.sink_pieces.proofs.OutputLemmas.{Grew-nothing}
 use Rattle.search_engine.specs.Sofar.{Passes, Sofar, sofar}
 use Rattle.search_engine.specs.Waiting.{Blames, Halts, Pending, Reaches, State, WaitFor, no_counts, nothing_pending, state}
-use Rattle.archive_places.specs.declared.front.SegmentFront.{SegmentFront}
 use Rattle.archive_places.specs.declared.places.Places.{Places}
-use Rattle.archive_places.specs.Heads.{HasHeadAt}
-use Rattle.archive_places.specs.Laws.{HeadsStand, WordsStand}
-use Rattle.archive_places.specs.Opened.{ArePlacesOf, OpensPlaces}
-use Rattle.archive_places.specs.Words.{words_places_of}
-use Rattle.word_places.specs.declared.place.WordsPlace.{WordsPlace}
-use Rattle.word_places.specs.Held.{HeldNames, places_of, unread}
-use Rattle.search_engine.specs.Held.{Named, OfSegments, named, words_told}
-use Rattle.search_engine.specs.Opened.{IsBarrenFor, OfFronts, Searched, Stopped}
-use Rattle.search_engine.specs.Searched.{AreSegmentsOf, HasSearched, HasStopped, MissesBarren, OfJournal, ReadsNoBarren, asked}
-use Rattle.search_engine.proofs.SofarLemmas.{all_went, picks_once, picks_short}
+use Rattle.archive_places.specs.Opened.{OpensPlaces}
+use Rattle.search_walk.specs.Held.{Named}
+use Rattle.search_walk.specs.Opened.{IsBarrenFor}
+use Rattle.search_engine.specs.SegmentsDone.{Searched, Stopped}
+use Rattle.search_walk.specs.Journal.{AreSegmentsOf, OfJournal}
+use Rattle.search_engine.specs.Searched.{HasSearched, HasStopped}
+use Rattle.search_engine.proofs.SofarLemmas.{all_went}
+use Rattle.search_walk.proofs.PickLemmas.{picks_once, picks_short}
 use Rattle.search_engine.proofs.WaitingLemmas.{halts_behind, reaches_end, reaches_on}
-use Rattle.search_engine.proofs.HeldLemmas.{nothing_distinct, run_distinct}
-use Rattle.search_engine.proofs.ReadyLemmas.{words_are}
-use Rattle.search_engine.proofs.RowsHeld.{names_in, rows_told}
-use Rattle.search_engine.proofs.GroupLemmas.{content_small, shown_have}
-
--- the names that the code asks are those at the places
-pub record Knows (seen : Option (List ℕ)) (a : Places) (n : Named) : Type 0 where
-  pub types : n.types ≡ a.types
-  pub version : n.version ≡ a.header.version
-  pub words : n.words ≡ words_told seen a.words
-  pub told : n.told ≡ seen
-  pub places : n.places ≡ a.words
-
-pub places_unread : (ps : List WordsPlace) → places_of (map unread ps) ≡ ps
-places_unread [] = refl
-places_unread (p ∷ ps) = ap (λ (l : List WordsPlace). p ∷ l) (places_unread ps)
-
-pub knows : (seen later : Option (List ℕ)) (a : Places) (held : HeldNames) (n : Named) → later ≡ seen → held.types ≡ a.types → held.version ≡ a.header.version → held.records ≡ map unread a.words → n ≡ named later held → Knows seen a n
-knows seen later a held n same types version records is =
-    let places : places_of held.records ≡ a.words = ap places_of records ∙ places_unread a.words in
-    subst (Knows seen a) (sym is) (record {
-      types = types;
-      version = version;
-      words = ap₂ words_told same places;
-      told = same;
-      places = places;
-    })
-
-named_so : (bytes : List ℕ) (h : Header) (es : List JournalEntry) (stood : StandsFor bytes h es) (a : Places) (n : Named) → WordsStand → Knows (Some bytes) a n → ArePlacesOf a h es stood.legal.held
-    → n ≡ names_in bytes h es stood.legal.held
-named_so bytes h es stood a n law known is = λ i. record {
-  version = (known.version ∙ ap (λ (x : Header). x.version) is.header) i;
-  types = (known.types ∙ is.types) i;
-  words = (known.words ∙ ap (words_told (Some bytes)) is.words ∙ words_are 0 (words_places_of es) bytes stood.legal.held.words (law bytes h es stood)) i;
-  told = known.told i;
-  places = (known.places ∙ is.words) i;
-}
-
--- ---- from segments to the journal
-
--- the places as an archive that is shown whole
-abbrev shown_whole : (a : Places) (h : Header) (es : List JournalEntry) (held : Held) → ArePlacesOf a h es held → Shown
-shown_whole a h es held is = record { header = h; kept = kept_of h held; files = a.files; segments = is.ordered; entries = length es; end = end_of h es }
-
-whole_is : (a : Places) (h : Header) (es : List JournalEntry) (held : Held) (is : ArePlacesOf a h es held) → IsArchiveOf (shown_whole a h es held is) h es held
-whole_is a h es held is = record { header = refl; kept = refl; files = is.files; segments = is.are; sorted = is.sorted; entries = refl; end = refl }
-
-pub of_journal : (seen : Option (List ℕ)) (a : Places) (n : Named) (files : List FileEntry) (fronts : List SegmentFront) (P : Named → List SegmentPlace → List ℕ → List Placed → Type 0) (Q : Header → List JournalEntry → Held → Type 0)
-    → WordsStand → HeadsStand → files ≡ a.files → fronts ≡ a.segments → OpensPlaces seen a → Knows seen a n → OfFronts fronts (λ ps. OfSegments seen n files ps (P n ps))
-    → ((bytes : List ℕ) (h : Header) (es : List JournalEntry) (stood : StandsFor bytes h es) (is : ArePlacesOf a h es stood.legal.held)
-    → P (names_in bytes h es stood.legal.held) is.ordered bytes (all_placed (content_of stood.legal.held)) → Q h es stood.legal.held)
-    → OfJournal seen Q
-of_journal None a n files fronts P Q words_law heads_law same_files same_fronts opens known has step = tt
-of_journal (Some bytes) a n files fronts P Q words_law heads_law same_files same_fronts opens known has step = λ h es stood.
-    let is = opens h es stood in
-    let held = stood.legal.held in
-    let m : Named = names_in bytes h es held in
-    let same : n ≡ m = named_so bytes h es stood a n words_law known is in
-    let all : List Placed = all_placed (content_of held) in
-    let told : OfSegments (Some bytes) m a.files is.ordered (P m is.ordered) =
-    subst (λ x. OfSegments (Some bytes) x a.files is.ordered (P x is.ordered)) same
-    (subst (λ l. OfSegments (Some bytes) n l is.ordered (P n is.ordered)) same_files (has is.ordered (sym is.segments ∙ sym same_fronts))) in
-    let heads : All (HasHeadAt bytes) is.ordered = All-permutation (HasHeadAt bytes) (segments_of es) is.ordered is.are (heads_law bytes h es stood) in
-    let have = rows_told bytes h es held a.files is.ordered all (words_law bytes h es stood) heads (shown_have bytes h es (shown_whole a h es held is) stood (whole_is a h es held is)) in
-    step bytes h es stood is (told all (run_distinct h nothing_held held es nothing_distinct stood.legal.run) have)
-
-pub asked_is : (q : Asked) (pattern : List Item) (range : Range) → q.pattern ≡ pattern → q.range ≡ range → q ≡ asked pattern range
-asked_is q pattern range one two = λ i. record { pattern = one i; range = two i }
+use Rattle.search_walk.proofs.RowsHeld.{names_in}
+use Rattle.search_walk.proofs.GroupLemmas.{content_small}
 
 -- ---- what was done
 
@@ -170,20 +93,6 @@ last_damaged n q ps all a b o0 o1 count none searched blames =
     let p = searched.reaches [] (waits_none n a.pending none) in
     blames p.later p.waits
 
--- ---- nothing was done
-
-nothing_more : (old : Option (List (ℕ × ℕ))) → old ≡ option_map (λ (ranges : List (ℕ × ℕ)). ranges ++ []) old
-nothing_more None = refl
-nothing_more (Some ranges) = ap Some (sym (append-nil ranges))
-
-pub reads_nothing : (seen : Option (List ℕ)) (q : Asked) (old new : Option (List (ℕ × ℕ))) → new ≡ old → OfJournal seen (λ h es held. ReadsNoBarren h es held q old new)
-reads_nothing None q old new same = tt
-reads_nothing (Some bytes) q old new same = λ h es stood. record {
-  more = [];
-  added = same ∙ nothing_more old;
-  each = All-nil (λ r. MissesBarren h es stood.legal.held q r.0 r.1);
-}
-
 pub stopped_nothing : (seen : Option (List ℕ)) (a : Places) (q : Asked) (old new : Option (List ℕ)) (o0 o1 e0 e1 : ℕ) → OpensPlaces seen a → new ≡ old → o1 ≡ o0 → e1 ≡ e0
     → OfJournal seen (λ h es held. HasStopped h es held q old new o0 o1 e0 e1)
 stopped_nothing None a q old new o0 o1 e0 e1 opens same opened ticked = tt
@@ -196,9 +105,3 @@ stopped_nothing (Some bytes) a q old new o0 o1 e0 e1 opens same opened ticked = 
       opens = λ segments are. omega (arith, opened);
       expands = λ tried are. omega (arith, ticked);
     }
-
--- ---- before a search
-
--- a disk that was only read shows the same places
-pub opens_later : (old new : Option (List ℕ)) (a : Places) → new ≡ old → OpensPlaces old a → OpensPlaces new a
-opens_later old new a same opens = subst (λ s. OpensPlaces s a) (sym same) opens

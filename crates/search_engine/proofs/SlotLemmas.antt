@@ -6,18 +6,20 @@ use Rattle.std.proofs.Math.Seq.{drop-cons, take-add}
 use Rattle.column_store.specs.declared.row.Row.{Row}
 use Rattle.sink_pieces.specs.Output.{GrewByFront, Moves}
 use Rattle.search_engine.specs.declared.refusal.PrintRefusal.{PrintRefusal}
-use Rattle.search_engine.specs.declared.refusal.SearchRefusal.{SearchRefusal}
+use Rattle.search_walk.specs.declared.refusal.SearchRefusal.{SearchRefusal}
 use Rattle.search_engine.specs.declared.counts.Counts.{Counts}
 use Rattle.search_engine.specs.Refused.{from_print}
-use Rattle.search_engine.specs.Scan.{Asked, IsFound, IsTried, Placed, lines_of, numbered}
+use Rattle.search_walk.specs.Scan.{Asked, IsFound, IsTried, Placed, lines_of, numbered}
 use Rattle.search_engine.specs.Sofar.{Counted, Goes, Passes, Sofar, Stops, sofar}
 use Rattle.subquery_filter.specs.declared.verdicts.Verdict.{Verdict}
 use Rattle.word_places.specs.Held.{HeldNames}
-use Rattle.search_engine.specs.Ready.{IsReadyPage}
+use Rattle.search_walk.specs.Ready.{IsReadyPage}
 use Rattle.search_engine.specs.Worked.{IsWorkedBy}
-use Rattle.search_engine.specs.Held.{AreRowsOf, Named}
+use Rattle.search_walk.specs.Held.{AreRowsOf, Named}
 use Rattle.search_engine.specs.Waiting.{IsWorked, OfAllWorked, OfWorked, Page, PrintsPage, Slotted, WaitFor, no_counts, page, pages_of}
-use Rattle.search_engine.proofs.SofarLemmas.{front_none, on_ok_to, passes_none, passes_on, picks_once, picks_short, stops_behind, stops_here, stops_more, ticks_same}
+use Rattle.search_engine.proofs.SofarLemmas.{front_none, passes_none, passes_on, stops_behind, stops_here, stops_more, ticks_same}
+use Rattle.search_walk.proofs.AnswerLemmas.{on_ok_to}
+use Rattle.search_walk.proofs.PickLemmas.{picks_once, picks_short}
 use Rattle.search_engine.proofs.WaitingLemmas.{waits_split}
 
 -- ---- one page

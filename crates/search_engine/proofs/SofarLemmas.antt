@@ -1,67 +1,17 @@
 -- A search that goes on over parts of a list goes on over the whole, and one that stops in a part stops in the whole.
-use Rattle.std.proofs.Common.{◌≡◌, inl, inr, ℕ, ◌+◌, ◌≤◌, List, [], ◌∷◌, ◌++◌, length, Option, refl, sym, ◌∙◌, ap, subst, arith, length-append}
-use Rattle.std.specs.Prelude.{Result, Ok, Err, IfOk, OnErr, OnOk}
+use Rattle.std.proofs.Common.{◌≡◌, ℕ, ◌+◌, List, [], ◌++◌, length, Option, refl, sym, ◌∙◌, ap, subst, arith, length-append}
 use Rattle.std.proofs.lemmas.List.{append-nil, append_assoc}
 use Rattle.std.proofs.lemmas.List.Concat.{flat_map-append}
 use Rattle.sink_pieces.specs.Output.{Grew, GrewByFront, Moves}
 use Rattle.sink_pieces.proofs.OutputLemmas.{Grew-append, Grew-nothing}
 use Rattle.search_engine.specs.declared.counts.Counts.{Counts}
-use Rattle.search_engine.specs.Scan.{Asked, IsFound, IsTried, Picks, Placed, line_of, lines_of, numbered, placed}
+use Rattle.search_walk.specs.Scan.{Asked, IsFound, IsTried, Placed, line_of, lines_of}
 use Rattle.search_engine.specs.Sofar.{Advances, Counted, Goes, Passes, Sofar, Stops, TicksWithin}
-
-pub on_ok_to : {T E : Type 0} (r : Result T E) (P Q : Type 0) → (P → Q) → OnOk r P → OnOk r Q
-on_ok_to (Ok t) P Q step p = step p
-on_ok_to (Err e) P Q step p = tt
-
-pub on_err_to : {T E : Type 0} (r : Result T E) (P Q : Type 0) → (P → Q) → OnErr r P → OnErr r Q
-on_err_to (Ok t) P Q step p = tt
-on_err_to (Err e) P Q step p = step p
-
-pub on_err : {T E : Type 0} (r : Result T E) (P : Type 0) → P → OnErr r P
-on_err (Ok t) P p = tt
-on_err (Err e) P p = p
+use Rattle.search_walk.proofs.PickLemmas.{picks_append, picks_split, picks_once}
 
 -- ---- those of a list
 
-pub picks_append : {A : Type 0} (P : A → Type 0) (xs ys a b : List A) → Picks P xs a → Picks P ys b → Picks P (xs ++ ys) (a ++ b)
-picks_append P [] ys a b one two = subst (λ l. Picks P ys (l ++ b)) (sym one) two
-picks_append {A} P (x ∷ xs) ys a b (inl p) two =
-    inl (p.0 ++ b, p.1, picks_append P xs ys p.0 b p.2 two, ap (λ (l : List A). l ++ b) p.3)
-picks_append P (x ∷ xs) ys a b (inr p) two = inr (p.0, picks_append P xs ys a b p.1 two)
-
-pub record Split {A : Type 0} (P : A → Type 0) (xs ys c : List A) : Type 0 where
-  pub a : List A
-  pub b : List A
-  pub first : Picks P xs a
-  pub second : Picks P ys b
-  pub both : c ≡ a ++ b
-
-pub picks_split : {A : Type 0} (P : A → Type 0) (xs ys c : List A) → Picks P (xs ++ ys) c → Split P xs ys c
-picks_split P [] ys c all = record { a = []; b = c; first = refl; second = all; both = refl }
-picks_split {A} P (x ∷ xs) ys c (inl p) =
-    let r = picks_split P xs ys p.0 p.2 in
-    record { a = x ∷ r.a; b = r.b; first = inl (r.a, p.1, r.first, refl); second = r.second; both = p.3 ∙ ap (λ (l : List A). x ∷ l) r.both }
-picks_split P (x ∷ xs) ys c (inr p) =
-    let r = picks_split P xs ys c p.1 in
-    record { a = r.a; b = r.b; first = inr (p.0, r.first); second = r.second; both = r.both }
-
-pub picks_short : {A : Type 0} (P : A → Type 0) (xs ys : List A) → Picks P xs ys → length ys ≤ length xs
-picks_short P [] ys is = omega (arith, ap length is)
-picks_short P (x ∷ xs) ys (inl p) = omega (arith, picks_short P xs p.0 p.2, ap length p.3)
-picks_short P (x ∷ xs) ys (inr p) = omega (arith, picks_short P xs ys p.1)
-
-pub picks_once : {A : Type 0} (P : A → Type 0) (xs a b : List A) → Picks P xs a → Picks P xs b → a ≡ b
-picks_once P [] a b one two = one ∙ sym two
-picks_once {A} P (x ∷ xs) a b (inl p) (inl q) = p.3 ∙ ap (λ (l : List A). x ∷ l) (picks_once P xs p.0 q.0 p.2 q.2) ∙ sym q.3
-picks_once P (x ∷ xs) a b (inl p) (inr q) = absurd (q.0 p.1)
-picks_once P (x ∷ xs) a b (inr p) (inl q) = absurd (p.0 q.1)
-picks_once P (x ∷ xs) a b (inr p) (inr q) = picks_once P xs a b p.1 q.1
-
 -- ---- numbers
-
-pub numbered_append : (name : List ℕ) (k : ℕ) (ms ns : List (List ℕ)) (n : ℕ) → n ≡ k + length ms → numbered name k (ms ++ ns) ≡ numbered name k ms ++ numbered name n ns
-numbered_append name k [] ns n is = ap (λ (j : ℕ). numbered name j ns) (sym (is ∙ omega arith))
-numbered_append name k (m ∷ ms) ns n is = ap (λ (l : List Placed). placed name k m ∷ l) (numbered_append name (k + 1) ms ns n (omega (arith, is)))
 
 -- ---- going on
 
@@ -198,7 +148,3 @@ goes_moved a b moves = record { front = moves.front; splits = append-nil a.gathe
 -- a text of two parts, of which the first went out, and the second in part or whole
 pub front_second : (old mid new : Option (List ℕ)) (a b : List ℕ) → Grew old mid a → GrewByFront mid new b → GrewByFront old new (a ++ b)
 front_second old mid new a b grew f = (a ++ f.0, f.1, ap (λ (l : List ℕ). a ++ l) f.2 ∙ sym (append_assoc a f.0 f.1), Grew-append old mid new a f.0 grew f.3)
-
-pub if_ok_to : {T E : Type 0} (r : Result T E) (P Q : T → Type 0) → ((t : T) → P t → Q t) → IfOk r P → IfOk r Q
-if_ok_to (Ok t) P Q step has = step t has
-if_ok_to (Err e) P Q step has = tt

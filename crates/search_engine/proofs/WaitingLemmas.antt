@@ -5,11 +5,12 @@ use Rattle.column_store.specs.declared.row.Row.{Row}
 use Rattle.subquery_filter.specs.declared.verdicts.Verdict.{Verdict}
 use Rattle.sink_pieces.specs.Output.{Grew, GrewByFront}
 use Rattle.sink_pieces.proofs.OutputLemmas.{Moves-all}
-use Rattle.search_engine.specs.Scan.{Asked, IsFound, IsTried, Picks, Placed, numbered}
+use Rattle.search_walk.specs.Scan.{Asked, IsFound, IsTried, Picks, Placed, numbered}
 use Rattle.search_engine.specs.Sofar.{Passes, Sofar, Stops, sofar}
-use Rattle.search_engine.specs.Held.{AreRowsOf, Named}
+use Rattle.search_walk.specs.Held.{AreRowsOf, Named}
 use Rattle.search_engine.specs.Waiting.{Blames, Halts, Page, Pending, Reaches, Same, State, WaitFor, page, sofar_of, state}
-use Rattle.search_engine.proofs.SofarLemmas.{goes_moved, passes_moves, passes_none, passes_on, picks_append, picks_once, picks_split, stops_behind, stops_here, stops_more, ticks_same}
+use Rattle.search_engine.proofs.SofarLemmas.{goes_moved, passes_moves, passes_none, passes_on, stops_behind, stops_here, stops_more, ticks_same}
+use Rattle.search_walk.proofs.PickLemmas.{picks_append, picks_once, picks_split}
 
 -- ---- lists of which the same is found and expanded
 

@@ -3,7 +3,7 @@ use Rattle.std.specs.Prelude.{◌≡◌, ◌≤◌, ℕ, List}
 use Rattle.query_plan.specs.declared.pieces.TheConstants.{MAX_OPEN_TOKENS}
 use Rattle.query_plan.specs.Laws.{NoOne}
 use Rattle.query_plan.specs.Pieces.{open_tokens}
-use Rattle.search_engine.specs.Scan.{AreFound, AreTried, Asked, Placed}
+use Rattle.search_walk.specs.Scan.{AreFound, AreTried, Asked, Placed}
 
 -- where the pattern has no `?` and at most four open tokens, what is expanded is what is printed
 abbrev pub ExactExpandsPrinted : Type 0

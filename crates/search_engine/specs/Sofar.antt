@@ -2,7 +2,7 @@
 use Rattle.std.specs.Prelude.{◌≡◌, ◌<◌, ◌≤◌, ◌+◌, ◌^◌, ℕ, List, ◌++◌, length, Option}
 use Rattle.sink_pieces.specs.Output.{Grew, GrewByFront}
 use Rattle.search_engine.specs.declared.counts.Counts.{Counts}
-use Rattle.search_engine.specs.Scan.{AreFound, AreTried, Asked, Placed, lines_of}
+use Rattle.search_walk.specs.Scan.{AreFound, AreTried, Asked, Placed, lines_of}
 
 -- what the sink has taken, what is gathered for it, the counts, and the ticks of expanded messages
 pub record Sofar : Type 0 where

@@ -6,10 +6,11 @@ use Rattle.segment_format.specs.Pages.{page_rows}
 use Rattle.segment_pages.specs.Paged.{HoldsLeft, Paged, paged_after}
 use Rattle.archive_open.specs.declared.files.FileEntry.{FileEntry}
 use Rattle.archive_open.specs.declared.segments.SegmentPlace.{SegmentPlace}
-use Rattle.search_engine.specs.Held.{AreRowsOf, HaveMessages, Named, OfSegments}
-use Rattle.search_engine.specs.Scan.{Asked, Placed, numbered}
-use Rattle.search_engine.specs.PagesRead.{ReadsPage}
-use Rattle.search_engine.specs.Opened.{OfFronts, ReadsFronts, Searched}
+use Rattle.search_walk.specs.Held.{AreRowsOf, HaveMessages, Named, OfSegments}
+use Rattle.search_walk.specs.Scan.{Asked, Placed, numbered}
+use Rattle.search_walk.specs.PagesRead.{ReadsPage}
+use Rattle.search_walk.specs.Opened.{OfFronts, ReadsFronts}
+use Rattle.search_engine.specs.SegmentsDone.{Searched}
 use Rattle.archive_places.specs.declared.front.SegmentFront.{SegmentFront}
 use Rattle.search_engine.specs.Sofar.{Passes, Sofar}
 use Rattle.search_engine.specs.Waiting.{Reaches, State}

@@ -1,12 +1,12 @@
 -- Pages that were read and wait to be searched, and how far a search has come that has some.
-use Rattle.std.specs.Prelude.{◌≡◌, ◌↔◌, ◌<◌, ℕ, List, [], ◌∷◌, ◌++◌, length, slice_index_or, map, Option, Result, OnOk, IsErrOf, All}
+use Rattle.std.specs.Prelude.{◌≡◌, ◌↔◌, ℕ, List, [], ◌∷◌, ◌++◌, map, Option, Result, OnOk, IsErrOf, All}
 use Rattle.column_store.specs.declared.row.Row.{Row}
 use Rattle.subquery_filter.specs.declared.verdicts.Verdict.{Verdict}
 use Rattle.search_engine.specs.declared.refusal.PrintRefusal.{PrintRefusal}
 use Rattle.search_engine.specs.declared.counts.Counts.{Counts}
-use Rattle.search_engine.specs.Scan.{Asked, IsFound, IsTried, Picks, Placed, numbered}
+use Rattle.search_walk.specs.Scan.{Asked, IsFound, IsTried, Picks, Placed, numbered}
 use Rattle.search_engine.specs.Sofar.{Passes, Sofar, Stops, sofar}
-use Rattle.search_engine.specs.Held.{AreRowsOf, Named}
+use Rattle.search_walk.specs.Held.{AreRowsOf, Named}
 
 -- ---- pages
 

@@ -2,14 +2,14 @@
 ghost use Rattle.std.specs.Prelude.{◌≡◌, ◌+◌, ◌++◌, List, OnOk, OnErr, IsErrOf};
 ghost use Rattle.log_seams.specs.Outside.{CountsOf};
 ghost use Rattle.sink_pieces.specs.Output.{GrewByFront, Moves};
-ghost use Rattle.search_engine.specs.Scan.{Placed};
+ghost use Rattle.search_walk.specs.Scan.{Placed};
 ghost use Rattle.search_engine.specs.Sofar.{Passes, Stops, sofar};
 ghost use Rattle.search_engine.specs.Waiting.{OfAllWorked, OfWorked};
 
 use crate::counts::Counts;
 use crate::page_slot::PageSlot;
-use crate::refusal::SearchRefusal;
 use log_seams::Sink;
+use search_walk::SearchRefusal;
 use sink_pieces::{PIECE, flush, flush_piece, write_all};
 use std::sync::ledger::Ledger;
 use step_count::Steps;

@@ -3,20 +3,20 @@ ghost use Rattle.std.specs.Prelude.{◌≡◌, ◌<◌, ◌+◌, ◌^◌, ◌++�
 ghost use Rattle.log_seams.specs.Outside.{CountsOf};
 ghost use Rattle.segment_format.specs.Pages.{page_rows};
 ghost use Rattle.segment_pages.specs.Paged.{AreNextTold, paged_after};
-ghost use Rattle.search_engine.specs.Held.{OfLeft};
-ghost use Rattle.search_engine.specs.PagesRead.{ReadsPage};
-ghost use Rattle.search_engine.specs.Ready.{IsReadyPage, IsServed};
-ghost use Rattle.search_engine.specs.Scan.{Placed};
+ghost use Rattle.search_walk.specs.Held.{OfLeft};
+ghost use Rattle.search_walk.specs.PagesRead.{ReadsPage};
+ghost use Rattle.search_walk.specs.Ready.{IsReadyPage};
+ghost use Rattle.search_engine.specs.Served.{IsServed};
+ghost use Rattle.search_walk.specs.Scan.{Placed};
 ghost use Rattle.search_engine.specs.Sofar.{Passes, Stops, sofar};
 ghost use Rattle.search_engine.specs.Waiting.{Blames, Halts, Reaches, WaitFor, nothing_pending, page, pages_of, state};
 
-use crate::context::Context;
 use crate::counts::Counts;
 use crate::gathering::gather_all;
-use crate::label::Label;
 use crate::page_slot::{NO_COUNTS, PageSlot, match_pages};
-use crate::refusal::SearchRefusal;
+use crate::printing::Printer;
 use log_seams::{Disk, Sink};
+use search_walk::{Context, Label, SearchRefusal};
 use segment_pages::SegmentPages;
 use sink_pieces::flush;
 use std::alloc::{AllocError, Global};
@@ -65,7 +65,7 @@ fn match_and_send<R: Threads + Sync, D: Disk, K: Sink, M: Ledger>(
     ensures sink_counts { CountsOf SearchRefusal.SinkFault
         (K.faults out.old) (K.faults out.new) result }
 {
-    match_pages(rt, workers, &context.printer(), held, slots);
+    match_pages(rt, workers, &Printer::of(context), held, slots);
     gather_all(slots, out, gathered, counts, expanded)
 }
 

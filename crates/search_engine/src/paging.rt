@@ -1,18 +1,16 @@
 //! The pages of a segment, read one after the other.
 ghost use Rattle.std.specs.Prelude.{◌≡◌, ◌≤◌, ◌<◌, ◌+◌, ◌^◌, ℕ, List, length, IfOk, OnOk, OnErr, IsErrOf};
 ghost use Rattle.log_seams.specs.Outside.{CountsOf};
-ghost use Rattle.search_engine.specs.PagesRead.{ReadsPage};
-ghost use Rattle.search_engine.specs.Ready.{IsServed};
-ghost use Rattle.search_engine.specs.Held.{OfLeft};
-ghost use Rattle.search_engine.specs.Scan.{numbered};
+ghost use Rattle.search_walk.specs.PagesRead.{ReadsPage};
+ghost use Rattle.search_engine.specs.Served.{IsServed};
+ghost use Rattle.search_walk.specs.Held.{OfLeft};
+ghost use Rattle.search_walk.specs.Scan.{numbered};
 ghost use Rattle.search_engine.specs.StepsPast.{PageGone, PastTold};
 ghost use Rattle.search_engine.specs.Waiting.{Blames, Halts, Reaches, state};
 
-use crate::context::Context;
-use crate::label::Label;
 use crate::page_batch::PageBatch;
-use crate::refusal::SearchRefusal;
 use log_seams::{Disk, Sink};
+use search_walk::{Context, Label, SearchRefusal};
 use segment_pages::SegmentPages;
 use std::sync::ledger::Ledger;
 use std::thread::Threads;

@@ -2,19 +2,19 @@
 ghost use Rattle.std.specs.Prelude.{◌≡◌, ◌≢◌, ◌<◌, ◌+◌, ◌^◌, ◌++◌, ◌∷◌, [], ℕ, List, Option, length, IsFalse, IsTrue, OnOk, OnErr, IsErrOf, Some, slice_get};
 ghost use Rattle.column_store.specs.Row.{row_of};
 ghost use Rattle.row_codec.specs.Means.{IsCanonical};
-ghost use Rattle.search_engine.specs.Held.{AreRowsOf, Named};
-ghost use Rattle.search_engine.specs.Judged.{Keeps, label_of};
-ghost use Rattle.search_engine.specs.Ready.{IsLent, IsReadyPage};
-ghost use Rattle.search_engine.specs.Scan.{numbered, placed};
+ghost use Rattle.search_walk.specs.Held.{AreRowsOf, Named};
+ghost use Rattle.search_engine.specs.Kept.{Keeps, label_of};
+ghost use Rattle.search_walk.specs.Ready.{IsLent, IsReadyPage};
+ghost use Rattle.search_walk.specs.Scan.{numbered, placed};
 ghost use Rattle.search_engine.specs.Sofar.{Passes, TicksWithin, sofar};
 
 use crate::counts::Counts;
-use crate::label::Label;
-use crate::query::{Judgement, Query};
 use crate::refusal::PrintRefusal;
 use column_store::{Columns, RowRef};
+use log_seams::Disk;
 use query_plan::wide_is_wider;
 use row_codec::{Layouts, RowWriter};
+use search_walk::{Context, Judgement, Label, Query, is_rejected};
 use std::alloc::AllocError;
 use std::sync::ledger::Ledger;
 use step_count::Steps;
@@ -26,6 +26,19 @@ use word_places::{HeldWords, rows_are_local};
 pub(crate) struct Printer<'q> {
     pub(crate) query: &'q Query,
     pub(crate) layouts: &'q Layouts,
+}
+
+impl<'q> Printer<'q> {
+    /// What prints rows of a search.
+    pub(crate) fn of<D: Disk>(context: &Context<'q, D>) -> Printer<'q>
+        ensures query { result.query.now ≡ context.now.query }
+        ensures types { result.layouts.now ≡ context.now.names.types }
+    {
+        Printer {
+            query: context.query(),
+            layouts: context.layouts(),
+        }
+    }
 }
 
 /// Appends what stands before a message in its line.
@@ -67,14 +80,6 @@ fn keep<M: Ledger>(
         }
     }
     Ok(())
-}
-
-/// Whether it is known that a row's message is not expanded.
-pub(crate) fn is_rejected(verdict: Verdict) -> bool
-    ensures yes { IsTrue result → verdict ≡ Verdict.Rejected }
-    ensures no { IsFalse result → verdict ≢ Verdict.Rejected }
-{
-    matches!(verdict, Verdict::Rejected)
 }
 
 /// Whether it is known that a row's message is expanded, where it is in the range.

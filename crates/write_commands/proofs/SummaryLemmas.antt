@@ -6,7 +6,8 @@ use Rattle.wild_match.specs.Reading.{IsSearchPattern}
 use Rattle.wild_match.specs.declared.pattern.Item.{Item}
 use Rattle.archive_open.specs.Shown.{places_of}
 use Rattle.search_engine.specs.declared.report.Report.{Report}
-use Rattle.search_engine.specs.Searched.{HasSearched, OfJournal, asked}
+use Rattle.search_engine.specs.Searched.{HasSearched}
+use Rattle.search_walk.specs.Journal.{OfJournal, asked}
 use Rattle.write_commands.specs.Benched.{AreCounted, PrintsSummary, sought, summary}
 
 -- ---- what a search has found

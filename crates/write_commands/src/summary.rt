@@ -6,7 +6,7 @@ ghost use Rattle.log_seams.specs.Outside.{CountsOf};
 ghost use Rattle.step_count.specs.Opens.{OpensFor};
 ghost use Rattle.wild_match.specs.Reading.{IsSearchPattern};
 ghost use Rattle.archive_open.specs.Shown.{RefusedAt};
-ghost use Rattle.search_engine.specs.Searched.{OfJournal};
+ghost use Rattle.search_walk.specs.Journal.{OfJournal};
 ghost use Rattle.write_commands.specs.Benched.{AreCounted, PrintsSummary, sought, summary};
 
 use archive_places::open_places;

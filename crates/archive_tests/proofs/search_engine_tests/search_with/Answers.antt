@@ -1,4 +1,4 @@
-use Rattle.search_engine.proofs.SearchLemmas.{opens_later}
+use Rattle.search_walk.proofs.JournalLemmas.{opens_later}
 use Rattle.archive_tests.proofs.search_engine_tests.search_with.Goals as goal
 
 pub search-answer-requires-clause-searched : goal.search-answer-requires-clause-searched

@@ -1,7 +1,7 @@
 use Rattle.std.proofs.Common.{◌++◌, rules, refl, subst}
 use Rattle.std.proofs.lemmas.Result.{err_from_is_err_and}
 use Rattle.sink_pieces.specs.Output.{GrewByFront, Moves}
-use Rattle.search_engine.proofs.SofarLemmas.{on_err}
+use Rattle.search_walk.proofs.AnswerLemmas.{on_err}
 use Rattle.search_engine.proofs.SlotLemmas.{on_ok, print_damaged_from, slot_passes, slot_refused, slot_stops}
 use Rattle.search_engine.proofs.gathering.gather.Goals as goal
 

@@ -1,5 +1,5 @@
 use Rattle.std.proofs.Common.{rules, refl}
-use Rattle.search_engine.proofs.SofarLemmas.{on_err}
+use Rattle.search_walk.proofs.AnswerLemmas.{on_err}
 use Rattle.search_engine.proofs.SlotLemmas.{gathered_damaged, gathered_end, gathered_first, gathered_next, gathered_stops}
 use Rattle.search_engine.proofs.gathering.gather_all.Goals as goal
 

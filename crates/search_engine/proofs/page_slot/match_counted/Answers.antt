@@ -1,9 +1,9 @@
 use Rattle.std.proofs.Common.{◌≡◌, ◌∙◌, ap, subst, sym, refl, ℕ, List}
 use Rattle.subquery_filter.specs.declared.verdicts.Verdict.{Verdict}
-use Rattle.search_engine.specs.Held.{AreRowsOf}
-use Rattle.search_engine.specs.Ready.{IsReadyPage}
+use Rattle.search_walk.specs.Held.{AreRowsOf}
+use Rattle.search_walk.specs.Ready.{IsReadyPage}
 use Rattle.search_engine.specs.Waiting.{Page, PrintsPage, Slotted, page}
-use Rattle.search_engine.proofs.SofarLemmas.{on_ok_to}
+use Rattle.search_walk.proofs.AnswerLemmas.{on_ok_to}
 use Rattle.search_engine.proofs.SlotLemmas.{prints}
 use Rattle.search_engine.proofs.page_slot.match_counted.Goals as goal
 

@@ -1,9 +1,9 @@
 use Rattle.std.proofs.Common.{◌∙◌, ◌++◌, ◌∷◌, List, ap, rules, refl, sym, subst, []}
-use Rattle.search_engine.specs.Held.{Named}
-use Rattle.search_engine.specs.Ready.{IsServed}
+use Rattle.search_walk.specs.Held.{Named}
+use Rattle.search_engine.specs.Served.{IsServed}
 use Rattle.search_engine.specs.Waiting.{Halts, Page, Pending, Reaches, WaitFor, state}
-use Rattle.search_engine.proofs.ReadyLemmas.{served_none, served_push}
-use Rattle.search_engine.proofs.SofarLemmas.{on_err}
+use Rattle.search_engine.proofs.ServedLemmas.{served_none, served_push}
+use Rattle.search_walk.proofs.AnswerLemmas.{on_err}
 use Rattle.search_engine.proofs.PageLemmas.{left_nothing, page_past, past_damaged, past_run, past_stops, run_halts, unread_halts, unread_sent}
 use Rattle.search_engine.proofs.paging.read_next.Goals as goal
 

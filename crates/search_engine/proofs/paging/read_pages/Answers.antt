@@ -1,6 +1,6 @@
 use Rattle.std.proofs.Common.{◌∙◌, rules, refl}
 use Rattle.segment_pages.proofs.PageLemmas.{none_left}
-use Rattle.search_engine.proofs.SofarLemmas.{on_err}
+use Rattle.search_walk.proofs.AnswerLemmas.{on_err}
 use Rattle.search_engine.proofs.PageLemmas.{pages_first, pages_next, pages_reads, past_damaged, past_end, past_stops}
 use Rattle.search_engine.proofs.paging.read_pages.Goals as goal
 

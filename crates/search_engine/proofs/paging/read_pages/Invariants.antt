@@ -1,6 +1,6 @@
 use Rattle.std.proofs.Common.{◌≡◌, ◌-◌}
 use Rattle.search_engine.specs.Waiting.{state}
-use Rattle.search_engine.specs.Ready.{IsServed}
+use Rattle.search_engine.specs.Served.{IsServed}
 use Rattle.search_engine.specs.StepsPast.{PagesPast}
 use Rattle.search_engine.proofs.paging.read_pages.Given as goal
 

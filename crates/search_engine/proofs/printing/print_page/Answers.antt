@@ -1,7 +1,7 @@
 use Rattle.std.proofs.Common.{◌∙◌, rules, sym}
 use Rattle.std.proofs.lemmas.Result.{err_from_is_err_and}
-use Rattle.search_engine.proofs.ReadyLemmas.{lent_at}
-use Rattle.search_engine.proofs.SofarLemmas.{on_err}
+use Rattle.search_walk.proofs.ReadyLemmas.{lent_at}
+use Rattle.search_walk.proofs.AnswerLemmas.{on_err}
 use Rattle.search_engine.proofs.RowLemmas.{rows_damaged, rows_end, rows_first, rows_next, rows_ticks}
 use Rattle.search_engine.proofs.printing.print_page.Goals as goal
 

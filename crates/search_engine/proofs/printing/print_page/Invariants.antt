@@ -1,6 +1,6 @@
 use Rattle.std.proofs.Common.{◌≡◌, ℕ, List}
-use Rattle.search_engine.specs.Held.{AreRowsOf, Named}
-use Rattle.search_engine.specs.Ready.{IsReadyPage}
+use Rattle.search_walk.specs.Held.{AreRowsOf, Named}
+use Rattle.search_walk.specs.Ready.{IsReadyPage}
 use Rattle.search_engine.specs.Sofar.{sofar}
 use Rattle.search_engine.specs.StepsPast.{PastRows}
 use Rattle.search_engine.proofs.printing.print_page.Given as goal

@@ -1,7 +1,8 @@
 use Rattle.std.proofs.Common.{refl, ◌∙◌, ap₂, drop, List, ℕ, rules}
 use Rattle.column_store.specs.Row.{row_of}
 use Rattle.word_places.specs.Held.{lends}
-use Rattle.search_engine.proofs.VerdictLemmas.{certain_matches, decided_inside, lent_canonical, lent_has, lent_spelling, rejected_row}
+use Rattle.search_walk.proofs.VerdictLemmas.{certain_matches, decided_inside, lent_canonical, lent_has, lent_spelling}
+use Rattle.search_engine.proofs.RowLemmas.{rejected_row}
 use Rattle.search_engine.proofs.RowLemmas.{row_passes}
 use Rattle.search_engine.proofs.printing.print_row.Goals as goal
 

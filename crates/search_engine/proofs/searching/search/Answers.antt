@@ -1,8 +1,10 @@
 use Rattle.std.proofs.Common.{refl, subst}
 use Rattle.std.specs.Prelude.{IfOk, OnErr}
-use Rattle.search_engine.specs.Searched.{HasSearched, HasStopped, OfJournal, ReadsNoBarren, asked}
-use Rattle.search_engine.proofs.SofarLemmas.{on_err}
-use Rattle.search_engine.proofs.SearchLemmas.{asked_is, reads_nothing, stopped_nothing}
+use Rattle.search_engine.specs.Searched.{HasSearched, HasStopped}
+use Rattle.search_walk.specs.Journal.{OfJournal, ReadsNoBarren, asked}
+use Rattle.search_walk.proofs.AnswerLemmas.{on_err}
+use Rattle.search_walk.proofs.JournalLemmas.{asked_is, reads_nothing}
+use Rattle.search_engine.proofs.SearchLemmas.{stopped_nothing}
 use Rattle.search_engine.proofs.searching.search.Goals as goal
 
 pub returns-clause-reads : goal.returns-clause-reads

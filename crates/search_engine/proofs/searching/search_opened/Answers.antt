@@ -3,21 +3,25 @@ use Rattle.std.specs.Prelude.{Option}
 use Rattle.log_seams.proofs.MomentLemmas.{rests_on}
 use Rattle.word_places.specs.Held.{unread}
 use Rattle.query_plan.specs.declared.pieces.Piece.{Piece}
-use Rattle.search_engine.specs.Held.{Named, named}
-use Rattle.search_engine.specs.Opened.{NoFronts, ReadsFronts, SearchedFronts, StoppedFronts}
-use Rattle.search_engine.specs.Ready.{IsServed}
-use Rattle.search_engine.specs.StepsScope.{Scope}
+use Rattle.search_walk.specs.Held.{Named, named}
+use Rattle.search_walk.specs.Opened.{NoFronts, ReadsFronts}
+use Rattle.search_engine.specs.SegmentsDone.{SearchedFronts, StoppedFronts}
+use Rattle.search_engine.specs.Served.{IsServed}
+use Rattle.search_walk.specs.StepsScope.{Scope}
 use Rattle.search_engine.specs.Waiting.{Blames, Halts, Pending, Reaches, state}
 use Rattle.subquery_filter.specs.Filter.{AsksTypes}
 use Rattle.query_plan.specs.Needs.{needed_variables_of}
 use Rattle.query_plan.specs.Pieces.{Free, needed_of, wide_pieces}
 use Rattle.subquery_filter.specs.Found.{AreNumbers}
 use Rattle.word_places.specs.Places.{AreInOrder}
-use Rattle.search_engine.proofs.PagesReadLemmas.{rests_same}
-use Rattle.search_engine.proofs.SofarLemmas.{on_err}
-use Rattle.search_engine.proofs.ReadyLemmas.{named_words, served_first}
-use Rattle.search_engine.proofs.SearchLemmas.{knows, reads_nothing, stopped_nothing, waits_none}
-use Rattle.search_engine.proofs.JournalLemmas.{all_damaged, all_read, all_searched, all_stopped, last_blamed, last_halted, words_damaged, words_only}
+use Rattle.search_walk.proofs.PagesReadLemmas.{rests_same}
+use Rattle.search_walk.proofs.AnswerLemmas.{on_err}
+use Rattle.search_walk.proofs.ReadyLemmas.{named_words}
+use Rattle.search_engine.proofs.ServedLemmas.{served_first}
+use Rattle.search_walk.proofs.JournalLemmas.{knows, reads_nothing}
+use Rattle.search_engine.proofs.SearchLemmas.{stopped_nothing, waits_none}
+use Rattle.search_walk.proofs.JournalLemmas.{all_damaged, all_read, words_damaged, words_only}
+use Rattle.search_engine.proofs.JournalLemmas.{all_searched, all_stopped, last_blamed, last_halted}
 use Rattle.search_engine.proofs.searching.search_opened.Goals as goal
 
 pub returns-in_err-held-clause-reads : goal.returns-in_err-held-clause-reads

@@ -1,8 +1,9 @@
 use Rattle.std.proofs.Common.{rules, refl}
-use Rattle.search_engine.specs.Held.{Named}
-use Rattle.search_engine.proofs.PagesReadLemmas.{rests_same}
-use Rattle.search_engine.proofs.SofarLemmas.{on_err}
-use Rattle.search_engine.proofs.SegmentLemmas.{barren_done, columns_read, left_none, nothing_read, of_none, opened_done, opened_stops, unmatched_done}
+use Rattle.search_walk.specs.Held.{Named}
+use Rattle.search_walk.proofs.PagesReadLemmas.{rests_same}
+use Rattle.search_walk.proofs.AnswerLemmas.{on_err}
+use Rattle.search_engine.proofs.SegmentLemmas.{barren_done, opened_done, opened_stops, unmatched_done}
+use Rattle.search_walk.proofs.SegmentLemmas.{columns_read, left_none, nothing_read, of_none}
 use Rattle.search_engine.proofs.segments.search_segment.Goals as goal
 
 pub returns-then-is_barren-clause-reads : goal.returns-then-is_barren-clause-reads

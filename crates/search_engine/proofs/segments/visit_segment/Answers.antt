@@ -1,12 +1,13 @@
 use Rattle.std.proofs.Common.{◌≡◌, ◌∷◌, [], refl, rules, sym, cond, subst}
 use Rattle.log_seams.proofs.MomentLemmas.{rests_on}
-use Rattle.search_engine.specs.Held.{Named}
-use Rattle.search_engine.specs.Opened.{Searched, Stopped}
+use Rattle.search_walk.specs.Held.{Named}
+use Rattle.search_engine.specs.SegmentsDone.{Searched, Stopped}
 use Rattle.search_engine.specs.Waiting.{state}
 use Rattle.search_engine.proofs.FrontLemmas.{halted_stops, head_reads, later_all, loaded_none, outside_done, segment_reads}
-use Rattle.search_engine.proofs.PagesReadLemmas.{rests_same}
-use Rattle.search_engine.proofs.SegmentLemmas.{nothing_read}
-use Rattle.search_engine.proofs.SofarLemmas.{front_none, if_ok_to, on_err, on_err_to}
+use Rattle.search_walk.proofs.PagesReadLemmas.{rests_same}
+use Rattle.search_walk.proofs.SegmentLemmas.{nothing_read}
+use Rattle.search_engine.proofs.SofarLemmas.{front_none}
+use Rattle.search_walk.proofs.AnswerLemmas.{if_ok_to, on_err, on_err_to}
 use Rattle.search_engine.proofs.WaitingLemmas.{halts_behind, halts_here}
 use Rattle.search_engine.proofs.segments.visit_segment.Goals as goal
 

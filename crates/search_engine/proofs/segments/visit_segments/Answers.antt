@@ -1,7 +1,7 @@
 use Rattle.std.proofs.Common.{◌∙◌, rules, refl, sym}
 use Rattle.std.proofs.lemmas.Option.{get_or_from_slice_get}
 use Rattle.log_seams.proofs.MomentLemmas.{rests_on}
-use Rattle.search_engine.proofs.SofarLemmas.{on_err}
+use Rattle.search_walk.proofs.AnswerLemmas.{on_err}
 use Rattle.search_engine.proofs.FrontLemmas.{run_damaged, run_end, run_first, run_next, run_reads, run_stops}
 use Rattle.search_engine.proofs.segments.visit_segments.Goals as goal
 

@@ -1,5 +1,5 @@
 use Rattle.std.proofs.Common.{◌≡◌}
-use Rattle.search_engine.specs.Ready.{IsServed}
+use Rattle.search_engine.specs.Served.{IsServed}
 use Rattle.search_engine.specs.Waiting.{state}
 use Rattle.search_engine.specs.StepsPast.{SegmentsRun}
 use Rattle.search_engine.proofs.segments.visit_segments.Given as goal

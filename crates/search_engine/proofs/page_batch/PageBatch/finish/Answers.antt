@@ -1,8 +1,8 @@
 use Rattle.std.proofs.Common.{ap, subst, refl, []}
 use Rattle.sink_pieces.specs.Output.{Grew, GrewByFront}
-use Rattle.search_engine.specs.Held.{Named}
+use Rattle.search_walk.specs.Held.{Named}
 use Rattle.search_engine.specs.Waiting.{Pending, State, state}
-use Rattle.search_engine.proofs.SofarLemmas.{on_err}
+use Rattle.search_walk.proofs.AnswerLemmas.{on_err}
 use Rattle.search_engine.proofs.WaitingLemmas.{halts_behind, halts_here, reaches_flushed}
 use Rattle.search_engine.proofs.page_batch.PageBatch.finish.Goals as goal
 

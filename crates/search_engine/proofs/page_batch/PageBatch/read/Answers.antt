@@ -1,4 +1,4 @@
-use Rattle.search_engine.proofs.ReadyLemmas.{served_grows}
+use Rattle.search_engine.proofs.ServedLemmas.{served_grows}
 use Rattle.search_engine.proofs.page_batch.PageBatch.read.Goals as goal
 
 pub returns-clause-served : goal.returns-clause-served

@@ -1,9 +1,9 @@
 use Rattle.std.proofs.Common.{rules}
 use Rattle.word_places.proofs.HeldLemmas.{grow_same}
-use Rattle.search_engine.specs.Ready.{IsReady}
+use Rattle.search_walk.specs.Ready.{IsReady}
 use Rattle.search_engine.proofs.PageLemmas.{none_damaged}
-use Rattle.search_engine.proofs.PagesReadLemmas.{page_such}
-use Rattle.search_engine.proofs.ReadyLemmas.{zip_long}
+use Rattle.search_walk.proofs.PagesReadLemmas.{page_such}
+use Rattle.search_walk.proofs.ReadyLemmas.{zip_long}
 use Rattle.search_engine.proofs.page_slot.PageSlot.read.Goals as goal
 
 pub returns-in_err-extend_from_slice-clause-grow : goal.returns-in_err-extend_from_slice-clause-grow

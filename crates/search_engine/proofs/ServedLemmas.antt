@@ -1,0 +1,46 @@
+-- Pages that wait, and the words that are held for them.
+use Rattle.std.proofs.Common.{◌≡◌, ℕ, ◌+◌, List, [], ◌∷◌, ◌++◌, map, Option, All, sym, subst}
+use Rattle.std.proofs.lemmas.List.Elements.{All-cons, All-head, All-nil, All-tail}
+use Rattle.word_places.specs.declared.place.WordsPlace.{WordsPlace}
+use Rattle.word_places.specs.Held.{Grow, HeldNames, unread}
+use Rattle.word_places.specs.Places.{AreInOrder}
+use Rattle.search_walk.specs.Scan.{Asked}
+use Rattle.search_walk.specs.Held.{Named, named}
+use Rattle.search_engine.specs.Served.{AreReadyPages, IsServed}
+use Rattle.search_walk.specs.Ready.{IsReadyPage, Serves}
+use Rattle.search_engine.specs.Waiting.{IsWorked, Page, Slotted, pages_of}
+use Rattle.search_engine.specs.Worked.{IsWorkedBy}
+use Rattle.search_walk.proofs.ReadyLemmas.{serves_first, rows_grow}
+
+pages_grow : (n : Named) (q : Asked) (old new : HeldNames) (pages : List Page) → Serves n new → Grow old.records new.records → AreReadyPages n q old pages → AreReadyPages n q new pages
+pages_grow n q old new [] serves grow ready = tt
+pages_grow n q old new (p ∷ pages) serves grow ready = (
+  record { serves = serves; each = rows_grow n q old.records new.records p.rows p.verdicts ready.0.serves.numbered serves.numbered grow ready.0.each },
+  pages_grow n q old new pages serves grow ready.1,
+)
+
+pub served_grows : (n : Named) (q : Asked) (old new : HeldNames) (pages : List Page) → IsServed n q old pages → Serves n new → Grow old.records new.records → IsServed n q new pages
+served_grows n q old new pages served serves grow = record { serves = serves; ready = pages_grow n q old new pages serves grow served.ready }
+
+-- ---- pages that wait
+
+ready_push : (n : Named) (q : Asked) (held : HeldNames) (pages : List Page) (p : Page) → AreReadyPages n q held pages → IsReadyPage n q held p.rows p.verdicts → AreReadyPages n q held (pages ++ p ∷ [])
+ready_push n q held [] p ready one = (one, tt)
+ready_push n q held (o ∷ pages) p ready one = (ready.0, ready_push n q held pages p ready.1 one)
+
+pub served_push : (n : Named) (q : Asked) (held : HeldNames) (pages later : List Page) (p : Page) → later ≡ pages ++ p ∷ [] → IsServed n q held pages → IsReadyPage n q held p.rows p.verdicts
+    → IsServed n q held later
+served_push n q held pages later p is served one =
+    subst (λ (l : List Page). IsServed n q held l) (sym is) (record { serves = served.serves; ready = ready_push n q held pages p served.ready one })
+
+pub served_none : (n : Named) (q : Asked) (held : HeldNames) (pages : List Page) → Serves n held → pages ≡ [] → IsServed n q held pages
+served_none n q held pages serves none = subst (λ (l : List Page). IsServed n q held l) (sym none) (record { serves = serves; ready = tt })
+
+-- pages whose words are held were searched
+pub all_worked : (n : Named) (q : Asked) (held : HeldNames) (slots : List Slotted) → All (IsWorkedBy q held) slots → AreReadyPages n q held (pages_of slots) → All (IsWorked n q) slots
+all_worked n q held [] worked ready = All-nil (IsWorked n q)
+all_worked n q held (s ∷ slots) worked ready =
+    All-cons (IsWorked n q) s slots (All-head (IsWorkedBy q held) s slots worked n ready.0) (all_worked n q held slots (All-tail (IsWorkedBy q held) s slots worked) ready.1)
+
+pub served_first : (told : Option (List ℕ)) (q : Asked) (held : HeldNames) (places : List WordsPlace) (pages : List Page) → held.records ≡ map unread places → AreInOrder 0 places → pages ≡ [] → IsServed (named told held) q held pages
+served_first told q held places pages is order none = served_none (named told held) q held pages (serves_first told held places is order) none

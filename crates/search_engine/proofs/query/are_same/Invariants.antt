@@ -1,6 +1,0 @@
-use Rattle.std.proofs.Common.{◌≡◌, ◌<◌, ℕ, get_or}
-use Rattle.wild_match.specs.declared.pattern.Item.{Item}
-use Rattle.search_engine.proofs.query.are_same.Given as goal
-
-abbrev pub invariant-loop-place : goal.invariant-loop-place
-invariant-loop-place l = (k : ℕ) (d : Item) → k < l.place → get_or l.items k d ≡ get_or l.others k d

@@ -1,0 +1,14 @@
+pub mod AskLemmas
+pub mod RowsHeld
+pub mod HeldLemmas
+pub mod GroupLemmas
+pub mod OrderLemmas
+pub mod AsideLemmas
+pub mod PagesReadLemmas
+pub mod AnswerLemmas
+pub mod PickLemmas
+pub mod RowLemmas
+pub mod VerdictLemmas
+pub mod ReadyLemmas
+pub mod SegmentLemmas
+pub mod JournalLemmas

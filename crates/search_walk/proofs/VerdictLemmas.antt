@@ -1,0 +1,59 @@
+-- What was decided of a row, and what that tells of its message.
+use Rattle.std.proofs.Common.{◌≡◌, ◌≢◌, ℕ, List, ◌++◌, length, drop, refl, ◌∙◌, ap₂, subst, sym}
+use Rattle.std.proofs.lemmas.List.{drop_at}
+use Rattle.column_store.specs.Range.{Holds}
+use Rattle.column_store.specs.declared.range.Range.{Range}
+use Rattle.column_store.specs.declared.row.Row.{Row}
+use Rattle.wild_match.specs.Matches.{Match}
+use Rattle.query_plan.specs.Pieces.{wide, wide_pieces}
+use Rattle.row_codec.specs.Means.{HasSpelling, IsCanonical, IsSpelling}
+use Rattle.row_codec.specs.Numbers.{numbers_of_row}
+use Rattle.subquery_filter.specs.Filter.{IsRowVerdict}
+use Rattle.subquery_filter.specs.declared.verdicts.Verdict.{Verdict}
+use Rattle.subquery_filter.specs.declared.verdicts.Verdict.TheVariants.{Rejected, Certain, Tried}
+use Rattle.word_places.specs.Held.{HeldNames, lends}
+use Rattle.word_places.specs.Local.{Agree, EncodingIsLocal, SpellingIsLocal}
+use Rattle.search_walk.specs.Scan.{Asked}
+use Rattle.search_walk.specs.Held.{Named}
+use Rattle.search_walk.specs.Ready.{IsDecided, IsLent}
+use Rattle.search_walk.proofs.RowLemmas.{has_spelling, of_range}
+
+-- ---- deciding
+
+-- by its moment
+pub decided_outside : (n : Named) (q : Asked) (range : Range) (row : Row) → range ≡ q.range → ¬ Holds range row.pattern row.moment → IsDecided n q row Rejected
+decided_outside n q range row same out = λ message is tried.
+    out (subst (λ (r : Range). Holds r row.pattern row.moment) (sym same) (of_range n.version q.range row n.types n.words message is tried.inside))
+
+-- by its numbers
+pub decided_by : (n : Named) (q : Asked) (row : Row) (v : Verdict) → Holds q.range row.pattern row.moment → IsRowVerdict (wide_pieces q.pattern) n.types n.words row v → IsDecided n q row v
+decided_by n q row Rejected holds told = λ message is tried. told n.version message is tried.matched
+decided_by n q row Certain holds told = (holds, told)
+decided_by n q row Tried holds told = holds
+
+pub decided_inside : (n : Named) (q : Asked) (row : Row) (v : Verdict) → v ≢ Rejected → IsDecided n q row v → Holds q.range row.pattern row.moment
+decided_inside n q row Rejected not decided = absurd (not refl)
+decided_inside n q row Certain not decided = decided.0
+decided_inside n q row Tried not decided = decided
+
+-- ---- by the words that are held
+
+pub lent_canonical : (n : Named) (q : Asked) (held : HeldNames) (row : Row) (v : Verdict) (message : List ℕ) → EncodingIsLocal → v ≢ Rejected → IsLent n q held row v → IsCanonical n.version row n.types n.words message
+    → IsCanonical n.version row n.types (lends held.records) message
+lent_canonical n q held row v message local not lent is = local n.version row n.types n.words (lends held.records) message (lent.agree not) is
+
+pub lent_spelling : (n : Named) (q : Asked) (held : HeldNames) (row : Row) (v : Verdict) (text : List ℕ) → IsLent n q held row v → IsSpelling row held.types (lends held.records) text → IsSpelling row n.types (lends held.records) text
+lent_spelling n q held row v text lent spelled = subst (λ ts. IsSpelling row ts (lends held.records) text) lent.types spelled
+
+pub lent_has : (n : Named) (q : Asked) (held : HeldNames) (row : Row) (v : Verdict) (message : List ℕ) → EncodingIsLocal → v ≢ Rejected → IsLent n q held row v → IsCanonical n.version row n.types n.words message
+    → HasSpelling row held.types (lends held.records)
+lent_has n q held row v message local not lent is =
+    subst (λ ts. HasSpelling row ts (lends held.records)) (sym lent.types) (has_spelling n.version row n.types (lends held.records) message (lent_canonical n q held row v message local not lent is))
+
+pub certain_matches : (n : Named) (q : Asked) (held : HeldNames) (row : Row) (v : Verdict) (text g1 g2 judged : List ℕ) (k : ℕ) → SpellingIsLocal → v ≡ Certain → v ≢ Rejected → IsLent n q held row v
+    → IsSpelling row held.types (lends held.records) text → k ≡ length g1 → g2 ≡ g1 ++ text → judged ≡ drop k g2 → Match (wide q.pattern) judged
+certain_matches n q held row v text g1 g2 judged k local is not lent spelled size wrote cut =
+    let agree : Agree (numbers_of_row n.types row) n.words (lends held.records) = lent.agree not in
+    let own : IsSpelling row n.types n.words text = local row n.types (lends held.records) n.words text (λ m at. sym (agree m at)) (lent_spelling n q held row v text lent spelled) in
+    let read : judged ≡ text = cut ∙ ap₂ (λ (k : ℕ) (l : List ℕ). drop k l) size wrote ∙ drop_at g1 text (length g1) refl in
+    subst (Match (wide q.pattern)) (sym read) ((subst (IsDecided n q row) is lent.decided).1 text own)

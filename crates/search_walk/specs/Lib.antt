@@ -1,0 +1,10 @@
+pub mod Scan
+pub mod Held
+pub mod Told
+pub mod PagesRead
+pub mod StepsScope
+pub mod Ready
+pub mod Judged
+pub mod Opened
+pub mod Journal
+pub mod Refused

@@ -1,0 +1,46 @@
+-- What was decided of rows before they are searched, and that the words are held by which they are written.
+use Rattle.std.specs.Prelude.{◌≡◌, ◌≢◌, ℕ, List}
+use Rattle.std.specs.List.{AllZip}
+use Rattle.column_store.specs.Range.{Holds}
+use Rattle.column_store.specs.declared.row.Row.{Row}
+use Rattle.wild_match.specs.Matches.{Match}
+use Rattle.row_codec.specs.Means.{IsCanonical, IsSpelling}
+use Rattle.row_codec.specs.Numbers.{numbers_of_row}
+use Rattle.query_plan.specs.Pieces.{wide}
+use Rattle.subquery_filter.specs.declared.verdicts.Verdict.{Verdict}
+use Rattle.subquery_filter.specs.declared.verdicts.Verdict.TheVariants.{Rejected, Certain, Tried}
+use Rattle.word_places.specs.declared.held.HeldRecord.{HeldRecord}
+use Rattle.word_places.specs.Held.{AreHeld, AreNumbered, HeldNames, RightTold, lends, places_of}
+use Rattle.word_places.specs.Local.{Agree}
+use Rattle.search_walk.specs.Scan.{Asked, IsTried}
+use Rattle.search_walk.specs.Held.{IsTold, Named}
+
+-- what is told of a row by its numbers and its moment: no message of it is expanded; it lies in the range; and the wider
+-- pattern matches what it is written as
+abbrev pub IsDecided : Named → Asked → Row → Verdict → Type 0
+IsDecided n q row Rejected = (message : List ℕ) → IsCanonical n.version row n.types n.words message → ¬ IsTried n.version q message
+IsDecided n q row Certain = Holds q.range row.pattern row.moment × ((message : List ℕ) → IsSpelling row n.types n.words message → Match (wide q.pattern) message)
+IsDecided n q row Tried = Holds q.range row.pattern row.moment
+
+-- that is right, and the words of a row that may have to be written are held
+pub record IsReady (n : Named) (q : Asked) (records : List HeldRecord) (row : Row) (verdict : Verdict) : Type 0 where
+  pub decided : IsTold n → IsDecided n q row verdict
+  pub held : verdict ≢ Rejected → AreHeld records (numbers_of_row n.types row)
+
+-- the words that are held are those of the names
+pub record Serves (n : Named) (held : HeldNames) : Type 0 where
+  pub types : held.types ≡ n.types
+  pub places : places_of held.records ≡ n.places
+  pub numbered : AreNumbered 0 held.records
+  pub right : RightTold n.told held.records
+
+-- a row may be written by the words that are held
+pub record IsLent (n : Named) (q : Asked) (held : HeldNames) (row : Row) (verdict : Verdict) : Type 0 where
+  pub types : held.types ≡ n.types
+  pub decided : IsDecided n q row verdict
+  pub agree : verdict ≢ Rejected → Agree (numbers_of_row n.types row) n.words (lends held.records)
+
+-- the rows of a page may be
+pub record IsReadyPage (n : Named) (q : Asked) (held : HeldNames) (rows : List Row) (verdicts : List Verdict) : Type 0 where
+  pub serves : Serves n held
+  pub each : AllZip (IsReady n q held.records) rows verdicts

@@ -1,0 +1,181 @@
+//! What each call of a search lends on to the next.
+ghost use Rattle.std.specs.Prelude.{◌≡◌, ◌⊎◌, ◌++◌, ◌∷◌, ◌↔◌, [], ℕ, List, Option, IfOk, IfSome, IsFalse, IsNone, IsTrue};
+ghost use Rattle.plain_list.specs.Texts.{AreDistinct};
+ghost use Rattle.column_store.specs.Row.{row_of};
+ghost use Rattle.segment_format.specs.Layout.{IsFixed, IsHead};
+ghost use Rattle.archive_places.specs.Fronts.{fixed_in};
+ghost use Rattle.query_plan.specs.Laws.{IsSearched};
+ghost use Rattle.query_plan.specs.Pieces.{wide_pieces};
+ghost use Rattle.subquery_filter.specs.Barren.{IsBounded, LeavesOut};
+ghost use Rattle.subquery_filter.specs.Filter.{HasNoMatch};
+ghost use Rattle.search_walk.specs.Held.{IsTold, Named, named};
+ghost use Rattle.search_walk.specs.Opened.{IsBarrenFor, IsOpened, NoneTold};
+ghost use Rattle.search_walk.specs.Ready.{IsDecided};
+ghost use Rattle.search_walk.specs.StepsScope.{IsScope, scope};
+
+use crate::opening::open_segment;
+use crate::query::Query;
+use archive_open::{FileEntry, SegmentPlace};
+use archive_places::SegmentFront;
+use column_store::RowRef;
+use log_seams::Disk;
+use query_plan::wide_is_wider;
+use row_codec::Layouts;
+use segment_pages::SegmentPages;
+use std::marker::Model;
+use std::snapshot::Snapshot;
+use std::sync::ledger::Ledger;
+use step_count::Steps;
+use subquery_filter::{Filter, Verdict, barren_by, is_outside};
+use word_places::HeldWords;
+
+/// What a search goes over, borrowed: the query, the log types cut into pieces, what they and the words
+/// tell, and the files. It is the same in all calls of a search.
+#[derive(Drop)]
+pub struct Context<'q, D: Disk> {
+    query: &'q Query,
+    layouts: &'q Layouts,
+    filter: &'q Filter,
+    files: &'q [FileEntry],
+    /// The numbers of the needed words.
+    found: &'q [Option<u32>],
+    /// For proofs alone: what was held when the search began, and the disk, which tells the words.
+    held: Snapshot<HeldWords>,
+    disk: Snapshot<D>,
+}
+
+impl<'q, D: Disk> Model for Context<'q, D> {
+    ghost use Rattle.std.specs.Prelude.{◌≡◌};
+    ghost use Rattle.query_plan.specs.Laws.{IsSearched};
+    ghost use Rattle.query_plan.specs.Pieces.{wide_pieces};
+    ghost use Rattle.subquery_filter.specs.Barren.{IsBounded, LeavesOut};
+    ghost use Rattle.subquery_filter.specs.Filter.{IsFilter};
+    ghost use Rattle.search_walk.specs.Held.{IsTold, named};
+    ghost use Rattle.search_walk.specs.StepsScope.{IsScope, Scope, scope};
+
+    ghost Value = { Scope };
+
+    ghost view = { λ c. scope (named (D.state c.disk.value).seen c.held.value)
+        c.query.now c.files.now };
+
+    ghost invariant = { λ c. IsScope (named (D.state c.disk.value).seen c.held.value)
+        c.query.now c.layouts.now c.filter.now c.found.now };
+}
+
+impl<'q, D: Disk> Context<'q, D> {
+    /// What is lent on. The layouts are those of the log types, and the filter is that of the query,
+    /// over these and over the words that stand on the disk, of which the needed ones have the numbers
+    /// that were found.
+    pub fn new(
+        query: &'q Query,
+        layouts: &'q Layouts,
+        filter: &'q Filter,
+        files: &'q [FileEntry],
+        found: &'q [Option<u32>],
+        held: &HeldWords,
+        disk: &D,
+    ) -> Context<'q, D>
+        requires { IsScope (named (D.state disk.now).seen held.now)
+            query.now layouts.now filter.now found.now }
+        ensures { result ≡ scope (named (D.state disk.now).seen held.now) query.now files.now }
+    {
+        Context {
+            query,
+            layouts,
+            filter,
+            files,
+            found,
+            held: Snapshot::of(held),
+            disk: Snapshot::of(disk),
+        }
+    }
+
+    /// The file of a segment, and a reader of its pages. None where no archive has such a segment.
+    pub fn begin_segment<L: Ledger>(
+        &self,
+        segment: &SegmentPlace,
+        opened: &mut Steps<L>,
+    ) -> Option<(&FileEntry, SegmentPages)>
+        ensures some { IfSome result (λ r.
+            IsOpened self.now.files segment.now r.0.now r.1 opened.old opened.new) }
+        ensures none { IsNone result → (seen : Option (List ℕ)) (n : Named)
+            → NoneTold seen n self.now.files (segment.now ∷ []) }
+    {
+        open_segment(self.files, segment, opened)
+    }
+
+    /// Whether a segment's front tells that none of its messages is found. The pattern is one that was
+    /// read, as the laws of barren segments ask.
+    pub fn is_outside(&self, front: &SegmentFront) -> bool
+        ensures told { IsTrue result → IsFixed (fixed_in front.now) → (front.now.rows ≡ 0)
+            ⊎ (IsBounded self.now.query.range × LeavesOut self.now.query.range
+            front.now.stamped front.now.least front.now.greatest) }
+        ensures searched { IsSearched self.now.query.pattern }
+    {
+        is_outside(
+            front.rows,
+            front.stamped,
+            front.least,
+            front.greatest,
+            self.query.range(),
+        )
+    }
+
+    /// Whether a segment's head tells that none of its messages is found. The pattern is one that was
+    /// read, as the laws of barren segments ask.
+    pub fn is_barren(&self, held: &HeldWords, segment: &SegmentPlace) -> bool
+        requires { held.now.types ≡ self.now.names.types }
+        ensures told { IsTold self.now.names → IsHead segment.now.head
+            → AreDistinct self.now.names.words → IsTrue result ↔ IsBarrenFor
+            self.now.names.types self.now.names.words self.now.query segment.now }
+        ensures searched { IsSearched self.now.query.pattern }
+    {
+        barren_by(
+            &segment.head,
+            self.query.plan(),
+            self.query.range(),
+            held,
+            self.found,
+        )
+    }
+
+    /// Whether the log types and words that a segment's head lists leave one of its messages.
+    pub fn may_match(&self, segment: &SegmentPlace) -> bool
+        ensures { IsFalse result → IsTold self.now.names
+            → HasNoMatch (wide_pieces self.now.query.pattern)
+            self.now.names.types self.now.names.words
+            segment.now.head.types segment.now.head.words }
+    {
+        let head = &segment.head;
+        self.filter
+            .may_match(head.types.as_slice(), head.words.as_slice())
+    }
+
+    /// What is told of a row by its moment, and by its numbers alone. One that is out of the range counts
+    /// as rejected.
+    pub fn decide(&self, row: RowRef<'_>) -> Verdict
+        ensures { IsTold self.now.names
+            → IsDecided self.now.names self.now.query (row_of row.entry) result }
+    {
+        // What the pattern matches, the one that the search is planned over matches too.
+        wide_is_wider();
+        if !self.query.range().holds(row.pattern, row.moment) {
+            return Verdict::Rejected;
+        }
+        self.filter.verdict(row)
+    }
+
+    /// The query.
+    pub fn query(&self) -> &'q Query
+        ensures { result.now ≡ self.now.query }
+    {
+        self.query
+    }
+
+    /// The log types cut into pieces.
+    pub fn layouts(&self) -> &'q Layouts
+        ensures { result.now ≡ self.now.names.types }
+    {
+        self.layouts
+    }
+}
