@@ -1,3 +1,4 @@
+//! What a filter tells of segments and of rows. Each test is a table of cases over one pair of books.
 use crate::books::Books;
 use column_store::{Range, RowRef};
 use dict_core::BookRefusal;
@@ -10,46 +11,32 @@ use std::test::Fail;
 use subquery_filter::{Filter, Verdict, accepts, barren, barren_by, is_outside, verdict_of};
 use wild_match::read_pattern;
 
-/// The plan of a pattern's text.
-fn plan_of(alloc: Global, text: &[u8]) -> Result<Plan, Fail> {
-    let pattern = read_pattern(alloc, text).ok().ok_or("a pattern")?;
-    Ok(Plan::new(alloc, &pattern)?)
+/// What is asked by a pattern's plan, and what is to be told.
+enum Case {
+    /// A segment's rows, log types and words: whether it is barren.
+    Barren(u32, &'static [u32], &'static [u32], bool),
+    /// Whether a segment of one row has stamps, the bounds of a range: whether it is barren.
+    Outside(bool, Option<i64>, Option<i64>, bool),
+    /// A row's stamp, log type and words: whether it is accepted, or cannot be written.
+    Accepted(u8, i64, u32, &'static [u64], Option<bool>),
+    /// A log type: its verdict.
+    OfType(&'static [u8], Verdict),
+    /// A row's log type and words, the words that its segment lists: the row's verdict, and whether the
+    /// segment may match.
+    Bits(u32, &'static [u64], &'static [u32], Verdict, bool),
+    /// A row's stamp, log type and words: its verdict. A row that is left out is not accepted.
+    Number(u8, i64, u32, &'static [u64], Verdict),
+    /// A segment's log types and words: whether it may match.
+    MayMatch(&'static [u32], &'static [u32], bool),
+    /// The numbers of the words in which the pattern's only token stands, a row's log type and words: its
+    /// verdict.
+    Marked(&'static [u32], u32, &'static [u64], Verdict),
+    /// How many texts are looked for in words.
+    Needles(usize),
 }
 
-/// A log type, a pattern of one whole word that is no variable, whether a segment of that type alone
-/// may have it. A `\` before another byte is no constant byte, and a constant `\` belongs to a token.
-const RUNS: &[(&[u8], &[u8], bool)] = &[
-    (b"run \x12 x", b" run ", true),
-    (b"run \x12 x", b" x ", true),
-    (b"runs \x12", b" run ", false),
-    (b"rerun \x12", b" run ", false),
-    (b"a\\\\b c", b" a\\\\b ", true),
-    (b"a\\\\b c", b" a\\\\\\\\b ", false),
-    (b"x\\\x12 y", b" x ", true),
-    (b"x\x12 y", b" x ", true),
-    (b"y \\", b" y ", true),
-    (b"", b" x ", false),
-];
-
-/// Whether a segment of this log type alone, with no word, may match the pattern.
-fn may_have(alloc: Global, books: &mut Books, text: &[u8], pattern: &[u8]) -> Result<bool, Fail> {
-    let number = books.add_type(text)?;
-    Ok(!barren_of(books, alloc, pattern, 1, &[number], &[])?)
-}
-
-fn may_have_over_new(alloc: Global, text: &[u8], pattern: &[u8]) -> Result<bool, Fail> {
-    let mut books = Books::new(alloc, 1, 100);
-    may_have(alloc, &mut books, text, pattern)
-}
-
-#[test]
-fn runs_of_log_types(rt: HostRuntime) -> Result<(), Fail> {
-    for &(text, pattern, want) in RUNS {
-        let may = may_have_over_new(rt.alloc(), text, pattern)?;
-        assert!(rt; may == want, "{text:?} {pattern:?}");
-    }
-    Ok(())
-}
+/// A pattern's text, and what is asked by it.
+type Row = (&'static [u8], Case);
 
 /// The head of a segment of one file.
 fn head_of(
@@ -74,151 +61,62 @@ fn head_of(
     })
 }
 
-const TYPES: &[&[u8]] = &[b"run \x12 x", b" INFO \x11 took \x13 s", b"a\\\\b \x12"];
-
-const WORDS: &[&[u8]] = &[b"task_1", b"task_2", b"xfoo1y"];
-
-/// Names three log types and three words.
-fn name_some(books: &mut Books) -> Result<(), BookRefusal> {
-    for text in TYPES {
-        books.add_type(text)?;
-    }
-    for text in WORDS {
-        books.add_word(text)?;
-    }
-    Ok(())
-}
-
-/// Books of three log types and three words.
-fn some_books(alloc: Global) -> Result<Books, BookRefusal> {
-    let mut books = Books::new(alloc, 1, 100);
-    name_some(&mut books)?;
-    Ok(books)
-}
-
-/// A pattern's text, how many rows, log types, words, whether the segment is barren.
-const SEGMENTS: &[(&[u8], u32, &[u32], &[u32], bool)] = &[
-    (b" task_2 ", 1, &[0], &[1], false),
-    (b" task_2 ", 1, &[0], &[0, 2], true),
-    (b" task_9 ", 1, &[0], &[0, 1, 2], true),
-    (b"task_9", 1, &[0], &[0], false),
-    (b" 12 ", 1, &[0], &[0], false),
-    (b" took ", 1, &[0], &[], true),
-    (b" took ", 1, &[0, 1], &[], false),
-    (b" run  x ", 1, &[0], &[], false),
-    (b" a\\\\b ", 1, &[2], &[], false),
-    (b" \\*b ", 1, &[2], &[], true),
-    (b"", 0, &[0], &[], true),
-];
-
-/// Whether a segment without stamps, of these rows, log types and words, is barren of the pattern.
-fn barren_of(
-    books: &Books,
-    alloc: Global,
-    text: &[u8],
-    rows: u32,
-    types: &[u32],
-    words: &[u32],
-) -> Result<bool, Fail> {
-    let plan = plan_of(alloc, text)?;
-    let head = head_of(alloc, rows, false, types, words)?;
+/// Whether a segment is barren as told, and barren by the number of the needed word that was found
+/// before, where the plan has one needed word.
+fn is_barren(head: &Head, plan: &Plan, books: &Books, want: bool) -> bool {
     let range = Range {
         from: None,
         to: None,
     };
-    let told = barren(&head, &plan, &range, books);
-    if found_tells(&head, &plan, &range, books).is_some_and(|found| found != told) {
-        return Err("a number that was found".into());
-    }
-    Ok(told)
-}
-
-/// Whether a segment is barren by the number of the needed word that was found before, where the plan
-/// has one needed word.
-fn found_tells(head: &Head, plan: &Plan, range: &Range, books: &Books) -> Option<bool> {
     let needed = plan.needed().as_slice();
+    if barren(head, plan, &range, books) != want {
+        return false;
+    }
     if needed.len() != 1 {
-        return None;
+        return true;
     }
     let number = books.word_number(needed[0].as_slice());
-    Some(barren_by(head, plan, range, books, &[number]))
+    barren_by(head, plan, &range, books, &[number]) == want
 }
 
-/// How many segments up to the first that is barren or not other than told.
-fn barren_segments(alloc: Global, books: &Books) -> Result<usize, Fail> {
-    for (place, row) in SEGMENTS.iter().enumerate() {
-        let &(text, rows, types, words, want) = row;
-        if barren_of(books, alloc, text, rows, types, words)? != want {
-            return Ok(place);
-        }
-    }
-    Ok(SEGMENTS.len())
+/// Whether a segment is barren in a range, and left out for it.
+fn is_left_out(head: &Head, plan: &Plan, books: &Books, range: &Range) -> bool {
+    barren(head, plan, range, books)
+        && is_outside(head.rows, head.stamped, head.least, head.greatest, range)
 }
 
-fn barren_over_some(alloc: Global) -> Result<usize, Fail> {
-    let books = some_books(alloc)?;
-    barren_segments(alloc, &books)
-}
-
-#[test]
-fn segments_without_a_needed_text(rt: HostRuntime) -> Result<(), Fail> {
-    let told = barren_over_some(rt.alloc())?;
-    assert!(rt; told == SEGMENTS.len(), "{told}");
-    Ok(())
-}
-
-/// Whether a segment has stamps, the bounds of a range, whether the segment is barren. Each bound
-/// is tested for itself.
-const RANGES: &[(bool, Option<i64>, Option<i64>, bool)] = &[
-    (true, None, None, false),
-    (false, None, None, false),
-    (false, Some(0), None, true),
-    (true, Some(40), None, false),
-    (true, Some(41), None, true),
-    (true, None, Some(10), false),
-    (true, None, Some(9), true),
-    (true, Some(30), Some(20), false),
-];
-
-/// Whether a segment of one row is barren of a plan in a range.
-fn outside(
+/// Whether a case of a segment is as told.
+fn segment_holds(
     alloc: Global,
     books: &Books,
     plan: &Plan,
-    stamped: bool,
-    range: &Range,
+    case: &Case,
 ) -> Result<bool, AllocError> {
-    let head = head_of(alloc, 1, stamped, &[0], &[])?;
-    let left_out = is_outside(head.rows, head.stamped, head.least, head.greatest, range);
-    Ok(barren(&head, plan, range, books) && left_out)
-}
-
-/// How many ranges up to the first that leaves a segment barren or not other than told.
-fn told_ranges(alloc: Global, books: &Books, plan: &Plan) -> Result<usize, Fail> {
-    for (place, row) in RANGES.iter().enumerate() {
-        let &(stamped, from, to, want) = row;
-        if outside(alloc, books, plan, stamped, &Range { from, to })? != want {
-            return Ok(place);
+    match case {
+        Case::Barren(rows, types, words, want) => {
+            let head = head_of(alloc, *rows, false, types, words)?;
+            Ok(is_barren(&head, plan, books, *want))
         }
+        Case::Outside(stamped, from, to, want) => {
+            let head = head_of(alloc, 1, *stamped, &[0], &[])?;
+            let range = Range {
+                from: *from,
+                to: *to,
+            };
+            Ok(is_left_out(&head, plan, books, &range) == *want)
+        }
+        _ => Ok(false),
     }
-    Ok(RANGES.len())
 }
 
-fn told_ranges_of(alloc: Global, text: &[u8], books: &Books) -> Result<usize, Fail> {
-    let plan = plan_of(alloc, text)?;
-    told_ranges(alloc, books, &plan)
-}
-
-fn told_ranges_over_some(alloc: Global) -> Result<usize, Fail> {
-    let books = some_books(alloc)?;
-    told_ranges_of(alloc, b"x", &books)
-}
-
-#[test]
-fn segments_outside_a_range(rt: HostRuntime) -> Result<(), Fail> {
-    let told = told_ranges_over_some(rt.alloc())?;
-    assert!(rt; told == RANGES.len(), "{told}");
-    Ok(())
+/// A row.
+fn row_of(pattern: u8, moment: i64, log_type: u32, words: &[u64]) -> RowRef<'_> {
+    RowRef {
+        pattern,
+        moment,
+        log_type,
+        words,
+    }
 }
 
 /// Whether a row that can be written is accepted.
@@ -230,171 +128,312 @@ fn accepted(plan: &Plan, row: RowRef<'_>, books: &Books) -> Option<bool> {
     }
 }
 
-/// A pattern's text, a row's stamp, log type and words, whether it is accepted.
-const ROWS: &[(&[u8], u8, i64, u32, &[u64], Option<bool>)] = &[
-    (b" task_2 ", 0, 0, 0, &[1], Some(true)),
-    (b" task_2 ", 0, 0, 0, &[0], Some(false)),
-    (b"oo1", 0, 0, 0, &[2], Some(true)),
-    (b"o*y x", 0, 0, 0, &[2], Some(true)),
+/// Whether the filter tells a row so, and leaves it out only where it is not accepted.
+fn is_told(filter: &Filter, plan: &Plan, books: &Books, row: RowRef<'_>, want: Verdict) -> bool {
+    let verdict = filter.verdict(row);
+    let left_out = verdict == Verdict::Rejected && accepted(plan, row, books) != Some(false);
+    verdict == want && !left_out
+}
+
+/// Whether a case is as told by the filter.
+fn filter_tells(filter: &Filter, plan: &Plan, books: &Books, case: &Case) -> bool {
+    match case {
+        Case::Bits(log_type, words, listed, verdict, may) => {
+            filter.verdict(row_of(0, 0, *log_type, words)) == *verdict
+                && filter.may_match(&[*log_type], listed) == *may
+        }
+        Case::Number(pattern, moment, log_type, words, want) => {
+            let row = row_of(*pattern, *moment, *log_type, words);
+            is_told(filter, plan, books, row, *want)
+        }
+        Case::MayMatch(types, words, want) => filter.may_match(types, words) == *want,
+        _ => false,
+    }
+}
+
+/// The same by the filter of the plan.
+fn filter_holds(
+    alloc: Global,
+    books: &Books,
+    plan: &Plan,
+    case: &Case,
+) -> Result<bool, AllocError> {
+    let filter = Filter::new(alloc, plan, books)?;
+    Ok(filter_tells(&filter, plan, books, case))
+}
+
+/// The plan's filter, whose words are marked by these numbers.
+fn marked(
+    alloc: Global,
+    books: &Books,
+    plan: &Plan,
+    lists: &[NumberList],
+) -> Result<Filter, AllocError> {
+    Filter::begin(alloc, plan, books)?.mark(alloc, lists)
+}
+
+/// Whether that is the verdict on a row by a filter whose words are marked by these numbers.
+fn marks_hold(
+    alloc: Global,
+    books: &Books,
+    plan: &Plan,
+    numbers: &[u32],
+    row: RowRef<'_>,
+    want: Verdict,
+) -> Result<bool, AllocError> {
+    let list = NumberList::new(Vec::from_slice(alloc, numbers)?);
+    let filter = marked(alloc, books, plan, &[list])?;
+    Ok(filter.verdict(row) == want)
+}
+
+/// How many texts are looked for in words.
+fn needles(alloc: Global, books: &Books, plan: &Plan) -> Result<usize, AllocError> {
+    let filter = Filter::begin(alloc, plan, books)?;
+    Ok(filter.needles().len())
+}
+
+/// Whether a case is as told by the plan.
+fn plan_holds(alloc: Global, books: &Books, plan: &Plan, case: &Case) -> Result<bool, AllocError> {
+    match case {
+        Case::Barren(..) | Case::Outside(..) => segment_holds(alloc, books, plan, case),
+        Case::Accepted(pattern, moment, log_type, words, want) => {
+            let row = row_of(*pattern, *moment, *log_type, words);
+            Ok(accepted(plan, row, books) == *want)
+        }
+        Case::OfType(log_type, want) => Ok(verdict_of(plan, log_type) == *want),
+        Case::Marked(numbers, log_type, words, want) => {
+            let row = row_of(0, 0, *log_type, words);
+            marks_hold(alloc, books, plan, numbers, row, *want)
+        }
+        Case::Needles(want) => Ok(needles(alloc, books, plan)? == *want),
+        _ => filter_holds(alloc, books, plan, case),
+    }
+}
+
+/// The plan of a pattern's text.
+fn plan_of(alloc: Global, text: &[u8]) -> Result<Plan, Fail> {
+    let pattern = read_pattern(alloc, text).ok().ok_or("a pattern")?;
+    Ok(Plan::new(alloc, &pattern)?)
+}
+
+/// Whether a row is as told.
+fn holds(alloc: Global, books: &Books, row: &Row) -> Result<bool, Fail> {
+    let plan = plan_of(alloc, row.0)?;
+    Ok(plan_holds(alloc, books, &plan, &row.1)?)
+}
+
+/// How many rows up to the first that is not as told.
+fn told_rows(alloc: Global, books: &Books, rows: &[Row]) -> Result<usize, Fail> {
+    for (place, row) in rows.iter().enumerate() {
+        if !holds(alloc, books, row)? {
+            return Ok(place);
+        }
+    }
+    Ok(rows.len())
+}
+
+fn add_types(books: &mut Books, texts: &[&[u8]]) -> Result<(), BookRefusal> {
+    for text in texts {
+        books.add_type(text)?;
+    }
+    Ok(())
+}
+
+fn add_words(books: &mut Books, texts: &[&[u8]]) -> Result<(), BookRefusal> {
+    for text in texts {
+        books.add_word(text)?;
+    }
+    Ok(())
+}
+
+/// Log types and words of books, and rows that are asked over them.
+type Table = (
+    &'static [&'static [u8]],
+    &'static [&'static [u8]],
+    &'static [Row],
+);
+
+/// How many rows up to the first that is not as told, once the books have their log types and words.
+fn told_over(alloc: Global, books: &mut Books, table: &Table) -> Result<usize, Fail> {
+    add_types(books, table.0)?;
+    add_words(books, table.1)?;
+    told_rows(alloc, books, table.2)
+}
+
+fn told(alloc: Global, table: &Table) -> Result<usize, Fail> {
+    let mut books = Books::new(alloc, 1, 100);
+    told_over(alloc, &mut books, table)
+}
+
+/// Fails with the place of the first row that is not as told.
+fn all_hold(alloc: Global, table: &Table) -> Result<(), Fail> {
+    let told = told(alloc, table)?;
+    if told == table.2.len() {
+        Ok(())
+    } else {
+        Err(Fail::new(told))
+    }
+}
+
+/// Log types.
+const RUN_TYPES: &[&[u8]] = &[
+    b"run \x12 x",
+    b"runs \x12",
+    b"rerun \x12",
+    b"a\\\\b c",
+    b"x\\\x12 y",
+    b"x\x12 y",
+    b"y \\",
+    b"",
+];
+
+/// Patterns of one whole word that is no variable. A `\` before another byte is no constant byte, and a
+/// constant `\` belongs to a token.
+const RUNS: &[Row] = &[
+    // run \x12 x
+    (b" run ", Case::Barren(1, &[0], &[], false)),
+    (b" x ", Case::Barren(1, &[0], &[], false)),
+    // runs \x12
+    (b" run ", Case::Barren(1, &[1], &[], true)),
+    // rerun \x12
+    (b" run ", Case::Barren(1, &[2], &[], true)),
+    // a\\\\b c
+    (b" a\\\\b ", Case::Barren(1, &[3], &[], false)),
+    (b" a\\\\\\\\b ", Case::Barren(1, &[3], &[], true)),
+    // x\\\x12 y
+    (b" x ", Case::Barren(1, &[4], &[], false)),
+    // x\x12 y
+    (b" x ", Case::Barren(1, &[5], &[], false)),
+    // y \\
+    (b" y ", Case::Barren(1, &[6], &[], false)),
+    // an empty one
+    (b" x ", Case::Barren(1, &[7], &[], true)),
+];
+
+#[test]
+fn runs_of_log_types(rt: HostRuntime) -> Result<(), Fail> {
+    all_hold(rt.alloc(), &(RUN_TYPES, &[], RUNS))
+}
+
+const TYPES: &[&[u8]] = &[b"run \x12 x", b" INFO \x11 took \x13 s", b"a\\\\b \x12"];
+
+const WORDS: &[&[u8]] = &[b"task_1", b"task_2", b"xfoo1y"];
+
+/// Segments without a needed text, and others.
+const SEGMENTS: &[Row] = &[
+    (b" task_2 ", Case::Barren(1, &[0], &[1], false)),
+    (b" task_2 ", Case::Barren(1, &[0], &[0, 2], true)),
+    (b" task_9 ", Case::Barren(1, &[0], &[0, 1, 2], true)),
+    (b"task_9", Case::Barren(1, &[0], &[0], false)),
+    (b" 12 ", Case::Barren(1, &[0], &[0], false)),
+    (b" took ", Case::Barren(1, &[0], &[], true)),
+    (b" took ", Case::Barren(1, &[0, 1], &[], false)),
+    (b" run  x ", Case::Barren(1, &[0], &[], false)),
+    (b" a\\\\b ", Case::Barren(1, &[2], &[], false)),
+    (b" \\*b ", Case::Barren(1, &[2], &[], true)),
+    (b"", Case::Barren(0, &[0], &[], true)),
+];
+
+#[test]
+fn segments_without_a_needed_text(rt: HostRuntime) -> Result<(), Fail> {
+    all_hold(rt.alloc(), &(TYPES, WORDS, SEGMENTS))
+}
+
+/// Each bound is tested for itself.
+const RANGES: &[Row] = &[
+    (b"x", Case::Outside(true, None, None, false)),
+    (b"x", Case::Outside(false, None, None, false)),
+    (b"x", Case::Outside(false, Some(0), None, true)),
+    (b"x", Case::Outside(true, Some(40), None, false)),
+    (b"x", Case::Outside(true, Some(41), None, true)),
+    (b"x", Case::Outside(true, None, Some(10), false)),
+    (b"x", Case::Outside(true, None, Some(9), true)),
+    (b"x", Case::Outside(true, Some(30), Some(20), false)),
+];
+
+#[test]
+fn segments_outside_a_range(rt: HostRuntime) -> Result<(), Fail> {
+    all_hold(rt.alloc(), &(TYPES, WORDS, RANGES))
+}
+
+/// Rows that match, and others.
+const ROWS: &[Row] = &[
+    (b" task_2 ", Case::Accepted(0, 0, 0, &[1], Some(true))),
+    (b" task_2 ", Case::Accepted(0, 0, 0, &[0], Some(false))),
+    (b"oo1", Case::Accepted(0, 0, 0, &[2], Some(true))),
+    (b"o*y x", Case::Accepted(0, 0, 0, &[2], Some(true))),
     (
         b"41,123] INFO",
-        5,
-        1427089121123,
-        1,
-        &[7, 0x14F32],
-        Some(true),
+        Case::Accepted(5, 1427089121123, 1, &[7, 0x14F32], Some(true)),
     ),
     (
         b"-1 took 0.3",
-        5,
-        1427089121123,
-        1,
-        &[u64::MAX, 0x14F32],
-        Some(true),
+        Case::Accepted(5, 1427089121123, 1, &[u64::MAX, 0x14F32], Some(true)),
     ),
     (
         b"took 0.3 ",
-        5,
-        1427089121123,
-        1,
-        &[u64::MAX, 0x14F32],
-        Some(false),
+        Case::Accepted(5, 1427089121123, 1, &[u64::MAX, 0x14F32], Some(false)),
     ),
-    (b"a\\\\b t", 0, 0, 2, &[0], Some(true)),
-    (b"a\\\\\\\\b", 0, 0, 2, &[0], Some(false)),
-    (b"", 0, 0, 0, &[], None),
-    (b"", 0, 0, 3, &[], None),
+    (b"a\\\\b t", Case::Accepted(0, 0, 2, &[0], Some(true))),
+    (b"a\\\\\\\\b", Case::Accepted(0, 0, 2, &[0], Some(false))),
+    (b"", Case::Accepted(0, 0, 0, &[], None)),
+    (b"", Case::Accepted(0, 0, 3, &[], None)),
 ];
-
-/// Whether a row is accepted by the plan of a pattern as told.
-fn is_accepted(
-    alloc: Global,
-    books: &Books,
-    text: &[u8],
-    row: RowRef<'_>,
-    want: Option<bool>,
-) -> Result<bool, Fail> {
-    let plan = plan_of(alloc, text)?;
-    Ok(accepted(&plan, row, books) == want)
-}
-
-/// How many rows up to the first that is accepted or not other than told.
-fn accepted_rows(alloc: Global, books: &Books) -> Result<usize, Fail> {
-    for (place, row) in ROWS.iter().enumerate() {
-        let &(text, pattern, moment, log_type, words, want) = row;
-        let row = RowRef {
-            pattern,
-            moment,
-            log_type,
-            words,
-        };
-        if !is_accepted(alloc, books, text, row, want)? {
-            return Ok(place);
-        }
-    }
-    Ok(ROWS.len())
-}
-
-fn accepted_over_some(alloc: Global) -> Result<usize, Fail> {
-    let books = some_books(alloc)?;
-    accepted_rows(alloc, &books)
-}
 
 #[test]
 fn rows_that_match(rt: HostRuntime) -> Result<(), Fail> {
-    let told = accepted_over_some(rt.alloc())?;
-    assert!(rt; told == ROWS.len(), "{told}");
-    Ok(())
+    all_hold(rt.alloc(), &(TYPES, WORDS, ROWS))
 }
 
-/// A pattern's text, a log type, its verdict.
-const VERDICTS: &[(&[u8], &[u8], Verdict)] = &[
-    (b"", b"run \x12 x", Verdict::Certain),
-    (b" x", b"run \x12 x", Verdict::Certain),
-    (b"run * x", b"run \x12 x", Verdict::Certain),
-    (b" task_2 ", b"run \x12 x", Verdict::Tried),
-    (b"task", b"run \x12 x", Verdict::Tried),
-    (b" run ", b"run \x12 x", Verdict::Rejected),
-    (b" took ", b"run \x12 x", Verdict::Rejected),
-    (b"\n", b"run \x12 x", Verdict::Rejected),
+/// Log types by themselves.
+const VERDICTS: &[Row] = &[
+    (b"", Case::OfType(b"run \x12 x", Verdict::Certain)),
+    (b" x", Case::OfType(b"run \x12 x", Verdict::Certain)),
+    (b"run * x", Case::OfType(b"run \x12 x", Verdict::Certain)),
+    (b" task_2 ", Case::OfType(b"run \x12 x", Verdict::Tried)),
+    (b"task", Case::OfType(b"run \x12 x", Verdict::Tried)),
+    (b" run ", Case::OfType(b"run \x12 x", Verdict::Rejected)),
+    (b" took ", Case::OfType(b"run \x12 x", Verdict::Rejected)),
+    (b"\n", Case::OfType(b"run \x12 x", Verdict::Rejected)),
 ];
-
-/// The verdict on a log type by the plan of a pattern.
-fn verdict_under(alloc: Global, text: &[u8], log_type: &[u8]) -> Result<Verdict, Fail> {
-    Ok(verdict_of(&plan_of(alloc, text)?, log_type))
-}
 
 #[test]
 fn verdicts_of_log_types(rt: HostRuntime) -> Result<(), Fail> {
-    for (text, log_type, want) in VERDICTS {
-        let verdict = verdict_under(rt.alloc(), text, log_type)?;
-        assert!(rt; verdict == *want, "{text:?}");
-    }
-    Ok(())
-}
-
-/// A pattern's text, a row's log type and words, the words that its segment lists, the row's verdict, and
-/// whether the segment may match.
-const BITS: &[(&[u8], u32, &[u64], &[u32], Verdict, bool)] = &[
-    (b"task", 0, &[0], &[0], Verdict::Tried, true),
-    (b"task", 0, &[2], &[2], Verdict::Rejected, false),
-    (b"run*oo", 0, &[1], &[1, 2], Verdict::Rejected, true),
-    (b"run*oo", 0, &[2], &[1, 2], Verdict::Tried, true),
-    (b"run", 0, &[1], &[1], Verdict::Certain, true),
-    (b"took", 1, &[7, 0x14F32], &[], Verdict::Certain, true),
-    (b"oo1", 1, &[7, 0x14F32], &[], Verdict::Rejected, false),
-    (b"oo1", 1, &[2, 0x14F32], &[2], Verdict::Rejected, false),
-    (b"12", 0, &[0], &[0], Verdict::Rejected, true),
-];
-
-/// Whether the filter of a pattern tells this of a row and of a segment that lists the words.
-fn tells(
-    alloc: Global,
-    books: &Books,
-    text: &[u8],
-    row: RowRef<'_>,
-    listed: &[u32],
-    told: (Verdict, bool),
-) -> Result<bool, Fail> {
-    let plan = plan_of(alloc, text)?;
-    let filter = Filter::new(alloc, &plan, books)?;
-    Ok(
-        (
-            filter.verdict(row),
-            filter.may_match(&[row.log_type], listed),
-        ) == told,
-    )
-}
-
-/// How many rows up to the first that is told otherwise.
-fn told_rows(alloc: Global, books: &Books) -> Result<usize, Fail> {
-    for (place, row) in BITS.iter().enumerate() {
-        let &(text, log_type, words, listed, verdict, may) = row;
-        let row = RowRef {
-            pattern: 0,
-            moment: 0,
-            log_type,
-            words,
-        };
-        if !tells(alloc, books, text, row, listed, (verdict, may))? {
-            return Ok(place);
-        }
-    }
-    Ok(BITS.len())
-}
-
-fn told_over_some(alloc: Global) -> Result<usize, Fail> {
-    let books = some_books(alloc)?;
-    told_rows(alloc, &books)
+    all_hold(rt.alloc(), &(TYPES, WORDS, VERDICTS))
 }
 
 /// A row is told by what its words bring, and a segment by the words that its head lists. A number
 /// that happens to be that of a word brings nothing of the word.
+const BITS: &[Row] = &[
+    (b"task", Case::Bits(0, &[0], &[0], Verdict::Tried, true)),
+    (b"task", Case::Bits(0, &[2], &[2], Verdict::Rejected, false)),
+    (
+        b"run*oo",
+        Case::Bits(0, &[1], &[1, 2], Verdict::Rejected, true),
+    ),
+    (
+        b"run*oo",
+        Case::Bits(0, &[2], &[1, 2], Verdict::Tried, true),
+    ),
+    (b"run", Case::Bits(0, &[1], &[1], Verdict::Certain, true)),
+    (
+        b"took",
+        Case::Bits(1, &[7, 0x14F32], &[], Verdict::Certain, true),
+    ),
+    (
+        b"oo1",
+        Case::Bits(1, &[7, 0x14F32], &[], Verdict::Rejected, false),
+    ),
+    (
+        b"oo1",
+        Case::Bits(1, &[2, 0x14F32], &[2], Verdict::Rejected, false),
+    ),
+    (b"12", Case::Bits(0, &[0], &[0], Verdict::Rejected, true)),
+];
+
 #[test]
 fn rows_by_bits(rt: HostRuntime) -> Result<(), Fail> {
-    let told = told_over_some(rt.alloc())?;
-    assert!(rt; told == BITS.len(), "{told}");
-    Ok(())
+    all_hold(rt.alloc(), &(TYPES, WORDS, BITS))
 }
 
 const NUMBER_TYPES: &[&[u8]] = &[
@@ -413,259 +452,166 @@ const NUMBER_WORDS: &[&[u8]] = &[
     b"a-404",
 ];
 
-/// The log types and words of rows that are told by numbers.
-fn number_books(alloc: Global) -> Result<Books, Fail> {
-    let mut books = Books::new(alloc, 1, 100);
-    for text in NUMBER_TYPES {
-        books.add_type(text).ok().ok_or("a number")?;
-    }
-    for text in NUMBER_WORDS {
-        books.add_word(text).ok().ok_or("a number")?;
-    }
-    Ok(books)
-}
-
 /// The words of `0.335`, `1.5` and `-0.5`.
 const DECIMALS: [u64; 3] = [0x14F32, 0xF10, 0x8000_0000_0000_0510];
 
 /// `2025-03-01 00:00:00,404` and `2021-11-12 11:11:11,111` by the first pattern.
 const MOMENTS: [i64; 2] = [1_740_787_200_404, 1_636_715_471_111];
 
-/// A row's stamp, log type and words, its verdict.
-type NumberRow = (u8, i64, u32, &'static [u64], Verdict);
-
-/// A pattern's text, and rows.
-const NUMBER_ROWS: &[(&[u8], &[NumberRow])] = &[
+/// A row is told by the texts of its words and numbers and by its stamp. None that matches is left
+/// out.
+const NUMBER_ROWS: &[Row] = &[
     // a whole number, in words, numbers and stamps
+    (b" 404 ", Case::Number(0, 0, 0, &[1, 404], Verdict::Tried)),
     (
         b" 404 ",
-        &[
-            (0, 0, 0, &[1, 404], Verdict::Tried),
-            (0, 0, 0, &[1, 405], Verdict::Rejected),
-            (1, MOMENTS[1], 0, &[1, 405], Verdict::Rejected),
-        ],
+        Case::Number(0, 0, 0, &[1, 405], Verdict::Rejected),
+    ),
+    (
+        b" 404 ",
+        Case::Number(1, MOMENTS[1], 0, &[1, 405], Verdict::Rejected),
     ),
     (
         b"404",
-        &[
-            (1, MOMENTS[0], 0, &[1, 405], Verdict::Tried),
-            (0, 0, 0, &[6, 405], Verdict::Tried),
-            (0, 0, 0, &[1, 70_404], Verdict::Tried),
-            (0, 0, 0, &[1, 70_405], Verdict::Rejected),
-        ],
+        Case::Number(1, MOMENTS[0], 0, &[1, 405], Verdict::Tried),
     ),
+    (b"404", Case::Number(0, 0, 0, &[6, 405], Verdict::Tried)),
+    (b"404", Case::Number(0, 0, 0, &[1, 70_404], Verdict::Tried)),
+    (
+        b"404",
+        Case::Number(0, 0, 0, &[1, 70_405], Verdict::Rejected),
+    ),
+    (b"-404", Case::Number(0, 0, 0, &[6, 0], Verdict::Tried)),
     (
         b"-404",
-        &[
-            (0, 0, 0, &[6, 0], Verdict::Tried),
-            (0, 0, 0, &[1, u64::MAX - 403], Verdict::Tried),
-            (0, 0, 0, &[1, 404], Verdict::Rejected),
-        ],
+        Case::Number(0, 0, 0, &[1, u64::MAX - 403], Verdict::Tried),
     ),
+    (b"-404", Case::Number(0, 0, 0, &[1, 404], Verdict::Rejected)),
     // a decimal
     (
         b"0.335",
-        &[
-            (0, 0, 1, &[DECIMALS[0], 0], Verdict::Tried),
-            (0, 0, 1, &[DECIMALS[1], 0], Verdict::Rejected),
-            (1, MOMENTS[0], 0, &[0, 335], Verdict::Rejected),
-        ],
+        Case::Number(0, 0, 1, &[DECIMALS[0], 0], Verdict::Tried),
+    ),
+    (
+        b"0.335",
+        Case::Number(0, 0, 1, &[DECIMALS[1], 0], Verdict::Rejected),
+    ),
+    (
+        b"0.335",
+        Case::Number(1, MOMENTS[0], 0, &[0, 335], Verdict::Rejected),
     ),
     // addresses: a number that is that of a marked word is no such word
+    (b"10.0.", Case::Number(0, 0, 0, &[0, 7], Verdict::Tried)),
+    (b"10.0.", Case::Number(0, 0, 0, &[1, 0], Verdict::Rejected)),
+    (b"10.0.", Case::Number(0, 0, 1, &[0, 1], Verdict::Rejected)),
     (
-        b"10.0.",
-        &[
-            (0, 0, 0, &[0, 7], Verdict::Tried),
-            (0, 0, 0, &[1, 0], Verdict::Rejected),
-            (0, 0, 1, &[0, 1], Verdict::Rejected),
-        ],
+        b"10.2.15.191",
+        Case::Number(1, MOMENTS[0], 0, &[1, 7], Verdict::Tried),
     ),
     (
         b"10.2.15.191",
-        &[
-            (1, MOMENTS[0], 0, &[1, 7], Verdict::Tried),
-            (1, MOMENTS[0], 0, &[0, 7], Verdict::Rejected),
-        ],
+        Case::Number(1, MOMENTS[0], 0, &[0, 7], Verdict::Rejected),
     ),
     // words that look like numbers
+    (b"-0", Case::Number(0, 0, 0, &[3, 1], Verdict::Tried)),
+    (b"-0", Case::Number(0, 0, 0, &[1, 0], Verdict::Rejected)),
     (
         b"-0",
-        &[
-            (0, 0, 0, &[3, 1], Verdict::Tried),
-            (0, 0, 0, &[1, 0], Verdict::Rejected),
-            (0, 0, 1, &[DECIMALS[2], 1], Verdict::Tried),
-        ],
+        Case::Number(0, 0, 1, &[DECIMALS[2], 1], Verdict::Tried),
     ),
-    (
-        b"007",
-        &[
-            (0, 0, 0, &[2, 1], Verdict::Tried),
-            (0, 0, 0, &[1, 7], Verdict::Rejected),
-            (0, 0, 0, &[1, 10_070], Verdict::Tried),
-        ],
-    ),
-    (
-        b"+5",
-        &[
-            (0, 0, 0, &[4, 1], Verdict::Tried),
-            (0, 0, 0, &[1, 5], Verdict::Rejected),
-        ],
-    ),
+    (b"007", Case::Number(0, 0, 0, &[2, 1], Verdict::Tried)),
+    (b"007", Case::Number(0, 0, 0, &[1, 7], Verdict::Rejected)),
+    (b"007", Case::Number(0, 0, 0, &[1, 10_070], Verdict::Tried)),
+    (b"+5", Case::Number(0, 0, 0, &[4, 1], Verdict::Tried)),
+    (b"+5", Case::Number(0, 0, 0, &[1, 5], Verdict::Rejected)),
+    (b"1.", Case::Number(0, 0, 0, &[5, 1], Verdict::Tried)),
     (
         b"1.",
-        &[
-            (0, 0, 0, &[5, 1], Verdict::Tried),
-            (0, 0, 1, &[DECIMALS[1], 3], Verdict::Tried),
-            (0, 0, 0, &[3, 1], Verdict::Rejected),
-        ],
+        Case::Number(0, 0, 1, &[DECIMALS[1], 3], Verdict::Tried),
     ),
+    (b"1.", Case::Number(0, 0, 0, &[3, 1], Verdict::Rejected)),
     // stamps
     (
         b"2025-03-01 00",
-        &[
-            (0, 0, 0, &[3, 1], Verdict::Rejected),
-            (1, MOMENTS[0], 0, &[3, 1], Verdict::Tried),
-            (1, MOMENTS[1], 0, &[3, 1], Verdict::Rejected),
-        ],
+        Case::Number(0, 0, 0, &[3, 1], Verdict::Rejected),
+    ),
+    (
+        b"2025-03-01 00",
+        Case::Number(1, MOMENTS[0], 0, &[3, 1], Verdict::Tried),
+    ),
+    (
+        b"2025-03-01 00",
+        Case::Number(1, MOMENTS[1], 0, &[3, 1], Verdict::Rejected),
     ),
     // nine tokens: the first and the last share a bit
     (
         b"1 2 3 4 5 6 7 8 9",
-        &[
-            (0, 0, 2, &[1, 2, 3, 4, 5, 6, 7, 8, 9], Verdict::Tried),
-            (0, 0, 2, &[1, 2, 3, 4, 5, 6, 7, 8, 1], Verdict::Tried),
-            (0, 0, 2, &[1, 2, 3, 4, 5, 6, 7, 7, 9], Verdict::Rejected),
-        ],
+        Case::Number(0, 0, 2, &[1, 2, 3, 4, 5, 6, 7, 8, 9], Verdict::Tried),
+    ),
+    (
+        b"1 2 3 4 5 6 7 8 9",
+        Case::Number(0, 0, 2, &[1, 2, 3, 4, 5, 6, 7, 8, 1], Verdict::Tried),
+    ),
+    (
+        b"1 2 3 4 5 6 7 8 9",
+        Case::Number(0, 0, 2, &[1, 2, 3, 4, 5, 6, 7, 7, 9], Verdict::Rejected),
     ),
 ];
 
-/// Whether the filter of a pattern tells a row so, and leaves it out only where it is not accepted.
-fn is_told(plan: &Plan, filter: &Filter, books: &Books, told: &NumberRow) -> bool {
-    let (pattern, moment, log_type, words, want) = told;
-    let row = RowRef {
-        pattern: *pattern,
-        moment: *moment,
-        log_type: *log_type,
-        words,
-    };
-    let verdict = filter.verdict(row);
-    let left_out = verdict == Verdict::Rejected && accepted(plan, row, books) != Some(false);
-    verdict == *want && !left_out
-}
-
-/// A row is told by the texts of its words and numbers and by its stamp. None that matches is left
-/// out.
 #[test]
 fn rows_by_numbers(rt: HostRuntime) -> Result<(), Fail> {
-    let alloc = rt.alloc();
-    let books = number_books(alloc)?;
-    for (text, rows) in NUMBER_ROWS {
-        let plan = plan_of(alloc, text)?;
-        let filter = Filter::new(alloc, &plan, &books)?;
-        for told in *rows {
-            let well = is_told(&plan, &filter, &books, told);
-            assert!(rt; well, "{text:?} {:?}", told.3);
-        }
-    }
-    Ok(())
+    all_hold(rt.alloc(), &(NUMBER_TYPES, NUMBER_WORDS, NUMBER_ROWS))
 }
 
-/// A pattern's text, a segment's log types and words, whether it may match: its words are asked
-/// only where no stamp and no number may bring what is missing.
-const NUMBER_SEGMENTS: &[(&[u8], &[u32], &[u32], bool)] = &[
-    (b"10.0.", &[0], &[0], true),
-    (b"10.0.", &[0], &[1, 2], false),
-    (b"10.0.", &[2], &[0], false),
-    (b"404", &[2], &[], true),
-    (b"+5", &[0, 1], &[4], true),
-    (b"+5", &[0, 1], &[1], false),
-    (b"00:00", &[1], &[], true),
-    (b"-12345", &[0], &[], true),
-    (b"-12345.", &[0], &[], false),
-    (b"-12345.", &[1], &[], true),
+/// The words of a segment are asked only where no stamp and no number may bring what is missing.
+const NUMBER_SEGMENTS: &[Row] = &[
+    (b"10.0.", Case::MayMatch(&[0], &[0], true)),
+    (b"10.0.", Case::MayMatch(&[0], &[1, 2], false)),
+    (b"10.0.", Case::MayMatch(&[2], &[0], false)),
+    (b"404", Case::MayMatch(&[2], &[], true)),
+    (b"+5", Case::MayMatch(&[0, 1], &[4], true)),
+    (b"+5", Case::MayMatch(&[0, 1], &[1], false)),
+    (b"00:00", Case::MayMatch(&[1], &[], true)),
+    (b"-12345", Case::MayMatch(&[0], &[], true)),
+    (b"-12345.", Case::MayMatch(&[0], &[], false)),
+    (b"-12345.", Case::MayMatch(&[1], &[], true)),
 ];
 
 #[test]
 fn segments_by_numbers(rt: HostRuntime) -> Result<(), Fail> {
-    let alloc = rt.alloc();
-    let books = number_books(alloc)?;
-    for (text, types, words, want) in NUMBER_SEGMENTS {
-        let plan = plan_of(alloc, text)?;
-        let filter = Filter::new(alloc, &plan, &books)?;
-        let may = filter.may_match(types, words);
-        assert!(rt; may == *want, "{text:?} {types:?}");
-    }
-    Ok(())
-}
-
-/// A pattern's text, the numbers of the words in which its only token stands, a row's log type and
-/// words, its verdict.
-const MARKED: &[(&[u8], &[u32], u32, &[u64], Verdict)] = &[
-    (b"task", &[0, 1], 0, &[1], Verdict::Tried),
-    (b"task", &[0, 1], 0, &[2], Verdict::Rejected),
-    (b"task", &[], 0, &[0], Verdict::Rejected),
-    (
-        b"task",
-        &[70_000, 4_000_000],
-        0,
-        &[4_000_000],
-        Verdict::Tried,
-    ),
-    (
-        b"task",
-        &[70_000, 4_000_000],
-        0,
-        &[4_000_001],
-        Verdict::Rejected,
-    ),
-    (b"run", &[], 0, &[0], Verdict::Certain),
-];
-
-/// The verdict on a row by a filter whose words are marked by these numbers.
-fn marked(
-    alloc: Global,
-    books: &Books,
-    text: &[u8],
-    numbers: &[u32],
-    row: RowRef<'_>,
-) -> Result<Verdict, Fail> {
-    let plan = plan_of(alloc, text)?;
-    let filter = Filter::begin(alloc, &plan, books)?;
-    let list = NumberList::new(Vec::from_slice(alloc, numbers)?);
-    let filter = filter.mark(alloc, &[list])?;
-    Ok(filter.verdict(row))
+    all_hold(rt.alloc(), &(NUMBER_TYPES, NUMBER_WORDS, NUMBER_SEGMENTS))
 }
 
 /// Words are marked by the numbers of those that have the token: no word is looked at, and a log type
 /// whose rows cannot bring the token is given up.
+const MARKED: &[Row] = &[
+    (b"task", Case::Marked(&[0, 1], 0, &[1], Verdict::Tried)),
+    (b"task", Case::Marked(&[0, 1], 0, &[2], Verdict::Rejected)),
+    (b"task", Case::Marked(&[], 0, &[0], Verdict::Rejected)),
+    (
+        b"task",
+        Case::Marked(&[70_000, 4_000_000], 0, &[4_000_000], Verdict::Tried),
+    ),
+    (
+        b"task",
+        Case::Marked(&[70_000, 4_000_000], 0, &[4_000_001], Verdict::Rejected),
+    ),
+    (b"run", Case::Marked(&[], 0, &[0], Verdict::Certain)),
+];
+
 #[test]
 fn rows_by_marks(rt: HostRuntime) -> Result<(), Fail> {
-    let alloc = rt.alloc();
-    let books = some_books(alloc).ok().ok_or("a name")?;
-    for (text, numbers, log_type, words, want) in MARKED {
-        let row = RowRef {
-            pattern: 0,
-            moment: 0,
-            log_type: *log_type,
-            words,
-        };
-        let verdict = marked(alloc, &books, text, numbers, row)?;
-        assert!(rt; verdict == *want, "{text:?} {words:?}");
-    }
-    Ok(())
+    all_hold(rt.alloc(), &(TYPES, WORDS, MARKED))
 }
 
-/// A pattern's text, how many texts are looked for in words.
-const NEEDLES: &[(&[u8], usize)] = &[(b"task", 1), (b"task*oo", 2), (b" took ", 0), (b"run", 1)];
+const NEEDLES: &[Row] = &[
+    (b"task", Case::Needles(1)),
+    (b"task*oo", Case::Needles(2)),
+    (b" took ", Case::Needles(0)),
+    (b"run", Case::Needles(1)),
+];
 
 #[test]
 fn texts_looked_for(rt: HostRuntime) -> Result<(), Fail> {
-    let alloc = rt.alloc();
-    let books = some_books(alloc).ok().ok_or("a name")?;
-    for (text, want) in NEEDLES {
-        let plan = plan_of(alloc, text)?;
-        let filter = Filter::begin(alloc, &plan, &books)?;
-        assert!(rt; filter.needles().len() == *want, "{text:?}");
-    }
-    Ok(())
+    all_hold(rt.alloc(), &(TYPES, WORDS, NEEDLES))
 }
