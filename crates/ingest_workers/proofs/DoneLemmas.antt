@@ -1,5 +1,5 @@
 -- The last segment of a file.
-use Rattle.std.proofs.Common.{◌≡◌, ◌⊎◌, ⊎_elim, inl, inr, ℕ, zero, suc, ◌<◌, ◌≤◌, List, [], ◌∷◌, ◌++◌, Bool, true, false, length, refl, sym, ap, ap₂, ◌∙◌, subst, arith, append-nil, length-append, Option, None, Some}
+use Rattle.std.proofs.Common.{◌≡◌, ◌⊎◌, inl, inr, ℕ, zero, suc, ◌<◌, ◌≤◌, List, [], ◌∷◌, ◌++◌, Bool, true, false, length, refl, sym, ap, ap₂, ◌∙◌, subst, arith, append-nil, length-append, Option, None, Some}
 use Rattle.std.specs.Prelude.{is_some, ◌&&◌}
 use Rattle.log_seams.specs.Disk.{DiskState}
 use Rattle.turn_lock.specs.Words.{seen, about, number_of}
@@ -94,7 +94,7 @@ module _ {D R A B C : Type 0} (state : D → DiskState) (limit : ℕ) (start p :
     front = prefix_self taken;
     few = omega arith;
     all = λ is. refl;
-    cause = refl;
+    whole_none = λ is. refl;
     caused = inl (refl, refl);
     count = omega (arith, empty.first, d.first, d.not_yet.even, ap length d.taken_is, length-append (messages_in d.closed) d.messages);
     done = record {
@@ -124,9 +124,9 @@ module _ {D R A B C : Type 0} (state : D → DiskState) (limit : ℕ) (start p :
       segment_is : segment_of (marked ended segment).draft ≡ record { file = number_of start; first = length (messages_in d.closed); last = true; ended = ended; rows = segment.draft.columns.rows }
       segment_is = λ i. record { file = (d.file ∙ d.added.still.number) i; first = d.first i; last = true; ended = ended; rows = segment.draft.columns.rows }
 
-  pub none_done : (version : ℕ) (books : Books) (q : KeeperPass D) (new : OpenSegment) (why : Option Cause) (cause : Cause) → HasNotSealed state p q → new.draft.first ≡ segment.draft.first
-      → ((Some cause ≡ why) × (messages_in d.closed ≡ taken)) ⊎ HasSealCause state (FoundNoRoom state limit version books (λ first. IsPrefix first taken) (λ all. all ≡ taken) start q (messages_in d.closed)) start q cause
-      → IsOutcome state limit version books start q taken (λ all. all ≡ taken) ended why (record { messages = new.draft.first; whole = false; cause = Some cause })
+  pub none_done : (version : ℕ) (books : Books) (q : KeeperPass D) (new : OpenSegment) (why cause : Option Cause) → HasNotSealed state p q → new.draft.first ≡ segment.draft.first
+      → ((cause ≡ why) × (messages_in d.closed ≡ taken)) ⊎ ((c : Cause) × (cause ≡ Some c) × HasSealCause state (FoundNoRoom state limit version books (λ first. IsPrefix first taken) (λ all. all ≡ taken) start q (messages_in d.closed)) start q c)
+      → IsOutcome state limit version books start q taken (λ all. all ≡ taken) ended why (record { messages = new.draft.first; whole = false; cause = cause })
   none_done version books q new why cause none first caused =
       let c : Covering state limit start q new (taken ++ [] ∷ []) = covering state limit start p m segment taken d q new [] none first in
       record {
@@ -134,9 +134,8 @@ module _ {D R A B C : Type 0} (state : D → DiskState) (limit : ℕ) (start p :
         front = (d.messages, sym d.taken_is);
         few = omega (arith, c.few, length-append taken ([] ∷ []), at_most_one why);
         all = λ is. absurd (cc (is));
-        cause = refl;
-        caused = ⊎_elim (λ (all : (Some cause ≡ why) × (messages_in d.closed ≡ taken)). inl all)
-            (λ (has : HasSealCause state (FoundNoRoom state limit version books (λ first. IsPrefix first taken) (λ all. all ≡ taken) start q (messages_in d.closed)) start q cause). inr (cause, refl, has)) caused;
+        whole_none = λ is. absurd (cc (is));
+        caused = caused;
         count = c.first;
         done = record {
           closed = c.closed;
@@ -168,8 +167,8 @@ module _ {D R A B C : Type 0} (state : D → DiskState) (limit : ℕ) (start p :
   pub all_sealed : length segment.draft.columns.rows ≡ 0 → messages_in d.closed ≡ taken
   all_sealed none = sym (d.taken_is ∙ (ap (λ l. messages_in d.closed ++ l) (none_left d.messages (omega (arith, none, d.not_yet.even))) ∙ append-nil (messages_in d.closed)))
 
-  pub empty_done : (version : ℕ) (books : Books) (cause : Cause) → length segment.draft.columns.rows ≡ 0 → IsOutcome state limit version books start p taken (λ all. all ≡ taken) ended (Some cause) (record { messages = segment.draft.first; whole = false; cause = Some cause })
-  empty_done version books cause none = none_done state limit start p m segment taken ended d version books p segment (Some cause) cause (nothing_sealed state p d.worker.ready) refl (inl (refl, all_sealed none))
+  pub empty_done : (version : ℕ) (books : Books) (cause : Option Cause) → length segment.draft.columns.rows ≡ 0 → IsOutcome state limit version books start p taken (λ all. all ≡ taken) ended cause (record { messages = segment.draft.first; whole = false; cause = cause })
+  empty_done version books cause none = none_done state limit start p m segment taken ended d version books p segment cause cause (nothing_sealed state p d.worker.ready) refl (inl (refl, all_sealed none))
 
 -- the segment of a rest with messages, in a file that is not whole
 rest_rows : (file first : ℕ) (ended : Bool) (rows : List Row) (messages : Texts) → 0 < length rows
@@ -195,14 +194,14 @@ module _ {D R A B C : Type 0} (state : D → DiskState) (limit : ℕ) (start p :
     end = λ last open_end. absurd (cc (last, d.not_last));
   }
 
-  pub part_done : (version : ℕ) (books : Books) (q : KeeperPass D) (new : OpenSegment) (cause : Cause) → IsEmptied segment new → HasSealed state segment.draft p q
-      → NowHas state segment.draft m.version (types_seen m) (words_seen m) p q → IsOutcome state limit version books start q taken (λ all. all ≡ taken) ended (Some cause) (record { messages = new.draft.first; whole = false; cause = Some cause })
+  pub part_done : (version : ℕ) (books : Books) (q : KeeperPass D) (new : OpenSegment) (cause : Option Cause) → IsEmptied segment new → HasSealed state segment.draft p q
+      → NowHas state segment.draft m.version (types_seen m) (words_seen m) p q → IsOutcome state limit version books start q taken (λ all. all ≡ taken) ended cause (record { messages = new.draft.first; whole = false; cause = cause })
   part_done version books q new cause empty sealed has_now = record {
     covered = taken;
     front = prefix_self taken;
-    few = omega (arith, few_in_hand state limit start p m segment taken d, at_most_one (Some cause));
+    few = omega (arith, few_in_hand state limit start p m segment taken d, at_most_one cause);
     all = λ is. refl;
-    cause = refl;
+    whole_none = λ is. absurd (cc (is));
     caused = inl (refl, refl);
     count = omega (arith, empty.first, d.first, d.not_yet.even, ap length d.taken_is, length-append (messages_in d.closed) d.messages);
     done = record {

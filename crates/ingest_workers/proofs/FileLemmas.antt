@@ -22,7 +22,7 @@ use Rattle.disk_seal.specs.Fixed.{KeeperPass}
 use Rattle.disk_seal.proofs.ToldLemmas.{told_map}
 use Rattle.ingest_workers.specs.declared.job.Job.{Job}
 use Rattle.ingest_workers.specs.declared.worker.Plan.{Plan}
-use Rattle.ingest_workers.specs.Full.{Books}
+use Rattle.ingest_workers.specs.Full.{AreAllOf, Books}
 use Rattle.ingest_workers.specs.JobDone.{IsDone, in_source}
 use Rattle.ingest_workers.specs.Journal.{FrontHolds, segments_in, entries_at, sealed_by}
 use Rattle.ingest_workers.specs.Locked.{in_file}
@@ -75,9 +75,11 @@ module _ {S D : Type 0} {d : DiskGhosts D} (left name : S → Option (List ℕ))
     ended = o.ended;
     count = o.count;
     cause = done.cause;
+    part = done.part;
     unopened = done.unopened;
     first = subst (λ s. OfMessages plan.version (in_source left s) (λ messages e. IsPrefix o.covered messages)) (sym done.source.had) o.first;
     all = λ w. subst (λ s. OfMessages plan.version (in_source left s) (λ messages e. (o.covered ≡ messages) × (o.ended ≡ e))) (sym done.source.had) (o.all w);
+    none = λ given spared. subst (λ s. AreAllOf plan.version (in_source left s) o.covered) (sym done.source.had) (done.none given spared);
     closed = h.closed;
     rest = h.rest;
     parts = h.covered_is;

@@ -39,13 +39,13 @@ use Rattle.line_cut.specs.declared.cut.Mark.{Mark}
 use Rattle.ingest_workers.specs.Causes.{EndsLog, HasJobCause, HasLogCause, HasSealCause, HaveMoreThan, IsFullCause, Log, cause_by, grounds_of, log_from, log_of}
 use Rattle.ingest_workers.specs.NoRoom.{FoundNoRoom}
 use Rattle.row_codec.specs.declared.namer.Which.{Which}
-use Rattle.ingest_workers.specs.Full.{AreFirstOf, Books, IsAmongFirst, IsMore, IsNextOf, WasFullBehind, WasFullFor, book_of, books_by}
+use Rattle.ingest_workers.specs.Full.{AreAllOf, AreFirstOf, Books, IsAmongFirst, IsMore, IsNextOf, WasFullBehind, WasFullFor, book_of, books_by}
 use Rattle.ingest_workers.specs.Namer.{HasOnlySeen}
 use Rattle.ingest_workers.proofs.FullLemmas.{books_on, full_wider, more_self}
 use Rattle.ingest_workers.specs.Doing.{Doing, NotSealed}
 use Rattle.ingest_workers.specs.Done.{IsOutcome}
 use Rattle.ingest_workers.specs.OpenSegment.{IsEmptySegment}
-use Rattle.ingest_workers.specs.JobDone.{CameTo}
+use Rattle.ingest_workers.specs.JobDone.{CameTo, CameToAll}
 use Rattle.ingest_workers.specs.Journal.{FrontHolds, HasSoFar}
 use Rattle.ingest_workers.specs.MaySeal.{IsWorker}
 use Rattle.ingest_workers.specs.Namer.{types_pass, words_pass, types_seen, words_seen}
@@ -442,7 +442,7 @@ module _ {D R A B C : Type 0} (state : D → DiskState) (limit : ℕ) (start p :
     front = c.front;
     few = omega (arith, c.few);
     all = λ is. absurd (cc (is));
-    cause = refl;
+    whole_none = λ is. absurd (cc (is));
     count = c.first;
     done = record {
       closed = c.closed;
@@ -508,16 +508,9 @@ module _ {D R A B C : Type 0} (state : D → DiskState) (limit version : ℕ) (l
       )
       ends_by (Err (Lost cause)) caused tells is = absurd is
 
-  module _ (books : Books) (o : IsOutcome state limit version books start q t.taken (UpToRest answer t.taken) (mark_of answer) (why_of answer) outcome) (whole : outcome.whole ≡ true → (ended : Bool) × (answer ≡ Ok ended)) where
+  module _ (books : Books) (o : IsOutcome state limit version books start q t.taken (UpToRest answer t.taken) (mark_of answer) (why_of answer) outcome) (ends : outcome.cause ≡ None → (ended : Bool) × (answer ≡ Ok ended)) where
     not_lost : (x : Cause) → answer ≡ Err (Lost x) → outcome.cause ≡ None → ⊥
-    not_lost x is none =
-        let not_none : not outcome.whole ≡ false = sym o.cause ∙ ap is_some none in
-        let all : outcome.whole ≡ true = is_whole outcome.whole not_none in
-        let w = whole all in cc (w.1, is)
-      where
-        is_whole : (b : Bool) → not b ≡ false → b ≡ true
-        is_whole true is = refl
-        is_whole false is = absurd (cc (is))
+    not_lost x is none = cc ((ends none).1, is)
 
     caused_by : ((book : Which) → IsMore (book_of known book) (book_of books book)) → HasJobCause (grounds_of state limit version books log.bytes start q) log version o.covered outcome.cause
     caused_by more =
@@ -534,20 +527,36 @@ module _ {D R A B C : Type 0} (state : D → DiskState) (limit version : ℕ) (l
         first_taken (last_taken books more) o.covered) seal.0 seal.2))
         o.caused
 
-  pub came_to : (m : LockNamer R A B C) → HasOnlySeen n m → (v : ℕ) → v ≡ version → IsOutcome state limit v (books_by (types_pass m) (words_pass m)) start q t.taken (UpToRest answer t.taken) (mark_of answer) (why_of answer) outcome → (outcome.whole ≡ true → (ended : Bool) × (answer ≡ Ok ended))
-      → CameTo state limit version (books_by (types_pass m) (words_pass m)) log start q outcome
-  came_to m seen v same at_v whole =
+  -- at the end of the source those that were taken are all of the log
+  covered_all : (covered : Texts) (ended : Bool) → answer ≡ Ok ended → covered ≡ t.taken → AreAllOf version log.bytes covered
+  covered_all covered ended is all = if_some log.bytes told (λ b. (messages : Texts) (e : Bool) → MessagesOf version b messages e → covered ≡ messages)
+      (λ b tells messages e of. (all_at_end answer ended is t.taken covered messages e all (tells messages e of)).0) t.told
+
+  pub came_to : (m : LockNamer R A B C) → HasOnlySeen n m → (v : ℕ) → v ≡ version → IsOutcome state limit v (books_by (types_pass m) (words_pass m)) start q t.taken (UpToRest answer t.taken) (mark_of answer) (why_of answer) outcome → (outcome.cause ≡ None → (ended : Bool) × (answer ≡ Ok ended))
+      → CameToAll state limit version (books_by (types_pass m) (words_pass m)) log start q outcome
+  came_to m seen v same at_v ends =
       let o : IsOutcome state limit version (books_by (types_pass m) (words_pass m)) start q t.taken (UpToRest answer t.taken) (mark_of answer) (why_of answer) outcome
       = subst (λ x. IsOutcome state limit x (books_by (types_pass m) (words_pass m)) start q t.taken (UpToRest answer t.taken) (mark_of answer) (why_of answer) outcome) same at_v in record {
-        covered = o.covered;
-        ended = mark_of answer;
-        count = o.count;
-        caused = caused_by (books_by (types_pass m) (words_pass m)) o whole (books_on (types_pass n) (types_pass m) (words_pass n) (words_pass m) seen.types seen.words);
-        done = o.done;
-        first = if_some log.bytes told (AreFirst version o.covered) (λ b tells messages e is. first_of answer t.taken o.covered messages e o.front (tells messages e is)) t.told;
-        all = λ w. if_some log.bytes told (AreAll version o.covered (mark_of answer)) (λ b tells messages e is.
-            all_at_end answer (whole w).0 (whole w).1 t.taken o.covered messages e (o.all w) (tells messages e is)) t.told;
+        came = record {
+          covered = o.covered;
+          ended = mark_of answer;
+          count = o.count;
+          caused = caused_by (books_by (types_pass m) (words_pass m)) o ends (books_on (types_pass n) (types_pass m) (words_pass n) (words_pass m) seen.types seen.words);
+          done = o.done;
+          first = if_some log.bytes told (AreFirst version o.covered) (λ b tells messages e is. first_of answer t.taken o.covered messages e o.front (tells messages e is)) t.told;
+          all = λ w. let at_end = ends (o.whole_none w) in if_some log.bytes told (AreAll version o.covered (mark_of answer)) (λ b tells messages e is.
+              all_at_end answer at_end.0 at_end.1 t.taken o.covered messages e (o.all w) (tells messages e is)) t.told;
+        };
+        none = λ none. let at_end = ends none in covered_all o.covered at_end.0 at_end.1 (all_sealed o none);
       }
+    where
+      all_sealed : (o : IsOutcome state limit version (books_by (types_pass m) (words_pass m)) start q t.taken (UpToRest answer t.taken) (mark_of answer) (why_of answer) outcome) → outcome.cause ≡ None → o.covered ≡ t.taken
+      all_sealed o none =
+          ⊎_elim
+          (λ (stop : (outcome.cause ≡ why_of answer) × (o.covered ≡ t.taken)). stop.1)
+          (λ (seal : (c : Cause) × (outcome.cause ≡ Some c) × HasSealCause state (FoundNoRoom state limit version (books_by (types_pass m) (words_pass m)) (λ first. IsPrefix first t.taken) (UpToRest answer t.taken) start q o.covered) start q c).
+          absurd (cc (sym none ∙ seal.1)))
+          o.caused
 
   module _ (v : ℕ) (books : Books) (o : IsOutcome state limit v books start q t.taken (UpToRest answer t.taken) (mark_of answer) (why_of answer) outcome) where
     -- what was met, where these messages are sealed

@@ -1,5 +1,5 @@
 -- A job whose source was not opened.
-use Rattle.std.proofs.Common.{◌≡◌, ◌≤◌, ℕ, false, List, [], refl, sym, subst, arith, Option, None, Some}
+use Rattle.std.proofs.Common.{◌≡◌, ◌≤◌, ℕ, false, List, [], refl, sym, ap, subst, arith, Option, None, Some}
 use Rattle.std.specs.Prelude.{IsSome}
 use Rattle.log_seams.specs.Disk.{DiskState}
 use Rattle.turn_lock.specs.Words.{IsReady}
@@ -28,9 +28,11 @@ module _ {S D : Type 0} (state : D → DiskState) (left name : S → Option (Lis
   unfolding source_stays
   left_undone rows version books j p least so_far ready closed new = let source = source_stays name faults j in record {
     file = refl;
-    cause = λ given. absurd (cc (given, closed));
+    cause = λ given to_be. absurd (cc (given, closed));
+    part = λ is. ap (λ (o : Outcome). o.whole) new;
     unopened = λ is. new;
     source = source;
     came = subst (λ (o : Outcome). CameTo state rows version books (log_of left faults source.before source.after) p p o) (sym new)
         (came_none state rows least p so_far version books (log_of left faults source.before source.after) ready None refl);
+    none = λ given spared. absurd (cc (given, closed));
   }

@@ -1,5 +1,5 @@
 -- What is left of a job.
-use Rattle.std.specs.Prelude.{◌≡◌, ◌⊎◌, ℕ, ◌+◌, ◌≤◌, ◌&&◌, Bool, true, not, is_some, List, ◌++◌, length, Option, Some, All}
+use Rattle.std.specs.Prelude.{◌≡◌, ◌⊎◌, ℕ, ◌+◌, ◌≤◌, ◌&&◌, Bool, true, List, ◌++◌, length, Option, None, Some, All}
 use mathlib.Core.List.{IsPrefix}
 use Rattle.log_seams.specs.Disk.{DiskState}
 use Rattle.turn_lock.specs.Words.{seen, number_of}
@@ -31,17 +31,17 @@ module _ {D : Type 0} where
         (number_of start) (length (messages_in closed)) whole ended rest)
     pub held : WhereTold state start (λ h. FrontHolds h (journal_seen (seen p)) (number_of start) covered whole (whole && ended))
 
-  -- The outcome counts those of the messages taken that are sealed, and has a cause exactly where the file is not whole. It is
-  -- the one for which no further message was taken, and then all of them are sealed; or why a segment was not, where this is
-  -- known of the books: `last` holds of the messages up to those of a rest that was refused. Of those that were met no more than
-  -- the limit of rows are not.
+  -- The outcome counts those of the messages taken that are sealed, and has no cause where the file is whole. Its cause is the one
+  -- for which no further message was taken, and then all of them are sealed; or why a segment was not, where this is known of the
+  -- books: `last` holds of the messages up to those of a rest that was refused. Of those that were met no more than the limit of
+  -- rows are not.
   pub record IsOutcome (state : D → DiskState) (limit version : ℕ) (books : Books) (start p : KeeperPass D)
       (taken : List (List ℕ)) (last : List (List ℕ) → Type 0) (ended : Bool) (why : Option Cause) (o : Outcome) : Type 0 where
     pub covered : List (List ℕ)
     pub front : IsPrefix covered taken
     pub few : length taken + refused_by why ≤ length covered + limit
     pub all : o.whole ≡ true → covered ≡ taken
-    pub cause : is_some o.cause ≡ not o.whole
+    pub whole_none : o.whole ≡ true → o.cause ≡ None
     pub caused : ((o.cause ≡ why) × (covered ≡ taken))
         ⊎ ((c : Cause) × (o.cause ≡ Some c) × HasSealCause state
         (FoundNoRoom state limit version books (λ first. IsPrefix first taken) last start p covered) start p c)

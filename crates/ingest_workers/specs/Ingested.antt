@@ -34,7 +34,7 @@ use Rattle.ingest_workers.specs.Outcome.{nothing_done}
 use Rattle.ingest_workers.specs.Journal.{FrontHolds, Holds}
 use Rattle.ingest_workers.specs.Parts.{IsCut, IsOpen, Part, messages_in, rest_of, segments_from}
 use Rattle.ingest_workers.specs.Causes.{Grounds, Limits, HasJobCause, limit_of, log_of}
-use Rattle.ingest_workers.specs.Full.{AreFirstOf, Books, IsFullBy, IsNextOf, IsTextOf, WasFullBehind}
+use Rattle.ingest_workers.specs.Full.{AreAllOf, AreFirstOf, Books, IsFullBy, IsNextOf, IsTextOf, WasFullBehind}
 use Rattle.ingest_workers.specs.NoRoom.{HadNoRoom, IsBetween, WereKnown}
 use Rattle.ingest_workers.specs.JobDone.{HasSourceBack, in_source}
 use Rattle.ingest_workers.specs.StartedWorkers.{BookMaker, EndsBook}
@@ -261,20 +261,23 @@ module _ {S D : Type 0} {d : DiskGhosts D} where
 
 module _ {S D : Type 0} {d : DiskGhosts D} where
   -- A job was done. The messages that its outcome counts are the first ones of its source, and all of them where the file is
-  -- whole; there is a cause exactly where it is not. Where its source was not opened nothing was done. They are cut in parts.
-  -- Where the journal is told, the file's segments among the new entries are exactly those of the parts, in order, and a front of
-  -- the journal holds exactly these messages of the file.
+  -- whole, or its source was read and there is no cause. Of a file that was to be whole there is a cause exactly where it is not; a
+  -- part is not whole. Where its source was not opened nothing was done. The messages are cut in parts. Where the journal is told,
+  -- the file's segments among the new entries are exactly those of the parts, in order, and a front of the journal holds exactly
+  -- these messages of the file.
   pub record IsFileOf (left : S → Option (List ℕ)) (plan : Plan) (before : Journal D d) (fresh : List JournalEntry)
       (old new : Job S) : Type 0 where
     pub file : new.file ≡ old.file
     pub covered : List (List ℕ)
     pub ended : Bool
     pub count : new.outcome.messages ≡ length covered
-    pub cause : old.is_open ≡ true → is_some new.outcome.cause ≡ not new.outcome.whole
+    pub cause : old.is_open ≡ true → old.is_part ≡ false → is_some new.outcome.cause ≡ not new.outcome.whole
+    pub part : old.is_part ≡ true → new.outcome.whole ≡ false
     pub unopened : old.is_open ≡ false → new.outcome ≡ nothing_done
     pub first : OfMessages plan.version (in_source left old.source) (λ messages e. IsPrefix covered messages)
     pub all : new.outcome.whole ≡ true → OfMessages plan.version (in_source left old.source)
         (λ messages e. (covered ≡ messages) × (ended ≡ e))
+    pub none : old.is_open ≡ true → new.outcome.cause ≡ None → AreAllOf plan.version (in_source left old.source) covered
     pub closed : List Part
     pub rest : Part
     pub parts : covered ≡ messages_in closed ++ rest.messages

@@ -8,7 +8,7 @@ use Rattle.ingest_workers.specs.declared.job.Job.{Job}
 use Rattle.ingest_workers.specs.declared.outcome.Outcome.{Outcome}
 use Rattle.ingest_workers.specs.Causes.{Log, HasJobCause, grounds_of, log_of}
 use Rattle.ingest_workers.specs.Done.{HasDone}
-use Rattle.ingest_workers.specs.Full.{Books, IsOneOf}
+use Rattle.ingest_workers.specs.Full.{AreAllOf, Books, IsOneOf}
 use Rattle.ingest_workers.specs.Outcome.{nothing_done}
 use Rattle.ingest_workers.specs.Taking.{KeepsSource}
 
@@ -38,6 +38,12 @@ module _ {D : Type 0} where
         → (covered ≡ messages) × (ended ≡ e))
     pub caused : HasJobCause (grounds_of state limit version books log.bytes start p) log version covered o.cause
 
+  -- The same of a log that was read: where there is no cause, the messages that the pass has added are all of the file.
+  pub record CameToAll (state : D → DiskState) (limit version : ℕ) (books : Books) (log : Log) (start p : KeeperPass D)
+      (o : Outcome) : Type 0 where
+    pub came : CameTo state limit version books log start p o
+    pub none : o.cause ≡ None → AreAllOf version log.bytes came.covered
+
 module _ {S : Type 0} where
   -- the job has its source back
   pub record HasSourceBack (name : S → Option (List ℕ)) (faults : S → ℕ) (j j' : Job S) : Type 0 where
@@ -49,11 +55,14 @@ module _ {S : Type 0} where
 
 module _ {S D : Type 0} where
   -- The job was done with this pass, in segments of at most so many rows, where this is known of the books then, and has its
-  -- source back. There is a cause exactly where the file is not whole; where the source was not opened nothing was done.
+  -- source back. Of a file that was to be whole there is a cause exactly where it is not; a part is not whole. Where there is none,
+  -- all messages of a source that was read are added; where the source was not opened nothing was done.
   pub record IsDone (state : D → DiskState) (left name : S → Option (List ℕ)) (faults : S → ℕ) (rows version : ℕ) (books : Books)
       (j : Job S) (p : KeeperPass D) (j' : Job S) (q : KeeperPass D) : Type 0 where
     pub file : j'.file ≡ j.file
-    pub cause : j.is_open ≡ true → is_some j'.outcome.cause ≡ not j'.outcome.whole
+    pub cause : j.is_open ≡ true → j.is_part ≡ false → is_some j'.outcome.cause ≡ not j'.outcome.whole
+    pub part : j.is_part ≡ true → j'.outcome.whole ≡ false
     pub unopened : j.is_open ≡ false → j'.outcome ≡ nothing_done
     pub source : HasSourceBack name faults j j'
     pub came : CameTo state rows version books (log_of left faults source.before source.after) p q j'.outcome
+    pub none : j.is_open ≡ true → j'.outcome.cause ≡ None → AreAllOf version (left source.before) came.covered

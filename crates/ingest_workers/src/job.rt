@@ -12,6 +12,8 @@ pub struct Job<S> {
     pub(crate) source: Option<S>,
     // Where not, no worker reads it.
     pub(crate) is_open: bool,
+    // Where so, the file is not marked whole.
+    pub(crate) is_part: bool,
     pub(crate) outcome: Outcome,
     ghost full: { IsSome source },
 }
@@ -22,12 +24,36 @@ impl<S> Job<S> {
         ensures file { result.file ≡ file }
         ensures source { result.source ≡ Some source }
         ensures opened { result.is_open ≡ true }
+        ensures part { result.is_part ≡ false }
         ensures outcome { result.outcome ≡ nothing_done }
     {
         Job {
             file,
             source: Some(source),
             is_open: true,
+            is_part: false,
+            outcome: Outcome {
+                messages: 0,
+                whole: false,
+                cause: None,
+            },
+        }
+    }
+
+    /// The same of a source that is not the whole file: its rest is sealed as a segment that is not
+    /// marked last. Its outcome is not whole, and has no cause where all its messages were sealed.
+    pub fn part_of(file: u32, source: S) -> Job<S>
+        ensures file { result.file ≡ file }
+        ensures source { result.source ≡ Some source }
+        ensures opened { result.is_open ≡ true }
+        ensures part { result.is_part ≡ true }
+        ensures outcome { result.outcome ≡ nothing_done }
+    {
+        Job {
+            file,
+            source: Some(source),
+            is_open: true,
+            is_part: true,
             outcome: Outcome {
                 messages: 0,
                 whole: false,
@@ -41,12 +67,14 @@ impl<S> Job<S> {
         ensures file { result.file ≡ file }
         ensures source { result.source ≡ Some source }
         ensures opened { result.is_open ≡ false }
+        ensures part { result.is_part ≡ false }
         ensures outcome { result.outcome ≡ nothing_done }
     {
         Job {
             file,
             source: Some(source),
             is_open: false,
+            is_part: false,
             outcome: Outcome {
                 messages: 0,
                 whole: false,
@@ -71,6 +99,7 @@ impl<S> Job<S> {
             file: _,
             source,
             is_open: _,
+            is_part: _,
             outcome: _,
         } = self;
         let Some(source) = source else { unreachable!() };

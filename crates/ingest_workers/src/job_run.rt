@@ -1,10 +1,10 @@
 //! One worker's work on one file.
-ghost use Rattle.std.specs.Prelude.{◌≡◌, ◌≤◌, [], is_some, not};
+ghost use Rattle.std.specs.Prelude.{◌≡◌, ◌≤◌, [], false, true, is_some, not};
 ghost use Rattle.turn_lock.specs.Words.{number_of};
 ghost use Rattle.ingest_workers.specs.Causes.{log_of};
 ghost use Rattle.ingest_workers.specs.Full.{IsAmongFirst, books_by};
 ghost use Rattle.ingest_workers.specs.Journal.{HasSoFar};
-ghost use Rattle.ingest_workers.specs.JobDone.{CameTo, HasSourceBack, IsDone, in_source};
+ghost use Rattle.ingest_workers.specs.JobDone.{CameToAll, HasSourceBack, IsDone, in_source};
 ghost use Rattle.ingest_workers.specs.MaySeal.{IsWorker};
 ghost use Rattle.ingest_workers.specs.Namer.{IsNamerOf, types_pass, words_pass};
 ghost use Rattle.ingest_workers.specs.Met.{WasMetBy};
@@ -28,12 +28,13 @@ use std::sync::ledger::Ledger;
 use turn_lock::Pass;
 
 /// Takes the messages of a source as those of a file, which is new in the archive, and hands the
-/// source back.
+/// source back. `part` tells whether the file is not to be marked whole.
 fn take_source<'d, 'b, S: Source, D: Disk, R: Wait, A: Ledger, B: Ledger, C: Ledger>(
     rt: &R,
     alloc: Global,
     rows: u32,
     file: u32,
+    part: bool,
     source: S,
     namer: &mut LockNamer<'_, '_, R, A, B, C>,
     keeper: &mut Pass<'_, Store<'d, 'b, D>>,
@@ -53,8 +54,9 @@ fn take_source<'d, 'b, S: Source, D: Disk, R: Wait, A: Ledger, B: Ledger, C: Led
     // the answer
     ensures turns { TakesFewOf D.state rows (S.left source) result.1
         keeper.old keeper.new namer.old namer.new }
-    ensures cause { is_some result.1.cause ≡ not result.1.whole }
-    ensures came { CameTo D.state rows namer.old.version
+    ensures cause { part ≡ false → is_some result.1.cause ≡ not result.1.whole }
+    ensures part { part ≡ true → result.1.whole ≡ false }
+    ensures came { CameToAll D.state rows namer.old.version
         (books_by (types_pass namer.new) (words_pass namer.new))
         (log_of S.left S.faults source result.0) keeper.old keeper.new result.1 }
 {
@@ -71,7 +73,7 @@ fn take_source<'d, 'b, S: Source, D: Disk, R: Wait, A: Ledger, B: Ledger, C: Led
     };
     let mut segment = OpenSegment::new(alloc, file);
     let stop = add_messages(rt, alloc, rows, &mut reader, &mut segment, namer, keeper);
-    let outcome = finish_file(rt, alloc, rows, stop, &mut segment, namer, keeper);
+    let outcome = finish_file(rt, alloc, rows, part, stop, &mut segment, namer, keeper);
     (reader.into_source(), outcome)
 }
 
@@ -79,8 +81,8 @@ fn take_source<'d, 'b, S: Source, D: Disk, R: Wait, A: Ledger, B: Ledger, C: Led
 /// rows, and the texts that they name are named by the worker's namer.
 ///
 /// `keeper` is the pass over the store that has the file's number. What came of it is the job's
-/// outcome, and the job has its source back, read as far as it was. Of a source that was not opened
-/// nothing is read, and the outcome stays as it was.
+/// outcome, and the job has its source back, read as far as it was. The file of a part is not marked
+/// whole. Of a source that was not opened nothing is read, and the outcome stays as it was.
 pub fn run_job<'d, 'b, S: Source, D: Disk, R: Wait, A: Ledger, B: Ledger, C: Ledger>(
     job: &mut Job<S>,
     rt: &R,
@@ -114,7 +116,16 @@ pub fn run_job<'d, 'b, S: Source, D: Disk, R: Wait, A: Ledger, B: Ledger, C: Led
     let Some(source) = job.source.take() else {
         unreachable!()
     };
-    let (source, outcome) = take_source(rt, alloc, rows, job.file, source, namer, keeper);
+    let (source, outcome) = take_source(
+        rt,
+        alloc,
+        rows,
+        job.file,
+        job.is_part,
+        source,
+        namer,
+        keeper,
+    );
     job.outcome = outcome;
     let left = job.source.replace(source);
     let None = left else { unreachable!() };

@@ -62,8 +62,8 @@ impl From<AllocError> for Cause {
 pub struct Outcome {
     /// How many messages of the file the disk has, durably.
     pub messages: u64,
-    /// Whether these are all messages of the source, and the file is marked whole.
+    /// Whether these are all messages of the source, and the file is marked whole; a part is not.
     pub whole: bool,
-    /// Why it is not whole; of a source that was not opened no cause is told.
+    /// Why they are not all; of a source that was not opened no cause is told.
     pub cause: Option<Cause>,
 }

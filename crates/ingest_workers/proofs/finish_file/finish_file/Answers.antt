@@ -1,4 +1,4 @@
-use Rattle.std.proofs.Common.{rules, ◌≡◌, Ok, Err, subst, sym}
+use Rattle.std.proofs.Common.{rules, ◌≡◌, Ok, Err, false, subst, sym}
 use Rattle.std.specs.Prelude.{Bool, Result}
 use Rattle.ingest_workers.specs.declared.file_end.FileEnd.{FileEnd}
 use Rattle.ingest_workers.specs.Done.{IsOutcome}
@@ -11,8 +11,8 @@ use Rattle.ingest_workers.specs.declared.file_end.FileEnd.TheVariants.{Part, Los
 use Rattle.ingest_workers.proofs.TakingLemmas.{at_end, at_part, lost_outcome}
 use Rattle.ingest_workers.proofs.finish_file.finish_file.Goals as goal
 
-pub seal_last-requires-clause-doing : goal.seal_last-requires-clause-doing
-seal_last-requires-clause-doing g c =
+pub seal_end-requires-clause-doing : goal.seal_end-requires-clause-doing
+seal_end-requires-clause-doing g c =
     let is : c.args.stop ≡ Ok c.in-Ok.ended = search rules in
     let s = c.requires.stops in
     let at = at_end g.D.Disk.state c.args.rows s.0 c.args.keeper.now c.args.namer.now c.args.segment.now s.1 c.args.stop c.in-Ok.ended is s.3 in
@@ -32,7 +32,7 @@ returns-in-Err-Lost-clause-outcome g c = λ start taken s.
 pub returns-in-Ok-clause-turns : goal.returns-in-Ok-clause-turns
 returns-in-Ok-clause-turns g c =
     let is : c.args.stop ≡ Ok c.in-Ok.ended = search rules in
-    subst (λ (s : Result Bool FileEnd). EndBoth g.D.Disk.state (spare_of (stop_in s)) c.args.keeper.now c.seal_last.new.keeper c.args.namer.now c.seal_last.new.namer) (sym is) c.seal_last.ensures.turns
+    subst (λ (s : Result Bool FileEnd). EndBoth g.D.Disk.state (spare_of (stop_in s)) c.args.keeper.now c.seal_end.new.keeper c.args.namer.now c.seal_end.new.namer) (sym is) c.seal_end.ensures.turns
 
 pub returns-in-Err-Part-clause-turns : goal.returns-in-Err-Part-clause-turns
 returns-in-Err-Part-clause-turns g c =
@@ -46,12 +46,12 @@ pub returns-in-Ok-clause-outcome : goal.returns-in-Ok-clause-outcome
 returns-in-Ok-clause-outcome g c = λ start taken s.
     let is : c.args.stop ≡ Ok c.in-Ok.ended = search rules in
     let at = at_end g.D.Disk.state c.args.rows start c.args.keeper.now c.args.namer.now c.args.segment.now taken c.args.stop c.in-Ok.ended is s in
-    subst (λ (a : Result Bool FileEnd). IsOutcome g.D.Disk.state c.args.rows c.args.namer.now.version (books_by (types_pass c.seal_last.new.namer) (words_pass c.seal_last.new.namer)) start c.seal_last.new.keeper taken
-    (UpToRest a taken) (mark_of a) (why_of a) c.seal_last.result) (sym is) (c.seal_last.ensures.outcome start taken at.0)
+    subst (λ (a : Result Bool FileEnd). IsOutcome g.D.Disk.state c.args.rows c.args.namer.now.version (books_by (types_pass c.seal_end.new.namer) (words_pass c.seal_end.new.namer)) start c.seal_end.new.keeper taken
+    (UpToRest a taken) (mark_of a) (why_of a) c.seal_end.result) (sym is) (c.seal_end.ensures.outcome start taken at.0)
 
 pub returns-in-Err-Part-clause-outcome : goal.returns-in-Err-Part-clause-outcome
 returns-in-Err-Part-clause-outcome g c = λ start taken s.
     let is : c.args.stop ≡ Err (Part c.in-Err-Part.cause) = search rules in
     let at = at_part g.D.Disk.state c.args.rows start c.args.keeper.now c.args.namer.now c.args.segment.now taken c.args.stop c.in-Err-Part.cause is s in
     subst (λ (a : Result Bool FileEnd). IsOutcome g.D.Disk.state c.args.rows c.args.namer.now.version (books_by (types_pass c.seal_part.new.namer) (words_pass c.seal_part.new.namer)) start c.seal_part.new.keeper taken
-    (UpToRest a taken) (mark_of a) (why_of a) c.seal_part.result) (sym is) (c.seal_part.ensures.outcome start taken at)
+    (UpToRest a taken) (mark_of a) (why_of a) c.seal_part.result) (sym is) (c.seal_part.ensures.outcome start taken false at)

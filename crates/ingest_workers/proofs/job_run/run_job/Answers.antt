@@ -26,9 +26,11 @@ returns-clause-done g c =
     record {
       file = search rules;
       cause = λ some. c.take_source-source.ensures.cause;
+      part = c.take_source-source.ensures.part;
       unopened = λ closed. absurd (cc (given, closed));
       source = record { before = c.in-Some.source; after = c.take_source-source.result.0; had = is; has = search rules; keeps = c.take_source-source.ensures.source };
-      came = c.take_source-source.ensures.came;
+      came = c.take_source-source.ensures.came.came;
+      none = λ some. c.take_source-source.ensures.came.none;
     }
 
 -- ---- a source that was not opened
