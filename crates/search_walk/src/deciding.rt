@@ -52,6 +52,9 @@ fn decide_row<D: Disk>(
     if is_rejected(verdict) {
         return Ok(verdict);
     }
+    if held.is_whole() {
+        return Ok(verdict);
+    }
     let answer = held.hold_row(disk, row);
     // The numbers of the records still go on from one to the next.
     let _ = held.record_count();

@@ -1,5 +1,5 @@
 -- Records that are held.
-use Rattle.std.proofs.Common.{◌≡◌, ℕ, zero, suc, ◌+◌, ◌-◌, ◌<◌, List, [], ◌∷◌, length, set, All, refl, sym, ap, subst, ◌∙◌, arith, length-append, ⊎_elim}
+use Rattle.std.proofs.Common.{◌≡◌, ℕ, zero, suc, ◌+◌, ◌-◌, ◌<◌, ◌≤◌, List, [], ◌∷◌, length, set, All, refl, sym, ap, subst, ◌∙◌, arith, length-append, ⊎_elim}
 use Rattle.std.specs.Prelude.{Option, Some, None, IfSome, slice_get, Contains, is_some, true, false}
 use Rattle.std.proofs.lemmas.Bool.{cases_lt}
 use Rattle.std.proofs.lemmas.Option.{get_or_from_slice_get, same_Some, slice_get_past, slice_get_within}
@@ -11,7 +11,7 @@ use Rattle.word_places.specs.Places.{AreWords, OfTexts, OfWords, Spells, payload
 use Rattle.word_places.specs.Held.{AreHeld, AreNumbered, Grow, Grows, HasNumber, IsHeld, IsRight, RightTold, lent, lends, places_of}
 use Rattle.word_places.specs.Laws.{HeldAgree, HeldStay}
 use Rattle.word_places.specs.Local.{Agree}
-use Rattle.word_places.specs.StepsHeld.{Puts, TellsRead}
+use Rattle.word_places.specs.StepsHeld.{AreReadTo, Puts, TellsRead}
 use Rattle.word_places.proofs.OrderLemmas.{get_behind, get_left, placed, text_lent}
 
 -- ---- growth
@@ -244,3 +244,59 @@ pub agree_told : (told : Option (List ℕ)) (old new : List HeldRecord) (numbers
 agree_told None old new numbers are grow right held = tt
 agree_told (Some bytes) old new numbers are grow right held = λ words spelled.
     all_agree bytes new words numbers are right (subst (λ (ps : List WordsPlace). AreWords 0 ps bytes words) (sym (grow_places old new grow)) spelled) held
+
+-- ---- the records at the front
+
+-- a record whose words are there has them
+some_words : (words : Option (List (List ℕ))) → is_some words ≡ true → (ws : List (List ℕ)) × (words ≡ Some ws)
+some_words None is = absurd (cc (is))
+some_words (Some ws) is = (ws, refl)
+
+-- which record grew into one
+grow_from : (old new : List HeldRecord) (at : ℕ) (s : HeldRecord) → Grow old new → slice_get new at ≡ Some s → (r : HeldRecord) × (slice_get old at ≡ Some r) × Grows r s
+grow_from [] [] at s grow is = absurd (cc (is))
+grow_from [] (t ∷ new) at s grow is = absurd grow
+grow_from (q ∷ old) [] at s grow is = absurd grow
+grow_from (q ∷ old) (t ∷ new) zero s grow is =
+    let same : t ≡ s = cc (is) in
+    (q, refl, subst (λ (x : HeldRecord). Grows q x) same grow.0)
+grow_from (q ∷ old) (t ∷ new) (suc at) s grow is = grow_from old new at s grow.1 is
+
+-- what was read stays so
+pub read_grown : (count : ℕ) (old new : List HeldRecord) → Grow old new → AreReadTo count old → AreReadTo count new
+read_grown count old new grow read at s lt is =
+    let was = grow_from old new at s grow is in
+    let words = some_words was.0.words (read at was.0 lt was.1) in
+    ap is_some (was.2.words words.0 words.1)
+
+-- the record that has a number
+having : (from : ℕ) (records : List HeldRecord) (number : ℕ) → AreNumbered from records → from ≤ number → number < from + length (lends records)
+    → (at : ℕ) × (r : HeldRecord) × (slice_get records at ≡ Some r) × HasNumber r number
+having from [] number are low high = absurd (omega (arith, low, high))
+having from (r ∷ records) number are low high =
+    ⊎_elim
+    (λ here. (0, r, refl, record { low = omega (arith, low, are.0); high = omega (arith, here, are.0) }))
+    (λ there.
+    let rest = having (from + r.place.count) records number are.2 (omega (arith, there)) (omega (arith, high, are.1, length-append (lent r) (lends records))) in
+    (suc rest.0, rest.1, rest.2, rest.3))
+    (cases_lt number (from + r.place.count))
+
+-- where all records were read, each number is held
+pub all_held : (count : ℕ) (records : List HeldRecord) (numbers : List ℕ) → AreNumbered 0 records → AreReadTo count records → length records ≤ count → AreHeld records numbers
+all_held count records numbers are read whole n listed within =
+    let r = having 0 records n are (omega arith) (omega (arith, within)) in
+    read_is_held records r.0 n r.1 r.2 r.3 (λ s is. sym (read r.0 s (omega (arith, whole, slice_get_within records r.0 s is)) is))
+
+-- one more
+pub read_more : (count : ℕ) (records : List HeldRecord) → AreReadTo count records → TellsRead records count true → AreReadTo (count + 1) records
+read_more count records read tells at r lt is =
+    ⊎_elim
+    (λ before. read at r before is)
+    (λ last.
+    let same : at ≡ count = omega (arith, lt, last) in
+    sym (tells r (subst (λ (n : ℕ). slice_get records n ≡ Some r) same is)))
+    (cases_lt at count)
+
+-- more than that are not there
+pub read_end : (count : ℕ) (records : List HeldRecord) → AreReadTo count records → length records ≤ count → AreReadTo (length records) records
+read_end count records read end at r lt is = read at r (omega (arith, lt, end)) is

@@ -1,5 +1,5 @@
 -- Steps on the way to words that are held.
-use Rattle.std.specs.Prelude.{◌≡◌, ◌<◌, ◌≤◌, ℕ, Bool, List, ◌∷◌, set, is_some, Option, Some, None, slice_get}
+use Rattle.std.specs.Prelude.{◌≡◌, ◌<◌, ◌≤◌, ℕ, Bool, true, List, ◌∷◌, set, is_some, Option, Some, None, slice_get}
 use Rattle.logtype_text.specs.declared.symbols.Kind.{Kind}
 use Rattle.word_places.specs.declared.held.HeldRecord.{HeldRecord}
 
@@ -14,6 +14,10 @@ StartsPast records at number = (r : HeldRecord) → slice_get records at ≡ Som
 -- this tells whether the record at a place was read
 abbrev pub TellsRead : List HeldRecord → ℕ → Bool → Type 0
 TellsRead records at read = (r : HeldRecord) → slice_get records at ≡ Some r → read ≡ is_some r.words
+
+-- so many records at the front were read
+abbrev pub AreReadTo : ℕ → List HeldRecord → Type 0
+AreReadTo count records = (at : ℕ) (r : HeldRecord) → at < count → slice_get records at ≡ Some r → is_some r.words ≡ true
 
 -- the record at a place got these words
 abbrev pub Puts : List HeldRecord → ℕ → List (List ℕ) → List HeldRecord → Type 0

@@ -1,6 +1,6 @@
 //! The words of an archive, of which some records are held in memory.
-ghost use Rattle.std.specs.Prelude.{◌≡◌, length, map, IfOk};
-ghost use Rattle.word_places.specs.Held.{AreNumbered, HeldNames, unread};
+ghost use Rattle.std.specs.Prelude.{◌≡◌, ℕ, List, IsTrue, length, map, IfOk};
+ghost use Rattle.word_places.specs.Held.{AreHeld, AreNumbered, HeldNames, unread};
 ghost use Rattle.word_places.specs.Places.{AreInOrder};
 
 use crate::lending::{number_in, text_in};
@@ -29,16 +29,20 @@ pub struct HeldWords {
     pub(crate) types: Texts,
     pub(crate) version: u32,
     pub(crate) records: Vec<HeldRecord>,
+    /// How many records at the front are known to be read. It goes on after each read, so that it is
+    /// their count soon after the last one was read.
+    pub(crate) front: usize,
 }
 
 impl Model for HeldWords {
     ghost use Rattle.word_places.specs.Held.{AreNumbered, HeldNames};
+    ghost use Rattle.word_places.specs.StepsHeld.{AreReadTo};
 
     ghost Value = { HeldNames };
 
     ghost view = { λ h. record { types = h.types; version = h.version; records = h.records.items } };
 
-    ghost invariant = { λ h. AreNumbered 0 h.records.items };
+    ghost invariant = { λ h. AreNumbered 0 h.records.items × AreReadTo h.front h.records.items };
 }
 
 impl HeldWords {
@@ -67,6 +71,7 @@ impl HeldWords {
             types,
             version,
             records,
+            front: 0,
         })
     }
 
@@ -76,6 +81,14 @@ impl HeldWords {
         ensures numbered { AreNumbered 0 self.now.records }
     {
         self.records.len()
+    }
+
+    /// Whether all records were read, so that whatever words a row has are held. Asks nothing.
+    #[inline]
+    pub fn is_whole(&self) -> bool
+        ensures whole { IsTrue result → (numbers : List ℕ) → AreHeld self.now.records numbers }
+    {
+        self.front >= self.records.len()
     }
 }
 

@@ -6,7 +6,7 @@ ghost use Rattle.column_store.specs.Row.{row_of};
 ghost use Rattle.row_codec.specs.Numbers.{numbers_of_row};
 ghost use Rattle.word_places.specs.Held.{AreHeld, AreNumbered, Grow, HasNumber, IsHeld, RightTold, lends, places_of};
 ghost use Rattle.word_places.specs.Local.{Agree};
-ghost use Rattle.word_places.specs.StepsHeld.{Puts, TellsRead};
+ghost use Rattle.word_places.specs.StepsHeld.{AreReadTo, Puts, TellsRead};
 ghost use Rattle.word_places.specs.Places.{OfWords};
 ghost use Rattle.word_places.specs.declared.held.HeldRecord.{HeldRecord};
 ghost use Rattle.word_places.specs.Reads.{ReadsOneOf, ReadsWords};
@@ -45,7 +45,9 @@ impl HeldWords {
         ensures counts { CountsOf HoldRefusal.DiskFault
             (D.state disk.old).faults (D.state disk.new).faults result }
     {
-        hold_in(self.alloc, &mut self.records, disk, number)
+        let answer = hold_in(self.alloc, &mut self.records, disk, number);
+        self.front = read_front(self.records.as_slice(), self.front);
+        answer
     }
 
     /// Reads the records of all words of a row that are not read yet. Where each record that was read
@@ -76,7 +78,9 @@ impl HeldWords {
             (D.state disk.old).faults (D.state disk.new).faults result }
     {
         let text = type_at(&self.types, row.log_type);
-        hold_slots(self.alloc, &mut self.records, disk, text, row.words)
+        let answer = hold_slots(self.alloc, &mut self.records, disk, text, row.words);
+        self.front = read_front(self.records.as_slice(), self.front);
+        answer
     }
 }
 
@@ -140,6 +144,19 @@ fn wanted(records: &[HeldRecord], number: u32) -> Option<usize>
         return None;
     }
     Some(at)
+}
+
+// How many records at the front were read, where it is known of so many.
+fn read_front(records: &[HeldRecord], known: usize) -> usize
+    requires { AreReadTo known records.now }
+    ensures { AreReadTo result records.now }
+{
+    for at in known..records.len() {
+        if !is_read(records, at) {
+            return at;
+        }
+    }
+    records.len()
 }
 
 // Whether a record was read.

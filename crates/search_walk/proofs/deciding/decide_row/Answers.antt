@@ -5,6 +5,9 @@ use Rattle.search_walk.proofs.deciding.decide_row.Goals as goal
 pub returns-then-is_rejected-clause-grow : goal.returns-then-is_rejected-clause-grow
 returns-then-is_rejected-clause-grow g c = grow_same c.args.held.now.records
 
+pub returns-then-is_whole-clause-grow : goal.returns-then-is_whole-clause-grow
+returns-then-is_whole-clause-grow g c = grow_same c.args.held.now.records
+
 pub returns-in_err-answer-clause-serves : goal.returns-in_err-answer-clause-serves
 returns-in_err-answer-clause-serves g c =
     serves_grown c.args.context.now.names (g.D.Disk.state c.args.disk.now).seen c.args.held.now c.hold_row-answer.new.self c.requires.told c.requires.serves c.hold_row-answer.ensures.same.0
