@@ -1,3 +1,4 @@
+mod BetweenLemmas
 mod FitLemmas
 mod PlaceLemmas
 mod TableLemmas

@@ -28,7 +28,7 @@ matches_stand text stamp m = some_stands text stamp m
 
 -- ---- and where the template allows it
 
-same_byte : (stamp text : List ℕ) (at : ℕ) → StandsAt text stamp at → (i : ℕ) → i < length text → slice_index stamp (at + i) ≡ slice_index text i
+pub same_byte : (stamp text : List ℕ) (at : ℕ) → StandsAt text stamp at → (i : ℕ) → i < length text → slice_index stamp (at + i) ≡ slice_index text i
 same_byte stamp text at h i small =
     sym (get_or-drop at stamp i 0) ∙ sym (get_or-take (length text) (drop at stamp) i 0 small) ∙ ap (λ x. get_or x i 0) h.1
 

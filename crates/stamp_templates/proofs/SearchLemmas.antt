@@ -32,7 +32,7 @@ none_more template text at i r place before iff shut k small f =
     ]
 
 -- from 29 on there is none
-within : (k at : ℕ) (text : List ℕ) → FitsAt (template_of k) text at → at < 29
+pub within : (k at : ℕ) (text : List ℕ) → FitsAt (template_of k) text at → at < 29
 within k at text f = omega (arith, f.0, short_template k)
 
 pub holds_none : MatchesStand → PlacesFit → (k : ℕ) (template text : List ℕ) (end : ℕ) → template ≡ template_of k → 29 ≤ end → NoneBefore template text end

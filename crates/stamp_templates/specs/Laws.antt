@@ -26,6 +26,11 @@ MatchesStand = (text stamp : List ℕ) → Match (around text) stamp → (at : �
 abbrev pub StandsInNone : ℕ → List ℕ → Type 0
 StandsInNone k text = (m : ℤ) (stamp : List ℕ) → Prints k m stamp → ¬ Match (around text) stamp
 
+-- the text stands in nothing that the pattern prints for a moment between two
+abbrev pub StandsInNoneBetween : ℕ → ℤ → ℤ → List ℕ → Type 0
+StandsInNoneBetween k least greatest text =
+    (m : ℤ) (stamp : List ℕ) → least ≤ℤ m → m ≤ℤ greatest → Prints k m stamp → ¬ Match (around text) stamp
+
 -- nothing that the pattern prints ends with the text
 abbrev pub EndsNone : ℕ → List ℕ → Type 0
 EndsNone k text = (m : ℤ) (before : List ℕ) → ¬ Prints k m (before ++ text)

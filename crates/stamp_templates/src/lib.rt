@@ -5,9 +5,11 @@
 //! digit: a zero allows any digit, and any other byte allows itself.
 #![tactic(auto)]
 
+mod between;
 pub mod laws;
 mod places;
 mod templates;
 
+pub use between::may_hold_between;
 pub use places::{may_end, may_hold, may_stand, places_of, stands_at, stands_at_some};
 pub use templates::{LONGEST, PATTERNS, allows, template};

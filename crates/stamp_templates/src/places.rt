@@ -20,7 +20,7 @@ fn has_room(whole: usize, part: usize, at: usize) -> bool
 }
 
 /// Whether the template allows the bytes of the text from a place on.
-fn fits_at(template: &[u8], text: &[u8], at: usize) -> bool
+pub(crate) fn fits_at(template: &[u8], text: &[u8], at: usize) -> bool
     ensures { IsTrue result ↔ FitsAt template.now text.now at }
 {
     if !has_room(template.len(), text.len(), at) {
