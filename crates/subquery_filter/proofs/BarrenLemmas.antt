@@ -146,6 +146,13 @@ moment_there : (rows : List Row) (row : Row) → Contains rows row → row.patte
 moment_there rows row there stamped =
     contains_map (λ r. r.moment) (filter (λ r. not (nat_eq r.pattern 0)) rows) row (contains_filter (λ r. not (nat_eq r.pattern 0)) rows row (stamped_test row.pattern stamped) there)
 
+-- the moment of a row lies between the least and the greatest of its segment
+pub within_moments : (rows : List Row) (row : Row) → Contains rows row → row.pattern ≢ 0
+    → (has_any (stamped_moments rows) ≡ true) × (least_of (stamped_moments rows) ≤ℤ row.moment) × (row.moment ≤ℤ greatest_of (stamped_moments rows))
+within_moments rows row there stamped =
+    let moment = moment_there rows row there stamped in
+    (some_any (stamped_moments rows) row.moment moment, least_below (stamped_moments rows) row.moment moment, greatest_above (stamped_moments rows) row.moment moment)
+
 within_bounds : (from to : Option ℤ) (pattern : ℕ) (moment : ℤ) → (((m : ℤ) × (from ≡ Some m)) ⊎ ((m : ℤ) × (to ≡ Some m))) → Within from to pattern moment
     → (pattern ≢ 0) × IfSome from (λ least. least ≤ℤ moment) × IfSome to (λ greatest. moment ≤ℤ greatest)
 within_bounds None None pattern moment (inl (m, is)) within = absurd (cc is)

@@ -20,6 +20,7 @@ use Rattle.wild_match.specs.declared.pattern.Item.{Item}
 use Rattle.row_codec.specs.Means.{HasStampText, HasWord, IsCanonical}
 use Rattle.row_codec.specs.Numbers.{numbers_of_row, word_numbers}
 use Rattle.row_codec.proofs.EncoderLemmas.{slots}
+use Rattle.segment_format.specs.declared.head.Head.{Head}
 use Rattle.query_plan.specs.declared.pieces.Piece.{Piece}
 use Rattle.query_plan.specs.declared.pieces.Piece.TheVariants.{Word as WordPiece}
 use Rattle.query_plan.specs.Laws.{IsSearched}
@@ -33,7 +34,7 @@ use Rattle.subquery_filter.specs.declared.token.Token.{Token}
 use Rattle.subquery_filter.specs.declared.verdicts.Verdict.{Verdict}
 use Rattle.subquery_filter.specs.declared.verdicts.Verdict.TheVariants.{Rejected, Certain, Tried}
 use Rattle.subquery_filter.specs.Filter.{AreSmall, AreTests, AsksTypes, Covers, Has, HasNoMatch, IsFilter, IsListed, IsRight, IsRowVerdict, IsSlot, IsTest, LacksAll, Marks, marks_at, may_by}
-use Rattle.subquery_filter.specs.StepsFilter.{AreTokens, HasEach, IsShut, Lacks, LacksTokens, Stays}
+use Rattle.subquery_filter.specs.StepsFilter.{AreTokens, HasEach, IsShut, Lacks, LacksTokens, StampsBring, Stays}
 use Rattle.subquery_filter.specs.StepsLetters.{kinds_in}
 use Rattle.subquery_filter.specs.Tokens.{IsTokenOf, RowsBringTokens}
 use Rattle.subquery_filter.specs.Verdicts.{CertainAlwaysMatches, IsCertain, IsRejected, RejectedNeverMatches}
@@ -129,15 +130,15 @@ any_end marks i bits le before n = elim (cases_lt n i) [
 ]
 
 -- the log types so far are shut
-abbrev pub ShutBefore : Filter → ℕ → List ℕ → ℕ → Type 0
-ShutBefore f brought types i = (k d : ℕ) → k < i → IsShut f brought (get_or types k d)
+abbrev pub ShutBefore : Filter → ℕ → ℕ → List ℕ → ℕ → Type 0
+ShutBefore f stamped brought types i = (k d : ℕ) → k < i → IsShut f stamped brought (get_or types k d)
 
-pub shut_step : (f : Filter) (brought : ℕ) (types : List ℕ) (i : ℕ) → i < length types → IsShut f brought (get_or types i 0) → ShutBefore f brought types i → ShutBefore f brought types (i + 1)
-shut_step f brought types i lt here before =
-    before_step types (λ (n : ℕ). IsShut f brought n) (λ (n : ℕ). IsShut f brought n) i (get_or types i 0) lt (get_or_default types i 0 (get_or types i 0) lt) (λ n h. h) here before
+pub shut_step : (f : Filter) (stamped brought : ℕ) (types : List ℕ) (i : ℕ) → i < length types → IsShut f stamped brought (get_or types i 0) → ShutBefore f stamped brought types i → ShutBefore f stamped brought types (i + 1)
+shut_step f stamped brought types i lt here before =
+    before_step types (λ (n : ℕ). IsShut f stamped brought n) (λ (n : ℕ). IsShut f stamped brought n) i (get_or types i 0) lt (get_or_default types i 0 (get_or types i 0) lt) (λ n h. h) here before
 
-pub shut_end : (f : Filter) (brought : ℕ) (types : List ℕ) (i : ℕ) → length types ≤ i → ShutBefore f brought types i → (t : ℕ) → Contains types t → IsShut f brought t
-shut_end f brought types i le before t (k, lt, e) = subst (λ (x : ℕ). IsShut f brought x) e (before k t (omega (arith, lt, le)))
+pub shut_end : (f : Filter) (stamped brought : ℕ) (types : List ℕ) (i : ℕ) → length types ≤ i → ShutBefore f stamped brought types i → (t : ℕ) → Contains types t → IsShut f stamped brought t
+shut_end f stamped brought types i le before t (k, lt, e) = subst (λ (x : ℕ). IsShut f stamped brought x) e (before k t (omega (arith, lt, le)))
 
 some_same : (o : Option (List ℕ)) (a b : List ℕ) → o ≡ Some a → o ≡ Some b → a ≡ b
 some_same o a b one two = cc (one, two)
@@ -311,25 +312,33 @@ stamp_may f types words ps is row bits has s stamped = λ j d lt fits.
     has_through bits f.stamped (slice_index_or f.tokens.items j d).bit has
     (has_through f.stamped (slice_index_or f.stamps.items row.pattern 0) (slice_index_or f.tokens.items j d).bit (is.asks.stamped row.pattern) (is.asks.stamps row.pattern row.moment s stamped j d lt fits))
 
--- a row of a log type that brings less than is wanted, where the row's words bring no more than these bits
-row_shut : RowsBringTokens → (p : List Item) (types words : List (List ℕ)) (f : Filter) → IsFilter (wide_pieces p) types words f → (row : Row) (test : TypeTest) (brought : ℕ)
-    → slice_get f.tests.items row.log_type ≡ Some test → test.verdict ≡ Tried → LacksAll f test brought → HasEach f.marks (numbers_of_row types row) brought → IsRowVerdict (wide_pieces p) types words row Rejected
-row_shut law p types words f is row test brought at tried h each version message canonical =
-    lacks_bits law (wide_pieces p) types words f is row test h.bits at tried h.has (stamp_may f types words (wide_pieces p) is row h.bits h.stamps)
+-- a row of a log type that brings less than is wanted, where the row's stamp and its words bring no more than these
+-- bits
+row_shut : RowsBringTokens → (p : List Item) (types words : List (List ℕ)) (f : Filter) → IsFilter (wide_pieces p) types words f → (row : Row) (test : TypeTest) (stamped brought : ℕ)
+    → slice_get f.tests.items row.log_type ≡ Some test → test.verdict ≡ Tried → LacksAll f test stamped brought
+    → ((s : List ℕ) → HasStampText row.pattern row.moment s → Marks f.tokens.items s stamped) → HasEach f.marks (numbers_of_row types row) brought → IsRowVerdict (wide_pieces p) types words row Rejected
+row_shut law p types words f is row test stamped brought at tried h stamp each version message canonical =
+    lacks_bits law (wide_pieces p) types words f is row test h.bits at tried h.has (stamp_more_bits f.tokens.items row stamped h.bits h.stamps stamp)
     (λ parts typed place kind word variable slot there l has.
     may_listed f types words (wide_pieces p) is brought h.bits (numbers_of_row types row) each l.at l.slot l.is kind l.same_kind
     (subst (λ (k : Kind). Has h.bits (may_by k l.slot.bits brought)) l.same_kind (h.slots l.at l.slot l.from l.to l.is)) word variable
     (λ w. row_number types row parts typed place word (subst (λ (k : Kind). slice_get (kinds_in false (type_text (map symbol_of parts))) place ≡ Some k) w slot) there) has l.covers)
     h.lacks version message canonical
+  where
+    stamp_more_bits : (tokens : List Token) (row : Row) (few bits : ℕ) → Has bits few → ((s : List ℕ) → HasStampText row.pattern row.moment s → Marks tokens s few)
+        → (s : List ℕ) → HasStampText row.pattern row.moment s → Marks tokens s bits
+    stamp_more_bits tokens row few bits has marks s stamped = λ j d lt fits. has_through bits few (slice_index_or tokens j d).bit has (marks s stamped j d lt fits)
 
 pub none_may : RejectedNeverMatches → RowsBringTokens → (p : List Item) → IsSearched p → (types words : List (List ℕ)) (f : Filter) → IsFilter (wide_pieces p) types words f
-    → (listed numbers : List ℕ) (brought : ℕ) → HasEach f.marks numbers brought
-    → ((t : ℕ) → Contains listed t → IsShut f brought t) → HasNoMatch (wide_pieces p) types words listed numbers
-none_may rejected law p searched types words f is listed numbers brought each shut version row message lists among canonical =
-    let (test, at, how) = shut row.log_type lists in
+    → (head : Head) (listed numbers : List ℕ) (stamped brought : ℕ) → listed ≡ head.types → numbers ≡ head.words → StampsBring f head stamped → HasEach f.marks numbers brought
+    → ((t : ℕ) → Contains listed t → IsShut f stamped brought t) → HasNoMatch (wide_pieces p) types words head
+none_may rejected law p searched types words f is head listed numbers stamped brought of_types of_words bring each shut version row message may canonical =
+    let (test, at, how) = shut row.log_type (subst (λ (l : List ℕ). Contains l row.log_type) (sym of_types) may.listed) in
     elim how [
       | inl never ↦ rejected_row rejected p searched types words f is row test at never version message canonical
-      | inr (tried, h) ↦ row_shut law p types words f is row test brought at tried h (λ n has. each n (among n has)) version message canonical
+      | inr (tried, h) ↦
+          row_shut law p types words f is row test stamped brought at tried h (λ s printed. bring is.asks.stamps row.pattern row.moment s may.within printed)
+          (λ n has. each n (subst (λ (l : List ℕ). Contains l n) (sym of_words) (may.words n has))) version message canonical
     ]
 
 -- ---- what is told of all rows of a log type
@@ -342,7 +351,7 @@ told_verdict rejected certain law p searched types words f is row v there =
       | inl same ↦ subst (IsRowVerdict (wide_pieces p) types words row) (sym same) (row_verdict rejected certain p searched types words f is row test at)
       | inr (never, tried, h) ↦
           subst (IsRowVerdict (wide_pieces p) types words row) (sym never)
-          (row_shut law p types words f is row test f.brought at tried h (λ n has. is.asks.brought n))
+          (row_shut law p types words f is row test f.stamped f.brought at tried h (stamp_may f types words (wide_pieces p) is row f.stamped (has_self f.stamped)) (λ n has. is.asks.brought n))
     ]
 
 pub told_certain : CertainAlwaysMatches → (p : List Item) (types words : List (List ℕ)) (f : Filter) → AsksTypes (wide_pieces p) types f → (row : Row) (v : Verdict)

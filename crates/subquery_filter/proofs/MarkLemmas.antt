@@ -221,7 +221,7 @@ pub filter_ok : {E : Type 0} (old : Filter) (lists : List (List ℕ)) (f : Filte
 filter_ok old lists f (Ok g) told is = λ ps types words asks have. told ps types words (is ps types words asks have)
 filter_ok old lists f (Err e) told is = tt
 
-lacks_again : (f g : Filter) (test : TypeTest) (brought : ℕ) → f.slots.items ≡ g.slots.items → f.wanted ≡ g.wanted → f.stamped ≡ g.stamped → LacksAll f test brought → LacksAll g test brought
+lacks_again : (f g : Filter) (test : TypeTest) (brought : ℕ) → f.slots.items ≡ g.slots.items → f.wanted ≡ g.wanted → f.stamped ≡ g.stamped → LacksAll f test f.stamped brought → LacksAll g test g.stamped brought
 lacks_again f g test brought slots wanted stamped h = record {
   bits = h.bits;
   has = h.has;
@@ -239,6 +239,6 @@ told_again f g verdicts slots wanted stamped brought tests told t v at =
       subst (λ (l : List TypeTest). slice_get l t ≡ Some test) tests there,
       elim how [
         | inl same ↦ inl same
-        | inr (never, tried, h) ↦ inr (never, tried, subst (LacksAll g test) brought (lacks_again f g test f.brought slots wanted stamped h))
+        | inr (never, tried, h) ↦ inr (never, tried, subst (LacksAll g test g.stamped) brought (lacks_again f g test f.brought slots wanted stamped h))
       ],
     )

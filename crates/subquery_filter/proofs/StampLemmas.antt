@@ -1,13 +1,17 @@
 -- Which tokens stand in stamps.
 use Rattle.std.proofs.Common.{◌≡◌, ℕ, zero, suc, ◌+◌, ◌<◌, ◌≤◌, List, [], ◌∷◌, ◌++◌, length, get_or, sym, ◌∙◌, ap, subst, arith, inl, inr, length-append}
-use Rattle.std.specs.Prelude.{ℤ, slice_index_or}
+use Rattle.std.specs.Prelude.{ℤ, bit_or, false, slice_index_or}
 use Rattle.std.proofs.lemmas.Bool.{cases_lt}
 use Rattle.std.proofs.lemmas.List.{get_or_append_left, get_or_push}
 use Rattle.time_patterns.specs.Laws.{OneText, PrintedMoments}
 use Rattle.time_patterns.specs.Stamps.{Prints}
 use Rattle.row_codec.specs.Means.{HasStampText}
 use Rattle.subquery_filter.specs.declared.token.Token.{Token}
-use Rattle.subquery_filter.specs.Filter.{AreStamps, Marks}
+use Rattle.segment_format.specs.declared.head.Head.{Head}
+use Rattle.subquery_filter.specs.declared.filter.Filter.{Filter}
+use Rattle.subquery_filter.specs.Filter.{AreStamps, IsWithin, Marks}
+use Rattle.subquery_filter.specs.StepsFilter.{StampsBring}
+use Rattle.subquery_filter.proofs.FilterLemmas.{has_left, has_right, has_through}
 
 -- ---- the table of patterns
 
@@ -57,3 +61,51 @@ stamps_end printed tokens count stamps all (size, before) pattern moment s stamp
 pub stamp_is : OneText → PrintedMoments → (k : ℕ) (moment : ℤ) (text s : List ℕ) → Prints k moment text → HasStampText k moment s → text ≡ s
 stamp_is one printed zero moment text s prints stamped = absurd (omega (arith, (printed.patterns zero moment (text, prints)).0))
 stamp_is one printed (suc k) moment text s prints stamped = one (suc k) moment text s prints stamped
+
+-- ---- the stamps of a segment
+
+-- what the stamps of the patterns so far may bring
+abbrev pub WithinBefore : List Token → List ℕ → Head → ℕ → ℕ → Type 0
+WithinBefore tokens stamps head end bits =
+    AreStamps tokens stamps → (pattern : ℕ) (moment : ℤ) (s : List ℕ) → pattern < end → IsWithin head moment → Prints pattern moment s → Marks tokens s bits
+
+pub within_first : PrintedMoments → (tokens : List Token) (stamps : List ℕ) (head : Head) (bits : ℕ) → WithinBefore tokens stamps head 1 bits
+within_first printed tokens stamps head bits are pattern moment s lt within prints = absurd (omega (arith, lt, (printed.patterns pattern moment (s, prints)).0))
+
+stamp_text : (k : ℕ) (moment : ℤ) (s : List ℕ) → 1 ≤ k → Prints k moment s → HasStampText k moment s
+stamp_text zero moment s some prints = absurd (omega (arith, some))
+stamp_text (suc k) moment s some prints = prints
+
+pub within_step : PrintedMoments → (tokens : List Token) (stamps : List ℕ) (head : Head) (end bits more may : ℕ) → may ≡ slice_index_or stamps end 0
+    → ((moment : ℤ) (s : List ℕ) → IsWithin head moment → Prints end moment s → Marks tokens s may → Marks tokens s more)
+    → WithinBefore tokens stamps head end bits → WithinBefore tokens stamps head (end + 1) (bit_or bits more)
+within_step printed tokens stamps head end bits more may is here before are pattern moment s lt within prints = elim (cases_lt pattern end) [
+  | inl less ↦ λ j d inside fits. has_left bits more (slice_index_or tokens j d).bit (before are pattern moment s less within prints j d inside fits)
+  | inr past ↦
+      let e : pattern ≡ end = omega (arith, lt, past) in
+      let known = printed.patterns pattern moment (s, prints) in
+      let marks : Marks tokens s may =
+      subst (λ (n : ℕ). Marks tokens s n) (ap (λ n. slice_index_or stamps n 0) e ∙ sym is) (are pattern moment s (stamp_text pattern moment s known.0 prints)) in
+      λ j d inside fits. has_through (bit_or bits more) more (slice_index_or tokens j d).bit (has_right bits more)
+      (here moment s within (subst (λ n. Prints n moment s) e prints) marks j d inside fits)
+]
+
+pub within_all : PrintedMoments → (tokens : List Token) (stamps : List ℕ) (head : Head) (end bits : ℕ) → 27 ≤ end → WithinBefore tokens stamps head end bits
+    → AreStamps tokens stamps → (pattern : ℕ) (moment : ℤ) (s : List ℕ) → IsWithin head moment → Prints pattern moment s → Marks tokens s bits
+within_all printed tokens stamps head end bits all before are pattern moment s within prints =
+    before are pattern moment s (omega (arith, all, (printed.patterns pattern moment (s, prints)).1)) within prints
+
+-- no row has a stamp
+pub bring_none : (f : Filter) (head : Head) (bits : ℕ) → bits ≡ slice_index_or f.stamps.items 0 0 → head.stamped ≡ false → StampsBring f head bits
+bring_none f head bits is none are zero moment s within stamped = subst (λ (n : ℕ). Marks f.tokens.items s n) (sym is) (are zero moment s stamped)
+bring_none f head bits is none are (suc pattern) moment s within stamped =
+    absurd (let some = (within (λ zero_is. absurd (omega (arith, zero_is)))).0 in cc (none, some))
+
+pub bring_within : (f : Filter) (head : Head) (none bits : ℕ) → none ≡ slice_index_or f.stamps.items 0 0
+    → (AreStamps f.tokens.items f.stamps.items → (pattern : ℕ) (moment : ℤ) (s : List ℕ) → IsWithin head moment → Prints pattern moment s → Marks f.tokens.items s bits)
+    → StampsBring f head (bit_or none bits)
+bring_within f head none bits is tells are zero moment s within stamped = λ j d lt fits.
+    has_left none bits (slice_index_or f.tokens.items j d).bit (subst (λ (n : ℕ). Marks f.tokens.items s n) (sym is) (are zero moment s stamped) j d lt fits)
+bring_within f head none bits is tells are (suc pattern) moment s within stamped = λ j d lt fits.
+    has_through (bit_or none bits) bits (slice_index_or f.tokens.items j d).bit (has_right none bits)
+    (tells are (suc pattern) moment s (within (λ zero_is. absurd (omega (arith, zero_is)))) stamped j d lt fits)

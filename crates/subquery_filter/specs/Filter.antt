@@ -1,5 +1,5 @@
 -- What a filter knows of the words and the log types of an archive.
-use Rattle.std.specs.Prelude.{◌≡◌, ◌⊎◌, ◌<◌, ◌≤◌, ℕ, ℤ, List, All, Some, bit_and, bit_or, false, map, slice_get, slice_index_or}
+use Rattle.std.specs.Prelude.{◌≡◌, ◌≢◌, ◌⊎◌, ◌<◌, ◌≤◌, ℕ, ℤ, ◌≤ℤ◌, List, All, Some, bit_and, bit_or, false, true, map, slice_get, slice_index_or}
 use Rattle.std.specs.List.{Contains}
 use Rattle.std.specs.Fmt.{signed_decimal}
 use Rattle.std.specs.Int.{cast_signed, w64}
@@ -11,6 +11,7 @@ use Rattle.logtype_text.specs.TypeText.{type_text}
 use Rattle.wild_match.specs.Matches.{Match}
 use Rattle.row_codec.specs.Means.{HasStampText, HasWord, IsCanonical, IsSpelling}
 use Rattle.row_codec.specs.Numbers.{numbers_of_row}
+use Rattle.segment_format.specs.declared.head.Head.{Head}
 use Rattle.query_plan.specs.declared.pieces.Piece.{Piece}
 use Rattle.query_plan.specs.Pieces.{IsCut, flat}
 use Rattle.subquery_filter.specs.declared.filter.Filter.{Filter}
@@ -122,20 +123,21 @@ may_by Word own brought = brought
 abbrev pub slot_may : Slot → ℕ → ℕ
 slot_may slot brought = may_by slot.kind slot.bits brought
 
--- no row of a log type of which this is known brings all that is wanted, where the words bring these bits
-pub record LacksAll (f : Filter) (test : TypeTest) (brought : ℕ) : Type 0 where
+-- no row of a log type of which this is known brings all that is wanted, where the stamps and the words bring
+-- these bits
+pub record LacksAll (f : Filter) (test : TypeTest) (stamped brought : ℕ) : Type 0 where
   pub bits : ℕ
   pub has : Has bits test.has
   pub slots :
       (at : ℕ) (slot : Slot) → test.first ≤ at → at < test.end → slice_get f.slots.items at ≡ Some slot
       → Has bits (slot_may slot brought)
-  pub stamps : Has bits f.stamped
+  pub stamps : Has bits stamped
   pub lacks : ¬ Has bits f.wanted
 
 -- the verdict is that of the log type's text, or no row of the log type brings all that is wanted
 abbrev pub IsTold : Filter → TypeTest → Verdict → Type 0
 IsTold f test verdict =
-    (verdict ≡ test.verdict) ⊎ ((verdict ≡ Rejected) × (test.verdict ≡ Tried) × LacksAll f test f.brought)
+    (verdict ≡ test.verdict) ⊎ ((verdict ≡ Rejected) × (test.verdict ≡ Tried) × LacksAll f test f.stamped f.brought)
 
 -- so it is of each log type, by their numbers
 abbrev pub AreTold : Filter → List Verdict → Type 0
@@ -178,9 +180,18 @@ IsRowVerdict ps types words row Rejected = (version : ℕ) (message : List ℕ) 
 IsRowVerdict ps types words row Certain = (message : List ℕ) → IsSpelling row types words message → Match (flat ps) message
 IsRowVerdict ps types words row Tried = Unit {0}
 
--- the pattern matches no message of a row of these log types with these dictionary numbers
-abbrev pub HasNoMatch : List Piece → List (List ℕ) → List (List ℕ) → List ℕ → List ℕ → Type 0
-HasNoMatch ps types words listed numbers =
-    (version : ℕ) (row : Row) (message : List ℕ) → Contains listed row.log_type
-    → ((n : ℕ) → Contains (numbers_of_row types row) n → Contains numbers n)
-    → IsCanonical version row types words message → ¬ Match (flat ps) message
+-- a stamp has one of the moments of a segment with this head
+abbrev pub IsWithin : Head → ℤ → Type 0
+IsWithin head moment = (head.stamped ≡ true) × (head.least ≤ℤ moment) × (moment ≤ℤ head.greatest)
+
+-- a segment with this head may have the row
+pub record MayHave (types : List (List ℕ)) (head : Head) (row : Row) : Type 0 where
+  pub listed : Contains head.types row.log_type
+  pub words : (n : ℕ) → Contains (numbers_of_row types row) n → Contains head.words n
+  pub within : row.pattern ≢ 0 → IsWithin head row.moment
+
+-- the pattern matches no message of a row that such a segment may have
+abbrev pub HasNoMatch : List Piece → List (List ℕ) → List (List ℕ) → Head → Type 0
+HasNoMatch ps types words head =
+    (version : ℕ) (row : Row) (message : List ℕ) → MayHave types head row → IsCanonical version row types words message
+    → ¬ Match (flat ps) message

@@ -1,5 +1,5 @@
 -- What the parts of a filter tell each other.
-use Rattle.std.specs.Prelude.{◌≡◌, ◌⊎◌, ◌+◌, ◌<◌, ◌≤◌, ◌&&◌, ◌==◌, ℕ, Bool, true, false, List, [], ◌∷◌, All, Some, bit_and, drop, if◌then◌else◌, length, slice_get, slice_index_or}
+use Rattle.std.specs.Prelude.{◌≡◌, ◌≢◌, ◌⊎◌, ◌+◌, ◌<◌, ◌≤◌, ◌&&◌, ◌==◌, ℕ, ℤ, Bool, true, false, List, [], ◌∷◌, All, Some, bit_and, drop, if◌then◌else◌, length, slice_get, slice_index_or}
 use Rattle.std.specs.List.{Contains}
 use Rattle.std.specs.Int.{is_in_range}
 use Rattle.column_store.specs.declared.row.Row.{Row}
@@ -7,6 +7,7 @@ use Rattle.logtype_text.specs.declared.symbols.Kind.{Kind}
 use Rattle.logtype_text.specs.declared.symbols.Kind.TheVariants.{Word}
 use Rattle.wild_match.specs.Matches.{Match}
 use Rattle.row_codec.specs.Means.{HasStampText, HasWord}
+use Rattle.segment_format.specs.declared.head.Head.{Head}
 use Rattle.query_plan.specs.declared.pieces.Piece.{Piece}
 use Rattle.subquery_filter.specs.declared.filter.Filter.{Filter}
 use Rattle.subquery_filter.specs.declared.marks.WordMarks.{WordMarks}
@@ -15,7 +16,7 @@ use Rattle.subquery_filter.specs.declared.slots.Slot.{Slot}
 use Rattle.subquery_filter.specs.declared.slots.TypeTest.{TypeTest}
 use Rattle.subquery_filter.specs.declared.token.Token.{Token}
 use Rattle.subquery_filter.specs.declared.verdicts.Verdict.TheVariants.{Rejected, Tried}
-use Rattle.subquery_filter.specs.Filter.{AreKindBits, AreMarks, AreSmall, AreStamps, Has, IsSlot, LacksAll, Marks, marks_at}
+use Rattle.subquery_filter.specs.Filter.{AreKindBits, AreMarks, AreSmall, AreStamps, Has, IsSlot, IsWithin, LacksAll, Marks, marks_at}
 use Rattle.subquery_filter.specs.StepsLetters.{kinds_in}
 use Rattle.subquery_filter.specs.Tokens.{IsTokenOf}
 
@@ -104,8 +105,14 @@ LacksTokens f row = (test : TypeTest) × (slice_get f.tests.items row.log_type �
 
 -- ---- what is tested of a segment
 
--- no row of the log type with this number is matched, where the words bring these bits
-abbrev pub IsShut : Filter → ℕ → ℕ → Type 0
-IsShut f brought t =
+-- no row of the log type with this number is matched, where the stamps and the words bring these bits
+abbrev pub IsShut : Filter → ℕ → ℕ → ℕ → Type 0
+IsShut f stamped brought t =
     (test : TypeTest) × (slice_get f.tests.items t ≡ Some test)
-    × ((test.verdict ≡ Rejected) ⊎ ((test.verdict ≡ Tried) × LacksAll f test brought))
+    × ((test.verdict ≡ Rejected) ⊎ ((test.verdict ≡ Tried) × LacksAll f test stamped brought))
+
+-- the bits of the tokens that stand in a stamp of a segment with this head are among these
+abbrev pub StampsBring : Filter → Head → ℕ → Type 0
+StampsBring f head bits =
+    AreStamps f.tokens.items f.stamps.items → (pattern : ℕ) (moment : ℤ) (s : List ℕ) → (pattern ≢ 0 → IsWithin head moment)
+    → HasStampText pattern moment s → Marks f.tokens.items s bits

@@ -12,7 +12,7 @@ ghost use Rattle.subquery_filter.specs.declared.slots.Slot.{Slot};
 ghost use Rattle.subquery_filter.specs.Filter.{AreMarks, AreSmall, AreStamps, AreTold, AsksTypes, Has, HasNoMatch, IsFilter, IsRowVerdict, IsTold, LacksAll, Marks, slot_may};
 ghost use Rattle.subquery_filter.specs.declared.verdicts.Verdict.TheVariants.{Certain};
 ghost use Rattle.subquery_filter.specs.Found.{HaveAll};
-ghost use Rattle.subquery_filter.specs.StepsFilter.{HasEach, IsShut, Lacks, LacksTokens, SlotGives, SlotIs};
+ghost use Rattle.subquery_filter.specs.StepsFilter.{HasEach, IsShut, Lacks, LacksTokens, SlotGives, SlotIs, StampsBring};
 
 use crate::bits::{any_of, has, mark_at};
 use crate::laws::{rows_bring_tokens, verdicts_hold};
@@ -20,7 +20,7 @@ use crate::marks::WordMarks;
 use crate::needles::{lists_with, needles_of};
 use crate::numbers::{decimal_bits, kind_bits, mark_small, whole_bits};
 use crate::slots::{Slot, TypeTest, has_kind, test_types};
-use crate::stamps::{mark_stamps, stamp_bits};
+use crate::stamps::{bits_within, mark_stamps, stamp_bits};
 use crate::token::Token;
 use crate::tokens::{all_bits, tokens_of};
 use crate::verdicts::Verdict;
@@ -29,6 +29,7 @@ use logtype_text::Kind;
 use plain_list::{NumberList, Text};
 use query_plan::Plan;
 use row_codec::Names;
+use segment_format::Head;
 use std::alloc::{AllocError, Global};
 
 /// What is known of the log types and the words of an archive, for one search.
@@ -132,7 +133,7 @@ impl Filter {
     fn type_verdict(&self, test: &TypeTest) -> Verdict
         ensures { IsTold self.now test.now result }
     {
-        if test.verdict == Verdict::Tried && self.lacks_all(test, self.brought) {
+        if test.verdict == Verdict::Tried && self.lacks_all(test, self.stamped, self.brought) {
             return Verdict::Rejected;
         }
         test.verdict
@@ -361,20 +362,20 @@ impl Filter {
         }
     }
 
-    /// Whether no row of a log type brings all tokens, where the words bring these bits.
-    fn lacks_all(&self, test: &TypeTest, brought: u8) -> bool
-        ensures { IsTrue result → LacksAll self.now test.now brought }
+    /// Whether no row of a log type brings all tokens, where the stamps and the words bring these bits.
+    fn lacks_all(&self, test: &TypeTest, stamped: u8, brought: u8) -> bool
+        ensures { IsTrue result → LacksAll self.now test.now stamped brought }
     {
-        let mut all = test.has | self.stamped;
+        let mut all = test.has | stamped;
         for at in test.first..test.end {
             all |= self.slot_may(at, brought);
         }
         !has(all, self.wanted)
     }
 
-    /// Whether a row of a log type may match, whose words bring these bits.
-    fn may_be(&self, number: u32, brought: u8) -> bool
-        ensures { IsFalse result → IsShut self.now brought number }
+    /// Whether a row of a log type may match, whose stamp and words bring these bits.
+    fn may_be(&self, number: u32, stamped: u8, brought: u8) -> bool
+        ensures { IsFalse result → IsShut self.now stamped brought number }
     {
         let Some(test) = self.test_at(number) else {
             return true;
@@ -382,37 +383,52 @@ impl Filter {
         match test.verdict {
             Verdict::Rejected => false,
             Verdict::Certain => true,
-            Verdict::Tried => !self.lacks_all(&test, brought),
+            Verdict::Tried => !self.lacks_all(&test, stamped, brought),
         }
     }
 
-    /// Whether a row of one of these log types may match, whose words bring these bits.
-    fn some_may(&self, types: &[u32], brought: u8) -> bool
-        ensures { IsFalse result → (t : ℕ) → Contains types.now t → IsShut self.now brought t }
+    /// Whether a row of one of these log types may match, whose stamp and words bring these bits.
+    fn some_may(&self, types: &[u32], stamped: u8, brought: u8) -> bool
+        ensures { IsFalse result → (t : ℕ) → Contains types.now t
+            → IsShut self.now stamped brought t }
     {
         for number in types {
-            if self.may_be(*number, brought) {
+            if self.may_be(*number, stamped, brought) {
                 return true;
             }
         }
         false
     }
 
-    /// Whether the pattern may match a message of a segment, which has rows of these log types with
-    /// these words: what its head lists. Takes no memory.
+    /// The bits that the stamps of a segment may bring, by its least and its greatest moment.
+    fn stamps_of(&self, head: &Head) -> u8
+        ensures { StampsBring self.now head.now result }
+    {
+        let stamps = self.stamps.as_slice();
+        let none = mark_at(stamps, 0);
+        if !head.stamped {
+            return none;
+        }
+        none | bits_within(self.tokens.as_slice(), stamps, head)
+    }
+
+    /// Whether the pattern may match a message of a segment, by what its head lists and by its least and
+    /// its greatest moment. Takes no memory.
     ///
     /// The words are asked only where no stamp and no number may bring what is missing.
-    pub fn may_match(&self, types: &[u32], words: &[u32]) -> bool
+    pub fn may_match(&self, head: &Head) -> bool
         ensures { IsFalse result → (p : List Item) (names : List (List ℕ)) (texts : List (List ℕ))
             → IsSearched p → IsFilter (wide_pieces p) names texts self.now
-            → HasNoMatch (wide_pieces p) names texts types.now words.now }
+            → HasNoMatch (wide_pieces p) names texts head.now }
     {
         verdicts_hold();
         rows_bring_tokens();
-        if self.some_may(types, 0) {
+        let types = head.types.as_slice();
+        let stamped = self.stamps_of(head);
+        if self.some_may(types, stamped, 0) {
             return true;
         }
-        let brought = bits_of_list(&self.marks, words);
-        self.some_may(types, brought)
+        let brought = bits_of_list(&self.marks, head.words.as_slice());
+        self.some_may(types, stamped, brought)
     }
 }

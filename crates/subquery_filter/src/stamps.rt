@@ -3,11 +3,13 @@ ghost use Rattle.std.specs.Prelude.{◌≡◌, ℕ, ℤ, List, IfOk};
 ghost use Rattle.row_codec.specs.Means.{HasStampText};
 ghost use Rattle.time_patterns.specs.Stamps.{Prints};
 ghost use Rattle.wild_match.specs.Matches.{Match};
-ghost use Rattle.subquery_filter.specs.Filter.{AreStamps, Marks};
+ghost use Rattle.subquery_filter.specs.Filter.{AreStamps, IsWithin, Marks};
 
+use crate::bits::mark_at;
 use crate::token::Token;
 use crate::tokens::marks_of;
-use stamp_templates::may_hold;
+use segment_format::Head;
+use stamp_templates::{may_hold, may_hold_between};
 use std::alloc::{AllocError, Global};
 use time_patterns::StampPrinter;
 use time_patterns::laws::{moment_tells_text, patterns_print_whole_moments};
@@ -63,4 +65,46 @@ pub(crate) fn stamp_bits(tokens: &[Token], may: u8, pattern: u8, moment: i64) ->
         Some(len) => marks_of(tokens, &text[..len]),
         None => may,
     }
+}
+
+/// The bit of a token that may stand in a stamp of the pattern in a segment with this head.
+fn bit_within(token: &Token, pattern: u8, head: &Head) -> u8
+    ensures { (moment : ℤ) (s : List ℕ) → IsWithin head.now moment → Prints pattern moment s
+        → Match token.now.matcher.items s → result ≡ token.now.bit }
+{
+    if may_hold_between(pattern, token.text.as_slice(), head.least, head.greatest) {
+        token.bit
+    } else {
+        0
+    }
+}
+
+/// The bits of the tokens that may stand in such a stamp, of those that the pattern may bring.
+fn pattern_within(tokens: &[Token], may: u8, pattern: u8, head: &Head) -> u8
+    ensures { (moment : ℤ) (s : List ℕ) → IsWithin head.now moment → Prints pattern moment s
+        → Marks tokens.now s may → Marks tokens.now s result }
+{
+    if may == 0 {
+        return 0;
+    }
+    let mut bits = 0;
+    for token in tokens {
+        bits |= bit_within(token, pattern, head);
+    }
+    bits
+}
+
+/// The bits of the tokens that may stand in the stamps of a segment with this head, by what the stamps
+/// of each pattern may bring.
+pub(crate) fn bits_within(tokens: &[Token], stamps: &[u8], head: &Head) -> u8
+    ensures { AreStamps tokens.now stamps.now → (pattern : ℕ) (moment : ℤ) (s : List ℕ)
+        → IsWithin head.now moment → Prints pattern moment s → Marks tokens.now s result }
+{
+    patterns_print_whole_moments();
+    let mut bits = 0;
+    for pattern in 1..PATTERNS {
+        let may = mark_at(stamps, u64::from(pattern));
+        bits |= pattern_within(tokens, may, pattern, head);
+    }
+    bits
 }
