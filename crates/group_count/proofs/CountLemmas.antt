@@ -1,5 +1,5 @@
 -- How often numbers stand among numbers.
-use Rattle.std.proofs.Common.{◌≡◌, ◌+◌, ◌<◌, ◌≤◌, ◌&&◌, ◌∷◌, ℕ, Bool, true, false, List, [], length, map, cond, nat_lt, nat_eq, All, Contains, get_or, arith, rules, refl, ap, sym, ◌∙◌, count_by, sum_by, ◌⊎◌}
+use Rattle.std.proofs.Common.{◌≡◌, ◌+◌, ◌<◌, ◌≤◌, ◌&&◌, ◌∷◌, ℕ, Bool, true, false, List, [], map, cond, nat_lt, nat_eq, All, Contains, get_or, arith, refl, ap, sym, ◌∙◌, count_by}
 use Rattle.std.proofs.lemmas.Bool.Decides.{nat_tests}
 use Rattle.std.proofs.lemmas.List.Sums.{sum_by-cons, get_or-le-sum_by}
 use Rattle.std.proofs.lemmas.List.Elements.{All-head, All-tail}

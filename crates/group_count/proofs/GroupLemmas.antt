@@ -1,7 +1,6 @@
 -- From a tally of keys to their groups.
-use Rattle.std.proofs.Common.{◌≡◌, ◌<◌, ◌∷◌, ◌++◌, append_assoc, ℕ, zero, suc, Bool, true, List, [], length, map, cond, All, Contains, Some, None, IsSome, slice_get, get_or, arith, rules, refl, ap, sym, subst, ◌∙◌}
-use Rattle.std.specs.BTreeMap.{BTreeMap, IsOrdered, is_at}
-use Rattle.std.specs.BTreeMap as tree
+use Rattle.std.proofs.Common.{◌≡◌, ◌<◌, ◌∷◌, ◌++◌, append_assoc, ℕ, zero, suc, Bool, List, [], map, cond, Some, IsSome, slice_get, get_or, arith, rules, refl, ap, sym, subst, ◌∙◌}
+use Rattle.std.specs.BTreeMap.{BTreeMap, IsOrdered}
 use Rattle.std.specs.Cmp.{IsTotalOrder}
 use Rattle.std.specs.List.{AllByRecursion}
 use Rattle.std.specs.List.Sorted.{IsStrictlySortedBy}

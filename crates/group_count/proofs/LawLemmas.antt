@@ -1,26 +1,20 @@
 -- Rows that are encodings have the keys of their messages, and shapes are those of symbols.
-use Rattle.std.proofs.Common.{◌≡◌, ◌+◌, ◌-◌, ◌%◌, ◌<◌, ◌≤◌, ◌↔◌, ◌&&◌, ◌||◌, ◌∷◌, ◌++◌, ℕ, zero, suc, ℤ, pos, negsuc, neg_ℤ, ◌-ℤ◌, ◌≤ℤ◌, ◌<ℤ◌, Bool, true, false, cond, ◌==◌, nat_le, IsTrue, if◌then◌else◌, List, [], length, map, flat_map, All, slice_index_or, slice_get, Some, inl, inr, arith, rules, refl, ap, sym, subst, ◌∙◌, append_assoc}
+use Rattle.std.proofs.Common.{◌≡◌, ◌-◌, ◌%◌, ◌<◌, ◌≤◌, ◌↔◌, ◌∷◌, ℕ, zero, suc, ℤ, pos, negsuc, neg_ℤ, ◌-ℤ◌, ◌≤ℤ◌, ◌<ℤ◌, Bool, true, false, nat_le, IsTrue, if◌then◌else◌, List, [], length, map, All, slice_index_or, Some, inl, inr, arith, refl, ap, sym, subst, ◌∙◌}
 use Rattle.std.specs.Int.{int_rem_euclid, saturate_signed, w64}
-use Rattle.std.specs.List.{AllZip}
 use Rattle.std.proofs.lemmas.Bool.{cases_lt, cond-false, cond-true, false_from_ne_true, false≢true, le-leb, leb-true}
-use Rattle.std.proofs.lemmas.Bool.Decides.{nat_tests}
 use Rattle.std.proofs.lemmas.Int.{ints}
 use Rattle.std.proofs.lemmas.List.Elements.{All-cons, All-nil}
 use Rattle.std.proofs.lemmas.Option.{get_or_from_slice_get, slice_get_within}
 use Rattle.time_patterns.specs.Laws.{PrintedMoments}
 use Rattle.time_patterns.specs.Stamps.{HasStamp, IsPrintable}
-use Rattle.logtype_text.specs.declared.symbols.Kind.TheVariants.{Whole, Word, Decimal}
-use Rattle.logtype_text.specs.declared.symbols.Symbol.{Symbol}
-use Rattle.logtype_text.specs.declared.symbols.Symbol.TheVariants.{Byte, Slot}
 use Rattle.logtype_text.specs.Parts.{symbol_of}
-use Rattle.logtype_text.specs.TypeText.{is_escaped, text_of_symbol, type_text}
+use Rattle.logtype_text.specs.TypeText.{type_text}
 use Rattle.column_store.specs.declared.row.Row.{Row}
 use Rattle.row_codec.specs.Means.{AreCanonical, IsCanonical}
 use Rattle.row_codec.specs.Messages.{IsTypeOf}
-use Rattle.group_count.specs.Groups.{HaveMinutes, HaveTypes, IsMinuteOf, minute_len, minute_of}
+use Rattle.group_count.specs.Groups.{HaveMinutes, HaveTypes, minute_len, minute_of}
 use Rattle.group_count.specs.Laws.{minutes_of, numbers_of}
-use Rattle.group_count.specs.Printed.{shape_from, shape_of_byte, shape_of_symbol, shape_of_symbols}
-use Rattle.group_count.specs.Tables.{minute_at, start_of, texts_at}
+use Rattle.group_count.specs.Tables.{minute_at, texts_at}
 
 -- ---- log types
 

@@ -1,12 +1,12 @@
 -- The shapes of log types, symbol by symbol and byte by byte.
-use Rattle.std.proofs.Common.{◌≡◌, ◌<◌, ◌≤◌, ◌∷◌, ◌++◌, ℕ, Bool, true, false, cond, ◌==◌, if◌then◌else◌, List, [], length, map, flat_map, All, codes, take, drop, arith, rules, refl, ap, sym, subst, ◌∙◌, append_assoc}
+use Rattle.std.proofs.Common.{◌≡◌, ◌∷◌, ◌++◌, ℕ, Bool, true, false, ◌==◌, if◌then◌else◌, List, [], All, arith, refl, ap, sym, ◌∙◌, append_assoc}
 use Rattle.std.proofs.lemmas.Bool.Decides.{nat_tests}
 use Rattle.std.proofs.lemmas.List.Elements.{All-head, All-tail}
 use Rattle.logtype_text.specs.declared.symbols.Kind.TheVariants.{Whole, Word, Decimal}
 use Rattle.logtype_text.specs.declared.symbols.Symbol.{Symbol}
 use Rattle.logtype_text.specs.declared.symbols.Symbol.TheVariants.{Byte, Slot}
 use Rattle.logtype_text.specs.TypeText.{is_escaped, text_of_symbol, type_text}
-use Rattle.group_count.specs.Printed.{shape_from, shape_of, shape_of_byte, shape_of_symbol, shape_of_symbols}
+use Rattle.group_count.specs.Printed.{shape_from, shape_of, shape_of_symbol, shape_of_symbols}
 
 -- a byte that needs no escape is shown as it is
 plain_byte : (b : ℕ) (rest : List ℕ) → is_escaped b ≡ false → shape_from false (b ∷ rest) ≡ b ∷ shape_from false rest

@@ -1,5 +1,5 @@
 -- The texts of log types, counted by their numbers.
-use Rattle.std.proofs.Common.{◌≡◌, ◌+◌, ◌<◌, ◌≤◌, ◌^◌, ◌&&◌, ◌∷◌, ℕ, Bool, true, false, nat_lt, refl, subst, List, [], length, map, cond, nat_eq, count_by, slice_index_or, arith, ap, sym, ◌∙◌}
+use Rattle.std.proofs.Common.{◌≡◌, ◌+◌, ◌<◌, ◌≤◌, ◌^◌, ◌&&◌, ◌∷◌, ℕ, Bool, nat_lt, refl, subst, List, [], length, cond, count_by, slice_index_or, arith, ap, sym, ◌∙◌}
 use Rattle.std.specs.Ordering.{is_eq}
 use Rattle.std.specs.Borrow.{Bor}
 use Rattle.std.specs.BTreeMap.{BTreeMap, IsEmpty, IsOrdered, is_at}

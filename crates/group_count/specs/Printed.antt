@@ -1,7 +1,6 @@
 -- What is printed of groups: a line for each.
 use Rattle.std.specs.Prelude.{ℕ, Bool, true, false, if◌then◌else◌, ◌==◌, List, [], ◌∷◌, ◌++◌, flat_map, codes}
 use Rattle.std.specs.Fmt.{decimal, signed_decimal}
-use Rattle.logtype_text.specs.declared.symbols.Kind.{Kind}
 use Rattle.logtype_text.specs.declared.symbols.Kind.TheVariants.{Whole, Word, Decimal}
 use Rattle.logtype_text.specs.declared.symbols.Symbol.{Symbol}
 use Rattle.logtype_text.specs.declared.symbols.Symbol.TheVariants.{Byte, Slot}

@@ -1,5 +1,5 @@
 -- What the tables hold while messages are counted.
-use Rattle.std.specs.Prelude.{◌≡◌, ℕ, zero, suc, ◌+◌, ◌<◌, ◌^◌, nat_eq, cond, Bool, false, true, if◌then◌else◌, is_none, ℤ, pos, ◌-ℤ◌, List, [], map, length, count_by, slice_index_or, Option, None, Some, All}
+use Rattle.std.specs.Prelude.{◌≡◌, ℕ, zero, suc, ◌+◌, ◌<◌, ◌^◌, nat_eq, cond, Bool, false, if◌then◌else◌, is_none, ℤ, pos, ◌-ℤ◌, List, [], map, length, count_by, slice_index_or, Option, None, Some, All}
 use Rattle.std.specs.Borrow.{Bor}
 use Rattle.std.specs.BTreeMap as tree
 use Rattle.std.specs.BTreeMap.{BTreeMap, is_at}

@@ -1,5 +1,5 @@
 //! How often keys came, in the order of the keys.
-ghost use Rattle.std.specs.Prelude.{◌≡◌, ℕ, ◌+◌, ◌<◌, ◌^◌, cond, OnOk};
+ghost use Rattle.std.specs.Prelude.{ℕ, ◌+◌, ◌<◌, ◌^◌, cond, OnOk};
 ghost use Rattle.std.specs.Ordering.{is_eq};
 ghost use Rattle.group_count.specs.Tables.{IsTally};
 

@@ -1,4 +1,4 @@
-use Rattle.std.proofs.Common.{◌≡◌, ◌++◌, take, drop, rules, refl, sym, ap, ◌∙◌}
+use Rattle.std.proofs.Common.{◌≡◌, ◌++◌, take, drop, rules, sym, ap, ◌∙◌}
 use Rattle.std.proofs.Common.{take-append-drop}
 use Rattle.group_count.specs.Printed.{shape_of}
 use Rattle.group_count.proofs.ShapeLemmas.{run_written}

@@ -1,4 +1,4 @@
-use Rattle.std.proofs.Common.{◌≡◌, ◌+◌, ◌<◌, ℕ, List, [], Some, slice_get, slice_index_or, rules}
+use Rattle.std.proofs.Common.{◌≡◌, ℕ, List, [], Some, slice_get, slice_index_or, rules}
 use Rattle.std.proofs.lemmas.Option.{get_or_from_slice_get}
 use Rattle.std.specs.Borrow.{Bor}
 use Rattle.group_count.proofs.text_tally.add_text.Goals as goal

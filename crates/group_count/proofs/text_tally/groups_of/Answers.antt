@@ -1,4 +1,4 @@
-use Rattle.std.proofs.Common.{◌≡◌, ◌∷◌, ℕ, List, rules, pos, refl}
+use Rattle.std.proofs.Common.{◌≡◌, ℕ, List, rules, pos, refl}
 use Rattle.std.specs.Borrow.{Bor}
 use Rattle.std.proofs.lemmas.List.Elements.{All-push, All-same}
 use Rattle.std.proofs.lemmas.Map.Iter.{rest_more}

@@ -1,4 +1,4 @@
-use Rattle.std.proofs.Common.{◌≡◌, ◌<◌, ◌≤◌, ℕ, List, length, IsErrOf, get_or, arith, rules, ap, sym, ◌∙◌}
+use Rattle.std.proofs.Common.{◌≡◌, ◌≤◌, ℕ, List, length, IsErrOf, arith, rules, ap, ◌∙◌}
 use Rattle.group_count.specs.StepsTypes.{often_below}
 use Rattle.group_count.specs.Tables.{some_of}
 use Rattle.group_count.specs.declared.refusal.TableRefusal.TheVariants.{Damaged}

@@ -1,4 +1,4 @@
-use Rattle.std.proofs.Common.{rules, refl}
+use Rattle.std.proofs.Common.{refl}
 use Rattle.group_count.proofs.MinuteLemmas.{none_held}
 use Rattle.group_count.proofs.minutes.MinuteTable.new.Goals as goal
 

@@ -1,4 +1,4 @@
-use Rattle.std.proofs.Common.{◌≡◌, rules, subst, sym}
+use Rattle.std.proofs.Common.{◌≡◌, rules, subst}
 use Rattle.group_count.specs.Tables.{AreCounts}
 use Rattle.group_count.proofs.TypeLemmas.{type_groups}
 use Rattle.group_count.proofs.types.TypeTable.groups.Goals as goal
