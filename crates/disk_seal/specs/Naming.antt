@@ -3,7 +3,7 @@ use Rattle.std.specs.Prelude.{◌≡◌, ℕ, ◌+◌, ◌≤◌, List, ◌++◌
 use Rattle.std.specs.List.{Contains}
 use Rattle.plain_list.specs.Texts.{IsNew}
 use Rattle.dict_lock.specs.Cached.{cache_of, pass_in}
-use Rattle.dict_lock.specs.Shared.{OwnsBehind}
+use Rattle.dict_lock.specs.Shared.{GoesOn, OwnsBehind}
 use Rattle.row_codec.specs.declared.namer.NameRefusal.{NameRefusal}
 use Rattle.row_codec.specs.declared.namer.NameRefusal.TheVariants.{Full, OutOfMemory}
 use Rattle.row_codec.specs.declared.namer.Which.{Which}
@@ -37,11 +37,13 @@ module _ {R A B C : Type 0} where
   abbrev pub words_side : LockNamer R A B C → Side
   words_side n = record { held = (cache_of n.words).texts; turns = n.turns.words }
 
-  -- Texts of one book were named, and its pass added only behind what it had seen. Nothing was done with the other book.
+  -- Texts of one book were named, and its pass goes on and added only behind what it had seen. Nothing was done with the other book.
   abbrev pub NamesIn : Which → List (List ℕ) → Option NameRefusal → LockNamer R A B C → LockNamer R A B C → Type 0
   NamesIn Types texts refusal m n =
       Named texts refusal (types_side m) (types_side n) × (words_side n ≡ words_side m)
       × OwnsBehind (pass_in m.types) (pass_in n.types) × (pass_in n.words ≡ pass_in m.words)
+      × GoesOn (pass_in m.types) (pass_in n.types)
   NamesIn Words texts refusal m n =
       Named texts refusal (words_side m) (words_side n) × (types_side n ≡ types_side m)
       × OwnsBehind (pass_in m.words) (pass_in n.words) × (pass_in n.types ≡ pass_in m.types)
+      × GoesOn (pass_in m.words) (pass_in n.words)

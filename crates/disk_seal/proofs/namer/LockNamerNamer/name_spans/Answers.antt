@@ -42,6 +42,7 @@ returns-in-Ok-clause-naming g c =
       refl,
       owns_behind these (pass_in c.args.self.now.words) (pass_in c.name_into.new.self) c.name_into.ensures.pass,
       refl,
+      c.name_into.ensures.pass.goes_on,
     )
 
 pub returns-in-Err-clause-naming : goal.returns-in-Err-clause-naming
@@ -57,4 +58,5 @@ returns-in-Err-clause-naming g c =
       refl,
       owns_behind these (pass_in c.args.self.now.words) (pass_in c.name_into.new.self) c.name_into.ensures.pass,
       refl,
+      c.name_into.ensures.pass.goes_on,
     )

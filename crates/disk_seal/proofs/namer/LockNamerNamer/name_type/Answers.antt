@@ -23,7 +23,7 @@ returns-in-Err-clause-full g c = λ book count is.
 pub returns-in-Ok-clause-naming : goal.returns-in-Ok-clause-naming
 returns-in-Ok-clause-naming g c =
     let there : IsOk c.name.result = search rules in
-    (named_all (cache_of c.args.self.now.types) (cache_of c.name.new.self) (c.args.text.now ∷ []) c.args.self.now.turns.types c.name.new.turns (IsOk c.name.result) there c.name.ensures.learned, refl, owns_behind (c.args.text.now ∷ []) (pass_in c.args.self.now.types) (pass_in c.name.new.self) c.name.ensures.pass, refl)
+    (named_all (cache_of c.args.self.now.types) (cache_of c.name.new.self) (c.args.text.now ∷ []) c.args.self.now.turns.types c.name.new.turns (IsOk c.name.result) there c.name.ensures.learned, refl, owns_behind (c.args.text.now ∷ []) (pass_in c.args.self.now.types) (pass_in c.name.new.self) c.name.ensures.pass, refl, c.name.ensures.pass.goes_on)
 
 pub returns-in-Err-clause-naming : goal.returns-in-Err-clause-naming
 returns-in-Err-clause-naming g c = (
@@ -34,4 +34,5 @@ returns-in-Err-clause-naming g c = (
   refl,
   owns_behind (c.args.text.now ∷ []) (pass_in c.args.self.now.types) (pass_in c.name.new.self) c.name.ensures.pass,
   refl,
+  c.name.ensures.pass.goes_on,
 )

@@ -19,7 +19,7 @@ returns-in-Err-clause-full g c = λ book count is.
 pub returns-in-Ok-clause-naming : goal.returns-in-Ok-clause-naming
 returns-in-Ok-clause-naming g c =
     let there : IsOk c.name_all.result = search rules in
-    (named_all (cache_of c.args.self.now.words) (cache_of c.name_all.new.self) c.args.texts.now c.args.self.now.turns.words c.name_all.new.turns (IsOk c.name_all.result) there c.name_all.ensures.learned, refl, owns_behind c.args.texts.now (pass_in c.args.self.now.words) (pass_in c.name_all.new.self) c.name_all.ensures.pass, refl)
+    (named_all (cache_of c.args.self.now.words) (cache_of c.name_all.new.self) c.args.texts.now c.args.self.now.turns.words c.name_all.new.turns (IsOk c.name_all.result) there c.name_all.ensures.learned, refl, owns_behind c.args.texts.now (pass_in c.args.self.now.words) (pass_in c.name_all.new.self) c.name_all.ensures.pass, refl, c.name_all.ensures.pass.goes_on)
 
 pub returns-in-Err-clause-naming : goal.returns-in-Err-clause-naming
 returns-in-Err-clause-naming g c = (
@@ -30,4 +30,5 @@ returns-in-Err-clause-naming g c = (
   refl,
   owns_behind c.args.texts.now (pass_in c.args.self.now.words) (pass_in c.name_all.new.self) c.name_all.ensures.pass,
   refl,
+  c.name_all.ensures.pass.goes_on,
 )
