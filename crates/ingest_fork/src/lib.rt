@@ -8,4 +8,4 @@ mod works;
 
 pub use laws::{all_are_joined, each_was_added, picked_are_own};
 pub use passes::{fill, join_all};
-pub use works::{MAX_WORKERS, Works, by_workers, by_workers_of};
+pub use works::{MAX_WORKERS, Works, by_workers, by_workers_of, in_turn};

@@ -50,7 +50,12 @@ pub trait Works<J, K> {
 }
 
 /// One worker does all the jobs, in their order.
-fn in_turn<J, K, W: Works<J, K>, R: Wait>(rt: &R, worker: &mut W, jobs: &mut [J], keepers: &mut [K])
+pub fn in_turn<J, K, W: Works<J, K>, R: Wait>(
+    rt: &R,
+    worker: &mut W,
+    jobs: &mut [J],
+    keepers: &mut [K],
+)
     requires same { length jobs.old ≡ length keepers.old }
     requires ready { W.ready worker.old }
     requires fits { AllFit W.fits (worker.old ∷ []) jobs.old keepers.old }
