@@ -6,7 +6,6 @@ ghost use Rattle.row_codec.specs.StepsBody.{HasNoText};
 ghost use Rattle.row_codec.specs.StepsCut.{IsHeldToken, IsHeldWord};
 ghost use Rattle.archive_core.specs.Slots.{AreHeld};
 
-use crate::books::Books;
 use crate::slots::Slot;
 use logtype_text::Kind;
 use row_codec::Names;
@@ -15,15 +14,15 @@ use var_codec::{Coded, decimal_ok, encode};
 
 // The text of a dictionary word by the word of a row.
 #[inline]
-fn dictionary_word(word: u64, books: &Books) -> Option<&[u8]>
-    ensures { MatchOption result (HasNoText books.now.words.texts word)
-        (λ text. slice_get books.now.words.texts word ≡ Some text.now) }
+fn dictionary_word<N: Names>(word: u64, names: &N) -> Option<&[u8]>
+    ensures { MatchOption result (HasNoText (N.words names.now) word)
+        (λ text. slice_get (N.words names.now) word ≡ Some text.now) }
 {
     match u32::try_from(word) {
-        Ok(number) => books.word_text(number),
+        Ok(number) => names.word_text(number),
         Err(_) => {
             // A number of 32 bits reaches every word, as this look-up tells.
-            let _last = books.word_text(u32::MAX);
+            let _last = names.word_text(u32::MAX);
             None
         }
     }
@@ -50,13 +49,13 @@ fn is_held_text(prev: Option<u8>, text: &[u8]) -> bool
 
 // Whether a word may stand in a slot. Each number is printed as a token that is a variable.
 #[inline]
-fn holds_word(slot: Slot, word: u64, books: &Books) -> bool
-    ensures { IsTrue result ↔ IsHeldWord books.now.words.texts slot.prev slot.kind word }
+fn holds_word<N: Names>(slot: Slot, word: u64, names: &N) -> bool
+    ensures { IsTrue result ↔ IsHeldWord (N.words names.now) slot.prev slot.kind word }
 {
     match slot.kind {
         Kind::Whole => true,
         Kind::Decimal => decimal_ok(word),
-        Kind::Word => match dictionary_word(word, books) {
+        Kind::Word => match dictionary_word(word, names) {
             Some(text) => is_held_text(slot.prev, text),
             None => false,
         },
@@ -64,15 +63,15 @@ fn holds_word(slot: Slot, word: u64, books: &Books) -> bool
 }
 
 /// Whether there is a word for each slot, which may stand there.
-pub(crate) fn are_held(slots: &[Slot], words: &[u64], books: &Books) -> bool
-    ensures { IsTrue result ↔ AreHeld books.now.words.texts slots.now words.now }
+pub(crate) fn are_held<N: Names>(slots: &[Slot], words: &[u64], names: &N) -> bool
+    ensures { IsTrue result ↔ AreHeld (N.words names.now) slots.now words.now }
 {
     let mut left = words;
     for slot in slots {
         let [word, behind @ ..] = left else {
             return false;
         };
-        if !holds_word(*slot, *word, books) {
+        if !holds_word(*slot, *word, names) {
             return false;
         }
         left = behind;

@@ -227,6 +227,7 @@ impl Judge {
         self.layouts.extend(&self.books)?;
         let found = rows_say(
             alloc,
+            self.books.version,
             &self.books,
             &mut self.known,
             &self.layouts,

@@ -1,5 +1,5 @@
 //! What is known of log types, so that rows need not read their texts.
-ghost use Rattle.std.specs.Prelude.{◌≡◌, ◌++◌, ℕ, List, IsErrOf, OnErr, OnOk, length, take};
+ghost use Rattle.std.specs.Prelude.{◌≡◌, ◌++◌, ℕ, List, IfOk, IsErrOf, OnErr, OnOk, length, take};
 ghost use Rattle.logtype_text.specs.Fair.{IsFairType};
 ghost use Rattle.archive_meaning.specs.Legal.{IsBook};
 ghost use Rattle.archive_core.specs.declared.refusal.JudgeRefusal.TheVariants.{Illegal};
@@ -10,7 +10,7 @@ use crate::slots::{Slot, slots_of};
 use crate::texts::add_texts;
 use dict_core::Book;
 use plain_list::Text;
-use row_codec::Which;
+use row_codec::{Names, Which};
 use std::alloc::{AllocError, Global};
 
 /// What is known of a log type.
@@ -37,6 +37,25 @@ fn push_known(alloc: Global, texts: &[Text], known: &mut Vec<LogType>) -> Result
         })?;
     }
     Ok(())
+}
+
+/// What is known of the log types that an archive has.
+pub(crate) fn known_of<N: Names>(alloc: Global, names: &N) -> Result<Vec<LogType>, AllocError>
+    ensures { IfOk result (λ known. AreKnown (N.types names.now) known.items) }
+{
+    let mut known = Vec::new(alloc);
+    for number in 0..u32::MAX {
+        let Some(text) = names.type_text(number) else {
+            return Ok(known);
+        };
+        let slots = slots_of(alloc, text)?;
+        known.push(LogType {
+            slots,
+            tested: false,
+        })?;
+    }
+    // No memory holds so many log types.
+    Err(AllocError)
 }
 
 /// Adds log types with these texts behind those of the dictionary; where it is none with them, or memory

@@ -8,7 +8,6 @@ ghost use Rattle.archive_meaning.specs.Sums.{open_after};
 ghost use Rattle.archive_core.specs.LogTypes.{AreKnown, IsCutRow};
 ghost use Rattle.archive_core.specs.Rows.{AreMessages, IsMessageOf};
 
-use crate::books::Books;
 use crate::held::are_held;
 use crate::log_types::LogType;
 use crate::message::{is_message, stamp_is};
@@ -63,22 +62,22 @@ impl Rows for Columns {
 
 // Whether a row's parts are cut by the rule of tokens; not where it is the encoding of no message. The
 // first row of a log type is tested whole, and of further ones the words.
-fn is_cut(books: &Books, known: &mut Vec<LogType>, row: RowRef<'_>) -> bool
-    requires { AreKnown books.now.types.texts known.old.items }
-    ensures known { AreKnown books.now.types.texts known.new.items }
+fn is_cut<N: Names>(names: &N, known: &mut Vec<LogType>, row: RowRef<'_>) -> bool
+    requires { AreKnown (N.types names.now) known.old.items }
+    ensures known { AreKnown (N.types names.now) known.new.items }
     ensures yes { IsTrue result
-        → IsCutRow books.now.types.texts books.now.words.texts (row_of row.entry) }
-    ensures none { IsFalse result → ¬ IsEncoding books.now.version (row_of row.entry)
-        books.now.types.texts books.now.words.texts }
+        → IsCutRow (N.types names.now) (N.words names.now) (row_of row.entry) }
+    ensures none { IsFalse result → ¬ IsEncoding (N.version names.now) (row_of row.entry)
+        (N.types names.now) (N.words names.now) }
 {
     let number = row.log_type as usize;
     let Some(log_type) = known.get(number) else {
         return false;
     };
     if log_type.tested {
-        return are_held(log_type.slots.as_slice(), row.words, books);
+        return are_held(log_type.slots.as_slice(), row.words, names);
     }
-    if !row_ok(row, books) {
+    if !row_ok(row, names) {
         return false;
     }
     known[number].tested = true;
@@ -86,36 +85,36 @@ fn is_cut(books: &Books, known: &mut Vec<LogType>, row: RowRef<'_>) -> bool
 }
 
 // Whether a row is the encoding of a message, which then stands in `message`.
-fn find_message(
-    books: &Books,
+fn find_message<N: Names>(
+    names: &N,
     known: &mut Vec<LogType>,
     writer: &mut RowWriter<'_>,
     row: RowRef<'_>,
     message: &mut Vec<u8>,
 ) -> Result<bool, AllocError>
-    requires writer { writer.old ≡ books.now.types.texts }
-    requires known { AreKnown books.now.types.texts known.old.items }
+    requires writer { writer.old ≡ N.types names.now }
+    requires known { AreKnown (N.types names.now) known.old.items }
 
     // what stays
     ensures writer { writer.new ≡ writer.old }
-    ensures known { AreKnown books.now.types.texts known.new.items }
+    ensures known { AreKnown (N.types names.now) known.new.items }
 
     // by the answer
     ensures yes { IfOk result (λ found. IsTrue found
-        → IsCanonical books.now.version (row_of row.entry)
-        books.now.types.texts books.now.words.texts message.new.items) }
+        → IsCanonical (N.version names.now) (row_of row.entry)
+        (N.types names.now) (N.words names.now) message.new.items) }
     ensures none { IfOk result (λ found. IsFalse found → (m : List ℕ)
-        → ¬ IsCanonical books.now.version (row_of row.entry)
-        books.now.types.texts books.now.words.texts m) }
+        → ¬ IsCanonical (N.version names.now) (row_of row.entry)
+        (N.types names.now) (N.words names.now) m) }
 {
     message.clear();
-    if !is_cut(books, known, row) {
+    if !is_cut(names, known, row) {
         return Ok(false);
     }
-    if !writer.write_fitting(row, books, message)? {
+    if !writer.write_fitting(row, names, message)? {
         return Ok(false);
     }
-    Ok(stamp_is(books.micro(), message.as_slice(), row.pattern, row.moment))
+    Ok(stamp_is(names.micro(), message.as_slice(), row.pattern, row.moment))
 }
 
 // Whether the bytes end without a newline and are not empty.
@@ -130,33 +129,35 @@ fn is_open(bytes: &[u8]) -> bool
 
 // Whether the row's message may be a last line without newline; nothing where the row is the encoding of no
 // message. The message is put together in `message`.
-fn row_says(
-    books: &Books,
+fn row_says<N: Names>(
+    version: u32,
+    names: &N,
     known: &mut Vec<LogType>,
     writer: &mut RowWriter<'_>,
     row: RowRef<'_>,
     message: &mut Vec<u8>,
 ) -> Result<Option<bool>, AllocError>
-    requires writer { writer.old ≡ books.now.types.texts }
-    requires known { AreKnown books.now.types.texts known.old.items }
+    requires version { version ≡ N.version names.now }
+    requires writer { writer.old ≡ N.types names.now }
+    requires known { AreKnown (N.types names.now) known.old.items }
 
     // what stays
     ensures writer { writer.new ≡ writer.old }
-    ensures known { AreKnown books.now.types.texts known.new.items }
+    ensures known { AreKnown (N.types names.now) known.new.items }
 
     // by the answer
     ensures some { IfOk result (λ says. IfSome says (λ open_end. (m : List ℕ)
-        × IsMessageOf books.now.version books.now.types.texts books.now.words.texts
+        × IsMessageOf (N.version names.now) (N.types names.now) (N.words names.now)
         (row_of row.entry) m
         × (open_end ≡ ends_open m))) }
     ensures none { IfOk result (λ says. IfNone says ((m : List ℕ)
-        → ¬ IsMessageOf books.now.version books.now.types.texts books.now.words.texts
+        → ¬ IsMessageOf (N.version names.now) (N.types names.now) (N.words names.now)
         (row_of row.entry) m)) }
 {
-    if !find_message(books, known, writer, row, message)? {
+    if !find_message(names, known, writer, row, message)? {
         return Ok(None);
     }
-    if !is_message(books.version, message.as_slice()) {
+    if !is_message(version, message.as_slice()) {
         return Ok(None);
     }
     Ok(Some(is_open(message.as_slice())))
@@ -165,34 +166,43 @@ fn row_says(
 /// Whether the last of the rows' messages may be a last line without newline, where `before` tells it of
 /// the messages before them; nothing where some row is the encoding of no message. The layouts are those
 /// of all log types.
-pub(crate) fn rows_say<R: Rows>(
+pub(crate) fn rows_say<N: Names, R: Rows>(
     alloc: Global,
-    books: &Books,
+    version: u32,
+    names: &N,
     known: &mut Vec<LogType>,
     layouts: &Layouts,
     before: bool,
     rows: &R,
 ) -> Result<Option<bool>, AllocError>
-    requires layouts { layouts.now ≡ books.now.types.texts }
-    requires known { AreKnown books.now.types.texts known.old.items }
+    requires version { version ≡ N.version names.now }
+    requires layouts { layouts.now ≡ N.types names.now }
+    requires known { AreKnown (N.types names.now) known.old.items }
 
     // what stays
-    ensures known { AreKnown books.now.types.texts known.new.items }
+    ensures known { AreKnown (N.types names.now) known.new.items }
 
     // by the answer
     ensures some { IfOk result (λ says. IfSome says (λ open_end. (messages : List (List ℕ))
-        × AreMessages books.now.version books.now.types.texts books.now.words.texts
+        × AreMessages (N.version names.now) (N.types names.now) (N.words names.now)
         (R.rows rows.now) messages
         × (open_end ≡ open_after before messages))) }
     ensures none { IfOk result (λ says. IfNone says ((messages : List (List ℕ))
-        → ¬ AreMessages books.now.version books.now.types.texts books.now.words.texts
+        → ¬ AreMessages (N.version names.now) (N.types names.now) (N.words names.now)
         (R.rows rows.now) messages)) }
 {
     let mut writer = RowWriter::new(layouts);
     let mut message = Vec::new(alloc);
     let mut open_end = before;
     for place in 0..rows.count() {
-        match row_says(books, known, &mut writer, rows.at(place), &mut message)? {
+        match row_says(
+            version,
+            names,
+            known,
+            &mut writer,
+            rows.at(place),
+            &mut message,
+        )? {
             Some(open) => open_end = open,
             None => return Ok(None),
         }

@@ -46,7 +46,7 @@ fn has_room(sum: FileSum, part: Part, count: usize) -> bool
 }
 
 /// Whether a file of this sum may go on with a segment of these rows, whatever their messages are.
-pub(crate) fn may_follow<R: Rows>(sum: FileSum, part: Part, rows: &R) -> bool
+pub fn may_follow<R: Rows>(sum: FileSum, part: Part, rows: &R) -> bool
     ensures { IsTrue result ↔ MayFollow sum part (R.rows rows.now) }
 {
     let count = rows.count();
@@ -55,7 +55,7 @@ pub(crate) fn may_follow<R: Rows>(sum: FileSum, part: Part, rows: &R) -> bool
 
 /// Whether a file may end as its segment says, where `open_end` tells whether its last message may be a
 /// last line without newline.
-pub(crate) fn ends_well(part: Part, open_end: bool) -> bool
+pub fn ends_well(part: Part, open_end: bool) -> bool
     ensures { IsTrue result ↔ (part.last ≡ true → part.ended ≡ false → open_end ≡ true) }
 {
     if !part.last {

@@ -6,7 +6,7 @@ use Rattle.archive_core.proofs.rows.rows_say.Given as goal
 
 abbrev pub invariant-loop-place : goal.invariant-loop-place
 invariant-loop-place g l = record {
-  says : (messages : List (List ℕ)) × AreMessages l.books.version l.books.types.texts l.books.words.texts (take l.place (g.R.Rows.rows l.rows)) messages × (l.open_end ≡ open_after l.before messages);
-  writer : l.writer ≡ l.books.types.texts;
-  known : AreKnown l.books.types.texts l.known.items;
+  says : (messages : List (List ℕ)) × AreMessages (g.N.Names.version l.names) (g.N.Names.types l.names) (g.N.Names.words l.names) (take l.place (g.R.Rows.rows l.rows)) messages × (l.open_end ≡ open_after l.before messages);
+  writer : l.writer ≡ (g.N.Names.types l.names);
+  known : AreKnown (g.N.Names.types l.names) l.known.items;
 }
