@@ -1,5 +1,6 @@
 mod CountLemmas
 mod GroupLemmas
+mod JudgeLemmas
 mod LawLemmas
 mod MinuteLemmas
 mod ShapeLemmas

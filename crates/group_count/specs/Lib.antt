@@ -1,4 +1,5 @@
 pub mod Groups
+pub mod Judged
 pub mod Laws
 pub mod Printed
 pub mod StepsTypes

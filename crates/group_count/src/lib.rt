@@ -5,6 +5,7 @@
 #![tactic(auto)]
 
 mod group;
+mod judging;
 pub mod laws;
 mod minutes;
 pub mod printed;
@@ -16,6 +17,7 @@ mod text_tally;
 mod types;
 
 pub use group::{Group, GroupList};
+pub use judging::judge_stored;
 pub use minutes::MinuteTable;
 pub use refusal::TableRefusal;
 pub use types::TypeTable;
