@@ -5,6 +5,7 @@ ghost use Rattle.disk_journal.specs.Record.{IsFrame};
 ghost use Rattle.disk_journal.specs.State.{IsAtEnd};
 ghost use Rattle.disk_journal.specs.Journal.{state_of};
 
+use crate::holds;
 use disk_journal::{
     AppendRefusal, CreateRefusal, Journal, RecordPlace, StartRefusal, WalkRefusal, append_each,
     create, frame, frames_one, stand_for_one,
@@ -139,41 +140,74 @@ fn append_both<D: Disk>(
     Ok(append_each(journal, &[one, two]))
 }
 
+// Whether creating a journal on a disk of these bytes answers so, and leaves these.
+fn is_created(
+    alloc: Global,
+    bytes: &[u8],
+    fails: &[u64],
+    answer: Result<(), CreateRefusal>,
+    after: &[u8],
+) -> Result<bool, Fail> {
+    let mut new = disk(alloc, bytes, fails)?;
+    Ok(create(&mut new, &HEADER) == answer && new.bytes() == after)
+}
+
 #[test]
 fn an_empty_journal_has_its_33_bytes(rt: HostRuntime) -> Result<(), Fail> {
-    let mut new = disk(rt.alloc(), &[], &[])?;
-    assert!(rt; create(&mut new, &HEADER).is_ok());
-    assert!(rt; new.bytes() == EMPTY.as_slice());
-    Ok(())
+    holds(is_created(rt.alloc(), &[], &[], Ok(()), &EMPTY))
 }
 
 #[test]
 fn an_archive_that_is_there_is_left(rt: HostRuntime) -> Result<(), Fail> {
-    let mut old = disk(rt.alloc(), &WORKED, &[])?;
-    let refused = create(&mut old, &HEADER);
-    assert!(rt; refused == Err(CreateRefusal::NotEmpty { len: 155 }));
-    assert!(rt; old.bytes() == WORKED.as_slice());
-    Ok(())
+    let refused = Err(CreateRefusal::NotEmpty { len: 155 });
+    holds(is_created(rt.alloc(), &WORKED, &[], refused, &WORKED))
+}
+
+// Whether creating is refused where the call of this number fails, and leaves these bytes.
+fn creating_fails(alloc: Global, fault: u64, after: &[u8]) -> Result<bool, Fail> {
+    is_created(alloc, &[], &[fault], Err(CreateRefusal::DiskFault), after)
+}
+
+fn each_creating_fails(alloc: Global) -> Result<bool, Fail> {
+    Ok(
+        creating_fails(alloc, 0, &[])?
+            && creating_fails(alloc, 1, &[])?
+            && creating_fails(alloc, 2, &EMPTY)?,
+    )
 }
 
 #[test]
 fn each_call_of_creating_may_fail(rt: HostRuntime) -> Result<(), Fail> {
-    for fault in 0..3 {
-        let mut new = disk(rt.alloc(), &[], &[fault])?;
-        let refused = create(&mut new, &HEADER) == Err(CreateRefusal::DiskFault);
-        assert!(rt; refused);
-    }
-    Ok(())
+    holds(each_creating_fails(rt.alloc()))
+}
+
+// Whether opening a journal on a disk of these bytes is refused so.
+fn opening_fails(
+    alloc: Global,
+    bytes: &[u8],
+    fails: &[u64],
+    refusal: StartRefusal,
+) -> Result<bool, Fail> {
+    let mut old = disk(alloc, bytes, fails)?;
+    Ok(Journal::open_journal(&mut old).err() == Some(refusal))
+}
+
+fn each_opening_fails(alloc: Global) -> Result<bool, Fail> {
+    Ok(
+        opening_fails(alloc, &EMPTY, &[0], StartRefusal::DiskFault)?
+            && opening_fails(alloc, &EMPTY, &[1], StartRefusal::DiskFault)?,
+    )
 }
 
 #[test]
 fn each_call_of_opening_may_fail(rt: HostRuntime) -> Result<(), Fail> {
-    for fault in 0..2 {
-        let mut old = disk(rt.alloc(), &EMPTY, &[fault])?;
-        let refused = Journal::open_journal(&mut old).err() == Some(StartRefusal::DiskFault);
-        assert!(rt; refused);
-    }
-    Ok(())
+    holds(each_opening_fails(rt.alloc()))
+}
+
+#[test]
+fn a_cut_header_is_damaged(rt: HostRuntime) -> Result<(), Fail> {
+    let damaged = StartRefusal::Damaged { at: 0 };
+    holds(opening_fails(rt.alloc(), &WORKED[..31], &[], damaged))
 }
 
 // Whether the next step of the walk fails, as the first fault of the disk.
@@ -183,55 +217,93 @@ fn fails_first<D: Disk>(journal: &mut Journal<'_, D>) -> bool {
         && journal.faults() == 1
 }
 
-#[test]
-fn each_call_of_a_step_may_fail(rt: HostRuntime) -> Result<(), Fail> {
-    for fault in 2..4 {
-        let mut old = disk(rt.alloc(), &EMPTY, &[fault])?;
-        let mut journal = Journal::open_journal(&mut old)?;
-        assert!(rt; fails_first(&mut journal));
-    }
-    Ok(())
+fn step_fails(alloc: Global, fault: u64) -> Result<bool, Fail> {
+    let mut old = disk(alloc, &EMPTY, &[fault])?;
+    Ok(fails_first(&mut Journal::open_journal(&mut old)?))
 }
 
-fn place(at: u64, kind: u8, length: u64) -> RecordPlace
-    requires { at < 200 }
-{
-    RecordPlace {
-        at,
-        kind,
-        payload: at + 10,
-        length,
-    }
+fn each_step_fails(alloc: Global) -> Result<bool, Fail> {
+    Ok(step_fails(alloc, 2)? && step_fails(alloc, 3)?)
 }
+
+#[test]
+fn each_call_of_a_step_may_fail(rt: HostRuntime) -> Result<(), Fail> {
+    holds(each_step_fails(rt.alloc()))
+}
+
+// Where the records of the worked archive stand.
+const PLACES: &[RecordPlace] = &[
+    RecordPlace {
+        at: 32,
+        kind: 1,
+        payload: 42,
+        length: 13,
+    },
+    RecordPlace {
+        at: 55,
+        kind: 2,
+        payload: 65,
+        length: 13,
+    },
+    RecordPlace {
+        at: 78,
+        kind: 4,
+        payload: 88,
+        length: 66,
+    },
+];
 
 // Whether the walk comes to this place next.
 fn comes_to<D: Disk>(journal: &mut Journal<'_, D>, want: Option<RecordPlace>) -> bool {
     journal.next_place() == Ok(want)
 }
 
+// Whether the walk comes to all these places, and then to the end.
+fn comes_to_all<D: Disk>(journal: &mut Journal<'_, D>, places: &[RecordPlace]) -> bool {
+    for place in places {
+        if !comes_to(journal, Some(*place)) {
+            return false;
+        }
+    }
+    comes_to(journal, None)
+}
+
+// Whether the journal is at its end, there, behind so many records.
+fn ends_at<D: Disk>(journal: &Journal<'_, D>, end: u64, count: u64) -> bool {
+    journal.at_end() && journal.end() == end && journal.count() == count
+}
+
+fn finds_gates(alloc: Global) -> Result<bool, Fail> {
+    let mut whole = disk(alloc, &WORKED, &[])?;
+    let mut journal = Journal::open_journal(&mut whole)?;
+    Ok(
+        *journal.header() == HEADER
+            && comes_to_all(&mut journal, PLACES)
+            && ends_at(&journal, 155, 3),
+    )
+}
+
 #[test]
 fn a_walk_finds_the_gates(rt: HostRuntime) -> Result<(), Fail> {
-    let mut whole = disk(rt.alloc(), &WORKED, &[])?;
-    let mut journal = Journal::open_journal(&mut whole)?;
-    assert!(rt; *journal.header() == HEADER);
-    assert!(rt; comes_to(&mut journal, Some(place(32, 1, 13))));
-    assert!(rt; comes_to(&mut journal, Some(place(55, 2, 13))));
-    assert!(rt; comes_to(&mut journal, Some(place(78, 4, 66))));
-    assert!(rt; comes_to(&mut journal, None) && journal.at_end());
-    assert!(rt; journal.end() == 155 && journal.count() == 3);
-    Ok(())
+    holds(finds_gates(rt.alloc()))
 }
 
 static NAMES: [u8; 13] = [1, 0, 0, 0, 5, 0, 0, 0, 0x61, 0x2E, 0x6C, 0x6F, 0x67];
 
+// Whether the payload of the first record is this.
+fn loads(alloc: Global, journal: &mut Journal<'_, MemDisk>, payload: &[u8]) -> Result<bool, Fail> {
+    let first = journal.next_place()?.ok_or("no record")?;
+    Ok(journal.load(alloc, first.payload, first.length)?.as_slice() == payload)
+}
+
+fn loads_names(alloc: Global) -> Result<bool, Fail> {
+    let mut whole = disk(alloc, &WORKED, &[])?;
+    loads(alloc, &mut Journal::open_journal(&mut whole)?, &NAMES)
+}
+
 #[test]
 fn a_payload_is_loaded(rt: HostRuntime) -> Result<(), Fail> {
-    let mut whole = disk(rt.alloc(), &WORKED, &[])?;
-    let mut journal = Journal::open_journal(&mut whole)?;
-    let first = journal.next_place()?.ok_or("no record")?;
-    let names = journal.load(rt.alloc(), first.payload, first.length)?;
-    assert!(rt; names.as_slice() == NAMES.as_slice());
-    Ok(())
+    holds(loads_names(rt.alloc()))
 }
 
 // How many of the worked archive's bytes are there, how many records a walk passes, and where the
@@ -256,37 +328,42 @@ fn breaks_off(alloc: Global, bytes: &[u8], walked: u64, at: u64) -> Result<bool,
 fn a_cut_journal_is_damaged_where_it_breaks_off(rt: HostRuntime) -> Result<(), Fail> {
     for (size, walked, at) in CUTS {
         let bytes = WORKED.get(..*size).ok_or("too few")?;
-        let well = breaks_off(rt.alloc(), bytes, *walked, *at)?;
-        assert!(rt; well, "{size}");
+        if !breaks_off(rt.alloc(), bytes, *walked, *at)? {
+            return Err(Fail::new(*size));
+        }
     }
     Ok(())
 }
 
-#[test]
-fn a_cut_header_is_damaged(rt: HostRuntime) -> Result<(), Fail> {
-    let mut short = disk(rt.alloc(), &WORKED[..31], &[])?;
-    let refused = Journal::open_journal(&mut short).err();
-    assert!(rt; refused == Some(StartRefusal::Damaged { at: 0 }));
-    Ok(())
+const SMALL: Header = Header {
+    length_limit: 50,
+    ..HEADER
+};
+
+// What an append of this record to a journal without records answers.
+fn appended(
+    alloc: Global,
+    old: &mut MemDisk,
+    kind: u8,
+    payload: &[u8],
+) -> Result<Result<(), AppendRefusal>, Fail> {
+    let framed = frame(alloc, kind, payload)?;
+    Ok(end_of(old)?.append(framed.as_slice()))
+}
+
+// Whether a journal with too little room refuses a record, by no call: creating takes a length, a write
+// and a sync; a sync and a read; and opening a length and a read.
+fn is_full(alloc: Global) -> Result<bool, Fail> {
+    let mut small = disk(alloc, &[], &[])?;
+    create(&mut small, &SMALL)?;
+    let full = AppendRefusal::ArchiveFull { end: 33, need: 23 };
+    let refused = appended(alloc, &mut small, 1, &[9; 13])? == Err(full);
+    Ok(refused && small.calls() == 7 && small.bytes().len() == 33)
 }
 
 #[test]
 fn a_full_journal_calls_nothing(rt: HostRuntime) -> Result<(), Fail> {
-    let alloc = rt.alloc();
-    let mut small = disk(alloc, &[], &[])?;
-    let header = Header {
-        length_limit: 50,
-        ..HEADER
-    };
-    create(&mut small, &header)?;
-    let framed = frame(alloc, 1, &[9; 13])?;
-    let mut journal = end_of(&mut small)?;
-    let full = AppendRefusal::ArchiveFull { end: 33, need: 23 };
-    assert!(rt; journal.append(framed.as_slice()) == Err(full));
-    // a length, a write and a sync; a sync and a read; a length and a read
-    assert!(rt; small.calls() == 7);
-    assert!(rt; small.bytes().len() == 33);
-    Ok(())
+    holds(is_full(rt.alloc()))
 }
 
 // What stands on the disk up to the header's end, and these bytes behind it.
@@ -296,34 +373,39 @@ fn behind_header(alloc: Global, bytes: &[u8]) -> Result<Vec<u8>, AllocError> {
     Ok(whole)
 }
 
-#[test]
-fn any_gate_but_1_is_closed_and_what_is_behind_it_stays(rt: HostRuntime) -> Result<(), Fail> {
-    let alloc = rt.alloc();
-    let bytes = behind_header(
-        alloc,
-        b"\x07\x08\x08\x08\x08\x08\x08\x08\x08\x08\x08\x08\x08\x05\x06",
-    )?;
-    let mut odd = disk(alloc, &bytes, &[])?;
-    let framed = frame(alloc, 3, &[2])?;
-    let mut journal = end_of(&mut odd)?;
-    assert!(rt; journal.append(framed.as_slice()).is_ok());
+// Whether a record that is appended in front of the bytes 8, 5 and 6 leaves them.
+fn leaves_behind(alloc: Global, odd: &mut MemDisk) -> Result<bool, Fail> {
+    let answer = appended(alloc, odd, 3, &[2])?;
     let bytes = behind_header(
         alloc,
         b"\x01\x03\x01\x00\x00\x00\x00\x00\x00\x00\x02\x00\x08\x05\x06",
     )?;
-    assert!(rt; odd.bytes() == bytes.as_slice());
-    let count = count_of(&mut odd)?;
-    assert!(rt; count == Some(1));
-    Ok(())
+    Ok(answer.is_ok() && odd.bytes() == bytes.as_slice() && count_of(odd)? == Some(1))
+}
+
+fn leaves_behind_odd(alloc: Global) -> Result<bool, Fail> {
+    let bytes = behind_header(
+        alloc,
+        b"\x07\x08\x08\x08\x08\x08\x08\x08\x08\x08\x08\x08\x08\x05\x06",
+    )?;
+    leaves_behind(alloc, &mut disk(alloc, &bytes, &[])?)
+}
+
+#[test]
+fn any_gate_but_1_is_closed_and_what_is_behind_it_stays(rt: HostRuntime) -> Result<(), Fail> {
+    holds(leaves_behind_odd(rt.alloc()))
+}
+
+fn is_framed(alloc: Global) -> Result<bool, Fail> {
+    let framed = frame(alloc, 3, &[2])?;
+    Ok(framed.as_slice() == b"\x03\x01\x00\x00\x00\x00\x00\x00\x00\x02\x00".as_slice())
 }
 
 #[test]
 fn a_frame_has_its_bytes(rt: HostRuntime) -> Result<(), Fail> {
-    let framed = frame(rt.alloc(), 3, &[2])?;
-    assert!(rt; framed.as_slice() == b"\x03\x01\x00\x00\x00\x00\x00\x00\x00\x02\x00".as_slice());
     frames_one();
     stand_for_one();
-    Ok(())
+    holds(is_framed(rt.alloc()))
 }
 
 // Appends two records to an empty journal: the answer, how many records it has then, and where it
@@ -336,22 +418,26 @@ fn run_both(alloc: Global, run: &mut MemDisk) -> Result<(Result<(), Failed>, u64
     Ok((answer, journal.count(), journal.end()))
 }
 
+// Whether two appends to an empty journal, of whose disk the call of this number fails, come to this, and
+// leave so many records.
+fn come_to(
+    alloc: Global,
+    fault: u64,
+    want: (Result<(), Failed>, u64, u64),
+    records: u64,
+) -> Result<bool, Fail> {
+    let mut run = disk(alloc, &EMPTY, &[fault])?;
+    Ok(run_both(alloc, &mut run)? == want && records_in(run.bytes()) == Some(records))
+}
+
 #[test]
 fn several_appends_that_succeed(rt: HostRuntime) -> Result<(), Fail> {
-    let mut run = disk(rt.alloc(), &EMPTY, &[12])?;
-    let (answer, count, end) = run_both(rt.alloc(), &mut run)?;
-    assert!(rt; answer == Ok(()) && count == 2 && end == 70);
-    assert!(rt; records_in(run.bytes()) == Some(2));
-    Ok(())
+    holds(come_to(rt.alloc(), 12, (Ok(()), 2, 70), 2))
 }
 
 #[test]
 fn several_appends_stop_at_the_first_that_fails(rt: HostRuntime) -> Result<(), Fail> {
-    let mut run = disk(rt.alloc(), &EMPTY, &[8])?;
-    let (answer, count, end) = run_both(rt.alloc(), &mut run)?;
-    assert!(rt; answer == Err(Failed) && count == 1 && end == 48);
-    assert!(rt; records_in(run.bytes()) == Some(1));
-    Ok(())
+    holds(come_to(rt.alloc(), 8, (Err(Failed), 1, 48), 1))
 }
 
 // Appends three records to an empty journal: the answer, and how many are acknowledged.
@@ -391,18 +477,32 @@ fn keeps(run: &MemDisk, after: usize, least: u64, most: u64) -> Result<bool, Fai
     Ok(true)
 }
 
-#[test]
-fn every_crash_of_three_appends_leaves_a_journal(rt: HostRuntime) -> Result<(), Fail> {
-    // four calls of the opening and the walk, and four of each append
-    let mut run = disk(rt.alloc(), &EMPTY, &[])?;
-    let (answer, count) = run_three(rt.alloc(), &mut run)?;
-    assert!(rt; answer.is_ok() && count == 3 && run.calls() == 16);
-    assert!(rt; run.bytes() == THREE.as_slice());
+// Fails with the first crash that leaves no such journal: there are four calls of the opening and the
+// walk, and four of each append.
+fn all_are_kept(run: &MemDisk) -> Result<(), Fail> {
+    if run.calls() != 16 {
+        return Err(Fail::from("not 16 calls"));
+    }
     for after in 4..17 {
         let done = (after as u64 - 4) / 4;
-        assert!(rt; keeps(&run, after, done, done + 1)?, "after {after}");
+        if !keeps(run, after, done, done + 1)? {
+            return Err(Fail::new(after));
+        }
     }
     Ok(())
+}
+
+// Whether three appends come to an end, and leave these bytes.
+fn come_to_three(alloc: Global, run: &mut MemDisk) -> Result<bool, Fail> {
+    let (answer, count) = run_three(alloc, run)?;
+    Ok(answer.is_ok() && count == 3 && run.bytes() == THREE.as_slice())
+}
+
+#[test]
+fn every_crash_of_three_appends_leaves_a_journal(rt: HostRuntime) -> Result<(), Fail> {
+    let mut run = disk(rt.alloc(), &EMPTY, &[])?;
+    holds(come_to_three(rt.alloc(), &mut run))?;
+    all_are_kept(&run)
 }
 
 // Whether three appends to an empty journal, of whose disk this call fails, are refused where it does,
@@ -420,8 +520,9 @@ fn keeps_at(alloc: Global, fault: u64) -> Result<bool, Fail>
 #[test]
 fn a_fault_of_three_appends_leaves_a_journal(rt: HostRuntime) -> Result<(), Fail> {
     for fault in 4..16 {
-        let kept = keeps_at(rt.alloc(), fault)?;
-        assert!(rt; kept, "fault {fault}");
+        if !keeps_at(rt.alloc(), fault)? {
+            return Err(Fail::new(fault));
+        }
     }
     Ok(())
 }

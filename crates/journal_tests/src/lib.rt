@@ -5,3 +5,8 @@
 mod disk_journal_tests;
 #[cfg(test)]
 mod short_disk_tests;
+#[cfg(test)]
+mod telling;
+
+#[cfg(test)]
+pub(crate) use telling::holds;

@@ -2,10 +2,12 @@
 ghost use Rattle.std.specs.Prelude.{◌≡◌, None, Some, false, is_ok};
 ghost use Rattle.log_seams.specs.Outside.{Counts};
 
-use disk_journal::{Journal, LoadRefusal};
+use crate::disk_journal_tests::WORKED;
+use crate::holds;
+use disk_journal::{Journal, LoadRefusal, RecordPlace};
 use log_seams::{Disk, Failed};
 use plain_list::Text;
-use std::alloc::Global;
+use std::alloc::{AllocError, Global};
 use std::test::Fail;
 
 /// Bytes that are not told, and that cannot be written. A read gives at most `most` of them.
@@ -75,24 +77,44 @@ impl Disk for ShortDisk {
     } };
 }
 
-// Seven bytes of a payload of 13 are no payload.
-#[test]
-fn a_payload_that_is_cut_short_is_damaged(rt: HostRuntime) -> Result<(), Fail> {
-    let alloc = rt.alloc();
-    let mut short = ShortDisk {
-        bytes: Text::new(crate::disk_journal_tests::WORKED.to_vec(alloc)?),
+fn short_disk(alloc: Global) -> Result<ShortDisk, AllocError> {
+    Ok(ShortDisk {
+        bytes: Text::new(WORKED.to_vec(alloc)?),
         most: 32,
         ranges: Vec::with_capacity(alloc, 4)?,
         faults: 0,
-    };
-    let mut journal = Journal::open_journal(&mut short)?;
+    })
+}
+
+// Loads the record's payload from a disk that gives at most so many bytes.
+fn load_most(
+    alloc: Global,
+    journal: &mut Journal<'_, ShortDisk>,
+    most: usize,
+    place: &RecordPlace,
+) -> Result<Text, LoadRefusal> {
+    journal.disk.most = most;
+    journal.load(alloc, place.payload, place.length)
+}
+
+// Whether the first record's payload of 13 bytes is damaged where 7 are given, and there where all are.
+fn are_loaded(alloc: Global, journal: &mut Journal<'_, ShortDisk>) -> Result<bool, Fail> {
     let first = journal.next_place()?.ok_or("no record")?;
-    journal.disk.most = 7;
-    let refused = journal.load(alloc, first.payload, first.length).err();
-    assert!(rt; refused == Some(LoadRefusal::Damaged { at: 42 }));
-    journal.disk.most = 13;
-    let loaded = journal.load(alloc, first.payload, first.length)?;
-    assert!(rt; loaded.as_slice() == &crate::disk_journal_tests::WORKED[42..55]);
-    assert!(rt; short.ranges.as_slice() == [(0, 32), (32, 10), (42, 7), (42, 13)].as_slice());
-    Ok(())
+    let refused = load_most(alloc, journal, 7, &first).err();
+    let loaded = load_most(alloc, journal, 13, &first)?;
+    let damaged = Some(LoadRefusal::Damaged { at: 42 });
+    Ok(refused == damaged && loaded.as_slice() == &WORKED[42..55])
+}
+
+// The same of a disk, and by these reads.
+fn are_read(alloc: Global) -> Result<bool, Fail> {
+    let mut short = short_disk(alloc)?;
+    let loaded = are_loaded(alloc, &mut Journal::open_journal(&mut short)?)?;
+    Ok(loaded && short.ranges.as_slice() == [(0, 32), (32, 10), (42, 7), (42, 13)].as_slice())
+}
+
+// Seven bytes of a payload of 13 are no payload.
+#[test]
+fn a_payload_that_is_cut_short_is_damaged(rt: HostRuntime) -> Result<(), Fail> {
+    holds(are_read(rt.alloc()))
 }
