@@ -28,6 +28,9 @@ enum Case {
     Number(u8, i64, u32, &'static [u64], Verdict),
     /// A segment's log types and words: whether it may match.
     MayMatch(&'static [u32], &'static [u32], bool),
+    /// Whether a segment has stamps, its least and its greatest moment: whether it may match, where no log
+    /// type and no word brings the text.
+    Between(bool, i64, i64, bool),
     /// The numbers of the words in which the pattern's only token stands, a row's log type and words: its
     /// verdict.
     Marked(&'static [u32], u32, &'static [u64], Verdict),
@@ -135,19 +138,45 @@ fn is_told(filter: &Filter, plan: &Plan, books: &Books, row: RowRef<'_>, want: V
     verdict == want && !left_out
 }
 
-/// Whether a case is as told by the filter.
-fn filter_tells(filter: &Filter, plan: &Plan, books: &Books, case: &Case) -> bool {
+/// Whether the filter leaves a segment a match, which lists these log types and words and has rows with
+/// stamps between two moments, or none with a stamp.
+fn may_match(
+    alloc: Global,
+    filter: &Filter,
+    between: Option<(i64, i64)>,
+    types: &[u32],
+    words: &[u32],
+) -> Result<bool, AllocError> {
+    let (least, greatest) = between.unwrap_or((0, 0));
+    let head = Head {
+        least,
+        greatest,
+        ..head_of(alloc, 1, between.is_some(), types, words)?
+    };
+    Ok(filter.may_match(&head))
+}
+
+/// Moments of 33 years.
+const YEARS: Option<(i64, i64)> = Some((0, 1_000_000_000_000));
+
+/// Whether a case of a segment is as told by the filter.
+fn filter_leaves(alloc: Global, filter: &Filter, case: &Case) -> Result<bool, AllocError> {
     match case {
         Case::Bits(log_type, words, listed, verdict, may) => {
-            filter.verdict(row_of(0, 0, *log_type, words)) == *verdict
-                && filter.may_match(&[*log_type], listed) == *may
+            let row = row_of(0, 0, *log_type, words);
+            Ok(
+                filter.verdict(row) == *verdict
+                    && may_match(alloc, filter, Some((10, 40)), &[*log_type], listed)? == *may,
+            )
         }
-        Case::Number(pattern, moment, log_type, words, want) => {
-            let row = row_of(*pattern, *moment, *log_type, words);
-            is_told(filter, plan, books, row, *want)
+        Case::MayMatch(types, words, want) => {
+            Ok(may_match(alloc, filter, YEARS, types, words)? == *want)
         }
-        Case::MayMatch(types, words, want) => filter.may_match(types, words) == *want,
-        _ => false,
+        Case::Between(stamped, least, greatest, want) => {
+            let between = stamped.then_some((*least, *greatest));
+            Ok(may_match(alloc, filter, between, &[2], &[])? == *want)
+        }
+        _ => Ok(false),
     }
 }
 
@@ -159,7 +188,13 @@ fn filter_holds(
     case: &Case,
 ) -> Result<bool, AllocError> {
     let filter = Filter::new(alloc, plan, books)?;
-    Ok(filter_tells(&filter, plan, books, case))
+    match case {
+        Case::Number(pattern, moment, log_type, words, want) => {
+            let row = row_of(*pattern, *moment, *log_type, words);
+            Ok(is_told(&filter, plan, books, row, *want))
+        }
+        _ => filter_leaves(alloc, &filter, case),
+    }
 }
 
 /// The plan's filter, whose words are marked by these numbers.
@@ -580,6 +615,37 @@ const NUMBER_SEGMENTS: &[Row] = &[
 #[test]
 fn segments_by_numbers(rt: HostRuntime) -> Result<(), Fail> {
     all_hold(rt.alloc(), &(NUMBER_TYPES, NUMBER_WORDS, NUMBER_SEGMENTS))
+}
+
+/// 2025-03-01 in milliseconds, and the same an hour and a day later.
+const DAY: i64 = 1_740_787_200_000;
+
+const HOUR_LATER: i64 = DAY + 3_600_000;
+
+const DAY_LATER: i64 = DAY + 86_400_000;
+
+const STAMPED_SEGMENTS: &[Row] = &[
+    (b"2025-03-01", Case::Between(true, DAY, HOUR_LATER, true)),
+    (b"2025-03-01", Case::Between(false, 0, 0, false)),
+    (b"2025-03-02", Case::Between(true, DAY, HOUR_LATER, false)),
+    (b"2025-03-02", Case::Between(true, DAY, DAY_LATER, true)),
+    (b"2025-03-05", Case::Between(true, DAY, DAY_LATER, false)),
+    (b"03-01", Case::Between(true, DAY, HOUR_LATER, true)),
+    (b"03-02", Case::Between(true, DAY, HOUR_LATER, false)),
+    (
+        b"2025-02-28",
+        Case::Between(true, DAY - 500, HOUR_LATER + 1, true),
+    ),
+    (
+        b"2024-",
+        Case::Between(true, DAY + 1, HOUR_LATER + 1, false),
+    ),
+    (b"1999", Case::Between(true, i64::MIN, i64::MAX, true)),
+];
+
+#[test]
+fn segments_by_moments(rt: HostRuntime) -> Result<(), Fail> {
+    all_hold(rt.alloc(), &(TYPES, WORDS, STAMPED_SEGMENTS))
 }
 
 /// Words are marked by the numbers of those that have the token: no word is looked at, and a log type

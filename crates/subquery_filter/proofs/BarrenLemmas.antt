@@ -121,37 +121,30 @@ min_each (m ∷ ms) a x has = elim (contains_cases m x ms has) [
   | inr there ↦ min_each ms (ord_min int_cmp a m) x there
 ]
 
-greatest_above : (ms : List ℤ) (x : ℤ) → Contains ms x → x ≤ℤ greatest_of ms
+pub greatest_above : (ms : List ℤ) (x : ℤ) → Contains ms x → x ≤ℤ greatest_of ms
 greatest_above [] x has = absurd (contains_none x has)
 greatest_above (m ∷ ms) x has = elim (contains_cases m x ms has) [
   | inl e ↦ subst (λ y. y ≤ℤ fold (ord_max int_cmp) m ms) e (max_first ms m)
   | inr there ↦ max_each ms m x there
 ]
 
-least_below : (ms : List ℤ) (x : ℤ) → Contains ms x → least_of ms ≤ℤ x
+pub least_below : (ms : List ℤ) (x : ℤ) → Contains ms x → least_of ms ≤ℤ x
 least_below [] x has = absurd (contains_none x has)
 least_below (m ∷ ms) x has = elim (contains_cases m x ms has) [
   | inl e ↦ subst (λ y. fold (ord_min int_cmp) m ms ≤ℤ y) e (min_first ms m)
   | inr there ↦ min_each ms m x there
 ]
 
-some_any : (ms : List ℤ) (x : ℤ) → Contains ms x → has_any ms ≡ true
+pub some_any : (ms : List ℤ) (x : ℤ) → Contains ms x → has_any ms ≡ true
 some_any [] x has = absurd (contains_none x has)
 some_any (m ∷ ms) x has = refl
 
 stamped_test : (k : ℕ) → k ≢ 0 → not (nat_eq k 0) ≡ true
 stamped_test k some = grind (arith, nat_tests)
 
-moment_there : (rows : List Row) (row : Row) → Contains rows row → row.pattern ≢ 0 → Contains (stamped_moments rows) row.moment
+pub moment_there : (rows : List Row) (row : Row) → Contains rows row → row.pattern ≢ 0 → Contains (stamped_moments rows) row.moment
 moment_there rows row there stamped =
     contains_map (λ r. r.moment) (filter (λ r. not (nat_eq r.pattern 0)) rows) row (contains_filter (λ r. not (nat_eq r.pattern 0)) rows row (stamped_test row.pattern stamped) there)
-
--- the moment of a row lies between the least and the greatest of its segment
-pub within_moments : (rows : List Row) (row : Row) → Contains rows row → row.pattern ≢ 0
-    → (has_any (stamped_moments rows) ≡ true) × (least_of (stamped_moments rows) ≤ℤ row.moment) × (row.moment ≤ℤ greatest_of (stamped_moments rows))
-within_moments rows row there stamped =
-    let moment = moment_there rows row there stamped in
-    (some_any (stamped_moments rows) row.moment moment, least_below (stamped_moments rows) row.moment moment, greatest_above (stamped_moments rows) row.moment moment)
 
 within_bounds : (from to : Option ℤ) (pattern : ℕ) (moment : ℤ) → (((m : ℤ) × (from ≡ Some m)) ⊎ ((m : ℤ) × (to ≡ Some m))) → Within from to pattern moment
     → (pattern ≢ 0) × IfSome from (λ least. least ≤ℤ moment) × IfSome to (λ greatest. moment ≤ℤ greatest)

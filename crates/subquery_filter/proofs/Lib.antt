@@ -9,3 +9,4 @@ mod NumberLemmas
 mod SlotLemmas
 mod StampLemmas
 mod MarkLemmas
+pub mod HeadLemmas
