@@ -1,13 +1,8 @@
 pub mod SlotLemmas
 pub mod ChunkLemmas
-pub mod WaitingLemmas
 pub mod PageLemmas
-pub mod RunLemmas
-pub mod FrontLemmas
 pub mod LawLemmas
-pub mod SofarLemmas
 pub mod RowLemmas
 pub mod ServedLemmas
-pub mod SegmentLemmas
 pub mod SearchLemmas
 pub mod JournalLemmas

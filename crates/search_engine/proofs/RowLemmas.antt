@@ -20,7 +20,7 @@ use Rattle.search_engine.specs.Kept.{Keeps, label_of}
 use Rattle.search_engine.specs.StepsPast.{PastRows}
 use Rattle.sink_pieces.proofs.OutputLemmas.{Grew-nothing}
 use Rattle.search_walk.proofs.PickLemmas.{numbered_append}
-use Rattle.search_engine.proofs.SofarLemmas.{passes_none, passes_on, ticks_behind, ticks_same}
+use Rattle.search_engine.specs.StepsSofar.{passes_none, passes_on, ticks_behind, ticks_same}
 use Rattle.query_plan.specs.Laws.{WideIsWider}
 use Rattle.subquery_filter.specs.declared.verdicts.Verdict.{Verdict}
 use Rattle.subquery_filter.specs.declared.verdicts.Verdict.TheVariants.{Rejected, Tried}

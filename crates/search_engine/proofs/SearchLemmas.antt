@@ -19,9 +19,9 @@ use Rattle.search_walk.specs.Opened.{IsBarrenFor}
 use Rattle.search_engine.specs.SegmentsDone.{Searched, Stopped}
 use Rattle.search_walk.specs.Journal.{AreSegmentsOf, OfJournal}
 use Rattle.search_engine.specs.Searched.{HasSearched, HasStopped}
-use Rattle.search_engine.proofs.SofarLemmas.{all_went}
+use Rattle.search_engine.specs.StepsSofar.{all_went}
 use Rattle.search_walk.proofs.PickLemmas.{picks_once, picks_short}
-use Rattle.search_engine.proofs.WaitingLemmas.{halts_behind, reaches_end, reaches_on}
+use Rattle.search_engine.specs.StepsWaiting.{halts_behind, reaches_end, reaches_on}
 use Rattle.search_walk.proofs.RowsHeld.{names_in}
 use Rattle.search_walk.proofs.GroupLemmas.{content_small}
 

@@ -17,10 +17,10 @@ use Rattle.search_walk.specs.Ready.{IsReadyPage}
 use Rattle.search_engine.specs.Worked.{IsWorkedBy}
 use Rattle.search_walk.specs.Held.{AreRowsOf, Named}
 use Rattle.search_engine.specs.Waiting.{IsWorked, OfAllWorked, OfWorked, Page, PrintsPage, Slotted, WaitFor, no_counts, page, pages_of}
-use Rattle.search_engine.proofs.SofarLemmas.{front_none, passes_none, passes_on, stops_behind, stops_here, stops_more, ticks_same}
+use Rattle.search_engine.specs.StepsSofar.{front_none, passes_none, passes_on, stops_behind, stops_here, stops_more, ticks_same}
 use Rattle.search_walk.proofs.AnswerLemmas.{on_ok_to}
 use Rattle.search_walk.proofs.PickLemmas.{picks_once, picks_short}
-use Rattle.search_engine.proofs.WaitingLemmas.{waits_split}
+use Rattle.search_engine.specs.StepsWaiting.{waits_split}
 
 -- ---- one page
 

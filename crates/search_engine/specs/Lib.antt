@@ -8,3 +8,5 @@ pub mod Kept
 pub mod SegmentsDone
 pub mod Searched
 pub mod Refused
+pub mod StepsSofar
+pub mod StepsWaiting

@@ -1,5 +1,5 @@
 -- What a search of an archive has done, said of the journal that the disk's bytes stand for.
-use Rattle.std.specs.Prelude.{◌≡◌, ◌≤◌, ◌+◌, ℕ, List, length, Option, All}
+use Rattle.std.specs.Prelude.{◌≡◌, ◌≤◌, ◌+◌, ℕ, List, length, Option}
 use Rattle.record_format.specs.declared.header.Header.{Header}
 use Rattle.archive_meaning.specs.declared.entry.JournalEntry.{JournalEntry}
 use Rattle.archive_meaning.specs.Held.{Held, content_of}

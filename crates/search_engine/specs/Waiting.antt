@@ -26,6 +26,10 @@ WaitFor n [] all = all ≡ []
 WaitFor n (p ∷ pages) all =
     (messages : List (List ℕ)) × (others : List Placed) × AreRowsOf n p.rows messages × WaitFor n pages others × (all ≡ numbered p.name p.number messages ++ others)
 
+-- the pages stand for messages
+abbrev pub StandFor : Named → List Page → Type 0
+StandFor n pages = (all : List Placed) × WaitFor n pages all
+
 -- P holds where the pages stand for messages
 abbrev pub Blames : Named → List Page → Type 0 → Type 0
 Blames n pages P = (early : List Placed) → WaitFor n pages early → P

@@ -1,8 +1,7 @@
 //! What the searches of pages left, sent on in the order of the pages.
-ghost use Rattle.std.specs.Prelude.{◌≡◌, ◌+◌, ◌++◌, List, OnOk, OnErr, IsErrOf};
+ghost use Rattle.std.specs.Prelude.{◌≡◌, ◌+◌, ◌++◌, OnOk, OnErr, IsErrOf};
 ghost use Rattle.log_seams.specs.Outside.{CountsOf};
 ghost use Rattle.sink_pieces.specs.Output.{GrewByFront, Moves};
-ghost use Rattle.search_walk.specs.Scan.{Placed};
 ghost use Rattle.search_engine.specs.Sofar.{Passes, Stops, sofar};
 ghost use Rattle.search_engine.specs.Waiting.{OfAllWorked, OfWorked};
 

@@ -6,12 +6,11 @@ mod gathering;
 mod laws;
 mod page_batch;
 mod page_slot;
-mod paging;
+mod page_taking;
 mod printing;
 mod refusal;
 mod report;
 mod searching;
-mod segments;
 
 pub use laws::{exact_expands_printed, one_is_found};
 pub use report::Report;

@@ -1,5 +1,5 @@
 //! Rows that are printed.
-ghost use Rattle.std.specs.Prelude.{◌≡◌, ◌≢◌, ◌<◌, ◌+◌, ◌^◌, ◌++◌, ◌∷◌, [], ℕ, List, Option, length, IsFalse, IsTrue, OnOk, OnErr, IsErrOf, Some, slice_get};
+ghost use Rattle.std.specs.Prelude.{◌≡◌, ◌<◌, ◌+◌, ◌^◌, ◌++◌, ◌∷◌, [], ℕ, List, Option, length, IsTrue, OnOk, OnErr, IsErrOf, Some, slice_get};
 ghost use Rattle.column_store.specs.Row.{row_of};
 ghost use Rattle.row_codec.specs.Means.{IsCanonical};
 ghost use Rattle.search_walk.specs.Held.{AreRowsOf, Named};

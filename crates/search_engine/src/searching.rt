@@ -1,5 +1,5 @@
 //! Searching an archive.
-ghost use Rattle.std.specs.Prelude.{◌≡◌, [], IfOk, OnErr, IsErrOf};
+ghost use Rattle.std.specs.Prelude.{◌≡◌, IfOk, OnErr, IsErrOf};
 ghost use Rattle.log_seams.specs.Disk.{Rests};
 ghost use Rattle.log_seams.specs.Outside.{CountsOf};
 ghost use Rattle.query_plan.specs.Laws.{IsSearched};
@@ -10,8 +10,8 @@ ghost use Rattle.search_engine.specs.Searched.{HasSearched, HasStopped};
 ghost use Rattle.search_walk.specs.Journal.{OfJournal, ReadsNoBarren, asked};
 
 use crate::page_batch::PageBatch;
+use crate::page_taking::print_segments;
 use crate::report::Report;
-use crate::segments::visit_segments;
 use archive_places::{Places, heads_stand, words_stand};
 use column_store::Range;
 use log_seams::{Disk, Sink};
@@ -84,8 +84,8 @@ fn search_opened<R: Threads + Sync, D: Disk, K: Sink, L: Ledger, M: Ledger>(
     let found = told.found.as_slice();
     let context = Context::new(query, &layouts, &told.filter, names, found, &held, disk);
     let fronts = segments.as_slice();
-    let count = visit_segments(
-        rt, &context, &mut held, fronts, disk, out, batch, opened, expanded,
+    let count = print_segments(
+        rt, alloc, &context, &mut held, fronts, disk, out, batch, opened, expanded,
     )?;
     batch.finish(rt, &context, &held, out, expanded)?;
     let counts = batch.counts();

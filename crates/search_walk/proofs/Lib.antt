@@ -12,3 +12,7 @@ pub mod VerdictLemmas
 pub mod ReadyLemmas
 pub mod SegmentLemmas
 pub mod JournalLemmas
+pub mod PageLemmas
+pub mod RunLemmas
+pub mod FrontLemmas
+pub mod SearchedLemmas

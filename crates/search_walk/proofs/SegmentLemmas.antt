@@ -91,7 +91,7 @@ not_barren n q p b told shut truth head distinct barren = absurd (cc (shut, (tol
 
 -- ---- opened segments
 
-type_listed : (rows : List Row) (r : Row) → Contains rows r → Contains (sorted_set (map (λ x. x.log_type) rows)) r.log_type
+pub type_listed : (rows : List Row) (r : Row) → Contains rows r → Contains (sorted_set (map (λ x. x.log_type) rows)) r.log_type
 type_listed rows r is =
     has_sorted_set (map (λ (x : Row). x.log_type) rows) r.log_type
     (is.0, omega (arith, is.1, length-map rows (λ (x : Row). x.log_type)), get_or-map (λ (x : Row). x.log_type) rows is.0 r ∙ ap (λ (x : Row). x.log_type) is.2)

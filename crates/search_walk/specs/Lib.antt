@@ -8,3 +8,6 @@ pub mod Judged
 pub mod Opened
 pub mod Journal
 pub mod Refused
+pub mod Takes
+pub mod Walked
+pub mod StepsPast

@@ -1,5 +1,5 @@
 -- Which segments a search opens, and what it reads of them.
-use Rattle.std.specs.Prelude.{◌≡◌, ◌⊎◌, ◌≤◌, ◌+◌, ℕ, List, ◌++◌, length, map, slice_get, Option, Some, option_map, All}
+use Rattle.std.specs.Prelude.{◌≡◌, ◌⊎◌, ◌≤◌, ◌+◌, ℕ, List, ◌++◌, map, slice_get, Option, Some, option_map, All}
 use Rattle.std.specs.List.{Contains}
 use Rattle.segment_format.specs.Layout.{fixed_of, head_length}
 use Rattle.segment_format.specs.Pages.{first_page}

@@ -1,12 +1,11 @@
 //! What is asked of the words of an archive before its segments are searched.
-ghost use Rattle.std.specs.Prelude.{◌≡◌, ◌+◌, ◌<◌, ℕ, List, Some, length, slice_get, true, IfOk, IsErrOf, IsFalse, IsTrue};
+ghost use Rattle.std.specs.Prelude.{◌≡◌, ◌+◌, ◌<◌, ℕ, List, Some, length, slice_get, true, IfOk, IsErrOf, IsFalse};
 ghost use Rattle.log_seams.specs.Disk.{Rests};
 ghost use Rattle.log_seams.specs.Outside.{CountsOf};
 ghost use Rattle.query_plan.specs.Needs.{needed_variables_of};
 ghost use Rattle.query_plan.specs.Pieces.{Free, needed_of, wide_pieces};
 ghost use Rattle.subquery_filter.specs.Filter.{AsksTypes, IsFilter};
 ghost use Rattle.subquery_filter.specs.Found.{AreNumbers};
-ghost use Rattle.word_places.specs.Holders.{FoundEach};
 ghost use Rattle.word_places.specs.Places.{AreInOrder, OfWords};
 ghost use Rattle.word_places.specs.Reads.{ReadsWords};
 ghost use Rattle.search_walk.specs.Told.{AreFound, AreReadOff, needles_for, whole_needle, within_needle};

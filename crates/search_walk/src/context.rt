@@ -1,5 +1,5 @@
 //! What each call of a search lends on to the next.
-ghost use Rattle.std.specs.Prelude.{◌≡◌, ◌⊎◌, ◌++◌, ◌∷◌, ◌↔◌, [], ℕ, List, Option, IfOk, IfSome, IsFalse, IsNone, IsTrue};
+ghost use Rattle.std.specs.Prelude.{◌≡◌, ◌⊎◌, ◌∷◌, ◌↔◌, [], ℕ, List, Option, IfSome, IsFalse, IsNone, IsTrue};
 ghost use Rattle.plain_list.specs.Texts.{AreDistinct};
 ghost use Rattle.column_store.specs.Row.{row_of};
 ghost use Rattle.segment_format.specs.Layout.{IsFixed, IsHead};
@@ -49,7 +49,6 @@ impl<'q, D: Disk> Model for Context<'q, D> {
     ghost use Rattle.query_plan.specs.Laws.{IsSearched};
     ghost use Rattle.query_plan.specs.Pieces.{wide_pieces};
     ghost use Rattle.subquery_filter.specs.Barren.{IsBounded, LeavesOut};
-    ghost use Rattle.subquery_filter.specs.Filter.{IsFilter};
     ghost use Rattle.search_walk.specs.Held.{IsTold, named};
     ghost use Rattle.search_walk.specs.StepsScope.{IsScope, Scope, scope};
 

@@ -6,8 +6,11 @@ mod context;
 mod deciding;
 mod label;
 mod opening;
+mod paging;
 mod query;
 mod refusal;
+mod segments;
+mod taking;
 
 pub use asking::{Told, ask_words};
 pub use context::Context;
@@ -15,3 +18,5 @@ pub use deciding::{decide_rows, is_rejected};
 pub use label::Label;
 pub use query::{Judgement, Query};
 pub use refusal::SearchRefusal;
+pub use segments::visit_segments;
+pub use taking::TakesPages;

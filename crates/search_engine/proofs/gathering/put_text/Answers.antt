@@ -1,5 +1,5 @@
 use Rattle.sink_pieces.proofs.OutputLemmas.{Grew-append, Moves-all}
-use Rattle.search_engine.proofs.SofarLemmas.{front_more, front_second}
+use Rattle.search_engine.specs.StepsSofar.{front_more, front_second}
 use Rattle.search_walk.proofs.AnswerLemmas.{on_err}
 use Rattle.search_engine.proofs.gathering.put_text.Goals as goal
 

@@ -1,4 +1,4 @@
-use Rattle.std.proofs.Common.{◌≡◌, ◌∙◌, ap, map, sym, subst, rules, refl, length, [], ℕ, List}
+use Rattle.std.proofs.Common.{◌∙◌, ap, map, sym, subst, rules, refl, length, [], ℕ, List}
 use Rattle.std.specs.Prelude.{Option}
 use Rattle.log_seams.proofs.MomentLemmas.{rests_on}
 use Rattle.word_places.specs.Held.{unread}
@@ -14,7 +14,6 @@ use Rattle.query_plan.specs.Needs.{needed_variables_of}
 use Rattle.query_plan.specs.Pieces.{Free, needed_of, wide_pieces}
 use Rattle.subquery_filter.specs.Found.{AreNumbers}
 use Rattle.word_places.specs.Places.{AreInOrder}
-use Rattle.search_walk.proofs.PagesReadLemmas.{rests_same}
 use Rattle.search_walk.proofs.AnswerLemmas.{on_err}
 use Rattle.search_walk.proofs.ReadyLemmas.{named_words}
 use Rattle.search_engine.proofs.ServedLemmas.{served_first}
@@ -71,14 +70,14 @@ new-context-requires g c =
           c.ask_words.ensures.rests.seen c.in_ok-held.ensures.records c.in_ok-told.ensures.found told);
     }
 
-pub visit_segments-requires-clause-served : goal.visit_segments-requires-clause-served
-visit_segments-requires-clause-served g c = λ _ _.
+pub print_segments-requires-clause-served : goal.print_segments-requires-clause-served
+print_segments-requires-clause-served g c = λ _ _.
     subst (λ (s : Scope). IsServed s.names s.query c.in_ok-held.held c.args.batch.now.pages) (sym c.new-context.ensures)
     (served_first (g.D.Disk.state c.ask_words.new.disk).seen c.args.query.now c.in_ok-held.held c.as_slice-records.result.now c.args.batch.now.pages c.in_ok-held.ensures.records
     (subst (AreInOrder 0) (sym c.as_slice-records.ensures) c.requires.order) (ap (λ (p : Pending). p.pages) c.requires.empty))
 
-pub visit_segments-requires-clause-told : goal.visit_segments-requires-clause-told
-visit_segments-requires-clause-told g c = λ _ _. ap (λ (s : Scope). s.names.told) (sym c.new-context.ensures)
+pub print_segments-requires-clause-told : goal.print_segments-requires-clause-told
+print_segments-requires-clause-told g c = λ _ _. ap (λ (s : Scope). s.names.told) (sym c.new-context.ensures)
 
 pub returns-in_err-count-clause-reads : goal.returns-in_err-count-clause-reads
 returns-in_err-count-clause-reads g c =
@@ -88,8 +87,8 @@ returns-in_err-count-clause-reads g c =
     let a = c.args.places in
     let n : Named = named d1.seen c.in_ok-held.held in
     let known = knows d0.seen d1.seen a c.in_ok-held.held n c.ask_words.ensures.rests.seen c.in_ok-held.ensures.types c.in_ok-held.ensures.version (c.in_ok-held.ensures.records ∙ ap (map unread) c.as_slice-records.ensures) refl in
-    all_read d0.seen d1.seen a n c.as_slice-names.result.now c.as_slice-fronts.result.now c.words_stand.ensures c.heads_stand.ensures c.as_slice-names.ensures c.as_slice-fronts.ensures c.requires.opens known c.ask_words.ensures.rests.seen q c.as_slice-records.result.now d0 d1 (g.D.Disk.state c.visit_segments.new.disk) c.ask_words.ensures.rests.seen c.as_slice-records.ensures c.ask_words.ensures.reads
-    (subst (λ (s : Scope). ReadsFronts d1 (g.D.Disk.state c.visit_segments.new.disk) s.names s.files s.query c.as_slice-fronts.result.now) c.new-context.ensures c.visit_segments.ensures.reads)
+    all_read d0.seen d1.seen a n c.as_slice-names.result.now c.as_slice-fronts.result.now c.words_stand.ensures c.heads_stand.ensures c.as_slice-names.ensures c.as_slice-fronts.ensures c.requires.opens known c.ask_words.ensures.rests.seen q c.as_slice-records.result.now d0 d1 (g.D.Disk.state c.print_segments.new.disk) c.ask_words.ensures.rests.seen c.as_slice-records.ensures c.ask_words.ensures.reads
+    (subst (λ (s : Scope). ReadsFronts d1 (g.D.Disk.state c.print_segments.new.disk) s.names s.files s.query c.as_slice-fronts.result.now) c.new-context.ensures c.print_segments.ensures.reads)
 
 pub returns-in_err-finish-clause-reads : goal.returns-in_err-finish-clause-reads
 returns-in_err-finish-clause-reads g c =
@@ -99,8 +98,8 @@ returns-in_err-finish-clause-reads g c =
     let a = c.args.places in
     let n : Named = named d1.seen c.in_ok-held.held in
     let known = knows d0.seen d1.seen a c.in_ok-held.held n c.ask_words.ensures.rests.seen c.in_ok-held.ensures.types c.in_ok-held.ensures.version (c.in_ok-held.ensures.records ∙ ap (map unread) c.as_slice-records.ensures) refl in
-    all_read d0.seen d1.seen a n c.as_slice-names.result.now c.as_slice-fronts.result.now c.words_stand.ensures c.heads_stand.ensures c.as_slice-names.ensures c.as_slice-fronts.ensures c.requires.opens known c.ask_words.ensures.rests.seen q c.as_slice-records.result.now d0 d1 (g.D.Disk.state c.visit_segments.new.disk) c.ask_words.ensures.rests.seen c.as_slice-records.ensures c.ask_words.ensures.reads
-    (subst (λ (s : Scope). ReadsFronts d1 (g.D.Disk.state c.visit_segments.new.disk) s.names s.files s.query c.as_slice-fronts.result.now) c.new-context.ensures c.visit_segments.ensures.reads)
+    all_read d0.seen d1.seen a n c.as_slice-names.result.now c.as_slice-fronts.result.now c.words_stand.ensures c.heads_stand.ensures c.as_slice-names.ensures c.as_slice-fronts.ensures c.requires.opens known c.ask_words.ensures.rests.seen q c.as_slice-records.result.now d0 d1 (g.D.Disk.state c.print_segments.new.disk) c.ask_words.ensures.rests.seen c.as_slice-records.ensures c.ask_words.ensures.reads
+    (subst (λ (s : Scope). ReadsFronts d1 (g.D.Disk.state c.print_segments.new.disk) s.names s.files s.query c.as_slice-fronts.result.now) c.new-context.ensures c.print_segments.ensures.reads)
 
 pub returns-clause-reads : goal.returns-clause-reads
 returns-clause-reads g c =
@@ -110,17 +109,17 @@ returns-clause-reads g c =
     let a = c.args.places in
     let n : Named = named d1.seen c.in_ok-held.held in
     let known = knows d0.seen d1.seen a c.in_ok-held.held n c.ask_words.ensures.rests.seen c.in_ok-held.ensures.types c.in_ok-held.ensures.version (c.in_ok-held.ensures.records ∙ ap (map unread) c.as_slice-records.ensures) refl in
-    all_read d0.seen d1.seen a n c.as_slice-names.result.now c.as_slice-fronts.result.now c.words_stand.ensures c.heads_stand.ensures c.as_slice-names.ensures c.as_slice-fronts.ensures c.requires.opens known c.ask_words.ensures.rests.seen q c.as_slice-records.result.now d0 d1 (g.D.Disk.state c.visit_segments.new.disk) c.ask_words.ensures.rests.seen c.as_slice-records.ensures c.ask_words.ensures.reads
-    (subst (λ (s : Scope). ReadsFronts d1 (g.D.Disk.state c.visit_segments.new.disk) s.names s.files s.query c.as_slice-fronts.result.now) c.new-context.ensures c.visit_segments.ensures.reads)
+    all_read d0.seen d1.seen a n c.as_slice-names.result.now c.as_slice-fronts.result.now c.words_stand.ensures c.heads_stand.ensures c.as_slice-names.ensures c.as_slice-fronts.ensures c.requires.opens known c.ask_words.ensures.rests.seen q c.as_slice-records.result.now d0 d1 (g.D.Disk.state c.print_segments.new.disk) c.ask_words.ensures.rests.seen c.as_slice-records.ensures c.ask_words.ensures.reads
+    (subst (λ (s : Scope). ReadsFronts d1 (g.D.Disk.state c.print_segments.new.disk) s.names s.files s.query c.as_slice-fronts.result.now) c.new-context.ensures c.print_segments.ensures.reads)
 
 pub returns-in_err-count-clause-rests : goal.returns-in_err-count-clause-rests
-returns-in_err-count-clause-rests g c = rests_on _ (g.D.Disk.state c.ask_words.new.disk) _ c.ask_words.ensures.rests c.visit_segments.ensures.rests
+returns-in_err-count-clause-rests g c = rests_on _ (g.D.Disk.state c.ask_words.new.disk) _ c.ask_words.ensures.rests c.print_segments.ensures.rests
 
 pub returns-in_err-finish-clause-rests : goal.returns-in_err-finish-clause-rests
-returns-in_err-finish-clause-rests g c = rests_on _ (g.D.Disk.state c.ask_words.new.disk) _ c.ask_words.ensures.rests c.visit_segments.ensures.rests
+returns-in_err-finish-clause-rests g c = rests_on _ (g.D.Disk.state c.ask_words.new.disk) _ c.ask_words.ensures.rests c.print_segments.ensures.rests
 
 pub returns-clause-rests : goal.returns-clause-rests
-returns-clause-rests g c = rests_on _ (g.D.Disk.state c.ask_words.new.disk) _ c.ask_words.ensures.rests c.visit_segments.ensures.rests
+returns-clause-rests g c = rests_on _ (g.D.Disk.state c.ask_words.new.disk) _ c.ask_words.ensures.rests c.print_segments.ensures.rests
 
 pub returns-in_err-count-clause-stopped : goal.returns-in_err-count-clause-stopped
 returns-in_err-count-clause-stopped g c =
@@ -131,8 +130,8 @@ returns-in_err-count-clause-stopped g c =
     let n : Named = named d1.seen c.in_ok-held.held in
     let known = knows d0.seen d1.seen a c.in_ok-held.held n c.ask_words.ensures.rests.seen c.in_ok-held.ensures.types c.in_ok-held.ensures.version (c.in_ok-held.ensures.records ∙ ap (map unread) c.as_slice-records.ensures) refl in
     on_err c.from_residual-in_err-count.result _
-    (all_stopped d0.seen d1.seen a n c.as_slice-names.result.now c.as_slice-fronts.result.now c.words_stand.ensures c.heads_stand.ensures c.as_slice-names.ensures c.as_slice-fronts.ensures c.requires.opens known c.ask_words.ensures.rests.seen q (g.K.Sink.written c.args.out.now) (g.K.Sink.written c.visit_segments.new.out) c.args.batch.now c.args.expanded.now c.visit_segments.new.expanded c.args.opened.now c.visit_segments.new.opened c.requires.empty
-    (subst (λ (s : Scope). StoppedFronts d1.seen s.names s.files s.query c.as_slice-fronts.result.now (state (g.K.Sink.written c.args.out.now) c.args.batch.now c.args.expanded.now) (g.K.Sink.written c.visit_segments.new.out) c.visit_segments.new.expanded c.args.opened.now c.visit_segments.new.opened)
+    (all_stopped d0.seen d1.seen a n c.as_slice-names.result.now c.as_slice-fronts.result.now c.words_stand.ensures c.heads_stand.ensures c.as_slice-names.ensures c.as_slice-fronts.ensures c.requires.opens known c.ask_words.ensures.rests.seen q (g.K.Sink.written c.args.out.now) (g.K.Sink.written c.print_segments.new.out) c.args.batch.now c.args.expanded.now c.print_segments.new.expanded c.args.opened.now c.print_segments.new.opened c.requires.empty
+    (subst (λ (s : Scope). StoppedFronts d1.seen s.names s.files s.query c.as_slice-fronts.result.now (state (g.K.Sink.written c.args.out.now) c.args.batch.now c.args.expanded.now) (g.K.Sink.written c.print_segments.new.out) c.print_segments.new.expanded c.args.opened.now c.print_segments.new.opened)
     c.new-context.ensures c.in_err-count.ensures.stopped))
 
 pub returns-in_err-count-clause-damaged : goal.returns-in_err-count-clause-damaged
@@ -156,9 +155,9 @@ returns-in_err-finish-clause-stopped g c =
     let n : Named = named d1.seen c.in_ok-held.held in
     let known = knows d0.seen d1.seen a c.in_ok-held.held n c.ask_words.ensures.rests.seen c.in_ok-held.ensures.types c.in_ok-held.ensures.version (c.in_ok-held.ensures.records ∙ ap (map unread) c.as_slice-records.ensures) refl in
     on_err c.from_residual-in_err-finish.result _
-    (last_halted d0.seen d1.seen a n c.as_slice-names.result.now c.as_slice-fronts.result.now c.words_stand.ensures c.heads_stand.ensures c.as_slice-names.ensures c.as_slice-fronts.ensures c.requires.opens known c.ask_words.ensures.rests.seen q (g.K.Sink.written c.args.out.now) (g.K.Sink.written c.finish.new.out) c.args.batch.now (state (g.K.Sink.written c.visit_segments.new.out) c.visit_segments.new.batch c.visit_segments.new.expanded) c.args.expanded.now c.finish.new.expanded c.args.opened.now c.visit_segments.new.opened c.in_ok-count.count c.requires.empty
-    (subst (λ (s : Scope). SearchedFronts d1.seen s.names s.files s.query c.as_slice-fronts.result.now (state (g.K.Sink.written c.args.out.now) c.args.batch.now c.args.expanded.now) (state (g.K.Sink.written c.visit_segments.new.out) c.visit_segments.new.batch c.visit_segments.new.expanded) c.args.opened.now c.visit_segments.new.opened c.in_ok-count.count) c.new-context.ensures c.in_ok-count.ensures.done)
-    (subst (λ (s : Scope). Halts s.names s.query [] (state (g.K.Sink.written c.visit_segments.new.out) c.visit_segments.new.batch c.visit_segments.new.expanded) (g.K.Sink.written c.finish.new.out) c.finish.new.expanded) c.new-context.ensures c.in_err-finish.ensures.stopped))
+    (last_halted d0.seen d1.seen a n c.as_slice-names.result.now c.as_slice-fronts.result.now c.words_stand.ensures c.heads_stand.ensures c.as_slice-names.ensures c.as_slice-fronts.ensures c.requires.opens known c.ask_words.ensures.rests.seen q (g.K.Sink.written c.args.out.now) (g.K.Sink.written c.finish.new.out) c.args.batch.now (state (g.K.Sink.written c.print_segments.new.out) c.print_segments.new.batch c.print_segments.new.expanded) c.args.expanded.now c.finish.new.expanded c.args.opened.now c.print_segments.new.opened c.in_ok-count.count c.requires.empty
+    (subst (λ (s : Scope). SearchedFronts d1.seen s.names s.files s.query c.as_slice-fronts.result.now (state (g.K.Sink.written c.args.out.now) c.args.batch.now c.args.expanded.now) (state (g.K.Sink.written c.print_segments.new.out) c.print_segments.new.batch c.print_segments.new.expanded) c.args.opened.now c.print_segments.new.opened c.in_ok-count.count) c.new-context.ensures c.in_ok-count.ensures.done)
+    (subst (λ (s : Scope). Halts s.names s.query [] (state (g.K.Sink.written c.print_segments.new.out) c.print_segments.new.batch c.print_segments.new.expanded) (g.K.Sink.written c.finish.new.out) c.finish.new.expanded) c.new-context.ensures c.in_err-finish.ensures.stopped))
 
 pub returns-in_err-finish-clause-damaged : goal.returns-in_err-finish-clause-damaged
 returns-in_err-finish-clause-damaged g c = λ is.
@@ -168,9 +167,9 @@ returns-in_err-finish-clause-damaged g c = λ is.
     let a = c.args.places in
     let n : Named = named d1.seen c.in_ok-held.held in
     let known = knows d0.seen d1.seen a c.in_ok-held.held n c.ask_words.ensures.rests.seen c.in_ok-held.ensures.types c.in_ok-held.ensures.version (c.in_ok-held.ensures.records ∙ ap (map unread) c.as_slice-records.ensures) refl in
-    last_blamed d0.seen d1.seen a n c.as_slice-names.result.now c.as_slice-fronts.result.now c.words_stand.ensures c.heads_stand.ensures c.as_slice-names.ensures c.as_slice-fronts.ensures c.requires.opens known c.ask_words.ensures.rests.seen q (g.K.Sink.written c.args.out.now) c.args.batch.now (state (g.K.Sink.written c.visit_segments.new.out) c.visit_segments.new.batch c.visit_segments.new.expanded) c.args.expanded.now c.args.opened.now c.visit_segments.new.opened c.in_ok-count.count c.requires.empty
-    (subst (λ (s : Scope). SearchedFronts d1.seen s.names s.files s.query c.as_slice-fronts.result.now (state (g.K.Sink.written c.args.out.now) c.args.batch.now c.args.expanded.now) (state (g.K.Sink.written c.visit_segments.new.out) c.visit_segments.new.batch c.visit_segments.new.expanded) c.args.opened.now c.visit_segments.new.opened c.in_ok-count.count) c.new-context.ensures c.in_ok-count.ensures.done)
-    (subst (λ (s : Scope). Blames s.names c.visit_segments.new.batch.pages ⊥) c.new-context.ensures (c.in_err-finish.ensures.damaged (search rules)))
+    last_blamed d0.seen d1.seen a n c.as_slice-names.result.now c.as_slice-fronts.result.now c.words_stand.ensures c.heads_stand.ensures c.as_slice-names.ensures c.as_slice-fronts.ensures c.requires.opens known c.ask_words.ensures.rests.seen q (g.K.Sink.written c.args.out.now) c.args.batch.now (state (g.K.Sink.written c.print_segments.new.out) c.print_segments.new.batch c.print_segments.new.expanded) c.args.expanded.now c.args.opened.now c.print_segments.new.opened c.in_ok-count.count c.requires.empty
+    (subst (λ (s : Scope). SearchedFronts d1.seen s.names s.files s.query c.as_slice-fronts.result.now (state (g.K.Sink.written c.args.out.now) c.args.batch.now c.args.expanded.now) (state (g.K.Sink.written c.print_segments.new.out) c.print_segments.new.batch c.print_segments.new.expanded) c.args.opened.now c.print_segments.new.opened c.in_ok-count.count) c.new-context.ensures c.in_ok-count.ensures.done)
+    (subst (λ (s : Scope). Blames s.names c.print_segments.new.batch.pages ⊥) c.new-context.ensures (c.in_err-finish.ensures.damaged (search rules)))
 
 pub returns-clause-done : goal.returns-clause-done
 returns-clause-done g c =
@@ -180,8 +179,8 @@ returns-clause-done g c =
     let a = c.args.places in
     let n : Named = named d1.seen c.in_ok-held.held in
     let known = knows d0.seen d1.seen a c.in_ok-held.held n c.ask_words.ensures.rests.seen c.in_ok-held.ensures.types c.in_ok-held.ensures.version (c.in_ok-held.ensures.records ∙ ap (map unread) c.as_slice-records.ensures) refl in
-    all_searched d0.seen d1.seen a n c.as_slice-names.result.now c.as_slice-fronts.result.now c.words_stand.ensures c.heads_stand.ensures c.as_slice-names.ensures c.as_slice-fronts.ensures c.requires.opens known c.ask_words.ensures.rests.seen q c.counts-counts.result c.in_ok-count.count (g.K.Sink.written c.args.out.now) (g.K.Sink.written c.finish.new.out) c.args.batch.now c.finish.new.self (state (g.K.Sink.written c.visit_segments.new.out) c.visit_segments.new.batch c.visit_segments.new.expanded) c.args.opened.now c.visit_segments.new.opened c.args.expanded.now
+    all_searched d0.seen d1.seen a n c.as_slice-names.result.now c.as_slice-fronts.result.now c.words_stand.ensures c.heads_stand.ensures c.as_slice-names.ensures c.as_slice-fronts.ensures c.requires.opens known c.ask_words.ensures.rests.seen q c.counts-counts.result c.in_ok-count.count (g.K.Sink.written c.args.out.now) (g.K.Sink.written c.finish.new.out) c.args.batch.now c.finish.new.self (state (g.K.Sink.written c.print_segments.new.out) c.print_segments.new.batch c.print_segments.new.expanded) c.args.opened.now c.print_segments.new.opened c.args.expanded.now
     c.finish.new.expanded c.requires.empty c.counts-counts.ensures
-    (subst (λ (s : Scope). SearchedFronts d1.seen s.names s.files s.query c.as_slice-fronts.result.now (state (g.K.Sink.written c.args.out.now) c.args.batch.now c.args.expanded.now) (state (g.K.Sink.written c.visit_segments.new.out) c.visit_segments.new.batch c.visit_segments.new.expanded) c.args.opened.now c.visit_segments.new.opened c.in_ok-count.count) c.new-context.ensures c.in_ok-count.ensures.done)
-    (subst (λ (s : Scope). Reaches s.names s.query [] (state (g.K.Sink.written c.visit_segments.new.out) c.visit_segments.new.batch c.visit_segments.new.expanded) (state (g.K.Sink.written c.finish.new.out) c.finish.new.self c.finish.new.expanded)) c.new-context.ensures c.in_ok-finish.ensures.done)
+    (subst (λ (s : Scope). SearchedFronts d1.seen s.names s.files s.query c.as_slice-fronts.result.now (state (g.K.Sink.written c.args.out.now) c.args.batch.now c.args.expanded.now) (state (g.K.Sink.written c.print_segments.new.out) c.print_segments.new.batch c.print_segments.new.expanded) c.args.opened.now c.print_segments.new.opened c.in_ok-count.count) c.new-context.ensures c.in_ok-count.ensures.done)
+    (subst (λ (s : Scope). Reaches s.names s.query [] (state (g.K.Sink.written c.print_segments.new.out) c.print_segments.new.batch c.print_segments.new.expanded) (state (g.K.Sink.written c.finish.new.out) c.finish.new.self c.finish.new.expanded)) c.new-context.ensures c.in_ok-finish.ensures.done)
     c.in_ok-finish.ensures.empty

@@ -1,9 +1,8 @@
-use Rattle.std.proofs.Common.{◌≡◌, ◌+◌, ◌∙◌, List, ap, arith, length, length-append, map, rules, subst, sym}
+use Rattle.std.proofs.Common.{◌∙◌, List, ap, arith, length, length-append, map, subst}
 use Rattle.std.proofs.lemmas.List.{length-map}
 use Rattle.word_places.specs.Holders.{FoundEach}
 use Rattle.word_places.specs.declared.needle.Needle.{Needle}
-use Rattle.word_places.specs.Places.{OfWords}
-use Rattle.search_walk.specs.Told.{AreFound, needles_for, whole_needle, within_needle}
+use Rattle.search_walk.specs.Told.{AreFound, whole_needle, within_needle}
 use Rattle.search_walk.proofs.AskLemmas.{of_words_map}
 use Rattle.search_walk.proofs.asking.find_numbers.Goals as goal
 

@@ -1,4 +1,4 @@
-use Rattle.std.proofs.Common.{◌≡◌, ◌∙◌, ◌++◌, ◌∷◌, [], map, take, ap, append_assoc, refl, rules, sym}
+use Rattle.std.proofs.Common.{◌∙◌, ◌++◌, ◌∷◌, [], map, take, ap, append_assoc, rules, sym}
 use Rattle.std.proofs.lemmas.List.{append-nil, take_all}
 use Rattle.search_walk.specs.Told.{whole_needle, within_needle}
 use Rattle.search_walk.proofs.AskLemmas.{needles_more}

@@ -3,7 +3,7 @@ use Rattle.sink_pieces.specs.Output.{Grew, GrewByFront}
 use Rattle.search_walk.specs.Held.{Named}
 use Rattle.search_engine.specs.Waiting.{Pending, State, state}
 use Rattle.search_walk.proofs.AnswerLemmas.{on_err}
-use Rattle.search_engine.proofs.WaitingLemmas.{halts_behind, halts_here, reaches_flushed}
+use Rattle.search_engine.specs.StepsWaiting.{halts_behind, halts_here, reaches_flushed}
 use Rattle.search_engine.proofs.page_batch.PageBatch.finish.Goals as goal
 
 pub returns-in_err-flush-clause-stopped : goal.returns-in_err-flush-clause-stopped

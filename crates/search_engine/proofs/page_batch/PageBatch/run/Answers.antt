@@ -2,7 +2,7 @@ use Rattle.std.proofs.Common.{ap, sym, subst, rules}
 use Rattle.search_walk.specs.Held.{Named}
 use Rattle.search_engine.specs.Waiting.{WaitFor, pages_of}
 use Rattle.search_walk.proofs.AnswerLemmas.{on_err}
-use Rattle.search_engine.proofs.WaitingLemmas.{round_blames, round_halts, round_reaches}
+use Rattle.search_engine.specs.StepsWaiting.{round_blames, round_halts, round_reaches}
 use Rattle.search_engine.proofs.page_batch.PageBatch.run.Goals as goal
 
 pub returns-in_err-match_and_send-clause-stopped : goal.returns-in_err-match_and_send-clause-stopped

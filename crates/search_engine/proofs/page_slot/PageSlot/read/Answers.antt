@@ -1,7 +1,7 @@
 use Rattle.std.proofs.Common.{rules}
 use Rattle.word_places.proofs.HeldLemmas.{grow_same}
 use Rattle.search_walk.specs.Ready.{IsReady}
-use Rattle.search_engine.proofs.PageLemmas.{none_damaged}
+use Rattle.search_walk.proofs.PageLemmas.{none_damaged}
 use Rattle.search_walk.proofs.PagesReadLemmas.{page_such}
 use Rattle.search_walk.proofs.ReadyLemmas.{zip_long}
 use Rattle.search_engine.proofs.page_slot.PageSlot.read.Goals as goal

@@ -1,4 +1,4 @@
-use Rattle.std.proofs.Common.{◌≡◌, rules, subst}
+use Rattle.std.proofs.Common.{rules, subst}
 use Rattle.column_store.specs.Range.{Holds}
 use Rattle.column_store.specs.Row.{row_of}
 use Rattle.column_store.specs.declared.range.Range.{Range}

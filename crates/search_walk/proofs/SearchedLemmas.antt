@@ -1,10 +1,7 @@
--- A segment that was searched.
+-- A segment that was searched, or of which nothing had to be.
 use Rattle.std.proofs.Common.{◌≡◌, map, inl, inr, ℕ, ◌+◌, Bool, false, List, [], ◌∷◌, length, Option, Some, None, refl, sym, ◌∙◌, ap, ap₂, subst, arith}
 use Rattle.std.specs.Prelude.{slice_get, IsTrue}
 use Rattle.std.specs.List.{Contains}
-use Rattle.std.proofs.lemmas.List.{length-map}
-use Rattle.std.proofs.Math.ListN.{get_or-map}
-use Rattle.segment_format.proofs.SetLemmas.{has_sorted_set}
 use Rattle.column_store.specs.declared.row.Row.{Row}
 use Rattle.row_codec.specs.Means.{IsCanonical}
 use Rattle.segment_format.specs.Layout.{sorted_set}
@@ -14,24 +11,26 @@ use Rattle.query_plan.specs.Pieces.{wide_pieces}
 use Rattle.subquery_filter.specs.Laws.{BarrenHasNoMatch, words_of}
 use Rattle.archive_open.specs.declared.files.FileEntry.{FileEntry}
 use Rattle.archive_open.specs.declared.segments.SegmentPlace.{SegmentPlace}
-use Rattle.search_walk.specs.Scan.{Asked, IsFound, IsTried, Picks, Placed, numbered}
-use Rattle.search_engine.specs.Waiting.{Halts, Reaches, State}
-use Rattle.search_walk.specs.Held.{IsTold, Named, OfLeft, OfSegments}
-use Rattle.search_walk.specs.Opened.{AreOpened, IsBarrenFor}
-use Rattle.search_engine.specs.SegmentsDone.{Searched, Stopped}
 use Rattle.subquery_filter.specs.Filter.{HasNoMatch}
 use Rattle.segment_format.specs.declared.head.Head.{Head}
+use Rattle.search_walk.specs.Scan.{Asked, IsFound, IsTried, Picks, Placed, numbered}
+use Rattle.search_walk.specs.Held.{IsTold, Named, OfLeft, OfSegments}
+use Rattle.search_walk.specs.Opened.{AreOpened, IsBarrenFor}
+use Rattle.search_walk.specs.Walked.{Searched, Stopped}
 use Rattle.search_walk.proofs.PickLemmas.{picks_once}
-use Rattle.search_engine.proofs.WaitingLemmas.{reaches_over}
-use Rattle.search_walk.proofs.SegmentLemmas.{Single, single, nothing_picked, barren_tried, barren_found, Tells, not_barren, number_listed}
+use Rattle.search_walk.proofs.SegmentLemmas.{Single, Tells, barren_found, barren_tried, not_barren, nothing_picked, number_listed, single, type_listed}
 
-pub barren_searched : (bytes : List ℕ) (n : Named) (f : FileEntry) (q : Asked) (p : SegmentPlace) (all : List Placed) (a : State) (t : ℕ) → WideIsWider → BarrenHasNoMatch → IsSearched q.pattern → IsBarrenFor n.types n.words q p
-    → Single bytes n f p all → Searched n q (p ∷ []) all a a t t 0
-barren_searched bytes n f q p all a t wider law searched barren one =
+-- what holds of messages of which none is found or tried
+abbrev pub Over : Named → Asked → (List Placed → Type 0) → Type 0
+Over n q F = (all : List Placed) → Picks (λ p. IsFound n.version q p.message) all [] → Picks (λ p. IsTried n.version q p.message) all [] → F all
+
+pub barren_searched : (F : List Placed → Type 0) (bytes : List ℕ) (n : Named) (f : FileEntry) (q : Asked) (p : SegmentPlace) (all : List Placed) (t : ℕ) → Over n q F → WideIsWider → BarrenHasNoMatch → IsSearched q.pattern → IsBarrenFor n.types n.words q p
+    → Single bytes n f p all → Searched F n q (p ∷ []) all t t 0
+barren_searched F bytes n f q p all t over wider law searched barren one =
     let has = one.has in
     record {
       reaches =
-          reaches_over n q all a
+          over all
           (subst (λ l. Picks (λ (x : Placed). IsFound n.version q x.message) l []) (sym one.parts)
           (nothing_picked n (IsFound n.version q) f.name (p.head.first + 1) has.rows has.rows one.messages has.are.are (λ r is. is) (barren_found n q p has.rows wider law searched barren has.head)))
           (subst (λ l. Picks (λ (x : Placed). IsTried n.version q x.message) l []) (sym one.parts)
@@ -42,24 +41,19 @@ barren_searched bytes n f q p all a t wider law searched barren one =
       counted = refl;
     }
 
-pub barren_done : (seen : Option (List ℕ)) (n : Named) (files : List FileEntry) (q : Asked) (p : SegmentPlace) (b : Bool) (a : State) (t : ℕ) → WideIsWider → BarrenHasNoMatch → IsSearched q.pattern → Tells n q p b → IsTrue b
-    → OfSegments seen n files (p ∷ []) (λ _ all. Searched n q (p ∷ []) all a a t t 0)
-barren_done None n files q p b a t wider law searched told truly = tt
-barren_done (Some bytes) n files q p b a t wider law searched told truly = λ all distinct have.
+pub barren_done : (F : List Placed → Type 0) (seen : Option (List ℕ)) (n : Named) (files : List FileEntry) (q : Asked) (p : SegmentPlace) (b : Bool) (t : ℕ) → Over n q F → WideIsWider → BarrenHasNoMatch → IsSearched q.pattern → Tells n q p b → IsTrue b
+    → OfSegments seen n files (p ∷ []) (λ _ all. Searched F n q (p ∷ []) all t t 0)
+barren_done F None n files q p b t over wider law searched told truly = tt
+barren_done F (Some bytes) n files q p b t over wider law searched told truly = λ all distinct have.
     let one = single bytes n files have.0 p all have.3 have in
-    barren_searched bytes n have.0 q p all a t wider law searched ((told one.has.are.told one.has.holds.is_head distinct).0 truly) one
-
-type_listed : (rows : List Row) (r : Row) → Contains rows r → Contains (sorted_set (map (λ x. x.log_type) rows)) r.log_type
-type_listed rows r is =
-    has_sorted_set (map (λ (x : Row). x.log_type) rows) r.log_type
-    (is.0, omega (arith, is.1, length-map rows (λ (x : Row). x.log_type)), get_or-map (λ (x : Row). x.log_type) rows is.0 r ∙ ap (λ (x : Row). x.log_type) is.2)
+    barren_searched F bytes n have.0 q p all t over wider law searched ((told one.has.are.told one.has.holds.is_head distinct).0 truly) one
 
 -- one of whose rows none is matched, as its head's lists tell
-pub unmatched_done : (seen : Option (List ℕ)) (n : Named) (files : List FileEntry) (q : Asked) (p : SegmentPlace) (b : Bool) (a : State) (t u : ℕ) → WideIsWider → Tells n q p b → b ≡ false
+pub unmatched_done : (F : List Placed → Type 0) (seen : Option (List ℕ)) (n : Named) (files : List FileEntry) (q : Asked) (p : SegmentPlace) (b : Bool) (t u : ℕ) → Over n q F → WideIsWider → Tells n q p b → b ≡ false
     → (listed numbers : List ℕ) → listed ≡ p.head.types → numbers ≡ p.head.words → (IsTold n → HasNoMatch (wide_pieces q.pattern) n.types n.words listed numbers) → u ≡ t + 1
-    → OfSegments seen n files (p ∷ []) (λ _ all. Searched n q (p ∷ []) all a a t u 1)
-unmatched_done None n files q p b a t u wider told shut listed numbers of_types of_words unmatched ticked = tt
-unmatched_done (Some bytes) n files q p b a t u wider told shut listed numbers of_types of_words unmatched ticked = λ all distinct have.
+    → OfSegments seen n files (p ∷ []) (λ _ all. Searched F n q (p ∷ []) all t u 1)
+unmatched_done F None n files q p b t u over wider told shut listed numbers of_types of_words unmatched ticked = tt
+unmatched_done F (Some bytes) n files q p b t u over wider told shut listed numbers of_types of_words unmatched ticked = λ all distinct have.
     let one = single bytes n files have.0 p all have.3 have in
     let has = one.has in
     let types : listed ≡ sorted_set (map (λ (x : Row). x.log_type) has.rows) = of_types ∙ ap (λ (h : Head). h.types) has.head in
@@ -69,7 +63,7 @@ unmatched_done (Some bytes) n files q p b a t u wider told shut listed numbers o
     (λ k is. subst (λ l. Contains l k) (sym words) (number_listed n.types has.rows r k here is)) canonical f.matched in
     record {
       reaches =
-          reaches_over n q all a
+          over all
           (subst (λ l. Picks (λ (x : Placed). IsFound n.version q x.message) l []) (sym one.parts)
           (nothing_picked n (IsFound n.version q) have.0.name (p.head.first + 1) has.rows has.rows one.messages has.are.are (λ r is. is)
           (λ r m here canonical f. none r m here canonical (record { matched = wider q.pattern m f.matched; inside = f.inside }))))
@@ -81,31 +75,31 @@ unmatched_done (Some bytes) n files q p b a t u wider told shut listed numbers o
       counted = refl;
     }
 
-pub opened_done : (seen : Option (List ℕ)) (n : Named) (files : List FileEntry) (f : FileEntry) (q : Asked) (p : SegmentPlace) (b : Bool) (pages : Paged) (name : List ℕ) (number : ℕ) (a z : State) (t u : ℕ) → Tells n q p b → b ≡ false
+pub opened_done : (F : List Placed → Type 0) (seen : Option (List ℕ)) (n : Named) (files : List FileEntry) (f : FileEntry) (q : Asked) (p : SegmentPlace) (b : Bool) (pages : Paged) (name : List ℕ) (number t u : ℕ) → Tells n q p b → b ≡ false
     → slice_get files p.head.file ≡ Some f → name ≡ f.name → number ≡ p.head.first + 1 → ((bytes : List ℕ) (rows : List Row) → HoldsSegment p.payload p.length p.head bytes rows → HoldsLeft pages bytes rows)
-    → OfLeft seen pages n (λ messages. Reaches n q (numbered name number messages) a z) → u ≡ t + 1 → OfSegments seen n files (p ∷ []) (λ _ all. Searched n q (p ∷ []) all a z t u 1)
-opened_done None n files f q p b pages name number a z t u told shut file called first opens passes ticked = tt
-opened_done (Some bytes) n files f q p b pages name number a z t u told shut file called first opens passes ticked = λ all distinct have.
+    → OfLeft seen pages n (λ messages. F (numbered name number messages)) → u ≡ t + 1 → OfSegments seen n files (p ∷ []) (λ _ all. Searched F n q (p ∷ []) all t u 1)
+opened_done F None n files f q p b pages name number t u told shut file called first opens passes ticked = tt
+opened_done F (Some bytes) n files f q p b pages name number t u told shut file called first opens passes ticked = λ all distinct have.
     let one = single bytes n files f p all file have in
     let rest = passes one.has.rows one.messages (opens bytes one.has.rows one.has.holds) one.has.are in
     record {
-      reaches = subst (λ l. Reaches n q l a z) (ap₂ (λ (x : List ℕ) (k : ℕ). numbered x k one.messages) called first ∙ sym one.parts) rest;
+      reaches = subst F (ap₂ (λ (x : List ℕ) (k : ℕ). numbered x k one.messages) called first ∙ sym one.parts) rest;
       opened = p ∷ [];
       are_opened = inl ([], not_barren n q p b told shut one.has.are.told one.has.holds.is_head distinct, refl, refl);
       ticked = ticked;
       counted = refl;
     }
 
-pub opened_stops : (seen : Option (List ℕ)) (n : Named) (files : List FileEntry) (f : FileEntry) (q : Asked) (p : SegmentPlace) (b : Bool) (pages : Paged) (name : List ℕ) (number : ℕ) (a : State) (w : Option (List ℕ)) (k t u : ℕ) → Tells n q p b → b ≡ false
+pub opened_stops : (H : List Placed → Type 0) (seen : Option (List ℕ)) (n : Named) (files : List FileEntry) (f : FileEntry) (q : Asked) (p : SegmentPlace) (b : Bool) (pages : Paged) (name : List ℕ) (number t u : ℕ) → Tells n q p b → b ≡ false
     → slice_get files p.head.file ≡ Some f → name ≡ f.name → number ≡ p.head.first + 1 → ((bytes : List ℕ) (rows : List Row) → HoldsSegment p.payload p.length p.head bytes rows → HoldsLeft pages bytes rows)
-    → OfLeft seen pages n (λ messages. Halts n q (numbered name number messages) a w k) → u ≡ t + 1 → OfSegments seen n files (p ∷ []) (λ _ all. Stopped n q (p ∷ []) all a w k t u)
-opened_stops None n files f q p b pages name number a w k t u told shut file called first opens stops ticked = tt
-opened_stops (Some bytes) n files f q p b pages name number a w k t u told shut file called first opens stops ticked = λ all distinct have.
+    → OfLeft seen pages n (λ messages. H (numbered name number messages)) → u ≡ t + 1 → OfSegments seen n files (p ∷ []) (λ _ all. Stopped H n q (p ∷ []) all t u)
+opened_stops H None n files f q p b pages name number t u told shut file called first opens stops ticked = tt
+opened_stops H (Some bytes) n files f q p b pages name number t u told shut file called first opens stops ticked = λ all distinct have.
     let one = single bytes n files f p all file have in
     let rest = stops one.has.rows one.messages (opens bytes one.has.rows one.has.holds) one.has.are in
     let own : AreOpened n.types n.words q (p ∷ []) (p ∷ []) = inl ([], not_barren n q p b told shut one.has.are.told one.has.holds.is_head distinct, refl, refl) in
     record {
-      halts = subst (λ l. Halts n q l a w k) (ap₂ (λ (x : List ℕ) (k : ℕ). numbered x k one.messages) called first ∙ sym one.parts) rest;
+      halts = subst H (ap₂ (λ (x : List ℕ) (k : ℕ). numbered x k one.messages) called first ∙ sym one.parts) rest;
       most = λ opened are.
           let same : opened ≡ p ∷ [] = picks_once (λ x. ¬ IsBarrenFor n.types n.words q x) (p ∷ []) opened (p ∷ []) are own in
           omega (arith, ticked, ap (λ (l : List SegmentPlace). length l) same);

@@ -8,8 +8,8 @@ use Rattle.sink_pieces.proofs.OutputLemmas.{Moves-all}
 use Rattle.search_walk.specs.Scan.{Asked, IsFound, IsTried, Picks, Placed, numbered}
 use Rattle.search_engine.specs.Sofar.{Passes, Sofar, Stops, sofar}
 use Rattle.search_walk.specs.Held.{AreRowsOf, Named}
-use Rattle.search_engine.specs.Waiting.{Blames, Halts, Page, Pending, Reaches, Same, State, WaitFor, page, sofar_of, state}
-use Rattle.search_engine.proofs.SofarLemmas.{goes_moved, passes_moves, passes_none, passes_on, stops_behind, stops_here, stops_more, ticks_same}
+use Rattle.search_engine.specs.Waiting.{Blames, Halts, Page, Pending, Reaches, Same, StandFor, State, WaitFor, page, sofar_of, state}
+use Rattle.search_engine.specs.StepsSofar.{front_none, goes_moved, passes_moves, passes_none, passes_on, stops_behind, stops_here, stops_more, ticks_same}
 use Rattle.search_walk.proofs.PickLemmas.{picks_append, picks_once, picks_split}
 
 -- ---- lists of which the same is found and expanded
@@ -189,6 +189,12 @@ reaches_end n q all a b none empty reaches =
     passes_same n.version q all p.done (sofar_of a) (sofar_of b)
     (subst (Same n.version q all) (ap (λ (l : List Placed). p.done ++ l) later ∙ append-nil p.done) p.same) p.passes
 
+-- what was in hand stood for messages, so what is in hand does
+pub stands_on : (n : Named) (q : Asked) (all : List Placed) (a b : State) → Reaches n q all a b → StandFor n a.pending.pages → StandFor n b.pending.pages
+stands_on n q all a b reaches stands =
+    let p = reaches stands.0 stands.1 in
+    (p.later, p.waits)
+
 -- ---- stopping
 
 pub halts_more : (n : Named) (q : Asked) (xs ys : List Placed) (a : State) (w : Option (List ℕ)) (k : ℕ) → Halts n q xs a w k → Halts n q (xs ++ ys) a w k
@@ -207,6 +213,10 @@ halts_behind n q xs ys a b w k one halts = λ early waits.
 pub halts_here : (n : Named) (q : Asked) (xs : List Placed) (a : State) (w : Option (List ℕ)) (k : ℕ) → GrewByFront a.written w a.pending.gathered → k ≡ a.ticks → Halts n q xs a w k
 halts_here n q xs a w k front ticks = λ early waits.
     stops_here n.version q (early ++ xs) (sofar_of a) w k front (ticks_same n.version q (early ++ xs) a.ticks k ticks)
+
+-- nothing was done
+pub halts_same : (n : Named) (q : Asked) (w : Option (List ℕ)) (x : Pending) (k : ℕ) → Halts n q [] (state w x k) w k
+halts_same n q w x k = halts_here n q [] (state w x k) w k (front_none w w x.gathered refl) refl
 
 pub halts_all : (n : Named) (q : Asked) (a : State) (w : Option (List ℕ)) (k : ℕ) → ((all : List Placed) → WaitFor n a.pending.pages all → Stops n.version q all (sofar_of a) w k) → Halts n q [] a w k
 halts_all n q a w k stops = λ early waits. subst (λ l. Stops n.version q l (sofar_of a) w k) (sym (append-nil early)) (stops early waits)

@@ -1,4 +1,4 @@
-//! The segments of an archive, searched one after the other.
+//! The segments of an archive, gone over one after the other.
 ghost use Rattle.std.specs.Prelude.{◌≡◌, ◌<◌, [], ◌∷◌, length, slice_get, Some, IfOk, OnErr, IsErrOf, cond};
 ghost use Rattle.log_seams.specs.Disk.{ReadsOnly, Rests};
 ghost use Rattle.log_seams.specs.Outside.{CountsOf};
@@ -6,67 +6,61 @@ ghost use Rattle.segment_format.specs.Layout.{head_length};
 ghost use Rattle.archive_places.specs.Fronts.{fixed_in, front_of_place};
 ghost use Rattle.archive_places.specs.Heads.{OfFront};
 ghost use Rattle.search_walk.specs.Opened.{NoFronts, NoneTold, ReadsFronts, ReadsTold};
-ghost use Rattle.search_engine.specs.SegmentsDone.{SearchedFronts, SearchedTold, StoppedFronts, StoppedTold};
-ghost use Rattle.search_engine.specs.Served.{IsServed};
-ghost use Rattle.search_engine.specs.Waiting.{Blames, state};
+ghost use Rattle.search_walk.specs.Walked.{SearchedFronts, SearchedTold, StoppedFronts, StoppedTold};
 
-use crate::page_batch::PageBatch;
+use crate::context::Context;
+use crate::label::Label;
 use crate::paging::read_pages;
+use crate::refusal::SearchRefusal;
+use crate::taking::TakesPages;
 use archive_open::SegmentPlace;
 use archive_places::{SegmentFront, load_segment};
-use log_seams::{Disk, Sink};
+use log_seams::Disk;
 use query_plan::wide_is_wider;
-use search_walk::{Context, Label, SearchRefusal};
 use std::alloc::Global;
 use std::sync::ledger::Ledger;
-use std::thread::Threads;
 use step_count::Steps;
 use subquery_filter::barren_has_no_match;
 use word_places::HeldWords;
 
 /// Searches a segment whose head is loaded, and tells whether it was opened: a barren one is not. Where
-/// it cannot be opened, the pages before it are searched and sent out first.
-fn search_segment<R: Threads + Sync, D: Disk, K: Sink, L: Ledger, M: Ledger>(
-    rt: &R,
+/// it cannot be opened, what was taken before it is finished first.
+fn search_segment<D: Disk, W: TakesPages, L: Ledger>(
     context: &Context<'_, D>,
     held: &mut HeldWords,
     segment: &SegmentPlace,
     disk: &mut D,
-    out: &mut K,
-    batch: &mut PageBatch,
+    work: &mut W,
     opened: &mut Steps<L>,
-    expanded: &mut Steps<M>,
 ) -> Result<bool, SearchRefusal>
-    requires served { IsServed context.now.names context.now.query held.old batch.old.pages }
+    requires served { W.served work.old context.now held.old }
     requires told { (D.state disk.old).seen ≡ context.now.names.told }
 
     // what stays
     ensures rests { Rests (D.state disk.old) (D.state disk.new) }
     ensures reads { ReadsTold (D.state disk.old) (D.state disk.new)
         context.now.names context.now.files context.now.query (segment.now ∷ []) }
-    ensures served { IfOk result (λ _. IsServed context.now.names context.now.query
-        held.new batch.new.pages) }
+    ensures lent { W.lent work.new ≡ W.lent work.old }
+    ensures served { IfOk result (λ _. W.served work.new context.now held.new) }
 
     // by the answer
-    ensures done { IfOk result (λ yes. SearchedTold (D.state disk.old).seen
+    ensures done { IfOk result (λ yes. SearchedTold
+        (W.reaches work.old work.new context.now.names context.now.query) (D.state disk.old).seen
         context.now.names context.now.files context.now.query (segment.now ∷ [])
-        (state (K.written out.old) batch.old expanded.old)
-        (state (K.written out.new) batch.new expanded.new)
         opened.old opened.new (cond yes 1 0)) }
-    ensures stopped { OnErr result (StoppedTold (D.state disk.old).seen
+    ensures stopped { OnErr result (StoppedTold
+        (W.halts work.old work.new context.now.names context.now.query) (D.state disk.old).seen
         context.now.names context.now.files context.now.query (segment.now ∷ [])
-        (state (K.written out.old) batch.old expanded.old)
-        (K.written out.new) expanded.new opened.old opened.new) }
+        opened.old opened.new) }
 
     // causes
-    ensures damaged { IsErrOf result SearchRefusal.Damaged → Blames
-        context.now.names batch.old.pages
-        (NoneTold (D.state disk.old).seen context.now.names context.now.files
-        (segment.now ∷ [])) }
+    ensures damaged { IsErrOf result SearchRefusal.Damaged → W.stands work.old context.now.names
+        → NoneTold (D.state disk.old).seen context.now.names context.now.files
+        (segment.now ∷ []) }
     ensures disk_counts { CountsOf SearchRefusal.DiskFault
         (D.state disk.old).faults (D.state disk.new).faults result }
     ensures sink_counts { CountsOf SearchRefusal.SinkFault
-        (K.faults out.old) (K.faults out.new) result }
+        (W.sink_faults work.old) (W.sink_faults work.new) result }
 {
     // A barren segment has no message in the range that the pattern which the search is planned over
     // matches; and what the pattern matches, that one matches too.
@@ -76,7 +70,7 @@ fn search_segment<R: Threads + Sync, D: Disk, K: Sink, L: Ledger, M: Ledger>(
         return Ok(false);
     }
     let Some((file, pages)) = context.begin_segment(segment, opened) else {
-        batch.finish(rt, context, held, out, expanded)?;
+        work.finish(context, held)?;
         return Err(SearchRefusal::Damaged);
     };
     if !context.may_match(segment) {
@@ -84,17 +78,8 @@ fn search_segment<R: Threads + Sync, D: Disk, K: Sink, L: Ledger, M: Ledger>(
     }
     let name = file.name.as_slice();
     let number = segment.head.first + 1;
-    read_pages(
-        rt,
-        context,
-        held,
-        Label { name, number },
-        pages,
-        disk,
-        out,
-        batch,
-        expanded,
-    )?;
+    let label = Label { name, number };
+    read_pages(context, held, label, pages, disk, work)?;
     Ok(true)
 }
 
@@ -125,49 +110,45 @@ fn load<D: Disk>(
 }
 
 /// Searches a segment by its front, and tells whether it was opened. One that is out of the range is not
-/// read; of any other the head is loaded. Where that cannot be done, the pages before it are searched and
-/// sent out first, but not after a fault of the disk.
-fn visit_segment<R: Threads + Sync, D: Disk, K: Sink, L: Ledger, M: Ledger>(
-    rt: &R,
+/// read; of any other the head is loaded. Where that cannot be done, what was taken before it is finished
+/// first, but not after a fault of the disk.
+fn visit_segment<D: Disk, W: TakesPages, L: Ledger>(
+    alloc: Global,
     context: &Context<'_, D>,
     held: &mut HeldWords,
     front: &SegmentFront,
     disk: &mut D,
-    out: &mut K,
-    batch: &mut PageBatch,
+    work: &mut W,
     opened: &mut Steps<L>,
-    expanded: &mut Steps<M>,
 ) -> Result<bool, SearchRefusal>
-    requires served { IsServed context.now.names context.now.query held.old batch.old.pages }
+    requires served { W.served work.old context.now held.old }
     requires told { (D.state disk.old).seen ≡ context.now.names.told }
 
     // what stays
     ensures rests { Rests (D.state disk.old) (D.state disk.new) }
     ensures reads { ReadsFronts (D.state disk.old) (D.state disk.new)
         context.now.names context.now.files context.now.query (front.now ∷ []) }
-    ensures served { IfOk result (λ _. IsServed context.now.names context.now.query
-        held.new batch.new.pages) }
+    ensures lent { W.lent work.new ≡ W.lent work.old }
+    ensures served { IfOk result (λ _. W.served work.new context.now held.new) }
 
     // by the answer
-    ensures done { IfOk result (λ yes. SearchedFronts (D.state disk.old).seen
+    ensures done { IfOk result (λ yes. SearchedFronts
+        (W.reaches work.old work.new context.now.names context.now.query) (D.state disk.old).seen
         context.now.names context.now.files context.now.query (front.now ∷ [])
-        (state (K.written out.old) batch.old expanded.old)
-        (state (K.written out.new) batch.new expanded.new)
         opened.old opened.new (cond yes 1 0)) }
-    ensures stopped { OnErr result (StoppedFronts (D.state disk.old).seen
+    ensures stopped { OnErr result (StoppedFronts
+        (W.halts work.old work.new context.now.names context.now.query) (D.state disk.old).seen
         context.now.names context.now.files context.now.query (front.now ∷ [])
-        (state (K.written out.old) batch.old expanded.old)
-        (K.written out.new) expanded.new opened.old opened.new) }
+        opened.old opened.new) }
 
     // causes
-    ensures damaged { IsErrOf result SearchRefusal.Damaged → Blames
-        context.now.names batch.old.pages
-        (NoFronts (D.state disk.old).seen context.now.names context.now.files
-        (front.now ∷ [])) }
+    ensures damaged { IsErrOf result SearchRefusal.Damaged → W.stands work.old context.now.names
+        → NoFronts (D.state disk.old).seen context.now.names context.now.files
+        (front.now ∷ []) }
     ensures disk_counts { CountsOf SearchRefusal.DiskFault
         (D.state disk.old).faults (D.state disk.new).faults result }
     ensures sink_counts { CountsOf SearchRefusal.SinkFault
-        (K.faults out.old) (K.faults out.new) result }
+        (W.sink_faults work.old) (W.sink_faults work.new) result }
 {
     // One that is out of the range is barren, and what the pattern matches, the one that the search is
     // planned over matches too.
@@ -176,18 +157,16 @@ fn visit_segment<R: Threads + Sync, D: Disk, K: Sink, L: Ledger, M: Ledger>(
     if context.is_outside(front) {
         return Ok(false);
     }
-    let segment = match load(batch.alloc(), disk, front) {
+    let segment = match load(alloc, disk, front) {
         Ok(segment) => segment,
         // An output that fails too would be a second fault.
         Err(SearchRefusal::DiskFault) => return Err(SearchRefusal::DiskFault),
         Err(refusal) => {
-            batch.finish(rt, context, held, out, expanded)?;
+            work.finish(context, held)?;
             return Err(refusal);
         }
     };
-    search_segment(
-        rt, context, held, &segment, disk, out, batch, opened, expanded,
-    )
+    search_segment(context, held, &segment, disk, work, opened)
 }
 
 /// The front at a place.
@@ -199,51 +178,47 @@ fn front_at(fronts: &[SegmentFront], place: usize) -> &SegmentFront
 }
 
 /// Searches the segments in their order, and answers how many were opened.
-pub(crate) fn visit_segments<R: Threads + Sync, D: Disk, K: Sink, L: Ledger, M: Ledger>(
-    rt: &R,
+pub fn visit_segments<D: Disk, W: TakesPages, L: Ledger>(
+    alloc: Global,
     context: &Context<'_, D>,
     held: &mut HeldWords,
     fronts: &[SegmentFront],
     disk: &mut D,
-    out: &mut K,
-    batch: &mut PageBatch,
+    work: &mut W,
     opened: &mut Steps<L>,
-    expanded: &mut Steps<M>,
 ) -> Result<u64, SearchRefusal>
-    requires served { IsServed context.now.names context.now.query held.old batch.old.pages }
+    requires served { W.served work.old context.now held.old }
     requires told { (D.state disk.old).seen ≡ context.now.names.told }
 
     // what stays
     ensures rests { Rests (D.state disk.old) (D.state disk.new) }
     ensures reads { ReadsFronts (D.state disk.old) (D.state disk.new)
         context.now.names context.now.files context.now.query fronts.now }
-    ensures served { IfOk result (λ _. IsServed context.now.names context.now.query
-        held.new batch.new.pages) }
+    ensures lent { W.lent work.new ≡ W.lent work.old }
+    ensures served { IfOk result (λ _. W.served work.new context.now held.new) }
 
     // by the answer
-    ensures done { IfOk result (λ count. SearchedFronts (D.state disk.old).seen
+    ensures done { IfOk result (λ count. SearchedFronts
+        (W.reaches work.old work.new context.now.names context.now.query) (D.state disk.old).seen
         context.now.names context.now.files context.now.query fronts.now
-        (state (K.written out.old) batch.old expanded.old)
-        (state (K.written out.new) batch.new expanded.new)
         opened.old opened.new count) }
-    ensures stopped { OnErr result (StoppedFronts (D.state disk.old).seen
+    ensures stopped { OnErr result (StoppedFronts
+        (W.halts work.old work.new context.now.names context.now.query) (D.state disk.old).seen
         context.now.names context.now.files context.now.query fronts.now
-        (state (K.written out.old) batch.old expanded.old)
-        (K.written out.new) expanded.new opened.old opened.new) }
+        opened.old opened.new) }
 
     // causes
-    ensures damaged { IsErrOf result SearchRefusal.Damaged → Blames
-        context.now.names batch.old.pages
-        (NoFronts (D.state disk.old).seen context.now.names context.now.files fronts.now) }
+    ensures damaged { IsErrOf result SearchRefusal.Damaged → W.stands work.old context.now.names
+        → NoFronts (D.state disk.old).seen context.now.names context.now.files fronts.now }
     ensures disk_counts { CountsOf SearchRefusal.DiskFault
         (D.state disk.old).faults (D.state disk.new).faults result }
     ensures sink_counts { CountsOf SearchRefusal.SinkFault
-        (K.faults out.old) (K.faults out.new) result }
+        (W.sink_faults work.old) (W.sink_faults work.new) result }
 {
     let mut count = 0;
     for place in 0..fronts.len() {
         let front = front_at(fronts, place);
-        let yes = visit_segment(rt, context, held, front, disk, out, batch, opened, expanded)?;
+        let yes = visit_segment(alloc, context, held, front, disk, work, opened)?;
         count += u64::from(yes);
     }
     Ok(count)

@@ -1,11 +1,11 @@
-use Rattle.std.proofs.Common.{◌∙◌, ◌++◌, ◌∷◌, List, ap, rules, refl, sym, subst, []}
+use Rattle.std.proofs.Common.{◌∙◌, ◌++◌, ◌∷◌, ap, rules, refl, sym, subst, []}
 use Rattle.search_walk.specs.Held.{Named}
-use Rattle.search_engine.specs.Served.{IsServed}
-use Rattle.search_engine.specs.Waiting.{Halts, Page, Pending, Reaches, WaitFor, state}
+use Rattle.search_engine.specs.Waiting.{Halts, Pending, Reaches, WaitFor, state}
 use Rattle.search_engine.proofs.ServedLemmas.{served_none, served_push}
 use Rattle.search_walk.proofs.AnswerLemmas.{on_err}
-use Rattle.search_engine.proofs.PageLemmas.{left_nothing, page_past, past_damaged, past_run, past_stops, run_halts, unread_halts, unread_sent}
-use Rattle.search_engine.proofs.paging.read_next.Goals as goal
+use Rattle.search_engine.proofs.PageLemmas.{page_past, past_damaged, past_run, past_stops, run_halts, unread_halts, unread_sent}
+use Rattle.search_walk.proofs.PageLemmas.{left_nothing}
+use Rattle.search_engine.proofs.page_taking.read_next.Goals as goal
 
 pub returns-in-Err-DiskFault-clause-stopped : goal.returns-in-Err-DiskFault-clause-stopped
 returns-in-Err-DiskFault-clause-stopped g c = unread_halts _ c.args.pages.now _ c.args.context.now.query c.args.label.name.now c.args.label.number (state _ c.args.batch.now _) _ _ refl refl

@@ -1,5 +1,5 @@
 -- Segments by their fronts, one and then all.
-use Rattle.std.proofs.Common.{◌≡◌, inl, inr, ⊎_elim, ℕ, zero, suc, ◌+◌, ◌<◌, ◌≤◌, List, [], ◌∷◌, length, map, get_or, Option, Some, None, refl, sym, ◌∙◌, ap, subst, arith}
+use Rattle.std.proofs.Common.{◌≡◌, inl, inr, ⊎_elim, ℕ, zero, suc, ◌+◌, ◌<◌, ◌≤◌, List, [], ◌∷◌, ◌++◌, length, map, get_or, Option, Some, None, refl, sym, ◌∙◌, ap, subst, arith}
 use Rattle.std.specs.Prelude.{◌⊎◌}
 use Rattle.std.proofs.lemmas.List.{get_or_default, length-map}
 use Rattle.std.proofs.Math.ListN.{get_or-map}
@@ -16,16 +16,14 @@ use Rattle.archive_places.specs.declared.front.SegmentFront.{SegmentFront}
 use Rattle.archive_places.specs.Fronts.{fixed_in, front_of_place}
 use Rattle.archive_places.specs.Heads.{OfFront}
 use Rattle.search_walk.specs.Scan.{Asked, Placed}
-use Rattle.search_engine.specs.Waiting.{Blames, Halts, State}
 use Rattle.search_walk.specs.Held.{Named, OfSegments}
 use Rattle.search_walk.specs.Opened.{IsBarrenFor, IsRead, NoFronts, OfFronts, ReadsFronts, ReadsOpened, ReadsTold}
-use Rattle.search_engine.specs.SegmentsDone.{SearchedFronts, StoppedFronts}
-use Rattle.search_engine.specs.StepsPast.{SegmentsRun}
+use Rattle.search_walk.specs.Walked.{SearchedFronts, StoppedFronts}
+use Rattle.search_walk.specs.StepsPast.{SegmentsRun}
 use Rattle.search_walk.proofs.PagesReadLemmas.{none_added, rests_same}
-use Rattle.search_engine.proofs.SegmentLemmas.{barren_searched}
 use Rattle.search_walk.proofs.SegmentLemmas.{nothing_read, single}
-use Rattle.search_engine.proofs.RunLemmas.{past_damaged, past_end, past_next, past_none, past_stops, reads_joined, reads_next}
-use Rattle.search_engine.proofs.WaitingLemmas.{halts_more}
+use Rattle.search_walk.proofs.SearchedLemmas.{Over, barren_searched}
+use Rattle.search_walk.proofs.RunLemmas.{past_damaged, past_end, past_next, past_none, past_stops, reads_joined, reads_next}
 
 -- ---- one segment
 
@@ -91,26 +89,22 @@ pub later_all : (seen later : Option (List ℕ)) (n : Named) (files : List FileE
 later_all seen later n files front p X same loaded has = loaded_all seen n files front p X loaded (subst (λ s. OfSegments s n files (p ∷ []) (X (p ∷ []))) same has)
 
 -- a segment whose front is out of the range
-pub outside_done : (seen : Option (List ℕ)) (n : Named) (files : List FileEntry) (q : Asked) (front : SegmentFront) (a : State) (t : ℕ) → WideIsWider → BarrenHasNoMatch → IsSearched q.pattern
-    → (IsFixed (fixed_in front) → (front.rows ≡ 0) ⊎ (IsBounded q.range × LeavesOut q.range front.stamped front.least front.greatest)) → SearchedFronts seen n files q (front ∷ []) a a t t 0
-outside_done None n files q front a t wider law searched out ps is = tt
-outside_done (Some bytes) n files q front a t wider law searched out [] is = absurd (cc (is))
-outside_done (Some bytes) n files q front a t wider law searched out (r ∷ s ∷ ps) is = absurd (cc (is))
-outside_done (Some bytes) n files q front a t wider law searched out (r ∷ []) is = λ all distinct have.
+pub outside_done : (F : List Placed → Type 0) (seen : Option (List ℕ)) (n : Named) (files : List FileEntry) (q : Asked) (front : SegmentFront) (t : ℕ) → Over n q F → WideIsWider → BarrenHasNoMatch → IsSearched q.pattern
+    → (IsFixed (fixed_in front) → (front.rows ≡ 0) ⊎ (IsBounded q.range × LeavesOut q.range front.stamped front.least front.greatest)) → SearchedFronts F seen n files q (front ∷ []) t t 0
+outside_done F None n files q front t over wider law searched out ps is = tt
+outside_done F (Some bytes) n files q front t over wider law searched out [] is = absurd (cc (is))
+outside_done F (Some bytes) n files q front t over wider law searched out (r ∷ s ∷ ps) is = absurd (cc (is))
+outside_done F (Some bytes) n files q front t over wider law searched out (r ∷ []) is = λ all distinct have.
     let own : front_of_place r ≡ front = cc (is) in
     let mine = subst (λ (f : SegmentFront). (f.rows ≡ 0) ⊎ (IsBounded q.range × LeavesOut q.range f.stamped f.least f.greatest)) (sym own)
     (out (subst (λ (f : SegmentFront). IsFixed (fixed_in f)) own have.4.stands.fits.fixed)) in
     let barren : IsBarrenFor n.types n.words q r = ⊎_elim (λ none. inl none) (λ far. inr (inl far)) mine in
-    barren_searched bytes n have.0 q r all a t wider law searched barren (single bytes n files have.0 r all have.3 have)
+    barren_searched F bytes n have.0 q r all t over wider law searched barren (single bytes n files have.0 r all have.3 have)
 
 -- the search stopped before the segment
-pub halted_stops : (seen : Option (List ℕ)) (n : Named) (files : List FileEntry) (q : Asked) (fronts : List SegmentFront) (a : State) (w : Option (List ℕ)) (k t u : ℕ) → Halts n q [] a w k → u ≡ t
-    → StoppedFronts seen n files q fronts a w k t u
-halted_stops None n files q fronts a w k t u halts same ps is = tt
-halted_stops (Some bytes) n files q fronts a w k t u halts same ps is = λ all distinct have. record {
-  halts = halts_more n q [] all a w k halts;
-  most = λ opened are. omega (arith, same);
-}
+pub halted_stops : (H : List Placed → Type 0) (seen : Option (List ℕ)) (n : Named) (files : List FileEntry) (q : Asked) (fronts : List SegmentFront) (t u : ℕ) → ((all : List Placed) → H all) → u ≡ t → StoppedFronts H seen n files q fronts t u
+halted_stops H None n files q fronts t u halts same ps is = tt
+halted_stops H (Some bytes) n files q fronts t u halts same ps is = λ all distinct have. record { halts = halts all; most = λ opened are. omega (arith, same) }
 
 -- ---- all segments
 
@@ -136,48 +130,49 @@ front_at ps fronts k front is lt at =
     ∙ get_or_default fronts k (front_of_place e.0) front lt ∙ sym at in
     record { p = e.0; within = within; is = e.1; same = ap (λ (f : SegmentFront). f ∷ []) own }
 
-pub run_first : (d : DiskState) (n : Named) (files : List FileEntry) (q : Asked) (fronts : List SegmentFront) (a : State) (t : ℕ) → SegmentsRun d d n files q fronts 0 a a t t 0
-run_first d n files q fronts a t = record {
+pub run_first : (F : List Placed → Type 0) (d : DiskState) (n : Named) (files : List FileEntry) (q : Asked) (fronts : List SegmentFront) (t : ℕ) → F [] → SegmentsRun F d d n files q fronts 0 t t 0
+run_first F d n files q fronts t none = record {
   rests = rests_same d;
   faults = refl;
   reads = λ ps is. nothing_read d.seen n files q ps d.ranges d.ranges refl;
-  past = λ ps is. past_none d.seen n files q ps a t;
+  past = λ ps is. past_none F d.seen n files q ps t none;
   few = omega arith;
 }
 
-pub run_reads : (old mid new : DiskState) (n : Named) (files : List FileEntry) (q : Asked) (fronts : List SegmentFront) (k : ℕ) (front : SegmentFront) (a b : State) (t u count : ℕ) → k < length fronts
-    → front ≡ get_or fronts k front → SegmentsRun old mid n files q fronts k a b t u count → ReadsFronts mid new n files q (front ∷ []) → ReadsFronts old new n files q fronts
-run_reads old mid new n files q fronts k front a b t u count lt at run one = λ ps is.
+pub run_reads : (F : List Placed → Type 0) (old mid new : DiskState) (n : Named) (files : List FileEntry) (q : Asked) (fronts : List SegmentFront) (k : ℕ) (front : SegmentFront) (t u count : ℕ) → k < length fronts → front ≡ get_or fronts k front
+    → SegmentsRun F old mid n files q fronts k t u count → ReadsFronts mid new n files q (front ∷ []) → ReadsFronts old new n files q fronts
+run_reads F old mid new n files q fronts k front t u count lt at run one = λ ps is.
     let f = front_at ps fronts k front is lt at in
-    reads_next old.seen mid.seen n files q ps k f.p a b t u count old.ranges mid.ranges new.ranges run.rests.seen f.within f.is (run.past ps is) (run.reads ps is) (one (f.p ∷ []) f.same)
+    reads_next F old.seen mid.seen n files q ps k f.p t u count old.ranges mid.ranges new.ranges run.rests.seen f.within f.is (run.past ps is) (run.reads ps is) (one (f.p ∷ []) f.same)
 
-pub run_next : (old mid new : DiskState) (n : Named) (files : List FileEntry) (q : Asked) (fronts : List SegmentFront) (k : ℕ) (front : SegmentFront) (a b c : State) (t u v count more all : ℕ) → k < length fronts
-    → front ≡ get_or fronts k front → all ≡ count + more → more ≤ 1 → SegmentsRun old mid n files q fronts k a b t u count → Rests mid new → new.faults ≡ mid.faults → ReadsFronts mid new n files q (front ∷ [])
-    → SearchedFronts mid.seen n files q (front ∷ []) b c u v more → SegmentsRun old new n files q fronts (k + 1) a c t v all
-run_next old mid new n files q fronts k front a b c t u v count more all lt at total few run rests faults reads one = record {
+pub run_next : (F G H : List Placed → Type 0) (old mid new : DiskState) (n : Named) (files : List FileEntry) (q : Asked) (fronts : List SegmentFront) (k : ℕ) (front : SegmentFront) (t u v count more all : ℕ)
+    → ((xs ys : List Placed) → F xs → G ys → H (xs ++ ys)) → k < length fronts → front ≡ get_or fronts k front → all ≡ count + more → more ≤ 1 → SegmentsRun F old mid n files q fronts k t u count → Rests mid new → new.faults ≡ mid.faults
+    → ReadsFronts mid new n files q (front ∷ []) → SearchedFronts G mid.seen n files q (front ∷ []) u v more → SegmentsRun H old new n files q fronts (k + 1) t v all
+run_next F G H old mid new n files q fronts k front t u v count more all on lt at total few run rests faults reads one = record {
   rests = rests_on old mid new run.rests rests;
   faults = faults ∙ run.faults;
-  reads = run_reads old mid new n files q fronts k front a b t u count lt at run reads;
+  reads = run_reads F old mid new n files q fronts k front t u count lt at run reads;
   past = λ ps is.
       let f = front_at ps fronts k front is lt at in
-      past_next old.seen mid.seen n files q ps k f.p a b c t u v count more all run.rests.seen f.within f.is total (run.past ps is) (one (f.p ∷ []) f.same);
+      past_next F G H old.seen mid.seen n files q ps k f.p t u v count more all on run.rests.seen f.within f.is total (run.past ps is) (one (f.p ∷ []) f.same);
   few = omega (arith, run.few, total, few);
 }
 
-pub run_end : (old mid : DiskState) (n : Named) (files : List FileEntry) (q : Asked) (fronts : List SegmentFront) (k : ℕ) (a b : State) (t u count : ℕ) → length fronts ≤ k → SegmentsRun old mid n files q fronts k a b t u count
-    → SearchedFronts old.seen n files q fronts a b t u count
-run_end old mid n files q fronts k a b t u count end run = λ ps is.
+pub run_end : (F : List Placed → Type 0) (old mid : DiskState) (n : Named) (files : List FileEntry) (q : Asked) (fronts : List SegmentFront) (k t u count : ℕ) → length fronts ≤ k → SegmentsRun F old mid n files q fronts k t u count
+    → SearchedFronts F old.seen n files q fronts t u count
+run_end F old mid n files q fronts k t u count end run = λ ps is.
     let long : length ps ≡ length fronts = sym (length-map ps front_of_place) ∙ ap (λ (l : List SegmentFront). length l) is in
-    past_end old.seen n files q ps k a b t u count (omega (arith, end, long)) (run.past ps is)
+    past_end F old.seen n files q ps k t u count (omega (arith, end, long)) (run.past ps is)
 
-pub run_stops : (old mid : DiskState) (n : Named) (files : List FileEntry) (q : Asked) (fronts : List SegmentFront) (k : ℕ) (front : SegmentFront) (a b : State) (w : Option (List ℕ)) (e t u v count : ℕ) → k < length fronts
-    → front ≡ get_or fronts k front → SegmentsRun old mid n files q fronts k a b t u count → StoppedFronts mid.seen n files q (front ∷ []) b w e u v → StoppedFronts old.seen n files q fronts a w e t v
-run_stops old mid n files q fronts k front a b w e t u v count lt at run one = λ ps is.
+pub run_stops : (F G H : List Placed → Type 0) (old mid : DiskState) (n : Named) (files : List FileEntry) (q : Asked) (fronts : List SegmentFront) (k : ℕ) (front : SegmentFront) (t u v count : ℕ)
+    → ((xs ys : List Placed) → F xs → G ys → H (xs ++ ys)) → ((xs ys : List Placed) → G xs → G (xs ++ ys)) → k < length fronts → front ≡ get_or fronts k front → SegmentsRun F old mid n files q fronts k t u count
+    → StoppedFronts G mid.seen n files q (front ∷ []) u v → StoppedFronts H old.seen n files q fronts t v
+run_stops F G H old mid n files q fronts k front t u v count behind within lt at run one = λ ps is.
     let f = front_at ps fronts k front is lt at in
-    past_stops old.seen mid.seen n files q ps k f.p a b w e t u v count run.rests.seen f.within f.is (run.past ps is) (one (f.p ∷ []) f.same)
+    past_stops F G H old.seen mid.seen n files q ps k f.p t u v count behind within run.rests.seen f.within f.is (run.past ps is) (one (f.p ∷ []) f.same)
 
-pub run_damaged : (old mid : DiskState) (n : Named) (files : List FileEntry) (q : Asked) (fronts : List SegmentFront) (k : ℕ) (front : SegmentFront) (a b : State) (t u count : ℕ) → k < length fronts
-    → front ≡ get_or fronts k front → SegmentsRun old mid n files q fronts k a b t u count → Blames n b.pending.pages (NoFronts mid.seen n files (front ∷ [])) → Blames n a.pending.pages (NoFronts old.seen n files fronts)
-run_damaged old mid n files q fronts k front a b t u count lt at run one = λ early waits ps is.
+pub run_damaged : (F : List Placed → Type 0) (Stands : Type 0) (old mid : DiskState) (n : Named) (files : List FileEntry) (q : Asked) (fronts : List SegmentFront) (k : ℕ) (front : SegmentFront) (t u count : ℕ) → ((xs : List Placed) → F xs → Stands)
+    → k < length fronts → front ≡ get_or fronts k front → SegmentsRun F old mid n files q fronts k t u count → (Stands → NoFronts mid.seen n files (front ∷ [])) → NoFronts old.seen n files fronts
+run_damaged F Stands old mid n files q fronts k front t u count on lt at run one = λ ps is.
     let f = front_at ps fronts k front is lt at in
-    past_damaged old.seen mid.seen n files q ps k f.p a b t u count run.rests.seen f.within f.is (run.past ps is) (λ later there. one later there (f.p ∷ []) f.same) early waits
+    past_damaged F Stands old.seen mid.seen n files q ps k f.p t u count on run.rests.seen f.within f.is (run.past ps is) (λ there. one there (f.p ∷ []) f.same)

@@ -1,5 +1,5 @@
 -- The loop over segments.
-use Rattle.std.proofs.Common.{◌≡◌, inl, inr, ⊎_elim, ℕ, suc, ◌+◌, ◌<◌, ◌≤◌, List, [], ◌∷◌, ◌++◌, length, take, drop, get_or, Option, Some, None, option_map, refl, sym, ◌∙◌, ap, ap₂, subst, arith, length-append, take-append-drop}
+use Rattle.std.proofs.Common.{◌≡◌, inl, inr, ⊎_elim, ℕ, suc, ◌+◌, ◌<◌, ◌≤◌, List, [], ◌∷◌, ◌++◌, length, take, drop, get_or, Option, Some, None, refl, sym, ◌∙◌, ap, ap₂, subst, arith, length-append, take-append-drop}
 use Rattle.std.specs.List.{Contains}
 use Rattle.std.proofs.lemmas.List.{append-nil, append_assoc, take_all}
 use Rattle.std.proofs.lemmas.List.Elements.{All-append, All-weaker, Contains-get_or}
@@ -8,13 +8,12 @@ use Rattle.std.proofs.Math.ListN.{drop_of_length-le}
 use Rattle.archive_open.specs.declared.files.FileEntry.{FileEntry}
 use Rattle.archive_open.specs.declared.segments.SegmentPlace.{SegmentPlace}
 use Rattle.search_walk.specs.Scan.{Asked, Placed, numbered}
-use Rattle.search_engine.specs.Waiting.{Blames, Halts, State}
 use Rattle.search_walk.specs.Held.{HaveMessages, Named, OfSegments}
 use Rattle.search_walk.specs.Opened.{AreOpened, IsBarrenFor, IsRead, ReadsOpened}
-use Rattle.search_engine.specs.SegmentsDone.{Searched, Stopped}
-use Rattle.search_engine.specs.StepsPast.{SegmentsPastTold}
+use Rattle.search_walk.specs.Walked.{Searched, Stopped}
+use Rattle.search_walk.specs.StepsPast.{SegmentsPastTold}
 use Rattle.search_walk.proofs.PickLemmas.{picks_append, picks_once, picks_split}
-use Rattle.search_engine.proofs.WaitingLemmas.{halts_behind, halts_more, reaches_none, reaches_on}
+use Rattle.search_walk.proofs.PagesReadLemmas.{two_added}
 
 -- ---- the next segment
 
@@ -66,11 +65,6 @@ reads_one n q ps p old new here reads = record {
       (λ other. inr (⊎_elim (λ h. inl (record { p = h.p; is = only p h.p ps here h.is; start = h.start; end = h.end })) (λ words. inr words) other)) is) reads.more reads.each;
 }
 
-two_added : (old mid new : Option (List (ℕ × ℕ))) (a b : List (ℕ × ℕ)) → mid ≡ option_map (λ ranges. ranges ++ a) old → new ≡ option_map (λ ranges. ranges ++ b) mid
-    → new ≡ option_map (λ ranges. ranges ++ (a ++ b)) old
-two_added None mid new a b one two = two ∙ ap (option_map (λ ranges. ranges ++ b)) one
-two_added (Some ranges) mid new a b one two = two ∙ ap (option_map (λ ranges. ranges ++ b)) one ∙ ap Some (append_assoc ranges a b)
-
 pub reads_joined : (n : Named) (q : Asked) (ps : List SegmentPlace) (old mid new : Option (List (ℕ × ℕ))) → ReadsOpened n q ps old mid → ReadsOpened n q ps mid new → ReadsOpened n q ps old new
 reads_joined n q ps old mid new one two = record {
   more = one.more ++ two.more;
@@ -80,31 +74,31 @@ reads_joined n q ps old mid new one two = record {
 
 -- ---- the loop
 
-pub past_none : (seen : Option (List ℕ)) (n : Named) (files : List FileEntry) (q : Asked) (ps : List SegmentPlace) (a : State) (t : ℕ) → SegmentsPastTold seen n files q ps 0 a a t t 0
-past_none None n files q ps a t = tt
-past_none (Some bytes) n files q ps a t = λ all distinct have. record {
+pub past_none : (F : List Placed → Type 0) (seen : Option (List ℕ)) (n : Named) (files : List FileEntry) (q : Asked) (ps : List SegmentPlace) (t : ℕ) → F [] → SegmentsPastTold F seen n files q ps 0 t t 0
+past_none F None n files q ps t none = tt
+past_none F (Some bytes) n files q ps t none = λ all distinct have. record {
   gone = [];
   left = all;
   parts = refl;
   have = have;
-  searched = record { reaches = reaches_none n q a; opened = []; are_opened = refl; ticked = omega arith; counted = refl };
+  searched = record { reaches = none; opened = []; are_opened = refl; ticked = omega arith; counted = refl };
 }
 
-pub past_next : (seen later : Option (List ℕ)) (n : Named) (files : List FileEntry) (q : Asked) (ps : List SegmentPlace) (k : ℕ) (p : SegmentPlace) (a b c : State) (t u v count more all : ℕ) → later ≡ seen → k < length ps → p ≡ get_or ps k p
-    → all ≡ count + more → SegmentsPastTold seen n files q ps k a b t u count → OfSegments later n files (p ∷ []) (λ _ own. Searched n q (p ∷ []) own b c u v more)
-    → SegmentsPastTold seen n files q ps (k + 1) a c t v all
-past_next None later n files q ps k p a b c t u v count more all same lt is total past one = tt
-past_next (Some bytes) later n files q ps k p a b c t u v count more all same lt is total past one = λ every distinct have.
+pub past_next : (F G H : List Placed → Type 0) (seen later : Option (List ℕ)) (n : Named) (files : List FileEntry) (q : Asked) (ps : List SegmentPlace) (k : ℕ) (p : SegmentPlace) (t u v count more all : ℕ)
+    → ((xs ys : List Placed) → F xs → G ys → H (xs ++ ys)) → later ≡ seen → k < length ps → p ≡ get_or ps k p → all ≡ count + more → SegmentsPastTold F seen n files q ps k t u count
+    → OfSegments later n files (p ∷ []) (λ _ own. Searched G n q (p ∷ []) own u v more) → SegmentsPastTold H seen n files q ps (k + 1) t v all
+past_next F G H None later n files q ps k p t u v count more all on same lt is total past one = tt
+past_next F G H (Some bytes) later n files q ps k p t u v count more all on same lt is total past one = λ every distinct have.
     let before = past every distinct have in
     let next = next_one bytes n files ps k p before.left lt is before.have in
-    let step = subst (λ s. OfSegments s n files (p ∷ []) (λ _ own. Searched n q (p ∷ []) own b c u v more)) same one next.own distinct next.one in
+    let step = subst (λ s. OfSegments s n files (p ∷ []) (λ _ own. Searched G n q (p ∷ []) own u v more)) same one next.own distinct next.one in
     record {
       gone = before.gone ++ next.own;
       left = next.rest;
       parts = before.parts ∙ ap (λ (l : List Placed). before.gone ++ l) next.parts ∙ sym (append_assoc before.gone next.own next.rest);
       have = next.have;
       searched = record {
-        reaches = reaches_on n q before.gone next.own a b c before.searched.reaches step.reaches;
+        reaches = on before.gone next.own before.searched.reaches step.reaches;
         opened = before.searched.opened ++ step.opened;
         are_opened = subst (λ l. AreOpened n.types n.words q l (before.searched.opened ++ step.opened)) (sym (take_one ps k p lt is))
             (picks_append (λ x. ¬ IsBarrenFor n.types n.words q x) (take k ps) (p ∷ []) before.searched.opened step.opened before.searched.are_opened step.are_opened);
@@ -113,37 +107,37 @@ past_next (Some bytes) later n files q ps k p a b c t u v count more all same lt
       };
     }
 
-pub reads_next : (seen later : Option (List ℕ)) (n : Named) (files : List FileEntry) (q : Asked) (ps : List SegmentPlace) (k : ℕ) (p : SegmentPlace) (a b : State) (t u count : ℕ) (old mid new : Option (List (ℕ × ℕ))) → later ≡ seen → k < length ps
-    → p ≡ get_or ps k p → SegmentsPastTold seen n files q ps k a b t u count → OfSegments seen n files ps (λ _ _. ReadsOpened n q ps old mid) → OfSegments later n files (p ∷ []) (λ _ _. ReadsOpened n q (p ∷ []) mid new)
+pub reads_next : (F : List Placed → Type 0) (seen later : Option (List ℕ)) (n : Named) (files : List FileEntry) (q : Asked) (ps : List SegmentPlace) (k : ℕ) (p : SegmentPlace) (t u count : ℕ) (old mid new : Option (List (ℕ × ℕ))) → later ≡ seen
+    → k < length ps → p ≡ get_or ps k p → SegmentsPastTold F seen n files q ps k t u count → OfSegments seen n files ps (λ _ _. ReadsOpened n q ps old mid) → OfSegments later n files (p ∷ []) (λ _ _. ReadsOpened n q (p ∷ []) mid new)
     → OfSegments seen n files ps (λ _ _. ReadsOpened n q ps old new)
-reads_next None later n files q ps k p a b t u count old mid new same lt is past reads one = tt
-reads_next (Some bytes) later n files q ps k p a b t u count old mid new same lt is past reads one = λ every distinct have.
+reads_next F None later n files q ps k p t u count old mid new same lt is past reads one = tt
+reads_next F (Some bytes) later n files q ps k p t u count old mid new same lt is past reads one = λ every distinct have.
     let before = past every distinct have in
     let next = next_one bytes n files ps k p before.left lt is before.have in
     let step = subst (λ s. OfSegments s n files (p ∷ []) (λ _ _. ReadsOpened n q (p ∷ []) mid new)) same one next.own distinct next.one in
     reads_joined n q ps old mid new (reads every distinct have) (reads_one n q ps p mid new (contained ps k p lt is) step)
 
-pub past_end : (seen : Option (List ℕ)) (n : Named) (files : List FileEntry) (q : Asked) (ps : List SegmentPlace) (k : ℕ) (a b : State) (t u count : ℕ) → length ps ≤ k → SegmentsPastTold seen n files q ps k a b t u count
-    → OfSegments seen n files ps (λ _ all. Searched n q ps all a b t u count)
-past_end None n files q ps k a b t u count end past = tt
-past_end (Some bytes) n files q ps k a b t u count end past = λ every distinct have.
+pub past_end : (F : List Placed → Type 0) (seen : Option (List ℕ)) (n : Named) (files : List FileEntry) (q : Asked) (ps : List SegmentPlace) (k t u count : ℕ) → length ps ≤ k → SegmentsPastTold F seen n files q ps k t u count
+    → OfSegments seen n files ps (λ _ all. Searched F n q ps all t u count)
+past_end F None n files q ps k t u count end past = tt
+past_end F (Some bytes) n files q ps k t u count end past = λ every distinct have.
     let before = past every distinct have in
     let none : before.left ≡ [] = subst (λ l. HaveMessages bytes n files l before.left) (drop_of_length-le ps end) before.have in
     let all : every ≡ before.gone = before.parts ∙ ap (λ (l : List Placed). before.gone ++ l) none ∙ append-nil before.gone in
-    subst (λ l. Searched n q ps l a b t u count) (sym all) (subst (λ l. Searched n q l before.gone a b t u count) (take_all k ps end) before.searched)
+    subst (λ l. Searched F n q ps l t u count) (sym all) (subst (λ l. Searched F n q l before.gone t u count) (take_all k ps end) before.searched)
 
-pub past_stops : (seen later : Option (List ℕ)) (n : Named) (files : List FileEntry) (q : Asked) (ps : List SegmentPlace) (k : ℕ) (p : SegmentPlace) (a b : State) (w : Option (List ℕ)) (e t u v count : ℕ) → later ≡ seen → k < length ps
-    → p ≡ get_or ps k p → SegmentsPastTold seen n files q ps k a b t u count → OfSegments later n files (p ∷ []) (λ _ own. Stopped n q (p ∷ []) own b w e u v) → OfSegments seen n files ps (λ _ all. Stopped n q ps all a w e t v)
-past_stops None later n files q ps k p a b w e t u v count same lt is past one = tt
-past_stops (Some bytes) later n files q ps k p a b w e t u v count same lt is past one = λ every distinct have.
+pub past_stops : (F G H : List Placed → Type 0) (seen later : Option (List ℕ)) (n : Named) (files : List FileEntry) (q : Asked) (ps : List SegmentPlace) (k : ℕ) (p : SegmentPlace) (t u v count : ℕ)
+    → ((xs ys : List Placed) → F xs → G ys → H (xs ++ ys)) → ((xs ys : List Placed) → G xs → G (xs ++ ys)) → later ≡ seen → k < length ps → p ≡ get_or ps k p → SegmentsPastTold F seen n files q ps k t u count
+    → OfSegments later n files (p ∷ []) (λ _ own. Stopped G n q (p ∷ []) own u v) → OfSegments seen n files ps (λ _ all. Stopped H n q ps all t v)
+past_stops F G H None later n files q ps k p t u v count behind within same lt is past one = tt
+past_stops F G H (Some bytes) later n files q ps k p t u v count behind within same lt is past one = λ every distinct have.
     let before = past every distinct have in
     let next = next_one bytes n files ps k p before.left lt is before.have in
-    let step = subst (λ s. OfSegments s n files (p ∷ []) (λ _ own. Stopped n q (p ∷ []) own b w e u v)) same one next.own distinct next.one in
+    let step = subst (λ s. OfSegments s n files (p ∷ []) (λ _ own. Stopped G n q (p ∷ []) own u v)) same one next.own distinct next.one in
     let cut : ps ≡ take k ps ++ (p ∷ drop (k + 1) ps) = sym (take-append-drop k ps) ∙ ap (λ (l : List SegmentPlace). take k ps ++ l) (drop_one ps k p lt is) in
     let all : every ≡ before.gone ++ (next.own ++ next.rest) = before.parts ∙ ap (λ (l : List Placed). before.gone ++ l) next.parts in
     record {
-      halts = subst (λ l. Halts n q l a w e) (sym all)
-          (halts_behind n q before.gone (next.own ++ next.rest) a b w e before.searched.reaches (halts_more n q next.own next.rest b w e step.halts));
+      halts = subst H (sym all) (behind before.gone (next.own ++ next.rest) before.searched.reaches (within next.own next.rest step.halts));
       most = λ opened are.
           let s = picks_split (λ x. ¬ IsBarrenFor n.types n.words q x) (take k ps) (p ∷ drop (k + 1) ps) opened (subst (λ l. AreOpened n.types n.words q l opened) cut are) in
           let r = picks_split (λ x. ¬ IsBarrenFor n.types n.words q x) (p ∷ []) (drop (k + 1) ps) s.b s.second in
@@ -160,11 +154,11 @@ past_stops (Some bytes) later n files q ps k p a b w e t u v count same lt is pa
           );
     }
 
-pub past_damaged : (seen later : Option (List ℕ)) (n : Named) (files : List FileEntry) (q : Asked) (ps : List SegmentPlace) (k : ℕ) (p : SegmentPlace) (a b : State) (t u count : ℕ) → later ≡ seen → k < length ps
-    → p ≡ get_or ps k p → SegmentsPastTold seen n files q ps k a b t u count → Blames n b.pending.pages (OfSegments later n files (p ∷ []) (λ _ _. ⊥)) → Blames n a.pending.pages (OfSegments seen n files ps (λ _ _. ⊥))
-past_damaged None later n files q ps k p a b t u count same lt is past one = λ early waits. tt
-past_damaged (Some bytes) later n files q ps k p a b t u count same lt is past one = λ early waits every distinct have.
+pub past_damaged : (F : List Placed → Type 0) (Stands : Type 0) (seen later : Option (List ℕ)) (n : Named) (files : List FileEntry) (q : Asked) (ps : List SegmentPlace) (k : ℕ) (p : SegmentPlace) (t u count : ℕ)
+    → ((xs : List Placed) → F xs → Stands) → later ≡ seen → k < length ps → p ≡ get_or ps k p → SegmentsPastTold F seen n files q ps k t u count → (Stands → OfSegments later n files (p ∷ []) (λ _ _. ⊥))
+    → OfSegments seen n files ps (λ _ _. ⊥)
+past_damaged F Stands None later n files q ps k p t u count on same lt is past one = tt
+past_damaged F Stands (Some bytes) later n files q ps k p t u count on same lt is past one = λ every distinct have.
     let before = past every distinct have in
     let next = next_one bytes n files ps k p before.left lt is before.have in
-    let went = before.searched.reaches early waits in
-    subst (λ s. OfSegments s n files (p ∷ []) (λ _ _. ⊥)) same (one went.later went.waits) next.own distinct next.one
+    subst (λ s. OfSegments s n files (p ∷ []) (λ _ _. ⊥)) same (one (on before.gone before.searched.reaches)) next.own distinct next.one

@@ -1,0 +1,64 @@
+//! The pages of a segment, read one after the other.
+ghost use Rattle.std.specs.Prelude.{◌≡◌, ◌<◌, ◌+◌, ◌^◌, OnOk, OnErr, IsErrOf};
+ghost use Rattle.log_seams.specs.Outside.{CountsOf};
+ghost use Rattle.search_walk.specs.PagesRead.{ReadsPage};
+ghost use Rattle.search_walk.specs.Held.{OfLeft};
+ghost use Rattle.search_walk.specs.Scan.{numbered};
+
+use crate::context::Context;
+use crate::label::Label;
+use crate::refusal::SearchRefusal;
+use crate::taking::TakesPages;
+use log_seams::Disk;
+use segment_pages::SegmentPages;
+use word_places::HeldWords;
+
+/// Reads the pages of a segment, whose first message has this label.
+pub(crate) fn read_pages<D: Disk, W: TakesPages>(
+    context: &Context<'_, D>,
+    held: &mut HeldWords,
+    label: Label<'_>,
+    pages: SegmentPages,
+    disk: &mut D,
+    work: &mut W,
+) -> Result<(), SearchRefusal>
+    requires first { pages.pages.row ≡ 0 }
+    requires small { label.number + pages.pages.rows + 4096 < 2 ^ 64 }
+    requires served { W.served work.old context.now held.old }
+    requires told { (D.state disk.old).seen ≡ context.now.names.told }
+
+    // what stays
+    ensures reads { ReadsPage context.now.names pages (D.state disk.old) (D.state disk.new) }
+    ensures lent { W.lent work.new ≡ W.lent work.old }
+    ensures served { OnOk result (W.served work.new context.now held.new) }
+
+    // by the answer
+    ensures done { OnOk result (OfLeft (D.state disk.old).seen pages
+        context.now.names (λ messages. W.reaches work.old work.new
+        context.now.names context.now.query
+        (numbered label.entry.name.now label.entry.number messages))) }
+    ensures stopped { OnErr result (OfLeft (D.state disk.old).seen pages
+        context.now.names (λ messages. W.halts work.old work.new
+        context.now.names context.now.query
+        (numbered label.entry.name.now label.entry.number messages))) }
+
+    // causes
+    ensures damaged { IsErrOf result SearchRefusal.Damaged → W.stands work.old context.now.names
+        → OfLeft (D.state disk.old).seen pages context.now.names (λ _. ⊥) }
+    ensures disk_counts { CountsOf SearchRefusal.DiskFault
+        (D.state disk.old).faults (D.state disk.new).faults result }
+    ensures sink_counts { CountsOf SearchRefusal.SinkFault
+        (W.sink_faults work.old) (W.sink_faults work.new) result }
+{
+    let mut pages = pages;
+    let mut at = label.number;
+    while pages.has_next() {
+        let here = Label {
+            name: label.name,
+            number: at,
+        };
+        let rows = work.take_page(context, held, here, &mut pages, disk)?;
+        at += u64::from(rows);
+    }
+    Ok(())
+}
