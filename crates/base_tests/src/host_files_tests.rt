@@ -2,6 +2,7 @@
 ghost use Rattle.std.specs.Prelude.{◌≤◌, length};
 
 use crate::halting::{Halting, HaltingPlace};
+use crate::telling::holds;
 use host_files::{DiskFile, LogFile, Stream};
 use log_seams::{Disk, Failed, Sink, Source};
 use std::alloc::{AllocError, Global};
@@ -40,12 +41,13 @@ fn is_read_whole(alloc: Global, fails: u64, faults: u64) -> Result<bool, AllocEr
     Ok(failed == faults && got.as_slice() == sample(alloc)?.as_slice())
 }
 
+fn each_is_read_whole(alloc: Global) -> Result<bool, AllocError> {
+    Ok(is_read_whole(alloc, u64::MAX, 0)? && is_read_whole(alloc, 7, 1)?)
+}
+
 #[test]
 fn a_log_is_read_whole(rt: HostRuntime) -> Result<(), Fail> {
-    let sound = is_read_whole(rt.alloc(), u64::MAX, 0)?;
-    let failing = is_read_whole(rt.alloc(), 7, 1)?;
-    assert!(rt; sound && failing);
-    Ok(())
+    holds(each_is_read_whole(rt.alloc()))
 }
 
 /// Writes the bytes in pieces, and answers how many writes failed.
@@ -65,14 +67,20 @@ fn write_pieces<K: Sink>(stream: &mut K, bytes: &[u8]) -> u64 {
     faults
 }
 
+/// Whether a stream takes the bytes, where its call of the number 4 fails.
+fn takes_all(alloc: Global, bytes: &[u8]) -> bool {
+    let trace = Cell::new(0);
+    let mut stream = Stream::new(Halting::new(Vec::new(alloc), 4, &trace));
+    write_pieces(&mut stream, bytes) == 1 && stream.to().bytes.as_slice() == bytes
+}
+
+fn takes_sample(alloc: Global) -> Result<bool, AllocError> {
+    Ok(takes_all(alloc, sample(alloc)?.as_slice()))
+}
+
 #[test]
 fn a_stream_takes_all(rt: HostRuntime) -> Result<(), Fail> {
-    let trace = Cell::new(0);
-    let bytes = sample(rt.alloc())?;
-    let mut stream = Stream::new(Halting::new(Vec::new(rt.alloc()), 4, &trace));
-    let faults = write_pieces(&mut stream, bytes.as_slice());
-    assert!(rt; faults == 1 && stream.to().bytes.as_slice() == bytes.as_slice());
-    Ok(())
+    holds(takes_sample(rt.alloc()))
 }
 
 /// A disk over a file whose calls are interrupted and give or take a part.
@@ -116,14 +124,15 @@ fn is_kept(alloc: Global, synced: Result<(), Failed>, calls: u64) -> Result<bool
     Ok(well && gives_back(&mut disk, bytes.as_slice()))
 }
 
+fn each_is_kept(alloc: Global) -> Result<bool, AllocError> {
+    Ok(is_kept(alloc, Ok(()), 146_777_777_232)? && is_kept(alloc, Err(Failed), 1_467_777_772_323)?)
+}
+
 // Made, locked, its length asked, and written in two calls of three parts; then the file and its folder
 // are synced; the folder again where it failed.
 #[test]
 fn a_file_is_written_read_and_synced(rt: HostRuntime) -> Result<(), Fail> {
-    let sound = is_kept(rt.alloc(), Ok(()), 146_777_777_232)?;
-    let failing = is_kept(rt.alloc(), Err(Failed), 1_467_777_772_323)?;
-    assert!(rt; sound && failing);
-    Ok(())
+    holds(each_is_kept(rt.alloc()))
 }
 
 /// What a disk answers to a length, a read of one byte, a write and a sync.

@@ -2,6 +2,8 @@
 #![tactic(auto)]
 
 #[cfg(test)]
+mod disk_calls;
+#[cfg(test)]
 mod generated_logs_tests;
 #[cfg(test)]
 mod halting;
@@ -21,5 +23,7 @@ mod real_disk_tests;
 mod sink_pieces_tests;
 #[cfg(test)]
 mod step_count_tests;
+#[cfg(test)]
+mod telling;
 #[cfg(test)]
 mod turn_lock_tests;

@@ -1,6 +1,7 @@
 //! Sources, sinks and shelves in memory.
 ghost use Rattle.std.specs.Prelude.{◌<◌};
 
+use crate::telling::{all_hold, holds};
 use log_seams::{
     Failed, MemFile, MemShelf, MemSink, MemSource, OpenRefused, PlainSource, Shelf, Sink, Source,
 };
@@ -53,9 +54,7 @@ fn fails_twice(alloc: Global) -> Result<bool, AllocError> {
 
 #[test]
 fn sources_fail_at_the_listed_reads(rt: HostRuntime) -> Result<(), Fail> {
-    let well = fails_twice(rt.alloc())?;
-    assert!(rt; well);
-    Ok(())
+    holds(fails_twice(rt.alloc()))
 }
 
 const PLAIN_READS: &[&[u8]] = &[b"xy", b"z", b"", b""];
@@ -72,9 +71,7 @@ fn gives_plainly(alloc: Global) -> Result<usize, AllocError> {
 
 #[test]
 fn a_plain_source_gives_all(rt: HostRuntime) -> Result<(), Fail> {
-    let told = gives_plainly(rt.alloc())?;
-    assert!(rt; told == PLAIN_READS.len(), "{told}");
-    Ok(())
+    all_hold(gives_plainly(rt.alloc()), PLAIN_READS.len())
 }
 
 // What is written to a sink with room for three bytes whose second write fails, and the answers.
@@ -105,9 +102,7 @@ fn takes_three(alloc: Global) -> Result<bool, AllocError> {
 
 #[test]
 fn sinks_fail_past_their_room_and_at_the_listed_writes(rt: HostRuntime) -> Result<(), Fail> {
-    let well = takes_three(rt.alloc())?;
-    assert!(rt; well);
-    Ok(())
+    holds(takes_three(rt.alloc()))
 }
 
 fn file(alloc: Global, name: &str, bytes: &[u8], fails: &[u64]) -> Result<MemFile, AllocError> {
@@ -118,11 +113,23 @@ fn file(alloc: Global, name: &str, bytes: &[u8], fails: &[u64]) -> Result<MemFil
     })
 }
 
+// A file's name, its bytes, and the reads that fail.
+const FILES: &[(&str, &[u8], &[u64])] = &[
+    ("a.log", b"one", &[]),
+    ("b.log", b"two", &[0]),
+    ("a.log", b"three", &[]),
+];
+
+fn add_files(alloc: Global, files: &mut Vec<MemFile>) -> Result<(), AllocError> {
+    for (name, bytes, fails) in FILES {
+        files.push(file(alloc, name, bytes, fails)?)?;
+    }
+    Ok(())
+}
+
 fn some_files(alloc: Global) -> Result<Vec<MemFile>, AllocError> {
     let mut files = Vec::new(alloc);
-    files.push(file(alloc, "a.log", b"one", &[])?)?;
-    files.push(file(alloc, "b.log", b"two", &[0])?)?;
-    files.push(file(alloc, "a.log", b"three", &[])?)?;
+    add_files(alloc, &mut files)?;
     Ok(files)
 }
 
@@ -136,6 +143,18 @@ const OPENED: &[(&str, Option<Option<&[u8]>>)] = &[
     ("b.log", Some(None)),
 ];
 
+// Whether a log that was to be opened gives what is wanted.
+fn first_reads<S: Source>(
+    alloc: Global,
+    source: &mut S,
+    want: Option<Option<&[u8]>>,
+) -> Result<bool, AllocError> {
+    match want {
+        Some(want) => reads(alloc, source, 8, want),
+        None => Ok(false),
+    }
+}
+
 // Whether the log of this name is opened and gives what is wanted, or is not opened.
 fn opens(
     alloc: Global,
@@ -143,16 +162,14 @@ fn opens(
     name: &str,
     want: Option<Option<&[u8]>>,
 ) -> Result<bool, AllocError> {
-    let mut source = match shelf.open_log(name) {
-        Ok(source) => source,
-        Err(refused) => return Ok(want.is_none() && refused == OpenRefused::Failed),
-    };
-    let Some(want) = want else {
-        return Ok(false);
-    };
-    let well = reads(alloc, &mut source, 8, want)?;
-    shelf.close_log(source);
-    Ok(well)
+    match shelf.open_log(name) {
+        Ok(mut source) => {
+            let well = first_reads(alloc, &mut source, want);
+            shelf.close_log(source);
+            well
+        }
+        Err(refused) => Ok(want.is_none() && refused == OpenRefused::Failed),
+    }
 }
 
 // How many of those openings a shelf answers.
@@ -173,7 +190,5 @@ fn told_openings_anew(alloc: Global) -> Result<usize, AllocError> {
 
 #[test]
 fn shelves_open_their_files_by_name(rt: HostRuntime) -> Result<(), Fail> {
-    let told = told_openings_anew(rt.alloc())?;
-    assert!(rt; told == OPENED.len(), "{told}");
-    Ok(())
+    all_hold(told_openings_anew(rt.alloc()), OPENED.len())
 }

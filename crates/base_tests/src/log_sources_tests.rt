@@ -1,8 +1,18 @@
+use crate::telling::holds;
 use log_seams::{Failed, MemFile, MemShelf, OpenRefused, Source};
 use log_sources::{LogSource, close_logs, open_logs};
 use plain_list::Text;
 use std::alloc::{AllocError, Global};
 use std::test::Fail;
+
+/// A log, whose reads of these numbers fail.
+fn file_of(alloc: Global, name: &str, bytes: &[u8], fails: &[u64]) -> Result<MemFile, AllocError> {
+    Ok(MemFile {
+        name: String::from_str(alloc, name)?,
+        bytes: Text::new(Vec::from_slice(alloc, bytes)?),
+        read_fails: Vec::from_slice(alloc, fails)?,
+    })
+}
 
 /// A shelf with one log, whose reads of these numbers fail.
 fn shelf_of(
@@ -11,12 +21,7 @@ fn shelf_of(
     bytes: &[u8],
     fails: &[u64],
 ) -> Result<MemShelf, AllocError> {
-    let mut files = Vec::new(alloc);
-    files.push(MemFile {
-        name: String::from_str(alloc, name)?,
-        bytes: Text::new(Vec::from_slice(alloc, bytes)?),
-        read_fails: Vec::from_slice(alloc, fails)?,
-    })?;
+    let files = vec![in alloc; file_of(alloc, name, bytes, fails)?]?;
     Ok(MemShelf::new(alloc, files, Vec::new(alloc)))
 }
 
@@ -29,18 +34,28 @@ fn answers<S: Source>(
     log.refusal() == refusal && log.read(&mut [0; 4]) == read
 }
 
+/// Whether these are two logs, of which the first is not there.
+fn answer<S: Source>(sources: &mut [LogSource<S>]) -> bool {
+    let [gone, there] = sources else {
+        return false;
+    };
+    answers(there, None, Ok(2)) && answers(gone, Some(OpenRefused::Failed), Err(Failed))
+}
+
+/// Whether they are so where they are opened of this shelf, to which they go back.
+fn are_opened(alloc: Global, shelf: &mut MemShelf) -> Result<bool, AllocError> {
+    let mut sources = open_logs(alloc, shelf, &["gone.log", "a.log"])?;
+    let well = answer(&mut sources);
+    close_logs(shelf, sources);
+    Ok(well)
+}
+
+fn are_opened_anew(alloc: Global) -> Result<bool, AllocError> {
+    let mut shelf = shelf_of(alloc, "a.log", b"xy", &[])?;
+    are_opened(alloc, &mut shelf)
+}
+
 #[test]
 fn a_log_that_is_not_there_fails_at_each_read(rt: HostRuntime) -> Result<(), Fail> {
-    let mut shelf = shelf_of(rt.alloc(), "a.log", b"xy", &[])?;
-    let mut sources = open_logs(rt.alloc(), &mut shelf, &["gone.log", "a.log"])?;
-    let (Some(mut there), Some(mut gone), None) = (sources.pop(), sources.pop(), sources.pop())
-    else {
-        return Err("not two logs".into());
-    };
-    assert!(rt; answers(&mut there, None, Ok(2)));
-    assert!(rt; answers(&mut gone, Some(OpenRefused::Failed), Err(Failed)));
-    sources.push(gone)?;
-    sources.push(there)?;
-    close_logs(&mut shelf, sources);
-    Ok(())
+    holds(are_opened_anew(rt.alloc()))
 }

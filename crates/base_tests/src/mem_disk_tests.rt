@@ -2,170 +2,203 @@
 ghost use Rattle.std.specs.Prelude.{◌≤◌};
 ghost use Rattle.log_seams.specs.MemDisk.{calls_of};
 
-use log_seams::{Disk, Failed, MemDisk, Pending};
+use crate::disk_calls::{DiskCall, all_answer};
+use crate::telling::holds;
+use log_seams::{Failed, MemDisk, Pending};
 use plain_list::Text;
 use std::alloc::{AllocError, Global};
 use std::test::Fail;
 
-fn disk(alloc: Global, bytes: &[u8], calls: usize, fails: &[u64]) -> Result<MemDisk, AllocError> {
-    MemDisk::new(
-        alloc,
-        Text::new(bytes.to_vec(alloc)?),
-        8,
-        calls,
-        fails.to_vec(alloc)?,
-    )
+/// A disk with room for eight bytes, what is called, and what is left.
+struct Run {
+    /// The bytes at first.
+    bytes: &'static [u8],
+    /// How many calls there may be.
+    most: usize,
+    /// The numbers of the calls that fail.
+    fails: &'static [u64],
+    calls: &'static [DiskCall],
+    /// The bytes at the end.
+    after: &'static [u8],
+    /// How many calls there were.
+    made: usize,
+    /// What a crash of a kind, after so many calls, leaves.
+    left: &'static [(usize, Pending, &'static [u8])],
 }
 
-static WRITTEN: [u8; 6] = [1, 2, 9, 8, 7, 6];
-
-// What a crash of each kind leaves of the bytes 1 to 4 and an unsynced write over the last two.
-const LEFT: &[(Pending, &[u8])] = &[
-    (Pending::All, &[1, 2, 9, 8, 7, 6]),
-    (Pending::Nothing, &[1, 2, 3, 4]),
-    (Pending::FirstHalf, &[1, 2, 9, 8]),
-    (Pending::Ones, &[1, 2, 1, 1, 1, 1]),
-];
-
-// Whether a crash after so many calls leaves these bytes.
-fn leaves(disk: &MemDisk, after: usize, pending: Pending, want: &[u8]) -> Result<bool, AllocError>
-    requires { after ≤ calls_of disk.now }
+// Whether each of these crashes leaves these bytes.
+fn all_leave(
+    disk: &MemDisk,
+    made: usize,
+    left: &[(usize, Pending, &[u8])],
+) -> Result<bool, AllocError>
+    requires { made ≤ calls_of disk.now }
 {
-    Ok(disk.stopped(after, pending)?.bytes() == want)
+    for (after, pending, want) in left {
+        if *after > made || disk.stopped(*after, *pending)?.bytes() != *want {
+            return Ok(false);
+        }
+    }
+    Ok(true)
 }
 
-// Whether a crash before the sync of a write over the last two of the bytes 1 to 4, and past them,
-// leaves this, and one before the write leaves the four.
-fn is_left(alloc: Global, pending: Pending, want: &[u8]) -> Result<bool, AllocError> {
-    let mut disk = disk(alloc, &[1, 2, 3, 4], 9, &[])?;
-    if disk.bytes().len() != 4 || disk.write(2, &[9, 8, 7, 6]).is_err() || disk.calls() != 1 {
+// Whether the disk reads as these bytes.
+fn has(disk: &MemDisk, bytes: &[u8]) -> bool {
+    disk.bytes() == bytes
+}
+
+// Whether all that a run tells holds of the disk.
+fn is_run(disk: &mut MemDisk, run: &Run) -> Result<bool, AllocError> {
+    let well = has(disk, run.bytes) && all_answer(disk, run.calls) && has(disk, run.after);
+    if !well || disk.calls() != run.made {
         return Ok(false);
     }
-    Ok(leaves(&disk, 0, pending, &[1, 2, 3, 4])? && leaves(&disk, 1, pending, want)?)
+    all_leave(disk, run.made, run.left)
 }
+
+// The same of a new disk.
+fn runs(alloc: Global, run: &Run) -> Result<bool, AllocError> {
+    let bytes = Text::new(run.bytes.to_vec(alloc)?);
+    let mut disk = MemDisk::new(alloc, bytes, 8, run.most, run.fails.to_vec(alloc)?)?;
+    is_run(&mut disk, run)
+}
+
+// An unsynced write over the last two of the bytes 1 to 4, and past them.
+const UNSYNCED: &Run = &Run {
+    bytes: &[1, 2, 3, 4],
+    most: 9,
+    fails: &[],
+    calls: &[DiskCall::Write(2, &[9, 8, 7, 6], Ok(()))],
+    after: &[1, 2, 9, 8, 7, 6],
+    made: 1,
+    left: &[
+        (0, Pending::All, &[1, 2, 3, 4]),
+        (0, Pending::Nothing, &[1, 2, 3, 4]),
+        (0, Pending::FirstHalf, &[1, 2, 3, 4]),
+        (0, Pending::Ones, &[1, 2, 3, 4]),
+        (1, Pending::All, &[1, 2, 9, 8, 7, 6]),
+        (1, Pending::Nothing, &[1, 2, 3, 4]),
+        (1, Pending::FirstHalf, &[1, 2, 9, 8]),
+        (1, Pending::Ones, &[1, 2, 1, 1, 1, 1]),
+    ],
+};
 
 #[test]
 fn a_crash_before_the_sync_leaves_what_each_kind_says(rt: HostRuntime) -> Result<(), Fail> {
-    for (pending, want) in LEFT {
-        let well = is_left(rt.alloc(), *pending, want)?;
-        assert!(rt; well, "{pending:?}");
-    }
-    Ok(())
+    holds(runs(rt.alloc(), UNSYNCED))
 }
 
-// Whether a crash behind the sync of that write leaves all of it.
-fn is_kept(alloc: Global, pending: Pending) -> Result<bool, AllocError> {
-    let mut disk = disk(alloc, &[1, 2, 3, 4], 9, &[])?;
-    if disk.bytes().len() != 4 || disk.write(2, &[9, 8, 7, 6]).is_err() {
-        return Ok(false);
-    }
-    if disk.sync().is_err() || disk.calls() != 2 {
-        return Ok(false);
-    }
-    Ok(disk.bytes() == WRITTEN.as_slice() && leaves(&disk, 2, pending, &WRITTEN)?)
-}
+// The same write with its sync.
+const SYNCED: &Run = &Run {
+    bytes: &[1, 2, 3, 4],
+    most: 9,
+    fails: &[],
+    calls: &[
+        DiskCall::Write(2, &[9, 8, 7, 6], Ok(())),
+        DiskCall::Sync(Ok(())),
+    ],
+    after: &[1, 2, 9, 8, 7, 6],
+    made: 2,
+    left: &[
+        (2, Pending::All, &[1, 2, 9, 8, 7, 6]),
+        (2, Pending::Nothing, &[1, 2, 9, 8, 7, 6]),
+        (2, Pending::FirstHalf, &[1, 2, 9, 8, 7, 6]),
+        (2, Pending::Ones, &[1, 2, 9, 8, 7, 6]),
+    ],
+};
 
 #[test]
 fn a_crash_behind_the_sync_leaves_all(rt: HostRuntime) -> Result<(), Fail> {
-    for (pending, _) in LEFT {
-        let well = is_kept(rt.alloc(), *pending)?;
-        assert!(rt; well, "{pending:?}");
-    }
-    Ok(())
+    holds(runs(rt.alloc(), SYNCED))
 }
 
-// What a crash of each kind leaves of two unsynced writes of two bytes and of one.
-const TWO_LEFT: &[(Pending, &[u8])] = &[
-    (Pending::Nothing, &[]),
-    (Pending::FirstHalf, &[5]),
-    (Pending::Ones, &[1, 1, 1]),
-];
-
-// Whether a crash leaves this of the two writes.
-fn is_left_of_two(alloc: Global, pending: Pending, want: &[u8]) -> Result<bool, AllocError> {
-    let mut disk = disk(alloc, &[], 9, &[])?;
-    if disk.write(0, &[5, 6]).is_err() || disk.write(2, &[7]).is_err() {
-        return Ok(false);
-    }
-    leaves(&disk, 2, pending, want)
-}
+// Two unsynced writes, of two bytes and of one.
+const TWO_UNSYNCED: &Run = &Run {
+    bytes: &[],
+    most: 9,
+    fails: &[],
+    calls: &[
+        DiskCall::Write(0, &[5, 6], Ok(())),
+        DiskCall::Write(2, &[7], Ok(())),
+    ],
+    after: &[5, 6, 7],
+    made: 2,
+    left: &[
+        (2, Pending::Nothing, &[]),
+        (2, Pending::FirstHalf, &[5]),
+        (2, Pending::Ones, &[1, 1, 1]),
+    ],
+};
 
 #[test]
 fn a_write_behind_a_lost_one_is_lost(rt: HostRuntime) -> Result<(), Fail> {
-    for (pending, want) in TWO_LEFT {
-        let well = is_left_of_two(rt.alloc(), *pending, want)?;
-        assert!(rt; well, "{pending:?}");
-    }
-    Ok(())
+    holds(runs(rt.alloc(), TWO_UNSYNCED))
 }
 
-// Whether the calls of a disk of the byte 3 fail whose second does, past its room, and past its fifth.
-fn calls_fail(disk: &mut MemDisk) -> bool {
-    let mut two = [0; 2];
-    disk.len() == Ok(1)
-        && disk.bytes().len() == 1
-        && disk.write(1, &[4]) == Err(Failed)
-        && disk.bytes() == [3].as_slice()
-        && disk.write(1, &[0; 8]) == Err(Failed)
-        && disk.read(0, &mut two) == Ok(1)
-        && two[0] == 3
-        && disk.sync() == Ok(())
-        && disk.faults() == 2
-        && disk.len() == Err(Failed)
-        && disk.faults() == 3
-        && disk.calls() == 5
-}
-
-// The same, and whether the write that failed may have reached the disk.
-fn calls_fail_and_reach(disk: &mut MemDisk) -> Result<bool, AllocError> {
-    if !calls_fail(disk) || disk.calls() != 5 {
-        return Ok(false);
-    }
-    leaves(disk, 2, Pending::All, &[3, 4])
-}
-
-fn calls_fail_anew(alloc: Global) -> Result<bool, AllocError> {
-    let mut disk = disk(alloc, &[3], 5, &[1])?;
-    calls_fail_and_reach(&mut disk)
-}
+// Calls on a disk of the byte 3 that fail by the list, past its room, and past its fifth. The write that
+// failed may have reached the disk.
+const FAILING: &Run = &Run {
+    bytes: &[3],
+    most: 5,
+    fails: &[1],
+    calls: &[
+        DiskCall::Len(Ok(1)),
+        DiskCall::Write(1, &[4], Err(Failed)),
+        DiskCall::Write(1, &[0, 0, 0, 0, 0, 0, 0, 0], Err(Failed)),
+        DiskCall::Read(0, Ok(1), &[3, 0, 0, 0, 0, 0, 0, 0]),
+        DiskCall::Sync(Ok(())),
+        DiskCall::Faults(2),
+        DiskCall::Len(Err(Failed)),
+        DiskCall::Faults(3),
+    ],
+    after: &[3],
+    made: 5,
+    left: &[(2, Pending::All, &[3, 4])],
+};
 
 #[test]
 fn calls_fail_by_the_list_past_the_room_and_past_the_last(rt: HostRuntime) -> Result<(), Fail> {
-    let well = calls_fail_anew(rt.alloc())?;
-    assert!(rt; well);
-    Ok(())
+    holds(runs(rt.alloc(), FAILING))
 }
 
-static LONG: [u8; 9] = [3, 3, 3, 3, 3, 3, 3, 4, 3];
-
-// Whether a disk of nine bytes with less room keeps them all, and is written no further than that.
-fn stays_long(disk: &mut MemDisk) -> bool {
-    disk.bytes().len() == 9
-        && disk.write(8, &[4]) == Err(Failed)
-        && disk.bytes().len() == 9
-        && disk.write(7, &[4]) == Ok(())
-        && disk.bytes() == LONG.as_slice()
-}
-
-fn stays_long_anew(alloc: Global) -> Result<bool, AllocError> {
-    let mut disk = disk(alloc, &[3; 9], 9, &[])?;
-    Ok(stays_long(&mut disk))
-}
+// A disk of nine bytes with less room keeps them all, and is written no further than that.
+const LONG: &Run = &Run {
+    bytes: &[3, 3, 3, 3, 3, 3, 3, 3, 3],
+    most: 9,
+    fails: &[],
+    calls: &[
+        DiskCall::Write(8, &[4], Err(Failed)),
+        DiskCall::Len(Ok(9)),
+        DiskCall::Write(7, &[4], Ok(())),
+    ],
+    after: &[3, 3, 3, 3, 3, 3, 3, 4, 3],
+    made: 3,
+    left: &[],
+};
 
 #[test]
 fn a_disk_may_begin_longer_than_its_room(rt: HostRuntime) -> Result<(), Fail> {
-    let well = stays_long_anew(rt.alloc())?;
-    assert!(rt; well);
-    Ok(())
+    holds(runs(rt.alloc(), LONG))
 }
+
+// Writes behind the end, and at it.
+const BEHIND: &Run = &Run {
+    bytes: &[3],
+    most: 9,
+    fails: &[],
+    calls: &[
+        DiskCall::Write(2, &[4], Err(Failed)),
+        DiskCall::Len(Ok(1)),
+        DiskCall::Read(0, Ok(1), &[3, 0, 0, 0, 0, 0, 0, 0]),
+        DiskCall::Faults(1),
+        DiskCall::Write(1, &[4], Ok(())),
+    ],
+    after: &[3, 4],
+    made: 4,
+    left: &[],
+};
 
 #[test]
 fn a_write_behind_the_end_fails(rt: HostRuntime) -> Result<(), Fail> {
-    let alloc = rt.alloc();
-    let mut disk = disk(alloc, &[3], 9, &[])?;
-    assert!(rt; disk.write(2, &[4]) == Err(Failed));
-    assert!(rt; disk.bytes() == [3].as_slice() && disk.faults() == 1);
-    assert!(rt; disk.write(1, &[4]) == Ok(()));
-    assert!(rt; disk.bytes() == [3, 4].as_slice());
-    Ok(())
+    holds(runs(rt.alloc(), BEHIND))
 }

@@ -1,16 +1,11 @@
 //! Disks over real files, in the system's folder for files that do not stay.
+use crate::disk_calls::{DiskCall, all_answer};
 use host_files::{DiskFile, FilePath, LogFiles};
-use log_seams::{Disk, Failed, Shelf};
+use log_seams::{Failed, Shelf};
 use std::fs::File;
 use std::path::PathBuf;
 use std::test::Fail;
 use std::{env, fs, io, process};
-
-/// What a read of at most eight bytes gave: their count, and the buffer.
-fn read_eight<D: Disk + Send>(disk: &mut D, at: u64) -> (Result<usize, Failed>, [u8; 8]) {
-    let mut buf = [0; 8];
-    (disk.read(at, &mut buf), buf)
-}
 
 /// A disk over the file at a path.
 type PathDisk<'p> = DiskFile<FilePath<'p, HostRuntime>, File>;
@@ -31,136 +26,196 @@ fn own_path(rt: &HostRuntime, name: &str) -> io::Result<PathBuf> {
     Ok(env::temp_dir(rt)?.join(rt.alloc(), name.as_str())?)
 }
 
-/// Whether the disk is empty, reads so, and is synced with no file made.
-fn is_absent(disk: &mut PathDisk<'_>) -> bool {
-    disk.len() == Ok(0) && read_eight(disk, 0) == (Ok(0), [0; 8]) && disk.sync() == Ok(())
-}
+/// The disk is empty, reads so, and is synced with no file made.
+const ABSENT: &[DiskCall] = &[
+    DiskCall::Len(Ok(0)),
+    DiskCall::Read(0, Ok(0), &[0; 8]),
+    DiskCall::Sync(Ok(())),
+];
 
-/// Whether the disk takes `abcdghijk` in two writes over each other.
-fn takes_nine(disk: &mut PathDisk<'_>) -> bool {
-    disk.write(0, b"abcdef") == Ok(())
-        && disk.write(4, b"ghijk") == Ok(())
-        && disk.sync() == Ok(())
-        && disk.sync() == Ok(())
-        && disk.len() == Ok(9)
-        && read_eight(disk, 5) == (Ok(4), *b"hijk\0\0\0\0")
-}
+/// The disk takes `abcdghijk` in two writes over each other.
+const TAKES_NINE: &[DiskCall] = &[
+    DiskCall::Write(0, b"abcdef", Ok(())),
+    DiskCall::Write(4, b"ghijk", Ok(())),
+    DiskCall::Sync(Ok(())),
+    DiskCall::Sync(Ok(())),
+    DiskCall::Len(Ok(9)),
+    DiskCall::Read(5, Ok(4), b"hijk\0\0\0\0"),
+];
 
-/// Places past the end of nine bytes.
-const ENDS: &[u64] = &[9, (1 << 63) - 9, (1 << 63) - 4, 1 << 63, u64::MAX];
+/// Another that only reads has those bytes, none past them, and writes nothing.
+const GIVES_NINE: &[DiskCall] = &[
+    DiskCall::Read(9, Ok(0), &[0; 8]),
+    DiskCall::Read((1 << 63) - 9, Ok(0), &[0; 8]),
+    DiskCall::Read((1 << 63) - 4, Ok(0), &[0; 8]),
+    DiskCall::Read(1 << 63, Ok(0), &[0; 8]),
+    DiskCall::Read(u64::MAX, Ok(0), &[0; 8]),
+    DiskCall::Read(0, Ok(8), b"abcdghij"),
+    DiskCall::Write(9, b"lm", Err(Failed)),
+    DiskCall::Faults(1),
+];
 
-/// Whether another that only reads has those bytes, none past them, and writes nothing.
-fn gives_nine(disk: &mut PathDisk<'_>) -> bool {
-    for &end in ENDS {
-        if read_eight(disk, end) != (Ok(0), [0; 8]) {
-            return false;
-        }
-    }
-    read_eight(disk, 0) == (Ok(8), *b"abcdghij")
-        && disk.write(9, b"lm") == Err(Failed)
-        && disk.faults() == 1
-}
+/// Two bytes more are taken, and found by the other.
+const TAKES_MORE: &[DiskCall] = &[DiskCall::Write(9, b"lm", Ok(())), DiskCall::Faults(0)];
+
+const HAS_MORE: &[DiskCall] = &[DiskCall::Len(Ok(11))];
 
 /// Whether what is written at a path that has no file is read there.
 fn is_kept(rt: &HostRuntime, path: &str) -> bool {
     let mut disk = written_at(rt, path);
     let mut again = read_at(rt, path);
-    takes_nine(&mut disk)
-        && gives_nine(&mut again)
-        && disk.write(9, b"lm") == Ok(())
-        && again.len() == Ok(11)
-        && disk.faults() == 0
+    all_answer(&mut disk, TAKES_NINE)
+        && all_answer(&mut again, GIVES_NINE)
+        && all_answer(&mut disk, TAKES_MORE)
+        && all_answer(&mut again, HAS_MORE)
+}
+
+/// Whether a new disk that may write the file at a path answers so.
+fn written_answers(rt: &HostRuntime, path: &str, calls: &[DiskCall]) -> bool {
+    all_answer(&mut written_at(rt, path), calls)
+}
+
+/// Whether a new disk that only reads the file at a path answers so.
+fn read_answers(rt: &HostRuntime, path: &str, calls: &[DiskCall]) -> bool {
+    all_answer(&mut read_at(rt, path), calls)
+}
+
+/// Fails where what a test asks does not hold.
+fn holds(answer: io::Result<bool>) -> Result<(), Fail> {
+    if answer? {
+        Ok(())
+    } else {
+        Err(Fail::from("it does not hold"))
+    }
+}
+
+/// Whether a disk over no file is empty and makes none, and what it is written then is read.
+fn is_made(rt: &HostRuntime, path: &str) -> io::Result<bool> {
+    let absent = written_answers(rt, path, ABSENT);
+    let made = fs::exists(rt, path)?;
+    let kept = is_kept(rt, path);
+    fs::remove_file(rt, path)?;
+    Ok(absent && !made && kept)
+}
+
+fn own_is_made(rt: &HostRuntime) -> io::Result<bool> {
+    is_made(rt, own_path(rt, "written")?.as_str())
 }
 
 #[test]
 fn what_was_written_is_read(rt: HostRuntime) -> Result<(), Fail> {
-    let path = own_path(&rt, "written")?;
-    let absent = is_absent(&mut written_at(&rt, path.as_str()));
-    let made = fs::exists(&rt, path.as_str())?;
-    let kept = is_kept(&rt, path.as_str());
-    fs::remove_file(&rt, path.as_str())?;
-    assert!(rt; absent && !made && kept);
-    Ok(())
+    holds(own_is_made(&rt))
 }
 
-/// What a length, a read, a write of one byte and a sync answer, and how many faults that is.
-fn tried(disk: &mut PathDisk<'_>) -> ([bool; 4], u64) {
-    let told = [
-        disk.len().is_ok(),
-        read_eight(disk, 0).0.is_ok(),
-        disk.write(0, b"a").is_ok(),
-        disk.sync().is_ok(),
-    ];
-    (told, disk.faults())
+/// In a folder that is not there the write alone fails.
+const NO_FOLDER: &[DiskCall] = &[
+    DiskCall::Len(Ok(0)),
+    DiskCall::Read(0, Ok(0), &[0; 8]),
+    DiskCall::Write(0, b"a", Err(Failed)),
+    DiskCall::Sync(Ok(())),
+    DiskCall::Faults(1),
+];
+
+fn has_no_folder(rt: &HostRuntime) -> io::Result<bool> {
+    let path = own_path(rt, "no-folder/a.clp")?;
+    Ok(written_answers(rt, path.as_str(), NO_FOLDER))
 }
 
 #[test]
 fn each_call_that_failed_is_counted(rt: HostRuntime) -> Result<(), Fail> {
-    let path = own_path(&rt, "no-folder/a.clp")?;
-    let absent = tried(&mut written_at(&rt, path.as_str()));
-    assert!(rt; absent == ([true, true, false, true], 1));
-    Ok(())
+    holds(has_no_folder(&rt))
 }
+
+const FULL: &[DiskCall] = &[
+    DiskCall::Write(0, b"a", Err(Failed)),
+    DiskCall::Sync(Err(Failed)),
+];
+
+/// Of what is no file each call fails.
+const NO_FILE: &[DiskCall] = &[
+    DiskCall::Len(Err(Failed)),
+    DiskCall::Read(0, Err(Failed), &[0; 8]),
+    DiskCall::Write(0, b"a", Err(Failed)),
+    DiskCall::Sync(Err(Failed)),
+    DiskCall::Faults(4),
+];
 
 #[test]
 fn each_call_that_failed_on_a_device_is_counted(rt: HostRuntime) {
-    let full = tried(&mut written_at(&rt, "/dev/full"));
-    assert!(rt; full.0[2] == false && full.0[3] == false);
-    let folder = tried(&mut read_at(&rt, "/dev"));
-    assert!(rt; folder == ([false; 4], 4));
+    let full = written_answers(&rt, "/dev/full", FULL);
+    assert!(rt; full && read_answers(&rt, "/dev", NO_FILE));
 }
 
-/// Whether the file is read, and is not written.
-fn is_read_only(disk: &mut PathDisk<'_>) -> bool {
-    read_eight(disk, 0) == (Ok(8), *b"Linux ve")
-        && disk.write(0, b"a") == Err(Failed)
-        && disk.faults() == 1
-}
+/// The file is read, and is not written.
+const READ_ONLY: &[DiskCall] = &[
+    DiskCall::Read(0, Ok(8), b"Linux ve"),
+    DiskCall::Write(0, b"a", Err(Failed)),
+    DiskCall::Faults(1),
+];
 
 #[test]
 fn a_file_that_can_only_be_read(rt: HostRuntime) {
-    assert!(rt; is_read_only(&mut written_at(&rt, "/proc/version")));
+    assert!(rt; written_answers(&rt, "/proc/version", READ_ONLY));
 }
 
-/// How many bytes the file at a path has for one that writes it, and whether it may be written.
-fn length_and_write(rt: &HostRuntime, path: &str) -> (Result<u64, Failed>, Result<(), Failed>) {
-    let mut disk = written_at(rt, path);
-    (disk.len(), disk.write(0, b"c"))
-}
+/// One that writes a file of two bytes while another has its lock.
+const LOCKED: &[DiskCall] = &[
+    DiskCall::Len(Err(Failed)),
+    DiskCall::Write(0, b"c", Err(Failed)),
+];
+
+/// The same once it is free.
+const FREE: &[DiskCall] = &[DiskCall::Len(Ok(2)), DiskCall::Write(0, b"c", Ok(()))];
+
+const TWO_BYTES: &[DiskCall] = &[DiskCall::Read(0, Ok(2), b"ab\0\0\0\0\0\0")];
+
+const TAKES_TWO: &[DiskCall] = &[DiskCall::Write(0, b"ab", Ok(()))];
+
+/// One that found nothing there writes nothing.
+const TOO_LATE: &[DiskCall] = &[DiskCall::Write(0, b"d", Err(Failed))];
 
 /// Whether the file at a path, which has two bytes, is to be read and not to be written.
 fn is_only_read(rt: &HostRuntime, path: &str) -> bool {
-    length_and_write(rt, path) == (Err(Failed), Err(Failed))
-        && read_eight(&mut read_at(rt, path), 0) == (Ok(2), *b"ab\0\0\0\0\0\0")
+    written_answers(rt, path, LOCKED) && read_answers(rt, path, TWO_BYTES)
 }
 
 /// Whether one that wrote the file at a path first has its lock, by a link too, as long as it is there;
 /// one that found nothing there before never has.
 fn has_lock(rt: &HostRuntime, late: &mut PathDisk<'_>, path: &str, link: &str) -> io::Result<bool> {
     let mut first = written_at(rt, path);
-    let wrote = first.write(0, b"ab") == Ok(()) && late.write(0, b"d") == Err(Failed);
+    let wrote = all_answer(&mut first, TAKES_TWO) && all_answer(late, TOO_LATE);
     fs::hard_link(rt, path, link)?;
     Ok(wrote && is_only_read(rt, path) && is_only_read(rt, link))
 }
 
 /// Whether the file is free again by both its names.
 fn is_free(rt: &HostRuntime, late: &mut PathDisk<'_>, path: &str, link: &str) -> bool {
-    late.write(0, b"d") == Err(Failed)
-        && length_and_write(rt, link) == (Ok(2), Ok(()))
-        && length_and_write(rt, path) == (Ok(2), Ok(()))
+    all_answer(late, TOO_LATE) && written_answers(rt, link, FREE) && written_answers(rt, path, FREE)
+}
+
+/// Whether the file is locked and then free again, for one that found nothing at its path before.
+fn is_locked_once(rt: &HostRuntime, path: &str, link: &str) -> io::Result<bool> {
+    let mut late = written_at(rt, path);
+    let locked = has_lock(rt, &mut late, path, link)?;
+    Ok(locked && is_free(rt, &mut late, path, link))
+}
+
+/// The same, with both names removed then.
+fn is_locked(rt: &HostRuntime, path: &str, link: &str) -> io::Result<bool> {
+    let well = is_locked_once(rt, path, link)?;
+    fs::remove_file(rt, path)?;
+    fs::remove_file(rt, link)?;
+    Ok(well)
+}
+
+fn own_is_locked(rt: &HostRuntime) -> io::Result<bool> {
+    let path = own_path(rt, "locked")?;
+    is_locked(rt, path.as_str(), own_path(rt, "link")?.as_str())
 }
 
 #[test]
 fn one_at_a_time_writes_a_file(rt: HostRuntime) -> Result<(), Fail> {
-    let path = own_path(&rt, "locked")?;
-    let link = own_path(&rt, "link")?;
-    let mut late = written_at(&rt, path.as_str());
-    let locked = has_lock(&rt, &mut late, path.as_str(), link.as_str())?;
-    let free = is_free(&rt, &mut late, path.as_str(), link.as_str());
-    fs::remove_file(&rt, path.as_str())?;
-    fs::remove_file(&rt, link.as_str())?;
-    assert!(rt; locked && free);
-    Ok(())
+    holds(own_is_locked(&rt))
 }
 
 /// Whether the shelf beside a disk that may be written has no log of the disk's own file, has another
@@ -177,15 +232,22 @@ fn shares(rt: &HostRuntime, path: &str) -> bool {
     logs.open_log(path).is_ok()
 }
 
+/// Whether of two files that are made the one that is written is no log.
+fn is_no_log(rt: &HostRuntime, path: &str, other: &str) -> io::Result<bool> {
+    fs::write(rt, path, b"a")?;
+    fs::write(rt, other, b"a")?;
+    let well = keeps_apart(rt, path, other) && shares(rt, path);
+    fs::remove_file(rt, path)?;
+    fs::remove_file(rt, other)?;
+    Ok(well)
+}
+
+fn own_is_no_log(rt: &HostRuntime) -> io::Result<bool> {
+    let path = own_path(rt, "own")?;
+    is_no_log(rt, path.as_str(), own_path(rt, "other")?.as_str())
+}
+
 #[test]
 fn what_is_written_is_no_log(rt: HostRuntime) -> Result<(), Fail> {
-    let path = own_path(&rt, "own")?;
-    let other = own_path(&rt, "other")?;
-    fs::write(&rt, path.as_str(), b"a")?;
-    fs::write(&rt, other.as_str(), b"a")?;
-    let well = keeps_apart(&rt, path.as_str(), other.as_str()) && shares(&rt, path.as_str());
-    fs::remove_file(&rt, path.as_str())?;
-    fs::remove_file(&rt, other.as_str())?;
-    assert!(rt; well);
-    Ok(())
+    holds(own_is_no_log(&rt))
 }

@@ -1,7 +1,8 @@
 //! Pieces over a sink in memory.
+use crate::telling::holds;
 use log_seams::{Failed, MemSink};
 use sink_pieces::{PIECE, flush, flush_piece, write_all};
-use std::alloc::AllocError;
+use std::alloc::{AllocError, Global};
 use std::test::Fail;
 
 /// Whether a piece goes out once it is full, what is left by a flush, and what has no room not at all.
@@ -17,11 +18,13 @@ fn goes_out(out: &mut MemSink, gathered: &mut Vec<u8>) -> Result<bool, AllocErro
     Ok(waits && goes && ends && write_all(out, b"ab") == Err(Failed))
 }
 
+fn goes_out_anew(alloc: Global) -> Result<bool, AllocError> {
+    let mut gathered = vec![in alloc; 7u8; PIECE - 1]?;
+    let mut out = MemSink::new(alloc, PIECE + 2, Vec::new(alloc))?;
+    goes_out(&mut out, &mut gathered)
+}
+
 #[test]
 fn pieces_go_out_once_they_are_full(rt: HostRuntime) -> Result<(), Fail> {
-    let mut gathered = vec![in rt.alloc(); 7u8; PIECE - 1]?;
-    let mut out = MemSink::new(rt.alloc(), PIECE + 2, Vec::new(rt.alloc()))?;
-    let well = goes_out(&mut out, &mut gathered)?;
-    assert!(rt; well);
-    Ok(())
+    holds(goes_out_anew(rt.alloc()))
 }
