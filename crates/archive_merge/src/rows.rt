@@ -1,0 +1,152 @@
+//! Rows of the second archive.
+ghost use Rattle.std.specs.Prelude.{◌≡◌, ◌+◌, ◌<◌, ◌≤◌, ℕ, List, IfOk, IsErrOf, OnOk, length};
+ghost use Rattle.column_store.specs.Row.{row_of};
+ghost use Rattle.row_rename.specs.Causes.{IsFull};
+ghost use Rattle.row_rename.specs.Paths.{HasNamedMore};
+ghost use Rattle.row_rename.specs.Tables.{AreTables, HasNamedBoth};
+ghost use Rattle.archive_core.specs.Rows.{AreMessages};
+ghost use Rattle.archive_merge.specs.InHand.{MayTake, MayTakeAll, SameMarks, TakesAll, TakesRow, TakesRows};
+ghost use Rattle.archive_merge.specs.declared.stop.Stop.TheVariants.{SecondDamaged};
+
+use crate::hand::Hand;
+use crate::stop::Stop;
+use archive_core::RowJudge;
+use column_store::{Columns, RowRef};
+use row_codec::{Namer, Names};
+use row_rename::{Tables, rename_row};
+use std::alloc::Global;
+
+// Takes a row over: gives it the numbers of the first archive, and adds it to those in hand.
+fn take_row<M: Names, N: Namer>(
+    row: RowRef<'_>,
+    names: &M,
+    tables: &mut Tables,
+    namer: &mut N,
+    hand: &mut Hand,
+) -> Result<(), Stop>
+    requires tables { AreTables (M.types names.now) (M.words names.now)
+        (N.types namer.old).texts (N.words namer.old).texts tables.old }
+    requires room { length hand.old.draft.columns.rows < 65536 }
+
+    // what stays, and what is named
+    ensures version { N.version namer.new ≡ N.version namer.old }
+    ensures named { HasNamedBoth (M.types names.now) (M.words names.now) (N.types namer.old)
+        (N.types namer.new) (N.words namer.old) (N.words namer.new) tables.new }
+    ensures path { HasNamedMore N.naming namer.old namer.new }
+    ensures marks { SameMarks hand.old hand.new }
+
+    // by the answer
+    ensures taken { OnOk result (TakesRow
+        (record { types = M.types names.now; words = M.words names.now })
+        (record { types = (N.types namer.old).texts; words = (N.words namer.old).texts })
+        (record { types = (N.types namer.new).texts; words = (N.words namer.new).texts })
+        (row_of row.entry) hand.old hand.new) }
+
+    // causes
+    ensures full { (book : _) (count : ℕ) → IsErrOf result (Stop.Full book count)
+        → IsFull book (M.types names.now) (M.words names.now)
+        (N.types namer.new) (N.words namer.new) count }
+    ensures damaged { IsErrOf result SecondDamaged
+        → ¬ MayTake (M.types names.now) (M.words names.now) (row_of row.entry) hand.old }
+{
+    if !hand.has_room(row.words.len()) {
+        return Err(Stop::SecondDamaged);
+    }
+    rename_row(row, names, tables, namer, &mut hand.renamed)?;
+    hand.draft.columns.push(hand.renamed.row(), 0)?;
+    Ok(())
+}
+
+// Takes the rows of a page over, one after the other.
+fn take_rows<M: Names, N: Namer>(
+    page: &Columns,
+    names: &M,
+    tables: &mut Tables,
+    namer: &mut N,
+    hand: &mut Hand,
+) -> Result<(), Stop>
+    requires tables { AreTables (M.types names.now) (M.words names.now)
+        (N.types namer.old).texts (N.words namer.old).texts tables.old }
+    requires room { length hand.old.draft.columns.rows + length page.now.rows ≤ 65536 }
+
+    // what stays, and what is named
+    ensures version { N.version namer.new ≡ N.version namer.old }
+    ensures named { HasNamedBoth (M.types names.now) (M.words names.now) (N.types namer.old)
+        (N.types namer.new) (N.words namer.old) (N.words namer.new) tables.new }
+    ensures path { HasNamedMore N.naming namer.old namer.new }
+    ensures marks { SameMarks hand.old hand.new }
+
+    // by the answer
+    ensures taken { OnOk result (TakesAll
+        (record { types = M.types names.now; words = M.words names.now })
+        (record { types = (N.types namer.old).texts; words = (N.words namer.old).texts })
+        (record { types = (N.types namer.new).texts; words = (N.words namer.new).texts })
+        page.now.rows hand.old hand.new) }
+
+    // causes
+    ensures full { (book : _) (count : ℕ) → IsErrOf result (Stop.Full book count)
+        → IsFull book (M.types names.now) (M.words names.now)
+        (N.types namer.new) (N.words namer.new) count }
+    ensures damaged { IsErrOf result SecondDamaged
+        → ¬ MayTakeAll (M.types names.now) (M.words names.now) page.now.rows hand.old }
+{
+    for place in 0..page.rows() {
+        take_row(page.row(place), names, tables, namer, hand)?;
+    }
+    Ok(())
+}
+
+/// Takes the rows of a page over, where each is the encoding of a message: gives them the numbers of the
+/// first archive, and adds them to those in hand. Tells whether the last of their messages may be a last
+/// line without newline, where `before` tells it of the messages before them.
+///
+/// # Errors
+///
+/// [`Stop::Full`], [`Stop::SecondDamaged`] or [`Stop::OutOfMemory`]. Some of the rows may be in hand then.
+pub fn take_page<M: Names, N: Namer>(
+    alloc: Global,
+    version: u32,
+    page: &Columns,
+    before: bool,
+    names: &M,
+    judge: &mut RowJudge,
+    tables: &mut Tables,
+    namer: &mut N,
+    hand: &mut Hand,
+) -> Result<bool, Stop>
+    requires judge { judge.old ≡ M.types names.now }
+    requires version { version ≡ M.version names.now }
+    requires tables { AreTables (M.types names.now) (M.words names.now)
+        (N.types namer.old).texts (N.words namer.old).texts tables.old }
+    requires room { length hand.old.draft.columns.rows + length page.now.rows ≤ 65536 }
+
+    // what stays, and what is named
+    ensures judge { judge.new ≡ judge.old }
+    ensures version { N.version namer.new ≡ N.version namer.old }
+    ensures named { HasNamedBoth (M.types names.now) (M.words names.now) (N.types namer.old)
+        (N.types namer.new) (N.words namer.old) (N.words namer.new) tables.new }
+    ensures path { HasNamedMore N.naming namer.old namer.new }
+    ensures marks { SameMarks hand.old hand.new }
+
+    // by the answer
+    ensures taken { IfOk result (λ open_end. TakesRows (M.version names.now)
+        (record { types = M.types names.now; words = M.words names.now })
+        (record { types = (N.types namer.old).texts; words = (N.words namer.old).texts })
+        (record { types = (N.types namer.new).texts; words = (N.words namer.new).texts })
+        page.now.rows hand.old hand.new before open_end) }
+
+    // causes
+    ensures full { (book : _) (count : ℕ) → IsErrOf result (Stop.Full book count)
+        → IsFull book (M.types names.now) (M.words names.now)
+        (N.types namer.new) (N.words namer.new) count }
+    ensures damaged { IsErrOf result SecondDamaged → (messages : List (List ℕ))
+        → AreMessages (M.version names.now) (M.types names.now) (M.words names.now)
+        page.now.rows messages
+        → ¬ MayTakeAll (M.types names.now) (M.words names.now) page.now.rows hand.old }
+{
+    let Some(open_end) = judge.rows_say(alloc, version, names, before, page)? else {
+        return Err(Stop::SecondDamaged);
+    };
+    take_rows(page, names, tables, namer, hand)?;
+    Ok(open_end)
+}
