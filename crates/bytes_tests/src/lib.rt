@@ -9,3 +9,5 @@ mod message_reader_tests;
 mod record_format_tests;
 #[cfg(test)]
 mod segment_format_tests;
+#[cfg(test)]
+mod telling;

@@ -2,6 +2,7 @@ ghost use Rattle.std.specs.Prelude.{◌≤◌, length, IfSome};
 ghost use Rattle.step_count.specs.Opens.{OpensFor};
 ghost use Rattle.segment_format.specs.Layout.{IsHead};
 
+use crate::telling::holds;
 use column_store::{Columns, RowRef};
 use plain_list::{NumberList, Text};
 use segment_format::*;
@@ -37,9 +38,8 @@ fn add(columns: &mut Columns, row: RowRef<'_>) -> Result<(), AllocError>
     Ok(())
 }
 
-/// So many rows without stamp, of log type 0 and without words.
-fn plain_rows(alloc: Global, count: u32) -> Result<Columns, AllocError> {
-    let mut columns = Columns::new(alloc);
+/// Adds so many rows without stamp, of log type 0 and without words.
+fn add_plain(columns: &mut Columns, count: u32) -> Result<(), AllocError> {
     for _ in 0..count {
         let row = RowRef {
             pattern: 0,
@@ -47,8 +47,14 @@ fn plain_rows(alloc: Global, count: u32) -> Result<Columns, AllocError> {
             log_type: 0,
             words: &[],
         };
-        add(&mut columns, row)?;
+        add(columns, row)?;
     }
+    Ok(())
+}
+
+fn plain_rows(alloc: Global, count: u32) -> Result<Columns, AllocError> {
+    let mut columns = Columns::new(alloc);
+    add_plain(&mut columns, count)?;
     Ok(columns)
 }
 
@@ -103,19 +109,19 @@ fn is_of_one_row(alloc: Global, payload: &[u8]) -> bool {
     }
 }
 
-#[test]
-fn one_row(rt: HostRuntime) -> Result<(), Fail> {
-    let payload = plain_payload(rt.alloc(), 1)?;
-    assert!(rt; payload.as_slice() == ONE_ROW.as_slice());
-    assert!(rt;
-        is_of_one_row(rt.alloc(), &ONE_ROW) && sizes_of(rt.alloc(), &ONE_ROW) == Some((1, 0))
-    );
-    Ok(())
+/// Whether one row is written and read as its segment.
+fn is_one_row(alloc: Global) -> Result<bool, AllocError> {
+    let read = is_of_one_row(alloc, &ONE_ROW) && sizes_of(alloc, &ONE_ROW) == Some((1, 0));
+    Ok(plain_payload(alloc, 1)?.as_slice() == ONE_ROW.as_slice() && read)
 }
 
-/// The rows of the segment of two.
-fn two_columns(alloc: Global) -> Result<Columns, AllocError> {
-    let mut columns = Columns::new(alloc);
+#[test]
+fn one_row(rt: HostRuntime) -> Result<(), Fail> {
+    holds(is_one_row(rt.alloc()))
+}
+
+/// Adds the rows of the segment of two.
+fn add_two(columns: &mut Columns) -> Result<(), AllocError> {
     let first = RowRef {
         pattern: 8,
         moment: -1_500,
@@ -128,41 +134,58 @@ fn two_columns(alloc: Global) -> Result<Columns, AllocError> {
         log_type: 2,
         words: &[],
     };
-    add(&mut columns, first)?;
-    add(&mut columns, second)?;
+    add(columns, first)?;
+    add(columns, second)
+}
+
+fn two_columns(alloc: Global) -> Result<Columns, AllocError> {
+    let mut columns = Columns::new(alloc);
+    add_two(&mut columns)?;
     Ok(columns)
 }
 
 /// The payload of the segment of two.
 fn two_payload(alloc: Global) -> Result<Text, AllocError> {
-    let columns = two_columns(alloc)?;
     let words = NumberList::new(vec![in alloc; 1, 9]?);
+    let columns = two_columns(alloc)?;
     write_segment(alloc, 1, 258, false, false, &columns, &words)
+}
+
+/// Whether two rows are written and read as their segment.
+fn are_two_rows(alloc: Global) -> Result<bool, AllocError> {
+    let read = sizes_of(alloc, &TWO_ROWS) == Some((2, 1));
+    Ok(two_payload(alloc)?.as_slice() == TWO_ROWS.as_slice() && read)
 }
 
 #[test]
 fn two_rows(rt: HostRuntime) -> Result<(), Fail> {
-    let payload = two_payload(rt.alloc())?;
-    assert!(rt; payload.as_slice() == TWO_ROWS.as_slice());
-    assert!(rt; sizes_of(rt.alloc(), &TWO_ROWS) == Some((2, 1)));
-    Ok(())
+    holds(are_two_rows(rt.alloc()))
 }
 
 #[test]
-fn cuts(rt: HostRuntime) {
+fn cuts(rt: HostRuntime) -> Result<(), Fail> {
     for end in 0..TWO_ROWS.len() {
-        let cut = sizes_of(rt.alloc(), &TWO_ROWS[..end]);
-        assert!(rt; cut.is_none(), "cut at {end}");
+        if sizes_of(rt.alloc(), &TWO_ROWS[..end]).is_some() {
+            return Err(Fail::new(end));
+        }
     }
+    Ok(())
+}
+
+/// Whether these bytes are neither a head nor a segment.
+fn are_neither(alloc: Global, bytes: &[u8]) -> bool {
+    sizes_of(alloc, bytes).is_none() && read_head(alloc, bytes).is_err()
+}
+
+fn longer_are_neither(alloc: Global) -> Result<bool, AllocError> {
+    let mut longer = Vec::from_slice(alloc, &TWO_ROWS)?;
+    longer.push(0)?;
+    Ok(are_neither(alloc, longer.as_slice()))
 }
 
 #[test]
 fn a_byte_behind(rt: HostRuntime) -> Result<(), Fail> {
-    let mut longer = Vec::from_slice(rt.alloc(), &TWO_ROWS)?;
-    longer.push(0)?;
-    let sizes = sizes_of(rt.alloc(), longer.as_slice());
-    assert!(rt; sizes.is_none() && read_head(rt.alloc(), longer.as_slice()).is_err());
-    Ok(())
+    holds(longer_are_neither(rt.alloc()))
 }
 
 /// A byte's place, its new value, and whether rows are read still.
@@ -201,8 +224,9 @@ fn stays_read(alloc: Global, at: usize, byte: u8) -> Result<bool, AllocError> {
 #[test]
 fn changed_bytes(rt: HostRuntime) -> Result<(), Fail> {
     for (at, byte, stays) in CHANGED {
-        let well = stays_read(rt.alloc(), *at, *byte)? == *stays;
-        assert!(rt; well, "{byte} at {at}");
+        if stays_read(rt.alloc(), *at, *byte)? != *stays {
+            return Err(Fail::from((*at, *byte)));
+        }
     }
     Ok(())
 }
@@ -244,6 +268,25 @@ fn add_pieces(
     add_piece(out, payload, ask.variables, words)
 }
 
+/// Gathers the pieces of the next page out of a payload, and tells whether they are there.
+fn gather(bytes: &mut Vec<u8>, pages: &PageReader, payload: &[u8]) -> Result<bool, AllocError> {
+    let Some(ask) = pages.ask() else {
+        return Ok(false);
+    };
+    let counts = 4 * u64::from(ask.rows);
+    bytes.clear();
+    add_piece(bytes, payload, ask.counts, counts)?;
+    if bytes.len() as u64 != counts {
+        return Ok(false);
+    }
+    let Some(words) = pages.variable_bytes(bytes.as_slice()) else {
+        return Ok(false);
+    };
+    bytes.clear();
+    add_pieces(bytes, payload, ask, words)?;
+    Ok(true)
+}
+
 /// The next page out of a payload, in the memory of columns, and none where it is refused or the last
 /// page was read.
 fn page_in(
@@ -252,20 +295,11 @@ fn page_in(
     columns: Columns,
     payload: &[u8],
 ) -> Result<Option<Columns>, AllocError> {
-    let Some(ask) = pages.ask() else {
-        return Ok(None);
-    };
-    let counts = 4 * u64::from(ask.rows);
     let mut bytes = Vec::new(alloc);
-    add_piece(&mut bytes, payload, ask.counts, counts)?;
-    if bytes.len() as u64 != counts {
+    let is_there = gather(&mut bytes, pages, payload)?;
+    if !is_there || pages.ask().is_none() {
         return Ok(None);
     }
-    let Some(words) = pages.variable_bytes(bytes.as_slice()) else {
-        return Ok(None);
-    };
-    bytes.clear();
-    add_pieces(&mut bytes, payload, ask, words)?;
     Ok(pages.fill_page(columns, bytes.as_slice()).ok())
 }
 
@@ -297,14 +331,31 @@ fn has_two_pages(
     Ok(second.rows() == 904 && pages.ask().is_none())
 }
 
+/// The same of the reader of its head, which needs all of its bytes.
+fn are_paged(alloc: Global, head: &Head, payload: &[u8]) -> Result<bool, AllocError>
+    requires { IsHead head.now }
+{
+    let Some(mut pages) = reader_of(head, 85_049) else {
+        return Ok(false);
+    };
+    Ok(has_two_pages(alloc, &mut pages, payload)? && reader_of(head, 85_048).is_none())
+}
+
+/// The same of the payload.
+fn is_paged(alloc: Global, payload: &[u8]) -> Result<bool, AllocError> {
+    match head_of(alloc, payload) {
+        Some(head) => are_paged(alloc, &head, payload),
+        None => Ok(false),
+    }
+}
+
+fn many_are_paged(alloc: Global) -> Result<bool, AllocError> {
+    is_paged(alloc, plain_payload(alloc, 5_000)?.as_slice())
+}
+
 #[test]
 fn places_of_pages(rt: HostRuntime) -> Result<(), Fail> {
-    let payload = plain_payload(rt.alloc(), 5_000)?;
-    let head = head_of(rt.alloc(), payload.as_slice()).ok_or("a head")?;
-    let mut pages = reader_of(&head, 85_049).ok_or("pages")?;
-    let well = has_two_pages(rt.alloc(), &mut pages, payload.as_slice())?;
-    assert!(rt; well && reader_of(&head, 85_048).is_none());
-    Ok(())
+    holds(many_are_paged(rt.alloc()))
 }
 
 /// A byte's place, its value, and whether the one page with the counts of words is read then.
@@ -315,7 +366,22 @@ const COUNTED: &[(usize, u8, bool)] = &[
     (91, 1, false),
 ];
 
-/// Whether the page of two rows is read where the byte at this place is changed, and is that page.
+/// Whether the page of two rows is read out of these bytes, and is that page.
+fn is_page_of(alloc: Global, head: &Head, bytes: &[u8]) -> Result<bool, AllocError>
+    requires { IsHead head.now }
+{
+    let Some(mut pages) = reader_of(head, 103) else {
+        return Ok(false);
+    };
+    match page_in(alloc, &mut pages, Columns::new(alloc), bytes)? {
+        Some(page) => {
+            Ok(page.moments() == [-1_500, 0].as_slice() && page.words() == [7].as_slice())
+        }
+        None => Ok(false),
+    }
+}
+
+/// The same where the byte at this place is changed.
 fn is_page(alloc: Global, head: &Head, at: usize, byte: u8) -> Result<bool, AllocError>
     requires { IsHead head.now }
 {
@@ -323,23 +389,31 @@ fn is_page(alloc: Global, head: &Head, at: usize, byte: u8) -> Result<bool, Allo
     if let Some(changed) = bytes.get_mut(at) {
         *changed = byte;
     }
-    let Some(mut pages) = reader_of(head, 103) else {
-        return Ok(false);
-    };
-    let Some(page) = page_in(alloc, &mut pages, Columns::new(alloc), bytes.as_slice())? else {
-        return Ok(false);
-    };
-    Ok(page.moments() == [-1_500, 0].as_slice() && page.words() == [7].as_slice())
+    is_page_of(alloc, head, bytes.as_slice())
+}
+
+/// Whether each of the changes keeps the page or not, as told.
+fn are_pages(alloc: Global, head: &Head) -> Result<bool, AllocError>
+    requires { IsHead head.now }
+{
+    for &(at, byte, stays) in COUNTED {
+        if is_page(alloc, head, at, byte)? != stays {
+            return Ok(false);
+        }
+    }
+    Ok(true)
+}
+
+fn two_are_pages(alloc: Global) -> Result<bool, AllocError> {
+    match head_of(alloc, &TWO_ROWS) {
+        Some(head) => are_pages(alloc, &head),
+        None => Ok(false),
+    }
 }
 
 #[test]
 fn pages_with_words(rt: HostRuntime) -> Result<(), Fail> {
-    let head = head_of(rt.alloc(), &TWO_ROWS).ok_or("a head")?;
-    for &(at, byte, stays) in COUNTED {
-        let well = is_page(rt.alloc(), &head, at, byte)? == stays;
-        assert!(rt; well, "{byte} at {at}");
-    }
-    Ok(())
+    holds(two_are_pages(rt.alloc()))
 }
 
 /// Whether the reader has one page, of one row.
@@ -353,12 +427,20 @@ fn has_one_page(alloc: Global, pages: &mut PageReader) -> bool {
     }
 }
 
+/// Whether the one row is one page.
+fn is_one_page(alloc: Global) -> bool {
+    let Some(head) = head_of(alloc, &ONE_ROW) else {
+        return false;
+    };
+    match reader_of(&head, 66) {
+        Some(mut pages) => has_one_page(alloc, &mut pages),
+        None => false,
+    }
+}
+
 #[test]
-fn one_page(rt: HostRuntime) -> Result<(), Fail> {
-    let head = head_of(rt.alloc(), &ONE_ROW).ok_or("a head")?;
-    let mut pages = reader_of(&head, 66).ok_or("pages")?;
-    assert!(rt; has_one_page(rt.alloc(), &mut pages));
-    Ok(())
+fn one_page(rt: HostRuntime) {
+    assert!(rt; is_one_page(rt.alloc()));
 }
 
 #[test]
