@@ -8,6 +8,8 @@ mod line_cut_tests;
 #[cfg(test)]
 mod logtype_text_tests;
 #[cfg(test)]
+mod telling;
+#[cfg(test)]
 mod time_patterns_tests;
 #[cfg(test)]
 mod token_rules_tests;

@@ -1,4 +1,5 @@
 use crate::line_cut_tests::{faulty, text};
+use crate::telling::holds;
 use line_cut::{Cut, Heads, Joiner, MAX_LINE_LEN, Mark};
 use log_seams::{PlainSource, Source};
 use plain_list::Text;
@@ -196,13 +197,18 @@ fn is_joined<S: Source + Drop>(
 // The most messages that a limit may allow.
 const MOST_MESSAGES: u64 = 4_294_967_294;
 
+fn row_is_joined(alloc: Global, row: &Row<'_>) -> Result<bool, AllocError> {
+    let source = PlainSource::new(text(alloc, row.bytes)?);
+    let limits = (row.max_line, row.max_messages);
+    Ok(is_joined(alloc, source, limits, row.messages, row.end))
+}
+
 #[test]
 fn messages_and_limits(rt: HostRuntime) -> Result<(), Fail> {
     for row in ROWS {
-        let source = PlainSource::new(text(rt.alloc(), row.bytes)?);
-        let limits = (row.max_line, row.max_messages);
-        let well = is_joined(rt.alloc(), source, limits, row.messages, row.end);
-        assert!(rt; well, "{:?}", row.bytes);
+        if !row_is_joined(rt.alloc(), row)? {
+            return Err(Fail::from(row.bytes));
+        }
     }
     Ok(())
 }
@@ -250,8 +256,9 @@ fn breaks_off(
 #[test]
 fn the_messages_before_a_fault(rt: HostRuntime) -> Result<(), Fail> {
     for (fails, messages, end) in FAULTY {
-        let well = breaks_off(rt.alloc(), *fails, messages, *end)?;
-        assert!(rt; well, "{fails}");
+        if !breaks_off(rt.alloc(), *fails, messages, *end)? {
+            return Err(Fail::new(*fails));
+        }
     }
     Ok(())
 }
@@ -265,40 +272,34 @@ fn long_message(alloc: Global, second: &[u8]) -> Result<Vec<u8>, AllocError> {
     Ok(both)
 }
 
+// Whether the bytes are joined to these messages within the greatest limits.
+fn are_joined(alloc: Global, bytes: &[u8], messages: &[(&[u8], bool)]) -> Result<bool, Fail> {
+    let source = PlainSource::new(text(alloc, bytes)?);
+    let limits = (MAX_LINE_LEN, MOST_MESSAGES);
+    Ok(is_joined(alloc, source, limits, messages, Ok(())))
+}
+
+fn both_are_one(alloc: Global) -> Result<bool, Fail> {
+    let both = long_message(alloc, b"12345")?;
+    are_joined(alloc, both.as_slice(), &[(both.as_slice(), false)])
+}
+
 // Six bytes short of the limit, a newline and five bytes more are one message.
 #[test]
 fn a_message_of_the_greatest_limit(rt: HostRuntime) -> Result<(), Fail> {
-    let both = long_message(rt.alloc(), b"12345")?;
-    let source = PlainSource::new(text(rt.alloc(), both.as_slice())?);
-    let limits = (MAX_LINE_LEN, MOST_MESSAGES);
-    assert!(rt;
-        is_joined(
-            rt.alloc(),
-            source,
-            limits,
-            &[(both.as_slice(), false)],
-            Ok(())
-        )
-    );
-    Ok(())
+    holds(both_are_one(rt.alloc()))
+}
+
+fn both_are_two(alloc: Global) -> Result<bool, Fail> {
+    let both = long_message(alloc, b"123456")?;
+    let first = both.get(..1_048_570).unwrap_or(b"none");
+    let messages = [(first, true), (b"123456".as_slice(), false)];
+    are_joined(alloc, both.as_slice(), &messages)
 }
 
 #[test]
 fn a_line_past_the_greatest_limit_stands_alone(rt: HostRuntime) -> Result<(), Fail> {
-    let both = long_message(rt.alloc(), b"123456")?;
-    let source = PlainSource::new(text(rt.alloc(), both.as_slice())?);
-    let first = both.get(..1_048_570).unwrap_or(b"none");
-    let messages = [(first, true), (b"123456".as_slice(), false)];
-    assert!(rt;
-        is_joined(
-            rt.alloc(),
-            source,
-            (MAX_LINE_LEN, MOST_MESSAGES),
-            &messages,
-            Ok(())
-        )
-    );
-    Ok(())
+    holds(both_are_two(rt.alloc()))
 }
 
 // A thousand messages of two lines, whose first is a star and as many bytes, below 997.
@@ -330,12 +331,16 @@ fn gives_many<S: Source>(joiner: &mut Joiner<S, Stars>) -> bool {
     joiner.advance() == Ok(None)
 }
 
+fn many_are_joined(alloc: Global) -> Result<bool, Fail> {
+    let source = PlainSource::new(many_messages(alloc)?);
+    match Joiner::new(alloc, source, Stars, 1001, 1000) {
+        Ok(mut joiner) => Ok(gives_many(&mut joiner)),
+        Err(_) => Ok(false),
+    }
+}
+
 // Messages of many lengths, which go over the ends of what is read at once.
 #[test]
 fn messages_over_the_ends_of_reads(rt: HostRuntime) -> Result<(), Fail> {
-    let source = PlainSource::new(many_messages(rt.alloc())?);
-    let made = Joiner::new(rt.alloc(), source, Stars, 1001, 1000);
-    let mut joiner = made.map_err(|_| "no memory")?;
-    assert!(rt; gives_many(&mut joiner));
-    Ok(())
+    holds(many_are_joined(rt.alloc()))
 }

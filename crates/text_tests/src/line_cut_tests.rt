@@ -1,3 +1,4 @@
+use crate::telling::holds;
 use line_cut::{Cut, Cutter, MAX_LINE_LEN, Mark};
 use log_seams::{Failed, MemSource, PlainSource, Source};
 use plain_list::Text;
@@ -159,13 +160,23 @@ fn is_cut<S: Source + Drop>(
     }
 }
 
+fn row_is_cut(alloc: Global, row: &Row<'_>) -> Result<bool, AllocError> {
+    let source = PlainSource::new(text(alloc, row.bytes)?);
+    Ok(is_cut(
+        alloc,
+        source,
+        (row.max_line, row.max_lines),
+        row.lines,
+        row.end,
+    ))
+}
+
 #[test]
 fn lines_and_limits(rt: HostRuntime) -> Result<(), Fail> {
     for row in ROWS {
-        let source = PlainSource::new(text(rt.alloc(), row.bytes)?);
-        let limits = (row.max_line, row.max_lines);
-        let well = is_cut(rt.alloc(), source, limits, row.lines, row.end);
-        assert!(rt; well, "{:?}", row.bytes);
+        if !row_is_cut(rt.alloc(), row)? {
+            return Err(Fail::from(row.bytes));
+        }
     }
     Ok(())
 }
@@ -242,11 +253,14 @@ fn breaks_off(
 #[test]
 fn the_whole_lines_before_a_fault(rt: HostRuntime) -> Result<(), Fail> {
     for (fails, max_lines, lines, end) in FAULTY {
-        let well = breaks_off(rt.alloc(), *fails, *max_lines, lines, *end)?;
-        assert!(rt; well, "{fails} {max_lines}");
+        if !breaks_off(rt.alloc(), *fails, *max_lines, lines, *end)? {
+            return Err(Fail::from((*fails, *max_lines)));
+        }
     }
     Ok(())
 }
+
+const ONE_LETTER: &[(&[u8], bool)] = &[(b"a", true)];
 
 // The most lines that a limit may allow.
 const MOST_LINES: u64 = 4_294_967_294;
@@ -259,32 +273,32 @@ fn long_lines(alloc: Global, len: usize) -> Result<Vec<u8>, AllocError> {
     Ok(bytes)
 }
 
-#[test]
-fn lines_up_to_the_greatest_limit(rt: HostRuntime) -> Result<(), Fail> {
-    let bytes = long_lines(rt.alloc(), MAX_LINE_LEN + 2)?;
-    let source = PlainSource::new(text(rt.alloc(), bytes.as_slice())?);
+// Whether they are cut as a line of one byte and one of the greatest length.
+fn are_longest(alloc: Global, bytes: &[u8]) -> Result<bool, Fail> {
+    let source = PlainSource::new(text(alloc, bytes)?);
     let longest = bytes.get(2..MAX_LINE_LEN + 2).unwrap_or(b"none");
     let lines = [(b"a".as_slice(), true), (longest, true)];
-    assert!(rt;
-        is_cut(
-            rt.alloc(),
-            source,
-            (MAX_LINE_LEN, MOST_LINES),
-            &lines,
-            Ok(())
-        )
-    );
-    Ok(())
+    Ok(is_cut(alloc, source, (MAX_LINE_LEN, MOST_LINES), &lines, Ok(())))
+}
+
+fn longest_are_cut(alloc: Global) -> Result<bool, Fail> {
+    are_longest(alloc, long_lines(alloc, MAX_LINE_LEN + 2)?.as_slice())
+}
+
+#[test]
+fn lines_up_to_the_greatest_limit(rt: HostRuntime) -> Result<(), Fail> {
+    holds(longest_are_cut(rt.alloc()))
+}
+
+fn longer_is_refused(alloc: Global) -> Result<bool, Fail> {
+    let source = PlainSource::new(Text::new(long_lines(alloc, MAX_LINE_LEN + 3)?));
+    let end = Err(Cut::LineTooLong { line: 2 });
+    Ok(is_cut(alloc, source, (MAX_LINE_LEN, MOST_LINES), ONE_LETTER, end))
 }
 
 #[test]
 fn a_line_past_the_greatest_limit(rt: HostRuntime) -> Result<(), Fail> {
-    let bytes = long_lines(rt.alloc(), MAX_LINE_LEN + 3)?;
-    let source = PlainSource::new(Text::new(bytes));
-    let limits = (MAX_LINE_LEN, MOST_LINES);
-    let end = Err(Cut::LineTooLong { line: 2 });
-    assert!(rt; is_cut(rt.alloc(), source, limits, &[(b"a", true)], end));
-    Ok(())
+    holds(longer_is_refused(rt.alloc()))
 }
 
 // A thousand lines of many lengths below 997.
@@ -315,12 +329,16 @@ fn gives_many<S: Source>(cutter: &mut Cutter<S>) -> bool {
     cutter.advance() == Ok(None)
 }
 
+fn many_are_cut(alloc: Global) -> Result<bool, Fail> {
+    let source = PlainSource::new(many_lines(alloc)?);
+    match Cutter::new(alloc, source, 1000, 1000) {
+        Ok(mut cutter) => Ok(gives_many(&mut cutter)),
+        Err(_) => Ok(false),
+    }
+}
+
 // Lines of many lengths, which go over the ends of what is read at once.
 #[test]
 fn lines_over_the_ends_of_reads(rt: HostRuntime) -> Result<(), Fail> {
-    let source = PlainSource::new(many_lines(rt.alloc())?);
-    let made = Cutter::new(rt.alloc(), source, 1000, 1000);
-    let mut cutter = made.map_err(|_| "no memory")?;
-    assert!(rt; gives_many(&mut cutter));
-    Ok(())
+    holds(many_are_cut(rt.alloc()))
 }

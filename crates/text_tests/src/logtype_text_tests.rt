@@ -1,8 +1,10 @@
+use crate::telling::holds;
 use logtype_text::{
     Kind, Span, Split, Symbol, Symbols, TextRefusal, encode_body, first_symbol, from_text,
     one_list_of_parts, one_type_text, parts_are_cut, plain_front, split, text_ok, to_text,
 };
 use std::alloc::Global;
+use std::test::Fail;
 use var_codec::Coded;
 
 // Bodies with the text of their log type.
@@ -82,24 +84,30 @@ impl Encoded {
 }
 
 #[test]
-fn log_types_of_bodies(rt: HostRuntime) -> Result<(), TextRefusal> {
+fn log_types_of_bodies(rt: HostRuntime) -> Result<(), Fail> {
     for (body, want) in BODIES {
-        let well = is_spelled(rt.alloc(), body, want)?;
-        assert!(rt; well, "at {body:?}");
+        if !is_spelled(rt.alloc(), body, want)? {
+            return Err(Fail::from(*body));
+        }
     }
     Ok(())
 }
 
-// The lists are filled again for each body.
-#[test]
-fn bodies_are_encoded(rt: HostRuntime) -> Result<(), TextRefusal> {
-    let mut encoded = Encoded::new(rt.alloc());
+// Fails with the first body that is encoded otherwise. The lists are filled again for each.
+fn are_encoded(alloc: Global, encoded: &mut Encoded) -> Result<(), Fail> {
     for (body, want) in BODIES {
         encoded.fill(body)?;
-        let well = encoded.is(rt.alloc(), body, want)?;
-        assert!(rt; well, "at {body:?}");
+        if !encoded.is(alloc, body, want)? {
+            return Err(Fail::from(*body));
+        }
     }
     Ok(())
+}
+
+#[test]
+fn bodies_are_encoded(rt: HostRuntime) -> Result<(), Fail> {
+    let mut encoded = Encoded::new(rt.alloc());
+    are_encoded(rt.alloc(), &mut encoded)
 }
 
 #[test]
@@ -127,26 +135,46 @@ const TIMED_SYMBOLS: &[(usize, Symbol)] = &[
     (16, Symbol::Slot(Kind::Whole)),
 ];
 
-#[test]
-fn places_of_variables(rt: HostRuntime) -> Result<(), TextRefusal> {
-    let parts = split(rt.alloc(), TIMED)?;
-    assert!(rt; parts.spans.as_slice() == TIMED_SPANS && parts.codes.as_slice() == TIMED_CODES);
-    assert!(rt; parts.symbols.as_slice().len() == 17);
+// Whether the symbols are so many, and have those of the body at their places.
+fn has_symbols(symbols: &[Symbol]) -> bool {
     for (place, symbol) in TIMED_SYMBOLS {
-        assert!(rt;
-            parts.symbols.as_slice().get(*place) == Some(symbol),
-            "at {place}"
-        );
+        if symbols.get(*place) != Some(symbol) {
+            return false;
+        }
     }
-    Ok(())
+    symbols.len() == 17
+}
+
+fn has_places(alloc: Global) -> Result<bool, Fail> {
+    let parts = split(alloc, TIMED)?;
+    Ok(
+        parts.spans.as_slice() == TIMED_SPANS
+            && parts.codes.as_slice() == TIMED_CODES
+            && has_symbols(parts.symbols.as_slice()),
+    )
 }
 
 #[test]
-fn places_of_words(rt: HostRuntime) -> Result<(), TextRefusal> {
-    let mut encoded = Encoded::new(rt.alloc());
+fn places_of_variables(rt: HostRuntime) -> Result<(), Fail> {
+    holds(has_places(rt.alloc()))
+}
+
+// The words of that body.
+const TIMED_WORDS: &[Span] = &[Span { start: 17, end: 19 }];
+
+fn has_words(encoded: &mut Encoded) -> Result<bool, Fail> {
     encoded.fill(TIMED)?;
-    assert!(rt; encoded.words.as_slice() == [Span { start: 17, end: 19 }].as_slice());
-    Ok(())
+    Ok(encoded.words.as_slice() == TIMED_WORDS)
+}
+
+fn new_has_words(alloc: Global) -> Result<bool, Fail> {
+    let mut encoded = Encoded::new(alloc);
+    has_words(&mut encoded)
+}
+
+#[test]
+fn places_of_words(rt: HostRuntime) -> Result<(), Fail> {
+    holds(new_has_words(rt.alloc()))
 }
 
 // One split is filled with each of these in turn.
@@ -168,17 +196,25 @@ fn is_split_of(alloc: Global, filled: &Split, body: &[u8]) -> Result<bool, TextR
     Ok(same)
 }
 
-// One split that is filled again and again is that of the last body.
-#[test]
-fn one_split_of_many_bodies(rt: HostRuntime) -> Result<(), TextRefusal> {
-    let mut filled = Split::new(rt.alloc());
-    assert!(rt; filled.symbols.as_slice().is_empty());
+// Fails with the first body that the split is not of, once it is filled with it.
+fn are_splits(alloc: Global, filled: &mut Split) -> Result<(), Fail> {
     for body in FILLED {
-        filled.fill(rt.alloc(), body)?;
-        let well = is_split_of(rt.alloc(), &filled, body)?;
-        assert!(rt; well, "at {body:?}");
+        filled.fill(alloc, body)?;
+        if !is_split_of(alloc, filled, body)? {
+            return Err(Fail::from(*body));
+        }
     }
     Ok(())
+}
+
+// One split that is filled again and again is that of the last body.
+#[test]
+fn one_split_of_many_bodies(rt: HostRuntime) -> Result<(), Fail> {
+    let mut filled = Split::new(rt.alloc());
+    if !filled.symbols.as_slice().is_empty() {
+        return Err(Fail::from("a new split has symbols"));
+    }
+    are_splits(rt.alloc(), &mut filled)
 }
 
 // A text that is not good, and where its first fault is.
@@ -208,16 +244,20 @@ fn texts_that_are_not_good(rt: HostRuntime) {
     }
 }
 
+const ESCAPED: &[Symbol] = &[
+    Symbol::Byte(b'\\'),
+    Symbol::Byte(0x12),
+    Symbol::Slot(Kind::Decimal),
+    Symbol::Byte(0x14),
+];
+
+fn are_escaped(alloc: Global) -> Result<bool, Fail> {
+    let symbols = Symbols::new(Vec::from_slice(alloc, ESCAPED)?);
+    let text = to_text(alloc, &symbols)?;
+    Ok(text.as_slice() == b"\\\\\\\x12\x13\x14".as_slice())
+}
+
 #[test]
-fn symbols_that_are_escaped(rt: HostRuntime) -> Result<(), TextRefusal> {
-    let mut symbols = Vec::new(rt.alloc());
-    symbols.extend_from_slice(&[
-        Symbol::Byte(b'\\'),
-        Symbol::Byte(0x12),
-        Symbol::Slot(Kind::Decimal),
-        Symbol::Byte(0x14),
-    ])?;
-    let text = to_text(rt.alloc(), &Symbols::new(symbols))?;
-    assert!(rt; text.as_slice() == b"\\\\\\\x12\x13\x14".as_slice());
-    Ok(())
+fn symbols_that_are_escaped(rt: HostRuntime) -> Result<(), Fail> {
+    holds(are_escaped(rt.alloc()))
 }

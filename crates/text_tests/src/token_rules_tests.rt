@@ -1,4 +1,5 @@
 use std::alloc::{AllocError, Global};
+use std::test::Fail;
 use token_rules::{Token, TokenReader, is_delim, is_var, next_token, tokens_partition};
 
 #[test]
@@ -131,11 +132,18 @@ fn are(tokens: &[Token], wants: &[(usize, usize, bool)]) -> bool {
     rest.is_empty()
 }
 
+// Whether the tokens of a text are these.
+fn are_of(alloc: Global, body: &[u8], wants: &[(usize, usize, bool)]) -> Result<bool, AllocError> {
+    let tokens = tokens_of(alloc, body)?;
+    Ok(are(tokens.as_slice(), wants))
+}
+
 #[test]
-fn tokens_of_texts(rt: HostRuntime) -> Result<(), AllocError> {
+fn tokens_of_texts(rt: HostRuntime) -> Result<(), Fail> {
     for &(body, wants) in TOKENS_OF_TEXTS {
-        let tokens = tokens_of(rt.alloc(), body)?;
-        assert!(rt; are(tokens.as_slice(), wants), "at {body:?}");
+        if !are_of(rt.alloc(), body, wants)? {
+            return Err(Fail::from(body));
+        }
     }
     Ok(())
 }
