@@ -1,4 +1,5 @@
 //! Books at their limit and with texts of one hash, and texts without an index.
+use crate::telling::holds;
 use dict_core::{Book, BookRefusal, IndexRefusal, MAX_TEXTS, NO_NUMBER, TextSlice, Texts};
 use plain_list::{Text, TextList};
 use std::alloc::{AllocError, Global};
@@ -59,8 +60,7 @@ fn names_two_anew(alloc: Global) -> bool {
 
 #[test]
 fn a_book_names_texts_up_to_its_limit(rt: HostRuntime) {
-    let well = names_two_anew(rt.alloc());
-    assert!(rt; well);
+    assert!(rt; names_two_anew(rt.alloc()));
 }
 
 /// Whether this is the text alone.
@@ -86,9 +86,7 @@ fn is_copied_anew(alloc: Global) -> Result<bool, AllocError> {
 
 #[test]
 fn a_book_is_copied_from_a_text_on(rt: HostRuntime) -> Result<(), Fail> {
-    let well = is_copied_anew(rt.alloc())?;
-    assert!(rt; well);
-    Ok(())
+    holds(is_copied_anew(rt.alloc()))
 }
 
 /// Whether the book has no number for this text of one hash before it names it so, and this number
@@ -120,8 +118,7 @@ fn have_numbers_anew(alloc: Global) -> bool {
 
 #[test]
 fn texts_of_one_hash_have_numbers_of_their_own(rt: HostRuntime) {
-    let well = have_numbers_anew(rt.alloc());
-    assert!(rt; well);
+    assert!(rt; have_numbers_anew(rt.alloc()));
 }
 
 /// These texts without a book.
@@ -163,9 +160,7 @@ fn looks_up_anew(alloc: Global) -> Result<bool, AllocError> {
 
 #[test]
 fn many_texts_are_looked_up_in_order(rt: HostRuntime) -> Result<(), Fail> {
-    let well = looks_up_anew(rt.alloc())?;
-    assert!(rt; well);
-    Ok(())
+    holds(looks_up_anew(rt.alloc()))
 }
 
 /// Whether the book names the text so, and finds it by its number then.
@@ -194,17 +189,22 @@ fn goes_on_anew(alloc: Global) -> bool {
 
 #[test]
 fn a_book_that_was_cut_short_goes_on(rt: HostRuntime) {
-    let well = goes_on_anew(rt.alloc());
-    assert!(rt; well);
+    assert!(rt; goes_on_anew(rt.alloc()));
 }
 
-fn texts_of(alloc: Global, rows: &[&[u8]]) -> Result<Texts, AllocError> {
-    let mut texts = Texts::new(alloc);
+/// Adds the texts, as far as there is room.
+fn add_all(texts: &mut Texts, rows: &[&[u8]]) -> Result<(), AllocError> {
     for row in rows {
         if texts.len() < MAX_TEXTS {
             texts.push(row)?;
         }
     }
+    Ok(())
+}
+
+fn texts_of(alloc: Global, rows: &[&[u8]]) -> Result<Texts, AllocError> {
+    let mut texts = Texts::new(alloc);
+    add_all(&mut texts, rows)?;
     Ok(texts)
 }
 
@@ -251,9 +251,7 @@ fn are_found(alloc: Global) -> Result<bool, AllocError> {
 
 #[test]
 fn texts_are_found_by_their_bytes(rt: HostRuntime) -> Result<(), Fail> {
-    let well = are_found(rt.alloc())?;
-    assert!(rt; well);
-    Ok(())
+    holds(are_found(rt.alloc()))
 }
 
 /// How many texts of those stand behind the first four.
@@ -274,12 +272,14 @@ fn no_book(alloc: Global) -> Result<Option<IndexRefusal>, AllocError> {
     Ok(Book::from_texts(alloc, texts, 7).err())
 }
 
+fn are_no_book(alloc: Global) -> Result<bool, AllocError> {
+    let repeated = Some(IndexRefusal::Repeated { number: 4 });
+    Ok(behind_four(alloc)? == 3 && no_book(alloc)? == repeated)
+}
+
 #[test]
 fn texts_with_a_repeated_one_are_no_book(rt: HostRuntime) -> Result<(), Fail> {
-    let behind = behind_four(rt.alloc())?;
-    let refused = no_book(rt.alloc())?;
-    assert!(rt; behind == 3 && refused == Some(IndexRefusal::Repeated { number: 4 }));
-    Ok(())
+    holds(are_no_book(rt.alloc()))
 }
 
 /// Whether the book of the three texts names one more, up to its limit.
@@ -302,9 +302,11 @@ fn goes_on_with(alloc: Global, texts: Texts) -> bool {
     }
 }
 
+fn three_go_on(alloc: Global) -> Result<bool, AllocError> {
+    Ok(goes_on_with(alloc, texts_of(alloc, &ONE_HASH)?))
+}
+
 #[test]
 fn a_book_of_texts_goes_on_with_them(rt: HostRuntime) -> Result<(), Fail> {
-    let texts = texts_of(rt.alloc(), &ONE_HASH)?;
-    assert!(rt; goes_on_with(rt.alloc(), texts));
-    Ok(())
+    holds(three_go_on(rt.alloc()))
 }

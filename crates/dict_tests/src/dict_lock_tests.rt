@@ -1,7 +1,7 @@
 //! Books shared by passes and by threads.
 ghost use Rattle.std.specs.Prelude.{◌≡◌, ℕ, IsTrue, IfSome, All, slice_get, Some};
 ghost use Rattle.step_count.specs.Opens.{OpensFor};
-ghost use Rattle.turn_lock.specs.Words.{number_of, IsReady, IsStill};
+ghost use Rattle.turn_lock.specs.Words.{lock_of, number_of, IsReady, IsStill};
 ghost use Rattle.dict_core.specs.Fair.{IsFair};
 
 use dict_core::{Book, BookRefusal, WORDS_FIRST};
@@ -145,6 +145,21 @@ fn fills<R: Wait, L: Ledger>(pass: &mut Pass<'_, Book>, rt: &R, turns: &mut Step
     (first, second, third, again) == (Some(Ok(0)), Some(Ok(1)), Some(full), Some(Ok(0)))
 }
 
+/// The texts that the pass saves from the second on, once it has refused a third.
+fn saved<R: Wait, L: Ledger>(
+    pass: &mut Pass<'_, Book>,
+    rt: &R,
+    turns: &mut Steps<L>,
+) -> Option<TextList>
+    requires { IsReady pass.old }
+{
+    if !fills(pass, rt, turns) || !is_fair(pass.number(), b"b") {
+        return None;
+    }
+    let from = intern(pass, rt, b"b", turns).ok()?;
+    unsaved(pass, rt, from, turns).ok()
+}
+
 /// The one text that a book with the limit 2 has from the second on, once it has refused a third.
 fn full<R: Wait, L: Ledger>(rt: &R, alloc: Global, blank: Blank) -> Option<TextList>
     requires { OpensFor blank L.name L.parts }
@@ -152,11 +167,7 @@ fn full<R: Wait, L: Ledger>(rt: &R, alloc: Global, blank: Blank) -> Option<TextL
     let mut turns: Steps<L> = Steps::new(blank);
     let (lock, mut maker) = SharedBook::new(alloc, Book::new(alloc, 2), 0).ok()?;
     let mut pass = maker.pass(&lock);
-    if !fills(&mut pass, rt, &mut turns) || !is_fair(pass.number(), b"b") {
-        return None;
-    }
-    let from = intern(&mut pass, rt, b"b", &mut turns).ok()?;
-    unsaved(&mut pass, rt, from, &mut turns).ok()
+    saved(&mut pass, rt, &mut turns)
 }
 
 /// Whether this is the text alone.
@@ -197,8 +208,29 @@ fn letters(alloc: Global, letters: &[u8]) -> Option<TextList> {
     Some(TextList::new(texts))
 }
 
-/// The texts that another pass sees behind the first, once it has learned a note of the pass that
-/// named it.
+/// The texts that a pass sees behind the first, once it has learned a note of the one that named it.
+fn seen_by<R: Wait, L: Ledger>(
+    rt: &R,
+    one: &mut Pass<'_, Book>,
+    two: &mut Pass<'_, Book>,
+    turns: &mut Steps<L>,
+) -> Option<TextList>
+    requires ready { IsReady one.old × IsReady two.old }
+    requires lock { lock_of one.old ≡ lock_of two.old }
+{
+    if !is_fair(one.number(), b"a") {
+        return None;
+    }
+    let number = intern(one, rt, b"a", turns).ok()?;
+    if number != 0 {
+        return None;
+    }
+    let note = one.note();
+    two.join(note);
+    unsaved(two, rt, 1, turns).ok()
+}
+
+/// The same of two passes of one book.
 fn noted<R: Wait, L: Ledger>(rt: &R, alloc: Global, blank: Blank) -> Option<TextList>
     requires { OpensFor blank L.name L.parts }
 {
@@ -206,16 +238,7 @@ fn noted<R: Wait, L: Ledger>(rt: &R, alloc: Global, blank: Blank) -> Option<Text
     let (lock, mut maker) = SharedBook::new(alloc, Book::new(alloc, 2), 0).ok()?;
     let mut one = maker.pass(&lock);
     let mut two = maker.pass(&lock);
-    if !is_fair(one.number(), b"a") {
-        return None;
-    }
-    let number = intern(&mut one, rt, b"a", &mut turns).ok()?;
-    if number != 0 {
-        return None;
-    }
-    let note = one.note();
-    two.join(note);
-    unsaved(&mut two, rt, 1, &mut turns).ok()
+    seen_by(rt, &mut one, &mut two, &mut turns)
 }
 
 #[test]
@@ -233,8 +256,33 @@ fn are(numbers: Result<NumberList, BookRefusal>, want: &[u32]) -> bool {
     }
 }
 
-/// A pass with a cache over a book with the limit 2: whether it names what it should, and how many
-/// turns it took.
+/// Whether a pass with a cache over a book with the limit 2 names these three lists as it should.
+fn names_by_cache<R: Wait, L: Ledger>(
+    rt: &R,
+    alloc: Global,
+    lists: [&TextList; 3],
+    turns: &mut Steps<L>,
+) -> bool {
+    let [first, second, third] = lists;
+    let Ok((lock, mut maker)) = SharedBook::new(alloc, Book::new(alloc, 2), 0) else {
+        return false;
+    };
+    let pass = maker.pass(&lock);
+    let number = pass.number();
+    if !are_fair(number, first) || !are_fair(number, second) || !are_fair(number, third) {
+        return false;
+    }
+    let mut pass = CachedPass::new(alloc, pass);
+    let named = are(pass.name_all(rt, first, turns), &[0, 1, 0]);
+    let known = are(pass.name_all(rt, second, turns), &[1]);
+    let refused = match pass.name_all(rt, third, turns) {
+        Err(BookRefusal::Full { count }) => count == 2,
+        _ => false,
+    };
+    named && known && refused && pass.knows(b"a") == Some(0) && pass.knows(b"c").is_none()
+}
+
+/// The same of `a`, `b` and `a`, then `b`, then `a` and `c`.
 fn cached<R: Wait, L: Ledger>(rt: &R, alloc: Global, blank: Blank) -> Option<bool>
     requires { OpensFor blank L.name L.parts }
 {
@@ -242,20 +290,7 @@ fn cached<R: Wait, L: Ledger>(rt: &R, alloc: Global, blank: Blank) -> Option<boo
     let first = letters(alloc, b"aba")?;
     let second = letters(alloc, b"b")?;
     let third = letters(alloc, b"ac")?;
-    let (lock, mut maker) = SharedBook::new(alloc, Book::new(alloc, 2), 0).ok()?;
-    let pass = maker.pass(&lock);
-    let number = pass.number();
-    if !are_fair(number, &first) || !are_fair(number, &second) || !are_fair(number, &third) {
-        return None;
-    }
-    let mut pass = CachedPass::new(alloc, pass);
-    let named = are(pass.name_all(rt, &first, &mut turns), &[0, 1, 0]);
-    let known = are(pass.name_all(rt, &second, &mut turns), &[1]);
-    let refused = match pass.name_all(rt, &third, &mut turns) {
-        Err(BookRefusal::Full { count }) => count == 2,
-        _ => false,
-    };
-    Some(named && known && refused && pass.knows(b"a") == Some(0) && pass.knows(b"c").is_none())
+    Some(names_by_cache(rt, alloc, [&first, &second, &third], &mut turns))
 }
 
 #[test]

@@ -7,3 +7,5 @@ mod dict_core_tests;
 mod dict_lock_tests;
 #[cfg(test)]
 mod ingest_fork_tests;
+#[cfg(test)]
+mod telling;
