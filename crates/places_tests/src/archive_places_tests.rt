@@ -51,23 +51,23 @@ fn has_type(places: &Places) -> bool {
     places.types.len() == 1 && places.types.text_of(0) == Some(b"of \x12".as_slice())
 }
 
+fn has_all(places: &Places) -> bool {
+    has_words(places)
+        && has_file(places)
+        && has_type(places)
+        && places.header.version == 1
+        && places.entries == 6
+        && places.end == 360
+}
+
 fn opens(alloc: Global) -> Result<bool, ArchiveRefusal> {
-    let places = open(alloc, &ARCHIVE)?;
-    Ok(
-        has_words(&places)
-            && has_file(&places)
-            && has_type(&places)
-            && places.header.version == 1
-            && places.entries == 6
-            && places.end == 360,
-    )
+    Ok(has_all(&open(alloc, &ARCHIVE)?))
 }
 
 #[test]
-fn an_archive_opens_by_places(rt: HostRuntime) -> Result<(), Fail> {
-    let well = opens(rt.alloc())?;
-    assert!(rt; well);
-    Ok(())
+fn an_archive_opens_by_places(rt: HostRuntime) {
+    let opens = opens(rt.alloc());
+    assert!(rt; matches!(opens, Ok(true)));
 }
 
 // Whether a front says of a segment what its place says.
@@ -101,27 +101,37 @@ fn finds_segments(alloc: Global) -> Result<bool, ArchiveRefusal> {
 }
 
 #[test]
-fn its_segments_are_those_of_whole_heads(rt: HostRuntime) -> Result<(), Fail> {
-    let well = finds_segments(rt.alloc())?;
-    assert!(rt; well);
-    Ok(())
+fn its_segments_are_those_of_whole_heads(rt: HostRuntime) {
+    let found = finds_segments(rt.alloc());
+    assert!(rt; matches!(found, Ok(true)));
 }
 
-// The segment at an index of an archive, read from a disk with these bytes, of which these calls fail.
+// The segment at an index, read from a disk with these bytes, of which these calls fail.
+fn load_of(
+    alloc: Global,
+    segments: &[SegmentFront],
+    bytes: &[u8],
+    fails: &[u64],
+    index: usize,
+) -> Result<SegmentPlace, PageRefusal> {
+    let Some(front) = segments.get(index) else {
+        return Err(PageRefusal::OutOfMemory);
+    };
+    let mut disk = disk(alloc, bytes, fails)?;
+    load_segment(alloc, &mut disk, front)
+}
+
+// The same of an archive.
 fn load(
     alloc: Global,
     bytes: &[u8],
     fails: &[u64],
     index: usize,
 ) -> Result<SegmentPlace, PageRefusal> {
-    let Ok(places) = open(alloc, &ARCHIVE) else {
-        return Err(PageRefusal::OutOfMemory);
-    };
-    let Some(front) = places.segments.as_slice().get(index) else {
-        return Err(PageRefusal::OutOfMemory);
-    };
-    let mut disk = disk(alloc, bytes, fails)?;
-    load_segment(alloc, &mut disk, front)
+    match open(alloc, &ARCHIVE) {
+        Ok(places) => load_of(alloc, places.segments.as_slice(), bytes, fails, index),
+        Err(_) => Err(PageRefusal::OutOfMemory),
+    }
 }
 
 // Whether the segment at an index has these lists.
@@ -135,12 +145,13 @@ fn has_lists(
     Ok(place.head.types.as_slice() == types && place.head.words.as_slice() == words)
 }
 
+fn have_lists(alloc: Global) -> Result<bool, PageRefusal> {
+    Ok(has_lists(alloc, 0, &[0], &[0, 2])? && has_lists(alloc, 1, &[0], &[1])?)
+}
+
 #[test]
-fn heads_are_loaded(rt: HostRuntime) -> Result<(), Fail> {
-    let first = has_lists(rt.alloc(), 0, &[0], &[0, 2]);
-    let second = has_lists(rt.alloc(), 1, &[0], &[1]);
-    assert!(rt; (first, second) == (Ok(true), Ok(true)));
-    Ok(())
+fn heads_are_loaded(rt: HostRuntime) {
+    assert!(rt; have_lists(rt.alloc()) == Ok(true));
 }
 
 // Why the first segment is not loaded from these bytes.
@@ -160,30 +171,40 @@ const HEAD_CHANGES: &[(usize, u8, Option<PageRefusal>)] = &[
     (187, 9, None),
 ];
 
+// The same of the archive's bytes with another one at a place.
+fn refusal_by(alloc: Global, at: usize, byte: u8) -> Result<Option<PageRefusal>, AllocError> {
+    let bytes = changed(alloc, at, byte)?;
+    Ok(refusal(alloc, bytes.as_slice(), &[]))
+}
+
 #[test]
 fn a_head_that_is_another_is_damaged(rt: HostRuntime) -> Result<(), Fail> {
     for &(at, byte, told) in HEAD_CHANGES {
-        let bytes = changed(rt.alloc(), at, byte)?;
-        let well = refusal(rt.alloc(), bytes.as_slice(), &[]) == told;
-        assert!(rt; well, "{at}");
+        if refusal_by(rt.alloc(), at, byte)? != told {
+            return Err(Fail::new(at));
+        }
     }
     Ok(())
 }
 
-#[test]
-fn a_head_that_breaks_off_is_damaged(rt: HostRuntime) -> Result<(), Fail> {
-    let short = refusal(rt.alloc(), &ARCHIVE[..186], &[]);
-    let whole = refusal(rt.alloc(), &ARCHIVE[..187], &[]);
-    assert!(rt; (short, whole) == (Some(PageRefusal::Damaged), None));
-    Ok(())
+fn breaks_off(alloc: Global) -> bool {
+    refusal(alloc, &ARCHIVE[..186], &[]) == Some(PageRefusal::Damaged)
+        && refusal(alloc, &ARCHIVE[..187], &[]) == None
 }
 
 #[test]
-fn the_read_of_a_head_may_fail(rt: HostRuntime) -> Result<(), Fail> {
-    let first = refusal(rt.alloc(), &ARCHIVE, &[0]);
-    let second = refusal(rt.alloc(), &ARCHIVE, &[1]);
-    assert!(rt; (first, second) == (Some(PageRefusal::DiskFault), None));
-    Ok(())
+fn a_head_that_breaks_off_is_damaged(rt: HostRuntime) {
+    assert!(rt; breaks_off(rt.alloc()));
+}
+
+fn may_fail(alloc: Global) -> bool {
+    refusal(alloc, &ARCHIVE, &[0]) == Some(PageRefusal::DiskFault)
+        && refusal(alloc, &ARCHIVE, &[1]) == None
+}
+
+#[test]
+fn the_read_of_a_head_may_fail(rt: HostRuntime) {
+    assert!(rt; may_fail(rt.alloc()));
 }
 
 // The place of the damage that opening tells.
@@ -214,12 +235,18 @@ const CHANGES: &[(usize, u8, Option<u64>)] = &[
     (359, 0x05, None),
 ];
 
+// The same of the archive's bytes with another one at a place.
+fn damage_by(alloc: Global, at: usize, byte: u8) -> Result<Option<u64>, ArchiveRefusal> {
+    let bytes = changed(alloc, at, byte)?;
+    damage(alloc, bytes.as_slice())
+}
+
 #[test]
 fn changed_bytes_are_damaged_where_opening_reads_them(rt: HostRuntime) -> Result<(), Fail> {
     for &(at, byte, told) in CHANGES {
-        let bytes = changed(rt.alloc(), at, byte)?;
-        let well = damage(rt.alloc(), bytes.as_slice())? == told;
-        assert!(rt; well, "{at}");
+        if damage_by(rt.alloc(), at, byte)? != told {
+            return Err(Fail::new(at));
+        }
     }
     Ok(())
 }
@@ -237,8 +264,9 @@ fn is_fault(alloc: Global, call: u64) -> Result<bool, AllocError> {
 #[test]
 fn each_call_of_opening_may_fail(rt: HostRuntime) -> Result<(), Fail> {
     for call in 0..=CALLS {
-        let told = is_fault(rt.alloc(), call)?;
-        assert!(rt; told == (call < CALLS), "{call}");
+        if is_fault(rt.alloc(), call)? != (call < CALLS) {
+            return Err(Fail::new(call));
+        }
     }
     Ok(())
 }

@@ -50,13 +50,18 @@ fn find(
     )
 }
 
+// Whether this is the one list.
+fn is_one(lists: &[NumberList], numbers: &[u32]) -> bool {
+    match lists {
+        [list] => list.as_slice() == numbers,
+        _ => false,
+    }
+}
+
 // Whether the words that have a needle have these numbers.
 fn finds(alloc: Global, fit: Fit, text: &[u8], numbers: &[u32]) -> Result<bool, HoldRefusal> {
     let lists = find(alloc, &ARCHIVE, &[], fit, text)?;
-    let [list] = lists.as_slice() else {
-        return Ok(false);
-    };
-    Ok(list.as_slice() == numbers)
+    Ok(is_one(lists.as_slice(), numbers))
 }
 
 // A needle, and the numbers of those of `alpha`, `be`, `ab`, `alphabet` and the empty word that have it.
@@ -80,40 +85,49 @@ const FOUND: &[(Fit, &[u8], &[u32])] = &[
 #[test]
 fn a_pass_finds_the_words_that_have_a_needle(rt: HostRuntime) -> Result<(), Fail> {
     for &(fit, text, numbers) in FOUND {
-        let well = finds(rt.alloc(), fit, text, numbers) == Ok(true);
-        assert!(rt; well, "{text:?}");
+        if finds(rt.alloc(), fit, text, numbers) != Ok(true) {
+            return Err(Fail::from(text));
+        }
     }
     Ok(())
 }
 
-// Whether a pass for three needles gives these lists, by a read for each record.
-fn finds_each(alloc: Global) -> Result<bool, HoldRefusal> {
-    let mut disk = disk(alloc, &ARCHIVE, &[])?;
+// What a pass for three needles gives.
+fn find_each(alloc: Global, disk: &mut MemDisk) -> Result<Vec<NumberList>, HoldRefusal> {
     let mut buffer = Vec::new(alloc);
     let needles = [
         Needle::new(Fit::Within, b"a"),
         Needle::new(Fit::Whole, b"be"),
         Needle::new(Fit::Within, b"z"),
     ];
-    let lists = find_words(alloc, &mut disk, WORDS, &needles, &mut buffer)?;
-    let [within, whole, none] = lists.as_slice() else {
-        return Ok(false);
+    find_words(alloc, disk, WORDS, &needles, &mut buffer)
+}
+
+// Whether these are the lists of the three.
+fn are_each(lists: &[NumberList]) -> bool {
+    let [within, whole, none] = lists else {
+        return false;
     };
-    Ok(
-        within.as_slice() == [0, 2, 3].as_slice()
-            && whole.as_slice() == [1].as_slice()
-            && none.as_slice().is_empty()
-            && word_found(whole.as_slice()) == Some(1)
-            && word_found(none.as_slice()).is_none()
-            && disk.calls() == WORDS.len(),
-    )
+    within.as_slice() == [0, 2, 3].as_slice()
+        && whole.as_slice() == [1].as_slice()
+        && none.as_slice().is_empty()
+        && word_found(whole.as_slice()) == Some(1)
+        && word_found(none.as_slice()).is_none()
+}
+
+fn finds_each_on(alloc: Global, disk: &mut MemDisk) -> Result<bool, HoldRefusal> {
+    Ok(are_each(find_each(alloc, disk)?.as_slice()))
+}
+
+// Whether they are found, by a read for each record.
+fn finds_each(alloc: Global) -> Result<bool, HoldRefusal> {
+    let mut disk = disk(alloc, &ARCHIVE, &[])?;
+    Ok(finds_each_on(alloc, &mut disk)? && disk.calls() == WORDS.len())
 }
 
 #[test]
-fn one_pass_serves_several_needles(rt: HostRuntime) -> Result<(), Fail> {
-    let well = finds_each(rt.alloc());
-    assert!(rt; well == Ok(true));
-    Ok(())
+fn one_pass_serves_several_needles(rt: HostRuntime) {
+    assert!(rt; finds_each(rt.alloc()) == Ok(true));
 }
 
 // Why a pass over these bytes is refused.
@@ -124,11 +138,9 @@ fn refusal(alloc: Global, bytes: &[u8], fails: &[u64]) -> Option<HoldRefusal> {
 #[test]
 fn each_read_of_a_pass_may_fail(rt: HostRuntime) -> Result<(), Fail> {
     for call in 0..3 {
-        let told = refusal(rt.alloc(), &ARCHIVE, &[call]);
-        assert!(rt;
-            told == (call < 2).then_some(HoldRefusal::DiskFault),
-            "{call}"
-        );
+        if refusal(rt.alloc(), &ARCHIVE, &[call]) != (call < 2).then_some(HoldRefusal::DiskFault) {
+            return Err(Fail::new(call));
+        }
     }
     Ok(())
 }
@@ -137,16 +149,26 @@ fn each_read_of_a_pass_may_fail(rt: HostRuntime) -> Result<(), Fail> {
 // word, which has the needle.
 const CHANGES: &[(usize, u8)] = &[(247, 2), (251, 1), (255, 0xFF)];
 
+// The same of the archive's bytes with another one at a place.
+fn refusal_by(alloc: Global, at: usize, byte: u8) -> Result<Option<HoldRefusal>, AllocError> {
+    let bytes = changed(alloc, at, byte)?;
+    Ok(refusal(alloc, bytes.as_slice(), &[]))
+}
+
 #[test]
 fn a_record_that_is_another_is_damaged(rt: HostRuntime) -> Result<(), Fail> {
     for &(at, byte) in CHANGES {
-        let bytes = changed(rt.alloc(), at, byte)?;
-        let told = refusal(rt.alloc(), bytes.as_slice(), &[]);
-        assert!(rt; told == Some(HoldRefusal::Damaged), "{at}");
+        if refusal_by(rt.alloc(), at, byte)? != Some(HoldRefusal::Damaged) {
+            return Err(Fail::new(at));
+        }
     }
+    Ok(())
+}
+
+#[test]
+fn a_record_that_breaks_off_is_damaged(rt: HostRuntime) {
     let short = refusal(rt.alloc(), &ARCHIVE[..270], &[]);
     assert!(rt; short == Some(HoldRefusal::Damaged));
-    Ok(())
 }
 
 // ---- words that are held
@@ -170,31 +192,39 @@ fn lends(held: &HeldWords, words: &[&[u8]]) -> bool {
     held.word_text(number).is_none()
 }
 
+// Holds the words 3, 4 and 9.
+fn hold_some(held: &mut HeldWords, disk: &mut MemDisk) -> Result<(), HoldRefusal> {
+    held.hold(disk, 3)?;
+    held.hold(disk, 4)?;
+    held.hold(disk, 9)
+}
+
+// Whether the words of the second record are held.
+fn has_second(held: &HeldWords) -> bool {
+    lends(held, &[b"", b"", b"", b"alphabet", b""])
+        && held.word_number(b"alphabet") == Some(3)
+        && held.word_number(b"alpha").is_none()
+        && held.record_count() == 2
+        && !held.micro()
+}
+
 // Whether the words of a record are lent once one of them is held, and empty ones before.
-fn holds_by_record(alloc: Global) -> Result<bool, HoldRefusal> {
-    let mut disk = disk(alloc, &ARCHIVE, &[])?;
-    let mut held = held(alloc)?;
-    if !lends(&held, &[b"", b"", b"", b"", b""]) {
+fn holds_by_record(held: &mut HeldWords, disk: &mut MemDisk) -> Result<bool, HoldRefusal> {
+    if !lends(held, &[b"", b"", b"", b"", b""]) {
         return Ok(false);
     }
-    held.hold(&mut disk, 3)?;
-    held.hold(&mut disk, 4)?;
-    held.hold(&mut disk, 9)?;
-    Ok(
-        lends(&held, &[b"", b"", b"", b"alphabet", b""])
-            && held.word_number(b"alphabet") == Some(3)
-            && held.word_number(b"alpha").is_none()
-            && held.record_count() == 2
-            && !held.micro()
-            && disk.calls() == 1,
-    )
+    hold_some(held, disk)?;
+    Ok(has_second(held) && disk.calls() == 1)
+}
+
+fn holds_by_record_of(alloc: Global) -> Result<bool, HoldRefusal> {
+    let mut held = held(alloc)?;
+    holds_by_record(&mut held, &mut disk(alloc, &ARCHIVE, &[])?)
 }
 
 #[test]
-fn a_record_is_held_from_its_first_use_on(rt: HostRuntime) -> Result<(), Fail> {
-    let well = holds_by_record(rt.alloc());
-    assert!(rt; well == Ok(true));
-    Ok(())
+fn a_record_is_held_from_its_first_use_on(rt: HostRuntime) {
+    assert!(rt; holds_by_record_of(rt.alloc()) == Ok(true));
 }
 
 // Holds the words of a row of the log type.
@@ -210,23 +240,24 @@ fn hold_row(held: &mut HeldWords, disk: &mut MemDisk, word: u64) -> Result<(), H
 }
 
 // Whether the words of rows are held.
-fn holds_rows(alloc: Global) -> Result<bool, HoldRefusal> {
-    let mut disk = disk(alloc, &ARCHIVE, &[])?;
-    let mut held = held(alloc)?;
-    hold_row(&mut held, &mut disk, 2)?;
-    if !lends(&held, &[b"alpha", b"be", b"ab", b"", b""]) {
+fn holds_rows(held: &mut HeldWords, disk: &mut MemDisk) -> Result<bool, HoldRefusal> {
+    hold_row(held, disk, 2)?;
+    if !lends(held, &[b"alpha", b"be", b"ab", b"", b""]) {
         return Ok(false);
     }
-    hold_row(&mut held, &mut disk, 3)?;
-    hold_row(&mut held, &mut disk, 1 << 40)?;
-    Ok(lends(&held, &[b"alpha", b"be", b"ab", b"alphabet", b""]) && disk.calls() == 2)
+    hold_row(held, disk, 3)?;
+    hold_row(held, disk, 1 << 40)?;
+    Ok(lends(held, &[b"alpha", b"be", b"ab", b"alphabet", b""]) && disk.calls() == 2)
+}
+
+fn holds_rows_of(alloc: Global) -> Result<bool, HoldRefusal> {
+    let mut held = held(alloc)?;
+    holds_rows(&mut held, &mut disk(alloc, &ARCHIVE, &[])?)
 }
 
 #[test]
-fn the_words_of_a_row_are_held(rt: HostRuntime) -> Result<(), Fail> {
-    let well = holds_rows(rt.alloc());
-    assert!(rt; well == Ok(true));
-    Ok(())
+fn the_words_of_a_row_are_held(rt: HostRuntime) {
+    assert!(rt; holds_rows_of(rt.alloc()) == Ok(true));
 }
 
 // Why the word 3 is not held from these bytes.
@@ -236,16 +267,25 @@ fn unheld(alloc: Global, bytes: &[u8], fails: &[u64]) -> Result<Option<HoldRefus
     Ok(held.hold(&mut disk, 3).err())
 }
 
+// The same of the archive's bytes with another one at a place.
+fn unheld_by(alloc: Global, at: usize, byte: u8) -> Result<Option<HoldRefusal>, AllocError> {
+    let bytes = changed(alloc, at, byte)?;
+    unheld(alloc, bytes.as_slice(), &[])
+}
+
 #[test]
 fn what_is_not_there_is_not_held(rt: HostRuntime) -> Result<(), Fail> {
     for &(at, byte) in CHANGES {
-        let bytes = changed(rt.alloc(), at, byte)?;
-        let told = unheld(rt.alloc(), bytes.as_slice(), &[])?;
-        assert!(rt; told == Some(HoldRefusal::Damaged), "{at}");
+        if unheld_by(rt.alloc(), at, byte)? != Some(HoldRefusal::Damaged) {
+            return Err(Fail::new(at));
+        }
     }
-    let fault = unheld(rt.alloc(), &ARCHIVE, &[0])?;
-    assert!(rt; fault == Some(HoldRefusal::DiskFault));
     Ok(())
+}
+
+#[test]
+fn a_read_that_fails_holds_nothing(rt: HostRuntime) {
+    assert!(rt; unheld(rt.alloc(), &ARCHIVE, &[0]) == Ok(Some(HoldRefusal::DiskFault)));
 }
 
 #[test]
