@@ -293,6 +293,14 @@ fn over_journal<R: Wait, A: Ledger, B: Ledger, C: Ledger>(
     )
 }
 
+/// A disk with one record, whose call of this number fails.
+fn one_record(alloc: Global, fault: u64) -> Result<MemDisk, AllocError> {
+    let mut bytes = Vec::from_slice(alloc, &WORKED[..55])?;
+    bytes.push(0)?;
+    let fails = vec![in alloc; fault; 1]?;
+    MemDisk::new(alloc, Text::new(bytes), 1 << 10, 100, fails)
+}
+
 /// What the commits answer over a disk with one record, whose call of this number fails, and the disk.
 fn over_disk<R: Wait>(
     rt: &R,
@@ -300,15 +308,7 @@ fn over_disk<R: Wait>(
     fault: u64,
     again: bool,
 ) -> Result<((Committed, Committed), MemDisk), AllocError> {
-    let mut bytes = Vec::from_slice(alloc, &WORKED[..55])?;
-    bytes.push(0)?;
-    let disk = MemDisk::new(
-        alloc,
-        Text::new(bytes),
-        1 << 10,
-        100,
-        vec![in alloc; fault; 1]?,
-    )?;
+    let disk = one_record(alloc, fault)?;
     let mut quiet = QuietDisk { disk, faults: 0 };
     let answers = over_journal::<R, Brand, Brand, Brand>(
         rt,
@@ -356,35 +356,68 @@ fn leaves_some(
     Ok(records(disk.stopped(after, pending)?) == Some(1 + (gates / 4) as u64))
 }
 
-#[test]
-fn each_stop_of_a_commit_leaves_the_first_of_its_records(rt: HostRuntime) -> Result<(), Fail> {
-    let (answers, disk) = over_disk(&rt, rt.alloc(), u64::MAX, false)?;
-    let receipt = Receipt {
+/// The same of each kind of crash.
+fn leaves_each(disk: &MemDisk, before: usize, made: usize) -> Result<bool, AllocError> {
+    for &pending in PENDING {
+        if !leaves_some(disk, before, made, pending)? {
+            return Ok(false);
+        }
+    }
+    Ok(true)
+}
+
+/// What the one commit answers.
+const ANSWERS: (Committed, Committed) = (
+    Some(Ok(Receipt {
         file: 0,
         first: 0,
         rows: 0,
         end: 158,
-    };
-    assert!(rt; answers == (Some(Ok(receipt)), None), "{answers:?}");
+    })),
+    None,
+);
+
+/// Fails with other answers than those of the one commit, and with the first stop within its twelve calls
+/// that leaves other records.
+fn leaves_all(answers: (Committed, Committed), disk: &MemDisk) -> Result<(), Fail> {
+    if answers != ANSWERS {
+        return Err(Fail::from(answers));
+    }
     let before = disk.calls().saturating_sub(12);
     for made in 0..=12usize {
-        for &pending in PENDING {
-            let well = leaves_some(&disk, before, made, pending)?;
-            assert!(rt; well, "{made} {pending:?}");
+        if !leaves_each(disk, before, made)? {
+            return Err(Fail::new(made));
         }
     }
     Ok(())
 }
 
 #[test]
-fn each_call_of_a_commit_that_fails_stops_the_store(rt: HostRuntime) -> Result<(), Fail> {
-    let (_, disk) = over_disk(&rt, rt.alloc(), u64::MAX, false)?;
-    let calls = disk.calls() as u64;
+fn each_stop_of_a_commit_leaves_the_first_of_its_records(rt: HostRuntime) -> Result<(), Fail> {
+    let (answers, disk) = over_disk(&rt, rt.alloc(), u64::MAX, false)?;
+    leaves_all(answers, &disk)
+}
+
+/// How many calls one commit makes, with those before it.
+fn calls_of_one<R: Wait>(rt: &R, alloc: Global) -> Result<u64, AllocError> {
+    let (_, disk) = over_disk(rt, alloc, u64::MAX, false)?;
+    Ok(disk.calls() as u64)
+}
+
+/// Whether two commits are refused where the call of this number fails, which is the last one.
+fn are_refused<R: Wait>(rt: &R, alloc: Global, fault: u64) -> Result<bool, AllocError> {
     let refused = Some(Err(DiskFault { opened: 0, now: 1 }));
+    let (answers, disk) = over_disk(rt, alloc, fault, true)?;
+    Ok(answers == (refused, refused) && disk.calls() as u64 == fault.wrapping_add(1))
+}
+
+#[test]
+fn each_call_of_a_commit_that_fails_stops_the_store(rt: HostRuntime) -> Result<(), Fail> {
+    let calls = calls_of_one(&rt, rt.alloc())?;
     for fault in calls.saturating_sub(12)..calls {
-        let (answers, disk) = over_disk(&rt, rt.alloc(), fault, true)?;
-        let well = answers == (refused, refused) && disk.calls() as u64 == fault + 1;
-        assert!(rt; well, "{fault} {answers:?}");
+        if !are_refused(&rt, rt.alloc(), fault)? {
+            return Err(Fail::new(fault));
+        }
     }
     Ok(())
 }
