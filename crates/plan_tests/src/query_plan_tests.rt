@@ -1,7 +1,7 @@
 //! Patterns, what a search is planned over, and what its readings accept.
 ghost use Rattle.std.specs.Prelude.{◌<◌};
 
-use logtype_text::{Kind, Span, Symbol, split};
+use logtype_text::{Kind, Span, Split, Symbol, split};
 use plain_list::{Text, TextList};
 use query_plan::{
     Piece, Plan, VarSymbol, VarSymbols, constants_suffice, needs_are_brought, readings_are_exact,
@@ -144,21 +144,48 @@ fn is_wide(plan: &Plan, message: &[u8], fits: bool) -> bool {
     matches(plan.wide(), message) == fits && plan.wide().as_slice().last() == Some(&Item::Many)
 }
 
-/// Whether the plan's pieces and needed words spell these texts.
-fn spells(alloc: Global, plan: &Plan, pieces: &[u8], needed: &[u8]) -> Result<bool, AllocError> {
-    let spelled = shown(alloc, plan.pieces())?;
-    let words = spaced(alloc, plan.needed())?;
-    Ok(spelled.as_slice() == pieces && words.as_slice() == needed)
+/// Whether the pieces are shown so.
+fn are_shown(alloc: Global, pieces: &[Piece], want: &[u8]) -> Result<bool, AllocError> {
+    Ok(shown(alloc, pieces)?.as_slice() == want)
+}
+
+/// Whether these are the words, with a space behind each.
+fn are_spaced(alloc: Global, words: &TextList, want: &[u8]) -> Result<bool, AllocError> {
+    Ok(spaced(alloc, words)?.as_slice() == want)
+}
+
+/// Whether the pieces and needed words of a pattern's plan spell these texts.
+fn spells(alloc: Global, text: &[u8], pieces: &[u8], needed: &[u8]) -> Result<bool, Fail> {
+    let plan = plan_of(alloc, text)?;
+    Ok(plan_spells(alloc, &plan, pieces, needed)?)
+}
+
+fn plan_spells(
+    alloc: Global,
+    plan: &Plan,
+    pieces: &[u8],
+    needed: &[u8],
+) -> Result<bool, AllocError> {
+    Ok(are_shown(alloc, plan.pieces(), pieces)? && are_spaced(alloc, plan.needed(), needed)?)
+}
+
+/// Whether a pattern's plan has so many open tokens, and matches the message or not as wanted.
+fn opens(
+    alloc: Global,
+    text: &[u8],
+    open: usize,
+    message: &[u8],
+    fits: bool,
+) -> Result<bool, Fail> {
+    let plan = plan_of(alloc, text)?;
+    Ok(plan.open_tokens() == open && is_wide(&plan, message, fits))
 }
 
 #[test]
 fn patterns_and_their_pieces(rt: HostRuntime) -> Result<(), Fail> {
-    let alloc = rt.alloc();
     for (text, pieces, open, needed, message, fits) in PLANNED {
-        let plan = plan_of(alloc, text)?;
-        let well = spells(alloc, &plan, pieces, needed)?
-            && plan.open_tokens() == *open
-            && is_wide(&plan, message, *fits);
+        let well = spells(rt.alloc(), text, pieces, needed)?
+            && opens(rt.alloc(), text, *open, message, *fits)?;
         assert!(rt; well, "{text:?}");
     }
     Ok(())
@@ -179,11 +206,14 @@ fn variable_of(
     Ok(VarSymbol::Var { kind, text })
 }
 
-/// The symbols of a body.
-fn symbols_of(alloc: Global, body: &[u8]) -> Result<VarSymbols, AllocError> {
-    let split = split(alloc, body)?;
+/// Adds the symbols of a body that was split so.
+fn add_symbols(
+    alloc: Global,
+    body: &[u8],
+    split: &Split,
+    symbols: &mut Vec<VarSymbol>,
+) -> Result<(), AllocError> {
     let mut spans = split.spans.as_slice().iter();
-    let mut symbols = Vec::new(alloc);
     for symbol in split.symbols.as_slice() {
         let symbol = match symbol {
             Symbol::Byte(byte) => VarSymbol::Byte(*byte),
@@ -191,6 +221,14 @@ fn symbols_of(alloc: Global, body: &[u8]) -> Result<VarSymbols, AllocError> {
         };
         symbols.push(symbol)?;
     }
+    Ok(())
+}
+
+/// The symbols of a body.
+fn symbols_of(alloc: Global, body: &[u8]) -> Result<VarSymbols, AllocError> {
+    let split = split(alloc, body)?;
+    let mut symbols = Vec::new(alloc);
+    add_symbols(alloc, body, &split, &mut symbols)?;
     Ok(VarSymbols::new(symbols))
 }
 
@@ -225,11 +263,16 @@ const READINGS: &[(&[u8], &[u8], &[u8], bool)] = &[
     (b"", b"", b"", true),
 ];
 
-/// Whether a reading of the pattern accepts the message of this stamp and body.
-fn accepts(alloc: Global, text: &[u8], stamp: &[u8], body: &[u8]) -> Result<bool, Fail> {
-    let plan = plan_of(alloc, text)?;
+/// Whether a reading of the plan accepts the message of this stamp and body.
+fn reads(alloc: Global, plan: &Plan, stamp: &[u8], body: &[u8]) -> Result<bool, AllocError> {
     let symbols = symbols_of(alloc, body)?;
     Ok(plan.reads(stamp, &symbols))
+}
+
+/// The same of the plan of a pattern's text.
+fn accepts(alloc: Global, text: &[u8], stamp: &[u8], body: &[u8]) -> Result<bool, Fail> {
+    let plan = plan_of(alloc, text)?;
+    Ok(reads(alloc, &plan, stamp, body)?)
 }
 
 #[test]
@@ -268,14 +311,18 @@ fn bytes_of(alloc: Global, digits: &str) -> Result<Vec<u8>, AllocError> {
     Ok(bytes)
 }
 
+/// Whether the pattern matches the message, each given by its digits.
+fn digits_match(alloc: Global, text: &str, message: &str) -> Result<bool, Fail> {
+    let text = bytes_of(alloc, text)?;
+    let message = bytes_of(alloc, message)?;
+    accepts(alloc, text.as_slice(), b"", message.as_slice())
+}
+
 /// Whether the row's pattern matches its message as the row says.
 fn row_holds(alloc: Global, row: &str) -> Result<bool, Fail> {
     let (text, rest) = row.split_once(' ').ok_or("a text")?;
     let (message, want) = rest.split_once(' ').ok_or("a message")?;
-    let text = bytes_of(alloc, text)?;
-    let message = bytes_of(alloc, message)?;
-    let matched = accepts(alloc, text.as_slice(), b"", message.as_slice())?;
-    Ok(matched == (want == "1"))
+    Ok(digits_match(alloc, text, message)? == (want == "1"))
 }
 
 #[test]
@@ -324,6 +371,14 @@ const NEEDED: &[(&[u8], &[u8], &[u8], &[u8])] = &[
     (b"", b"", b"", b"*"),
 ];
 
+fn are_flags(alloc: Global, flags: &[bool], want: &[u8]) -> Result<bool, AllocError> {
+    Ok(flags_shown(alloc, flags)?.as_slice() == want)
+}
+
+fn are_items(alloc: Global, items: &[Item], want: &[u8]) -> Result<bool, AllocError> {
+    Ok(items_shown(alloc, items)?.as_slice() == want)
+}
+
 /// Whether the plan's needed words, which of them are variables, and its skeleton spell these.
 fn needs(
     alloc: Global,
@@ -332,18 +387,29 @@ fn needs(
     flags: &[u8],
     skeleton: &[u8],
 ) -> Result<bool, AllocError> {
-    let spelled = spaced(alloc, plan.needed())?;
-    let kinds = flags_shown(alloc, plan.needed_variables())?;
-    let bones = items_shown(alloc, plan.skeleton().as_slice())?;
-    Ok(spelled.as_slice() == words && kinds.as_slice() == flags && bones.as_slice() == skeleton)
+    Ok(
+        are_spaced(alloc, plan.needed(), words)?
+            && are_flags(alloc, plan.needed_variables(), flags)?
+            && are_items(alloc, plan.skeleton().as_slice(), skeleton)?,
+    )
+}
+
+/// The same of the plan of a pattern's text.
+fn brings(
+    alloc: Global,
+    text: &[u8],
+    words: &[u8],
+    flags: &[u8],
+    skeleton: &[u8],
+) -> Result<bool, Fail> {
+    let plan = plan_of(alloc, text)?;
+    Ok(needs(alloc, &plan, words, flags, skeleton)?)
 }
 
 #[test]
 fn what_a_message_must_bring(rt: HostRuntime) -> Result<(), Fail> {
-    let alloc = rt.alloc();
     for (text, words, flags, skeleton) in NEEDED {
-        let plan = plan_of(alloc, text)?;
-        let well = needs(alloc, &plan, words, flags, skeleton)?;
+        let well = brings(rt.alloc(), text, words, flags, skeleton)?;
         assert!(rt; well, "{text:?}");
     }
     Ok(())
