@@ -206,7 +206,25 @@ fn words_before_a_full_dictionary(rt: HostRuntime) {
     assert!(rt; well);
 }
 
-// Whether the row of a message is the encoding of one, and is written as the message.
+// Whether a row is the encoding of a message, and is written as this one.
+fn is_written_as<L: Ledger>(
+    alloc: Global,
+    row: RowRef<'_>,
+    books: &Books,
+    line: &[u8],
+    blank: Blank,
+) -> Result<bool, AllocError>
+    requires { OpensFor blank L.name L.parts }
+{
+    if !row_fits(row, books) || !row_ok(row, books) {
+        return Ok(false);
+    }
+    let mut steps: Steps<L> = Steps::new(blank);
+    let text = expand(alloc, row, books, &mut steps)?;
+    Ok(text.as_slice() == line)
+}
+
+// The same of the row of the message.
 fn is_written<L: Ledger>(
     alloc: Global,
     line: &[u8],
@@ -217,13 +235,7 @@ fn is_written<L: Ledger>(
     requires short { length line.now ≤ MAX_MESSAGE_LEN }
 {
     let encoded = encode_message(alloc, line, books)?;
-    let row = encoded.row.lend();
-    if !row_fits(row, books) || !row_ok(row, books) {
-        return Ok(false);
-    }
-    let mut steps: Steps<L> = Steps::new(blank);
-    let text = expand(alloc, row, books, &mut steps)?;
-    Ok(text.as_slice() == line)
+    Ok(is_written_as::<L>(alloc, encoded.row.lend(), books, line, blank)?)
 }
 
 // The same over books of a version without texts.

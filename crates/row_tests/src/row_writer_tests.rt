@@ -42,14 +42,24 @@ const LINES: &[&[u8]] = &[
     b"8 y8",
 ];
 
+// Whether a writer of its own writes the row as this message.
+fn is_written(
+    alloc: Global,
+    row: RowRef<'_>,
+    books: &Books,
+    line: &[u8],
+) -> Result<bool, AllocError> {
+    let layouts = Layouts::of(alloc, books)?;
+    let mut writer = RowWriter::new(&layouts);
+    appends(alloc, &mut writer, row, books, Some(line))
+}
+
 // Whether the message comes back, over books that have it and others, by a writer of its own.
 fn comes_back(alloc: Global, line: &[u8], books: &mut Books) -> Result<bool, NameRefusal>
     requires short { length line.now ≤ MAX_MESSAGE_LEN }
 {
     let encoded = encode_message(alloc, line, books)?;
-    let layouts = Layouts::of(alloc, books)?;
-    let mut writer = RowWriter::new(&layouts);
-    Ok(appends(alloc, &mut writer, encoded.row.lend(), books, Some(line))?)
+    Ok(is_written(alloc, encoded.row.lend(), books, line)?)
 }
 
 // How many messages up to the first that does not come back.
