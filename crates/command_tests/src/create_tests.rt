@@ -1,6 +1,6 @@
 //! The making of an archive over a disk in memory.
 use crate::outside::{AMPLE, NEVER, Rooms, Told, call, disk, over_bytes, shelf, told};
-use log_seams::Disk;
+use log_seams::{Disk, MemDisk};
 use std::alloc::{AllocError, Global};
 use std::sync::Wait;
 use std::test::Fail;
@@ -29,6 +29,19 @@ const MADE: &[(&[&str], bool)] = &[
     ),
 ];
 
+/// Whether the words answer this and say this over no log, and print nothing.
+fn says<R: Threads + Wait + Sync>(
+    rt: &R,
+    alloc: Global,
+    words: &[&str],
+    archive: &mut MemDisk,
+    rooms: Rooms,
+    told: (u8, &[u8]),
+) -> Result<bool, AllocError> {
+    let mut logs = shelf(alloc, &[], NEVER)?;
+    Ok(call(rt, alloc, words, &mut logs, archive, rooms)?.is(told.0, b"", told.1))
+}
+
 /// Whether the words leave these bytes on an empty disk, and say nothing.
 fn makes<R: Threads + Wait + Sync>(
     rt: &R,
@@ -36,11 +49,10 @@ fn makes<R: Threads + Wait + Sync>(
     words: &[&str],
     want: &[u8],
 ) -> Result<bool, AllocError> {
-    let mut logs = shelf(alloc, &[], NEVER)?;
     let mut archive = disk(alloc, &[], NEVER)?;
-    let outcome = call(rt, alloc, words, &mut logs, &mut archive, AMPLE)?;
+    let well = says(rt, alloc, words, &mut archive, AMPLE, (0, b""))?;
     let called = archive.calls() == 3 && archive.faults() == 0;
-    Ok(outcome.is(0, b"", b"") && archive.bytes() == want && called)
+    Ok(well && archive.bytes() == want && called)
 }
 
 #[test]
@@ -63,11 +75,10 @@ fn leaves<R: Threads + Wait + Sync>(
     err: usize,
     line: &[u8],
 ) -> Result<bool, AllocError> {
-    let mut logs = shelf(alloc, &[], NEVER)?;
     let mut archive = disk(alloc, &SMALL, NEVER)?;
     let rooms = Rooms { out: 0, err };
-    let outcome = call(rt, alloc, &["create"], &mut logs, &mut archive, rooms)?;
-    Ok(outcome.is(8, b"", line) && archive.bytes() == SMALL.as_slice() && archive.calls() == 1)
+    let well = says(rt, alloc, &["create"], &mut archive, rooms, (8, line))?;
+    Ok(well && archive.bytes() == SMALL.as_slice() && archive.calls() == 1)
 }
 
 #[test]

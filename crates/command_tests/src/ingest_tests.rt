@@ -1,5 +1,7 @@
 //! Logs that become files of an archive over a disk in memory, and what the archive then has.
-use crate::outside::{AMPLE, Log, NEVER, Outcome, Told, call, disk, list_of, listed, shelf, told};
+use crate::outside::{
+    AMPLE, Log, NEVER, Told, disk, list_of, listed, prints_at_the_end, shelf, tells, told,
+};
 use log_seams::{MemDisk, MemShelf};
 use plain_list::Text;
 use std::alloc::{AllocError, Global};
@@ -17,15 +19,27 @@ const LOGS: &[Log<'static>] = &[
     ("none.log", b"", NEVER),
 ];
 
-/// Calls `run` with these words, over the logs and the archive's disk.
+/// Whether the words are told so over the logs and the archive's disk.
 fn over<R: Threads + Wait + Sync>(
     rt: &R,
     alloc: Global,
     words: &[&str],
     archive: &mut MemDisk,
-) -> Result<Outcome, AllocError> {
+    told: (u8, &[u8], &[u8]),
+) -> Result<bool, AllocError> {
     let mut logs = shelf(alloc, LOGS, NEVER)?;
-    call(rt, alloc, words, &mut logs, archive, AMPLE)
+    tells(rt, alloc, words, &mut logs, archive, told)
+}
+
+/// Whether `check` prints counts of the archive that end so.
+fn checked<R: Threads + Wait + Sync>(
+    rt: &R,
+    alloc: Global,
+    archive: &mut MemDisk,
+    end: &[u8],
+) -> Result<bool, AllocError> {
+    let mut logs = shelf(alloc, &[], NEVER)?;
+    prints_at_the_end(rt, alloc, &["check"], &mut logs, archive, end)
 }
 
 /// Whether these calls are told so, one after the other.
@@ -36,7 +50,7 @@ fn are_told<R: Threads + Wait + Sync>(
     archive: &mut MemDisk,
 ) -> Result<bool, AllocError> {
     for &(words, status, out, err) in calls {
-        if !over(rt, alloc, words, archive)?.is(status, out, err) {
+        if !over(rt, alloc, words, archive, (status, out, err))? {
             return Ok(false);
         }
     }
@@ -90,10 +104,10 @@ fn become_files<R: Threads + Wait + Sync>(
         "c.log",
     ];
     Ok(
-        over(rt, alloc, &["create"], archive)?.is(0, b"", b"")
-            && over(rt, alloc, &words, archive)?.is(4, INGESTED, UNREAD)
+        over(rt, alloc, &["create"], archive, (0, b"", b""))?
+            && over(rt, alloc, &words, archive, (4, INGESTED, UNREAD))?
             && are_told(rt, alloc, BECOME, archive)?
-            && over(rt, alloc, &["check"], archive)?.ends_with(b" files 6 messages 5\n"),
+            && checked(rt, alloc, archive, b" files 6 messages 5\n")?,
     )
 }
 
@@ -215,9 +229,9 @@ fn told_within<R: Threads + Wait + Sync>(
 ) -> Result<bool, AllocError> {
     let (words, status, out, err) = *row;
     Ok(
-        over(rt, alloc, &["create", limit], archive)?.is(0, b"", b"")
-            && over(rt, alloc, words, archive)?.is(status, out, err)
-            && over(rt, alloc, &["check"], archive)?.ends_with(b"\n"),
+        over(rt, alloc, &["create", limit], archive, (0, b"", b""))?
+            && over(rt, alloc, words, archive, (status, out, err))?
+            && checked(rt, alloc, archive, b"\n")?,
     )
 }
 
@@ -277,6 +291,18 @@ fn names_of(alloc: Global, count: usize, last: usize) -> Result<Vec<String>, All
     Ok(names)
 }
 
+/// Whether the words are refused in these words over no log and an empty disk.
+fn words_are_refused<R: Threads + Wait + Sync>(
+    rt: &R,
+    alloc: Global,
+    words: &[String],
+    err: &[u8],
+) -> Result<bool, AllocError> {
+    let mut logs = shelf(alloc, &[], NEVER)?;
+    let mut archive = disk(alloc, &[], NEVER)?;
+    Ok(listed(rt, alloc, words, &mut logs, &mut archive, AMPLE)?.is(8, b"", err))
+}
+
 /// Whether so many names are refused in these words.
 fn are_refused<R: Threads + Wait + Sync>(
     rt: &R,
@@ -286,10 +312,7 @@ fn are_refused<R: Threads + Wait + Sync>(
     err: &[u8],
 ) -> Result<bool, AllocError> {
     let names = names_of(alloc, count, last)?;
-    let mut logs = shelf(alloc, &[], NEVER)?;
-    let mut archive = disk(alloc, &[], NEVER)?;
-    let outcome = listed(rt, alloc, names.as_slice(), &mut logs, &mut archive, AMPLE)?;
-    Ok(outcome.is(8, b"", err))
+    words_are_refused(rt, alloc, names.as_slice(), err)
 }
 
 #[test]
@@ -312,9 +335,9 @@ fn becomes_file<R: Threads + Wait + Sync>(
 ) -> Result<bool, AllocError> {
     let words = ["ingest", name];
     Ok(
-        call(rt, alloc, &["create"], logs, archive, AMPLE)?.is(0, b"", b"")
-            && call(rt, alloc, &words, logs, archive, AMPLE)?.is(0, line, b"")
-            && call(rt, alloc, &["files"], logs, archive, AMPLE)?.is(0, line, b""),
+        tells(rt, alloc, &["create"], logs, archive, (0, b"", b""))?
+            && tells(rt, alloc, &words, logs, archive, (0, line, b""))?
+            && tells(rt, alloc, &["files"], logs, archive, (0, line, b""))?,
     )
 }
 
@@ -380,9 +403,9 @@ fn has_many_segments<R: Threads + Wait + Sync>(
     let ingest = ["ingest", "--segment=1", "a.log"];
     let search = ["search", "--stats", "--workers=3", "a"];
     Ok(
-        call(rt, alloc, &["create"], logs, archive, AMPLE)?.is(0, b"", b"")
-            && call(rt, alloc, &ingest, logs, archive, AMPLE)?.is(0, MANY, b"")
-            && call(rt, alloc, &search, logs, archive, AMPLE)?.ends_with(FOUND),
+        tells(rt, alloc, &["create"], logs, archive, (0, b"", b""))?
+            && tells(rt, alloc, &ingest, logs, archive, (0, MANY, b""))?
+            && prints_at_the_end(rt, alloc, &search, logs, archive, FOUND)?,
     )
 }
 

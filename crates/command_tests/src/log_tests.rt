@@ -1,5 +1,5 @@
 //! The commands over logs, with logs and outputs in memory.
-use crate::outside::{AMPLE, NEVER, Rooms, Told, USAGE, call, disk, over_logs, shelf};
+use crate::outside::{AMPLE, NEVER, Rooms, Told, USAGE, disk, over_logs, shelf, tells};
 use log_seams::{MemDisk, MemShelf};
 use std::alloc::{AllocError, Global};
 use std::sync::Wait;
@@ -288,9 +288,10 @@ fn opens_then<R: Threads + Wait + Sync>(
     archive: &mut MemDisk,
 ) -> Result<bool, AllocError> {
     let words = ["scan", "a", "n.log"];
+    let unopened = b"clpa: n.log: cannot open\n".as_slice();
     Ok(
-        call(rt, alloc, &words, logs, archive, AMPLE)?.is(4, b"", b"clpa: n.log: cannot open\n")
-            && call(rt, alloc, &words, logs, archive, AMPLE)?.is(0, b"n.log:1:a\n", b""),
+        tells(rt, alloc, &words, logs, archive, (4, b"", unopened))?
+            && tells(rt, alloc, &words, logs, archive, (0, b"n.log:1:a\n", b""))?,
     )
 }
 

@@ -152,6 +152,31 @@ pub(crate) fn call<R: Threads + Wait + Sync>(
     listed(rt, alloc, words.as_slice(), logs, archive, rooms)
 }
 
+/// Whether the words are told so over the logs and the archive's disk, by outputs that take all.
+pub(crate) fn tells<R: Threads + Wait + Sync>(
+    rt: &R,
+    alloc: Global,
+    words: &[&str],
+    logs: &mut MemShelf,
+    archive: &mut MemDisk,
+    told: (u8, &[u8], &[u8]),
+) -> Result<bool, AllocError> {
+    let (status, out, err) = told;
+    Ok(call(rt, alloc, words, logs, archive, AMPLE)?.is(status, out, err))
+}
+
+/// Whether the words do their work there, and what they print ends with these bytes.
+pub(crate) fn prints_at_the_end<R: Threads + Wait + Sync>(
+    rt: &R,
+    alloc: Global,
+    words: &[&str],
+    logs: &mut MemShelf,
+    archive: &mut MemDisk,
+    out: &[u8],
+) -> Result<bool, AllocError> {
+    Ok(call(rt, alloc, words, logs, archive, AMPLE)?.ends_with(out))
+}
+
 /// Calls `run` with these words over these logs, an empty disk, and outputs with so much room.
 pub(crate) fn over_logs<R: Threads + Wait + Sync>(
     rt: &R,
