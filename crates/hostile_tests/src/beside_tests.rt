@@ -1,10 +1,13 @@
 //! Two workers that have to run beside each other.
 ghost use Rattle.std.specs.Prelude.{None};
 
-use crate::outside::{EMPTY, NEVER, SOUND, call, disk};
-use log_seams::{Failed, OpenRefused, Shelf, Source};
+use crate::outside::{EMPTY, NEVER, disk, tells};
+use log_seams::{Failed, MemDisk, OpenRefused, Shelf, Source};
+use std::alloc::{AllocError, Global};
+use std::sync::Wait;
 use std::sync::atomic::{AtomicU64, Ordering};
 use std::test::Fail;
+use std::thread::Threads;
 
 /// How often a log asks whether the other was read, before it fails.
 const TURNS: u64 = 1_000_000_000;
@@ -91,17 +94,30 @@ impl<'a> Shelf for MeetingShelf<'a> {
     }
 }
 
-#[test]
-fn two_workers_read_two_logs_beside_each_other(rt: HostRuntime) -> Result<(), Fail> {
-    let alloc = rt.alloc();
+/// Whether two workers take in both logs.
+fn are_met<R: Threads + Wait + Sync>(
+    rt: &R,
+    alloc: Global,
+    archive: &mut MemDisk,
+) -> Result<bool, AllocError> {
     let begun = AtomicU64::new(0);
     let mut logs = MeetingShelf {
         begun: &begun,
         faults: 0,
     };
-    let mut archive = disk(alloc, &EMPTY, NEVER)?;
     let words = ["ingest", "--workers", "2", "a.log", "b.log"];
-    let outcome = call(&rt, alloc, &words, &mut logs, &mut archive, SOUND)?;
-    assert!(rt; outcome.is(0, b"0 1 whole a.log\n1 1 whole b.log\n", b""));
+    let told = (
+        0,
+        b"0 1 whole a.log\n1 1 whole b.log\n".as_slice(),
+        b"".as_slice(),
+    );
+    tells(rt, alloc, &words, &mut logs, archive, told)
+}
+
+#[test]
+fn two_workers_read_two_logs_beside_each_other(rt: HostRuntime) -> Result<(), Fail> {
+    let mut archive = disk(rt.alloc(), &EMPTY, NEVER)?;
+    let met = are_met(&rt, rt.alloc(), &mut archive)?;
+    assert!(rt; met);
     Ok(())
 }

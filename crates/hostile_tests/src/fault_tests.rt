@@ -26,17 +26,50 @@ fn is_refused(outcome: &Outcome, has_number: bool) -> bool {
     outcome.is(5, b"", DISK_FAILED)
 }
 
+fn is_legal<R: Threads + Wait + Sync>(
+    rt: &R,
+    alloc: Global,
+    archive: &mut MemDisk,
+) -> Result<bool, AllocError> {
+    Ok(reading(rt, alloc, &["check"], archive)?.status == 0)
+}
+
+/// Whether the log is added as the second file, or as the third.
+fn takes_again<R: Threads + Wait + Sync>(
+    rt: &R,
+    alloc: Global,
+    archive: &mut MemDisk,
+) -> Result<bool, AllocError> {
+    let again = ingest(rt, alloc, archive)?;
+    Ok(again.is(0, b"1 1 whole b.log\n", b"") || again.is(0, b"2 1 whole b.log\n", b""))
+}
+
 /// Whether the disk has an archive to which the log can be added.
 fn takes_the_log<R: Threads + Wait + Sync>(
     rt: &R,
     alloc: Global,
     archive: &mut MemDisk,
 ) -> Result<bool, AllocError> {
-    if reading(rt, alloc, &["check"], archive)?.status != 0 {
-        return Ok(false);
-    }
-    let again = ingest(rt, alloc, archive)?;
-    Ok(again.is(0, b"1 1 whole b.log\n", b"") || again.is(0, b"2 1 whole b.log\n", b""))
+    Ok(is_legal(rt, alloc, archive)? && takes_again(rt, alloc, archive)?)
+}
+
+/// Whether the ingest is refused, and the log can be added then.
+fn refuses_and_takes<R: Threads + Wait + Sync>(
+    rt: &R,
+    alloc: Global,
+    archive: &mut MemDisk,
+    has_number: bool,
+) -> Result<bool, AllocError> {
+    Ok(refuses(rt, alloc, archive, has_number)? && takes_the_log(rt, alloc, archive)?)
+}
+
+fn refuses<R: Threads + Wait + Sync>(
+    rt: &R,
+    alloc: Global,
+    archive: &mut MemDisk,
+    has_number: bool,
+) -> Result<bool, AllocError> {
+    Ok(is_refused(&ingest(rt, alloc, archive)?, has_number))
 }
 
 /// Whether the ingest is refused where the call with this number fails, and the disk has an archive then.
@@ -47,18 +80,14 @@ fn refuses_and_leaves_an_archive<R: Threads + Wait + Sync>(
     has_number: bool,
 ) -> Result<bool, AllocError> {
     let mut archive = disk(alloc, &WORKED, fault)?;
-    let refused = is_refused(&ingest(rt, alloc, &mut archive)?, has_number);
-    Ok(refused && takes_the_log(rt, alloc, &mut archive)?)
+    refuses_and_takes(rt, alloc, &mut archive, has_number)
 }
 
 /// How many calls of the disk it takes to add the log; none where it is not added.
 fn calls_of_ingest<R: Threads + Wait + Sync>(rt: &R, alloc: Global) -> Result<u64, AllocError> {
     let mut archive = disk(alloc, &WORKED, NEVER)?;
-    let outcome = ingest(rt, alloc, &mut archive)?;
-    if !outcome.is(0, b"1 1 whole b.log\n", b"") {
-        return Ok(0);
-    }
-    Ok(archive.calls() as u64)
+    let well = ingest(rt, alloc, &mut archive)?.is(0, b"1 1 whole b.log\n", b"");
+    Ok(if well { archive.calls() as u64 } else { 0 })
 }
 
 // The last twelve calls append three records of the log, behind four that append its name.

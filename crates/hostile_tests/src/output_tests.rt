@@ -1,7 +1,7 @@
 //! Writes to the two outputs that fail.
 
 use crate::outside::{
-    EMPTY, Faults, Log, NEVER, Outcome, SOUND, WORKED, call, disk, reading, shelf,
+    EMPTY, Faults, Log, NEVER, Outcome, SOUND, WORKED, call, disk, prints, shelf,
 };
 use log_seams::{MemDisk, MemShelf};
 use std::alloc::{AllocError, Global};
@@ -28,17 +28,33 @@ const PRINTS: &[(&[&str], &[u8])] = &[
 
 const LOG: &[Log<'static>] = &[("b.log", b"7 x7\n", NEVER)];
 
-/// What the words answer over the worked archive where the write to the first output with this number fails.
-fn printing<R: Threads + Wait + Sync>(
+/// Whether the words are told so by outputs of whose writes some fail.
+fn is_told_by<R: Threads + Wait + Sync>(
+    rt: &R,
+    alloc: Global,
+    words: &[&str],
+    logs: &mut MemShelf,
+    archive: &mut MemDisk,
+    faults: Faults,
+    told: (u8, &[u8], &[u8]),
+) -> Result<bool, AllocError> {
+    let (status, out, err) = told;
+    Ok(call(rt, alloc, words, logs, archive, faults)?.is(status, out, err))
+}
+
+/// Whether the words are told so over the worked archive where the write to the first output with this number
+/// fails.
+fn printing_is<R: Threads + Wait + Sync>(
     rt: &R,
     alloc: Global,
     words: &[&str],
     out: u64,
-) -> Result<Outcome, AllocError> {
+    told: (u8, &[u8], &[u8]),
+) -> Result<bool, AllocError> {
     let mut logs = shelf(alloc, LOG, NEVER)?;
     let mut archive = disk(alloc, &WORKED, NEVER)?;
     let faults = Faults { out, err: NEVER };
-    call(rt, alloc, words, &mut logs, &mut archive, faults)
+    is_told_by(rt, alloc, words, &mut logs, &mut archive, faults, told)
 }
 
 /// Whether the words print this, and tell it where the first write fails.
@@ -49,8 +65,8 @@ fn tells_fault<R: Threads + Wait + Sync>(
     text: &[u8],
 ) -> Result<bool, AllocError> {
     Ok(
-        printing(rt, alloc, words, 0)?.is(7, b"", OUTPUT_FAILED)
-            && printing(rt, alloc, words, NEVER)?.is(0, text, b""),
+        printing_is(rt, alloc, words, 0, (7, b"", OUTPUT_FAILED))?
+            && printing_is(rt, alloc, words, NEVER, (0, text, b""))?,
     )
 }
 
@@ -80,13 +96,10 @@ fn prints_unsaid<R: Threads + Wait + Sync>(
     archive: &mut MemDisk,
 ) -> Result<bool, AllocError> {
     let faults = Faults { out: NEVER, err };
+    let told = (4, b"0 2 part a.log\n".as_slice(), said);
     Ok(
-        reading(rt, alloc, &["create", "--types", "2"], archive)?.is(0, b"", b"")
-            && call(rt, alloc, &["ingest", "a.log"], logs, archive, faults)?.is(
-                4,
-                b"0 2 part a.log\n",
-                said,
-            ),
+        prints(rt, alloc, &["create", "--types", "2"], archive, b"")?
+            && is_told_by(rt, alloc, &["ingest", "a.log"], logs, archive, faults, told)?,
     )
 }
 

@@ -160,6 +160,33 @@ where
     Ok(outcome)
 }
 
+/// Whether the words are told so over logs and the archive's disk, by outputs that never fail.
+pub(crate) fn tells<R: Threads + Wait + Sync, H: Shelf>(
+    rt: &R,
+    alloc: Global,
+    words: &[&str],
+    logs: &mut H,
+    archive: &mut MemDisk,
+    told: (u8, &[u8], &[u8]),
+) -> Result<bool, AllocError>
+where
+    H::Src: Send,
+{
+    let (status, out, err) = told;
+    Ok(call(rt, alloc, words, logs, archive, SOUND)?.is(status, out, err))
+}
+
+/// The same over no log, where the call does its work.
+pub(crate) fn prints<R: Threads + Wait + Sync>(
+    rt: &R,
+    alloc: Global,
+    words: &[&str],
+    archive: &mut MemDisk,
+    out: &[u8],
+) -> Result<bool, AllocError> {
+    Ok(reading(rt, alloc, words, archive)?.is(0, out, b""))
+}
+
 /// Calls `run` with these words over no log.
 pub(crate) fn reading<R: Threads + Wait + Sync>(
     rt: &R,

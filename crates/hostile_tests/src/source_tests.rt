@@ -1,6 +1,6 @@
 //! Logs that cannot be opened or read.
 
-use crate::outside::{EMPTY, Log, NEVER, SOUND, call, disk, reading, shelf};
+use crate::outside::{EMPTY, Log, NEVER, disk, prints, shelf, tells};
 use log_seams::MemDisk;
 use std::alloc::{AllocError, Global};
 use std::sync::Wait;
@@ -16,6 +16,18 @@ const READS: &[(u64, &[u8], &[u8])] = &[
     (1, b"0 1 part b.log\n", b"7 x7\n"),
 ];
 
+/// Whether this is told of a log whose read of this number fails.
+fn ingest_is_told<R: Threads + Wait + Sync>(
+    rt: &R,
+    alloc: Global,
+    fault: u64,
+    archive: &mut MemDisk,
+    told: (u8, &[u8], &[u8]),
+) -> Result<bool, AllocError> {
+    let mut logs = shelf(alloc, &[("b.log", LOG, fault)], NEVER)?;
+    tells(rt, alloc, &["ingest", "b.log"], &mut logs, archive, told)
+}
+
 /// Whether a log whose read of this number fails leaves this.
 fn leaves<R: Threads + Wait + Sync>(
     rt: &R,
@@ -25,13 +37,10 @@ fn leaves<R: Threads + Wait + Sync>(
     text: &[u8],
     archive: &mut MemDisk,
 ) -> Result<bool, AllocError> {
-    let mut logs = shelf(alloc, &[("b.log", LOG, fault)], NEVER)?;
+    let told = (4, out, b"clpa: b.log: read failed\n".as_slice());
     Ok(
-        call(rt, alloc, &["ingest", "b.log"], &mut logs, archive, SOUND)?.is(
-            4,
-            out,
-            b"clpa: b.log: read failed\n",
-        ) && reading(rt, alloc, &["decode", "0"], archive)?.is(0, text, b""),
+        ingest_is_told(rt, alloc, fault, archive, told)?
+            && prints(rt, alloc, &["decode", "0"], archive, text)?,
     )
 }
 
@@ -70,9 +79,8 @@ fn is_told<R: Threads + Wait + Sync>(
     archive: &mut MemDisk,
     told: (u8, &[u8], &[u8]),
 ) -> Result<bool, AllocError> {
-    let (status, out, err) = told;
     let mut logs = shelf(alloc, THREE, opening)?;
-    Ok(call(rt, alloc, words, &mut logs, archive, SOUND)?.is(status, out, err))
+    tells(rt, alloc, words, &mut logs, archive, told)
 }
 
 const OTHERS: &[u8] = b"0 1 whole a.log\n1 0 part b.log\n2 1 whole c.log\n";

@@ -1,6 +1,6 @@
 //! An ingest that stops after any of its calls of the disk.
 
-use crate::outside::{EMPTY, NEVER, Outcome, SOUND, WORKED, call, disk, reading, shelf};
+use crate::outside::{EMPTY, NEVER, Outcome, SOUND, WORKED, call, disk, prints, shelf};
 use log_seams::{MemDisk, Pending};
 use std::alloc::{AllocError, Global};
 use std::sync::Wait;
@@ -99,6 +99,17 @@ fn ingest<R: Threads + Wait + Sync>(
     call(rt, alloc, &["ingest", name], &mut logs, archive, SOUND)
 }
 
+/// Whether the log is added, and this is told of it.
+fn ingests<R: Threads + Wait + Sync>(
+    rt: &R,
+    alloc: Global,
+    name: &str,
+    archive: &mut MemDisk,
+    out: &[u8],
+) -> Result<bool, AllocError> {
+    Ok(ingest(rt, alloc, name, archive)?.is(0, out, b""))
+}
+
 /// Whether the three calls print this of the archive.
 fn stands<R: Threads + Wait + Sync>(
     rt: &R,
@@ -111,9 +122,9 @@ fn stands<R: Threads + Wait + Sync>(
         return Ok(false);
     };
     Ok(
-        reading(rt, alloc, &["check"], image)?.is(0, counts, b"")
-            && reading(rt, alloc, &["files"], image)?.is(0, files, b"")
-            && ingest(rt, alloc, name, image)?.is(0, again, b""),
+        prints(rt, alloc, &["check"], image, counts)?
+            && prints(rt, alloc, &["files"], image, files)?
+            && ingests(rt, alloc, name, image, again)?,
     )
 }
 
