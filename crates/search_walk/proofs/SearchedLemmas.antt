@@ -11,7 +11,8 @@ use Rattle.query_plan.specs.Pieces.{wide_pieces}
 use Rattle.subquery_filter.specs.Laws.{BarrenHasNoMatch, words_of}
 use Rattle.archive_open.specs.declared.files.FileEntry.{FileEntry}
 use Rattle.archive_open.specs.declared.segments.SegmentPlace.{SegmentPlace}
-use Rattle.subquery_filter.specs.Filter.{HasNoMatch}
+use Rattle.subquery_filter.specs.Filter.{HasNoMatch, IsWithin, MayHave}
+use Rattle.subquery_filter.proofs.HeadLemmas.{within_moments}
 use Rattle.segment_format.specs.declared.head.Head.{Head}
 use Rattle.search_walk.specs.Scan.{Asked, IsFound, IsTried, Picks, Placed, numbered}
 use Rattle.search_walk.specs.Held.{IsTold, Named, OfLeft, OfSegments}
@@ -50,17 +51,21 @@ barren_done F (Some bytes) n files q p b t over wider law searched told truly = 
 
 -- one of whose rows none is matched, as its head's lists tell
 pub unmatched_done : (F : List Placed → Type 0) (seen : Option (List ℕ)) (n : Named) (files : List FileEntry) (q : Asked) (p : SegmentPlace) (b : Bool) (t u : ℕ) → Over n q F → WideIsWider → Tells n q p b → b ≡ false
-    → (listed numbers : List ℕ) → listed ≡ p.head.types → numbers ≡ p.head.words → (IsTold n → HasNoMatch (wide_pieces q.pattern) n.types n.words listed numbers) → u ≡ t + 1
+    → (IsTold n → HasNoMatch (wide_pieces q.pattern) n.types n.words p.head) → u ≡ t + 1
     → OfSegments seen n files (p ∷ []) (λ _ all. Searched F n q (p ∷ []) all t u 1)
-unmatched_done F None n files q p b t u over wider told shut listed numbers of_types of_words unmatched ticked = tt
-unmatched_done F (Some bytes) n files q p b t u over wider told shut listed numbers of_types of_words unmatched ticked = λ all distinct have.
+unmatched_done F None n files q p b t u over wider told shut unmatched ticked = tt
+unmatched_done F (Some bytes) n files q p b t u over wider told shut unmatched ticked = λ all distinct have.
     let one = single bytes n files have.0 p all have.3 have in
     let has = one.has in
-    let types : listed ≡ sorted_set (map (λ (x : Row). x.log_type) has.rows) = of_types ∙ ap (λ (h : Head). h.types) has.head in
-    let words : numbers ≡ words_of n.types has.rows = of_words ∙ ap (λ (h : Head). h.words) has.head in
+    let types : p.head.types ≡ sorted_set (map (λ (x : Row). x.log_type) has.rows) = ap (λ (h : Head). h.types) has.head in
+    let words : p.head.words ≡ words_of n.types has.rows = ap (λ (h : Head). h.words) has.head in
+    let may : (r : Row) → Contains has.rows r → MayHave n.types p.head r = λ r here. record {
+      listed = subst (λ l. Contains l r.log_type) (sym types) (type_listed has.rows r here);
+      words = λ k is. subst (λ l. Contains l k) (sym words) (number_listed n.types has.rows r k here is);
+      within = λ stamped. subst (λ (h : Head). IsWithin h r.moment) (sym has.head) (within_moments has.rows r here stamped);
+    } in
     let none : (r : Row) (m : List ℕ) → Contains has.rows r → IsCanonical n.version r n.types n.words m → ¬ IsTried n.version q m =
-    λ r m here canonical f. unmatched has.are.told n.version r m (subst (λ l. Contains l r.log_type) (sym types) (type_listed has.rows r here))
-    (λ k is. subst (λ l. Contains l k) (sym words) (number_listed n.types has.rows r k here is)) canonical f.matched in
+    λ r m here canonical f. unmatched has.are.told n.version r m (may r here) canonical f.matched in
     record {
       reaches =
           over all

@@ -138,16 +138,14 @@ impl<'q, D: Disk> Context<'q, D> {
         )
     }
 
-    /// Whether the log types and words that a segment's head lists leave one of its messages.
+    /// Whether the log types and words that a segment's head lists, and its moments, leave one of its
+    /// messages.
     pub fn may_match(&self, segment: &SegmentPlace) -> bool
         ensures { IsFalse result → IsTold self.now.names
             → HasNoMatch (wide_pieces self.now.query.pattern)
-            self.now.names.types self.now.names.words
-            segment.now.head.types segment.now.head.words }
+            self.now.names.types self.now.names.words segment.now.head }
     {
-        let head = &segment.head;
-        self.filter
-            .may_match(head.types.as_slice(), head.words.as_slice())
+        self.filter.may_match(&segment.head)
     }
 
     /// What is told of a row by its moment, and by its numbers alone. One that is out of the range counts

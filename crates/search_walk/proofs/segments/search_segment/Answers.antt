@@ -92,7 +92,7 @@ returns-then-not-may_match-clause-done g c =
     let told = c.is_barren.ensures.told in
     let none = c.may_match.ensures (search rules) in
     unmatched_done (g.W.TakesPages.reaches w w n q) _ n c.args.context.now.files q c.args.segment.now c.is_barren.result _ _ (λ all found tried. g.met.W.TakesPages.passes_over w n q all found tried) c.wide_is_wider.ensures.wider told (search rules)
-    c.args.segment.now.head.types c.args.segment.now.head.words refl refl none c.in-Some.ensures.some.ticked
+    none c.in-Some.ensures.some.ticked
 
 pub is_barren-requires : goal.is_barren-requires
 is_barren-requires g c = (g.met.W.TakesPages.has_words c.args.work.now c.args.context.now _ c.requires.served).types
