@@ -1,5 +1,5 @@
 -- How far the loop over the rows of a page has come.
-use Rattle.std.specs.Prelude.{◌≡◌, ◌+◌, ℕ, List, ◌++◌, length, drop, Option}
+use Rattle.std.specs.Prelude.{◌≡◌, ℕ, List, ◌++◌, length, drop, Option}
 use Rattle.column_store.specs.declared.row.Row.{Row}
 use Rattle.search_walk.specs.Held.{AreRowsOf, Named}
 use Rattle.search_walk.specs.Scan.{Asked, numbered}

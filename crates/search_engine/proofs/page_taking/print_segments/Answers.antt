@@ -1,7 +1,6 @@
-use Rattle.std.proofs.Common.{◌≡◌, rules}
+use Rattle.std.proofs.Common.{rules}
 use Rattle.search_walk.specs.Held.{Named}
 use Rattle.search_walk.proofs.AnswerLemmas.{if_ok_to, on_err_to}
-use Rattle.search_engine.specs.Waiting.{Pending, State, state}
 use Rattle.search_engine.proofs.PageLemmas.{searched_so, stopped_so}
 use Rattle.search_engine.proofs.page_taking.print_segments.Goals as goal
 
