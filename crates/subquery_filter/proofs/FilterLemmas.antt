@@ -2,8 +2,6 @@
 use Rattle.std.proofs.Common.{◌≡◌, ℕ, zero, suc, ◌+◌, ◌<◌, ◌≤◌, false, List, [], ◌∷◌, ◌++◌, length, get_or, map, refl, sym, ◌∙◌, ap, subst, arith, inl, inr, length-append}
 use Rattle.std.specs.Prelude.{◌⊎◌, ◌↔◌, Option, None, Some, bit_or, slice_get, slice_index_or}
 use Rattle.std.specs.List.{Contains}
-use Rattle.std.specs.Int.{bit_at}
-use Rattle.std.proofs.lemmas.Nat.Bits.{bit_at_or, same_from_bits}
 use Rattle.std.proofs.lemmas.Bool.{cases_lt}
 use Rattle.std.specs.Fmt.{signed_decimal}
 use Rattle.std.specs.Int.{cast_signed, w64}
@@ -33,39 +31,15 @@ use Rattle.subquery_filter.specs.declared.slots.TypeTest.{TypeTest}
 use Rattle.subquery_filter.specs.declared.token.Token.{Token}
 use Rattle.subquery_filter.specs.declared.verdicts.Verdict.{Verdict}
 use Rattle.subquery_filter.specs.declared.verdicts.Verdict.TheVariants.{Rejected, Certain, Tried}
-use Rattle.subquery_filter.specs.Filter.{AreSmall, AreTests, AsksTypes, Covers, Has, HasNoMatch, IsFilter, IsListed, IsRight, IsRowVerdict, IsSlot, IsTest, LacksAll, Marks, marks_at, may_by}
+use Rattle.subquery_filter.specs.Filter.{AreSmall, AreTests, AsksTypes, Covers, Has, HasNoMatch, IsAsked, IsFilter, IsListed, IsRight, IsRowVerdict, IsSlot, IsTest, LacksAll, Marks, MarksOpen, MarksVariable, marks_at, may_by}
 use Rattle.subquery_filter.specs.StepsFilter.{AreTokens, HasEach, IsShut, Lacks, LacksTokens, StampsBring, Stays}
 use Rattle.subquery_filter.specs.StepsLetters.{kinds_in}
-use Rattle.subquery_filter.specs.Tokens.{IsTokenOf, RowsBringTokens}
+use Rattle.subquery_filter.specs.Tokens.{RowsBring}
 use Rattle.subquery_filter.specs.Verdicts.{CertainAlwaysMatches, IsCertain, IsRejected, RejectedNeverMatches}
+use Rattle.subquery_filter.proofs.BitLemmas.{has_both, has_left, has_none, has_right, has_self, has_through}
+use Rattle.subquery_filter.proofs.ClosedLemmas.{are_coded, token_found}
 use Rattle.subquery_filter.proofs.BarrenLemmas.{contains_first, contains_rest, row_numbers}
 use Rattle.subquery_filter.proofs.TokenLemmas.{kinds_are}
-
--- ---- bits
-
-bits_of : (a c : ℕ) → Has a c → (i : ℕ) → bit_at c i ≤ bit_at a i
-bits_of a c has i = omega (arith, bit_at_or a c i, ap (λ x. bit_at x i) has)
-
-has_bits : (a c : ℕ) → ((i : ℕ) → bit_at c i ≤ bit_at a i) → Has a c
-has_bits a c le = same_from_bits (bit_or a c) a (λ i. omega (arith, bit_at_or a c i, le i))
-
-pub has_through : (a b c : ℕ) → Has a b → Has b c → Has a c
-has_through a b c one two = has_bits a c (λ i. let x = bits_of a b one i in let y = bits_of b c two i in omega (arith, x, y))
-
-pub has_left : (a b c : ℕ) → Has a c → Has (bit_or a b) c
-has_left a b c has = has_bits (bit_or a b) c (λ i. let x = bits_of a c has i in omega (arith, x, bit_at_or a b i))
-
-pub has_right : (a b : ℕ) → Has (bit_or a b) b
-has_right a b = has_bits (bit_or a b) b (λ i. omega (arith, bit_at_or a b i))
-
-pub has_self : (a : ℕ) → Has a a
-has_self a = has_bits a a (λ i. omega arith)
-
-pub has_both : (all a b : ℕ) → Has all a → Has all b → Has all (bit_or a b)
-has_both all a b one two = has_bits all (bit_or a b) (λ i. let x = bits_of all a one i in let y = bits_of all b two i in omega (arith, x, y, bit_at_or a b i))
-
-pub has_none : (all : ℕ) → Has all 0
-has_none all = has_bits all 0 (λ i. omega arith)
 
 -- ---- loops
 
@@ -189,11 +163,11 @@ tests_step ps tokens types count slots more old new text test size is there stay
 pub tests_none : (ps : List Piece) (tokens : List Token) (types : List (List ℕ)) (slots : List Slot) (tests : List TypeTest) → tests ≡ [] → AreTests ps tokens types slots tests
 tests_none ps tokens types slots tests none t text test found at = absurd (let e : None ≡ Some test = ap (λ (l : List TypeTest). slice_get l t) (sym none) ∙ at in cc)
 
-pub small_step : (tokens : List Token) (count : ℕ) (old new : List ℕ) (mark : ℕ) → length old ≡ count → new ≡ old ++ mark ∷ [] → Marks tokens (signed_decimal (cast_signed w64 count)) mark → AreSmall tokens old → AreSmall tokens new
+pub small_step : (tokens : List Token) (count : ℕ) (old new : List ℕ) (mark : ℕ) → length old ≡ count → new ≡ old ++ mark ∷ [] → MarksOpen tokens (signed_decimal (cast_signed w64 count)) mark → AreSmall tokens old → AreSmall tokens new
 small_step tokens count old new mark size is marks before n bits at =
     elim (push_cases old mark n bits (subst (λ (l : List ℕ). slice_get l n ≡ Some bits) is at)) [
       | inl earlier ↦ before n bits earlier
-      | inr (e, same) ↦ subst (λ (b : ℕ). Marks tokens (signed_decimal (cast_signed w64 n)) b) same (subst (λ (j : ℕ). Marks tokens (signed_decimal (cast_signed w64 j)) mark) (sym (e ∙ size)) marks)
+      | inr (e, same) ↦ subst (λ (b : ℕ). MarksOpen tokens (signed_decimal (cast_signed w64 n)) b) same (subst (λ (j : ℕ). MarksOpen tokens (signed_decimal (cast_signed w64 j)) mark) (sym (e ∙ size)) marks)
     ]
 
 pub small_none : (tokens : List Token) (small : List ℕ) → small ≡ [] → AreSmall tokens small
@@ -208,10 +182,8 @@ right_verdict ps text Rejected rejected certain = λ parts is. (rejected parts i
 right_verdict ps text Certain rejected certain = λ parts is. certain parts is refl
 right_verdict ps text Tried rejected certain = tt
 
-pub tokens_push : (ps : List Piece) (old new : List Token) (token : Token) (t : List ℕ) → new ≡ old ++ token ∷ [] → Contains ps (WordPiece t) → token.matcher.items ≡ around t
-    → AreTokens ps old → AreTokens ps new
-tokens_push ps old new token t is has same are =
-    subst (AreTokens ps) (sym is) (All-push (λ (k : Token). IsTokenOf ps k.matcher.items) old token are (t, has, same))
+pub tokens_push : (ps : List Piece) (old new : List Token) (token : Token) → new ≡ old ++ token ∷ [] → IsAsked ps token → AreTokens ps old → AreTokens ps new
+tokens_push ps old new token is asked are = subst (AreTokens ps) (sym is) (All-push (IsAsked ps) old token are asked)
 
 -- ---- a row's dictionary numbers
 
@@ -237,10 +209,10 @@ row_number types row parts typed place word kind at =
 abbrev pub ByVariables : Filter → TypeTest → List (List ℕ) → List ℕ → List ℕ → ℕ → Type 0
 ByVariables f test words text row bits =
     (place : ℕ) (kind : Kind) (word : ℕ) (variable : List ℕ) → slice_get (kinds_in false text) place ≡ Some kind → slice_get row place ≡ Some word
-    → IsListed f.tokens.items f.slots.items test.first test.end place kind → HasWord words kind variable word → Marks f.tokens.items variable bits
+    → IsListed f.tokens.items f.slots.items test.first test.end place kind → HasWord words kind variable word → MarksVariable f.tokens.items variable bits
 
 -- a row that does not bring all that is wanted is not matched
-lacks_bits : RowsBringTokens → (ps : List Piece) (types words : List (List ℕ)) (f : Filter) → IsFilter ps types words f → (row : Row) (test : TypeTest) (bits : ℕ)
+lacks_bits : RowsBring → (ps : List Piece) (types words : List (List ℕ)) (f : Filter) → IsFilter ps types words f → (row : Row) (test : TypeTest) (bits : ℕ)
     → slice_get f.tests.items row.log_type ≡ Some test → test.verdict ≡ Tried → Has bits test.has
     → ((s : List ℕ) → HasStampText row.pattern row.moment s → Marks f.tokens.items s bits)
     → ((parts : List Part) → slice_get types row.log_type ≡ Some (type_text (map symbol_of parts)) → ByVariables f test words (type_text (map symbol_of parts)) row.words bits)
@@ -251,23 +223,23 @@ lacks_bits law ps types words f is row test bits at tried has stamp variables la
     let here = is.asks.tests row.log_type text test typed at in
     lacks (is.asks.wanted bits (λ j d lt.
     let k : Token = slice_index_or f.tokens.items j d in
-    elim (law version ps row types words text message k.matcher.items is.asks.cut canonical matches (is.asks.are j d lt) typed) [
+    elim (token_found law version ps row types words text message k is.asks.cut canonical matches (is.asks.are j d lt) typed) [
       | inl (s, stamped, fits) ↦ stamp s stamped j d lt fits
       | inr (inl there) ↦ has_through bits test.has k.bit has (here.gives tried j d lt there)
       | inr (inr v) ↦ elim (here.slots_are tried v.place v.kind v.slot) [
-        | inl listed ↦ variables canonical.means.parts typed v.place v.kind v.word v.variable v.slot v.at listed v.has j d lt v.fits
-        | inr covered ↦ has_through bits test.has k.bit has (covered words v.variable v.word v.has j d lt v.fits)
+        | inl listed ↦ variables canonical.means.parts typed v.place v.kind v.word v.variable v.slot v.at listed v.has j d lt v.finds
+        | inr covered ↦ has_through bits test.has k.bit has (covered words v.variable v.word v.has j d lt v.finds)
       ]
     ]))
 
-row_lacks : RowsBringTokens → (p : List Item) (types words : List (List ℕ)) (f : Filter) → IsFilter (wide_pieces p) types words f → (row : Row) (test : TypeTest)
+row_lacks : RowsBring → (p : List Item) (types words : List (List ℕ)) (f : Filter) → IsFilter (wide_pieces p) types words f → (row : Row) (test : TypeTest)
     → slice_get f.tests.items row.log_type ≡ Some test → test.verdict ≡ Tried → Lacks f test row → IsRowVerdict (wide_pieces p) types words row Rejected
 row_lacks law p types words f is row test at tried h =
     lacks_bits law (wide_pieces p) types words f is row test h.bits at tried h.has (h.stamp is.asks.stamps)
     (λ parts typed place kind word variable slot there listed has j d lt fits.
     let same : (k : Kind) → k ≡ kind → HasWord words k variable word = λ k e. subst (λ (x : Kind). HasWord words x variable word) (sym e) has in
     h.slots listed.at listed.from listed.to listed.slot word listed.is (subst (λ (n : ℕ). slice_get row.words n ≡ Some word) (sym listed.same_place) there) words variable
-    (λ w. is.marks listed.at listed.slot listed.is w) is.asks.small (same listed.slot.kind listed.same_kind) j d lt fits (listed.covers words variable word has j d lt fits))
+    (λ w. is.marks listed.at listed.slot listed.is w) is.asks.small (are_coded (wide_pieces p) f.tokens.items is.asks.are) (same listed.slot.kind listed.same_kind) j d lt fits (listed.covers words variable word has j d lt fits))
     h.lacks
 
 rejected_row : RejectedNeverMatches → (p : List Item) → IsSearched p → (types words : List (List ℕ)) (f : Filter) → IsFilter (wide_pieces p) types words f → (row : Row) (test : TypeTest)
@@ -298,14 +270,14 @@ row_verdict rejected certain p searched types words f is row test at = verdict_b
 
 may_listed : (f : Filter) (types words : List (List ℕ)) (ps : List Piece) → IsFilter ps types words f → (brought bits : ℕ) (numbers : List ℕ) → HasEach f.marks numbers brought
     → (at : ℕ) (slot : Slot) → slice_get f.slots.items at ≡ Some slot → (kind : Kind) → slot.kind ≡ kind → Has bits (may_by kind slot.bits brought)
-    → (word : ℕ) (variable : List ℕ) → (kind ≡ Word → Contains numbers word) → HasWord words kind variable word → Covers f.tokens.items kind slot.bits → Marks f.tokens.items variable bits
+    → (word : ℕ) (variable : List ℕ) → (kind ≡ Word → Contains numbers word) → HasWord words kind variable word → Covers f.tokens.items kind slot.bits → MarksVariable f.tokens.items variable bits
 may_listed f types words ps is brought bits numbers each at slot there Whole same has word variable listed has_word covers =
     λ j d lt fits. has_through bits slot.bits (slice_index_or f.tokens.items j d).bit has (covers words variable word has_word j d lt fits)
 may_listed f types words ps is brought bits numbers each at slot there Decimal same has word variable listed has_word covers =
     λ j d lt fits. has_through bits slot.bits (slice_index_or f.tokens.items j d).bit has (covers words variable word has_word j d lt fits)
 may_listed f types words ps is brought bits numbers each at slot there Word same has word variable listed has_word covers =
     λ j d lt fits. has_through bits brought (slice_index_or f.tokens.items j d).bit has
-    (has_through brought (marks_at f.marks word) (slice_index_or f.tokens.items j d).bit (each word (listed refl)) (is.marks at slot there same word variable has_word.1 j d lt fits))
+    (has_through brought (marks_at f.marks word) (slice_index_or f.tokens.items j d).bit (each word (listed refl)) (is.marks at slot there same word variable has_word.1 j d lt fits.0))
 
 stamp_may : (f : Filter) (types words : List (List ℕ)) (ps : List Piece) → IsFilter ps types words f → (row : Row) (bits : ℕ) → Has bits f.stamped → (s : List ℕ) → HasStampText row.pattern row.moment s → Marks f.tokens.items s bits
 stamp_may f types words ps is row bits has s stamped = λ j d lt fits.
@@ -314,7 +286,7 @@ stamp_may f types words ps is row bits has s stamped = λ j d lt fits.
 
 -- a row of a log type that brings less than is wanted, where the row's stamp and its words bring no more than these
 -- bits
-row_shut : RowsBringTokens → (p : List Item) (types words : List (List ℕ)) (f : Filter) → IsFilter (wide_pieces p) types words f → (row : Row) (test : TypeTest) (stamped brought : ℕ)
+row_shut : RowsBring → (p : List Item) (types words : List (List ℕ)) (f : Filter) → IsFilter (wide_pieces p) types words f → (row : Row) (test : TypeTest) (stamped brought : ℕ)
     → slice_get f.tests.items row.log_type ≡ Some test → test.verdict ≡ Tried → LacksAll f test stamped brought
     → ((s : List ℕ) → HasStampText row.pattern row.moment s → Marks f.tokens.items s stamped) → HasEach f.marks (numbers_of_row types row) brought → IsRowVerdict (wide_pieces p) types words row Rejected
 row_shut law p types words f is row test stamped brought at tried h stamp each version message canonical =
@@ -329,7 +301,7 @@ row_shut law p types words f is row test stamped brought at tried h stamp each v
         → (s : List ℕ) → HasStampText row.pattern row.moment s → Marks tokens s bits
     stamp_more_bits tokens row few bits has marks s stamped = λ j d lt fits. has_through bits few (slice_index_or tokens j d).bit has (marks s stamped j d lt fits)
 
-pub none_may : RejectedNeverMatches → RowsBringTokens → (p : List Item) → IsSearched p → (types words : List (List ℕ)) (f : Filter) → IsFilter (wide_pieces p) types words f
+pub none_may : RejectedNeverMatches → RowsBring → (p : List Item) → IsSearched p → (types words : List (List ℕ)) (f : Filter) → IsFilter (wide_pieces p) types words f
     → (head : Head) (listed numbers : List ℕ) (stamped brought : ℕ) → listed ≡ head.types → numbers ≡ head.words → StampsBring f head stamped → HasEach f.marks numbers brought
     → ((t : ℕ) → Contains listed t → IsShut f stamped brought t) → HasNoMatch (wide_pieces p) types words head
 none_may rejected law p searched types words f is head listed numbers stamped brought of_types of_words bring each shut version row message may canonical =
@@ -343,7 +315,7 @@ none_may rejected law p searched types words f is head listed numbers stamped br
 
 -- ---- what is told of all rows of a log type
 
-pub told_verdict : RejectedNeverMatches → CertainAlwaysMatches → RowsBringTokens → (p : List Item) → IsSearched p → (types words : List (List ℕ)) (f : Filter) → IsFilter (wide_pieces p) types words f → (row : Row) (v : Verdict)
+pub told_verdict : RejectedNeverMatches → CertainAlwaysMatches → RowsBring → (p : List Item) → IsSearched p → (types words : List (List ℕ)) (f : Filter) → IsFilter (wide_pieces p) types words f → (row : Row) (v : Verdict)
     → slice_get f.verdicts.items row.log_type ≡ Some v → IsRowVerdict (wide_pieces p) types words row v
 told_verdict rejected certain law p searched types words f is row v there =
     let (test, at, how) = is.asks.told row.log_type v there in
@@ -364,7 +336,7 @@ told_certain certain p types words f asks row v there is_certain =
     ]
 
 -- a row that lacks tokens, whose log type leaves it open
-pub row_lacks_tokens : RowsBringTokens → (p : List Item) (types words : List (List ℕ)) (f : Filter) → IsFilter (wide_pieces p) types words f → (row : Row) (v : Verdict)
+pub row_lacks_tokens : RowsBring → (p : List Item) (types words : List (List ℕ)) (f : Filter) → IsFilter (wide_pieces p) types words f → (row : Row) (v : Verdict)
     → slice_get f.verdicts.items row.log_type ≡ Some v → v ≡ Tried → LacksTokens f row → IsRowVerdict (wide_pieces p) types words row Rejected
 row_lacks_tokens law p types words f is row v there tried (test, at, lacks) =
     let (other, here, how) = is.asks.told row.log_type v there in

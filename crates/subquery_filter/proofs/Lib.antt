@@ -9,4 +9,6 @@ mod NumberLemmas
 mod SlotLemmas
 mod StampLemmas
 mod MarkLemmas
+mod ClosedLemmas
+mod BitLemmas
 pub mod HeadLemmas

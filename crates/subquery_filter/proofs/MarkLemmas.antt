@@ -22,7 +22,8 @@ use Rattle.subquery_filter.specs.declared.filter.Filter.{Filter}
 use Rattle.subquery_filter.specs.Filter.{AreMarks, AreTexts, AreTold, AsksTypes, Has, IsFilter, IsTold, LacksAll, marks_at}
 use Rattle.subquery_filter.specs.Found.{HaveAll, HaveNumbers}
 use Rattle.subquery_filter.specs.StepsFilter.{HasAt, HasLists, KeepsBits}
-use Rattle.subquery_filter.proofs.FilterLemmas.{before_step, has_left, has_none, has_right, has_self, has_through, push_cases, push_got, push_last}
+use Rattle.subquery_filter.proofs.BitLemmas.{has_left, has_none, has_right, has_self, has_through}
+use Rattle.subquery_filter.proofs.FilterLemmas.{before_step, push_cases, push_got, push_last}
 use Rattle.subquery_filter.proofs.NumberLemmas.{stands_in}
 
 -- ---- a token stands in the texts that its items match

@@ -1,6 +1,6 @@
 -- Which texts may stand in the texts of numbers.
 use Rattle.std.proofs.Common.{◌≡◌, ℕ, suc, ◌<◌, Bool, true, false, cond, List, [], ◌∷◌, ◌++◌, refl, sym, ◌∙◌, ap, subst, arith, inl, inr, nat_le}
-use Rattle.std.specs.Prelude.{◌==◌, ◌&&◌, ℤ, pos, negsuc, All, slice_index_or}
+use Rattle.std.specs.Prelude.{◌==◌, ◌&&◌, ℤ, pos, negsuc, All, None, slice_index_or}
 use Rattle.std.specs.Char.{digit_value}
 use Rattle.std.specs.Fmt.{decimal, signed_decimal, sign_text}
 use Rattle.std.specs.Int.{cast_signed, cast_unsigned, is_in_range, w64}
@@ -11,14 +11,18 @@ use Rattle.std.proofs.lemmas.Int.{to_z-of_z}
 use Rattle.var_codec.specs.Codes.{Codes}
 use Rattle.var_codec.specs.declared.Coded.TheVariants.{Whole as WholeWord, Decimal as DecimalWord}
 use Rattle.var_codec.proofs.Texts.{all_digits}
+use Rattle.var_codec.specs.declared.Coded.{Coded}
+use Rattle.var_codec.specs.Laws.{OneWord}
+use Rattle.row_codec.specs.Means.{HasWord}
+use Rattle.logtype_text.specs.declared.symbols.Kind.{Kind}
 use Rattle.logtype_text.specs.declared.symbols.Kind.TheVariants.{Whole, Word, Decimal}
 use Rattle.wild_match.specs.Matches.{Match}
 use Rattle.wild_match.specs.declared.pattern.Item.TheVariants.{Many}
 use Rattle.query_plan.specs.Needs.{around}
 use Rattle.query_plan.specs.Pieces.{bytes}
 use Rattle.subquery_filter.specs.declared.token.Token.{Token}
-use Rattle.subquery_filter.specs.Filter.{Covers, Has}
-use Rattle.subquery_filter.specs.StepsFilter.{HasAll, is_digits, is_number_part}
+use Rattle.subquery_filter.specs.Filter.{MarksOpen}
+use Rattle.subquery_filter.specs.StepsFilter.{is_digits, is_number_part}
 
 -- ---- fronts and rests of digits
 
@@ -127,21 +131,54 @@ decimal_part t text word is m =
 
 -- ---- the bits of kinds
 
+pub whole_stands : (words : List (List ℕ)) (kind : Kind) (t text : List ℕ) (word : ℕ) → kind ≡ Whole → HasWord words kind text word → Match (around t) text → is_number_part false t ≡ true
+whole_stands words kind t text word is has m =
+    let (n, coded, packs) = subst (λ (k : Kind). HasWord words k text word) is has in whole_part t text n coded m
+
+pub decimal_stands : (words : List (List ℕ)) (kind : Kind) (t text : List ℕ) (word : ℕ) → kind ≡ Decimal → HasWord words kind text word → Match (around t) text → is_number_part true t ≡ true
+decimal_stands words kind t text word is has m = decimal_part t text word (subst (λ (k : Kind). HasWord words k text word) is has) m
+
+-- the kind of a variable is that of what its text is stored as
+whole_kind : OneWord → (words : List (List ℕ)) (kind : Kind) (text : List ℕ) (word : ℕ) (n : ℤ) → HasWord words kind text word → Codes text (WholeWord n) → kind ≡ Whole
+whole_kind one words Whole text word n has coded = refl
+whole_kind one words Decimal text word n has coded = absurd (let e : DecimalWord word ≡ WholeWord n = one text (DecimalWord word) (WholeWord n) has coded in cc)
+whole_kind one words Word text word n has coded = absurd (has.0.0 n coded)
+
+pub is_whole_kind : OneWord → (words : List (List ℕ)) (kind : Kind) (text : List ℕ) (word : ℕ) (code : Coded) (n : ℤ) → code ≡ WholeWord n → HasWord words kind text word → Codes text code → kind ≡ Whole
+is_whole_kind one words kind text word code n is has coded = whole_kind one words kind text word n has (subst (Codes text) is coded)
+
+decimal_kind : OneWord → (words : List (List ℕ)) (kind : Kind) (text : List ℕ) (word w : ℕ) → HasWord words kind text word → Codes text (DecimalWord w) → kind ≡ Decimal
+decimal_kind one words Decimal text word w has coded = refl
+decimal_kind one words Whole text word w (n, is, packs) coded = absurd (let e : WholeWord n ≡ DecimalWord w = one text (WholeWord n) (DecimalWord w) is coded in cc)
+decimal_kind one words Word text word w has coded = absurd (has.0.1 w coded)
+
+pub is_decimal_kind : OneWord → (words : List (List ℕ)) (kind : Kind) (text : List ℕ) (word : ℕ) (code : Coded) (w : ℕ) → code ≡ DecimalWord w → HasWord words kind text word → Codes text code → kind ≡ Decimal
+is_decimal_kind one words kind text word code w is has coded = decimal_kind one words kind text word w has (subst (Codes text) is coded)
+
 pub stands_in : (k : Token) (text : List ℕ) → Match k.matcher.items text → Match (around k.text) text
 stands_in k text m = subst (λ x. Match x text) (k.same ∙ k.stands) m
 
-pub covers_whole : (tokens : List Token) (bits : ℕ) → All (λ k. is_number_part false k.text ≡ true → Has bits k.bit) tokens → Covers tokens Whole bits
-covers_whole tokens bits each words variable word (n, is, packs) = λ j d lt m.
-    each j d lt (whole_part (slice_index_or tokens j d).text variable n is (stands_in (slice_index_or tokens j d) variable m))
-
-pub covers_decimal : (tokens : List Token) (bits : ℕ) → All (λ k. is_number_part true k.text ≡ true → Has bits k.bit) tokens → Covers tokens Decimal bits
-covers_decimal tokens bits each words variable word is = λ j d lt m.
-    each j d lt (decimal_part (slice_index_or tokens j d).text variable word is (stands_in (slice_index_or tokens j d) variable m))
-
-pub covers_word : (tokens : List Token) (bits : ℕ) → HasAll tokens bits → Covers tokens Word bits
-covers_word tokens bits each words variable word is = λ j d lt m. each j d lt
+-- without a point no less than with one
+pub any_part : (t : List ℕ) → is_number_part false t ≡ true → is_number_part true t ≡ true
+any_part [] is = refl
+any_part (b ∷ t) is = part_more (b == 45) b t refl is
+  where
+    part_more : (e : Bool) (b : ℕ) (t : List ℕ) → (b == 45) ≡ e → is_digits false (cond e t (b ∷ t)) ≡ true → is_digits true (cond e t (b ∷ t)) ≡ true
+    part_more true b t sign digits = with_point t digits
+    part_more false b t sign digits = with_point (b ∷ t) digits
 
 -- ---- the texts of words
 
 pub whole_is : (text : List ℕ) (n : ℤ) (word : ℕ) → Codes text (WholeWord n) → word ≡ cast_unsigned w64 n → text ≡ signed_decimal (cast_signed w64 word)
 whole_is text n word is packs = is.prints ∙ ap signed_decimal (sym (to_z-of_z w64 n is.fits)) ∙ ap (λ w. signed_decimal (cast_signed w64 w)) (sym packs)
+
+-- a whole number is stored as the word that is read as signed
+pub whole_coded : (text : List ℕ) (n : ℤ) (word : ℕ) → Codes text (WholeWord n) → word ≡ cast_unsigned w64 n → Codes text (WholeWord (cast_signed w64 word))
+whole_coded text n word is packs = subst (λ (m : ℤ). Codes text (WholeWord m)) (sym (ap (cast_signed w64) packs ∙ to_z-of_z w64 n is.fits)) is
+
+-- where no open token may stand in a number, none has to be looked for in one
+pub open_none : (tokens : List Token) (text : List ℕ) (bits : ℕ) → All (λ k. k.closed ≡ None → is_number_part true k.text ≡ false) tokens → ((t : List ℕ) → Match (around t) text → is_number_part true t ≡ true)
+    → MarksOpen tokens text bits
+open_none tokens text bits none part j d lt free m =
+    let k : Token = slice_index_or tokens j d in
+    absurd (let e : true ≡ false = sym (part k.text (stands_in k text m)) ∙ none j d lt free in cc)

@@ -15,10 +15,11 @@ use Rattle.subquery_filter.specs.declared.slots.KindBits.{KindBits}
 use Rattle.subquery_filter.specs.declared.slots.Slot.{Slot}
 use Rattle.subquery_filter.specs.declared.slots.TypeTest.{TypeTest}
 use Rattle.subquery_filter.specs.declared.token.Token.{Token}
-use Rattle.subquery_filter.specs.Filter.{AreKindBits, AreMarks, AreSlots, AreSmall, AreStamps, Covers, Has, IsSlot, Marks, slot_may}
+use Rattle.subquery_filter.specs.Filter.{AreCoded, AreKindBits, AreMarks, AreSlots, AreSmall, AreStamps, Covers, Has, IsSlot, Marks, MarksVariable, slot_may}
 use Rattle.subquery_filter.specs.StepsFilter.{Lacks, ListedUpTo, SlotGives, SlotIs, Stays}
 use Rattle.subquery_filter.specs.StepsLetters.{kind_at, kind_before, kinds_in}
-use Rattle.subquery_filter.proofs.FilterLemmas.{has_left, has_right, has_through, push_got, push_last, slot_stays}
+use Rattle.subquery_filter.proofs.BitLemmas.{has_left, has_right, has_through}
+use Rattle.subquery_filter.proofs.FilterLemmas.{push_got, push_last, slot_stays}
 use Rattle.subquery_filter.proofs.LetterLemmas.{other_byte, same_byte}
 use Rattle.subquery_filter.proofs.TokenLemmas.{kinds_slot}
 
@@ -123,7 +124,7 @@ listed_all bits text rest place first known slots none h tokens are k kind at =
 -- ---- what a row brings by its slots
 
 pub gives_more : (f : Filter) (slot : Slot) (word bits more : ℕ) → Has more bits → SlotGives f slot word bits → SlotGives f slot word more
-gives_more f slot word bits more has gives words variable marks small is j d lt m own = has_through more bits _ has (gives words variable marks small is j d lt m own)
+gives_more f slot word bits more has gives words variable marks small coded is j d lt m own = has_through more bits _ has (gives words variable marks small coded is j d lt m own)
 
 pub is_more : (f : Filter) (at : ℕ) (row : List ℕ) (bits more : ℕ) → Has more bits → SlotIs f at row bits → SlotIs f at row more
 is_more f at row bits more has is slot word there here = gives_more f slot word bits more has (is slot word there here)
@@ -142,7 +143,7 @@ same_slots : (o : Option Slot) (a b : Slot) → o ≡ Some a → o ≡ Some b �
 same_slots o a b one two = cc (one, two)
 
 pub is_covered : (f : Filter) (at : ℕ) (row : List ℕ) (all bits : ℕ) (mine : Slot) → Some mine ≡ slice_get f.slots.items at → Has all bits → Has bits mine.bits → SlotIs f at row all
-is_covered f at row all bits mine got more has slot word there here words variable marks small is j d lt m own =
+is_covered f at row all bits mine got more has slot word there here words variable marks small coded is j d lt m own =
     let same = same_slots (slice_get f.slots.items at) mine slot (sym got) there in
     has_through all slot.bits _ (has_through all bits slot.bits more (subst (λ (x : Slot). Has bits x.bits) same has)) own
 
@@ -155,11 +156,11 @@ pub gives_short : (f : Filter) (slot : Slot) (row : List ℕ) (all : ℕ) → No
 gives_short f slot row all none word here = absurd (let e : None ≡ Some word = none ∙ here in cc)
 
 pub gives_brought : (f : Filter) (slot : Slot) (row : List ℕ) (all bits w : ℕ) → Some w ≡ slice_get row slot.place → Has all bits
-    → ((words : List (List ℕ)) (variable : List ℕ) → (slot.kind ≡ Word → AreMarks f.tokens.items words f.marks) → AreSmall f.tokens.items f.small.items → HasWord words slot.kind variable w → Marks f.tokens.items variable bits)
+    → ((words : List (List ℕ)) (variable : List ℕ) → (slot.kind ≡ Word → AreMarks f.tokens.items words f.marks) → AreSmall f.tokens.items f.small.items → AreCoded f.tokens.items → HasWord words slot.kind variable w → MarksVariable f.tokens.items variable bits)
     → (word : ℕ) → slice_get row slot.place ≡ Some word → SlotGives f slot word all
-gives_brought f slot row all bits w got more brings word here words variable marks small is j d lt m own =
+gives_brought f slot row all bits w got more brings word here words variable marks small coded is j d lt m own =
     let word_same : w ≡ word = same_words (slice_get row slot.place) w word (sym got) here in
-    has_through all bits _ more (brings words variable marks small (subst (λ n. HasWord words slot.kind variable n) (sym word_same) is) j d lt m)
+    has_through all bits _ more (brings words variable marks small coded (subst (λ n. HasWord words slot.kind variable n) (sym word_same) is) j d lt m)
   where
     same_words : (o : Option ℕ) (a b : ℕ) → o ≡ Some a → o ≡ Some b → a ≡ b
     same_words o a b one two = cc (one, two)

@@ -11,7 +11,7 @@ use Rattle.segment_format.specs.declared.head.Head.{Head}
 use Rattle.subquery_filter.specs.declared.filter.Filter.{Filter}
 use Rattle.subquery_filter.specs.Filter.{AreStamps, IsWithin, Marks}
 use Rattle.subquery_filter.specs.StepsFilter.{StampsBring}
-use Rattle.subquery_filter.proofs.FilterLemmas.{has_left, has_right, has_through}
+use Rattle.subquery_filter.proofs.BitLemmas.{has_left, has_right, has_through}
 
 -- ---- the table of patterns
 

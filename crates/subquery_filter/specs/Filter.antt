@@ -1,8 +1,10 @@
 -- What a filter knows of the words and the log types of an archive.
-use Rattle.std.specs.Prelude.{◌≡◌, ◌≢◌, ◌⊎◌, ◌<◌, ◌≤◌, ℕ, ℤ, ◌≤ℤ◌, List, All, Some, bit_and, bit_or, false, true, map, slice_get, slice_index_or}
+use Rattle.std.specs.Prelude.{◌≡◌, ◌≢◌, ◌⊎◌, ◌<◌, ◌≤◌, ℕ, ℤ, ◌≤ℤ◌, List, All, None, Some, bit_and, bit_or, false, true, map, slice_get, slice_index_or}
 use Rattle.std.specs.List.{Contains}
 use Rattle.std.specs.Fmt.{signed_decimal}
 use Rattle.std.specs.Int.{cast_signed, w64}
+use Rattle.var_codec.specs.Codes.{Codes}
+use Rattle.var_codec.specs.declared.Coded.{Coded}
 use Rattle.column_store.specs.declared.row.Row.{Row}
 use Rattle.logtype_text.specs.declared.symbols.Kind.{Kind}
 use Rattle.logtype_text.specs.declared.symbols.Kind.TheVariants.{Whole, Word, Decimal}
@@ -23,7 +25,7 @@ use Rattle.subquery_filter.specs.declared.token.Token.{Token}
 use Rattle.subquery_filter.specs.declared.verdicts.Verdict.{Verdict}
 use Rattle.subquery_filter.specs.declared.verdicts.Verdict.TheVariants.{Rejected, Certain, Tried}
 use Rattle.subquery_filter.specs.StepsLetters.{kinds_in}
-use Rattle.subquery_filter.specs.Tokens.{IsTokenOf, StandsInType}
+use Rattle.subquery_filter.specs.Tokens.{IsClosed, IsTokenOf, StandsInType}
 use Rattle.subquery_filter.specs.Verdicts.{IsCertain, IsRejected}
 
 -- all of some bits are among these
@@ -36,6 +38,22 @@ Has bits some = bit_or bits some ≡ bits
 abbrev pub Marks : List Token → List ℕ → ℕ → Type 0
 Marks tokens text bits = All (λ k. Match k.matcher.items text → Has bits k.bit) tokens
 
+-- the token may be in a variable with this text: it stands in it, and is all of it where it is a closed number
+abbrev pub Finds : Token → List ℕ → Type 0
+Finds k text = Match k.matcher.items text × ((code : Coded) → k.closed ≡ Some code → text ≡ k.text)
+
+-- the bit of each token that may be in a variable with this text is among these
+abbrev pub MarksVariable : List Token → List ℕ → ℕ → Type 0
+MarksVariable tokens text bits = All (λ k. Finds k text → Has bits k.bit) tokens
+
+-- the same of the tokens that are no closed numbers
+abbrev pub MarksOpen : List Token → List ℕ → ℕ → Type 0
+MarksOpen tokens text bits = All (λ k. k.closed ≡ None → Match k.matcher.items text → Has bits k.bit) tokens
+
+-- a closed number is kept with what it is stored as
+abbrev pub AreCoded : List Token → Type 0
+AreCoded tokens = All (λ k. (code : Coded) → k.closed ≡ Some code → Codes k.text code) tokens
+
 -- the bit of each token that stands among the constant bytes of the log type is among these
 abbrev pub Gives : List Token → List ℕ → ℕ → Type 0
 Gives tokens text bits = All (λ k. StandsInType k.matcher.items text → Has bits k.bit) tokens
@@ -43,7 +61,7 @@ Gives tokens text bits = All (λ k. StandsInType k.matcher.items text → Has bi
 -- the bit of each token that stands in the text of some variable of this kind is among these
 abbrev pub Covers : List Token → Kind → ℕ → Type 0
 Covers tokens kind bits =
-    (words : List (List ℕ)) (variable : List ℕ) (word : ℕ) → HasWord words kind variable word → Marks tokens variable bits
+    (words : List (List ℕ)) (variable : List ℕ) (word : ℕ) → HasWord words kind variable word → MarksVariable tokens variable bits
 
 -- these bits are among any that have the bit of each token
 abbrev pub IsWanted : List Token → ℕ → Type 0
@@ -63,9 +81,9 @@ marks_at marks n = slice_index_or marks.table.items (bit_and n marks.mask) 0
 abbrev pub AreMarks : List Token → List (List ℕ) → WordMarks → Type 0
 AreMarks tokens words marks = (n : ℕ) (text : List ℕ) → slice_get words n ≡ Some text → Marks tokens text (marks_at marks n)
 
--- the marks of the whole numbers whose words are small stand at their words
+-- the marks of the whole numbers whose words are small stand at their words, without those of closed numbers
 abbrev pub AreSmall : List Token → List ℕ → Type 0
-AreSmall tokens small = (n bits : ℕ) → slice_get small n ≡ Some bits → Marks tokens (signed_decimal (cast_signed w64 n)) bits
+AreSmall tokens small = (n bits : ℕ) → slice_get small n ≡ Some bits → MarksOpen tokens (signed_decimal (cast_signed w64 n)) bits
 
 -- what each pattern's stamps may bring stands at its number
 abbrev pub AreStamps : List Token → List ℕ → Type 0
@@ -147,6 +165,11 @@ AreTold f verdicts =
 
 -- ---- the filter
 
+-- a token of the pieces, and closed where it is kept as a closed number
+pub record IsAsked (ps : List Piece) (k : Token) : Type 0 where
+  pub token : IsTokenOf ps k.matcher.items
+  pub closed : (code : Coded) → k.closed ≡ Some code → IsClosed ps k.text code
+
 -- the texts of the tokens, in their order
 abbrev pub AreTexts : List Token → List (List ℕ) → Type 0
 AreTexts tokens texts = (j : ℕ) (k : Token) → slice_get tokens j ≡ Some k → slice_get texts j ≡ Some k.text
@@ -155,7 +178,7 @@ AreTexts tokens texts = (j : ℕ) (k : Token) → slice_get tokens j ≡ Some k 
 -- word is listed, its needles are the texts of all tokens.
 pub record AsksTypes (ps : List Piece) (types : List (List ℕ)) (f : Filter) : Type 0 where
   pub cut : IsCut ps
-  pub are : All (λ k. IsTokenOf ps k.matcher.items) f.tokens.items
+  pub are : All (IsAsked ps) f.tokens.items
   pub wanted : IsWanted f.tokens.items f.wanted
   pub tests : AreTests ps f.tokens.items types f.slots.items f.tests.items
   pub needles :

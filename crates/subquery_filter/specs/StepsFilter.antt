@@ -16,13 +16,12 @@ use Rattle.subquery_filter.specs.declared.slots.Slot.{Slot}
 use Rattle.subquery_filter.specs.declared.slots.TypeTest.{TypeTest}
 use Rattle.subquery_filter.specs.declared.token.Token.{Token}
 use Rattle.subquery_filter.specs.declared.verdicts.Verdict.TheVariants.{Rejected, Tried}
-use Rattle.subquery_filter.specs.Filter.{AreKindBits, AreMarks, AreSmall, AreStamps, Has, IsSlot, IsWithin, LacksAll, Marks, marks_at}
+use Rattle.subquery_filter.specs.Filter.{AreCoded, AreKindBits, AreMarks, AreSmall, AreStamps, Finds, Has, IsAsked, IsSlot, IsWithin, LacksAll, Marks, marks_at}
 use Rattle.subquery_filter.specs.StepsLetters.{kinds_in}
-use Rattle.subquery_filter.specs.Tokens.{IsTokenOf}
 
 -- tokens of these pieces
 abbrev pub AreTokens : List Piece → List Token → Type 0
-AreTokens ps tokens = All (λ k. IsTokenOf ps k.matcher.items) tokens
+AreTokens ps tokens = All (IsAsked ps) tokens
 
 -- the bit of each token is among these
 abbrev pub HasAll : List Token → ℕ → Type 0
@@ -80,8 +79,8 @@ is_number_part point t = is_digits point (unsigned t)
 abbrev pub SlotGives : Filter → Slot → ℕ → ℕ → Type 0
 SlotGives f slot word bits =
     (words : List (List ℕ)) (variable : List ℕ) → (slot.kind ≡ Word → AreMarks f.tokens.items words f.marks)
-    → AreSmall f.tokens.items f.small.items → HasWord words slot.kind variable word
-    → All (λ k. Match k.matcher.items variable → Has slot.bits k.bit → Has bits k.bit) f.tokens.items
+    → AreSmall f.tokens.items f.small.items → AreCoded f.tokens.items → HasWord words slot.kind variable word
+    → All (λ k. Finds k variable → Has slot.bits k.bit → Has bits k.bit) f.tokens.items
 
 -- so it is of the slot that is listed at this place
 abbrev pub SlotIs : Filter → ℕ → List ℕ → ℕ → Type 0

@@ -1,14 +1,18 @@
 -- What the tokens of a pattern tell of the rows that it may match: each of them stands in the row's
 -- stamp, among the constant bytes of its log type, or in the text of one of its variables.
-use Rattle.std.specs.Prelude.{◌≡◌, ◌⊎◌, ℕ, Some, List, [], ◌∷◌, false, slice_get}
+use Rattle.std.specs.Prelude.{◌≡◌, ◌⊎◌, ℕ, Some, List, [], ◌∷◌, false, true, slice_get}
 use Rattle.std.specs.List.{Contains}
+use Rattle.token_rules.specs.Tokens.{is_variable}
+use Rattle.var_codec.specs.Codes.{Codes}
+use Rattle.var_codec.specs.declared.Coded.{Coded}
 use Rattle.column_store.specs.declared.row.Row.{Row}
 use Rattle.logtype_text.specs.declared.symbols.Kind.{Kind}
 use Rattle.wild_match.specs.Matches.{Match}
 use Rattle.wild_match.specs.declared.pattern.Item.{Item}
 use Rattle.row_codec.specs.Means.{HasStampText, HasWord, IsCanonical}
 use Rattle.query_plan.specs.declared.pieces.Piece.{Piece}
-use Rattle.query_plan.specs.declared.pieces.Piece.TheVariants.{Word}
+use Rattle.query_plan.specs.declared.pieces.Piece.TheVariants.{Mark, Word}
+use Rattle.query_plan.specs.Laws.{IsChunk}
 use Rattle.query_plan.specs.Needs.{around}
 use Rattle.query_plan.specs.Pieces.{IsCut, flat}
 use Rattle.subquery_filter.specs.StepsLetters.{kinds_in, marked_from}
@@ -44,3 +48,32 @@ RowsBringTokens =
     → IsCut ps → IsCanonical version row types words message → Match (flat ps) message → IsTokenOf ps items
     → slice_get types row.log_type ≡ Some text
     → StandsInStamp items row ⊎ (StandsInType items text ⊎ StandsInSlot items words text row.words)
+
+-- a token of the pieces that stands between delimiters of them, and is a variable that is stored so
+pub record IsClosed (ps : List Piece) (t : List ℕ) (code : Coded) : Type 0 where
+  pub before : ℕ
+  pub behind : ℕ
+  pub chunk : IsChunk ps (Mark before ∷ Word t ∷ Mark behind ∷ [])
+  pub variable : is_variable (Some before) t ≡ true
+  pub coded : Codes t code
+
+-- the text is that of a variable: its kind is that of the log type's slot at this place, and the row's word at the
+-- same place is that of the text
+pub record OwnsSlot (t : List ℕ) (words : List (List ℕ)) (text row : List ℕ) : Type 0 where
+  pub place : ℕ
+  pub kind : Kind
+  pub word : ℕ
+  pub slot : slice_get (kinds_in false text) place ≡ Some kind
+  pub at : slice_get row place ≡ Some word
+  pub has : HasWord words kind t word
+
+-- a row whose message the pieces match brings each such token: in its stamp, or as the whole text of a variable
+abbrev pub RowsBringClosed : Type 0
+RowsBringClosed =
+    (version : ℕ) (ps : List Piece) (row : Row) (types words : List (List ℕ)) (text message t : List ℕ) (code : Coded)
+    → IsCut ps → IsCanonical version row types words message → Match (flat ps) message → IsClosed ps t code
+    → slice_get types row.log_type ≡ Some text → StandsInStamp (around t) row ⊎ OwnsSlot t words text row.words
+
+-- both
+abbrev pub RowsBring : Type 0
+RowsBring = RowsBringTokens × RowsBringClosed

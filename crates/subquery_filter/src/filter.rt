@@ -9,16 +9,16 @@ ghost use Rattle.query_plan.specs.Laws.{IsSearched};
 ghost use Rattle.query_plan.specs.Pieces.{wide_pieces};
 ghost use Rattle.query_plan.specs.declared.pieces.Piece.{Piece};
 ghost use Rattle.subquery_filter.specs.declared.slots.Slot.{Slot};
-ghost use Rattle.subquery_filter.specs.Filter.{AreMarks, AreSmall, AreStamps, AreTold, AsksTypes, Has, HasNoMatch, IsFilter, IsRowVerdict, IsTold, LacksAll, Marks, slot_may};
+ghost use Rattle.subquery_filter.specs.Filter.{AreCoded, AreMarks, AreSmall, AreStamps, AreTold, AsksTypes, Has, HasNoMatch, IsFilter, IsRowVerdict, IsTold, LacksAll, Marks, MarksVariable, slot_may};
 ghost use Rattle.subquery_filter.specs.declared.verdicts.Verdict.TheVariants.{Certain};
 ghost use Rattle.subquery_filter.specs.Found.{HaveAll};
 ghost use Rattle.subquery_filter.specs.StepsFilter.{HasEach, IsShut, Lacks, LacksTokens, SlotGives, SlotIs, StampsBring};
 
 use crate::bits::{any_of, has, mark_at};
-use crate::laws::{rows_bring_tokens, verdicts_hold};
+use crate::laws::{rows_bring_closed, rows_bring_tokens, verdicts_hold};
 use crate::marks::WordMarks;
 use crate::needles::{lists_with, needles_of};
-use crate::numbers::{decimal_bits, kind_bits, mark_small, whole_bits};
+use crate::numbers::{decimal_bits, has_open, kind_bits, mark_small, whole_bits};
 use crate::slots::{Slot, TypeTest, has_kind, test_types};
 use crate::stamps::{bits_within, mark_stamps, stamp_bits};
 use crate::token::Token;
@@ -71,11 +71,12 @@ fn bits_of_list(marks: &WordMarks, numbers: &[u32]) -> u8
     bits
 }
 
-/// The bits of small whole numbers where a slot of a whole number is listed, and none otherwise.
+/// The bits of small whole numbers where a slot of a whole number is listed, and a token may stand in its
+/// digits; and none otherwise.
 fn small_needed(alloc: Global, slots: &[Slot], tokens: &[Token]) -> Result<Vec<u8>, AllocError>
     ensures { IfOk result (λ small. AreSmall tokens.now small.items) }
 {
-    if !has_kind(slots, Kind::Whole) {
+    if !has_kind(slots, Kind::Whole) || !has_open(tokens) {
         return Ok(Vec::new(alloc));
     }
     let small = mark_small(alloc, tokens)?;
@@ -227,7 +228,8 @@ impl Filter {
         ensures { (words : List (List ℕ)) (variable : List ℕ)
             → (kind ≡ Word → AreMarks self.now.tokens.items words self.now.marks)
             → AreSmall self.now.tokens.items self.now.small.items
-            → HasWord words kind variable word → Marks self.now.tokens.items variable result }
+            → AreCoded self.now.tokens.items → HasWord words kind variable word
+            → MarksVariable self.now.tokens.items variable result }
     {
         match kind {
             Kind::Word => self.marks.at(word),
@@ -339,6 +341,7 @@ impl Filter {
     {
         verdicts_hold();
         rows_bring_tokens();
+        rows_bring_closed();
         let Some(verdict) = self.verdict_at(row.log_type) else {
             return Verdict::Tried;
         };
@@ -423,6 +426,7 @@ impl Filter {
     {
         verdicts_hold();
         rows_bring_tokens();
+        rows_bring_closed();
         let types = head.types.as_slice();
         let stamped = self.stamps_of(head);
         if self.some_may(types, stamped, 0) {

@@ -1,9 +1,12 @@
 //! Laws of barren segments and of verdicts. The functions do nothing.
 ghost use Rattle.subquery_filter.specs.Laws.{BarrenHasNoMatch};
-ghost use Rattle.subquery_filter.specs.Tokens.{RowsBringTokens};
+ghost use Rattle.subquery_filter.specs.Tokens.{RowsBringClosed, RowsBringTokens};
 ghost use Rattle.subquery_filter.specs.Verdicts.{CertainAlwaysMatches, RejectedNeverMatches};
 
-use query_plan::{constants_suffice, needs_are_brought, tokens_are_brought};
+use query_plan::{
+    chunks_are_brought, constants_suffice, needs_are_brought, readings_are_exact,
+    tokens_are_brought,
+};
 use time_patterns::laws::stamp_texts_are_short;
 
 /// A barren segment has no message in the range that the pattern which a search is planned over
@@ -32,4 +35,13 @@ pub fn rows_bring_tokens()
     ensures { RowsBringTokens }
 {
     tokens_are_brought();
+}
+
+/// A row whose message a pattern matches brings each token that stands between delimiters of the pattern
+/// and is a variable: in its stamp, or as the whole text of a variable.
+pub fn rows_bring_closed()
+    ensures { RowsBringClosed }
+{
+    chunks_are_brought();
+    readings_are_exact();
 }

@@ -26,6 +26,6 @@ pub use accepting::accepts;
 pub use filter::Filter;
 pub use known::{KnownWord, known_words};
 pub use known_names::KnownNames;
-pub use laws::{barren_has_no_match, rows_bring_tokens, verdicts_hold};
+pub use laws::{barren_has_no_match, rows_bring_closed, rows_bring_tokens, verdicts_hold};
 pub use rules::{barren, barren_by, is_outside};
 pub use verdicts::{Verdict, verdict_of};

@@ -1,17 +1,23 @@
 //! Which tokens stand in the texts of numbers.
-ghost use Rattle.std.specs.Prelude.{◌≡◌, ℕ, ℤ, List, All, IfOk, true};
+ghost use Rattle.std.specs.Prelude.{◌≡◌, ℕ, List, All, IfOk, IsFalse, None, Some, false, true};
 ghost use Rattle.std.specs.Fmt.{signed_decimal};
-ghost use Rattle.std.specs.Int.{cast_signed, cast_unsigned, w64};
+ghost use Rattle.std.specs.Int.{cast_signed, w64};
 ghost use Rattle.var_codec.specs.Codes.{Codes};
-ghost use Rattle.var_codec.specs.declared.Coded.TheVariants.{Decimal, Whole};
-ghost use Rattle.subquery_filter.specs.Filter.{AreKindBits, AreSmall, Has, Marks};
+ghost use Rattle.var_codec.specs.declared.Coded.{Coded};
+ghost use Rattle.var_codec.specs.declared.Coded.TheVariants.{Decimal as DecimalWord};
+ghost use Rattle.logtype_text.specs.declared.symbols.Kind.TheVariants.{Whole};
+ghost use Rattle.wild_match.specs.Matches.{Match};
+ghost use Rattle.row_codec.specs.Means.{HasWord};
+ghost use Rattle.query_plan.specs.Needs.{around};
+ghost use Rattle.subquery_filter.specs.Filter.{AreCoded, AreKindBits, AreSmall, Covers, Finds, MarksOpen, MarksVariable};
 ghost use Rattle.subquery_filter.specs.StepsFilter.{is_digits, is_number_part, unsigned};
 
 use crate::slots::KindBits;
 use crate::token::Token;
-use crate::tokens::{all_bits, marks_of};
+use crate::tokens::{coded_bits, open_marks};
+use logtype_text::Kind;
 use std::alloc::{AllocError, Global};
-use var_codec::{decimal_ok, decimal_text, whole_text};
+use var_codec::{Coded, decimal_ok, decimal_text, one_word, whole_text};
 
 /// How many whole numbers have their marks in a table.
 const SMALL: u64 = 65_536;
@@ -43,46 +49,104 @@ fn is_digits(mut point: bool, text: &[u8]) -> bool
     true
 }
 
-/// The bit of a token that may stand in the text of a number, one with a point or without.
-fn number_bit(token: &Token, point: bool) -> u8
-    ensures { is_number_part point token.now.text ≡ true → result ≡ token.now.bit }
+/// Whether a token that is no closed number may stand in a variable of this kind.
+fn may_stand(text: &[u8], kind: Kind) -> bool
+    ensures { (words : List (List ℕ)) (variable : List ℕ) (word : ℕ)
+        → HasWord words kind variable word → Match (around text.now) variable → result ≡ true }
 {
-    if is_digits(point, unsigned(token.text.as_slice())) {
-        token.bit
-    } else {
-        0
+    match kind {
+        Kind::Whole => is_digits(false, unsigned(text)),
+        Kind::Decimal => is_digits(true, unsigned(text)),
+        Kind::Word => true,
     }
 }
 
-/// The bits of the tokens that may stand in the text of a number, one with a point or without.
-fn number_bits(tokens: &[Token], point: bool) -> u8
-    ensures { All (λ k. is_number_part point k.text ≡ true → Has result k.bit) tokens.now }
+/// Whether what is stored so is a variable of this kind.
+fn is_kind(code: Coded, kind: Kind) -> bool
+    ensures { (words : List (List ℕ)) (variable : List ℕ) (word : ℕ)
+        → HasWord words kind variable word → Codes variable code → result ≡ true }
+{
+    one_word();
+    match code {
+        Coded::Whole(_) => kind == Kind::Whole,
+        Coded::Decimal(_) => kind == Kind::Decimal,
+        Coded::Word => kind == Kind::Word,
+    }
+}
+
+/// Whether a token may be in a variable of this kind.
+fn may_be(token: &Token, kind: Kind) -> bool
+    ensures { ((code : Coded) → token.now.closed ≡ Some code → Codes token.now.text code)
+        → (words : List (List ℕ)) (variable : List ℕ) (word : ℕ)
+        → HasWord words kind variable word → Finds token.now variable → result ≡ true }
+{
+    match token.closed {
+        Some(code) => is_kind(code, kind),
+        None => may_stand(token.text.as_slice(), kind),
+    }
+}
+
+/// The bit of a token that may be in a variable of this kind.
+fn kind_bit(token: &Token, kind: Kind) -> u8
+    ensures { ((code : Coded) → token.now.closed ≡ Some code → Codes token.now.text code)
+        → (words : List (List ℕ)) (variable : List ℕ) (word : ℕ)
+        → HasWord words kind variable word → Finds token.now variable
+        → result ≡ token.now.bit }
+{
+    if may_be(token, kind) { token.bit } else { 0 }
+}
+
+/// The bits of the tokens that may be in variables of this kind.
+fn bits_of_kind(tokens: &[Token], kind: Kind) -> u8
+    ensures { AreCoded tokens.now → Covers tokens.now kind result }
 {
     let mut bits = 0;
     for token in tokens {
-        bits |= number_bit(token, point);
+        bits |= kind_bit(token, kind);
     }
     bits
 }
 
 /// The bits that each kind of variable may bring.
 pub(crate) fn kind_bits(tokens: &[Token]) -> KindBits
-    ensures { AreKindBits tokens.now result }
+    ensures { AreCoded tokens.now → AreKindBits tokens.now result }
 {
     KindBits {
-        whole: number_bits(tokens, false),
-        decimal: number_bits(tokens, true),
-        word: all_bits(tokens),
+        whole: bits_of_kind(tokens, Kind::Whole),
+        decimal: bits_of_kind(tokens, Kind::Decimal),
+        word: bits_of_kind(tokens, Kind::Word),
     }
 }
 
-/// The bits of the tokens that stand in the text of a whole number.
+/// Whether some token that is no closed number may stand in the text of a number, one with a point or
+/// without. Where none does, no digits have to be looked at.
+pub(crate) fn has_open(tokens: &[Token]) -> bool
+    ensures { IsFalse result → All (λ k. k.closed ≡ None
+        → is_number_part true k.text ≡ false) tokens.now }
+{
+    for token in tokens {
+        if is_open_number(token) {
+            return true;
+        }
+    }
+    false
+}
+
+/// Whether a token is no closed number, and may stand in the text of a number.
+fn is_open_number(token: &Token) -> bool
+    ensures { IsFalse result → token.now.closed ≡ None
+        → is_number_part true token.now.text ≡ false }
+{
+    token.closed.is_none() && is_digits(true, unsigned(token.text.as_slice()))
+}
+
+/// The bits of the tokens, but for closed numbers, that stand in the text of a whole number.
 fn whole_marks(tokens: &[Token], word: u64) -> u8
-    ensures { Marks tokens.now (signed_decimal (cast_signed w64 word)) result }
+    ensures { MarksOpen tokens.now (signed_decimal (cast_signed w64 word)) result }
 {
     let mut digits = [0; 20];
     let len = whole_text(word.cast_signed(), &mut digits);
-    marks_of(tokens, &digits[..len])
+    open_marks(tokens, &digits[..len])
 }
 
 /// The marks of the whole numbers whose words are small.
@@ -96,11 +160,11 @@ pub(crate) fn mark_small(alloc: Global, tokens: &[Token]) -> Result<Vec<u8>, All
     Ok(small)
 }
 
-/// The bits of the tokens that stand in the text of a whole number, by the table where it is small.
-#[inline]
-pub(crate) fn whole_bits(tokens: &[Token], small: &[u8], word: u64) -> u8
+/// The bits of the tokens, but for closed numbers, that stand in the text of a whole number: by the table
+/// where it is small.
+fn open_whole(tokens: &[Token], small: &[u8], word: u64) -> u8
     ensures { AreSmall tokens.now small.now
-        → Marks tokens.now (signed_decimal (cast_signed w64 word)) result }
+        → MarksOpen tokens.now (signed_decimal (cast_signed w64 word)) result }
 {
     let place = word as usize;
     if place < small.len() {
@@ -110,14 +174,42 @@ pub(crate) fn whole_bits(tokens: &[Token], small: &[u8], word: u64) -> u8
     }
 }
 
-/// The bits of the tokens that stand in the text of a decimal.
-pub(crate) fn decimal_bits(tokens: &[Token], word: u64) -> u8
-    ensures { (text : List ℕ) → Codes text (Decimal word) → Marks tokens.now text result }
+/// The bits of the tokens that are in a whole number.
+#[inline]
+pub(crate) fn whole_bits(tokens: &[Token], small: &[u8], word: u64) -> u8
+    ensures { AreSmall tokens.now small.now → AreCoded tokens.now → (words : List (List ℕ))
+        → (variable : List ℕ) → HasWord words Whole variable word
+        → MarksVariable tokens.now variable result }
+{
+    one_word();
+    let exact = coded_bits(tokens, Coded::Whole(word.cast_signed()));
+    if !has_open(tokens) {
+        return exact;
+    }
+    exact | open_whole(tokens, small, word)
+}
+
+/// The bits of the tokens, but for closed numbers, that stand in the text of a decimal.
+fn open_decimal(tokens: &[Token], word: u64) -> u8
+    ensures { (text : List ℕ) → Codes text (DecimalWord word) → MarksOpen tokens.now text result }
 {
     if !decimal_ok(word) {
         return 0;
     }
     let mut digits = [0; 20];
     let len = decimal_text(word, &mut digits);
-    marks_of(tokens, &digits[..len])
+    open_marks(tokens, &digits[..len])
+}
+
+/// The bits of the tokens that are in a decimal.
+pub(crate) fn decimal_bits(tokens: &[Token], word: u64) -> u8
+    ensures { AreCoded tokens.now → (variable : List ℕ) → Codes variable (DecimalWord word)
+        → MarksVariable tokens.now variable result }
+{
+    one_word();
+    let exact = coded_bits(tokens, Coded::Decimal(word));
+    if !has_open(tokens) {
+        return exact;
+    }
+    exact | open_decimal(tokens, word)
 }

@@ -3,6 +3,7 @@ ghost use Rattle.std.specs.Prelude.{◌≡◌};
 ghost use Rattle.query_plan.specs.Needs.{around};
 
 use plain_list::Text;
+use var_codec::Coded;
 use wild_match::{Matcher, Pattern};
 
 /// A token of a pattern, made ready to be looked for, and its bit.
@@ -16,6 +17,9 @@ pub(crate) struct Token {
     pub(crate) pattern: Pattern,
     /// One of eight bits.
     pub(crate) bit: u8,
+    /// What it is stored as, where it is a number between delimiters of the pattern: then it is all of a
+    /// variable or none of it.
+    pub(crate) closed: Option<Coded>,
     pub(crate) ghost same: { matcher.items ≡ pattern },
     pub(crate) ghost stands: { pattern ≡ around text },
 }

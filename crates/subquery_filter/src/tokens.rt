@@ -1,18 +1,21 @@
 //! The tokens of a pattern, and in which texts they stand.
-ghost use Rattle.std.specs.Prelude.{◌≡◌, ◌⊎◌, ℕ, List, All, IfOk, OnOk, true};
-ghost use Rattle.std.specs.List.{Contains};
+ghost use Rattle.std.specs.Prelude.{◌≡◌, ℕ, List, All, IfOk, IfSome, IsTrue, None, OnOk, Option, Some, slice_get, true};
+ghost use Rattle.token_rules.specs.Tokens.{is_variable};
+ghost use Rattle.var_codec.specs.Codes.{Codes};
+ghost use Rattle.var_codec.specs.declared.Coded.{Coded};
 ghost use Rattle.wild_match.specs.Matches.{Match};
-ghost use Rattle.query_plan.specs.declared.pieces.Piece.{Piece};
-ghost use Rattle.subquery_filter.specs.Filter.{Gives, Has, IsWanted, Marks};
+ghost use Rattle.query_plan.specs.declared.pieces.Piece.TheVariants.{Mark, Word};
+ghost use Rattle.subquery_filter.specs.Filter.{Gives, Has, IsWanted, Marks, MarksOpen};
 ghost use Rattle.subquery_filter.specs.StepsFilter.{AreTokens, HasAll};
 ghost use Rattle.query_plan.specs.Needs.{around};
-ghost use Rattle.subquery_filter.specs.Tokens.{StandsInType};
+ghost use Rattle.subquery_filter.specs.Tokens.{IsClosed, StandsInType};
 
 use crate::token::Token;
 use crate::verdicts::matches_marked;
 use plain_list::Text;
 use query_plan::Piece;
 use std::alloc::{AllocError, Global};
+use var_codec::{Coded, encode};
 use wild_match::{Item, Matcher, Pattern};
 
 /// A text with any bytes on both sides.
@@ -42,23 +45,90 @@ fn bit_behind(count: usize) -> u8 {
     }
 }
 
-/// Appends a piece where it is a token.
-fn push_token(alloc: Global, tokens: &mut Vec<Token>, piece: &Piece) -> Result<(), AllocError>
-    ensures { OnOk result ((ps : List Piece) → Contains ps piece.now
-        → AreTokens ps tokens.old.items → AreTokens ps tokens.new.items) }
+/// The delimiter that stands at a place.
+fn mark_at(pieces: &[Piece], place: usize) -> Option<u8>
+    ensures { (d : ℕ) → result ≡ Some d → slice_get pieces.now place ≡ Some (Mark d) }
 {
-    let Piece::Word(text) = piece else {
+    match pieces.get(place) {
+        Some(Piece::Mark(delimiter)) => Some(*delimiter),
+        _ => None,
+    }
+}
+
+/// The text of the token that stands at a place.
+fn token_at(pieces: &[Piece], place: usize) -> Option<&[u8]>
+    ensures { IfSome result (λ text. slice_get pieces.now place ≡ Some (Word text.now)) }
+{
+    match pieces.get(place) {
+        Some(Piece::Word(text)) => Some(text.as_slice()),
+        _ => None,
+    }
+}
+
+/// Whether a text has a digit, so that it is a variable as a token.
+fn has_digit(text: &[u8]) -> bool
+    ensures { IsTrue result → (before : Option ℕ) → is_variable before text.now ≡ true }
+{
+    for byte in text {
+        if byte.is_ascii_digit() {
+            return true;
+        }
+    }
+    false
+}
+
+/// What a text is stored as, where it is a number.
+fn number_code(text: &[u8]) -> Option<Coded>
+    ensures coded { (code : Coded) → result ≡ Some code → Codes text.now code }
+    ensures variable { (code : Coded) → result ≡ Some code → (before : Option ℕ)
+        → is_variable before text.now ≡ true }
+{
+    if !has_digit(text) {
+        return None;
+    }
+    match encode(text) {
+        Coded::Word => None,
+        code => Some(code),
+    }
+}
+
+/// What the token at a place is stored as, where it is a number between two delimiters.
+fn closed_code(pieces: &[Piece], place: usize, text: &[u8]) -> Option<Coded>
+    requires { slice_get pieces.now place ≡ Some (Word text.now) }
+    ensures { (code : Coded) → result ≡ Some code → IsClosed pieces.now text.now code }
+{
+    if place == 0 {
+        return None;
+    }
+    mark_at(pieces, place - 1)?;
+    mark_at(pieces, place + 1)?;
+    number_code(text)
+}
+
+/// Appends the piece at a place where it is a token.
+fn push_token(
+    alloc: Global,
+    tokens: &mut Vec<Token>,
+    pieces: &[Piece],
+    place: usize,
+) -> Result<(), AllocError>
+    ensures { OnOk result (AreTokens pieces.now tokens.old.items
+        → AreTokens pieces.now tokens.new.items) }
+{
+    let Some(bytes) = token_at(pieces, place) else {
         return Ok(());
     };
-    let pattern = around(alloc, text.as_slice())?;
+    let pattern = around(alloc, bytes)?;
     let matcher = Matcher::new(alloc, &pattern)?;
     let bit = bit_behind(tokens.len());
-    let bytes = Vec::from_slice(alloc, text.as_slice())?;
+    let closed = closed_code(pieces, place, bytes);
+    let text = Text::new(Vec::from_slice(alloc, bytes)?);
     tokens.push(Token {
-        text: Text::new(bytes),
+        text,
         matcher,
         pattern,
         bit,
+        closed,
     })?;
     Ok(())
 }
@@ -68,8 +138,8 @@ pub(crate) fn tokens_of(alloc: Global, pieces: &[Piece]) -> Result<Vec<Token>, A
     ensures { IfOk result (λ tokens. AreTokens pieces.now tokens.items) }
 {
     let mut tokens = Vec::new(alloc);
-    for piece in pieces {
-        push_token(alloc, &mut tokens, piece)?;
+    for place in 0..pieces.len() {
+        push_token(alloc, &mut tokens, pieces, place)?;
     }
     Ok(tokens)
 }
@@ -127,6 +197,53 @@ pub(crate) fn gifts_of(tokens: &[Token], text: &[u8]) -> u8
     let mut bits = 0;
     for token in tokens {
         bits |= gift_of(token, text);
+    }
+    bits
+}
+
+/// The bit of a token that is no closed number where it stands in a text.
+fn open_mark(token: &Token, text: &[u8]) -> u8
+    ensures { token.now.closed ≡ None → Match token.now.matcher.items text.now
+        → result ≡ token.now.bit }
+{
+    if token.closed.is_none() && token.matcher.matches(text) {
+        token.bit
+    } else {
+        0
+    }
+}
+
+/// The bits of the tokens that are no closed numbers, and stand in a text.
+pub(crate) fn open_marks(tokens: &[Token], text: &[u8]) -> u8
+    ensures { MarksOpen tokens.now text.now result }
+{
+    let mut bits = 0;
+    for token in tokens {
+        bits |= open_mark(token, text);
+    }
+    bits
+}
+
+/// The bit of a token that is a closed number, and is stored so.
+#[inline]
+fn coded_bit(token: &Token, code: Coded) -> u8
+    ensures { token.now.closed ≡ Some code → result ≡ token.now.bit }
+{
+    if token.closed == Some(code) {
+        token.bit
+    } else {
+        0
+    }
+}
+
+/// The bits of the closed numbers that are stored so.
+#[inline]
+pub(crate) fn coded_bits(tokens: &[Token], code: Coded) -> u8
+    ensures { All (λ k. k.closed ≡ Some code → Has result k.bit) tokens.now }
+{
+    let mut bits = 0;
+    for token in tokens {
+        bits |= coded_bit(token, code);
     }
     bits
 }

@@ -1,6 +1,14 @@
-use Rattle.std.proofs.Common.{List, ℕ, subst, sym}
-use Rattle.subquery_filter.specs.Filter.{Marks}
+use Rattle.std.proofs.Common.{rules}
+use Rattle.var_codec.specs.declared.Coded.TheVariants.{Decimal as DecimalWord}
+use Rattle.subquery_filter.proofs.ClosedLemmas.{both_marks, exact_marks}
+use Rattle.subquery_filter.proofs.NumberLemmas.{decimal_part, open_none}
 use Rattle.subquery_filter.proofs.numbers.decimal_bits.Goals as goal
 
+pub returns-then-not-has_open : goal.returns-then-not-has_open
+returns-then-not-has_open c = λ coded variable is.
+    exact_marks c.one_word.ensures c.args.tokens.now variable (DecimalWord c.args.word) c.coded_bits-exact.result is coded (search rules)
+    (open_none c.args.tokens.now variable c.coded_bits-exact.result (c.has_open.ensures (search rules)) (λ t m. decimal_part t variable c.args.word is m))
+
 pub returns : goal.returns
-returns c = λ text is. subst (λ (t : List ℕ). Marks c.args.tokens.now t c.marks_of.result) (sym (c.decimal_text-len.ensures.only text is)) c.marks_of.ensures
+returns c = λ coded variable is.
+    both_marks c.one_word.ensures c.args.tokens.now variable (DecimalWord c.args.word) c.coded_bits-exact.result c.open_decimal.result is coded (search rules) (c.open_decimal.ensures variable is)

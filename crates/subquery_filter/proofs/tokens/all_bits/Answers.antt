@@ -1,6 +1,7 @@
 use Rattle.std.proofs.Common.{arith, rules, refl}
 use Rattle.subquery_filter.specs.declared.token.Token.{Token}
-use Rattle.subquery_filter.proofs.FilterLemmas.{each_step, has_none, wanted_step}
+use Rattle.subquery_filter.proofs.BitLemmas.{has_none}
+use Rattle.subquery_filter.proofs.FilterLemmas.{each_step, wanted_step}
 use Rattle.subquery_filter.proofs.tokens.all_bits.Goals as goal
 
 pub loop-token-init : goal.loop-token-init

@@ -1,11 +1,12 @@
-use Rattle.std.proofs.Common.{◌≡◌, ℕ, List, subst}
+use Rattle.std.proofs.Common.{◌≡◌, ℕ, List, subst, sym}
 use Rattle.std.specs.Prelude.{Some, slice_get, slice_index_or}
 use Rattle.logtype_text.specs.declared.symbols.Kind.TheVariants.{Word}
 use Rattle.query_plan.specs.Pieces.{IsCut}
 use Rattle.subquery_filter.specs.declared.slots.Slot.{Slot}
 use Rattle.subquery_filter.specs.declared.token.Token.{Token}
-use Rattle.subquery_filter.specs.Filter.{AreSmall, AreStamps, AreTests, AreTexts, AsksTypes, Has, IsWanted, marks_at}
+use Rattle.subquery_filter.specs.Filter.{AreCoded, AreSmall, AreStamps, AreTests, AreTexts, AsksTypes, Has, IsWanted, marks_at}
 use Rattle.subquery_filter.specs.StepsFilter.{AreTokens}
+use Rattle.subquery_filter.proofs.ClosedLemmas.{are_coded}
 use Rattle.subquery_filter.proofs.MarkLemmas.{none_brought, told_none, told_ok}
 use Rattle.subquery_filter.proofs.filter.Filter.begin.Goals as goal
 
@@ -16,12 +17,13 @@ returns g c =
     let slots = c.test_types.new.slots.items in
     let tests = c.test_types.new.tests.items in
     let looked = c.as_slice-looked.ensures.value in
+    let coded : AreCoded c.as_slice-looked.result.now = subst AreCoded (sym looked) (are_coded _ tokens c.in_ok-tokens.ensures) in
     let needles = c.in_ok-needles.needles.items in
     let asks : AsksTypes c.args.plan.now types _ = record {
       cut = subst IsCut c.pieces.ensures.pieces c.pieces.ensures.cut;
       are = subst (λ ps. AreTokens ps tokens) c.pieces.ensures.pieces c.in_ok-tokens.ensures;
       wanted = subst (λ (l : List Token). IsWanted l c.all_bits-wanted.result) looked c.all_bits-wanted.ensures.only;
-      tests = subst (λ (l : List Token). AreTests c.args.plan.now l types slots tests) looked (c.in_ok-test_types.ensures c.kind_bits.ensures);
+      tests = subst (λ (l : List Token). AreTests c.args.plan.now l types slots tests) looked (c.in_ok-test_types.ensures (c.kind_bits.ensures coded));
       needles =
           subst (λ (l : List Token). (at : ℕ) (slot : Slot) → slice_get slots at ≡ Some slot → slot.kind ≡ Word → AreTexts l needles) looked
           (subst (λ (x : List Slot). (at : ℕ) (slot : Slot) → slice_get x at ≡ Some slot → slot.kind ≡ Word → AreTexts c.as_slice-looked.result.now needles) c.as_slice.ensures.value c.in_ok-needles.ensures);

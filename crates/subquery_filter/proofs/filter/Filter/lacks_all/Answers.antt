@@ -1,5 +1,5 @@
 use Rattle.std.proofs.Common.{arith}
-use Rattle.subquery_filter.proofs.FilterLemmas.{has_left, has_right, has_self}
+use Rattle.subquery_filter.proofs.BitLemmas.{has_left, has_right, has_self}
 use Rattle.subquery_filter.proofs.SlotLemmas.{may_step}
 use Rattle.subquery_filter.proofs.filter.Filter.lacks_all.Goals as goal
 

@@ -1,6 +1,6 @@
 use Rattle.std.proofs.Common.{arith, rules}
 use Rattle.std.specs.Prelude.{bit_or}
-use Rattle.subquery_filter.proofs.FilterLemmas.{has_left, has_right, has_self}
+use Rattle.subquery_filter.proofs.BitLemmas.{has_left, has_right, has_self}
 use Rattle.subquery_filter.proofs.SlotLemmas.{slots_step}
 use Rattle.subquery_filter.proofs.filter.Filter.with_slots.Goals as goal
 

@@ -1,7 +1,7 @@
 use Rattle.std.proofs.Common.{◌≡◌, ℕ, of_z, rules, subst, sym, to_z, w64}
 use Rattle.std.specs.Prelude.{slice_index_or}
 use Rattle.subquery_filter.specs.Filter.{Marks}
-use Rattle.subquery_filter.proofs.FilterLemmas.{has_left, has_self}
+use Rattle.subquery_filter.proofs.BitLemmas.{has_left, has_self}
 use Rattle.subquery_filter.proofs.SlotLemmas.{stamp_brings, stamp_more}
 use Rattle.subquery_filter.proofs.filter.Filter.with_stamp.Goals as goal
 

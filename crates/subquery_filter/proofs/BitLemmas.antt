@@ -1,0 +1,30 @@
+-- Sets of tokens as bits.
+use Rattle.std.proofs.Common.{◌≡◌, ℕ, ◌≤◌, ap, arith}
+use Rattle.std.specs.Prelude.{bit_or}
+use Rattle.std.specs.Int.{bit_at}
+use Rattle.std.proofs.lemmas.Nat.Bits.{bit_at_or, same_from_bits}
+use Rattle.subquery_filter.specs.Filter.{Has}
+
+bits_of : (a c : ℕ) → Has a c → (i : ℕ) → bit_at c i ≤ bit_at a i
+bits_of a c has i = omega (arith, bit_at_or a c i, ap (λ x. bit_at x i) has)
+
+has_bits : (a c : ℕ) → ((i : ℕ) → bit_at c i ≤ bit_at a i) → Has a c
+has_bits a c le = same_from_bits (bit_or a c) a (λ i. omega (arith, bit_at_or a c i, le i))
+
+pub has_through : (a b c : ℕ) → Has a b → Has b c → Has a c
+has_through a b c one two = has_bits a c (λ i. let x = bits_of a b one i in let y = bits_of b c two i in omega (arith, x, y))
+
+pub has_left : (a b c : ℕ) → Has a c → Has (bit_or a b) c
+has_left a b c has = has_bits (bit_or a b) c (λ i. let x = bits_of a c has i in omega (arith, x, bit_at_or a b i))
+
+pub has_right : (a b : ℕ) → Has (bit_or a b) b
+has_right a b = has_bits (bit_or a b) b (λ i. omega (arith, bit_at_or a b i))
+
+pub has_self : (a : ℕ) → Has a a
+has_self a = has_bits a a (λ i. omega arith)
+
+pub has_both : (all a b : ℕ) → Has all a → Has all b → Has all (bit_or a b)
+has_both all a b one two = has_bits all (bit_or a b) (λ i. let x = bits_of all a one i in let y = bits_of all b two i in omega (arith, x, y, bit_at_or a b i))
+
+pub has_none : (all : ℕ) → Has all 0
+has_none all = has_bits all 0 (λ i. omega arith)

@@ -1,0 +1,9 @@
+use Rattle.std.proofs.Common.{◌≡◌, ◌<◌, ℕ, false, true, get_or}
+use Rattle.std.specs.Prelude.{None}
+use Rattle.subquery_filter.specs.declared.token.Token.{Token}
+use Rattle.subquery_filter.specs.StepsFilter.{is_number_part}
+use Rattle.subquery_filter.proofs.numbers.has_open.Given as goal
+
+abbrev pub invariant-loop-token : goal.invariant-loop-token
+invariant-loop-token l =
+    (j : ℕ) (d : Token) → j < l.token-index → (get_or l.tokens j d).closed ≡ None → is_number_part true (get_or l.tokens j d).text ≡ false

@@ -1,0 +1,9 @@
+use Rattle.std.proofs.Common.{◌≡◌}
+use Rattle.std.specs.Prelude.{None}
+use Rattle.wild_match.specs.Matches.{Match}
+use Rattle.subquery_filter.specs.declared.token.Token.{Token}
+use Rattle.subquery_filter.proofs.FilterLemmas.{EachBefore}
+use Rattle.subquery_filter.proofs.tokens.open_marks.Given as goal
+
+abbrev pub invariant-loop-token : goal.invariant-loop-token
+invariant-loop-token l = EachBefore (λ (k : Token). (k.closed ≡ None) × Match k.matcher.items l.text) l.tokens l.token-index l.bits
