@@ -279,7 +279,7 @@ module _ (content : List ℕ → Option (List ℕ)) (h : Header) (before : List 
   -- of a file whose job was done these are
   pub file_told : {S D : Type 0} {d : DiskGhosts D} (left : S → Option (List ℕ)) (j : Journal D d) → HasNames h before names (state_of j) → (rows i : ℕ) (c : FileOutcome) (old done : Job S) → i < length names → old.file ≡ first + i
       → IsFileOf left (plan_of rows j) j fresh old done → c.messages ≡ done.outcome.messages → c.whole ≡ done.outcome.whole
-      → IsLogOf content c (in_source left old.source) → (c.refusal ≡ None → (in_source left old.source ≡ content c.name) × (old.is_open ≡ true) × (done.outcome.cause ≡ None)) → IsTold content h.version rows fresh legal.held.pieces (first + i) c
+      → IsLogOf content c (in_source left old.source) → (c.refusal ≡ None → (in_source left old.source ≡ content c.name) × (old.is_open ≡ true) × (old.is_part ≡ false) × (done.outcome.cause ≡ None)) → IsTold content h.version rows fresh legal.held.pieces (first + i) c
   file_told {S} {D} {d} left j named rows i c old done within number is count whole log opened =
       record {
         covered = is.covered;
@@ -289,7 +289,7 @@ module _ (content : List ℕ → Option (List ℕ)) (h : Header) (before : List 
         cut = parts;
         first = front_by (content c.name) (in_source left old.source) (⊎_elim (λ same. inl same.0) (λ none. inr none) log) first_told;
         all = λ spared.
-            let full : done.outcome.whole ≡ true = all_of (opened spared).1 (opened spared).2 in
+            let full : done.outcome.whole ≡ true = all_of (opened spared).1 (opened spared).2 (opened spared).3 in
             (whole ∙ full, all_by (content c.name) (subst (λ (o : Option (List ℕ)). OfMessages h.version o (λ messages e. (is.covered ≡ messages) × (is.ended ≡ e))) (opened spared).0 (all_told full)));
       }
     where
@@ -299,8 +299,8 @@ module _ (content : List ℕ → Option (List ℕ)) (h : Header) (before : List 
       first_told : OfMessages h.version (in_source left old.source) (λ messages e. IsPrefix is.covered messages)
       first_told = subst (λ v. OfMessages v (in_source left old.source) (λ messages e. IsPrefix is.covered messages)) version is.first
 
-      all_of : old.is_open ≡ true → done.outcome.cause ≡ None → done.outcome.whole ≡ true
-      all_of given spared = not_false done.outcome.whole (sym (is.cause given) ∙ ap is_some spared)
+      all_of : old.is_open ≡ true → old.is_part ≡ false → done.outcome.cause ≡ None → done.outcome.whole ≡ true
+      all_of given to_be spared = not_false done.outcome.whole (sym (is.cause given to_be) ∙ ap is_some spared)
         where
           not_false : (b : Bool) → not b ≡ false → b ≡ true
           not_false true is = refl
@@ -353,7 +353,8 @@ module _ (content : List ℕ → Option (List ℕ)) (h : Header) (before : List 
 
 -- ---- the files of the jobs
 
--- What is told of a file by its job. Where nothing was refused of it, its log was opened for the job, which had no cause.
+-- What is told of a file by its job. Where nothing was refused of it, its log was opened for the job, which was that of a whole file
+-- and had no cause.
 pub record CameOfJob {S : Type 0} (left : S → Option (List ℕ)) (content : List ℕ → Option (List ℕ)) (js js' : List (Job S)) (i : ℕ) (c : FileOutcome) : Type 0 where
   pub old : Job S
   pub done : Job S
@@ -361,7 +362,7 @@ pub record CameOfJob {S : Type 0} (left : S → Option (List ℕ)) (content : Li
   pub at_done : slice_get js' i ≡ Some done
   pub messages : c.messages ≡ done.outcome.messages
   pub whole : c.whole ≡ done.outcome.whole
-  pub opened : c.refusal ≡ None → (in_source left old.source ≡ content c.name) × (old.is_open ≡ true) × (done.outcome.cause ≡ None)
+  pub opened : c.refusal ≡ None → (in_source left old.source ≡ content c.name) × (old.is_open ≡ true) × (old.is_part ≡ false) × (done.outcome.cause ≡ None)
 
 pub named_at : (came : List FileOutcome) (names : List (List ℕ)) → map (λ (c : FileOutcome). c.name) came ≡ names → (i : ℕ) (c : FileOutcome) → slice_get came i ≡ Some c → slice_get names i ≡ Some c.name
 named_at came names are i c at =
@@ -406,4 +407,4 @@ module _ {S D : Type 0} {d : DiskGhosts D} (left : S → Option (List ℕ)) (con
       let none = refused.each i one.done one.at_done in
       none_told content h before names stood [] legal came (All-nil (IsOfNew content h.version came (length stood.legal.held.names))) rows i c some (slice_get_within names i c.name (named_at came names are i c at)) refl
       (one.messages ∙ ap (λ (o : Outcome). o.messages) none) (one.whole ∙ ap (λ (o : Outcome). o.whole) none)
-      (λ spared. absurd (cc (sym (ap (λ (o : Outcome). o.cause) none) ∙ (one.opened spared).2))))
+      (λ spared. absurd (cc (sym (ap (λ (o : Outcome). o.cause) none) ∙ (one.opened spared).3))))

@@ -215,7 +215,7 @@ module _ {S : Type 0} (left name : S → Option (List ℕ)) (faults : S → ℕ)
         let its = subst (λ (x : Job (LogSource S)). HasItsCause (IsFullByJobs (left_in left) (plan_of rows j) js j) (WereGivenByJobs (left_in left) (plan_of rows j) js) (left_in left) (name_in name) (faults_in faults) (plan_of rows j) j after one.old x) alike cause.2 in
         done_in j after came rows first js of c one.source one.old one.done one.came one.has one.opened one.messages one.whole one.refusal its
         (fit_of_job (left_in left) logs j after came rows first js of law store stored.left_by i one.old one.at c at)
-        (subst (λ (x : Job (LogSource S)). one.old.is_open ≡ true → is_some x.outcome.cause ≡ not x.outcome.whole) same file.2.cause)
+        (λ given. subst (λ (x : Job (LogSource S)). is_some x.outcome.cause ≡ not x.outcome.whole) same (file.2.cause given one.no_part))
         (subst (λ (x : Job (LogSource S)). one.old.is_open ≡ false → x.outcome ≡ nothing_done) same file.2.unopened)
         (λ t has. at_of (IsCounted name faults reads reads_now) given i t counted (source_at given are i one.done t one.at_done has)))
       where

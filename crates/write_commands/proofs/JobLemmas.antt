@@ -16,11 +16,10 @@ use Rattle.disk_seal.specs.View.{StoreView}
 use Rattle.disk_seal.proofs.ToldLemmas.{told_map}
 use Rattle.ingest_workers.specs.Ingested.{AreNew, IsAsItWas, IsLeftBy, first_file, told_entries}
 use Rattle.ingest_workers.specs.Journal.{Holds}
-use Rattle.ingest_workers.specs.Outcome.{nothing_done}
 use Rattle.ingest_workers.specs.declared.job.Job.{Job}
 use Rattle.command_refusals.specs.GoesOn.{DiskGoesOn}
 use Rattle.write_commands.specs.Jobs.{DidJobs}
-use Rattle.write_commands.specs.Naming.{AreNumbered, HasGoneOn, IsNamed}
+use Rattle.write_commands.specs.Naming.{AreNumbered, HasGoneOn, IsJobOf, IsNamed}
 use Rattle.command_refusals.proofs.GoingLemmas.{DiskGoesOn-same}
 
 -- ---- lists that grow by one
@@ -45,31 +44,31 @@ as_many R (x ∷ xs) (y ∷ ys) all = ap suc (as_many R xs ys all.1)
 
 module _ {S : Type 0} where
   -- a job more
-  pub numbered_next : (n : ℕ) (js : List (Job S)) (j : Job S) → AreNumbered n js → j.outcome ≡ nothing_done → j.file ≡ n + length js → AreNumbered n (js ++ j ∷ [])
-  numbered_next n [] j are new file = (new, omega (arith, file), tt)
-  numbered_next n (x ∷ xs) j are new file = (are.0, are.1, numbered_next (n + 1) xs j are.2 new (omega (arith, file)))
+  pub numbered_next : (n : ℕ) (js : List (Job S)) (j : Job S) → AreNumbered n js → IsJobOf (n + length js) j → AreNumbered n (js ++ j ∷ [])
+  numbered_next n [] j are one = (record { outcome = one.outcome; file = omega (arith, one.file); whole = one.whole }, tt)
+  numbered_next n (x ∷ xs) j are one = (are.0, numbered_next (n + 1) xs j are.1 (record { outcome = one.outcome; file = omega (arith, one.file); whole = one.whole }))
 
   -- ---- jobs over new files
 
-  pub numbered_at : (n : ℕ) (js : List (Job S)) (i : ℕ) (job : Job S) → AreNumbered n js → slice_get js i ≡ Some job → (job.outcome ≡ nothing_done) × (job.file ≡ n + i)
+  pub numbered_at : (n : ℕ) (js : List (Job S)) (i : ℕ) (job : Job S) → AreNumbered n js → slice_get js i ≡ Some job → IsJobOf (n + i) job
   numbered_at n [] i job are at = absurd (cc (at))
   numbered_at n (j ∷ js) zero job are at =
-      let same : j ≡ job = cc in (subst (λ (x : Job S). x.outcome ≡ nothing_done) same are.0, ap (λ (x : Job S). x.file) (sym same) ∙ are.1 ∙ omega arith)
-  numbered_at n (j ∷ js) (suc i) job are at = let one = numbered_at (n + 1) js i job are.2 at in (one.0, omega (arith, one.1))
+      let same : j ≡ job = cc (at) in let one = subst (IsJobOf n) same are.0 in record { outcome = one.outcome; file = omega (arith, one.file); whole = one.whole }
+  numbered_at n (j ∷ js) (suc i) job are at = let one = numbered_at (n + 1) js i job are.1 at in record { outcome = one.outcome; file = omega (arith, one.file); whole = one.whole }
 
   first_is : (n : ℕ) (js : List (Job S)) (i : ℕ) (job : Job S) → AreNumbered n js → slice_get js i ≡ Some job → first_file js ≡ n
   first_is n [] i job are at = absurd (cc (at))
-  first_is n (j ∷ js) i job are at = are.1
+  first_is n (j ∷ js) i job are at = are.0.file
 
   pub are_new : (j : JournalState) (types words : BookState) (first count : ℕ) (js : List (Job S)) → IsNamed j types words first count → AreNumbered first js → length js ≡ count → AreNew (first_file js) j js
   are_new j types words first count js named are counted = λ i job at.
       let within : i < length js = slice_get_within js i job at in
       let is = numbered_at first js i job are at in
       record {
-        outcome = is.0;
-        file_is = is.1 ∙ ap (λ (n : ℕ). n + i) (sym (first_is first js i job are at));
-        small = omega (arith, is.1, within, counted, named.few);
-        empty = told_map (is_some j.disk.seen) (λ holds. subst (λ (n : ℕ). Holds j.header (told_entries j) n [] false false) (sym is.1) (holds i (omega (arith, within, counted)))) named.empty;
+        outcome = is.outcome;
+        file_is = is.file ∙ ap (λ (n : ℕ). n + i) (sym (first_is first js i job are at));
+        small = omega (arith, is.file, within, counted, named.few);
+        empty = told_map (is_some j.disk.seen) (λ holds. subst (λ (n : ℕ). Holds j.header (told_entries j) n [] false false) (sym is.file) (holds i (omega (arith, within, counted)))) named.empty;
       }
 
 -- ---- the journal that is left

@@ -146,6 +146,7 @@ pub record CameOfLog {S : Type 0} (R : List ℕ → LogSource S → Type 0) (js 
   pub at_done : slice_get js' i ≡ Some done
   pub has : old.source ≡ Some source
   pub opened : old.is_open ≡ is_opened source
+  pub no_part : old.is_part ≡ false
   pub came : R c.name source
   pub messages : c.messages ≡ done.outcome.messages
   pub whole : c.whole ≡ done.outcome.whole
@@ -197,6 +198,7 @@ module _ {S : Type 0} (left name : S → Option (List ℕ)) (faults : S → ℕ)
                 at_done = t.at;
                 has = p.has;
                 opened = open_at sources js opening i job.0 p.source job.1 p.source_at;
+                no_part = (numbered_at first js i job.0 numbered job.1).whole;
                 came = subst (λ n. Came_of n p.source) same_name p.came;
                 messages = ap (λ (x : FileOutcome). x.messages) (sym is) ∙ t.messages;
                 whole = ap (λ (x : FileOutcome). x.whole) (sym is) ∙ t.whole;
@@ -216,7 +218,7 @@ module _ {S : Type 0} (left name : S → Option (List ℕ)) (faults : S → ℕ)
 
       pub are_jobs_of : (version : ℕ) → AreJobsOf (left_in left) content version (map came_of taken) first js
       are_jobs_of version = record {
-        file = λ i job at. (numbered_at first js i job numbered at).1;
+        file = λ i job at. (numbered_at first js i job numbered at).file;
         log = λ i job at.
             let p = place_of Came_of names sources js opened sourced i job at in
             let f = file_at i p.name p.name_at in
@@ -239,6 +241,7 @@ module _ {S : Type 0} (left name : S → Option (List ℕ)) (faults : S → ℕ)
         opened = λ spared. let none = both_none (refusal_of l.source) l.done.outcome.cause (sym l.refusal ∙ spared) in (
           ap (in_source (left_in left)) l.has ∙ opened_log c.name l.source l.came none.0,
           l.opened ∙ is_open l.source none.0,
+          l.no_part,
           none.1,
         );
       }

@@ -19,10 +19,16 @@ pub record IsNamed (j : JournalState) (types words : BookState) (first count : �
   pub few : first + count ≤ 1048576
   pub empty : IfTold (is_some j.disk.seen) ((i : ℕ) → i < count → Holds j.header (told_entries j) (first + i) [] false false)
 
--- jobs that were not done yet, of the files from a number on
+-- a job that was not done yet, of the whole file with this number
+pub record IsJobOf {S : Type 0} (n : ℕ) (job : Job S) : Type 0 where
+  pub outcome : job.outcome ≡ nothing_done
+  pub file : job.file ≡ n
+  pub whole : job.is_part ≡ false
+
+-- such jobs, of the files from a number on
 abbrev pub AreNumbered : {S : Type 0} → ℕ → List (Job S) → Type 0
 AreNumbered n [] = Unit {0}
-AreNumbered n (job ∷ jobs) = (job.outcome ≡ nothing_done) × (job.file ≡ n) × AreNumbered (n + 1) jobs
+AreNumbered n (job ∷ jobs) = IsJobOf n job × AreNumbered (n + 1) jobs
 
 -- the journal is over the same disk, which has gone on
 pub record HasGoneOn {D : Type 0} {d : DiskGhosts D} (old new : Journal D d) : Type 0 where

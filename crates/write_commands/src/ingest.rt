@@ -1,5 +1,5 @@
 //! The command `ingest`: logs become the files of an archive.
-ghost use Rattle.std.specs.Prelude.{◌≡◌, ◌+◌, ◌≤◌, ℕ, List, [], length, map, slice_get, vec_len, vec_capacity, All, IfErr, IfOk, IfSome, IsTrue, OnErr, OnOk, is_some, None, Some};
+ghost use Rattle.std.specs.Prelude.{◌≡◌, ◌+◌, ◌≤◌, ℕ, List, [], length, map, slice_get, vec_len, vec_capacity, false, All, IfErr, IfOk, IfSome, IsTrue, OnErr, OnOk, is_some, None, Some};
 ghost use Rattle.std.specs.List.{AllZip};
 ghost use Rattle.disk_journal.specs.Journal.{state_of};
 ghost use Rattle.disk_seal.specs.Opening.{MayOpen};
@@ -150,11 +150,12 @@ fn open_all<H: Shelf>(
     }
 }
 
-/// Makes a job of a source. That of a log that was not opened is not read.
+/// Makes a job of a source, for a whole file. That of a log that was not opened is not read.
 fn begin_job<S>(file: u32, source: LogSource<S>) -> Job<LogSource<S>>
     ensures file { result.file ≡ file }
     ensures source { result.source ≡ Some source }
     ensures opened { result.is_open ≡ is_opened source }
+    ensures whole { result.is_part ≡ false }
     ensures new { result.outcome ≡ nothing_done }
 {
     if source.is_open() {

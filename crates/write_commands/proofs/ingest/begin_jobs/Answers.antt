@@ -8,7 +8,7 @@ use Rattle.write_commands.proofs.ingest.begin_jobs.Goals as goal
 
 pub loop-source-preserved : goal.loop-source-preserved
 loop-source-preserved g c = let before = c.loop-source.invariant in record {
-  numbered = rw c.push_reserved-in-Some.ensures.items (numbered_next _ c.loop-source.jobs.items c.begin_job.result before.numbered c.begin_job.ensures.new (omega (arith, c.begin_job.ensures.file, c.len.ensures)));
+  numbered = rw c.push_reserved-in-Some.ensures.items (numbered_next _ c.loop-source.jobs.items c.begin_job.result before.numbered (record { outcome = c.begin_job.ensures.new; file = omega (arith, c.begin_job.ensures.file, c.len.ensures); whole = c.begin_job.ensures.whole }));
   count = omega (arith, c.push_reserved-in-Some.ensures.len, c.in-Some.ensures.len, before.count);
   opened = omega (arith, c.push_reserved-in-Some.ensures.len, c.push_reserved.ensures.len, before.opened);
   room_jobs = c.push_reserved-in-Some.ensures.capacity ∙ before.room_jobs;
