@@ -21,3 +21,4 @@ pub use ingesting::{IngestRefused, ingest};
 pub use job::Job;
 pub use job_run::run_job;
 pub use outcome::{Cause, Outcome};
+pub use sealing::seal_draft;

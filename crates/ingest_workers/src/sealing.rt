@@ -29,7 +29,7 @@ use turn_lock::Pass;
 ///
 /// `OutOfMemory`; `ArchiveFull`, where the namer then learns the texts that do not fit; or
 /// `DiskFault`. No segment was added then.
-pub(crate) fn seal_draft<'d, 'b, D: Disk, R: Wait, A: Ledger, B: Ledger, C: Ledger>(
+pub fn seal_draft<'d, 'b, D: Disk, R: Wait, A: Ledger, B: Ledger, C: Ledger>(
     rt: &R,
     alloc: Global,
     draft: &Draft,
