@@ -504,7 +504,31 @@ const NUMBER_ROWS: &[Row] = &[
     ),
     (
         b" 404 ",
+        Case::Number(0, 0, 0, &[1, 1_404], Verdict::Rejected),
+    ),
+    (
+        b" 404 ",
+        Case::Number(0, 0, 0, &[1, 4_040_404], Verdict::Rejected),
+    ),
+    (
+        b" 404 ",
         Case::Number(1, MOMENTS[1], 0, &[1, 405], Verdict::Rejected),
+    ),
+    (
+        b" 0.335 ",
+        Case::Number(0, 0, 1, &[DECIMALS[0], 0], Verdict::Tried),
+    ),
+    (
+        b" 0.335 ",
+        Case::Number(0, 0, 1, &[DECIMALS[1], 0], Verdict::Rejected),
+    ),
+    (
+        b" 11:11:11,",
+        Case::Number(1, MOMENTS[1], 0, &[3, 1], Verdict::Tried),
+    ),
+    (
+        b" 11:11:11,",
+        Case::Number(1, MOMENTS[0], 0, &[3, 1], Verdict::Rejected),
     ),
     (
         b"404",
