@@ -6,6 +6,8 @@ mod books;
 #[cfg(test)]
 mod row_codec_tests;
 #[cfg(test)]
+mod row_rename_tests;
+#[cfg(test)]
 mod row_writer_tests;
 #[cfg(test)]
 mod subquery_filter_tests;
