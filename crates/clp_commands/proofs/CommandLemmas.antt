@@ -9,10 +9,11 @@ use Rattle.command_words.specs.declared.command.WordsRefusal.TheVariants.{Usage 
 use Rattle.command_refusals.specs.Outside.{Outside}
 use Rattle.command_refusals.specs.Ending.{RefusesAtOnce}
 use Rattle.command_refusals.specs.declared.outcome.AddRefusal.{AddRefusal}
-use Rattle.write_commands.specs.Names.{RefusesNames}
-use Rattle.write_commands.specs.Ingested.{AnswersIngest, EndsIngest}
-use Rattle.write_commands.specs.Known.{KnownArchive, over}
-use Rattle.clp_commands.specs.Answers.{Answers, AnswersAsked}
+use Rattle.command_answers.specs.Names.{RefusesNames}
+use Rattle.command_answers.specs.Answers.{AnswersIngest}
+use Rattle.command_answers.specs.Ingested.{EndsIngest}
+use Rattle.command_answers.specs.Known.{KnownArchive, over}
+use Rattle.command_answers.specs.Answers.{Answers, AnswersAsked}
 use Rattle.command_refusals.specs.Outcome.{of_add, of_words}
 
 -- words that were read ask for one thing alone

@@ -1,12 +1,12 @@
 //! The top call.
 ghost use Rattle.std.specs.Prelude.{◌≡◌, ℕ, List, Option, map, string_bytes};
-ghost use Rattle.clp_commands.specs.Answers.{Answers, AnswersAsked};
-ghost use Rattle.clp_commands.specs.Words.{AskNoArchive, AskNoWriting, MayWrite, UsesArchive};
+ghost use Rattle.command_answers.specs.Answers.{Answers, AnswersAsked};
+ghost use Rattle.command_answers.specs.Words.{AskNoArchive, AskNoWriting, MayWrite, UsesArchive};
 ghost use Rattle.command_refusals.specs.GoesOn.{DiskGoesOn, OutsideGoesOn};
 ghost use Rattle.command_refusals.specs.Outside.{around};
 ghost use Rattle.command_words.specs.Asked.{IsInRange, asked_by};
 ghost use Rattle.log_seams.specs.Disk.{KeepsBytes};
-ghost use Rattle.write_commands.specs.Known.{KnownArchive};
+ghost use Rattle.command_answers.specs.Known.{KnownArchive};
 
 use command_refusals::{
     answer, refusal_of_create, refusal_of_file, refusal_of_read, refusal_of_words, report,

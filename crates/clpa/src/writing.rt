@@ -1,6 +1,6 @@
 //! Whether the archive is opened to be written: by the words, before anything of it is read.
 ghost use Rattle.std.specs.Prelude.{◌↔◌, map, string_bytes, IfOk, IsFalse, IsTrue};
-ghost use Rattle.clp_commands.specs.Words.{AskNoWriting, MayWrite};
+ghost use Rattle.command_answers.specs.Words.{AskNoWriting, MayWrite};
 ghost use Rattle.command_words.specs.Asked.{asked_by};
 
 use command_words::{Command, WordsRefusal, read_words};

@@ -20,7 +20,7 @@ use Rattle.archive_meaning.specs.Spelled.{record_of, records_of, types_in, types
 use Rattle.archive_meaning.specs.Stands.{IsLegal, StandsFor}
 use Rattle.disk_seal.specs.declared.entry.StoreEntry.TheVariants.{Stopped}
 use Rattle.disk_seal.specs.Told.{IfTold, entry_of, journal_in, recorded, mark, entry_for}
-use Rattle.disk_seal.specs.WordsIn.{words_in, words_of}
+use Rattle.ingest_meaning.specs.WordsIn.{words_in, words_of}
 use Rattle.disk_seal.specs.View.{StoreState, journal_state, tells, journal_of, journal_before, HasFirst, Image, KnowsBook, KnowsTypes, KnowsWords, Kept}
 use Rattle.disk_seal.specs.Opening.{MayOpen, MayName}
 use Rattle.disk_seal.specs.Adding.{IsNext, Saves, HasOneMore, HasStopped}

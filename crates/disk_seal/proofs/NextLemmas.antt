@@ -21,7 +21,7 @@ use Rattle.archive_meaning.specs.Stands.{IsLegal}
 use Rattle.archive_meaning.proofs.JudgeLemmas.{run_types, end_more}
 use Rattle.archive_meaning.proofs.RunLemmas.{runs_go_on}
 use Rattle.disk_seal.specs.Told.{IfTold, entry_of, journal_in}
-use Rattle.disk_seal.specs.WordsIn.{words_in, words_of}
+use Rattle.ingest_meaning.specs.WordsIn.{words_in, words_of}
 use Rattle.disk_seal.specs.View.{StoreState, tells, journal_of, KnowsBook, Kept}
 use Rattle.disk_seal.specs.Adding.{IsNext, Saves, Front, front_of, CanAdd}
 use Rattle.disk_seal.specs.StepsFront.{IsGoodFront}

@@ -19,7 +19,8 @@ use Rattle.archive_meaning.specs.declared.entry.JournalEntry.TheVariants.{Files}
 use Rattle.archive_meaning.proofs.UniqueLemmas.{legal_back, legal_forms, records_joined}
 use Rattle.disk_seal.specs.Told.{IfTold, entry_of, journal_in}
 use Rattle.disk_seal.specs.Opening.{MayOpen}
-use Rattle.disk_seal.specs.Registered.{StaysOpen, files_record, files_size}
+use Rattle.disk_seal.specs.Registered.{StaysOpen}
+use Rattle.ingest_meaning.specs.Room.{files_record, files_size}
 use Rattle.disk_seal.proofs.NextLemmas.{gate_at}
 
 -- each record of a legal journal gives back its entry

@@ -20,7 +20,7 @@ use Rattle.archive_meaning.specs.Spelled.{types_in, types_of, end_of}
 use Rattle.archive_meaning.specs.Stands.{IsLegal}
 use Rattle.disk_seal.specs.declared.pieces.Piece.{Piece}
 use Rattle.disk_seal.specs.Told.{IfTold, entry_of, entry_for}
-use Rattle.disk_seal.specs.WordsIn.{words_in, words_of}
+use Rattle.ingest_meaning.specs.WordsIn.{words_in, words_of}
 use Rattle.disk_seal.specs.View.{KnowsBook, StoreView, StoreState, state_by, tells, Kept}
 use Rattle.disk_seal.specs.Collected.{IsSameButBooks, HasSeenMore}
 use Rattle.disk_seal.specs.Prepare.{MayFollowNow, IsPlanned}
@@ -32,7 +32,8 @@ use Rattle.disk_seal.specs.declared.draft.Draft.{Draft}
 use Rattle.disk_seal.specs.declared.entry.StoreEntry.{StoreEntry}
 use Rattle.disk_seal.specs.declared.entry.StoreEntry.TheVariants.{Entry}
 use Rattle.disk_seal.specs.May.{MayAdd}
-use Rattle.disk_seal.specs.Planned.{LeavesFile, IsTextsThen, IsBehind, IsNextOf, IsSealed, ArePlanned, HasRoom, segment_of, types_from, words_from, entries_with, texts_need, segment_need, needed}
+use Rattle.disk_seal.specs.Planned.{LeavesFile, IsTextsThen, IsBehind, IsNextOf, IsSealed, ArePlanned, HasRoom, segment_of, types_from, words_from, entries_with, segment_need, needed}
+use Rattle.ingest_meaning.specs.Room.{texts_need}
 use Rattle.disk_seal.proofs.ToldLemmas.{told_map, told_both}
 use Rattle.disk_seal.proofs.KeptLemmas.{knows_more, types_more, words_more}
 use Rattle.disk_seal.proofs.NextLemmas.{types_next, words_next, end_with, told_always, good_front}

@@ -25,7 +25,7 @@ use Rattle.disk_seal.specs.Pieces.{added_by}
 use Rattle.disk_seal.specs.Collected.{IsSameButBooks, HasSeenMore}
 use Rattle.disk_seal.specs.Sealing.{told_as, InHand, MayPut}
 use Rattle.archive_meaning.specs.Spelled.{end_of, types_of}
-use Rattle.disk_seal.specs.WordsIn.{words_of}
+use Rattle.ingest_meaning.specs.WordsIn.{words_of}
 use Rattle.std.proofs.lemmas.List.{length-take-le}
 use Rattle.disk_seal.specs.Planned.{all_need}
 use Rattle.disk_seal.specs.Prepare.{need_behind}

@@ -27,7 +27,7 @@ use Rattle.archive_meaning.proofs.RunLemmas.{runs_split, one_held}
 use Rattle.archive_meaning.proofs.JudgeLemmas.{run_types, named_more}
 use Rattle.archive_meaning.proofs.UniqueLemmas.{legal_forms}
 use Rattle.disk_seal.specs.Told.{entry_of}
-use Rattle.disk_seal.specs.WordsIn.{words_of}
+use Rattle.ingest_meaning.specs.WordsIn.{words_of}
 use Rattle.disk_seal.specs.Adding.{IsNext}
 use Rattle.disk_seal.specs.Draft.{MayFollow}
 use Rattle.disk_seal.specs.Planned.{LeavesFile}

@@ -10,7 +10,7 @@ use Rattle.archive_meaning.specs.Spelled.{record_of, types_in, types_of}
 use Rattle.archive_meaning.specs.Stands.{IsLegal}
 use Rattle.disk_seal.specs.declared.entry.StoreEntry.TheVariants.{Stopped}
 use Rattle.disk_seal.specs.Told.{IfTold, entry_of, entry_for}
-use Rattle.disk_seal.specs.WordsIn.{words_in}
+use Rattle.ingest_meaning.specs.WordsIn.{words_in}
 use Rattle.disk_seal.specs.View.{StoreView, StoreState, tells, journal_of, store_entries, Image}
 
 -- what no call on a store changes but those on its books

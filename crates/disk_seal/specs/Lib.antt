@@ -1,7 +1,6 @@
 pub mod Known
 pub mod Naming
 pub mod Told
-pub mod WordsIn
 pub mod View
 pub mod May
 pub mod Opening

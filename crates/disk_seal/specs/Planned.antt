@@ -4,9 +4,7 @@ use Rattle.std.specs.List.Sorted.{IsStrictlyIncreasing}
 use mathlib.Core.List.{IsPrefix}
 use Rattle.turn_lock.specs.Words.{seen}
 use Rattle.record_format.specs.declared.header.Header.{Header}
-use Rattle.record_format.specs.Lists.{texts_payload}
 use Rattle.record_format.specs.declared.kinds.TheConstants.{SEGMENT_KIND}
-use Rattle.disk_journal.specs.declared.record.TheConstants.{FRONT_LEN}
 use Rattle.disk_journal.specs.Record.{IsFrame, saved_of}
 use Rattle.segment_format.specs.Layout.{segment_bytes}
 use Rattle.archive_meaning.specs.declared.entry.SegmentEntry.{SegmentEntry}
@@ -15,6 +13,7 @@ use Rattle.archive_meaning.specs.declared.entry.JournalEntry.TheVariants.{Files,
 use Rattle.disk_seal.specs.declared.draft.Draft.{Draft}
 use Rattle.disk_seal.specs.declared.pieces.Piece.{Piece}
 use Rattle.disk_seal.specs.Told.{IfTold}
+use Rattle.ingest_meaning.specs.Room.{record_need, texts_need}
 use Rattle.disk_seal.specs.View.{StoreState, tells, journal_of}
 use Rattle.disk_seal.specs.May.{MayAdd}
 use Rattle.disk_seal.specs.Adding.{front_of}
@@ -100,14 +99,9 @@ pub record ArePlanned (d : Draft) (ps : List Piece) (s : StoreState) : Type 0 wh
 abbrev pub HasRoom : List Piece → StoreState → Type 0
 HasRoom ps s = s.place + 1 + size_of ps ≤ s.header.length_limit
 
--- the bytes of a record of texts; none where there are no texts
-abbrev pub texts_need : ℕ → List (List ℕ) → ℕ
-texts_need first [] = 0
-texts_need first (t ∷ ts) = FRONT_LEN + length (texts_payload first (t ∷ ts))
-
 -- the bytes of a draft's record
 abbrev pub segment_need : Draft → ℕ
-segment_need d = FRONT_LEN + length (segment_bytes d.file d.first d.last d.ended d.columns.rows d.words)
+segment_need d = record_need (segment_of d) d.words
 
 -- the bytes of the records of a draft and of the texts of two books from these numbers on
 abbrev pub all_need : Draft → ℕ → List (List ℕ) → ℕ → List (List ℕ) → ℕ

@@ -14,6 +14,7 @@ use Rattle.disk_seal.specs.declared.faults.DiskFault.{DiskFault}
 use Rattle.disk_seal.specs.declared.fixed.StoreFixed.{StoreFixed}
 use Rattle.disk_seal.specs.declared.pieces.Piece.{Piece}
 use Rattle.disk_seal.specs.Told.{IfTold}
+use Rattle.ingest_meaning.specs.Room.{needed_behind}
 use Rattle.disk_seal.specs.View.{StoreView, StoreState, state_by, tells, journal_of}
 use Rattle.disk_seal.specs.Fixed.{KeeperPass}
 use Rattle.disk_seal.specs.May.{MayAdd}
@@ -22,7 +23,7 @@ use Rattle.disk_seal.specs.Pieces.{CanFollow, added_by}
 use Rattle.disk_seal.specs.Sealing.{told_as, MayPut}
 use Rattle.disk_seal.specs.Draft.{MayFollow, journal_seen}
 use Rattle.disk_seal.specs.Planned.{segment_of, IsBehind, IsTextsThen, entries_with, all_need, needed}
-use Rattle.disk_seal.specs.WordsIn.{words_of}
+use Rattle.ingest_meaning.specs.WordsIn.{words_of}
 
 -- a note of a book's pass
 abbrev pub BookNote : Type 0
@@ -56,7 +57,7 @@ pub record IsTooLong (d : Draft) (end need : ℕ) (types words : BookNote) (s : 
 
 -- the bytes of the records of a draft and of all texts that these entries do not have
 abbrev pub need_behind : Draft → List JournalEntry → List (List ℕ) → List (List ℕ) → ℕ
-need_behind d es types words = all_need d (length (types_of es)) types (length (words_of es)) words
+need_behind d es types words = needed_behind (segment_of d) d.words es types words
 
 module _ {D : Type 0} where
   -- the pass has seen the lock's opening

@@ -1,20 +1,11 @@
 -- The record of the names of files.
 use Rattle.std.specs.Prelude.{◌≡◌, ◌≤◌, ◌+◌, ℕ, List, [], ◌∷◌, length, is_some}
-use Rattle.disk_journal.specs.Record.{Saved, frame_of}
 use Rattle.disk_journal.specs.State.{JournalState}
 use Rattle.disk_journal.specs.Calls.{HasAdded, IsFull}
-use Rattle.archive_meaning.specs.Spelled.{record_of}
 use Rattle.archive_meaning.specs.Stands.{IsLegal}
-use Rattle.archive_meaning.specs.declared.entry.JournalEntry.TheVariants.{Files}
 use Rattle.disk_seal.specs.Told.{IfTold, journal_in}
 use Rattle.disk_seal.specs.Opening.{MayOpen}
-
-abbrev pub files_record : List (List ℕ) → Saved
-files_record names = record_of [] (Files names)
-
--- how many bytes it takes behind the journal's end
-abbrev pub files_size : List (List ℕ) → ℕ
-files_size names = length (frame_of (files_record names))
+use Rattle.ingest_meaning.specs.Room.{files_record, files_size}
 
 -- it does not fit behind the journal's end
 abbrev pub IsFullFor : List (List ℕ) → ℕ → ℕ → JournalState → Type 0

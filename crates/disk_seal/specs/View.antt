@@ -18,7 +18,7 @@ use Rattle.archive_meaning.specs.Spelled.{records_of, types_of}
 use Rattle.archive_meaning.specs.Stands.{IsLegal}
 use Rattle.disk_seal.specs.declared.entry.StoreEntry.{StoreEntry}
 use Rattle.disk_seal.specs.Told.{IfTold, journal_in, recorded, mark}
-use Rattle.disk_seal.specs.WordsIn.{words_of}
+use Rattle.ingest_meaning.specs.WordsIn.{words_of}
 
 -- The disk and the name of its borrow; the disk at the opening, and its count of faults then; the header; where the journal's
 -- next gate stands, how many records it has, whether that gate is closed; how many records there were at the opening; the passes

@@ -5,7 +5,8 @@ ghost use Rattle.disk_journal.specs.State.{IsAtEnd};
 ghost use Rattle.disk_journal.specs.Journal.{state_of};
 ghost use Rattle.disk_journal.specs.Calls.{GoesOn, IsPast, LeavesBeforeOrAfter, StaysAt};
 ghost use Rattle.archive_meaning.specs.Sums.{AddsNames};
-ghost use Rattle.disk_seal.specs.Registered.{files_record, files_size, HasRegistered, IsFullFor};
+ghost use Rattle.ingest_meaning.specs.Room.{files_record, files_size};
+ghost use Rattle.disk_seal.specs.Registered.{HasRegistered, IsFullFor};
 ghost use Rattle.disk_seal.specs.declared.files.RegisterRefusal.TheVariants.{OutOfMemory};
 
 use disk_journal::{AppendRefusal, Journal, frame};

@@ -10,7 +10,8 @@ use Rattle.ingest_workers.specs.declared.outcome.Cause.{Cause}
 use Rattle.ingest_workers.specs.declared.outcome.Cause.TheVariants.{ReadFault, LineTooLong, TooManyLines, Full, DiskFault, ArchiveFull, OutOfMemory}
 use Rattle.ingest_workers.specs.declared.file_end.FileEnd.TheVariants.{Part as PartStop, Lost}
 use Rattle.ingest_workers.specs.Causes.{EndsLog, Grounds, Log, HasJobCause, HasLogCause, HasSealCause, IsFullCause, NoneFailed, grounds_of}
-use Rattle.ingest_workers.specs.Full.{AreAllOf, Books, WasFullBehind}
+use Rattle.ingest_meaning.specs.Given.{AreAllOf}
+use Rattle.ingest_workers.specs.Full.{Books, WasFullBehind}
 use Rattle.ingest_workers.specs.FileEnd.{IsNameStop, stop_by}
 
 -- ---- a message that is not named

@@ -24,7 +24,7 @@ use Rattle.disk_journal.specs.declared.journal.Journal.{Journal}
 use Rattle.disk_journal.specs.Journal.{state_of}
 use Rattle.archive_meaning.specs.declared.entry.JournalEntry.{JournalEntry}
 use Rattle.archive_meaning.specs.Spelled.{types_in, types_of as texts_of_types}
-use Rattle.disk_seal.specs.WordsIn.{words_in, words_of as texts_of_words}
+use Rattle.ingest_meaning.specs.WordsIn.{words_in, words_of as texts_of_words}
 use Rattle.disk_seal.specs.Told.{IfTold, journal_in}
 use Rattle.disk_seal.specs.View.{KnowsBook, StoreState, state_by, journal_of}
 use Rattle.ingest_workers.specs.declared.job.Job.{Job}
@@ -38,7 +38,8 @@ use Rattle.ingest_workers.specs.Ingested.{OpensBook, IsTypeGiven, IsWordGiven, H
 use Rattle.disk_seal.specs.Known.{limit_in}
 use Rattle.row_codec.specs.declared.namer.Which.{Which}
 use Rattle.row_codec.specs.declared.namer.Which.TheVariants.{Types as WhichTypes, Words as WhichWords}
-use Rattle.ingest_workers.specs.Full.{IsAmongFirst, IsMore, IsOneOf as IsMessageOf, book_of}
+use Rattle.ingest_meaning.specs.Given.{IsAmongFirst, IsOneOf as IsMessageOf}
+use Rattle.ingest_workers.specs.Full.{IsMore, book_of}
 use Rattle.ingest_workers.specs.JobDone.{in_source}
 use Rattle.ingest_workers.specs.Met.{WasMet}
 use Rattle.ingest_workers.specs.Outcome.{met_by}

@@ -37,7 +37,7 @@ use Rattle.ingest_workers.specs.Journal.{FrontHolds, HasAdded, Holds, WhereTold}
 use Rattle.ingest_workers.specs.MaySeal.{HasNoRoomFor, IsEmptied, IsWorker, MaySeal}
 use Rattle.ingest_workers.specs.Namer.{HasOnlySeen, HasSamePasses, types_pass, words_pass, types_seen, words_seen}
 use Rattle.ingest_workers.specs.NoRoom.{FoundNoRoom}
-use Rattle.ingest_workers.specs.Parts.{Part, IsCut, IsOpen, columns_of, front, messages_in, segments_from}
+use Rattle.ingest_meaning.specs.Parts.{Part, IsCut, IsOpen, columns_of, front, messages_in, segments_from}
 use Rattle.ingest_workers.specs.Sealed.{HasNotSealed, HasSealed, NowHas}
 use Rattle.ingest_workers.proofs.JournalLemmas.{seen_front}
 use Rattle.ingest_workers.proofs.OpenSegmentLemmas.{in_hand_on}

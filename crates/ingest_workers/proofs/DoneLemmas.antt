@@ -26,7 +26,7 @@ use Rattle.ingest_workers.specs.Journal.{FrontHolds, Holds}
 use Rattle.ingest_workers.specs.MaySeal.{HasNoRoomFor, MaySeal, IsEmptied}
 use Rattle.ingest_workers.specs.Namer.{types_pass, types_seen, words_pass, words_seen}
 use Rattle.ingest_workers.specs.NoRoom.{FoundNoRoom, HasNoRoomBy}
-use Rattle.ingest_workers.specs.Parts.{IsOpen, Part, columns_of, front, messages_in, rest_of, segments_from}
+use Rattle.ingest_meaning.specs.Parts.{IsOpen, Part, columns_of, front, messages_in, rest_of, segments_from}
 use Rattle.ingest_workers.specs.Sealed.{HasNotSealed, HasSealed, NowHas}
 use Rattle.ingest_workers.specs.FileEnd.{refused_by}
 use Rattle.ingest_workers.proofs.CauseLemmas.{seal_cause}

@@ -22,11 +22,12 @@ use Rattle.disk_seal.specs.Fixed.{KeeperPass}
 use Rattle.disk_seal.proofs.ToldLemmas.{told_map}
 use Rattle.ingest_workers.specs.declared.job.Job.{Job}
 use Rattle.ingest_workers.specs.declared.worker.Plan.{Plan}
-use Rattle.ingest_workers.specs.Full.{AreAllOf, Books}
+use Rattle.ingest_meaning.specs.Given.{AreAllOf}
+use Rattle.ingest_workers.specs.Full.{Books}
 use Rattle.ingest_workers.specs.JobDone.{IsDone, in_source}
 use Rattle.ingest_workers.specs.Journal.{FrontHolds, segments_in, entries_at, sealed_by}
-use Rattle.ingest_workers.specs.Locked.{in_file}
-use Rattle.ingest_workers.specs.Parts.{Part, messages_in, rest_of, segments_from}
+use Rattle.ingest_meaning.specs.Parts.{in_file}
+use Rattle.ingest_meaning.specs.Parts.{Part, messages_in, rest_of, segments_from}
 use Rattle.ingest_workers.specs.Ingested.{IsFileOf, OfMessages, told_entries}
 
 -- all segments are of this file

@@ -9,7 +9,8 @@ use Rattle.row_codec.specs.declared.namer.Which.{Which}
 use Rattle.row_codec.specs.declared.namer.Which.TheVariants.{Types, Words}
 use Rattle.row_codec.specs.Naming.{Known, MeetsLimit}
 use Rattle.disk_seal.specs.Known.{known_of, limit_in}
-use Rattle.ingest_workers.specs.Full.{Books, IsFullBy, IsMore, IsTextOf, WasFull, WasFullFor, book_of, books_by}
+use Rattle.ingest_workers.specs.Full.{Books, IsMore, WasFull, WasFullFor, book_of, books_by}
+use Rattle.ingest_meaning.specs.Dictionaries.{IsFullBy, IsTextOf}
 
 -- ---- it is met in naming a message
 

@@ -25,19 +25,25 @@ use Rattle.segment_format.specs.Layout.{sorted_set}
 use Rattle.archive_meaning.specs.declared.entry.JournalEntry.{JournalEntry}
 use Rattle.archive_meaning.specs.Spelled.{types_of as texts_of_types}
 use Rattle.disk_seal.specs.Known.{limit_in}
-use Rattle.disk_seal.specs.Planned.{segment_need, texts_need}
+use Rattle.ingest_meaning.specs.Room.{texts_need}
+use Rattle.ingest_meaning.specs.Room.{record_need}
 use Rattle.disk_seal.specs.Told.{journal_in}
-use Rattle.disk_seal.specs.WordsIn.{words_of as texts_of_words}
+use Rattle.ingest_meaning.specs.WordsIn.{words_of as texts_of_words}
 use Rattle.disk_seal.specs.View.{KnowsBook, StoreState, state_by, journal_of}
 use Rattle.ingest_workers.specs.declared.job.Job.{Job}
 use Rattle.ingest_workers.specs.declared.worker.Plan.{Plan}
 use Rattle.ingest_workers.specs.Causes.{log_of}
 use Rattle.ingest_workers.specs.StartedWorkers.{BookMaker, EndsBook}
-use Rattle.ingest_workers.specs.Full.{AreFirstOf, IsFullBy, IsNextOf, IsTextOf, WasFull, WasFullBehind}
-use Rattle.ingest_workers.specs.Ingested.{HadNoRoomOver, HasEndedBooks, HasTextsBehind, HaveCauses, HaveCausesIn, IsFullByGiven, IsTypeGiven, IsWordGiven, OpensBook, WereGiven, book_texts, books_at, grounds_over, known_at, told_entries}
+use Rattle.ingest_meaning.specs.Given.{AreFirstOf, IsNextOf}
+use Rattle.ingest_meaning.specs.Dictionaries.{IsFullBy, IsTextOf}
+use Rattle.ingest_workers.specs.Full.{WasFull, WasFullBehind}
+use Rattle.ingest_workers.specs.Ingested.{HadNoRoomOver, HasEndedBooks, HaveCauses, HaveCausesIn, IsFullByGiven, IsTypeGiven, IsWordGiven, OpensBook, WereGiven, books_at, grounds_over, known_at, told_entries}
+use Rattle.ingest_meaning.specs.Dictionaries.{HasTextsBehind, book_texts}
 use Rattle.ingest_workers.specs.InTurn.{WasFilledBy}
-use Rattle.ingest_workers.specs.NoRoom.{HadNoRoom, IsBetween, WereKnown, part_in}
-use Rattle.ingest_workers.specs.Parts.{IsCut, IsOpen}
+use Rattle.ingest_meaning.specs.Room.{HadNoRoom}
+use Rattle.ingest_workers.specs.NoRoom.{IsBetween, WereKnown}
+use Rattle.ingest_meaning.specs.Parts.{part_in}
+use Rattle.ingest_meaning.specs.Parts.{IsCut, IsOpen}
 use Rattle.ingest_workers.proofs.CauseLemmas.{cause_on}
 use Rattle.ingest_workers.proofs.ClosingLemmas.{types_joined, words_joined}
 use Rattle.ingest_workers.proofs.OpenSegmentLemmas.{same_numbers}
@@ -236,14 +242,15 @@ module _ {S D : Type 0} {d : DiskGhosts D} {G : Ghosts BookState (List ℕ) ℕ}
                 has_words = texts_behind (IsWordGiven left plan.version js) IsFairWord WORDS_FIRST told before.header.words_limit s.header.words_limit (texts_of_words (told_entries (state_of before))) (texts_of_words (journal_of s)) (texts_of_words h.stored.fresh)
                     w_saved s.words_saved words words' s.words wo h.of_words w_owned these_words grown_words told_is w_apart before_words r.words
                     (book_front WhichWords (told_entries (state_of before)) r.front since) (book_front WhichWords r.front (journal_of s) on) r.has_words;
-                draft = r.draft;
+                segment = r.segment;
+                numbers = r.numbers;
                 messages = r.messages;
                 file_is = r.file_is;
                 next = r.next;
                 follows = r.follows;
-                cut = ⊎_elim (λ (cut : IsCut plan.rows (part_in r.draft r.messages)). inl cut)
-                    (λ (open_end : IsOpen plan.rows (part_in r.draft r.messages) × last (sealed ++ r.messages)). inr (open_end.0, further (sealed ++ r.messages) open_end.1)) r.cut;
-                canonical = all_canonical plan.version r.draft.columns.rows r.types r.words (before_types ++ more_types) (before_words ++ more_words) r.messages on_types on_words r.canonical;
-                numbers = r.numbers ∙ ap sorted_set (same_numbers plan.version r.draft.columns.rows r.types r.words (before_types ++ more_types) r.messages on_types r.canonical);
-                needs = r.needs ∙ ap₂ (λ t w. min (texts_need (length before_types) t + (texts_need (length before_words) w + segment_need r.draft)) 18446744073709551615) (sym (drop_front before_types more_types)) (sym (drop_front before_words more_words));
+                cut = ⊎_elim (λ (cut : IsCut plan.rows (part_in r.segment r.messages)). inl cut)
+                    (λ (open_end : IsOpen plan.rows (part_in r.segment r.messages) × last (sealed ++ r.messages)). inr (open_end.0, further (sealed ++ r.messages) open_end.1)) r.cut;
+                canonical = all_canonical plan.version r.segment.rows r.types r.words (before_types ++ more_types) (before_words ++ more_words) r.messages on_types on_words r.canonical;
+                numbers_are = r.numbers_are ∙ ap sorted_set (same_numbers plan.version r.segment.rows r.types r.words (before_types ++ more_types) r.messages on_types r.canonical);
+                needs = r.needs ∙ ap₂ (λ t w. min (texts_need (length before_types) t + (texts_need (length before_words) w + record_need r.segment r.numbers)) 18446744073709551615) (sym (drop_front before_types more_types)) (sym (drop_front before_words more_words));
               }

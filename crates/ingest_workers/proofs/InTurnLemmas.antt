@@ -26,14 +26,15 @@ use Rattle.disk_journal.specs.declared.journal.Journal.{Journal}
 use Rattle.disk_journal.specs.Journal.{state_of}
 use Rattle.disk_seal.specs.Fixed.{KeeperPass}
 use Rattle.disk_seal.specs.View.{KnowsBook, StoreState, StoreView, state_by, journal_of}
-use Rattle.disk_seal.specs.WordsIn.{words_of as texts_of_words}
+use Rattle.ingest_meaning.specs.WordsIn.{words_of as texts_of_words}
 use Rattle.ingest_workers.specs.declared.job.Job.{Job}
 use Rattle.ingest_workers.specs.declared.outcome.Cause.TheVariants.{Full}
 use Rattle.ingest_workers.specs.declared.worker.Plan.{Plan}
 use Rattle.ingest_workers.specs.declared.worker.Worker.{Worker}
 use Rattle.ingest_workers.specs.Causes.{HasJobCause, grounds_of, log_of}
 use Rattle.ingest_workers.specs.StartedWorkers.{BookMaker, HasEnded, HasEnrolled}
-use Rattle.ingest_workers.specs.Full.{Books, IsMessageAt, IsMore, IsNextOf, WasFullBehind, book_of}
+use Rattle.ingest_workers.specs.Full.{Books, IsMore, WasFullBehind, book_of}
+use Rattle.ingest_meaning.specs.Given.{IsMessageAt, IsNextOf}
 use Rattle.ingest_workers.specs.Ingested.{HasEndedBooks, IsTypeGiven, IsWordGiven, OpensBook, books_at, told_entries}
 use Rattle.ingest_workers.specs.InTurn.{AreFullInTurn, IsFullInTurn, IsMetBy, IsNextFor, WasFilled, WereFilled}
 use Rattle.ingest_workers.specs.JobDone.{IsDone, in_source}

@@ -42,15 +42,18 @@ use Rattle.ingest_workers.specs.JobDone.{IsDone}
 use Rattle.ingest_workers.specs.Journal.{Holds}
 use Rattle.ingest_workers.specs.Worker.{DidJob, DidOnly, IsIdle, books_in, types_of as types_pass, words_of as words_pass}
 use Rattle.ingest_workers.specs.StartedWorkers.{BookMaker, HavePlan, HasEnrolled}
-use Rattle.ingest_workers.specs.Locked.{in_file, file_segment, list_of, list_behind, IsPassOf, IsStillStore, MayDoAt, HasWorked}
+use Rattle.ingest_meaning.specs.Parts.{in_file}
+use Rattle.ingest_workers.specs.Locked.{file_segment, list_of, list_behind, IsPassOf, IsStillStore, MayDoAt, HasWorked}
 use Rattle.ingest_workers.specs.Ingested.{first_file, told_entries, AreNew, IsOfJobs, OpensBook, opened_over, IsLeftBy, IsAsItWas, IsFileOf, HadNoRoomOver, HasStored, HasItsCause, HaveCausesIn, grounds_over}
-use Rattle.ingest_workers.specs.NoRoom.{FoundNoRoom, HadNoRoom, IsBetween, WereKnown}
+use Rattle.ingest_workers.specs.NoRoom.{FoundNoRoom, IsBetween, WereKnown}
+use Rattle.ingest_meaning.specs.Room.{HadNoRoom}
 use Rattle.ingest_workers.proofs.NoRoomLemmas.{no_room_on}
 use Rattle.row_codec.specs.declared.namer.Which.{Which}
 use Rattle.row_codec.specs.Naming.{Known}
 use Rattle.turn_lock.proofs.FrontLemmas.{prefix_trans}
 use Rattle.ingest_workers.specs.Causes.{grounds_of, log_of}
-use Rattle.ingest_workers.specs.Full.{AreFirstOf, Books, IsMore, IsNextOf, WasFullBehind, book_of}
+use Rattle.ingest_meaning.specs.Given.{AreFirstOf, IsNextOf}
+use Rattle.ingest_workers.specs.Full.{Books, IsMore, WasFullBehind, book_of}
 use Rattle.ingest_workers.proofs.FullLemmas.{books_on, full_wider}
 use Rattle.ingest_workers.proofs.CauseLemmas.{cause_on}
 use Rattle.ingest_workers.specs.ClosedStore.{IsJournalOf}

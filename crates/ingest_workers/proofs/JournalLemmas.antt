@@ -25,7 +25,7 @@ use Rattle.disk_seal.specs.declared.pieces.Piece.{Piece as Framed}
 use Rattle.disk_seal.specs.declared.entry.StoreEntry.{StoreEntry}
 use Rattle.disk_seal.specs.declared.entry.StoreEntry.TheVariants.{Entry, Blank, Stopped}
 use Rattle.disk_seal.specs.Told.{IfTold, entry_of, entry_for}
-use Rattle.disk_seal.specs.WordsIn.{words_of}
+use Rattle.ingest_meaning.specs.WordsIn.{words_of}
 use Rattle.disk_seal.specs.Adding.{Front}
 use Rattle.disk_seal.specs.Pieces.{CanFollow, added_by, front_with}
 use Rattle.disk_seal.specs.Planned.{IsTextsThen}

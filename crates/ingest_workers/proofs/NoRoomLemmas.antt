@@ -16,6 +16,7 @@ use Rattle.segment_format.specs.Layout.{sorted_set}
 use Rattle.disk_seal.specs.declared.namer.LockNamer.{LockNamer}
 use Rattle.disk_seal.specs.Draft.{journal_seen}
 use Rattle.disk_seal.specs.Fixed.{KeeperPass}
+use Rattle.disk_seal.specs.Planned.{segment_of}
 use Rattle.disk_seal.specs.Prepare.{IsFullAt, need_behind}
 use Rattle.disk_seal.proofs.ToldLemmas.{told_map}
 use Rattle.ingest_workers.specs.declared.open_segment.OpenSegment.{OpenSegment}
@@ -23,8 +24,10 @@ use Rattle.ingest_workers.specs.Full.{Books, IsMore, book_of, books_by}
 use Rattle.ingest_workers.specs.OpenSegment.{HasMessages}
 use Rattle.ingest_workers.specs.MaySeal.{HasNoRoomFor}
 use Rattle.ingest_workers.specs.Namer.{types_pass, types_seen, words_pass, words_seen}
-use Rattle.ingest_workers.specs.NoRoom.{FoundNoRoom, HadNoRoom, IsBetween, WereKnown, part_in}
-use Rattle.ingest_workers.specs.Parts.{IsCut, IsOpen}
+use Rattle.ingest_workers.specs.NoRoom.{FoundNoRoom, IsBetween, WereKnown}
+use Rattle.ingest_meaning.specs.Room.{HadNoRoom}
+use Rattle.ingest_meaning.specs.Parts.{part_in}
+use Rattle.ingest_meaning.specs.Parts.{IsCut, IsOpen}
 use Rattle.ingest_workers.proofs.OpenSegmentLemmas.{same_numbers}
 use Rattle.ingest_workers.proofs.JournalLemmas.{all_canonical, seen_front}
 use Rattle.ingest_workers.proofs.SealLemmas.{if_told, of_told}
@@ -49,15 +52,16 @@ module _ (h : Header) (limit version file : ℕ) (was was' : Entries → Type 0)
     words = r.words;
     has_types = g r.front Types r.types r.has_types;
     has_words = g r.front Words r.words r.has_words;
-    draft = r.draft;
+    segment = r.segment;
+    numbers = r.numbers;
     messages = r.messages;
     file_is = r.file_is;
     next = r.next;
     follows = k (sealed ++ r.messages) r.follows;
-    cut = ⊎_elim (λ (cut : IsCut limit (part_in r.draft r.messages)). inl cut)
-        (λ (open_end : IsOpen limit (part_in r.draft r.messages) × last (sealed ++ r.messages)). inr (open_end.0, l (sealed ++ r.messages) open_end.1)) r.cut;
+    cut = ⊎_elim (λ (cut : IsCut limit (part_in r.segment r.messages)). inl cut)
+        (λ (open_end : IsOpen limit (part_in r.segment r.messages) × last (sealed ++ r.messages)). inr (open_end.0, l (sealed ++ r.messages) open_end.1)) r.cut;
     canonical = r.canonical;
-    numbers = r.numbers;
+    numbers_are = r.numbers_are;
     needs = r.needs;
   }
 
@@ -107,7 +111,8 @@ module _ {D R A B C : Type 0} (state : D → DiskState) (limit version : ℕ) (s
         words = words;
         has_types = room.no_room.types_on;
         has_words = room.no_room.words_on;
-        draft = room.draft;
+        segment = segment_of room.draft;
+        numbers = room.draft.words;
         messages = messages;
         file_is = ap (λ (s : SegmentEntry). s.file) room.is ∙ file;
         next = ap (λ (s : SegmentEntry). s.first) room.is ∙ first;
@@ -115,6 +120,6 @@ module _ {D R A B C : Type 0} (state : D → DiskState) (limit version : ℕ) (s
         cut = subst (λ rows. IsCut limit (record { rows = rows; messages = messages }) ⊎ (IsOpen limit (record { rows = rows; messages = messages }) × last (covered ++ messages))) (sym rows_are) cut;
         canonical = subst (λ rows. AreCanonical version rows types words messages) (sym rows_are)
             (all_canonical version segment.draft.columns.rows (types_seen m) (words_seen m) types words messages full.types_on full.words_on has.canonical);
-        numbers = room.words ∙ (ap sorted_set (has.used ∙ same_numbers version segment.draft.columns.rows (types_seen m) (words_seen m) types messages full.types_on has.canonical) ∙ ap (words_named types) (sym rows_are));
+        numbers_are = room.words ∙ (ap sorted_set (has.used ∙ same_numbers version segment.draft.columns.rows (types_seen m) (words_seen m) types messages full.types_on has.canonical) ∙ ap (words_named types) (sym rows_are));
         needs = needs;
       }

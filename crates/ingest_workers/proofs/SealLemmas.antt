@@ -12,7 +12,7 @@ use Rattle.dict_lock.specs.Shared.{BookPass, GoesOn}
 use Rattle.row_codec.specs.Means.{AreCanonical}
 use Rattle.archive_meaning.specs.declared.entry.JournalEntry.{JournalEntry}
 use Rattle.archive_meaning.specs.Spelled.{types_of}
-use Rattle.disk_seal.specs.WordsIn.{words_of}
+use Rattle.ingest_meaning.specs.WordsIn.{words_of}
 use Rattle.disk_seal.specs.declared.draft.Draft.{Draft}
 use Rattle.disk_seal.specs.declared.entry.StoreEntry.{StoreEntry}
 use Rattle.disk_seal.specs.declared.entry.StoreEntry.TheVariants.{Entry, Stopped}

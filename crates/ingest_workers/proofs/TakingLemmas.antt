@@ -39,7 +39,8 @@ use Rattle.line_cut.specs.declared.cut.Mark.{Mark}
 use Rattle.ingest_workers.specs.Causes.{EndsLog, HasJobCause, HasLogCause, HasSealCause, HaveMoreThan, IsFullCause, Log, cause_by, grounds_of, log_from, log_of}
 use Rattle.ingest_workers.specs.NoRoom.{FoundNoRoom}
 use Rattle.row_codec.specs.declared.namer.Which.{Which}
-use Rattle.ingest_workers.specs.Full.{AreAllOf, AreFirstOf, Books, IsAmongFirst, IsMore, IsNextOf, WasFullBehind, WasFullFor, book_of, books_by}
+use Rattle.ingest_meaning.specs.Given.{AreAllOf, AreFirstOf, IsAmongFirst, IsNextOf}
+use Rattle.ingest_workers.specs.Full.{Books, IsMore, WasFullBehind, WasFullFor, book_of, books_by}
 use Rattle.ingest_workers.specs.Namer.{HasOnlySeen}
 use Rattle.ingest_workers.proofs.FullLemmas.{books_on, full_wider, more_self}
 use Rattle.ingest_workers.specs.Doing.{Doing, NotSealed}
@@ -51,7 +52,7 @@ use Rattle.ingest_workers.specs.MaySeal.{IsWorker}
 use Rattle.ingest_workers.specs.Namer.{types_pass, words_pass, types_seen, words_seen}
 use Rattle.ingest_workers.specs.Naming.{HasNamed}
 use Rattle.ingest_workers.specs.Outcome.{met_by, unsealed_by}
-use Rattle.ingest_workers.specs.Parts.{Part, IsCut, IsOpen, columns_of, front, messages_in, segments_from}
+use Rattle.ingest_meaning.specs.Parts.{Part, IsCut, IsOpen, columns_of, front, messages_in, segments_from}
 use Rattle.ingest_workers.specs.Stopping.{IsAtStop}
 use Rattle.ingest_workers.specs.Taking.{AreTaken, HasLearned, HasStopCause, StopsAt, Taking, Took, UpToRest, mark_of, why_of}
 use Rattle.ingest_workers.proofs.CauseLemmas.{cause_on, log_cause_on, name_cause, of_log, of_seal}

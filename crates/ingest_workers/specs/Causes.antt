@@ -5,7 +5,6 @@ use Rattle.log_seams.specs.Disk.{DiskState}
 use Rattle.log_seams.specs.Outside.{Rose}
 use Rattle.turn_lock.specs.Words.{seen}
 use Rattle.row_codec.specs.declared.namer.Which.{Which}
-use Rattle.row_codec.specs.declared.namer.Which.TheVariants.{Types, Words}
 use Rattle.message_reader.specs.declared.reader.TheConstants.{MAX_MESSAGES}
 use Rattle.message_reader.specs.Taken.{IsBeforeLong, IsReadShort, lines_count}
 use Rattle.message_reader.specs.Versions.{MessagesOf}
@@ -13,7 +12,8 @@ use Rattle.disk_seal.specs.declared.entry.StoreEntry.{StoreEntry}
 use Rattle.disk_seal.specs.declared.entry.StoreEntry.TheVariants.{Stopped}
 use Rattle.disk_seal.specs.Fixed.{KeeperPass}
 use Rattle.disk_seal.specs.Prepare.{IsFaultOf}
-use Rattle.ingest_workers.specs.Full.{AreAllOf, AreFirstOf, Books, WasFullBehind}
+use Rattle.ingest_meaning.specs.Given.{AreAllOf, AreFirstOf}
+use Rattle.ingest_workers.specs.Full.{Books, WasFullBehind}
 use Rattle.ingest_workers.specs.NoRoom.{FoundNoRoom}
 use Rattle.ingest_workers.specs.declared.outcome.Cause.{Cause}
 use Rattle.ingest_workers.specs.declared.outcome.Cause.TheVariants.{ReadFault, LineTooLong, TooManyLines, Full, DiskFault, ArchiveFull, OutOfMemory}
@@ -53,15 +53,6 @@ HaveMoreThan count version told = IfSome told (λ bytes. (messages : List (List 
     → MessagesOf version bytes messages ended → count < length messages)
 
 -- ---- the archive
-
--- how many texts each of the two books may have
-pub record Limits : Type 0 where
-  pub types : ℕ
-  pub words : ℕ
-
-abbrev pub limit_of : Limits → Which → ℕ
-limit_of limits Types = limits.types
-limit_of limits Words = limits.words
 
 module _ {D : Type 0} where
   -- the pass has seen the mark of a store that was stopped

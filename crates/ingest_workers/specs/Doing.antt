@@ -17,7 +17,7 @@ use Rattle.ingest_workers.specs.Journal.{FrontHolds, HasAdded, HasSoFar, WhereTo
 use Rattle.ingest_workers.specs.MaySeal.{IsWorker}
 use Rattle.ingest_workers.specs.Namer.{types_pass, types_seen, words_pass, words_seen}
 use Rattle.ingest_workers.specs.NoRoom.{FoundNoRoom}
-use Rattle.ingest_workers.specs.Parts.{IsCut, IsOpen, Part, messages_in, segments_from}
+use Rattle.ingest_meaning.specs.Parts.{IsCut, IsOpen, Part, messages_in, segments_from}
 
 module _ {D R A B C : Type 0} where
   -- Since the pass was `start`, these messages of its file were taken: some are sealed in full segments, the others are in the

@@ -12,7 +12,7 @@ use Rattle.ingest_workers.specs.Causes.{HasSealCause}
 use Rattle.ingest_workers.specs.Full.{Books}
 use Rattle.ingest_workers.specs.Journal.{FrontHolds, HasAdded, WhereTold, sealed_by}
 use Rattle.ingest_workers.specs.NoRoom.{FoundNoRoom}
-use Rattle.ingest_workers.specs.Parts.{IsCut, IsOpen, Part, messages_in, rest_of, segments_from}
+use Rattle.ingest_meaning.specs.Parts.{IsCut, IsOpen, Part, messages_in, rest_of, segments_from}
 use Rattle.ingest_workers.specs.FileEnd.{refused_by}
 
 module _ {D : Type 0} where

@@ -1,60 +1,14 @@
 -- When a dictionary is full by what is given.
-use Rattle.std.specs.Prelude.{◌≡◌, ℕ, Bool, List, [], ◌∷◌, ◌++◌, length, take, Option, Some, IfSome, slice_get, All}
-use Rattle.std.specs.List.{Contains}
+use Rattle.std.specs.Prelude.{◌≡◌, ℕ, List, length, Option}
 use mathlib.Core.List.{IsPrefix}
 use Rattle.dict_lock.specs.Shared.{BookPass}
 use Rattle.row_codec.specs.declared.namer.Which.{Which}
 use Rattle.row_codec.specs.declared.namer.Which.TheVariants.{Types, Words}
-use Rattle.row_codec.specs.Messages.{IsTypeOf, IsWordOf}
 use Rattle.row_codec.specs.Naming.{Known}
-use Rattle.plain_list.specs.Texts.{AreDistinct, IsNew}
-use Rattle.message_reader.specs.Versions.{MessagesOf}
+use Rattle.plain_list.specs.Texts.{IsNew}
 use Rattle.disk_seal.specs.Known.{known_of}
-
--- The message is one of those that these bytes have in this version. Of a source that does not tell its bytes nothing is said.
-abbrev pub IsOneOf : ℕ → Option (List ℕ) → List ℕ → Type 0
-IsOneOf version bytes m = IfSome bytes (λ b. (messages : List (List ℕ)) (ended : Bool) → MessagesOf version b messages ended
-    → Contains messages m)
-
--- The message is one of the first so many of those. Of a source that does not tell its bytes nothing is said.
-abbrev pub IsAmongFirst : ℕ → Option (List ℕ) → ℕ → List ℕ → Type 0
-IsAmongFirst version bytes count m = IfSome bytes (λ b. (messages : List (List ℕ)) (ended : Bool)
-    → MessagesOf version b messages ended → Contains (take count messages) m)
-
--- It is the one behind so many.
-abbrev pub IsMessageAt : ℕ → Option (List ℕ) → ℕ → List ℕ → Type 0
-IsMessageAt version bytes place m = IfSome bytes (λ b. (messages : List (List ℕ)) (ended : Bool)
-    → MessagesOf version b messages ended → slice_get messages place ≡ Some m)
-
--- These are the first of the messages that these bytes have in this version. Of a source that does not tell its bytes nothing is
--- said.
-abbrev pub AreFirstOf : ℕ → Option (List ℕ) → List (List ℕ) → Type 0
-AreFirstOf version bytes first = IfSome bytes (λ b. (messages : List (List ℕ)) (ended : Bool)
-    → MessagesOf version b messages ended → IsPrefix first messages)
-
--- They are all the messages of these bytes.
-abbrev pub AreAllOf : ℕ → Option (List ℕ) → List (List ℕ) → Type 0
-AreAllOf version bytes all = IfSome bytes (λ b. (messages : List (List ℕ)) (ended : Bool) → MessagesOf version b messages ended
-    → all ≡ messages)
-
--- the message is the next one behind these
-abbrev pub IsNextOf : ℕ → Option (List ℕ) → List (List ℕ) → List ℕ → Type 0
-IsNextOf version bytes sealed m = AreFirstOf version bytes (sealed ++ m ∷ [])
-
--- a text of the encoding of such a message, which goes to this dictionary
-abbrev pub IsTextOf : ℕ → (List ℕ → Type 0) → Which → List ℕ → Type 0
-IsTextOf version P Types text = (m : List ℕ) × P m × IsTypeOf version m text
-IsTextOf version P Words text = (m : List ℕ) × P m × IsWordOf version m text
-
--- There are so many such texts, and one more is met, which is of the next message.
-pub record IsFullBy (P next : List ℕ → Type 0) (count : ℕ) : Type 0 where
-  pub texts : List (List ℕ)
-  pub all : length texts ≡ count
-  pub distinct : AreDistinct texts
-  pub each : All P texts
-  pub text : List ℕ
-  pub is : next text
-  pub new : IsNew texts text
+use Rattle.ingest_meaning.specs.Given.{IsNextOf}
+use Rattle.ingest_meaning.specs.Dictionaries.{IsTextOf}
 
 -- ---- to a worker
 

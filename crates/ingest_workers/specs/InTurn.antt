@@ -15,10 +15,13 @@ use Rattle.ingest_workers.specs.declared.job.Job.{Job}
 use Rattle.ingest_workers.specs.declared.outcome.Cause.TheVariants.{Full}
 use Rattle.ingest_workers.specs.declared.outcome.Outcome.{Outcome}
 use Rattle.ingest_workers.specs.declared.worker.Plan.{Plan}
-use Rattle.ingest_workers.specs.Causes.{limit_of}
+use Rattle.ingest_meaning.specs.Dictionaries.{limit_of}
 use Rattle.ingest_workers.specs.StartedWorkers.{BookMaker}
-use Rattle.ingest_workers.specs.Full.{IsFullBy, IsMessageAt, IsTextOf, WasFull}
-use Rattle.ingest_workers.specs.Ingested.{book_texts, header_limits, known_at, told_entries}
+use Rattle.ingest_meaning.specs.Dictionaries.{IsFullBy, IsTextOf}
+use Rattle.ingest_meaning.specs.Given.{IsMessageAt}
+use Rattle.ingest_workers.specs.Full.{WasFull}
+use Rattle.ingest_meaning.specs.Dictionaries.{book_texts, header_limits}
+use Rattle.ingest_workers.specs.Ingested.{known_at, told_entries}
 use Rattle.ingest_workers.specs.JobDone.{in_source}
 use Rattle.ingest_workers.specs.Met.{WasMet}
 

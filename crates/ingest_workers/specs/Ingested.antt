@@ -1,5 +1,5 @@
 -- When an ingest may begin, and what it leaves.
-use Rattle.std.specs.Prelude.{◌≡◌, ◌⊎◌, ℕ, ◌+◌, ◌<◌, ◌&&◌, Bool, true, false, not, List, [], ◌∷◌, ◌++◌, drop, length, is_some, Option, None, Some, IfSome, slice_get, All}
+use Rattle.std.specs.Prelude.{◌≡◌, ◌⊎◌, ℕ, ◌+◌, ◌<◌, ◌&&◌, Bool, true, false, not, List, [], ◌∷◌, ◌++◌, length, is_some, Option, None, Some, IfSome, slice_get, All}
 use Rattle.std.specs.List.{Contains, filter_map}
 use mathlib.Core.List.{IsPrefix}
 use Rattle.log_seams.specs.declared.disk.Disk.{Ghosts as DiskGhosts}
@@ -9,11 +9,8 @@ use Rattle.turn_lock.specs.Words.{about_by, seen_by, IsOpening}
 use Rattle.dict_core.specs.Books.{BookState}
 use Rattle.dict_lock.specs.Shared.{BookPass}
 use Rattle.row_codec.specs.declared.namer.Which.{Which}
-use Rattle.row_codec.specs.declared.namer.Which.TheVariants.{Types as WhichTypes, Words as WhichWords}
 use Rattle.row_codec.specs.Messages.{IsTypeOf, IsWordOf}
 use Rattle.row_codec.specs.Naming.{Known}
-use Rattle.plain_list.specs.Texts.{AreDistinct}
-use Rattle.record_format.specs.declared.header.Header.{Header}
 use Rattle.disk_journal.specs.declared.journal.Journal.{Journal}
 use Rattle.disk_journal.specs.Journal.{state_of}
 use Rattle.disk_journal.specs.State.{JournalState}
@@ -23,7 +20,7 @@ use Rattle.archive_meaning.specs.Spelled.{types_of}
 use Rattle.message_reader.specs.Versions.{MessagesOf}
 use Rattle.disk_seal.specs.Known.{limit_in}
 use Rattle.disk_seal.specs.Told.{IfTold, journal_in}
-use Rattle.disk_seal.specs.WordsIn.{words_of}
+use Rattle.ingest_meaning.specs.WordsIn.{words_of}
 use Rattle.disk_seal.specs.View.{StoreView, state_by, journal_of, Kept}
 use Rattle.disk_seal.specs.Opening.{MayOpen}
 use Rattle.ingest_workers.specs.declared.job.Job.{Job}
@@ -32,14 +29,16 @@ use Rattle.ingest_workers.specs.declared.outcome.Outcome.{Outcome}
 use Rattle.ingest_workers.specs.declared.outcome.Cause.TheVariants.{OutOfMemory}
 use Rattle.ingest_workers.specs.Outcome.{nothing_done}
 use Rattle.ingest_workers.specs.Journal.{FrontHolds, Holds}
-use Rattle.ingest_workers.specs.Parts.{IsCut, IsOpen, Part, messages_in, rest_of, segments_from}
-use Rattle.ingest_workers.specs.Causes.{Grounds, Limits, HasJobCause, limit_of, log_of}
-use Rattle.ingest_workers.specs.Full.{AreAllOf, AreFirstOf, Books, IsFullBy, IsNextOf, IsTextOf, WasFullBehind}
-use Rattle.ingest_workers.specs.NoRoom.{HadNoRoom, IsBetween, WereKnown}
+use Rattle.ingest_meaning.specs.Parts.{IsCut, IsOpen, Part, messages_in, rest_of, segments_from, in_file}
+use Rattle.ingest_workers.specs.Causes.{Grounds, HasJobCause, log_of}
+use Rattle.ingest_meaning.specs.Dictionaries.{limit_of, IsFullBy, IsTextOf, header_limits, book_texts, HasTextsBehind}
+use Rattle.ingest_meaning.specs.Given.{AreAllOf, AreFirstOf, IsNextOf}
+use Rattle.ingest_workers.specs.Full.{Books, WasFullBehind}
+use Rattle.ingest_meaning.specs.Room.{HadNoRoom}
+use Rattle.ingest_workers.specs.NoRoom.{IsBetween, WereKnown}
 use Rattle.ingest_workers.specs.JobDone.{HasSourceBack, in_source}
 use Rattle.ingest_workers.specs.StartedWorkers.{BookMaker, EndsBook}
 use Rattle.ingest_workers.specs.Worker.{IsGiven}
-use Rattle.ingest_workers.specs.Locked.{in_file}
 
 -- there was no memory before any work
 abbrev pub not_begun : Outcome
@@ -160,10 +159,6 @@ module _ {D : Type 0} {d : DiskGhosts D} where
   abbrev pub IsAsItWas : Journal D d → Journal D d → Type 0
   IsAsItWas before after = (after ≡ before) ⊎ ((store : StoreView D) × HasStayed store before after)
 
--- the most texts of a book, by a header
-abbrev pub header_limits : Header → Limits
-header_limits h = record { types = h.types_limit; words = h.words_limit }
-
 module _ {D : Type 0} {d : DiskGhosts D} where
   -- So many bytes behind an end go past the header's limit of length. Where the journal is told, they are those of the next
   -- segment of a file, whose messages are those of these bytes, and of the texts before it. That is the next whole part, or the
@@ -194,18 +189,6 @@ known_at m = record { texts = seen_by m; added = []; limit = limit_in (about_by 
 
 abbrev pub books_at : {G H : Ghosts BookState (List ℕ) ℕ} → BookMaker G → BookMaker H → Books
 books_at types words = record { types = known_at types; words = known_at words }
-
--- the texts of a book that entries add
-abbrev pub book_texts : Which → List JournalEntry → List (List ℕ)
-book_texts WhichTypes es = types_of es
-book_texts WhichWords es = words_of es
-
--- The texts of a book, where a journal had these: theirs are the first ones, all are distinct, and each of the others is such a
--- text.
-pub record HasTextsBehind (P : List ℕ → Type 0) (first texts : List (List ℕ)) : Type 0 where
-  pub begins : IsPrefix first texts
-  pub distinct : AreDistinct texts
-  pub others : All P (drop (length first) texts)
 
 module _ {S : Type 0} where
   -- The texts of a book are those of the entries, and others of the encodings of messages of the jobs' sources.

@@ -8,7 +8,8 @@ use Rattle.ingest_workers.specs.declared.job.Job.{Job}
 use Rattle.ingest_workers.specs.declared.outcome.Outcome.{Outcome}
 use Rattle.ingest_workers.specs.Causes.{Log, HasJobCause, grounds_of, log_of}
 use Rattle.ingest_workers.specs.Done.{HasDone}
-use Rattle.ingest_workers.specs.Full.{AreAllOf, Books, IsOneOf}
+use Rattle.ingest_meaning.specs.Given.{AreAllOf, IsOneOf}
+use Rattle.ingest_workers.specs.Full.{Books}
 use Rattle.ingest_workers.specs.Outcome.{nothing_done}
 use Rattle.ingest_workers.specs.Taking.{KeepsSource}
 

@@ -1,6 +1,5 @@
 pub mod Outcome
 pub mod Full
-pub mod Parts
 pub mod Journal
 pub mod NoRoom
 pub mod Causes

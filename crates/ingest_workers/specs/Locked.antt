@@ -1,5 +1,5 @@
 -- Jobs that workers do under the keeper's lock, and the store that comes back.
-use Rattle.std.specs.Prelude.{◌≡◌, ℕ, ◌+◌, ◌==◌, ◌≤◌, if◌then◌else◌, List, [], length, drop, Option, None, Some, slice_get}
+use Rattle.std.specs.Prelude.{◌≡◌, ℕ, ◌+◌, ◌≤◌, List, [], length, drop, Option, None, Some, slice_get}
 use Rattle.std.specs.List.{filter_map}
 use mathlib.Core.List.{IsPrefix}
 use Rattle.log_seams.specs.Disk.{DiskState}
@@ -10,8 +10,6 @@ use Rattle.ingest_fork.specs.Passes.{Fresh, Joined}
 use Rattle.ingest_fork.specs.Picked.{entries_in, AddedByOne}
 use Rattle.ingest_fork.specs.Works.{AllFit, AllDone, AllWent}
 use Rattle.archive_meaning.specs.declared.entry.SegmentEntry.{SegmentEntry}
-use Rattle.archive_meaning.specs.declared.entry.JournalEntry.{JournalEntry}
-use Rattle.archive_meaning.specs.declared.entry.JournalEntry.TheVariants.{Files, Types, Words, Segment}
 use Rattle.disk_seal.specs.declared.entry.StoreEntry.{StoreEntry}
 use Rattle.disk_seal.specs.declared.entry.StoreEntry.TheVariants.{Entry, Blank, Stopped}
 use Rattle.disk_seal.specs.declared.fixed.StoreFixed.{StoreFixed}
@@ -21,16 +19,10 @@ use Rattle.disk_seal.specs.May.{MayAdd}
 use Rattle.ingest_workers.specs.declared.job.Job.{Job}
 use Rattle.ingest_workers.specs.declared.worker.Worker.{Worker}
 use Rattle.ingest_workers.specs.Worker.{IsIdle, MayDo, DidOnly, DidJob}
+use Rattle.ingest_meaning.specs.Parts.{in_file}
 
 abbrev pub KeeperMaker : (D : Type 0) → Ghosts (StoreView D) StoreEntry (StoreFixed D) → Type 0
 KeeperMaker D G = Maker (StoreView D) StoreEntry (StoreFixed D) G
-
--- the segment, where the entry is one of this file
-abbrev pub in_file : ℕ → JournalEntry → Option SegmentEntry
-in_file n (Files names) = None
-in_file n (Types first texts) = None
-in_file n (Words first texts) = None
-in_file n (Segment s) = if s.file == n then Some s else None
 
 abbrev pub file_segment : ℕ → StoreEntry → Option SegmentEntry
 file_segment n (Entry e) = in_file n e

@@ -2,7 +2,7 @@
 use Rattle.std.specs.Prelude.{◌≡◌, ℕ, List, Option, Some, slice_get}
 use Rattle.ingest_workers.specs.declared.job.Job.{Job}
 use Rattle.ingest_workers.specs.declared.outcome.Outcome.{Outcome}
-use Rattle.ingest_workers.specs.Full.{IsAmongFirst}
+use Rattle.ingest_meaning.specs.Given.{IsAmongFirst}
 use Rattle.ingest_workers.specs.JobDone.{in_source}
 use Rattle.ingest_workers.specs.Outcome.{met_by}
 

@@ -8,7 +8,7 @@ use Rattle.dict_core.specs.Books.{BookState}
 use Rattle.disk_journal.specs.declared.journal.Journal.{Journal}
 use Rattle.disk_journal.specs.Journal.{state_of}
 use Rattle.archive_meaning.specs.Spelled.{types_of}
-use Rattle.disk_seal.specs.WordsIn.{words_of}
+use Rattle.ingest_meaning.specs.WordsIn.{words_of}
 use Rattle.disk_seal.specs.Opening.{MayOpen}
 use Rattle.ingest_workers.specs.declared.ingesting.Order.{Order}
 use Rattle.ingest_workers.specs.declared.job.Job.{Job}

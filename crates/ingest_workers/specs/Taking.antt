@@ -17,7 +17,8 @@ use Rattle.ingest_workers.specs.declared.outcome.Cause.{Cause}
 use Rattle.ingest_workers.specs.declared.file_end.FileEnd.{FileEnd}
 use Rattle.ingest_workers.specs.declared.file_end.FileEnd.TheVariants.{Part, Lost}
 use Rattle.ingest_workers.specs.Causes.{Log, HasLogCause, NoneFailed}
-use Rattle.ingest_workers.specs.Full.{AreFirstOf, WasFullBehind, books_by}
+use Rattle.ingest_meaning.specs.Given.{AreFirstOf}
+use Rattle.ingest_workers.specs.Full.{WasFullBehind, books_by}
 use Rattle.ingest_workers.specs.Doing.{Doing, NotSealed}
 use Rattle.ingest_workers.specs.Namer.{types_pass, words_pass}
 use Rattle.ingest_workers.specs.Naming.{HasNamed}

@@ -16,7 +16,7 @@ use Rattle.ingest_workers.specs.declared.outcome.Outcome.{Outcome}
 use Rattle.ingest_workers.specs.declared.file_end.FileEnd.{FileEnd}
 use Rattle.ingest_workers.specs.declared.file_end.FileEnd.TheVariants.{Part, Lost}
 use Rattle.ingest_workers.specs.Done.{HasDone}
-use Rattle.ingest_workers.specs.Full.{AreFirstOf}
+use Rattle.ingest_meaning.specs.Given.{AreFirstOf}
 use Rattle.ingest_workers.specs.Journal.{WhereTold, sealed_by}
 use Rattle.ingest_workers.specs.Outcome.{met_by}
 use Rattle.ingest_workers.specs.FileEnd.{stop_by}

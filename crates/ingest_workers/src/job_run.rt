@@ -2,7 +2,8 @@
 ghost use Rattle.std.specs.Prelude.{◌≡◌, ◌≤◌, [], false, true, is_some, not};
 ghost use Rattle.turn_lock.specs.Words.{number_of};
 ghost use Rattle.ingest_workers.specs.Causes.{log_of};
-ghost use Rattle.ingest_workers.specs.Full.{IsAmongFirst, books_by};
+ghost use Rattle.ingest_meaning.specs.Given.{IsAmongFirst};
+ghost use Rattle.ingest_workers.specs.Full.{books_by};
 ghost use Rattle.ingest_workers.specs.Journal.{HasSoFar};
 ghost use Rattle.ingest_workers.specs.JobDone.{CameToAll, HasSourceBack, IsDone, in_source};
 ghost use Rattle.ingest_workers.specs.MaySeal.{IsWorker};

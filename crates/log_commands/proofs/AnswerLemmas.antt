@@ -9,11 +9,12 @@ use Rattle.log_seams.specs.Outside.{CountsOf}
 use Rattle.command_refusals.specs.Outside.{Outside}
 use Rattle.command_refusals.specs.Outcome.{answer_of, of_log, of_pattern}
 use Rattle.command_refusals.specs.Refusal.{status_of, line_of}
-use Rattle.log_commands.specs.Scanned.{Finds}
-use Rattle.log_commands.specs.LogAnswers.{AnswersLog, HasCause}
+use Rattle.command_answers.specs.Scanned.{Finds}
+use Rattle.command_answers.specs.Answers.{AnswersLog}
+use Rattle.command_answers.specs.Printing.{HasCause}
 use Rattle.command_refusals.specs.Ending.{IsPatternRefusal}
 use Rattle.command_refusals.specs.Ending.{NoneAdded, Stayed, EndsWith, RoseIn, TookNothing, SaysIn, exit_status, error_line}
-use Rattle.log_commands.specs.Printing.{Printed}
+use Rattle.command_answers.specs.Printing.{Printed}
 use Rattle.command_refusals.specs.declared.outcome.LogRefusal.{LogRefusal}
 use Rattle.command_refusals.specs.declared.outcome.LogRefusal.TheVariants.{OpenFault, ReadFault, LineTooLong, TooManyLines, SinkFault, OutOfMemory as LogOutOfMemory}
 use Rattle.command_refusals.specs.declared.refusal.Refusal.{Refusal}

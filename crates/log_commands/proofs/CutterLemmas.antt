@@ -8,7 +8,8 @@ use Rattle.line_cut.specs.Cutting.{CutterState, Gave, CameToEnd, RefusedBy, left
 use Rattle.line_cut.specs.declared.cut.Cut.{Cut}
 use Rattle.line_cut.specs.declared.cut.Cut.TheVariants.{ReadFault, LineTooLong, TooManyLines, OutOfMemory}
 use Rattle.line_cut.specs.declared.cut.Progress.TheVariants.{Open, Ended}
-use Rattle.log_commands.specs.Printing.{PrintsAll, PrintsFirst, PrintsSome, ComesTo, HasMore, refusal_of, Reaches, IsFresh, TellsNext, FailsAfter}
+use Rattle.command_answers.specs.Printing.{PrintsAll, PrintsFirst, PrintsSome, ComesTo, HasMore}
+use Rattle.log_commands.specs.StepsPrinting.{refusal_of, Reaches, IsFresh, TellsNext, FailsAfter}
 use Rattle.command_refusals.specs.LogLimits.{IsLong, most_bytes, most_messages}
 use Rattle.command_refusals.specs.declared.outcome.LogRefusal.{LogRefusal}
 use Rattle.command_refusals.specs.declared.outcome.LogRefusal.TheVariants.{SinkFault, OutOfMemory as RefusalOutOfMemory}

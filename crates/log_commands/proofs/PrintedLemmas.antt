@@ -2,7 +2,8 @@
 use Rattle.std.proofs.Common.{◌≡◌, refl, sym, subst, ℕ, ◌-◌, List, [], true, false, Option, Some, None}
 use Rattle.std.specs.Prelude.{IfSome}
 use Rattle.sink_pieces.specs.Output.{Grew, GrewByFront, Took}
-use Rattle.log_commands.specs.Printing.{ComesTo, Printed, PrintsSome, Reaches, is_whole}
+use Rattle.command_answers.specs.Printing.{ComesTo, Printed, PrintsSome, is_whole}
+use Rattle.log_commands.specs.StepsPrinting.{Reaches}
 use Rattle.command_refusals.specs.LogLimits.{most_messages}
 use Rattle.command_refusals.specs.declared.outcome.LogRefusal.{LogRefusal}
 use Rattle.command_refusals.specs.declared.outcome.LogRefusal.TheVariants.{OpenFault, ReadFault, LineTooLong, TooManyLines, SinkFault, OutOfMemory}

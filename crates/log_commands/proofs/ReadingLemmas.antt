@@ -6,7 +6,7 @@ use Rattle.std.proofs.lemmas.List.Elements.{All-nil, All-push}
 use Rattle.log_messages.specs.Messages.{IsLine, joined, Messages}
 use Rattle.log_messages.proofs.StepLemmas.{Begins, begins, Begins-line, Messages-ended, Messages-open, Messages-after}
 use Rattle.log_messages.proofs.ExistenceLemmas.{HasMessages, messages_exist}
-use Rattle.log_commands.specs.Printing.{Prints, PrintsAll, PrintsFirst, PrintsBefore, PrintsSome, HasMore, AreShort}
+use Rattle.command_answers.specs.Printing.{Prints, PrintsAll, PrintsFirst, PrintsBefore, PrintsSome, HasMore, AreShort}
 use Rattle.command_refusals.proofs.LongLemmas.{Begins-long}
 use Rattle.command_refusals.specs.LogLimits.{IsLong, most_bytes, most_messages}
 use Rattle.log_commands.proofs.PrintingLemmas.{Prints-more}

@@ -11,7 +11,7 @@ use Rattle.logtype_text.specs.Parts.{Part, Constant, Variable, AreCodes, ArePart
 use Rattle.var_codec.specs.Codes.{Codes}
 use Rattle.var_codec.specs.declared.Coded.{Coded}
 use Rattle.std.proofs.lemmas.Bool.{agree_below_at, eqb-true}
-use Rattle.log_commands.specs.Shown.{hexadecimal_digit, marked, Shows, ShowsParts}
+use Rattle.command_answers.specs.Shown.{hexadecimal_digit, marked, Shows, ShowsParts}
 
 -- the variable is shown as its coding says
 pub Shown-as : {E : Type 0} (r : Result Unit E) (new old shown wanted : List ℕ) → shown ≡ wanted → OnOk r (new ≡ old ++ shown) → OnOk r (new ≡ old ++ wanted)

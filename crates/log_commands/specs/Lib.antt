@@ -1,4 +1,1 @@
-pub mod LogAnswers
-pub mod Printing
-pub mod Scanned
-pub mod Shown
+pub mod StepsPrinting

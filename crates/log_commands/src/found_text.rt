@@ -1,6 +1,6 @@
 //! How `scan` prints a message.
 ghost use Rattle.std.specs.Prelude.{◌≡◌, ◌++◌, OnOk};
-ghost use Rattle.log_commands.specs.Scanned.{Finds, found_line};
+ghost use Rattle.command_answers.specs.Scanned.{Finds, found_line};
 
 use crate::message_text::MessageText;
 use std::alloc::AllocError;

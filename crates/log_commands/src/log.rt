@@ -2,7 +2,8 @@
 ghost use Rattle.std.specs.Prelude.{◌≡◌, ◌≢◌, ◌≤◌, ◌⊎◌, ℕ, List, [], OnOk, IfErr, IsErrOf};
 ghost use Rattle.log_seams.specs.Outside.{Adds, CountsOf, Rose};
 ghost use Rattle.command_refusals.specs.Outcome.{answer_of};
-ghost use Rattle.log_commands.specs.Printing.{Reaches, Printed, IsFresh, TellsNext, FailsAfter, is_whole, refusal_of};
+ghost use Rattle.log_commands.specs.StepsPrinting.{Reaches, IsFresh, TellsNext, FailsAfter, refusal_of};
+ghost use Rattle.command_answers.specs.Printing.{Printed, is_whole};
 ghost use Rattle.command_refusals.specs.declared.outcome.LogRefusal.TheVariants.{OpenFault, ReadFault, SinkFault, OutOfMemory};
 
 use crate::message_text::MessageText;

@@ -5,9 +5,9 @@ ghost use Rattle.wild_match.specs.declared.pattern.Item.{Item};
 ghost use Rattle.command_refusals.specs.Outside.{around};
 ghost use Rattle.command_refusals.specs.Ending.{IsPatternRefusal, RefusesPattern};
 ghost use Rattle.command_refusals.specs.GoesOn.{OutsideGoesOn};
-ghost use Rattle.log_commands.specs.LogAnswers.{AnswersLog};
-ghost use Rattle.log_commands.specs.Scanned.{Finds};
-ghost use Rattle.log_commands.specs.Shown.{Shows};
+ghost use Rattle.command_answers.specs.Answers.{AnswersLog};
+ghost use Rattle.command_answers.specs.Scanned.{Finds};
+ghost use Rattle.command_answers.specs.Shown.{Shows};
 
 use crate::found_text::Scan;
 use crate::log::print_log;

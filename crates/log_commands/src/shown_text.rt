@@ -1,6 +1,6 @@
 //! How `show` prints a message.
 ghost use Rattle.std.specs.Prelude.{◌≡◌, ◌++◌, ◌%◌, ◌≤◌, ℕ, List, OnOk, length, slice_range};
-ghost use Rattle.log_commands.specs.Shown.{Shows, hexadecimal_digit, word_end, with_word, marked};
+ghost use Rattle.command_answers.specs.Shown.{Shows, hexadecimal_digit, word_end, with_word, marked};
 ghost use Rattle.logtype_text.specs.Parts.{AreCodes, IsSplit};
 ghost use Rattle.var_codec.specs.Codes.{Codes};
 

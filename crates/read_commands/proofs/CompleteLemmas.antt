@@ -19,14 +19,18 @@ use Rattle.wild_match.proofs.Spelling.{IsSearchPattern-unique}
 use Rattle.wild_match.specs.declared.read.PatternRefusal.{PatternRefusal}
 use Rattle.wild_match.specs.declared.read.PatternRefusal.TheVariants.{BadPattern as ReadBadPattern, OutOfMemory as ReadOutOfMemory}
 use Rattle.command_refusals.specs.Outside.{Outside}
-use Rattle.read_commands.specs.Counted.{AnswersCheck, PrintsCounts}
-use Rattle.read_commands.specs.Listing.{AnswersFiles, PrintsDirectory}
-use Rattle.read_commands.specs.Decoding.{AnswersDecode, IsCompleteFile, LacksFile, PrintsFile}
+use Rattle.command_answers.specs.Answers.{AnswersCheck}
+use Rattle.command_answers.specs.Counted.{PrintsCounts}
+use Rattle.command_answers.specs.Answers.{AnswersFiles}
+use Rattle.command_answers.specs.Listing.{PrintsDirectory}
+use Rattle.command_answers.specs.Answers.{AnswersDecode}
+use Rattle.command_answers.specs.Decoding.{IsCompleteFile, LacksFile, PrintsFile}
 use Rattle.command_refusals.specs.Ending.{IsPatternRefusal}
 use Rattle.command_refusals.specs.Ending.{EndsWith, SaysIn, Stayed, TookNothing}
 use Rattle.command_refusals.specs.Outcome.{answer_of, of_file, of_pattern, of_read}
 use Rattle.command_refusals.specs.Refusal.{line_of, status_of}
-use Rattle.read_commands.specs.Searching.{AnswersSearch, PrintsFound, SparesBarren}
+use Rattle.command_answers.specs.Answers.{AnswersSearch}
+use Rattle.command_answers.specs.Searching.{PrintsFound, SparesBarren}
 use Rattle.command_refusals.proofs.GoingLemmas.{KeepsBytes-same}
 use Rattle.read_commands.proofs.SearchingLemmas.{found_unopened, spares_untouched}
 use Rattle.command_refusals.specs.Reading.{IsComplete, OverJournal}

@@ -3,7 +3,7 @@ use Rattle.std.proofs.Common.{◌≡◌, sym, subst, ℕ, List, Option, Result, 
 use Rattle.archive_places.specs.declared.places.Places.{Places}
 use Rattle.archive_places.specs.Opened.{OpensPlaces}
 use Rattle.file_lines.specs.Directory.{directory}
-use Rattle.read_commands.specs.Listing.{PrintsDirectory}
+use Rattle.command_answers.specs.Listing.{PrintsDirectory}
 use Rattle.command_refusals.specs.declared.outcome.ReadRefusal.{ReadRefusal}
 use Rattle.sink_pieces.specs.Output.{Grew, GrewByFront}
 

@@ -14,7 +14,7 @@ use Rattle.search_walk.specs.Scan.{Asked, lines_of}
 use Rattle.search_engine.specs.Searched.{HasSearched, HasStopped}
 use Rattle.search_walk.specs.Journal.{MissesBarren, OfJournal, ReadsNoBarren}
 use Rattle.search_walk.proofs.PickLemmas.{picks_once}
-use Rattle.read_commands.specs.Searching.{Found, PrintsFound, PrintsText, SparesBarren, found_counts, found_text, report_of}
+use Rattle.command_answers.specs.Searching.{Found, PrintsFound, PrintsText, SparesBarren, found_counts, found_text, report_of}
 
 -- ---- what is printed
 

@@ -1,4 +1,0 @@
-pub mod Counted
-pub mod Decoding
-pub mod Listing
-pub mod Searching

@@ -4,7 +4,7 @@ ghost use Rattle.log_seams.specs.Disk.{KeepsBytes};
 ghost use Rattle.log_seams.specs.Outside.{CountsOf};
 ghost use Rattle.archive_meaning.specs.Held.{content_of};
 ghost use Rattle.archive_open.specs.Shown.{RefusedAt};
-ghost use Rattle.read_commands.specs.Decoding.{LacksFile, PrintsFile};
+ghost use Rattle.command_answers.specs.Decoding.{LacksFile, PrintsFile};
 ghost use Rattle.command_refusals.specs.Reading.{OverJournal};
 
 use archive_decode::decode;

@@ -3,7 +3,7 @@ ghost use Rattle.std.specs.Prelude.{ℕ, IsErrOf};
 ghost use Rattle.log_seams.specs.Disk.{KeepsBytes};
 ghost use Rattle.log_seams.specs.Outside.{CountsOf};
 ghost use Rattle.archive_open.specs.Shown.{RefusedAt};
-ghost use Rattle.read_commands.specs.Listing.{PrintsDirectory};
+ghost use Rattle.command_answers.specs.Listing.{PrintsDirectory};
 
 use archive_places::open_places;
 use command_refusals::ReadRefusal;

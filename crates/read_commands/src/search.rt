@@ -9,7 +9,8 @@ ghost use Rattle.archive_open.specs.Shown.{RefusedAt};
 ghost use Rattle.search_walk.specs.Journal.{asked};
 ghost use Rattle.command_refusals.specs.GoesOn.{DiskGoesOn};
 ghost use Rattle.command_refusals.specs.Outside.{AroundSinks};
-ghost use Rattle.read_commands.specs.Searching.{AnswersPattern, PrintsFound, SparesBarren, found_counts};
+ghost use Rattle.command_answers.specs.Answers.{AnswersPattern};
+ghost use Rattle.command_answers.specs.Searching.{PrintsFound, SparesBarren, found_counts};
 
 use archive_places::open_places;
 use column_store::Range;

@@ -28,7 +28,7 @@ use Rattle.word_places.specs.declared.place.WordsPlace.{WordsPlace}
 use Rattle.word_places.specs.Reads.{IsOfWords}
 use Rattle.archive_open.specs.Shown.{columns_begin, columns_end, head_in, order_of, places_from, places_of}
 use Rattle.query_plan.specs.Pieces.{wide_pieces}
-use Rattle.subquery_filter.specs.Barren.{IsBarren}
+use Rattle.barren_segments.specs.Barren.{IsBarren}
 use Rattle.search_walk.specs.Scan.{Asked}
 use Rattle.search_walk.specs.Opened.{IsBarrenFor, IsRead, ReadsOpened, columns_at}
 use Rattle.search_walk.specs.Journal.{MissesBarren, ReadsNoBarren}

@@ -8,7 +8,7 @@ use Rattle.log_seams.specs.Disk.{DiskState, ReadsOnly, Rests}
 use Rattle.log_seams.proofs.MomentLemmas.{rests_on}
 use Rattle.segment_format.specs.Layout.{IsFixed, head_length}
 use Rattle.query_plan.specs.Laws.{IsSearched, WideIsWider}
-use Rattle.subquery_filter.specs.Barren.{IsBounded, LeavesOut}
+use Rattle.barren_segments.specs.Barren.{IsBounded, LeavesOut}
 use Rattle.subquery_filter.specs.Laws.{BarrenHasNoMatch}
 use Rattle.archive_open.specs.declared.files.FileEntry.{FileEntry}
 use Rattle.archive_open.specs.declared.segments.SegmentPlace.{SegmentPlace}

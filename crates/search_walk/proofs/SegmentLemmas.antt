@@ -15,7 +15,7 @@ use Rattle.segment_pages.specs.Paged.{HoldsLeft, HoldsSegment, Paged, paged_firs
 use Rattle.archive_meaning.specs.declared.TheConstants.{MAX_MESSAGES}
 use Rattle.query_plan.specs.Laws.{IsSearched, WideIsWider}
 use Rattle.query_plan.specs.Pieces.{wide_pieces}
-use Rattle.subquery_filter.specs.Barren.{IsBarren}
+use Rattle.barren_segments.specs.Barren.{IsBarren}
 use Rattle.subquery_filter.specs.Laws.{BarrenHasNoMatch, words_of}
 use Rattle.archive_open.specs.declared.files.FileEntry.{FileEntry}
 use Rattle.archive_open.specs.declared.segments.SegmentPlace.{SegmentPlace}

@@ -11,7 +11,7 @@ use Rattle.archive_meaning.specs.Stands.{StandsFor}
 use Rattle.column_store.specs.declared.range.Range.{Range}
 use Rattle.wild_match.specs.declared.pattern.Item.{Item}
 use Rattle.query_plan.specs.Pieces.{wide_pieces}
-use Rattle.subquery_filter.specs.Barren.{IsBarren}
+use Rattle.barren_segments.specs.Barren.{IsBarren}
 use Rattle.archive_open.specs.declared.segments.SegmentPlace.{SegmentPlace}
 use Rattle.archive_open.specs.Shown.{columns_begin, columns_end, head_in, order_of, places_of}
 use Rattle.search_walk.specs.Scan.{Asked}

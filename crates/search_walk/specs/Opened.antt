@@ -7,7 +7,7 @@ use Rattle.column_store.specs.declared.row.Row.{Row}
 use Rattle.segment_pages.specs.Paged.{HoldsLeft, HoldsSegment, Paged, columns_size, paged_first}
 use Rattle.archive_meaning.specs.declared.TheConstants.{MAX_MESSAGES}
 use Rattle.query_plan.specs.Pieces.{wide_pieces}
-use Rattle.subquery_filter.specs.Barren.{IsBarren}
+use Rattle.barren_segments.specs.Barren.{IsBarren}
 use Rattle.log_seams.specs.Disk.{DiskState}
 use Rattle.archive_open.specs.declared.files.FileEntry.{FileEntry}
 use Rattle.archive_open.specs.declared.segments.SegmentPlace.{SegmentPlace}

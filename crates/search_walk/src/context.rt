@@ -6,7 +6,7 @@ ghost use Rattle.segment_format.specs.Layout.{IsFixed, IsHead};
 ghost use Rattle.archive_places.specs.Fronts.{fixed_in};
 ghost use Rattle.query_plan.specs.Laws.{IsSearched};
 ghost use Rattle.query_plan.specs.Pieces.{wide_pieces};
-ghost use Rattle.subquery_filter.specs.Barren.{IsBounded, LeavesOut};
+ghost use Rattle.barren_segments.specs.Barren.{IsBounded, LeavesOut};
 ghost use Rattle.subquery_filter.specs.Filter.{HasNoMatch};
 ghost use Rattle.search_walk.specs.Held.{IsTold, Named, named};
 ghost use Rattle.search_walk.specs.Opened.{IsBarrenFor, IsOpened, NoneTold};
@@ -48,7 +48,7 @@ impl<'q, D: Disk> Model for Context<'q, D> {
     ghost use Rattle.std.specs.Prelude.{◌≡◌};
     ghost use Rattle.query_plan.specs.Laws.{IsSearched};
     ghost use Rattle.query_plan.specs.Pieces.{wide_pieces};
-    ghost use Rattle.subquery_filter.specs.Barren.{IsBounded, LeavesOut};
+    ghost use Rattle.barren_segments.specs.Barren.{IsBounded, LeavesOut};
     ghost use Rattle.search_walk.specs.Held.{IsTold, named};
     ghost use Rattle.search_walk.specs.StepsScope.{IsScope, Scope, scope};
 

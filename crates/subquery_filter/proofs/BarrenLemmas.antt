@@ -41,9 +41,9 @@ use Rattle.query_plan.specs.Laws.{IsWidened, NeededWordsAreBrought, ReadingsAreE
 use Rattle.query_plan.specs.Needs.{Brings, Owns, Shows, needed_variables_of}
 use Rattle.query_plan.specs.Pieces.{Free, needed_of, wide, wide_pieces}
 use Rattle.query_plan.specs.Readings.{Breaks, IsBodyBehind, SomeReads}
-use Rattle.subquery_filter.specs.Barren.{IsBounded, LacksTypes, LacksWord}
+use Rattle.barren_segments.specs.Barren.{IsBounded, LacksTypes, LacksWord}
 use Rattle.subquery_filter.specs.Laws.{BarrenHasNoMatch, words_of}
-use Rattle.subquery_filter.specs.Runs.{HoldsRun, IsRunEnd, ends_run, may_begin}
+use Rattle.barren_segments.specs.Runs.{HoldsRun, IsRunEnd, ends_run, may_begin}
 
 -- ---- elements
 

@@ -17,9 +17,9 @@ use Rattle.std.proofs.lemmas.Int.{to_z-of_z}
 use Rattle.column_store.specs.declared.range.Range.{Range}
 use Rattle.segment_format.specs.Layout.{IsHead}
 use Rattle.segment_format.specs.declared.head.Head.{Head}
-use Rattle.subquery_filter.specs.Barren.{HasConstants, HoldsConstants, IsBounded, IsMissing, IsNeeded, IsOutside, LacksTypes, LacksWord, LeavesOut}
+use Rattle.barren_segments.specs.Barren.{HasConstants, HoldsConstants, IsBounded, IsMissing, IsNeeded, IsOutside, LacksTypes, LacksWord, LeavesOut}
 use Rattle.subquery_filter.specs.Found.{AreNumbers, IsNumber}
-use Rattle.subquery_filter.specs.Runs.{HoldsRun}
+use Rattle.barren_segments.specs.Runs.{HoldsRun}
 use Rattle.plain_list.specs.Texts.{AreDistinct, IsNew}
 use Rattle.query_plan.specs.declared.pieces.Piece.{Piece}
 use Rattle.query_plan.specs.declared.pieces.Piece.TheVariants.{Gap, Mark, Word}

@@ -5,7 +5,7 @@ use Rattle.logtype_text.specs.declared.symbols.Symbol.{Symbol}
 use Rattle.logtype_text.specs.declared.symbols.Symbol.TheVariants.{Byte}
 use Rattle.logtype_text.specs.TypeText.{text_of_symbol, type_text}
 use Rattle.logtype_text.proofs.TextLemmas.{first_same}
-use Rattle.subquery_filter.specs.Runs.{BeginsRun, HoldsRunFrom, IsRunEnd, ends_run, may_begin}
+use Rattle.barren_segments.specs.Runs.{BeginsRun, HoldsRunFrom, IsRunEnd, ends_run, may_begin}
 
 -- another symbol is no constant byte like this
 pub other_symbol : (text : List ℕ) (symbol : Symbol) (after : List ℕ) (b : ℕ) → text ≡ text_of_symbol symbol ++ after → symbol ≢ Byte b

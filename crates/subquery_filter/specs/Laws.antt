@@ -11,7 +11,7 @@ use Rattle.row_codec.specs.Numbers.{numbers_of_row}
 use Rattle.segment_format.specs.Layout.{head_of, sorted_set}
 use Rattle.query_plan.specs.Laws.{IsSearched}
 use Rattle.query_plan.specs.Pieces.{wide, wide_pieces}
-use Rattle.subquery_filter.specs.Barren.{IsBarren}
+use Rattle.barren_segments.specs.Barren.{IsBarren}
 
 -- the dictionary numbers of the rows, sorted upwards, each once
 abbrev pub words_of : List (List ℕ) → List Row → List ℕ

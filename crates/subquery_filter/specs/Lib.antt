@@ -1,6 +1,4 @@
-pub mod Barren
 pub mod Laws
-pub mod Runs
 pub mod StepsLetters
 pub mod Verdicts
 pub mod Tokens

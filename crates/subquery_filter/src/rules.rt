@@ -3,11 +3,11 @@ ghost use Rattle.std.specs.Prelude.{◌≡◌, ◌⊎◌, ◌↔◌, ◌<◌, �
 ghost use Rattle.std.specs.List.Sorted.{IsStrictlyIncreasing};
 ghost use Rattle.plain_list.specs.Texts.{AreDistinct};
 ghost use Rattle.segment_format.specs.Layout.{IsHead};
-ghost use Rattle.subquery_filter.specs.Barren.{HasConstants, HoldsConstants, IsBarren, IsBounded, IsMissing, LacksTypes, LacksWord, LeavesOut};
+ghost use Rattle.barren_segments.specs.Barren.{HasConstants, HoldsConstants, IsBarren, IsBounded, IsMissing, LacksTypes, LacksWord, LeavesOut};
 ghost use Rattle.subquery_filter.specs.Found.{AreNumbers, IsNumber};
 ghost use Rattle.query_plan.specs.Needs.{needed_variables_of};
 ghost use Rattle.query_plan.specs.Pieces.{Free, needed_of};
-ghost use Rattle.subquery_filter.specs.Runs.{HoldsRun};
+ghost use Rattle.barren_segments.specs.Runs.{HoldsRun};
 
 use crate::runs::holds_run;
 use column_store::Range;

@@ -1,7 +1,7 @@
 //! Runs of constant bytes in the text of a log type.
 ghost use Rattle.std.specs.Prelude.{◌≡◌, ◌≢◌, ◌↔◌, ◌++◌, ℕ, List, IfNone, IfSome, IsTrue};
 ghost use Rattle.logtype_text.specs.TypeText.{text_of_symbol};
-ghost use Rattle.subquery_filter.specs.Runs.{BeginsRun, HoldsRun, IsRunEnd, ends_run};
+ghost use Rattle.barren_segments.specs.Runs.{BeginsRun, HoldsRun, IsRunEnd, ends_run};
 
 use logtype_text::{Symbol, first_symbol};
 use token_rules::is_delim;

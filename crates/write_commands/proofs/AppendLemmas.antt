@@ -25,14 +25,15 @@ use Rattle.archive_open.specs.Shown.{IsArchiveOf, Looks, Opens, Shown}
 use Rattle.disk_journal.proofs.SpellingLemmas.{length-frame}
 use Rattle.disk_seal.specs.Told.{IfTold, journal_in}
 use Rattle.disk_seal.specs.Opening.{MayOpen}
-use Rattle.disk_seal.specs.Registered.{HoldsNames, StaysOpen, files_record, files_size}
-use Rattle.disk_seal.specs.WordsIn.{words_of}
+use Rattle.disk_seal.specs.Registered.{HoldsNames, StaysOpen}
+use Rattle.ingest_meaning.specs.Room.{files_record, files_size}
+use Rattle.ingest_meaning.specs.WordsIn.{words_of}
 use Rattle.disk_seal.proofs.NextLemmas.{gate_at}
 use Rattle.disk_seal.proofs.OpenLemmas.{journal_is, stood_opens}
 use Rattle.disk_seal.proofs.ToldLemmas.{told_both, told_map}
 use Rattle.ingest_workers.specs.Ingested.{told_entries}
 use Rattle.ingest_workers.specs.Journal.{Holds}
-use Rattle.write_commands.specs.Names.{RefusesMore, RefusesNames}
+use Rattle.command_answers.specs.Names.{RefusesMore, RefusesNames}
 use Rattle.write_commands.specs.Naming.{IsNamed}
 use Rattle.command_refusals.specs.Reading.{IsArchive}
 use Rattle.write_commands.proofs.JoinLemmas.{new_file, types_held, types_named, words_held, words_named}

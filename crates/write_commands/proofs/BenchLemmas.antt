@@ -11,11 +11,12 @@ use Rattle.record_format.specs.declared.header.Header.{Header}
 use Rattle.archive_meaning.specs.declared.entry.JournalEntry.{JournalEntry}
 use Rattle.archive_open.specs.Shown.{RefusedAt}
 use Rattle.command_refusals.specs.Outside.{Outside}
-use Rattle.write_commands.specs.Benched.{AddsLogs, EndsLogs, IsSpared, IsTakenWhole, PrintsSummary, SumsUp, TellsParts, generated_names, segment_rows, with_logs}
+use Rattle.write_commands.specs.StepsBench.{AddsLogs, EndsLogs}
+use Rattle.command_answers.specs.Benched.{IsSpared, IsTakenWhole, PrintsSummary, SumsUp, TellsParts, generated_names, segment_rows, with_logs}
 use Rattle.command_refusals.specs.Ending.{EndsWith, SaysIn, Stayed, TookNothing}
 use Rattle.command_refusals.specs.GoesOn.{DiskGoesOn}
 use Rattle.write_commands.specs.IngestPrints.{came_of, names_of}
-use Rattle.write_commands.specs.Ingested.{FileOutcome, FromArchive, HasCallCause, LeavesJournal, StandsForEither, TakesIn, TakesNothing, logs_of}
+use Rattle.command_answers.specs.Ingested.{FileOutcome, FromArchive, HasCallCause, LeavesJournal, StandsForEither, TakesIn, TakesNothing, logs_of}
 use Rattle.command_refusals.specs.Refusal.{line_of, status_of}
 use Rattle.write_commands.specs.StepsCauses.{HaveFileCauses}
 use Rattle.command_refusals.specs.declared.refusal.Refusal.{Refusal}
@@ -23,7 +24,8 @@ use Rattle.command_refusals.specs.declared.outcome.AddRefusal.{AddRefusal}
 use Rattle.sink_pieces.specs.Output.{Grew}
 use Rattle.sink_pieces.proofs.OutputLemmas.{Grew-nothing}
 use Rattle.command_refusals.specs.Outcome.{answer_of, of_add, of_read}
-use Rattle.write_commands.specs.Taken.{error_of, gravest, status_of_taken}
+use Rattle.write_commands.specs.Taken.{error_of, status_of_taken}
+use Rattle.command_answers.specs.Taken.{gravest}
 use Rattle.command_refusals.specs.declared.outcome.ReadRefusal.{ReadRefusal}
 use Rattle.command_refusals.specs.declared.outcome.ReadRefusal.TheVariants.{Damaged, DiskFault, SinkFault}
 use Rattle.write_commands.specs.declared.file_report.FileReport.{FileReport}

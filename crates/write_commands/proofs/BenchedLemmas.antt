@@ -15,11 +15,12 @@ use Rattle.disk_journal.specs.declared.refusals.CreateRefusal.{CreateRefusal}
 use Rattle.disk_journal.specs.declared.refusals.CreateRefusal.TheVariants.{DiskFault as CreateDiskFault, NotEmpty as CreateNotEmpty}
 use Rattle.generated_logs.specs.Logs.{content_of as generated}
 use Rattle.command_refusals.specs.Outside.{Outside}
-use Rattle.write_commands.specs.Benched.{AnswersBench, EndsBench, HasLogsCause, IsSpared, IsTakenWhole, MayRefuseLog, MeetsNoLimit, MetNoLimit, PrintsSummary, RefusesMaking, SumsUp, SumsUpAll, TakesLogs, TellsParts, TellsSummary, as_made, at_moment, default_header, made_bytes, generated_names, with_logs, segment_rows}
+use Rattle.command_answers.specs.Answers.{AnswersBench}
+use Rattle.command_answers.specs.Benched.{EndsBench, HasLogsCause, IsSpared, IsTakenWhole, MayRefuseLog, MeetsNoLimit, MetNoLimit, PrintsSummary, RefusesMaking, SumsUp, SumsUpAll, TakesLogs, TellsParts, TellsSummary, as_made, at_moment, default_header, made_bytes, generated_names, with_logs, segment_rows}
 use Rattle.command_refusals.specs.Ending.{EndsWith, RoseIn}
-use Rattle.write_commands.specs.Ingested.{FileOutcome, CameOfFile, HasFileCause, StandsForEither, TakesIn}
+use Rattle.command_answers.specs.Ingested.{FileOutcome, CameOfFile, HasFileCause, StandsForEither, TakesIn}
 use Rattle.command_refusals.specs.Outcome.{answer_of, of_add, of_read}
-use Rattle.write_commands.specs.Taken.{file_status, gravest, has}
+use Rattle.command_answers.specs.Taken.{file_status, gravest, has}
 use Rattle.command_refusals.specs.declared.outcome.ReadRefusal.{ReadRefusal}
 use Rattle.command_refusals.specs.declared.outcome.ReadRefusal.TheVariants.{Damaged as ReadDamaged, DiskFault as ReadDiskFault, SinkFault as ReadSinkFault, OutOfMemory as ReadOutOfMemory}
 use Rattle.command_refusals.specs.declared.outcome.AddRefusal.{AddRefusal}

@@ -8,12 +8,13 @@ use Rattle.sink_pieces.specs.Output.{Grew, GrewByFront}
 use Rattle.command_refusals.specs.Outside.{Outside}
 use Rattle.file_lines.specs.Directory.{FileLine, directory_from}
 use Rattle.command_refusals.specs.Ending.{EndsWithoutMemory, RoseIn, SaysIn, Stayed, TookNothing}
-use Rattle.write_commands.specs.Ingested.{EndsIngest, FileOutcome, FromArchive, HasCallCause, PrintsCame, TakesIn, TakesNothing, line_of_came, logs_of}
+use Rattle.command_answers.specs.Ingested.{EndsIngest, FileOutcome, FromArchive, HasCallCause, PrintsCame, TakesIn, TakesNothing, line_of_came, logs_of}
 use Rattle.write_commands.specs.IngestPrints.{came_of, names_of}
 use Rattle.write_commands.specs.StepsCauses.{HaveFileCauses}
 use Rattle.command_refusals.specs.Reading.{OverJournal}
 use Rattle.command_refusals.specs.Refusal.{line_of, status_of}
-use Rattle.write_commands.specs.Taken.{error_of, file_error, file_status, gravest, line_of_taken, status_of_taken}
+use Rattle.write_commands.specs.Taken.{error_of, line_of_taken, status_of_taken}
+use Rattle.command_answers.specs.Taken.{file_error, file_status, gravest}
 use Rattle.command_refusals.specs.declared.outcome.AddRefusal.{AddRefusal}
 use Rattle.command_refusals.specs.Outcome.{of_add}
 use Rattle.command_refusals.specs.declared.refusal.Refusal.TheVariants.{SinkFault}

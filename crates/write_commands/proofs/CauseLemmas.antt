@@ -19,8 +19,8 @@ use Rattle.disk_seal.specs.Registered.{IsFullFor}
 use Rattle.disk_seal.specs.declared.files.RegisterRefusal.{RegisterRefusal}
 use Rattle.disk_seal.proofs.NextLemmas.{gate_at}
 use Rattle.ingest_workers.specs.Ingested.{told_entries}
-use Rattle.write_commands.specs.Ingested.{GoPast, HasCallCause}
-use Rattle.write_commands.specs.Names.{RefusesMore, RefusesNames}
+use Rattle.command_answers.specs.Ingested.{GoPast, HasCallCause}
+use Rattle.command_answers.specs.Names.{RefusesMore, RefusesNames}
 use Rattle.command_refusals.specs.Outcome.{add_from_archive, add_from_register, add_from_start}
 use Rattle.command_refusals.specs.Reading.{OverJournal}
 use Rattle.command_refusals.specs.declared.outcome.AddRefusal.{AddRefusal}

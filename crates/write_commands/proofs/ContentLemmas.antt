@@ -24,16 +24,16 @@ use Rattle.archive_meaning.specs.Stands.{IsLegal, StandsFor}
 use Rattle.archive_meaning.proofs.RunLemmas.{one_held, runs_split}
 use Rattle.archive_meaning.proofs.UniqueLemmas.{legal_front}
 use Rattle.disk_seal.specs.View.{journal_of, state_by, tells}
-use Rattle.disk_seal.specs.WordsIn.{words_in, words_of}
+use Rattle.ingest_meaning.specs.WordsIn.{words_in, words_of}
 use Rattle.ingest_workers.specs.declared.job.Job.{Job}
 use Rattle.ingest_workers.specs.declared.outcome.Outcome.{Outcome}
 use Rattle.ingest_workers.specs.Ingested.{AreRefused, HasIngested, IsAsItWas, IsFileOf, IsOfJobs, IsTypeGiven, IsWordGiven, OfMessages, plan_of, told_entries}
 use Rattle.ingest_workers.specs.Journal.{FrontHolds}
 use Rattle.ingest_workers.specs.JobDone.{in_source}
-use Rattle.ingest_workers.specs.Locked.{in_file}
-use Rattle.ingest_workers.specs.Parts.{IsCut, IsOpen, Part, columns_of, front, messages_in, rest_of, segments_from}
+use Rattle.ingest_meaning.specs.Parts.{in_file}
+use Rattle.ingest_meaning.specs.Parts.{IsCut, IsOpen, Part, columns_of, front, messages_in, rest_of, segments_from}
 use Rattle.ingest_workers.specs.Worker.{IsGiven as IsGivenByJobs}
-use Rattle.write_commands.specs.Ingested.{FileOutcome, IsCutInto, IsFront, IsGiven, IsGivenBy, IsOfNew, LeavesJournal, TakesIn}
+use Rattle.command_answers.specs.Ingested.{FileOutcome, IsCutInto, IsFront, IsGiven, IsGivenBy, IsOfNew, LeavesJournal, TakesIn}
 use Rattle.write_commands.specs.JournalLeft.{HasNames, IsLogOf}
 use Rattle.write_commands.proofs.JoinLemmas.{HasNone, content_grows, new_file, with_names}
 use Rattle.write_commands.proofs.LeavesLemmas.{left_leaves, of_told, same_leaves}

@@ -20,7 +20,8 @@ use Rattle.disk_seal.specs.View.{StoreView}
 use Rattle.disk_seal.proofs.ToldLemmas.{told_map}
 use Rattle.row_codec.specs.declared.namer.Which.{Which}
 use Rattle.row_codec.specs.declared.namer.Which.TheVariants.{Types as WhichTypes, Words as WhichWords}
-use Rattle.ingest_workers.specs.Full.{AreAllOf, IsNextOf, IsTextOf}
+use Rattle.ingest_meaning.specs.Given.{AreAllOf, IsNextOf}
+use Rattle.ingest_meaning.specs.Dictionaries.{IsTextOf}
 use Rattle.ingest_workers.proofs.FullLemmas.{full_by_wider}
 use Rattle.write_commands.proofs.ContentLemmas.{AreJobsOf, given_of_names}
 use Rattle.ingest_workers.specs.declared.job.Job.{Job}
@@ -32,7 +33,7 @@ use Rattle.message_reader.specs.Taken.{IsBeforeLong, IsReadShort}
 use Rattle.ingest_workers.specs.Ingested.{AreRefused, HadNoRoomOver, HasItsCause, HasStored, HaveCauses, IsAsItWas, IsFullByGiven as IsFullByJobs, IsThereOrGiven as IsThereOrGivenByJobs, WereGiven as WereGivenByJobs, grounds_over, not_begun, plan_of, told_entries}
 use Rattle.ingest_workers.specs.Outcome.{nothing_done}
 use Rattle.write_commands.specs.IngestPrints.{came_of}
-use Rattle.write_commands.specs.Ingested.{FileOutcome, HasEnded, HasMoreThan, IsNextTooLong, IsStoppedBy, IsThereOrGiven, Logs, WasCutShort}
+use Rattle.command_answers.specs.Ingested.{FileOutcome, HasEnded, HasMoreThan, IsNextTooLong, IsStoppedBy, IsThereOrGiven, Logs, WasCutShort}
 use Rattle.write_commands.specs.Jobs.{DidJobs, IsNotBegun, of_cause, of_opening, refusal_by, sources_of}
 use Rattle.write_commands.specs.StepsCauses.{CameIn, HasCauseIn, Target, into_journal}
 use Rattle.command_refusals.specs.LogLimits.{IsLong, most_messages}

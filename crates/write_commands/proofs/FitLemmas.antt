@@ -19,13 +19,15 @@ use Rattle.archive_meaning.proofs.UniqueLemmas.{one_journal}
 use Rattle.disk_seal.specs.Told.{IfTold, journal_in}
 use Rattle.disk_seal.specs.View.{StoreView, journal_of, state_by}
 use Rattle.ingest_workers.specs.declared.job.Job.{Job}
-use Rattle.ingest_workers.specs.Full.{AreFirstOf, IsTextOf}
+use Rattle.ingest_meaning.specs.Given.{AreFirstOf}
+use Rattle.ingest_meaning.specs.Dictionaries.{IsTextOf}
 use Rattle.ingest_workers.specs.Ingested.{HadNoRoomOver, IsLeftBy, WereGiven as WereGivenByJobs, plan_of, told_entries}
-use Rattle.ingest_workers.specs.NoRoom.{HadNoRoom, IsBetween}
+use Rattle.ingest_meaning.specs.Room.{HadNoRoom}
+use Rattle.ingest_workers.specs.NoRoom.{IsBetween}
 use Rattle.ingest_workers.specs.Worker.{IsGiven as IsGivenByJobs}
 use Rattle.ingest_workers.proofs.NoRoomLemmas.{no_room_on}
 use Rattle.ingest_workers.proofs.SealLemmas.{if_told, of_told}
-use Rattle.write_commands.specs.Ingested.{FileOutcome, DidNotFit, HasEnded, IsGiven, LeavesJournal, Logs, StandFirst, WereGiven, names_in}
+use Rattle.command_answers.specs.Ingested.{FileOutcome, DidNotFit, HasEnded, IsGiven, LeavesJournal, Logs, StandFirst, WereGiven, names_in}
 use Rattle.write_commands.specs.StepsCauses.{IsTarget, Target}
 use Rattle.write_commands.proofs.ContentLemmas.{AreJobsOf, given_of_names}
 use Rattle.write_commands.proofs.LeavesLemmas.{prefix_on, store_leaves}

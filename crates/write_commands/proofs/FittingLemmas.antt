@@ -35,14 +35,14 @@ use Rattle.archive_meaning.specs.Stands.{IsLegal, StandsFor}
 use Rattle.archive_meaning.proofs.JudgeLemmas.{run_types}
 use Rattle.archive_meaning.proofs.SumsLemmas.{messages_joined}
 use Rattle.archive_meaning.proofs.UniqueLemmas.{legal_front}
-use Rattle.disk_seal.specs.WordsIn.{words_of}
+use Rattle.ingest_meaning.specs.WordsIn.{words_of}
 use Rattle.disk_seal.proofs.NextLemmas.{run_words}
-use Rattle.ingest_workers.specs.Causes.{limit_of}
-use Rattle.ingest_workers.specs.Full.{IsTextOf}
-use Rattle.ingest_workers.specs.Ingested.{book_texts, header_limits}
+use Rattle.ingest_meaning.specs.Dictionaries.{limit_of}
+use Rattle.ingest_meaning.specs.Dictionaries.{IsTextOf}
+use Rattle.ingest_meaning.specs.Dictionaries.{book_texts, header_limits}
 use Rattle.ingest_workers.proofs.ClosingLemmas.{types_joined, words_joined}
 use Rattle.ingest_workers.proofs.JournalLemmas.{all_canonical}
-use Rattle.write_commands.specs.Ingested.{AllFit, FileOutcome, FitIn, FromArchive, IsFront, IsThereOrTakenIn, StandsForEither, TakesIn, WasTakenIn}
+use Rattle.command_answers.specs.Ingested.{AllFit, FileOutcome, FitIn, FromArchive, IsFront, IsThereOrTakenIn, StandsForEither, TakesIn, WasTakenIn}
 use Rattle.write_commands.proofs.JoinLemmas.{types_held, words_held}
 
 abbrev Texts : Type 0

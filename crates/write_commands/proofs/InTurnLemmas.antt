@@ -18,15 +18,17 @@ use Rattle.disk_seal.proofs.ToldLemmas.{told_map}
 use Rattle.ingest_workers.specs.declared.job.Job.{Job}
 use Rattle.ingest_workers.specs.declared.outcome.Cause.{Cause}
 use Rattle.ingest_workers.specs.declared.outcome.Outcome.{Outcome}
-use Rattle.ingest_workers.specs.Full.{IsAmongFirst, IsMessageAt, IsTextOf}
+use Rattle.ingest_meaning.specs.Given.{IsAmongFirst, IsMessageAt}
+use Rattle.ingest_meaning.specs.Dictionaries.{IsTextOf}
 use Rattle.ingest_workers.specs.InTurn.{AreFullInTurn, IsMetBy, IsNextFor}
-use Rattle.ingest_workers.specs.Ingested.{AreRefused, book_texts, plan_of, told_entries}
+use Rattle.ingest_workers.specs.Ingested.{AreRefused, plan_of, told_entries}
+use Rattle.ingest_meaning.specs.Dictionaries.{book_texts}
 use Rattle.ingest_workers.specs.JobDone.{in_source}
 use Rattle.ingest_workers.specs.Met.{WasMet}
 use Rattle.ingest_workers.specs.Outcome.{met_by, unsealed_by}
 use Rattle.ingest_workers.proofs.FullLemmas.{full_by_wider}
 use Rattle.write_commands.specs.IngestPrints.{came_of}
-use Rattle.write_commands.specs.Ingested.{FileOutcome, WasMetIn, WasMetInOneOf, unsealed_of}
+use Rattle.command_answers.specs.Ingested.{FileOutcome, WasMetIn, WasMetInOneOf, unsealed_of}
 use Rattle.write_commands.specs.Jobs.{DidJobs, IsNotBegun, of_cause, refusal_by}
 use Rattle.write_commands.specs.StepsCauses.{AreFullInto, Target, into_journal}
 use Rattle.command_refusals.specs.declared.outcome.PartCause.{PartCause}

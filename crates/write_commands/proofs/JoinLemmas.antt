@@ -11,7 +11,7 @@ use Rattle.archive_meaning.proofs.JudgeLemmas.{run_names, run_types}
 use Rattle.archive_meaning.proofs.RunLemmas.{runs_go_on}
 use Rattle.archive_meaning.proofs.SumsLemmas.{AreBelow, messages_joined, whole_joined}
 use Rattle.archive_meaning.specs.Spelled.{types_in, types_of}
-use Rattle.disk_seal.specs.WordsIn.{words_in, words_of}
+use Rattle.ingest_meaning.specs.WordsIn.{words_in, words_of}
 use Rattle.disk_seal.proofs.NextLemmas.{run_words}
 
 -- ---- the segments of other files

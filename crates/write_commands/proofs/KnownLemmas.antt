@@ -5,7 +5,7 @@ use Rattle.std.proofs.lemmas.Slice.Eq.{bytes_eq-Decides}
 use Rattle.log_seams.specs.Disk.{DiskState}
 use Rattle.archive_meaning.specs.Stands.{StandsFor}
 use Rattle.command_refusals.specs.Reading.{IsArchive}
-use Rattle.write_commands.specs.Known.{KnownArchive, are_of, seen_if, told_if}
+use Rattle.command_answers.specs.Known.{KnownArchive, are_of, seen_if, told_if}
 
 -- where the bytes are those of a known archive, they are an archive
 pub are_archive : (known : Option KnownArchive) (told : Option (List ℕ)) → IsTrue (are_of known told) → IfSome told IsArchive

@@ -5,15 +5,15 @@ use Rattle.std.specs.List.{Contains}
 use Rattle.std.proofs.lemmas.List.Elements.{All-contains}
 use Rattle.message_reader.specs.Versions.{MessagesOf}
 use Rattle.message_reader.proofs.VersionLawLemmas.{messages_exist}
-use Rattle.ingest_workers.specs.Full.{AreAllOf}
-use Rattle.ingest_workers.specs.NoRoom.{part_in}
+use Rattle.ingest_meaning.specs.Given.{AreAllOf}
+use Rattle.ingest_meaning.specs.Parts.{part_in}
 use Rattle.log_seams.specs.Disk.{DiskState}
 use Rattle.record_format.specs.declared.header.Header.{Header}
 use Rattle.archive_meaning.specs.declared.entry.JournalEntry.{JournalEntry}
 use Rattle.message_reader.specs.Taken.{IsBeforeLong}
 use Rattle.command_refusals.specs.LogLimits.{most_messages}
 use Rattle.command_refusals.specs.declared.outcome.PartCause.{PartCause}
-use Rattle.write_commands.specs.Ingested.{FileOutcome, HasEnded, HasMoreThan, IsGivenBy, IsStoppedBy, Logs}
+use Rattle.command_answers.specs.Ingested.{FileOutcome, HasEnded, HasMoreThan, IsGivenBy, IsStoppedBy, Logs}
 use Rattle.write_commands.specs.Laws.{IsOfTold, IsReadable, IsUnopenedOrTold, RestsEndTheirLog, UnopenedGiveNothing}
 use Rattle.write_commands.proofs.LineLemmas.{long_behind}
 
@@ -64,6 +64,6 @@ rests_end_their_log new logs rows first came h named c end need messages fit log
     record {
       sealed = fit.room.sealed;
       count = fit.room.count;
-      part = part_in room.draft room.messages;
+      part = part_in room.segment room.messages;
       cut = ⊎_elim (λ whole. inl whole) (λ rest. inr (rest.0, all_taken logs came h named c.name messages (fit.room.sealed ++ room.messages) log rest.1)) room.cut;
     }

@@ -28,7 +28,7 @@ use Rattle.disk_seal.specs.Told.{IfTold, entry_of, journal_in}
 use Rattle.disk_seal.specs.View.{HasFirst, Image, Kept, StoreState, StoreView, journal_of, state_by, tells}
 use Rattle.disk_seal.proofs.ToldLemmas.{length-records}
 use Rattle.ingest_workers.specs.Ingested.{IsAsItWas, IsLeftBy, told_entries}
-use Rattle.write_commands.specs.Ingested.{FromArchive, LeavesJournal, StandsForEither}
+use Rattle.command_answers.specs.Ingested.{FromArchive, LeavesJournal, StandsForEither}
 use Rattle.write_commands.specs.JournalLeft.{HasNames, StandsBetween, StandsStill}
 
 -- ---- fronts of lists

@@ -16,9 +16,9 @@ use Rattle.generated_logs.specs.States.{GeneratedState, faults_of_log, open_faul
 use Rattle.generated_logs.proofs.LineLemmas.{logs_have_lines}
 use Rattle.archive_meaning.specs.Held.{File}
 use Rattle.disk_seal.proofs.ToldLemmas.{told_map}
-use Rattle.write_commands.specs.Benched.{IsSpared, IsTakenWhole, MayRefuseLog, generated_names}
+use Rattle.command_answers.specs.Benched.{IsSpared, IsTakenWhole, MayRefuseLog, generated_names}
 use Rattle.command_refusals.specs.Ending.{RoseIn}
-use Rattle.write_commands.specs.Ingested.{FileOutcome, HasMoreThan, IsFront, Logs, names_in}
+use Rattle.command_answers.specs.Ingested.{FileOutcome, HasMoreThan, IsFront, Logs, names_in}
 use Rattle.command_refusals.specs.LogLimits.{IsLong, most_messages}
 use Rattle.write_commands.specs.StepsCauses.{CameIn, HasCauseIn, HaveFileCauses, Target}
 use Rattle.command_refusals.specs.declared.outcome.PartCause.{PartCause}

@@ -19,7 +19,7 @@ use Rattle.disk_journal.specs.Created.{CreateLeaves, MakesEmpty}
 use Rattle.disk_journal.specs.declared.refusals.CreateRefusal.{CreateRefusal}
 use Rattle.disk_journal.specs.declared.refusals.CreateRefusal.TheVariants.{DiskFault as CreateDiskFault}
 use Rattle.disk_journal.specs.declared.record.TheConstants.{CLOSED_GATE}
-use Rattle.disk_seal.specs.Registered.{files_record, files_size}
+use Rattle.ingest_meaning.specs.Room.{files_record, files_size}
 use Rattle.row_codec.specs.declared.namer.Which.{Which}
 use Rattle.archive_meaning.specs.declared.entry.JournalEntry.{JournalEntry}
 use Rattle.archive_meaning.specs.Held.{Held, nothing_held}
@@ -29,13 +29,15 @@ use Rattle.archive_meaning.proofs.RunLemmas.{one_held}
 use Rattle.archive_open.specs.Shown.{StandsForNone}
 use Rattle.command_refusals.specs.GoesOn.{DiskGoesOn}
 use Rattle.command_refusals.specs.Outside.{Outside}
-use Rattle.write_commands.specs.Benched.{AnswersBench, EndsLogs, FromEmpty, HasLogsCause, IsTakenWhole, RefusesLogs, RefusesMaking, TakesLogs, as_made, at_moment, default_header, generated_names, made_bytes, segment_rows, with_logs}
+use Rattle.command_answers.specs.Answers.{AnswersBench}
+use Rattle.write_commands.specs.StepsBench.{EndsLogs}
+use Rattle.command_answers.specs.Benched.{FromEmpty, HasLogsCause, IsTakenWhole, RefusesLogs, RefusesMaking, TakesLogs, as_made, at_moment, default_header, generated_names, made_bytes, segment_rows, with_logs}
 use Rattle.command_refusals.specs.Ending.{SaysIn, Stayed, TookNothing}
 use Rattle.command_refusals.specs.Outcome.{answer_of, of_create}
 use Rattle.command_refusals.specs.Reading.{IsArchive, OverJournal}
 use Rattle.command_refusals.specs.Refusal.{line_of, status_of}
-use Rattle.write_commands.specs.Ingested.{FileOutcome, FitIn, FromArchive, GoPast, HasCallCause, LeavesJournal, Logs, TakesIn, TakesNothing, logs_of}
-use Rattle.write_commands.specs.Names.{IsFirstTooLong, IsShortName}
+use Rattle.command_answers.specs.Ingested.{FileOutcome, FitIn, FromArchive, GoPast, HasCallCause, LeavesJournal, Logs, TakesIn, TakesNothing, logs_of}
+use Rattle.command_answers.specs.Names.{IsFirstTooLong, IsShortName}
 use Rattle.write_commands.specs.StepsCauses.{CameIn, HaveFileCauses, IsTarget}
 use Rattle.command_refusals.specs.declared.refusal.Refusal.{Refusal}
 use Rattle.command_refusals.specs.declared.outcome.AddRefusal.{AddRefusal}

@@ -15,8 +15,8 @@ use Rattle.archive_meaning.specs.Legal.{Accepts, Run, piece_of}
 use Rattle.archive_meaning.proofs.RunLemmas.{one_held, runs_go_on, runs_split}
 use Rattle.archive_meaning.proofs.SumsLemmas.{messages_joined, whole_joined}
 use Rattle.ingest_workers.specs.Journal.{FrontHolds}
-use Rattle.ingest_workers.specs.Locked.{in_file}
-use Rattle.ingest_workers.specs.Parts.{IsCut, IsOpen, Part, messages_in, rest_of, segments_from}
+use Rattle.ingest_meaning.specs.Parts.{in_file}
+use Rattle.ingest_meaning.specs.Parts.{IsCut, IsOpen, Part, messages_in, rest_of, segments_from}
 use Rattle.write_commands.proofs.JoinLemmas.{AreFrom, HasNone, ended_joined}
 
 -- texts, and segments of files from a number on

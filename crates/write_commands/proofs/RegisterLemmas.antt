@@ -23,12 +23,12 @@ use Rattle.archive_meaning.proofs.JudgeLemmas.{end_more}
 use Rattle.archive_meaning.proofs.UniqueLemmas.{records_joined}
 use Rattle.archive_open.specs.Shown.{Shown}
 use Rattle.disk_seal.specs.Opening.{MayOpen}
-use Rattle.disk_seal.specs.Registered.{files_record, files_size}
+use Rattle.ingest_meaning.specs.Room.{files_record, files_size}
 use Rattle.disk_seal.specs.Told.{IfTold, journal_in}
 use Rattle.disk_seal.specs.declared.files.RegisterRefusal.{RegisterRefusal}
 use Rattle.disk_seal.proofs.NextLemmas.{gate_at}
 use Rattle.ingest_workers.specs.Ingested.{told_entries}
-use Rattle.write_commands.specs.Ingested.{FromArchive, LeavesJournal, StandsForEither, TakesNothing}
+use Rattle.command_answers.specs.Ingested.{FromArchive, LeavesJournal, StandsForEither, TakesNothing}
 use Rattle.write_commands.specs.JournalLeft.{AddsNamesTo, StandsBetween, StandsStill}
 use Rattle.write_commands.proofs.AppendLemmas.{AppendsNames, OpensFrom, holds_names, legal_with, may_append, told_named}
 use Rattle.write_commands.proofs.LeavesLemmas.{either_leaves, of_told, opened_as, prefix_same, still_leaves}

@@ -10,7 +10,7 @@ use Rattle.archive_meaning.specs.declared.entry.JournalEntry.{JournalEntry}
 use Rattle.archive_meaning.specs.declared.entry.JournalEntry.TheVariants.{Files}
 use Rattle.archive_meaning.specs.Stands.{StandsFor}
 use Rattle.command_refusals.specs.GoesOn.{DiskGoesOn}
-use Rattle.write_commands.specs.Ingested.{FileOutcome, FromArchive, TakesIn, TakesNothing}
+use Rattle.command_answers.specs.Ingested.{FileOutcome, FromArchive, TakesIn, TakesNothing}
 use Rattle.write_commands.specs.JournalLeft.{AddsNamesTo, StandsBetween, StandsStill, TakesInto}
 use Rattle.command_refusals.specs.Reading.{OverJournal}
 use Rattle.command_refusals.proofs.GoingLemmas.{KeepsBytes-same}

@@ -8,7 +8,7 @@ use Rattle.archive_open.specs.Shown.{places_of}
 use Rattle.search_engine.specs.declared.report.Report.{Report}
 use Rattle.search_engine.specs.Searched.{HasSearched}
 use Rattle.search_walk.specs.Journal.{OfJournal, asked}
-use Rattle.write_commands.specs.Benched.{AreCounted, PrintsSummary, sought, summary}
+use Rattle.command_answers.specs.Benched.{AreCounted, PrintsSummary, sought, summary}
 
 -- ---- what a search has found
 

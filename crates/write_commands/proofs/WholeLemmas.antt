@@ -8,10 +8,11 @@ use Rattle.archive_meaning.specs.declared.entry.JournalEntry.{JournalEntry}
 use Rattle.archive_meaning.specs.declared.entry.JournalEntry.TheVariants.{Files}
 use Rattle.archive_meaning.specs.Spelled.{types_of}
 use Rattle.disk_seal.specs.Told.{IfTold}
-use Rattle.disk_seal.specs.WordsIn.{words_of}
-use Rattle.ingest_workers.specs.Causes.{limit_of}
-use Rattle.ingest_workers.specs.Full.{IsFullBy, IsMessageAt, IsNextOf, IsTextOf}
-use Rattle.ingest_workers.specs.Ingested.{book_texts, header_limits}
+use Rattle.ingest_meaning.specs.WordsIn.{words_of}
+use Rattle.ingest_meaning.specs.Dictionaries.{limit_of}
+use Rattle.ingest_meaning.specs.Dictionaries.{IsFullBy, IsTextOf}
+use Rattle.ingest_meaning.specs.Given.{IsMessageAt, IsNextOf}
+use Rattle.ingest_meaning.specs.Dictionaries.{book_texts, header_limits}
 use Rattle.ingest_workers.proofs.ClosingLemmas.{types_joined, words_joined}
 use Rattle.std.proofs.lemmas.List.Elements.{All-weaker}
 use Rattle.log_seams.specs.Disk.{DiskState}
@@ -19,7 +20,7 @@ use Rattle.log_seams.proofs.MomentLemmas.{rose}
 use Rattle.record_format.specs.declared.header.Header.{Header}
 use Rattle.disk_journal.specs.State.{JournalState}
 use Rattle.command_refusals.specs.Outside.{Outside}
-use Rattle.write_commands.specs.Ingested.{AreFullInTurn, CameOfFile, DidNotFit, FileOutcome, FromArchive, HasFileCause, HasMoreThan, IsFullByGiven, IsFullInTurn, IsGiven, IsNextTooLong, Logs, OfTaken, WasCutShort, WasMetInOneOf, logs_of, names_in}
+use Rattle.command_answers.specs.Ingested.{AreFullInTurn, CameOfFile, DidNotFit, FileOutcome, FromArchive, HasFileCause, HasMoreThan, IsFullByGiven, IsFullInTurn, IsGiven, IsNextTooLong, Logs, OfTaken, WasCutShort, WasMetInOneOf, logs_of, names_in}
 use Rattle.write_commands.specs.StepsCauses.{AreFullInto, CameIn, HasCauseIn, HaveFileCauses, IsTarget, Target, into_journal}
 use Rattle.write_commands.specs.JournalLeft.{AddsNamesTo, HasNames}
 use Rattle.command_refusals.specs.LogLimits.{most_messages}

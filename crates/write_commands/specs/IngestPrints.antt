@@ -1,6 +1,6 @@
 -- What came of files, as `ingest` tells it.
 use Rattle.std.specs.Prelude.{ℕ, List, map}
-use Rattle.write_commands.specs.Ingested.{FileOutcome}
+use Rattle.command_answers.specs.Ingested.{FileOutcome}
 use Rattle.write_commands.specs.declared.file_report.FileReport.{FileReport}
 
 -- what came of a file, as it is told

@@ -8,7 +8,7 @@ use Rattle.archive_meaning.specs.declared.entry.JournalEntry.{JournalEntry}
 use Rattle.archive_meaning.specs.declared.entry.JournalEntry.TheVariants.{Files}
 use Rattle.archive_meaning.specs.Stands.{StandsFor}
 use Rattle.ingest_workers.specs.Ingested.{told_entries}
-use Rattle.write_commands.specs.Ingested.{CouldNotOpen, FileOutcome, TakesIn}
+use Rattle.command_answers.specs.Ingested.{CouldNotOpen, FileOutcome, TakesIn}
 
 -- the bytes stand for the journal
 abbrev pub StandsStill : Header → List JournalEntry → List ℕ → Type 0

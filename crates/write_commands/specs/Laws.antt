@@ -6,10 +6,10 @@ use Rattle.record_format.specs.declared.header.Header.{Header}
 use Rattle.archive_meaning.specs.declared.entry.JournalEntry.{JournalEntry}
 use Rattle.message_reader.specs.Versions.{MessagesOf}
 use Rattle.row_codec.specs.declared.namer.Which.{Which}
-use Rattle.ingest_workers.specs.Parts.{IsCut, IsOpen, Part}
+use Rattle.ingest_meaning.specs.Parts.{IsCut, IsOpen, Part}
 use Rattle.command_refusals.specs.Ending.{RoseIn}
 use Rattle.command_refusals.specs.LogLimits.{IsLong, most_messages}
-use Rattle.write_commands.specs.Ingested.{CouldNotOpen, DidNotFit, FileOutcome, IsFullBehind, IsGiven, Logs}
+use Rattle.command_answers.specs.Ingested.{CouldNotOpen, DidNotFit, FileOutcome, IsFullBehind, IsGiven, Logs}
 
 -- ---- logs that could not be opened
 

@@ -1,12 +1,9 @@
-pub mod Benched
 pub mod IngestPrints
-pub mod Ingested
 pub mod Jobs
 pub mod JournalLeft
-pub mod Known
 pub mod Laws
-pub mod Made
-pub mod Names
 pub mod Naming
 pub mod StepsCauses
 pub mod Taken
+pub mod StepsBench
+pub mod StepsKnown

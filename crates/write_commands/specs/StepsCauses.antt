@@ -9,7 +9,7 @@ use Rattle.disk_journal.specs.State.{JournalState}
 use Rattle.disk_seal.specs.Told.{IfTold}
 use Rattle.ingest_workers.specs.Ingested.{told_entries}
 use Rattle.command_refusals.specs.Ending.{RoseIn}
-use Rattle.write_commands.specs.Ingested.{FileOutcome, DidNotFit, FromArchive, HasMoreThan, IsFullByGiven, IsFullInTurn, IsNextTooLong, Logs, OfStopped, WasCutShort, names_in}
+use Rattle.command_answers.specs.Ingested.{FileOutcome, DidNotFit, FromArchive, HasMoreThan, IsFullByGiven, IsFullInTurn, IsNextTooLong, Logs, OfStopped, WasCutShort, names_in}
 use Rattle.command_refusals.specs.LogLimits.{IsLong, most_messages}
 use Rattle.command_refusals.specs.declared.outcome.PartCause.{PartCause}
 

@@ -4,7 +4,8 @@
 //! do is not asked when the program runs: it is a premise of what is said of the call. So the calls below
 //! are made over this disk, which tells its bytes only where the premise holds.
 ghost use Rattle.std.specs.Prelude.{◌≡◌, ◌+◌, ◌^◌, ◌≤◌, ℕ, Bool, false, length, is_some, Option, None};
-ghost use Rattle.write_commands.specs.Known.{KnownArchive, told_if, told_lawful};
+ghost use Rattle.command_answers.specs.Known.{KnownArchive, told_if};
+ghost use Rattle.write_commands.specs.StepsKnown.{told_lawful};
 
 use log_seams::{Disk, Failed};
 use std::marker::{Brand, PhantomData};

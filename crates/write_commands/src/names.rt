@@ -1,7 +1,7 @@
 //! Which names of files are refused.
 ghost use Rattle.std.specs.Prelude.{map};
 ghost use Rattle.log_sources.specs.Sources.{str_bytes};
-ghost use Rattle.write_commands.specs.Names.{RefusesMore, RefusesNames};
+ghost use Rattle.command_answers.specs.Names.{RefusesMore, RefusesNames};
 
 use archive_meaning::{MAX_FILES, MAX_NAME_LEN, MAX_NAMES};
 use command_refusals::AddRefusal;

@@ -3,9 +3,9 @@ ghost use Rattle.std.specs.Prelude.{◌≡◌, ◌≤◌, length, map, IfErr, If
 ghost use Rattle.disk_journal.specs.Journal.{state_of};
 ghost use Rattle.disk_journal.specs.State.{BeginsWith, IsAtFirst};
 ghost use Rattle.command_refusals.specs.GoesOn.{DiskGoesOn};
-ghost use Rattle.write_commands.specs.Ingested.{FromArchive, HasCallCause, TakesNothing};
+ghost use Rattle.command_answers.specs.Ingested.{FromArchive, HasCallCause, TakesNothing};
 ghost use Rattle.write_commands.specs.JournalLeft.{AddsNamesTo};
-ghost use Rattle.write_commands.specs.Names.{RefusesNames};
+ghost use Rattle.command_answers.specs.Names.{RefusesNames};
 ghost use Rattle.write_commands.specs.Naming.{IsNamed};
 ghost use Rattle.command_refusals.specs.Reading.{IsArchive};
 ghost use Rattle.log_sources.specs.Sources.{str_bytes};

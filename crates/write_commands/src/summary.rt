@@ -7,7 +7,7 @@ ghost use Rattle.step_count.specs.Opens.{OpensFor};
 ghost use Rattle.wild_match.specs.Reading.{IsSearchPattern};
 ghost use Rattle.archive_open.specs.Shown.{RefusedAt};
 ghost use Rattle.search_walk.specs.Journal.{OfJournal};
-ghost use Rattle.write_commands.specs.Benched.{AreCounted, PrintsSummary, sought, summary};
+ghost use Rattle.command_answers.specs.Benched.{AreCounted, PrintsSummary, sought, summary};
 
 use archive_places::open_places;
 use column_store::Range;

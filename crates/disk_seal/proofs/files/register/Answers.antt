@@ -1,7 +1,7 @@
 use Rattle.std.proofs.Common.{rules, ◌+◌, ◌≤◌, [], ◌∷◌}
 use Rattle.disk_journal.specs.Calls.{HasAdded}
 use Rattle.disk_journal.specs.Journal.{state_of}
-use Rattle.disk_seal.specs.Registered.{files_record, files_size}
+use Rattle.ingest_meaning.specs.Room.{files_record, files_size}
 use Rattle.disk_seal.proofs.OpenLemmas.{registered}
 use Rattle.disk_seal.proofs.files.register.Goals as goal
 

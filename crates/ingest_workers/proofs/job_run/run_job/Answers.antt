@@ -1,5 +1,6 @@
 use Rattle.std.proofs.Common.{rules, ◌≡◌, Some, ap, subst, sym, true, false}
-use Rattle.ingest_workers.specs.Full.{IsAmongFirst, books_by}
+use Rattle.ingest_meaning.specs.Given.{IsAmongFirst}
+use Rattle.ingest_workers.specs.Full.{books_by}
 use Rattle.ingest_workers.specs.JobDone.{in_source}
 use Rattle.ingest_workers.specs.Namer.{types_pass, words_pass}
 use Rattle.ingest_workers.specs.Naming.{HasNamed}

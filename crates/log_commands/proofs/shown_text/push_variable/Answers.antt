@@ -1,6 +1,6 @@
 use Rattle.std.proofs.Common.{ap, ◌∙◌, of_z, w64, codes, subst, sym}
 use Rattle.std.proofs.lemmas.Int.{to_z-of_z}
-use Rattle.log_commands.specs.Shown.{marked, with_word}
+use Rattle.command_answers.specs.Shown.{marked, with_word}
 use Rattle.log_commands.proofs.ShownLemmas.{Shown-as}
 use Rattle.var_codec.specs.Codes.{Codes}
 use Rattle.var_codec.specs.declared.Coded.TheVariants.{Whole}

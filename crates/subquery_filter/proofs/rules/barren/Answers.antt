@@ -2,7 +2,7 @@ use Rattle.std.proofs.Common.{subst}
 use Rattle.std.specs.Prelude.{◌↔◌, IsTrue}
 use Rattle.std.specs.List.Sorted.{IsStrictlyIncreasing}
 use Rattle.plain_list.specs.Texts.{AreDistinct}
-use Rattle.subquery_filter.specs.Barren.{LacksTypes, LacksWord}
+use Rattle.barren_segments.specs.Barren.{LacksTypes, LacksWord}
 use Rattle.subquery_filter.proofs.RuleLemmas.{first_rules, last_rules, outside_tells, tells_not}
 use Rattle.subquery_filter.proofs.rules.barren.Goals as goal
 

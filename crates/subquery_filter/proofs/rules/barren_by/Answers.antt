@@ -4,7 +4,7 @@ use Rattle.std.specs.List.Sorted.{IsStrictlyIncreasing}
 use Rattle.plain_list.specs.Texts.{AreDistinct}
 use Rattle.query_plan.specs.Needs.{needed_variables_of}
 use Rattle.query_plan.specs.Pieces.{Free, needed_of}
-use Rattle.subquery_filter.specs.Barren.{LacksTypes, LacksWord}
+use Rattle.barren_segments.specs.Barren.{LacksTypes, LacksWord}
 use Rattle.subquery_filter.specs.Found.{AreNumbers}
 use Rattle.subquery_filter.proofs.RuleLemmas.{first_rules, last_rules, outside_tells, tells_not, third_rule}
 use Rattle.subquery_filter.proofs.rules.barren_by.Goals as goal

@@ -1,6 +1,6 @@
 use Rattle.std.proofs.Common.{◌<◌, length, ap, ◌∙◌, arith}
 use Rattle.query_plan.specs.Pieces.{Free}
-use Rattle.subquery_filter.specs.Runs.{HoldsRun}
+use Rattle.barren_segments.specs.Runs.{HoldsRun}
 use Rattle.subquery_filter.proofs.RuleLemmas.{each_more, flags_long, holds_all, holds_not, read_at}
 use Rattle.subquery_filter.proofs.rules.holds_constants.Goals as goal
 

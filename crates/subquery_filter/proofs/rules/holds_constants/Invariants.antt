@@ -1,5 +1,5 @@
 use Rattle.std.specs.Prelude.{false}
-use Rattle.subquery_filter.specs.Runs.{HoldsRun}
+use Rattle.barren_segments.specs.Runs.{HoldsRun}
 use Rattle.subquery_filter.proofs.RuleLemmas.{EachBefore}
 use Rattle.subquery_filter.proofs.rules.holds_constants.Given as goal
 

@@ -1,7 +1,7 @@
 use Rattle.std.proofs.Common.{◌≡◌, ◌<◌, length, ap, ◌∙◌, arith, refl, subst, sym}
 use Rattle.query_plan.specs.Needs.{needed_variables_of}
 use Rattle.query_plan.specs.Pieces.{Free, needed_of}
-use Rattle.subquery_filter.specs.Barren.{IsMissing}
+use Rattle.barren_segments.specs.Barren.{IsMissing}
 use Rattle.subquery_filter.specs.Found.{AreNumbers}
 use Rattle.subquery_filter.proofs.RuleLemmas.{each_more, flags_long, found_number, lacks_found, lacks_none, read_at, tells_not}
 use Rattle.subquery_filter.proofs.rules.lacks_found.Goals as goal

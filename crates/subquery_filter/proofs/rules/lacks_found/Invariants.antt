@@ -3,7 +3,7 @@ use Rattle.std.specs.List.Sorted.{IsStrictlyIncreasing}
 use Rattle.plain_list.specs.Texts.{AreDistinct}
 use Rattle.query_plan.specs.Needs.{needed_variables_of}
 use Rattle.query_plan.specs.Pieces.{Free, needed_of}
-use Rattle.subquery_filter.specs.Barren.{IsMissing}
+use Rattle.barren_segments.specs.Barren.{IsMissing}
 use Rattle.subquery_filter.specs.Found.{AreNumbers}
 use Rattle.subquery_filter.proofs.RuleLemmas.{EachBefore}
 use Rattle.subquery_filter.proofs.rules.lacks_found.Given as goal

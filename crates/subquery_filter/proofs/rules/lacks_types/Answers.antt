@@ -1,4 +1,4 @@
-use Rattle.subquery_filter.specs.Barren.{HasConstants}
+use Rattle.barren_segments.specs.Barren.{HasConstants}
 use Rattle.subquery_filter.proofs.RuleLemmas.{none_more, tells_not, types_have, types_lack}
 use Rattle.subquery_filter.proofs.rules.lacks_types.Goals as goal
 

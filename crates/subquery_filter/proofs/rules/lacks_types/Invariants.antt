@@ -1,4 +1,4 @@
-use Rattle.subquery_filter.specs.Barren.{HasConstants}
+use Rattle.barren_segments.specs.Barren.{HasConstants}
 use Rattle.subquery_filter.proofs.RuleLemmas.{NoneBefore}
 use Rattle.subquery_filter.proofs.rules.lacks_types.Given as goal
 

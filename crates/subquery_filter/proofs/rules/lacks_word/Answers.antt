@@ -1,6 +1,6 @@
 use Rattle.std.proofs.Common.{◌<◌, length, ap, ◌∙◌, arith}
 use Rattle.query_plan.specs.Pieces.{Free}
-use Rattle.subquery_filter.specs.Barren.{IsMissing}
+use Rattle.barren_segments.specs.Barren.{IsMissing}
 use Rattle.subquery_filter.proofs.RuleLemmas.{each_more, flags_long, lacks_found, lacks_none, read_at, tells_not}
 use Rattle.subquery_filter.proofs.rules.lacks_word.Goals as goal
 

@@ -1,7 +1,7 @@
 use Rattle.std.specs.Prelude.{true}
 use Rattle.std.specs.List.Sorted.{IsStrictlyIncreasing}
 use Rattle.plain_list.specs.Texts.{AreDistinct}
-use Rattle.subquery_filter.specs.Barren.{IsMissing}
+use Rattle.barren_segments.specs.Barren.{IsMissing}
 use Rattle.subquery_filter.proofs.RuleLemmas.{EachBefore}
 use Rattle.subquery_filter.proofs.rules.lacks_word.Given as goal
 

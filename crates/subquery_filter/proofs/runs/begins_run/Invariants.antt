@@ -1,6 +1,6 @@
 use Rattle.std.proofs.Common.{length}
 use Rattle.std.specs.Prelude.{◌↔◌}
-use Rattle.subquery_filter.specs.Runs.{BeginsRun}
+use Rattle.barren_segments.specs.Runs.{BeginsRun}
 use Rattle.subquery_filter.proofs.runs.begins_run.Given as goal
 
 abbrev pub invariant-loop-first : goal.invariant-loop-first

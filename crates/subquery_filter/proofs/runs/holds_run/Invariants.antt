@@ -1,6 +1,6 @@
 use Rattle.std.proofs.Common.{length}
 use Rattle.std.specs.Prelude.{◌↔◌}
-use Rattle.subquery_filter.specs.Runs.{HoldsRun, HoldsRunFrom}
+use Rattle.barren_segments.specs.Runs.{HoldsRun, HoldsRunFrom}
 use Rattle.subquery_filter.proofs.runs.holds_run.Given as goal
 
 abbrev pub invariant-loop-rest : goal.invariant-loop-rest

@@ -2,10 +2,10 @@ use Rattle.std.proofs.Common.{◌∙◌, ap, ap₂, refl, subst, sym, List, Some
 use Rattle.log_sources.specs.Sources.{str_bytes}
 use Rattle.generated_logs.specs.Logs.{content_of}
 use Rattle.generated_logs.specs.States.{open_faults_of}
-use Rattle.write_commands.specs.Benched.{generated_names, segment_rows}
+use Rattle.command_answers.specs.Benched.{generated_names, segment_rows}
 use Rattle.write_commands.specs.IngestPrints.{came_of, names_of}
-use Rattle.write_commands.specs.Ingested.{FileOutcome, FromArchive, HasCallCause, TakesIn}
-use Rattle.write_commands.specs.Names.{RefusesNames}
+use Rattle.command_answers.specs.Ingested.{FileOutcome, FromArchive, HasCallCause, TakesIn}
+use Rattle.command_answers.specs.Names.{RefusesNames}
 use Rattle.write_commands.specs.StepsCauses.{HaveFileCauses}
 use Rattle.command_refusals.specs.declared.outcome.AddRefusal.TheVariants.{OutOfMemory}
 use Rattle.write_commands.specs.declared.file_report.FileReport.{FileReport}

@@ -1,5 +1,6 @@
 use Rattle.std.proofs.Common.{arith}
-use Rattle.write_commands.specs.Taken.{error_of, file_status}
+use Rattle.write_commands.specs.Taken.{error_of}
+use Rattle.command_answers.specs.Taken.{file_status}
 use Rattle.write_commands.proofs.TakenLemmas.{gravest_next, said_next}
 use Rattle.write_commands.proofs.file_report.report_taken.Goals as goal
 

@@ -5,7 +5,7 @@ use Rattle.disk_journal.specs.Journal.{state_of}
 use Rattle.log_sources.specs.Sources.{str_bytes}
 use Rattle.command_refusals.specs.GoesOn.{DiskGoesOn}
 use Rattle.write_commands.specs.IngestPrints.{came_of}
-use Rattle.write_commands.specs.Ingested.{FromArchive, HasCallCause, TakesIn, TakesNothing}
+use Rattle.command_answers.specs.Ingested.{FromArchive, HasCallCause, TakesIn, TakesNothing}
 use Rattle.write_commands.specs.StepsCauses.{HaveFileCauses, logs_around}
 use Rattle.write_commands.specs.JournalLeft.{AddsNamesTo}
 use Rattle.write_commands.proofs.CauseLemmas.{cause_sooner, refused_with, start_cause}

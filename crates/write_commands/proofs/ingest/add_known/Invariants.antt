@@ -1,5 +1,5 @@
 use Rattle.std.specs.Prelude.{is_some}
-use Rattle.write_commands.specs.Known.{are_of}
+use Rattle.command_answers.specs.Known.{are_of}
 use Rattle.write_commands.proofs.ingest.add_known.Given as goal
 
 -- the disk that is lent, whose bytes are told where they are those of the archive that is known

@@ -1,8 +1,9 @@
 use Rattle.std.proofs.Common.{◌≡◌, ◌∙◌, ap, refl, rules, subst, sym, List, length, map}
 use Rattle.log_sources.specs.Sources.{str_bytes}
 use Rattle.write_commands.specs.IngestPrints.{came_of, names_of}
-use Rattle.write_commands.specs.Ingested.{FromArchive, TakesIn}
-use Rattle.write_commands.specs.Known.{are_of, over, told_lawful}
+use Rattle.command_answers.specs.Ingested.{FromArchive, TakesIn}
+use Rattle.command_answers.specs.Known.{are_of, over}
+use Rattle.write_commands.specs.StepsKnown.{told_lawful}
 use Rattle.write_commands.specs.StepsCauses.{HaveFileCauses, logs_around}
 use Rattle.command_refusals.specs.Reading.{OverJournal}
 use Rattle.command_refusals.specs.declared.outcome.AddRefusal.TheVariants.{OutOfMemory}

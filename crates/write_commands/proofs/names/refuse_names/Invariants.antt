@@ -1,7 +1,7 @@
 use Rattle.std.proofs.Common.{map, take}
 use Rattle.std.specs.Prelude.{All}
 use Rattle.log_sources.specs.Sources.{str_bytes}
-use Rattle.write_commands.specs.Names.{IsShortName}
+use Rattle.command_answers.specs.Names.{IsShortName}
 use Rattle.write_commands.proofs.names.refuse_names.Given as goal
 
 abbrev pub invariant-loop-index : goal.invariant-loop-index

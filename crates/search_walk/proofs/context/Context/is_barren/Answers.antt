@@ -7,7 +7,7 @@ use Rattle.query_plan.specs.Laws.{IsSearched}
 use Rattle.query_plan.specs.Needs.{needed_variables_of}
 use Rattle.query_plan.specs.Pieces.{Free, needed_of, wide_pieces}
 use Rattle.segment_format.specs.Layout.{IsHead}
-use Rattle.subquery_filter.specs.Barren.{IsBarren}
+use Rattle.barren_segments.specs.Barren.{IsBarren}
 use Rattle.subquery_filter.specs.Found.{AreNumbers}
 use Rattle.search_walk.specs.Held.{IsTold, Named, named}
 use Rattle.search_walk.specs.Opened.{IsBarrenFor}

@@ -4,7 +4,7 @@ use Rattle.std.proofs.lemmas.Int.{to_z-of_z}
 use Rattle.std.specs.Prelude.{◌⊎◌}
 use Rattle.column_store.specs.declared.range.Range.{Range}
 use Rattle.query_plan.specs.Laws.{IsSearched}
-use Rattle.subquery_filter.specs.Barren.{IsBounded, LeavesOut}
+use Rattle.barren_segments.specs.Barren.{IsBounded, LeavesOut}
 use Rattle.search_walk.specs.StepsScope.{Scope}
 use Rattle.search_walk.proofs.context.Context.is_outside.Goals as goal
 

@@ -1,7 +1,7 @@
 -- An archive that is known, and what a disk tells where it had that archive.
 use Rattle.std.specs.Prelude.{ℕ, Bool, true, false, List, Option, None, Some}
 use Rattle.std.specs.Str.{bytes_eq}
-use Rattle.log_seams.specs.Disk.{DiskState, IsLawful}
+use Rattle.log_seams.specs.Disk.{DiskState}
 use Rattle.record_format.specs.declared.header.Header.{Header}
 use Rattle.archive_meaning.specs.declared.entry.JournalEntry.{JournalEntry}
 use Rattle.archive_meaning.specs.Stands.{StandsFor}
@@ -34,10 +34,6 @@ told_if tells d = record {
   ranges = d.ranges;
   faults = d.faults;
 }
-
-pub told_lawful : (tells : Bool) (d : DiskState) → IsLawful d → IsLawful (told_if tells d)
-told_lawful true d law = record { reads_as = law.reads_as; counts_now = law.counts_now; only_now = law.only_now; wider = law.wider }
-told_lawful false d law = record { reads_as = tt; counts_now = law.counts_now; only_now = law.only_now; wider = law.wider }
 
 -- What the disk tells where it had the known archive's bytes at the start: all that it tells. Where it had others, or told
 -- none, it tells nothing of its bytes.

@@ -1,12 +1,9 @@
 -- What `check` prints: the counts of a legal archive.
 use Rattle.std.specs.Prelude.{◌≡◌, ℕ, List, [], ◌∷◌, ◌++◌, Option, IfSome, Result, Ok, Err, codes}
 use Rattle.std.specs.Fmt.{decimal}
-use Rattle.log_seams.specs.Disk.{DiskState}
-use Rattle.archive_check.specs.Checked.{DamagedAt, Stood}
+use Rattle.archive_check.specs.Checked.{Stood}
 use Rattle.archive_check.specs.declared.checking.Summary.{Summary}
-use Rattle.command_refusals.specs.Outside.{Outside}
 use Rattle.sink_pieces.specs.Output.{Grew, GrewByFront}
-use Rattle.command_refusals.specs.Reading.{EndsReading, IsComplete}
 use Rattle.command_refusals.specs.declared.outcome.ReadRefusal.{ReadRefusal}
 use Rattle.command_refusals.specs.declared.outcome.ReadRefusal.TheVariants.{Damaged, DiskFault, SinkFault, OutOfMemory}
 
@@ -27,11 +24,3 @@ PrintsCounts (Err SinkFault) bytes old new = Counts GrewByFront bytes old new
 PrintsCounts (Err DiskFault) bytes old new = new ≡ old
 PrintsCounts (Err (Damaged at)) bytes old new = new ≡ old
 PrintsCounts (Err OutOfMemory) bytes old new = new ≡ old
-
--- The counts of the archive were printed, or the command was refused with a cause.
-pub record AnswersCheck (seen : Outside) (old new : DiskState) (status : ℕ) : Type 0 where
-  pub answer : Result Unit ReadRefusal
-  pub ends : EndsReading seen old new status answer
-  pub prints : PrintsCounts answer old.seen seen.out.0 seen.out.1
-  pub damaged : (at : ℕ) → answer ≡ Err (Damaged at) → IfSome old.seen (DamagedAt at)
-  pub complete : IsComplete seen old new answer

@@ -1,9 +1,11 @@
 -- How the messages of a file are cut into segments.
-use Rattle.std.specs.Prelude.{◌≡◌, ℕ, ◌+◌, ◌<◌, ◌≤◌, Bool, true, false, List, [], ◌∷◌, ◌++◌, length, take}
+use Rattle.std.specs.Prelude.{◌≡◌, ℕ, ◌+◌, ◌<◌, ◌≤◌, Bool, true, false, List, [], ◌∷◌, ◌++◌, length, take, ◌==◌, if◌then◌else◌, Option, None, Some}
 use Rattle.std.specs.List.{sum_by}
 use Rattle.column_store.specs.declared.row.Row.{Row}
 use Rattle.column_store.specs.Columns.{ColumnsState, IsFull}
 use Rattle.archive_meaning.specs.declared.entry.SegmentEntry.{SegmentEntry}
+use Rattle.archive_meaning.specs.declared.entry.JournalEntry.{JournalEntry}
+use Rattle.archive_meaning.specs.declared.entry.JournalEntry.TheVariants.{Files, Types, Words, Segment}
 
 -- consecutive messages of a file, with a row for each
 pub record Part : Type 0 where
@@ -50,3 +52,14 @@ rest_of file first false ended p = rest_in_hand file first p.rows
     rest_in_hand : ℕ → ℕ → List Row → List SegmentEntry
     rest_in_hand file first [] = []
     rest_in_hand file first (r ∷ rows) = record { file = file; first = first; last = false; ended = false; rows = r ∷ rows } ∷ []
+
+-- the segment, where the entry is one of this file
+abbrev pub in_file : ℕ → JournalEntry → Option SegmentEntry
+in_file n (Files names) = None
+in_file n (Types first texts) = None
+in_file n (Words first texts) = None
+in_file n (Segment s) = if s.file == n then Some s else None
+
+-- a segment's rows with these messages
+abbrev pub part_in : SegmentEntry → List (List ℕ) → Part
+part_in s messages = record { rows = s.rows; messages = messages }

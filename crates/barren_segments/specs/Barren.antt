@@ -9,7 +9,7 @@ use Rattle.segment_format.specs.declared.head.Head.{Head}
 use Rattle.query_plan.specs.declared.pieces.Piece.{Piece}
 use Rattle.query_plan.specs.Pieces.{Free, needed_of}
 use Rattle.query_plan.specs.Needs.{needed_variables_of}
-use Rattle.subquery_filter.specs.Runs.{HoldsRun}
+use Rattle.barren_segments.specs.Runs.{HoldsRun}
 
 -- the text is a needed word of the pieces, and this tells whether it is a variable
 abbrev pub IsNeeded : List Piece → Bool → List ℕ → Type 0

@@ -1,17 +1,12 @@
 -- What is printed of the messages of a log.
-use Rattle.std.specs.Prelude.{◌≡◌, ◌<◌, ◌≤◌, ◌+◌, ◌-◌, ℕ, List, [], ◌∷◌, ◌++◌, Bool, true}
-use Rattle.std.specs.Prelude.{false, Option, Some, None, IfSome, All, length, take}
+use Rattle.std.specs.Prelude.{◌≡◌, ◌<◌, ◌≤◌, ◌+◌, ◌-◌, ℕ, List, [], ◌∷◌, ◌++◌, Bool, true, false, Option, Some, None, IfSome, All, length, take}
 use Rattle.log_messages.specs.Messages.{IsLine, Messages, joined}
-use Rattle.sink_pieces.specs.Output.{GrewByFront, Moves, Gathers, Took}
-use Rattle.line_cut.specs.Cutting.{CutterState}
-use Rattle.line_cut.specs.declared.cut.Cut.{Cut}
-use Rattle.line_cut.specs.declared.cut.Cut.TheVariants.{ReadFault as CutReadFault, LineTooLong as CutLineTooLong}
-use Rattle.line_cut.specs.declared.cut.Cut.TheVariants.{TooManyLines as CutTooManyLines, OutOfMemory as CutOutOfMemory}
-use Rattle.line_cut.specs.declared.cut.Progress.TheVariants.{Open}
+use Rattle.sink_pieces.specs.Output.{Took}
 use Rattle.command_refusals.specs.declared.outcome.LogRefusal.{LogRefusal}
 use Rattle.command_refusals.specs.LogLimits.{IsLong, most_bytes, most_messages}
-use Rattle.command_refusals.specs.declared.outcome.LogRefusal.TheVariants.{OpenFault, ReadFault, LineTooLong}
-use Rattle.command_refusals.specs.declared.outcome.LogRefusal.TheVariants.{TooManyLines, SinkFault, OutOfMemory}
+use Rattle.command_refusals.specs.declared.outcome.LogRefusal.TheVariants.{OpenFault, ReadFault, LineTooLong, TooManyLines, SinkFault, OutOfMemory, OutOfMemory as LogOutOfMemory}
+use Rattle.command_refusals.specs.Outside.{Outside}
+use Rattle.command_refusals.specs.Ending.{RoseIn, TookNothing}
 
 -- The texts of the messages one after the other, where the first message
 -- has this number and `tells` says which text a message of a number has.
@@ -98,40 +93,12 @@ pub record Printed (tells : ℕ → List ℕ → List ℕ → Type 0) (answer : 
   pub comes_to : IfSome bytes (λ b. ComesTo tells answer b unread text)
   pub took : Took (is_whole answer) old new text
 
--- What the printing has come to when it ends with this answer: what has to go out is
--- still gathered in part, unless it ends with a sink that failed or without memory.
-pub record Reaches (tells : ℕ → List ℕ → List ℕ → Type 0) (answer : Option LogRefusal)
-    (bytes unread start now : Option (List ℕ)) (gathered : List ℕ) : Type 0 where
-  pub text : List ℕ
-  pub comes_to : IfSome bytes (λ b. ComesTo tells answer b unread text)
-  pub kept : is_whole answer ≡ true → Gathers start now gathered text
-  pub front : is_whole answer ≡ false → GrewByFront start now text
-
--- the refusal for a cutter's
-abbrev pub refusal_of : Cut → LogRefusal
-refusal_of CutReadFault = ReadFault
-refusal_of (CutLineTooLong line) = LineTooLong line
-refusal_of CutTooManyLines = TooManyLines
-refusal_of CutOutOfMemory = OutOfMemory
-
--- a cutter that has given nothing, with the limits of a log
-pub record IsFresh {S : Type 0} (cutter : CutterState S) : Type 0 where
-  pub progress : cutter.progress ≡ Open
-  pub pending : cutter.pending ≡ []
-  pub given : cutter.given ≡ 0
-  pub max_line : cutter.max_line ≡ most_bytes
-  pub max_lines : cutter.max_lines ≡ most_messages
-
--- The text of a message is gathered behind the others, and some of it all may have gone out.
-pub record TellsNext (tells : ℕ → List ℕ → List ℕ → Type 0) (number : ℕ) (message : List ℕ)
-    (old new : Option (List ℕ)) (gathered rest : List ℕ) : Type 0 where
-  pub text : List ℕ
-  pub told : tells number message text
-  pub moves : Moves old new (gathered ++ text) rest
-
--- The sink failed with the text of a message gathered behind the others.
-pub record FailsAfter (tells : ℕ → List ℕ → List ℕ → Type 0) (number : ℕ) (message : List ℕ)
-    (old new : Option (List ℕ)) (gathered : List ℕ) : Type 0 where
-  pub text : List ℕ
-  pub told : tells number message text
-  pub grew : GrewByFront old new (gathered ++ text)
+-- What an answer of the printing of a log rests on, beside what was printed. Want of memory is free.
+abbrev pub HasCause : Outside → List ℕ → Option LogRefusal → Type 0
+HasCause seen name None = Unit {0}
+HasCause seen name (Some OpenFault) = RoseIn (seen.opens name) × TookNothing seen.out
+HasCause seen name (Some ReadFault) = RoseIn (seen.reads name)
+HasCause seen name (Some (LineTooLong line)) = Unit {0}
+HasCause seen name (Some TooManyLines) = Unit {0}
+HasCause seen name (Some SinkFault) = RoseIn seen.out_faults
+HasCause seen name (Some LogOutOfMemory) = Unit {0}

@@ -21,12 +21,11 @@ use Rattle.disk_journal.specs.declared.record.TheConstants.{CLOSED_GATE}
 use Rattle.disk_journal.specs.declared.refusals.CreateRefusal.{CreateRefusal}
 use Rattle.generated_logs.specs.Logs.{content_of as generated, name_of}
 use Rattle.command_refusals.specs.Outside.{Outside}
-use Rattle.command_refusals.specs.Ending.{EndsWith, RoseIn, SaysIn, Stayed, TookNothing}
-use Rattle.write_commands.specs.Ingested.{AllFit, AreFullInTurn, FileOutcome, CameOfFile, FromArchive, RefusesIngest, TakesIn, TakesNothing, logs_of}
+use Rattle.command_refusals.specs.Ending.{EndsWith, SaysIn, Stayed, TookNothing}
+use Rattle.command_answers.specs.Ingested.{AllFit, AreFullInTurn, FileOutcome, CameOfFile, TakesIn, TakesNothing}
 use Rattle.command_refusals.specs.Outcome.{answer_of, of_add, of_create, of_read}
 use Rattle.command_refusals.specs.Refusal.{TellsNoMemory}
-use Rattle.write_commands.specs.StepsCauses.{HaveFileCauses}
-use Rattle.write_commands.specs.Taken.{file_error, file_status, gravest}
+use Rattle.command_answers.specs.Taken.{file_error, file_status, gravest}
 use Rattle.command_refusals.specs.declared.outcome.ReadRefusal.{ReadRefusal}
 use Rattle.command_refusals.specs.declared.outcome.ReadRefusal.TheVariants.{Damaged as ReadDamaged, DiskFault as ReadDiskFault, SinkFault as ReadSinkFault}
 use Rattle.command_refusals.specs.declared.outcome.AddRefusal.{AddRefusal}
@@ -109,23 +108,9 @@ pub record SumsUp (came : List FileOutcome) (seen : Outside) (old new : DiskStat
 abbrev pub segment_rows : ℕ
 segment_rows = 65536
 
--- The names were added to the archive and the logs taken in, with the causes for which they are not whole, and it was told
--- what came of them.
-pub record AddsLogs (content : List ℕ → Option (List ℕ)) (workers : ℕ) (names : List (List ℕ)) (seen : Outside) (old new : DiskState) (status : ℕ) : Type 0 where
-  pub came : List FileOutcome
-  pub names_are : map (λ c. c.name) came ≡ names
-  pub disk : FromArchive old (λ h before bytes stood. TakesIn segment_rows content h before stood names came old new)
-  pub causes : HaveFileCauses (logs_of (with_logs content seen)) workers segment_rows old new came
-  pub spared : All IsSpared came
-  pub told : TellsParts came seen status ⊎ SumsUp came seen old new status
-
 -- the names of the four generated logs
 abbrev pub generated_names : List (List ℕ)
 generated_names = name_of 0 ∷ name_of 1 ∷ name_of 2 ∷ name_of 3 ∷ []
-
--- How it ends, on a disk that has an archive.
-abbrev pub EndsLogs : (List ℕ → Option (List ℕ)) → ℕ → Outside → DiskState → DiskState → ℕ → Type 0
-EndsLogs content workers seen old new status = RefusesIngest generated_names seen old new status ⊎ AddsLogs content workers generated_names seen old new status
 
 -- ---- the answer
 
@@ -217,9 +202,3 @@ MetNoLimit (inr (inr takes)) = All (λ c. MeetsNoLimit c.refusal) takes.came
 abbrev pub SumsUpAll : ℕ → Outside → DiskState → ℕ → Type 0
 SumsUpAll lines seen new status =
     ((status ≡ 0) × TellsSummary (Grew seen.out.0 seen.out.1) (4 * lines) new.seen) ⊎ TellsNoMemory status
-
--- What `bench` answers. On an empty disk, where no call of the disk and no write to the output failed and no limit was met, all
--- is summed up, or memory ended.
-pub record AnswersBench (number lines workers : ℕ) (seen : Outside) (old new : DiskState) (status : ℕ) : Type 0 where
-  pub ends : EndsBench number lines workers seen old new status
-  pub complete : old.seen ≡ Some [] → ¬ Rose old.faults new.faults → ¬ RoseIn seen.out_faults → MetNoLimit ends → SumsUpAll lines seen new status

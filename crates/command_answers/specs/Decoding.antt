@@ -1,19 +1,17 @@
 -- What `decode` prints: the bytes of a file.
-use Rattle.std.specs.Prelude.{◌≡◌, ◌⊎◌, ◌<◌, ◌≤◌, ℕ, List, [], Option, Some, option_map, Result, Ok, Err, length, slice_get, is_ok}
-use Rattle.log_seams.specs.Disk.{DiskState, KeepsBytes}
-use Rattle.log_seams.specs.Outside.{CountsOf, Rose}
+use Rattle.std.specs.Prelude.{◌≡◌, ◌⊎◌, ◌<◌, ◌≤◌, ℕ, List, Option, Some, Result, Ok, Err, length, slice_get, is_ok}
+use Rattle.log_seams.specs.Disk.{DiskState}
+use Rattle.log_seams.specs.Outside.{Rose}
 use Rattle.sink_pieces.specs.Output.{Took}
 use Rattle.record_format.specs.declared.header.Header.{Header}
 use Rattle.archive_meaning.specs.declared.entry.JournalEntry.{JournalEntry}
 use Rattle.archive_meaning.specs.Held.{File, content_of, file_text}
 use Rattle.archive_meaning.specs.Stands.{StandsFor}
-use Rattle.archive_open.specs.Shown.{RefusedAt}
 use Rattle.command_refusals.specs.Outside.{Outside}
-use Rattle.command_refusals.specs.Ending.{EndsWith, RoseIn}
-use Rattle.command_refusals.specs.Outcome.{answer_of, of_file}
+use Rattle.command_refusals.specs.Ending.{RoseIn}
 use Rattle.command_refusals.specs.Reading.{OverJournal}
 use Rattle.command_refusals.specs.declared.outcome.FileRefusal.{FileRefusal}
-use Rattle.command_refusals.specs.declared.outcome.FileRefusal.TheVariants.{DiskFault, Damaged, NoSuchFile, SinkFault, OutOfMemory}
+use Rattle.command_refusals.specs.declared.outcome.FileRefusal.TheVariants.{OutOfMemory}
 
 -- Where the journal has a file of this number, the output took the file's bytes, or a front of them where the command was
 -- refused.
@@ -33,19 +31,3 @@ abbrev pub IsCompleteFile : ℕ → Outside → DiskState → DiskState → Resu
 IsCompleteFile number seen old new answer =
     (bytes : List ℕ) (h : Header) (es : List JournalEntry) (stood : StandsFor bytes h es) → old.seen ≡ Some bytes → number < length (content_of stood.legal.held)
     → ¬ Rose old.faults new.faults → ¬ RoseIn seen.out_faults → (answer ≡ Ok tt) ⊎ (answer ≡ Err OutOfMemory)
-
--- The bytes of a file were printed, or the command was refused with a cause. Where the archive could be opened, it is refused
--- for want of the file exactly where there is none of that number.
-pub record AnswersDecode (number : ℕ) (seen : Outside) (old new : DiskState) (status : ℕ) : Type 0 where
-  pub answer : Result Unit FileRefusal
-  -- how it ended
-  pub ends : EndsWith seen [] status (option_map of_file (answer_of answer))
-  pub keeps : KeepsBytes old new
-  pub prints : PrintsFile answer number old.seen seen.out.0 seen.out.1
-  -- causes
-  pub damaged : (at : ℕ) → answer ≡ Err (Damaged at) → RefusedAt at old.seen
-  pub lacks : (told count : ℕ) → answer ≡ Err (NoSuchFile told count) → LacksFile number told count old.seen seen.out.0 seen.out.1
-  pub there : (answer ≡ Ok tt) ⊎ (answer ≡ Err SinkFault) → OverJournal old.seen (λ held. number < length (content_of held))
-  pub disk : CountsOf DiskFault old.faults new.faults answer
-  pub sink : CountsOf SinkFault seen.out_faults.0 seen.out_faults.1 answer
-  pub complete : IsCompleteFile number seen old new answer

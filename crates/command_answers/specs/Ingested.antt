@@ -14,26 +14,22 @@ use Rattle.archive_meaning.specs.Held.{File, content_of}
 use Rattle.archive_meaning.specs.Stands.{StandsFor}
 use Rattle.archive_meaning.specs.Spelled.{end_of}
 use Rattle.archive_open.specs.Shown.{StandsForNone}
-use Rattle.disk_seal.specs.Registered.{files_size}
+use Rattle.ingest_meaning.specs.Room.{files_size, HadNoRoom}
 use Rattle.row_codec.specs.declared.namer.Which.{Which}
-use Rattle.ingest_workers.specs.Causes.{limit_of}
-use Rattle.ingest_workers.specs.Full.{AreAllOf, AreFirstOf, IsAmongFirst, IsFullBy, IsMessageAt, IsNextOf, IsTextOf}
-use Rattle.ingest_workers.specs.Ingested.{HasTextsBehind, book_texts, header_limits}
-use Rattle.ingest_workers.specs.Locked.{in_file}
-use Rattle.ingest_workers.specs.NoRoom.{HadNoRoom}
-use Rattle.ingest_workers.specs.Parts.{IsCut, IsOpen, Part, messages_in, rest_of, segments_from}
+use Rattle.ingest_meaning.specs.Dictionaries.{limit_of, IsFullBy, IsTextOf, HasTextsBehind, book_texts, header_limits}
+use Rattle.ingest_meaning.specs.Given.{AreAllOf, AreFirstOf, IsAmongFirst, IsMessageAt, IsNextOf}
+use Rattle.ingest_meaning.specs.Parts.{in_file, IsCut, IsOpen, Part, messages_in, rest_of, segments_from}
 use Rattle.message_reader.specs.Taken.{IsBeforeLong, IsReadShort, lines_count}
 use Rattle.message_reader.specs.Versions.{MessagesOf}
 use Rattle.sink_pieces.specs.Output.{Grew, GrewByFront}
 use Rattle.command_refusals.specs.Outside.{Outside}
 use Rattle.file_lines.specs.Directory.{FileLine, directory_from}
-use Rattle.command_refusals.specs.Ending.{EndsWith, EndsWithoutMemory, RefusesAtOnce, RoseIn, SaysIn, Stayed, TookNothing}
-use Rattle.write_commands.specs.Known.{KnownArchive, over}
-use Rattle.write_commands.specs.Names.{RefusesMore, RefusesNames}
+use Rattle.command_refusals.specs.Ending.{EndsWith, EndsWithoutMemory, RoseIn, SaysIn, Stayed, TookNothing}
+use Rattle.command_answers.specs.Names.{RefusesMore, RefusesNames}
 use Rattle.command_refusals.specs.LogLimits.{IsLong, most_messages}
 use Rattle.command_refusals.specs.Reading.{OverJournal}
 use Rattle.command_refusals.specs.Outcome.{of_add}
-use Rattle.write_commands.specs.Taken.{file_error, file_status, gravest}
+use Rattle.command_answers.specs.Taken.{file_error, file_status, gravest}
 use Rattle.command_refusals.specs.declared.outcome.AddRefusal.{AddRefusal}
 use Rattle.command_refusals.specs.declared.outcome.PartCause.{PartCause}
 use Rattle.command_refusals.specs.declared.outcome.AddRefusal.TheVariants.{NameTooLong, TooManyFiles}
@@ -387,9 +383,3 @@ pub record TakesFiles (workers rows : ℕ) (names : List (List ℕ)) (seen : Out
 -- How `ingest` ends, which has so many workers, and cuts files into segments of at most so many rows.
 abbrev pub EndsIngest : ℕ → ℕ → List (List ℕ) → Outside → DiskState → DiskState → ℕ → Type 0
 EndsIngest workers rows names seen old new status = RefusesIngest names seen old new status ⊎ TakesFiles workers rows names seen old new status
-
--- What `ingest` answers, whatever archive is known. Names that are refused by themselves are refused before all else, whatever the disk tells, and nothing is
--- touched. What is said of the disk's bytes, and of the journal that they stand for, holds where they were those of the known archive at the start.
-pub record AnswersIngest (known : Option KnownArchive) (workers rows : ℕ) (names : List (List ℕ)) (seen : Outside) (old new : DiskState) (status : ℕ) : Type 0 where
-  pub names_first : (refusal : AddRefusal) → RefusesNames names (Some refusal) → RefusesAtOnce seen old new status (of_add refusal)
-  pub ends : EndsIngest workers rows names seen (over known old old) (over known old new) status

@@ -1,25 +1,17 @@
 -- What `search` prints: the messages of an archive that a pattern matches in a range, and with `--stats` the counts.
-use Rattle.std.specs.Prelude.{◌≡◌, ℕ, ℤ, List, [], ◌∷◌, ◌++◌, Bool, true, if◌then◌else◌, Option, Result, Err, codes, is_ok, length}
+use Rattle.std.specs.Prelude.{◌≡◌, ℕ, List, [], ◌∷◌, ◌++◌, Bool, true, if◌then◌else◌, Option, codes, length}
 use Rattle.std.specs.Fmt.{decimal}
 use Rattle.std.specs.List.Sorted.{IsPermutation}
-use Rattle.log_seams.specs.Disk.{DiskState}
 use Rattle.sink_pieces.specs.Output.{Took}
 use Rattle.record_format.specs.declared.header.Header.{Header}
 use Rattle.archive_meaning.specs.declared.entry.JournalEntry.{JournalEntry}
 use Rattle.archive_meaning.specs.Held.{Held, content_of}
 use Rattle.archive_open.specs.declared.segments.SegmentPlace.{SegmentPlace}
-use Rattle.archive_open.specs.Shown.{RefusedAt, places_of}
+use Rattle.archive_open.specs.Shown.{places_of}
 use Rattle.search_engine.specs.declared.report.Report.{Report}
 use Rattle.search_walk.specs.Opened.{AreOpened}
 use Rattle.search_walk.specs.Scan.{AreFound, AreTried, Asked, Placed, all_placed, lines_of}
-use Rattle.search_walk.specs.Journal.{OfJournal, ReadsNoBarren, asked}
-use Rattle.wild_match.specs.Reading.{IsSearchPattern, IsLoneBackslash}
-use Rattle.wild_match.specs.declared.pattern.Item.{Item}
-use Rattle.command_refusals.specs.Ending.{RefusesPatternAtOnce}
-use Rattle.command_refusals.specs.Outside.{Outside}
-use Rattle.command_refusals.specs.Reading.{EndsReading, IsComplete}
-use Rattle.command_refusals.specs.declared.outcome.ReadRefusal.{ReadRefusal}
-use Rattle.command_refusals.specs.declared.outcome.ReadRefusal.TheVariants.{Damaged}
+use Rattle.search_walk.specs.Journal.{OfJournal, ReadsNoBarren}
 
 -- how many messages were found, and how many expanded; how many segments were opened, and how many there are
 abbrev pub found_counts : Report → List ℕ
@@ -59,17 +51,3 @@ PrintsFound done q stats bytes old new = OfJournal bytes (λ h es held. PrintsTe
 -- of the journal that the bytes stand for, no range that was read since has a byte of the columns of a barren segment
 abbrev pub SparesBarren : Asked → Option (List ℕ) → Option (List (ℕ × ℕ)) → Option (List (ℕ × ℕ)) → Type 0
 SparesBarren q bytes old new = OfJournal bytes (λ h es held. ReadsNoBarren h es held q old new)
-
--- The messages that are found were printed, or the command was refused with a cause.
-pub record AnswersSearch (q : Asked) (stats : Bool) (seen : Outside) (old new : DiskState) (status : ℕ) : Type 0 where
-  pub answer : Result Unit ReadRefusal
-  pub ends : EndsReading seen old new status answer
-  pub prints : PrintsFound (is_ok answer) q stats old.seen seen.out.0 seen.out.1
-  pub reads : SparesBarren q old.seen old.ranges new.ranges
-  pub damaged : (at : ℕ) → answer ≡ Err (Damaged at) → RefusedAt at old.seen
-  pub complete : IsComplete seen old new answer
-
--- The messages of the archive that a pattern matches in a range were printed, or the pattern is refused.
-pub record AnswersPattern (from to : Option ℤ) (stats : Bool) (pattern : List ℕ) (seen : Outside) (old new : DiskState) (status : ℕ) : Type 0 where
-  pub lone_backslash : (at : ℕ) → IsLoneBackslash pattern at → RefusesPatternAtOnce seen old new status at
-  pub good : (items : List Item) → IsSearchPattern pattern items → AnswersSearch (asked items (record { from = from; to = to })) stats seen old new status

@@ -1,0 +1,14 @@
+pub mod Answers
+pub mod Benched
+pub mod Counted
+pub mod Decoding
+pub mod Ingested
+pub mod Known
+pub mod Listing
+pub mod Names
+pub mod Printing
+pub mod Scanned
+pub mod Searching
+pub mod Shown
+pub mod Taken
+pub mod Words

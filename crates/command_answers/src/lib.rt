@@ -1,0 +1,2 @@
+//! What each command answers, as definitions: the words of the top call's contract.
+#![tactic(auto)]
