@@ -61,10 +61,13 @@ pub record AnswersCreate (header : Header) (seen : Outside) (old new : DiskState
   pub nothing : TookNothing seen.out
   pub sink : Stayed seen.out_faults
 
--- What `ingest` answers, whatever archive is known. Names that are refused by themselves are refused before all else, whatever the disk tells, and nothing is
--- touched. What is said of the disk's bytes, and of the journal that they stand for, holds where they were those of the known archive at the start.
-pub record AnswersIngest (known : Option KnownArchive) (workers rows : ℕ) (names : List (List ℕ)) (seen : Outside) (old new : DiskState) (status : ℕ) : Type 0 where
-  pub names_first : (refusal : AddRefusal) → RefusesNames names (Some refusal) → RefusesAtOnce seen old new status (of_add refusal)
+-- What `ingest` answers, whatever archive is known. Names that are refused by themselves are refused before all else, whatever
+-- the disk tells, and nothing is touched. What is said of the disk's bytes, and of the journal that they stand for, holds where
+-- they were those of the known archive at the start.
+pub record AnswersIngest (known : Option KnownArchive) (workers rows : ℕ) (names : List (List ℕ)) (seen : Outside)
+    (old new : DiskState) (status : ℕ) : Type 0 where
+  pub names_first : (refusal : AddRefusal) → RefusesNames names (Some refusal)
+      → RefusesAtOnce seen old new status (of_add refusal)
   pub ends : EndsIngest workers rows names seen (over known old old) (over known old new) status
 
 -- The files of the archive were printed, or the command was refused with a cause.
@@ -109,31 +112,37 @@ pub record AnswersSearch (q : Asked) (stats : Bool) (seen : Outside) (old new : 
   pub complete : IsComplete seen old new answer
 
 -- The messages of the archive that a pattern matches in a range were printed, or the pattern is refused.
-pub record AnswersPattern (from to : Option ℤ) (stats : Bool) (pattern : List ℕ) (seen : Outside) (old new : DiskState) (status : ℕ) : Type 0 where
+pub record AnswersPattern (from to : Option ℤ) (stats : Bool) (pattern : List ℕ) (seen : Outside) (old new : DiskState)
+    (status : ℕ) : Type 0 where
   pub lone_backslash : (at : ℕ) → IsLoneBackslash pattern at → RefusesPatternAtOnce seen old new status at
-  pub good : (items : List Item) → IsSearchPattern pattern items → AnswersSearch (asked items (record { from = from; to = to })) stats seen old new status
+  pub good : (items : List Item) → IsSearchPattern pattern items
+      → AnswersSearch (asked items (record { from = from; to = to })) stats seen old new status
 
 -- What `bench` answers. On an empty disk, where no call of the disk and no write to the output failed and no limit was met, all
 -- is summed up, or memory ended.
 pub record AnswersBench (number lines workers : ℕ) (seen : Outside) (old new : DiskState) (status : ℕ) : Type 0 where
   pub ends : EndsBench number lines workers seen old new status
-  pub complete : old.seen ≡ Some [] → ¬ Rose old.faults new.faults → ¬ RoseIn seen.out_faults → MetNoLimit ends → SumsUpAll lines seen new status
+  pub complete : old.seen ≡ Some [] → ¬ Rose old.faults new.faults → ¬ RoseIn seen.out_faults → MetNoLimit ends
+      → SumsUpAll lines seen new status
 
 -- What a command answers, whatever archive is known.
 abbrev pub AnswersAsked : Option KnownArchive → AskedFor → Outside → DiskState → DiskState → ℕ → Type 0
 AnswersAsked known (to_show file) seen old new status = AnswersLog (λ _ message text. Shows message text) seen file status
 AnswersAsked known (to_scan pattern file) seen old new status = AnswersScan pattern file seen status
 AnswersAsked known (to_create header) seen old new status = AnswersCreate header seen old new status
-AnswersAsked known (to_ingest workers segment files) seen old new status = AnswersIngest known workers segment files seen old new status
+AnswersAsked known (to_ingest workers segment files) seen old new status =
+    AnswersIngest known workers segment files seen old new status
 AnswersAsked known to_list seen old new status = AnswersFiles seen old new status
 AnswersAsked known to_check seen old new status = AnswersCheck seen old new status
 AnswersAsked known (to_decode number) seen old new status = AnswersDecode number seen old new status
-AnswersAsked known (to_search from to stats workers pattern) seen old new status = AnswersPattern from to stats pattern seen old new status
+AnswersAsked known (to_search from to stats workers pattern) seen old new status =
+    AnswersPattern from to stats pattern seen old new status
 AnswersAsked known (to_bench number lines workers) seen old new status = AnswersBench number lines workers seen old new status
 
 -- What words answer that were read. Those that `clap` takes, and whose numbers are good, ask for something: so a usage error
 -- comes only where `clap` refuses them for another cause than memory, or where a number is not good.
-pub record AnswersWords (known : Option KnownArchive) (words : List (List ℕ)) (seen : Outside) (old new : DiskState) (status : ℕ) : Type 0 where
+pub record AnswersWords (known : Option KnownArchive) (words : List (List ℕ)) (seen : Outside) (old new : DiskState) (status : ℕ)
+    : Type 0 where
   pub usage : IsUsage words → RefusesAtOnce seen old new status Usage
   pub asked_for : (a : AskedFor) → Asks words a → AnswersAsked known a seen old new status
   pub taken : AreTaken words → HaveGoodNumbers words → AskSomething words

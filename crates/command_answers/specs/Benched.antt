@@ -49,7 +49,8 @@ pub record AreCounted (h : Header) (es : List JournalEntry) (held : Held) (match
 -- how many messages there are, how many are found, and how many segments there are
 abbrev pub summary : ℕ → ℕ → ℕ → List ℕ
 summary messages matched segments =
-    codes "messages " ++ (decimal messages ++ (codes " matched " ++ (decimal matched ++ (codes " segments " ++ (decimal segments ++ 10 ∷ [])))))
+    codes "messages " ++ (decimal messages ++ (codes " matched " ++ (decimal matched
+        ++ (codes " segments " ++ (decimal segments ++ 10 ∷ [])))))
 
 -- the output took the summary of the journal that the bytes stand for, or what `took` says of it
 pub record TellsSummary (took : List ℕ → Type 0) (messages : ℕ) (bytes : Option (List ℕ)) : Type 0 where
@@ -137,11 +138,14 @@ as_made d = record {
 abbrev pub at_moment : ℕ → DiskState → DiskState
 at_moment t d = record { seen = d.seen; images = d.images; clock = t; since = d.since; ranges = d.ranges; faults = d.faults }
 
--- Where the disk tells its bytes, it had none, and an empty archive was made of it: from a moment of the call on, at which a crash left that archive, this holds
--- of the disk.
-abbrev pub FromEmpty : DiskState → DiskState → (DiskState → (bytes : List ℕ) → StandsFor bytes default_header [] → Type 0) → Type 0
+-- Where the disk tells its bytes, it had none, and an empty archive was made of it: from a moment of the call on, at which a
+-- crash left that archive, this holds of the disk.
+abbrev pub FromEmpty : DiskState → DiskState → (DiskState → (bytes : List ℕ) → StandsFor bytes default_header [] → Type 0)
+    → Type 0
 FromEmpty old new P =
-    IfSome old.seen (λ was. (was ≡ []) × ((t : ℕ) × ((old.clock ≤ t) × new.since t made_bytes) × ((bytes : List ℕ) × ((stood : StandsFor bytes default_header []) × P (at_moment t old) bytes stood))))
+    IfSome old.seen (λ was. (was ≡ [])
+        × ((t : ℕ) × ((old.clock ≤ t) × new.since t made_bytes)
+        × ((bytes : List ℕ) × ((stood : StandsFor bytes default_header []) × P (at_moment t old) bytes stood))))
 
 -- The archive was not made.
 pub record RefusesMaking (seen : Outside) (old new : DiskState) (status : ℕ) : Type 0 where
@@ -170,11 +174,13 @@ pub record RefusesLogs (seen : Outside) (old new : DiskState) (status : ℕ) : T
   pub disk : FromEmpty old new (λ from bytes stood. TakesNothing default_header [] from new)
 
 -- The four logs were taken into the archive that was made, and it was told what came of them. Of each the cause is told as
--- `ingest` tells it, with one worker too, and what was taken in fits in the dictionaries. Where all are whole, each has as many messages as lines.
+-- `ingest` tells it, with one worker too, and what was taken in fits in the dictionaries. Where all are whole, each has as many
+-- messages as lines.
 pub record TakesLogs (number lines workers : ℕ) (seen : Outside) (old new : DiskState) (status : ℕ) : Type 0 where
   pub came : List FileOutcome
   pub names_are : map (λ c. c.name) came ≡ generated_names
-  pub disk : FromEmpty old new (λ from bytes stood. TakesIn segment_rows (generated number lines) default_header [] stood generated_names came from new)
+  pub disk : FromEmpty old new
+      (λ from bytes stood. TakesIn segment_rows (generated number lines) default_header [] stood generated_names came from new)
   pub each : All (CameOfFile segment_rows came (with_logs (generated number lines) seen) (as_made old) new) came
   pub in_turn : workers ≡ 1 → AreFullInTurn segment_rows (generated number lines) (as_made old) came
   pub fits : AllFit (generated number lines) (as_made old) came
@@ -184,7 +190,8 @@ pub record TakesLogs (number lines workers : ℕ) (seen : Outside) (old new : Di
 
 -- How `bench` ends.
 abbrev pub EndsBench : ℕ → ℕ → ℕ → Outside → DiskState → DiskState → ℕ → Type 0
-EndsBench number lines workers seen old new status = RefusesMaking seen old new status ⊎ RefusesLogs seen old new status ⊎ TakesLogs number lines workers seen old new status
+EndsBench number lines workers seen old new status =
+    RefusesMaking seen old new status ⊎ RefusesLogs seen old new status ⊎ TakesLogs number lines workers seen old new status
 
 -- no dictionary was full at the file, nor the archive
 abbrev pub MeetsNoLimit : Option PartCause → Type 0
@@ -193,7 +200,8 @@ MeetsNoLimit (Some (PartCause.ArchiveFull end need)) = ⊥
 MeetsNoLimit _ = Unit {0}
 
 -- so it was at each log that was taken in
-abbrev pub MetNoLimit : {number lines workers : ℕ} {seen : Outside} {old new : DiskState} {status : ℕ} → EndsBench number lines workers seen old new status → Type 0
+abbrev pub MetNoLimit : {number lines workers : ℕ} {seen : Outside} {old new : DiskState} {status : ℕ}
+    → EndsBench number lines workers seen old new status → Type 0
 MetNoLimit (inl making) = Unit {0}
 MetNoLimit (inr (inl refused)) = Unit {0}
 MetNoLimit (inr (inr takes)) = All (λ c. MeetsNoLimit c.refusal) takes.came

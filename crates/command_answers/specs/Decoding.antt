@@ -17,7 +17,8 @@ use Rattle.command_refusals.specs.declared.outcome.FileRefusal.TheVariants.{OutO
 -- refused.
 abbrev pub PrintsFile : Result Unit FileRefusal → ℕ → Option (List ℕ) → Option (List ℕ) → Option (List ℕ) → Type 0
 PrintsFile answer number bytes old new =
-    OverJournal bytes (λ held. (file : File) → slice_get (content_of held) number ≡ Some file → Took (is_ok answer) old new (file_text file))
+    OverJournal bytes (λ held. (file : File) → slice_get (content_of held) number ≡ Some file
+        → Took (is_ok answer) old new (file_text file))
 
 -- a refusal for want of the file: the journal has so many files, which are not above the number, and nothing was printed
 pub record LacksFile (number told count : ℕ) (bytes old new : Option (List ℕ)) : Type 0 where
@@ -29,5 +30,6 @@ pub record LacksFile (number told count : ℕ) (bytes old new : Option (List ℕ
 -- where the journal has the file, no call of the disk and no write to the output failed, it is printed, or memory ended
 abbrev pub IsCompleteFile : ℕ → Outside → DiskState → DiskState → Result Unit FileRefusal → Type 0
 IsCompleteFile number seen old new answer =
-    (bytes : List ℕ) (h : Header) (es : List JournalEntry) (stood : StandsFor bytes h es) → old.seen ≡ Some bytes → number < length (content_of stood.legal.held)
+    (bytes : List ℕ) (h : Header) (es : List JournalEntry) (stood : StandsFor bytes h es) → old.seen ≡ Some bytes
+        → number < length (content_of stood.legal.held)
     → ¬ Rose old.faults new.faults → ¬ RoseIn seen.out_faults → (answer ≡ Ok tt) ⊎ (answer ≡ Err OutOfMemory)

@@ -58,7 +58,8 @@ line_of_came c = record { name = c.name; messages = c.messages; whole = c.whole 
 -- where the bytes of the name are told, the message is one of theirs
 abbrev pub IsMessageIn : (List ℕ → Option (List ℕ)) → ℕ → List ℕ → List ℕ → Type 0
 IsMessageIn content version name message =
-    IfSome (content name) (λ bytes. (messages : List (List ℕ)) (ended : Bool) → MessagesOf version bytes messages ended → Contains messages message)
+    IfSome (content name) (λ bytes. (messages : List (List ℕ)) (ended : Bool) → MessagesOf version bytes messages ended
+        → Contains messages message)
 
 -- The message is one of the log of a file. A log that could not be opened has none; of one that was, and whose bytes are not
 -- told, nothing is said.
@@ -73,19 +74,22 @@ IsGiven content version came message = (c : FileOutcome) × Contains came c × I
 -- texts of the encodings of their messages.
 abbrev pub IsOfNew : (List ℕ → Option (List ℕ)) → ℕ → List FileOutcome → ℕ → JournalEntry → Type 0
 IsOfNew content version came first (Files more) = ⊥
-IsOfNew content version came first (Types number texts) = All (λ text. (m : List ℕ) × IsGiven content version came m × IsTypeOf version m text) texts
-IsOfNew content version came first (Words number texts) = All (λ text. (m : List ℕ) × IsGiven content version came m × IsWordOf version m text) texts
+IsOfNew content version came first (Types number texts) =
+    All (λ text. (m : List ℕ) × IsGiven content version came m × IsTypeOf version m text) texts
+IsOfNew content version came first (Words number texts) =
+    All (λ text. (m : List ℕ) × IsGiven content version came m × IsWordOf version m text) texts
 IsOfNew content version came first (Segment s) = (first ≤ s.file) × (s.file < first + length came)
 
 -- ---- the content
 
--- A new file holds the first messages of its name, as many as it is told with, and all of them where nothing was refused of it, which is where it is
--- told as whole.
+-- A new file holds the first messages of its name, as many as it is told with, and all of them where nothing was refused of it,
+-- which is where it is told as whole.
 pub record IsFront (content : List ℕ → Option (List ℕ)) (version : ℕ) (c : FileOutcome) (f : File) : Type 0 where
   pub name : f.name ≡ c.name
   pub messages : length f.messages ≡ c.messages
   pub whole : f.whole ≡ c.whole
-  pub front : IfSome (content c.name) (λ bytes. (messages : List (List ℕ)) (ended : Bool) → MessagesOf version bytes messages ended → IsPrefix f.messages messages)
+  pub front : IfSome (content c.name) (λ bytes. (messages : List (List ℕ)) (ended : Bool)
+      → MessagesOf version bytes messages ended → IsPrefix f.messages messages)
   pub all : c.refusal ≡ None → (c.whole ≡ true) × IfSome (content c.name) (λ bytes. MessagesOf version bytes f.messages f.ended)
 
 -- ---- what a crash leaves
@@ -102,7 +106,8 @@ pub record LeavesJournal (h : Header) (before es : List JournalEntry) (old new :
   pub none : (Rose old.faults new.faults → ⊥) → tail ≡ []
   pub reads : IfSome new.seen (StandsForEither h es tail)
   pub now : (c : List ℕ) → new.images c → StandsForEither h es tail c
-  pub since : (c : List ℕ) → new.since old.clock c → (some : List JournalEntry) × IsPrefix before some × IsPrefix some (es ++ tail) × StandsFor c h some
+  pub since : (c : List ℕ) → new.since old.clock c → (some : List JournalEntry) × IsPrefix before some
+      × IsPrefix some (es ++ tail) × StandsFor c h some
 
 -- ---- by the answer
 
@@ -110,28 +115,32 @@ pub record LeavesJournal (h : Header) (before es : List JournalEntry) (old new :
 pub record TakesNothing (h : Header) (before : List JournalEntry) (old new : DiskState) : Type 0 where
   pub leaves : LeavesJournal h before before old new
 
--- The segments of a file among the entries are the parts of its messages, in order: each is cut where it has so many rows or is full in another way, and not
--- sooner, and the last one has the rest.
+-- The segments of a file among the entries are the parts of its messages, in order: each is cut where it has so many rows or is
+-- full in another way, and not sooner, and the last one has the rest.
 pub record IsCutInto (rows number : ℕ) (f : File) (added : List JournalEntry) : Type 0 where
   pub closed : List Part
   pub rest : Part
   pub parts : f.messages ≡ messages_in closed ++ rest.messages
   pub cut : All (IsCut rows) closed
   pub not_yet : IsOpen rows rest
-  pub segments : filter_map (in_file number) added ≡ segments_from number 0 closed ++ rest_of number (length (messages_in closed)) f.whole f.ended rest
+  pub segments : filter_map (in_file number) added ≡ segments_from number 0 closed ++ rest_of number
+      (length (messages_in closed)) f.whole f.ended rest
 
 -- The names were added to the journal, and then what came of each file, in segments of at most so many rows.
-pub record TakesIn {bytes : List ℕ} (rows : ℕ) (content : List ℕ → Option (List ℕ)) (h : Header) (before : List JournalEntry) (stood : StandsFor bytes h before) (names : List (List ℕ)) (came : List FileOutcome) (old new : DiskState) : Type 0 where
+pub record TakesIn {bytes : List ℕ} (rows : ℕ) (content : List ℕ → Option (List ℕ)) (h : Header) (before : List JournalEntry)
+    (stood : StandsFor bytes h before) (names : List (List ℕ)) (came : List FileOutcome) (old new : DiskState) : Type 0 where
   pub added : List JournalEntry
   pub each : All (IsOfNew content h.version came (length stood.legal.held.names)) added
   pub leaves : LeavesJournal h before (before ++ (Files names ∷ added)) old new
   pub files : List File
-  pub content_is : (image : List ℕ) (stands : StandsFor image h (before ++ (Files names ∷ added))) → content_of stands.legal.held ≡ content_of stood.legal.held ++ files
+  pub content_is : (image : List ℕ) (stands : StandsFor image h (before ++ (Files names ∷ added)))
+      → content_of stands.legal.held ≡ content_of stood.legal.held ++ files
   pub fronts : AllZip (IsFront content h.version) came files
   pub cuts : (i : ℕ) (f : File) → slice_get files i ≡ Some f → IsCutInto rows (length stood.legal.held.names + i) f added
 
 -- Where the disk tells its bytes, these and each image of it stand for one journal at the start. Then this holds of it.
-abbrev pub FromArchive : DiskState → ((h : Header) (before : List JournalEntry) (bytes : List ℕ) → StandsFor bytes h before → Type 0) → Type 0
+abbrev pub FromArchive : DiskState
+    → ((h : Header) (before : List JournalEntry) (bytes : List ℕ) → StandsFor bytes h before → Type 0) → Type 0
 FromArchive old P =
     IfSome old.seen (λ bytes. (h : Header) (before : List JournalEntry) (stood : StandsFor bytes h before)
     → ((c : List ℕ) → old.images c → StandsFor c h before) → P h before bytes stood)
@@ -150,11 +159,13 @@ logs_of seen = record { content = seen.content; opens = seen.opens; reads = seen
 -- where the bytes are told, they have more messages than so many
 abbrev pub HasMoreThan : ℕ → ℕ → Option (List ℕ) → Type 0
 HasMoreThan count version told =
-    IfSome told (λ bytes. (messages : List (List ℕ)) (ended : Bool) → MessagesOf version bytes messages ended → count < length messages)
+    IfSome told (λ bytes. (messages : List (List ℕ)) (ended : Bool) → MessagesOf version bytes messages ended
+        → count < length messages)
 
 -- the text is one of the book in the journal, or one of the encoding of a message of these files
 abbrev pub IsThereOrGiven : (List ℕ → Option (List ℕ)) → ℕ → List FileOutcome → List JournalEntry → Which → List ℕ → Type 0
-IsThereOrGiven content version came es book text = Contains (book_texts book es) text ⊎ IsTextOf version (IsGiven content version came) book text
+IsThereOrGiven content version came es book text =
+    Contains (book_texts book es) text ⊎ IsTextOf version (IsGiven content version came) book text
 
 -- this holds of the messages of a file that were taken in
 pub record OfTaken (c : FileOutcome) (P : List (List ℕ) → Type 0) : Type 0 where
@@ -162,8 +173,8 @@ pub record OfTaken (c : FileOutcome) (P : List (List ℕ) → Type 0) : Type 0 w
   pub count : c.messages ≡ length sealed
   pub holds : P sealed
 
--- There are as many texts of the journal and of these files, and one more is of the encoding of a log's next message, behind those
--- that were taken of it.
+-- There are as many texts of the journal and of these files, and one more is of the encoding of a log's next message, behind
+-- those that were taken of it.
 abbrev pub IsFullBehind : (List ℕ → Option (List ℕ)) → List FileOutcome → Header → List JournalEntry → List ℕ → List (List ℕ)
     → Which → ℕ → Type 0
 IsFullBehind content came h es name taken book count =
@@ -171,16 +182,18 @@ IsFullBehind content came h es name taken book count =
     (IsTextOf h.version (IsNextOf h.version (content name) taken) book) count
 
 -- A book may have so many texts, and is full behind the messages of the file that were taken in.
-abbrev pub IsFullByGiven : (List ℕ → Option (List ℕ)) → List FileOutcome → Header → List JournalEntry → FileOutcome → Which → ℕ → Type 0
+abbrev pub IsFullByGiven : (List ℕ → Option (List ℕ)) → List FileOutcome → Header → List JournalEntry → FileOutcome → Which → ℕ
+    → Type 0
 IsFullByGiven content came h es c book count =
     (count ≡ limit_of (header_limits h) book) × OfTaken c (λ sealed. IsFullBehind content came h es c.name sealed book count)
 
 -- The texts of a book are those of the entries, and others of the encodings of messages of these files.
 abbrev pub WereGiven : (List ℕ → Option (List ℕ)) → ℕ → List FileOutcome → List JournalEntry → Which → List (List ℕ) → Type 0
-WereGiven content version came front book texts = HasTextsBehind (IsTextOf version (IsGiven content version came) book) (book_texts book front) texts
+WereGiven content version came front book texts =
+    HasTextsBehind (IsTextOf version (IsGiven content version came) book) (book_texts book front) texts
 
--- Why no further message of a log of this name was taken than these, into an archive with these entries: a read of it failed behind
--- them, the next line is too long, there are too many, or a dictionary is full at the next one.
+-- Why no further message of a log of this name was taken than these, into an archive with these entries: a read of it failed
+-- behind them, the next line is too long, there are too many, or a dictionary is full at the next one.
 abbrev pub IsStoppedBy : Logs → List FileOutcome → Header → List JournalEntry → List ℕ → List (List ℕ) → PartCause → Type 0
 IsStoppedBy logs came h es name taken ReadFault = RoseIn (logs.reads name)
     × IfSome (logs.content name) (λ bytes. (behind : Option (List ℕ)) × IsReadShort h.version bytes taken behind)
@@ -199,11 +212,12 @@ HasEnded logs came h es name taken = AreAllOf h.version (logs.content name) take
 
 -- the entries begin with these ones, and where the disk's bytes are told and stand for a journal, it begins with the entries
 abbrev pub StandFirst : Header → List JournalEntry → DiskState → List JournalEntry → Type 0
-StandFirst h named new front = IsPrefix named front × IfSome new.seen (λ bytes. (es : List JournalEntry) → StandsFor bytes h es → IsPrefix front es)
+StandFirst h named new front =
+    IsPrefix named front × IfSome new.seen (λ bytes. (es : List JournalEntry) → StandsFor bytes h es → IsPrefix front es)
 
--- Behind the messages of a file that were taken in, its next segment did not fit: the next whole part, of at most so many rows, or
--- the rest, where no whole part is left and the log has ended. The archive's end is that of entries which begin with the names of
--- these files, numbered on from `first`, and the bytes are those of the segment and of the texts before it.
+-- Behind the messages of a file that were taken in, its next segment did not fit: the next whole part, of at most so many rows,
+-- or the rest, where no whole part is left and the log has ended. The archive's end is that of entries which begin with the names
+-- of these files, numbered on from `first`, and the bytes are those of the segment and of the texts before it.
 pub record DidNotFit (logs : Logs) (rows first : ℕ) (came : List FileOutcome) (h : Header) (named : List JournalEntry)
     (new : DiskState) (c : FileOutcome) (end need : ℕ) : Type 0 where
   pub place : ℕ
@@ -219,26 +233,32 @@ pub record WasCutShort (version : ℕ) (c : FileOutcome) (bytes : List ℕ) : Ty
   pub behind : Option (List ℕ)
   pub short : IsReadShort version bytes taken behind
 
--- The line of this number of a log with these bytes is the first that is too long: the messages before it were taken in, and it follows them.
+-- The line of this number of a log with these bytes is the first that is too long: the messages before it were taken in, and it
+-- follows them.
 pub record IsNextTooLong (version : ℕ) (c : FileOutcome) (line : ℕ) (bytes : List ℕ) : Type 0 where
   pub taken : List (List ℕ)
   pub count : c.messages ≡ length taken
   pub follows : line ≡ lines_count taken + 1
   pub before : IsBeforeLong version taken bytes
 
--- What a refusal that came of a file rests on, where this came of all files that were given, in segments of at most so many rows. Want of memory is free.
+-- What a refusal that came of a file rests on, where this came of all files that were given, in segments of at most so many rows.
+-- Want of memory is free.
 abbrev pub HasFileCause : ℕ → List FileOutcome → Outside → DiskState → DiskState → FileOutcome → Option PartCause → Type 0
 HasFileCause rows came seen old new c None = c.whole ≡ true
 HasFileCause rows came seen old new c (Some OpenFault) = RoseIn (seen.opens c.name) × (c.messages ≡ 0)
 HasFileCause rows came seen old new c (Some ReadFault) =
     RoseIn (seen.reads c.name) × FromArchive old (λ h before bytes stood. IfSome (seen.content c.name) (WasCutShort h.version c))
 HasFileCause rows came seen old new c (Some (LineTooLong line)) =
-    IfSome (seen.content c.name) (λ bytes. IsLong bytes line) × FromArchive old (λ h before bytes stood. IfSome (seen.content c.name) (IsNextTooLong h.version c line))
+    IfSome (seen.content c.name) (λ bytes. IsLong bytes line)
+        × FromArchive old (λ h before bytes stood. IfSome (seen.content c.name) (IsNextTooLong h.version c line))
 HasFileCause rows came seen old new c (Some TooManyLines) =
-    (c.messages ≡ most_messages) × FromArchive old (λ h before bytes stood. HasMoreThan most_messages h.version (seen.content c.name))
-HasFileCause rows came seen old new c (Some (Full book count)) = FromArchive old (λ h before bytes stood. IsFullByGiven seen.content came h before c book count)
+    (c.messages ≡ most_messages)
+        × FromArchive old (λ h before bytes stood. HasMoreThan most_messages h.version (seen.content c.name))
+HasFileCause rows came seen old new c (Some (Full book count)) =
+    FromArchive old (λ h before bytes stood. IsFullByGiven seen.content came h before c book count)
 HasFileCause rows came seen old new c (Some (PartCause.ArchiveFull end need)) =
-    FromArchive old (λ h before bytes stood. DidNotFit (logs_of seen) rows (length stood.legal.held.names) came h (before ++ Files (names_in came) ∷ []) new c end need)
+    FromArchive old (λ h before bytes stood. DidNotFit (logs_of seen) rows (length stood.legal.held.names) came h
+        (before ++ Files (names_in came) ∷ []) new c end need)
 HasFileCause rows came seen old new c (Some PartCause.DiskFault) = Rose old.faults new.faults
 HasFileCause rows came seen old new c (Some PartCause.OutOfMemory) = Unit {0}
 
@@ -255,14 +275,16 @@ WroteNothing old new = (new.seen ≡ old.seen) × NoMore old.images new.images
 abbrev pub AreFewFor : List (List ℕ) → DiskState → Type 0
 AreFewFor names old = FromArchive old (λ h before bytes stood. RefusesMore (length stood.legal.held.names) (length names) None)
 
--- The names go past the archive's limit of length: the archive ends there, and their record needs so many bytes. They are not too many.
+-- The names go past the archive's limit of length: the archive ends there, and their record needs so many bytes. They are not too
+-- many.
 pub record GoPast (names : List (List ℕ)) (h : Header) (before : List JournalEntry) (held end need : ℕ) : Type 0 where
   pub ends : end ≡ end_of h before
   pub needs : need ≡ files_size names
   pub past : h.length_limit < end + need
   pub few : RefusesMore held (length names) None
 
--- What a refusal of the whole call rests on. That there are too many files is found before the disk is written and before it is asked whether the names fit.
+-- What a refusal of the whole call rests on. That there are too many files is found before the disk is written and before it is
+-- asked whether the names fit.
 abbrev pub HasCallCause : List (List ℕ) → DiskState → DiskState → AddRefusal → Type 0
 HasCallCause names old new (NameTooLong index) = RefusesNames names (Some (NameTooLong index))
 HasCallCause names old new (TooManyFiles held more) =
@@ -277,8 +299,9 @@ HasCallCause names old new (AddRefusal.ArchiveFull end need) =
 
 -- ---- a full dictionary with one worker, which takes the files in their order
 
--- How many messages of a file may have been met behind those that were taken in, by what was refused of it. A log that was not opened or cannot be read on
--- leaves none, a full dictionary the one that it stops, and any other refusal those that were in hand for a segment of at most so many rows.
+-- How many messages of a file may have been met behind those that were taken in, by what was refused of it. A log that was not
+-- opened or cannot be read on leaves none, a full dictionary the one that it stops, and any other refusal those that were in hand
+-- for a segment of at most so many rows.
 abbrev pub unsealed_of : ℕ → Option PartCause → ℕ
 unsealed_of rows None = 0
 unsealed_of rows (Some OpenFault) = 0
@@ -297,25 +320,33 @@ module _ (rows : ℕ) (content : List ℕ → Option (List ℕ)) where
   abbrev pub WasMetInOneOf : ℕ → List FileOutcome → List ℕ → Type 0
   WasMetInOneOf version came m = (c : FileOutcome) × Contains came c × WasMetIn version c m
 
-  -- A book may have so many texts, and there are as many of the journal and of the messages that were met in these files. One more is of the file's next
-  -- message, directly behind those that were taken in.
+  -- A book may have so many texts, and there are as many of the journal and of the messages that were met in these files. One
+  -- more is of the file's next message, directly behind those that were taken in.
   abbrev pub IsFullInTurn : Header → List JournalEntry → List FileOutcome → FileOutcome → Which → ℕ → Type 0
   IsFullInTurn h es met c book count =
       (count ≡ limit_of (header_limits h) book)
-      × IsFullBy (λ text. Contains (book_texts book es) text ⊎ IsTextOf h.version (WasMetInOneOf h.version met) book text) (IsTextOf h.version (IsMessageAt h.version (content c.name) c.messages) book) count
+      × IsFullBy (λ text. Contains (book_texts book es) text
+          ⊎ IsTextOf h.version (WasMetInOneOf h.version met) book text)
+          (IsTextOf h.version (IsMessageAt h.version (content c.name) c.messages) book) count
 
--- this holds of the files up to each one that a full dictionary stopped, of this one, and of the dictionary and the count that are told
+-- this holds of the files up to each one that a full dictionary stopped, of this one, and of the dictionary and the count that
+-- are told
 abbrev pub OfStopped : (List FileOutcome → FileOutcome → Which → ℕ → Type 0) → List FileOutcome → Type 0
-OfStopped P came = (place : ℕ) (c : FileOutcome) (book : Which) (count : ℕ) → slice_get came place ≡ Some c → c.refusal ≡ Some (Full book count) → P (take (place + 1) came) c book count
+OfStopped P came =
+    (place : ℕ) (c : FileOutcome) (book : Which) (count : ℕ) → slice_get came place ≡ Some c → c.refusal ≡ Some (Full book count)
+    → P (take (place + 1) came) c book count
 
 -- each full dictionary was so by the archive of before and the files up to the one that it stopped
 abbrev pub AreFullInTurn : ℕ → (List ℕ → Option (List ℕ)) → DiskState → List FileOutcome → Type 0
-AreFullInTurn rows content old came = OfStopped (λ met c book count. FromArchive old (λ h before bytes stood. IsFullInTurn rows content h before met c book count)) came
+AreFullInTurn rows content old came =
+    OfStopped (λ met c book count. FromArchive old
+    (λ h before bytes stood. IsFullInTurn rows content h before met c book count)) came
 
 -- ---- what was taken in fits in the dictionaries
 
 module _ (content : List ℕ → Option (List ℕ)) where
-  -- The message was taken in with a file whose bytes are told: it is one of their first messages, as many as the archive has of the file.
+  -- The message was taken in with a file whose bytes are told: it is one of their first messages, as many as the archive has of
+  -- the file.
   pub record WasTakenWith (version : ℕ) (c : FileOutcome) (m : List ℕ) : Type 0 where
     pub bytes : List ℕ
     pub told : content c.name ≡ Some bytes
@@ -330,11 +361,13 @@ module _ (content : List ℕ → Option (List ℕ)) where
 
   -- the text is one of the book in the journal, or one of the encoding of a message that was taken in
   abbrev pub IsThereOrTakenIn : Header → List JournalEntry → List FileOutcome → Which → List ℕ → Type 0
-  IsThereOrTakenIn h es came book text = Contains (book_texts book es) text ⊎ IsTextOf h.version (WasTakenIn h.version came) book text
+  IsThereOrTakenIn h es came book text = Contains (book_texts book es) text
+      ⊎ IsTextOf h.version (WasTakenIn h.version came) book text
 
   -- distinct such texts are no more than the book may have
   abbrev pub FitIn : Header → List JournalEntry → List FileOutcome → Which → Type 0
-  FitIn h es came book = (texts : List (List ℕ)) → AreDistinct texts → All (IsThereOrTakenIn h es came book) texts → length texts ≤ limit_of (header_limits h) book
+  FitIn h es came book = (texts : List (List ℕ)) → AreDistinct texts → All (IsThereOrTakenIn h es came book) texts
+      → length texts ≤ limit_of (header_limits h) book
 
 -- so it is of each dictionary of the archive of before
 abbrev pub AllFit : (List ℕ → Option (List ℕ)) → DiskState → List FileOutcome → Type 0
@@ -363,7 +396,8 @@ PrintsCame came first seen status =
     ⊎ (EndsWithoutMemory seen status
     × GrewByFront seen.out.0 seen.out.1 (directory_from first (map line_of_came came)) × Stayed seen.out_faults)
 
--- The names were added, from the first new number on, and the files taken in, in segments of at most so many rows. What came of each is printed.
+-- The names were added, from the first new number on, and the files taken in, in segments of at most so many rows. What came of
+-- each is printed.
 pub record AddsFiles (rows : ℕ) (names : List (List ℕ)) (seen : Outside) (old new : DiskState) (status : ℕ) : Type 0 where
   pub came : List FileOutcome
   pub first : ℕ
@@ -372,9 +406,10 @@ pub record AddsFiles (rows : ℕ) (names : List (List ℕ)) (seen : Outside) (ol
   pub disk : FromArchive old (λ h before bytes stood. TakesIn rows seen.content h before stood names came old new)
   pub printed : PrintsCame came first seen status
 
--- The same, and what came of each file has its cause. With one worker a dictionary is full by the files up to the one that it stopped. With any number what was
--- taken in fits in the dictionaries.
-pub record TakesFiles (workers rows : ℕ) (names : List (List ℕ)) (seen : Outside) (old new : DiskState) (status : ℕ) : Type 0 where
+-- The same, and what came of each file has its cause. With one worker a dictionary is full by the files up to the one that it
+-- stopped. With any number what was taken in fits in the dictionaries.
+pub record TakesFiles (workers rows : ℕ) (names : List (List ℕ)) (seen : Outside) (old new : DiskState) (status : ℕ)
+    : Type 0 where
   pub adds : AddsFiles rows names seen old new status
   pub each : All (CameOfFile rows adds.came seen old new) adds.came
   pub in_turn : workers ≡ 1 → AreFullInTurn rows seen.content old adds.came
@@ -382,4 +417,5 @@ pub record TakesFiles (workers rows : ℕ) (names : List (List ℕ)) (seen : Out
 
 -- How `ingest` ends, which has so many workers, and cuts files into segments of at most so many rows.
 abbrev pub EndsIngest : ℕ → ℕ → List (List ℕ) → Outside → DiskState → DiskState → ℕ → Type 0
-EndsIngest workers rows names seen old new status = RefusesIngest names seen old new status ⊎ TakesFiles workers rows names seen old new status
+EndsIngest workers rows names seen old new status =
+    RefusesIngest names seen old new status ⊎ TakesFiles workers rows names seen old new status

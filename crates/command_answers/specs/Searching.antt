@@ -16,7 +16,8 @@ use Rattle.search_walk.specs.Journal.{OfJournal, ReadsNoBarren}
 -- how many messages were found, and how many expanded; how many segments were opened, and how many there are
 abbrev pub found_counts : Report → List ℕ
 found_counts r =
-    codes "matched " ++ (decimal r.matched ++ (codes " expanded " ++ (decimal r.expanded ++ (codes " opened " ++ (decimal r.opened ++ (codes " segments " ++ (decimal r.segments ++ 10 ∷ [])))))))
+    codes "matched " ++ (decimal r.matched ++ (codes " expanded " ++ (decimal r.expanded
+        ++ (codes " opened " ++ (decimal r.opened ++ (codes " segments " ++ (decimal r.segments ++ 10 ∷ [])))))))
 
 -- What is asked for finds this in a journal with these segments: the messages that the pattern matches in the range, those that
 -- the widened pattern matches there, and the segments that are not barren.
@@ -30,7 +31,8 @@ pub record Found (h : Header) (held : Held) (q : Asked) (segments : List Segment
 
 -- its counts
 abbrev pub report_of : List Placed → List Placed → List SegmentPlace → List SegmentPlace → Report
-report_of found tried opened segments = record { matched = length found; expanded = length tried; opened = length opened; segments = length segments }
+report_of found tried opened segments =
+    record { matched = length found; expanded = length tried; opened = length opened; segments = length segments }
 
 -- the lines of the messages that are found, and the line of the counts where it is asked for
 abbrev pub found_text : Bool → List Placed → Report → List ℕ
@@ -38,11 +40,13 @@ found_text stats found report = lines_of found ++ (if stats then found_counts re
 
 -- With the journal's segments in some order, the output took the text of what is found, or a front of it; where it took all,
 -- that was found.
-pub record PrintsText (done : Bool) (h : Header) (es : List JournalEntry) (held : Held) (q : Asked) (stats : Bool) (old new : Option (List ℕ)) : Type 0 where
+pub record PrintsText (done : Bool) (h : Header) (es : List JournalEntry) (held : Held) (q : Asked) (stats : Bool)
+    (old new : Option (List ℕ)) : Type 0 where
   pub segments : List SegmentPlace
   pub are_segments : IsPermutation (places_of es) segments
   pub there : done ≡ true → Found h held q segments
-  pub took : (f : Found h held q segments) → Took done old new (found_text stats f.found (report_of f.found f.tried f.opened segments))
+  pub took : (f : Found h held q segments)
+      → Took done old new (found_text stats f.found (report_of f.found f.tried f.opened segments))
 
 -- of the journal that the bytes stand for
 abbrev pub PrintsFound : Bool → Asked → Bool → Option (List ℕ) → Option (List ℕ) → Option (List ℕ) → Type 0

@@ -37,7 +37,8 @@ abbrev pub opens_of : {S : Type 0} → List (Job S) → List Bool
 opens_of jobs = map (λ job. job.is_open) jobs
 
 -- The file is told by its job when this was done, and by the opening of its log.
-pub record IsToldBy {S : Type 0} (openings : List (Option OpenRefused)) (jobs : List (Job S)) (i : ℕ) (file : FileReport) : Type 0 where
+pub record IsToldBy {S : Type 0} (openings : List (Option OpenRefused)) (jobs : List (Job S)) (i : ℕ) (file : FileReport)
+    : Type 0 where
   pub job : Job S
   pub at : slice_get jobs i ≡ Some job
   pub opening : Option OpenRefused
@@ -55,9 +56,10 @@ pub record IsNotBegun (file : FileReport) : Type 0 where
 -- ---- all jobs
 
 module _ {S D : Type 0} {d : DiskGhosts D} where
-  -- The jobs were done over the journal by so many workers, in segments of at most so many rows, each with its cause. With one worker a dictionary is full by
-  -- the jobs up to the one that it stopped.
-  pub record AreDone (left name : S → Option (List ℕ)) (faults : S → ℕ) (workers rows : ℕ) (before after : Journal D d) (js js' : List (Job S)) : Type 0 where
+  -- The jobs were done over the journal by so many workers, in segments of at most so many rows, each with its cause. With one
+  -- worker a dictionary is full by the jobs up to the one that it stopped.
+  pub record AreDone (left name : S → Option (List ℕ)) (faults : S → ℕ) (workers rows : ℕ) (before after : Journal D d)
+      (js js' : List (Job S)) : Type 0 where
     pub ingested : HasIngested left (plan_of rows before) js js' before after
     pub causes : HaveCauses left name faults (plan_of rows before) before after js js'
     pub in_turn : workers ≡ 1 → AreFullInTurn left (plan_of rows before) before js js'
@@ -68,5 +70,7 @@ module _ {S D : Type 0} {d : DiskGhosts D} where
     pub jobs : AreRefused js js'
 
   -- what came of the jobs
-  abbrev pub DidJobs : (S → Option (List ℕ)) → (S → Option (List ℕ)) → (S → ℕ) → ℕ → ℕ → Journal D d → Journal D d → List (Job S) → List (Job S) → Type 0
-  DidJobs left name faults workers rows before after js js' = AreDone left name faults workers rows before after js js' ⊎ AreNotBegun before after js js'
+  abbrev pub DidJobs : (S → Option (List ℕ)) → (S → Option (List ℕ)) → (S → ℕ) → ℕ → ℕ → Journal D d → Journal D d → List (Job S)
+      → List (Job S) → Type 0
+  DidJobs left name faults workers rows before after js js' = AreDone left name faults workers rows before after js js'
+      ⊎ AreNotBegun before after js js'

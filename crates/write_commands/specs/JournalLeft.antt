@@ -28,15 +28,17 @@ pub record HasNames (h : Header) (before : List JournalEntry) (names : List (Lis
 abbrev pub IsLogOf : (List ℕ → Option (List ℕ)) → FileOutcome → Option (List ℕ) → Type 0
 IsLogOf content c told = ((told ≡ content c.name) × ¬ CouldNotOpen c) ⊎ (told ≡ Some [])
 
--- The names of new files were appended to the journal, which is told with them, and they are numbered from `first` on. Each image since the start stands
--- for the journal of before, or for it with the names.
-pub record AddsNamesTo (h : Header) (before : List JournalEntry) {bytes : List ℕ} (stood : StandsFor bytes h before) (names : List (List ℕ)) (first : ℕ) (old : DiskState) (j : JournalState) : Type 0 where
+-- The names of new files were appended to the journal, which is told with them, and they are numbered from `first` on. Each image
+-- since the start stands for the journal of before, or for it with the names.
+pub record AddsNamesTo (h : Header) (before : List JournalEntry) {bytes : List ℕ} (stood : StandsFor bytes h before)
+    (names : List (List ℕ)) (first : ℕ) (old : DiskState) (j : JournalState) : Type 0 where
   pub has : HasNames h before names j
   pub number : first ≡ length stood.legal.held.names
   pub past : LeavesOnly old j.disk (StandsBetween h before (before ++ Files names ∷ []))
 
--- Where the journal is told with the names behind an archive, numbered from `first` on, the files were taken into it in segments of
--- at most so many rows, with what came of them.
+-- Where the journal is told with the names behind an archive, numbered from `first` on, the files were taken into it in segments
+-- of at most so many rows, with what came of them.
 abbrev pub TakesInto : ℕ → (List ℕ → Option (List ℕ)) → List (List ℕ) → ℕ → List FileOutcome → JournalState → DiskState → Type 0
 TakesInto rows content names first came j new =
-    (h : Header) (before : List JournalEntry) (bytes : List ℕ) (stood : StandsFor bytes h before) → HasNames h before names j → first ≡ length stood.legal.held.names → TakesIn rows content h before stood names came j.disk new
+    (h : Header) (before : List JournalEntry) (bytes : List ℕ) (stood : StandsFor bytes h before) → HasNames h before names j
+        → first ≡ length stood.legal.held.names → TakesIn rows content h before stood names came j.disk new

@@ -37,8 +37,8 @@ UnopenedGiveNothing =
 
 -- ---- a rest that did not fit
 
--- Nothing keeps a log with these messages from being read to its end: its bytes are told, no read of it failed, none of its lines is
--- too long, it has not too many messages, and no dictionary is full at one of them.
+-- Nothing keeps a log with these messages from being read to its end: its bytes are told, no read of it failed, none of its lines
+-- is too long, it has not too many messages, and no dictionary is full at one of them.
 pub record IsReadable (logs : Logs) (came : List FileOutcome) (h : Header) (es : List JournalEntry) (name : List ℕ)
     (messages : List (List ℕ)) : Type 0 where
   pub bytes : List ℕ

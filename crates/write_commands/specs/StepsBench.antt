@@ -8,7 +8,8 @@ use Rattle.command_answers.specs.Benched.{SumsUp, IsSpared, segment_rows, with_l
 
 -- The names were added to the archive and the logs taken in, with the causes for which they are not whole, and it was told
 -- what came of them.
-pub record AddsLogs (content : List ℕ → Option (List ℕ)) (workers : ℕ) (names : List (List ℕ)) (seen : Outside) (old new : DiskState) (status : ℕ) : Type 0 where
+pub record AddsLogs (content : List ℕ → Option (List ℕ)) (workers : ℕ) (names : List (List ℕ)) (seen : Outside)
+    (old new : DiskState) (status : ℕ) : Type 0 where
   pub came : List FileOutcome
   pub names_are : map (λ c. c.name) came ≡ names
   pub disk : FromArchive old (λ h before bytes stood. TakesIn segment_rows content h before stood names came old new)
@@ -18,4 +19,5 @@ pub record AddsLogs (content : List ℕ → Option (List ℕ)) (workers : ℕ) (
 
 -- How it ends, on a disk that has an archive.
 abbrev pub EndsLogs : (List ℕ → Option (List ℕ)) → ℕ → Outside → DiskState → DiskState → ℕ → Type 0
-EndsLogs content workers seen old new status = RefusesIngest generated_names seen old new status ⊎ AddsLogs content workers generated_names seen old new status
+EndsLogs content workers seen old new status =
+    RefusesIngest generated_names seen old new status ⊎ AddsLogs content workers generated_names seen old new status

@@ -21,8 +21,8 @@ logs_around content open_faults read_faults shelf shelf_after = record {
   reads = λ name. (read_faults shelf name, read_faults shelf_after name);
 }
 
--- What files are taken into, of which this came, where it is told: an archive with this header and these entries, which have their
--- names. They are numbered on from `first`, and cut into segments of at most so many rows.
+-- What files are taken into, of which this came, where it is told: an archive with this header and these entries, which have
+-- their names. They are numbered on from `first`, and cut into segments of at most so many rows.
 pub record Target : Type 0 where
   pub told : Bool
   pub header : Header
@@ -32,7 +32,8 @@ pub record Target : Type 0 where
   pub came : List FileOutcome
 
 abbrev pub into_journal : JournalState → ℕ → ℕ → List FileOutcome → Target
-into_journal j rows first came = record { told = is_some j.disk.seen; header = j.header; entries = told_entries j; rows = rows; first = first; came = came }
+into_journal j rows first came =
+    record { told = is_some j.disk.seen; header = j.header; entries = told_entries j; rows = rows; first = first; came = came }
 
 -- it is told, and is this archive of so many files, with the names
 pub record IsTarget (into : Target) (h : Header) (before : List JournalEntry) (held : ℕ) : Type 0 where
@@ -45,19 +46,26 @@ pub record IsTarget (into : Target) (h : Header) (before : List JournalEntry) (h
 abbrev pub HasCauseIn : Logs → Target → DiskState → DiskState → FileOutcome → Option PartCause → Type 0
 HasCauseIn logs into old new c None = c.whole ≡ true
 HasCauseIn logs into old new c (Some PartCause.OpenFault) = RoseIn (logs.opens c.name) × (c.messages ≡ 0)
-HasCauseIn logs into old new c (Some PartCause.ReadFault) = RoseIn (logs.reads c.name) × IfSome (logs.content c.name) (WasCutShort into.header.version c)
+HasCauseIn logs into old new c (Some PartCause.ReadFault) =
+    RoseIn (logs.reads c.name) × IfSome (logs.content c.name) (WasCutShort into.header.version c)
 HasCauseIn logs into old new c (Some (PartCause.LineTooLong line)) =
-    IfSome (logs.content c.name) (λ bytes. IsLong bytes line) × IfSome (logs.content c.name) (IsNextTooLong into.header.version c line)
-HasCauseIn logs into old new c (Some PartCause.TooManyLines) = (c.messages ≡ most_messages) × HasMoreThan most_messages into.header.version (logs.content c.name)
-HasCauseIn logs into old new c (Some (PartCause.Full book count)) = IfTold into.told (IsFullByGiven logs.content into.came into.header into.entries c book count)
+    IfSome (logs.content c.name) (λ bytes. IsLong bytes line)
+        × IfSome (logs.content c.name) (IsNextTooLong into.header.version c line)
+HasCauseIn logs into old new c (Some PartCause.TooManyLines) =
+    (c.messages ≡ most_messages) × HasMoreThan most_messages into.header.version (logs.content c.name)
+HasCauseIn logs into old new c (Some (PartCause.Full book count)) =
+    IfTold into.told (IsFullByGiven logs.content into.came into.header into.entries c book count)
 HasCauseIn logs into old new c (Some (PartCause.ArchiveFull end need)) =
-    (into.header.length_limit < end + need) × IfTold into.told (DidNotFit logs into.rows into.first into.came into.header into.entries new c end need)
+    (into.header.length_limit < end + need)
+        × IfTold into.told (DidNotFit logs into.rows into.first into.came into.header into.entries new c end need)
 HasCauseIn logs into old new c (Some PartCause.DiskFault) = Rose old.faults new.faults
 HasCauseIn logs into old new c (Some PartCause.OutOfMemory) = Unit {0}
 
 -- each full dictionary was so by what the files were taken into, and by those up to the one that it stopped
 abbrev pub AreFullInto : (List ℕ → Option (List ℕ)) → Target → List FileOutcome → Type 0
-AreFullInto content into came = OfStopped (λ met c book count. IfTold into.told (IsFullInTurn into.rows content into.header into.entries met c book count)) came
+AreFullInto content into came =
+    OfStopped (λ met c book count. IfTold into.told
+    (IsFullInTurn into.rows content into.header into.entries met c book count)) came
 
 -- a file is whole exactly where nothing was refused of it, and a refusal has its cause
 pub record CameIn (logs : Logs) (into : Target) (old new : DiskState) (c : FileOutcome) : Type 0 where
