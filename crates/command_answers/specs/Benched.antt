@@ -50,7 +50,7 @@ pub record AreCounted (h : Header) (es : List JournalEntry) (held : Held) (match
 abbrev pub summary : ℕ → ℕ → ℕ → List ℕ
 summary messages matched segments =
     codes "messages " ++ (decimal messages ++ (codes " matched " ++ (decimal matched
-        ++ (codes " segments " ++ (decimal segments ++ 10 ∷ [])))))
+    ++ (codes " segments " ++ (decimal segments ++ 10 ∷ [])))))
 
 -- the output took the summary of the journal that the bytes stand for, or what `took` says of it
 pub record TellsSummary (took : List ℕ → Type 0) (messages : ℕ) (bytes : Option (List ℕ)) : Type 0 where
@@ -144,8 +144,8 @@ abbrev pub FromEmpty : DiskState → DiskState → (DiskState → (bytes : List 
     → Type 0
 FromEmpty old new P =
     IfSome old.seen (λ was. (was ≡ [])
-        × ((t : ℕ) × ((old.clock ≤ t) × new.since t made_bytes)
-        × ((bytes : List ℕ) × ((stood : StandsFor bytes default_header []) × P (at_moment t old) bytes stood))))
+    × ((t : ℕ) × ((old.clock ≤ t) × new.since t made_bytes)
+    × ((bytes : List ℕ) × ((stood : StandsFor bytes default_header []) × P (at_moment t old) bytes stood))))
 
 -- The archive was not made.
 pub record RefusesMaking (seen : Outside) (old new : DiskState) (status : ℕ) : Type 0 where

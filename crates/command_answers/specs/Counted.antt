@@ -11,7 +11,7 @@ use Rattle.command_refusals.specs.declared.outcome.ReadRefusal.TheVariants.{Dama
 abbrev pub counts_line : Summary → List ℕ
 counts_line s =
     codes "entries " ++ (decimal s.entries ++ (codes " files " ++ (decimal s.files
-        ++ (codes " messages " ++ (decimal s.messages ++ 10 ∷ [])))))
+    ++ (codes " messages " ++ (decimal s.messages ++ 10 ∷ [])))))
 
 -- where the bytes are told, they stand for a journal with these counts, and the output took their line or a front of it
 pub record Counts (Took : Option (List ℕ) → Option (List ℕ) → List ℕ → Type 0) (bytes old new : Option (List ℕ)) : Type 0 where

@@ -18,7 +18,7 @@ use Rattle.command_refusals.specs.declared.outcome.FileRefusal.TheVariants.{OutO
 abbrev pub PrintsFile : Result Unit FileRefusal → ℕ → Option (List ℕ) → Option (List ℕ) → Option (List ℕ) → Type 0
 PrintsFile answer number bytes old new =
     OverJournal bytes (λ held. (file : File) → slice_get (content_of held) number ≡ Some file
-        → Took (is_ok answer) old new (file_text file))
+    → Took (is_ok answer) old new (file_text file))
 
 -- a refusal for want of the file: the journal has so many files, which are not above the number, and nothing was printed
 pub record LacksFile (number told count : ℕ) (bytes old new : Option (List ℕ)) : Type 0 where
@@ -31,5 +31,5 @@ pub record LacksFile (number told count : ℕ) (bytes old new : Option (List ℕ
 abbrev pub IsCompleteFile : ℕ → Outside → DiskState → DiskState → Result Unit FileRefusal → Type 0
 IsCompleteFile number seen old new answer =
     (bytes : List ℕ) (h : Header) (es : List JournalEntry) (stood : StandsFor bytes h es) → old.seen ≡ Some bytes
-        → number < length (content_of stood.legal.held)
+    → number < length (content_of stood.legal.held)
     → ¬ Rose old.faults new.faults → ¬ RoseIn seen.out_faults → (answer ≡ Ok tt) ⊎ (answer ≡ Err OutOfMemory)

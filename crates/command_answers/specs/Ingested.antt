@@ -59,7 +59,7 @@ line_of_came c = record { name = c.name; messages = c.messages; whole = c.whole 
 abbrev pub IsMessageIn : (List ℕ → Option (List ℕ)) → ℕ → List ℕ → List ℕ → Type 0
 IsMessageIn content version name message =
     IfSome (content name) (λ bytes. (messages : List (List ℕ)) (ended : Bool) → MessagesOf version bytes messages ended
-        → Contains messages message)
+    → Contains messages message)
 
 -- The message is one of the log of a file. A log that could not be opened has none; of one that was, and whose bytes are not
 -- told, nothing is said.
@@ -160,7 +160,7 @@ logs_of seen = record { content = seen.content; opens = seen.opens; reads = seen
 abbrev pub HasMoreThan : ℕ → ℕ → Option (List ℕ) → Type 0
 HasMoreThan count version told =
     IfSome told (λ bytes. (messages : List (List ℕ)) (ended : Bool) → MessagesOf version bytes messages ended
-        → count < length messages)
+    → count < length messages)
 
 -- the text is one of the book in the journal, or one of the encoding of a message of these files
 abbrev pub IsThereOrGiven : (List ℕ → Option (List ℕ)) → ℕ → List FileOutcome → List JournalEntry → Which → List ℕ → Type 0
@@ -250,15 +250,15 @@ HasFileCause rows came seen old new c (Some ReadFault) =
     RoseIn (seen.reads c.name) × FromArchive old (λ h before bytes stood. IfSome (seen.content c.name) (WasCutShort h.version c))
 HasFileCause rows came seen old new c (Some (LineTooLong line)) =
     IfSome (seen.content c.name) (λ bytes. IsLong bytes line)
-        × FromArchive old (λ h before bytes stood. IfSome (seen.content c.name) (IsNextTooLong h.version c line))
+    × FromArchive old (λ h before bytes stood. IfSome (seen.content c.name) (IsNextTooLong h.version c line))
 HasFileCause rows came seen old new c (Some TooManyLines) =
     (c.messages ≡ most_messages)
-        × FromArchive old (λ h before bytes stood. HasMoreThan most_messages h.version (seen.content c.name))
+    × FromArchive old (λ h before bytes stood. HasMoreThan most_messages h.version (seen.content c.name))
 HasFileCause rows came seen old new c (Some (Full book count)) =
     FromArchive old (λ h before bytes stood. IsFullByGiven seen.content came h before c book count)
 HasFileCause rows came seen old new c (Some (PartCause.ArchiveFull end need)) =
     FromArchive old (λ h before bytes stood. DidNotFit (logs_of seen) rows (length stood.legal.held.names) came h
-        (before ++ Files (names_in came) ∷ []) new c end need)
+    (before ++ Files (names_in came) ∷ []) new c end need)
 HasFileCause rows came seen old new c (Some PartCause.DiskFault) = Rose old.faults new.faults
 HasFileCause rows came seen old new c (Some PartCause.OutOfMemory) = Unit {0}
 
@@ -326,8 +326,8 @@ module _ (rows : ℕ) (content : List ℕ → Option (List ℕ)) where
   IsFullInTurn h es met c book count =
       (count ≡ limit_of (header_limits h) book)
       × IsFullBy (λ text. Contains (book_texts book es) text
-          ⊎ IsTextOf h.version (WasMetInOneOf h.version met) book text)
-          (IsTextOf h.version (IsMessageAt h.version (content c.name) c.messages) book) count
+      ⊎ IsTextOf h.version (WasMetInOneOf h.version met) book text)
+      (IsTextOf h.version (IsMessageAt h.version (content c.name) c.messages) book) count
 
 -- this holds of the files up to each one that a full dictionary stopped, of this one, and of the dictionary and the count that
 -- are told

@@ -17,7 +17,7 @@ use Rattle.search_walk.specs.Journal.{OfJournal, ReadsNoBarren}
 abbrev pub found_counts : Report → List ℕ
 found_counts r =
     codes "matched " ++ (decimal r.matched ++ (codes " expanded " ++ (decimal r.expanded
-        ++ (codes " opened " ++ (decimal r.opened ++ (codes " segments " ++ (decimal r.segments ++ 10 ∷ [])))))))
+    ++ (codes " opened " ++ (decimal r.opened ++ (codes " segments " ++ (decimal r.segments ++ 10 ∷ [])))))))
 
 -- What is asked for finds this in a journal with these segments: the messages that the pattern matches in the range, those that
 -- the widened pattern matches there, and the segments that are not barren.

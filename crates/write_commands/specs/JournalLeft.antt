@@ -41,4 +41,4 @@ pub record AddsNamesTo (h : Header) (before : List JournalEntry) {bytes : List �
 abbrev pub TakesInto : ℕ → (List ℕ → Option (List ℕ)) → List (List ℕ) → ℕ → List FileOutcome → JournalState → DiskState → Type 0
 TakesInto rows content names first came j new =
     (h : Header) (before : List JournalEntry) (bytes : List ℕ) (stood : StandsFor bytes h before) → HasNames h before names j
-        → first ≡ length stood.legal.held.names → TakesIn rows content h before stood names came j.disk new
+    → first ≡ length stood.legal.held.names → TakesIn rows content h before stood names came j.disk new

@@ -50,14 +50,14 @@ HasCauseIn logs into old new c (Some PartCause.ReadFault) =
     RoseIn (logs.reads c.name) × IfSome (logs.content c.name) (WasCutShort into.header.version c)
 HasCauseIn logs into old new c (Some (PartCause.LineTooLong line)) =
     IfSome (logs.content c.name) (λ bytes. IsLong bytes line)
-        × IfSome (logs.content c.name) (IsNextTooLong into.header.version c line)
+    × IfSome (logs.content c.name) (IsNextTooLong into.header.version c line)
 HasCauseIn logs into old new c (Some PartCause.TooManyLines) =
     (c.messages ≡ most_messages) × HasMoreThan most_messages into.header.version (logs.content c.name)
 HasCauseIn logs into old new c (Some (PartCause.Full book count)) =
     IfTold into.told (IsFullByGiven logs.content into.came into.header into.entries c book count)
 HasCauseIn logs into old new c (Some (PartCause.ArchiveFull end need)) =
     (into.header.length_limit < end + need)
-        × IfTold into.told (DidNotFit logs into.rows into.first into.came into.header into.entries new c end need)
+    × IfTold into.told (DidNotFit logs into.rows into.first into.came into.header into.entries new c end need)
 HasCauseIn logs into old new c (Some PartCause.DiskFault) = Rose old.faults new.faults
 HasCauseIn logs into old new c (Some PartCause.OutOfMemory) = Unit {0}
 
