@@ -1,6 +1,5 @@
 ghost use Rattle.std.specs.Prelude.{◌<◌};
 
-use crate::telling::holds;
 use std::alloc::{AllocError, Global};
 use std::test::Fail;
 use wild_match::laws::{one_lone_backslash, one_spelling, spelled_or_lone};
@@ -154,23 +153,6 @@ fn answer_of(word: &[u8]) -> Option<Answer> {
     }
 }
 
-/// Whether that is what the pattern and its matcher answer, and the widened pattern does where it is true.
-fn are_answered(
-    alloc: Global,
-    pattern: &Pattern,
-    message: &[u8],
-    want: Answer,
-) -> Result<bool, AllocError> {
-    let Ok(wanted) = want else {
-        return Ok(false);
-    };
-    if wanted && !matches(&widen(alloc, pattern)?, message) {
-        return Ok(false);
-    }
-    let matcher = Matcher::new(alloc, pattern)?;
-    Ok(both_answer(pattern, &matcher, message, wanted))
-}
-
 /// Whether that is what reading the text and matching the message answers.
 fn is_answered(
     alloc: Global,
@@ -178,18 +160,18 @@ fn is_answered(
     message: &[u8],
     want: Answer,
 ) -> Result<bool, AllocError> {
-    match read_pattern(alloc, text) {
-        Ok(pattern) => are_answered(alloc, &pattern, message, want),
-        Err(PatternRefusal::BadPattern { at }) => Ok(want == Err(at)),
-        Err(PatternRefusal::OutOfMemory) => Err(AllocError),
-    }
-}
-
-/// The same of their digits.
-fn digits_hold(alloc: Global, text: &str, message: &str, want: Answer) -> Result<bool, AllocError> {
-    let text = bytes_of(alloc, text)?;
-    let message = bytes_of(alloc, message)?;
-    is_answered(alloc, text.as_slice(), message.as_slice(), want)
+    let pattern = match read_pattern(alloc, text) {
+        Ok(pattern) => pattern,
+        Err(PatternRefusal::BadPattern { at }) => return Ok(want == Err(at)),
+        Err(PatternRefusal::OutOfMemory) => return Err(AllocError),
+    };
+    let wide = widen(alloc, &pattern)?;
+    let matcher = Matcher::new(alloc, &pattern)?;
+    Ok(match want {
+        Ok(true) => both_answer(&pattern, &matcher, message, true) && matches(&wide, message),
+        Ok(false) => both_answer(&pattern, &matcher, message, false),
+        Err(_) => false,
+    })
 }
 
 /// Whether the row's text and message answer what they are to.
@@ -197,15 +179,16 @@ fn row_holds(alloc: Global, row: &str) -> Result<bool, Fail> {
     let (text, rest) = row.split_once(' ').ok_or("a text")?;
     let (message, want) = rest.split_once(' ').ok_or("a message")?;
     let want = answer_of(want.as_bytes()).ok_or("an answer")?;
-    Ok(digits_hold(alloc, text, message, want)?)
+    let text = bytes_of(alloc, text)?;
+    let message = bytes_of(alloc, message)?;
+    Ok(is_answered(alloc, text.as_slice(), message.as_slice(), want)?)
 }
 
 #[test]
 fn answers_of_a_table(rt: HostRuntime) -> Result<(), Fail> {
     for row in TABLE.lines() {
-        if !row_holds(rt.alloc(), row)? {
-            return Err(Fail::from(row));
-        }
+        let holds = row_holds(rt.alloc(), row)?;
+        assert!(rt; holds, "at {row}");
     }
     Ok(())
 }
@@ -249,9 +232,8 @@ const LINES: &[(&[u8], &[u8], Answer)] = &[
 #[test]
 fn answers_for_lines(rt: HostRuntime) -> Result<(), Fail> {
     for &(text, message, want) in LINES {
-        if !is_answered(rt.alloc(), text, message, want)? {
-            return Err(Fail::from((text, message)));
-        }
+        let well = is_answered(rt.alloc(), text, message, want)?;
+        assert!(rt; well, "{text:?} at {message:?}");
     }
     Ok(())
 }
@@ -282,46 +264,28 @@ fn both_answer(pattern: &Pattern, matcher: &Matcher, line: &[u8], want: bool) ->
     matches(pattern, line) == want && matcher.matches(line) == want
 }
 
-/// Whether the definition, the pattern and its matcher answer for the line as wanted.
-fn all_answer(pattern: &Pattern, matcher: &Matcher, line: &[u8], want: bool) -> bool {
-    slow(pattern.as_slice(), line) == want && both_answer(pattern, matcher, line, want)
-}
-
-/// Whether none of the lines of so many bytes `a`, below 14, matches.
-fn none_match(pattern: &Pattern, matcher: &Matcher) -> bool {
-    let line = b"aaaaaaaaaaaaaa";
-    for len in 0..14usize {
-        if !all_answer(pattern, matcher, line.get(..len).unwrap_or(b""), false) {
-            return false;
-        }
-    }
-    true
-}
-
-fn lines_of_one_byte(alloc: Global) -> Result<bool, Fail> {
-    let (pattern, matcher) = read(alloc, b"a*a*a*b")?;
-    Ok(none_match(&pattern, &matcher) && all_answer(&pattern, &matcher, b"aaaaaaaaaaaaaab", true))
-}
-
 #[test]
 fn many_wildcards_over_lines_of_one_byte(rt: HostRuntime) -> Result<(), Fail> {
-    holds(lines_of_one_byte(rt.alloc()))
-}
-
-/// Whether `a*a*a*b` does not match the line.
-fn is_no_match(alloc: Global, line: &[u8]) -> Result<bool, Fail> {
+    let alloc = rt.alloc();
     let (pattern, matcher) = read(alloc, b"a*a*a*b")?;
-    Ok(both_answer(&pattern, &matcher, line, false))
-}
-
-fn long_is_no_match(alloc: Global) -> Result<bool, Fail> {
-    let long = Vec::from_elem(alloc, b'a', 100_000)?;
-    is_no_match(alloc, long.as_slice())
+    let line = [b'a'; 14];
+    for len in 0..14usize {
+        let line = line.get(..len).unwrap_or(b"");
+        let want = slow(pattern.as_slice(), line);
+        assert!(rt; !want && both_answer(&pattern, &matcher, line, want));
+    }
+    let line = b"aaaaaaaaaaaaaab";
+    let want = slow(pattern.as_slice(), line);
+    assert!(rt; want && both_answer(&pattern, &matcher, line, want));
+    Ok(())
 }
 
 #[test]
 fn many_wildcards_over_a_long_line(rt: HostRuntime) -> Result<(), Fail> {
-    holds(long_is_no_match(rt.alloc()))
+    let (pattern, matcher) = read(rt.alloc(), b"a*a*a*b")?;
+    let long = Vec::from_elem(rt.alloc(), b'a', 100_000)?;
+    assert!(rt; both_answer(&pattern, &matcher, long.as_slice(), false));
+    Ok(())
 }
 
 const SHORT_LINES: &[&[u8]] = &[b"", b"ab", b"axxb", b"abab", b"ba", b"a"];
@@ -334,37 +298,29 @@ const PATTERNS: &[&[Item]] = &[
     &[Item::Many],
 ];
 
-/// Whether a pattern and its matcher answer for each of the short lines as the definition does.
-fn short_lines_answer(pattern: &Pattern, matcher: &Matcher) -> bool {
-    for line in SHORT_LINES {
-        if !both_answer(pattern, matcher, line, slow(pattern.as_slice(), line)) {
-            return false;
-        }
-    }
-    true
-}
-
-/// The same of these items.
+/// Whether the items answer for each of the short lines as their definition does.
 fn answer_as_defined(alloc: Global, items: &[Item]) -> Result<bool, AllocError> {
     let pattern = Pattern::new(Vec::from_slice(alloc, items)?);
     let matcher = Matcher::new(alloc, &pattern)?;
-    Ok(short_lines_answer(&pattern, &matcher))
+    for line in SHORT_LINES {
+        if !both_answer(&pattern, &matcher, line, slow(items, line)) {
+            return Ok(false);
+        }
+    }
+    Ok(true)
 }
 
 #[test]
 fn patterns_that_begin_and_end_with_a_byte(rt: HostRuntime) -> Result<(), Fail> {
     for items in PATTERNS {
-        if !answer_as_defined(rt.alloc(), items)? {
-            return Err(Fail::from(*items));
-        }
+        let well = answer_as_defined(rt.alloc(), items)?;
+        assert!(rt; well, "{items:?}");
     }
     Ok(())
 }
 
 /// A place, and that of the next needle of the pattern from there.
-type Place = (usize, Option<usize>);
-
-const PLACES: &[Place] = &[
+const PLACES: &[(usize, Option<usize>)] = &[
     (0, Some(2)),
     (2, Some(2)),
     (3, Some(6)),
@@ -372,40 +328,22 @@ const PLACES: &[Place] = &[
     (9, None),
 ];
 
-/// Whether the needle is this, and stands in the text at these places.
-fn has_needle(matcher: &Matcher, needle: &[u8], text: &[u8], places: &[Place]) -> bool {
-    if matcher.needle() != needle {
-        return false;
-    }
-    for (from, want) in places {
-        if matcher.next_needle(text, *from) != *want {
-            return false;
-        }
-    }
-    true
-}
-
-/// The same of the matcher of a pattern's text.
-fn is_needle_of(
-    alloc: Global,
-    pattern: &[u8],
-    needle: &[u8],
-    text: &[u8],
-    places: &[Place],
-) -> Result<bool, Fail> {
-    let (_, matcher) = read(alloc, pattern)?;
-    Ok(has_needle(&matcher, needle, text, places))
-}
-
 #[test]
 fn needles(rt: HostRuntime) -> Result<(), Fail> {
-    let told = is_needle_of(rt.alloc(), b"ab*cde?f", b"cde", b"abcde cde", PLACES);
-    holds(told)
+    let (_, matcher) = read(rt.alloc(), b"ab*cde?f")?;
+    assert!(rt; matcher.needle() == b"cde".as_slice());
+    for (from, want) in PLACES {
+        let found = matcher.next_needle(b"abcde cde", *from);
+        assert!(rt; found == *want, "from {from}");
+    }
+    Ok(())
 }
 
 #[test]
 fn no_needle(rt: HostRuntime) -> Result<(), Fail> {
-    holds(is_needle_of(rt.alloc(), b"?", b"", b"ab", &[(1, Some(1))]))
+    let (_, matcher) = read(rt.alloc(), b"?")?;
+    assert!(rt; matcher.needle() == b"".as_slice() && matcher.next_needle(b"ab", 1) == Some(1));
+    Ok(())
 }
 
 #[test]
