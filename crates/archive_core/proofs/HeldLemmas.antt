@@ -1,6 +1,6 @@
 -- Which words may stand in slots: each number may.
 use Rattle.std.proofs.Common.{◌≡◌, ℕ, zero, suc, ◌<◌, ◌≤◌, ◌^◌, Bool, true, false, List, [], ◌∷◌, ◌++◌, length, drop, nat_abs, refl, sym, ◌∙◌, ap, subst, arith}
-use Rattle.std.specs.Prelude.{◌↔◌, ◌||◌, ◌&&◌, IsTrue, Option, Some, nat_le, slice_get, slice_index}
+use Rattle.std.specs.Prelude.{◌↔◌, ◌||◌, ◌&&◌, Option, Some, nat_le, slice_get, slice_index}
 use Rattle.std.specs.List.{list_all, list_any}
 use Rattle.std.specs.Char.{digit_value}
 use Rattle.std.specs.Fmt.{decimal, sign_text}
@@ -9,7 +9,7 @@ use Rattle.std.proofs.lemmas.Bool.Decides.{nat_tests}
 use Rattle.std.proofs.lemmas.Fmt.{decimal_is_IsNumeral}
 use Rattle.std.proofs.lemmas.Str.Parse.{digit_from_value}
 use Rattle.token_rules.specs.Tokens.{IsDelimiter, IsVariable, is_digit, is_equals_sign, is_hexadecimal, is_letter, is_token_byte, is_variable}
-use Rattle.var_codec.specs.Codes.{Codes, HasText}
+use Rattle.var_codec.specs.Codes.{HasText}
 use Rattle.var_codec.specs.declared.Coded.TheVariants.{Whole as WholeWord, Decimal as DecimalWord}
 use Rattle.var_codec.proofs.Texts.{is_below_zero, signed_is, size_le}
 use Rattle.logtype_text.specs.declared.symbols.Kind.{Kind}

@@ -1,5 +1,4 @@
 //! The two dictionaries of an archive.
-ghost use Rattle.std.specs.Prelude.{◌≡◌, ◌≤◌, ◌^◌, length};
 
 use dict_core::Book;
 use row_codec::Names;

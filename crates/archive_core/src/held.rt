@@ -1,6 +1,5 @@
 //! Whether the words of a row may stand in the slots of its log type.
-ghost use Rattle.std.specs.Prelude.{◌≡◌, ◌↔◌, ℕ, List, MatchOption, Option, IsTrue, Some, slice_get};
-ghost use Rattle.logtype_text.specs.Cut.{IsTokenText};
+ghost use Rattle.std.specs.Prelude.{◌≡◌, ◌↔◌, MatchOption, Option, IsTrue, Some, slice_get};
 ghost use Rattle.logtype_text.specs.Parts.{HasKind};
 ghost use Rattle.row_codec.specs.StepsBody.{HasNoText};
 ghost use Rattle.row_codec.specs.StepsCut.{IsHeldToken, IsHeldWord};

@@ -4,7 +4,7 @@ ghost use Rattle.std.specs.List.{flat_map, sum_by};
 ghost use Rattle.column_store.specs.Row.{variable_count};
 ghost use Rattle.row_codec.specs.Numbers.{numbers_of_row};
 ghost use Rattle.record_format.specs.Header.{IsHeader};
-ghost use Rattle.record_format.specs.Lists.{files_payload, texts_payload};
+ghost use Rattle.record_format.specs.Lists.{texts_payload};
 ghost use Rattle.archive_core.specs.declared.refusal.JudgeRefusal.TheVariants.{Illegal};
 ghost use Rattle.archive_meaning.specs.declared.entry.JournalEntry.TheVariants.{Files, Segment, Types, Words};
 ghost use Rattle.archive_meaning.specs.Spelled.{record_of, words_named};

@@ -1,5 +1,5 @@
 //! What the rows of a segment say of its messages.
-ghost use Rattle.std.specs.Prelude.{◌≡◌, ℕ, ◌<◌, ◌^◌, ◌↔◌, All, Bool, IfOk, IfNone, IfSome, IsFalse, IsTrue, List, Some, length, slice_get};
+ghost use Rattle.std.specs.Prelude.{◌≡◌, ℕ, ◌<◌, ◌^◌, ◌↔◌, All, IfOk, IfNone, IfSome, IsFalse, IsTrue, List, Some, length, slice_get};
 ghost use Rattle.column_store.specs.declared.row.Row.{Row};
 ghost use Rattle.column_store.specs.Row.{IsRow, row_of, variable_count};
 ghost use Rattle.row_codec.specs.Means.{IsCanonical, IsEncoding};

@@ -1,5 +1,5 @@
 //! The texts of a record, which go to a dictionary all or none.
-ghost use Rattle.std.specs.Prelude.{◌≡◌, ℕ, [], ◌++◌, ◌∷◌, ◌↔◌, ◌≤◌, IsTrue, IsErrOf, List, OnErr, OnOk, length, take};
+ghost use Rattle.std.specs.Prelude.{◌≡◌, ℕ, [], ◌++◌, ◌∷◌, ◌↔◌, IsTrue, IsErrOf, List, OnErr, OnOk, length, take};
 ghost use Rattle.archive_core.specs.Texts.{FairOf};
 ghost use Rattle.archive_core.specs.declared.refusal.JudgeRefusal.TheVariants.{Illegal};
 ghost use Rattle.archive_meaning.specs.Legal.{IsBook};

@@ -1,9 +1,9 @@
 -- Namings one after the other.
-use Rattle.std.proofs.Common.{◌≡◌, ℕ, zero, suc, ◌+◌, List, refl, sym, subst}
+use Rattle.std.proofs.Common.{ℕ, zero, suc, List, refl, sym, subst}
 use Rattle.std.specs.Prelude.{Option}
 use Rattle.row_codec.specs.declared.namer.NameRefusal.{NameRefusal}
 use Rattle.row_codec.specs.declared.namer.Which.{Which}
-use Rattle.row_rename.specs.Paths.{HasNamedMore, HasNamedOnce, NamedTimes}
+use Rattle.row_rename.specs.Paths.{HasNamedMore, NamedTimes}
 
 module _ {N : Type 0} (naming : Which → List (List ℕ) → Option NameRefusal → N → N → Type 0) where
   pub path_none : (n : N) → HasNamedMore naming n n

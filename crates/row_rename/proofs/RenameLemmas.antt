@@ -6,16 +6,16 @@ use Rattle.std.proofs.lemmas.Option.{get_or_from_slice_get}
 use mathlib.Core.List.{IsPrefix}
 use Rattle.logtype_text.specs.declared.symbols.Kind.{Kind}
 use Rattle.logtype_text.specs.declared.symbols.Kind.TheVariants.{Whole, Word, Decimal}
-use Rattle.logtype_text.specs.Fair.{IsFairType, IsFairWord}
+use Rattle.logtype_text.specs.Fair.{IsFairWord}
 use Rattle.logtype_text.specs.Parts.{Part, Constant, Variable, symbol_of}
 use Rattle.logtype_text.specs.TypeText.{type_text}
 use Rattle.column_store.specs.declared.row.Row.{Row}
 use Rattle.row_codec.specs.Means.{EachWord, HasWord, IsCanonical}
-use Rattle.row_codec.specs.Numbers.{kinds_from, numbers_of_row, word_numbers}
+use Rattle.row_codec.specs.Numbers.{kinds_from, word_numbers}
 use Rattle.row_codec.proofs.EncoderLemmas.{kinds_are, slots}
 use Rattle.row_rename.specs.Causes.{HasFairText, MayRename, MayRenameWords}
 use Rattle.row_rename.specs.Laws.{RenamedMeansSame}
-use Rattle.row_rename.specs.Renamed.{AreRenamed, HaveOneText, IsRenamed, IsSlot}
+use Rattle.row_rename.specs.Renamed.{AreRenamed, IsRenamed, IsSlot}
 use Rattle.row_rename.specs.StepsPut.{HasPut, PutsSlot}
 use Rattle.row_codec.specs.Naming.{Known}
 use Rattle.row_rename.specs.declared.log_types.LogType.{LogType}

@@ -1,5 +1,5 @@
 //! Naming one text of an archive in the dictionaries of another.
-ghost use Rattle.std.specs.Prelude.{◌≡◌, ◌↔◌, ℕ, IfOk, IsErrOf, IsTrue, slice_get};
+ghost use Rattle.std.specs.Prelude.{◌≡◌, ◌↔◌, ℕ, IfOk, IsErrOf, IsTrue};
 ghost use Rattle.std.specs.List.{Contains};
 ghost use Rattle.logtype_text.specs.Fair.{IsFairType, IsFairWord};
 ghost use Rattle.row_codec.specs.Naming.{HasGrown};

@@ -1,6 +1,5 @@
 //! Renaming the words of a row.
 ghost use Rattle.std.specs.Prelude.{◌≡◌, ◌++◌, ℕ, IfOk, IsErrOf, OnOk};
-ghost use mathlib.Core.List.{IsPrefix};
 ghost use Rattle.logtype_text.specs.Fair.{IsFairWord};
 ghost use Rattle.row_codec.specs.Numbers.{word_numbers};
 ghost use Rattle.row_codec.specs.declared.namer.Which.TheVariants.{Words};

@@ -1,4 +1,4 @@
-use Rattle.std.proofs.Common.{rules, ℕ, List, ◌++◌, ◌∙◌, ap, sym, false}
+use Rattle.std.proofs.Common.{ℕ, List, ◌++◌, ◌∙◌, ap, sym, false}
 use Rattle.std.proofs.lemmas.List.{append-nil}
 use Rattle.logtype_text.proofs.TextLemmas.{nothing_left, rest_spelled}
 use Rattle.row_codec.specs.Numbers.{kinds_from}

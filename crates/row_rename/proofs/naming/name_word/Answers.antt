@@ -1,6 +1,5 @@
-use Rattle.std.proofs.Common.{◌≡◌, ℕ, List, [], ◌∷◌, rules, refl, length}
+use Rattle.std.proofs.Common.{◌≡◌, refl}
 use Rattle.std.specs.Prelude.{Err, IsErrOf}
-use Rattle.std.specs.List.{Contains}
 use Rattle.std.proofs.lemmas.Result.{err_from_is_err_and}
 use Rattle.row_codec.specs.declared.namer.NameRefusal.TheVariants.{Full}
 use Rattle.row_codec.specs.declared.namer.Which.TheVariants.{Words}

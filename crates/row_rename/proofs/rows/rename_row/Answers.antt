@@ -5,7 +5,6 @@ use Rattle.column_store.specs.Row.{row_of}
 use Rattle.row_codec.specs.declared.namer.Which.{Which}
 use Rattle.row_rename.specs.declared.refusal.RenameRefusal.TheVariants.{Damaged, Full}
 use Rattle.row_rename.specs.Causes.{IsFull}
-use Rattle.row_rename.specs.Renamed.{row_in}
 use Rattle.row_rename.proofs.PathLemmas.{path_then}
 use Rattle.row_rename.proofs.RenameLemmas.{row_damaged, row_numbers, row_renamed}
 use Rattle.row_rename.proofs.TableLemmas.{named_types}

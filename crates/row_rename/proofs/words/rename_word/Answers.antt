@@ -1,9 +1,8 @@
-use Rattle.std.proofs.Common.{◌≡◌, ℕ, List, rules}
+use Rattle.std.proofs.Common.{◌≡◌}
 use Rattle.std.specs.Prelude.{Err, IsErrOf}
 use Rattle.std.proofs.lemmas.Result.{err_from_is_err_and}
 use Rattle.row_rename.specs.declared.refusal.RenameRefusal.TheVariants.{Full}
-use Rattle.row_rename.specs.Tables.{IsTable}
-use Rattle.row_rename.proofs.TableLemmas.{named_one, one_text_stays}
+use Rattle.row_rename.proofs.TableLemmas.{named_one}
 use Rattle.row_rename.proofs.words.rename_word.Goals as goal
 
 pub returns-in_err-renamed-clause-words : goal.returns-in_err-renamed-clause-words

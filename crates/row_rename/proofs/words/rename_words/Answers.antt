@@ -1,4 +1,4 @@
-use Rattle.std.proofs.Common.{◌≡◌, ℕ, List, ◌++◌, [], ◌∷◌, rules, arith, drop, get_or, ◌+◌, length-drop, ◌∙◌, ap, sym, refl, subst, length, append_assoc}
+use Rattle.std.proofs.Common.{◌≡◌, ℕ, List, ◌++◌, [], ◌∷◌, rules, arith, drop, get_or, ◌+◌, length-drop, ◌∙◌, ap, sym, subst, length, append_assoc}
 use Rattle.std.specs.Prelude.{Err, IsErrOf}
 use Rattle.std.proofs.lemmas.List.{drop_more}
 use Rattle.std.proofs.lemmas.Result.{err_from_is_err_and}
