@@ -1,5 +1,5 @@
 -- A closed token that is a variable is the text of one, or stands in the stamp.
-use Rattle.std.proofs.Common.{◌≡◌, ℕ, zero, suc, ◌+◌, ◌-◌, ◌<◌, ◌≤◌, List, [], ◌∷◌, ◌++◌, length, map, refl, sym, ◌∙◌, ap, subst, inl, inr, arith, append-nil, append_assoc}
+use Rattle.std.proofs.Common.{◌≡◌, ℕ, zero, suc, ◌+◌, ◌-◌, ◌<◌, ◌≤◌, List, [], ◌∷◌, ◌++◌, length, map, refl, sym, ◌∙◌, ap, subst, inl, inr, arith}
 use Rattle.std.specs.Prelude.{◌⊎◌, Bool, true, false, IsTrue, All, Option, None, Some, bit_or, nat_le, slice_get, slice_index, slice_index_or, ◌&&◌, ◌||◌}
 use Rattle.token_rules.specs.Tokens.{is_digit, is_equals_sign, is_hexadecimal, is_letter, is_token_byte, is_variable, IsDelimiter}
 use Rattle.std.specs.List.{list_all, list_any}
@@ -26,7 +26,7 @@ use Rattle.query_plan.specs.Readings.{Rest, now, SomeReads, Term, Star, AtWord, 
 use Rattle.subquery_filter.specs.declared.token.Token.{Token}
 use Rattle.subquery_filter.specs.Filter.{AreCoded, Finds, Has, IsAsked, MarksOpen, MarksVariable}
 use Rattle.subquery_filter.specs.StepsLetters.{kinds_in}
-use Rattle.subquery_filter.specs.Tokens.{IsClosed, OwnsSlot, RowsBring, RowsBringClosed, StandsInStamp, StandsInType}
+use Rattle.subquery_filter.specs.Tokens.{IsClosed, RowsBring, RowsBringClosed, StandsInStamp, StandsInType}
 use Rattle.subquery_filter.proofs.BarrenLemmas.{body_behind}
 use Rattle.subquery_filter.proofs.BitLemmas.{has_left, has_right, has_through}
 use Rattle.subquery_filter.proofs.TokenLemmas.{kinds_are, same_text}

@@ -5,9 +5,8 @@ use Rattle.std.specs.List.{Contains}
 use Rattle.std.proofs.lemmas.Bool.{cases_lt}
 use Rattle.std.specs.Fmt.{signed_decimal}
 use Rattle.std.specs.Int.{cast_signed, w64}
-use Rattle.std.proofs.lemmas.List.{get_or_append_left, get_or_default, get_or_past}
+use Rattle.std.proofs.lemmas.List.{get_or_default, get_or_past}
 use Rattle.std.proofs.lemmas.List.Elements.{All-push}
-use Rattle.std.proofs.lemmas.Option.{slice_get_within}
 use Rattle.logtype_text.specs.declared.symbols.Kind.{Kind}
 use Rattle.logtype_text.specs.declared.symbols.Kind.TheVariants.{Whole, Word, Decimal}
 use Rattle.logtype_text.specs.Parts.{Part, symbol_of}
@@ -20,9 +19,7 @@ use Rattle.row_codec.specs.Numbers.{numbers_of_row, word_numbers}
 use Rattle.row_codec.proofs.EncoderLemmas.{slots}
 use Rattle.segment_format.specs.declared.head.Head.{Head}
 use Rattle.query_plan.specs.declared.pieces.Piece.{Piece}
-use Rattle.query_plan.specs.declared.pieces.Piece.TheVariants.{Word as WordPiece}
 use Rattle.query_plan.specs.Laws.{IsSearched}
-use Rattle.query_plan.specs.Needs.{around}
 use Rattle.query_plan.specs.Pieces.{flat, wide_pieces}
 use Rattle.subquery_filter.specs.declared.filter.Filter.{Filter}
 use Rattle.subquery_filter.specs.declared.marks.WordMarks.{WordMarks}

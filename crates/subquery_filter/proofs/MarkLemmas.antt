@@ -1,6 +1,6 @@
 -- The marks of words, and the lists that they are made of.
-use Rattle.std.proofs.Common.{◌≡◌, ℕ, zero, suc, ◌+◌, ◌<◌, ◌≤◌, List, [], ◌∷◌, ◌++◌, length, map, take, get_or, get_or-set_other, get_or-set_same, refl, sym, ◌∙◌, ap, subst, arith, inl, inr}
-use Rattle.std.specs.Prelude.{◌⊎◌, ◌↔◌, Bool, true, Option, None, Some, Result, Ok, Err, IfOk, bit_and, bit_or, is_some, set, slice_get, slice_index_or}
+use Rattle.std.proofs.Common.{◌≡◌, ℕ, ◌+◌, ◌<◌, ◌≤◌, List, [], ◌∷◌, ◌++◌, length, map, take, get_or, get_or-set_other, get_or-set_same, refl, sym, ◌∙◌, ap, subst, arith, inl, inr}
+use Rattle.std.specs.Prelude.{◌↔◌, Bool, true, Option, None, Some, Result, Ok, Err, IfOk, bit_and, bit_or, is_some, set, slice_get, slice_index_or}
 use Rattle.std.specs.List.{Contains}
 use Rattle.std.proofs.lemmas.Bool.{cases_eq, cases_lt}
 use Rattle.std.proofs.lemmas.Option.{get_or_from_slice_get, slice_get-get_or, slice_get_within}
@@ -8,7 +8,7 @@ use Rattle.memchr.specs.Find.{FindsNeedle}
 use Rattle.wild_match.specs.declared.pattern.Item.{Item}
 use Rattle.wild_match.specs.declared.pattern.Item.TheVariants.{Byte, Many}
 use Rattle.wild_match.specs.Matches.{Match}
-use Rattle.wild_match.specs.Runs.{Occurs, RunAt}
+use Rattle.wild_match.specs.Runs.{Occurs}
 use Rattle.wild_match.proofs.Occurring.{Match-run, stands}
 use Rattle.query_plan.specs.Needs.{around}
 use Rattle.query_plan.specs.Pieces.{bytes}
@@ -19,7 +19,7 @@ use Rattle.subquery_filter.specs.declared.token.Token.{Token}
 use Rattle.subquery_filter.specs.declared.verdicts.Verdict.{Verdict}
 use Rattle.query_plan.specs.declared.pieces.Piece.{Piece}
 use Rattle.subquery_filter.specs.declared.filter.Filter.{Filter}
-use Rattle.subquery_filter.specs.Filter.{AreMarks, AreTexts, AreTold, AsksTypes, Has, IsFilter, IsTold, LacksAll, marks_at}
+use Rattle.subquery_filter.specs.Filter.{AreMarks, AreTexts, AreTold, AsksTypes, Has, IsFilter, IsTold, LacksAll}
 use Rattle.subquery_filter.specs.Found.{HaveAll, HaveNumbers}
 use Rattle.subquery_filter.specs.StepsFilter.{HasAt, HasLists, KeepsBits}
 use Rattle.subquery_filter.proofs.BitLemmas.{has_left, has_none, has_right, has_self, has_through}

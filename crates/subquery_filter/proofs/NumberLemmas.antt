@@ -22,7 +22,7 @@ use Rattle.query_plan.specs.Needs.{around}
 use Rattle.query_plan.specs.Pieces.{bytes}
 use Rattle.subquery_filter.specs.declared.token.Token.{Token}
 use Rattle.subquery_filter.specs.Filter.{MarksOpen}
-use Rattle.subquery_filter.specs.StepsFilter.{is_digits, is_number_part}
+use Rattle.subquery_filter.specs.NumberText.{is_digits, is_number_part}
 
 -- ---- fronts and rests of digits
 

@@ -199,7 +199,8 @@ pub record IsFilter (ps : List Piece) (types words : List (List ℕ)) (f : Filte
 
 -- the pattern matches no message of a row that is rejected, and each one of a row that is certain
 abbrev pub IsRowVerdict : List Piece → List (List ℕ) → List (List ℕ) → Row → Verdict → Type 0
-IsRowVerdict ps types words row Rejected = (version : ℕ) (message : List ℕ) → IsCanonical version row types words message → ¬ Match (flat ps) message
+IsRowVerdict ps types words row Rejected = (version : ℕ) (message : List ℕ) → IsCanonical version row types words message
+    → ¬ Match (flat ps) message
 IsRowVerdict ps types words row Certain = (message : List ℕ) → IsSpelling row types words message → Match (flat ps) message
 IsRowVerdict ps types words row Tried = Unit {0}
 

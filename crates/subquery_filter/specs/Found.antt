@@ -6,7 +6,8 @@ use Rattle.plain_list.specs.Texts.{IsNew}
 
 -- the number of each word in which the needle stands is among these, and maybe others are
 abbrev pub HaveNumbers : List ℕ → List (List ℕ) → List ℕ → Type 0
-HaveNumbers needle words numbers = (n : ℕ) (text : List ℕ) → slice_get words n ≡ Some text → Occurs text needle → Contains numbers n
+HaveNumbers needle words numbers = (n : ℕ) (text : List ℕ) → slice_get words n ≡ Some text → Occurs text needle
+    → Contains numbers n
 
 -- so it is of each needle and the list at its place
 abbrev pub HaveAll : List (List ℕ) → List (List ℕ) → List (List ℕ) → Type 0

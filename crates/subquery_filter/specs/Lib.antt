@@ -2,6 +2,7 @@ pub mod Laws
 pub mod StepsLetters
 pub mod Verdicts
 pub mod Tokens
+pub mod NumberText
 pub mod Filter
 pub mod Found
 pub mod StepsFilter

@@ -1,11 +1,9 @@
 -- What the parts of a filter tell each other.
-use Rattle.std.specs.Prelude.{◌≡◌, ◌≢◌, ◌⊎◌, ◌+◌, ◌<◌, ◌≤◌, ◌&&◌, ◌==◌, ℕ, ℤ, Bool, true, false, List, [], ◌∷◌, All, Some, bit_and, drop, if◌then◌else◌, length, slice_get, slice_index_or}
+use Rattle.std.specs.Prelude.{◌≡◌, ◌≢◌, ◌⊎◌, ◌+◌, ◌<◌, ◌≤◌, ℕ, ℤ, false, List, [], All, Some, bit_and, drop, length, slice_get, slice_index_or}
 use Rattle.std.specs.List.{Contains}
-use Rattle.std.specs.Int.{is_in_range}
 use Rattle.column_store.specs.declared.row.Row.{Row}
 use Rattle.logtype_text.specs.declared.symbols.Kind.{Kind}
 use Rattle.logtype_text.specs.declared.symbols.Kind.TheVariants.{Word}
-use Rattle.wild_match.specs.Matches.{Match}
 use Rattle.row_codec.specs.Means.{HasStampText, HasWord}
 use Rattle.segment_format.specs.declared.head.Head.{Head}
 use Rattle.query_plan.specs.declared.pieces.Piece.{Piece}
@@ -55,22 +53,6 @@ pub record ListedUpTo (bits : KindBits) (text rest : List ℕ) (place first know
   pub listed :
       (tokens : List Token) → AreKindBits tokens bits → (k : ℕ) (kind : Kind) → k < place
       → slice_get (kinds_in false text) k ≡ Some kind → IsSlot tokens slots first (length slots) known k kind
-
--- ---- texts of numbers
-
--- behind a `-` or none
-abbrev pub unsigned : List ℕ → List ℕ
-unsigned [] = []
-unsigned (b ∷ t) = if b == 45 then t else b ∷ t
-
--- digits alone, and one point where it is allowed
-abbrev pub is_digits : Bool → List ℕ → Bool
-is_digits point [] = true
-is_digits point (b ∷ t) = if is_in_range 48 57 b then is_digits point t else (point && (b == 46)) && is_digits false t
-
--- a text that may stand in that of a number
-abbrev pub is_number_part : Bool → List ℕ → Bool
-is_number_part point t = is_digits point (unsigned t)
 
 -- ---- what is tested of a row
 

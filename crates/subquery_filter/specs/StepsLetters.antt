@@ -28,7 +28,8 @@ decimal_in word = text_of (record {
 -- the word is that of a decimal
 unfoldable pub is_decimal : ℕ → Bool
 is_decimal word =
-    nat_eq (word / 2 ^ 62 % 2) 0 && (nat_lt (word / 2 ^ 8 % 2 ^ 54) (10 ^ count_in word) && nat_le (places_in word) (count_in word))
+    nat_eq (word / 2 ^ 62 % 2) 0 &&
+    (nat_lt (word / 2 ^ 8 % 2 ^ 54) (10 ^ count_in word) && nat_le (places_in word) (count_in word))
 
 -- the text at a number, none where there is none
 abbrev pub text_at : List (List ℕ) → ℕ → List ℕ

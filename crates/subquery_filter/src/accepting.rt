@@ -1,5 +1,5 @@
 //! Which rows match.
-ghost use Rattle.std.specs.Prelude.{◌≡◌, ◌↔◌, List, ℕ, IsTrue};
+ghost use Rattle.std.specs.Prelude.{◌↔◌, List, ℕ, IsTrue};
 ghost use Rattle.column_store.specs.Row.{row_of};
 ghost use Rattle.row_codec.specs.Means.{HasSpelling, IsCanonical, IsSpelling};
 ghost use Rattle.query_plan.specs.Laws.{IsWidened};

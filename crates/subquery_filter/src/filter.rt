@@ -1,5 +1,5 @@
 //! What a search knows of an archive's words and log types, so that rows are tested by bits alone.
-ghost use Rattle.std.specs.Prelude.{◌≡◌, ◌<◌, ◌≤◌, ℕ, List, All, IfOk, IsFalse, IsTrue, Some, length, slice_get};
+ghost use Rattle.std.specs.Prelude.{◌≡◌, ◌<◌, ◌≤◌, ℕ, List, IfOk, IsFalse, IsTrue, Some, length, slice_get};
 ghost use Rattle.std.specs.List.{Contains};
 ghost use Rattle.column_store.specs.Row.{row_of};
 ghost use Rattle.logtype_text.specs.declared.symbols.Kind.TheVariants.{Word};
@@ -19,6 +19,7 @@ use crate::laws::{rows_bring_closed, rows_bring_tokens, verdicts_hold};
 use crate::marks::WordMarks;
 use crate::needles::{lists_with, needles_of};
 use crate::numbers::{decimal_bits, has_open, kind_bits, mark_small, whole_bits};
+use crate::shared::PageTests;
 use crate::slots::{Slot, TypeTest, has_kind, test_types};
 use crate::stamps::{bits_within, mark_stamps, stamp_bits};
 use crate::token::Token;
@@ -31,6 +32,7 @@ use query_plan::Plan;
 use row_codec::Names;
 use segment_format::Head;
 use std::alloc::{AllocError, Global};
+use time_patterns::StampPrinter;
 
 /// What is known of the log types and the words of an archive, for one search.
 ///
@@ -281,7 +283,7 @@ impl Filter {
     /// These bits, and those that a row brings by its stamp, which is printed only where its pattern
     /// may bring all that is missing.
     #[inline]
-    fn with_stamp(&self, row: RowRef<'_>, bits: u8) -> u8
+    fn with_stamp(&self, row: RowRef<'_>, bits: u8, printer: &mut StampPrinter) -> u8
         ensures more { Has result bits }
         ensures stamp { AreStamps self.now.tokens.items self.now.stamps.items → (s : List ℕ)
             → HasStampText row.entry.pattern row.entry.moment s
@@ -291,20 +293,26 @@ impl Filter {
         if !has(bits | may, self.wanted) {
             return bits | may;
         }
-        bits | stamp_bits(self.tokens.as_slice(), may, row.pattern, row.moment)
+        bits | stamp_bits(
+            self.tokens.as_slice(),
+            may,
+            row.pattern,
+            row.moment,
+            printer,
+        )
     }
 
     /// Whether a row of a log type does not bring all tokens: by its constant bytes, its variables,
     /// and at last by its stamp.
     #[inline]
-    fn lacks(&self, test: &TypeTest, row: RowRef<'_>) -> bool
+    fn lacks(&self, test: &TypeTest, row: RowRef<'_>, page: &mut PageTests) -> bool
         ensures { IsTrue result → Lacks self.now test.now (row_of row.entry) }
     {
         let bits = self.with_slots(test, row.words, test.has);
         if has(bits, self.wanted) {
             return false;
         }
-        let all = self.with_stamp(row, bits);
+        let all = self.with_stamp(row, bits, &mut page.printer);
         !has(all, self.wanted)
     }
 
@@ -316,15 +324,19 @@ impl Filter {
         self.verdicts.get(number as usize).copied()
     }
 
-    /// Whether a row does not bring all tokens.
+    /// Whether a row does not bring all tokens. Where its log type and all stamps of the page bring
+    /// them, neither its variables nor its stamp are looked at.
     #[inline]
-    fn lacks_tokens(&self, row: RowRef<'_>) -> bool
+    fn lacks_tokens(&self, row: RowRef<'_>, page: &mut PageTests) -> bool
         ensures { IsTrue result → LacksTokens self.now (row_of row.entry) }
     {
-        match self.test_at(row.log_type) {
-            Some(test) => self.lacks(&test, row),
-            None => false,
+        let Some(test) = self.test_at(row.log_type) else {
+            return false;
+        };
+        if has(test.has | page.shared(row.pattern), self.wanted) {
+            return false;
         }
+        self.lacks(&test, row, page)
     }
 
     /// What is known of a row: whether the pattern matches its message, or cannot. Takes no memory.
@@ -339,13 +351,34 @@ impl Filter {
             → AsksTypes (wide_pieces p) types self.now → (words : List (List ℕ))
             → IsRowVerdict (wide_pieces p) types words (row_of row.entry) Certain }
     {
+        self.verdict_in(row, &mut PageTests::new())
+    }
+
+    /// What goes along while the rows of a page are told, which have these patterns and moments.
+    pub fn begin_page(&self, patterns: &[u8], moments: &[i64]) -> PageTests {
+        if self.stamped == 0 {
+            return PageTests::new();
+        }
+        PageTests::of(self.tokens.as_slice(), patterns, moments)
+    }
+
+    /// The same as `verdict`, with what goes along from row to row of a page.
+    #[inline]
+    pub fn verdict_in(&self, row: RowRef<'_>, page: &mut PageTests) -> Verdict
+        ensures told { (p : List Item) (types : List (List ℕ)) (words : List (List ℕ))
+            → IsSearched p → IsFilter (wide_pieces p) types words self.now
+            → IsRowVerdict (wide_pieces p) types words (row_of row.entry) result }
+        ensures certain { result ≡ Certain → (p : List Item) (types : List (List ℕ))
+            → AsksTypes (wide_pieces p) types self.now → (words : List (List ℕ))
+            → IsRowVerdict (wide_pieces p) types words (row_of row.entry) Certain }
+    {
         verdicts_hold();
         rows_bring_tokens();
         rows_bring_closed();
         let Some(verdict) = self.verdict_at(row.log_type) else {
             return Verdict::Tried;
         };
-        if verdict == Verdict::Tried && self.lacks_tokens(row) {
+        if verdict == Verdict::Tried && self.lacks_tokens(row, page) {
             return Verdict::Rejected;
         }
         verdict

@@ -1,5 +1,5 @@
 //! The marks of words, by the numbers of those in which tokens stand.
-ghost use Rattle.std.specs.Prelude.{◌≡◌, ◌<◌, ◌^◌, ℕ, List, [], IfOk, OnOk, bit_and, bit_or, length, set, slice_index_or};
+ghost use Rattle.std.specs.Prelude.{◌≡◌, ◌<◌, ◌^◌, ℕ, [], IfOk, OnOk, bit_and, bit_or, length, set, slice_index_or};
 ghost use Rattle.subquery_filter.specs.Filter.{Has, marks_at};
 ghost use Rattle.subquery_filter.specs.StepsFilter.{HasAt, HasLists, KeepsBits};
 

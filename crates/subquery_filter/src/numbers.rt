@@ -10,8 +10,9 @@ ghost use Rattle.wild_match.specs.Matches.{Match};
 ghost use Rattle.row_codec.specs.Means.{HasWord};
 ghost use Rattle.query_plan.specs.Needs.{around};
 ghost use Rattle.subquery_filter.specs.Filter.{AreCoded, AreKindBits, AreSmall, Covers, Finds, MarksOpen, MarksVariable};
-ghost use Rattle.subquery_filter.specs.StepsFilter.{is_digits, is_number_part, unsigned};
+ghost use Rattle.subquery_filter.specs.NumberText.{is_number_part};
 
+use crate::number_text::{is_digits, unsigned};
 use crate::slots::KindBits;
 use crate::token::Token;
 use crate::tokens::{coded_bits, open_marks};
@@ -21,33 +22,6 @@ use var_codec::{Coded, decimal_ok, decimal_text, one_word, whole_text};
 
 /// How many whole numbers have their marks in a table.
 const SMALL: u64 = 65_536;
-
-/// A text without the sign in front.
-fn unsigned(text: &[u8]) -> &[u8]
-    ensures { result.now ≡ unsigned text.now }
-{
-    match text {
-        [b'-', digits @ ..] => digits,
-        _ => text,
-    }
-}
-
-/// Whether a text is digits alone, and one point where that is allowed.
-fn is_digits(mut point: bool, text: &[u8]) -> bool
-    ensures { result ≡ is_digits point text.now }
-{
-    let mut rest = text;
-    while let Some((first, behind)) = rest.split_first() {
-        if !first.is_ascii_digit() {
-            if !(point && *first == b'.') {
-                return false;
-            }
-            point = false;
-        }
-        rest = behind;
-    }
-    true
-}
 
 /// Whether a token that is no closed number may stand in a variable of this kind.
 fn may_stand(text: &[u8], kind: Kind) -> bool
@@ -133,14 +107,16 @@ pub(crate) fn has_open(tokens: &[Token]) -> bool
 }
 
 /// Whether a token is no closed number, and may stand in the text of a number.
+#[inline]
 fn is_open_number(token: &Token) -> bool
     ensures { IsFalse result → token.now.closed ≡ None
         → is_number_part true token.now.text ≡ false }
 {
-    token.closed.is_none() && is_digits(true, unsigned(token.text.as_slice()))
+    token.numeric
 }
 
 /// The bits of the tokens, but for closed numbers, that stand in the text of a whole number.
+#[inline(never)]
 fn whole_marks(tokens: &[Token], word: u64) -> u8
     ensures { MarksOpen tokens.now (signed_decimal (cast_signed w64 word)) result }
 {
@@ -190,6 +166,7 @@ pub(crate) fn whole_bits(tokens: &[Token], small: &[u8], word: u64) -> u8
 }
 
 /// The bits of the tokens, but for closed numbers, that stand in the text of a decimal.
+#[inline(never)]
 fn open_decimal(tokens: &[Token], word: u64) -> u8
     ensures { (text : List ℕ) → Codes text (DecimalWord word) → MarksOpen tokens.now text result }
 {

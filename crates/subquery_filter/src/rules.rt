@@ -11,7 +11,6 @@ ghost use Rattle.barren_segments.specs.Runs.{HoldsRun};
 
 use crate::runs::holds_run;
 use column_store::Range;
-use plain_list::Text;
 use query_plan::Plan;
 use row_codec::Names;
 use segment_format::Head;

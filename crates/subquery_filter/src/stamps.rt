@@ -54,14 +54,21 @@ pub(crate) fn mark_stamps(alloc: Global, tokens: &[Token]) -> Result<Vec<u8>, Al
 }
 
 /// The bits of the tokens that stand in a row's stamp, of those that its pattern may bring.
-pub(crate) fn stamp_bits(tokens: &[Token], may: u8, pattern: u8, moment: i64) -> u8
+#[inline(never)]
+pub(crate) fn stamp_bits(
+    tokens: &[Token],
+    may: u8,
+    pattern: u8,
+    moment: i64,
+    printer: &mut StampPrinter,
+) -> u8
     ensures { (s : List ℕ) → (HasStampText pattern moment s → Marks tokens.now s may)
         → HasStampText pattern moment s → Marks tokens.now s result }
 {
     moment_tells_text();
     patterns_print_whole_moments();
     let mut text = [0; 32];
-    match StampPrinter::new().print_front(pattern, moment, &mut text) {
+    match printer.print_front(pattern, moment, &mut text) {
         Some(len) => marks_of(tokens, &text[..len]),
         None => may,
     }

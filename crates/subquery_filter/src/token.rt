@@ -1,6 +1,7 @@
 //! A token that is looked for.
-ghost use Rattle.std.specs.Prelude.{◌≡◌};
+ghost use Rattle.std.specs.Prelude.{◌≡◌, None, false, true};
 ghost use Rattle.query_plan.specs.Needs.{around};
+ghost use Rattle.subquery_filter.specs.NumberText.{is_number_part};
 
 use plain_list::Text;
 use var_codec::Coded;
@@ -20,6 +21,9 @@ pub(crate) struct Token {
     /// What it is stored as, where it is a number between delimiters of the pattern: then it is all of a
     /// variable or none of it.
     pub(crate) closed: Option<Coded>,
+    /// Whether it is no closed number, and may stand in the text of a number.
+    pub(crate) numeric: bool,
     pub(crate) ghost same: { matcher.items ≡ pattern },
     pub(crate) ghost stands: { pattern ≡ around text },
+    pub(crate) ghost numeric_is: { numeric ≡ false → closed ≡ None → is_number_part true text ≡ false },
 }

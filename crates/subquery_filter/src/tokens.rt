@@ -1,5 +1,5 @@
 //! The tokens of a pattern, and in which texts they stand.
-ghost use Rattle.std.specs.Prelude.{◌≡◌, ℕ, List, All, IfOk, IfSome, IsTrue, None, OnOk, Option, Some, slice_get, true};
+ghost use Rattle.std.specs.Prelude.{◌≡◌, ℕ, All, IfOk, IfSome, IsTrue, None, OnOk, Option, Some, slice_get, true};
 ghost use Rattle.token_rules.specs.Tokens.{is_variable};
 ghost use Rattle.var_codec.specs.Codes.{Codes};
 ghost use Rattle.var_codec.specs.declared.Coded.{Coded};
@@ -10,6 +10,8 @@ ghost use Rattle.subquery_filter.specs.StepsFilter.{AreTokens, HasAll};
 ghost use Rattle.query_plan.specs.Needs.{around};
 ghost use Rattle.subquery_filter.specs.Tokens.{IsClosed, StandsInType};
 
+use crate::number_text::is_open;
+use crate::short_text::stands_in;
 use crate::token::Token;
 use crate::verdicts::matches_marked;
 use plain_list::Text;
@@ -122,6 +124,7 @@ fn push_token(
     let matcher = Matcher::new(alloc, &pattern)?;
     let bit = bit_behind(tokens.len());
     let closed = closed_code(pieces, place, bytes);
+    let numeric = is_open(closed, bytes);
     let text = Text::new(Vec::from_slice(alloc, bytes)?);
     tokens.push(Token {
         text,
@@ -129,6 +132,7 @@ fn push_token(
         pattern,
         bit,
         closed,
+        numeric,
     })?;
     Ok(())
 }
@@ -161,7 +165,7 @@ pub(crate) fn all_bits(tokens: &[Token]) -> u8
 fn mark_of(token: &Token, text: &[u8]) -> u8
     ensures { Match token.now.matcher.items text.now → result ≡ token.now.bit }
 {
-    if token.matcher.matches(text) {
+    if stands_in(text, token.text.as_slice()) {
         token.bit
     } else {
         0
@@ -206,7 +210,7 @@ fn open_mark(token: &Token, text: &[u8]) -> u8
     ensures { token.now.closed ≡ None → Match token.now.matcher.items text.now
         → result ≡ token.now.bit }
 {
-    if token.closed.is_none() && token.matcher.matches(text) {
+    if token.closed.is_none() && stands_in(text, token.text.as_slice()) {
         token.bit
     } else {
         0

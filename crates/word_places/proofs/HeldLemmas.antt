@@ -1,10 +1,13 @@
 -- Records that are held.
-use Rattle.std.proofs.Common.{◌≡◌, ℕ, zero, suc, ◌+◌, ◌-◌, ◌<◌, ◌≤◌, List, [], ◌∷◌, length, set, All, refl, sym, ap, subst, ◌∙◌, arith, length-append, ⊎_elim}
+use Rattle.std.proofs.Common.{◌≡◌, ℕ, zero, suc, ◌+◌, ◌-◌, ◌<◌, ◌≤◌, List, [], ◌∷◌, length, get_or, set, All, refl, sym, ap, subst, ◌∙◌, arith, length-append, ⊎_elim}
 use Rattle.std.specs.Prelude.{Option, Some, None, IfSome, slice_get, Contains, is_some, true, false}
 use Rattle.std.proofs.lemmas.Bool.{cases_lt}
 use Rattle.std.proofs.lemmas.Option.{get_or_from_slice_get, same_Some, slice_get_past, slice_get_within}
 use Rattle.std.proofs.lemmas.List.Elements.{All-set, All-head, All-tail}
+use Rattle.logtype_text.specs.declared.symbols.Kind.{Kind}
+use Rattle.logtype_text.specs.declared.symbols.Kind.TheVariants.{Whole, Word, Decimal}
 use Rattle.record_format.proofs.ListLemmas.{one_texts}
+use Rattle.row_codec.specs.Numbers.{word_numbers}
 use Rattle.word_places.specs.declared.place.WordsPlace.{WordsPlace}
 use Rattle.word_places.specs.declared.held.HeldRecord.{HeldRecord}
 use Rattle.word_places.specs.Places.{AreWords, OfTexts, OfWords, Spells, payload_in}
@@ -286,6 +289,47 @@ pub all_held : (count : ℕ) (records : List HeldRecord) (numbers : List ℕ) �
 all_held count records numbers are read whole n listed within =
     let r = having 0 records n are (omega arith) (omega (arith, within)) in
     read_is_held records r.0 n r.1 r.2 r.3 (λ s is. sym (read r.0 s (omega (arith, whole, slice_get_within records r.0 s is)) is))
+
+-- a number that is below those of a record stands in one before it
+before_next : (from : ℕ) (records : List HeldRecord) (at next number : ℕ) (r s : HeldRecord) → AreNumbered from records → slice_get records at ≡ Some r → slice_get records next ≡ Some s
+    → r.place.first ≤ number → number < s.place.first → at < next
+before_next from [] at next number r s are is behind low high = absurd (cc (is))
+before_next from (q ∷ records) at zero number r s are is behind low high =
+    let same : q ≡ s = cc (behind) in
+    absurd (omega (arith, low, high, (placed from (q ∷ records) at r are is).low, are.0, ap (λ (x : HeldRecord). x.place.first) same))
+before_next from (q ∷ records) zero (suc next) number r s are is behind low high = omega arith
+before_next from (q ∷ records) (suc at) (suc next) number r s are is behind low high =
+    let rest = before_next (from + q.place.count) records at next number r s are.2 is behind low high in
+    omega (arith, rest)
+
+-- so it is held, where those were read
+pub held_before : (count number : ℕ) (records : List HeldRecord) (s : HeldRecord) → AreNumbered 0 records → AreReadTo count records → slice_get records count ≡ Some s → number < s.place.first
+    → number < length (lends records) → IsHeld records number
+held_before count number records s are read next below within =
+    let r = having 0 records number are (omega arith) (omega (arith, within)) in
+    let lt = before_next 0 records r.0 count number r.1 s are r.2 next r.3.low below in
+    read_is_held records r.0 number r.1 r.2 r.3 (λ t got. sym (read r.0 t lt got))
+
+-- the numbers of a row are among its words
+contains_on : (x : ℕ) (xs : List ℕ) (n : ℕ) → Contains xs n → Contains (x ∷ xs) n
+contains_on x xs n at = (suc at.0, omega (arith, at.1), at.2)
+
+first_or_behind : (x : ℕ) (xs ys : List ℕ) (n : ℕ) → (Contains xs n → Contains ys n) → Contains (x ∷ xs) n → Contains (x ∷ ys) n
+first_or_behind x xs ys n behind at = one at.0 at.1 at.2
+  where
+    one : (k : ℕ) → k < length (x ∷ xs) → get_or (x ∷ xs) k n ≡ n → Contains (x ∷ ys) n
+    one zero lt is = (0, omega arith, is)
+    one (suc k) lt is = contains_on x ys n (behind (k, omega (arith, lt), is))
+
+numbers_within : (kinds : List Kind) (words : List ℕ) (n : ℕ) → Contains (word_numbers kinds words) n → Contains words n
+numbers_within [] words n at = absurd (omega (arith, at.1))
+numbers_within (kind ∷ kinds) [] n at = absurd (omega (arith, at.1))
+numbers_within (Word ∷ kinds) (word ∷ words) n at = first_or_behind word (word_numbers kinds words) words n (numbers_within kinds words n) at
+numbers_within (Whole ∷ kinds) (word ∷ words) n at = contains_on word words n (numbers_within kinds words n at)
+numbers_within (Decimal ∷ kinds) (word ∷ words) n at = contains_on word words n (numbers_within kinds words n at)
+
+pub held_numbers : (records : List HeldRecord) (kinds : List Kind) (words : List ℕ) → AreHeld records words → AreHeld records (word_numbers kinds words)
+held_numbers records kinds words held = λ n at. held n (numbers_within kinds words n at)
 
 -- one more
 pub read_more : (count : ℕ) (records : List HeldRecord) → AreReadTo count records → TellsRead records count true → AreReadTo (count + 1) records

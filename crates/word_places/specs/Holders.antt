@@ -20,7 +20,8 @@ Holders fit needle first (text ∷ texts) numbers =
 -- of each needle, the list at its place has the numbers of the words that have it, in order
 abbrev pub FoundEach : List Needle → List (List ℕ) → List (List ℕ) → Type 0
 FoundEach needles words lists =
-    (at : ℕ) (needle : Needle) → slice_get needles at ≡ Some needle → Holders needle.fit needle.finder 0 words (slice_index_or lists at [])
+    (at : ℕ) (needle : Needle) → slice_get needles at ≡ Some needle
+    → Holders needle.fit needle.finder 0 words (slice_index_or lists at [])
 
 -- such numbers were added behind others
 abbrev pub AddsHolders : Fit → List ℕ → ℕ → List (List ℕ) → List ℕ → List ℕ → Type 0

@@ -1,6 +1,7 @@
 -- Steps on the way to words that are held.
-use Rattle.std.specs.Prelude.{◌≡◌, ◌<◌, ◌≤◌, ℕ, Bool, true, List, ◌∷◌, set, is_some, Option, Some, None, slice_get}
+use Rattle.std.specs.Prelude.{◌≡◌, ◌⊎◌, ◌<◌, ◌≤◌, ℕ, Bool, true, List, ◌∷◌, set, is_some, Option, Some, None, slice_get}
 use Rattle.logtype_text.specs.declared.symbols.Kind.{Kind}
+use Rattle.word_places.specs.declared.gaps.Gap.{Gap}
 use Rattle.word_places.specs.declared.held.HeldRecord.{HeldRecord}
 
 -- the record at a place begins with a number that is not above this
@@ -18,6 +19,10 @@ TellsRead records at read = (r : HeldRecord) → slice_get records at ≡ Some r
 -- so many records at the front were read
 abbrev pub AreReadTo : ℕ → List HeldRecord → Type 0
 AreReadTo count records = (at : ℕ) (r : HeldRecord) → at < count → slice_get records at ≡ Some r → is_some r.words ≡ true
+
+-- a number is none of a gap
+abbrev pub IsBeside : Gap → ℕ → Type 0
+IsBeside gap number = (number < gap.first) ⊎ (gap.end ≤ number)
 
 -- the record at a place got these words
 abbrev pub Puts : List HeldRecord → ℕ → List (List ℕ) → List HeldRecord → Type 0

@@ -1,11 +1,16 @@
 //! The words of an archive, of which some records are held in memory.
 ghost use Rattle.std.specs.Prelude.{◌≡◌, ℕ, List, IsTrue, length, map, IfOk};
+ghost use Rattle.column_store.specs.Row.{row_of};
+ghost use Rattle.row_codec.specs.Numbers.{numbers_of_row};
 ghost use Rattle.word_places.specs.Held.{AreHeld, AreNumbered, HeldNames, unread};
 ghost use Rattle.word_places.specs.Places.{AreInOrder};
 
+use crate::gaps::are_held;
+use crate::hints::hints_of;
 use crate::lending::{number_in, text_in};
 use crate::place::WordsPlace;
 use crate::record::RecordWords;
+use column_store::RowRef;
 use dict_core::Texts;
 use row_codec::Names;
 use std::alloc::{AllocError, Global};
@@ -29,9 +34,10 @@ pub struct HeldWords {
     pub(crate) types: Texts,
     pub(crate) version: u32,
     pub(crate) records: Vec<HeldRecord>,
-    /// How many records at the front are known to be read. It goes on after each read, so that it is
-    /// their count soon after the last one was read.
+    /// How many records at the front are known to be read. It goes on after each read.
     pub(crate) front: usize,
+    /// Where the record of a number is looked for first.
+    pub(crate) hints: Vec<u32>,
 }
 
 impl Model for HeldWords {
@@ -59,6 +65,7 @@ impl HeldWords {
         ensures version { IfOk result (λ held. held.version ≡ version) }
         ensures records { IfOk result (λ held. held.records ≡ map unread places.now) }
     {
+        let hints = hints_of(alloc, places)?;
         let mut records = Vec::with_capacity(alloc, places.len())?;
         for place in places {
             records.push_reserved(HeldRecord {
@@ -72,6 +79,7 @@ impl HeldWords {
             version,
             records,
             front: 0,
+            hints,
         })
     }
 
@@ -83,12 +91,15 @@ impl HeldWords {
         self.records.len()
     }
 
-    /// Whether all records were read, so that whatever words a row has are held. Asks nothing.
+    /// Whether it is known that all words of a row are held, so that none has to be asked: by a compare
+    /// for each of its numbers. A number that stands before the first record that was not read is held,
+    /// and one that is past the last word is no word.
     #[inline]
-    pub fn is_whole(&self) -> bool
-        ensures whole { IsTrue result → (numbers : List ℕ) → AreHeld self.now.records numbers }
+    pub fn has_row(&self, row: RowRef<'_>) -> bool
+        ensures held { IsTrue result → (types : List (List ℕ))
+            → AreHeld self.now.records (numbers_of_row types (row_of row.entry)) }
     {
-        self.front >= self.records.len()
+        are_held(self.records.as_slice(), self.front, row.words)
     }
 }
 
@@ -110,7 +121,7 @@ impl Names for HeldWords {
     }
 
     fn word_text(&self, number: u32) -> Option<&[u8]> {
-        text_in(self.records.as_slice(), number)
+        text_in(self.records.as_slice(), self.hints.as_slice(), number)
     }
 
     fn word_number(&self, text: &[u8]) -> Option<u32> {

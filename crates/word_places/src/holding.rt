@@ -53,6 +53,8 @@ impl HeldWords {
     /// Reads the records of all words of a row that are not read yet. Where each record that was read
     /// before is that of the disk's bytes, the words that are lent then agree with those of the archive
     /// at the row's numbers.
+    // Seldom called where `has_row` is asked first, so it is kept out of its callers' loops.
+    #[inline(never)]
     pub fn hold_row<D: Disk>(&mut self, disk: &mut D, row: RowRef<'_>) -> Result<(), HoldRefusal>
         // what stays
         ensures rests { Rests (D.state disk.old) (D.state disk.new) }

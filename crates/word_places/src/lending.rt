@@ -4,15 +4,16 @@ ghost use Rattle.plain_list.specs.Texts.{IsNew};
 ghost use Rattle.word_places.specs.Held.{AreNumbered, HasNumber, lent, lends};
 
 use crate::held::HeldRecord;
-use crate::order::{record_at, record_of};
+use crate::hints::record_near;
+use crate::order::record_at;
 
 // The word with a number, or an empty text where its record was not read.
-pub(crate) fn text_in(records: &[HeldRecord], number: u32) -> Option<&[u8]>
+pub(crate) fn text_in<'r>(records: &'r [HeldRecord], hints: &[u32], number: u32) -> Option<&'r [u8]>
     requires { AreNumbered 0 records.now }
     ensures { MatchOption result (length (lends records.now) ≤ number)
         (λ text. slice_get (lends records.now) number ≡ Some text.now) }
 {
-    let at = record_of(records, number)?;
+    let at = record_near(records, hints, number)?;
     text_at(record_at(records, at), number)
 }
 

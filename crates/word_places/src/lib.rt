@@ -6,7 +6,9 @@
 #![tactic(auto)]
 
 mod finding;
+mod gaps;
 mod held;
+mod hints;
 mod holding;
 mod laws;
 mod lending;

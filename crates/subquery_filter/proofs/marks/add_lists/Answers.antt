@@ -1,4 +1,4 @@
-use Rattle.std.proofs.Common.{arith, rules}
+use Rattle.std.proofs.Common.{arith}
 use Rattle.subquery_filter.proofs.MarkLemmas.{lists_end, lists_step, token_at}
 use Rattle.subquery_filter.proofs.marks.add_lists.Goals as goal
 

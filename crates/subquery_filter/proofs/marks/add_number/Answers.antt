@@ -1,4 +1,4 @@
-use Rattle.std.proofs.Common.{ℕ, ap, get_or, subst}
+use Rattle.std.proofs.Common.{ℕ, get_or, subst}
 use Rattle.subquery_filter.specs.Filter.{Has}
 use Rattle.subquery_filter.proofs.MarkLemmas.{keeps_same, keeps_through, set_added, set_keeps}
 use Rattle.subquery_filter.proofs.marks.add_number.Goals as goal

@@ -1,5 +1,4 @@
-use Rattle.std.proofs.Common.{◌∙◌, arith, ap, get_or, length, rules, subst}
-use Rattle.std.proofs.lemmas.Option.{slice_get-get_or}
+use Rattle.std.proofs.Common.{◌∙◌, rules, subst}
 use Rattle.subquery_filter.specs.Found.{HaveNumbers}
 use Rattle.subquery_filter.proofs.FilterLemmas.{grown}
 use Rattle.subquery_filter.proofs.MarkLemmas.{have_end, have_step, text_here}

@@ -1,4 +1,4 @@
-use Rattle.std.proofs.Common.{◌≡◌, ◌+◌, ℕ, List, arith, ap, length, rules, subst, sym}
+use Rattle.std.proofs.Common.{◌≡◌, ◌+◌, ℕ, List, arith, ap, rules, subst, sym}
 use Rattle.wild_match.specs.Runs.{Occurs}
 use Rattle.subquery_filter.specs.Found.{HaveNumbers}
 use Rattle.subquery_filter.proofs.MarkLemmas.{NumbersBefore, numbers_end, numbers_step}

@@ -1,4 +1,4 @@
-use Rattle.std.proofs.Common.{arith, ap, length, rules}
+use Rattle.std.proofs.Common.{rules}
 use Rattle.subquery_filter.proofs.FilterLemmas.{grown}
 use Rattle.subquery_filter.proofs.MarkLemmas.{texts_end, texts_step, token_at}
 use Rattle.subquery_filter.proofs.needles.texts_of.Goals as goal

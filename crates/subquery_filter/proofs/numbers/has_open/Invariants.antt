@@ -1,7 +1,7 @@
 use Rattle.std.proofs.Common.{◌≡◌, ◌<◌, ℕ, false, true, get_or}
 use Rattle.std.specs.Prelude.{None}
 use Rattle.subquery_filter.specs.declared.token.Token.{Token}
-use Rattle.subquery_filter.specs.StepsFilter.{is_number_part}
+use Rattle.subquery_filter.specs.NumberText.{is_number_part}
 use Rattle.subquery_filter.proofs.numbers.has_open.Given as goal
 
 abbrev pub invariant-loop-token : goal.invariant-loop-token

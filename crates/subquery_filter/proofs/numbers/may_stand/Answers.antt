@@ -1,8 +1,7 @@
 use Rattle.std.proofs.Common.{◌∙◌, ap}
 use Rattle.std.specs.Prelude.{false, true}
-use Rattle.logtype_text.specs.declared.symbols.Kind.{Kind}
 use Rattle.subquery_filter.proofs.NumberLemmas.{decimal_stands, whole_stands}
-use Rattle.subquery_filter.specs.StepsFilter.{is_digits}
+use Rattle.subquery_filter.specs.NumberText.{is_digits}
 use Rattle.subquery_filter.proofs.numbers.may_stand.Goals as goal
 
 pub returns-in-Whole : goal.returns-in-Whole

@@ -1,5 +1,5 @@
 use Rattle.std.proofs.Common.{rules, refl, sym, subst, IsTrue}
-use Rattle.std.specs.Prelude.{◌↔◌, None, Some}
+use Rattle.std.specs.Prelude.{◌↔◌}
 use Rattle.std.specs.List.{Contains}
 use Rattle.subquery_filter.specs.Found.{IsNumber}
 use Rattle.subquery_filter.proofs.RuleLemmas.{missing_by, missing_new, not_found}

@@ -1,4 +1,4 @@
-use Rattle.std.proofs.Common.{◌≡◌, ℕ, rules, subst, sym}
+use Rattle.std.proofs.Common.{ℕ, rules, subst}
 use Rattle.wild_match.specs.Matches.{Match}
 use Rattle.subquery_filter.specs.declared.token.Token.{Token}
 use Rattle.subquery_filter.specs.Filter.{Marks}

@@ -1,6 +1,5 @@
 use Rattle.std.proofs.Common.{List, subst}
 use Rattle.subquery_filter.specs.declared.token.Token.{Token}
-use Rattle.subquery_filter.specs.Filter.{IsFilter}
 use Rattle.subquery_filter.specs.StepsFilter.{HasLists}
 use Rattle.subquery_filter.proofs.MarkLemmas.{filter_ok, marks_are, told_none}
 use Rattle.subquery_filter.proofs.filter.Filter.mark.Goals as goal

@@ -1,5 +1,4 @@
-use Rattle.std.proofs.Common.{List, ℕ, refl, subst}
-use Rattle.std.specs.Prelude.{IfOk, Result, Ok, Err}
+use Rattle.std.proofs.Common.{List, ℕ, subst}
 use Rattle.subquery_filter.specs.Found.{HaveAll}
 use Rattle.subquery_filter.proofs.MarkLemmas.{marked_ok}
 use Rattle.subquery_filter.proofs.filter.Filter.new.Goals as goal

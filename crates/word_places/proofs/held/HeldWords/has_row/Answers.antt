@@ -1,0 +1,14 @@
+use Rattle.std.proofs.Common.{[], subst}
+use Rattle.std.specs.Prelude.{false, slice_index_or}
+use Rattle.row_codec.specs.Numbers.{kinds_from}
+use Rattle.word_places.specs.Held.{AreHeld, HeldNames}
+use Rattle.word_places.proofs.HeldLemmas.{held_numbers}
+use Rattle.word_places.proofs.held.HeldWords.has_row.Goals as goal
+
+pub returns : goal.returns
+returns c = record {
+  held = λ yes types.
+      let words = c.args.row.words.now in
+      let held = subst (λ (n : HeldNames). AreHeld n.records words) c.self.view_is (rw c.as_slice.ensures.value at (c.are_held.ensures yes)) in
+      held_numbers c.args.self.now.records (kinds_from false (slice_index_or types c.args.row.log_type [])) words held;
+}
