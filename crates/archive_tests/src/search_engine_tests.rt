@@ -1,7 +1,7 @@
 //! Searches of small archives, which were written by another program.
 ghost use Rattle.step_count.specs.Opens.{OpensFor};
 
-use crate::worked::changed;
+use crate::worked::{WORKED, changed};
 use archive_places::open_places;
 use column_store::Range;
 use log_seams::{MemDisk, MemSink};
@@ -87,7 +87,7 @@ struct Outcome {
 /// A disk with these bytes, which is read alone.
 fn disk_of(alloc: Global, bytes: &[u8]) -> Result<MemDisk, AllocError> {
     let bytes = Text::new(bytes.to_vec(alloc)?);
-    MemDisk::new(alloc, bytes, 0, 64, Vec::new(alloc))
+    MemDisk::new(alloc, bytes, 0, 1_000, Vec::new(alloc))
 }
 
 /// Searches an archive into an output with so much room, for a caller that counts nothing.
@@ -386,6 +386,95 @@ fn damage_is_met_alike_by_any_number_of_workers(rt: HostRuntime) -> Result<(), F
         let bytes = changed(rt.alloc(), &ROWS, at, 9)?;
         let well = is_damaged(&rt, workers, rt.alloc(), bytes.as_slice(), printed)?;
         assert!(rt; well, "{workers} {at}");
+    }
+    Ok(())
+}
+
+/// `WORKED` with zeros behind it up to this length, and with these bytes at places. Its segment then has
+/// so many rows more, each like the first.
+fn grown(alloc: Global, length: usize, changes: &[(usize, u8)]) -> Result<Vec<u8>, AllocError> {
+    let mut bytes = WORKED.to_vec(alloc)?;
+    bytes.resize(length, 0)?;
+    for &(at, byte) in changes {
+        if let Some(place) = bytes.get_mut(at) {
+            *place = byte;
+        }
+    }
+    Ok(bytes)
+}
+
+/// Whether with so many workers a search of 40,000 rows, which are ten pages, prints and answers what it
+/// does with one, where a byte is this one.
+fn is_as_with_one<R: Threads + Sync>(
+    rt: &R,
+    workers: u32,
+    alloc: Global,
+    at: usize,
+    byte: u8,
+) -> Result<bool, AllocError> {
+    let changes = [
+        (80, 0x71),
+        (81, 0x60),
+        (82, 0x0A),
+        (100, 0x40),
+        (101, 0x9C),
+        (at, byte),
+    ];
+    let bytes = grown(alloc, 680_138, &changes)?;
+    let one = searched(rt, 1, alloc, bytes.as_slice(), b"a", ALL, 1_000_000)?;
+    let many = searched(rt, workers, alloc, bytes.as_slice(), b"a", ALL, 1_000_000)?;
+    Ok(
+        !one.printed.bytes().is_empty()
+            && many.printed.bytes() == one.printed.bytes()
+            && many.answer == one.answer,
+    )
+}
+
+/// How many workers there are, and a place of the archive with its byte: the one that it has; a count
+/// of variables in the last page, which then cannot be read; and a log type there that is none.
+const OF_PAGES: &[(u32, usize, u8)] = &[(2, 0, 67), (3, 0, 67), (2, 668_137, 9), (2, 508_137, 9)];
+
+#[test]
+fn many_pages_print_what_one_worker_prints(rt: HostRuntime) -> Result<(), Fail> {
+    for &(workers, at, byte) in OF_PAGES {
+        let well = is_as_with_one(&rt, workers, rt.alloc(), at, byte)?;
+        assert!(rt; well, "{workers} {at}");
+    }
+    Ok(())
+}
+
+/// Whether with so many workers a search of 100,000 rows, which are 25 pages, has made so many calls of
+/// the disk when its output fails at the first piece.
+fn calls_until_printed<R: Threads + Sync>(
+    rt: &R,
+    workers: u32,
+    alloc: Global,
+    calls: u64,
+) -> Result<bool, AllocError> {
+    let changes = [
+        (80, 0xD1),
+        (81, 0xF0),
+        (82, 0x19),
+        (100, 0xA0),
+        (101, 0x86),
+        (102, 0x01),
+    ];
+    let bytes = grown(alloc, 1_700_138, &changes)?;
+    let outcome = searched(rt, workers, alloc, bytes.as_slice(), b"a", ALL, 1_000)?;
+    Ok(outcome.answer == Err(SearchRefusal::SinkFault) && outcome.calls == calls)
+}
+
+/// How many workers there are, and how many calls of the disk there are before something is printed: one
+/// reads the head, and a page is read by five. One worker has a piece for the
+/// output after two pages. Of each of the others four pages are in memory, two that are searched, and
+/// two that are read meanwhile.
+const OF_ROUNDS: &[(u32, u64)] = &[(1, 11), (2, 41), (3, 61)];
+
+#[test]
+fn a_round_has_four_pages_a_worker(rt: HostRuntime) -> Result<(), Fail> {
+    for &(workers, calls) in OF_ROUNDS {
+        let well = calls_until_printed(&rt, workers, rt.alloc(), calls)?;
+        assert!(rt; well, "{workers}");
     }
     Ok(())
 }

@@ -1,6 +1,7 @@
 pub mod SlotLemmas
 pub mod ChunkLemmas
 pub mod PageLemmas
+pub mod AheadLemmas
 pub mod LawLemmas
 pub mod RowLemmas
 pub mod ServedLemmas

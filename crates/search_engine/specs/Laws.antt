@@ -13,4 +13,5 @@ ExactExpandsPrinted =
 
 -- of a list of messages one list is found
 abbrev pub OneIsFound : Type 0
-OneIsFound = (version : ℕ) (q : Asked) (all found other : List Placed) → AreFound version q all found → AreFound version q all other → found ≡ other
+OneIsFound = (version : ℕ) (q : Asked) (all found other : List Placed) → AreFound version q all found
+    → AreFound version q all other → found ≡ other

@@ -4,6 +4,7 @@ pub mod Worked
 pub mod Laws
 pub mod StepsPast
 pub mod Served
+pub mod Ahead
 pub mod Kept
 pub mod SegmentsDone
 pub mod Searched

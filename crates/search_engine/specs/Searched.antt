@@ -12,7 +12,8 @@ use Rattle.search_walk.specs.Journal.{AreSegmentsOf}
 
 -- All was searched: what is printed are the lines of the messages that are found, in order, and the counts are those of
 -- what is found, expanded and opened.
-pub record HasSearched (h : Header) (es : List JournalEntry) (held : Held) (q : Asked) (r : Report) (old new : Option (List ℕ)) (opened opened_new expanded expanded_new : ℕ) : Type 0 where
+pub record HasSearched (h : Header) (es : List JournalEntry) (held : Held) (q : Asked) (r : Report)
+    (old new : Option (List ℕ)) (opened opened_new expanded expanded_new : ℕ) : Type 0 where
   pub found : List Placed
   pub tried : List Placed
   pub all : List SegmentPlace
@@ -27,9 +28,13 @@ pub record HasSearched (h : Header) (es : List JournalEntry) (held : Held) (q : 
   pub report : r ≡ record { matched = length found; expanded = length tried; opened = length segments; segments = length all }
 
 -- The search was stopped: what is printed is a front of those lines, and no more was opened and expanded.
-pub record HasStopped (h : Header) (es : List JournalEntry) (held : Held) (q : Asked) (old new : Option (List ℕ)) (opened opened_new expanded expanded_new : ℕ) : Type 0 where
-  pub printed : (found : List Placed) → AreFound h.version q (all_placed (content_of held)) found → GrewByFront old new (lines_of found)
+pub record HasStopped (h : Header) (es : List JournalEntry) (held : Held) (q : Asked) (old new : Option (List ℕ))
+    (opened opened_new expanded expanded_new : ℕ) : Type 0 where
+  pub printed : (found : List Placed) → AreFound h.version q (all_placed (content_of held)) found
+      → GrewByFront old new (lines_of found)
   pub all : List SegmentPlace
   pub are_all : AreSegmentsOf es all
-  pub opens : (segments : List SegmentPlace) → AreOpened held.types held.words q all segments → opened_new ≤ opened + length segments
-  pub expands : (tried : List Placed) → AreTried h.version q (all_placed (content_of held)) tried → expanded_new ≤ expanded + length tried
+  pub opens : (segments : List SegmentPlace) → AreOpened held.types held.words q all segments
+      → opened_new ≤ opened + length segments
+  pub expands : (tried : List Placed) → AreTried h.version q (all_placed (content_of held)) tried
+      → expanded_new ≤ expanded + length tried

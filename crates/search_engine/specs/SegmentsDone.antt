@@ -17,8 +17,12 @@ abbrev pub Stopped : Named → Asked → List SegmentPlace → List Placed → S
 Stopped n q ps all a written expanded ticks later = StoppedBy (λ l. Halts n q l a written expanded) n q ps all ticks later
 
 -- The same of segments by their fronts.
-abbrev pub SearchedFronts : Option (List ℕ) → Named → List FileEntry → Asked → List SegmentFront → State → State → ℕ → ℕ → ℕ → Type 0
-SearchedFronts seen n files q fronts a b ticks later count = SearchedFrontsBy (λ l. Reaches n q l a b) seen n files q fronts ticks later count
+abbrev pub SearchedFronts : Option (List ℕ) → Named → List FileEntry → Asked → List SegmentFront → State → State → ℕ → ℕ → ℕ
+    → Type 0
+SearchedFronts seen n files q fronts a b ticks later count = SearchedFrontsBy
+    (λ l. Reaches n q l a b) seen n files q fronts ticks later count
 
-abbrev pub StoppedFronts : Option (List ℕ) → Named → List FileEntry → Asked → List SegmentFront → State → Option (List ℕ) → ℕ → ℕ → ℕ → Type 0
-StoppedFronts seen n files q fronts a written expanded ticks later = StoppedFrontsBy (λ l. Halts n q l a written expanded) seen n files q fronts ticks later
+abbrev pub StoppedFronts : Option (List ℕ) → Named → List FileEntry → Asked → List SegmentFront → State → Option (List ℕ) → ℕ
+    → ℕ → ℕ → Type 0
+StoppedFronts seen n files q fronts a written expanded ticks later = StoppedFrontsBy
+    (λ l. Halts n q l a written expanded) seen n files q fronts ticks later

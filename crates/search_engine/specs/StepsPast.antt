@@ -6,7 +6,8 @@ use Rattle.search_walk.specs.Scan.{Asked, numbered}
 use Rattle.search_engine.specs.Sofar.{Passes, Sofar}
 
 -- past the first of a page's rows
-pub record PastRows (n : Named) (q : Asked) (name : List ℕ) (number : ℕ) (rows : List Row) (place : ℕ) (messages : List (List ℕ)) (a b : Option (List ℕ) → Sofar) : Type 0 where
+pub record PastRows (n : Named) (q : Asked) (name : List ℕ) (number : ℕ) (rows : List Row) (place : ℕ)
+    (messages : List (List ℕ)) (a b : Option (List ℕ) → Sofar) : Type 0 where
   pub gone : List (List ℕ)
   pub left : List (List ℕ)
   pub all : messages ≡ gone ++ left

@@ -24,7 +24,8 @@ page name number rows verdicts = record { name = name; number = number; rows = r
 abbrev pub WaitFor : Named → List Page → List Placed → Type 0
 WaitFor n [] all = all ≡ []
 WaitFor n (p ∷ pages) all =
-    (messages : List (List ℕ)) × (others : List Placed) × AreRowsOf n p.rows messages × WaitFor n pages others × (all ≡ numbered p.name p.number messages ++ others)
+    (messages : List (List ℕ)) × (others : List Placed) × AreRowsOf n p.rows messages × WaitFor n pages others
+    × (all ≡ numbered p.name p.number messages ++ others)
 
 -- the pages stand for messages
 abbrev pub StandFor : Named → List Page → Type 0
@@ -62,11 +63,13 @@ pages_of slots = map (λ s. s.page) slots
 -- P holds of the messages of a page that was searched
 abbrev pub OfWorked : Slotted → (Named → Asked → List Placed → Type 0) → Type 0
 OfWorked s P =
-    (n : Named) (q : Asked) (messages : List (List ℕ)) → IsWorked n q s → AreRowsOf n s.page.rows messages → P n q (numbered s.page.name s.page.number messages)
+    (n : Named) (q : Asked) (messages : List (List ℕ)) → IsWorked n q s → AreRowsOf n s.page.rows messages
+    → P n q (numbered s.page.name s.page.number messages)
 
 -- P holds of the messages of pages that were searched
 abbrev pub OfAllWorked : List Slotted → (Named → Asked → List Placed → Type 0) → Type 0
-OfAllWorked slots P = (n : Named) (q : Asked) (all : List Placed) → All (IsWorked n q) slots → WaitFor n (pages_of slots) all → P n q all
+OfAllWorked slots P = (n : Named) (q : Asked) (all : List Placed) → All (IsWorked n q) slots → WaitFor n (pages_of slots) all
+    → P n q all
 
 -- ---- a search with pages that wait
 
@@ -93,8 +96,10 @@ sofar_of s = sofar s.written s.pending.gathered s.pending.counts s.ticks
 
 -- of both lists the same is found, and the same is expanded
 pub record Same (version : ℕ) (q : Asked) (xs ys : List Placed) : Type 0 where
-  pub found : (picked : List Placed) → Picks (λ p. IsFound version q p.message) xs picked ↔ Picks (λ p. IsFound version q p.message) ys picked
-  pub tried : (picked : List Placed) → Picks (λ p. IsTried version q p.message) xs picked ↔ Picks (λ p. IsTried version q p.message) ys picked
+  pub found : (picked : List Placed) → Picks (λ p. IsFound version q p.message) xs picked
+      ↔ Picks (λ p. IsFound version q p.message) ys picked
+  pub tried : (picked : List Placed) → Picks (λ p. IsTried version q p.message) xs picked
+      ↔ Picks (λ p. IsTried version q p.message) ys picked
 
 -- the search has gone past the first of these messages, and the others wait, but for such as are neither found nor expanded
 pub record Went (n : Named) (q : Asked) (all : List Placed) (a b : State) : Type 0 where
@@ -110,4 +115,5 @@ Reaches n q all a b = (early : List Placed) → WaitFor n a.pending.pages early 
 
 -- the search has stopped among the messages that waited and these
 abbrev pub Halts : Named → Asked → List Placed → State → Option (List ℕ) → ℕ → Type 0
-Halts n q all a written ticks = (early : List Placed) → WaitFor n a.pending.pages early → Stops n.version q (early ++ all) (sofar_of a) written ticks
+Halts n q all a written ticks = (early : List Placed) → WaitFor n a.pending.pages early
+    → Stops n.version q (early ++ all) (sofar_of a) written ticks

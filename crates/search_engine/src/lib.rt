@@ -4,6 +4,7 @@
 mod counts;
 mod gathering;
 mod laws;
+mod page_ahead;
 mod page_batch;
 mod page_slot;
 mod page_taking;

@@ -1,11 +1,12 @@
 //! A batch of pages: they are read one after the other, searched by workers, and sent on in order.
-ghost use Rattle.std.specs.Prelude.{◌≡◌, ◌<◌, ◌+◌, ◌^◌, ◌++◌, ◌∷◌, [], List, length, IfOk, OnOk, OnErr, IsErrOf};
+ghost use Rattle.std.specs.Prelude.{◌≡◌, ◌<◌, ◌≤◌, ◌+◌, ◌^◌, ◌++◌, ◌∷◌, [], List, length, IfOk, OnOk, OnErr, IsErrOf};
 ghost use Rattle.log_seams.specs.Outside.{CountsOf};
 ghost use Rattle.segment_format.specs.Pages.{page_rows};
 ghost use Rattle.segment_pages.specs.Paged.{AreNextTold, paged_after};
-ghost use Rattle.search_walk.specs.Held.{OfLeft};
+ghost use Rattle.search_walk.specs.Held.{Named, OfLeft};
 ghost use Rattle.search_walk.specs.PagesRead.{ReadsPage};
 ghost use Rattle.search_walk.specs.Ready.{IsReadyPage};
+ghost use Rattle.search_engine.specs.Ahead.{AreAhead};
 ghost use Rattle.search_engine.specs.Served.{IsServed};
 ghost use Rattle.search_walk.specs.Scan.{Placed};
 ghost use Rattle.search_engine.specs.Sofar.{Passes, Stops, sofar};
@@ -13,6 +14,7 @@ ghost use Rattle.search_engine.specs.Waiting.{Blames, Halts, Reaches, WaitFor, n
 
 use crate::counts::Counts;
 use crate::gathering::gather_all;
+use crate::page_ahead::{PagesAhead, match_beside};
 use crate::page_slot::{NO_COUNTS, PageSlot, match_pages};
 use crate::printing::Printer;
 use log_seams::{Disk, Sink};
@@ -27,8 +29,8 @@ use std::thread::Threads;
 use step_count::Steps;
 use word_places::HeldWords;
 
-/// How many pages of a batch each worker has.
-const PAGES: usize = 4;
+/// How many pages of a round each worker has. As many more are read meanwhile.
+const PAGES: usize = 2;
 
 /// Searches pages that are in memory, in at most so many threads, and sends on what they left, in order.
 fn match_and_send<R: Threads + Sync, D: Disk, K: Sink, M: Ledger>(
@@ -184,9 +186,31 @@ impl PageBatch {
         Ok(())
     }
 
-    /// Whether no more pages are to wait. One worker takes each page as it comes.
-    pub(crate) fn is_full(&self) -> bool {
-        self.workers == 1 || self.waiting.len() / PAGES >= self.workers
+    /// A slot for a page, which lends the memory of one that was searched.
+    pub(crate) fn take_slot(&mut self) -> PageSlot
+        ensures { self.new ≡ self.old }
+    {
+        match self.spare.pop() {
+            Some(slot) => slot,
+            None => PageSlot::new(self.alloc),
+        }
+    }
+
+    /// Whether as many pages wait as are searched together. One worker has none wait.
+    pub(crate) fn is_round(&self) -> bool {
+        self.workers > 1 && self.waiting.len() / PAGES >= self.workers
+    }
+
+    /// Whether what waits is to be searched at once. One worker takes each page as it comes, and so is a
+    /// light one taken where no other waits before it: its columns are still near then.
+    pub(crate) fn is_due(&self) -> bool {
+        if self.workers == 1 {
+            return true;
+        }
+        match self.waiting.as_slice() {
+            [slot] => slot.is_light(),
+            _ => false,
+        }
     }
 
     /// Searches the pages that wait, and sends on what they left.
@@ -229,6 +253,56 @@ impl PageBatch {
             &mut self.counts,
             expanded,
         )?;
+        swap(&mut self.waiting, &mut self.spare);
+        self.waiting.clear();
+        Ok(())
+    }
+
+    /// Searches the pages that wait, and sends on what they left; meanwhile as many of the next pages of
+    /// a segment are read. Nothing is sent after a fault of the disk.
+    pub(crate) fn run_beside<R: Threads + Sync, D: Disk, K: Sink, M: Ledger>(
+        &mut self,
+        rt: &R,
+        context: &Context<'_, D>,
+        held: &HeldWords,
+        pages: &mut SegmentPages,
+        disk: &mut D,
+        ahead: &mut PagesAhead,
+        out: &mut K,
+        expanded: &mut Steps<M>,
+    ) -> Result<(), SearchRefusal>
+        requires served { IsServed context.now.names context.now.query held.now self.old.pages }
+
+        // what is read
+        ensures reads { (n : Named)
+            → ReadsPage n pages.old (D.state disk.old) (D.state disk.new) }
+        ensures ahead { OnOk result (AreAhead (D.state disk.old).seen
+            pages.old ahead.new.columns.items pages.new) }
+        ensures few { length ahead.new.columns.items ≤ 65536 }
+
+        // by the answer
+        ensures done { OnOk result (Reaches
+            context.now.names context.now.query []
+            (state (K.written out.old) self.old expanded.old)
+            (state (K.written out.new) self.new expanded.new)) }
+        ensures empty { OnOk result (self.new.pages ≡ []) }
+        ensures stopped { OnErr result (Halts
+            context.now.names context.now.query []
+            (state (K.written out.old) self.old expanded.old)
+            (K.written out.new) expanded.new) }
+
+        // causes
+        ensures damaged { IsErrOf result SearchRefusal.Damaged → Blames
+            context.now.names self.old.pages ⊥ }
+        ensures disk_counts { CountsOf SearchRefusal.DiskFault
+            (D.state disk.old).faults (D.state disk.new).faults result }
+        ensures sink_counts { CountsOf SearchRefusal.SinkFault
+            (K.faults out.old) (K.faults out.new) result }
+    {
+        let printer = Printer::of(context);
+        let slots = self.waiting.as_mut_slice();
+        match_beside(rt, self.workers, &printer, held, slots, pages, disk, ahead)?;
+        gather_all(slots, out, &mut self.gathered, &mut self.counts, expanded)?;
         swap(&mut self.waiting, &mut self.spare);
         self.waiting.clear();
         Ok(())

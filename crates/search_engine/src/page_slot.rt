@@ -3,9 +3,9 @@ ghost use Rattle.std.specs.Prelude.{◌≡◌, ◌<◌, ◌+◌, ◌^◌, ℕ, L
 ghost use Rattle.log_seams.specs.Outside.{CountsOf};
 ghost use Rattle.step_count.specs.Opens.{OpensFor};
 ghost use Rattle.segment_format.specs.Pages.{page_rows};
-ghost use Rattle.segment_pages.specs.Paged.{AreNextTold, paged_after};
+ghost use Rattle.segment_pages.specs.Paged.{AreNextTold, Paged, paged_after};
 ghost use Rattle.word_places.specs.Held.{Grow};
-ghost use Rattle.search_walk.specs.Held.{AreRowsOf, Named, OfLeft};
+ghost use Rattle.search_walk.specs.Held.{AreRowsOf, IsTold, Named, OfLeft};
 ghost use Rattle.search_walk.specs.PagesRead.{ReadsPage};
 ghost use Rattle.search_walk.specs.Ready.{IsReadyPage, Serves};
 ghost use Rattle.search_engine.specs.Waiting.{PrintsPage, Slotted, page};
@@ -17,10 +17,11 @@ use crate::refusal::PrintRefusal;
 use column_store::Columns;
 use log_seams::Disk;
 use rayon::prelude::par_chunks_mut_for_each;
-use search_walk::{Context, Label, SearchRefusal, decide_rows};
+use search_walk::{Context, Label, SearchRefusal, decide_rows, is_rejected};
 use segment_pages::SegmentPages;
 use std::alloc::Global;
 use std::marker::{Brand, Model};
+use std::mem::swap;
 use std::sync::ledger::{Blank, Ledger};
 use std::thread::Threads;
 use step_count::Steps;
@@ -32,6 +33,21 @@ pub(crate) const NO_COUNTS: Counts = Counts {
     matched: 0,
     expanded: 0,
 };
+
+/// Of how many rows a light page leaves it open at most whether they are printed. What it costs to
+/// make a thread, and to keep a page until then, pays for no fewer.
+const FEW_ROWS: u32 = 512;
+
+/// Whether few rows are not rejected.
+fn are_few(verdicts: &[Verdict]) -> bool {
+    let mut wanted: u32 = 0;
+    for verdict in verdicts {
+        if !is_rejected(*verdict) {
+            wanted = wanted.saturating_add(1);
+        }
+    }
+    wanted <= FEW_ROWS
+}
 
 /// A page in memory, what was decided of its rows, and what its search left: the lines of the messages
 /// that are found, the counts, and whether it went through.
@@ -85,6 +101,11 @@ impl PageSlot {
         ensures { result ≡ length self.now.page.rows }
     {
         self.columns.rows()
+    }
+
+    /// Whether the search of it is so little work that no other thread pays for it.
+    pub(crate) fn is_light(&self) -> bool {
+        are_few(self.verdicts.as_slice())
     }
 
     /// The lines that its search left.
@@ -164,6 +185,62 @@ impl PageSlot {
             name: kept,
             number: label.number,
             columns,
+            verdicts,
+            text,
+            counts,
+            answer,
+        })
+    }
+
+    /// Takes columns in the place of those that it has, which it leaves there, decides their rows, and
+    /// reads the words by which they may have to be written.
+    pub(crate) fn fill<D: Disk>(
+        self,
+        context: &Context<'_, D>,
+        held: &mut HeldWords,
+        label: Label<'_>,
+        columns: &mut Columns,
+        disk: &mut D,
+    ) -> Result<PageSlot, SearchRefusal>
+        requires small { label.number + length columns.old.rows < 2 ^ 64 }
+        requires serves { Serves context.now.names held.old }
+        requires told { (D.state disk.old).seen ≡ context.now.names.told }
+
+        // what stays, and what grows
+        ensures reads { (p : Paged)
+            → ReadsPage context.now.names p (D.state disk.old) (D.state disk.new) }
+        ensures serves { Serves context.now.names held.new }
+        ensures grow { Grow held.old.records held.new.records }
+
+        // by the answer
+        ensures page { IfOk result (λ s. s.page
+            ≡ page label.entry.name.now label.entry.number columns.old.rows s.page.verdicts) }
+        ensures ready { IfOk result (λ s. IsReadyPage context.now.names context.now.query
+            held.new s.page.rows s.page.verdicts) }
+
+        // causes
+        ensures damaged { IsErrOf result SearchRefusal.Damaged → ¬ IsTold context.now.names }
+        ensures counts { CountsOf SearchRefusal.DiskFault
+            (D.state disk.old).faults (D.state disk.new).faults result }
+        ensures sink { ¬ IsErrOf result SearchRefusal.SinkFault }
+    {
+        let PageSlot {
+            name: mut kept,
+            number: _,
+            columns: mut own,
+            mut verdicts,
+            text,
+            counts,
+            answer,
+        } = self;
+        kept.clear();
+        kept.extend_from_slice(label.name)?;
+        swap(&mut own, columns);
+        decide_rows(context, &own, held, disk, &mut verdicts)?;
+        Ok(PageSlot {
+            name: kept,
+            number: label.number,
+            columns: own,
             verdicts,
             text,
             counts,

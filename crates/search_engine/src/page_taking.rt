@@ -1,20 +1,24 @@
 //! What takes the pages of a walk for a search: they wait, are searched by workers, and what is found goes out.
-ghost use Rattle.std.specs.Prelude.{◌≡◌, ◌<◌, ◌+◌, ◌^◌, ◌∷◌, [], IfOk, OnOk, OnErr, IsErrOf};
+ghost use Rattle.std.specs.Prelude.{◌≡◌, ◌<◌, ◌+◌, ◌-◌, ◌^◌, ◌∷◌, [], ℕ, List, length, IfOk, OnOk, OnErr, IsErrOf};
 ghost use Rattle.std.specs.Thread.{IsSync};
 ghost use Rattle.log_seams.specs.Disk.{Rests};
 ghost use Rattle.log_seams.specs.Outside.{CountsOf};
-ghost use Rattle.search_walk.specs.Held.{OfLeft};
+ghost use Rattle.search_walk.specs.Held.{AreRowsOf, IsTold, OfLeft};
 ghost use Rattle.search_walk.specs.Opened.{NoFronts, ReadsFronts};
 ghost use Rattle.search_walk.specs.PagesRead.{ReadsPage};
 ghost use Rattle.search_walk.specs.Scan.{numbered};
-ghost use Rattle.search_walk.specs.Walked.{PageGone, PastTold};
+ghost use Rattle.search_walk.specs.Walked.{PageGone, PagesGone, PastTold};
+ghost use Rattle.segment_pages.specs.Paged.{Paged};
+ghost use Rattle.search_engine.specs.Ahead.{rows_of};
 ghost use Rattle.search_engine.specs.SegmentsDone.{SearchedFronts, StoppedFronts};
 ghost use Rattle.search_engine.specs.Served.{IsServed};
 ghost use Rattle.search_engine.specs.StepsWaiting.{halts_behind, halts_more, halts_same, reaches_on, reaches_over, stands_on};
 ghost use Rattle.search_engine.specs.Waiting.{Blames, Halts, Reaches, StandFor, state};
 
+use crate::page_ahead::PagesAhead;
 use crate::page_batch::PageBatch;
 use archive_places::SegmentFront;
+use column_store::Columns;
 use log_seams::{Disk, Sink};
 use search_walk::{Context, Label, SearchRefusal, TakesPages, visit_segments};
 use segment_pages::SegmentPages;
@@ -24,8 +28,8 @@ use std::thread::Threads;
 use step_count::Steps;
 use word_places::HeldWords;
 
-/// Reads the next page, whose first message has this label, and lets it wait. Once a batch is full it
-/// is searched. Where a page cannot be read, the pages before it are searched and sent out first, but
+/// Reads the next page, whose first message has this label, and lets it wait, or searches it where it is
+/// due. Where a page cannot be read, the pages before it are searched and sent out first, but
 /// not after a fault of the disk.
 fn read_next<R: Threads + Sync, D: Disk, K: Sink, M: Ledger>(
     rt: &R,
@@ -81,11 +85,192 @@ fn read_next<R: Threads + Sync, D: Disk, K: Sink, M: Ledger>(
     };
     let rows = slot.rows();
     batch.push(slot)?;
-    if !batch.is_full() {
+    if !batch.is_due() {
         return Ok(rows);
     }
     batch.run(rt, context, held, out, expanded)?;
     Ok(rows)
+}
+
+/// Lets a page wait that was read before its turn, whose first message has this label. Where its words
+/// cannot be read, the pages before it are searched and sent out first, but not after a fault of the
+/// disk.
+fn wait_next<R: Threads + Sync, D: Disk, K: Sink, M: Ledger>(
+    rt: &R,
+    context: &Context<'_, D>,
+    held: &mut HeldWords,
+    label: Label<'_>,
+    columns: &mut Columns,
+    disk: &mut D,
+    out: &mut K,
+    batch: &mut PageBatch,
+    expanded: &mut Steps<M>,
+) -> Result<(), SearchRefusal>
+    requires small { label.number + length columns.old.rows < 2 ^ 64 }
+    requires served { IsServed context.now.names context.now.query held.old batch.old.pages }
+    requires told { (D.state disk.old).seen ≡ context.now.names.told }
+
+    // what stays
+    ensures reads { (p : Paged)
+        → ReadsPage context.now.names p (D.state disk.old) (D.state disk.new) }
+    ensures served { OnOk result (IsServed context.now.names context.now.query
+        held.new batch.new.pages) }
+
+    // by the answer
+    ensures done { OnOk result ((messages : List (List ℕ))
+        → AreRowsOf context.now.names columns.old.rows messages
+        → Reaches context.now.names context.now.query
+        (numbered label.entry.name.now label.entry.number messages)
+        (state (K.written out.old) batch.old expanded.old)
+        (state (K.written out.new) batch.new expanded.new)) }
+    ensures stopped { OnErr result (Halts context.now.names context.now.query []
+        (state (K.written out.old) batch.old expanded.old) (K.written out.new) expanded.new) }
+
+    // causes
+    ensures damaged { IsErrOf result SearchRefusal.Damaged → Blames
+        context.now.names batch.old.pages (¬ IsTold context.now.names) }
+    ensures disk_counts { CountsOf SearchRefusal.DiskFault
+        (D.state disk.old).faults (D.state disk.new).faults result }
+    ensures sink_counts { CountsOf SearchRefusal.SinkFault
+        (K.faults out.old) (K.faults out.new) result }
+{
+    let slot = match batch.take_slot().fill(context, held, label, columns, disk) {
+        Ok(slot) => slot,
+        // An output that fails too would be a second fault.
+        Err(SearchRefusal::DiskFault) => return Err(SearchRefusal::DiskFault),
+        Err(refusal) => {
+            batch.finish(rt, context, held, out, expanded)?;
+            return Err(refusal);
+        }
+    };
+    batch.push(slot)?;
+    Ok(())
+}
+
+/// Lets pages wait that were read before their turn, of which the first message has this label. Answers
+/// how many rows they have.
+fn wait_all<R: Threads + Sync, D: Disk, K: Sink, M: Ledger>(
+    rt: &R,
+    context: &Context<'_, D>,
+    held: &mut HeldWords,
+    label: Label<'_>,
+    disk: &mut D,
+    out: &mut K,
+    batch: &mut PageBatch,
+    ahead: &mut PagesAhead,
+    expanded: &mut Steps<M>,
+) -> Result<u32, SearchRefusal>
+    requires few { length (rows_of ahead.old.columns.items) < 2 ^ 32 }
+    requires small { label.number + length (rows_of ahead.old.columns.items) < 2 ^ 64 }
+    requires served { IsServed context.now.names context.now.query held.old batch.old.pages }
+    requires told { (D.state disk.old).seen ≡ context.now.names.told }
+
+    // what stays
+    ensures reads { (p : Paged)
+        → ReadsPage context.now.names p (D.state disk.old) (D.state disk.new) }
+    ensures served { OnOk result (IsServed context.now.names context.now.query
+        held.new batch.new.pages) }
+
+    // by the answer
+    ensures count { IfOk result (λ rows. rows ≡ length (rows_of ahead.old.columns.items)) }
+    ensures done { OnOk result ((messages : List (List ℕ))
+        → AreRowsOf context.now.names (rows_of ahead.old.columns.items) messages
+        → Reaches context.now.names context.now.query
+        (numbered label.entry.name.now label.entry.number messages)
+        (state (K.written out.old) batch.old expanded.old)
+        (state (K.written out.new) batch.new expanded.new)) }
+    ensures stopped { OnErr result ((messages : List (List ℕ))
+        → AreRowsOf context.now.names (rows_of ahead.old.columns.items) messages
+        → Halts context.now.names context.now.query
+        (numbered label.entry.name.now label.entry.number messages)
+        (state (K.written out.old) batch.old expanded.old) (K.written out.new) expanded.new) }
+
+    // causes
+    ensures damaged { IsErrOf result SearchRefusal.Damaged → Blames
+        context.now.names batch.old.pages ((messages : List (List ℕ))
+        → ¬ AreRowsOf context.now.names (rows_of ahead.old.columns.items) messages) }
+    ensures disk_counts { CountsOf SearchRefusal.DiskFault
+        (D.state disk.old).faults (D.state disk.new).faults result }
+    ensures sink_counts { CountsOf SearchRefusal.SinkFault
+        (K.faults out.old) (K.faults out.new) result }
+{
+    let mut rows = 0;
+    while let Some(mut columns) = ahead.columns.pop_front() {
+        let here = Label {
+            name: label.name,
+            number: label.number + u64::from(rows),
+        };
+        rows += columns.rows();
+        wait_next(
+            rt,
+            context,
+            held,
+            here,
+            &mut columns,
+            disk,
+            out,
+            batch,
+            expanded,
+        )?;
+        ahead.give_back(columns);
+    }
+    Ok(rows)
+}
+
+/// Reads the next page and lets it wait, as [`read_next`]; but where a round of pages waits, this is
+/// searched while the next pages are read, of which all wait then.
+fn read_on<R: Threads + Sync, D: Disk, K: Sink, M: Ledger>(
+    rt: &R,
+    context: &Context<'_, D>,
+    held: &mut HeldWords,
+    label: Label<'_>,
+    pages: &mut SegmentPages,
+    disk: &mut D,
+    out: &mut K,
+    batch: &mut PageBatch,
+    ahead: &mut PagesAhead,
+    expanded: &mut Steps<M>,
+) -> Result<u32, SearchRefusal>
+    requires left { pages.old.pages.row < pages.old.pages.rows }
+    requires small { label.number + (pages.old.pages.rows - pages.old.pages.row) + 4096 < 2 ^ 64 }
+    requires served { IsServed context.now.names context.now.query held.old batch.old.pages }
+    requires told { (D.state disk.old).seen ≡ context.now.names.told }
+
+    // what stays
+    ensures reads { ReadsPage context.now.names pages.old (D.state disk.old) (D.state disk.new) }
+    ensures served { OnOk result (IsServed context.now.names context.now.query
+        held.new batch.new.pages) }
+
+    // by the answer
+    ensures gone { IfOk result (λ rows. PagesGone pages.old pages.new rows) }
+    ensures done { IfOk result (λ rows. PastTold
+        (λ all. Reaches context.now.names context.now.query all
+        (state (K.written out.old) batch.old expanded.old)
+        (state (K.written out.new) batch.new expanded.new))
+        (D.state disk.old).seen pages.old context.now.names
+        label.entry.name.now label.entry.number pages.new rows) }
+    ensures stopped { OnErr result (OfLeft (D.state disk.old).seen pages.old
+        context.now.names (λ messages. Halts context.now.names context.now.query
+        (numbered label.entry.name.now label.entry.number messages)
+        (state (K.written out.old) batch.old expanded.old) (K.written out.new) expanded.new)) }
+
+    // causes
+    ensures damaged { IsErrOf result SearchRefusal.Damaged → Blames
+        context.now.names batch.old.pages
+        (OfLeft (D.state disk.old).seen pages.old context.now.names (λ _. ⊥)) }
+    ensures disk_counts { CountsOf SearchRefusal.DiskFault
+        (D.state disk.old).faults (D.state disk.new).faults result }
+    ensures sink_counts { CountsOf SearchRefusal.SinkFault
+        (K.faults out.old) (K.faults out.new) result }
+{
+    if !batch.is_round() {
+        return read_next(rt, context, held, label, pages, disk, out, batch, expanded);
+    }
+    batch.run_beside(rt, context, held, pages, disk, ahead, out, expanded)?;
+    if ahead.is_empty() {
+        return read_next(rt, context, held, label, pages, disk, out, batch, expanded);
+    }
+    wait_all(rt, context, held, label, disk, out, batch, ahead, expanded)
 }
 
 /// Takes the pages of a walk for a search: a batch of them waits, and what is found in them is written.
@@ -94,15 +279,17 @@ struct Printing<'a, R, K, M: Ledger> {
     rt: &'a R,
     out: &'a mut K,
     batch: &'a mut PageBatch,
+    ahead: &'a mut PagesAhead,
     expanded: &'a mut Steps<M>,
 }
 
 impl<'a, R, K, M: Ledger> Printing<'a, R, K, M> {
-    /// Lends it where it writes to, the batch, and the counter.
+    /// Lends it where it writes to, the batch, what pages are read ahead into, and the counter.
     fn new(
         rt: &'a R,
         out: &'a mut K,
         batch: &'a mut PageBatch,
+        ahead: &'a mut PagesAhead,
         expanded: &'a mut Steps<M>,
     ) -> Printing<'a, R, K, M>
         // the same references
@@ -119,6 +306,7 @@ impl<'a, R, K, M: Ledger> Printing<'a, R, K, M> {
             rt,
             out,
             batch,
+            ahead,
             expanded,
         }
     }
@@ -149,7 +337,7 @@ impl<'a, R: Threads + Sync, K: Sink, M: Ledger> TakesPages for Printing<'a, R, K
         pages: &mut SegmentPages,
         disk: &mut D,
     ) -> Result<u32, SearchRefusal> {
-        read_next(
+        read_on(
             self.rt,
             context,
             held,
@@ -158,6 +346,7 @@ impl<'a, R: Threads + Sync, K: Sink, M: Ledger> TakesPages for Printing<'a, R, K
             disk,
             self.out,
             self.batch,
+            self.ahead,
             self.expanded,
         )
     }
@@ -240,6 +429,7 @@ pub(crate) fn print_segments<R: Threads + Sync, D: Disk, K: Sink, L: Ledger, M: 
     ensures sink_counts { CountsOf SearchRefusal.SinkFault
         (K.faults out.old) (K.faults out.new) result }
 {
-    let mut printing = Printing::new(rt, out, batch, expanded);
+    let mut ahead = PagesAhead::new(alloc);
+    let mut printing = Printing::new(rt, out, batch, &mut ahead, expanded);
     visit_segments(alloc, context, held, fronts, disk, &mut printing, opened)
 }

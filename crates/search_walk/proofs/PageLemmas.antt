@@ -1,5 +1,5 @@
 -- What the pages of a segment have passed.
-use Rattle.std.proofs.Common.{◌≡◌, inl, inr, ⊎_elim, ℕ, suc, ◌+◌, ◌*◌, ◌≤◌, List, [], ◌∷◌, ◌++◌, length, Option, Some, None, refl, sym, ◌∙◌, ap, ap₂, subst, arith, length-append}
+use Rattle.std.proofs.Common.{◌≡◌, inl, inr, ⊎_elim, ℕ, suc, ◌+◌, ◌*◌, ◌<◌, ◌≤◌, List, [], ◌∷◌, ◌++◌, length, Option, Some, None, refl, sym, ◌∙◌, ap, ap₂, subst, arith, length-append}
 use Rattle.std.proofs.lemmas.List.{append-nil, append_assoc}
 use Rattle.log_seams.specs.Disk.{DiskState}
 use Rattle.column_store.specs.declared.row.Row.{Row}
@@ -10,7 +10,7 @@ use Rattle.search_walk.specs.PagesRead.{IsOfPage, ReadsPage}
 use Rattle.search_walk.specs.Scan.{Placed, numbered}
 use Rattle.search_walk.specs.Held.{AreRowsOf, Named, OfLeft}
 use Rattle.search_walk.specs.StepsPast.{PagesPast}
-use Rattle.search_walk.specs.Walked.{PageGone, PastTold}
+use Rattle.search_walk.specs.Walked.{PageGone, PagesGone, PastTold}
 use Rattle.search_walk.proofs.PagesReadLemmas.{such_none, such_on, such_weaker}
 use Rattle.search_walk.proofs.PickLemmas.{numbered_append}
 use Rattle.search_walk.proofs.RowLemmas.{none_left}
@@ -149,8 +149,24 @@ past_damaged F Stands (Some bytes) later start now n name number count on same p
 
 -- ---- the loop over pages
 
+-- a page is pages
+pub page_gone : (start now : Paged) (count : ℕ) → start.pages.row < start.pages.rows → PageGone start now count → PagesGone start now count
+page_gone start now count left gone =
+    let is = gone.1 in
+    let row : now.pages.row ≡ start.pages.row + page_rows start.pages = ap (λ (p : Paged). p.pages.row) is in
+    let rows : now.pages.rows ≡ start.pages.rows = ap (λ (p : Paged). p.pages.rows) is in
+    record {
+      at = ap (λ (p : Paged). p.at) is;
+      start = ap (λ (p : Paged). p.pages.start) is;
+      rows = rows;
+      variables = ap (λ (p : Paged). p.pages.variables) is;
+      row = omega (arith, row, gone.2, gone.3);
+      some = omega (arith, gone.2, gone.3, left);
+      inside = omega (arith, row, rows, left);
+    }
+
 -- the columns of a reader that went on are the same
-same_columns : (n : Named) (start now : Paged) (old new : DiskState) → (now.at ≡ start.at) × (now.pages.start ≡ start.pages.start) × (now.pages.rows ≡ start.pages.rows) × (now.pages.variables ≡ start.pages.variables)
+pub same_columns : (n : Named) (start now : Paged) (old new : DiskState) → (now.at ≡ start.at) × (now.pages.start ≡ start.pages.start) × (now.pages.rows ≡ start.pages.rows) × (now.pages.variables ≡ start.pages.variables)
     → ReadsPage n now old new → ReadsPage n start old new
 same_columns n start now old new same reads =
     let from : now.at + now.pages.start ≡ start.at + start.pages.start = ap₂ (λ (x y : ℕ). x + y) same.0 same.1 in
@@ -172,15 +188,13 @@ pages_first F d start n name number none zero = record {
 }
 
 pub pages_next : (F G H : List Placed → Type 0) (old mid new : DiskState) (start now later : Paged) (n : Named) (name : List ℕ) (number at next count : ℕ) → ((xs ys : List Placed) → F xs → G ys → H (xs ++ ys))
-    → PagesPast F old.seen old mid start now n name number at → ReadsPage n now mid new → new.faults ≡ mid.faults → PageGone now later count → next ≡ at + count → PastTold G mid.seen now n name at later count
+    → PagesPast F old.seen old mid start now n name number at → ReadsPage n now mid new → new.faults ≡ mid.faults → PagesGone now later count → next ≡ at + count → PastTold G mid.seen now n name at later count
     → PagesPast H old.seen old new start later n name number next
 pages_next F G H old mid new start now later n name number at next count on past reads faults gone place more =
-    let is = gone.1 in
-    let row : later.pages.row ≡ now.pages.row + page_rows now.pages = ap (λ (p : Paged). p.pages.row) is in
     record {
       reads = pages_reads F old.seen old mid new start now n name number at past reads;
       faults = faults ∙ past.faults;
-      place = omega (arith, place, past.place, row, gone.2, gone.3);
-      same = (ap (λ (p : Paged). p.at) is ∙ past.same.0, ap (λ (p : Paged). p.pages.start) is ∙ past.same.1, ap (λ (p : Paged). p.pages.rows) is ∙ past.same.2, ap (λ (p : Paged). p.pages.variables) is ∙ past.same.3);
-      past = past_on F G H old.seen mid.seen start now later n name number at now.pages.row count later.pages.row on past.reads.rests.seen past.place (omega (arith, row, gone.2, gone.3)) past.past more;
+      place = omega (arith, place, past.place, gone.row);
+      same = (gone.at ∙ past.same.0, gone.start ∙ past.same.1, gone.rows ∙ past.same.2, gone.variables ∙ past.same.3);
+      past = past_on F G H old.seen mid.seen start now later n name number at now.pages.row count later.pages.row on past.reads.rests.seen past.place gone.row past.past more;
     }

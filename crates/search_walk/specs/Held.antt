@@ -61,7 +61,8 @@ pub record AreRowsOf (n : Named) (rows : List Row) (messages : List (List ℕ)) 
 -- P holds of the messages that the bytes hold from a page on, where the bytes are told and hold messages
 abbrev pub OfLeft : Option (List ℕ) → Paged → Named → (List (List ℕ) → Type 0) → Type 0
 OfLeft None p n P = Unit {0}
-OfLeft (Some bytes) p n P = (rows : List Row) (messages : List (List ℕ)) → HoldsLeft p bytes rows → AreRowsOf n rows messages → P messages
+OfLeft (Some bytes) p n P = (rows : List Row) (messages : List (List ℕ)) → HoldsLeft p bytes rows → AreRowsOf n rows messages
+    → P messages
 
 -- a segment's head and rows stand in the bytes, they are the encodings of these messages, and the head is that of the rows
 pub record HasMessages (bytes : List ℕ) (n : Named) (p : SegmentPlace) (messages : List (List ℕ)) : Type 0 where
@@ -76,7 +77,8 @@ pub record HasMessages (bytes : List ℕ) (n : Named) (p : SegmentPlace) (messag
 abbrev pub HaveMessages : List ℕ → Named → List FileEntry → List SegmentPlace → List Placed → Type 0
 HaveMessages bytes n files [] all = all ≡ []
 HaveMessages bytes n files (p ∷ ps) all =
-    (file : FileEntry) × (messages : List (List ℕ)) × (others : List Placed) × (slice_get files p.head.file ≡ Some file) × HasMessages bytes n p messages
+    (file : FileEntry) × (messages : List (List ℕ)) × (others : List Placed) × (slice_get files p.head.file ≡ Some file)
+    × HasMessages bytes n p messages
     × HaveMessages bytes n files ps others × (all ≡ numbered file.name (p.head.first + 1) messages ++ others)
 
 -- P holds of the bytes and of all messages of segments, where the bytes are told and hold them, and no word has two numbers

@@ -34,7 +34,8 @@ MissesBarren h es held q at n =
     → (at + n ≤ columns_begin h before s) ⊎ (columns_end h before s ≤ at)
 
 -- each range that was read since is such
-pub record ReadsNoBarren (h : Header) (es : List JournalEntry) (held : Held) (q : Asked) (old new : Option (List (ℕ × ℕ))) : Type 0 where
+pub record ReadsNoBarren (h : Header) (es : List JournalEntry) (held : Held) (q : Asked)
+    (old new : Option (List (ℕ × ℕ))) : Type 0 where
   pub more : List (ℕ × ℕ)
   pub added : new ≡ option_map (λ ranges. ranges ++ more) old
   pub each : All (λ r. MissesBarren h es held q r.0 r.1) more

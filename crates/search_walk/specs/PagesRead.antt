@@ -14,7 +14,8 @@ pub record ReadsSuch (P : ℕ × ℕ → Type 0) (old new : DiskState) : Type 0 
 
 -- a range lies in the columns of the segment, or in a record of words
 abbrev pub IsOfPage : Named → Paged → ℕ × ℕ → Type 0
-IsOfPage n p r = ((p.at + p.pages.start ≤ r.0) × (r.0 + r.1 ≤ p.at + p.pages.start + columns_size p.pages)) ⊎ IsOfWords n.places r.0 r.1
+IsOfPage n p r = ((p.at + p.pages.start ≤ r.0) × (r.0 + r.1 ≤ p.at + p.pages.start + columns_size p.pages)) ⊎ IsOfWords
+    n.places r.0 r.1
 
 abbrev pub ReadsPage : Named → Paged → DiskState → DiskState → Type 0
 ReadsPage n p old new = ReadsSuch (IsOfPage n p) old new

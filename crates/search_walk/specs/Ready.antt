@@ -18,8 +18,10 @@ use Rattle.search_walk.specs.Held.{IsTold, Named}
 -- what is told of a row by its numbers and its moment: no message of it is expanded; it lies in the range; and the wider
 -- pattern matches what it is written as
 abbrev pub IsDecided : Named → Asked → Row → Verdict → Type 0
-IsDecided n q row Rejected = (message : List ℕ) → IsCanonical n.version row n.types n.words message → ¬ IsTried n.version q message
-IsDecided n q row Certain = Holds q.range row.pattern row.moment × ((message : List ℕ) → IsSpelling row n.types n.words message → Match (wide q.pattern) message)
+IsDecided n q row Rejected = (message : List ℕ) → IsCanonical n.version row n.types n.words message
+    → ¬ IsTried n.version q message
+IsDecided n q row Certain = Holds q.range row.pattern row.moment
+    × ((message : List ℕ) → IsSpelling row n.types n.words message → Match (wide q.pattern) message)
 IsDecided n q row Tried = Holds q.range row.pattern row.moment
 
 -- that is right, and the words of a row that may have to be written are held

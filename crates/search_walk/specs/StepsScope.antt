@@ -26,4 +26,5 @@ pub record IsScope (n : Named) (q : Asked) (layouts : List (List ℕ)) (filter :
   pub layouts_are : layouts ≡ n.types
   pub count : length found ≡ length (needed_of Free (wide_pieces q.pattern))
   pub filtered : IsTold n → IsFilter (wide_pieces q.pattern) n.types n.words filter
-  pub numbered : IsTold n → AreNumbers n.words (needed_of Free (wide_pieces q.pattern)) (needed_variables_of Free (wide_pieces q.pattern)) found
+  pub numbered : IsTold n
+      → AreNumbers n.words (needed_of Free (wide_pieces q.pattern)) (needed_variables_of Free (wide_pieces q.pattern)) found

@@ -10,16 +10,19 @@ module _ {W : Type 0} (reaches : W → W → Named → Asked → List Placed →
   -- past messages that are neither found nor tried it gets by no step
   abbrev pub PassesOver : Type 0
   PassesOver =
-      (w : W) (n : Named) (q : Asked) (all : List Placed) → Picks (λ p. IsFound n.version q p.message) all [] → Picks (λ p. IsTried n.version q p.message) all []
+      (w : W) (n : Named) (q : Asked) (all : List Placed) → Picks (λ p. IsFound n.version q p.message) all []
+      → Picks (λ p. IsTried n.version q p.message) all []
       → reaches w w n q all
 
   -- who got past messages and then past others got past both
   abbrev pub GoesOn : Type 0
-  GoesOn = (a b c : W) (n : Named) (q : Asked) (xs ys : List Placed) → reaches a b n q xs → reaches b c n q ys → reaches a c n q (xs ++ ys)
+  GoesOn = (a b c : W) (n : Named) (q : Asked) (xs ys : List Placed) → reaches a b n q xs → reaches b c n q ys
+      → reaches a c n q (xs ++ ys)
 
   -- and who stopped behind them stopped among both
   abbrev pub StopsBehind : (W → W → Named → Asked → List Placed → Type 0) → Type 0
-  StopsBehind halts = (a b c : W) (n : Named) (q : Asked) (xs ys : List Placed) → reaches a b n q xs → halts b c n q ys → halts a c n q (xs ++ ys)
+  StopsBehind halts = (a b c : W) (n : Named) (q : Asked) (xs ys : List Placed) → reaches a b n q xs → halts b c n q ys
+      → halts a c n q (xs ++ ys)
 
   -- what was in hand stood for messages, so what is in hand does
   abbrev pub StandsOn : (W → Named → Type 0) → Type 0

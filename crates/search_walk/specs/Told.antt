@@ -23,5 +23,6 @@ AreFound within whole words lists = FoundEach (needles_for within whole) words l
 pub record AreReadOff (lists : List (List ℕ)) (found : List (Option ℕ)) : Type 0 where
   pub long : length found ≡ length lists
   pub each :
-      (k : ℕ) (needle : List ℕ) (words : List (List ℕ)) → k < length lists → Holders Whole needle 0 words (slice_index_or lists k [])
+      (k : ℕ) (needle : List ℕ) (words : List (List ℕ)) → k < length lists
+      → Holders Whole needle 0 words (slice_index_or lists k [])
       → IsNumber words needle (slice_index_or found k None)

@@ -1,6 +1,6 @@
 -- What a walk over pages and segments has done. What took the pages tells of the messages that it got past by a word on them,
 -- and by another of those among which it stopped.
-use Rattle.std.specs.Prelude.{◌≡◌, ◌≤◌, ◌+◌, ℕ, List, ◌++◌, length, Option, Some, None}
+use Rattle.std.specs.Prelude.{◌≡◌, ◌<◌, ◌≤◌, ◌+◌, ℕ, List, ◌++◌, length, Option, Some, None}
 use Rattle.column_store.specs.declared.row.Row.{Row}
 use Rattle.segment_format.specs.Pages.{page_rows}
 use Rattle.segment_pages.specs.Paged.{HoldsLeft, Paged, paged_after}
@@ -15,10 +15,22 @@ use Rattle.search_walk.specs.Opened.{AreOpened, OfFronts}
 
 -- the reader went on by a page of so many rows
 abbrev pub PageGone : Paged → Paged → ℕ → Type 0
-PageGone old new count = (rows : List Row) × (new ≡ paged_after old rows) × (length rows ≡ page_rows old.pages) × (count ≡ length rows)
+PageGone old new count = (rows : List Row) × (new ≡ paged_after old rows) × (length rows ≡ page_rows old.pages)
+    × (count ≡ length rows)
+
+-- the reader went on by pages of the same segment, which have so many rows, and one of them at least
+pub record PagesGone (old new : Paged) (count : ℕ) : Type 0 where
+  pub at : new.at ≡ old.at
+  pub start : new.pages.start ≡ old.pages.start
+  pub rows : new.pages.rows ≡ old.pages.rows
+  pub variables : new.pages.variables ≡ old.pages.variables
+  pub row : new.pages.row ≡ old.pages.row + count
+  pub some : 0 < count
+  pub inside : new.pages.row ≤ new.pages.rows
 
 -- past so many messages of a segment, with the later pages left, where the bytes of the disk are these
-pub record Past (Reaches : List Placed → Type 0) (bytes : List ℕ) (n : Named) (name : List ℕ) (number : ℕ) (now : Paged) (count : ℕ) (messages : List (List ℕ)) : Type 0 where
+pub record Past (Reaches : List Placed → Type 0) (bytes : List ℕ) (n : Named) (name : List ℕ) (number : ℕ) (now : Paged)
+    (count : ℕ) (messages : List (List ℕ)) : Type 0 where
   pub gone : List (List ℕ)
   pub left : List (List ℕ)
   pub rows : List Row
@@ -31,12 +43,14 @@ pub record Past (Reaches : List Placed → Type 0) (bytes : List ℕ) (n : Named
 abbrev pub PastTold : (List Placed → Type 0) → Option (List ℕ) → Paged → Named → List ℕ → ℕ → Paged → ℕ → Type 0
 PastTold Reaches None start n name number now count = Unit {0}
 PastTold Reaches (Some bytes) start n name number now count =
-    (rows : List Row) (messages : List (List ℕ)) → HoldsLeft start bytes rows → AreRowsOf n rows messages → Past Reaches bytes n name number now count messages
+    (rows : List Row) (messages : List (List ℕ)) → HoldsLeft start bytes rows → AreRowsOf n rows messages
+    → Past Reaches bytes n name number now count messages
 
 -- ---- segments
 
 -- the segments were searched, which have these messages; so many were opened
-pub record Searched (Reaches : List Placed → Type 0) (n : Named) (q : Asked) (ps : List SegmentPlace) (all : List Placed) (ticks later count : ℕ) : Type 0 where
+pub record Searched (Reaches : List Placed → Type 0) (n : Named) (q : Asked) (ps : List SegmentPlace) (all : List Placed)
+    (ticks later count : ℕ) : Type 0 where
   pub reaches : Reaches all
   pub opened : List SegmentPlace
   pub are_opened : AreOpened n.types n.words q ps opened
@@ -44,21 +58,28 @@ pub record Searched (Reaches : List Placed → Type 0) (n : Named) (q : Asked) (
   pub counted : count ≡ length opened
 
 -- the search stopped among the segments, and opened no more
-pub record Stopped (Halts : List Placed → Type 0) (n : Named) (q : Asked) (ps : List SegmentPlace) (all : List Placed) (ticks later : ℕ) : Type 0 where
+pub record Stopped (Halts : List Placed → Type 0) (n : Named) (q : Asked) (ps : List SegmentPlace) (all : List Placed)
+    (ticks later : ℕ) : Type 0 where
   pub halts : Halts all
   pub most : (opened : List SegmentPlace) → AreOpened n.types n.words q ps opened → later ≤ ticks + length opened
 
 -- What is said of segments where the bytes of the disk are told and hold their messages: that they were searched, and that the
 -- search stopped among them.
-abbrev pub SearchedTold : (List Placed → Type 0) → Option (List ℕ) → Named → List FileEntry → Asked → List SegmentPlace → ℕ → ℕ → ℕ → Type 0
-SearchedTold Reaches seen n files q ps ticks later count = OfSegments seen n files ps (λ _ all. Searched Reaches n q ps all ticks later count)
+abbrev pub SearchedTold : (List Placed → Type 0) → Option (List ℕ) → Named → List FileEntry → Asked → List SegmentPlace → ℕ
+    → ℕ → ℕ → Type 0
+SearchedTold Reaches seen n files q ps ticks later count = OfSegments seen n files ps
+    (λ _ all. Searched Reaches n q ps all ticks later count)
 
-abbrev pub StoppedTold : (List Placed → Type 0) → Option (List ℕ) → Named → List FileEntry → Asked → List SegmentPlace → ℕ → ℕ → Type 0
+abbrev pub StoppedTold : (List Placed → Type 0) → Option (List ℕ) → Named → List FileEntry → Asked → List SegmentPlace → ℕ → ℕ
+    → Type 0
 StoppedTold Halts seen n files q ps ticks later = OfSegments seen n files ps (λ _ all. Stopped Halts n q ps all ticks later)
 
 -- The same of segments by their fronts.
-abbrev pub SearchedFronts : (List Placed → Type 0) → Option (List ℕ) → Named → List FileEntry → Asked → List SegmentFront → ℕ → ℕ → ℕ → Type 0
-SearchedFronts Reaches seen n files q fronts ticks later count = OfFronts fronts (λ ps. SearchedTold Reaches seen n files q ps ticks later count)
+abbrev pub SearchedFronts : (List Placed → Type 0) → Option (List ℕ) → Named → List FileEntry → Asked → List SegmentFront → ℕ
+    → ℕ → ℕ → Type 0
+SearchedFronts Reaches seen n files q fronts ticks later count = OfFronts fronts
+    (λ ps. SearchedTold Reaches seen n files q ps ticks later count)
 
-abbrev pub StoppedFronts : (List Placed → Type 0) → Option (List ℕ) → Named → List FileEntry → Asked → List SegmentFront → ℕ → ℕ → Type 0
+abbrev pub StoppedFronts : (List Placed → Type 0) → Option (List ℕ) → Named → List FileEntry → Asked → List SegmentFront → ℕ
+    → ℕ → Type 0
 StoppedFronts Halts seen n files q fronts ticks later = OfFronts fronts (λ ps. StoppedTold Halts seen n files q ps ticks later)

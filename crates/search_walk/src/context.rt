@@ -17,7 +17,7 @@ use crate::opening::open_segment;
 use crate::query::Query;
 use archive_open::{FileEntry, SegmentPlace};
 use archive_places::SegmentFront;
-use column_store::RowRef;
+use column_store::{Columns, RowRef};
 use log_seams::Disk;
 use query_plan::wide_is_wider;
 use row_codec::Layouts;
@@ -26,7 +26,7 @@ use std::marker::Model;
 use std::snapshot::Snapshot;
 use std::sync::ledger::Ledger;
 use step_count::Steps;
-use subquery_filter::{Filter, Verdict, barren_by, is_outside};
+use subquery_filter::{Filter, PageTests, Verdict, barren_by, is_outside};
 use word_places::HeldWords;
 
 /// What a search goes over, borrowed: the query, the log types cut into pieces, what they and the words
@@ -154,12 +154,26 @@ impl<'q, D: Disk> Context<'q, D> {
         ensures { IsTold self.now.names
             → IsDecided self.now.names self.now.query (row_of row.entry) result }
     {
+        self.decide_in(row, &mut PageTests::new())
+    }
+
+    /// What goes along while the rows of a page are decided.
+    pub fn begin_page(&self, page: &Columns) -> PageTests {
+        self.filter.begin_page(page.patterns(), page.moments())
+    }
+
+    /// The same as `decide`, with what goes along from row to row of a page.
+    #[inline]
+    pub fn decide_in(&self, row: RowRef<'_>, page: &mut PageTests) -> Verdict
+        ensures { IsTold self.now.names
+            → IsDecided self.now.names self.now.query (row_of row.entry) result }
+    {
         // What the pattern matches, the one that the search is planned over matches too.
         wide_is_wider();
         if !self.query.range().holds(row.pattern, row.moment) {
             return Verdict::Rejected;
         }
-        self.filter.verdict(row)
+        self.filter.verdict_in(row, page)
     }
 
     /// The query.

@@ -13,7 +13,7 @@ use crate::context::Context;
 use crate::refusal::SearchRefusal;
 use column_store::{Columns, RowRef};
 use log_seams::Disk;
-use subquery_filter::Verdict;
+use subquery_filter::{PageTests, Verdict};
 use word_places::HeldWords;
 
 /// Whether it is known that a row's message is not expanded.
@@ -28,6 +28,7 @@ pub fn is_rejected(verdict: Verdict) -> bool
 fn decide_row<D: Disk>(
     context: &Context<'_, D>,
     row: RowRef<'_>,
+    tests: &mut PageTests,
     held: &mut HeldWords,
     disk: &mut D,
 ) -> Result<Verdict, SearchRefusal>
@@ -48,11 +49,11 @@ fn decide_row<D: Disk>(
         (D.state disk.old).faults (D.state disk.new).faults result }
     ensures sink { ¬ IsErrOf result SearchRefusal.SinkFault }
 {
-    let verdict = context.decide(row);
+    let verdict = context.decide_in(row, tests);
     if is_rejected(verdict) {
         return Ok(verdict);
     }
-    if held.is_whole() {
+    if held.has_row(row) {
         return Ok(verdict);
     }
     let answer = held.hold_row(disk, row);
@@ -63,6 +64,8 @@ fn decide_row<D: Disk>(
 }
 
 /// Decides each row of a page, and reads the words of those that may have to be written.
+// A function of its own, so that its loop has the registers.
+#[inline(never)]
 pub fn decide_rows<D: Disk>(
     context: &Context<'_, D>,
     page: &Columns,
@@ -88,8 +91,9 @@ pub fn decide_rows<D: Disk>(
     ensures sink { ¬ IsErrOf result SearchRefusal.SinkFault }
 {
     verdicts.clear();
+    let mut tests = context.begin_page(page);
     for place in 0..page.rows() {
-        let verdict = decide_row(context, page.row(place), held, disk)?;
+        let verdict = decide_row(context, page.row(place), &mut tests, held, disk)?;
         let Ok(()) = verdicts.push(verdict) else {
             return Err(SearchRefusal::OutOfMemory);
         };

@@ -1,5 +1,5 @@
 //! What takes the pages of segments, as a walk reads them.
-ghost use Rattle.std.specs.Prelude.{◌≡◌, ◌<◌, ◌+◌, ◌^◌, ℕ, List, [], IfOk, OnOk, OnErr, IsErrOf};
+ghost use Rattle.std.specs.Prelude.{◌≡◌, ◌<◌, ◌+◌, ◌-◌, ◌^◌, ℕ, List, [], IfOk, OnOk, OnErr, IsErrOf};
 ghost use Rattle.log_seams.specs.Outside.{CountsOf};
 ghost use Rattle.word_places.specs.Held.{HeldNames};
 ghost use Rattle.search_walk.specs.Held.{Named, OfLeft};
@@ -7,7 +7,7 @@ ghost use Rattle.search_walk.specs.PagesRead.{ReadsPage};
 ghost use Rattle.search_walk.specs.Scan.{Asked, Placed, numbered};
 ghost use Rattle.search_walk.specs.StepsScope.{Scope};
 ghost use Rattle.search_walk.specs.Takes.{GoesOn, HasWords, PassesOver, StandsOn, StopsBehind, StopsHere, StopsWithin};
-ghost use Rattle.search_walk.specs.Walked.{PageGone, PastTold};
+ghost use Rattle.search_walk.specs.Walked.{PagesGone, PastTold};
 
 use crate::context::Context;
 use crate::label::Label;
@@ -16,7 +16,7 @@ use log_seams::Disk;
 use segment_pages::SegmentPages;
 use word_places::HeldWords;
 
-/// What takes the pages of segments, one after the other, as a walk reads them. Pages may wait in it.
+/// What takes the pages of segments, in their order, as a walk reads them. Pages may wait in it.
 ///
 /// How far it came is told by words of its own, of which the laws below hold; so a walk is proved for
 /// whatever becomes of the pages.
@@ -39,13 +39,13 @@ pub trait TakesPages {
     // How many faults that had to which it writes, if it writes.
     ghost sink_faults: { Self → ℕ };
 
-    /// Reads the next page, whose first message has this label, and takes it. Answers how many rows
-    /// it has.
+    /// Reads the next page, whose first message has this label, or several of the next pages of the
+    /// segment, and takes them. Answers how many rows they have.
     ///
     /// # Errors
     ///
     /// `DiskFault` or `SinkFault`, where the count of faults of the disk or of what it writes to rose;
-    /// `Damaged`, where the page, or what is in hand, is none of an archive; or `OutOfMemory`.
+    /// `Damaged`, where a page, or what is in hand, is none of an archive; or `OutOfMemory`.
     fn take_page<D: Disk>(
         &mut self,
         context: &Context<'_, D>,
@@ -55,7 +55,8 @@ pub trait TakesPages {
         disk: &mut D,
     ) -> Result<u32, SearchRefusal>
         requires left { pages.old.pages.row < pages.old.pages.rows }
-        requires small { label.number + 4096 < 2 ^ 64 }
+        requires small { label.number + (pages.old.pages.rows - pages.old.pages.row) + 4096
+            < 2 ^ 64 }
         requires served { served self.old context.now held.old }
         requires told { (D.state disk.old).seen ≡ context.now.names.told }
 
@@ -66,7 +67,7 @@ pub trait TakesPages {
         ensures served { OnOk result (served self.new context.now held.new) }
 
         // by the answer
-        ensures gone { IfOk result (λ rows. PageGone pages.old pages.new rows) }
+        ensures gone { IfOk result (λ rows. PagesGone pages.old pages.new rows) }
         ensures done { IfOk result (λ rows. PastTold
             (reaches self.old self.new context.now.names context.now.query)
             (D.state disk.old).seen pages.old context.now.names

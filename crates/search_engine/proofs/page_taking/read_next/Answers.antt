@@ -36,14 +36,14 @@ returns-in-Err-clause-damaged g c = λ is early waits. c.read.ensures.damaged (s
 pub returns-in_err-push-clause-stopped : goal.returns-in_err-push-clause-stopped
 returns-in_err-push-clause-stopped g c = on_err c.from_residual-in_err-push.result _ (unread_halts _ c.args.pages.now _ c.args.context.now.query c.args.label.name.now c.args.label.number (state _ c.args.batch.now _) _ _ refl refl)
 
-pub returns-then-not-is_full-clause-gone : goal.returns-then-not-is_full-clause-gone
-returns-then-not-is_full-clause-gone g c = (c.in-Ok.slot.page.rows, c.in-Ok.ensures.after, c.in-Ok.ensures.count, c.rows-rows.ensures)
+pub returns-then-not-is_due-clause-gone : goal.returns-then-not-is_due-clause-gone
+returns-then-not-is_due-clause-gone g c = (c.in-Ok.slot.page.rows, c.in-Ok.ensures.after, c.in-Ok.ensures.count, c.rows-rows.ensures)
 
 pub returns-clause-gone : goal.returns-clause-gone
 returns-clause-gone g c = (c.in-Ok.slot.page.rows, c.in-Ok.ensures.after, c.in-Ok.ensures.count, c.rows-rows.ensures)
 
-pub returns-then-not-is_full-clause-done : goal.returns-then-not-is_full-clause-done
-returns-then-not-is_full-clause-done g c =
+pub returns-then-not-is_due-clause-done : goal.returns-then-not-is_due-clause-done
+returns-then-not-is_due-clause-done g c =
     page_past _ c.args.pages.now c.read.new.pages _ c.args.context.now.query c.args.label.name.now c.args.label.number _ c.in-Ok.slot.page.rows c.in-Ok.slot.page.verdicts _ c.args.batch.now c.read.new.self c.push.new.self _ c.in-Ok.slot.page
     c.in-Ok.ensures.next c.rows-rows.ensures c.read.ensures.kept c.in-Ok.ensures.page c.in_ok-push.ensures.done
 
@@ -77,8 +77,8 @@ run-requires-clause-served g c = λ _ _.
     served_push c.args.context.now.names c.args.context.now.query c.read.new.held c.args.batch.now.pages c.push.new.self.pages c.in-Ok.slot.page
     (ap (λ (e : Pending). e.pages) c.in_ok-push.ensures.done ∙ ap (λ (e : Pending). e.pages ++ c.in-Ok.slot.page ∷ []) c.read.ensures.kept) c.read.ensures.served c.in-Ok.ensures.ready
 
-pub returns-then-not-is_full-clause-served : goal.returns-then-not-is_full-clause-served
-returns-then-not-is_full-clause-served g c =
+pub returns-then-not-is_due-clause-served : goal.returns-then-not-is_due-clause-served
+returns-then-not-is_due-clause-served g c =
     served_push c.args.context.now.names c.args.context.now.query c.read.new.held c.args.batch.now.pages c.push.new.self.pages c.in-Ok.slot.page
     (ap (λ (e : Pending). e.pages) c.in_ok-push.ensures.done ∙ ap (λ (e : Pending). e.pages ++ c.in-Ok.slot.page ∷ []) c.read.ensures.kept) c.read.ensures.served c.in-Ok.ensures.ready
 

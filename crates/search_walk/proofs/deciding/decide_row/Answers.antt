@@ -5,8 +5,8 @@ use Rattle.search_walk.proofs.deciding.decide_row.Goals as goal
 pub returns-then-is_rejected-clause-grow : goal.returns-then-is_rejected-clause-grow
 returns-then-is_rejected-clause-grow g c = grow_same c.args.held.now.records
 
-pub returns-then-is_whole-clause-grow : goal.returns-then-is_whole-clause-grow
-returns-then-is_whole-clause-grow g c = grow_same c.args.held.now.records
+pub returns-then-has_row-clause-grow : goal.returns-then-has_row-clause-grow
+returns-then-has_row-clause-grow g c = grow_same c.args.held.now.records
 
 pub returns-in_err-answer-clause-serves : goal.returns-in_err-answer-clause-serves
 returns-in_err-answer-clause-serves g c =

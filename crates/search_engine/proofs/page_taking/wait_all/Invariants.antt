@@ -1,0 +1,27 @@
+use Rattle.std.proofs.Common.{◌≡◌, ◌++◌, ℕ, List, length}
+use Rattle.column_store.specs.declared.row.Row.{Row}
+use Rattle.segment_pages.specs.Paged.{Paged}
+use Rattle.search_walk.specs.Held.{AreRowsOf}
+use Rattle.search_walk.specs.PagesRead.{ReadsPage}
+use Rattle.search_walk.specs.Scan.{numbered}
+use Rattle.search_engine.specs.Ahead.{rows_of}
+use Rattle.search_engine.specs.Served.{IsServed}
+use Rattle.search_engine.specs.Waiting.{Reaches, state}
+use Rattle.search_engine.proofs.page_taking.wait_all.Given as goal
+
+abbrev pub invariant-loop-columns : goal.invariant-loop-columns
+invariant-loop-columns g l = record {
+  gone : List Row;
+  all : rows_of l.fn.ahead.columns.items ≡ gone ++ rows_of l.ahead.columns.items;
+  count : l.rows ≡ length gone;
+  reads : (p : Paged) → ReadsPage l.context.names p (g.D.Disk.state l.fn.disk) (g.D.Disk.state l.disk);
+  faults : (g.D.Disk.state l.disk).faults ≡ (g.D.Disk.state l.fn.disk).faults;
+  sink : g.K.Sink.faults l.out ≡ g.K.Sink.faults l.fn.out;
+  served : IsServed l.context.names l.context.query l.held l.batch.pages;
+  reaches : (messages : List (List ℕ)) → AreRowsOf l.context.names gone messages
+      → Reaches l.context.names l.context.query (numbered l.label.name.now l.label.number messages)
+      (state (g.K.Sink.written l.fn.out) l.fn.batch l.fn.expanded) (state (g.K.Sink.written l.out) l.batch l.expanded);
+}
+
+abbrev pub decreases-loop-columns : goal.decreases-loop-columns
+decreases-loop-columns g l = length l.ahead.columns.items
