@@ -9,7 +9,7 @@ use Rattle.std.specs.Ordering.{is_eq, nat_cmp}
 use Rattle.std.specs.Int.{int_rem_euclid}
 use Rattle.time_patterns.specs.Stamps.{HasStamp}
 use Rattle.row_codec.specs.Messages.{IsTypeOf}
-use Rattle.group_count.specs.declared.group.Group.{Group}
+use Rattle.group_count.specs.declared.groups.Group.{Group}
 
 -- how often a key stands among keys
 abbrev pub how_often : {K : Type 0} → (K → K → Ordering) → K → List K → ℕ

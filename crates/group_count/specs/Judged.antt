@@ -15,6 +15,7 @@ use Rattle.subquery_filter.specs.declared.verdicts.Verdict.{Verdict}
 -- whether it matches the message that the row is the encoding of, where the verdict on the row is right.
 abbrev pub Judges : List Piece → List (List ℕ) → List (List ℕ) → Row → Verdict → Bool → Type 0
 Judges pieces types words row verdict found =
-    (pattern : List Item) (version : ℕ) (message : List ℕ) → pieces ≡ wide_pieces pattern → NoOne pattern → open_tokens pattern ≤ MAX_OPEN_TOKENS
+    (pattern : List Item) (version : ℕ) (message : List ℕ) → pieces ≡ wide_pieces pattern → NoOne pattern
+    → open_tokens pattern ≤ MAX_OPEN_TOKENS
     → IsRowVerdict pieces types words row verdict → IsCanonical version row types words message
     → IsTrue found ↔ Match pattern message

@@ -1,9 +1,12 @@
--- What holds of groups of messages that are kept as rows, and of the shapes of log types.
-use Rattle.std.specs.Prelude.{◌≡◌, ℕ, ℤ, ◌<◌, ◌≤◌, ◌↔◌, Bool, IsTrue, List, map, length, Option, All}
+-- What holds of groups of messages that are kept as rows, of the shapes of log types, and of what is expanded.
+use Rattle.std.specs.Prelude.{◌≡◌, ℕ, ℤ, ◌<◌, ◌≤◌, ◌↔◌, Bool, IsTrue, List, [], map, length, Option, All}
 use Rattle.logtype_text.specs.declared.symbols.Symbol.{Symbol}
 use Rattle.logtype_text.specs.TypeText.{type_text}
 use Rattle.column_store.specs.declared.row.Row.{Row}
 use Rattle.row_codec.specs.Means.{AreCanonical}
+use Rattle.query_plan.specs.Laws.{IsPlain}
+use Rattle.search_walk.specs.Scan.{AreTried, Asked, Placed}
+use Rattle.group_count.specs.Grouped.{AreExpanded}
 use Rattle.group_count.specs.Groups.{HaveMinutes, HaveTypes}
 use Rattle.group_count.specs.Printed.{shape_of, shape_of_symbols}
 use Rattle.group_count.specs.Tables.{minute_at, texts_at}
@@ -31,3 +34,14 @@ RowsHaveMinutes =
 -- the shape of a log type's text is that of its symbols
 abbrev pub ShapesAreOfSymbols : Type 0
 ShapesAreOfSymbols = (symbols : List Symbol) → shape_of (type_text symbols) ≡ shape_of_symbols symbols
+
+-- where the pattern is plain no message is expanded, and else those are that the widened pattern matches
+abbrev pub PlainExpandsNone : Type 0
+PlainExpandsNone =
+    (version : ℕ) (q : Asked) (all expansions : List Placed) → IsPlain q.pattern → AreExpanded version q all expansions
+    → expansions ≡ []
+
+abbrev pub OthersExpandTried : Type 0
+OthersExpandTried =
+    (version : ℕ) (q : Asked) (all expansions : List Placed) → ¬ IsPlain q.pattern → AreExpanded version q all expansions
+    → AreTried version q all expansions

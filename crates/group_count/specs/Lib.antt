@@ -1,6 +1,13 @@
+pub mod Grouped
 pub mod Groups
 pub mod Judged
 pub mod Laws
 pub mod Printed
+pub mod Refused
+pub mod StepsArchive
+pub mod StepsCounted
+pub mod StepsGoing
+pub mod StepsRows
+pub mod StepsServed
 pub mod StepsTypes
 pub mod Tables

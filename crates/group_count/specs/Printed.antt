@@ -4,7 +4,7 @@ use Rattle.std.specs.Fmt.{decimal, signed_decimal}
 use Rattle.logtype_text.specs.declared.symbols.Kind.TheVariants.{Whole, Word, Decimal}
 use Rattle.logtype_text.specs.declared.symbols.Symbol.{Symbol}
 use Rattle.logtype_text.specs.declared.symbols.Symbol.TheVariants.{Byte, Slot}
-use Rattle.group_count.specs.declared.group.Group.{Group}
+use Rattle.group_count.specs.declared.groups.Group.{Group}
 
 -- the shape of a symbol: a constant byte as it is, and the kind of a slot
 abbrev pub shape_of_symbol : Symbol → List ℕ

@@ -1,5 +1,5 @@
 //! Laws of groups. The functions do nothing: what they promise holds of every row and message.
-ghost use Rattle.group_count.specs.Laws.{RowsHaveMinutes, RowsHaveTypes, ShapesAreOfSymbols};
+ghost use Rattle.group_count.specs.Laws.{OthersExpandTried, PlainExpandsNone, RowsHaveMinutes, RowsHaveTypes, ShapesAreOfSymbols};
 
 use time_patterns::laws::patterns_print_whole_moments;
 
@@ -16,4 +16,11 @@ pub fn rows_have_keys()
 /// `{w}` and `{d}` for a slot of a whole number, a word and a decimal.
 pub fn shapes_are_of_symbols()
     ensures { ShapesAreOfSymbols }
+{}
+
+/// Where the pattern is plain no message is expanded, and else those are that the widened pattern
+/// matches, in the range.
+pub fn plain_expands_none()
+    ensures plain { PlainExpandsNone }
+    ensures others { OthersExpandTried }
 {}

@@ -1,23 +1,35 @@
-//! Messages counted by the text of their log type, or by the minute of their stamp.
+//! Messages of an archive that a pattern matches, counted by the text of their log type, or by the
+//! minute of their stamp.
 //!
 //! Messages are counted by numbers as they come, in a table of log types or one of minutes. At the
 //! end a table gives its groups: each key that came, in order, with how often it did.
 #![tactic(auto)]
 
-mod group;
+mod archive_counting;
+mod counts;
+mod grouping;
+mod groups;
 mod judging;
 pub mod laws;
 mod minutes;
+mod page_counter;
+mod page_taking;
 pub mod printed;
 mod refusal;
+mod report;
+mod row_counting;
+mod table;
 mod tally;
 #[cfg(test)]
 mod tests;
 mod text_tally;
 mod types;
 
-pub use group::{Group, GroupList};
+pub use grouping::group;
+pub use groups::{Group, GroupBy, GroupList, Grouped};
 pub use judging::judge_stored;
 pub use minutes::MinuteTable;
 pub use refusal::TableRefusal;
+pub use report::GroupReport;
+pub use search_walk::SearchRefusal;
 pub use types::TypeTable;

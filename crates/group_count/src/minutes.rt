@@ -5,7 +5,7 @@ ghost use Rattle.std.specs.Ordering.{int_cmp, is_eq};
 ghost use Rattle.group_count.specs.Groups.{AreGroups, by_moment, stamped};
 ghost use Rattle.group_count.specs.Tables.{AreMinutes, IsTally, minute_at, minute_entries, start_of};
 
-use crate::group::{Group, GroupList};
+use crate::groups::{Group, GroupList};
 use crate::tally::add_to;
 use plain_list::Text;
 use std::alloc::{AllocError, Global};

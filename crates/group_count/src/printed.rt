@@ -2,7 +2,7 @@
 ghost use Rattle.std.specs.Prelude.{◌≡◌, ◌≢◌, ◌<◌, ◌≤◌, ◌++◌, [], flat_map, length, true, IfOk, OnOk};
 ghost use Rattle.group_count.specs.Printed.{minute_line, minutes_text, none_line, shape_from, shape_of, type_line, types_text};
 
-use crate::group::{Group, GroupList};
+use crate::groups::{Group, GroupList};
 use logtype_text::plain_front;
 use std::alloc::AllocError;
 

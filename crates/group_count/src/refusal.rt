@@ -1,14 +1,16 @@
-//! Why a table gave no groups.
+//! Why rows were not counted, or a table gave no groups.
 ghost use Rattle.std.specs.Prelude.{◌≡◌};
 ghost use Rattle.group_count.specs.declared.refusal.TableRefusal.TheVariants.{OutOfMemory};
+ghost use Rattle.group_count.specs.Refused.{from_table};
 
+use search_walk::SearchRefusal;
 use std::alloc::{AllocError, AllocFailed};
 use thiserror::Error;
 
-/// Why a table gave no groups.
+/// Why rows were not counted, or a table gave no groups.
 #[derive(Clone, Copy, Debug, PartialEq, Eq, Error)]
 pub enum TableRefusal {
-    /// A number that was counted has no text.
+    /// A row is none of an archive, or a number that was counted has no text.
     #[error("damaged")]
     Damaged,
     /// Memory ran out.
@@ -29,5 +31,16 @@ impl<T: Drop> From<AllocFailed<T>> for TableRefusal {
 
     fn from(_error: AllocFailed<T>) -> TableRefusal {
         TableRefusal::OutOfMemory
+    }
+}
+
+impl From<TableRefusal> for SearchRefusal {
+    ghost from_gives = { λ r e. e ≡ from_table r };
+
+    fn from(refusal: TableRefusal) -> Self {
+        match refusal {
+            TableRefusal::Damaged => SearchRefusal::Damaged,
+            TableRefusal::OutOfMemory => SearchRefusal::OutOfMemory,
+        }
     }
 }

@@ -5,7 +5,7 @@ ghost use Rattle.std.specs.Ordering.{is_eq};
 ghost use Rattle.group_count.specs.Groups.{by_key, byte_order, how_often};
 ghost use Rattle.group_count.specs.Tables.{AreCounts, AreNumbered, IsTextTally, text_order, texts_at, text_entries};
 
-use crate::group::{Group, GroupList};
+use crate::groups::{Group, GroupList};
 use crate::refusal::TableRefusal;
 use crate::tally::add_to;
 use plain_list::Text;

@@ -3,7 +3,7 @@ ghost use Rattle.std.specs.Prelude.{◌≡◌, ℕ, ◌<◌, ◌≤◌, ◌^◌,
 ghost use Rattle.group_count.specs.Groups.{AreGroups, by_key, byte_order};
 ghost use Rattle.group_count.specs.Tables.{AreCounts, AreNumbered, texts_at};
 
-use crate::group::GroupList;
+use crate::groups::GroupList;
 use crate::refusal::TableRefusal;
 use crate::text_tally::{groups_of, tally_texts};
 use row_codec::Names;

@@ -1,0 +1,98 @@
+//! The messages of an archive, counted in a table.
+ghost use Rattle.std.specs.Prelude.{◌↔◌, IsTrue, IfOk, OnErr, IsErrOf};
+ghost use Rattle.log_seams.specs.Disk.{Rests};
+ghost use Rattle.log_seams.specs.Outside.{CountsOf};
+ghost use Rattle.query_plan.specs.Laws.{IsPlain, IsSearched};
+ghost use Rattle.archive_places.specs.Opened.{OpensPlaces};
+ghost use Rattle.word_places.specs.Places.{AreInOrder};
+ghost use Rattle.search_walk.specs.Journal.{OfJournal, ReadsNoBarren};
+ghost use Rattle.group_count.specs.Grouped.{HasStoppedCounting};
+ghost use Rattle.group_count.specs.StepsArchive.{HasCounted};
+ghost use Rattle.group_count.specs.StepsCounted.{sofar};
+
+use crate::page_counter::PageCounter;
+use crate::page_taking::count_segments;
+use crate::table::RowTable;
+use archive_places::{Places, heads_stand, words_stand};
+use log_seams::Disk;
+use row_codec::Layouts;
+use search_walk::{Context, Query, SearchRefusal, ask_words};
+use std::sync::ledger::Ledger;
+use step_count::Steps;
+use subquery_filter::Filter;
+use word_places::HeldWords;
+
+/// What a count has gone over.
+#[derive(Drop)]
+pub(crate) struct Gone {
+    /// The log types, and the words that were read.
+    pub(crate) held: HeldWords,
+    /// How many segments were opened.
+    pub(crate) opened: u64,
+    /// How many segments the archive has.
+    pub(crate) segments: u64,
+}
+
+/// Counts the messages of an archive that are found.
+pub(crate) fn count_archive<D: Disk, T: RowTable, L: Ledger, M: Ledger>(
+    query: &Query,
+    places: Places,
+    disk: &mut D,
+    counter: &mut PageCounter<T>,
+    opened: &mut Steps<L>,
+    expanded: &mut Steps<M>,
+) -> Result<Gone, SearchRefusal>
+    requires searched { IsSearched query.now.pattern }
+    requires opens { OpensPlaces (D.state disk.old).seen places }
+    requires order { AreInOrder 0 places.words }
+    requires plain { IsTrue counter.old.plain ↔ IsPlain query.now.pattern }
+
+    // what stays
+    ensures rests { Rests (D.state disk.old) (D.state disk.new) }
+    ensures reads { OfJournal (D.state disk.old).seen (λ h es held. ReadsNoBarren h es held
+        query.now (D.state disk.old).ranges (D.state disk.new).ranges) }
+
+    // by the answer
+    ensures done { IfOk result (λ gone. OfJournal (D.state disk.old).seen (λ h es held. HasCounted
+        T.counted h es held query.now gone (sofar counter.old.counts expanded.old)
+        (sofar counter.new.counts expanded.new) opened.old opened.new)) }
+    ensures stopped { OnErr result (OfJournal (D.state disk.old).seen (λ h es held.
+        HasStoppedCounting h es held query.now
+        opened.old opened.new expanded.old expanded.new)) }
+
+    // causes
+    ensures damaged { IsErrOf result SearchRefusal.Damaged
+        → OfJournal (D.state disk.old).seen (λ _ _ _. ⊥) }
+    ensures disk_counts { CountsOf SearchRefusal.DiskFault
+        (D.state disk.old).faults (D.state disk.new).faults result }
+    ensures sink { ¬ IsErrOf result SearchRefusal.SinkFault }
+{
+    // A journal's words and heads stand where its places say.
+    words_stand();
+    heads_stand();
+    let Places {
+        header,
+        types,
+        words,
+        files,
+        segments,
+        entries: _,
+        end: _,
+    } = places;
+    let alloc = counter.alloc();
+    let records = words.as_slice();
+    let mut held = HeldWords::new(alloc, types, header.version, records)?;
+    let layouts = Layouts::of(alloc, &held)?;
+    let filter = Filter::begin(alloc, query.plan(), &held)?;
+    let told = ask_words(alloc, query, filter, records, disk)?;
+    let names = files.as_slice();
+    let found = told.found.as_slice();
+    let context = Context::new(query, &layouts, &told.filter, names, found, &held, disk);
+    let fronts = segments.as_slice();
+    let count = count_segments(&context, &mut held, fronts, disk, counter, opened, expanded)?;
+    Ok(Gone {
+        held,
+        opened: count,
+        segments: fronts.len() as u64,
+    })
+}

@@ -1,0 +1,275 @@
+//! Counting the messages of an archive.
+ghost use Rattle.std.specs.Prelude.{◌≡◌, ◌↔◌, ◌<◌, ◌^◌, ℕ, ℤ, pos, List, [], length, count_by, is_none, All, Option, IsTrue, IfOk, OnErr, IsErrOf};
+ghost use Rattle.std.specs.Ordering.{int_cmp};
+ghost use Rattle.log_seams.specs.Disk.{Rests};
+ghost use Rattle.log_seams.specs.Outside.{CountsOf};
+ghost use Rattle.query_plan.specs.Laws.{IsPlain, IsSearched};
+ghost use Rattle.archive_places.specs.Opened.{OpensPlaces};
+ghost use Rattle.word_places.specs.Places.{AreInOrder};
+ghost use Rattle.search_walk.specs.Journal.{OfJournal, ReadsNoBarren, asked};
+ghost use Rattle.group_count.specs.Grouped.{HasGrouped, HasStoppedCounting};
+ghost use Rattle.group_count.specs.Groups.{AreGroups, by_key, by_moment, byte_order, stamped};
+ghost use Rattle.group_count.specs.StepsArchive.{reported};
+ghost use Rattle.group_count.specs.Tables.{AreCounts, AreMinutes, AreNumbered, texts_at};
+
+use crate::archive_counting::{Gone, count_archive};
+use crate::counts::Counts;
+use crate::groups::{GroupBy, Grouped};
+use crate::laws::rows_have_keys;
+use crate::minutes::MinuteTable;
+use crate::page_counter::PageCounter;
+use crate::refusal::TableRefusal;
+use crate::report::GroupReport;
+use crate::types::TypeTable;
+use archive_places::Places;
+use column_store::Range;
+use log_seams::Disk;
+use query_plan::is_plain;
+use search_walk::{Query, SearchRefusal};
+use std::alloc::{AllocError, Global};
+use std::sync::ledger::Ledger;
+use step_count::Steps;
+use wild_match::Pattern;
+
+/// The counts of a count's work.
+fn report_of<T>(counts: &Counts<T>, gone: &Gone) -> GroupReport
+    ensures { result ≡ reported counts.now gone.now }
+{
+    GroupReport {
+        matched: counts.matched,
+        expanded: counts.expanded,
+        opened: gone.opened,
+        segments: gone.segments,
+    }
+}
+
+/// The groups of what was counted by log types.
+fn types_of(alloc: Global, counts: &Counts<TypeTable>, gone: &Gone) -> Result<Grouped, TableRefusal>
+    ensures groups { IfOk result (λ g. (numbers : List ℕ) → AreCounts counts.now.table numbers
+        → AreNumbered gone.now.held.types numbers
+        → AreGroups byte_order (texts_at gone.now.held.types numbers) (by_key g.groups)) }
+    ensures moments { IfOk result (λ g. All (λ p. p.moment ≡ pos 0) g.groups) }
+    ensures without { IfOk result (λ g. g.without ≡ 0) }
+    ensures report { IfOk result (λ g. g.report ≡ reported counts.now gone.now) }
+    ensures damaged { IsErrOf result TableRefusal.Damaged → (numbers : List ℕ)
+        → AreCounts counts.now.table numbers → ¬ AreNumbered gone.now.held.types numbers }
+{
+    let groups = counts.table.groups(alloc, &gone.held)?;
+    Ok(Grouped {
+        groups,
+        without: 0,
+        report: report_of(counts, gone),
+    })
+}
+
+/// The groups of what was counted by minutes.
+fn minutes_of(
+    alloc: Global,
+    counts: Counts<MinuteTable>,
+    gone: &Gone,
+) -> Result<Grouped, AllocError>
+    ensures groups { IfOk result (λ g. (keys : List (Option ℤ)) → AreMinutes counts.table keys
+        → length keys < 2 ^ 64 → AreGroups int_cmp (stamped keys) (by_moment g.groups)) }
+    ensures keys { IfOk result (λ g. All (λ p. p.key ≡ []) g.groups) }
+    ensures without { IfOk result (λ g. (keys : List (Option ℤ)) → AreMinutes counts.table keys
+        → length keys < 2 ^ 64 → g.without ≡ count_by is_none keys) }
+    ensures report { IfOk result (λ g. g.report ≡ reported counts gone.now) }
+{
+    let report = report_of(&counts, gone);
+    let Counts {
+        table,
+        matched: _,
+        expanded: _,
+    } = counts;
+    let without = table.without();
+    let groups = table.groups(alloc)?;
+    Ok(Grouped {
+        groups,
+        without,
+        report,
+    })
+}
+
+/// Counts the messages of an archive that are found, by their log types.
+fn group_types<D: Disk, L: Ledger, M: Ledger>(
+    alloc: Global,
+    query: &Query,
+    plain: bool,
+    places: Places,
+    disk: &mut D,
+    opened: &mut Steps<L>,
+    expanded: &mut Steps<M>,
+) -> Result<Grouped, SearchRefusal>
+    requires searched { IsSearched query.now.pattern }
+    requires opens { OpensPlaces (D.state disk.old).seen places }
+    requires order { AreInOrder 0 places.words }
+    requires plain { IsTrue plain ↔ IsPlain query.now.pattern }
+
+    // what stays
+    ensures rests { Rests (D.state disk.old) (D.state disk.new) }
+    ensures reads { OfJournal (D.state disk.old).seen (λ h es held. ReadsNoBarren h es held
+        query.now (D.state disk.old).ranges (D.state disk.new).ranges) }
+
+    // by the answer
+    ensures done { IfOk result (λ g. OfJournal (D.state disk.old).seen (λ h es held. HasGrouped
+        h es held query.now GroupBy.Shape g
+        opened.old opened.new expanded.old expanded.new)) }
+    ensures stopped { OnErr result (OfJournal (D.state disk.old).seen (λ h es held.
+        HasStoppedCounting h es held query.now
+        opened.old opened.new expanded.old expanded.new)) }
+
+    // causes
+    ensures damaged { IsErrOf result SearchRefusal.Damaged
+        → OfJournal (D.state disk.old).seen (λ _ _ _. ⊥) }
+    ensures disk_counts { CountsOf SearchRefusal.DiskFault
+        (D.state disk.old).faults (D.state disk.new).faults result }
+    ensures sink { ¬ IsErrOf result SearchRefusal.SinkFault }
+{
+    // The log types of rows are those of the messages that they are the encodings of.
+    rows_have_keys();
+    let mut counter = PageCounter::new(alloc, plain, TypeTable::new(alloc));
+    let gone = count_archive(query, places, disk, &mut counter, opened, expanded)?;
+    let grouped = types_of(alloc, &counter.counts, &gone)?;
+    Ok(grouped)
+}
+
+/// Counts the messages of an archive that are found, by the minutes of their stamps.
+fn group_minutes<D: Disk, L: Ledger, M: Ledger>(
+    alloc: Global,
+    query: &Query,
+    plain: bool,
+    places: Places,
+    disk: &mut D,
+    opened: &mut Steps<L>,
+    expanded: &mut Steps<M>,
+) -> Result<Grouped, SearchRefusal>
+    requires searched { IsSearched query.now.pattern }
+    requires opens { OpensPlaces (D.state disk.old).seen places }
+    requires order { AreInOrder 0 places.words }
+    requires plain { IsTrue plain ↔ IsPlain query.now.pattern }
+
+    // what stays
+    ensures rests { Rests (D.state disk.old) (D.state disk.new) }
+    ensures reads { OfJournal (D.state disk.old).seen (λ h es held. ReadsNoBarren h es held
+        query.now (D.state disk.old).ranges (D.state disk.new).ranges) }
+
+    // by the answer
+    ensures done { IfOk result (λ g. OfJournal (D.state disk.old).seen (λ h es held. HasGrouped
+        h es held query.now GroupBy.Minute g
+        opened.old opened.new expanded.old expanded.new)) }
+    ensures stopped { OnErr result (OfJournal (D.state disk.old).seen (λ h es held.
+        HasStoppedCounting h es held query.now
+        opened.old opened.new expanded.old expanded.new)) }
+
+    // causes
+    ensures damaged { IsErrOf result SearchRefusal.Damaged
+        → OfJournal (D.state disk.old).seen (λ _ _ _. ⊥) }
+    ensures disk_counts { CountsOf SearchRefusal.DiskFault
+        (D.state disk.old).faults (D.state disk.new).faults result }
+    ensures sink { ¬ IsErrOf result SearchRefusal.SinkFault }
+{
+    // The minutes of rows are those of the messages that they are the encodings of. From version 3 on
+    // moments count microseconds.
+    rows_have_keys();
+    let table = MinuteTable::new(alloc, places.header.version >= 3);
+    let mut counter = PageCounter::new(alloc, plain, table);
+    let gone = count_archive(query, places, disk, &mut counter, opened, expanded)?;
+    let grouped = minutes_of(alloc, counter.into_counts(), &gone)?;
+    Ok(grouped)
+}
+
+/// Counts the messages of an archive that are found, by what it is asked.
+fn group_found<D: Disk, L: Ledger, M: Ledger>(
+    alloc: Global,
+    query: &Query,
+    plain: bool,
+    places: Places,
+    disk: &mut D,
+    by: GroupBy,
+    opened: &mut Steps<L>,
+    expanded: &mut Steps<M>,
+) -> Result<Grouped, SearchRefusal>
+    requires searched { IsSearched query.now.pattern }
+    requires opens { OpensPlaces (D.state disk.old).seen places }
+    requires order { AreInOrder 0 places.words }
+    requires plain { IsTrue plain ↔ IsPlain query.now.pattern }
+
+    // what stays
+    ensures rests { Rests (D.state disk.old) (D.state disk.new) }
+    ensures reads { OfJournal (D.state disk.old).seen (λ h es held. ReadsNoBarren h es held
+        query.now (D.state disk.old).ranges (D.state disk.new).ranges) }
+
+    // by the answer
+    ensures done { IfOk result (λ g. OfJournal (D.state disk.old).seen (λ h es held. HasGrouped
+        h es held query.now by g opened.old opened.new expanded.old expanded.new)) }
+    ensures stopped { OnErr result (OfJournal (D.state disk.old).seen (λ h es held.
+        HasStoppedCounting h es held query.now
+        opened.old opened.new expanded.old expanded.new)) }
+
+    // causes
+    ensures damaged { IsErrOf result SearchRefusal.Damaged
+        → OfJournal (D.state disk.old).seen (λ _ _ _. ⊥) }
+    ensures disk_counts { CountsOf SearchRefusal.DiskFault
+        (D.state disk.old).faults (D.state disk.new).faults result }
+    ensures sink { ¬ IsErrOf result SearchRefusal.SinkFault }
+{
+    match by {
+        GroupBy::Shape => group_types(alloc, query, plain, places, disk, opened, expanded),
+        GroupBy::Minute => group_minutes(alloc, query, plain, places, disk, opened, expanded),
+    }
+}
+
+/// Counts the messages of an archive that a pattern matches, in the range, by their log types or by
+/// the minutes of their stamps. The pattern is one that [`read_pattern`](wild_match::read_pattern)
+/// read, and the places those of the disk.
+///
+/// Where the pattern is plain, with no `?` and at most
+/// [`MAX_OPEN_TOKENS`](query_plan::MAX_OPEN_TOKENS) open tokens, no message is expanded: each row is
+/// decided as it is stored. Otherwise `expanded` counts the messages in the range that the widened
+/// pattern matches.
+///
+/// Of a barren segment no column is read: its head tells that no message of it in the range matches. Of
+/// the others `opened` counts each.
+///
+/// # Errors
+///
+/// `DiskFault`, where the count of faults of the disk rose; `Damaged`, where the disk's bytes are no
+/// archive; or `OutOfMemory`. There is no output, so `SinkFault` is none of its answers.
+pub fn group<D: Disk, L: Ledger, M: Ledger>(
+    alloc: Global,
+    places: Places,
+    disk: &mut D,
+    pattern: &Pattern,
+    range: &Range,
+    by: GroupBy,
+    opened: &mut Steps<L>,
+    expanded: &mut Steps<M>,
+) -> Result<Grouped, SearchRefusal>
+    requires searched { IsSearched pattern.now }
+    requires opens { OpensPlaces (D.state disk.old).seen places }
+    requires order { AreInOrder 0 places.words }
+
+    // what stays
+    ensures rests { Rests (D.state disk.old) (D.state disk.new) }
+    ensures reads { OfJournal (D.state disk.old).seen (λ h es held. ReadsNoBarren h es held
+        (asked pattern.now range.now) (D.state disk.old).ranges (D.state disk.new).ranges) }
+
+    // by the answer
+    ensures done { IfOk result (λ g. OfJournal (D.state disk.old).seen (λ h es held. HasGrouped
+        h es held (asked pattern.now range.now) by g
+        opened.old opened.new expanded.old expanded.new)) }
+    ensures stopped { OnErr result (OfJournal (D.state disk.old).seen (λ h es held.
+        HasStoppedCounting h es held (asked pattern.now range.now)
+        opened.old opened.new expanded.old expanded.new)) }
+
+    // causes
+    ensures damaged { IsErrOf result SearchRefusal.Damaged
+        → OfJournal (D.state disk.old).seen (λ _ _ _. ⊥) }
+    ensures disk_counts { CountsOf SearchRefusal.DiskFault
+        (D.state disk.old).faults (D.state disk.new).faults result }
+    ensures sink { ¬ IsErrOf result SearchRefusal.SinkFault }
+{
+    let plain = is_plain(alloc, pattern)?;
+    let query = Query::new(alloc, pattern, range)?;
+    group_found(alloc, &query, plain, places, disk, by, opened, expanded)
+}

@@ -1,0 +1,15 @@
+//! What a count tells of its work.
+
+/// The counts of a count's work.
+#[derive(Clone, Copy, Debug, PartialEq, Eq)]
+pub struct GroupReport {
+    /// How many messages were found, and counted.
+    pub matched: u64,
+    /// How many messages were expanded: none where the pattern is plain, and else those in the range
+    /// that the widened pattern matches.
+    pub expanded: u64,
+    /// How many segments were opened: those that are not barren.
+    pub opened: u64,
+    /// How many segments the archive has.
+    pub segments: u64,
+}
