@@ -2,7 +2,7 @@
 use Rattle.std.proofs.Common.{◌≡◌, ◌≢◌, ◌≤◌, arith, refl, subst, inl, inr, ℕ, List, [], ◌∷◌, length, map, Option, Some, Result, Ok, Err}
 use Rattle.std.specs.Prelude.{IfErr}
 use Rattle.log_seams.specs.Disk.{DiskState}
-use Rattle.command_words.specs.Asked.{AreTaken, Asked, Asks, HaveGoodNumbers, IsAnswer, asked_by}
+use Rattle.command_words.specs.Asked.{AreTaken, Asked, Asks, HaveGoodValues, IsAnswer, asked_by}
 use Rattle.command_words.specs.declared.command.Command.{Command}
 use Rattle.command_words.specs.declared.command.WordsRefusal.{WordsRefusal}
 use Rattle.command_words.specs.declared.command.WordsRefusal.TheVariants.{Usage as WordsUsage, OutOfMemory as WordsOutOfMemory}
@@ -33,7 +33,7 @@ Answers-asked known words seen old new status read command a is asks all answers
 
 -- words that ask for nothing, or that there was no memory to read
 pub Answers-refused : (known : Option KnownArchive) (words : List (List ℕ)) (seen : Outside) (old new : DiskState) (status : ℕ) (read : Result Command WordsRefusal) (refusal : WordsRefusal) → read ≡ Err refusal → ((a : Asked) → Asks words a → IsAnswer a read)
-    → (AreTaken words → HaveGoodNumbers words → IfErr read (λ r. r ≡ WordsOutOfMemory)) → RefusesAtOnce seen old new status (of_words refusal) → Answers known words seen old new status
+    → (AreTaken words → HaveGoodValues words → IfErr read (λ r. r ≡ WordsOutOfMemory)) → RefusesAtOnce seen old new status (of_words refusal) → Answers known words seen old new status
 Answers-refused known words seen old new status read WordsUsage is all taken refuses = inr (record {
   usage = λ _. refuses;
   asked_for = λ a asks. absurd (subst (IsAnswer a) is (all a asks));

@@ -1,7 +1,8 @@
 //! The top call: what the program's words ask for, what it prints, and its answers.
 //!
 //! [`run`] is the top call. Its contract says for each command what the output takes, and for each
-//! refusal its cause. The commands stand in `log_commands`, `read_commands` and `write_commands`.
+//! refusal its cause. The commands stand in `log_commands`, `read_commands`, `count_command` and
+//! `write_commands`.
 #![tactic(auto)]
 
 mod top_call;

@@ -12,6 +12,7 @@ use command_refusals::{
     answer, refusal_of_create, refusal_of_file, refusal_of_read, refusal_of_words, report,
 };
 use command_words::{Command, read_words};
+use count_command::count_messages;
 use disk_journal::create;
 use log_commands::{scan, show};
 use log_seams::{Disk, Shelf, Sink};
@@ -29,7 +30,8 @@ use write_commands::{Base, NewLogs, bench, ingest_files};
 /// archive with no file in it. `files` prints the archive's files, each as `NUMBER MESSAGES whole NAME`,
 /// or `part` in place of `whole`. `decode N` prints the bytes of file N. `check` tells whether the
 /// archive is legal, and prints what it has. `search` with its options prints the messages of the
-/// archive that a pattern matches, as `scan` prints those of a log. A refusal has its line on `err`.
+/// archive that a pattern matches, as `scan` prints those of a log, and `count` how many these are
+/// by log type or by minute. A refusal has its line on `err`.
 ///
 /// `ingest` adds logs to the archive, and prints of each what `files` prints. `bench` makes an archive of
 /// generated logs, and prints a summary of it. `disk` is the archive's.
@@ -132,6 +134,7 @@ where
             answer(refusal_of_file(outcome), "", err)
         }
         Command::Search { asked } => search_messages(rt, alloc, asked, disk, out, err),
+        Command::Count { asked } => count_messages(alloc, asked, disk, out, err),
         Command::Bench { asked } => bench(rt, alloc, *asked, disk, out, err),
     }
 }

@@ -17,7 +17,8 @@ fn may_write(command: &Command<'_>) -> bool
         | Command::Files
         | Command::Check
         | Command::Decode { .. }
-        | Command::Search { .. } => false,
+        | Command::Search { .. }
+        | Command::Count { .. } => false,
     }
 }
 

@@ -31,9 +31,11 @@ use Rattle.command_refusals.specs.declared.outcome.FileRefusal.TheVariants.{Dama
 use Rattle.command_answers.specs.Decoding.{LacksFile, IsCompleteFile, PrintsFile}
 use Rattle.search_walk.specs.Scan.{Asked}
 use Rattle.command_answers.specs.Searching.{PrintsFound, SparesBarren}
+use Rattle.command_answers.specs.Grouping.{PrintsGroups, grouped_by}
+use Rattle.command_words.specs.declared.command.CountKey.{CountKey}
 use Rattle.search_walk.specs.Journal.{asked}
 use Rattle.command_answers.specs.Benched.{SumsUpAll, EndsBench, MetNoLimit}
-use Rattle.command_words.specs.Asked.{Asked as AskedFor, to_bench, to_check, to_create, to_decode, to_ingest, to_list, to_scan, to_search, to_show, AreTaken, Asks, HaveGoodNumbers}
+use Rattle.command_words.specs.Asked.{Asked as AskedFor, to_bench, to_check, to_count, to_create, to_decode, to_ingest, to_list, to_scan, to_search, to_show, AreTaken, Asks, HaveGoodValues}
 use Rattle.command_answers.specs.Shown.{Shows}
 use Rattle.command_refusals.specs.declared.refusal.Refusal.TheVariants.{Usage}
 use Rattle.command_answers.specs.Words.{AskSomething, IsUsage}
@@ -118,6 +120,23 @@ pub record AnswersPattern (from to : Option ℤ) (stats : Bool) (pattern : List 
   pub good : (items : List Item) → IsSearchPattern pattern items
       → AnswersSearch (asked items (record { from = from; to = to })) stats seen old new status
 
+-- The groups of the messages that are found were printed, or the command was refused with a cause.
+pub record AnswersGroups (by : CountKey) (q : Asked) (stats : Bool) (seen : Outside) (old new : DiskState) (status : ℕ)
+    : Type 0 where
+  pub answer : Result Unit ReadRefusal
+  pub ends : EndsReading seen old new status answer
+  pub prints : PrintsGroups (is_ok answer) q (grouped_by by) stats old.seen seen.out.0 seen.out.1
+  pub reads : SparesBarren q old.seen old.ranges new.ranges
+  pub damaged : (at : ℕ) → answer ≡ Err (Damaged at) → RefusedAt at old.seen
+  pub complete : IsComplete seen old new answer
+
+-- The groups of the messages of the archive that a pattern matches in a range were printed, or the pattern is refused.
+pub record AnswersCount (by : CountKey) (from to : Option ℤ) (stats : Bool) (pattern : List ℕ) (seen : Outside)
+    (old new : DiskState) (status : ℕ) : Type 0 where
+  pub lone_backslash : (at : ℕ) → IsLoneBackslash pattern at → RefusesPatternAtOnce seen old new status at
+  pub good : (items : List Item) → IsSearchPattern pattern items
+      → AnswersGroups by (asked items (record { from = from; to = to })) stats seen old new status
+
 -- What `bench` answers. On an empty disk, where no call of the disk and no write to the output failed and no limit was met, all
 -- is summed up, or memory ended.
 pub record AnswersBench (number lines workers : ℕ) (seen : Outside) (old new : DiskState) (status : ℕ) : Type 0 where
@@ -137,15 +156,17 @@ AnswersAsked known to_check seen old new status = AnswersCheck seen old new stat
 AnswersAsked known (to_decode number) seen old new status = AnswersDecode number seen old new status
 AnswersAsked known (to_search from to stats workers pattern) seen old new status =
     AnswersPattern from to stats pattern seen old new status
+AnswersAsked known (to_count by from to stats pattern) seen old new status =
+    AnswersCount by from to stats pattern seen old new status
 AnswersAsked known (to_bench number lines workers) seen old new status = AnswersBench number lines workers seen old new status
 
--- What words answer that were read. Those that `clap` takes, and whose numbers are good, ask for something: so a usage error
--- comes only where `clap` refuses them for another cause than memory, or where a number is not good.
+-- What words answer that were read. Those that `clap` takes, and whose values are good, ask for something: so a usage error
+-- comes only where `clap` refuses them for another cause than memory, or where a value is not good.
 pub record AnswersWords (known : Option KnownArchive) (words : List (List ℕ)) (seen : Outside) (old new : DiskState) (status : ℕ)
     : Type 0 where
   pub usage : IsUsage words → RefusesAtOnce seen old new status Usage
   pub asked_for : (a : AskedFor) → Asks words a → AnswersAsked known a seen old new status
-  pub taken : AreTaken words → HaveGoodNumbers words → AskSomething words
+  pub taken : AreTaken words → HaveGoodValues words → AskSomething words
 
 -- What the program answers: there was no memory to read the words and nothing was done, or they were read.
 abbrev pub Answers : Option KnownArchive → List (List ℕ) → Outside → DiskState → DiskState → ℕ → Type 0

@@ -2,6 +2,7 @@ pub mod Answers
 pub mod Benched
 pub mod Counted
 pub mod Decoding
+pub mod Grouping
 pub mod Ingested
 pub mod Known
 pub mod Listing

@@ -1,6 +1,6 @@
 -- What the words of the command line ask for, by what that does with the archive.
 use Rattle.std.specs.Prelude.{ℕ, List}
-use Rattle.command_words.specs.Asked.{Asked, Asks, to_bench, to_check, to_create, to_decode, to_ingest, to_list, to_scan, to_search, to_show}
+use Rattle.command_words.specs.Asked.{Asked, Asks, to_bench, to_check, to_count, to_create, to_decode, to_ingest, to_list, to_scan, to_search, to_show}
 
 -- the words ask for nothing
 abbrev pub IsUsage : List (List ℕ) → Type 0
@@ -20,6 +20,7 @@ UsesArchive to_list = Unit {0}
 UsesArchive to_check = Unit {0}
 UsesArchive (to_decode number) = Unit {0}
 UsesArchive (to_search from to stats workers pattern) = Unit {0}
+UsesArchive (to_count by from to stats pattern) = Unit {0}
 UsesArchive (to_bench number lines workers) = Unit {0}
 
 -- what is asked for may write to the archive
@@ -32,6 +33,7 @@ MayWrite to_list = ⊥
 MayWrite to_check = ⊥
 MayWrite (to_decode number) = ⊥
 MayWrite (to_search from to stats workers pattern) = ⊥
+MayWrite (to_count by from to stats pattern) = ⊥
 MayWrite (to_bench number lines workers) = Unit {0}
 
 -- the words ask for nothing that works on the archive

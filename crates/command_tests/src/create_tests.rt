@@ -1,5 +1,5 @@
 //! The making of an archive over a disk in memory.
-use crate::outside::{AMPLE, NEVER, Rooms, Told, call, disk, over_bytes, shelf, told};
+use crate::outside::{AMPLE, NEVER, Rooms, Told, call, disk, shelf, told};
 use log_seams::{Disk, MemDisk};
 use std::alloc::{AllocError, Global};
 use std::sync::Wait;

@@ -4,6 +4,8 @@
 #[cfg(test)]
 mod bench_tests;
 #[cfg(test)]
+mod count_tests;
+#[cfg(test)]
 mod create_tests;
 #[cfg(test)]
 mod directory_tests;

@@ -2,8 +2,8 @@
 use crate::outside::{NEVER, Told, USAGE, leaves_front, told};
 use std::test::Fail;
 
-// File `a.log` with the lines `12534`, `12 34` and `a12*34`.
-static NUMBERS: [u8; 280] = [
+/// File `a.log` with the lines `12534`, `12 34` and `a12*34`.
+pub(crate) static NUMBERS: [u8; 280] = [
     67, 76, 80, 65, 82, 67, 72, 10, 1, 0, 0, 0, 100, 0, 0, 0, 100, 0, 0, 0, 0, 0, 0, 0, 0, 16, 0,
     0, 0, 0, 0, 0, 1, 1, 13, 0, 0, 0, 0, 0, 0, 0, 1, 0, 0, 0, 5, 0, 0, 0, 97, 46, 108, 111, 103, 1,
     2, 27, 0, 0, 0, 0, 0, 0, 0, 0, 0, 0, 0, 3, 0, 0, 0, 1, 0, 0, 0, 17, 3, 0, 0, 0, 17, 32, 17, 3,

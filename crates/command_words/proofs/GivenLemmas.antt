@@ -1,4 +1,4 @@
--- Words without a fault, whose numbers are good, ask for something.
+-- Words without a fault, whose values are good, ask for something.
 use Rattle.std.proofs.Common.{arith, ◌≡◌, ◌∙◌, ℕ, ℤ, Bool, cond, true, false, not, ◌&&◌, ◌||◌, refl, sym, ap, subst, List, [], ◌∷◌, Option, Some, None, is_some, codes, option_map, ◌↔◌, IsTrue}
 use Rattle.std.specs.List.{find, list_any}
 use Rattle.std.specs.Option.{option_map_or}
@@ -13,8 +13,9 @@ use Rattle.clap.specs.Simple.{App, Shape, built, built_leaf, entered, inherited,
 use Rattle.clap.specs.Faults.{check_fault, defaults_fault, entered_fault, fault_of, level_fault, settle_fault, walk_fault}
 use Rattle.command_words.specs.Forms as forms
 use Rattle.command_words.specs.Forms.{clpa}
-use Rattle.command_words.specs.Values.{IsGood, IsGoodMoment, IsMomentIn, IsNumberIn, IsNumberOr, IsWithin}
-use Rattle.command_words.specs.Asked.{AreGood, Asked, Asks, Gives, HaveGoodNumbers, IsFound, IsInRange, name_of, to_bench, to_check, to_create, to_decode, to_ingest, to_list, to_scan, to_search, to_show}
+use Rattle.command_words.specs.Values.{IsGood, IsGoodKey, IsGoodMoment, IsKeyIn, IsMomentIn, IsNumberIn, IsNumberOr, IsWithin}
+use Rattle.command_words.specs.Asked.{AreGood, Asked, Asks, Gives, HaveGoodValues, IsFound, IsInRange, name_of, to_bench, to_check, to_count, to_create, to_decode, to_ingest, to_list, to_scan, to_search, to_show}
+use Rattle.command_words.specs.declared.command.CountKey.{CountKey}
 use Rattle.command_words.proofs.RowLemmas.{AllFull, Full, first_none, level_full, second_none}
 
 -- ---- values
@@ -92,6 +93,10 @@ number_in least most (Some text) value good = good
 moment_in : (text : Option Text) → IsGoodMoment text → (moment : Option ℤ) × IsMomentIn text moment
 moment_in None good = (None, refl)
 moment_in (Some text) good = (Some good.0, good.1)
+
+key_in : (given : Option Text) → ((text : Text) × (given ≡ Some text)) → IsGoodKey given → (key : CountKey) × IsKeyIn given key
+key_in None value good = absurd (cc (value.1))
+key_in (Some text) value good = (good.0, ap Some good.1)
 
 record Flag (text : Option Text) : Type 0 where
   stats : Bool
@@ -210,6 +215,20 @@ good_search words e good =
     let pattern = given_value (codes "pattern") rows level.0 g1.0 in
     record { asked = to_search from.0 to.0 stats.stats workers.0 pattern.0; named = refl; gives = record { from_is = from.1; to_is = to.1; stats_are = stats.is; workers_are = workers.1; pattern_is = pattern.1 } }
 
+good_count : IsGoodShape (ready forms.count)
+good_count words e good =
+    let rows = rows_after (ready forms.count).rules [] words in
+    let level = level_full (ready forms.count) words refl (λ x. refl) e in
+    let g0 = given_all (ready forms.count) rows level.1 in
+    let g1 = required (is_given (codes "by") rows) (not (is_given (codes "pattern") rows) || false) g0 in
+    let g2 = required (is_given (codes "pattern") rows) false g1.1 in
+    let by = key_in (first_of (codes "by") rows) (given_value (codes "by") rows level.0 g1.0) good.by in
+    let from = moment_in (first_of (codes "from") rows) good.from in
+    let to = moment_in (first_of (codes "to") rows) good.to in
+    let stats = flag_in (first_of (codes "stats") rows) in
+    let pattern = given_value (codes "pattern") rows level.0 g2.0 in
+    record { asked = to_count by.0 from.0 to.0 stats.stats pattern.0; named = refl; gives = record { by_is = by.1; from_is = from.1; to_is = to.1; stats_are = stats.is; pattern_is = pattern.1 } }
+
 good_bench : IsGoodShape (ready forms.bench)
 good_bench words e good =
     let rows = rows_after (ready forms.bench).rules [] words in
@@ -247,11 +266,14 @@ checked_decode = record { good = good_decode; full = λ words e. (level_full (re
 checked_search : Checked (ready forms.search)
 checked_search = record { good = good_search; full = λ words e. (level_full (ready forms.search) words refl (λ x. refl) e).0 }
 
+checked_count : Checked (ready forms.count)
+checked_count = record { good = good_count; full = λ words e. (level_full (ready forms.count) words refl (λ x. refl) e).0 }
+
 checked_bench : Checked (ready forms.bench)
 checked_bench = record { good = good_bench; full = λ words e. (level_full (ready forms.bench) words refl (λ x. refl) e).0 }
 
 all_good : AllGood (built clpa).subs
-all_good = record { first = checked_show; second = record { first = checked_scan; second = record { first = checked_create; second = record { first = checked_ingest; second = record { first = checked_files; second = record { first = checked_check; second = record { first = checked_decode; second = record { first = checked_search; second = record { first = checked_bench; second = tt } } } } } } } } }
+all_good = record { first = checked_show; second = record { first = checked_scan; second = record { first = checked_create; second = record { first = checked_ingest; second = record { first = checked_files; second = record { first = checked_check; second = record { first = checked_decode; second = record { first = checked_search; second = record { first = checked_count; second = record { first = checked_bench; second = tt } } } } } } } } } }
 
 found_good : (p : Shape → Bool) (subs : List Shape) → AllGood subs → IfGood (find p subs)
 found_good p [] all = tt
@@ -310,7 +332,7 @@ pub record Something (words : List Text) : Type 0 where
   pub asked : Asked
   pub asks : Asks words asked
 
-pub something_asked : (words : List Text) → fault_of clpa words ≡ [] → HaveGoodNumbers words → Something words
+pub something_asked : (words : List Text) → fault_of clpa words ≡ [] → HaveGoodValues words → Something words
 something_asked words e good =
     let ends = entered_of words e in
     let given = ends.ends (good ends.name ends.rows ends.is) in
@@ -380,6 +402,7 @@ asked_in_range words to_check asks = tt
 asked_in_range words (to_decode number) asks = within_in 0 4294967295 (first_of (codes "number") asks.rows) number asks.given
 asked_in_range words (to_search from to stats workers pattern) asks =
     within 1 1 64 (first_of (codes "workers") asks.rows) workers (record { low = omega arith; high = omega arith }) asks.given.workers_are
+asked_in_range words (to_count by from to stats pattern) asks = tt
 asked_in_range words (to_bench number lines workers) asks = record {
   number_is = within_in 0 4294967295 (first_of (codes "number") asks.rows) number asks.given.number_is;
   lines_are = within_in 1 1000000 (first_of (codes "lines") asks.rows) lines asks.given.lines_are;

@@ -5,7 +5,8 @@ use Rattle.std.specs.Cmp.Lexicographic.{other_text}
 use Rattle.clap.specs.Walk.{Row, Text}
 use Rattle.record_format.specs.declared.header.Header.{Header}
 use Rattle.command_words.specs.declared.command.Command.{Command}
-use Rattle.command_words.specs.Asked.{Asked, Gives, IsFor, IsReading, asked_by, name_of, to_bench, to_check, to_create, to_decode, to_ingest, to_list, to_scan, to_search, to_show}
+use Rattle.command_words.specs.declared.command.CountKey.{CountKey}
+use Rattle.command_words.specs.Asked.{Asked, Gives, IsFor, IsReading, asked_by, name_of, to_bench, to_check, to_count, to_create, to_decode, to_ingest, to_list, to_scan, to_search, to_show}
 
 -- what is asked under the name `show`
 pub only_show : (P : Asked → Type 0) → ((file : Text) → P (to_show file)) → (asked : Asked) → name_of asked ≡ codes "show" → P asked
@@ -17,6 +18,7 @@ only_show P p to_list e = absurd (other_text (codes "files") (codes "show") refl
 only_show P p to_check e = absurd (other_text (codes "check") (codes "show") refl e)
 only_show P p (to_decode number) e = absurd (other_text (codes "decode") (codes "show") refl e)
 only_show P p (to_search from to stats workers pattern) e = absurd (other_text (codes "search") (codes "show") refl e)
+only_show P p (to_count by from to stats pattern) e = absurd (other_text (codes "count") (codes "show") refl e)
 only_show P p (to_bench number lines workers) e = absurd (other_text (codes "bench") (codes "show") refl e)
 
 pub reads_show : (rows : List Row) (read : Option Command) → IfSome read (λ command. IsFor (codes "show") rows (asked_by command))
@@ -35,6 +37,7 @@ only_scan P p to_list e = absurd (other_text (codes "files") (codes "scan") refl
 only_scan P p to_check e = absurd (other_text (codes "check") (codes "scan") refl e)
 only_scan P p (to_decode number) e = absurd (other_text (codes "decode") (codes "scan") refl e)
 only_scan P p (to_search from to stats workers pattern) e = absurd (other_text (codes "search") (codes "scan") refl e)
+only_scan P p (to_count by from to stats pattern) e = absurd (other_text (codes "count") (codes "scan") refl e)
 only_scan P p (to_bench number lines workers) e = absurd (other_text (codes "bench") (codes "scan") refl e)
 
 pub reads_scan : (rows : List Row) (read : Option Command) → IfSome read (λ command. IsFor (codes "scan") rows (asked_by command))
@@ -53,6 +56,7 @@ only_create P p to_list e = absurd (other_text (codes "files") (codes "create") 
 only_create P p to_check e = absurd (other_text (codes "check") (codes "create") refl e)
 only_create P p (to_decode number) e = absurd (other_text (codes "decode") (codes "create") refl e)
 only_create P p (to_search from to stats workers pattern) e = absurd (other_text (codes "search") (codes "create") refl e)
+only_create P p (to_count by from to stats pattern) e = absurd (other_text (codes "count") (codes "create") refl e)
 only_create P p (to_bench number lines workers) e = absurd (other_text (codes "bench") (codes "create") refl e)
 
 pub reads_create : (rows : List Row) (read : Option Command) → IfSome read (λ command. IsFor (codes "create") rows (asked_by command))
@@ -71,6 +75,7 @@ only_ingest P p to_list e = absurd (other_text (codes "files") (codes "ingest") 
 only_ingest P p to_check e = absurd (other_text (codes "check") (codes "ingest") refl e)
 only_ingest P p (to_decode number) e = absurd (other_text (codes "decode") (codes "ingest") refl e)
 only_ingest P p (to_search from to stats workers pattern) e = absurd (other_text (codes "search") (codes "ingest") refl e)
+only_ingest P p (to_count by from to stats pattern) e = absurd (other_text (codes "count") (codes "ingest") refl e)
 only_ingest P p (to_bench number lines workers) e = absurd (other_text (codes "bench") (codes "ingest") refl e)
 
 pub reads_ingest : (rows : List Row) (read : Option Command) → IfSome read (λ command. IsFor (codes "ingest") rows (asked_by command))
@@ -89,6 +94,7 @@ only_files P p to_list e = p
 only_files P p to_check e = absurd (other_text (codes "check") (codes "files") refl e)
 only_files P p (to_decode number) e = absurd (other_text (codes "decode") (codes "files") refl e)
 only_files P p (to_search from to stats workers pattern) e = absurd (other_text (codes "search") (codes "files") refl e)
+only_files P p (to_count by from to stats pattern) e = absurd (other_text (codes "count") (codes "files") refl e)
 only_files P p (to_bench number lines workers) e = absurd (other_text (codes "bench") (codes "files") refl e)
 
 pub reads_files : (rows : List Row) (read : Option Command) → IfSome read (λ command. IsFor (codes "files") rows (asked_by command))
@@ -107,6 +113,7 @@ only_check P p to_list e = absurd (other_text (codes "files") (codes "check") re
 only_check P p to_check e = p
 only_check P p (to_decode number) e = absurd (other_text (codes "decode") (codes "check") refl e)
 only_check P p (to_search from to stats workers pattern) e = absurd (other_text (codes "search") (codes "check") refl e)
+only_check P p (to_count by from to stats pattern) e = absurd (other_text (codes "count") (codes "check") refl e)
 only_check P p (to_bench number lines workers) e = absurd (other_text (codes "bench") (codes "check") refl e)
 
 pub reads_check : (rows : List Row) (read : Option Command) → IfSome read (λ command. IsFor (codes "check") rows (asked_by command))
@@ -125,6 +132,7 @@ only_decode P p to_list e = absurd (other_text (codes "files") (codes "decode") 
 only_decode P p to_check e = absurd (other_text (codes "check") (codes "decode") refl e)
 only_decode P p (to_decode number) e = p number
 only_decode P p (to_search from to stats workers pattern) e = absurd (other_text (codes "search") (codes "decode") refl e)
+only_decode P p (to_count by from to stats pattern) e = absurd (other_text (codes "count") (codes "decode") refl e)
 only_decode P p (to_bench number lines workers) e = absurd (other_text (codes "bench") (codes "decode") refl e)
 
 pub reads_decode : (rows : List Row) (read : Option Command) → IfSome read (λ command. IsFor (codes "decode") rows (asked_by command))
@@ -143,6 +151,7 @@ only_search P p to_list e = absurd (other_text (codes "files") (codes "search") 
 only_search P p to_check e = absurd (other_text (codes "check") (codes "search") refl e)
 only_search P p (to_decode number) e = absurd (other_text (codes "decode") (codes "search") refl e)
 only_search P p (to_search from to stats workers pattern) e = p from to stats workers pattern
+only_search P p (to_count by from to stats pattern) e = absurd (other_text (codes "count") (codes "search") refl e)
 only_search P p (to_bench number lines workers) e = absurd (other_text (codes "bench") (codes "search") refl e)
 
 pub reads_search : (rows : List Row) (read : Option Command) → IfSome read (λ command. IsFor (codes "search") rows (asked_by command))
@@ -150,6 +159,25 @@ pub reads_search : (rows : List Row) (read : Option Command) → IfSome read (λ
     → IsReading (codes "search") rows read
 reads_search rows read some all =
     record { some = some; all = λ asked is. only_search (λ a. Gives rows a → IsSomeAnd read (λ command. asked_by command ≡ a)) all asked is.0 is.1 }
+
+-- what is asked under the name `count`
+pub only_count : (P : Asked → Type 0) → ((by : CountKey) (from to : Option ℤ) (stats : Bool) (pattern : Text) → P (to_count by from to stats pattern)) → (asked : Asked) → name_of asked ≡ codes "count" → P asked
+only_count P p (to_show file) e = absurd (other_text (codes "show") (codes "count") refl e)
+only_count P p (to_scan pattern file) e = absurd (other_text (codes "scan") (codes "count") refl e)
+only_count P p (to_create header) e = absurd (other_text (codes "create") (codes "count") refl e)
+only_count P p (to_ingest workers segment files) e = absurd (other_text (codes "ingest") (codes "count") refl e)
+only_count P p to_list e = absurd (other_text (codes "files") (codes "count") refl e)
+only_count P p to_check e = absurd (other_text (codes "check") (codes "count") refl e)
+only_count P p (to_decode number) e = absurd (other_text (codes "decode") (codes "count") refl e)
+only_count P p (to_search from to stats workers pattern) e = absurd (other_text (codes "search") (codes "count") refl e)
+only_count P p (to_count by from to stats pattern) e = p by from to stats pattern
+only_count P p (to_bench number lines workers) e = absurd (other_text (codes "bench") (codes "count") refl e)
+
+pub reads_count : (rows : List Row) (read : Option Command) → IfSome read (λ command. IsFor (codes "count") rows (asked_by command))
+    → ((by : CountKey) (from to : Option ℤ) (stats : Bool) (pattern : Text) → Gives rows (to_count by from to stats pattern) → IsSomeAnd read (λ command. asked_by command ≡ to_count by from to stats pattern))
+    → IsReading (codes "count") rows read
+reads_count rows read some all =
+    record { some = some; all = λ asked is. only_count (λ a. Gives rows a → IsSomeAnd read (λ command. asked_by command ≡ a)) all asked is.0 is.1 }
 
 -- what is asked under the name `bench`
 pub only_bench : (P : Asked → Type 0) → ((number lines workers : ℕ) → P (to_bench number lines workers)) → (asked : Asked) → name_of asked ≡ codes "bench" → P asked
@@ -161,6 +189,7 @@ only_bench P p to_list e = absurd (other_text (codes "files") (codes "bench") re
 only_bench P p to_check e = absurd (other_text (codes "check") (codes "bench") refl e)
 only_bench P p (to_decode number) e = absurd (other_text (codes "decode") (codes "bench") refl e)
 only_bench P p (to_search from to stats workers pattern) e = absurd (other_text (codes "search") (codes "bench") refl e)
+only_bench P p (to_count by from to stats pattern) e = absurd (other_text (codes "count") (codes "bench") refl e)
 only_bench P p (to_bench number lines workers) e = p number lines workers
 
 pub reads_bench : (rows : List Row) (read : Option Command) → IfSome read (λ command. IsFor (codes "bench") rows (asked_by command))
@@ -170,13 +199,14 @@ reads_bench rows read some all =
     record { some = some; all = λ asked is. only_bench (λ a. Gives rows a → IsSomeAnd read (λ command. asked_by command ≡ a)) all asked is.0 is.1 }
 
 -- a name that is none of them
-pub no_name : (name : Text) → (name ≡ codes "show" → ⊥) → (name ≡ codes "scan" → ⊥) → (name ≡ codes "create" → ⊥) → (name ≡ codes "ingest" → ⊥) → (name ≡ codes "files" → ⊥) → (name ≡ codes "check" → ⊥) → (name ≡ codes "decode" → ⊥) → (name ≡ codes "search" → ⊥) → (name ≡ codes "bench" → ⊥) → (asked : Asked) → name_of asked ≡ name → ⊥
-no_name name n0 n1 n2 n3 n4 n5 n6 n7 n8 (to_show file) e = n0 (sym e)
-no_name name n0 n1 n2 n3 n4 n5 n6 n7 n8 (to_scan pattern file) e = n1 (sym e)
-no_name name n0 n1 n2 n3 n4 n5 n6 n7 n8 (to_create header) e = n2 (sym e)
-no_name name n0 n1 n2 n3 n4 n5 n6 n7 n8 (to_ingest workers segment files) e = n3 (sym e)
-no_name name n0 n1 n2 n3 n4 n5 n6 n7 n8 to_list e = n4 (sym e)
-no_name name n0 n1 n2 n3 n4 n5 n6 n7 n8 to_check e = n5 (sym e)
-no_name name n0 n1 n2 n3 n4 n5 n6 n7 n8 (to_decode number) e = n6 (sym e)
-no_name name n0 n1 n2 n3 n4 n5 n6 n7 n8 (to_search from to stats workers pattern) e = n7 (sym e)
-no_name name n0 n1 n2 n3 n4 n5 n6 n7 n8 (to_bench number lines workers) e = n8 (sym e)
+pub no_name : (name : Text) → (name ≡ codes "show" → ⊥) → (name ≡ codes "scan" → ⊥) → (name ≡ codes "create" → ⊥) → (name ≡ codes "ingest" → ⊥) → (name ≡ codes "files" → ⊥) → (name ≡ codes "check" → ⊥) → (name ≡ codes "decode" → ⊥) → (name ≡ codes "search" → ⊥) → (name ≡ codes "count" → ⊥) → (name ≡ codes "bench" → ⊥) → (asked : Asked) → name_of asked ≡ name → ⊥
+no_name name n0 n1 n2 n3 n4 n5 n6 n7 n8 n9 (to_show file) e = n0 (sym e)
+no_name name n0 n1 n2 n3 n4 n5 n6 n7 n8 n9 (to_scan pattern file) e = n1 (sym e)
+no_name name n0 n1 n2 n3 n4 n5 n6 n7 n8 n9 (to_create header) e = n2 (sym e)
+no_name name n0 n1 n2 n3 n4 n5 n6 n7 n8 n9 (to_ingest workers segment files) e = n3 (sym e)
+no_name name n0 n1 n2 n3 n4 n5 n6 n7 n8 n9 to_list e = n4 (sym e)
+no_name name n0 n1 n2 n3 n4 n5 n6 n7 n8 n9 to_check e = n5 (sym e)
+no_name name n0 n1 n2 n3 n4 n5 n6 n7 n8 n9 (to_decode number) e = n6 (sym e)
+no_name name n0 n1 n2 n3 n4 n5 n6 n7 n8 n9 (to_search from to stats workers pattern) e = n7 (sym e)
+no_name name n0 n1 n2 n3 n4 n5 n6 n7 n8 n9 (to_count by from to stats pattern) e = n8 (sym e)
+no_name name n0 n1 n2 n3 n4 n5 n6 n7 n8 n9 (to_bench number lines workers) e = n9 (sym e)

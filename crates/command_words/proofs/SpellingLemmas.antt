@@ -1,16 +1,21 @@
 -- How words are spelled, by computing what `clap` makes of them.
-use Rattle.std.proofs.Common.{◌≡◌, ◌≤◌, ℕ, List, [], ◌∷◌, Some, None, true, false, refl, codes, arith}
+use Rattle.std.proofs.Common.{◌≡◌, ◌≤◌, ◌∙◌, ℕ, List, [], ◌∷◌, Option, Some, None, true, false, refl, sym, ap, subst, codes, arith}
 use Rattle.std.specs.Fmt.{decimal}
 use Rattle.std.specs.Cmp.Lexicographic.{other_text}
 use Rattle.clap.specs.Kinds.{Kinds}
-use Rattle.clap.specs.Walk.{Row, Text}
+use Rattle.clap.specs.Walk.{Row, Text, first_of}
+use Rattle.clap.specs.Simple.{subcommand_of}
 use Rattle.clap.specs.Faults.{fault_of}
 use Rattle.clap.specs.declared.builder.value_parser.Reading.TheVariants.{AsWritten}
 use Rattle.clap.specs.declared.parser.matches.ValueSource.TheVariants.{CommandLine, DefaultValue}
 use Rattle.clap.proofs.OnLiterals.{clap_on_literals}
 use Rattle.command_words.specs.Forms.{clpa}
-use Rattle.command_words.specs.Asked.{Asks, to_check, to_create, to_decode, to_ingest, to_list, to_scan, to_search, to_show}
+use Rattle.command_words.specs.Asked.{Asked, Asks, Gives, name_of, to_check, to_count, to_create, to_decode, to_ingest, to_list, to_scan, to_search, to_show}
 use Rattle.command_words.specs.Spellings.{AskNothing}
+use Rattle.command_words.specs.Values.{key_word}
+use Rattle.command_words.specs.declared.command.CountKey.{CountKey}
+use Rattle.command_words.specs.declared.command.CountKey.TheVariants.{LogType, Minute}
+use Rattle.command_words.proofs.NameLemmas.{only_count}
 
 abbrev row : Text → List Text → Row
 row id values = record { id = id; values = values; count = None; source = Some CommandLine; reading = AsWritten }
@@ -62,6 +67,36 @@ any_counted pattern = record {
   good = refl;
   found = refl;
   given = record { from_is = refl; to_is = refl; stats_are = (λ h. refl, λ h. refl); workers_are = refl; pattern_is = refl };
+}
+
+pub any_by_type : (pattern : Text) → Asks (codes "count" ∷ codes "--by=type" ∷ codes "--" ∷ pattern ∷ []) (to_count LogType None None false pattern)
+unfolding clap_on_literals
+any_by_type pattern = record {
+  rows = row (codes "by") (codes "type" ∷ []) ∷ row (codes "pattern") (pattern ∷ []) ∷ not_counted ∷ [];
+  good = refl;
+  found = refl;
+  given = record {
+    by_is = refl;
+    from_is = refl;
+    to_is = refl;
+    stats_are = (λ h. absurd (cc (h)), λ h. absurd (other_text (codes "false") (codes "true") refl (cc (h))));
+    pattern_is = refl;
+  };
+}
+
+pub any_by_minute : (pattern : Text) → Asks (codes "count" ∷ codes "--by" ∷ codes "minute" ∷ codes "--" ∷ pattern ∷ []) (to_count Minute None None false pattern)
+unfolding clap_on_literals
+any_by_minute pattern = record {
+  rows = row (codes "by") (codes "minute" ∷ []) ∷ row (codes "pattern") (pattern ∷ []) ∷ not_counted ∷ [];
+  good = refl;
+  found = refl;
+  given = record {
+    by_is = refl;
+    from_is = refl;
+    to_is = refl;
+    stats_are = (λ h. absurd (cc (h)), λ h. absurd (other_text (codes "false") (codes "true") refl (cc (h))));
+    pattern_is = refl;
+  };
 }
 
 pub any_decode : (n : ℕ) → n ≤ 4294967295 → Asks (codes "decode" ∷ codes "--" ∷ decimal n ∷ []) (to_decode n)
@@ -116,6 +151,36 @@ no_twice = faulty _ (codes "search" ∷ codes "--stats" ∷ codes "--stats" ∷ 
 pub no_missing : AskNothing (codes "scan" ∷ codes "x" ∷ [])
 unfolding clap_on_literals
 no_missing = faulty _ (codes "scan" ∷ codes "x" ∷ []) refl (λ e. cc (e))
+
+pub no_key : AskNothing (codes "count" ∷ codes "x" ∷ [])
+unfolding clap_on_literals
+no_key = faulty _ (codes "count" ∷ codes "x" ∷ []) refl (λ e. cc (e))
+
+-- what is counted by is named by one of two words
+not_hour : (key : CountKey) → Some (codes "hour") ≡ Some (key_word key) → ⊥
+not_hour LogType e = other_text (codes "hour") (codes "type") refl (cc (e))
+not_hour Minute e = other_text (codes "hour") (codes "minute") refl (cc (e))
+
+-- the words of `count` with a key that is none give nothing
+gives_no_key : (rows : List Row) → first_of (codes "by") rows ≡ Some (codes "hour") → (asked : Asked) → name_of asked ≡ codes "count" → Gives rows asked → ⊥
+gives_no_key rows is asked named = only_count (λ a. Gives rows a → ⊥) (λ by from to stats pattern gives. not_hour by (sym is ∙ gives.by_is)) asked named
+
+abbrev rows_or_none : Option (Text × List Row) → List Row
+rows_or_none None = []
+rows_or_none (Some p) = p.1
+
+abbrev name_or_none : Option (Text × List Row) → Text
+name_or_none None = []
+name_or_none (Some p) = p.0
+
+asks_no_key : (words : List Text) (rows : List Row) → subcommand_of clpa words ≡ Some (codes "count", rows) → first_of (codes "by") rows ≡ Some (codes "hour") → AskNothing words
+asks_no_key words rows found is = λ asked asks.
+    let same = sym found ∙ asks.found in
+    gives_no_key rows is asked (sym (ap name_or_none same)) (subst (λ r. Gives r asked) (sym (ap rows_or_none same)) asks.given)
+
+pub no_other_key : AskNothing (codes "count" ∷ codes "--by=hour" ∷ codes "x" ∷ [])
+unfolding clap_on_literals
+no_other_key = asks_no_key _ (row (codes "by") (codes "hour" ∷ []) ∷ row (codes "pattern") (codes "x" ∷ []) ∷ not_counted ∷ []) refl refl
 
 pub no_one_more : AskNothing (codes "files" ∷ codes "x" ∷ [])
 unfolding clap_on_literals

@@ -12,9 +12,11 @@ use Rattle.record_format.specs.declared.header.Header.{Header}
 use Rattle.clap.specs.declared.error.kind.ErrorKind.{ErrorKind}
 use Rattle.clap.specs.declared.error.kind.ErrorKind.TheVariants as kind
 use Rattle.command_words.specs.Forms.{clpa}
-use Rattle.command_words.specs.Values.{IsGood, IsGoodMoment, IsMomentIn, IsNumberIn}
+use Rattle.command_words.specs.Values.{IsGood, IsGoodKey, IsGoodMoment, IsKeyIn, IsMomentIn, IsNumberIn}
 use Rattle.command_words.specs.Values.{IsNumberOr, IsWithin}
 use Rattle.command_words.specs.declared.command.BenchWords.{BenchWords}
+use Rattle.command_words.specs.declared.command.CountKey.{CountKey}
+use Rattle.command_words.specs.declared.command.CountWords.{CountWords}
 use Rattle.command_words.specs.declared.command.IngestWords.{IngestWords}
 use Rattle.command_words.specs.declared.command.SearchWords.{SearchWords}
 use Rattle.command_words.specs.declared.command.WordsRefusal.{WordsRefusal}
@@ -22,7 +24,7 @@ use Rattle.command_words.specs.declared.command.WordsRefusal.TheVariants.{Usage,
 use Rattle.command_words.specs.declared.command.Command.{Command}
 use Rattle.command_words.specs.declared.command.Command.TheVariants.{Show, Scan, Create, Ingest}
 use Rattle.command_words.specs.declared.command.Command.TheVariants.{Files, Check, Decode, Search}
-use Rattle.command_words.specs.declared.command.Command.TheVariants.{Bench}
+use Rattle.command_words.specs.declared.command.Command.TheVariants.{Bench, Count}
 
 -- what can be asked for, with its values
 pub data Asked : Type 0 where
@@ -39,6 +41,8 @@ pub data Asked : Type 0 where
   to_decode : ℕ → Asked
   -- the first and the last moment, whether counts are printed, workers, a pattern
   to_search : Option ℤ → Option ℤ → Bool → ℕ → Text → Asked
+  -- what is counted by, the first and the last moment, whether counts of the search are printed, a pattern
+  to_count : CountKey → Option ℤ → Option ℤ → Bool → Text → Asked
   -- a number, lines, workers
   to_bench : ℕ → ℕ → ℕ → Asked
 
@@ -52,6 +56,7 @@ name_of to_list = codes "files"
 name_of to_check = codes "check"
 name_of (to_decode number) = codes "decode"
 name_of (to_search from to stats workers pattern) = codes "search"
+name_of (to_count by from to stats pattern) = codes "count"
 name_of (to_bench number lines workers) = codes "bench"
 
 -- the options of `create` give this header
@@ -77,6 +82,15 @@ pub record IsSearch (rows : List Row) (from to : Option ℤ) (stats : Bool) (wor
   pub workers_are : IsNumberOr 1 1 64 (first_of (codes "workers") rows) workers
   pub pattern_is : first_of (codes "pattern") rows ≡ Some pattern
 
+-- the options and the word of `count` give these
+pub record IsCount (rows : List Row) (by : CountKey) (from to : Option ℤ) (stats : Bool)
+    (pattern : Text) : Type 0 where
+  pub by_is : IsKeyIn (first_of (codes "by") rows) by
+  pub from_is : IsMomentIn (first_of (codes "from") rows) from
+  pub to_is : IsMomentIn (first_of (codes "to") rows) to
+  pub stats_are : IsTrue stats ↔ (first_of (codes "stats") rows ≡ Some (codes "true"))
+  pub pattern_is : first_of (codes "pattern") rows ≡ Some pattern
+
 -- the words of `bench` give these
 pub record IsBench (rows : List Row) (number lines workers : ℕ) : Type 0 where
   pub number_is : IsNumberIn 0 4294967295 (first_of (codes "number") rows) number
@@ -94,6 +108,7 @@ Gives rows to_list = Unit {0}
 Gives rows to_check = Unit {0}
 Gives rows (to_decode number) = IsNumberIn 0 4294967295 (first_of (codes "number") rows) number
 Gives rows (to_search from to stats workers pattern) = IsSearch rows from to stats workers pattern
+Gives rows (to_count by from to stats pattern) = IsCount rows by from to stats pattern
 Gives rows (to_bench number lines workers) = IsBench rows number lines workers
 
 -- The words ask for this: `clap` finds no fault in them, and finds the command with these values.
@@ -107,7 +122,7 @@ pub record Asks (words : List Text) (asked : Asked) : Type 0 where
 abbrev pub AreTaken : List Text → Type 0
 AreTaken words = takes clpa words ≡ true
 
--- each number that was found is written as numbers are, and lies in its range
+-- each number that was found is written as numbers are, and lies in its range; and what is counted by is named
 pub record AreGood (rows : List Row) : Type 0 where
   pub format : IsGood 1 3 (first_of (codes "format") rows)
   pub types : IsGood 1 2147483648 (first_of (codes "types") rows)
@@ -117,12 +132,13 @@ pub record AreGood (rows : List Row) : Type 0 where
   pub segment : IsGood 1 65536 (first_of (codes "segment") rows)
   pub from : IsGoodMoment (first_of (codes "from") rows)
   pub to : IsGoodMoment (first_of (codes "to") rows)
+  pub by : IsGoodKey (first_of (codes "by") rows)
   pub number : IsGood 0 4294967295 (first_of (codes "number") rows)
   pub lines : IsGood 1 1000000 (first_of (codes "lines") rows)
 
--- the numbers among the words are good
-abbrev pub HaveGoodNumbers : List Text → Type 0
-HaveGoodNumbers words =
+-- the values among the words are good
+abbrev pub HaveGoodValues : List Text → Type 0
+HaveGoodValues words =
     (name : Text) (rows : List Row) → subcommand_of clpa words ≡ Some (name, rows) → AreGood rows
 
 -- ---- the ranges of what is asked
@@ -146,6 +162,7 @@ IsInRange to_list = Unit {0}
 IsInRange to_check = Unit {0}
 IsInRange (to_decode number) = IsWithin 0 4294967295 number
 IsInRange (to_search from to stats workers pattern) = IsWithin 1 64 workers
+IsInRange (to_count by from to stats pattern) = Unit {0}
 IsInRange (to_bench number lines workers) = IsBenchInRange number lines workers
 
 -- ---- the command as it is answered
@@ -155,6 +172,9 @@ ingested asked = to_ingest asked.workers asked.segment (map (λ s. s.now) asked.
 
 abbrev pub searched : SearchWords → Asked
 searched asked = to_search asked.from asked.to asked.stats asked.workers asked.pattern.now
+
+abbrev pub counted : CountWords → Asked
+counted asked = to_count asked.by asked.from asked.to asked.stats asked.pattern.now
 
 abbrev pub benched : BenchWords → Asked
 benched asked = to_bench asked.number asked.lines asked.workers
@@ -168,6 +188,7 @@ asked_by Files = to_list
 asked_by Check = to_check
 asked_by (Decode number) = to_decode number
 asked_by (Search asked) = searched asked
+asked_by (Count asked) = counted asked
 asked_by (Bench asked) = benched asked
 
 -- the answer to words that ask for this: it, or want of memory

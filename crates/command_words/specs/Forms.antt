@@ -19,6 +19,10 @@ several name = record (word name) {
 abbrev pub option : Text → Rule
 option name = record (new_rule name) { long = Some name }
 
+-- an option that has to be there
+abbrev pub needed : Text → Rule
+needed name = record (option name) { required = true }
+
 -- `--name`
 abbrev pub flag : Text → Rule
 flag name = record (option name) { action = Some SetTrue }
@@ -55,6 +59,11 @@ search = command (codes "search")
     (option (codes "from") ∷ option (codes "to") ∷ flag (codes "stats")
     ∷ option (codes "workers") ∷ word (codes "pattern") ∷ [])
 
+abbrev pub count : Shape
+count = command (codes "count")
+    (needed (codes "by") ∷ option (codes "from") ∷ option (codes "to")
+    ∷ flag (codes "stats") ∷ word (codes "pattern") ∷ [])
+
 abbrev pub bench : Shape
 bench = command (codes "bench")
     (word (codes "number") ∷ word (codes "lines") ∷ word (codes "workers") ∷ [])
@@ -71,5 +80,5 @@ top = record (new_shape (codes "clpa")) {
 abbrev pub clpa : App
 clpa = record {
   top = record top { is_leaf = false };
-  subs = show ∷ scan ∷ create ∷ ingest ∷ files ∷ check ∷ decode ∷ search ∷ bench ∷ [];
+  subs = show ∷ scan ∷ create ∷ ingest ∷ files ∷ check ∷ decode ∷ search ∷ count ∷ bench ∷ [];
 }

@@ -2,8 +2,9 @@
 use Rattle.std.specs.Prelude.{◌≤◌, ℕ, List, [], ◌∷◌, None, codes, true, false}
 use Rattle.std.specs.Fmt.{decimal}
 use Rattle.clap.specs.Walk.{Text}
-use Rattle.command_words.specs.Asked.{Asked, Asks, to_check, to_create, to_decode}
+use Rattle.command_words.specs.Asked.{Asked, Asks, to_check, to_count, to_create, to_decode}
 use Rattle.command_words.specs.Asked.{to_ingest, to_list, to_scan, to_search, to_show}
+use Rattle.command_words.specs.declared.command.CountKey.TheVariants.{LogType, Minute}
 
 -- behind `--` each text is a word
 pub record AreWords : Type 0 where
@@ -17,6 +18,12 @@ pub record AreWords : Type 0 where
   pub counted : (pattern : Text)
       → Asks (codes "search" ∷ codes "--stats" ∷ codes "--" ∷ pattern ∷ [])
       (to_search None None true 1 pattern)
+  pub by_type : (pattern : Text)
+      → Asks (codes "count" ∷ codes "--by=type" ∷ codes "--" ∷ pattern ∷ [])
+      (to_count LogType None None false pattern)
+  pub by_minute : (pattern : Text)
+      → Asks (codes "count" ∷ codes "--by" ∷ codes "minute" ∷ codes "--" ∷ pattern ∷ [])
+      (to_count Minute None None false pattern)
   pub decode : (n : ℕ) → n ≤ 4294967295
       → Asks (codes "decode" ∷ codes "--" ∷ decimal n ∷ []) (to_decode n)
 
@@ -43,4 +50,6 @@ pub record AreRefused : Type 0 where
   pub apart : AskNothing (codes "search" ∷ codes "--from" ∷ codes "-5" ∷ codes "x" ∷ [])
   pub twice : AskNothing (codes "search" ∷ codes "--stats" ∷ codes "--stats" ∷ codes "x" ∷ [])
   pub missing : AskNothing (codes "scan" ∷ codes "x" ∷ [])
+  pub no_key : AskNothing (codes "count" ∷ codes "x" ∷ [])
+  pub other_key : AskNothing (codes "count" ∷ codes "--by=hour" ∷ codes "x" ∷ [])
   pub one_more : AskNothing (codes "files" ∷ codes "x" ∷ [])

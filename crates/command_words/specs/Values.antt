@@ -1,7 +1,9 @@
 -- How the values of words and options are written.
-use Rattle.std.specs.Prelude.{◌≡◌, ◌≤◌, ℕ, ℤ, List, Option, Some, None, FitsSigned, IsSomeAnd}
+use Rattle.std.specs.Prelude.{◌≡◌, ◌≤◌, ℕ, ℤ, List, Option, Some, None, FitsSigned, IsSomeAnd, codes}
 use Rattle.std.specs.Fmt.{decimal, signed_decimal}
 use mir.Syntax.{w64}
+use Rattle.command_words.specs.declared.command.CountKey.{CountKey}
+use Rattle.command_words.specs.declared.command.CountKey.TheVariants.{LogType, Minute}
 
 -- the text is the plain decimal print of this number, which lies in the range
 pub record IsNumber (least most : ℕ) (text : List ℕ) (n : ℕ) : Type 0 where
@@ -37,6 +39,19 @@ IsGood least most (Some text) = (n : ℕ) × IsNumber least most text n
 abbrev pub IsGoodMoment : Option (List ℕ) → Type 0
 IsGoodMoment None = Unit {0}
 IsGoodMoment (Some text) = (z : ℤ) × IsMoment text z
+
+-- the word for what messages are counted by
+abbrev pub key_word : CountKey → List ℕ
+key_word LogType = codes "type"
+key_word Minute = codes "minute"
+
+abbrev pub IsKeyIn : Option (List ℕ) → CountKey → Type 0
+IsKeyIn text key = text ≡ Some (key_word key)
+
+-- the text is such a word, where it is given
+abbrev pub IsGoodKey : Option (List ℕ) → Type 0
+IsGoodKey None = Unit {0}
+IsGoodKey (Some text) = (key : CountKey) × (text ≡ key_word key)
 
 pub record IsWithin (least most n : ℕ) : Type 0 where
   pub low : least ≤ n

@@ -25,6 +25,8 @@ pub enum Command<'a> {
     Decode { number: u32 },
     /// `search [--from MS] [--to MS] [--stats] [--workers W] PATTERN`
     Search { asked: SearchWords<'a> },
+    /// `count --by KEY [--from MS] [--to MS] [--stats] PATTERN`
+    Count { asked: CountWords<'a> },
     /// `bench NUMBER LINES WORKERS`
     Bench { asked: BenchWords },
 }
@@ -51,6 +53,30 @@ pub struct SearchWords<'a> {
     pub stats: bool,
     /// How many workers there are: 1 to 64.
     pub workers: u32,
+    /// The pattern.
+    pub pattern: &'a str,
+}
+
+/// What messages are counted by.
+#[derive(Clone, Copy, Debug, PartialEq, Eq)]
+pub enum CountKey {
+    /// `type`: their log type.
+    LogType,
+    /// `minute`: the minute of their stamp.
+    Minute,
+}
+
+/// What the words of `count` ask for.
+#[derive(Clone, Copy, Debug)]
+pub struct CountWords<'a> {
+    /// What messages are counted by.
+    pub by: CountKey,
+    /// The first moment of the range, where it is given.
+    pub from: Option<i64>,
+    /// The last moment of the range, where it is given.
+    pub to: Option<i64>,
+    /// Whether the counts of the search are printed too.
+    pub stats: bool,
     /// The pattern.
     pub pattern: &'a str,
 }

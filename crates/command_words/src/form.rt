@@ -32,6 +32,13 @@ fn option<'a>(alloc: Global, name: &'a str) -> Arg<'a>
     Arg::new(alloc, name).long(name)
 }
 
+/// An option with a value, which has to be there.
+fn needed<'a>(alloc: Global, name: &'a str) -> Arg<'a>
+    ensures { IsRule result (forms.needed name.entry.now) }
+{
+    Arg::new(alloc, name).long(name).required(true)
+}
+
 /// An option without a value: `--name`.
 fn flag<'a>(alloc: Global, name: &'a str) -> Arg<'a>
     ensures { IsRule result (forms.flag name.entry.now) }
@@ -89,6 +96,17 @@ fn search<'a>(alloc: Global) -> Result<Command<'a>, AllocError>
         .arg(word(alloc, "pattern"))
 }
 
+fn count<'a>(alloc: Global) -> Result<Command<'a>, AllocError>
+    ensures { IfOk result (λ c. IsApp c (leaf forms.count)) }
+{
+    Command::new(alloc, "count")
+        .arg(needed(alloc, "by"))?
+        .arg(option(alloc, "from"))?
+        .arg(option(alloc, "to"))?
+        .arg(flag(alloc, "stats"))?
+        .arg(word(alloc, "pattern"))
+}
+
 fn bench<'a>(alloc: Global) -> Result<Command<'a>, AllocError>
     ensures { IfOk result (λ c. IsApp c (leaf forms.bench)) }
 {
@@ -122,5 +140,6 @@ pub(crate) fn commands<'a>(alloc: Global) -> Result<Command<'a>, AllocError>
         .subcommand(Command::new(alloc, "check"))?
         .subcommand(decode(alloc)?)?
         .subcommand(search(alloc)?)?
+        .subcommand(count(alloc)?)?
         .subcommand(bench(alloc)?)
 }

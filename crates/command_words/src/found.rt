@@ -2,10 +2,11 @@
 ghost use Rattle.std.specs.Prelude.{◌≡◌, ◌≤◌, ◌<◌, ◌^◌, ◌↔◌, ℕ, ℤ, Bool, List, Option, Some, IfSome, IfOk, IsSomeAnd, IsTrue, codes, map, option_map};
 ghost use Rattle.clap.specs.Words.{Text, all_of, first_of};
 ghost use Rattle.record_format.specs.declared.header.Header.{Header};
-ghost use Rattle.command_words.specs.Asked.{Gives, IsReading, benched, ingested, rows_in, searched, to_bench, to_create, to_ingest, to_search};
-ghost use Rattle.command_words.specs.Values.{IsMomentIn, IsNumberIn, IsNumberOr};
+ghost use Rattle.command_words.specs.Asked.{Gives, IsReading, benched, counted, ingested, rows_in, searched, to_bench, to_count, to_create, to_ingest, to_search};
+ghost use Rattle.command_words.specs.Values.{IsKeyIn, IsMomentIn, IsNumberIn, IsNumberOr};
+ghost use Rattle.command_words.specs.declared.command.CountKey.{CountKey};
 
-use crate::command::{BenchWords, Command, IngestWords, SearchWords};
+use crate::command::{BenchWords, Command, CountKey, CountWords, IngestWords, SearchWords};
 use crate::number::{read_moment, read_number};
 use clap::ArgMatches;
 use record_format::Header;
@@ -69,6 +70,19 @@ fn flag(found: &ArgMatches<'_>, name: &str) -> bool
     }
 }
 
+/// What is counted by, where the option for it names one.
+fn key(found: &ArgMatches<'_>) -> Option<CountKey>
+    ensures some { IfSome result (IsKeyIn (first_of (codes "by") (rows_in found.now))) }
+    ensures all { (k : CountKey) → IsKeyIn (first_of (codes "by") (rows_in found.now)) k
+        → result ≡ Some k }
+{
+    match text(found, "by")? {
+        "type" => Some(CountKey::LogType),
+        "minute" => Some(CountKey::Minute),
+        _ => None,
+    }
+}
+
 fn read_create(found: &ArgMatches<'_>) -> Option<Header>
     ensures some { IfSome result (λ h. Gives (rows_in found.now) (to_create h)) }
     ensures all { (h : Header) → Gives (rows_in found.now) (to_create h) → result ≡ Some h }
@@ -101,6 +115,26 @@ fn read_search<'a>(found: &ArgMatches<'a>) -> Option<SearchWords<'a>>
         to,
         stats,
         workers: workers as u32,
+        pattern,
+    })
+}
+
+fn read_count<'a>(found: &ArgMatches<'a>) -> Option<CountWords<'a>>
+    ensures some { IfSome result (λ c. Gives (rows_in found.now) (counted c)) }
+    ensures all { (by : CountKey) (from to : Option ℤ) (stats : Bool) (pattern : Text)
+        → Gives (rows_in found.now) (to_count by from to stats pattern)
+        → IsSomeAnd result (λ c. counted c ≡ to_count by from to stats pattern) }
+{
+    let by = key(found)?;
+    let from = moment(found, "from")?;
+    let to = moment(found, "to")?;
+    let stats = flag(found, "stats");
+    let pattern = text(found, "pattern")?;
+    Some(CountWords {
+        by,
+        from,
+        to,
+        stats,
         pattern,
     })
 }
@@ -221,6 +255,13 @@ fn search<'a>(found: &ArgMatches<'a>) -> Option<Command<'a>>
     Some(Command::Search { asked })
 }
 
+fn count<'a>(found: &ArgMatches<'a>) -> Option<Command<'a>>
+    ensures { IsReading (codes "count") (rows_in found.now) result }
+{
+    let asked = read_count(found)?;
+    Some(Command::Count { asked })
+}
+
 fn bench<'a>(found: &ArgMatches<'a>) -> Option<Command<'a>>
     ensures { IsReading (codes "bench") (rows_in found.now) result }
 {
@@ -246,6 +287,7 @@ pub(crate) fn read_command<'a>(
         "check" => Ok(Some(Command::Check)),
         "decode" => Ok(decode(found)),
         "search" => Ok(search(found)),
+        "count" => Ok(count(found)),
         "bench" => Ok(bench(found)),
         _ => Ok(None),
     }

@@ -11,6 +11,8 @@ mod number;
 mod read;
 mod spelled;
 
-pub use command::{BenchWords, Command, IngestWords, SearchWords, WordsRefusal};
+pub use command::{
+    BenchWords, Command, CountKey, CountWords, IngestWords, SearchWords, WordsRefusal,
+};
 pub use read::read_words;
 pub use spelled::spellings;

@@ -1,5 +1,5 @@
 //! Numbers as they are written.
-ghost use Rattle.std.specs.Prelude.{◌≡◌, ◌<◌, ◌≤◌, ◌^◌, ℕ, ℤ, IfSome, Some, FitsSigned};
+ghost use Rattle.std.specs.Prelude.{◌≡◌, ◌<◌, ◌^◌, ℕ, ℤ, IfSome, Some, FitsSigned};
 ghost use Rattle.std.specs.Fmt.{decimal, signed_decimal};
 ghost use mir.Syntax.{w64};
 ghost use Rattle.command_words.specs.Values.{IsNumber};

@@ -1,7 +1,7 @@
 //! The reading of the words.
 ghost use Rattle.std.specs.Prelude.{◌≡◌, ◌≢◌, [], false, IfErr, IfOk, map, option_map, string_bytes};
 ghost use Rattle.clap.specs.Words.{fault_of, kind_of, subcommand_of, subcommand_rows_of, takes};
-ghost use Rattle.command_words.specs.Asked.{AreTaken, Asked, Asks, HaveGoodNumbers, IsAnswer, IsFound, IsInRange, asked_by, refusal_by, rows_in};
+ghost use Rattle.command_words.specs.Asked.{AreTaken, Asked, Asks, HaveGoodValues, IsAnswer, IsFound, IsInRange, asked_by, refusal_by, rows_in};
 ghost use Rattle.command_words.specs.Forms.{clpa};
 ghost use Rattle.command_words.specs.declared.command.WordsRefusal.TheVariants.{OutOfMemory, Usage};
 
@@ -69,13 +69,14 @@ fn read_found<'a>(alloc: Global, matches: &ArgMatches<'a>) -> Result<Command<'a>
 /// written in decimal, without a needless zero, with a sign only where it is below zero.
 ///
 /// `Usage` comes only where `clap` refuses the words for another cause than memory, or where a
-/// number is not written so or is outside its range; every other refusal is want of memory.
+/// number is not written so or is outside its range, or where there is nothing that the word of
+/// `--by` names; every other refusal is want of memory.
 pub fn read_words<'a>(alloc: Global, words: &'a [String]) -> Result<Command<'a>, WordsRefusal>
     ensures asked { IfOk result (λ c. Asks (map string_bytes words.entry.now) (asked_by c)) }
     ensures range { IfOk result (λ c. IsInRange (asked_by c)) }
     ensures all { (a : Asked) → Asks (map string_bytes words.entry.now) a → IsAnswer a result }
     ensures taken { AreTaken (map string_bytes words.entry.now)
-        → HaveGoodNumbers (map string_bytes words.entry.now)
+        → HaveGoodValues (map string_bytes words.entry.now)
         → IfErr result (λ r. r ≡ OutOfMemory) }
 {
     let matches = parse(alloc, words)?;

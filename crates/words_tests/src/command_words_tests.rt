@@ -1,4 +1,4 @@
-use command_words::{Command, WordsRefusal, read_words};
+use command_words::{Command, CountKey, WordsRefusal, read_words};
 use std::alloc::{AllocError, Global};
 use std::test::Fail;
 
@@ -56,6 +56,19 @@ const NO_OPTION: &[&[&str]] = &[
     &["search", "--stats", "--stats", "a"],
     &["search", "--stats=true", "a"],
     &["search", "--segment=1", "a"],
+    &["count", "a"],
+    &["count", "--by", "type"],
+    &["count", "--by=type", "--by=type", "a"],
+    &["count", "--by=type", "--workers=1", "a"],
+];
+
+/// Words that name nothing that messages are counted by.
+const NO_KEY: &[&[&str]] = &[
+    &["count", "--by", "hour", "a"],
+    &["count", "--by=", "a"],
+    &["count", "--by=Type", "a"],
+    &["count", "--by=types", "a"],
+    &["count", "--by", "type", "--from=05", "a"],
 ];
 
 /// Words with a number that is outside its range.
@@ -110,6 +123,15 @@ fn other_forms_are_refused(rt: HostRuntime) -> Result<(), Fail> {
 #[test]
 fn other_options_are_refused(rt: HostRuntime) -> Result<(), Fail> {
     for &words in NO_OPTION {
+        let well = is_usage(rt.alloc(), words)?;
+        assert!(rt; well, "{words:?}");
+    }
+    Ok(())
+}
+
+#[test]
+fn other_keys_are_refused(rt: HostRuntime) -> Result<(), Fail> {
+    for &words in NO_KEY {
         let well = is_usage(rt.alloc(), words)?;
         assert!(rt; well, "{words:?}");
     }
@@ -301,6 +323,71 @@ fn searches(
 fn search_has_a_range_and_a_pattern(rt: HostRuntime) -> Result<(), Fail> {
     for &(words, from, to, stats, workers, pattern) in SEARCHES {
         let well = searches(rt.alloc(), words, (from, to), (stats, workers), pattern)?;
+        assert!(rt; well, "{words:?}");
+    }
+    Ok(())
+}
+
+/// Words of `count`, and what is counted by, the bounds, whether counts are printed, and the pattern.
+const COUNTS: &[(&[&str], CountKey, Option<i64>, Option<i64>, bool, &str)] = &[
+    (
+        &["count", "--by", "type", "a*b"],
+        CountKey::LogType,
+        None,
+        None,
+        false,
+        "a*b",
+    ),
+    (
+        &["count", "", "--from=-5", "--stats", "--by=minute"],
+        CountKey::Minute,
+        Some(-5),
+        None,
+        true,
+        "",
+    ),
+    (
+        &[
+            "count",
+            "--to",
+            "5",
+            "--by=minute",
+            "--from",
+            "6",
+            "--",
+            "-x",
+        ],
+        CountKey::Minute,
+        Some(6),
+        Some(5),
+        false,
+        "-x",
+    ),
+];
+
+/// Whether the words ask to count by this in these bounds, with the counts of the search or without.
+fn counts(
+    alloc: Global,
+    words: &[&str],
+    by: CountKey,
+    bounds: (Option<i64>, Option<i64>),
+    told: (bool, &str),
+) -> Result<bool, AllocError> {
+    let all = words_of(alloc, words)?;
+    Ok(match read_words(alloc, all.as_slice()) {
+        Ok(Command::Count { asked }) => {
+            asked.by == by
+                && (asked.from, asked.to) == bounds
+                && (asked.stats, asked.pattern) == told
+        }
+        _ => false,
+    })
+}
+
+#[test]
+fn count_has_a_key_and_a_pattern(rt: HostRuntime) -> Result<(), Fail> {
+    for &(words, by, from, to, stats, pattern) in COUNTS {
+        let well = counts(rt.alloc(), words, by, (from, to), (stats, pattern))?;
         assert!(rt; well, "{words:?}");
     }
     Ok(())

@@ -57,6 +57,13 @@ returns-in-Search-clause-answers g c =
 pub returns-in-Search-clause-untouched : goal.returns-in-Search-clause-untouched
 returns-in-Search-clause-untouched g c = λ none. absurd (none (rw (c.in-Search.is) tt))
 
+pub returns-in-Count-clause-answers : goal.returns-in-Count-clause-answers
+returns-in-Count-clause-answers g c =
+    rw (c.in-Count.is) (c.count_messages.ensures.answers _ _ _ _)
+
+pub returns-in-Count-clause-untouched : goal.returns-in-Count-clause-untouched
+returns-in-Count-clause-untouched g c = λ none. absurd (none (rw (c.in-Count.is) tt))
+
 pub ingest_files-requires-clause-workers : goal.ingest_files-requires-clause-workers
 ingest_files-requires-clause-workers g c κs within =
     let range = rw (c.in-Ingest.is) at c.requires in

@@ -17,4 +17,5 @@ returns c =
     let s6 = joins c.in_ok-subcommand-5.field-0 c.new-2.result c.in_ok-subcommand-6.field-0 _ forms.check c.in_ok-subcommand-6.ensures s5 check in
     let s7 = joins c.in_ok-subcommand-6.field-0 c.in_ok-decode.field-0 c.in_ok-subcommand-7.field-0 _ forms.decode c.in_ok-subcommand-7.ensures s6 c.in_ok-decode.ensures in
     let s8 = joins c.in_ok-subcommand-7.field-0 c.in_ok-search.field-0 c.in_ok-subcommand-8.field-0 _ forms.search c.in_ok-subcommand-8.ensures s7 c.in_ok-search.ensures in
-    IfOk-weaker c.subcommand-9.result _ (λ r. IsApp r clpa) (λ r added. joins c.in_ok-subcommand-8.field-0 c.in_ok-bench.field-0 r _ forms.bench added s8 c.in_ok-bench.ensures) c.subcommand-9.ensures
+    let s9 = joins c.in_ok-subcommand-8.field-0 c.in_ok-count.field-0 c.in_ok-subcommand-9.field-0 _ forms.count c.in_ok-subcommand-9.ensures s8 c.in_ok-count.ensures in
+    IfOk-weaker c.subcommand-10.result _ (λ r. IsApp r clpa) (λ r added. joins c.in_ok-subcommand-9.field-0 c.in_ok-bench.field-0 r _ forms.bench added s9 c.in_ok-bench.ensures) c.subcommand-10.ensures
