@@ -65,14 +65,24 @@ fn print_counts<K: Sink>(alloc: Global, report: &Report, out: &mut K) -> Result<
     Ok(())
 }
 
-// The search, with counters that nobody reads.
+/// What is searched for, and how.
+#[derive(Clone, Copy)]
+struct Wanted<'a> {
+    /// How many workers there are. With any number the search prints the same.
+    workers: u32,
+    /// What the messages are to match.
+    pattern: &'a Pattern,
+    /// Of which time they are to be.
+    range: &'a Range,
+    /// Whether the line of the counts follows.
+    stats: bool,
+}
+
+/// The search, with counters that nobody reads.
 fn search_with<R: Threads + Sync, D: Disk, K: Sink, L: Ledger, M: Ledger>(
     rt: &R,
-    workers: u32,
     alloc: Global,
-    pattern: &Pattern,
-    range: &Range,
-    stats: bool,
+    wanted: Wanted<'_>,
     disk: &mut D,
     out: &mut K,
     opened: Blank,
@@ -80,15 +90,16 @@ fn search_with<R: Threads + Sync, D: Disk, K: Sink, L: Ledger, M: Ledger>(
 ) -> Result<(), ReadRefusal>
     requires opened { OpensFor opened L.name L.parts }
     requires expanded { OpensFor expanded M.name M.parts }
-    requires searched { IsSearched pattern.now }
+    requires searched { IsSearched wanted.pattern.now }
 
     // what stays
     ensures keeps { KeepsBytes (D.state disk.old) (D.state disk.new) }
-    ensures reads { SparesBarren (asked pattern.now range.now)
+    ensures reads { SparesBarren (asked wanted.entry.pattern.now wanted.entry.range.now)
         (D.state disk.old).seen (D.state disk.old).ranges (D.state disk.new).ranges }
 
     // by the answer
-    ensures prints { PrintsFound (is_ok result) (asked pattern.now range.now) stats
+    ensures prints { PrintsFound (is_ok result)
+        (asked wanted.entry.pattern.now wanted.entry.range.now) wanted.entry.stats
         (D.state disk.old).seen (K.written out.old) (K.written out.new) }
 
     // causes
@@ -104,12 +115,12 @@ fn search_with<R: Threads + Sync, D: Disk, K: Sink, L: Ledger, M: Ledger>(
     let mut expanded: Steps<M> = Steps::new(expanded);
     let answer = search(
         rt,
-        workers,
+        wanted.workers,
         alloc,
         places,
         disk,
-        pattern,
-        range,
+        wanted.pattern,
+        wanted.range,
         out,
         &mut opened,
         &mut expanded,
@@ -119,33 +130,30 @@ fn search_with<R: Threads + Sync, D: Disk, K: Sink, L: Ledger, M: Ledger>(
         // The search tells no place. The first damage is not behind the last gate.
         Err(refusal) => return Err(of_search(refusal, last)),
     };
-    if stats {
+    if wanted.stats {
         print_counts(alloc, &report, out)?;
     }
     Ok(())
 }
 
-/// Opens the archive of a disk, and prints the messages that a pattern matches in a range. With
-/// `stats` the line of the counts follows. With any number of workers it is the same.
+/// Opens the archive of a disk, and prints the messages that are wanted.
 fn search_archive<R: Threads + Sync, D: Disk, K: Sink>(
     rt: &R,
-    workers: u32,
     alloc: Global,
-    pattern: &Pattern,
-    range: &Range,
-    stats: bool,
+    wanted: Wanted<'_>,
     disk: &mut D,
     out: &mut K,
 ) -> Result<(), ReadRefusal>
-    requires searched { IsSearched pattern.now }
+    requires searched { IsSearched wanted.pattern.now }
 
     // what stays
     ensures keeps { KeepsBytes (D.state disk.old) (D.state disk.new) }
-    ensures reads { SparesBarren (asked pattern.now range.now)
+    ensures reads { SparesBarren (asked wanted.entry.pattern.now wanted.entry.range.now)
         (D.state disk.old).seen (D.state disk.old).ranges (D.state disk.new).ranges }
 
     // by the answer
-    ensures prints { PrintsFound (is_ok result) (asked pattern.now range.now) stats
+    ensures prints { PrintsFound (is_ok result)
+        (asked wanted.entry.pattern.now wanted.entry.range.now) wanted.entry.stats
         (D.state disk.old).seen (K.written out.old) (K.written out.new) }
 
     // causes
@@ -155,18 +163,7 @@ fn search_archive<R: Threads + Sync, D: Disk, K: Sink>(
         (D.state disk.old).faults (D.state disk.new).faults result }
     ensures sink { CountsOf ReadRefusal.SinkFault (K.faults out.old) (K.faults out.new) result }
 {
-    search_with::<R, D, K, Brand, Brand>(
-        rt,
-        workers,
-        alloc,
-        pattern,
-        range,
-        stats,
-        disk,
-        out,
-        Blank::new(1),
-        Blank::new(1),
-    )
+    search_with::<R, D, K, Brand, Brand>(rt, alloc, wanted, disk, out, Blank::new(1), Blank::new(1))
 }
 
 /// Prints the messages of the archive that the pattern of a text matches in a range.
@@ -193,16 +190,13 @@ pub fn search_messages<R: Threads + Sync, D: Disk, K: Sink>(
                 from: asked.from,
                 to: asked.to,
             };
-            let outcome = search_archive(
-                rt,
-                asked.workers,
-                alloc,
-                &pattern,
-                &range,
-                asked.stats,
-                disk,
-                out,
-            );
+            let wanted = Wanted {
+                workers: asked.workers,
+                pattern: &pattern,
+                range: &range,
+                stats: asked.stats,
+            };
+            let outcome = search_archive(rt, alloc, wanted, disk, out);
             answer(refusal_of_read(outcome), "", err)
         }
         Err(refusal) => report(err, "", refusal_of_pattern(refusal)),

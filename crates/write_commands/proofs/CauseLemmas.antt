@@ -1,6 +1,6 @@
 -- Why an ingest is refused as a whole.
 use Rattle.std.proofs.Common.{◌≡◌, ◌+◌, ◌<◌, ◌≤◌, inl, inr, refl, sym, ap, ap₂, subst, ◌∙◌, ℕ, true, List, length, Option, Some, None, arith}
-use Rattle.std.specs.Prelude.{IfErr, IfSome, IsErrOf, Result, Err, is_some}
+use Rattle.std.specs.Prelude.{IfErr, IfSome, IsErrOf, Result, Err, Ok, is_some}
 use Rattle.log_seams.specs.Disk.{DiskState, KeepsBytes, Rests}
 use Rattle.log_seams.specs.Outside.{CountsOf}
 use Rattle.log_seams.proofs.MomentLemmas.{rose}
@@ -19,11 +19,13 @@ use Rattle.disk_seal.specs.Registered.{IsFullFor}
 use Rattle.disk_seal.specs.declared.files.RegisterRefusal.{RegisterRefusal}
 use Rattle.disk_seal.proofs.NextLemmas.{gate_at}
 use Rattle.ingest_workers.specs.Ingested.{told_entries}
-use Rattle.command_answers.specs.Ingested.{GoPast, HasCallCause}
+use Rattle.command_answers.specs.Ingested.{FromArchive, GoPast, HasCallCause, TakesNothing}
 use Rattle.command_answers.specs.Names.{RefusesMore, RefusesNames}
 use Rattle.command_refusals.specs.Outcome.{add_from_archive, add_from_register, add_from_start}
 use Rattle.command_refusals.specs.Reading.{OverJournal}
 use Rattle.command_refusals.specs.declared.outcome.AddRefusal.{AddRefusal}
+use Rattle.write_commands.specs.declared.ingest.NewLogs.{NewLogs}
+use Rattle.write_commands.specs.StepsAdding.{RefusesNewLogs, names_asked}
 use Rattle.write_commands.proofs.AppendLemmas.{OpensFrom, files_counted, may_append}
 use Rattle.write_commands.proofs.LeavesLemmas.{from_archive, of_told, opened_as}
 use Rattle.write_commands.proofs.StepsLemmas.{Looked, no_more, same_bytes}
@@ -85,6 +87,11 @@ register_cause names old now new a from held counted few result (RegisterRefusal
 pub refused_with : {A : Type 0} (names : List (List ℕ)) (old new : DiskState) (result : Result A AddRefusal) (r r' : AddRefusal) → result ≡ Err r → r ≡ r' → HasCallCause names old new r' → IfErr result (HasCallCause names old new)
 refused_with {A} names old new result r r' is same cause =
     subst (λ (x : Result A AddRefusal). IfErr x (HasCallCause names old new)) (sym is) (subst (HasCallCause names old new) (sym same) cause)
+
+-- and nothing was taken in
+pub refuses_with : {A : Type 0} (asked : NewLogs) (old new : DiskState) (result : Result A AddRefusal) → IfErr result (HasCallCause (names_asked asked) old new) → FromArchive old (λ h before bytes stood. TakesNothing h before old new) → IfErr result (RefusesNewLogs asked old new)
+refuses_with asked old new (Ok done) cause nothing = tt
+refuses_with asked old new (Err refusal) cause nothing = record { cause = cause; nothing = nothing }
 
 -- ---- before the archive is opened
 

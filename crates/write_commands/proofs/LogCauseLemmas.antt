@@ -174,7 +174,7 @@ module _ (number lines : ℕ) where
     opens_in name = (open_faults_of s name, open_faults_of later name)
 
     pub log_causes : HaveFileCauses (told_with opens_in) workers rows old mid came → HaveFileCauses (told_with (λ name. (0, 0))) workers rows old new came
-    log_causes have = record { into = have.into; came_are = have.came_are; rows_are = have.rows_are; told = have.told; each = each_after most opens_in (calm s later) have.into old mid new same counts came (all_named came are) have.each; in_turn = have.in_turn }
+    log_causes have = record { into = have.into; came_are = have.came_are; rows_are = have.rows_are; told = have.told; causes = record { each = each_after most opens_in (calm s later) have.into old mid new same counts came (all_named came are) have.causes.each; in_turn = have.causes.in_turn } }
 
     pub logs_spared : HaveFileCauses (told_with opens_in) workers rows old mid came → All IsSpared came
-    logs_spared have = each_spared most opens_in (calm s later) have.into old mid new same counts came (all_named came are) have.each
+    logs_spared have = each_spared most opens_in (calm s later) have.into old mid new same counts came (all_named came are) have.causes.each

@@ -199,8 +199,10 @@ module _ (old mid : DiskState) (made : MakesEmpty default_header old mid) (tells
         came_are = have.came_are;
         rows_are = have.rows_are;
         told = made_from (λ h before bytes stood. IsTarget have.into h before (length stood.legal.held.names)) have.told;
-        each = All-weaker (CameIn logs have.into mid new) (CameIn logs have.into (as_made old) new) (came_on logs have.into (as_made old) mid new low) came have.each;
-        in_turn = have.in_turn;
+        causes = record {
+          each = All-weaker (CameIn logs have.into mid new) (CameIn logs have.into (as_made old) new) (came_on logs have.into (as_made old) mid new low) came have.causes.each;
+          in_turn = have.causes.in_turn;
+        };
       }
 
   all_taken : (number lines : ℕ) (came : List FileOutcome) (new : DiskState) → map (λ (c : FileOutcome). c.name) came ≡ generated_names → FromEmpty old new (λ from bytes stood. TakesIn segment_rows (generated number lines) default_header [] stood generated_names came from new)

@@ -21,7 +21,7 @@ use Rattle.record_format.specs.declared.header.Header.{Header}
 use Rattle.disk_journal.specs.State.{JournalState}
 use Rattle.command_refusals.specs.Outside.{Outside}
 use Rattle.command_answers.specs.Ingested.{AreFullInTurn, CameOfFile, DidNotFit, FileOutcome, FromArchive, HasFileCause, HasMoreThan, IsFullByGiven, IsFullInTurn, IsGiven, IsNextTooLong, Logs, OfTaken, WasCutShort, WasMetInOneOf, logs_of, names_in}
-use Rattle.write_commands.specs.StepsCauses.{AreFullInto, CameIn, HasCauseIn, HaveFileCauses, IsTarget, Target, into_journal}
+use Rattle.write_commands.specs.StepsCauses.{AreFullInto, CameIn, HasCauseIn, HaveCausesIn, HaveFileCauses, IsTarget, Target, into_journal}
 use Rattle.write_commands.specs.JournalLeft.{AddsNamesTo, HasNames}
 use Rattle.command_refusals.specs.LogLimits.{most_messages}
 use Rattle.command_refusals.specs.declared.outcome.PartCause.{PartCause}
@@ -51,15 +51,17 @@ texts_named names es before is WhichTypes = ap types_of is ∙ (types_joined bef
 texts_named names es before is WhichWords = ap words_of is ∙ (words_joined before (Files names ∷ []) ∙ append-nil (words_of before))
 
 pub causes_sooner : (old mid late : DiskState) → Looked old mid late → (logs : Logs) (workers rows : ℕ) (names : List (List ℕ)) (first : ℕ) (j : JournalState) (new : DiskState) (came : List FileOutcome) → late.faults ≤ j.disk.faults → map (λ (c : FileOutcome). c.name) came ≡ names
-    → FromArchive late (λ h before bytes stood. AddsNamesTo h before stood names first late j) → All (CameIn logs (into_journal j rows first came) j.disk new) came → (workers ≡ 1 → AreFullInto logs.content (into_journal j rows first came) came) → HaveFileCauses logs workers rows old new came
-causes_sooner old mid late looked logs workers rows names first j new came risen named added each in_turn = let into = into_journal j rows first came in record {
+    → FromArchive late (λ h before bytes stood. AddsNamesTo h before stood names first late j) → HaveCausesIn logs workers (into_journal j rows first came) j.disk new came → HaveFileCauses logs workers rows old new came
+causes_sooner old mid late looked logs workers rows names first j new came risen named added causes = let into = into_journal j rows first came in record {
   into = into;
   came_are = refl;
   rows_are = refl;
   told = from_archive old late (λ h before bytes stood. AddsNamesTo h before stood names first late j) (λ h before bytes stood. IsTarget into h before (length stood.legal.held.names)) (same_bytes old mid late looked) (no_more old mid late looked)
       (λ h before bytes stood only adds. is_target h before (length stood.legal.held.names) adds.has adds.number) added;
-  each = All-weaker (CameIn logs into j.disk new) (CameIn logs into old new) (came_on logs into old j.disk new (omega (arith, looked.counts, risen))) came each;
-  in_turn = in_turn;
+  causes = record {
+    each = All-weaker (CameIn logs into j.disk new) (CameIn logs into old new) (came_on logs into old j.disk new (omega (arith, looked.counts, risen))) came causes.each;
+    in_turn = causes.in_turn;
+  };
 }
   where
     is_target : (h : Header) (before : List JournalEntry) (held : ℕ) → HasNames h before names j → first ≡ held → IsTarget (into_journal j rows first came) h before held
@@ -118,7 +120,7 @@ module _ (seen : Outside) (old new : DiskState) (into : Target) (told : FromArch
 pub file_causes : (workers rows : ℕ) (seen : Outside) (old new : DiskState) (came : List FileOutcome) → HaveFileCauses (logs_of seen) workers rows old new came → All (CameOfFile rows came seen old new) came
 file_causes workers rows seen old new came have = subst (λ (cs : List FileOutcome). All (CameOfFile rows cs seen old new) came) have.came_are
     (subst (λ n. All (CameOfFile n have.into.came seen old new) came) have.rows_are
-    (All-weaker (CameIn (logs_of seen) have.into old new) (CameOfFile have.into.rows have.into.came seen old new) (λ c is. record { cause = file_cause seen old new have.into have.told c c.refusal is.cause; part = is.part }) came have.each))
+    (All-weaker (CameIn (logs_of seen) have.into old new) (CameOfFile have.into.rows have.into.came seen old new) (λ c is. record { cause = file_cause seen old new have.into have.told c c.refusal is.cause; part = is.part }) came have.causes.each))
 
 pub full_in_turn : (workers rows : ℕ) (seen : Outside) (old new : DiskState) (came : List FileOutcome) → HaveFileCauses (logs_of seen) workers rows old new came → workers ≡ 1 → AreFullInTurn rows seen.content old came
-full_in_turn workers rows seen old new came have one = subst (λ n. AreFullInTurn n seen.content old came) have.rows_are (from_turns seen old new have.into have.told came (have.in_turn one))
+full_in_turn workers rows seen old new came have one = subst (λ n. AreFullInTurn n seen.content old came) have.rows_are (from_turns seen old new have.into have.told came (have.causes.in_turn one))

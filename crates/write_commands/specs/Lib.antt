@@ -3,6 +3,7 @@ pub mod Jobs
 pub mod JournalLeft
 pub mod Laws
 pub mod Naming
+pub mod StepsAdding
 pub mod StepsCauses
 pub mod Taken
 pub mod StepsBench

@@ -72,11 +72,17 @@ pub record CameIn (logs : Logs) (into : Target) (old new : DiskState) (c : FileO
   pub cause : HasCauseIn logs into old new c c.refusal
   pub part : c.refusal ≢ None → c.whole ≡ false
 
--- so it is of each file, by the archive where the disk tells it; with one worker each full dictionary was so in turn
+-- So it is of each file, and with one worker each full dictionary was so in turn.
+pub record HaveCausesIn (logs : Logs) (workers : ℕ) (into : Target) (old new : DiskState) (came : List FileOutcome) : Type 0 where
+  -- each file has its cause
+  pub each : All (CameIn logs into old new) came
+  -- each full dictionary was so by the files up to the one that it stopped
+  pub in_turn : workers ≡ 1 → AreFullInto logs.content into came
+
+-- so it is of the files, by the archive where the disk tells it
 pub record HaveFileCauses (logs : Logs) (workers rows : ℕ) (old new : DiskState) (came : List FileOutcome) : Type 0 where
   pub into : Target
   pub came_are : into.came ≡ came
   pub rows_are : into.rows ≡ rows
   pub told : FromArchive old (λ h before bytes stood. IsTarget into h before (length stood.legal.held.names))
-  pub each : All (CameIn logs into old new) came
-  pub in_turn : workers ≡ 1 → AreFullInto logs.content into came
+  pub causes : HaveCausesIn logs workers into old new came

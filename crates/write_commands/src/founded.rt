@@ -3,7 +3,7 @@
 //! What is done to an archive is proved over bytes that stand for a legal journal. Whether those of a disk
 //! do is not asked when the program runs: it is a premise of what is said of the call. So the calls below
 //! are made over this disk, which tells its bytes only where the premise holds.
-ghost use Rattle.std.specs.Prelude.{◌≡◌, ◌+◌, ◌^◌, ◌≤◌, ℕ, Bool, false, length, is_some, Option, None};
+ghost use Rattle.std.specs.Prelude.{◌≡◌, ℕ, Bool, false, is_some, Option, None};
 ghost use Rattle.command_answers.specs.Known.{KnownArchive, told_if};
 ghost use Rattle.write_commands.specs.StepsKnown.{told_lawful};
 

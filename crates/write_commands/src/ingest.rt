@@ -1,5 +1,5 @@
 //! The command `ingest`: logs become the files of an archive.
-ghost use Rattle.std.specs.Prelude.{◌≡◌, ◌+◌, ◌≤◌, ℕ, List, [], length, map, slice_get, vec_len, vec_capacity, false, All, IfErr, IfOk, IfSome, IsTrue, OnErr, OnOk, is_some, None, Some};
+ghost use Rattle.std.specs.Prelude.{◌≡◌, ◌+◌, ◌≤◌, ℕ, List, [], length, map, slice_get, vec_len, vec_capacity, false, All, IfErr, IfOk, IfSome, IsTrue, is_some, None, Some};
 ghost use Rattle.std.specs.List.{AllZip};
 ghost use Rattle.disk_journal.specs.Journal.{state_of};
 ghost use Rattle.disk_seal.specs.Opening.{MayOpen};
@@ -9,16 +9,17 @@ ghost use Rattle.command_refusals.specs.Outside.{around};
 ghost use Rattle.log_sources.specs.Sources.{CameOf, is_opened, refusal_of, str_bytes};
 ghost use Rattle.command_refusals.specs.GoesOn.{DiskGoesOn, OutsideGoesOn};
 ghost use Rattle.ingest_fork.specs.declared.works.TheConstants.{MAX_WORKERS};
-ghost use Rattle.command_answers.specs.Ingested.{EndsIngest, FromArchive, HasCallCause, TakesIn, TakesNothing};
+ghost use Rattle.command_answers.specs.Ingested.{EndsIngest};
 ghost use Rattle.command_answers.specs.Known.{over, told_if};
 ghost use Rattle.write_commands.specs.IngestPrints.{came_of, names_of};
 ghost use Rattle.write_commands.specs.Jobs.{DidJobs, IsNotBegun, IsToldBy, opens_of, refusal_by, sources_of};
-ghost use Rattle.write_commands.specs.StepsCauses.{AreFullInto, CameIn, HaveFileCauses, into_journal, logs_around};
+ghost use Rattle.write_commands.specs.StepsAdding.{AddsNewLogs, HasRoomFor, IsInLimits, MayAdd, RefusesNewLogs, ShelfGoesOn, names_asked};
+ghost use Rattle.write_commands.specs.StepsCauses.{HaveCausesIn, into_journal, logs_around};
 ghost use Rattle.write_commands.specs.JournalLeft.{TakesInto};
 ghost use Rattle.command_answers.specs.Names.{RefusesNames};
 ghost use Rattle.write_commands.specs.Naming.{AreNumbered, HasGoneOn, IsNamed};
 ghost use Rattle.command_refusals.specs.Ending.{RefusesAtOnce};
-ghost use Rattle.command_refusals.specs.Reading.{IsArchive, OverJournal};
+ghost use Rattle.command_refusals.specs.Reading.{IsArchive};
 ghost use Rattle.command_refusals.specs.declared.outcome.AddRefusal.{AddRefusal};
 ghost use Rattle.command_refusals.specs.Outcome.{of_add};
 
@@ -279,35 +280,26 @@ fn take_in<'a, 'd, R: Threads + Wait + Sync, H: Shelf, D: Disk + Send>(
 ) -> Journal<'d, D>
 where
     H::Src: Send,
-    requires workers { (1 ≤ asked.workers) × (asked.workers ≤ MAX_WORKERS) }
-    requires segment { (1 ≤ asked.segment) × (asked.segment ≤ 65536) }
+    requires limits { IsInLimits asked }
     requires named { IsNamed (state_of journal) named.types named.words named.first
         (length asked.files.now) }
-    requires none { taken.old.items ≡ [] }
-    requires room { length asked.files.now ≤ vec_capacity taken.old }
+    requires room { HasRoomFor asked taken.old }
 
-    // the disk, and the files
+    // what stays
     ensures goes_on { HasGoneOn journal.entry result }
-    ensures names { names_of taken.new.items ≡ map str_bytes asked.entry.files.now }
-    ensures taken { TakesInto asked.entry.segment (H.content shelf.old)
-        (map str_bytes asked.entry.files.now)
+    ensures logs { ShelfGoesOn H.content H.open_faults H.read_faults shelf.old shelf.new }
+
+    // the files
+    ensures names { names_of taken.new.items ≡ names_asked asked.entry }
+    ensures taken { TakesInto asked.entry.segment (H.content shelf.old) (names_asked asked.entry)
         named.first (map came_of taken.new.items) (state_of journal.entry)
         (D.state result.disk.now) }
-    ensures causes { All (CameIn
+    ensures causes { HaveCausesIn
         (logs_around H.content H.open_faults H.read_faults shelf.old shelf.new)
+        asked.entry.workers
         (into_journal (state_of journal.entry) asked.entry.segment named.first
         (map came_of taken.new.items))
-        (state_of journal.entry).disk (D.state result.disk.now))
-        (map came_of taken.new.items) }
-    ensures in_turn { asked.entry.workers ≡ 1 → AreFullInto (H.content shelf.old)
-        (into_journal (state_of journal.entry) asked.entry.segment named.first
-        (map came_of taken.new.items))
-        (map came_of taken.new.items) }
-
-    // the logs
-    ensures logs { (n : List ℕ) → H.content shelf.new n ≡ H.content shelf.old n }
-    ensures opens { (n : List ℕ) → H.open_faults shelf.old n ≤ H.open_faults shelf.new n }
-    ensures reads { (n : List ℕ) → H.read_faults shelf.old n ≤ H.read_faults shelf.new n }
+        (state_of journal.entry).disk (D.state result.disk.now) (map came_of taken.new.items) }
 {
     let Named {
         types,
@@ -348,39 +340,20 @@ pub(crate) fn add_files<'a, R: Threads + Wait + Sync, H: Shelf, D: Disk + Send>(
 ) -> Result<u32, AddRefusal>
 where
     H::Src: Send,
-    requires workers { (1 ≤ asked.workers) × (asked.workers ≤ MAX_WORKERS) }
-    requires segment { (1 ≤ asked.segment) × (asked.segment ≤ 65536) }
-    requires names { RefusesNames (map str_bytes asked.files.now) None }
-    requires some { 1 ≤ length asked.files.now }
-    requires none { taken.old.items ≡ [] }
-    requires room { length asked.files.now ≤ vec_capacity taken.old }
+    requires asked { MayAdd asked }
+    requires room { HasRoomFor asked taken.old }
     requires archive { IfSome (D.state disk.old).seen IsArchive }
 
-    // taken in
-    ensures names { OnOk result
-        (names_of taken.new.items ≡ map str_bytes asked.entry.files.now) }
-    ensures number { IfOk result (λ first.
-        OverJournal (D.state disk.old).seen (λ journal. first ≡ length journal.names)) }
-    ensures taken { OnOk result (FromArchive (D.state disk.old) (λ h before bytes stood.
-        TakesIn asked.entry.segment (H.content shelf.old) h before stood
-        (map str_bytes asked.entry.files.now)
-        (map came_of taken.new.items) (D.state disk.old) (D.state disk.new))) }
-    ensures causes { OnOk result (HaveFileCauses
+    // by the answer
+    ensures added { IfOk result (λ first. AddsNewLogs
         (logs_around H.content H.open_faults H.read_faults shelf.old shelf.new)
-        asked.entry.workers asked.entry.segment (D.state disk.old) (D.state disk.new)
-        (map came_of taken.new.items)) }
+        asked.entry first taken.new.items (D.state disk.old) (D.state disk.new)) }
+    ensures refused { IfErr result
+        (RefusesNewLogs asked.entry (D.state disk.old) (D.state disk.new)) }
 
-    // refused
-    ensures nothing { OnErr result (FromArchive (D.state disk.old) (λ h before bytes stood.
-        TakesNothing h before (D.state disk.old) (D.state disk.new))) }
-    ensures cause { IfErr result (HasCallCause (map str_bytes asked.entry.files.now)
-        (D.state disk.old) (D.state disk.new)) }
-
-    // whatever the answer
+    // what stays
     ensures goes_on { DiskGoesOn (D.state disk.old) (D.state disk.new) }
-    ensures logs { (n : List ℕ) → H.content shelf.new n ≡ H.content shelf.old n }
-    ensures opens { (n : List ℕ) → H.open_faults shelf.old n ≤ H.open_faults shelf.new n }
-    ensures reads { (n : List ℕ) → H.read_faults shelf.old n ≤ H.read_faults shelf.new n }
+    ensures logs { ShelfGoesOn H.content H.open_faults H.read_faults shelf.old shelf.new }
 {
     let header = start(disk)?;
     let mut journal = Journal::begin(disk, header);
@@ -402,43 +375,24 @@ fn add_lent<'a, 'd, R: Threads + Wait + Sync, H: Shelf, D: Disk + Send, L: Lent 
 ) -> (Result<u32, AddRefusal>, &'d mut D)
 where
     H::Src: Send,
-    requires workers { (1 ≤ asked.workers) × (asked.workers ≤ MAX_WORKERS) }
-    requires segment { (1 ≤ asked.segment) × (asked.segment ≤ 65536) }
-    requires names { RefusesNames (map str_bytes asked.files.now) None }
-    requires some { 1 ≤ length asked.files.now }
-    requires none { taken.old.items ≡ [] }
-    requires room { length asked.files.now ≤ vec_capacity taken.old }
+    requires asked { MayAdd asked }
+    requires room { HasRoomFor asked taken.old }
     requires lent { disk.ghost_name ≡ L.name }
     requires told { is_some (D.state disk.old).seen ≡ L.told }
     requires archive { IsTrue L.tells → IfSome (D.state disk.old).seen IsArchive }
 
-    // taken in
-    ensures names { OnOk result.0
-        (names_of taken.new.items ≡ map str_bytes asked.entry.files.now) }
-    ensures number { IfOk result.0 (λ first.
-        OverJournal (told_if L.tells (D.state disk.old)).seen (λ journal. first ≡ length journal.names)) }
-    ensures taken { OnOk result.0 (FromArchive (told_if L.tells (D.state disk.old))
-        (λ h before bytes stood. TakesIn asked.entry.segment (H.content shelf.old) h before stood
-        (map str_bytes asked.entry.files.now) (map came_of taken.new.items)
-        (told_if L.tells (D.state disk.old)) (told_if L.tells (D.state result.1.now)))) }
-    ensures causes { OnOk result.0 (HaveFileCauses
+    // by the answer
+    ensures added { IfOk result.0 (λ first. AddsNewLogs
         (logs_around H.content H.open_faults H.read_faults shelf.old shelf.new)
-        asked.entry.workers asked.entry.segment (told_if L.tells (D.state disk.old))
-        (told_if L.tells (D.state result.1.now)) (map came_of taken.new.items)) }
-
-    // refused
-    ensures nothing { OnErr result.0 (FromArchive (told_if L.tells (D.state disk.old))
-        (λ h before bytes stood. TakesNothing h before
-        (told_if L.tells (D.state disk.old)) (told_if L.tells (D.state result.1.now)))) }
-    ensures cause { IfErr result.0 (HasCallCause (map str_bytes asked.entry.files.now)
+        asked.entry first taken.new.items
+        (told_if L.tells (D.state disk.old)) (told_if L.tells (D.state result.1.now))) }
+    ensures refused { IfErr result.0 (RefusesNewLogs asked.entry
         (told_if L.tells (D.state disk.old)) (told_if L.tells (D.state result.1.now))) }
 
-    // whatever the answer
+    // what stays
     ensures back { result.1.ghost_name ≡ disk.entry.ghost_name }
     ensures goes_on { DiskGoesOn (D.state disk.old) (D.state result.1.now) }
-    ensures logs { (n : List ℕ) → H.content shelf.new n ≡ H.content shelf.old n }
-    ensures opens { (n : List ℕ) → H.open_faults shelf.old n ≤ H.open_faults shelf.new n }
-    ensures reads { (n : List ℕ) → H.read_faults shelf.old n ≤ H.read_faults shelf.new n }
+    ensures logs { ShelfGoesOn H.content H.open_faults H.read_faults shelf.old shelf.new }
 {
     let mut founded = Founded::<'d, D, L> {
         disk,
@@ -461,44 +415,22 @@ fn add_known<'a, R: Threads + Wait + Sync, H: Shelf, D: Disk + Send, B: Base>(
 ) -> Result<u32, AddRefusal>
 where
     H::Src: Send,
-    requires workers { (1 ≤ asked.workers) × (asked.workers ≤ MAX_WORKERS) }
-    requires segment { (1 ≤ asked.segment) × (asked.segment ≤ 65536) }
-    requires names { RefusesNames (map str_bytes asked.files.now) None }
-    requires some { 1 ≤ length asked.files.now }
-    requires none { taken.old.items ≡ [] }
-    requires room { length asked.files.now ≤ vec_capacity taken.old }
+    requires asked { MayAdd asked }
+    requires room { HasRoomFor asked taken.old }
 
-    // taken in
-    ensures names { OnOk result
-        (names_of taken.new.items ≡ map str_bytes asked.entry.files.now) }
-    ensures number { IfOk result (λ first.
-        OverJournal (over B.archive (D.state disk.old) (D.state disk.old)).seen
-        (λ journal. first ≡ length journal.names)) }
-    ensures taken { OnOk result (FromArchive (over B.archive (D.state disk.old)
-        (D.state disk.old)) (λ h before bytes stood. TakesIn asked.entry.segment (H.content shelf.old) h before stood
-        (map str_bytes asked.entry.files.now) (map came_of taken.new.items)
-        (over B.archive (D.state disk.old) (D.state disk.old))
-        (over B.archive (D.state disk.old) (D.state disk.new)))) }
-    ensures causes { OnOk result (HaveFileCauses
+    // by the answer
+    ensures added { IfOk result (λ first. AddsNewLogs
         (logs_around H.content H.open_faults H.read_faults shelf.old shelf.new)
-        asked.entry.workers asked.entry.segment
+        asked.entry first taken.new.items
         (over B.archive (D.state disk.old) (D.state disk.old))
-        (over B.archive (D.state disk.old) (D.state disk.new)) (map came_of taken.new.items)) }
-
-    // refused
-    ensures nothing { OnErr result (FromArchive (over B.archive (D.state disk.old)
-        (D.state disk.old)) (λ h before bytes stood. TakesNothing h before
-        (over B.archive (D.state disk.old) (D.state disk.old))
-        (over B.archive (D.state disk.old) (D.state disk.new)))) }
-    ensures cause { IfErr result (HasCallCause (map str_bytes asked.entry.files.now)
+        (over B.archive (D.state disk.old) (D.state disk.new))) }
+    ensures refused { IfErr result (RefusesNewLogs asked.entry
         (over B.archive (D.state disk.old) (D.state disk.old))
         (over B.archive (D.state disk.old) (D.state disk.new))) }
 
-    // whatever the answer
+    // what stays
     ensures goes_on { DiskGoesOn (D.state disk.old) (D.state disk.new) }
-    ensures logs { (n : List ℕ) → H.content shelf.new n ≡ H.content shelf.old n }
-    ensures opens { (n : List ℕ) → H.open_faults shelf.old n ≤ H.open_faults shelf.new n }
-    ensures reads { (n : List ℕ) → H.read_faults shelf.old n ≤ H.read_faults shelf.new n }
+    ensures logs { ShelfGoesOn H.content H.open_faults H.read_faults shelf.old shelf.new }
 {
     let (answer, _disk) = add_lent::<R, H, D, Brand>(rt, alloc, asked, shelf, disk, taken);
     answer

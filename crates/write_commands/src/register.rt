@@ -1,12 +1,12 @@
 //! Opening an archive, and naming the files that are added to it.
-ghost use Rattle.std.specs.Prelude.{◌≡◌, ◌≤◌, length, map, IfErr, IfOk, IfSome, None, OnErr};
+ghost use Rattle.std.specs.Prelude.{◌≡◌, length, map, IfErr, IfOk, IfSome, OnErr};
 ghost use Rattle.disk_journal.specs.Journal.{state_of};
 ghost use Rattle.disk_journal.specs.State.{BeginsWith, IsAtFirst};
 ghost use Rattle.command_refusals.specs.GoesOn.{DiskGoesOn};
 ghost use Rattle.command_answers.specs.Ingested.{FromArchive, HasCallCause, TakesNothing};
 ghost use Rattle.write_commands.specs.JournalLeft.{AddsNamesTo};
-ghost use Rattle.command_answers.specs.Names.{RefusesNames};
 ghost use Rattle.write_commands.specs.Naming.{IsNamed};
+ghost use Rattle.write_commands.specs.StepsAdding.{AreAccepted};
 ghost use Rattle.command_refusals.specs.Reading.{IsArchive};
 ghost use Rattle.log_sources.specs.Sources.{str_bytes};
 
@@ -53,8 +53,7 @@ pub(crate) fn open_and_register<D: Disk>(
     requires first { IsAtFirst (state_of journal.old) }
     requires begins { BeginsWith journal.old.header (D.state journal.old.disk.now) }
     requires archive { IfSome (D.state journal.old.disk.now).seen IsArchive }
-    requires names { RefusesNames (map str_bytes names.now) None }
-    requires some { 1 ≤ length names.now }
+    requires names { AreAccepted (map str_bytes names.now) }
 
     // the disk
     ensures name { journal.new.disk.ghost_name ≡ journal.old.disk.ghost_name }

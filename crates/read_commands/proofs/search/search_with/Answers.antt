@@ -4,7 +4,7 @@ use Rattle.std.proofs.lemmas.Result.{err_from_is_err_and}
 use Rattle.command_refusals.specs.declared.outcome.ReadRefusal.{ReadRefusal}
 use Rattle.read_commands.proofs.SearchingLemmas.{found_done, found_stopped, found_uncounted, found_unopened, grew_bare, grew_counted, spares_opened, spares_searched}
 use Rattle.command_refusals.proofs.EndedLemmas.{search_refused_at}
-use Rattle.read_commands.proofs.search.search_with.Goals.{then-stats+in_ok-print_counts, else-stats}
+use Rattle.read_commands.proofs.search.search_with.Goals.{then-wanted+in_ok-print_counts, else-wanted}
 use Rattle.read_commands.proofs.search.search_with.Goals as goal
 
 pub returns-in_err-places-clause-reads : goal.returns-in_err-places-clause-reads
@@ -33,15 +33,15 @@ returns-in_err-print_counts-clause-reads g c = spares_searched _ _ _ _ _ _ c.in_
 pub returns-in_err-print_counts-clause-prints : goal.returns-in_err-print_counts-clause-prints
 returns-in_err-print_counts-clause-prints g c =
     let p = err_from_is_err_and c.from_residual-in_err-print_counts.result c.from_residual-in_err-print_counts.ensures.1 in
-    found_uncounted (is_ok c.from_residual-in_err-print_counts.result) _ c.args.stats _ _ _ _ _ _ _ _ _ _ (ap is_ok p.1) c.if-stats.true c.in_ok-places.ensures.keeps.seen c.in-Ok.ensures.done c.in_err-print_counts.ensures.err
+    found_uncounted (is_ok c.from_residual-in_err-print_counts.result) _ c.args.wanted.stats _ _ _ _ _ _ _ _ _ _ (ap is_ok p.1) c.if-wanted.true c.in_ok-places.ensures.keeps.seen c.in-Ok.ensures.done c.in_err-print_counts.ensures.err
 
 pub returns-clause-reads : goal.returns-clause-reads
 returns-clause-reads g c = spares_searched _ _ _ _ _ _ c.in_ok-places.ensures.keeps.seen c.in_ok-places.ensures.ranges c.search-answer.ensures.reads
 
 pub returns-clause-prints : goal.returns-clause-prints
 returns-clause-prints g c =
-    found_done _ c.args.stats _ _ c.in-Ok.report _ (g.K.Sink.written c.search-answer.new.out) (g.K.Sink.written c.if-stats.out) _ _ _ _ c.in_ok-places.ensures.keeps.seen c.in-Ok.ensures.done
-    (elim c.if-stats.branch [
-      | then-stats+in_ok-print_counts w ↦ grew_counted c.args.stats c.in-Ok.report (g.K.Sink.written c.search-answer.new.out) _ (g.K.Sink.written w.print_counts.new.out) w.if-stats.true (ap g.K.Sink.written w.out-is) w.in_ok-print_counts.ensures.ok
-      | else-stats w ↦ grew_bare c.args.stats c.in-Ok.report (g.K.Sink.written c.search-answer.new.out) _ w.if-stats.false (ap g.K.Sink.written w.out-is)
+    found_done _ c.args.wanted.stats _ _ c.in-Ok.report _ (g.K.Sink.written c.search-answer.new.out) (g.K.Sink.written c.if-wanted.out) _ _ _ _ c.in_ok-places.ensures.keeps.seen c.in-Ok.ensures.done
+    (elim c.if-wanted.branch [
+      | then-wanted+in_ok-print_counts w ↦ grew_counted c.args.wanted.stats c.in-Ok.report (g.K.Sink.written c.search-answer.new.out) _ (g.K.Sink.written w.print_counts.new.out) w.if-wanted.true (ap g.K.Sink.written w.out-is) w.in_ok-print_counts.ensures.ok
+      | else-wanted w ↦ grew_bare c.args.wanted.stats c.in-Ok.report (g.K.Sink.written c.search-answer.new.out) _ w.if-wanted.false (ap g.K.Sink.written w.out-is)
     ])

@@ -1,4 +1,4 @@
-use Rattle.std.proofs.Common.{◌∙◌, ap, ap₂, refl, subst, sym, List, Some, map, ◌≡◌}
+use Rattle.std.proofs.Common.{◌∙◌, ap, ap₂, refl, rules, subst, sym, List, Some, map, ◌≡◌}
 use Rattle.log_sources.specs.Sources.{str_bytes}
 use Rattle.generated_logs.specs.Logs.{content_of}
 use Rattle.generated_logs.specs.States.{open_faults_of}
@@ -38,11 +38,11 @@ returns-in-Ok-add_files-clause-ends g c = λ content unread opens reads.
     let names = map str_bytes c.log_names-names.result in
     let files = c.as_slice.ensures.value in
     let logs = ap₂ content_of c.new-shelf.ensures.number c.new-shelf.ensures.lines in
-    let told = subst (λ k. FromArchive old (λ h before bytes stood. TakesIn segment_rows k h before stood names (map came_of c.add_files.new.taken.items) old mid)) logs c.in-Ok-add_files.ensures.taken in
+    let told = subst (λ k. FromArchive old (λ h before bytes stood. TakesIn segment_rows k h before stood names (map came_of c.add_files.new.taken.items) old mid)) logs c.in-Ok-add_files.ensures.added.taken in
     let takes = subst (λ (fs : List FileReport). FromArchive old (λ h before bytes stood. TakesIn segment_rows (content_of c.args.asked.number c.args.asked.lines) h before stood names (map came_of fs) old mid)) (sym files) told in
-    let same = ap names_of files ∙ c.in-Ok-add_files.ensures.names in
+    let same = ap names_of files ∙ c.in-Ok-add_files.ensures.added.names in
     let named : map (λ (x : FileOutcome). x.name) (map came_of c.as_slice.result.now) ≡ generated_names = names_came c.as_slice.result.now ∙ (same ∙ c.log_names-names.ensures) in
-    let were = subst (λ k. HaveFileCauses (record { content = k; opens = λ name. (open_faults_of c.new-shelf.result name, open_faults_of c.add_files.new.shelf name); reads = λ name. (0, 0) }) c.args.asked.workers segment_rows old mid (map came_of c.add_files.new.taken.items)) logs c.in-Ok-add_files.ensures.causes in
+    let were = subst (λ k. HaveFileCauses (record { content = k; opens = λ name. (open_faults_of c.new-shelf.result name, open_faults_of c.add_files.new.shelf name); reads = λ name. (0, 0) }) c.args.asked.workers segment_rows old mid (map came_of c.add_files.new.taken.items)) logs c.in-Ok-add_files.ensures.added.causes in
     let causes = subst (λ (fs : List FileReport). HaveFileCauses (record { content = content_of c.args.asked.number c.args.asked.lines; opens = λ name. (open_faults_of c.new-shelf.result name, open_faults_of c.add_files.new.shelf name); reads = λ name. (0, 0) }) c.args.asked.workers segment_rows old mid (map came_of fs)) (sym files) were in
     logs_added (content_of c.args.asked.number c.args.asked.lines) c.args.asked.workers names c.as_slice.result.now _ old mid new _ c.log_names-names.ensures same (law _)
     c.add_files.ensures.goes_on c.sum_up.ensures.keeps c.sum_up.ensures.disk takes
@@ -55,4 +55,10 @@ returns-clause-ends g c = λ content unread opens reads.
     let old = g.D.Disk.state c.args.disk.now in
     let new = g.D.Disk.state c.add_files.new.disk in
     refused_logs _ _ _ old new _ c.in-Err.refusal (rw (← c.refusal_of_add-in-Err.ensures) c.report-in-Err.ensures.status) (rw (← c.refusal_of_add-in-Err.ensures) c.report-in-Err.ensures.said) refl refl
-    (subst (λ ns. HasCallCause ns old new c.in-Err.refusal) c.log_names-names.ensures c.in-Err.ensures.cause) c.in-Err.ensures.nothing
+    (subst (λ ns. HasCallCause ns old new c.in-Err.refusal) c.log_names-names.ensures c.in-Err.ensures.refused.cause) c.in-Err.ensures.refused.nothing
+
+pub add_files-requires-clause-asked : goal.add_files-requires-clause-asked
+add_files-requires-clause-asked g c κs within = record {
+  limits = record { workers = c.requires.workers; segment = (search rules, search rules) };
+  names = record { some = search rules; unrefused = rw (c.in_default.is) at c.refuse_names.ensures };
+}

@@ -20,14 +20,20 @@ use Rattle.write_commands.proofs.ingest.take_in.Goals as goal
 pub returns-in_default-clause-taken : goal.returns-in_default-clause-taken
 returns-in_default-clause-taken g c =
     let law = (g.met.D.Disk g.world.𝓛 g.world.𝓜 g.world.𝓡 ((λ s x. x), (λ x. x), (λ x. x), λ x. x)).lawful in
-    none_takes_into c.args.asked.segment (omega (arith, c.requires.segment.0)) _ _ c.args.named.first c.refuse_all.new.taken.items c.refuse_all.ensures.names c.refuse_all.ensures.begun c.args.journal (law c.args.journal.disk.now) c.requires.named.opens
+    none_takes_into c.args.asked.segment (omega (arith, c.requires.limits.segment.0)) _ _ c.args.named.first c.refuse_all.new.taken.items c.refuse_all.ensures.names c.refuse_all.ensures.begun c.args.journal (law c.args.journal.disk.now) c.requires.named.opens
 
 pub returns-in_default-clause-causes : goal.returns-in_default-clause-causes
-returns-in_default-clause-causes g c = all_unbegun _ _ _ _ c.refuse_all.new.taken.items c.refuse_all.ensures.begun
+returns-in_default-clause-causes g c = record {
+  each = all_unbegun _ _ _ _ c.refuse_all.new.taken.items c.refuse_all.ensures.begun;
+  in_turn = λ one. unbegun_in_turn _ (into_journal (state_of c.args.journal) c.args.asked.segment c.args.named.first (map came_of c.refuse_all.new.taken.items)) c.refuse_all.new.taken.items c.refuse_all.ensures.begun;
+}
 
-pub returns-in_default-clause-in_turn : goal.returns-in_default-clause-in_turn
-returns-in_default-clause-in_turn g c = λ one.
-    unbegun_in_turn _ (into_journal (state_of c.args.journal) c.args.asked.segment c.args.named.first (map came_of c.refuse_all.new.taken.items)) c.refuse_all.new.taken.items c.refuse_all.ensures.begun
+pub returns-in_default-clause-logs : goal.returns-in_default-clause-logs
+returns-in_default-clause-logs g c = record {
+  bytes = c.open_all.ensures.content;
+  opens = c.open_all.ensures.opens;
+  reads = λ n. omega (arith, c.open_all.ensures.reads n);
+}
 
 -- ---- the jobs
 
@@ -62,6 +68,15 @@ end_jobs-requires-clause-sources g c =
     let many = as_many _ (map str_bytes c.args.asked.files.now) c.in-Ok.opened.sources.items c.in-Ok.ensures.came in
     omega (arith, many, length-map c.args.asked.files.now str_bytes, c.in-Ok.opened.sources.ok.0, c.in-Ok.opened.sources.ok.1, c.begin_jobs.ensures.room)
 
+-- ---- the logs
+
+pub returns-clause-logs : goal.returns-clause-logs
+returns-clause-logs g c = record {
+  bytes = λ n. c.close_logs.ensures.content n ∙ c.open_all.ensures.content n;
+  opens = λ n. omega (arith, c.open_all.ensures.opens n, c.close_logs.ensures.opens n);
+  reads = λ n. omega (arith, c.open_all.ensures.reads n, c.close_logs.ensures.reads n);
+}
+
 -- ---- what the journal is left with
 
 pub returns-clause-goes_on : goal.returns-clause-goes_on
@@ -81,7 +96,7 @@ returns-clause-taken g c =
     let told = told_back (λ (jobs : List (Job _)) (i : ℕ) (file : FileReport). IsToldBy c.as_slice.result.now jobs i file) c.end_jobs.new.taken.items c.begin_jobs.new.jobs.len c.do_jobs-journal.new.jobs _ (omega (arith, counted, ap length is, c.begin_jobs.new.jobs.ok.0)) c.end_jobs.ensures.told in
     did_take_into g.H.Src.Source.left g.H.Src.Source.name g.H.Src.Source.faults (g.H.Shelf.content c.args.shelf.now) (g.H.Shelf.open_faults c.args.shelf.now) (g.H.Shelf.open_faults c.open_all.new.shelf)
     (map str_bytes c.args.asked.files.now) c.in-Ok.opened.sources.items c.in-Ok.ensures.came c.args.named.first c.as_mut_slice.result.now sourced opening numbered c.as_slice.result.now openings c.do_jobs-journal.new.jobs c.end_jobs.new.taken.items c.end_jobs.ensures.names told
-    c.args.journal c.do_jobs-journal.result (law _) (law _) c.requires.named.opens c.args.asked.workers c.args.asked.segment (omega (arith, c.requires.segment.0)) c.do_jobs-journal.ensures
+    c.args.journal c.do_jobs-journal.result (law _) (law _) c.requires.named.opens c.args.asked.workers c.args.asked.segment (omega (arith, c.requires.limits.segment.0)) c.do_jobs-journal.ensures
 
 -- ---- why files are not whole
 
@@ -103,25 +118,12 @@ returns-clause-causes g c =
     (map str_bytes c.args.asked.files.now) c.in-Ok.opened.sources.items c.in-Ok.ensures.came c.args.named.first c.as_mut_slice.result.now sourced opening numbered c.as_slice.result.now openings c.do_jobs-journal.new.jobs c.end_jobs.new.taken.items c.end_jobs.ensures.names told c.args.journal.header.version in
     let each = came_of_log g.H.Src.Source.left g.H.Src.Source.name g.H.Src.Source.faults (g.H.Shelf.content c.args.shelf.now) (g.H.Shelf.open_faults c.args.shelf.now) (g.H.Shelf.open_faults c.open_all.new.shelf)
     (map str_bytes c.args.asked.files.now) c.in-Ok.opened.sources.items c.in-Ok.ensures.came c.args.named.first c.as_mut_slice.result.now sourced opening numbered c.as_slice.result.now openings c.do_jobs-journal.new.jobs c.end_jobs.new.taken.items c.end_jobs.ensures.names told in
-    all_came g.H.Src.Source.left g.H.Src.Source.name g.H.Src.Source.faults logs (g.H.Shelf.open_faults c.open_all.new.shelf) (g.H.Shelf.read_faults c.open_all.new.shelf) (g.H.Shelf.read_faults c.close_logs.new.shelf) opens_later reads_sooner reads_later
-    c.args.journal c.do_jobs-journal.result (map came_of c.end_jobs.new.taken.items) c.args.asked.segment c.args.named.first c.as_mut_slice.result.now c.do_jobs-journal.new.jobs of each
-    (law _) c.args.asked.workers c.do_jobs-journal.ensures c.end_jobs.new.sources.items
-    (c.end_jobs.ensures.sources ∙ ap sources_of (lent_back c.begin_jobs.new.jobs.len c.do_jobs-journal.new.jobs _ (omega (arith, counted, ap length is, c.begin_jobs.new.jobs.ok.0)))) c.close_logs.ensures.counted
-
--- with one worker
-pub returns-clause-in_turn : goal.returns-clause-in_turn
-returns-clause-in_turn g c =
-    let is = c.as_mut_slice.ensures.value in
-    let sourced = ap sources_of is ∙ c.begin_jobs.ensures.sourced in
-    let opening = ap opens_of is ∙ c.begin_jobs.ensures.opened in
-    let numbered = subst (AreNumbered c.args.named.first) (sym is) c.begin_jobs.ensures.numbered in
-    let openings = c.as_slice.ensures.value ∙ c.begin_jobs.ensures.openings in
-    let counted = as_many_done _ _ _ _ _ c.args.journal c.do_jobs-journal.result c.as_mut_slice.result.now c.do_jobs-journal.new.jobs c.do_jobs-journal.ensures in
-    let told = told_back (λ (jobs : List (Job _)) (i : ℕ) (file : FileReport). IsToldBy c.as_slice.result.now jobs i file) c.end_jobs.new.taken.items c.begin_jobs.new.jobs.len c.do_jobs-journal.new.jobs _ (omega (arith, counted, ap length is, c.begin_jobs.new.jobs.ok.0)) c.end_jobs.ensures.told in
-    let of = are_jobs_of g.H.Src.Source.left g.H.Src.Source.name g.H.Src.Source.faults (g.H.Shelf.content c.args.shelf.now) (g.H.Shelf.open_faults c.args.shelf.now) (g.H.Shelf.open_faults c.open_all.new.shelf)
-    (map str_bytes c.args.asked.files.now) c.in-Ok.opened.sources.items c.in-Ok.ensures.came c.args.named.first c.as_mut_slice.result.now sourced opening numbered c.as_slice.result.now openings c.do_jobs-journal.new.jobs c.end_jobs.new.taken.items c.end_jobs.ensures.names told c.args.journal.header.version in
-    let each = came_of_log g.H.Src.Source.left g.H.Src.Source.name g.H.Src.Source.faults (g.H.Shelf.content c.args.shelf.now) (g.H.Shelf.open_faults c.args.shelf.now) (g.H.Shelf.open_faults c.open_all.new.shelf)
-    (map str_bytes c.args.asked.files.now) c.in-Ok.opened.sources.items c.in-Ok.ensures.came c.args.named.first c.as_mut_slice.result.now sourced opening numbered c.as_slice.result.now openings c.do_jobs-journal.new.jobs c.end_jobs.new.taken.items c.end_jobs.ensures.names told in
-    did_in_turn g.H.Src.Source.left g.H.Src.Source.name g.H.Src.Source.faults (g.H.Shelf.content c.args.shelf.now) (g.H.Shelf.open_faults c.args.shelf.now) (g.H.Shelf.open_faults c.open_all.new.shelf)
-    c.args.journal (map came_of c.end_jobs.new.taken.items) c.args.asked.segment c.args.named.first c.as_mut_slice.result.now c.do_jobs-journal.new.jobs of each
-    c.do_jobs-journal.result c.args.asked.workers c.do_jobs-journal.ensures
+    record {
+      each = all_came g.H.Src.Source.left g.H.Src.Source.name g.H.Src.Source.faults logs (g.H.Shelf.open_faults c.open_all.new.shelf) (g.H.Shelf.read_faults c.open_all.new.shelf) (g.H.Shelf.read_faults c.close_logs.new.shelf) opens_later reads_sooner reads_later
+          c.args.journal c.do_jobs-journal.result (map came_of c.end_jobs.new.taken.items) c.args.asked.segment c.args.named.first c.as_mut_slice.result.now c.do_jobs-journal.new.jobs of each
+          (law _) c.args.asked.workers c.do_jobs-journal.ensures c.end_jobs.new.sources.items
+          (c.end_jobs.ensures.sources ∙ ap sources_of (lent_back c.begin_jobs.new.jobs.len c.do_jobs-journal.new.jobs _ (omega (arith, counted, ap length is, c.begin_jobs.new.jobs.ok.0)))) c.close_logs.ensures.counted;
+      in_turn = did_in_turn g.H.Src.Source.left g.H.Src.Source.name g.H.Src.Source.faults (g.H.Shelf.content c.args.shelf.now) (g.H.Shelf.open_faults c.args.shelf.now) (g.H.Shelf.open_faults c.open_all.new.shelf)
+          c.args.journal (map came_of c.end_jobs.new.taken.items) c.args.asked.segment c.args.named.first c.as_mut_slice.result.now c.do_jobs-journal.new.jobs of each
+          c.do_jobs-journal.result c.args.asked.workers c.do_jobs-journal.ensures;
+    }

@@ -28,7 +28,7 @@ returns-clause-named g c =
     (record { begins = c.requires.begins; archive = c.requires.archive; looks = opened.looks; opened = c.in_ok-archive.ensures.opened; header = c.in_ok-archive.ensures.header; ends = c.in_ok-archive.ensures.at_end })
     (length c.as_slice.result.now) (ap length (c.as_slice.ensures ∙ c.files.ensures)) (map str_bytes c.args.names.now)
     (record {
-      adds = may_add (length c.as_slice.result.now) (map str_bytes c.args.names.now) c.requires.names (omega (arith, c.requires.some, length-map c.args.names.now str_bytes)) (omega (arith, c.in_default.ensures, length-map c.args.names.now str_bytes));
+      adds = may_add (length c.as_slice.result.now) (map str_bytes c.args.names.now) c.requires.names.unrefused (omega (arith, c.requires.names.some, length-map c.args.names.now str_bytes)) (omega (arith, c.in_default.ensures, length-map c.args.names.now str_bytes));
       goes = named.goes_on;
       added = rw (c.in_ok-texts.ensures) at named.registered.added;
       fits = rw (c.in_ok-texts.ensures) at named.registered.fits;
@@ -47,7 +47,7 @@ returns-clause-names g c =
     (g.met.D.Disk.lawful c.args.journal.now.disk.now) (g.met.D.Disk.lawful c.open_for_append.new.journal.disk.now) (g.met.D.Disk.lawful c.register.new.journal.disk.now)
     (length c.as_slice.result.now) (ap length (c.as_slice.ensures ∙ c.files.ensures)) (map str_bytes c.args.names.now)
     (record {
-      adds = may_add (length c.as_slice.result.now) (map str_bytes c.args.names.now) c.requires.names (omega (arith, c.requires.some, length-map c.args.names.now str_bytes)) (omega (arith, c.in_default.ensures, length-map c.args.names.now str_bytes));
+      adds = may_add (length c.as_slice.result.now) (map str_bytes c.args.names.now) c.requires.names.unrefused (omega (arith, c.requires.names.some, length-map c.args.names.now str_bytes)) (omega (arith, c.in_default.ensures, length-map c.args.names.now str_bytes));
       goes = named.goes_on;
       added = rw (c.in_ok-texts.ensures) at named.registered.added;
       fits = rw (c.in_ok-texts.ensures) at named.registered.fits;
@@ -94,7 +94,7 @@ returns-in_err-first-clause-nothing g c =
     (record { begins = c.requires.begins; archive = c.requires.archive; looks = opened.looks; opened = c.in_ok-archive.ensures.opened; header = c.in_ok-archive.ensures.header; ends = c.in_ok-archive.ensures.at_end })
     (g.met.D.Disk.lawful c.args.journal.now.disk.now) (g.met.D.Disk.lawful c.open_for_append.new.journal.disk.now) (g.met.D.Disk.lawful c.register.new.journal.disk.now) opened.counts.later
     (length c.as_slice.result.now) (ap length (c.as_slice.ensures ∙ c.files.ensures)) (map str_bytes c.args.names.now)
-    (may_add (length c.as_slice.result.now) (map str_bytes c.args.names.now) c.requires.names (omega (arith, c.requires.some, length-map c.args.names.now str_bytes)) (omega (arith, c.in_default.ensures, length-map c.args.names.now str_bytes)))
+    (may_add (length c.as_slice.result.now) (map str_bytes c.args.names.now) c.requires.names.unrefused (omega (arith, c.requires.names.some, length-map c.args.names.now str_bytes)) (omega (arith, c.in_default.ensures, length-map c.args.names.now str_bytes)))
     (rw (c.in_ok-texts.ensures) at named.moments)
     (λ far. ap (λ (x : MutBor g.row.D.Denot). g.D.Disk.state x.now) (alone (inl far)))
     (ended_alone (state_of c.open_for_append.new.journal) (state_of c.register.new.journal) c.register.result c.in_err-first.field-0.0 c.in_err-first.was
