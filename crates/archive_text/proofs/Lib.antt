@@ -1,0 +1,9 @@
+pub mod CauseLemmas
+pub mod DecideRow
+pub mod DecideSegment
+pub mod DecideStamp
+pub mod DecideText
+pub mod PlacesLemmas
+pub mod StartLemmas
+pub mod WayLemmas
+pub mod WritingLemmas
