@@ -2,6 +2,7 @@ pub mod CauseLemmas
 pub mod FullLemmas
 pub mod RefuseLemmas
 pub mod JournalLemmas
+pub mod OpenLemmas
 pub mod OpenSegmentLemmas
 pub mod SealLemmas
 pub mod MaySealLemmas

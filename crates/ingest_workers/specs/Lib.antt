@@ -26,3 +26,4 @@ pub mod Ingested
 pub mod InTurn
 pub mod Ordered
 pub mod ClosedStore
+pub mod OpenWorker

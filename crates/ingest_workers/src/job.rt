@@ -83,6 +83,43 @@ impl<S> Job<S> {
         }
     }
 
+    /// The same, whole or a part.
+    pub(crate) fn with_source(file: u32, is_part: bool, source: S) -> Job<S>
+        ensures file { result.file ≡ file }
+        ensures source { result.source ≡ Some source }
+        ensures opened { result.is_open ≡ true }
+        ensures part { result.is_part ≡ is_part }
+        ensures outcome { result.outcome ≡ nothing_done }
+    {
+        Job {
+            file,
+            source: Some(source),
+            is_open: true,
+            is_part,
+            outcome: Outcome {
+                messages: 0,
+                whole: false,
+                cause: None,
+            },
+        }
+    }
+
+    /// The source, as far as it was read, and what came of it.
+    pub(crate) fn into_parts(self) -> (S, Outcome)
+        ensures source { self.source ≡ Some result.0 }
+        ensures outcome { result.1 ≡ self.outcome }
+    {
+        let Job {
+            file: _,
+            source,
+            is_open: _,
+            is_part: _,
+            outcome,
+        } = self;
+        let Some(source) = source else { unreachable!() };
+        (source, outcome)
+    }
+
     /// What came of it; before any work no message, not whole, and no cause. So it stays where the
     /// source was not opened.
     pub fn outcome(&self) -> Outcome
