@@ -23,13 +23,13 @@ use Rattle.row_rename.specs.Tables.{AreTables, HasNamedBoth}
 use Rattle.row_rename.proofs.RenameLemmas.{renamed_means_same}
 use Rattle.row_codec.specs.declared.namer.Which.{Which}
 use Rattle.archive_merge.specs.declared.hand.Hand.{Hand}
-use Rattle.archive_merge.specs.declared.stop.Stop.TheVariants.{Full as StopFull, SecondDamaged}
+use Rattle.archive_merge.specs.declared.stop.Stop.TheVariants.{Full as StopFull, SecondDamaged, SecondFault}
 use Rattle.archive_merge.specs.Stops.{stop_by}
 use Rattle.archive_merge.specs.InHand.{HasInHand, MayTake, MayTakeAll, SameMarks, TakesAll, TakesRow, Texts}
 
 -- ---- lists of rows
 
-all_stay : (version : ℕ) (rows : List Row) (types words more_types more_words ms : List (List ℕ)) → IsPrefix types more_types → IsPrefix words more_words
+pub all_stay : (version : ℕ) (rows : List Row) (types words more_types more_words ms : List (List ℕ)) → IsPrefix types more_types → IsPrefix words more_words
     → AreCanonical version rows types words ms → AreCanonical version rows more_types more_words ms
 all_stay version [] types words more_types more_words [] a b are = tt
 all_stay version [] types words more_types more_words (m ∷ ms) a b are = absurd are
@@ -169,3 +169,8 @@ pub stopped_damaged : (r : RenameRefusal) → stop_by r ≡ SecondDamaged → r 
 stopped_damaged (Full b n) is = absurd (cc (is))
 stopped_damaged Damaged is = refl
 stopped_damaged OutOfMemory is = absurd (cc (is))
+
+pub stopped_no_fault : (r : RenameRefusal) → stop_by r ≡ SecondFault → ⊥
+stopped_no_fault (Full b n) is = absurd (cc (is))
+stopped_no_fault Damaged is = absurd (cc (is))
+stopped_no_fault OutOfMemory is = absurd (cc (is))

@@ -1,1 +1,9 @@
+pub mod FileLemmas
 pub mod HandLemmas
+pub mod LockLemmas
+pub mod MergerLemmas
+pub mod NextLemmas
+pub mod PlaceLemmas
+pub mod RunLemmas
+pub mod SealingLemmas
+pub mod SegmentLemmas

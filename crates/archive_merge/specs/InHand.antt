@@ -7,6 +7,7 @@ use Rattle.row_codec.specs.Means.{AreCanonical, IsCanonical}
 use Rattle.row_codec.specs.Numbers.{numbers_of_row}
 use Rattle.row_rename.specs.Causes.{MayRename}
 use Rattle.row_rename.specs.Renamed.{used_in}
+use Rattle.archive_meaning.specs.declared.sums.FileSum.{FileSum}
 use Rattle.archive_meaning.specs.Sums.{open_after}
 use Rattle.archive_core.specs.Rows.{AreMessages}
 use Rattle.archive_merge.specs.declared.hand.Hand.{Hand}
@@ -15,6 +16,15 @@ use Rattle.archive_merge.specs.declared.hand.Hand.{Hand}
 pub record Texts : Type 0 where
   pub types : List (List ℕ)
   pub words : List (List ℕ)
+
+-- nothing is in hand
+pub record IsEmpty (hand : Hand) : Type 0 where
+  pub rows : hand.draft.columns.rows ≡ []
+  pub used : used_in hand.renamed ≡ []
+
+-- the sum of the file's segments before the one in hand
+abbrev pub sum_in : Hand → FileSum
+sum_in hand = record { messages = hand.draft.first; whole = hand.draft.last; open_end = hand.open_end }
 
 -- the file, the count of messages before these, and the marks
 pub record SameMarks (old new : Hand) : Type 0 where
@@ -30,18 +40,21 @@ pub record HasInHand (version : ℕ) (texts : Texts) (messages : List (List ℕ)
 
 -- a row of the second archive came behind those in hand, whatever these are the encodings of
 pub record TakesRow (old before after : Texts) (row : Row) (hand hand_new : Hand) : Type 0 where
-  pub goes : (version : ℕ) (messages : List (List ℕ)) (message : List ℕ) → IsCanonical version row old.types old.words message → HasInHand version before messages hand → HasInHand version after (messages ++ message ∷ []) hand_new
+  pub goes : (version : ℕ) (messages : List (List ℕ)) (message : List ℕ) → IsCanonical version row old.types old.words message
+      → HasInHand version before messages hand → HasInHand version after (messages ++ message ∷ []) hand_new
   pub rows_long : length hand_new.draft.columns.rows ≡ length hand.draft.columns.rows + 1
   pub words_long : variable_count hand_new.draft.columns.rows ≡ variable_count hand.draft.columns.rows + length row.words
 
 -- rows of it did
 pub record TakesAll (old before after : Texts) (rows : List Row) (hand hand_new : Hand) : Type 0 where
-  pub goes : (version : ℕ) (messages more : List (List ℕ)) → AreCanonical version rows old.types old.words more → HasInHand version before messages hand → HasInHand version after (messages ++ more) hand_new
+  pub goes : (version : ℕ) (messages more : List (List ℕ)) → AreCanonical version rows old.types old.words more
+      → HasInHand version before messages hand → HasInHand version after (messages ++ more) hand_new
   pub rows_long : length hand_new.draft.columns.rows ≡ length hand.draft.columns.rows + length rows
   pub words_long : variable_count hand_new.draft.columns.rows ≡ variable_count hand.draft.columns.rows + variable_count rows
 
 -- these rows are the encodings of messages, and they did; and whether the last message may be a last line without newline
-pub record TakesRows (version : ℕ) (old before after : Texts) (rows : List Row) (hand hand_new : Hand) (open_before open_end : Bool) : Type 0 where
+pub record TakesRows (version : ℕ) (old before after : Texts) (rows : List Row) (hand hand_new : Hand)
+    (open_before open_end : Bool) : Type 0 where
   pub more : List (List ℕ)
   pub source : AreMessages version old.types old.words rows more
   pub takes : TakesAll old before after rows hand hand_new

@@ -1,2 +1,13 @@
+pub mod Causes
+pub mod Files
 pub mod InHand
+pub mod Laws
+pub mod Locked
+pub mod Merger
+pub mod MergerLaws
+pub mod Next
+pub mod PassLaws
+pub mod Runs
+pub mod Sealing
 pub mod Stops
+pub mod Taken

@@ -1,8 +1,10 @@
 //! The next segment of a file that is taken over.
-ghost use Rattle.std.specs.Prelude.{◌≡◌, ◌+◌, ◌<◌, ◌^◌, ◌↔◌, [], IsTrue};
+ghost use Rattle.std.specs.Prelude.{◌≡◌, ◌+◌, ◌<◌, ◌^◌, ◌↔◌, IsTrue};
 ghost use Rattle.column_store.specs.Row.{variable_count};
-ghost use Rattle.row_rename.specs.Renamed.{used_in};
+ghost use Rattle.archive_meaning.specs.Sums.{no_messages};
+ghost use Rattle.archive_merge.specs.InHand.{IsEmpty, sum_in};
 
+use archive_meaning::FileSum;
 use column_store::Columns;
 use disk_seal::Draft;
 use plain_list::NumberList;
@@ -17,14 +19,16 @@ pub struct Hand {
     pub draft: Draft,
     /// The row that was renamed last, and the numbers of dictionary words that the rows have.
     pub renamed: RenamedRow,
+    /// Whether the last message of the file so far may be a last line without newline.
+    pub open_end: bool,
 }
 
 impl Hand {
     /// The first segment of a file, without rows. Takes no memory.
     pub fn new(alloc: Global, file: u32) -> Hand
         ensures file { result.draft.file ≡ file }
-        ensures rows { result.draft.columns.rows ≡ [] }
-        ensures used { used_in result.renamed ≡ [] }
+        ensures empty { IsEmpty result }
+        ensures sum { sum_in result ≡ no_messages }
     {
         Hand {
             draft: Draft {
@@ -36,6 +40,18 @@ impl Hand {
                 words: NumberList::new(Vec::new(alloc)),
             },
             renamed: RenamedRow::new(alloc),
+            open_end: false,
+        }
+    }
+
+    /// The sum of the file's segments before this one.
+    pub(crate) fn sum(&self) -> FileSum
+        ensures { result ≡ sum_in self.now }
+    {
+        FileSum {
+            messages: self.draft.first,
+            whole: self.draft.last,
+            open_end: self.open_end,
         }
     }
 

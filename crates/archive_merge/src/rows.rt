@@ -6,15 +6,15 @@ ghost use Rattle.row_rename.specs.Paths.{HasNamedMore};
 ghost use Rattle.row_rename.specs.Tables.{AreTables, HasNamedBoth};
 ghost use Rattle.archive_core.specs.Rows.{AreMessages};
 ghost use Rattle.archive_merge.specs.InHand.{MayTake, MayTakeAll, SameMarks, TakesAll, TakesRow, TakesRows};
-ghost use Rattle.archive_merge.specs.declared.stop.Stop.TheVariants.{SecondDamaged};
+ghost use Rattle.archive_merge.specs.Taken.{HasNamed, Serves, books_by, texts_by, texts_in};
+ghost use Rattle.archive_merge.specs.declared.stop.Stop.TheVariants.{SecondDamaged, SecondFault};
 
 use crate::hand::Hand;
 use crate::stop::Stop;
-use archive_core::RowJudge;
+use crate::taker::Taker;
 use column_store::{Columns, RowRef};
 use row_codec::{Namer, Names};
 use row_rename::{Tables, rename_row};
-use std::alloc::Global;
 
 // Takes a row over: gives it the numbers of the first archive, and adds it to those in hand.
 fn take_row<M: Names, N: Namer>(
@@ -48,6 +48,7 @@ fn take_row<M: Names, N: Namer>(
         (N.types namer.new) (N.words namer.new) count }
     ensures damaged { IsErrOf result SecondDamaged
         → ¬ MayTake (M.types names.now) (M.words names.now) (row_of row.entry) hand.old }
+    ensures disk { ¬ IsErrOf result SecondFault }
 {
     if !hand.has_room(row.words.len()) {
         return Err(Stop::SecondDamaged);
@@ -89,6 +90,7 @@ fn take_rows<M: Names, N: Namer>(
         (N.types namer.new) (N.words namer.new) count }
     ensures damaged { IsErrOf result SecondDamaged
         → ¬ MayTakeAll (M.types names.now) (M.words names.now) page.now.rows hand.old }
+    ensures disk { ¬ IsErrOf result SecondFault }
 {
     for place in 0..page.rows() {
         take_row(page.row(place), names, tables, namer, hand)?;
@@ -104,35 +106,28 @@ fn take_rows<M: Names, N: Namer>(
 ///
 /// [`Stop::Full`], [`Stop::SecondDamaged`] or [`Stop::OutOfMemory`]. Some of the rows may be in hand then.
 pub fn take_page<M: Names, N: Namer>(
-    alloc: Global,
-    version: u32,
     page: &Columns,
     before: bool,
     names: &M,
-    judge: &mut RowJudge,
-    tables: &mut Tables,
+    taker: &mut Taker,
     namer: &mut N,
     hand: &mut Hand,
 ) -> Result<bool, Stop>
-    requires judge { judge.old ≡ M.types names.now }
-    requires version { version ≡ M.version names.now }
-    requires tables { AreTables (M.types names.now) (M.words names.now)
-        (N.types namer.old).texts (N.words namer.old).texts tables.old }
+    requires serves { Serves (M.version names.now) (texts_by M.types M.words names.now)
+        (books_by N.types N.words namer.old) taker.old }
     requires room { length hand.old.draft.columns.rows + length page.now.rows ≤ 65536 }
 
     // what stays, and what is named
-    ensures judge { judge.new ≡ judge.old }
-    ensures version { N.version namer.new ≡ N.version namer.old }
-    ensures named { HasNamedBoth (M.types names.now) (M.words names.now) (N.types namer.old)
-        (N.types namer.new) (N.words namer.old) (N.words namer.new) tables.new }
-    ensures path { HasNamedMore N.naming namer.old namer.new }
+    ensures named { HasNamed (M.version names.now) (texts_by M.types M.words names.now)
+        (books_by N.types N.words namer.old) (books_by N.types N.words namer.new) taker.new }
+    ensures namer { (N.version namer.new ≡ N.version namer.old)
+        × HasNamedMore N.naming namer.old namer.new }
     ensures marks { SameMarks hand.old hand.new }
 
     // by the answer
     ensures taken { IfOk result (λ open_end. TakesRows (M.version names.now)
-        (record { types = M.types names.now; words = M.words names.now })
-        (record { types = (N.types namer.old).texts; words = (N.words namer.old).texts })
-        (record { types = (N.types namer.new).texts; words = (N.words namer.new).texts })
+        (texts_by M.types M.words names.now) (texts_in (books_by N.types N.words namer.old))
+        (texts_in (books_by N.types N.words namer.new))
         page.now.rows hand.old hand.new before open_end) }
 
     // causes
@@ -143,10 +138,12 @@ pub fn take_page<M: Names, N: Namer>(
         → AreMessages (M.version names.now) (M.types names.now) (M.words names.now)
         page.now.rows messages
         → ¬ MayTakeAll (M.types names.now) (M.words names.now) page.now.rows hand.old }
+    ensures disk { ¬ IsErrOf result SecondFault }
 {
-    let Some(open_end) = judge.rows_say(alloc, version, names, before, page)? else {
+    let (alloc, version) = (taker.alloc, taker.version);
+    let Some(open_end) = taker.judge.rows_say(alloc, version, names, before, page)? else {
         return Err(Stop::SecondDamaged);
     };
-    take_rows(page, names, tables, namer, hand)?;
+    take_rows(page, names, &mut taker.tables, namer, hand)?;
     Ok(open_end)
 }

@@ -1,10 +1,11 @@
 //! Why a segment of the second archive was not taken over.
 ghost use Rattle.std.specs.Prelude.{◌≡◌};
-ghost use Rattle.archive_merge.specs.Stops.{stop_by};
+ghost use Rattle.archive_merge.specs.Stops.{stop_by, stop_by_page};
 ghost use Rattle.archive_merge.specs.declared.stop.Stop.TheVariants.{OutOfMemory};
 
 use row_codec::Which;
 use row_rename::RenameRefusal;
+use segment_pages::PageRefusal;
 use std::alloc::{AllocError, AllocFailed};
 use thiserror::Error;
 
@@ -22,6 +23,9 @@ pub enum Stop {
     /// The second archive's rows are not those of a legal archive.
     #[error("the second archive is damaged")]
     SecondDamaged,
+    /// A call of the second archive's disk failed: its count of faults rose.
+    #[error("the second archive's disk failed")]
+    SecondFault,
     /// Memory ran out.
     #[error("out of memory")]
     OutOfMemory,
@@ -35,6 +39,18 @@ impl From<RenameRefusal> for Stop {
             RenameRefusal::Full { book, count } => Stop::Full { book, count },
             RenameRefusal::Damaged => Stop::SecondDamaged,
             RenameRefusal::OutOfMemory => Stop::OutOfMemory,
+        }
+    }
+}
+
+impl From<PageRefusal> for Stop {
+    ghost from_gives = { λ refusal e. e ≡ stop_by_page refusal };
+
+    fn from(refusal: PageRefusal) -> Stop {
+        match refusal {
+            PageRefusal::DiskFault => Stop::SecondFault,
+            PageRefusal::Damaged => Stop::SecondDamaged,
+            PageRefusal::OutOfMemory => Stop::OutOfMemory,
         }
     }
 }

@@ -1,0 +1,45 @@
+-- What became of a file of the second archive.
+use Rattle.std.specs.Prelude.{◌≡◌, ◌&&◌, ℕ, Bool, true, false, List, [], length, Option, Some}
+use Rattle.std.specs.List.{sum_by}
+use mathlib.Core.List.{IsPrefix}
+use Rattle.log_seams.specs.Disk.{DiskState}
+use Rattle.turn_lock.specs.Words.{number_of, seen}
+use Rattle.archive_meaning.specs.declared.entry.SegmentEntry.{SegmentEntry}
+use Rattle.archive_open.specs.declared.segments.SegmentPlace.{SegmentPlace}
+use Rattle.disk_seal.specs.declared.entry.StoreEntry.{StoreEntry}
+use Rattle.disk_seal.specs.Draft.{journal_seen}
+use Rattle.disk_seal.specs.Fixed.{KeeperPass}
+use Rattle.ingest_workers.specs.Journal.{FrontHolds, HasAdded, HasSoFar, WhereTold, sealed_by}
+use Rattle.archive_merge.specs.declared.file.Merged.{Merged}
+use Rattle.archive_merge.specs.InHand.{Texts}
+use Rattle.archive_merge.specs.Runs.{HoldRun, SoFar, nothing_so_far}
+
+module _ {D : Type 0} (state : D → DiskState) where
+  -- the file has the pass' number, and nothing of it is sealed
+  pub record IsNewFile (file : Merged) (p : KeeperPass D) : Type 0 where
+    pub number : file.file ≡ number_of p
+    pub messages_none : file.messages ≡ 0
+    pub not_whole : file.whole ≡ false
+    pub so_far : HasSoFar state p []
+
+  -- Since the pass was `start` it has added segments of its file with these messages, and the journal that it has seen begins
+  -- with entries that hold them. Where the second archive's bytes are told and the places are a run to what it has of a file,
+  -- they are the first of that file's messages; and all of them, with its marks, where all places were done.
+  pub record CameOver (version : ℕ) (old : Texts) (places : List SegmentPlace) (told : Option (List ℕ)) (all_done : Bool)
+      (start p : KeeperPass D) (file file_new : Merged) : Type 0 where
+    pub same_file : file_new.file ≡ file.file
+    pub covered : List (List ℕ)
+    pub ended : Bool
+    pub count : file_new.messages ≡ length covered
+    pub more : List (ℕ × StoreEntry)
+    pub added : HasAdded start p more
+    pub segments : List SegmentEntry
+    pub sealed : WhereTold state start (λ h. sealed_by more ≡ segments)
+    pub rows_count : sum_by (λ (s : SegmentEntry). length s.rows) segments ≡ length covered
+    pub held : WhereTold state start (λ h.
+        FrontHolds h (journal_seen (seen p)) (number_of start) covered file_new.whole (file_new.whole && ended))
+    pub first : (bytes : List ℕ) (all : SoFar) → told ≡ Some bytes
+        → HoldRun version old bytes places nothing_so_far all → IsPrefix covered all.messages
+    pub all : all_done ≡ true → (bytes : List ℕ) (all : SoFar) → told ≡ Some bytes
+        → HoldRun version old bytes places nothing_so_far all
+        → all ≡ record { messages = covered; whole = file_new.whole; ended = file_new.whole && ended }

@@ -1,0 +1,39 @@
+-- What follows for the segments of the second archive.
+use Rattle.std.specs.Prelude.{ℕ, List, All}
+use Rattle.std.specs.List.{filter}
+use Rattle.std.specs.List.Sorted.{IsNonDecreasingBy}
+use Rattle.logtype_text.specs.Fair.{IsFairType, IsFairWord}
+use Rattle.record_format.specs.declared.header.Header.{Header}
+use Rattle.archive_meaning.specs.declared.entry.JournalEntry.{JournalEntry}
+use Rattle.archive_meaning.specs.Stands.{StandsFor}
+use Rattle.archive_open.specs.Kept.{Kept}
+use Rattle.archive_open.specs.Shown.{IsArchiveOf, Shown}
+use Rattle.archive_decode.specs.StepsHeld.{is_of}
+use Rattle.archive_merge.specs.InHand.{Texts}
+use Rattle.archive_merge.specs.Merger.{file_at}
+use Rattle.archive_merge.specs.Runs.{HoldRun, held_of, nothing_so_far}
+
+abbrev pub texts_kept : Kept → Texts
+texts_kept kept = record { types = kept.types; words = kept.words }
+
+-- Where the bytes stand for a journal, the segments of a file in the journal's archive, in the archive's order, each go on with
+-- what those before it left, and leave what the journal holds of the file.
+abbrev pub SegmentsGoOn : Type 0
+SegmentsGoOn =
+    (bytes : List ℕ) (h : Header) (es : List JournalEntry) (a : Shown) (number : ℕ) (stood : StandsFor bytes h es)
+    → IsArchiveOf a h es stood.legal.held
+    → HoldRun a.kept.version (texts_kept a.kept) bytes (filter (is_of number) a.segments) nothing_so_far
+    (held_of number stood.legal.held)
+
+-- the texts of the archive are those that dictionaries may hold
+abbrev pub TextsAreFair : Type 0
+TextsAreFair =
+    (bytes : List ℕ) (h : Header) (es : List JournalEntry) (a : Shown) (stood : StandsFor bytes h es)
+    → IsArchiveOf a h es stood.legal.held
+    → All IsFairType a.kept.types × All IsFairWord a.kept.words
+
+-- the archive's segments are sorted by file
+abbrev pub FilesRise : Type 0
+FilesRise =
+    (bytes : List ℕ) (h : Header) (es : List JournalEntry) (a : Shown) (stood : StandsFor bytes h es)
+    → IsArchiveOf a h es stood.legal.held → IsNonDecreasingBy file_at a.segments

@@ -1,0 +1,102 @@
+-- Laws of what moves one file after the other, which its trait asks for.
+use Rattle.std.proofs.Common.{◌≡◌, ◌≢◌, ℕ, ◌≤◌, List, sym, refl, ap, ◌∙◌, subst, Option, None, Some, arith, IsSome}
+use Rattle.std.specs.List.{Contains}
+use Rattle.log_seams.specs.Disk.{DiskState}
+use Rattle.log_seams.proofs.MomentLemmas.{rests_on}
+use Rattle.log_seams.specs.declared.disk.Disk.{Ghosts as DiskGhosts}
+use Rattle.row_codec.specs.declared.names.Names.{Ghosts as NamesGhosts}
+use Rattle.archive_decode.proofs.SegmentLemmas.{rests_none}
+use Rattle.ingest_fork.specs.Works.{ArePieces}
+use Rattle.dict_lock.specs.Cached.{pass_in}
+use Rattle.disk_seal.specs.Fixed.{KeeperPass}
+use Rattle.archive_merge.specs.declared.file.Merged.{Merged}
+use Rattle.archive_merge.specs.declared.merger.BookPasses.{BookPasses}
+use Rattle.archive_merge.specs.declared.merger.Merger.{Merger}
+use Rattle.archive_merge.specs.InHand.{Texts}
+use Rattle.archive_merge.specs.PassLaws.{adds_none, adds_then, goes_self}
+use Rattle.archive_merge.specs.Taken.{Serves, texts_by}
+use Rattle.archive_merge.specs.Merger.{IsIdle, MayMoveFile, MayName, MovesOn, PassesAdd, books_of, passes_in, passes_of}
+
+pub passes_self : (old : Texts) (b : BookPasses) → MayName b → PassesAdd old b b
+passes_self old b may = record {
+  types = adds_none (Contains old.types) (pass_in b.types) (pass_in b.types) (goes_self (pass_in b.types) may.types_ready) refl;
+  words = adds_none (Contains old.words) (pass_in b.words) (pass_in b.words) (goes_self (pass_in b.words) may.words_ready) refl;
+}
+
+pub passes_then : (old : Texts) (a b c : BookPasses) → PassesAdd old a b → PassesAdd old b c → PassesAdd old a c
+passes_then old a b c one two = record {
+  types = adds_then (Contains old.types) (pass_in a.types) (pass_in b.types) (pass_in c.types) one.types two.types;
+  words = adds_then (Contains old.words) (pass_in a.words) (pass_in b.words) (pass_in c.words) one.words two.words;
+}
+
+abbrev or_these : BookPasses → Option BookPasses → BookPasses
+or_these c None = c
+or_these c (Some b) = b
+
+pub passes_in_is : (o : Option BookPasses) (some : IsSome o) (b : BookPasses) → o ≡ Some b → passes_in o some ≡ b
+passes_in_is None none b is = absurd (cc (is))
+passes_in_is (Some c) some b is = ap (or_these c) is
+
+module _ {M E : Type 0} {G : NamesGhosts M} {H : DiskGhosts E} (types words : M → List (List ℕ)) (version : M → ℕ)
+    (state : E → DiskState) where
+  pub rests : (js js' : List Merged) (w : Merger M E G H) → IsIdle types words version w
+      → MovesOn types words version state js js' w w
+  rests js js' w idle = record {
+    first_is = refl;
+    second_is = record { names = refl; segments = refl; rests = rests_none (state w.second.disk.now) };
+    later = omega arith;
+    adds = passes_self (texts_by types words w.second.names.now) (passes_of w) idle.may;
+    stop_is = λ some. refl;
+  }
+
+  pub goes_on : (js js' : List Merged) (a b c : Merger M E G H) → MovesOn types words version state js js' a b
+      → MovesOn types words version state js js' b c → MovesOn types words version state js js' a c
+  goes_on js js' a b c one two = record {
+    first_is = two.first_is ∙ one.first_is;
+    second_is = record {
+      names = two.second_is.names ∙ one.second_is.names;
+      segments = two.second_is.segments ∙ one.second_is.segments;
+      rests = rests_on (state a.second.disk.now) (state b.second.disk.now) (state c.second.disk.now)
+          one.second_is.rests two.second_is.rests;
+    };
+    later = omega (arith, one.later, two.later);
+    adds = passes_then (texts_by types words a.second.names.now) (passes_of a) (passes_of b) (passes_of c) one.adds
+        (subst (λ n. PassesAdd (texts_by types words n.now) (passes_of b) (passes_of c)) one.second_is.names two.adds);
+    stop_is = λ some. two.stop_is (subst (λ s. s ≢ None) (sym (one.stop_is some)) some) ∙ one.stop_is some;
+  }
+
+  pub wider : (js js' piece piece' : List Merged) (a b : Merger M E G H) → ArePieces js js' piece piece'
+      → MovesOn types words version state piece piece' a b → MovesOn types words version state js js' a b
+  wider js js' piece piece' a b are one = record {
+    first_is = one.first_is;
+    second_is = one.second_is;
+    later = one.later;
+    adds = one.adds;
+    stop_is = one.stop_is;
+  }
+
+  module _ {D : Type 0} (state_first : D → DiskState) where
+    pub fits_on : (js js' : List Merged) (a b : Merger M E G H) (j : Merged) (k : KeeperPass D)
+        → MovesOn types words version state js js' a b → MayMoveFile types words version state_first a j k
+        → MayMoveFile types words version state_first b j k
+    fits_on js js' a b j k one may = record {
+      above = subst (λ n. n ≤ j.file) (sym one.first_is) may.above;
+      new = may.new;
+      ready = may.ready;
+      opening = may.opening;
+      types_lock = λ x is. one.adds.types.goes.still.lock ∙ may.types_lock x is;
+      words_lock = λ x is. one.adds.words.goes.still.lock ∙ may.words_lock x is;
+      version_is = λ x is. ap (λ n. version n.now) one.second_is.names ∙ may.version_is x is;
+    }
+
+module _ {M E : Type 0} {G : NamesGhosts M} {H : DiskGhosts E} (types words : M → List (List ℕ)) (version : M → ℕ) where
+  -- it is between two files with these passes
+  pub idle_with : (w : Merger M E G H) (b : BookPasses) → w.passes ≡ Some b → MayName b
+      → Serves (version w.second.names.now) (texts_by types words w.second.names.now) (books_of b) w.second.taker
+      → IsIdle types words version w
+  idle_with w b had may serves = let same = passes_in_is w.passes w.full b had in record {
+    may = subst MayName (sym same) may;
+    serves = subst
+        (λ x. Serves (version w.second.names.now) (texts_by types words w.second.names.now) (books_of x) w.second.taker)
+        (sym same) serves;
+  }

@@ -1,0 +1,15 @@
+//! Laws of an archive that was opened, each the contract of a function that does nothing.
+ghost use Rattle.archive_merge.specs.Laws.{FilesRise, SegmentsGoOn, TextsAreFair};
+
+use segment_pages::segments_are_held;
+
+/// Where the bytes of a disk stand for a journal, the segments of a file in its archive go on one
+/// behind the other, to what the journal holds of the file; they are sorted by file; and the texts are
+/// those that dictionaries may hold.
+pub fn segments_go_on()
+    ensures runs { SegmentsGoOn }
+    ensures rise { FilesRise }
+    ensures fair { TextsAreFair }
+{
+    segments_are_held();
+}
