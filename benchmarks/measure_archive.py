@@ -84,6 +84,24 @@ def table(what, commands, rounds, size, before=None):
     return failed, {name: runs[name][0].lines for name, _ in commands}
 
 
+def counted(clpa, archive, path, common, rare, rounds, size):
+    """The groups of `count`, held against the counts of lines that `grep` finds."""
+    failed, some = False, f"{common[:3]}?{common[4:]}"
+    for name, by, text in [("all", "type", ""), ("all", "minute", ""), ("common word", "type", common), ("common word", "minute", common), ("rare word", "minute", rare)]:
+        beside = ["grep", "-aFc", text, path] if text else ["grep", "-ac", "", path]
+        wrong, _ = table(f"count by {by}, {name} `{text}`", [(f"clpa count --by {by}", [clpa, archive, "count", "--by", by, text]), (" ".join(beside[:2]), beside)], rounds, size)
+        groups = subprocess.run([clpa, archive, "count", "--by", by, text], check=True, capture_output=True).stdout.splitlines()
+        told = sum(int(it.split(b" ")[0 if by == "type" else 1]) for it in groups)
+        found = subprocess.run(beside, check=False, capture_output=True, env=dict(os.environ, LC_ALL="C"))
+        if told != int(found.stdout):
+            print(f"| count by {by} of `{text}` tells {told}, and grep {int(found.stdout)} | | | | | |")
+            wrong = True
+        failed = failed or wrong
+    pair = [("clpa count --by type", [clpa, archive, "count", "--by", "type", some]), ("clpa search", [clpa, archive, "search", some])]
+    wrong, _ = table(f"count of a pattern that is expanded, `{some}`", pair, rounds, size)
+    return failed or wrong
+
+
 def main():
     rounds, path, clpa = int(sys.argv[1]), sys.argv[2], sys.argv[3]
     size, failed = os.path.getsize(path), False
@@ -140,6 +158,7 @@ def main():
     failed = failed or wrong or len(set(counts.values())) > 1
     wrong, _ = table("one minute", [("clpa search --from --to", [clpa, one, "search", *MINUTE, ""]), ("grep -aFc", ["grep", "-aFc", common, path])], rounds, size)
     failed = failed or wrong
+    failed = counted(clpa, one, path, common, rare, rounds, size) or failed
     wrong, _ = table("whole archive", [("clpa check", [clpa, one, "check"]), ("zstd -t", ["zstd", "-q", "-t", packed]), ("clpa files", [clpa, one, "files"])], rounds, os.path.getsize(one))
     failed = failed or wrong
     opened = bytes_read([clpa, one, "files"])

@@ -5,8 +5,13 @@ _clpa() {
     COMPREPLY=()
     case $COMP_CWORD:$command in
         1:*) compopt -o default ;;
-        2:*) mapfile -t COMPREPLY < <(compgen -W 'bench check create decode files ingest scan search show' -- "$word") ;;
+        2:*) mapfile -t COMPREPLY < <(compgen -W 'bench check count create decode files ingest scan search show' -- "$word") ;;
         3:show | 4:scan) compopt -o default ;;
+        *:count)
+            local words='--by= --from= --stats --to='
+            [ "$3" != --by ] || words='minute type'
+            mapfile -t COMPREPLY < <(compgen -W "$words" -- "$word")
+            ;;
         *:create)
             mapfile -t COMPREPLY < <(compgen -W '--bytes= --format= --types= --words=' -- "$word")
             compopt -o nospace

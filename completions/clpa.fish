@@ -27,6 +27,7 @@ complete -c clpa -f
 complete -c clpa -n 'test (count (__clpa_words)) -eq 0' -F
 complete -c clpa -n __clpa_wants_command -a bench -d 'make an archive of generated logs'
 complete -c clpa -n __clpa_wants_command -a check -d 'tell whether an archive is legal'
+complete -c clpa -n __clpa_wants_command -a count -d 'count the messages of an archive that match'
 complete -c clpa -n __clpa_wants_command -a create -d 'make an empty archive'
 complete -c clpa -n __clpa_wants_command -a decode -d 'print the bytes of a file'
 complete -c clpa -n __clpa_wants_command -a files -d 'list the files of an archive'
@@ -42,6 +43,7 @@ complete -c clpa -n '__clpa_in create' -l types -x -d 'how many log types it may
 complete -c clpa -n '__clpa_in create' -l words -x -d 'how many dictionary words it may have'
 complete -c clpa -n '__clpa_in ingest' -l segment -x -d 'how many messages a segment has at most'
 complete -c clpa -n '__clpa_in ingest search' -l workers -x -d 'how many threads'
-complete -c clpa -n '__clpa_in search' -l from -x -d 'the first moment'
-complete -c clpa -n '__clpa_in search' -l stats -d 'print the counts too'
-complete -c clpa -n '__clpa_in search' -l to -x -d 'the last moment'
+complete -c clpa -n '__clpa_in count' -l by -x -a 'minute type' -d 'what is counted by'
+complete -c clpa -n '__clpa_in count search' -l from -x -d 'the first moment'
+complete -c clpa -n '__clpa_in count search' -l stats -d 'print the counts of the search too'
+complete -c clpa -n '__clpa_in count search' -l to -x -d 'the last moment'
