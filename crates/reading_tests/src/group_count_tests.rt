@@ -1,0 +1,274 @@
+//! Counts of the messages of small archives.
+ghost use Rattle.step_count.specs.Opens.{OpensFor};
+
+use archive_places::open_places;
+use column_store::Range;
+use group_count::printed::{put_minutes, put_types};
+use group_count::{GroupBy, GroupReport, Grouped, SearchRefusal, group};
+use log_seams::MemDisk;
+use plain_list::Text;
+use query_plan::wide_is_wider;
+use std::alloc::{AllocError, Global};
+use std::marker::Brand;
+use std::sync::ledger::{Blank, Ledger};
+use std::test::Fail;
+use step_count::Steps;
+use wild_match::read_pattern;
+
+// File `a.log` with the lines `12534`, `12 34` and `a12*34`.
+static NUMBERS: [u8; 280] = [
+    67, 76, 80, 65, 82, 67, 72, 10, 1, 0, 0, 0, 100, 0, 0, 0, 100, 0, 0, 0, 0, 0, 0, 0, 0, 16, 0,
+    0, 0, 0, 0, 0, 1, 1, 13, 0, 0, 0, 0, 0, 0, 0, 1, 0, 0, 0, 5, 0, 0, 0, 97, 46, 108, 111, 103, 1,
+    2, 27, 0, 0, 0, 0, 0, 0, 0, 0, 0, 0, 0, 3, 0, 0, 0, 1, 0, 0, 0, 17, 3, 0, 0, 0, 17, 32, 17, 3,
+    0, 0, 0, 18, 42, 17, 1, 3, 15, 0, 0, 0, 0, 0, 0, 0, 0, 0, 0, 0, 1, 0, 0, 0, 3, 0, 0, 0, 97, 49,
+    50, 1, 4, 152, 0, 0, 0, 0, 0, 0, 0, 0, 0, 0, 0, 0, 0, 0, 0, 0, 0, 0, 0, 3, 0, 0, 0, 3, 0, 0, 0,
+    0, 0, 0, 0, 0, 0, 0, 0, 0, 0, 0, 0, 0, 3, 0, 0, 0, 1, 0, 0, 0, 5, 0, 0, 0, 0, 0, 0, 0, 1, 0, 0,
+    0, 2, 0, 0, 0, 0, 0, 0, 0, 0, 0, 0, 0, 0, 0, 0, 0, 0, 0, 0, 0, 0, 0, 0, 0, 0, 0, 0, 0, 0, 0, 0,
+    0, 0, 0, 0, 0, 0, 0, 0, 1, 0, 0, 0, 2, 0, 0, 0, 1, 0, 0, 0, 2, 0, 0, 0, 2, 0, 0, 0, 246, 48, 0,
+    0, 0, 0, 0, 0, 12, 0, 0, 0, 0, 0, 0, 0, 34, 0, 0, 0, 0, 0, 0, 0, 0, 0, 0, 0, 0, 0, 0, 0, 34, 0,
+    0, 0, 0, 0, 0, 0, 0,
+];
+
+// File `t.log` with two lines with a stamp, and one without.
+static STAMPS: [u8; 240] = [
+    67, 76, 80, 65, 82, 67, 72, 10, 1, 0, 0, 0, 100, 0, 0, 0, 100, 0, 0, 0, 0, 0, 0, 0, 0, 16, 0,
+    0, 0, 0, 0, 0, 1, 1, 13, 0, 0, 0, 0, 0, 0, 0, 1, 0, 0, 0, 5, 0, 0, 0, 116, 46, 108, 111, 103,
+    1, 2, 56, 0, 0, 0, 0, 0, 0, 0, 0, 0, 0, 0, 3, 0, 0, 0, 11, 0, 0, 0, 32, 73, 78, 70, 79, 32,
+    115, 116, 97, 114, 116, 10, 0, 0, 0, 32, 73, 78, 70, 79, 32, 115, 116, 111, 112, 15, 0, 0, 0,
+    32, 32, 110, 111, 32, 115, 116, 97, 109, 112, 32, 104, 101, 114, 101, 1, 4, 108, 0, 0, 0, 0, 0,
+    0, 0, 0, 0, 0, 0, 0, 0, 0, 0, 0, 0, 0, 0, 3, 0, 0, 0, 7, 0, 104, 229, 207, 139, 1, 0, 0, 220,
+    109, 229, 207, 139, 1, 0, 0, 3, 0, 0, 0, 0, 0, 0, 0, 0, 0, 0, 0, 0, 0, 0, 0, 1, 0, 0, 0, 2, 0,
+    0, 0, 1, 1, 0, 0, 104, 229, 207, 139, 1, 0, 0, 220, 109, 229, 207, 139, 1, 0, 0, 0, 0, 0, 0, 0,
+    0, 0, 0, 0, 0, 0, 0, 1, 0, 0, 0, 2, 0, 0, 0, 0, 0, 0, 0, 0, 0, 0, 0, 0, 0, 0, 0, 0,
+];
+
+// File `a.log` with the lines `run task_1 x`, `run task_2 x` and `run task_3 x`, a segment each, and an
+// empty last one.
+static ROWS: [u8; 488] = [
+    67, 76, 80, 65, 82, 67, 72, 10, 1, 0, 0, 0, 100, 0, 0, 0, 100, 0, 0, 0, 0, 0, 0, 0, 0, 16, 0,
+    0, 0, 0, 0, 0, 1, 1, 13, 0, 0, 0, 0, 0, 0, 0, 1, 0, 0, 0, 5, 0, 0, 0, 97, 46, 108, 111, 103, 1,
+    2, 19, 0, 0, 0, 0, 0, 0, 0, 0, 0, 0, 0, 1, 0, 0, 0, 7, 0, 0, 0, 114, 117, 110, 32, 18, 32, 120,
+    1, 3, 18, 0, 0, 0, 0, 0, 0, 0, 0, 0, 0, 0, 1, 0, 0, 0, 6, 0, 0, 0, 116, 97, 115, 107, 95, 49,
+    1, 4, 78, 0, 0, 0, 0, 0, 0, 0, 0, 0, 0, 0, 0, 0, 0, 0, 0, 0, 0, 0, 1, 0, 0, 0, 0, 0, 0, 0, 0,
+    0, 0, 0, 0, 0, 0, 0, 0, 0, 0, 0, 0, 1, 0, 0, 0, 1, 0, 0, 0, 1, 0, 0, 0, 0, 0, 0, 0, 0, 0, 0, 0,
+    0, 0, 0, 0, 0, 0, 0, 0, 0, 0, 0, 0, 0, 1, 0, 0, 0, 0, 0, 0, 0, 0, 0, 0, 0, 1, 3, 18, 0, 0, 0,
+    0, 0, 0, 0, 1, 0, 0, 0, 1, 0, 0, 0, 6, 0, 0, 0, 116, 97, 115, 107, 95, 50, 1, 4, 78, 0, 0, 0,
+    0, 0, 0, 0, 0, 0, 0, 0, 1, 0, 0, 0, 0, 0, 0, 0, 1, 0, 0, 0, 0, 0, 0, 0, 0, 0, 0, 0, 0, 0, 0, 0,
+    0, 0, 0, 0, 0, 1, 0, 0, 0, 1, 0, 0, 0, 1, 0, 0, 0, 0, 0, 0, 0, 1, 0, 0, 0, 0, 0, 0, 0, 0, 0, 0,
+    0, 0, 0, 0, 0, 0, 1, 0, 0, 0, 1, 0, 0, 0, 0, 0, 0, 0, 1, 3, 18, 0, 0, 0, 0, 0, 0, 0, 2, 0, 0,
+    0, 1, 0, 0, 0, 6, 0, 0, 0, 116, 97, 115, 107, 95, 51, 1, 4, 78, 0, 0, 0, 0, 0, 0, 0, 0, 0, 0,
+    0, 2, 0, 0, 0, 0, 0, 0, 0, 1, 0, 0, 0, 0, 0, 0, 0, 0, 0, 0, 0, 0, 0, 0, 0, 0, 0, 0, 0, 0, 1, 0,
+    0, 0, 1, 0, 0, 0, 1, 0, 0, 0, 0, 0, 0, 0, 2, 0, 0, 0, 0, 0, 0, 0, 0, 0, 0, 0, 0, 0, 0, 0, 0, 1,
+    0, 0, 0, 2, 0, 0, 0, 0, 0, 0, 0, 1, 4, 45, 0, 0, 0, 0, 0, 0, 0, 0, 0, 0, 0, 3, 0, 0, 0, 0, 0,
+    0, 0, 0, 0, 0, 0, 3, 0, 0, 0, 0, 0, 0, 0, 0, 0, 0, 0, 0, 0, 0, 0, 0, 0, 0, 0, 0, 0, 0, 0, 0, 0,
+    0, 0, 0, 0,
+];
+
+// File `f.log` with the lines `a b c d e` and `a b c d x`.
+static LETTERS: [u8; 197] = [
+    67, 76, 80, 65, 82, 67, 72, 10, 1, 0, 0, 0, 100, 0, 0, 0, 100, 0, 0, 0, 0, 0, 0, 0, 0, 16, 0,
+    0, 0, 0, 0, 0, 1, 1, 13, 0, 0, 0, 0, 0, 0, 0, 1, 0, 0, 0, 5, 0, 0, 0, 102, 46, 108, 111, 103,
+    1, 2, 34, 0, 0, 0, 0, 0, 0, 0, 0, 0, 0, 0, 2, 0, 0, 0, 9, 0, 0, 0, 97, 32, 98, 32, 99, 32, 100,
+    32, 101, 9, 0, 0, 0, 97, 32, 98, 32, 99, 32, 100, 32, 120, 1, 4, 87, 0, 0, 0, 0, 0, 0, 0, 0, 0,
+    0, 0, 0, 0, 0, 0, 0, 0, 0, 0, 2, 0, 0, 0, 3, 0, 0, 0, 0, 0, 0, 0, 0, 0, 0, 0, 0, 0, 0, 0, 0, 2,
+    0, 0, 0, 0, 0, 0, 0, 0, 0, 0, 0, 0, 0, 0, 0, 1, 0, 0, 0, 0, 0, 0, 0, 0, 0, 0, 0, 0, 0, 0, 0, 0,
+    0, 0, 0, 0, 0, 0, 0, 0, 0, 1, 0, 0, 0, 0, 0, 0, 0, 0, 0, 0, 0, 0,
+];
+
+/// What is counted: found, expanded, opened, all segments.
+type Work = (u64, u64, u64, u64);
+
+/// Counts the messages of an archive, for a caller that counts nothing.
+fn group_with<L: Ledger, M: Ledger>(
+    alloc: Global,
+    bytes: &[u8],
+    text: &[u8],
+    range: Range,
+    by: GroupBy,
+    one: Blank,
+    two: Blank,
+) -> Result<Result<Grouped, SearchRefusal>, AllocError>
+    requires one { OpensFor one L.name L.parts }
+    requires two { OpensFor two M.name M.parts }
+{
+    wide_is_wider();
+    let Ok(pattern) = read_pattern(alloc, text) else {
+        return Err(AllocError);
+    };
+    let bytes = Text::new(bytes.to_vec(alloc)?);
+    let mut disk = MemDisk::new(alloc, bytes, 0, 64, Vec::new(alloc))?;
+    let Ok(places) = open_places(alloc, &mut disk) else {
+        return Err(AllocError);
+    };
+    let mut opened: Steps<L> = Steps::new(one);
+    let mut expanded: Steps<M> = Steps::new(two);
+    Ok(group(
+        alloc,
+        places,
+        &mut disk,
+        &pattern,
+        &range,
+        by,
+        &mut opened,
+        &mut expanded,
+    ))
+}
+
+/// Whether a report has these counts.
+fn works(report: &GroupReport, work: Work) -> bool {
+    report.matched == work.0
+        && report.expanded == work.1
+        && report.opened == work.2
+        && report.segments == work.3
+}
+
+/// Whether this is printed, with these counts.
+fn tells(
+    alloc: Global,
+    by: GroupBy,
+    grouped: &Grouped,
+    printed: &[u8],
+    work: Work,
+) -> Result<bool, AllocError> {
+    let mut out = Vec::new(alloc);
+    match by {
+        GroupBy::Shape => put_types(&mut out, &grouped.groups)?,
+        GroupBy::Minute => put_minutes(&mut out, &grouped.groups, grouped.without)?,
+    }
+    Ok(out.as_slice() == printed && works(&grouped.report, work))
+}
+
+/// Whether a count prints that, with these counts.
+fn groups(
+    alloc: Global,
+    bytes: &[u8],
+    text: &[u8],
+    range: Range,
+    by: GroupBy,
+    printed: &[u8],
+    work: Work,
+) -> Result<bool, AllocError> {
+    let answer = group_with::<Brand, Brand>(
+        alloc,
+        bytes,
+        text,
+        range,
+        by,
+        Blank::new(1),
+        Blank::new(1),
+    )?;
+    match answer {
+        Ok(grouped) => tells(alloc, by, &grouped, printed, work),
+        Err(_) => Ok(false),
+    }
+}
+
+const ALL: Range = Range {
+    from: None,
+    to: None,
+};
+
+/// The archive of a row.
+#[derive(Clone, Copy, Debug)]
+enum Of {
+    Numbers,
+    Stamps,
+    Rows,
+    Letters,
+}
+
+/// Its bytes.
+fn bytes_of(of: Of) -> &'static [u8] {
+    match of {
+        Of::Numbers => &NUMBERS,
+        Of::Stamps => &STAMPS,
+        Of::Rows => &ROWS,
+        Of::Letters => &LETTERS,
+    }
+}
+
+const BY_TYPE: &[(Of, &[u8], &[u8], Work)] = &[
+    (
+        Of::Numbers,
+        b"12*34",
+        b"1 {i}\n1 {i} {i}\n1 {w}*{i}\n",
+        (3, 0, 1, 1),
+    ),
+    (Of::Numbers, b"12\\*34", b"1 {w}*{i}\n", (1, 0, 1, 1)),
+    (
+        Of::Numbers,
+        b"",
+        b"1 {i}\n1 {i} {i}\n1 {w}*{i}\n",
+        (3, 0, 1, 1),
+    ),
+    (Of::Numbers, b"y", b"", (0, 0, 1, 1)),
+    (Of::Letters, b"a*b*c*d*e", b"1 a b c d e\n", (1, 2, 1, 1)),
+    (
+        Of::Letters,
+        b"a*b*c*d",
+        b"1 a b c d e\n1 a b c d x\n",
+        (2, 0, 1, 1),
+    ),
+    (
+        Of::Letters,
+        b"a**b",
+        b"1 a b c d e\n1 a b c d x\n",
+        (2, 0, 1, 1),
+    ),
+    (
+        Of::Letters,
+        b"a?b",
+        b"1 a b c d e\n1 a b c d x\n",
+        (2, 2, 1, 1),
+    ),
+    (Of::Letters, b"d?e", b"1 a b c d e\n", (1, 1, 1, 1)),
+    (Of::Rows, b"", b"3 run {w} x\n", (3, 0, 3, 4)),
+    (Of::Rows, b" task_2 ", b"1 run {w} x\n", (1, 0, 1, 4)),
+    (Of::Rows, b"task?2", b"1 run {w} x\n", (1, 1, 3, 4)),
+    (Of::Rows, b"run;x", b"", (0, 0, 3, 4)),
+    (Of::Stamps, b"20?000 INFO", b"1  INFO start\n", (1, 1, 1, 1)),
+    (Of::Stamps, b"20,000 INFO", b"1  INFO start\n", (1, 0, 1, 1)),
+];
+
+#[test]
+fn by_type(rt: HostRuntime) -> Result<(), Fail> {
+    for &(of, text, printed, work) in BY_TYPE {
+        let bytes = bytes_of(of);
+        let well = groups(rt.alloc(), bytes, text, ALL, GroupBy::Shape, printed, work)?;
+        assert!(rt; well, "{text:?}");
+    }
+    Ok(())
+}
+
+const BY_MINUTE: &[(&[u8], Option<i64>, Option<i64>, &[u8], Work)] = &[
+    (b"", None, None, b"1699999980000 2\nnone 1\n", (3, 0, 1, 1)),
+    (b"", Some(0), None, b"1699999980000 2\n", (2, 0, 1, 1)),
+    (b"?INFO", None, None, b"1699999980000 2\n", (2, 2, 1, 1)),
+    (
+        b"INFO",
+        Some(1_700_000_001_500),
+        Some(1_700_000_001_500),
+        b"1699999980000 1\n",
+        (1, 0, 1, 1),
+    ),
+    (b"INFO", Some(1_700_000_002_000), None, b"", (0, 0, 0, 1)),
+    (b"e", None, None, b"none 1\n", (1, 0, 1, 1)),
+];
+
+#[test]
+fn by_minute(rt: HostRuntime) -> Result<(), Fail> {
+    for &(text, from, to, printed, work) in BY_MINUTE {
+        let range = Range { from, to };
+        let well = groups(
+            rt.alloc(),
+            &STAMPS,
+            text,
+            range,
+            GroupBy::Minute,
+            printed,
+            work,
+        )?;
+        assert!(rt; well, "{text:?} {from:?}");
+    }
+    Ok(())
+}
