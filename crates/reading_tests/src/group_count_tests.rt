@@ -78,10 +78,11 @@ static LETTERS: [u8; 197] = [
 /// What is counted: found, expanded, opened, all segments.
 type Work = (u64, u64, u64, u64);
 
-/// Counts the messages of an archive, for a caller that counts nothing.
+/// Counts the messages of an archive over a disk of which these calls fail.
 fn group_with<L: Ledger, M: Ledger>(
     alloc: Global,
     bytes: &[u8],
+    fails: &[u64],
     text: &[u8],
     range: Range,
     by: GroupBy,
@@ -96,7 +97,7 @@ fn group_with<L: Ledger, M: Ledger>(
         return Err(AllocError);
     };
     let bytes = Text::new(bytes.to_vec(alloc)?);
-    let mut disk = MemDisk::new(alloc, bytes, 0, 64, Vec::new(alloc))?;
+    let mut disk = MemDisk::new(alloc, bytes, 0, 64, fails.to_vec(alloc)?)?;
     let Ok(places) = open_places(alloc, &mut disk) else {
         return Err(AllocError);
     };
@@ -112,6 +113,27 @@ fn group_with<L: Ledger, M: Ledger>(
         &mut opened,
         &mut expanded,
     ))
+}
+
+/// The same, for a caller that counts nothing.
+fn group_of(
+    alloc: Global,
+    bytes: &[u8],
+    fails: &[u64],
+    text: &[u8],
+    range: Range,
+    by: GroupBy,
+) -> Result<Result<Grouped, SearchRefusal>, AllocError> {
+    group_with::<Brand, Brand>(
+        alloc,
+        bytes,
+        fails,
+        text,
+        range,
+        by,
+        Blank::new(1),
+        Blank::new(1),
+    )
 }
 
 /// Whether a report has these counts.
@@ -148,18 +170,27 @@ fn groups(
     printed: &[u8],
     work: Work,
 ) -> Result<bool, AllocError> {
-    let answer = group_with::<Brand, Brand>(
-        alloc,
-        bytes,
-        text,
-        range,
-        by,
-        Blank::new(1),
-        Blank::new(1),
-    )?;
-    match answer {
+    match group_of(alloc, bytes, &[], text, range, by)? {
         Ok(grouped) => tells(alloc, by, &grouped, printed, work),
         Err(_) => Ok(false),
+    }
+}
+
+/// Whether a count of all rows is refused so, where a byte is another one or a call of the disk fails.
+fn is_refused(
+    alloc: Global,
+    at: usize,
+    byte: u8,
+    call: u64,
+    refusal: SearchRefusal,
+) -> Result<bool, AllocError> {
+    let mut bytes = ROWS.to_vec(alloc)?;
+    if let Some(place) = bytes.get_mut(at) {
+        *place = byte;
+    }
+    match group_of(alloc, bytes.as_slice(), &[call], b"", ALL, GroupBy::Shape)? {
+        Ok(_) => Ok(false),
+        Err(told) => Ok(told == refusal),
     }
 }
 
@@ -269,6 +300,23 @@ fn by_minute(rt: HostRuntime) -> Result<(), Fail> {
             work,
         )?;
         assert!(rt; well, "{text:?} {from:?}");
+    }
+    Ok(())
+}
+
+/// A place of the rows with its byte, a call of the disk that fails, and how a count is refused. Byte
+/// 417 has the log type of the third row, and byte 421 how many variables it has.
+const REFUSED: &[(usize, u8, u64, SearchRefusal)] = &[
+    (417, 9, 99, SearchRefusal::Damaged),
+    (421, 9, 99, SearchRefusal::Damaged),
+    (0, 67, 32, SearchRefusal::DiskFault),
+];
+
+#[test]
+fn damage_and_faults_are_told(rt: HostRuntime) -> Result<(), Fail> {
+    for &(at, byte, call, refusal) in REFUSED {
+        let well = is_refused(rt.alloc(), at, byte, call, refusal)?;
+        assert!(rt; well, "{at} {call}");
     }
     Ok(())
 }

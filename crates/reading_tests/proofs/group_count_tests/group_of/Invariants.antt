@@ -1,4 +1,4 @@
-use Rattle.reading_tests.proofs.group_count_tests.groups.Given as goal
+use Rattle.reading_tests.proofs.group_count_tests.group_of.Given as goal
 
 abbrev pub ghosts-group_with-L-Ledger : goal.ghosts-group_with-L-Ledger
 ghosts-group_with-L-Ledger a = record { name = a.one.name; parts = a.one.parts }
