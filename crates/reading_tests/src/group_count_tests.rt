@@ -42,8 +42,8 @@ static STAMPS: [u8; 240] = [
     0, 0, 0, 0, 0, 0, 0, 1, 0, 0, 0, 2, 0, 0, 0, 0, 0, 0, 0, 0, 0, 0, 0, 0, 0, 0, 0, 0,
 ];
 
-// File `a.log` with the lines `run task_1 x`, `run task_2 x` and `run task_3 x`, a segment each, and an
-// empty last one.
+// File `a.log` with the lines `run task_1 x`, `run task_2 x` and `run task_3 x`, a segment each, and
+// an empty last one.
 static ROWS: [u8; 488] = [
     67, 76, 80, 65, 82, 67, 72, 10, 1, 0, 0, 0, 100, 0, 0, 0, 100, 0, 0, 0, 0, 0, 0, 0, 0, 16, 0,
     0, 0, 0, 0, 0, 1, 1, 13, 0, 0, 0, 0, 0, 0, 0, 1, 0, 0, 0, 5, 0, 0, 0, 97, 46, 108, 111, 103, 1,
@@ -176,7 +176,8 @@ fn groups(
     }
 }
 
-/// Whether a count of all rows is refused so, where a byte is another one or a call of the disk fails.
+/// Whether a count of all rows is refused so, where a byte is another one or a call of the disk
+/// fails.
 fn is_refused(
     alloc: Global,
     at: usize,
