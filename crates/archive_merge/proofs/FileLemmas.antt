@@ -3,6 +3,7 @@ use Rattle.std.proofs.Common.{◌≡◌, ℕ, ◌+◌, ◌<◌, ◌≤◌, zero,
 use Rattle.std.specs.Prelude.{◌&&◌, Err, Ok, Option, Result, Some, is_ok, is_some}
 use Rattle.std.specs.List.{sum_by}
 use Rattle.std.proofs.lemmas.List.{append-nil, drop_all}
+use Rattle.std.proofs.lemmas.List.Elements.{All-append, All-nil}
 use Rattle.std.proofs.lemmas.List.Sums.{sum_by-append, sum_by-cons}
 use mathlib.Core.List.{IsPrefix}
 use Rattle.log_seams.specs.Disk.{DiskState}
@@ -56,6 +57,11 @@ dropped (p ∷ places) (suc i) place within is =
     let next : suc i + 1 ≡ suc (i + 1) = omega arith in
     dropped places i place (omega (arith, within)) is ∙ ap (λ n. place ∷ drop n (p ∷ places)) (sym next)
 
+-- what holds of one holds of it alone
+one_alone : {X : Type 0} (P : X → Type 0) (x : X) → P x → All P (x ∷ [])
+one_alone P x holds zero d lt = holds
+one_alone P x holds (suc i) d lt = absurd (omega (arith, lt))
+
 abbrev rows_of : SegmentEntry → ℕ
 rows_of s = length s.rows
 
@@ -76,6 +82,7 @@ module _ {D : Type 0} (state : D → DiskState) (version : ℕ) (old : Texts) (p
     pub more : List (ℕ × StoreEntry)
     pub added : HasAdded start p more
     pub segments : List SegmentEntry
+    pub mine : All (λ (s : SegmentEntry). s.file ≡ number_of start) segments
     pub sealed : WhereTold state start (λ h. sealed_by more ≡ segments)
     pub rows_count : sum_by (λ (s : SegmentEntry). length s.rows) segments ≡ length covered
     pub stands : StandsBehind state covered p hand
@@ -91,6 +98,7 @@ module _ {D : Type 0} (state : D → DiskState) (version : ℕ) (old : Texts) (p
     more = [];
     added = nothing_added start ready;
     segments = [];
+    mine = All-nil (λ (s : SegmentEntry). s.file ≡ number_of start);
     sealed = λ a is. if_told (is_some (state a.fixed.opened).seen) _ (λ t. refl);
     rows_count = refl;
     stands = record {
@@ -141,6 +149,8 @@ module _ {D : Type 0} (state : D → DiskState) (version : ℕ) (old : Texts) (p
         more = way.more ++ moved.sealed.more;
         added = added_on start p q way.more moved.sealed.more way.added moved.sealed.added;
         segments = way.segments ++ segment_in moved.draft ∷ [];
+        mine = All-append (λ (s : SegmentEntry). s.file ≡ number_of start) way.segments (segment_in moved.draft ∷ []) way.mine
+            (one_alone (λ (s : SegmentEntry). s.file ≡ number_of start) (segment_in moved.draft) (moved.file ∙ (way.stands.file ∙ number_is)));
         sealed = λ a is. told_both (is_some (state a.fixed.opened).seen)
             (λ one two. sealed_joined way.more moved.sealed.more ∙ (ap (λ l. l ++ sealed_by moved.sealed.more) one ∙ ap (λ l. way.segments ++ l) two)) (way.sealed a is) (moved.sealed.segments a (way.added.still.about_is ∙ is));
         rows_count = omega (arith, sum_by-append rows_of way.segments (segment_in moved.draft ∷ []), sum_by-cons rows_of (segment_in moved.draft) [], way.rows_count, moved.counted, length-append way.covered moved.messages);
@@ -171,6 +181,7 @@ module _ {D : Type 0} (state : D → DiskState) (version : ℕ) (old : Texts) (p
       more = way.more ++ nothing.more;
       added = added_on start p q way.more nothing.more way.added nothing.added;
       segments = way.segments;
+      mine = way.mine;
       sealed = λ a is. told_both (is_some (state a.fixed.opened).seen)
           (λ one two. sealed_joined way.more nothing.more ∙ (ap (λ l. l ++ sealed_by nothing.more) one ∙ (ap (λ l. way.segments ++ l) two ∙ append-nil way.segments))) (way.sealed a is) (nothing.segments a (way.added.still.about_is ∙ is));
       rows_count = way.rows_count;

@@ -1,3 +1,5 @@
+pub mod BehindLemmas
+pub mod EndedLemmas
 pub mod FileLemmas
 pub mod HandLemmas
 pub mod LockLemmas

@@ -290,6 +290,7 @@ module _ {D R A B C : Type 0} (state : D → DiskState) where
       source = took.source;
       rows_are = took.told;
       draft = new.draft;
+      file = took.marks.file;
       at = took.marks.first ∙ sym took.follows.first;
       counted = omega (arith, took.takes.rows_long, ap length none, canonical_long version took.rows old.types old.words took.messages took.source.0);
       sealed = sealed;

@@ -1,5 +1,5 @@
 -- What became of a file of the second archive.
-use Rattle.std.specs.Prelude.{◌≡◌, ◌&&◌, ℕ, Bool, true, false, List, [], length, Option, Some}
+use Rattle.std.specs.Prelude.{◌≡◌, ◌&&◌, ℕ, Bool, true, false, List, [], length, Option, Some, All}
 use Rattle.std.specs.List.{sum_by}
 use mathlib.Core.List.{IsPrefix}
 use Rattle.log_seams.specs.Disk.{DiskState}
@@ -34,6 +34,7 @@ module _ {D : Type 0} (state : D → DiskState) where
     pub more : List (ℕ × StoreEntry)
     pub added : HasAdded start p more
     pub segments : List SegmentEntry
+    pub mine : All (λ (s : SegmentEntry). s.file ≡ number_of start) segments
     pub sealed : WhereTold state start (λ h. sealed_by more ≡ segments)
     pub rows_count : sum_by (λ (s : SegmentEntry). length s.rows) segments ≡ length covered
     pub held : WhereTold state start (λ h.

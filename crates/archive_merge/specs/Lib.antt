@@ -1,4 +1,6 @@
+pub mod Behind
 pub mod Causes
+pub mod Ended
 pub mod Files
 pub mod InHand
 pub mod Laws

@@ -64,8 +64,9 @@ module _ {D : Type 0} where
 -- ---- the second archive
 
 module _ {M E : Type 0} where
-  -- the same archive, whose disk was only read
+  -- the same archive, whose disk is lent still and was only read
   pub record StaysRead (state : E → DiskState) (a b : Second M E) : Type 0 where
+    pub lent : b.disk.ghost_name ≡ a.disk.ghost_name
     pub names : b.names ≡ a.names
     pub segments : b.segments ≡ a.segments
     pub rests : Rests (state a.disk.now) (state b.disk.now)
@@ -137,8 +138,8 @@ module _ {M E : Type 0} {G : NamesGhosts M} {H : DiskGhosts E} (types words : M 
       pub came : CameOver state (version_of w) (old_of w) places (state_second w.second.disk.now).seen (is_none v.stop) k k' j j'
       pub stopped : (s : Stopped) → v.stop ≡ Some s → IsStopFor state state_second w j k v k' places s
 
-    -- what became of a file: nothing, where it was stopped before
+    -- what became of a file: nothing, where it was stopped before, and it stays so
     pub record DidFile (state : D → DiskState) (state_second : E → DiskState) (w : Merger M E G H) (j : Merged)
         (k : KeeperPass D) (v : Merger M E G H) (j' : Merged) (k' : KeeperPass D) : Type 0 where
-      pub waited : w.stop ≢ None → (j' ≡ j) × (k' ≡ k)
+      pub waited : w.stop ≢ None → (j' ≡ j) × (k' ≡ k) × (v.stop ≡ w.stop)
       pub moved : w.stop ≡ None → HasMoved state state_second w j k v j' k'

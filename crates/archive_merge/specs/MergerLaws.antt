@@ -43,7 +43,7 @@ module _ {M E : Type 0} {G : NamesGhosts M} {H : DiskGhosts E} (types words : M 
       → MovesOn types words version state js js' w w
   rests js js' w idle = record {
     first_is = refl;
-    second_is = record { names = refl; segments = refl; rests = rests_none (state w.second.disk.now) };
+    second_is = record { lent = refl; names = refl; segments = refl; rests = rests_none (state w.second.disk.now) };
     later = omega arith;
     adds = passes_self (texts_by types words w.second.names.now) (passes_of w) idle.may;
     stop_is = λ some. refl;
@@ -54,6 +54,7 @@ module _ {M E : Type 0} {G : NamesGhosts M} {H : DiskGhosts E} (types words : M 
   goes_on js js' a b c one two = record {
     first_is = two.first_is ∙ one.first_is;
     second_is = record {
+      lent = two.second_is.lent ∙ one.second_is.lent;
       names = two.second_is.names ∙ one.second_is.names;
       segments = two.second_is.segments ∙ one.second_is.segments;
       rests = rests_on (state a.second.disk.now) (state b.second.disk.now) (state c.second.disk.now)

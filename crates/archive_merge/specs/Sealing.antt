@@ -103,6 +103,7 @@ module _ {D : Type 0} (state : D → DiskState) where
     pub rows_are : (bytes : List ℕ) (all : List Row) → told ≡ Some bytes
         → HoldsSegment place.payload place.length place.head bytes all → all ≡ rows
     pub draft : Draft
+    pub file : draft.file ≡ hand.draft.file
     pub at : draft.first ≡ place.head.first
     pub counted : length draft.columns.rows ≡ length messages
     pub sealed : HasSealed state draft p q

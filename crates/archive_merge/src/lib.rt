@@ -4,6 +4,7 @@
 //! one, and are sealed there as they were sealed in the second. No message is cut anew.
 #![tactic(auto)]
 
+mod behind;
 mod cause;
 mod file;
 mod hand;
@@ -19,6 +20,7 @@ mod segment;
 mod stop;
 mod taker;
 
+pub use behind::{MoveRefused, Moved, move_behind};
 pub use cause::MergeCause;
 pub use file::{Merged, move_file};
 pub use hand::Hand;

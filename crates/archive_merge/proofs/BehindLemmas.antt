@@ -1,0 +1,360 @@
+-- What files that were moved leave, from what became of them over the store.
+use Rattle.std.proofs.Common.{◌≡◌, ℕ, zero, suc, ◌+◌, ◌-◌, ◌<◌, ◌≤◌, ◌&&◌, ◌==◌, Bool, true, false, if◌then◌else◌, List, [], ◌∷◌, ◌++◌, length, drop, sym, refl, ap, ◌∙◌, subst, arith, Option, None, Some, is_some, slice_get, All}
+use Rattle.std.specs.Prelude.{is_none}
+use Rattle.std.specs.List.{cons_option, filter, filter_map}
+use Rattle.std.specs.List.Sorted.{IsNonDecreasingBy}
+use Rattle.std.proofs.lemmas.Bool.Decides.{nat_tests}
+use Rattle.std.proofs.lemmas.Option.{slice_get-get_or, slice_get_within}
+use mathlib.Core.List.{IsPrefix}
+use Rattle.log_seams.specs.Disk.{DiskState}
+use Rattle.log_seams.specs.declared.disk.Disk.{Ghosts as DiskGhosts}
+use Rattle.row_codec.specs.declared.names.Names.{Ghosts as NamesGhosts}
+use Rattle.turn_lock.specs.declared.board.About.{About}
+use Rattle.turn_lock.specs.Words.{about, lock_of, number_of, own_list, seen}
+use Rattle.turn_lock.proofs.FrontLemmas.{prefix_trans}
+use Rattle.ingest_fork.specs.Picked.{entries_in}
+use Rattle.ingest_fork.specs.Works.{Done}
+use Rattle.ingest_fork.proofs.PlaceLemmas.{at_right, there_is}
+use Rattle.dict_lock.specs.Cached.{pass_in}
+use Rattle.dict_lock.specs.Shared.{BookPass}
+use Rattle.disk_journal.specs.declared.journal.Journal.{Journal}
+use Rattle.disk_journal.specs.Journal.{state_of}
+use Rattle.archive_meaning.specs.declared.entry.JournalEntry.{JournalEntry}
+use Rattle.archive_meaning.specs.declared.entry.JournalEntry.TheVariants.{Files, Segment, Types, Words}
+use Rattle.archive_meaning.specs.declared.entry.SegmentEntry.{SegmentEntry}
+use Rattle.ingest_meaning.specs.Parts.{in_file}
+use Rattle.archive_open.specs.declared.segments.SegmentPlace.{SegmentPlace}
+use Rattle.archive_decode.specs.StepsHeld.{is_of}
+use Rattle.disk_seal.specs.declared.entry.StoreEntry.{StoreEntry}
+use Rattle.disk_seal.specs.declared.entry.StoreEntry.TheVariants.{Blank, Entry, Stopped as Mark}
+use Rattle.disk_seal.specs.declared.fixed.StoreFixed.{StoreFixed}
+use Rattle.disk_seal.specs.Draft.{journal_seen}
+use Rattle.disk_seal.specs.Fixed.{KeeperPass, fixed_of}
+use Rattle.disk_seal.specs.May.{MayAdd}
+use Rattle.disk_seal.specs.Told.{IfTold}
+use Rattle.disk_seal.specs.View.{Kept, StoreView, journal_of, state_by}
+use Rattle.disk_seal.proofs.ToldLemmas.{told_map}
+use Rattle.ingest_workers.specs.ClosedStore.{IsJournalOf}
+use Rattle.ingest_workers.specs.Ingested.{IsAsItWas, opened_over, told_entries}
+use Rattle.ingest_workers.specs.Journal.{FrontHolds, Holds, entries_at, sealed_by, segments_in}
+use Rattle.ingest_workers.specs.Locked.{IsPassOf, IsStillStore, file_segment, list_behind, list_of}
+use Rattle.ingest_workers.proofs.IngestLemmas.{left_by, seen_list, stayed_by}
+use Rattle.ingest_workers.proofs.JournalLemmas.{seen_front, seen_joined}
+use Rattle.ingest_workers.proofs.SealLemmas.{if_told}
+use Rattle.archive_merge.specs.declared.file.Merged.{Merged}
+use Rattle.archive_merge.specs.declared.merger.Merger.{Merger}
+use Rattle.archive_merge.specs.declared.merger.BookPasses.{BookPasses}
+use Rattle.archive_merge.specs.declared.merger.Second.{Second}
+use Rattle.archive_merge.specs.declared.merger.Stopped.{Stopped}
+use Rattle.archive_merge.specs.Behind.{HasStored, IsMovedFile, IsNewIn, IsOfFiles, MayBegin, OnlyRead, SecondView, second_by}
+use Rattle.archive_merge.specs.Files.{CameOver}
+use Rattle.archive_merge.specs.Locked.{HasMovedOver, MayMoveAt}
+use Rattle.archive_merge.specs.Merger.{DidFile, MayMoveFile, MovesOn, PassesAdd, file_at, passes_of}
+use Rattle.archive_merge.specs.MergerLaws.{passes_in_is}
+use Rattle.archive_merge.specs.Runs.{HoldRun, nothing_so_far}
+use Rattle.archive_merge.specs.Taken.{texts_by}
+
+-- ---- lists
+
+-- what is drawn behind a front is the rest
+drop_front : {X : Type 0} (xs ys : List X) → drop (length xs) (xs ++ ys) ≡ ys
+drop_front [] ys = refl
+drop_front (x ∷ xs) ys = drop_front xs ys
+
+all_from : {X : Type 0} (P : X → Type 0) (xs : List X) → ((i : ℕ) (x : X) → slice_get xs i ≡ Some x → P x) → All P xs
+all_from P xs f i d lt = f i _ (slice_get-get_or xs i d lt)
+
+one_is : {X : Type 0} (x y : X) (n : ℕ) → slice_get (x ∷ []) n ≡ Some y → x ≡ y
+one_is x y zero at = cc (at)
+one_is x y (suc n) at = absurd (cc (at))
+
+-- what is picked of a store's list is picked of its entries
+picked_seen : (n : ℕ) (es : List StoreEntry) → filter_map (file_segment n) es ≡ filter_map (in_file n) (journal_seen es)
+picked_seen n [] = refl
+picked_seen n (Entry e ∷ es) = ap (cons_option (in_file n e)) (picked_seen n es)
+picked_seen n (Blank ∷ es) = picked_seen n es
+picked_seen n (Mark ∷ es) = picked_seen n es
+
+-- a store's entry is told of by what holds of the journal's entry in it
+abbrev OfEntry : (JournalEntry → Type 0) → StoreEntry → Type 0
+OfEntry P (Entry e) = P e
+OfEntry P Blank = Unit {0}
+OfEntry P Mark = Unit {0}
+
+-- an entry that stands in the journal stands in the list
+seen_from : (P : JournalEntry → Type 0) (es : List StoreEntry) → ((i : ℕ) (x : StoreEntry) → slice_get es i ≡ Some x → OfEntry P x) → (i : ℕ) (e : JournalEntry) → slice_get (journal_seen es) i ≡ Some e → P e
+seen_from P [] f i e at = absurd (cc (at))
+seen_from P (Entry x ∷ es) f zero e at = let same : x ≡ e = cc (at) in subst P same (f 0 (Entry x) refl)
+seen_from P (Entry x ∷ es) f (suc i) e at = seen_from P es (λ n y is. f (suc n) y is) i e at
+seen_from P (Blank ∷ es) f i e at = seen_from P es (λ n y is. f (suc n) y is) i e at
+seen_from P (Mark ∷ es) f i e at = seen_from P es (λ n y is. f (suc n) y is) i e at
+
+-- an entry that a pass of one of the files may add
+of_files : (js : List Merged) (i : ℕ) (job : Merged) (n : ℕ) (x : StoreEntry) → slice_get js i ≡ Some job → job.file ≡ n → MayAdd n x → OfEntry (IsOfFiles js) x
+of_files js i job n (Entry (Files names)) at file may = may
+of_files js i job n (Entry (Types first texts)) at file may = tt
+of_files js i job n (Entry (Words first texts)) at file may = tt
+of_files js i job n (Entry (Segment s)) at file may = (i, job, at, file ∙ sym may)
+of_files js i job n Blank at file may = tt
+of_files js i job n Mark at file may = tt
+
+same_eq : (a b : ℕ) → a ≡ b → (a == b) ≡ true
+same_eq a b is = grind (arith, nat_tests)
+
+-- all segments are of this file
+abbrev Mine : ℕ → List SegmentEntry → Type 0
+Mine n [] = Unit {0}
+Mine n (s ∷ ss) = (s.file ≡ n) × Mine n ss
+
+mine_all : (n : ℕ) (ss : List SegmentEntry) → All (λ (s : SegmentEntry). s.file ≡ n) ss → Mine n ss
+mine_all n [] all = tt
+mine_all n (s ∷ ss) all = (all 0 s (omega arith), mine_all n ss (λ i e lt. all (suc i) e (omega (arith, lt))))
+
+-- where all segments are of the file, they are what is picked
+picked_all : (n : ℕ) (es : List JournalEntry) → Mine n (segments_in es) → filter_map (in_file n) es ≡ segments_in es
+picked_all n [] mine = refl
+picked_all n (Files names ∷ es) mine = picked_all n es mine
+picked_all n (Types first texts ∷ es) mine = picked_all n es mine
+picked_all n (Words first texts ∷ es) mine = picked_all n es mine
+picked_all n (Segment s ∷ es) mine = ap (λ b. cons_option (if b then Some s else None) (filter_map (in_file n) es)) (same_eq s.file n mine.0) ∙ ap (λ l. s ∷ l) (picked_all n es mine.1)
+
+entries_same : (l : List (ℕ × StoreEntry)) → entries_in l ≡ entries_at l
+entries_same [] = refl
+entries_same (x ∷ xs) = ap (λ l. x.1 ∷ l) (entries_same xs)
+
+-- ---- a file
+
+module _ {D : Type 0} {d : DiskGhosts D} (view : SecondView) (first : ℕ) (stop : Option Stopped) (before : Journal D d) (fresh : List JournalEntry) (old : Merged) where
+  -- one that was begun
+  moved_file : (new : Merged) (p q : KeeperPass D) (over : About (StoreFixed D)) (places : List SegmentPlace) (all_done : Bool) → CameOver d.state view.version view.texts places view.told all_done p q old new
+      → (IsNonDecreasingBy file_at view.segments → places ≡ filter (is_of (old.file - first)) view.segments) → (stop ≡ None → all_done ≡ true)
+      → number_of p ≡ old.file → about p ≡ Some over → over.fixed.opened ≡ before.disk.now → over.fixed.header ≡ before.header → own_list p ≡ []
+      → filter_map (in_file old.file) fresh ≡ filter_map (in_file old.file) (journal_seen (entries_in (own_list q))) → IsPrefix (journal_seen (seen q)) (told_entries (state_of before) ++ fresh)
+      → IsMovedFile view first stop before fresh old new
+  moved_file new p q over places all_done came are done number known opened header own picked seen_on = record {
+    file = came.same_file;
+    covered = came.covered;
+    ended = came.ended;
+    count = came.count;
+    first_ones = λ all run. came.first run.bytes all run.told_is (subst (λ l. HoldRun view.version view.texts run.bytes l nothing_so_far all) (sym (are run.sorted)) run.run);
+    all = λ none all run. came.all (done none) run.bytes all run.told_is (subst (λ l. HoldRun view.version view.texts run.bytes l nothing_so_far all) (sym (are run.sorted)) run.run);
+    segments = came.segments;
+    rows_count = came.rows_count;
+    sealed = told_map (is_some (state_of before).disk.seen) exactly (told_here _ (came.sealed over known));
+    held = told_map (is_some (state_of before).disk.seen) further (told_here _ (came.held over known));
+  }
+    where
+      told_here : (X : Type 0) → IfTold (is_some (d.state over.fixed.opened).seen) X → IfTold (is_some (state_of before).disk.seen) X
+      told_here X x = subst (λ (y : D). IfTold (is_some (d.state y).seen) X) opened x
+
+      added : journal_seen (entries_in (own_list q)) ≡ journal_seen (entries_at came.more)
+      added = ap (λ l. journal_seen (entries_in l)) (came.added.own ∙ ap (λ l. l ++ came.more) own) ∙ ap journal_seen (entries_same came.more)
+
+      mine : Mine old.file came.segments
+      mine = subst (λ n. Mine n came.segments) number (mine_all (number_of p) came.segments came.mine)
+
+      exactly : sealed_by came.more ≡ came.segments → filter_map (in_file old.file) fresh ≡ came.segments
+      exactly are_these = picked ∙ (ap (filter_map (in_file old.file)) added ∙ (picked_all old.file (journal_seen (entries_at came.more)) (subst (Mine old.file) (sym are_these) mine) ∙ are_these))
+
+      further : FrontHolds over.fixed.header (journal_seen (seen q)) (number_of p) came.covered new.whole (new.whole && came.ended)
+          → FrontHolds before.header (told_entries (state_of before) ++ fresh) old.file came.covered new.whole (new.whole && came.ended)
+      further f = subst (λ x. FrontHolds x (told_entries (state_of before) ++ fresh) old.file came.covered new.whole (new.whole && came.ended)) header
+          (subst (λ (n : ℕ). FrontHolds over.fixed.header (told_entries (state_of before) ++ fresh) n came.covered new.whole (new.whole && came.ended)) number (record {
+            front = f.front;
+            begins = prefix_trans f.front (journal_seen (seen q)) (told_entries (state_of before) ++ fresh) f.begins seen_on;
+            holds = f.holds;
+          }))
+
+  -- one that was not, since another was stopped
+  waited_file : (number : ℕ) (q : KeeperPass D) → IsNewIn (state_of before) number old → (stop ≡ None → ⊥) → own_list q ≡ []
+      → filter_map (in_file old.file) fresh ≡ filter_map (in_file old.file) (journal_seen (entries_in (own_list q))) → IsMovedFile view first stop before fresh old old
+  waited_file number q new stopped own picked = record {
+    file = refl;
+    covered = [];
+    ended = false;
+    count = new.messages_none;
+    first_ones = λ all run. (all.messages, refl);
+    all = λ none all run. absurd (stopped none);
+    segments = [];
+    rows_count = refl;
+    sealed = if_told (is_some (state_of before).disk.seen) _ (λ told. picked ∙ ap (λ l. filter_map (in_file old.file) (journal_seen (entries_in l))) own);
+    held = told_map (is_some (state_of before).disk.seen)
+        (λ (holds : Holds before.header (told_entries (state_of before)) old.file [] false false).
+        subst (λ b. FrontHolds before.header (told_entries (state_of before) ++ fresh) old.file [] b (b && false)) (sym new.not_whole)
+        (let front : FrontHolds before.header (told_entries (state_of before) ++ fresh) old.file [] false false = record { front = told_entries (state_of before); begins = (fresh, refl); holds = holds } in front)) new.empty;
+  }
+
+-- ---- the passes
+
+module _ {M E : Type 0} {N : NamesGhosts M} {H : DiskGhosts E} (types words : M → List (List ℕ)) where
+  pub adds_between : (w v : Merger M E N H) (s : Second M E) (b c : BookPasses) → w.second ≡ s → w.passes ≡ Some b → v.passes ≡ Some c
+      → PassesAdd (texts_by types words w.second.names.now) (passes_of w) (passes_of v) → PassesAdd (texts_by types words s.names.now) b c
+  adds_between w v s b c same had has adds = subst (λ x. PassesAdd (texts_by types words x.names.now) b c) same
+      (subst (λ x. PassesAdd (texts_by types words w.second.names.now) x c) (passes_in_is w.passes w.full b had)
+      (subst (λ x. PassesAdd (texts_by types words w.second.names.now) (passes_of w) x) (passes_in_is v.passes v.full c has) adds))
+
+-- ---- all files
+
+module _ {M E : Type 0} {N : NamesGhosts M} {H : DiskGhosts E} (types words : M → List (List ℕ)) (version : M → ℕ) (state_second : E → DiskState) where
+  abbrev view_of : Merger M E N H → SecondView
+  view_of w = second_by types words version state_second w.second
+
+  view_same : (js js' : List Merged) (w v : Merger M E N H) → MovesOn types words version state_second js js' w v → view_of v ≡ view_of w
+  view_same js js' w v went = λ i. record {
+    version = ap (λ n. version n.now) went.second_is.names i;
+    texts = ap (λ n. texts_by types words n.now) went.second_is.names i;
+    told = went.second_is.rests.seen i;
+    segments = ap (λ s. s.now) went.second_is.segments i;
+  }
+
+  -- what was stopped stays so
+  not_before : (js js' : List Merged) (a v : Merger M E N H) → MovesOn types words version state_second js js' a v → v.stop ≡ None → a.stop ≡ None
+  not_before js js' a v went none = by_stop a.stop refl
+    where
+      by_stop : (o : Option Stopped) → a.stop ≡ o → a.stop ≡ None
+      by_stop None is = is
+      by_stop (Some s) is = let same : v.stop ≡ a.stop = went.stop_is (λ no. absurd (cc (no, is))) in absurd (cc (same, is, none))
+
+module _ {D : Type 0} {d : DiskGhosts D} (before : Journal D d) (types_reader words_reader : BookPass) (t u : ℕ) where
+  abbrev opened : StoreView D
+  opened = opened_over before types_reader words_reader t u
+
+  list_before : journal_seen (list_of d.state opened) ≡ told_entries (state_of before)
+  list_before = seen_list (d.state before.disk.now).seen before.count None
+
+  list_now : (store : StoreView D) → journal_seen (list_of d.state store) ≡ journal_of (state_by d.state store)
+  list_now store = seen_list (d.state store.disk).seen store.count store.stopped
+
+  pub as_it_was : (after : Journal D d) (store : StoreView D) (o : StoreView D) → o ≡ opened → IsStillStore d.state o store → IsJournalOf store after → Kept (state_by d.state store) → IsAsItWas before after
+  as_it_was after store o is still back kept = stayed_by (λ (s : Unit {0}). None) (λ s. None) (λ s. 0) before after types_reader words_reader t u store o is still back kept
+
+module _ {M E D : Type 0} {N : NamesGhosts M} {H : DiskGhosts E} {d : DiskGhosts D} (types words : M → List (List ℕ)) (version : M → ℕ) (state_second : E → DiskState) where
+  still_number : (a v : Merger M E N H) (j j' : Merged) (k k' : KeeperPass D) → DidFile types words version d.state state_second a j k v j' k' → number_of k' ≡ number_of k
+  still_number a v j j' k k' did = by_stop a.stop refl
+    where
+      by_stop : (o : Option Stopped) → a.stop ≡ o → number_of k' ≡ number_of k
+      by_stop None is = (did.moved is).came.added.still.number
+      by_stop (Some s) is = ap (λ (x : KeeperPass D). number_of x) (did.waited (λ no. absurd (cc (no, is)))).1
+
+  module _ (before after : Journal D d) (types_reader words_reader : BookPass) (t u : ℕ) (store : StoreView D) where
+    has_stored : (first : ℕ) (w w' : Merger M E N H) (js js' : List Merged) → w.first ≡ first → MayBegin first (version w.second.names.now) before js
+        → HasMovedOver types words version d.state state_second first w w' js js' (opened before types_reader words_reader t u) store → IsJournalOf store after → Kept (state_by d.state store)
+        → HasStored (view_of types words version state_second w) first w'.stop js js' before after store
+    has_stored first w w' js js' same_first begin h back kept = record {
+      left_by = left_by (λ (s : Unit {0}). None) (λ s. None) (λ s. 0) before after types_reader words_reader t u store h.fixed back kept;
+      fresh = journal_seen (list_behind d.state (opened before types_reader words_reader t u) store);
+      grown = sym (list_now before types_reader words_reader t u store) ∙ all_now;
+      counted = h.moved.done.jobs;
+      each = file;
+      others = all_from (IsOfFiles js) (journal_seen (list_behind d.state (opened before types_reader words_reader t u) store)) (seen_from (IsOfFiles js) (list_behind d.state (opened before types_reader words_reader t u) store) each);
+    }
+      where
+        behind : list_behind d.state (opened before types_reader words_reader t u) store ≡ h.front.0
+        behind = ap (drop (length (list_of d.state (opened before types_reader words_reader t u)))) (sym h.front.1) ∙ drop_front (list_of d.state (opened before types_reader words_reader t u)) h.front.0
+
+        all_now : journal_seen (list_of d.state store) ≡ told_entries (state_of before) ++ journal_seen (list_behind d.state (opened before types_reader words_reader t u) store)
+        all_now = ap journal_seen (sym h.front.1) ∙ (seen_joined (list_of d.state (opened before types_reader words_reader t u)) h.front.0
+            ∙ (ap (λ l. l ++ journal_seen h.front.0) (list_before before types_reader words_reader t u) ∙ ap (λ l. told_entries (state_of before) ++ journal_seen l) (sym behind)))
+
+        number_at : (i : ℕ) (job : Merged) (q : KeeperPass D) → slice_get js i ≡ Some job → slice_get h.passes' i ≡ Some q → number_of q ≡ job.file
+        number_at i job q at is = let even = h.counted in let lt = slice_get_within js i job at in let p = there_is h.passes i (omega (arith, even, lt)) in
+            let f = h.moved.done.each i job p.0 at p.1 in let same : f.keeper ≡ q = cc (f.keeper_is, is) in
+            ap (λ (x : KeeperPass D). number_of x) (sym same) ∙ (still_number f.before f.after job f.job p.0 f.keeper f.did_it ∙ ((h.opened i p.0 p.1).number ∙ sym (begin.new i job at).file_is))
+
+        each : (k : ℕ) (x : StoreEntry) → slice_get (list_behind d.state (opened before types_reader words_reader t u) store) k ≡ Some x → OfEntry (IsOfFiles js) x
+        each k x at = let here : slice_get (list_of d.state store) (length (list_of d.state (opened before types_reader words_reader t u)) + k) ≡ Some x
+            = ap (λ l. slice_get l (length (list_of d.state (opened before types_reader words_reader t u)) + k)) (sym h.front.1) ∙ (at_right (list_of d.state (opened before types_reader words_reader t u)) h.front.0 k ∙ (ap (λ l. slice_get l k) (sym behind) ∙ at)) in
+            let a = h.added (length (list_of d.state (opened before types_reader words_reader t u)) + k) x (omega arith) here in
+            let counts = h.moved.done.keepers in let even = h.counted in let lt = slice_get_within h.passes' a.place a.pass a.is in let job = there_is js a.place (omega (arith, counts, even, lt)) in
+            of_files js a.place job.0 (number_of a.pass) x job.1 (sym (number_at a.place job.0 a.pass job.1 a.is)) a.allowed
+
+        file : (i : ℕ) (job : Merged) → slice_get js i ≡ Some job → (new : Merged) × (slice_get js' i ≡ Some new) × IsMovedFile (view_of types words version state_second w) first w'.stop before (journal_seen (list_behind d.state (opened before types_reader words_reader t u) store)) job new
+        file i job at = (f.job, f.job_is, by_stop f.before.stop refl)
+          where
+            even : length h.passes ≡ length js
+            even = h.counted
+
+            pass : (p : KeeperPass D) × (slice_get h.passes i ≡ Some p)
+            pass = let lt = slice_get_within js i job at in there_is h.passes i (omega (arith, even, lt))
+
+            p : KeeperPass D
+            p = pass.0
+
+            f : Done (MovesOn types words version state_second) (DidFile types words version d.state state_second) (w ∷ []) (w' ∷ []) js js' h.passes' i job p
+            f = h.moved.done.each i job p at pass.1
+
+            o : IsPassOf d.state first (opened before types_reader words_reader t u) i p
+            o = h.opened i p pass.1
+
+            number : number_of p ≡ job.file
+            number = o.number ∙ sym (begin.new i job at).file_is
+
+            went : MovesOn types words version state_second f.front f.front' w f.before
+            went = subst (λ x. MovesOn types words version state_second f.front f.front' x f.before) (sym (one_is w f.first f.place f.first_is)) f.came
+
+            goes : MovesOn types words version state_second f.rest f.rest' f.after w'
+            goes = subst (λ x. MovesOn types words version state_second f.rest f.rest' f.after x) (sym (one_is w' f.last f.place f.last_is)) f.goes
+
+            picked : filter_map (in_file job.file) (journal_seen (list_behind d.state (opened before types_reader words_reader t u) store)) ≡ filter_map (in_file job.file) (journal_seen (entries_in (own_list f.keeper)))
+            picked = subst (λ (x : ℕ). filter_map (in_file x) (journal_seen (list_behind d.state (opened before types_reader words_reader t u) store)) ≡ filter_map (in_file x) (journal_seen (entries_in (own_list f.keeper)))) (number_at i job f.keeper at f.keeper_is)
+                (sym (picked_seen (number_of f.keeper) (list_behind d.state (opened before types_reader words_reader t u) store)) ∙ (h.files i f.keeper f.keeper_is ∙ picked_seen (number_of f.keeper) (entries_in (own_list f.keeper))))
+
+            seen_on : IsPrefix (journal_seen (seen f.keeper)) (told_entries (state_of before) ++ journal_seen (list_behind d.state (opened before types_reader words_reader t u) store))
+            seen_on = subst (λ es. IsPrefix (journal_seen (seen f.keeper)) es) all_now (seen_front (seen f.keeper) (list_of d.state store) (h.seen_on i f.keeper f.keeper_is))
+
+            none_then : w'.stop ≡ None → f.after.stop ≡ None
+            none_then none = not_before types words version state_second f.rest f.rest' f.after w' goes none
+
+            by_stop : (s : Option Stopped) → f.before.stop ≡ s → IsMovedFile (view_of types words version state_second w) first w'.stop before (journal_seen (list_behind d.state (opened before types_reader words_reader t u) store)) job f.job
+            by_stop None is = let moved = f.did_it.moved is in
+                moved_file (view_of types words version state_second w) first w'.stop before (journal_seen (list_behind d.state (opened before types_reader words_reader t u) store)) job f.job p f.keeper (record { first = first; start = length (list_of d.state (opened before types_reader words_reader t u)); fixed = fixed_of (opened before types_reader words_reader t u) }) moved.places (is_none f.after.stop)
+                (subst (λ v. CameOver d.state v.version v.texts moved.places v.told (is_none f.after.stop) p f.keeper job f.job) (view_same types words version state_second f.front f.front' w f.before went) moved.came)
+                (subst (λ (n : ℕ). IsNonDecreasingBy file_at w.second.segments.now → moved.places ≡ filter (is_of (job.file - n)) w.second.segments.now) (went.first_is ∙ same_first)
+                (subst (λ s. IsNonDecreasingBy file_at s.now → moved.places ≡ filter (is_of (job.file - f.before.first)) s.now) went.second_is.segments moved.are))
+                (λ none. ap is_none (none_then none)) number o.about_is refl refl o.own_is picked seen_on
+            by_stop (Some s) is = let waited = f.did_it.waited (λ no. absurd (cc (no, is))) in
+                subst (λ x. IsMovedFile (view_of types words version state_second w) first w'.stop before (journal_seen (list_behind d.state (opened before types_reader words_reader t u) store)) job x) (sym waited.0)
+                (waited_file (view_of types words version state_second w) first w'.stop before (journal_seen (list_behind d.state (opened before types_reader words_reader t u) store)) job (first + i) f.keeper (begin.new i job at)
+                (λ none. let after_none = none_then none in let same = waited.2 in absurd (cc (after_none, same, is)))
+                (ap (λ (x : KeeperPass D). own_list x) waited.1 ∙ o.own_is) picked)
+
+    pub stored_by : (o : StoreView D) (f first : ℕ) (w w' : Merger M E N H) (js js' : List Merged) → o ≡ (opened before types_reader words_reader t u) → f ≡ first → w.first ≡ first → MayBegin first (version w.second.names.now) before js
+        → HasMovedOver types words version d.state state_second f w w' js js' o store → IsJournalOf store after → Kept (state_by d.state store)
+        → HasStored (view_of types words version state_second w) first w'.stop js js' before after store
+    stored_by o f first w w' js js' is same same_first begin h back kept = has_stored first w w' js js' same_first begin
+        (subst (λ (n : ℕ). HasMovedOver types words version d.state state_second n w w' js js' (opened before types_reader words_reader t u) store) same (subst (λ (x : StoreView D). HasMovedOver types words version d.state state_second f w w' js js' x store) is h)) back kept
+
+  module _ (before : Journal D d) (types_reader words_reader : BookPass) (t u : ℕ) where
+    -- each file may be moved
+    may_move : (first : ℕ) (w : Merger M E N H) (js : List Merged) → w.first ≡ first → MayBegin first (version w.second.names.now) before js
+        → (lock_of (pass_in (passes_of w).types) ≡ lock_of types_reader) × (lock_of (pass_in (passes_of w).words) ≡ lock_of words_reader) → MayMoveAt types words version d.state first (opened_over before types_reader words_reader t u) w js
+    may_move first w js same_first begin locks ks even passes n i v job k worker at pass = subst (λ x. MayMoveFile types words version d.state x job k) (one_is w v n worker) (record {
+      above = let file = new.file_is in omega (arith, same_first, file);
+      new = record {
+        number = new.file_is ∙ sym o.number;
+        messages_none = new.messages_none;
+        not_whole = new.not_whole;
+        so_far = λ a is. subst (λ (x : About (StoreFixed D)). IfTold (is_some (d.state x.fixed.opened).seen) (Holds x.fixed.header (journal_seen (seen k)) (number_of k) [] false false)) (same a is)
+            (subst (λ es. IfTold (is_some (d.state before.disk.now).seen) (Holds before.header es (number_of k) [] false false)) (sym (ap journal_seen o.seen_is ∙ seen_list (d.state before.disk.now).seen before.count None))
+            (subst (λ (x : ℕ). IfTold (is_some (d.state before.disk.now).seen) (Holds before.header (told_entries (state_of before)) x [] false false)) (new.file_is ∙ sym o.number) new.empty));
+      };
+      ready = (passes i k pass).1;
+      opening = λ a is. let start = ap (λ (x : About (StoreFixed D)). x.start) (same a is) in let long = ap length o.seen_is in omega (arith, start, long);
+      types_lock = λ a is. locks.0 ∙ ap (λ (x : About (StoreFixed D)). x.fixed.types) (same a is);
+      words_lock = λ a is. locks.1 ∙ ap (λ (x : About (StoreFixed D)). x.fixed.words) (same a is);
+      version_is = λ a is. begin.version_is ∙ ap (λ (x : About (StoreFixed D)). x.fixed.header.version) (same a is);
+    })
+      where
+        o : IsPassOf d.state first (opened_over before types_reader words_reader t u) i k
+        o = (passes i k pass).0
+
+        new : IsNewIn (state_of before) (first + i) job
+        new = begin.new i job at
+
+        same : (a : About (StoreFixed D)) → about k ≡ Some a → (let x : About (StoreFixed D) = record { first = first; start = length (list_of d.state (opened_over before types_reader words_reader t u)); fixed = fixed_of (opened_over before types_reader words_reader t u) } in x) ≡ a
+        same a is = let was = o.about_is in cc (was, is)
+
+    pub may_move_by : (o : StoreView D) (f first : ℕ) (w : Merger M E N H) (js : List Merged) → o ≡ opened_over before types_reader words_reader t u → f ≡ first → w.first ≡ first → MayBegin first (version w.second.names.now) before js
+        → (lock_of (pass_in (passes_of w).types) ≡ lock_of types_reader) × (lock_of (pass_in (passes_of w).words) ≡ lock_of words_reader) → MayMoveAt types words version d.state f o w js
+    may_move_by o f first w js is same same_first begin locks = subst (λ (n : ℕ). MayMoveAt types words version d.state n o w js) (sym same)
+        (subst (λ (x : StoreView D). MayMoveAt types words version d.state first x w js) (sym is) (may_move first w js same_first begin locks))

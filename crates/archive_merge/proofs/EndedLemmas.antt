@@ -1,0 +1,127 @@
+-- The passes of both books, from their making to their end.
+use Rattle.std.proofs.Common.{◌≡◌, ℕ, zero, suc, ◌+◌, ◌<◌, Bool, true, false, List, [], ◌∷◌, ◌++◌, length, sym, refl, ap, ◌∙◌, subst, arith, Option, None, Some, is_some, slice_get, All}
+use Rattle.std.specs.List.{Contains}
+use Rattle.std.proofs.lemmas.List.Elements.{All-nil}
+use Rattle.log_seams.specs.declared.disk.Disk.{Ghosts as DiskGhosts}
+use Rattle.logtype_text.specs.Fair.{IsFairType, IsFairWord}
+use Rattle.turn_lock.specs.declared.grows.Grows.{Ghosts}
+use Rattle.turn_lock.specs.History.{StandsIn}
+use Rattle.turn_lock.specs.Words.{IsAllOwned, IsFreshOf, IsReady, IsStill, IsStillBy, lock_by, lock_of, made_by, number_of, own_list}
+use Rattle.dict_core.specs.declared.grows.TheConstants.{WORDS_FIRST}
+use Rattle.dict_core.specs.Books.{BookState}
+use Rattle.dict_core.specs.Fair.{IsFair}
+use Rattle.dict_lock.specs.Cached.{pass_in}
+use Rattle.dict_lock.specs.Shared.{BookPass}
+use Rattle.disk_journal.specs.declared.journal.Journal.{Journal}
+use Rattle.disk_journal.specs.Journal.{state_of}
+use Rattle.archive_meaning.specs.declared.entry.JournalEntry.{JournalEntry}
+use Rattle.archive_meaning.specs.Spelled.{types_of}
+use Rattle.ingest_meaning.specs.WordsIn.{words_of}
+use Rattle.ingest_fork.specs.Passes.{AreStill, Fresh, Joined}
+use Rattle.ingest_fork.proofs.PassLemmas.{fresh_more, fresh_none}
+use Rattle.disk_seal.specs.Told.{IfTold, journal_in}
+use Rattle.disk_seal.specs.View.{KnowsBook, StoreState, journal_of, state_by}
+use Rattle.ingest_workers.specs.Ingested.{OpensBook, told_entries}
+use Rattle.ingest_workers.specs.Naming.{AddsOnly}
+use Rattle.ingest_workers.specs.StartedWorkers.{BookMaker, EndsBook}
+use Rattle.ingest_workers.proofs.ClosingLemmas.{ends_book, own_texts, texts_given, types_joined, words_joined}
+use Rattle.ingest_workers.proofs.IngestLemmas.{later}
+use Rattle.archive_merge.specs.declared.file.Merged.{Merged}
+use Rattle.archive_merge.specs.declared.merger.BookPasses.{BookPasses}
+use Rattle.archive_merge.specs.declared.merger.Stopped.{Stopped}
+use Rattle.archive_merge.specs.Behind.{HasMerged, SecondView}
+use Rattle.archive_merge.specs.Ended.{AreOf, HasEnded, WereMovedOver}
+use Rattle.archive_merge.specs.InHand.{Texts}
+use Rattle.archive_merge.specs.Merger.{MayName, PassesAdd}
+
+one_still : (P : List ℕ → Type 0) (p q : BookPass) → AddsOnly P p q → AreStill (p ∷ []) (q ∷ [])
+one_still P p q adds = record { counted = refl; each = at }
+  where
+    at : (i : ℕ) (a b : BookPass) → slice_get (p ∷ []) i ≡ Some a → slice_get (q ∷ []) i ≡ Some b → IsStill a b
+    at zero a b one two = let first : p ≡ a = cc (one) in let second : q ≡ b = cc (two) in
+        subst (λ x. IsStill x b) first (subst (λ x. IsStill p x) second adds.goes.still)
+    at (suc i) a b one two = absurd (cc (one))
+
+one_texts : (P : List ℕ → Type 0) (p q : BookPass) → AddsOnly P p q → own_list p ≡ [] → (i : ℕ) (x : BookPass) → slice_get (q ∷ []) i ≡ Some x → (j : ℕ) (t : List ℕ) → StandsIn (own_list x) j t → P t
+one_texts P p q adds none zero x at j t own = let same : q ≡ x = cc (at) in own_texts P p q adds none j t (subst (λ y. StandsIn (own_list y) j t) (sym same) own)
+one_texts P p q adds none (suc i) x at j t own = absurd (cc (at))
+
+module _ {G : Ghosts BookState (List ℕ) ℕ} where
+  -- a pass that was made after the reader's
+  one_fresh : (m m' : BookMaker G) (p : BookPass) → IsStillBy m m' → made_by m' ≡ made_by m + 1 → IsFreshOf m p → Fresh m m' (p ∷ []) 1
+  one_fresh m m' p still made fresh = fresh_more m m m' [] 0 p (fresh_none m) still made fresh
+
+  -- the reader's pass was the first, and it ended before the one that names
+  pub book_ends : (P : List ℕ → Type 0) (first : ℕ) (told : Bool) (limit : ℕ) (texts : List (List ℕ)) (saved : ℕ) (m m1 m2 later end : BookMaker G) (reader p q : BookPass) → OpensBook first told limit texts saved m
+      → IsStillBy m m1 → made_by m1 ≡ made_by m + 1 → IsStillBy m1 m2 → made_by m2 ≡ made_by m1 + 1 → IsFreshOf m1 p → AddsOnly P p q
+      → Joined m2 later (reader ∷ []) 0 → number_of reader ≡ first → own_list reader ≡ [] → Joined later end (q ∷ []) 0 → EndsBook P m end reader
+  book_ends P first told limit texts saved m m1 m2 later end reader p q o still made still2 made2 fresh adds read number own joined =
+      ends_book P first told limit texts saved m m1 m2 later end reader (p ∷ []) (q ∷ []) 1 o still made (one_fresh m1 m2 p still2 made2 fresh) (one_still P p q adds)
+      read number own joined (one_texts P p q adds fresh.own_is)
+
+  -- passes that were made after the readers' may name, and are of the same locks
+  pub may_name : (told : Bool) (t_limit w_limit : ℕ) (t_texts w_texts : List (List ℕ)) (t_saved w_saved : ℕ) (types t1 t2 words w1 w2 : BookMaker G) (t_reader w_reader : BookPass) (b : BookPasses)
+      → OpensBook 0 told t_limit t_texts t_saved types → OpensBook WORDS_FIRST told w_limit w_texts w_saved words → IsFreshOf types t_reader → IsFreshOf words w_reader
+      → IsStillBy types t1 → made_by t1 ≡ made_by types + 1 → IsStillBy words w1 → made_by w1 ≡ made_by words + 1
+      → IsStillBy t1 t2 → made_by t2 ≡ made_by t1 + 1 → IsStillBy w1 w2 → made_by w2 ≡ made_by w1 + 1 → IsFreshOf t1 (pass_in b.types) → IsFreshOf w1 (pass_in b.words)
+      → MayName b × ((lock_of (pass_in b.types) ≡ lock_of t_reader) × (lock_of (pass_in b.words) ≡ lock_of w_reader))
+  may_name told t_limit w_limit t_texts w_texts t_saved w_saved types t1 t2 words w1 w2 t_reader w_reader b to wo tf wf ts tm ws wm ts2 tm2 ws2 wm2 t_fresh w_fresh =
+      let t = later 0 told t_limit t_texts t_saved types t1 t2 t_reader (pass_in b.types) (pass_in b.types ∷ []) 1 0 to tf ts tm (one_fresh t1 t2 (pass_in b.types) ts2 tm2 t_fresh) refl in
+      let w = later WORDS_FIRST told w_limit w_texts w_saved words w1 w2 w_reader (pass_in b.words) (pass_in b.words ∷ []) 1 0 wo wf ws wm (one_fresh w1 w2 (pass_in b.words) ws2 wm2 w_fresh) refl in
+      let t_number = t.1 in let w_number = w.1 in (
+        record { types_ready = t.2; words_ready = w.2; adds_types = omega (arith, t_number); adds_words = omega (arith, w_number) },
+        (t.0, w.0),
+      )
+
+  -- passes that named are of the makers' locks
+  pub are_of : (old : Texts) (t1 t2 w1 w2 : BookMaker G) (b c : BookPasses) → PassesAdd old b c → IsStillBy t1 t2 → IsStillBy w1 w2 → IsFreshOf t1 (pass_in b.types) → IsFreshOf w1 (pass_in b.words) → AreOf t2 w2 c
+  are_of old t1 t2 w1 w2 b c adds ts ws t_fresh w_fresh = record {
+    of_types = adds.types.goes.still.lock ∙ (t_fresh.lock ∙ sym ts.lock);
+    of_words = adds.words.goes.still.lock ∙ (w_fresh.lock ∙ sym ws.lock);
+  }
+
+-- where nothing is told there is no entry
+none_in : (o : Option (List ℕ)) (n : ℕ) → is_some o ≡ false → journal_in o n ≡ []
+none_in None n is = refl
+none_in (Some bytes) n is = absurd (cc (is))
+
+by_told : (b : Bool) (X : Type 0) → IfTold b X → (b ≡ false → X) → X
+by_told true X x f = x
+by_told false X x f = f refl
+
+module _ {D : Type 0} {d : DiskGhosts D} {G : Ghosts BookState (List ℕ) ℕ} (view : SecondView) (first : ℕ) (stop : Option Stopped) (js js' : List Merged) (before after : Journal D d) (types types' words words' : BookMaker G) where
+  pub has_merged : (t_saved w_saved : ℕ)
+      → OpensBook 0 (is_some (state_of before).disk.seen) before.header.types_limit (types_of (told_entries (state_of before))) t_saved types
+      → OpensBook WORDS_FIRST (is_some (state_of before).disk.seen) before.header.words_limit (words_of (told_entries (state_of before))) w_saved words
+      → WereMovedOver view first stop js js' before after types types' words words' → IsAllOwned IsFair types' → IsAllOwned IsFair words' → HasMerged view first stop js js' before after
+  has_merged t_saved w_saved to wo h t_owned w_owned = record {
+    store = h.store;
+    stored = h.stored;
+    types = by_told told (All (Contains view.texts.types) (types_of fresh))
+        (texts_given (Contains view.texts.types) IsFairType 0 told before.header.types_limit s.header.types_limit (types_of (told_entries (state_of before))) (types_of (journal_of s)) (types_of fresh)
+        t_saved s.types_saved types types' s.types to h.of_types t_owned (subst (λ b. KnowsBook IsFairType 0 s.header.types_limit b s.types s.types_saved (types_of (journal_of s))) same_told h.stored.left_by.kept.types)
+        (ap types_of h.stored.grown ∙ types_joined (told_entries (state_of before)) fresh))
+        (λ untold. subst (λ es. All (Contains view.texts.types) (types_of es)) (sym (no_more untold)) (All-nil (Contains view.texts.types)));
+    words = by_told told (All (Contains view.texts.words) (words_of fresh))
+        (texts_given (Contains view.texts.words) IsFairWord WORDS_FIRST told before.header.words_limit s.header.words_limit (words_of (told_entries (state_of before))) (words_of (journal_of s)) (words_of fresh)
+        w_saved s.words_saved words words' s.words wo h.of_words w_owned (subst (λ b. KnowsBook IsFairWord WORDS_FIRST s.header.words_limit b s.words s.words_saved (words_of (journal_of s))) same_told h.stored.left_by.kept.words)
+        (ap words_of h.stored.grown ∙ words_joined (told_entries (state_of before)) fresh))
+        (λ untold. subst (λ es. All (Contains view.texts.words) (words_of es)) (sym (no_more untold)) (All-nil (Contains view.texts.words)));
+  }
+    where
+      told : Bool
+      told = is_some (state_of before).disk.seen
+
+      fresh : List JournalEntry
+      fresh = h.stored.fresh
+
+      s : StoreState
+      s = state_by d.state h.store
+
+      same_told : is_some (d.state h.store.opened).seen ≡ told
+      same_told = ap (λ (x : D). is_some (d.state x).seen) h.stored.left_by.opened
+
+      no_more : told ≡ false → fresh ≡ []
+      no_more untold = let now : journal_of s ≡ [] = none_in s.disk.seen s.count (h.stored.left_by.kept.tells_still ∙ (same_told ∙ untold)) in
+          let was : told_entries (state_of before) ≡ [] = none_in (state_of before).disk.seen (state_of before).count untold in
+          sym (ap (λ l. l ++ fresh) was) ∙ (sym h.stored.grown ∙ now)

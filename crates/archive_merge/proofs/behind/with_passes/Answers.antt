@@ -1,0 +1,62 @@
+use Rattle.std.proofs.Common.{◌≡◌, ◌∙◌, Some, ap, subst, sym}
+use Rattle.turn_lock.specs.Words.{IsFreshOf, lock_of}
+use Rattle.dict_lock.specs.Cached.{pass_in}
+use Rattle.ingest_workers.proofs.IngestLemmas.{knows}
+use Rattle.archive_merge.specs.declared.merger.BookPasses.{BookPasses}
+use Rattle.archive_merge.specs.Behind.{HasStored, MayBegin, second_by}
+use Rattle.archive_merge.specs.Merger.{PassesAdd}
+use Rattle.archive_merge.specs.MergerLaws.{passes_in_is}
+use Rattle.archive_merge.specs.Taken.{texts_by}
+use Rattle.archive_merge.proofs.BehindLemmas.{adds_between, as_it_was, may_move_by, stored_by}
+use Rattle.archive_merge.proofs.EndedLemmas.{book_ends, may_name}
+use Rattle.archive_merge.proofs.behind.with_passes.Goals as goal
+
+pub new-merger-requires-clause-serves : goal.new-merger-requires-clause-serves
+new-merger-requires-clause-serves g c = c.requires.serves _
+
+pub open_store-store-requires-clause-books : goal.open_store-store-requires-clause-books
+open_store-store-requires-clause-books g c = record {
+  of_types = knows _ _ _ _ _ _ _ _ c.requires.types c.pass-types_reader.ensures.pass;
+  of_words = knows _ _ _ _ _ _ _ _ c.requires.words c.pass-words_reader.ensures.pass;
+}
+
+pub move_files-requires-clause-may : goal.move_files-requires-clause-may
+move_files-requires-clause-may g c =
+    let b : BookPasses = record { types = c.new.result; words = c.new-2.result } in
+    let types_fresh = subst (IsFreshOf c.pass-types_reader.new.self) (sym c.new.ensures.pass) c.pass-types_pass.ensures.pass in
+    let words_fresh = subst (IsFreshOf c.pass-words_reader.new.self) (sym c.new-2.ensures.pass) c.pass-words_pass.ensures.pass in
+    let name = may_name _ _ _ _ _ _ _ c.args.types.now c.pass-types_reader.new.self c.pass-types_pass.new.self c.args.words.now c.pass-words_reader.new.self c.pass-words_pass.new.self c.pass-types_reader.result c.pass-words_reader.result b
+        c.requires.types c.requires.words c.pass-types_reader.ensures.pass c.pass-words_reader.ensures.pass c.pass-types_reader.ensures.still c.pass-types_reader.ensures.made c.pass-words_reader.ensures.still c.pass-words_reader.ensures.made
+        c.pass-types_pass.ensures.still c.pass-types_pass.ensures.made c.pass-words_pass.ensures.still c.pass-words_pass.ensures.made types_fresh words_fresh in
+    let same = passes_in_is c.new-merger.result.passes c.new-merger.result.full b c.new-merger.ensures.passes in
+    may_move_by g.M.Names.types g.M.Names.words g.M.Names.version g.E.Disk.state c.args.journal c.pass-types_reader.result c.pass-words_reader.result c.args.order.types_saved c.args.order.words_saved _ _ c.args.order.first c.new-merger.result c.args.files.now
+    c.open_store-store.ensures c.from.ensures c.new-merger.ensures.first (subst (λ s. MayBegin c.args.order.first (g.M.Names.version s.names.now) c.args.journal c.args.files.now) (sym c.new-merger.ensures.second) c.requires.begin)
+    (subst (λ (x : BookPasses). (lock_of (pass_in x.types) ≡ lock_of c.pass-types_reader.result) × (lock_of (pass_in x.words) ≡ lock_of c.pass-words_reader.result)) (sym same) name.1)
+
+pub returns-in-Ok-clause-moved : goal.returns-in-Ok-clause-moved
+returns-in-Ok-clause-moved g c =
+    let b : BookPasses = record { types = c.new.result; words = c.new-2.result } in
+    let types_fresh = subst (IsFreshOf c.pass-types_reader.new.self) (sym c.new.ensures.pass) c.pass-types_pass.ensures.pass in
+    let words_fresh = subst (IsFreshOf c.pass-words_reader.new.self) (sym c.new-2.ensures.pass) c.pass-words_pass.ensures.pass in
+    let done = c.in-Ok.ensures.done in
+    let ended = c.end-journal.ensures.ended in
+    let kept = c.end-journal.ensures.kept in
+    let adds = adds_between g.M.Names.types g.M.Names.words c.new-merger.result c.move_files.new.merger c.args.order.second b c.into_parts-second.result.1 c.new-merger.ensures.second c.new-merger.ensures.passes c.into_parts-second.ensures.passes done.moved.went.adds in
+    record {
+      store = c.in-Ok.store;
+      stored = subst (λ s. HasStored (second_by g.M.Names.types g.M.Names.words g.M.Names.version g.E.Disk.state c.args.order.second) c.args.order.first s c.args.files.now c.move_files.new.files c.args.journal c.end-journal.result c.in-Ok.store) (sym c.into_parts-second.ensures.stop)
+          (subst (λ s. HasStored (second_by g.M.Names.types g.M.Names.words g.M.Names.version g.E.Disk.state s) c.args.order.first c.move_files.new.merger.stop c.args.files.now c.move_files.new.files c.args.journal c.end-journal.result c.in-Ok.store) c.new-merger.ensures.second
+          (stored_by g.M.Names.types g.M.Names.words g.M.Names.version g.E.Disk.state c.args.journal c.end-journal.result c.pass-types_reader.result c.pass-words_reader.result c.args.order.types_saved c.args.order.words_saved c.in-Ok.store _ _ c.args.order.first c.new-merger.result c.move_files.new.merger c.args.files.now c.move_files.new.files
+          c.open_store-store.ensures c.from.ensures c.new-merger.ensures.first (subst (λ s. MayBegin c.args.order.first (g.M.Names.version s.names.now) c.args.journal c.args.files.now) (sym c.new-merger.ensures.second) c.requires.begin) done c.end-journal.ensures.journal kept));
+      of_types = book_ends _ _ _ _ _ _ _ _ _ _ _ _ (pass_in b.types) _ c.requires.types c.pass-types_reader.ensures.still c.pass-types_reader.ensures.made c.pass-types_pass.ensures.still c.pass-types_pass.ensures.made types_fresh adds.types
+          ended.types_read kept.types.number kept.types.own ended.types_ended;
+      of_words = book_ends _ _ _ _ _ _ _ _ _ _ _ _ (pass_in b.words) _ c.requires.words c.pass-words_reader.ensures.still c.pass-words_reader.ensures.made c.pass-words_pass.ensures.still c.pass-words_pass.ensures.made words_fresh adds.words
+          ended.words_read kept.words.number kept.words.own ended.words_ended;
+    }
+
+pub returns-in-Err-clause-refused : goal.returns-in-Err-clause-refused
+returns-in-Err-clause-refused g c = (
+  as_it_was c.args.journal c.pass-types_reader.result c.pass-words_reader.result c.args.order.types_saved c.args.order.words_saved c.give_back-journal.result c.in-Err.store _
+      c.open_store-store.ensures c.in-Err.ensures.refused c.give_back-journal.ensures.journal c.give_back-journal.ensures.kept,
+  c.into_parts-second-in-Err.ensures.second ∙ (ap (λ m. m.second) c.in-Err.ensures.files.1 ∙ c.new-merger.ensures.second),
+)

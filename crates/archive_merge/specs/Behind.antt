@@ -1,0 +1,131 @@
+-- The files of a second archive behind those of a journal.
+use Rattle.std.specs.Prelude.{◌≡◌, ℕ, ◌+◌, ◌-◌, ◌≤◌, ◌&&◌, Bool, false, List, [], ◌++◌, length, is_some, Option, None, Some, slice_get, All}
+use Rattle.std.specs.List.{Contains, filter, filter_map, sum_by}
+use Rattle.std.specs.List.Sorted.{IsNonDecreasingBy}
+use mathlib.Core.List.{IsPrefix}
+use Rattle.log_seams.specs.Disk.{DiskState}
+use Rattle.log_seams.specs.declared.disk.Disk.{Ghosts as DiskGhosts}
+use Rattle.disk_journal.specs.declared.journal.Journal.{Journal}
+use Rattle.disk_journal.specs.Journal.{state_of}
+use Rattle.disk_journal.specs.State.{JournalState}
+use Rattle.archive_meaning.specs.declared.TheConstants.{MAX_FILES}
+use Rattle.archive_meaning.specs.declared.entry.JournalEntry.{JournalEntry}
+use Rattle.archive_meaning.specs.declared.entry.JournalEntry.TheVariants.{Files, Segment, Types, Words}
+use Rattle.archive_meaning.specs.declared.entry.SegmentEntry.{SegmentEntry}
+use Rattle.archive_meaning.specs.Spelled.{types_of}
+use Rattle.ingest_meaning.specs.Parts.{in_file}
+use Rattle.ingest_meaning.specs.WordsIn.{words_of}
+use Rattle.archive_open.specs.declared.segments.SegmentPlace.{SegmentPlace}
+use Rattle.archive_decode.specs.StepsHeld.{is_of}
+use Rattle.disk_seal.specs.Opening.{MayOpen}
+use Rattle.disk_seal.specs.Told.{IfTold}
+use Rattle.disk_seal.specs.View.{StoreView, journal_of, state_by}
+use Rattle.ingest_workers.specs.Ingested.{IsLeftBy, told_entries}
+use Rattle.ingest_workers.specs.Journal.{FrontHolds, Holds}
+use Rattle.archive_merge.specs.declared.file.Merged.{Merged}
+use Rattle.archive_merge.specs.declared.merger.Second.{Second}
+use Rattle.archive_merge.specs.declared.merger.Stopped.{Stopped}
+use Rattle.archive_merge.specs.declared.taker.Taker.{Taker}
+use Rattle.archive_merge.specs.InHand.{Texts}
+use Rattle.archive_merge.specs.Merger.{StaysRead, file_at}
+use Rattle.archive_merge.specs.Runs.{HoldRun, SoFar, nothing_so_far}
+use Rattle.archive_merge.specs.Taken.{Books, Serves, texts_by}
+
+-- ---- the second archive
+
+-- what contracts tell of it: its version and texts, its disk's bytes, where they are told, and its segments
+pub record SecondView : Type 0 where
+  pub version : ℕ
+  pub texts : Texts
+  pub told : Option (List ℕ)
+  pub segments : List SegmentPlace
+
+module _ {M E : Type 0} where
+  abbrev pub second_by : (M → List (List ℕ)) → (M → List (List ℕ)) → (M → ℕ) → (E → DiskState) → Second M E → SecondView
+  second_by types words version state s = record {
+    version = version s.names.now;
+    texts = texts_by types words s.names.now;
+    told = (state s.disk.now).seen;
+    segments = s.segments.now;
+  }
+
+  -- it is the same, and its disk was only read
+  pub record OnlyRead (state : E → DiskState) (a b : Second M E) : Type 0 where
+    pub stays : StaysRead state a b
+    pub later : (state a.disk.now).faults ≤ (state b.disk.now).faults
+
+-- the taker serves an archive of this version with these texts, and keeps no number yet
+abbrev pub MayServe : ℕ → Texts → Taker → Type 0
+MayServe version old taker = (books : Books) → Serves version old books taker
+
+-- The second archive's bytes are told, its segments are sorted by file, and those of the file with this number are a run to this.
+pub record HasRun (s : SecondView) (number : ℕ) (all : SoFar) : Type 0 where
+  pub bytes : List ℕ
+  pub told_is : s.told ≡ Some bytes
+  pub sorted : IsNonDecreasingBy file_at s.segments
+  pub run : HoldRun s.version s.texts bytes (filter (is_of number) s.segments) nothing_so_far all
+
+-- ---- before
+
+-- the file has this number, and nothing of it is sealed: where the journal is told, it has a name there and no segment
+pub record IsNewIn (j : JournalState) (number : ℕ) (file : Merged) : Type 0 where
+  pub file_is : file.file ≡ number
+  pub messages_none : file.messages ≡ 0
+  pub not_whole : file.whole ≡ false
+  pub empty : IfTold (is_some j.disk.seen) (Holds j.header (told_entries j) file.file [] false false)
+
+-- the entry is one of texts, or a segment of one of the files
+abbrev pub IsOfFiles : List Merged → JournalEntry → Type 0
+IsOfFiles files (Files names) = ⊥
+IsOfFiles files (Types first texts) = Unit {0}
+IsOfFiles files (Words first texts) = Unit {0}
+IsOfFiles files (Segment s) = (i : ℕ) × (file : Merged) × (slice_get files i ≡ Some file) × (file.file ≡ s.file)
+
+module _ {D : Type 0} {d : DiskGhosts D} where
+  -- The files may be moved behind the journal from an archive of this version, which is the journal's. They are new in it, and
+  -- have the numbers from the first one on.
+  pub record MayBegin (first version : ℕ) (before : Journal D d) (files : List Merged) : Type 0 where
+    pub version_is : version ≡ before.header.version
+    pub journal : MayOpen (state_of before)
+    pub new : (i : ℕ) (file : Merged) → slice_get files i ≡ Some file → IsNewIn (state_of before) (first + i) file
+    pub few : first + length files ≤ MAX_FILES
+
+  -- ---- after
+
+  -- The file has messages that are the first ones of the second archive's file with its number there, and all of them, with its
+  -- marks, where no file was stopped. Where the journal is told, the file's segments among the new entries have as many rows, and
+  -- a front of the journal holds exactly these messages of the file.
+  pub record IsMovedFile (s : SecondView) (first : ℕ) (stop : Option Stopped) (before : Journal D d) (fresh : List JournalEntry)
+      (old new : Merged) : Type 0 where
+    pub file : new.file ≡ old.file
+    pub covered : List (List ℕ)
+    pub ended : Bool
+    pub count : new.messages ≡ length covered
+    pub first_ones : (all : SoFar) → HasRun s (old.file - first) all → IsPrefix covered all.messages
+    pub all : stop ≡ None → (all : SoFar) → HasRun s (old.file - first) all
+        → all ≡ record { messages = covered; whole = new.whole; ended = new.whole && ended }
+    pub segments : List SegmentEntry
+    pub rows_count : sum_by (λ (e : SegmentEntry). length e.rows) segments ≡ length covered
+    pub sealed : IfTold (is_some (state_of before).disk.seen) (filter_map (in_file old.file) fresh ≡ segments)
+    pub held : IfTold (is_some (state_of before).disk.seen)
+        (FrontHolds before.header (told_entries (state_of before) ++ fresh) old.file covered new.whole (new.whole && ended))
+
+  -- Each file was moved. Where they are told, the journal's entries are those of before and new ones, which are texts and segments
+  -- of the files.
+  pub record HasStored (s : SecondView) (first : ℕ) (stop : Option Stopped) (files files' : List Merged)
+      (before after : Journal D d) (store : StoreView D) : Type 0 where
+    pub left_by : IsLeftBy store before after
+    pub fresh : List JournalEntry
+    pub grown : journal_of (state_by d.state store) ≡ told_entries (state_of before) ++ fresh
+    pub counted : length files' ≡ length files
+    pub each : (i : ℕ) (file : Merged) → slice_get files i ≡ Some file
+        → (new : Merged) × (slice_get files' i ≡ Some new) × IsMovedFile s first stop before fresh file new
+    pub others : All (IsOfFiles files) fresh
+
+  -- The same, and each text that the new entries add is one of the second archive.
+  pub record HasMerged (s : SecondView) (first : ℕ) (stop : Option Stopped) (files files' : List Merged)
+      (before after : Journal D d) : Type 0 where
+    pub store : StoreView D
+    pub stored : HasStored s first stop files files' before after store
+    pub types : All (Contains s.texts.types) (types_of stored.fresh)
+    pub words : All (Contains s.texts.words) (words_of stored.fresh)
