@@ -1,5 +1,5 @@
 -- What files that were moved leave, from what became of them over the store.
-use Rattle.std.proofs.Common.{◌≡◌, ℕ, zero, suc, ◌+◌, ◌-◌, ◌<◌, ◌≤◌, ◌&&◌, ◌==◌, Bool, true, false, if◌then◌else◌, List, [], ◌∷◌, ◌++◌, length, drop, sym, refl, ap, ◌∙◌, subst, arith, Option, None, Some, is_some, slice_get, All}
+use Rattle.std.proofs.Common.{◌≡◌, ℕ, zero, suc, ◌+◌, ◌-◌, ◌&&◌, ◌==◌, Bool, true, false, if◌then◌else◌, List, [], ◌∷◌, ◌++◌, length, drop, sym, refl, ap, ◌∙◌, subst, arith, Option, None, Some, is_some, slice_get, All}
 use Rattle.std.specs.Prelude.{is_none}
 use Rattle.std.specs.List.{cons_option, filter, filter_map}
 use Rattle.std.specs.List.Sorted.{IsNonDecreasingBy}
@@ -46,7 +46,7 @@ use Rattle.archive_merge.specs.declared.merger.Merger.{Merger}
 use Rattle.archive_merge.specs.declared.merger.BookPasses.{BookPasses}
 use Rattle.archive_merge.specs.declared.merger.Second.{Second}
 use Rattle.archive_merge.specs.declared.merger.Stopped.{Stopped}
-use Rattle.archive_merge.specs.Behind.{HasStored, IsMovedFile, IsNewIn, IsOfFiles, MayBegin, OnlyRead, SecondView, second_by}
+use Rattle.archive_merge.specs.Behind.{HasStored, IsMovedFile, IsNewIn, IsOfFiles, MayBegin, SecondView, second_by}
 use Rattle.archive_merge.specs.Files.{CameOver}
 use Rattle.archive_merge.specs.Locked.{HasMovedOver, MayMoveAt}
 use Rattle.archive_merge.specs.Merger.{DidFile, MayMoveFile, MovesOn, PassesAdd, file_at, passes_of}

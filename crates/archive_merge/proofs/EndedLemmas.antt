@@ -1,12 +1,12 @@
 -- The passes of both books, from their making to their end.
-use Rattle.std.proofs.Common.{◌≡◌, ℕ, zero, suc, ◌+◌, ◌<◌, Bool, true, false, List, [], ◌∷◌, ◌++◌, length, sym, refl, ap, ◌∙◌, subst, arith, Option, None, Some, is_some, slice_get, All}
+use Rattle.std.proofs.Common.{◌≡◌, ℕ, zero, suc, ◌+◌, Bool, true, false, List, [], ◌∷◌, ◌++◌, sym, refl, ap, ◌∙◌, subst, arith, Option, None, Some, is_some, slice_get, All}
 use Rattle.std.specs.List.{Contains}
 use Rattle.std.proofs.lemmas.List.Elements.{All-nil}
 use Rattle.log_seams.specs.declared.disk.Disk.{Ghosts as DiskGhosts}
 use Rattle.logtype_text.specs.Fair.{IsFairType, IsFairWord}
 use Rattle.turn_lock.specs.declared.grows.Grows.{Ghosts}
 use Rattle.turn_lock.specs.History.{StandsIn}
-use Rattle.turn_lock.specs.Words.{IsAllOwned, IsFreshOf, IsReady, IsStill, IsStillBy, lock_by, lock_of, made_by, number_of, own_list}
+use Rattle.turn_lock.specs.Words.{IsAllOwned, IsFreshOf, IsStill, IsStillBy, lock_of, made_by, number_of, own_list}
 use Rattle.dict_core.specs.declared.grows.TheConstants.{WORDS_FIRST}
 use Rattle.dict_core.specs.Books.{BookState}
 use Rattle.dict_core.specs.Fair.{IsFair}
@@ -30,7 +30,7 @@ use Rattle.archive_merge.specs.declared.file.Merged.{Merged}
 use Rattle.archive_merge.specs.declared.merger.BookPasses.{BookPasses}
 use Rattle.archive_merge.specs.declared.merger.Stopped.{Stopped}
 use Rattle.archive_merge.specs.Behind.{HasMerged, SecondView}
-use Rattle.archive_merge.specs.Ended.{AreOf, HasEnded, WereMovedOver}
+use Rattle.archive_merge.specs.Ended.{AreOf, WereMovedOver}
 use Rattle.archive_merge.specs.InHand.{Texts}
 use Rattle.archive_merge.specs.Merger.{MayName, PassesAdd}
 

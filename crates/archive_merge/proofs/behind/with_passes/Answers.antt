@@ -1,12 +1,10 @@
-use Rattle.std.proofs.Common.{◌≡◌, ◌∙◌, Some, ap, subst, sym}
+use Rattle.std.proofs.Common.{◌≡◌, ◌∙◌, ap, subst, sym}
 use Rattle.turn_lock.specs.Words.{IsFreshOf, lock_of}
 use Rattle.dict_lock.specs.Cached.{pass_in}
 use Rattle.ingest_workers.proofs.IngestLemmas.{knows}
 use Rattle.archive_merge.specs.declared.merger.BookPasses.{BookPasses}
 use Rattle.archive_merge.specs.Behind.{HasStored, MayBegin, second_by}
-use Rattle.archive_merge.specs.Merger.{PassesAdd}
 use Rattle.archive_merge.specs.MergerLaws.{passes_in_is}
-use Rattle.archive_merge.specs.Taken.{texts_by}
 use Rattle.archive_merge.proofs.BehindLemmas.{adds_between, as_it_was, may_move_by, stored_by}
 use Rattle.archive_merge.proofs.EndedLemmas.{book_ends, may_name}
 use Rattle.archive_merge.proofs.behind.with_passes.Goals as goal
@@ -26,8 +24,8 @@ move_files-requires-clause-may g c =
     let types_fresh = subst (IsFreshOf c.pass-types_reader.new.self) (sym c.new.ensures.pass) c.pass-types_pass.ensures.pass in
     let words_fresh = subst (IsFreshOf c.pass-words_reader.new.self) (sym c.new-2.ensures.pass) c.pass-words_pass.ensures.pass in
     let name = may_name _ _ _ _ _ _ _ c.args.types.now c.pass-types_reader.new.self c.pass-types_pass.new.self c.args.words.now c.pass-words_reader.new.self c.pass-words_pass.new.self c.pass-types_reader.result c.pass-words_reader.result b
-        c.requires.types c.requires.words c.pass-types_reader.ensures.pass c.pass-words_reader.ensures.pass c.pass-types_reader.ensures.still c.pass-types_reader.ensures.made c.pass-words_reader.ensures.still c.pass-words_reader.ensures.made
-        c.pass-types_pass.ensures.still c.pass-types_pass.ensures.made c.pass-words_pass.ensures.still c.pass-words_pass.ensures.made types_fresh words_fresh in
+    c.requires.types c.requires.words c.pass-types_reader.ensures.pass c.pass-words_reader.ensures.pass c.pass-types_reader.ensures.still c.pass-types_reader.ensures.made c.pass-words_reader.ensures.still c.pass-words_reader.ensures.made
+    c.pass-types_pass.ensures.still c.pass-types_pass.ensures.made c.pass-words_pass.ensures.still c.pass-words_pass.ensures.made types_fresh words_fresh in
     let same = passes_in_is c.new-merger.result.passes c.new-merger.result.full b c.new-merger.ensures.passes in
     may_move_by g.M.Names.types g.M.Names.words g.M.Names.version g.E.Disk.state c.args.journal c.pass-types_reader.result c.pass-words_reader.result c.args.order.types_saved c.args.order.words_saved _ _ c.args.order.first c.new-merger.result c.args.files.now
     c.open_store-store.ensures c.from.ensures c.new-merger.ensures.first (subst (λ s. MayBegin c.args.order.first (g.M.Names.version s.names.now) c.args.journal c.args.files.now) (sym c.new-merger.ensures.second) c.requires.begin)
