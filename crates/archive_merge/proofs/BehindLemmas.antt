@@ -1,7 +1,7 @@
 -- What files that were moved leave, from what became of them over the store.
-use Rattle.std.proofs.Common.{◌≡◌, ℕ, zero, suc, ◌+◌, ◌-◌, ◌&&◌, ◌==◌, Bool, true, false, if◌then◌else◌, List, [], ◌∷◌, ◌++◌, length, drop, sym, refl, ap, ◌∙◌, subst, arith, Option, None, Some, is_some, slice_get, All}
+use Rattle.std.proofs.Common.{◌≡◌, ℕ, zero, suc, ◌+◌, ◌-◌, ◌&&◌, ◌==◌, Bool, true, false, if◌then◌else◌, List, [], ◌∷◌, ◌++◌, length, drop, sym, refl, ap, ◌∙◌, subst, arith, Option, None, Some, is_some, slice_get, All, ◌^◌, ◌<◌, ◌≤◌, ⊎_elim, inl, inr, append-nil, append_assoc, map}
 use Rattle.std.specs.Prelude.{is_none}
-use Rattle.std.specs.List.{cons_option, filter, filter_map}
+use Rattle.std.specs.List.{cons_option, filter, filter_map, Contains}
 use Rattle.std.specs.List.Sorted.{IsNonDecreasingBy}
 use Rattle.std.proofs.lemmas.Bool.Decides.{nat_tests}
 use Rattle.std.proofs.lemmas.Option.{slice_get-get_or, slice_get_within}
@@ -14,7 +14,7 @@ use Rattle.turn_lock.specs.Words.{about, lock_of, number_of, own_list, seen}
 use Rattle.turn_lock.proofs.FrontLemmas.{prefix_trans}
 use Rattle.ingest_fork.specs.Picked.{entries_in}
 use Rattle.ingest_fork.specs.Works.{Done}
-use Rattle.ingest_fork.proofs.PlaceLemmas.{at_right, there_is}
+use Rattle.ingest_fork.proofs.PlaceLemmas.{at_right, there_is, in_left}
 use Rattle.dict_lock.specs.Cached.{pass_in}
 use Rattle.dict_lock.specs.Shared.{BookPass}
 use Rattle.disk_journal.specs.declared.journal.Journal.{Journal}
@@ -31,7 +31,7 @@ use Rattle.disk_seal.specs.declared.fixed.StoreFixed.{StoreFixed}
 use Rattle.disk_seal.specs.Draft.{journal_seen}
 use Rattle.disk_seal.specs.Fixed.{KeeperPass, fixed_of}
 use Rattle.disk_seal.specs.May.{MayAdd}
-use Rattle.disk_seal.specs.Told.{IfTold}
+use Rattle.disk_seal.specs.Told.{IfTold, blanks, journal_in, mark, recorded}
 use Rattle.disk_seal.specs.View.{Kept, StoreView, journal_of, state_by}
 use Rattle.disk_seal.proofs.ToldLemmas.{told_map}
 use Rattle.ingest_workers.specs.ClosedStore.{IsJournalOf}
@@ -41,17 +41,27 @@ use Rattle.ingest_workers.specs.Locked.{IsPassOf, IsStillStore, file_segment, li
 use Rattle.ingest_workers.proofs.IngestLemmas.{left_by, seen_list, stayed_by}
 use Rattle.ingest_workers.proofs.JournalLemmas.{seen_front, seen_joined}
 use Rattle.ingest_workers.proofs.SealLemmas.{if_told}
+use Rattle.log_seams.specs.Outside.{Rose}
+use Rattle.logtype_text.specs.Fair.{IsFairType, IsFairWord}
+use Rattle.row_codec.specs.declared.namer.Which.{Which}
+use Rattle.row_codec.specs.declared.namer.Which.TheVariants.{Types as WhichTypes, Words as WhichWords}
+use Rattle.row_codec.specs.Naming.{Known}
+use Rattle.ingest_workers.specs.Full.{Books, IsMore, WasFull, book_of, books_by}
+use Rattle.ingest_workers.proofs.FullLemmas.{books_on}
+use Rattle.archive_merge.specs.declared.cause.MergeCause.{MergeCause}
+use Rattle.archive_merge.specs.declared.cause.MergeCause.TheVariants.{ArchiveFull, FirstFault, Full, OutOfMemory, SecondDamaged, SecondFault}
+use Rattle.archive_merge.specs.Causes.{HasMoveCause}
 use Rattle.archive_merge.specs.declared.file.Merged.{Merged}
 use Rattle.archive_merge.specs.declared.merger.Merger.{Merger}
 use Rattle.archive_merge.specs.declared.merger.BookPasses.{BookPasses}
 use Rattle.archive_merge.specs.declared.merger.Second.{Second}
 use Rattle.archive_merge.specs.declared.merger.Stopped.{Stopped}
-use Rattle.archive_merge.specs.Behind.{HasStored, IsMovedFile, IsNewIn, IsOfFiles, MayBegin, SecondView, second_by}
+use Rattle.archive_merge.specs.Behind.{HasStored, IsMovedFile, IsNewIn, IsOfFiles, MayBegin, OnlyRead, SecondView, second_by, HasRun, HasStopCause, HasStopped, old_texts}
 use Rattle.archive_merge.specs.Files.{CameOver}
 use Rattle.archive_merge.specs.Locked.{HasMovedOver, MayMoveAt}
-use Rattle.archive_merge.specs.Merger.{DidFile, MayMoveFile, MovesOn, PassesAdd, file_at, passes_of}
+use Rattle.archive_merge.specs.Merger.{DidFile, MayMoveFile, MovesOn, PassesAdd, StaysRead, file_at, passes_of, HasMoved, IsOneOf, IsStopFor, books_of}
 use Rattle.archive_merge.specs.MergerLaws.{passes_in_is}
-use Rattle.archive_merge.specs.Runs.{HoldRun, nothing_so_far}
+use Rattle.archive_merge.specs.Runs.{HoldRun, nothing_so_far, SoFar}
 use Rattle.archive_merge.specs.Taken.{texts_by}
 
 -- ---- lists
@@ -121,6 +131,10 @@ picked_all n (Segment s ∷ es) mine = ap (λ b. cons_option (if b then Some s e
 entries_same : (l : List (ℕ × StoreEntry)) → entries_in l ≡ entries_at l
 entries_same [] = refl
 entries_same (x ∷ xs) = ap (λ l. x.1 ∷ l) (entries_same xs)
+
+-- it is more of what is known of a book
+more_then : (a b c : Known) → IsMore a b → IsMore b c → IsMore a c
+more_then a b c one two = record { front = prefix_trans a.texts b.texts c.texts one.front two.front; limit = two.limit ∙ one.limit }
 
 -- ---- a file
 
@@ -193,6 +207,13 @@ module _ {M E : Type 0} {N : NamesGhosts M} {H : DiskGhosts E} (types words : M 
       (subst (λ x. PassesAdd (texts_by types words w.second.names.now) x c) (passes_in_is w.passes w.full b had)
       (subst (λ x. PassesAdd (texts_by types words w.second.names.now) (passes_of w) x) (passes_in_is v.passes v.full c has) adds))
 
+-- ---- the second archive
+
+pub only_read : {M E : Type 0} (state : E → DiskState) (stop : Option Stopped) (a b x y : Second M E) → x ≡ a → y ≡ b → StaysRead state x b → (state x.disk.now).faults ≤ (state b.disk.now).faults
+    → ((why : Stopped) → stop ≡ Some why → why.cause ≡ SecondFault → Rose (state x.disk.now).faults (state b.disk.now).faults) → OnlyRead state stop a y
+only_read state stop a b x y was now stays later fault = subst (λ z. OnlyRead state stop z y) was (subst (λ z. OnlyRead state stop x z) (sym now)
+    (let here : OnlyRead state stop x b = record { stays = stays; later = later; fault = fault } in here))
+
 -- ---- all files
 
 module _ {M E : Type 0} {N : NamesGhosts M} {H : DiskGhosts E} (types words : M → List (List ℕ)) (version : M → ℕ) (state_second : E → DiskState) where
@@ -224,6 +245,40 @@ module _ {D : Type 0} {d : DiskGhosts D} (before : Journal D d) (types_reader wo
 
   list_now : (store : StoreView D) → journal_seen (list_of d.state store) ≡ journal_of (state_by d.state store)
   list_now store = seen_list (d.state store.disk).seen store.count store.stopped
+
+  -- a list with the mark is of a store that was stopped
+  marked : (told : Option (List ℕ)) (n : ℕ) (o : Option ℕ) (front : List StoreEntry) → IsPrefix (front ++ Mark ∷ []) (recorded told n ++ mark o) → (k : ℕ) × (o ≡ Some k)
+  marked told n (Some k) front on = (k, refl)
+  marked told n None front on = absurd (no_mark told n front on.0 (sym (append_assoc front (Mark ∷ []) on.0) ∙ (on.1 ∙ append-nil (recorded told n))))
+    where
+      not_blank : (n : ℕ) (xs ys : List StoreEntry) → xs ++ Mark ∷ ys ≡ blanks n → ⊥
+      not_blank zero [] ys is = cc (is)
+      not_blank zero (y ∷ xs) ys is = cc (is)
+      not_blank (suc n) [] ys is = cc (is)
+      not_blank (suc n) (y ∷ xs) ys is = not_blank n xs ys (cc (is))
+
+      not_entry : (es : List JournalEntry) (xs ys : List StoreEntry) → xs ++ Mark ∷ ys ≡ map Entry es → ⊥
+      not_entry [] [] ys is = cc (is)
+      not_entry [] (y ∷ xs) ys is = cc (is)
+      not_entry (e ∷ es) [] ys is = cc (is)
+      not_entry (e ∷ es) (y ∷ xs) ys is = not_entry es xs ys (cc (is))
+
+      no_mark : (told : Option (List ℕ)) (n : ℕ) (xs ys : List StoreEntry) → xs ++ Mark ∷ ys ≡ recorded told n → ⊥
+      no_mark None n xs ys is = not_blank n xs ys is
+      no_mark (Some bytes) n xs ys is = not_entry (journal_in (Some bytes) n) xs ys is
+
+  -- so the disk's count of faults rose
+  rose_by : (after : Journal D d) (store : StoreView D) → Kept (state_by d.state store) → store.opened ≡ before.disk.now → store.disk ≡ after.disk.now → (front : List StoreEntry) → IsPrefix (front ++ Mark ∷ []) (list_of d.state store)
+      → Rose (state_of before).disk.faults (state_of after).disk.faults
+  rose_by after store kept opened_is disk_is front on =
+      let stopped = marked (d.state store.disk).seen store.count store.stopped front on in
+      let fault = kept.fault stopped.0 stopped.1 in
+      subst (λ (x : D). Rose (d.state before.disk.now).faults (d.state x).faults) disk_is
+      (subst (λ (x : D). Rose (d.state x).faults (d.state store.disk).faults) opened_is
+      (⊎_elim
+      (λ (lt : (d.state store.opened).faults < stopped.0). let le = fault.1 in let more : Rose (d.state store.opened).faults (d.state store.disk).faults = inl (omega arith) in more)
+      (λ (most : 2 ^ 64 - 1 ≤ stopped.0). let le = fault.1 in let more : Rose (d.state store.opened).faults (d.state store.disk).faults = inr (omega arith) in more)
+      fault.0))
 
   pub as_it_was : (after : Journal D d) (store : StoreView D) (o : StoreView D) → o ≡ opened → IsStillStore d.state o store → IsJournalOf store after → Kept (state_by d.state store) → IsAsItWas before after
   as_it_was after store o is still back kept = stayed_by (λ (s : Unit {0}). None) (λ s. None) (λ s. 0) before after types_reader words_reader t u store o is still back kept
@@ -323,6 +378,192 @@ module _ {M E D : Type 0} {N : NamesGhosts M} {H : DiskGhosts E} {d : DiskGhosts
         → HasStored (view_of types words version state_second w) first w'.stop js js' before after store
     stored_by o f first w w' js js' is same same_first begin h back kept = has_stored first w w' js js' same_first begin
         (subst (λ (n : ℕ). HasMovedOver types words version d.state state_second n w w' js js' (opened before types_reader words_reader t u) store) same (subst (λ (x : StoreView D). HasMovedOver types words version d.state state_second f w w' js js' x store) is h)) back kept
+
+  module _ (before after : Journal D d) (types_reader words_reader : BookPass) (t u : ℕ) (store : StoreView D) (first : ℕ) (w w' : Merger M E N H) (js js' : List Merged) (begin : MayBegin first (version w.second.names.now) before js)
+      (h : HasMovedOver types words version d.state state_second first w w' js js' (opened before types_reader words_reader t u) store) where
+    abbrev FileDone : ℕ → Merged → KeeperPass D → Type 0
+    FileDone = Done (MovesOn types words version state_second) (DidFile types words version d.state state_second) (w ∷ []) (w' ∷ []) js js' h.passes'
+
+    -- the file that stopped it, with its pass
+    pub record StoppedAt (why : Stopped) : Type 0 where
+      pub place : ℕ
+      pub job : Merged
+      pub is : slice_get js place ≡ Some job
+      pub file : why.file ≡ job.file
+      pub p : KeeperPass D
+      pub p_is : slice_get h.passes place ≡ Some p
+      pub done : FileDone place job p
+      pub ran : done.before.stop ≡ None
+      pub stopped : done.after.stop ≡ Some why
+      pub went : MovesOn types words version state_second done.front done.front' w done.before
+      pub goes : MovesOn types words version state_second done.rest done.rest' done.after w'
+
+    stopped_at : w.stop ≡ None → (why : Stopped) → w'.stop ≡ Some why → StoppedAt why
+    stopped_at none why some = record { place = i; job = job; is = at; file = file; p = pass.0; p_is = pass.1; done = f; ran = ran f.before.stop refl; stopped = stopped f.after.stop refl; went = went; goes = goes }
+      where
+        of : IsOneOf js why
+        of = h.moved.went.stopped_by none why some
+
+        i : ℕ
+        i = of.0
+
+        job : Merged
+        job = of.1
+
+        at : slice_get js i ≡ Some job
+        at = of.2
+
+        file : why.file ≡ job.file
+        file = of.3
+
+        pass : (p : KeeperPass D) × (slice_get h.passes i ≡ Some p)
+        pass = let even = h.counted in let lt = slice_get_within js i job at in there_is h.passes i (omega (arith, even, lt))
+
+        f : FileDone i job pass.0
+        f = h.moved.done.each i job pass.0 at pass.1
+
+        went : MovesOn types words version state_second f.front f.front' w f.before
+        went = subst (λ x. MovesOn types words version state_second f.front f.front' x f.before) (sym (one_is w f.first f.place f.first_is)) f.came
+
+        goes : MovesOn types words version state_second f.rest f.rest' f.after w'
+        goes = subst (λ x. MovesOn types words version state_second f.rest f.rest' f.after x) (sym (one_is w' f.last f.place f.last_is)) f.goes
+
+        -- no other file did
+        others : (x : Stopped) (k : ℕ) (j : Merged) → slice_get js k ≡ Some j → x.file ≡ j.file → w'.stop ≡ Some x → k ≡ i
+        others x k j here same is =
+            let one : x ≡ why = cc (is, some) in
+            let a = (begin.new k j here).file_is in
+            let b = (begin.new i job at).file_is in
+            let c = ap (λ (s : Stopped). s.file) one in
+            omega (arith, a, b, c, same, file)
+
+        front_at : (k : ℕ) (j : Merged) → slice_get f.front k ≡ Some j → slice_get js (length f.of_piece.before + k) ≡ Some j
+        front_at k j here = ap (λ l. slice_get l (length f.of_piece.before + k)) f.of_piece.cut ∙ (at_right f.of_piece.before (f.front ++ (job ∷ (f.rest ++ f.of_piece.behind))) k
+            ∙ (in_left f.front (job ∷ (f.rest ++ f.of_piece.behind)) k (slice_get_within f.front k j here) ∙ here))
+
+        rest_at : (k : ℕ) (j : Merged) → slice_get f.rest k ≡ Some j → slice_get js (length f.of_piece.before + (length f.front + suc k)) ≡ Some j
+        rest_at k j here = ap (λ l. slice_get l (length f.of_piece.before + (length f.front + suc k))) f.of_piece.cut ∙ (at_right f.of_piece.before (f.front ++ (job ∷ (f.rest ++ f.of_piece.behind))) (length f.front + suc k)
+            ∙ (at_right f.front (job ∷ (f.rest ++ f.of_piece.behind)) (suc k) ∙ (in_left f.rest f.of_piece.behind k (slice_get_within f.rest k j here) ∙ here)))
+
+        ran : (o : Option Stopped) → f.before.stop ≡ o → f.before.stop ≡ None
+        ran None is = is
+        ran (Some x) is =
+            let waited = f.did_it.waited (λ no. absurd (cc (no, is))) in
+            let after_is : f.after.stop ≡ Some x = waited.2 ∙ is in
+            let end_is : w'.stop ≡ Some x = goes.stop_is (λ no. absurd (cc (no, after_is))) ∙ after_is in
+            let one = went.stopped_by none x is in
+            let there = others x (length f.of_piece.before + one.0) one.1 (front_at one.0 one.1 one.2) one.3 end_is in
+            let here = f.of_piece.place in
+            let lt = slice_get_within f.front one.0 one.1 one.2 in
+            absurd (omega (arith, there, here, lt))
+
+        stopped : (o : Option Stopped) → f.after.stop ≡ o → f.after.stop ≡ Some why
+        stopped None is =
+            let one = goes.stopped_by is why some in
+            let there = others why (length f.of_piece.before + (length f.front + suc one.0)) one.1 (rest_at one.0 one.1 one.2) one.3 some in
+            let here = f.of_piece.place in
+            absurd (omega (arith, there, here))
+        stopped (Some y) is = sym (goes.stop_is (λ no. absurd (cc (no, is)))) ∙ some
+
+    abbrev view : SecondView
+    view = view_of types words version state_second w
+
+    pub fault_of : w.stop ≡ None → (why : Stopped) → w'.stop ≡ Some why → why.cause ≡ SecondFault → Rose (state_second w.second.disk.now).faults (state_second w'.second.disk.now).faults
+    fault_of none why some is =
+        let s = stopped_at none why some in
+        let low = s.went.later in
+        let high = s.goes.later in
+        ⊎_elim (λ (lt : (state_second s.done.before.second.disk.now).faults < (state_second s.done.after.second.disk.now).faults).
+        let more : Rose (state_second w.second.disk.now).faults (state_second w'.second.disk.now).faults = inl (omega (arith, low, high, lt)) in more)
+        (λ (most : 2 ^ 64 - 1 ≤ (state_second s.done.after.second.disk.now).faults).
+        let more : Rose (state_second w.second.disk.now).faults (state_second w'.second.disk.now).faults = inr (omega (arith, high, most)) in more)
+        (((s.done.did_it.moved s.ran).stopped why s.stopped).fault is)
+
+    -- what the moments before and after a file say of its cause, told of the journals
+    cause_of : (books : Books) (number i : ℕ) (p q : KeeperPass D) (b : BookPasses) → IsPassOf d.state first (opened before types_reader words_reader t u) i p → IsPrefix (seen q) (list_of d.state store) → IsJournalOf store after → Kept (state_by d.state store)
+        → ((book : Which) → IsMore (book_of (books_by (pass_in b.types) (pass_in b.words)) book) (book_of books book)) → (cause : MergeCause)
+        → (cause ≡ SecondDamaged → All IsFairType view.texts.types → All IsFairWord view.texts.words → (all : SoFar) → ¬ HasRun view number all)
+        → HasMoveCause d.state view.version view.texts p q (books_of b) cause → HasStopCause (λ book count. WasFull (Contains (old_texts view book)) count (book_of books book)) view number before after cause
+    cause_of books number i p q b o on back kept more (Full WhichTypes count) damaged has = record {
+      limit = has.most ∙ sym (more WhichTypes).limit;
+      front = seen (pass_in b.types);
+      begins = (more WhichTypes).front;
+      all = has.all;
+      text = has.text;
+      is = has.is;
+      new = has.new;
+    }
+    cause_of books number i p q b o on back kept more (Full WhichWords count) damaged has = record {
+      limit = has.most ∙ sym (more WhichWords).limit;
+      front = seen (pass_in b.words);
+      begins = (more WhichWords).front;
+      all = has.all;
+      text = has.text;
+      is = has.is;
+      new = has.new;
+    }
+    cause_of books number i p q b o on back kept more (ArchiveFull end need) damaged has = has.full.past _ o.about_is
+    cause_of books number i p q b o on back kept more (FirstFault was now) damaged has = (
+      has.fault.opened _ o.about_is,
+      subst (λ n. Rose n (state_of after).disk.faults) (sym (has.fault.opened _ o.about_is))
+          (rose_by before types_reader words_reader t u after store kept (ap (λ (x : StoreFixed D). x.opened) h.fixed) (sym back.disk) has.mark.0 (prefix_trans _ (seen q) (list_of d.state store) has.mark.1 on)),
+    )
+    cause_of books number i p q b o on back kept more SecondFault damaged has = tt
+    cause_of books number i p q b o on back kept more SecondDamaged damaged has = damaged refl
+    cause_of books number i p q b o on back kept more OutOfMemory damaged has = tt
+
+    why_stopped : (books : Books) → w.first ≡ first → w.stop ≡ None → IsJournalOf store after → Kept (state_by d.state store)
+        → ((book : Which) → IsMore (book_of (books_by (pass_in (passes_of w').types) (pass_in (passes_of w').words)) book) (book_of books book))
+        → (why : Stopped) → w'.stop ≡ Some why → HasStopped (λ book count. WasFull (Contains (old_texts view book)) count (book_of books book)) view first js before after why
+    why_stopped books same_first none back kept more why some = record { place = s.place; file = s.job; is = s.is; file_is = s.file; cause = cause }
+      where
+        s : StoppedAt why
+        s = stopped_at none why some
+
+        moved : HasMoved types words version d.state state_second s.done.before s.job s.p s.done.after s.done.job s.done.keeper
+        moved = s.done.did_it.moved s.ran
+
+        stop : IsStopFor types words version d.state state_second s.done.before s.job s.p s.done.after s.done.keeper moved.places why
+        stop = moved.stopped why s.stopped
+
+        same : view_of types words version state_second s.done.before ≡ view
+        same = view_same types words version state_second s.done.front s.done.front' w s.done.before s.went
+
+        are : IsNonDecreasingBy file_at view.segments → moved.places ≡ filter (is_of (s.job.file - first)) view.segments
+        are = subst (λ (n : ℕ). IsNonDecreasingBy file_at view.segments → moved.places ≡ filter (is_of (s.job.file - n)) view.segments) (s.went.first_is ∙ same_first)
+            (subst (λ (v : SecondView). IsNonDecreasingBy file_at v.segments → moved.places ≡ filter (is_of (s.job.file - s.done.before.first)) v.segments) same moved.are)
+
+        NoRun : SecondView → Type 0
+        NoRun v = (bytes : List ℕ) (all : SoFar) → v.told ≡ Some bytes → All IsFairType v.texts.types → All IsFairWord v.texts.words → ¬ HoldRun v.version v.texts bytes moved.places nothing_so_far all
+
+        damaged : why.cause ≡ SecondDamaged → All IsFairType view.texts.types → All IsFairWord view.texts.words → (all : SoFar) → ¬ HasRun view (s.job.file - first) all
+        damaged is fair_types fair_words all run = subst NoRun same (stop.damaged is) run.bytes all run.told_is fair_types fair_words
+            (subst (λ l. HoldRun view.version view.texts run.bytes l nothing_so_far all) (sym (are run.sorted)) run.run)
+
+        more_after : (book : Which) → IsMore (book_of (books_by (pass_in (passes_of s.done.after).types) (pass_in (passes_of s.done.after).words)) book) (book_of books book)
+        more_after book = more_then _ _ (book_of books book)
+            (books_on (pass_in (passes_of s.done.after).types) (pass_in (passes_of w').types) (pass_in (passes_of s.done.after).words) (pass_in (passes_of w').words) s.goes.adds.types.goes s.goes.adds.words.goes book) (more book)
+
+        cause : HasStopCause (λ book count. WasFull (Contains (old_texts view book)) count (book_of books book)) view (s.job.file - first) before after why.cause
+        cause = cause_of books (s.job.file - first) s.place s.p s.done.keeper (passes_of s.done.after) (h.opened s.place s.p s.p_is) (h.seen_on s.place s.done.keeper s.done.keeper_is) back kept more_after why.cause damaged
+            (subst (λ (v : SecondView). HasMoveCause d.state v.version v.texts s.p s.done.keeper (books_of (passes_of s.done.after)) why.cause) same stop.cause)
+
+  module _ (before after : Journal D d) (types_reader words_reader : BookPass) (t u : ℕ) (store : StoreView D) where
+    pub why_by : (o : StoreView D) (f first : ℕ) (w w' : Merger M E N H) (js js' : List Merged) (books : Books) → o ≡ opened before types_reader words_reader t u → f ≡ first → w.first ≡ first → w.stop ≡ None → MayBegin first (version w.second.names.now) before js
+        → HasMovedOver types words version d.state state_second f w w' js js' o store → IsJournalOf store after → Kept (state_by d.state store)
+        → ((book : Which) → IsMore (book_of (books_by (pass_in (passes_of w').types) (pass_in (passes_of w').words)) book) (book_of books book))
+        → (why : Stopped) → w'.stop ≡ Some why
+        → HasStopped (λ book count. WasFull (Contains (old_texts (view_of types words version state_second w) book)) count (book_of books book)) (view_of types words version state_second w) first js before after why
+    why_by o f first w w' js js' books is same same_first none begin h = why_stopped before after types_reader words_reader t u store first w w' js js' begin
+        (subst (λ (n : ℕ). HasMovedOver types words version d.state state_second n w w' js js' (opened before types_reader words_reader t u) store) same
+        (subst (λ (x : StoreView D). HasMovedOver types words version d.state state_second f w w' js js' x store) is h)) books same_first none
+
+    pub fault_by : (o : StoreView D) (f first : ℕ) (w w' : Merger M E N H) (js js' : List Merged) → o ≡ opened before types_reader words_reader t u → f ≡ first → w.stop ≡ None → MayBegin first (version w.second.names.now) before js
+        → HasMovedOver types words version d.state state_second f w w' js js' o store
+        → (why : Stopped) → w'.stop ≡ Some why → why.cause ≡ SecondFault → Rose (state_second w.second.disk.now).faults (state_second w'.second.disk.now).faults
+    fault_by o f first w w' js js' is same none begin h = fault_of before after types_reader words_reader t u store first w w' js js' begin
+        (subst (λ (n : ℕ). HasMovedOver types words version d.state state_second n w w' js js' (opened before types_reader words_reader t u) store) same
+        (subst (λ (x : StoreView D). HasMovedOver types words version d.state state_second f w w' js js' x store) is h)) none
 
   module _ (before : Journal D d) (types_reader words_reader : BookPass) (t u : ℕ) where
     -- each file may be moved

@@ -1,12 +1,12 @@
 -- The passes of both books, from their making to their end.
-use Rattle.std.proofs.Common.{◌≡◌, ℕ, zero, suc, ◌+◌, Bool, true, false, List, [], ◌∷◌, ◌++◌, sym, refl, ap, ◌∙◌, subst, arith, Option, None, Some, is_some, slice_get, All}
+use Rattle.std.proofs.Common.{◌≡◌, ℕ, zero, suc, ◌+◌, Bool, true, false, List, [], ◌∷◌, ◌++◌, sym, refl, ap, ◌∙◌, subst, arith, Option, None, Some, is_some, slice_get, All, ◌-◌, ◌≤◌, ◌<◌}
 use Rattle.std.specs.List.{Contains}
 use Rattle.std.proofs.lemmas.List.Elements.{All-nil}
 use Rattle.log_seams.specs.declared.disk.Disk.{Ghosts as DiskGhosts}
 use Rattle.logtype_text.specs.Fair.{IsFairType, IsFairWord}
 use Rattle.turn_lock.specs.declared.grows.Grows.{Ghosts}
 use Rattle.turn_lock.specs.History.{StandsIn}
-use Rattle.turn_lock.specs.Words.{IsAllOwned, IsFreshOf, IsStill, IsStillBy, lock_of, made_by, number_of, own_list}
+use Rattle.turn_lock.specs.Words.{IsAllOwned, IsFreshOf, IsStill, IsStillBy, lock_of, made_by, number_of, own_list, seen_by}
 use Rattle.dict_core.specs.declared.grows.TheConstants.{WORDS_FIRST}
 use Rattle.dict_core.specs.Books.{BookState}
 use Rattle.dict_core.specs.Fair.{IsFair}
@@ -21,16 +21,25 @@ use Rattle.ingest_fork.specs.Passes.{AreStill, Fresh, Joined}
 use Rattle.ingest_fork.proofs.PassLemmas.{fresh_more, fresh_none}
 use Rattle.disk_seal.specs.Told.{IfTold, journal_in}
 use Rattle.disk_seal.specs.View.{KnowsBook, StoreState, journal_of, state_by}
-use Rattle.ingest_workers.specs.Ingested.{OpensBook, told_entries}
+use Rattle.ingest_workers.specs.Ingested.{OpensBook, told_entries, books_at, known_at}
 use Rattle.ingest_workers.specs.Naming.{AddsOnly}
 use Rattle.ingest_workers.specs.StartedWorkers.{BookMaker, EndsBook}
 use Rattle.ingest_workers.proofs.ClosingLemmas.{ends_book, own_texts, texts_given, types_joined, words_joined}
 use Rattle.ingest_workers.proofs.IngestLemmas.{later}
+use Rattle.plain_list.specs.Texts.{AreDistinct}
+use Rattle.row_codec.specs.declared.namer.Which.{Which}
+use Rattle.row_codec.specs.declared.namer.Which.TheVariants.{Types as WhichTypes, Words as WhichWords}
+use Rattle.disk_seal.specs.Known.{known_of, limit_in}
+use Rattle.ingest_workers.specs.Full.{IsMore, WasFull, book_of, books_by}
+use Rattle.ingest_workers.proofs.GivenLemmas.{full_given}
+use Rattle.ingest_workers.proofs.SealLemmas.{if_told}
+use Rattle.archive_merge.specs.declared.cause.MergeCause.{MergeCause}
+use Rattle.archive_merge.specs.declared.cause.MergeCause.TheVariants.{ArchiveFull, FirstFault, Full, OutOfMemory, SecondDamaged, SecondFault}
 use Rattle.archive_merge.specs.declared.file.Merged.{Merged}
 use Rattle.archive_merge.specs.declared.merger.BookPasses.{BookPasses}
 use Rattle.archive_merge.specs.declared.merger.Stopped.{Stopped}
-use Rattle.archive_merge.specs.Behind.{HasMerged, SecondView}
-use Rattle.archive_merge.specs.Ended.{AreOf, WereMovedOver}
+use Rattle.archive_merge.specs.Behind.{HasMerged, SecondView, HasStopCause, IsFullByBoth, old_texts}
+use Rattle.archive_merge.specs.Ended.{AreOf, WereMovedOver, HasEnded}
 use Rattle.archive_merge.specs.InHand.{Texts}
 use Rattle.archive_merge.specs.Merger.{MayName, PassesAdd}
 
@@ -73,6 +82,19 @@ module _ {G : Ghosts BookState (List ℕ) ℕ} where
         (t.0, w.0),
       )
 
+  -- once the maker has joined the pass that names, it knows what that one does of the book
+  pub known_more : (P : List ℕ → Type 0) (m1 m2 later end : BookMaker G) (reader p q : BookPass) → IsStillBy m1 m2 → IsFreshOf m1 p → AddsOnly P p q → Joined m2 later (reader ∷ []) 0 → Joined later end (q ∷ []) 0
+      → IsMore (known_of q) (known_at end)
+  known_more P m1 m2 later end reader p q still fresh adds read joined = record {
+    front = (joined.each 0 q (omega arith) refl).seen_on;
+    limit = ap limit_in ((joined.about_is ∙ (read.about_is ∙ still.about_is)) ∙ (sym fresh.about_is ∙ sym adds.goes.still.about_is));
+  }
+
+  pub both_more : (old : Texts) (t1 t2 t_end w1 w2 w_end : BookMaker G) (t_reader w_reader : BookPass) (b c : BookPasses) → IsStillBy t1 t2 → IsStillBy w1 w2 → IsFreshOf t1 (pass_in b.types) → IsFreshOf w1 (pass_in b.words) → PassesAdd old b c
+      → HasEnded t2 t_end w2 w_end t_reader w_reader c → (book : Which) → IsMore (book_of (books_by (pass_in c.types) (pass_in c.words)) book) (book_of (books_at t_end w_end) book)
+  both_more old t1 t2 t_end w1 w2 w_end t_reader w_reader b c ts ws t_fresh w_fresh adds ended WhichTypes = known_more (Contains old.types) t1 t2 ended.types_middle t_end t_reader (pass_in b.types) (pass_in c.types) ts t_fresh adds.types ended.types_read ended.types_ended
+  both_more old t1 t2 t_end w1 w2 w_end t_reader w_reader b c ts ws t_fresh w_fresh adds ended WhichWords = known_more (Contains old.words) w1 w2 ended.words_middle w_end w_reader (pass_in b.words) (pass_in c.words) ws w_fresh adds.words ended.words_read ended.words_ended
+
   -- passes that named are of the makers' locks
   pub are_of : (old : Texts) (t1 t2 w1 w2 : BookMaker G) (b c : BookPasses) → PassesAdd old b c → IsStillBy t1 t2 → IsStillBy w1 w2 → IsFreshOf t1 (pass_in b.types) → IsFreshOf w1 (pass_in b.words) → AreOf t2 w2 c
   are_of old t1 t2 w1 w2 b c adds ts ws t_fresh w_fresh = record {
@@ -89,12 +111,22 @@ by_told : (b : Bool) (X : Type 0) → IfTold b X → (b ≡ false → X) → X
 by_told true X x f = x
 by_told false X x f = f refl
 
+-- the same cause, where more is told of a full book
+cause_on : {D : Type 0} {d : DiskGhosts D} (view : SecondView) (number : ℕ) (before after : Journal D d) (full full' : Which → ℕ → Type 0) → ((book : Which) (count : ℕ) → full book count → full' book count) → (cause : MergeCause)
+    → HasStopCause full view number before after cause → HasStopCause full' view number before after cause
+cause_on view number before after full full' more (Full book count) has = more book count has
+cause_on view number before after full full' more (ArchiveFull end need) has = has
+cause_on view number before after full full' more (FirstFault opened now) has = has
+cause_on view number before after full full' more SecondFault has = tt
+cause_on view number before after full full' more SecondDamaged has = has
+cause_on view number before after full full' more OutOfMemory has = tt
+
 module _ {D : Type 0} {d : DiskGhosts D} {G : Ghosts BookState (List ℕ) ℕ} (view : SecondView) (first : ℕ) (stop : Option Stopped) (js js' : List Merged) (before after : Journal D d) (types types' words words' : BookMaker G) where
   pub has_merged : (t_saved w_saved : ℕ)
       → OpensBook 0 (is_some (state_of before).disk.seen) before.header.types_limit (types_of (told_entries (state_of before))) t_saved types
       → OpensBook WORDS_FIRST (is_some (state_of before).disk.seen) before.header.words_limit (words_of (told_entries (state_of before))) w_saved words
-      → WereMovedOver view first stop js js' before after types types' words words' → IsAllOwned IsFair types' → IsAllOwned IsFair words' → HasMerged view first stop js js' before after
-  has_merged t_saved w_saved to wo h t_owned w_owned = record {
+      → WereMovedOver view first stop js js' before after types types' words words' → IsAllOwned IsFair types' → IsAllOwned IsFair words' → AreDistinct (seen_by types') → AreDistinct (seen_by words') → HasMerged view first stop js js' before after
+  has_merged t_saved w_saved to wo h t_owned w_owned t_apart w_apart = record {
     store = h.store;
     stored = h.stored;
     types = by_told told (All (Contains view.texts.types) (types_of fresh))
@@ -107,6 +139,13 @@ module _ {D : Type 0} {d : DiskGhosts D} {G : Ghosts BookState (List ℕ) ℕ} (
         w_saved s.words_saved words words' s.words wo h.of_words w_owned (subst (λ b. KnowsBook IsFairWord WORDS_FIRST s.header.words_limit b s.words s.words_saved (words_of (journal_of s))) same_told h.stored.left_by.kept.words)
         (ap words_of h.stored.grown ∙ words_joined (told_entries (state_of before)) fresh))
         (λ untold. subst (λ es. All (Contains view.texts.words) (words_of es)) (sym (no_more untold)) (All-nil (Contains view.texts.words)));
+    why = λ one is. let was = h.why one is in record {
+      place = was.place;
+      file = was.file;
+      is = was.is;
+      file_is = was.file_is;
+      cause = cause_on view (was.file.file - first) before after (λ book count. WasFull (Contains (old_texts view book)) count (book_of (books_at types' words') book)) (IsFullByBoth view before) full one.cause was.cause;
+    };
   }
     where
       told : Bool
@@ -120,6 +159,16 @@ module _ {D : Type 0} {d : DiskGhosts D} {G : Ghosts BookState (List ℕ) ℕ} (
 
       same_told : is_some (d.state h.store.opened).seen ≡ told
       same_told = ap (λ (x : D). is_some (d.state x).seen) h.stored.left_by.opened
+
+      full : (book : Which) (count : ℕ) → WasFull (Contains (old_texts view book)) count (book_of (books_at types' words') book) → IsFullByBoth view before book count
+      full WhichTypes count is = if_told told _ (λ told_is.
+          full_given (Contains view.texts.types) IsFairType 0 told before.header.types_limit s.header.types_limit (types_of (told_entries (state_of before))) (types_of (journal_of s)) (types_of fresh)
+          t_saved s.types_saved types types' s.types to h.of_types t_owned (subst (λ b. KnowsBook IsFairType 0 s.header.types_limit b s.types s.types_saved (types_of (journal_of s))) same_told h.stored.left_by.kept.types)
+          (ap types_of h.stored.grown ∙ types_joined (told_entries (state_of before)) fresh) told_is t_apart (Contains view.texts.types) count is)
+      full WhichWords count is = if_told told _ (λ told_is.
+          full_given (Contains view.texts.words) IsFairWord WORDS_FIRST told before.header.words_limit s.header.words_limit (words_of (told_entries (state_of before))) (words_of (journal_of s)) (words_of fresh)
+          w_saved s.words_saved words words' s.words wo h.of_words w_owned (subst (λ b. KnowsBook IsFairWord WORDS_FIRST s.header.words_limit b s.words s.words_saved (words_of (journal_of s))) same_told h.stored.left_by.kept.words)
+          (ap words_of h.stored.grown ∙ words_joined (told_entries (state_of before)) fresh) told_is w_apart (Contains view.texts.words) count is)
 
       no_more : told ≡ false → fresh ≡ []
       no_more untold = let now : journal_of s ≡ [] = none_in s.disk.seen s.count (h.stored.left_by.kept.tells_still ∙ (same_told ∙ untold)) in

@@ -21,12 +21,15 @@ use Rattle.archive_merge.specs.Causes.{HasMoveCause}
 use Rattle.archive_merge.specs.Files.{CameOver}
 use Rattle.archive_merge.specs.Runs.{HoldRun, SoFar, nothing_so_far}
 use Rattle.archive_merge.specs.Taken.{Serves, texts_by}
-use Rattle.archive_merge.specs.Merger.{DidFile, GoesWith, IsIdle, IsStopFor, MayName, MovesOn, PassesAdd, StaysRead, books_of, file_at, passes_of}
+use Rattle.archive_merge.specs.Merger.{DidFile, GoesWith, IsIdle, IsOneOf, IsStopFor, MayName, MovesOn, PassesAdd, StaysRead, books_of, file_at, passes_of}
 use Rattle.archive_merge.specs.MergerLaws.{passes_in_is}
 
 pub none_some : {A : Type 0} (o : Option A) → is_some o ≡ false → o ≡ None
 none_some None is = refl
 none_some (Some x) is = absurd (cc (is))
+
+pub stopped_file : (s t : Stopped) → Some s ≡ Some t → t.file ≡ s.file
+stopped_file s t is = let same : s ≡ t = cc (is) in ap (λ (x : Stopped). x.file) (sym same)
 
 of_err : {T E : Type 0} (r : Result T E) (P : E → Type 0) (e : E) → r ≡ Err e → IfErr r P → P e
 of_err (Ok x) P e is p = absurd (cc (is))
@@ -48,13 +51,14 @@ module _ {M E D : Type 0} {G : NamesGhosts M} {H : DiskGhosts E} (types words : 
   }
 
   pub moves_on : v.first ≡ w.first → (state_second w.second.disk.now).faults ≤ (state_second v.second.disk.now).faults → PassesAdd (texts_by types words w.second.names.now) b c → w.stop ≡ None
-      → (js js' : List Merged) → MovesOn types words version state_second js js' w v
-  moves_on first later adds none js js' = record {
+      → (js js' : List Merged) → ((s : Stopped) → v.stop ≡ Some s → IsOneOf js s) → MovesOn types words version state_second js js' w v
+  moves_on first later adds none js js' stopped = record {
     first_is = first;
     second_is = stays;
     later = later;
     adds = subst (λ x. PassesAdd (texts_by types words w.second.names.now) x (passes_of v)) (sym before_is) (subst (λ x. PassesAdd (texts_by types words w.second.names.now) b x) (sym after_is) adds);
     stop_is = λ some. absurd (some none);
+    stopped_by = λ was s is. stopped s is;
   }
 
   module _ (places : List SegmentPlace) (are : IsNonDecreasingBy file_at w.second.segments.now → places ≡ filter (is_of (j.file - w.first)) w.second.segments.now) (none : w.stop ≡ None) where

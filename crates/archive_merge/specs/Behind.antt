@@ -1,10 +1,14 @@
 -- The files of a second archive behind those of a journal.
-use Rattle.std.specs.Prelude.{◌≡◌, ℕ, ◌+◌, ◌-◌, ◌≤◌, ◌&&◌, Bool, false, List, [], ◌++◌, length, is_some, Option, None, Some, slice_get, All}
+use Rattle.std.specs.Prelude.{◌≡◌, ◌⊎◌, ℕ, ◌+◌, ◌-◌, ◌<◌, ◌≤◌, ◌&&◌, Bool, false, List, [], ◌++◌, length, is_some, Option, None, Some, slice_get, All}
 use Rattle.std.specs.List.{Contains, filter, filter_map, sum_by}
 use Rattle.std.specs.List.Sorted.{IsNonDecreasingBy}
 use mathlib.Core.List.{IsPrefix}
 use Rattle.log_seams.specs.Disk.{DiskState}
 use Rattle.log_seams.specs.declared.disk.Disk.{Ghosts as DiskGhosts}
+use Rattle.log_seams.specs.Outside.{Rose}
+use Rattle.logtype_text.specs.Fair.{IsFairType, IsFairWord}
+use Rattle.row_codec.specs.declared.namer.Which.{Which}
+use Rattle.row_codec.specs.declared.namer.Which.TheVariants.{Types as WhichTypes, Words as WhichWords}
 use Rattle.disk_journal.specs.declared.journal.Journal.{Journal}
 use Rattle.disk_journal.specs.Journal.{state_of}
 use Rattle.disk_journal.specs.State.{JournalState}
@@ -13,6 +17,7 @@ use Rattle.archive_meaning.specs.declared.entry.JournalEntry.{JournalEntry}
 use Rattle.archive_meaning.specs.declared.entry.JournalEntry.TheVariants.{Files, Segment, Types, Words}
 use Rattle.archive_meaning.specs.declared.entry.SegmentEntry.{SegmentEntry}
 use Rattle.archive_meaning.specs.Spelled.{types_of}
+use Rattle.ingest_meaning.specs.Dictionaries.{IsFullBy, book_texts, header_limits, limit_of}
 use Rattle.ingest_meaning.specs.Parts.{in_file}
 use Rattle.ingest_meaning.specs.WordsIn.{words_of}
 use Rattle.archive_open.specs.declared.segments.SegmentPlace.{SegmentPlace}
@@ -22,6 +27,8 @@ use Rattle.disk_seal.specs.Told.{IfTold}
 use Rattle.disk_seal.specs.View.{StoreView, journal_of, state_by}
 use Rattle.ingest_workers.specs.Ingested.{IsLeftBy, told_entries}
 use Rattle.ingest_workers.specs.Journal.{FrontHolds, Holds}
+use Rattle.archive_merge.specs.declared.cause.MergeCause.{MergeCause}
+use Rattle.archive_merge.specs.declared.cause.MergeCause.TheVariants.{ArchiveFull, FirstFault, Full, SecondDamaged, SecondFault}
 use Rattle.archive_merge.specs.declared.file.Merged.{Merged}
 use Rattle.archive_merge.specs.declared.merger.Second.{Second}
 use Rattle.archive_merge.specs.declared.merger.Stopped.{Stopped}
@@ -49,10 +56,12 @@ module _ {M E : Type 0} where
     segments = s.segments.now;
   }
 
-  -- it is the same, and its disk was only read
-  pub record OnlyRead (state : E → DiskState) (a b : Second M E) : Type 0 where
+  -- It is the same, and its disk was only read. Where a fault of this disk stopped a file, its count of faults rose.
+  pub record OnlyRead (state : E → DiskState) (stop : Option Stopped) (a b : Second M E) : Type 0 where
     pub stays : StaysRead state a b
     pub later : (state a.disk.now).faults ≤ (state b.disk.now).faults
+    pub fault : (why : Stopped) → stop ≡ Some why → why.cause ≡ SecondFault
+        → Rose (state a.disk.now).faults (state b.disk.now).faults
 
 -- the taker serves an archive of this version with these texts, and keeps no number yet
 abbrev pub MayServe : ℕ → Texts → Taker → Type 0
@@ -64,6 +73,11 @@ pub record HasRun (s : SecondView) (number : ℕ) (all : SoFar) : Type 0 where
   pub told_is : s.told ≡ Some bytes
   pub sorted : IsNonDecreasingBy file_at s.segments
   pub run : HoldRun s.version s.texts bytes (filter (is_of number) s.segments) nothing_so_far all
+
+-- its log types, or its words
+abbrev pub old_texts : SecondView → Which → List (List ℕ)
+old_texts s WhichTypes = s.texts.types
+old_texts s WhichWords = s.texts.words
 
 -- ---- before
 
@@ -110,6 +124,35 @@ module _ {D : Type 0} {d : DiskGhosts D} where
     pub held : IfTold (is_some (state_of before).disk.seen)
         (FrontHolds before.header (told_entries (state_of before) ++ fresh) old.file covered new.whole (new.whole && ended))
 
+  -- Why not all of a file was moved, which has this number in the second archive: by this a book is full at so many texts; so many
+  -- bytes behind an end go past the header's limit; the first disk's count of faults rose; the second archive's segments of the
+  -- file are no run with texts that dictionaries may hold. Want of memory is free.
+  abbrev pub HasStopCause : (Which → ℕ → Type 0) → SecondView → ℕ → Journal D d → Journal D d → MergeCause → Type 0
+  HasStopCause full s number before after (Full book count) = full book count
+  HasStopCause full s number before after (ArchiveFull end need) = before.header.length_limit < end + need
+  HasStopCause full s number before after (FirstFault opened now) =
+      (opened ≡ (state_of before).disk.faults) × Rose opened (state_of after).disk.faults
+  HasStopCause full s number before after SecondDamaged =
+      All IsFairType s.texts.types → All IsFairWord s.texts.words → (all : SoFar) → ¬ HasRun s number all
+  HasStopCause full s number before after _ = Unit {0}
+
+  -- it stopped one of the files, for such a cause
+  pub record HasStopped (full : Which → ℕ → Type 0) (s : SecondView) (first : ℕ) (files : List Merged)
+      (before after : Journal D d) (why : Stopped) : Type 0 where
+    pub place : ℕ
+    pub file : Merged
+    pub is : slice_get files place ≡ Some file
+    pub file_is : why.file ≡ file.file
+    pub cause : HasStopCause full s (file.file - first) before after why.cause
+
+  -- Where the journal is told, a book may have so many texts by the header, and there are as many of the journal and the second
+  -- archive; and one more of the second archive.
+  abbrev pub IsFullByBoth : SecondView → Journal D d → Which → ℕ → Type 0
+  IsFullByBoth s before book count =
+      IfTold (is_some (state_of before).disk.seen) ((count ≡ limit_of (header_limits before.header) book)
+      × IsFullBy (λ t. Contains (book_texts book (told_entries (state_of before))) t ⊎ Contains (old_texts s book) t)
+      (Contains (old_texts s book)) count)
+
   -- Each file was moved. Where they are told, the journal's entries are those of before and new ones, which are texts and segments
   -- of the files.
   pub record HasStored (s : SecondView) (first : ℕ) (stop : Option Stopped) (files files' : List Merged)
@@ -122,10 +165,11 @@ module _ {D : Type 0} {d : DiskGhosts D} where
         → (new : Merged) × (slice_get files' i ≡ Some new) × IsMovedFile s first stop before fresh file new
     pub others : All (IsOfFiles files) fresh
 
-  -- The same, and each text that the new entries add is one of the second archive.
+  -- The same, and each text that the new entries add is one of the second archive. What stopped a file has its cause.
   pub record HasMerged (s : SecondView) (first : ℕ) (stop : Option Stopped) (files files' : List Merged)
       (before after : Journal D d) : Type 0 where
     pub store : StoreView D
     pub stored : HasStored s first stop files files' before after store
     pub types : All (Contains s.texts.types) (types_of stored.fresh)
     pub words : All (Contains s.texts.words) (words_of stored.fresh)
+    pub why : (why : Stopped) → stop ≡ Some why → HasStopped (IsFullByBoth s before) s first files before after why

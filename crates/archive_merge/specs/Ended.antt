@@ -1,5 +1,5 @@
 -- The locks of both books around files that are moved.
-use Rattle.std.specs.Prelude.{◌≡◌, ℕ, List, [], ◌∷◌, is_some, Option}
+use Rattle.std.specs.Prelude.{◌≡◌, ℕ, List, [], ◌∷◌, is_some, Option, Some}
 use Rattle.std.specs.List.{Contains}
 use Rattle.log_seams.specs.declared.disk.Disk.{Ghosts as DiskGhosts}
 use Rattle.turn_lock.specs.declared.grows.Grows.{Ghosts}
@@ -14,12 +14,13 @@ use Rattle.archive_meaning.specs.Spelled.{types_of}
 use Rattle.ingest_meaning.specs.WordsIn.{words_of}
 use Rattle.ingest_fork.specs.Passes.{Joined}
 use Rattle.disk_seal.specs.View.{StoreView}
-use Rattle.ingest_workers.specs.Ingested.{OpensBook, told_entries}
+use Rattle.ingest_workers.specs.Full.{WasFull, book_of}
+use Rattle.ingest_workers.specs.Ingested.{OpensBook, books_at, told_entries}
 use Rattle.ingest_workers.specs.StartedWorkers.{BookMaker, EndsBook}
 use Rattle.archive_merge.specs.declared.file.Merged.{Merged}
 use Rattle.archive_merge.specs.declared.merger.BookPasses.{BookPasses}
 use Rattle.archive_merge.specs.declared.merger.Stopped.{Stopped}
-use Rattle.archive_merge.specs.Behind.{HasStored, SecondView}
+use Rattle.archive_merge.specs.Behind.{HasStopped, HasStored, SecondView, old_texts}
 
 module _ {G : Ghosts BookState (List ℕ) ℕ} where
   -- the passes are of the makers' locks
@@ -47,10 +48,14 @@ module _ {D : Type 0} {d : DiskGhosts D} {G : Ghosts BookState (List ℕ) ℕ} w
   OpensWords saved before m = OpensBook WORDS_FIRST (is_some (state_of before).disk.seen) before.header.words_limit
       (words_of (told_entries (state_of before))) saved m
 
-  -- the files were moved, and the passes of both books ended
+  -- The files were moved, and the passes of both books ended. What stopped a file has its cause, by what the makers of the two
+  -- books know at the end.
   pub record WereMovedOver (s : SecondView) (first : ℕ) (stop : Option Stopped) (files files' : List Merged)
       (before after : Journal D d) (types types' words words' : BookMaker G) : Type 0 where
     pub store : StoreView D
     pub stored : HasStored s first stop files files' before after store
     pub of_types : EndsBook (Contains s.texts.types) types types' store.types
     pub of_words : EndsBook (Contains s.texts.words) words words' store.words
+    pub why : (why : Stopped) → stop ≡ Some why
+        → HasStopped (λ book count. WasFull (Contains (old_texts s book)) count (book_of (books_at types' words') book)) s first files
+        before after why

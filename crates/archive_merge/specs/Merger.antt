@@ -1,5 +1,5 @@
 -- What moves one file after the other: its passes of the two books, the second archive, and what stops it.
-use Rattle.std.specs.Prelude.{◌≡◌, ◌≢◌, ℕ, ◌-◌, ◌≤◌, List, Option, None, Some, IsSome}
+use Rattle.std.specs.Prelude.{◌≡◌, ◌≢◌, ℕ, ◌-◌, ◌≤◌, List, Option, None, Some, IsSome, slice_get}
 use Rattle.std.specs.Prelude.{◌<◌, All, is_none}
 use Rattle.std.specs.List.{Contains, filter}
 use Rattle.std.specs.List.Sorted.{IsNonDecreasingBy}
@@ -73,6 +73,10 @@ module _ {M E : Type 0} where
 
 -- ---- from file to file
 
+-- one of the files stopped it
+abbrev pub IsOneOf : List Merged → Stopped → Type 0
+IsOneOf js s = (i : ℕ) × (j : Merged) × (slice_get js i ≡ Some j) × (s.file ≡ j.file)
+
 -- the file that the segment at a place is of
 abbrev pub file_at : SegmentPlace → ℕ
 file_at place = place.head.file
@@ -108,6 +112,7 @@ module _ {M E : Type 0} {G : NamesGhosts M} {H : DiskGhosts E} (types words : M 
     pub later : (state w.second.disk.now).faults ≤ (state v.second.disk.now).faults
     pub adds : PassesAdd (old_of w) (passes_of w) (passes_of v)
     pub stop_is : w.stop ≢ None → v.stop ≡ w.stop
+    pub stopped_by : w.stop ≡ None → (s : Stopped) → v.stop ≡ Some s → IsOneOf js s
 
   module _ {D : Type 0} where
     -- it may move the file with this pass, whose file is new

@@ -1,21 +1,24 @@
 -- Laws of what moves one file after the other, which its trait asks for.
-use Rattle.std.proofs.Common.{◌≡◌, ◌≢◌, ℕ, ◌≤◌, List, sym, refl, ap, ◌∙◌, subst, Option, None, Some, arith, IsSome}
+use Rattle.std.proofs.Common.{◌≡◌, ◌≢◌, ℕ, ◌≤◌, List, sym, refl, ap, ◌∙◌, subst, Option, None, Some, arith, IsSome, ◌+◌, ◌++◌, length, slice_get}
 use Rattle.std.specs.List.{Contains}
+use Rattle.std.proofs.lemmas.Option.{slice_get_within}
 use Rattle.log_seams.specs.Disk.{DiskState}
 use Rattle.log_seams.proofs.MomentLemmas.{rests_on}
 use Rattle.log_seams.specs.declared.disk.Disk.{Ghosts as DiskGhosts}
 use Rattle.row_codec.specs.declared.names.Names.{Ghosts as NamesGhosts}
 use Rattle.archive_decode.proofs.SegmentLemmas.{rests_none}
 use Rattle.ingest_fork.specs.Works.{ArePieces}
+use Rattle.ingest_fork.proofs.PlaceLemmas.{at_right, in_left}
 use Rattle.dict_lock.specs.Cached.{pass_in}
 use Rattle.disk_seal.specs.Fixed.{KeeperPass}
 use Rattle.archive_merge.specs.declared.file.Merged.{Merged}
 use Rattle.archive_merge.specs.declared.merger.BookPasses.{BookPasses}
 use Rattle.archive_merge.specs.declared.merger.Merger.{Merger}
+use Rattle.archive_merge.specs.declared.merger.Stopped.{Stopped}
 use Rattle.archive_merge.specs.InHand.{Texts}
 use Rattle.archive_merge.specs.PassLaws.{adds_none, adds_then, goes_self}
 use Rattle.archive_merge.specs.Taken.{Serves, texts_by}
-use Rattle.archive_merge.specs.Merger.{IsIdle, MayMoveFile, MayName, MovesOn, PassesAdd, books_of, passes_in, passes_of}
+use Rattle.archive_merge.specs.Merger.{IsIdle, IsOneOf, MayMoveFile, MayName, MovesOn, PassesAdd, books_of, passes_in, passes_of}
 
 pub passes_self : (old : Texts) (b : BookPasses) → MayName b → PassesAdd old b b
 passes_self old b may = record {
@@ -47,6 +50,7 @@ module _ {M E : Type 0} {G : NamesGhosts M} {H : DiskGhosts E} (types words : M 
     later = omega arith;
     adds = passes_self (texts_by types words w.second.names.now) (passes_of w) idle.may;
     stop_is = λ some. refl;
+    stopped_by = λ none s some. absurd (cc (none, some));
   }
 
   pub goes_on : (js js' : List Merged) (a b c : Merger M E G H) → MovesOn types words version state js js' a b
@@ -64,7 +68,13 @@ module _ {M E : Type 0} {G : NamesGhosts M} {H : DiskGhosts E} (types words : M 
     adds = passes_then (texts_by types words a.second.names.now) (passes_of a) (passes_of b) (passes_of c) one.adds
         (subst (λ n. PassesAdd (texts_by types words n.now) (passes_of b) (passes_of c)) one.second_is.names two.adds);
     stop_is = λ some. two.stop_is (subst (λ s. s ≢ None) (sym (one.stop_is some)) some) ∙ one.stop_is some;
+    stopped_by = λ none s some. by_stop none s some b.stop refl;
   }
+    where
+      by_stop : a.stop ≡ None → (s : Stopped) → c.stop ≡ Some s → (o : Option Stopped) → b.stop ≡ o → IsOneOf js s
+      by_stop none s some None is = two.stopped_by is s some
+      by_stop none s some (Some x) is =
+          let same : c.stop ≡ b.stop = two.stop_is (λ no. absurd (cc (no, is))) in one.stopped_by none s (sym same ∙ some)
 
   pub wider : (js js' piece piece' : List Merged) (a b : Merger M E G H) → ArePieces js js' piece piece'
       → MovesOn types words version state piece piece' a b → MovesOn types words version state js js' a b
@@ -74,7 +84,17 @@ module _ {M E : Type 0} {G : NamesGhosts M} {H : DiskGhosts E} (types words : M 
     later = one.later;
     adds = one.adds;
     stop_is = one.stop_is;
+    stopped_by = λ none s some. of_piece s (one.stopped_by none s some);
   }
+    where
+      of_piece : (s : Stopped) → IsOneOf piece s → IsOneOf js s
+      of_piece s (i, j, at, file) = (
+        length are.before + i,
+        j,
+        ap (λ l. slice_get l (length are.before + i)) are.cut ∙ (at_right are.before (piece ++ are.behind) i
+            ∙ (in_left piece are.behind i (slice_get_within piece i j at) ∙ at)),
+        file,
+      )
 
   module _ {D : Type 0} (state_first : D → DiskState) where
     pub fits_on : (js js' : List Merged) (a b : Merger M E G H) (j : Merged) (k : KeeperPass D)

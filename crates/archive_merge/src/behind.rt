@@ -124,7 +124,8 @@ fn with_passes<'s, 'b, 'd, M: Names, E: Disk, D: Disk, R: Wait>(
     ensures moved { IfOk result (λ m. WereMovedOver (second_by M.types M.words M.version E.state
         order.entry.second) order.entry.first m.stop files.old files.new journal.entry m.journal
         types.old types.new words.old words.new) }
-    ensures second { IfOk result (λ m. OnlyRead E.state order.entry.second m.second) }
+    ensures second { IfOk result (λ m. OnlyRead E.state m.stop order.entry.second
+        m.second) }
     ensures refused { IfErr result (λ r. IsAsItWas journal.entry r.journal
         × (r.second ≡ order.entry.second)) }
     ensures files { OnErr result (files.new ≡ files.old) }
@@ -195,7 +196,7 @@ pub fn move_behind<'s, 'd, M: Names, E: Disk, D: Disk, R: Wait>(
     // where the files were begun
     ensures merged { IfOk result (λ m. HasMerged (second_by M.types M.words M.version E.state
         second.entry) first m.stop files.old files.new journal.entry m.journal) }
-    ensures second { IfOk result (λ m. OnlyRead E.state second.entry m.second) }
+    ensures second { IfOk result (λ m. OnlyRead E.state m.stop second.entry m.second) }
 
     // where there was no memory to begin
     ensures refused { IfErr result (λ r. IsAsItWas journal.entry r.journal

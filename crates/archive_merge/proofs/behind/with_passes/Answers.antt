@@ -3,10 +3,14 @@ use Rattle.turn_lock.specs.Words.{IsFreshOf, lock_of}
 use Rattle.dict_lock.specs.Cached.{pass_in}
 use Rattle.ingest_workers.proofs.IngestLemmas.{knows}
 use Rattle.archive_merge.specs.declared.merger.BookPasses.{BookPasses}
-use Rattle.archive_merge.specs.Behind.{HasStored, MayBegin, second_by}
+use Rattle.std.specs.List.{Contains}
+use Rattle.row_codec.specs.declared.namer.Which.{Which}
+use Rattle.ingest_workers.specs.Full.{IsMore, WasFull, book_of, books_by}
+use Rattle.ingest_workers.specs.Ingested.{books_at}
+use Rattle.archive_merge.specs.Behind.{HasStopped, HasStored, MayBegin, old_texts, second_by}
 use Rattle.archive_merge.specs.MergerLaws.{passes_in_is}
-use Rattle.archive_merge.proofs.BehindLemmas.{adds_between, as_it_was, may_move_by, stored_by}
-use Rattle.archive_merge.proofs.EndedLemmas.{book_ends, may_name}
+use Rattle.archive_merge.proofs.BehindLemmas.{adds_between, as_it_was, fault_by, may_move_by, only_read, stored_by, why_by}
+use Rattle.archive_merge.proofs.EndedLemmas.{book_ends, both_more, may_name}
 use Rattle.archive_merge.proofs.behind.with_passes.Goals as goal
 
 pub new-merger-requires-clause-serves : goal.new-merger-requires-clause-serves
@@ -50,7 +54,23 @@ returns-in-Ok-clause-moved g c =
           ended.types_read kept.types.number kept.types.own ended.types_ended;
       of_words = book_ends _ _ _ _ _ _ _ _ _ _ _ _ (pass_in b.words) _ c.requires.words c.pass-words_reader.ensures.still c.pass-words_reader.ensures.made c.pass-words_pass.ensures.still c.pass-words_pass.ensures.made words_fresh adds.words
           ended.words_read kept.words.number kept.words.own ended.words_ended;
+      why = λ why is. subst (λ s. HasStopped (λ book count. WasFull (Contains (old_texts (second_by g.M.Names.types g.M.Names.words g.M.Names.version g.E.Disk.state s) book)) count (book_of (books_at c.end-journal.new.types c.end-journal.new.words) book))
+          (second_by g.M.Names.types g.M.Names.words g.M.Names.version g.E.Disk.state s) c.args.order.first c.args.files.now c.args.journal c.end-journal.result why) c.new-merger.ensures.second
+          (why_by g.M.Names.types g.M.Names.words g.M.Names.version g.E.Disk.state c.args.journal c.end-journal.result c.pass-types_reader.result c.pass-words_reader.result c.args.order.types_saved c.args.order.words_saved c.in-Ok.store _ _ c.args.order.first c.new-merger.result c.move_files.new.merger c.args.files.now c.move_files.new.files
+          (books_at c.end-journal.new.types c.end-journal.new.words) c.open_store-store.ensures c.from.ensures c.new-merger.ensures.first c.new-merger.ensures.stop (subst (λ s. MayBegin c.args.order.first (g.M.Names.version s.names.now) c.args.journal c.args.files.now) (sym c.new-merger.ensures.second) c.requires.begin)
+          done c.end-journal.ensures.journal kept
+          (subst (λ (x : BookPasses). (book : Which) → IsMore (book_of (books_by (pass_in x.types) (pass_in x.words)) book) (book_of (books_at c.end-journal.new.types c.end-journal.new.words) book))
+          (sym (passes_in_is c.move_files.new.merger.passes c.move_files.new.merger.full c.into_parts-second.result.1 c.into_parts-second.ensures.passes))
+          (both_more _ _ _ _ _ _ _ _ _ b c.into_parts-second.result.1 c.pass-types_pass.ensures.still c.pass-words_pass.ensures.still types_fresh words_fresh adds ended))
+          why (sym c.into_parts-second.ensures.stop ∙ is));
     }
+
+pub returns-in-Ok-clause-second : goal.returns-in-Ok-clause-second
+returns-in-Ok-clause-second g c =
+    let done = c.in-Ok.ensures.done in
+    only_read g.E.Disk.state _ _ _ _ _ c.new-merger.ensures.second c.into_parts-second.ensures.second done.moved.went.second_is done.moved.went.later
+    (λ why is. fault_by g.M.Names.types g.M.Names.words g.M.Names.version g.E.Disk.state c.args.journal c.end-journal.result c.pass-types_reader.result c.pass-words_reader.result c.args.order.types_saved c.args.order.words_saved c.in-Ok.store _ _ c.args.order.first c.new-merger.result c.move_files.new.merger c.args.files.now c.move_files.new.files
+    c.open_store-store.ensures c.from.ensures c.new-merger.ensures.stop (subst (λ s. MayBegin c.args.order.first (g.M.Names.version s.names.now) c.args.journal c.args.files.now) (sym c.new-merger.ensures.second) c.requires.begin) done why (sym c.into_parts-second.ensures.stop ∙ is))
 
 pub returns-in-Err-clause-refused : goal.returns-in-Err-clause-refused
 returns-in-Err-clause-refused g c = (

@@ -1,8 +1,8 @@
-use Rattle.std.proofs.Common.{◌≡◌, [], ◌∷◌, Some, ap, refl, rules, subst}
+use Rattle.std.proofs.Common.{◌≡◌, ◌∙◌, [], ◌∷◌, Some, ap, refl, rules, subst}
 use Rattle.std.specs.Prelude.{is_ok}
 use Rattle.archive_merge.specs.Files.{CameOver}
 use Rattle.archive_merge.specs.Taken.{texts_by}
-use Rattle.archive_merge.proofs.MergerLemmas.{did_all, did_some, idle_now, moves_on, none_some}
+use Rattle.archive_merge.proofs.MergerLemmas.{did_all, did_some, idle_now, moves_on, none_some, stopped_file}
 use Rattle.archive_merge.proofs.merger_work.MergerWorksMergedPassStore.work.Goals as goal
 
 pub returns-in-Err-clause-did : goal.returns-in-Err-clause-did
@@ -11,6 +11,14 @@ returns-in-Err-clause-did g c =
     let did = c.move_by-passes.ensures in
     did_some g.M.Names.types g.M.Names.words g.M.Names.version g.D.Disk.state g.E.Disk.state c.args.self.now _ c.in-Some.passes c.move_by-passes.result.0 c.args.job.now c.move_by-passes.new.file c.args.keeper.now c.move_by-passes.new.keeper had c.replace.ensures.after did.second
     c.segments_of-places.result.now c.segments_of-places.ensures (none_some c.args.self.now.stop (search rules)) c.move_by-passes.result.1 _ c.in-Err.is refl refl did.came did.causes did.damaged did.disk
+
+pub returns-in-Err-clause-went : goal.returns-in-Err-clause-went
+returns-in-Err-clause-went g c =
+    let had : c.args.self.now.passes ≡ Some c.in-Some.passes = cc (c.take.ensures.value, c.in-Some.is) in
+    let did = c.move_by-passes.ensures in
+    moves_on g.M.Names.types g.M.Names.words g.M.Names.version g.D.Disk.state g.E.Disk.state c.args.self.now _ c.in-Some.passes c.move_by-passes.result.0 c.args.job.now c.move_by-passes.new.file c.args.keeper.now c.move_by-passes.new.keeper had c.replace.ensures.after did.second
+    refl did.disk.later did.named (none_some c.args.self.now.stop (search rules)) (c.args.job.now ∷ []) (c.move_by-passes.new.file ∷ [])
+    (λ s some. (0, c.args.job.now, refl, stopped_file _ s some ∙ did.came.same_file))
 
 pub returns-in_default-result-clause-ready : goal.returns-in_default-result-clause-ready
 returns-in_default-result-clause-ready g c =
@@ -24,6 +32,7 @@ returns-in_default-result-clause-went g c =
     let did = c.move_by-passes.ensures in
     moves_on g.M.Names.types g.M.Names.words g.M.Names.version g.D.Disk.state g.E.Disk.state c.args.self.now _ c.in-Some.passes c.move_by-passes.result.0 c.args.job.now c.move_by-passes.new.file c.args.keeper.now c.move_by-passes.new.keeper had c.replace.ensures.after did.second
     refl did.disk.later did.named (none_some c.args.self.now.stop (search rules)) (c.args.job.now ∷ []) (c.move_by-passes.new.file ∷ [])
+    (λ s some. let none = none_some c.args.self.now.stop (search rules) in absurd (cc (none, some)))
 
 pub returns-in_default-result-clause-did : goal.returns-in_default-result-clause-did
 returns-in_default-result-clause-did g c =
