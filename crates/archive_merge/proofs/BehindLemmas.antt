@@ -1,5 +1,5 @@
 -- What files that were moved leave, from what became of them over the store.
-use Rattle.std.proofs.Common.{◌≡◌, ℕ, zero, suc, ◌+◌, ◌-◌, ◌&&◌, ◌==◌, Bool, true, false, if◌then◌else◌, List, [], ◌∷◌, ◌++◌, length, drop, sym, refl, ap, ◌∙◌, subst, arith, Option, None, Some, is_some, slice_get, All, ◌^◌, ◌<◌, ◌≤◌, ⊎_elim, inl, inr, append-nil, append_assoc, map}
+use Rattle.std.proofs.Common.{◌≡◌, ℕ, zero, suc, ◌+◌, ◌-◌, ◌&&◌, ◌==◌, Bool, true, false, if◌then◌else◌, List, [], ◌∷◌, ◌++◌, length, drop, sym, refl, ap, ◌∙◌, subst, arith, Option, None, Some, is_some, slice_get, All, ◌^◌, ◌<◌, ◌≤◌, ⊎_elim, inl, inr, append-nil, append_assoc, map, ap₂}
 use Rattle.std.specs.Prelude.{is_none}
 use Rattle.std.specs.List.{cons_option, filter, filter_map, Contains}
 use Rattle.std.specs.List.Sorted.{IsNonDecreasingBy}
@@ -10,7 +10,7 @@ use Rattle.log_seams.specs.Disk.{DiskState}
 use Rattle.log_seams.specs.declared.disk.Disk.{Ghosts as DiskGhosts}
 use Rattle.row_codec.specs.declared.names.Names.{Ghosts as NamesGhosts}
 use Rattle.turn_lock.specs.declared.board.About.{About}
-use Rattle.turn_lock.specs.Words.{about, lock_of, number_of, own_list, seen}
+use Rattle.turn_lock.specs.Words.{about, lock_of, number_of, own_list, seen, noted}
 use Rattle.turn_lock.proofs.FrontLemmas.{prefix_trans}
 use Rattle.ingest_fork.specs.Picked.{entries_in}
 use Rattle.ingest_fork.specs.Works.{Done}
@@ -33,13 +33,13 @@ use Rattle.disk_seal.specs.Fixed.{KeeperPass, fixed_of}
 use Rattle.disk_seal.specs.May.{MayAdd}
 use Rattle.disk_seal.specs.Told.{IfTold, blanks, journal_in, mark, recorded}
 use Rattle.disk_seal.specs.View.{Kept, StoreView, journal_of, state_by}
-use Rattle.disk_seal.proofs.ToldLemmas.{told_map}
+use Rattle.disk_seal.proofs.ToldLemmas.{told_map, told_both}
 use Rattle.ingest_workers.specs.ClosedStore.{IsJournalOf}
 use Rattle.ingest_workers.specs.Ingested.{IsAsItWas, opened_over, told_entries}
 use Rattle.ingest_workers.specs.Journal.{FrontHolds, Holds, entries_at, sealed_by, segments_in}
 use Rattle.ingest_workers.specs.Locked.{IsPassOf, IsStillStore, file_segment, list_behind, list_of}
 use Rattle.ingest_workers.proofs.IngestLemmas.{left_by, seen_list, stayed_by}
-use Rattle.ingest_workers.proofs.JournalLemmas.{seen_front, seen_joined}
+use Rattle.ingest_workers.proofs.JournalLemmas.{seen_front, seen_joined, all_canonical}
 use Rattle.ingest_workers.proofs.SealLemmas.{if_told}
 use Rattle.log_seams.specs.Outside.{Rose}
 use Rattle.logtype_text.specs.Fair.{IsFairType, IsFairWord}
@@ -51,6 +51,10 @@ use Rattle.ingest_workers.proofs.FullLemmas.{books_on}
 use Rattle.archive_merge.specs.declared.cause.MergeCause.{MergeCause}
 use Rattle.archive_merge.specs.declared.cause.MergeCause.TheVariants.{ArchiveFull, FirstFault, Full, OutOfMemory, SecondDamaged, SecondFault}
 use Rattle.archive_merge.specs.Causes.{HasMoveCause}
+use Rattle.disk_seal.specs.Planned.{segment_of}
+use Rattle.segment_format.specs.Layout.{sorted_set}
+use Rattle.ingest_workers.specs.NoRoom.{WereKnown}
+use Rattle.ingest_workers.proofs.OpenSegmentLemmas.{same_numbers}
 use Rattle.archive_merge.specs.declared.file.Merged.{Merged}
 use Rattle.archive_merge.specs.declared.merger.Merger.{Merger}
 use Rattle.archive_merge.specs.declared.merger.BookPasses.{BookPasses}
@@ -480,11 +484,11 @@ module _ {M E D : Type 0} {N : NamesGhosts M} {H : DiskGhosts E} {d : DiskGhosts
         (((s.done.did_it.moved s.ran).stopped why s.stopped).fault is)
 
     -- what the moments before and after a file say of its cause, told of the journals
-    cause_of : (books : Books) (number i : ℕ) (p q : KeeperPass D) (b : BookPasses) → IsPassOf d.state first (opened before types_reader words_reader t u) i p → IsPrefix (seen q) (list_of d.state store) → IsJournalOf store after → Kept (state_by d.state store)
+    cause_of : (books : Books) (file i : ℕ) (p q : KeeperPass D) (b : BookPasses) → IsPassOf d.state first (opened before types_reader words_reader t u) i p → number_of p ≡ file → IsPrefix (seen p) (seen q) → IsPrefix (seen q) (list_of d.state store) → IsJournalOf store after → Kept (state_by d.state store)
         → ((book : Which) → IsMore (book_of (books_by (pass_in b.types) (pass_in b.words)) book) (book_of books book)) → (cause : MergeCause)
-        → (cause ≡ SecondDamaged → All IsFairType view.texts.types → All IsFairWord view.texts.words → (all : SoFar) → ¬ HasRun view number all)
-        → HasMoveCause d.state view.version view.texts p q (books_of b) cause → HasStopCause (λ book count. WasFull (Contains (old_texts view book)) count (book_of books book)) view number before after cause
-    cause_of books number i p q b o on back kept more (Full WhichTypes count) damaged has = record {
+        → (cause ≡ SecondDamaged → All IsFairType view.texts.types → All IsFairWord view.texts.words → (all : SoFar) → ¬ HasRun view (file - first) all)
+        → HasMoveCause d.state view.version view.texts p q (books_of b) cause → HasStopCause (λ book count. WasFull (Contains (old_texts view book)) count (book_of books book)) (WereKnown books) view first file before after cause
+    cause_of books file i p q b o number since on back kept more (Full WhichTypes count) damaged has = record {
       limit = has.most ∙ sym (more WhichTypes).limit;
       front = seen (pass_in b.types);
       begins = (more WhichTypes).front;
@@ -493,7 +497,7 @@ module _ {M E D : Type 0} {N : NamesGhosts M} {H : DiskGhosts E} {d : DiskGhosts
       is = has.is;
       new = has.new;
     }
-    cause_of books number i p q b o on back kept more (Full WhichWords count) damaged has = record {
+    cause_of books file i p q b o number since on back kept more (Full WhichWords count) damaged has = record {
       limit = has.most ∙ sym (more WhichWords).limit;
       front = seen (pass_in b.words);
       begins = (more WhichWords).front;
@@ -502,19 +506,43 @@ module _ {M E D : Type 0} {N : NamesGhosts M} {H : DiskGhosts E} {d : DiskGhosts
       is = has.is;
       new = has.new;
     }
-    cause_of books number i p q b o on back kept more (ArchiveFull end need) damaged has = has.full.past _ o.about_is
-    cause_of books number i p q b o on back kept more (FirstFault was now) damaged has = (
+    cause_of books file i p q b o number since on back kept more (ArchiveFull end need) damaged has = (
+      has.full.past _ o.about_is,
+      told_both (is_some (state_of before).disk.seen)
+          (λ ends needs. record {
+            front = journal_seen (seen q);
+            between = (
+              subst (λ l. IsPrefix l (journal_seen (seen q))) (ap journal_seen o.seen_is ∙ list_before before types_reader words_reader t u) (seen_front (seen p) (seen q) since),
+              subst (IsPrefix (journal_seen (seen q))) (list_now before types_reader words_reader t u store ∙ ap₂ (λ (x : D) n. journal_in (d.state x).seen n) (sym back.disk) (sym back.count)) (seen_front (seen q) (list_of d.state store) on),
+            );
+            ends = ends;
+            types = noted has.types;
+            words = noted has.words;
+            has_types = prefix_trans (noted has.types) (seen (pass_in b.types)) (book_of books WhichTypes).texts has.types_on (more WhichTypes).front;
+            has_words = prefix_trans (noted has.words) (seen (pass_in b.words)) (book_of books WhichWords).texts has.words_on (more WhichWords).front;
+            segment = segment_of has.draft;
+            numbers = has.draft.words;
+            file_is = has.file ∙ number;
+            rows = has.rows;
+            messages = has.messages;
+            source = has.source;
+            canonical = all_canonical view.version has.draft.columns.rows has.before.types has.before.words (noted has.types) (noted has.words) has.messages has.full.types_on has.full.words_on has.canonical;
+            numbers_are = has.numbers ∙ ap sorted_set (same_numbers view.version has.draft.columns.rows has.before.types has.before.words (noted has.types) has.messages has.full.types_on has.canonical);
+            needs = needs;
+          }) (has.full.ends _ o.about_is) (has.full.needs _ o.about_is),
+    )
+    cause_of books file i p q b o number since on back kept more (FirstFault was now) damaged has = (
       has.fault.opened _ o.about_is,
       subst (λ n. Rose n (state_of after).disk.faults) (sym (has.fault.opened _ o.about_is))
           (rose_by before types_reader words_reader t u after store kept (ap (λ (x : StoreFixed D). x.opened) h.fixed) (sym back.disk) has.mark.0 (prefix_trans _ (seen q) (list_of d.state store) has.mark.1 on)),
     )
-    cause_of books number i p q b o on back kept more SecondFault damaged has = tt
-    cause_of books number i p q b o on back kept more SecondDamaged damaged has = damaged refl
-    cause_of books number i p q b o on back kept more OutOfMemory damaged has = tt
+    cause_of books file i p q b o number since on back kept more SecondFault damaged has = tt
+    cause_of books file i p q b o number since on back kept more SecondDamaged damaged has = damaged refl
+    cause_of books file i p q b o number since on back kept more OutOfMemory damaged has = tt
 
     why_stopped : (books : Books) → w.first ≡ first → w.stop ≡ None → IsJournalOf store after → Kept (state_by d.state store)
         → ((book : Which) → IsMore (book_of (books_by (pass_in (passes_of w').types) (pass_in (passes_of w').words)) book) (book_of books book))
-        → (why : Stopped) → w'.stop ≡ Some why → HasStopped (λ book count. WasFull (Contains (old_texts view book)) count (book_of books book)) view first js before after why
+        → (why : Stopped) → w'.stop ≡ Some why → HasStopped (λ book count. WasFull (Contains (old_texts view book)) count (book_of books book)) (WereKnown books) view first js before after why
     why_stopped books same_first none back kept more why some = record { place = s.place; file = s.job; is = s.is; file_is = s.file; cause = cause }
       where
         s : StoppedAt why
@@ -544,8 +572,8 @@ module _ {M E D : Type 0} {N : NamesGhosts M} {H : DiskGhosts E} {d : DiskGhosts
         more_after book = more_then _ _ (book_of books book)
             (books_on (pass_in (passes_of s.done.after).types) (pass_in (passes_of w').types) (pass_in (passes_of s.done.after).words) (pass_in (passes_of w').words) s.goes.adds.types.goes s.goes.adds.words.goes book) (more book)
 
-        cause : HasStopCause (λ book count. WasFull (Contains (old_texts view book)) count (book_of books book)) view (s.job.file - first) before after why.cause
-        cause = cause_of books (s.job.file - first) s.place s.p s.done.keeper (passes_of s.done.after) (h.opened s.place s.p s.p_is) (h.seen_on s.place s.done.keeper s.done.keeper_is) back kept more_after why.cause damaged
+        cause : HasStopCause (λ book count. WasFull (Contains (old_texts view book)) count (book_of books book)) (WereKnown books) view first s.job.file before after why.cause
+        cause = cause_of books s.job.file s.place s.p s.done.keeper (passes_of s.done.after) (h.opened s.place s.p s.p_is) ((h.opened s.place s.p s.p_is).number ∙ sym (begin.new s.place s.job s.is).file_is) moved.came.added.seen_on (h.seen_on s.place s.done.keeper s.done.keeper_is) back kept more_after why.cause damaged
             (subst (λ (v : SecondView). HasMoveCause d.state v.version v.texts s.p s.done.keeper (books_of (passes_of s.done.after)) why.cause) same stop.cause)
 
   module _ (before after : Journal D d) (types_reader words_reader : BookPass) (t u : ℕ) (store : StoreView D) where
@@ -553,7 +581,7 @@ module _ {M E D : Type 0} {N : NamesGhosts M} {H : DiskGhosts E} {d : DiskGhosts
         → HasMovedOver types words version d.state state_second f w w' js js' o store → IsJournalOf store after → Kept (state_by d.state store)
         → ((book : Which) → IsMore (book_of (books_by (pass_in (passes_of w').types) (pass_in (passes_of w').words)) book) (book_of books book))
         → (why : Stopped) → w'.stop ≡ Some why
-        → HasStopped (λ book count. WasFull (Contains (old_texts (view_of types words version state_second w) book)) count (book_of books book)) (view_of types words version state_second w) first js before after why
+        → HasStopped (λ book count. WasFull (Contains (old_texts (view_of types words version state_second w) book)) count (book_of books book)) (WereKnown books) (view_of types words version state_second w) first js before after why
     why_by o f first w w' js js' books is same same_first none begin h = why_stopped before after types_reader words_reader t u store first w w' js js' begin
         (subst (λ (n : ℕ). HasMovedOver types words version d.state state_second n w w' js js' (opened before types_reader words_reader t u) store) same
         (subst (λ (x : StoreView D). HasMovedOver types words version d.state state_second f w w' js js' x store) is h)) books same_first none

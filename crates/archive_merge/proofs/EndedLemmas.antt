@@ -1,5 +1,5 @@
 -- The passes of both books, from their making to their end.
-use Rattle.std.proofs.Common.{◌≡◌, ℕ, zero, suc, ◌+◌, Bool, true, false, List, [], ◌∷◌, ◌++◌, sym, refl, ap, ◌∙◌, subst, arith, Option, None, Some, is_some, slice_get, All, ◌-◌, ◌≤◌, ◌<◌}
+use Rattle.std.proofs.Common.{◌≡◌, ℕ, zero, suc, ◌+◌, Bool, true, false, List, [], ◌∷◌, ◌++◌, sym, refl, ap, ◌∙◌, subst, arith, Option, None, Some, is_some, slice_get, All, ◌-◌, ap₂, drop, length}
 use Rattle.std.specs.List.{Contains}
 use Rattle.std.proofs.lemmas.List.Elements.{All-nil}
 use Rattle.log_seams.specs.declared.disk.Disk.{Ghosts as DiskGhosts}
@@ -31,14 +31,22 @@ use Rattle.row_codec.specs.declared.namer.Which.{Which}
 use Rattle.row_codec.specs.declared.namer.Which.TheVariants.{Types as WhichTypes, Words as WhichWords}
 use Rattle.disk_seal.specs.Known.{known_of, limit_in}
 use Rattle.ingest_workers.specs.Full.{IsMore, WasFull, book_of, books_by}
-use Rattle.ingest_workers.proofs.GivenLemmas.{full_given}
-use Rattle.ingest_workers.proofs.SealLemmas.{if_told}
+use Rattle.ingest_workers.proofs.GivenLemmas.{full_given, noted_behind, texts_behind}
+use Rattle.ingest_workers.proofs.SealLemmas.{if_told, of_told}
 use Rattle.archive_merge.specs.declared.cause.MergeCause.{MergeCause}
 use Rattle.archive_merge.specs.declared.cause.MergeCause.TheVariants.{ArchiveFull, FirstFault, Full, OutOfMemory, SecondDamaged, SecondFault}
+use Rattle.std.specs.Prelude.{min}
+use mathlib.Core.List.{IsPrefix}
+use Rattle.segment_format.specs.Layout.{sorted_set}
+use Rattle.ingest_meaning.specs.Dictionaries.{book_texts}
+use Rattle.ingest_meaning.specs.Room.{record_need, texts_need}
+use Rattle.ingest_workers.specs.NoRoom.{WereKnown}
+use Rattle.ingest_workers.proofs.JournalLemmas.{all_canonical}
+use Rattle.ingest_workers.proofs.OpenSegmentLemmas.{same_numbers}
 use Rattle.archive_merge.specs.declared.file.Merged.{Merged}
 use Rattle.archive_merge.specs.declared.merger.BookPasses.{BookPasses}
 use Rattle.archive_merge.specs.declared.merger.Stopped.{Stopped}
-use Rattle.archive_merge.specs.Behind.{HasMerged, SecondView, HasStopCause, IsFullByBoth, old_texts}
+use Rattle.archive_merge.specs.Behind.{HasMerged, SecondView, HasStopCause, IsFullByBoth, old_texts, AreOfBoth, LackedRoom}
 use Rattle.archive_merge.specs.Ended.{AreOf, WereMovedOver, HasEnded}
 use Rattle.archive_merge.specs.InHand.{Texts}
 use Rattle.archive_merge.specs.Merger.{MayName, PassesAdd}
@@ -111,15 +119,26 @@ by_told : (b : Bool) (X : Type 0) → IfTold b X → (b ≡ false → X) → X
 by_told true X x f = x
 by_told false X x f = f refl
 
--- the same cause, where more is told of a full book
-cause_on : {D : Type 0} {d : DiskGhosts D} (view : SecondView) (number : ℕ) (before after : Journal D d) (full full' : Which → ℕ → Type 0) → ((book : Which) (count : ℕ) → full book count → full' book count) → (cause : MergeCause)
-    → HasStopCause full view number before after cause → HasStopCause full' view number before after cause
-cause_on view number before after full full' more (Full book count) has = more book count has
-cause_on view number before after full full' more (ArchiveFull end need) has = has
-cause_on view number before after full full' more (FirstFault opened now) has = has
-cause_on view number before after full full' more SecondFault has = tt
-cause_on view number before after full full' more SecondDamaged has = has
-cause_on view number before after full full' more OutOfMemory has = tt
+book_front : (book : Which) (xs ys : List JournalEntry) → IsPrefix xs ys → IsPrefix (book_texts book xs) (book_texts book ys)
+book_front WhichTypes xs ys on = (types_of on.0, sym (types_joined xs on.0) ∙ ap types_of on.1)
+book_front WhichWords xs ys on = (words_of on.0, sym (words_joined xs on.0) ∙ ap words_of on.1)
+
+-- what is drawn behind a front is the rest
+drop_front : {X : Type 0} (xs ys : List X) → drop (length xs) (xs ++ ys) ≡ ys
+drop_front [] ys = refl
+drop_front (x ∷ xs) ys = drop_front xs ys
+
+-- the same cause, where more is told of a full book, and of the texts of a book
+module _ {D : Type 0} {d : DiskGhosts D} (view : SecondView) (first file : ℕ) (before after : Journal D d) (full full' : Which → ℕ → Type 0) (has has' : List JournalEntry → Which → List (List ℕ) → Type 0) where
+  cause_on : ((book : Which) (count : ℕ) → full book count → full' book count)
+      → ((end need : ℕ) → IfTold (is_some (state_of before).disk.seen) (LackedRoom has view file before after end need) → IfTold (is_some (state_of before).disk.seen) (LackedRoom has' view file before after end need))
+      → (cause : MergeCause) → HasStopCause full has view first file before after cause → HasStopCause full' has' view first file before after cause
+  cause_on more room (Full book count) was = more book count was
+  cause_on more room (ArchiveFull end need) was = (was.0, room end need was.1)
+  cause_on more room (FirstFault opened now) was = was
+  cause_on more room SecondFault was = tt
+  cause_on more room SecondDamaged was = was
+  cause_on more room OutOfMemory was = tt
 
 module _ {D : Type 0} {d : DiskGhosts D} {G : Ghosts BookState (List ℕ) ℕ} (view : SecondView) (first : ℕ) (stop : Option Stopped) (js js' : List Merged) (before after : Journal D d) (types types' words words' : BookMaker G) where
   pub has_merged : (t_saved w_saved : ℕ)
@@ -144,7 +163,8 @@ module _ {D : Type 0} {d : DiskGhosts D} {G : Ghosts BookState (List ℕ) ℕ} (
       file = was.file;
       is = was.is;
       file_is = was.file_is;
-      cause = cause_on view (was.file.file - first) before after (λ book count. WasFull (Contains (old_texts view book)) count (book_of (books_at types' words') book)) (IsFullByBoth view before) full one.cause was.cause;
+      cause = cause_on view first was.file.file before after (λ book count. WasFull (Contains (old_texts view book)) count (book_of (books_at types' words') book)) (IsFullByBoth view before) (WereKnown (books_at types' words')) (AreOfBoth view) full
+          (λ end need lacked. if_told told _ (λ told_is. room was.file.file end need told_is (of_told told _ told_is lacked))) one.cause was.cause;
     };
   }
     where
@@ -169,6 +189,50 @@ module _ {D : Type 0} {d : DiskGhosts D} {G : Ghosts BookState (List ℕ) ℕ} (
           full_given (Contains view.texts.words) IsFairWord WORDS_FIRST told before.header.words_limit s.header.words_limit (words_of (told_entries (state_of before))) (words_of (journal_of s)) (words_of fresh)
           w_saved s.words_saved words words' s.words wo h.of_words w_owned (subst (λ b. KnowsBook IsFairWord WORDS_FIRST s.header.words_limit b s.words s.words_saved (words_of (journal_of s))) same_told h.stored.left_by.kept.words)
           (ap words_of h.stored.grown ∙ words_joined (told_entries (state_of before)) fresh) told_is w_apart (Contains view.texts.words) count is)
+
+      these_types : KnowsBook IsFairType 0 s.header.types_limit told s.types s.types_saved (types_of (journal_of s))
+      these_types = subst (λ b. KnowsBook IsFairType 0 s.header.types_limit b s.types s.types_saved (types_of (journal_of s))) same_told h.stored.left_by.kept.types
+
+      these_words : KnowsBook IsFairWord WORDS_FIRST s.header.words_limit told s.words s.words_saved (words_of (journal_of s))
+      these_words = subst (λ b. KnowsBook IsFairWord WORDS_FIRST s.header.words_limit b s.words s.words_saved (words_of (journal_of s))) same_told h.stored.left_by.kept.words
+
+      after_is : told_entries (state_of after) ≡ journal_of s
+      after_is = ap₂ (λ (x : D) n. journal_in (d.state x).seen n) (sym h.stored.left_by.disk) h.stored.left_by.count
+
+      -- what had no room were rows and texts of the second archive
+      room : (file end need : ℕ) → told ≡ true → LackedRoom (WereKnown (books_at types' words')) view file before after end need → LackedRoom (AreOfBoth view) view file before after end need
+      room file end need told_is r =
+          let since = r.between.0 in
+          let on = subst (IsPrefix r.front) after_is r.between.1 in
+          let before_types = types_of r.front in let before_words = words_of r.front in
+          let more_types = drop (length before_types) r.types in let more_words = drop (length before_words) r.words in
+          let grown_types = ap types_of h.stored.grown ∙ types_joined (told_entries (state_of before)) fresh in
+          let grown_words = ap words_of h.stored.grown ∙ words_joined (told_entries (state_of before)) fresh in
+          let on_types = noted_behind (Contains view.texts.types) IsFairType 0 told before.header.types_limit s.header.types_limit (types_of (told_entries (state_of before))) (types_of (journal_of s)) (types_of fresh)
+          t_saved s.types_saved types types' s.types to h.of_types t_owned these_types grown_types told_is before_types r.types (book_front WhichTypes r.front (journal_of s) on) r.has_types in
+          let on_words = noted_behind (Contains view.texts.words) IsFairWord WORDS_FIRST told before.header.words_limit s.header.words_limit (words_of (told_entries (state_of before))) (words_of (journal_of s)) (words_of fresh)
+          w_saved s.words_saved words words' s.words wo h.of_words w_owned these_words grown_words told_is before_words r.words (book_front WhichWords r.front (journal_of s) on) r.has_words in record {
+            front = r.front;
+            between = r.between;
+            ends = r.ends;
+            types = before_types ++ more_types;
+            words = before_words ++ more_words;
+            has_types = texts_behind (Contains view.texts.types) IsFairType 0 told before.header.types_limit s.header.types_limit (types_of (told_entries (state_of before))) (types_of (journal_of s)) (types_of fresh)
+                t_saved s.types_saved types types' s.types to h.of_types t_owned these_types grown_types told_is t_apart before_types r.types
+                (book_front WhichTypes (told_entries (state_of before)) r.front since) (book_front WhichTypes r.front (journal_of s) on) r.has_types;
+            has_words = texts_behind (Contains view.texts.words) IsFairWord WORDS_FIRST told before.header.words_limit s.header.words_limit (words_of (told_entries (state_of before))) (words_of (journal_of s)) (words_of fresh)
+                w_saved s.words_saved words words' s.words wo h.of_words w_owned these_words grown_words told_is w_apart before_words r.words
+                (book_front WhichWords (told_entries (state_of before)) r.front since) (book_front WhichWords r.front (journal_of s) on) r.has_words;
+            segment = r.segment;
+            numbers = r.numbers;
+            file_is = r.file_is;
+            rows = r.rows;
+            messages = r.messages;
+            source = r.source;
+            canonical = all_canonical view.version r.segment.rows r.types r.words (before_types ++ more_types) (before_words ++ more_words) r.messages on_types on_words r.canonical;
+            numbers_are = r.numbers_are ∙ ap sorted_set (same_numbers view.version r.segment.rows r.types r.words (before_types ++ more_types) r.messages on_types r.canonical);
+            needs = r.needs ∙ ap₂ (λ t w. min (texts_need (length before_types) t + (texts_need (length before_words) w + record_need r.segment r.numbers)) 18446744073709551615) (sym (drop_front before_types more_types)) (sym (drop_front before_words more_words));
+          }
 
       no_more : told ≡ false → fresh ≡ []
       no_more untold = let now : journal_of s ≡ [] = none_in s.disk.seen s.count (h.stored.left_by.kept.tells_still ∙ (same_told ∙ untold)) in

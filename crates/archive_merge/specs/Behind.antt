@@ -1,5 +1,5 @@
 -- The files of a second archive behind those of a journal.
-use Rattle.std.specs.Prelude.{◌≡◌, ◌⊎◌, ℕ, ◌+◌, ◌-◌, ◌<◌, ◌≤◌, ◌&&◌, Bool, false, List, [], ◌++◌, length, is_some, Option, None, Some, slice_get, All}
+use Rattle.std.specs.Prelude.{◌≡◌, ◌⊎◌, ℕ, ◌+◌, ◌-◌, ◌<◌, ◌≤◌, ◌&&◌, Bool, false, List, [], ◌++◌, length, is_some, Option, None, Some, slice_get, All, min}
 use Rattle.std.specs.List.{Contains, filter, filter_map, sum_by}
 use Rattle.std.specs.List.Sorted.{IsNonDecreasingBy}
 use mathlib.Core.List.{IsPrefix}
@@ -16,8 +16,8 @@ use Rattle.archive_meaning.specs.declared.TheConstants.{MAX_FILES}
 use Rattle.archive_meaning.specs.declared.entry.JournalEntry.{JournalEntry}
 use Rattle.archive_meaning.specs.declared.entry.JournalEntry.TheVariants.{Files, Segment, Types, Words}
 use Rattle.archive_meaning.specs.declared.entry.SegmentEntry.{SegmentEntry}
-use Rattle.archive_meaning.specs.Spelled.{types_of}
-use Rattle.ingest_meaning.specs.Dictionaries.{IsFullBy, book_texts, header_limits, limit_of}
+use Rattle.archive_meaning.specs.Spelled.{types_of, end_of, words_named}
+use Rattle.ingest_meaning.specs.Dictionaries.{IsFullBy, book_texts, header_limits, limit_of, HasTextsBehind}
 use Rattle.ingest_meaning.specs.Parts.{in_file}
 use Rattle.ingest_meaning.specs.WordsIn.{words_of}
 use Rattle.archive_open.specs.declared.segments.SegmentPlace.{SegmentPlace}
@@ -27,6 +27,11 @@ use Rattle.disk_seal.specs.Told.{IfTold}
 use Rattle.disk_seal.specs.View.{StoreView, journal_of, state_by}
 use Rattle.ingest_workers.specs.Ingested.{IsLeftBy, told_entries}
 use Rattle.ingest_workers.specs.Journal.{FrontHolds, Holds}
+use Rattle.ingest_workers.specs.NoRoom.{IsBetween}
+use Rattle.column_store.specs.declared.row.Row.{Row}
+use Rattle.archive_core.specs.Rows.{AreMessages}
+use Rattle.row_codec.specs.Means.{AreCanonical}
+use Rattle.ingest_meaning.specs.Room.{needed_behind}
 use Rattle.archive_merge.specs.declared.cause.MergeCause.{MergeCause}
 use Rattle.archive_merge.specs.declared.cause.MergeCause.TheVariants.{ArchiveFull, FirstFault, Full, SecondDamaged, SecondFault}
 use Rattle.archive_merge.specs.declared.file.Merged.{Merged}
@@ -79,6 +84,10 @@ abbrev pub old_texts : SecondView → Which → List (List ℕ)
 old_texts s WhichTypes = s.texts.types
 old_texts s WhichWords = s.texts.words
 
+-- the texts of a book are those of the entries, and others of the second archive
+abbrev pub AreOfBoth : SecondView → List JournalEntry → Which → List (List ℕ) → Type 0
+AreOfBoth s front book texts = HasTextsBehind (Contains (old_texts s book)) (book_texts book front) texts
+
 -- ---- before
 
 -- the file has this number, and nothing of it is sealed: where the journal is told, it has a name there and no segment
@@ -124,26 +133,51 @@ module _ {D : Type 0} {d : DiskGhosts D} where
     pub held : IfTold (is_some (state_of before).disk.seen)
         (FrontHolds before.header (told_entries (state_of before) ++ fresh) old.file covered new.whole (new.whole && ended))
 
-  -- Why not all of a file was moved, which has this number in the second archive: by this a book is full at so many texts; so many
-  -- bytes behind an end go past the header's limit; the first disk's count of faults rose; the second archive's segments of the
-  -- file are no run with texts that dictionaries may hold. Want of memory is free.
-  abbrev pub HasStopCause : (Which → ℕ → Type 0) → SecondView → ℕ → Journal D d → Journal D d → MergeCause → Type 0
-  HasStopCause full s number before after (Full book count) = full book count
-  HasStopCause full s number before after (ArchiveFull end need) = before.header.length_limit < end + need
-  HasStopCause full s number before after (FirstFault opened now) =
+  -- The next segment of a file did not fit: the archive ended behind some entries between those of before and those of afterwards,
+  -- and takes so many bytes more by the record of the segment and those of the texts of both books that these entries do not have.
+  -- This holds of all texts that a book had then; the segment's rows are their encodings of messages of the second archive's rows.
+  pub record LackedRoom (has : List JournalEntry → Which → List (List ℕ) → Type 0) (s : SecondView) (file : ℕ)
+      (before after : Journal D d) (end need : ℕ) : Type 0 where
+    pub front : List JournalEntry
+    pub between : IsBetween (told_entries (state_of before)) (told_entries (state_of after)) front
+    pub ends : end ≡ end_of before.header front
+    pub types : List (List ℕ)
+    pub words : List (List ℕ)
+    pub has_types : has front WhichTypes types
+    pub has_words : has front WhichWords words
+    pub segment : SegmentEntry
+    pub numbers : List ℕ
+    pub file_is : segment.file ≡ file
+    pub rows : List Row
+    pub messages : List (List ℕ)
+    pub source : AreMessages s.version s.texts.types s.texts.words rows messages
+    pub canonical : AreCanonical s.version segment.rows types words messages
+    pub numbers_are : numbers ≡ words_named types segment.rows
+    pub needs : need ≡ min (needed_behind segment numbers front types words) 18446744073709551615
+
+  -- Why not all of this file was moved: by this a book is full at so many texts; so many bytes behind an end go past the header's
+  -- limit, by a segment of the file, where this holds of a book's texts; the first disk's count of faults rose; the second
+  -- archive's segments of the file are no run with texts that dictionaries may hold. Want of memory is free.
+  abbrev pub HasStopCause : (Which → ℕ → Type 0) → (List JournalEntry → Which → List (List ℕ) → Type 0) → SecondView → ℕ → ℕ
+      → Journal D d → Journal D d → MergeCause → Type 0
+  HasStopCause full has s first file before after (Full book count) = full book count
+  HasStopCause full has s first file before after (ArchiveFull end need) =
+      (before.header.length_limit < end + need)
+      × IfTold (is_some (state_of before).disk.seen) (LackedRoom has s file before after end need)
+  HasStopCause full has s first file before after (FirstFault opened now) =
       (opened ≡ (state_of before).disk.faults) × Rose opened (state_of after).disk.faults
-  HasStopCause full s number before after SecondDamaged =
-      All IsFairType s.texts.types → All IsFairWord s.texts.words → (all : SoFar) → ¬ HasRun s number all
-  HasStopCause full s number before after _ = Unit {0}
+  HasStopCause full has s first file before after SecondDamaged =
+      All IsFairType s.texts.types → All IsFairWord s.texts.words → (all : SoFar) → ¬ HasRun s (file - first) all
+  HasStopCause full has s first file before after _ = Unit {0}
 
   -- it stopped one of the files, for such a cause
-  pub record HasStopped (full : Which → ℕ → Type 0) (s : SecondView) (first : ℕ) (files : List Merged)
-      (before after : Journal D d) (why : Stopped) : Type 0 where
+  pub record HasStopped (full : Which → ℕ → Type 0) (has : List JournalEntry → Which → List (List ℕ) → Type 0)
+      (s : SecondView) (first : ℕ) (files : List Merged) (before after : Journal D d) (why : Stopped) : Type 0 where
     pub place : ℕ
     pub file : Merged
     pub is : slice_get files place ≡ Some file
     pub file_is : why.file ≡ file.file
-    pub cause : HasStopCause full s (file.file - first) before after why.cause
+    pub cause : HasStopCause full has s first file.file before after why.cause
 
   -- Where the journal is told, a book may have so many texts by the header, and there are as many of the journal and the second
   -- archive; and one more of the second archive.
@@ -172,4 +206,5 @@ module _ {D : Type 0} {d : DiskGhosts D} where
     pub stored : HasStored s first stop files files' before after store
     pub types : All (Contains s.texts.types) (types_of stored.fresh)
     pub words : All (Contains s.texts.words) (words_of stored.fresh)
-    pub why : (why : Stopped) → stop ≡ Some why → HasStopped (IsFullByBoth s before) s first files before after why
+    pub why : (why : Stopped) → stop ≡ Some why → HasStopped (IsFullByBoth s before) (AreOfBoth s) s first files
+        before after why

@@ -17,6 +17,7 @@ use Rattle.disk_seal.specs.View.{StoreView}
 use Rattle.ingest_workers.specs.Full.{WasFull, book_of}
 use Rattle.ingest_workers.specs.Ingested.{OpensBook, books_at, told_entries}
 use Rattle.ingest_workers.specs.StartedWorkers.{BookMaker, EndsBook}
+use Rattle.ingest_workers.specs.NoRoom.{WereKnown}
 use Rattle.archive_merge.specs.declared.file.Merged.{Merged}
 use Rattle.archive_merge.specs.declared.merger.BookPasses.{BookPasses}
 use Rattle.archive_merge.specs.declared.merger.Stopped.{Stopped}
@@ -57,5 +58,5 @@ module _ {D : Type 0} {d : DiskGhosts D} {G : Ghosts BookState (List ℕ) ℕ} w
     pub of_types : EndsBook (Contains s.texts.types) types types' store.types
     pub of_words : EndsBook (Contains s.texts.words) words words' store.words
     pub why : (why : Stopped) → stop ≡ Some why
-        → HasStopped (λ book count. WasFull (Contains (old_texts s book)) count (book_of (books_at types' words') book)) s first files
-        before after why
+        → HasStopped (λ book count. WasFull (Contains (old_texts s book)) count (book_of (books_at types' words') book))
+        (WereKnown (books_at types' words')) s first files before after why
