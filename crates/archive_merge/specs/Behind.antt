@@ -133,9 +133,10 @@ module _ {D : Type 0} {d : DiskGhosts D} where
     pub held : IfTold (is_some (state_of before).disk.seen)
         (FrontHolds before.header (told_entries (state_of before) ++ fresh) old.file covered new.whole (new.whole && ended))
 
-  -- The next segment of a file did not fit: the archive ended behind some entries between those of before and those of afterwards,
-  -- and takes so many bytes more by the record of the segment and those of the texts of both books that these entries do not have.
-  -- This holds of all texts that a book had then; the segment's rows are their encodings of messages of the second archive's rows.
+  -- The next segment of a file did not fit: the archive ended behind some entries between those of before and those of
+  -- afterwards, and takes so many bytes more by the record of the segment and those of the texts of both books that these entries
+  -- do not have. This holds of all texts that a book had then. By these texts the segment's rows are the encodings of messages of
+  -- rows of the second archive.
   pub record LackedRoom (has : List JournalEntry → Which → List (List ℕ) → Type 0) (s : SecondView) (file : ℕ)
       (before after : Journal D d) (end need : ℕ) : Type 0 where
     pub front : List JournalEntry
@@ -187,8 +188,8 @@ module _ {D : Type 0} {d : DiskGhosts D} where
       × IsFullBy (λ t. Contains (book_texts book (told_entries (state_of before))) t ⊎ Contains (old_texts s book) t)
       (Contains (old_texts s book)) count)
 
-  -- Each file was moved. Where they are told, the journal's entries are those of before and new ones, which are texts and segments
-  -- of the files.
+  -- Each file was moved. Where they are told, the journal's entries are those of before and new ones, which are texts and
+  -- segments of the files.
   pub record HasStored (s : SecondView) (first : ℕ) (stop : Option Stopped) (files files' : List Merged)
       (before after : Journal D d) (store : StoreView D) : Type 0 where
     pub left_by : IsLeftBy store before after

@@ -172,8 +172,8 @@ fn with_passes<'s, 'b, 'd, M: Names, E: Disk, D: Disk, R: Wait>(
 }
 
 /// Moves the files of a second archive behind those of a journal, one after the other, until one is
-/// stopped. The first has this number in the journal's archive. Both books have the journal's texts,
-/// and a lock meanwhile. Journal and second archive come back on each way.
+/// stopped. The first has this number in the journal's archive. Both books have the journal's
+/// texts, and a lock meanwhile. Journal and second archive come back on each way.
 ///
 /// # Errors
 ///
