@@ -1,5 +1,5 @@
 -- A segment that goes on with its file.
-use Rattle.std.proofs.Common.{◌≡◌, ℕ, ◌+◌, zero, suc, List, [], ◌∷◌, ◌++◌, All, arith, sym, ap, ◌∙◌, subst, length}
+use Rattle.std.proofs.Common.{◌≡◌, ℕ, zero, suc, List, [], ◌∷◌, ◌++◌, All, arith, sym, ap, ◌∙◌, subst, length}
 use Rattle.std.specs.Prelude.{Bool, IsTrue, Option, Some, false, map, slice_get, true}
 use Rattle.std.specs.List.{flat_map}
 use Rattle.std.proofs.lemmas.List.Elements.{All-contains}

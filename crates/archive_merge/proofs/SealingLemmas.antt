@@ -1,5 +1,5 @@
 -- What is in hand becomes the next segment.
-use Rattle.std.proofs.Common.{◌≡◌, ℕ, ◌+◌, ◌<◌, ◌^◌, List, [], ◌∷◌, ◌++◌, All, arith, refl, suc, sym, ap, ◌∙◌, subst, length, length-append}
+use Rattle.std.proofs.Common.{◌≡◌, ℕ, ◌<◌, ◌^◌, List, [], ◌∷◌, ◌++◌, All, arith, refl, suc, sym, ap, ◌∙◌, subst, length, length-append}
 use Rattle.std.specs.Prelude.{◌&&◌, Err, IfErr, Ok, Option, Result, false, is_some}
 use Rattle.std.specs.List.{Contains, flat_map}
 use Rattle.log_seams.specs.Disk.{DiskState}

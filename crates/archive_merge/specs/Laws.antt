@@ -1,5 +1,5 @@
 -- What follows for the segments of the second archive.
-use Rattle.std.specs.Prelude.{ℕ, List, All}
+use Rattle.std.specs.Prelude.{ℕ, List, Some, All}
 use Rattle.std.specs.List.{filter}
 use Rattle.std.specs.List.Sorted.{IsNonDecreasingBy}
 use Rattle.logtype_text.specs.Fair.{IsFairType, IsFairWord}
@@ -9,6 +9,7 @@ use Rattle.archive_meaning.specs.Stands.{StandsFor}
 use Rattle.archive_open.specs.Kept.{Kept}
 use Rattle.archive_open.specs.Shown.{IsArchiveOf, Shown}
 use Rattle.archive_decode.specs.StepsHeld.{is_of}
+use Rattle.archive_merge.specs.Behind.{HasRun, SecondView}
 use Rattle.archive_merge.specs.InHand.{Texts}
 use Rattle.archive_merge.specs.Merger.{file_at}
 use Rattle.archive_merge.specs.Runs.{HoldRun, held_of, nothing_so_far}
@@ -37,3 +38,18 @@ abbrev pub FilesRise : Type 0
 FilesRise =
     (bytes : List ℕ) (h : Header) (es : List JournalEntry) (a : Shown) (stood : StandsFor bytes h es)
     → IsArchiveOf a h es stood.legal.held → IsNonDecreasingBy file_at a.segments
+
+-- what contracts tell of an archive whose disk has these bytes
+abbrev pub view_in : List ℕ → Shown → SecondView
+view_in bytes a = record {
+  version = a.kept.version;
+  texts = texts_kept a.kept;
+  told = Some bytes;
+  segments = a.segments;
+}
+
+-- Where the bytes stand for a journal, the segments of each file in the journal's archive are a run to what it holds of the file.
+abbrev pub FilesAreRuns : Type 0
+FilesAreRuns =
+    (bytes : List ℕ) (h : Header) (es : List JournalEntry) (a : Shown) (number : ℕ) (stood : StandsFor bytes h es)
+    → IsArchiveOf a h es stood.legal.held → HasRun (view_in bytes a) number (held_of number stood.legal.held)

@@ -1,5 +1,5 @@
 //! Laws of an archive that was opened, each the contract of a function that does nothing.
-ghost use Rattle.archive_merge.specs.Laws.{FilesRise, SegmentsGoOn, TextsAreFair};
+ghost use Rattle.archive_merge.specs.Laws.{FilesAreRuns, FilesRise, SegmentsGoOn, TextsAreFair};
 
 use segment_pages::segments_are_held;
 
@@ -9,6 +9,7 @@ use segment_pages::segments_are_held;
 pub fn segments_go_on()
     ensures runs { SegmentsGoOn }
     ensures rise { FilesRise }
+    ensures files { FilesAreRuns }
     ensures fair { TextsAreFair }
 {
     segments_are_held();

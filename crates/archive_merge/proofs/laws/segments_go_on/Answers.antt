@@ -1,4 +1,4 @@
-use Rattle.std.proofs.Common.{sym, subst}
+use Rattle.std.proofs.Common.{refl, sym, subst}
 use Rattle.std.specs.Prelude.{All}
 use Rattle.logtype_text.specs.Fair.{IsFairType, IsFairWord}
 use Rattle.archive_merge.proofs.RunLemmas.{fair_held, file_run, files_rise}
@@ -13,3 +13,11 @@ returns-clause-fair c = λ bytes h es a stood is.
 
 pub returns-clause-rise : goal.returns-clause-rise
 returns-clause-rise c = λ bytes h es a stood is. files_rise h es stood.legal.held a stood.legal.run is
+
+pub returns-clause-files : goal.returns-clause-files
+returns-clause-files c = λ bytes h es a number stood is. record {
+  bytes = bytes;
+  told_is = refl;
+  sorted = files_rise h es stood.legal.held a stood.legal.run is;
+  run = file_run bytes h es a number stood c.segments_are_held.ensures is;
+}
