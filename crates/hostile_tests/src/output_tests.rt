@@ -232,13 +232,13 @@ fn calls_by<R: Threads + Wait + Sync>(
     calls_before_write(rt, alloc, workers, &mut logs, &mut archive)
 }
 
-// One worker holds a page, and two hold eight of the nine, which nine workers hold all.
+// A page of few rows is searched before the next one is read, by any number of workers.
 #[test]
-fn a_search_holds_as_many_pages_as_its_workers_take(rt: HostRuntime) -> Result<(), Fail> {
+fn a_page_of_few_rows_does_not_wait(rt: HostRuntime) -> Result<(), Fail> {
     let one = calls_by(&rt, rt.alloc(), "--workers=1")?;
     let two = calls_by(&rt, rt.alloc(), "--workers=2")?;
     let nine = calls_by(&rt, rt.alloc(), "--workers=9")?;
-    assert!(rt; 0 < one && one < two && two < nine, "{one} {two} {nine}");
+    assert!(rt; 0 < one && one == two && two == nine, "{one} {two} {nine}");
     Ok(())
 }
 
