@@ -101,7 +101,8 @@ fn move_with<'b, 'd, M: Names, E: Disk, D: Disk, R: Wait, A: Ledger, B: Ledger, 
     ensures second { StaysRead E.state second.old second.new }
     ensures goes { GoesWith (M.version second.old.names.now)
         (texts_by M.types M.words second.old.names.now) keeper.new result.0 second.new.taker }
-    ensures named { PassesAdd (texts_by M.types M.words second.old.names.now) passes.entry result.0 }
+    ensures named { PassesAdd (texts_by M.types M.words second.old.names.now)
+        passes.entry result.0 }
 
     // what became of the file
     ensures came { CameOver D.state (M.version second.old.names.now)
@@ -166,7 +167,8 @@ fn move_by<'b, 'd, M: Names, E: Disk, D: Disk, R: Wait>(
     ensures second { StaysRead E.state second.old second.new }
     ensures goes { GoesWith (M.version second.old.names.now)
         (texts_by M.types M.words second.old.names.now) keeper.new result.0 second.new.taker }
-    ensures named { PassesAdd (texts_by M.types M.words second.old.names.now) passes.entry result.0 }
+    ensures named { PassesAdd (texts_by M.types M.words second.old.names.now)
+        passes.entry result.0 }
 
     // what became of the file
     ensures came { CameOver D.state (M.version second.old.names.now)
