@@ -1,9 +1,7 @@
 //! The check of an archive.
 ghost use Rattle.std.specs.Prelude.{◌≡◌, ◌<◌, ◌+◌, ◌≤◌, ◌^◌, ℕ, IfOk, IfSome, IsErrOf, IsFalse, IsTrue, OnOk, length};
-ghost use Rattle.std.specs.List.{sum_by};
 ghost use Rattle.log_seams.specs.Disk.{KeepsBytes, Rests};
 ghost use Rattle.log_seams.specs.Outside.{CountsOf};
-ghost use Rattle.disk_journal.specs.Journal.{state_of};
 ghost use Rattle.disk_journal.specs.Place.{ClosedAt};
 ghost use Rattle.step_count.specs.Opens.{OpensFor};
 ghost use Rattle.archive_check.specs.Checked.{Checked, DamagedAt, Stood};

@@ -11,7 +11,8 @@ use Rattle.archive_meaning.specs.Legal.{IsBook}
 use Rattle.archive_core.specs.declared.log_types.LogType.{LogType}
 use Rattle.archive_core.specs.LogTypes.{AreKnown}
 
-pub record IsJudge (header : Header) (version : ℕ) (types words : BookState) (known : List LogType) (layouts : List (List ℕ)) (files : List FileSum) (end : ℕ) : Type 0 where
+pub record IsJudge (header : Header) (version : ℕ) (types words : BookState) (known : List LogType)
+    (layouts : List (List ℕ)) (files : List FileSum) (end : ℕ) : Type 0 where
   pub good_header : IsHeader header
   pub same_version : version ≡ header.version
   pub types_limit : types.limit ≡ header.types_limit

@@ -11,7 +11,8 @@ with_kind (Some kind) kinds = kind ∷ kinds
 -- a slot of this kind took its word, and what it numbers went to the end of the numbers
 abbrev pub TakesWord : Kind → List ℕ → List ℕ → List ℕ → List ℕ → Type 0
 TakesWord kind words left old new =
-    (more : List ℕ) × (new ≡ old ++ more) × ((kinds : List Kind) → word_numbers (kind ∷ kinds) words ≡ more ++ word_numbers kinds left)
+    (more : List ℕ) × (new ≡ old ++ more)
+    × ((kinds : List Kind) → word_numbers (kind ∷ kinds) words ≡ more ++ word_numbers kinds left)
 
 -- the word of a slot of this kind is a number of more than 32 bits
 abbrev pub IsWide : Kind → List ℕ → Type 0

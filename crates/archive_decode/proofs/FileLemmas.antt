@@ -1,24 +1,21 @@
 -- The segments of a file, one more at a time, and the file's bytes.
-use Rattle.std.proofs.Common.{◌≡◌, refl, sym, ap, ap₂, subst, ◌∙◌, ◌+◌, ◌<◌, ◌≤◌, ℕ, zero, suc, Bool, true, false, cond, not, List, [], ◌∷◌, ◌++◌, Option, None, Some, length, map, take, drop, get_or, append_assoc, arith}
-use Rattle.std.specs.Prelude.{◌==◌, ◌&&◌, IfSome, slice_get}
+use Rattle.std.proofs.Common.{◌≡◌, refl, sym, ap, ap₂, subst, ◌∙◌, ◌+◌, ◌<◌, ◌≤◌, ℕ, zero, suc, Bool, true, false, cond, not, List, [], ◌∷◌, ◌++◌, Option, None, Some, length, drop, get_or, append_assoc, arith}
+use Rattle.std.specs.Prelude.{◌&&◌, IfSome}
 use Rattle.std.specs.List.{filter}
 use Rattle.std.proofs.lemmas.List.{append-nil, drop_all}
 use Rattle.log_seams.specs.Disk.{DiskState, KeepsBytes}
-use Rattle.record_format.specs.declared.header.Header.{Header}
 use Rattle.segment_pages.specs.Laws.{SegmentsAreHeld}
 use Rattle.sink_pieces.specs.Output.{Grew, GrewByFront, Took}
-use Rattle.archive_meaning.specs.declared.entry.JournalEntry.{JournalEntry}
-use Rattle.archive_meaning.specs.Held.{File, content_of, file_text, messages_of, text_from}
-use Rattle.archive_meaning.specs.Stands.{StandsFor}
+use Rattle.archive_meaning.specs.Held.{content_of, file_text, messages_of, text_from}
 use Rattle.archive_open.specs.declared.files.FileEntry.{FileEntry}
 use Rattle.archive_open.specs.declared.segments.SegmentPlace.{SegmentPlace}
-use Rattle.archive_open.specs.Shown.{Opens, Shown, StandsForNone, counted}
+use Rattle.archive_open.specs.Shown.{Opens, Shown, StandsForNone}
 use Rattle.archive_decode.specs.declared.lines.Lines.{Lines}
 use Rattle.archive_decode.specs.Decoded.{Decodes}
 use Rattle.archive_decode.specs.StepsHeld.{HoldAll, HoldsMessages, is_of}
 use Rattle.archive_decode.specs.StepsLines.{Adds, AddsFront, HasLines}
 use Rattle.archive_decode.proofs.HeldLemmas.{entry_of, file_held, file_messages}
-use Rattle.archive_decode.proofs.LinesLemmas.{adds-failed, adds-kept, adds-longer, adds-none, adds-then, lines-front, lines-none}
+use Rattle.archive_decode.proofs.LinesLemmas.{adds-failed, adds-longer, adds-none, adds-then, lines-front, lines-none}
 
 module _ (types words : List (List ℕ)) (number : ℕ) where
   -- some of the messages came behind the others, and the segments from a place on hold the rest

@@ -1,28 +1,28 @@
 -- The segments of a file in an opened archive hold the messages of that file, in order.
-use Rattle.std.proofs.Common.{◌≡◌, refl, sym, ap, ap₂, subst, ◌∙◌, ◌+◌, ◌*◌, ◌^◌, ◌<◌, ◌≤◌, ℕ, zero, suc, Bool, true, false, cond, List, [], ◌∷◌, ◌++◌, Option, None, Some, length, map, get_or, append_assoc, arith, length-append}
-use Rattle.std.specs.Prelude.{◌==◌, ◌||◌, ◌&&◌, if◌then◌else◌, nat_eq, slice_get}
+use Rattle.std.proofs.Common.{◌≡◌, refl, sym, ap, ap₂, subst, ◌∙◌, ◌+◌, ◌*◌, ◌^◌, ℕ, zero, suc, Bool, true, false, cond, List, [], ◌∷◌, ◌++◌, Some, length, map, get_or, append_assoc, arith, length-append}
+use Rattle.std.specs.Prelude.{◌==◌, ◌||◌, ◌&&◌, if◌then◌else◌, slice_get}
 use Rattle.std.specs.List.{AllZip, filter}
 use Rattle.std.proofs.lemmas.List.{append-nil}
 use Rattle.std.proofs.lemmas.Slice.Zip.{AllZip-long}
 use mathlib.Core.List.{IsPrefix}
 use Rattle.record_format.specs.declared.header.Header.{Header}
 use Rattle.column_store.specs.declared.row.Row.{Row}
-use Rattle.row_codec.specs.Means.{AreCanonical, IsCanonical, Means}
+use Rattle.row_codec.specs.Means.{AreCanonical}
 use Rattle.row_codec.proofs.MeansLemmas.{canonical_stays}
 use Rattle.segment_pages.specs.Laws.{SegmentsAreHeld}
 use Rattle.archive_meaning.specs.declared.entry.SegmentEntry.{SegmentEntry}
 use Rattle.archive_meaning.specs.declared.entry.JournalEntry.{JournalEntry}
 use Rattle.archive_meaning.specs.declared.entry.JournalEntry.TheVariants.{Files, Types, Words, Segment}
-use Rattle.archive_meaning.specs.Held.{File, Held, Piece, content_of, files_from, is_whole, messages_of, nothing_held}
+use Rattle.archive_meaning.specs.Held.{File, Held, Piece, files_from, is_whole, messages_of, nothing_held}
 use Rattle.archive_meaning.specs.Legal.{Accepts, AddsSegment, Run, piece_of}
-use Rattle.archive_meaning.specs.Spelled.{end_of, front_of, record_of, types_in, types_of}
+use Rattle.archive_meaning.specs.Spelled.{front_of, record_of, types_in, types_of}
 use Rattle.archive_meaning.specs.Stands.{StandsFor}
 use Rattle.archive_meaning.proofs.JudgeLemmas.{end_more, run_types}
 use Rattle.archive_meaning.proofs.SumsLemmas.{messages_joined, whole_joined}
 use Rattle.archive_open.proofs.NextLemmas.{front_length}
 use Rattle.archive_open.specs.declared.files.FileEntry.{FileEntry}
 use Rattle.archive_open.specs.declared.segments.SegmentPlace.{SegmentPlace}
-use Rattle.archive_open.specs.Shown.{IsArchiveOf, Shown, counted, files_of, head_in, order_of, placed, places_from, places_of}
+use Rattle.archive_open.specs.Shown.{IsArchiveOf, Shown, counted, head_in, order_of, places_from, places_of}
 use Rattle.archive_decode.specs.StepsHeld.{AreMeant, HoldAll, HoldsMessages, is_of}
 use Rattle.archive_decode.proofs.OrderLemmas.{AreAbove, AreAtLeast, Rise, above_from, least_lower, sorted_filter}
 

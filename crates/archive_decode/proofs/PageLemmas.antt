@@ -1,15 +1,15 @@
 -- The rows of a page, one more at a time.
-use Rattle.std.proofs.Common.{◌≡◌, refl, sym, ap, subst, ◌∙◌, ◌+◌, ◌<◌, ◌≤◌, ℕ, zero, suc, List, [], ◌∷◌, ◌++◌, Option, None, Some, true, length, take, append_assoc, arith}
+use Rattle.std.proofs.Common.{◌≡◌, refl, sym, ap, subst, ◌∙◌, ◌+◌, ◌≤◌, ℕ, zero, suc, List, [], ◌∷◌, ◌++◌, Option, Some, true, length, take, append_assoc, arith}
 use Rattle.std.specs.Prelude.{slice_get}
-use Rattle.std.proofs.lemmas.List.{append-nil, take_all}
+use Rattle.std.proofs.lemmas.List.{take_all}
 use Rattle.column_store.specs.declared.row.Row.{Row}
 use Rattle.row_codec.specs.Means.{HasSpelling, IsSpelling, Means}
 use Rattle.row_codec.proofs.MeansLemmas.{meaning_is_spelling, one_spelling}
 use Rattle.sink_pieces.specs.Output.{GrewByFront, Moves}
 use Rattle.archive_decode.specs.declared.lines.Lines.{Lines}
 use Rattle.archive_decode.specs.StepsHeld.{AreMeant}
-use Rattle.archive_decode.specs.StepsLines.{Adds, AddsFront, HasLines, behind}
-use Rattle.archive_decode.proofs.LinesLemmas.{adds-failed, adds-kept, adds-longer, adds-none, adds-then, lines-failed, lines-more}
+use Rattle.archive_decode.specs.StepsLines.{Adds, AddsFront, behind}
+use Rattle.archive_decode.proofs.LinesLemmas.{adds-failed, adds-longer, adds-none, adds-then, lines-failed, lines-more}
 
 -- the rows up to and with a place
 taken_more : (rows : List Row) (place : ℕ) (row : Row) → slice_get rows place ≡ Some row → take (place + 1) rows ≡ take place rows ++ row ∷ []

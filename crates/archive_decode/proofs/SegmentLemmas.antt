@@ -1,10 +1,8 @@
 -- The messages of a segment, a page more at a time.
-use Rattle.std.proofs.Common.{◌≡◌, refl, sym, ap, subst, ◌∙◌, ℕ, ◌≤◌, List, [], ◌∷◌, ◌++◌, Option, None, Some, append_assoc, Result, Err, inl, arith}
+use Rattle.std.proofs.Common.{◌≡◌, refl, sym, ap, subst, ◌∙◌, ℕ, ◌≤◌, List, [], ◌∷◌, ◌++◌, Option, Some, append_assoc, Result, Err, inl, arith}
 use Rattle.std.proofs.lemmas.List.{append-nil}
 use Rattle.log_seams.specs.Disk.{DiskState, Rests}
 use Rattle.column_store.specs.declared.row.Row.{Row}
-use Rattle.row_codec.specs.Means.{Means}
-use Rattle.segment_format.specs.declared.head.Head.{Head}
 use Rattle.segment_pages.specs.Laws.{NoneAreLeft}
 use Rattle.segment_pages.specs.declared.refusal.PageRefusal.{PageRefusal}
 use Rattle.segment_pages.specs.Paged.{AreNextTold, HoldsLeft, HoldsNoneTold, HoldsSegment, Paged}

@@ -7,13 +7,11 @@ use mathlib.Core.List.{IsPrefix}
 use Rattle.logtype_text.specs.Laws.{OneListOfParts}
 use Rattle.logtype_text.specs.declared.symbols.Kind.TheVariants.{Whole, Word, Decimal}
 use Rattle.logtype_text.specs.Encoded.{word_texts}
-use Rattle.logtype_text.specs.Parts.{Part, Constant, Variable, AreParts, joined, symbol_of}
+use Rattle.logtype_text.specs.Parts.{Part, Constant, Variable, symbol_of}
 use Rattle.logtype_text.specs.TypeText.{type_text}
-use Rattle.time_patterns.proofs.VersionLemmas.{one_stamp_of}
 use Rattle.column_store.specs.declared.row.Row.{Row}
 use Rattle.row_codec.proofs.OneCutLemmas.{one_cut}
 use Rattle.row_codec.specs.Means.{EachWord, HasWord, IsCanonical}
-use Rattle.row_codec.specs.Messages.{IsCutInto}
 use Rattle.row_codec.specs.Naming.{AreNumbers, Known, MeetsLimit, MetLimit}
 use Rattle.plain_list.specs.Texts.{IsNew}
 use Rattle.row_codec.specs.declared.namer.NameRefusal.{NameRefusal}

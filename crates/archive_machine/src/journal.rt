@@ -1,5 +1,5 @@
 //! What a journal says of a file.
-ghost use Rattle.std.specs.Prelude.{◌≡◌, ℕ, ◌<◌, ◌^◌, [], ◌∷◌, length};
+ghost use Rattle.std.specs.Prelude.{◌≡◌, ◌<◌, ◌^◌, [], ◌∷◌};
 ghost use Rattle.archive_machine.specs.Machine.{count_of, is_closed};
 
 use archive_meaning::JournalEntry;

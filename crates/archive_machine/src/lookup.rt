@@ -1,7 +1,6 @@
 //! The row of a message whose texts are all in the dictionaries.
-ghost use Rattle.std.specs.Prelude.{◌≡◌, ℕ, ◌<◌, ◌≤◌, ◌^◌, [], ◌++◌, IfNone, IfOk, IfSome, IsErrOf, MatchOption, Some, length, slice_get, take};
+ghost use Rattle.std.specs.Prelude.{◌≡◌, ℕ, ◌<◌, ◌≤◌, ◌^◌, [], IfNone, IfOk, IfSome, IsErrOf, MatchOption, Some, length, slice_get};
 ghost use Rattle.column_store.specs.declared.row.Row.{Row};
-ghost use Rattle.column_store.specs.Row.{IsRow};
 ghost use Rattle.row_codec.specs.declared.TheConstants.{MAX_MESSAGE_LEN};
 ghost use Rattle.row_codec.specs.declared.namer.NameRefusal.TheVariants.{Full};
 ghost use Rattle.row_codec.specs.declared.namer.Which.TheVariants.{Words};

@@ -1,7 +1,7 @@
 //! What each event does to the state.
 ghost use Rattle.std.specs.Int.{w64};
 ghost use Rattle.std.specs.Int.RustNames.{FitsSigned};
-ghost use Rattle.std.specs.Prelude.{◌≡◌, ℕ, ◌+◌, ◌<◌, ◌≤◌, ◌^◌, ◌↔◌, ◌++◌, ◌∷◌, [], All, IfNone, IfOk, IfSome, IsTrue, List, length};
+ghost use Rattle.std.specs.Prelude.{◌≡◌, ℕ, ◌+◌, ◌<◌, ◌≤◌, ◌^◌, ◌↔◌, ◌++◌, ◌∷◌, [], All, IfNone, IfOk, IfSome, IsTrue, length};
 ghost use Rattle.column_store.specs.Row.{IsRow, variable_count};
 ghost use Rattle.archive_meaning.specs.declared.TheConstants.{MAX_MESSAGES};
 ghost use Rattle.archive_machine.specs.StepsAdd.{HasRoom};

@@ -9,7 +9,7 @@ use Rattle.std.proofs.lemmas.List.{append_assoc, length-append}
 use Rattle.std.proofs.lemmas.List.Elements.{All-append, All-cons, All-nil}
 use Rattle.std.proofs.lemmas.List.Sums.{AllPass-from_list_all}
 use Rattle.std.proofs.lemmas.Str.Parse.{digit_from_value}
-use Rattle.log_messages.specs.Messages.{IsLine, joined}
+use Rattle.log_messages.specs.Messages.{IsLine}
 use Rattle.generated_logs.specs.Laws.{HasLines, LogsHaveLines}
 use Rattle.generated_logs.specs.Logs.{level_of, line_of, lines_from, stamp_at, stamp_of_seconds, task_of, three_digits, time_words, two_digits, worker_words}
 

@@ -1,7 +1,7 @@
 //! The text of a line.
 ghost use Rattle.std.specs.Prelude.{◌≡◌, ◌+◌, ◌<◌, ◌≤◌, ◌++◌, [], length};
 ghost use Rattle.std.specs.Fmt.{decimal};
-ghost use Rattle.generated_logs.specs.Logs.{level_of, line_of, stamp_at, stamp_of_seconds, task_of, time_words, worker_words};
+ghost use Rattle.generated_logs.specs.Logs.{level_of, line_of, stamp_at, stamp_of_seconds, time_words, worker_words};
 
 use crate::line::Line;
 

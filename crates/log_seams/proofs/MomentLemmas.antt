@@ -1,5 +1,5 @@
 -- How what a crash may leave goes on, from call to call and from run to run.
-use Rattle.std.specs.Prelude.{◌≡◌, ℕ, ◌≤◌, List, Option, Some, None}
+use Rattle.std.specs.Prelude.{ℕ, ◌≤◌, List, Option, Some, None}
 use Rattle.std.proofs.Common.{inl, inr, ⊎_elim, arith, sym, subst, ◌∙◌}
 use Rattle.log_seams.specs.Disk.{DiskState, IsLawful, Elapses, LeavesOnly, Rests, KeepsBytes, NoMore, Only, IsSynced}
 use Rattle.log_seams.specs.Outside.{Rose}

@@ -5,7 +5,7 @@
 //! crash; all other bytes stay. After a sync that succeeds a crash leaves what a read gives. A call
 //! that failed raised the disk's count of faults; a write or a sync that failed leaves the same
 //! freedom over its range.
-ghost use Rattle.std.specs.Prelude.{◌≡◌, ◌+◌, ◌^◌, ◌≤◌, List, ℕ, length};
+ghost use Rattle.std.specs.Prelude.{◌≡◌, ◌+◌, ◌^◌, ◌≤◌, length};
 ghost use Rattle.log_seams.specs.Disk.{DiskState, IsLawful, HasLength, HasRead, HasWritten, HasSynced};
 
 use crate::Failed;

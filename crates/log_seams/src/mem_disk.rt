@@ -179,10 +179,10 @@ fn left_by(
 }
 
 impl MemDisk {
-    ghost use Rattle.std.specs.Prelude.{[], ◌∷◌, ◌||◌, is_ok, IsTrue, not, false, min, ◌-◌};
+    ghost use Rattle.std.specs.Prelude.{[], ◌∷◌, ◌||◌, is_ok, not, false, min, ◌-◌};
     ghost use Rattle.log_seams.specs.StepsReplay.{IsQuiet};
     ghost use Rattle.log_seams.specs.Disk.{Rests};
-    ghost use Rattle.log_seams.specs.MemDisk.{first_of, bytes_of, calls_of, events_of, events_until, disk_state, fails_next, lacks_room, SameBut, Recorded, IsNewDisk};
+    ghost use Rattle.log_seams.specs.MemDisk.{first_of, bytes_of, calls_of, events_of, events_until, disk_state, fails_next, lacks_room, Recorded, IsNewDisk};
 
     /// A disk that begins with these bytes, which may be more than `room`. It fails at each write that
     /// would begin behind its end, would end past `room`, or would take the sum of the bytes that it

@@ -1,5 +1,4 @@
 //! The lines that begin a message.
-ghost use Rattle.std.specs.Prelude.{◌↔◌, IsTrue};
 ghost use Rattle.message_reader.specs.Versions.{IsHead};
 ghost use Rattle.message_reader.specs.StepsReading.{version_of};
 

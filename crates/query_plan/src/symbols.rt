@@ -1,5 +1,5 @@
 //! A body as plain data: constant bytes, and variables with their texts.
-ghost use Rattle.std.specs.Prelude.{◌≡◌, ◌++◌, ◌∷◌, [], IfSome, IfNone, List, ℕ};
+ghost use Rattle.std.specs.Prelude.{◌++◌};
 ghost use Rattle.logtype_text.specs.Parts.{joined};
 ghost use Rattle.query_plan.specs.Symbols.{parts};
 

@@ -57,7 +57,8 @@ abbrev pub refusal_of : {T : Type 0} → Result T NameRefusal → Option NameRef
 refusal_of (Ok named) = None
 refusal_of (Err refusal) = Some refusal
 
-module _ {N : Type 0} (naming : Which → List (List ℕ) → Option NameRefusal → N → N → Type 0) (version : ℕ) (message : List ℕ) (answer : Option NameRefusal) where
+module _ {N : Type 0} (naming : Which → List (List ℕ) → Option NameRefusal → N → N → Type 0) (version : ℕ) (message : List ℕ)
+    (answer : Option NameRefusal) where
   -- words of the message were named once, or one of them was refused, and the answer tells that
   pub record AsksForWords (old new : N) : Type 0 where
     pub texts : List (List ℕ)

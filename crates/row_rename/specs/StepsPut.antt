@@ -16,6 +16,7 @@ pub record PutsSlot (old new : List (List ℕ)) (kind : Kind) (word : ℕ) (out 
 -- The first slots have their words: with the words of the others, whatever further texts are known by
 -- then, it is all of them.
 pub record HasPut (old new : List (List ℕ)) (kinds rest : List Kind) (words left out used : List ℕ) : Type 0 where
-  pub leads : (more : List (List ℕ)) (tail : List ℕ) → IsPrefix new more → AreRenamed old more rest left tail → AreRenamed old more kinds words (out ++ tail)
+  pub leads : (more : List (List ℕ)) (tail : List ℕ) → IsPrefix new more → AreRenamed old more rest left tail
+      → AreRenamed old more kinds words (out ++ tail)
   pub numbers : (tail : List ℕ) → word_numbers kinds (out ++ tail) ≡ used ++ word_numbers rest tail
   pub may : MayRenameWords old kinds words → MayRenameWords old rest left

@@ -36,7 +36,8 @@ pub record HasNamedSome (old : List (List ℕ)) (known more : Known) (numbers : 
   pub kept : IsTable old more.texts numbers
 
 -- so it is with the log types and the words, and the tables hold of them
-pub record HasNamedBoth (types words : List (List ℕ)) (types_before types_after words_before words_after : Known) (tables : Tables) : Type 0 where
+pub record HasNamedBoth (types words : List (List ℕ)) (types_before types_after words_before words_after : Known)
+    (tables : Tables) : Type 0 where
   pub types_grown : HasGrown (Contains types) types_before types_after
   pub words_grown : HasGrown (Contains words) words_before words_after
   pub kept : AreTables types words types_after.texts words_after.texts tables

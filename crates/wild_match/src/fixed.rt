@@ -1,5 +1,5 @@
 //! Matching by the pattern alone, with no memory taken.
-ghost use Rattle.std.specs.Prelude.{◌≡◌, ◌↔◌, ◌+◌, ◌≤◌, ◌<◌, ℕ, IfSome, IsTrue, length, take, drop, ◌∷◌, map};
+ghost use Rattle.std.specs.Prelude.{◌≡◌, ◌↔◌, ◌+◌, ◌≤◌, ◌<◌, IfSome, IsTrue, length, take, drop, ◌∷◌};
 ghost use Rattle.memchr.specs.Find.{IsFirst};
 ghost use Rattle.wild_match.specs.Matches.{Match, IsFixed, Fits, FitsAt};
 ghost use Rattle.wild_match.specs.Runs.{RunAt};

@@ -1,5 +1,5 @@
 //! The longest run of literal bytes among items.
-ghost use Rattle.std.specs.Prelude.{◌≡◌, ◌+◌, ◌≤◌, ℕ, List, IfOk, length};
+ghost use Rattle.std.specs.Prelude.{◌≡◌, ◌+◌, ◌≤◌, ℕ, IfOk, length};
 ghost use Rattle.wild_match.specs.Runs.{RunAt, IsLongestRun, AreLiteral, literal_bytes};
 
 use crate::pattern::Item;

@@ -1,8 +1,8 @@
-use Rattle.std.proofs.Common.{refl, rules, ◌∙◌}
+use Rattle.std.proofs.Common.{rules, ◌∙◌}
 use Rattle.std.proofs.lemmas.Result.{err_from_is_err_and}
 use Rattle.log_seams.proofs.MomentLemmas.{rests_on}
 use Rattle.archive_decode.proofs.LinesLemmas.{on_err}
-use Rattle.archive_decode.proofs.FileLemmas.{all_done, all_failed, all_not, all_skip, all_step}
+use Rattle.archive_decode.proofs.FileLemmas.{all_done, all_failed, all_not, all_step}
 use Rattle.archive_decode.proofs.decoding.write_segments.Goals as goal
 
 pub returns-in_err-write_segment-clause-err : goal.returns-in_err-write_segment-clause-err

@@ -1,4 +1,4 @@
-use Rattle.std.proofs.Common.{arith, ◌∙◌, rules}
+use Rattle.std.proofs.Common.{◌∙◌, rules}
 use Rattle.archive_decode.proofs.LinesLemmas.{on_err}
 use Rattle.archive_decode.proofs.PageLemmas.{page_done, page_failed, page_more, page_unspelled}
 use Rattle.archive_decode.proofs.segment.write_page.Goals as goal

@@ -1,4 +1,4 @@
-use Rattle.std.proofs.Common.{rules, refl, sym, ◌∙◌, ap, List, ℕ, Some}
+use Rattle.std.proofs.Common.{rules, sym, ◌∙◌, ap, List, ℕ, Some}
 use Rattle.log_seams.specs.Replay.{Event, synced, reads_of}
 use Rattle.log_seams.proofs.EventLemmas.{synced_less, synced_only, elapses}
 use Rattle.log_seams.proofs.mem_disk.MemDiskDisk.sync.Goals as goal
