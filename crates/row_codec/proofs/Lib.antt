@@ -7,4 +7,5 @@ pub mod LayoutLemmas
 pub mod MeansLemmas
 pub mod OneCutLemmas
 pub mod OpeningLemmas
+pub mod RunLemmas
 pub mod StampLemmas

@@ -8,6 +8,7 @@ ghost use Rattle.row_codec.specs.StepsBody.{HasBody, HasStampWriting, HasWriting
 
 use crate::Names;
 use crate::fitting::{dictionary_word, stamp_fits};
+use crate::runs::{put_bytes, put_front};
 use column_store::RowRef;
 use logtype_text::{Kind, Symbol, first_symbol, plain_front};
 use plain_list::Text;
@@ -15,7 +16,7 @@ use std::alloc::{AllocError, Global};
 use std::sync::ledger::Ledger;
 use step_count::Steps;
 use time_patterns::StampPrinter;
-use var_codec::{decimal_ok, decimal_text, whole_text};
+use var_codec::{append_whole, decimal_ok, decimal_text};
 
 /// Appends what a row is written as, where it can be written, and tells whether it can. Where the row
 /// means a message, this is the message. Where it cannot, and without memory, nothing is appended.
@@ -220,8 +221,9 @@ fn put_plain<'a>(text: &'a [u8], out: &mut Vec<u8>) -> Result<&'a [u8], AllocErr
     ensures shorter { IfOk result (λ rest. length rest.now ≤ length text.now) }
     ensures front { IsPrefix out.old.items out.new.items }
 {
-    let (plain, rest) = text.split_at(plain_front(text));
-    put_bytes(out, plain)?;
+    let len = plain_front(text);
+    let (_, rest) = text.split_at(len);
+    put_front(out, text, len)?;
     Ok(rest)
 }
 
@@ -240,17 +242,16 @@ fn put_word<N: Names>(
         → ¬ HasWriting (N.words names.now) kind word) }
     ensures front { IsPrefix out.old.items out.new.items }
 {
-    let mut digits = [0; 20];
     match kind {
         Kind::Whole => {
-            let len = whole_text(word.cast_signed(), &mut digits);
-            put_bytes(out, &digits[..len])?;
+            append_whole(word.cast_signed(), out)?;
             Ok(true)
         }
         Kind::Decimal => {
             if !decimal_ok(word) {
                 return Ok(false);
             }
+            let mut digits = [0; 20];
             let len = decimal_text(word, &mut digits);
             put_bytes(out, &digits[..len])?;
             Ok(true)
@@ -263,13 +264,4 @@ fn put_word<N: Names>(
             None => Ok(false),
         },
     }
-}
-
-// Appends bytes.
-#[inline]
-pub(crate) fn put_bytes(out: &mut Vec<u8>, bytes: &[u8]) -> Result<(), AllocError>
-    ensures put { OnOk result (out.new.items ≡ out.old.items ++ bytes.now) }
-    ensures front { IsPrefix out.old.items out.new.items }
-{
-    out.extend_from_slice(bytes)
 }

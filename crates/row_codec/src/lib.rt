@@ -16,6 +16,7 @@ mod message;
 mod namer;
 mod names;
 mod opening;
+mod runs;
 mod writer;
 
 pub use canonical::row_ok;

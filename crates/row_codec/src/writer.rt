@@ -7,8 +7,9 @@ ghost use Rattle.row_codec.specs.StepsBody.{HasBody, IsBody};
 ghost use Rattle.row_codec.specs.StepsLayouts.{IsClosed, spelled};
 
 use crate::Names;
-use crate::expanding::{put_bytes, put_stamp, put_symbol};
+use crate::expanding::{put_stamp, put_symbol};
 use crate::layouts::{Layout, Layouts, Next};
+use crate::runs::put_front;
 use column_store::RowRef;
 use logtype_text::Symbol;
 use std::alloc::AllocError;
@@ -124,8 +125,8 @@ fn put_layout<N: Names>(
     let mut others = pieces;
     let mut left = words;
     while let Some((piece, behind)) = others.split_first() {
-        let (run, after) = rest.split_at(piece.len);
-        put_bytes(out, run)?;
+        let (_, after) = rest.split_at(piece.len);
+        put_front(out, rest, piece.len)?;
         match piece.next {
             Next::Slot(kind) => {
                 let Some(more) = put_symbol(Symbol::Slot(kind), left, names, out)? else {
