@@ -18,7 +18,7 @@ use Rattle.dict_lock.specs.Naming.{AreNumbers, Learns, NamesMore}
 use Rattle.dict_lock.specs.StepsOfNaming.{AreHeld, FoundAll, Grows, NamesFront, AddsAmong}
 use Rattle.dict_lock.specs.declared.naming.TheConstants.{UNKNOWN}
 use Rattle.dict_lock.proofs.SharedLemmas.{names_rest, names_at}
-use Rattle.dict_lock.proofs.CacheLemmas.{grows_distinct, grows_even, slice_get-front, slice_get-push, slice_get-some}
+use Rattle.dict_lock.proofs.CacheLemmas.{grows_distinct, grows_even, slice_get-front, slice_get-some}
 
 abbrev Texts : Type 0
 Texts = List (List ℕ)

@@ -1,4 +1,5 @@
 //! A pass that remembers the numbers that it was given.
+ghost use Rattle.std.specs.Prelude.{◌≡◌, OnOk};
 ghost use Rattle.plain_list.specs.Texts.{AreDistinct};
 ghost use Rattle.dict_lock.specs.Cache.{IsEven, IsSeen};
 ghost use Rattle.turn_lock.specs.Words.{seen, IsReady};
@@ -8,7 +9,7 @@ use crate::naming::{look_up, name_in_turn};
 use crate::texts::{OneText, TextSlice};
 use dict_core::{Book, BookRefusal};
 use plain_list::NumberList;
-use std::alloc::Global;
+use std::alloc::{AllocError, Global};
 use std::sync::Wait;
 use std::sync::ledger::Ledger;
 use step_count::Steps;
@@ -21,10 +22,22 @@ pub struct CachedPass<'l> {
     alloc: Global,
     pass: Pass<'l, Book>,
     cache: Cache,
+    /// The numbers that the cache has of the texts that are being named, in memory that is used
+    /// again.
+    found: Vec<u32>,
     ghost ready: { IsReady pass },
     ghost remembered: { IsSeen cache (seen pass) },
     ghost distinct: { AreDistinct cache.texts },
     ghost even: { IsEven cache },
+}
+
+/// Makes a vector these numbers.
+fn copy_into(copy: &mut Vec<u32>, numbers: &[u32]) -> Result<(), AllocError>
+    ensures { OnOk result (copy.new.items ≡ numbers.now) }
+{
+    copy.clear();
+    copy.extend_from_slice(numbers)?;
+    Ok(())
 }
 
 impl<'l> CachedPass<'l> {
@@ -49,6 +62,7 @@ impl<'l> CachedPass<'l> {
             alloc,
             pass,
             cache: Cache::new(alloc),
+            found: Vec::new(alloc),
         }
     }
 
@@ -127,7 +141,16 @@ impl<'l> CachedPass<'l> {
         if look_up(&self.cache, texts, numbers) {
             return Ok(());
         }
-        name_in_turn(&mut self.pass, &mut self.cache, rt, texts, numbers, turns)
+        copy_into(&mut self.found, numbers.as_slice())?;
+        name_in_turn(
+            &mut self.pass,
+            &mut self.cache,
+            rt,
+            texts,
+            self.found.as_slice(),
+            numbers,
+            turns,
+        )
     }
 
     /// The same in a list of its own.

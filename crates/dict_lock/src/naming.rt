@@ -5,7 +5,7 @@ ghost use Rattle.dict_core.specs.Books.{Names};
 ghost use Rattle.plain_list.specs.Texts.{IsNew};
 ghost use Rattle.dict_core.specs.Fair.{IsFair};
 ghost use Rattle.dict_core.specs.declared.refusals.BookRefusal.TheVariants.{Full};
-ghost use Rattle.dict_lock.specs.Cache.{Remembers, HoldsAll, HoldsFront, Keeps, IsSeen};
+ghost use Rattle.dict_lock.specs.Cache.{GrowsBy, Remembers, HoldsAll, HoldsFront, Keeps, IsSeen, StaysSeen};
 ghost use Rattle.dict_lock.specs.Naming.{AreNumbers, NamesMore, MeetsLimit};
 ghost use Rattle.dict_lock.specs.StepsOfNaming.{HasNoMark, IsMarked, FoundAll, Grows, NamesFront, AddsAmong, IsRefusedAt, IsRefusedTo};
 
@@ -113,9 +113,30 @@ fn name_marked<T: TextSlice, R: Wait, L: Ledger>(
     named
 }
 
-/// Holds the first of the texts from now on, as many as there are numbers.
-fn remember<T: TextSlice>(cache: &mut Cache, texts: &T, numbers: &[u32]) -> Result<(), AllocError>
-    requires { length numbers.now ≤ length (T.texts texts.now) }
+/// Holds a text with its number from now on. One that was found in the cache is held already.
+fn keep_new(cache: &mut Cache, found: u32, text: &[u8], number: u32) -> Result<(), AllocError>
+    requires { found ≢ UNKNOWN → Remembers cache.old text.now found }
+    ensures kept { Keeps cache.old cache.new }
+    ensures held { OnOk result ((n : ℕ) × Remembers cache.new text.now n) }
+    ensures seen { StaysSeen cache.old cache.new text.now number }
+    ensures grows { GrowsBy cache.old cache.new text.now }
+{
+    if found != UNKNOWN {
+        return Ok(());
+    }
+    cache.keep(text, number)
+}
+
+/// Holds the first of the texts from now on, as many as there are numbers. `found` are the numbers
+/// that the cache has, with a mark for each text that it does not hold: only those are new to it.
+fn remember<T: TextSlice>(
+    cache: &mut Cache,
+    texts: &T,
+    found: &[u32],
+    numbers: &[u32],
+) -> Result<(), AllocError>
+    requires found { IsMarked (Remembers cache.old) found.now (T.texts texts.now) }
+    requires front { length numbers.now ≤ length (T.texts texts.now) }
     ensures kept { Keeps cache.old cache.new }
     ensures grows { Grows cache.old cache.new (T.texts texts.now) }
     ensures seen { (seen : List (List ℕ)) → IsSeen cache.old seen
@@ -123,17 +144,19 @@ fn remember<T: TextSlice>(cache: &mut Cache, texts: &T, numbers: &[u32]) -> Resu
     ensures held { OnOk result (HoldsFront cache.new (T.texts texts.now) (length numbers.now)) }
 {
     for place in 0..numbers.len() {
-        cache.keep(texts.at(place), numbers[place])?;
+        keep_new(cache, found[place], texts.at(place), numbers[place])?;
     }
     Ok(())
 }
 
-/// Names the texts that are marked in one turn, and holds all that were named from then on.
+/// Names the texts that are marked in one turn, and holds all that were named from then on. `found`
+/// are the numbers with their marks, which `numbers` has too.
 pub(crate) fn name_in_turn<T: TextSlice, R: Wait, L: Ledger>(
     pass: &mut Pass<'_, Book>,
     cache: &mut Cache,
     rt: &R,
     texts: &T,
+    found: &[u32],
     numbers: &mut Vec<u32>,
     turns: &mut Steps<L>,
 ) -> Result<(), BookRefusal>
@@ -141,6 +164,7 @@ pub(crate) fn name_in_turn<T: TextSlice, R: Wait, L: Ledger>(
     requires fair { All (IsFair (number_of pass.old)) (T.texts texts.now) }
     requires cache { IsSeen cache.old (seen pass.old) }
     requires marked { IsMarked (Remembers cache.old) numbers.old.items (T.texts texts.now) }
+    requires found { found.now ≡ numbers.old.items }
 
     // whatever the answer
     ensures pass { NamesMore pass.old pass.new (T.texts texts.now) }
@@ -156,7 +180,7 @@ pub(crate) fn name_in_turn<T: TextSlice, R: Wait, L: Ledger>(
         → MeetsLimit pass.new cache.new (T.texts texts.now) count }
 {
     let named = name_marked(pass, rt, texts, numbers, turns);
-    if remember(cache, texts, numbers.as_slice()).is_err() {
+    if remember(cache, texts, found, numbers.as_slice()).is_err() {
         return Err(BookRefusal::OutOfMemory);
     }
     named

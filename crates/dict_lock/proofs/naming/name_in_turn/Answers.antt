@@ -1,12 +1,16 @@
 use Rattle.std.proofs.Common.{ℕ, List, sym, subst, length}
 use Rattle.turn_lock.specs.Words.{seen}
-use Rattle.dict_lock.specs.Cache.{HoldsFront}
-use Rattle.dict_lock.specs.StepsOfNaming.{NamesFront}
+use Rattle.dict_lock.specs.Cache.{HoldsFront, Remembers}
+use Rattle.dict_lock.specs.StepsOfNaming.{IsMarked, NamesFront}
 use Rattle.dict_lock.proofs.NamingLemmas.{seen_on, ok_numbers, ok_held, not_err}
 use Rattle.dict_lock.proofs.naming.name_in_turn.Goals as goal
 
 pub name_marked-named-requires-clause-marked : goal.name_marked-named-requires-clause-marked
 name_marked-named-requires-clause-marked g c = let was = c.requires.marked in record { long = was.long; known = λ k n t a b real. c.requires.cache t n (was.known k n t a b real) }
+
+pub remember-requires-clause-found : goal.remember-requires-clause-found
+remember-requires-clause-found g c =
+    subst (λ items. IsMarked (Remembers c.args.cache.now) items (g.T.TextSlice.texts c.args.texts.now)) (sym c.requires.found) c.requires.marked
 
 pub returns-then-is_err-clause-cache : goal.returns-then-is_err-clause-cache
 returns-then-is_err-clause-cache g c = let texts = g.T.TextSlice.texts c.args.texts.now in let named = c.name_marked-named.ensures in

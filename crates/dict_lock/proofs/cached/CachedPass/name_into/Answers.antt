@@ -13,6 +13,12 @@ returns-then-look_up-clause-named g c = all_numbers _ _ _ c.if-look_up.ensures.m
 pub returns-in_err-reserve-clause-learned : goal.returns-in_err-reserve-clause-learned
 returns-in_err-reserve-clause-learned g c = learns_nothing _ _ _ _
 
+pub returns-in_err-copy_into-clause-pass : goal.returns-in_err-copy_into-clause-pass
+returns-in_err-copy_into-clause-pass g c = names_nothing c.args.self.now.pass _ c.args.self.now.ready
+
+pub returns-in_err-copy_into-clause-learned : goal.returns-in_err-copy_into-clause-learned
+returns-in_err-copy_into-clause-learned g c = learns_nothing _ _ _ _
+
 pub returns-then-look_up-clause-learned : goal.returns-then-look_up-clause-learned
 returns-then-look_up-clause-learned g c = learns_nothing _ _ _ _
 
