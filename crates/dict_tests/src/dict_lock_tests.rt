@@ -256,41 +256,47 @@ fn are(numbers: Result<NumberList, BookRefusal>, want: &[u32]) -> bool {
     }
 }
 
-/// Whether a pass with a cache over a book with the limit 2 names these three lists as it should.
+/// Whether a pass with a cache over a book with the limit 3 names these four lists as it should.
 fn names_by_cache<R: Wait, L: Ledger>(
     rt: &R,
     alloc: Global,
-    lists: [&TextList; 3],
+    lists: [&TextList; 4],
     turns: &mut Steps<L>,
 ) -> bool {
-    let [first, second, third] = lists;
-    let Ok((lock, mut maker)) = SharedBook::new(alloc, Book::new(alloc, 2), 0) else {
+    let [first, second, mixed, third] = lists;
+    let Ok((lock, mut maker)) = SharedBook::new(alloc, Book::new(alloc, 3), 0) else {
         return false;
     };
     let pass = maker.pass(&lock);
     let number = pass.number();
-    if !are_fair(number, first) || !are_fair(number, second) || !are_fair(number, third) {
+    if !are_fair(number, first) || !are_fair(number, second) {
+        return false;
+    }
+    if !are_fair(number, mixed) || !are_fair(number, third) {
         return false;
     }
     let mut pass = CachedPass::new(alloc, pass);
     let named = are(pass.name_all(rt, first, turns), &[0, 1, 0]);
     let known = are(pass.name_all(rt, second, turns), &[1]);
+    let added = are(pass.name_all(rt, mixed, turns), &[0, 2, 2, 1]);
     let refused = match pass.name_all(rt, third, turns) {
-        Err(BookRefusal::Full { count }) => count == 2,
+        Err(BookRefusal::Full { count }) => count == 3,
         _ => false,
     };
-    named && known && refused && pass.knows(b"a") == Some(0) && pass.knows(b"c").is_none()
+    let held = pass.knows(b"a") == Some(0) && pass.knows(b"c") == Some(2);
+    named && known && added && refused && held && pass.knows(b"d").is_none()
 }
 
-/// The same of `a`, `b` and `a`, then `b`, then `a` and `c`.
+/// The same of `a`, `b` and `a`, then `b`, then new texts between known ones, then `a` and `d`.
 fn cached<R: Wait, L: Ledger>(rt: &R, alloc: Global, blank: Blank) -> Option<bool>
     requires { OpensFor blank L.name L.parts }
 {
     let mut turns: Steps<L> = Steps::new(blank);
     let first = letters(alloc, b"aba")?;
     let second = letters(alloc, b"b")?;
-    let third = letters(alloc, b"ac")?;
-    Some(names_by_cache(rt, alloc, [&first, &second, &third], &mut turns))
+    let mixed = letters(alloc, b"accb")?;
+    let third = letters(alloc, b"ad")?;
+    Some(names_by_cache(rt, alloc, [&first, &second, &mixed, &third], &mut turns))
 }
 
 #[test]
