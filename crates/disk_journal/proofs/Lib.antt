@@ -3,3 +3,4 @@ pub mod WalkLemmas
 pub mod JournalLemmas
 pub mod AppendLemmas
 pub mod SeriesLemmas
+pub mod GateLemmas

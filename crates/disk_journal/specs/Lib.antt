@@ -5,4 +5,5 @@ pub mod State
 pub mod Journal
 pub mod Calls
 pub mod Created
+pub mod Gates
 pub mod Laws

@@ -176,9 +176,9 @@ impl<'d, D: Disk> Journal<'d, D> {
         }
     }
 
-    /// Loads `length` bytes from the place `at`, a range within a payload that was walked past. `Damaged`
-    /// where the disk gave fewer bytes, which one that tells its bytes does not. Reads no byte outside
-    /// the range.
+    /// Loads `length` bytes from the place `at`: a range within a payload that was walked past, or
+    /// found by [`Journal::place_at`]. `Damaged` where the disk gave fewer bytes, which one that tells
+    /// its bytes does not. Reads no byte outside the range.
     pub fn load(&mut self, alloc: Global, at: u64, length: u64) -> Result<Text, LoadRefusal>
         requires { IfSome (D.state self.old.disk.now).seen (HasRange at length) }
 

@@ -3,6 +3,7 @@
 #![tactic(auto)]
 
 mod creation;
+mod gates;
 mod journal;
 mod laws;
 mod record;
