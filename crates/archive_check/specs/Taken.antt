@@ -17,7 +17,7 @@ Takes old kind payload new =
 abbrev pub TakesNone : Sums → ℕ → List ℕ → Type 0
 TakesNone old kind payload =
     (e : JournalEntry) (more : Sums) → HasForm old.types e → Admits old e more
-        → record_of old.types e ≢ record { kind = kind; payload = payload }
+    → record_of old.types e ≢ record { kind = kind; payload = payload }
 
 -- the payload is that of no segment
 abbrev pub SpellsNoSegment : List ℕ → Type 0
