@@ -451,3 +451,36 @@ fn laws_hold() {
     segments_read_back();
     pages_are_the_columns();
 }
+
+/// Numbers, and their sorted set. The first rows are marked, as the greatest number is below sixteen
+/// times their count; the others are sorted.
+const SETS: &[(&[u32], &[u32])] = &[
+    (&[], &[]),
+    (&[0], &[0]),
+    (&[15], &[15]),
+    (&[7, 7, 7], &[7]),
+    (&[31, 5], &[5, 31]),
+    (&[3, 1, 2, 1, 3, 0], &[0, 1, 2, 3]),
+    (&[40, 47, 0, 46, 47], &[0, 40, 46, 47]),
+    (&[16], &[16]),
+    (&[32, 5], &[5, 32]),
+    (&[4_294_967_295, 0, 4_294_967_295], &[0, 4_294_967_295]),
+];
+
+/// Whether this is the set of the numbers.
+fn is_set(alloc: Global, numbers: &[u32], set: &[u32]) -> bool {
+    match set_of(alloc, numbers) {
+        Ok(found) => found.as_slice() == set,
+        Err(_) => false,
+    }
+}
+
+#[test]
+fn sorted_sets(rt: HostRuntime) -> Result<(), Fail> {
+    for (numbers, set) in SETS {
+        if !is_set(rt.alloc(), *numbers, *set) {
+            return Err(Fail::new(set.len()));
+        }
+    }
+    Ok(())
+}

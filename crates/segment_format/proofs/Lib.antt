@@ -8,3 +8,4 @@ pub mod SegmentLemmas
 pub mod PagesLemmas
 pub mod LawsLemmas
 pub mod PagesLawLemmas
+pub mod MarkLemmas

@@ -3,3 +3,4 @@ pub mod Spelled
 pub mod Pages
 pub mod Laws
 pub mod StepsColumns
+pub mod StepsSets

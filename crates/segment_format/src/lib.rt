@@ -11,6 +11,7 @@ mod laws;
 mod numbers;
 mod pages;
 mod segment;
+mod sets;
 
 pub use ask::PageAsk;
 pub use columns::read_columns;
@@ -22,4 +23,5 @@ pub use laws::{
 };
 pub use pages::{PAGE_ROWS, PageReader, open_pages};
 pub use record_format::FormatRefusal;
-pub use segment::{set_of, write_segment};
+pub use segment::write_segment;
+pub use sets::set_of;

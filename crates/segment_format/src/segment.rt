@@ -8,25 +8,15 @@ ghost use Rattle.std.specs.Int.RustNames.{FitsSigned};
 ghost use Rattle.std.specs.List.{flat_map};
 ghost use Rattle.std.specs.List.Sorted.{IsStrictlyIncreasing};
 ghost use Rattle.record_format.specs.Lists.{four_bytes};
-ghost use Rattle.segment_format.specs.Layout.{sorted_set, stamped_moments, has_any, least_of, greatest_of, columns_bytes, segment_bytes};
+ghost use Rattle.segment_format.specs.Layout.{stamped_moments, has_any, least_of, greatest_of, columns_bytes, segment_bytes};
 
 use crate::columns::{ROW_LEN, WORD_LEN};
 use crate::fixed::{Fixed, put_fixed};
 use crate::numbers::{put_longs, put_moments, put_number, put_numbers};
+use crate::sets::set_of;
 use column_store::Columns;
 use plain_list::{NumberList, Text};
 use std::alloc::{AllocError, Global};
-
-/// The numbers sorted upwards, each once.
-pub fn set_of(alloc: Global, numbers: &[u32]) -> Result<Vec<u32>, AllocError>
-    ensures is { IfOk result (λ set. set.items ≡ sorted_set numbers.now) }
-    ensures few { IfOk result (λ set. length set.items ≤ length numbers.now) }
-{
-    let mut set = Vec::from_slice(alloc, numbers)?;
-    set.sort_unstable();
-    set.dedup();
-    Ok(set)
-}
 
 /// The least of the moments so far, if there are any, and this one.
 fn lesser(any: bool, least: i64, moment: i64) -> i64
@@ -98,7 +88,7 @@ fn put_columns(out: &mut Vec<u8>, columns: &Columns) -> Result<(), AllocError>
 }
 
 /// The bytes of a segment with these rows: its head, which lists their log types and these numbers of
-/// dictionary words, and their columns. It takes two allocations, one of them for the log types alone.
+/// dictionary words, and their columns. It takes three allocations, two of them for the log types alone.
 pub fn write_segment(
     alloc: Global,
     file: u32,
