@@ -1,6 +1,6 @@
 //! A segment of rows as bytes.
 
-ghost use Rattle.std.specs.Prelude.{◌≡◌, ◌<◌, ◌≤◌, ◌^◌, ◌++◌, if◌then◌else◌, length, map, IfOk, OnOk};
+ghost use Rattle.std.specs.Prelude.{◌≡◌, ◌<◌, ◌^◌, ◌++◌, if◌then◌else◌, length, map, IfOk, OnOk};
 ghost use Rattle.std.specs.Ordering.{int_cmp, ord_min, ord_max};
 ghost use Rattle.column_store.specs.Row.{variable_count};
 ghost use Rattle.std.specs.Int.{w64};
