@@ -128,7 +128,7 @@ impl StampPrinter {
         let Some(len) = self.print_front(pattern, moment, &mut text) else {
             return Ok(false);
         };
-        append(out, &text[..len])?;
+        append_front(out, &text, len)?;
         Ok(true)
     }
 
@@ -176,11 +176,16 @@ impl StampPrinter {
     }
 }
 
-// Appends bytes.
+// Appends so many bytes of the front of a text: all of it is copied, and what is behind them is taken
+// back, since a copy of a fixed width costs less than a call.
 #[inline(always)]
-fn append(out: &mut Vec<u8>, bytes: &[u8]) -> Result<(), AllocError>
-    ensures put { OnOk result (out.new.items ≡ out.old.items ++ bytes.now) }
+fn append_front(out: &mut Vec<u8>, text: &[u8; ROOM], len: usize) -> Result<(), AllocError>
+    requires { len ≤ 32 }
+    ensures put { OnOk result (out.new.items ≡ out.old.items ++ take len text.now) }
     ensures kept { OnErr result (out.new.items ≡ out.old.items) }
 {
-    out.extend_from_slice(bytes)
+    let end = out.len() + len;
+    out.extend_from_slice(text)?;
+    out.truncate(end);
+    Ok(())
 }

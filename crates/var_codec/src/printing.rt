@@ -1,6 +1,6 @@
 // From a word back to its text.
-ghost use Rattle.std.specs.Prelude.{◌≡◌, ℕ, ◌+◌, ◌<◌, ◌≤◌, ◌^◌, ◌↔◌, List, ◌++◌, length, take, IsTrue, OnOk, OnErr};
-ghost use Rattle.std.specs.Fmt.{sign_text};
+ghost use Rattle.std.specs.Prelude.{◌≡◌, ℕ, ◌+◌, ◌-◌, ◌<◌, ◌≤◌, ◌^◌, ◌↔◌, List, ◌++◌, length, take, drop, IsTrue, OnOk, OnErr};
+ghost use Rattle.std.specs.Fmt.{sign_text, signed_decimal};
 ghost use Rattle.var_codec.specs.Codes.{Codes, HasText, IsDecimalWord};
 ghost use Rattle.var_codec.specs.Fields.{AreFields, padded};
 
@@ -32,6 +32,13 @@ static TENS: [u64; 17] = [
     10_000_000_000_000_000,
 ];
 
+// The most bytes of a whole number, what is copied of it, and the room for both.
+const MAX_WHOLE_LEN: usize = 20;
+
+const WIDTH: usize = 24;
+
+const ROOM: usize = 44;
+
 // What the word of a decimal holds.
 #[derive(Clone, Copy)]
 struct Fields {
@@ -59,8 +66,9 @@ pub fn append_whole(value: i64, out: &mut Vec<u8>) -> Result<(), AllocError>
         × Codes text (Coded.Whole value) × (out.new.items ≡ out.old.items ++ text)) }
     ensures kept { OnErr result (out.new.items ≡ out.old.items) }
 {
-    let mut buffer = Buffer::new();
-    append(out, buffer.format(value).as_bytes())
+    let mut text = [0; ROOM];
+    let start = write_whole(value, &mut text);
+    append_from(out, &text, start)
 }
 
 /// Whether a number is the word of some decimal: bit 62 is zero, the number of the digits, in bits 8
@@ -130,13 +138,36 @@ fn padded_digits(number: u64) -> [u8; MAX_DECIMAL_DIGITS]
     digits
 }
 
-// Appends bytes.
-#[inline]
-fn append(out: &mut Vec<u8>, bytes: &[u8]) -> Result<(), AllocError>
-    ensures put { OnOk result (out.new.items ≡ out.old.items ++ bytes.now) }
+// Writes a whole number so that it ends at the most that one has, and gives where it starts.
+#[inline(always)]
+fn write_whole(value: i64, text: &mut [u8; ROOM]) -> usize
+    ensures within { result ≤ 20 }
+    ensures text { take (20 - result) (drop result text.new) ≡ signed_decimal value }
+{
+    let start = write_digits(value.unsigned_abs(), text, MAX_WHOLE_LEN);
+    if value >= 0 {
+        return start;
+    }
+    text[start - 1] = b'-';
+    start - 1
+}
+
+// Appends what stands from a place up to the most that a whole number has. All of a width is copied, and
+// what is behind is taken back, since a copy of a fixed width costs less than a call.
+#[inline(always)]
+fn append_from(out: &mut Vec<u8>, text: &[u8; ROOM], start: usize) -> Result<(), AllocError>
+    requires { start ≤ 20 }
+    ensures put { OnOk result
+        (out.new.items ≡ out.old.items ++ take (20 - start) (drop start text.now)) }
     ensures kept { OnErr result (out.new.items ≡ out.old.items) }
 {
-    out.extend_from_slice(bytes)
+    let end = out.len() + (MAX_WHOLE_LEN - start);
+    let Some(wide) = text[start..].first_chunk::<WIDTH>() else {
+        unreachable!();
+    };
+    out.extend_from_slice(wide)?;
+    out.truncate(end);
+    Ok(())
 }
 
 // Copies the bytes to a place, and gives the place after them.

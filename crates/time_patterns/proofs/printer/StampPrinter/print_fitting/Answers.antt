@@ -6,4 +6,4 @@ returns-in_default-clause-misfit c = λ _. rw (to_z-of_z c.ranges.moment) at c.i
 
 pub returns-clause-printed : goal.returns-clause-printed
 returns-clause-printed c = λ _.
-    (take c.in-Some.len c.print_front.new.out, rw (to_z-of_z c.ranges.moment) at c.in-Some.ensures.text, c.in_ok-append.ensures.put)
+    (take c.in-Some.len c.print_front.new.out, rw (to_z-of_z c.ranges.moment) at c.in-Some.ensures.text, c.in_ok-append_front.ensures.put)
