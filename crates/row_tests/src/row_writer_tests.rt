@@ -29,7 +29,8 @@ fn appends(
     })
 }
 
-// Messages with and without stamps, of log types with and without slots, and bytes that are escaped.
+// Messages with and without stamps, of log types with and without slots, and bytes that are escaped;
+// words, constants and numbers at the borders of the widths by which they are copied.
 const LINES: &[&[u8]] = &[
     b"",
     b"7 x7",
@@ -40,6 +41,13 @@ const LINES: &[&[u8]] = &[
     b"no variable",
     b"2023-11-14 22:13:20=abc 007",
     b"8 y8",
+    b"k=a k=ab k=abc k=abcd k=abcdef7 k=abcdefg8 k=abcdefgh9",
+    b"a234567890a2345 a234567890a23456 a234567890a234567",
+    b"a234567890a234567890a234567890a a234567890a234567890a234567890a2",
+    b"a234567890a234567890a234567890a23",
+    b"1 xxxxxxxxxxxxxxxxxxxxxxxxxxxxx 2 xxxxxxxxxxxxxxxxxxxxxxxxxxxxxx 3",
+    b"3 xxxxxxxxxxxxxxxxxxxxxxxxxxxxxxx 4",
+    b"-9223372036854775808 9223372036854775807 0 -1 -10 999 1000 -9999 10000 99999999 100000000",
 ];
 
 // Whether a writer of its own writes the row as this message.
