@@ -11,3 +11,5 @@ pub mod SegmentLemmas
 pub mod PlanLemmas
 pub mod PrepareLemmas
 pub mod OpenLemmas
+pub mod FoundLemmas
+pub mod LookedLemmas

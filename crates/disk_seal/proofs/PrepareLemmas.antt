@@ -34,13 +34,13 @@ use Rattle.disk_seal.proofs.NextLemmas.{good_front}
 use Rattle.disk_seal.proofs.PlanLemmas.{segment_last}
 use Rattle.disk_seal.proofs.ToldLemmas.{told_both, told_map}
 
-seen_joined : (xs ys : List StoreEntry) → journal_seen (xs ++ ys) ≡ journal_seen xs ++ journal_seen ys
+pub seen_joined : (xs ys : List StoreEntry) → journal_seen (xs ++ ys) ≡ journal_seen xs ++ journal_seen ys
 seen_joined [] ys = refl
 seen_joined (Entry e ∷ xs) ys = ap (λ l. e ∷ l) (seen_joined xs ys)
 seen_joined (Blank ∷ xs) ys = seen_joined xs ys
 seen_joined (Stopped ∷ xs) ys = seen_joined xs ys
 
-seen_all : (es : List JournalEntry) → journal_seen (map (λ (e : JournalEntry). Entry e) es) ≡ es
+pub seen_all : (es : List JournalEntry) → journal_seen (map (λ (e : JournalEntry). Entry e) es) ≡ es
 seen_all [] = refl
 seen_all (e ∷ es) = ap (λ l. e ∷ l) (seen_all es)
 

@@ -15,3 +15,7 @@ pub mod Registered
 pub mod Draft
 pub mod Planned
 pub mod Prepare
+pub mod Found
+pub mod StepsFound
+pub mod Looked
+pub mod Beside

@@ -37,7 +37,8 @@ module _ {R A B C : Type 0} where
   abbrev pub words_side : LockNamer R A B C → Side
   words_side n = record { held = (cache_of n.words).texts; turns = n.turns.words }
 
-  -- Texts of one book were named, and its pass goes on and added only behind what it had seen. Nothing was done with the other book.
+  -- Texts of one book were named, and its pass goes on and added only behind what it had seen. Nothing was done with the
+  -- other book.
   abbrev pub NamesIn : Which → List (List ℕ) → Option NameRefusal → LockNamer R A B C → LockNamer R A B C → Type 0
   NamesIn Types texts refusal m n =
       Named texts refusal (types_side m) (types_side n) × (words_side n ≡ words_side m)

@@ -2,13 +2,16 @@
 #![tactic(auto)]
 
 mod add;
+mod beside;
 mod collect;
 mod draft;
 mod entry;
 mod faults;
 mod files;
 mod fixed;
+mod found;
 mod framing;
+mod looks;
 mod namer;
 mod opened;
 mod pieces;
@@ -17,11 +20,14 @@ mod prepared;
 mod store;
 mod turns;
 
+pub use beside::{Alone, Beside};
 pub use draft::Draft;
 pub use entry::StoreEntry;
 pub use faults::DiskFault;
 pub use files::{RegisterRefusal, register};
 pub use fixed::{LockId, StoreFixed};
+pub use found::{Found, FoundRefusal};
+pub use looks::{Look, Looks};
 pub use namer::{CachedPasses, LockNamer, Notes, Passes};
 pub use opened::Opened;
 pub use plan::PrepareRefusal;
