@@ -3,6 +3,8 @@ pub mod FullLemmas
 pub mod RefuseLemmas
 pub mod JournalLemmas
 pub mod OpenLemmas
+pub mod LentLemmas
+pub mod OrderLemmas
 pub mod OpenSegmentLemmas
 pub mod SealLemmas
 pub mod MaySealLemmas

@@ -1,5 +1,5 @@
 -- A job whose source was opened for it is done as its source is.
-use Rattle.std.proofs.Common.{◌≡◌, refl, sym, ap, ap₂, subst, ◌∙◌, ℕ, ◌≤◌, Bool, true, false, not, List, [], ◌∷◌, Option, None, Some, IsSome, slice_get, arith}
+use Rattle.std.proofs.Common.{◌≡◌, refl, sym, ap, ap₂, subst, ◌∙◌, ℕ, ◌≤◌, Bool, true, false, not, List, [], ◌∷◌, Option, Some}
 use Rattle.std.specs.Prelude.{IfSome, is_some}
 use mathlib.Core.List.{IsPrefix}
 use Rattle.log_seams.specs.Disk.{DiskState}

@@ -31,10 +31,10 @@ module _ {D : Type 0} where
         (number_of start) (length (messages_in closed)) whole ended rest)
     pub held : WhereTold state start (λ h. FrontHolds h (journal_seen (seen p)) (number_of start) covered whole (whole && ended))
 
-  -- The outcome counts those of the messages taken that are sealed, and has no cause where the file is whole. Its cause is the one
-  -- for which no further message was taken, and then all of them are sealed; or why a segment was not, where this is known of the
-  -- books: `last` holds of the messages up to those of a rest that was refused. Of those that were met no more than the limit of
-  -- rows are not.
+  -- The outcome counts those of the messages taken that are sealed, and has no cause where the file is whole. Its cause is the
+  -- one for which no further message was taken, and then all of them are sealed; or why a segment was not, where this is known
+  -- of the books: `last` holds of the messages up to those of a rest that was refused. Of those that were met no more than the
+  -- limit of rows are not.
   pub record IsOutcome (state : D → DiskState) (limit version : ℕ) (books : Books) (start p : KeeperPass D)
       (taken : List (List ℕ)) (last : List (List ℕ) → Type 0) (ended : Bool) (why : Option Cause) (o : Outcome) : Type 0 where
     pub covered : List (List ℕ)

@@ -244,10 +244,10 @@ module _ {S D : Type 0} {d : DiskGhosts D} where
 
 module _ {S D : Type 0} {d : DiskGhosts D} where
   -- A job was done. The messages that its outcome counts are the first ones of its source, and all of them where the file is
-  -- whole, or its source was read and there is no cause. Of a file that was to be whole there is a cause exactly where it is not; a
-  -- part is not whole. Where its source was not opened nothing was done. The messages are cut in parts. Where the journal is told,
-  -- the file's segments among the new entries are exactly those of the parts, in order, and a front of the journal holds exactly
-  -- these messages of the file.
+  -- whole, or its source was read and there is no cause. Of a file that was to be whole there is a cause exactly where it is not;
+  -- a part is not whole. Where its source was not opened nothing was done. The messages are cut in parts. Where the journal is
+  -- told, the file's segments among the new entries are exactly those of the parts, in order, and a front of the journal holds
+  -- exactly these messages of the file.
   pub record IsFileOf (left : S → Option (List ℕ)) (plan : Plan) (before : Journal D d) (fresh : List JournalEntry)
       (old new : Job S) : Type 0 where
     pub file : new.file ≡ old.file

@@ -56,8 +56,8 @@ module _ {S : Type 0} where
 
 module _ {S D : Type 0} where
   -- The job was done with this pass, in segments of at most so many rows, where this is known of the books then, and has its
-  -- source back. Of a file that was to be whole there is a cause exactly where it is not; a part is not whole. Where there is none,
-  -- all messages of a source that was read are added; where the source was not opened nothing was done.
+  -- source back. Of a file that was to be whole there is a cause exactly where it is not; a part is not whole. Where there is
+  -- none, all messages of a source that was read are added; where the source was not opened nothing was done.
   pub record IsDone (state : D → DiskState) (left name : S → Option (List ℕ)) (faults : S → ℕ) (rows version : ℕ) (books : Books)
       (j : Job S) (p : KeeperPass D) (j' : Job S) (q : KeeperPass D) : Type 0 where
     pub file : j'.file ≡ j.file

@@ -10,11 +10,19 @@ use Rattle.disk_journal.specs.Journal.{state_of}
 use Rattle.archive_meaning.specs.Spelled.{types_of}
 use Rattle.ingest_meaning.specs.WordsIn.{words_of}
 use Rattle.disk_seal.specs.Opening.{MayOpen}
+use Rattle.ingest_fork.specs.Works.{AllReady}
+use Rattle.ingest_workers.specs.declared.ingesting.Crew.{Crew}
 use Rattle.ingest_workers.specs.declared.ingesting.Order.{Order}
 use Rattle.ingest_workers.specs.declared.job.Job.{Job}
 use Rattle.ingest_workers.specs.StartedWorkers.{BookMaker}
 use Rattle.ingest_workers.specs.Ingested.{AreNew, HasBook, HasEndedBooks, HasIngested, HaveCauses, HaveCausesIn, IsAsItWas, OpensBook, books_at, told_entries}
 use Rattle.ingest_workers.specs.InTurn.{AreFullInTurn, WereFilled}
+
+module _ {O : Type 0} where
+  -- there is an opener for each worker, and none of them has a source open
+  pub record HasOpeners (idle : O → Type 0) (crew : Crew O) : Type 0 where
+    pub counted : length crew.openers.items ≡ crew.order.workers
+    pub closed : AllReady idle crew.openers.items
 
 module _ {S D : Type 0} {d : DiskGhosts D} where
   -- The jobs may be done over the journal as ordered: by a worker or more, in segments of 1 to 65,536 rows, in the version of its

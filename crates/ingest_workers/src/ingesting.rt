@@ -1,16 +1,18 @@
 //! All jobs, by workers.
-ghost use Rattle.std.specs.Prelude.{◌≡◌, ◌≤◌, ℕ, IfOk, IfErr, IsOk, OnErr};
+ghost use Rattle.std.specs.Prelude.{◌≡◌, ◌≤◌, ◌<◌, length, IfOk, IfErr, IsOk, OnErr, OnOk};
 ghost use Rattle.turn_lock.specs.Words.{id_of, lock_by};
 ghost use Rattle.ingest_fork.specs.declared.works.TheConstants.{MAX_WORKERS};
 ghost use Rattle.disk_journal.specs.Journal.{state_of};
 ghost use Rattle.disk_seal.specs.Opening.{MayOpen};
 ghost use Rattle.ingest_workers.specs.InTurn.{AreFullInTurn};
 ghost use Rattle.ingest_workers.specs.Ingested.{AreNew, AreRefused, HasIngested, HaveCauses, HoldTexts, IsAsItWas, first_file, plan_of};
-ghost use Rattle.ingest_workers.specs.Ordered.{HoldsTypes, HoldsWords, MayBegin, NoneBegun, OpensTypes, OpensWords, WereDone, WereDoneOver};
+ghost use Rattle.ingest_workers.specs.OpenWorker.{AreKnown, HaveGone, KnowsEach};
+ghost use Rattle.ingest_workers.specs.Ordered.{HasOpeners, HoldsTypes, HoldsWords, MayBegin, NoneBegun, OpensTypes, OpensWords, WereDone, WereDoneOver};
 
-use crate::close_store::{end, give_back};
+use crate::close_store::end;
 use crate::job::Job;
 use crate::locks::over_store;
+use crate::opening::{AsIs, Opens};
 use crate::outcome::{Cause, Outcome};
 use crate::start_workers::enroll;
 use crate::worker::Plan;
@@ -19,7 +21,7 @@ use dict_lock::SharedBook;
 use disk_journal::Journal;
 use disk_seal::Store;
 use log_seams::{Disk, Source};
-use std::alloc::Global;
+use std::alloc::{AllocError, Global};
 use std::sync::Wait;
 use std::thread::Threads;
 use turn_lock::Maker;
@@ -46,30 +48,45 @@ struct Order {
     words_saved: u32,
 }
 
-/// The jobs are done over the journal, with workers that have a pass of each book.
-fn with_workers<'b, 'd, D: Disk + Send, S: Source + Send, R: Threads + Wait + Sync>(
-    rt: &R,
-    jobs: &mut [Job<S>],
+/// How the jobs are to be done, and an opener for each worker.
+#[derive(Drop)]
+struct Crew<O> {
     order: Order,
+    openers: Vec<O>,
+}
+
+/// The jobs are done over the journal, with workers that have a pass of each book.
+fn with_workers<'b, 'd, D: Disk + Send, T: Send, O: Opens<T> + Send, R: Threads + Wait + Sync>(
+    rt: &R,
+    jobs: &mut [Job<T>],
+    crew: &mut Crew<O>,
     journal: Journal<'d, D>,
     types_lock: &'b SharedBook,
     types: &mut Maker<Book>,
     words_lock: &'b SharedBook,
     words: &mut Maker<Book>,
 ) -> Result<Journal<'d, D>, Journal<'d, D>>
-    requires begin { MayBegin order journal jobs.old }
+where
+    O::Src: Send,
+    requires begin { MayBegin crew.old.order journal jobs.old }
+    requires openers { HasOpeners O.idle crew.old }
 
     // the books
     requires types_lock { lock_by types.old ≡ id_of types_lock.now }
     requires words_lock { lock_by words.old ≡ id_of words_lock.now }
-    requires types { OpensTypes order journal types.old }
-    requires words { OpensWords order journal words.old }
+    requires types { OpensTypes crew.old.order journal types.old }
+    requires words { OpensWords crew.old.order journal words.old }
+
+    // the openers
+    ensures gone { HaveGone O.idle O.goes crew.old.openers.items crew.new.openers.items }
+    ensures known { OnOk result (AreKnown O.knows crew.new.openers.items jobs.old jobs.new) }
 
     // by the answer
-    ensures done { IfOk result (λ after. WereDoneOver S.left S.name S.faults order
+    ensures done { IfOk result (λ after. WereDoneOver O.left O.name O.faults crew.old.order
         types.old types.new words.old words.new journal.entry after jobs.old jobs.new) }
     ensures refused { IfErr result (λ after. NoneBegun journal.entry after jobs.old jobs.new) }
 {
+    let order = crew.order;
     let types_reader = types.pass(types_lock);
     let words_reader = words.pass(words_lock);
     let Ok(mut workers) = Vec::with_capacity(order.alloc, order.workers) else {
@@ -77,9 +94,9 @@ fn with_workers<'b, 'd, D: Disk + Send, S: Source + Send, R: Threads + Wait + Sy
     };
     enroll(
         &mut workers,
+        &mut crew.openers,
         order.alloc,
         order.plan,
-        order.workers,
         types_lock,
         types,
         words_lock,
@@ -94,37 +111,47 @@ fn with_workers<'b, 'd, D: Disk + Send, S: Source + Send, R: Threads + Wait + Sy
     );
     let first = u64::from(order.first);
     match over_store(rt, order.alloc, &mut workers, jobs, store, first) {
-        Ok(store) => Ok(end(store, workers, types, words)),
-        Err(store) => Err(give_back(store)),
+        Ok(store) => Ok(end(store, workers, &mut crew.openers, types, words)),
+        Err(store) => Err(end(store, workers, &mut crew.openers, types, words)),
     }
 }
 
 /// The jobs are done over the journal and both books, each of which has a lock meanwhile.
-fn over_books<'d, D: Disk + Send, S: Source + Send, R: Threads + Wait + Sync>(
+fn over_books<'d, D: Disk + Send, T: Send, O: Opens<T> + Send, R: Threads + Wait + Sync>(
     rt: &R,
-    jobs: &mut [Job<S>],
-    order: Order,
+    jobs: &mut [Job<T>],
+    crew: &mut Crew<O>,
     journal: Journal<'d, D>,
     types: Book,
     words: Book,
 ) -> Result<Journal<'d, D>, Journal<'d, D>>
-    requires begin { MayBegin order journal jobs.old }
-    requires types { HoldsTypes order journal types }
-    requires words { HoldsWords order journal words }
-    ensures done { IfOk result (λ after. WereDone S.left S.name S.faults order
+where
+    O::Src: Send,
+    requires begin { MayBegin crew.old.order journal jobs.old }
+    requires openers { HasOpeners O.idle crew.old }
+    requires types { HoldsTypes crew.old.order journal types }
+    requires words { HoldsWords crew.old.order journal words }
+
+    // the openers
+    ensures gone { HaveGone O.idle O.goes crew.old.openers.items crew.new.openers.items }
+    ensures known { OnOk result (AreKnown O.knows crew.new.openers.items jobs.old jobs.new) }
+
+    // by the answer
+    ensures done { IfOk result (λ after. WereDone O.left O.name O.faults crew.old.order
         journal.entry after jobs.old jobs.new) }
     ensures refused { IfErr result (λ after. NoneBegun journal.entry after jobs.old jobs.new) }
 {
-    let Ok((types_lock, mut types)) = SharedBook::new(order.alloc, types, 0) else {
+    let alloc = crew.order.alloc;
+    let Ok((types_lock, mut types)) = SharedBook::new(alloc, types, 0) else {
         return Err(journal);
     };
-    let Ok((words_lock, mut words)) = SharedBook::new(order.alloc, words, WORDS_FIRST) else {
+    let Ok((words_lock, mut words)) = SharedBook::new(alloc, words, WORDS_FIRST) else {
         return Err(journal);
     };
     match with_workers(
         rt,
         jobs,
-        order,
+        crew,
         journal,
         &types_lock,
         &mut types,
@@ -164,6 +191,85 @@ fn first_of<S>(jobs: &[Job<S>]) -> u32
     }
 }
 
+/// The order for the jobs, in segments of at most so many rows.
+fn order_for<'d, D: Disk, T>(
+    alloc: Global,
+    workers: usize,
+    rows: u32,
+    jobs: &[Job<T>],
+    journal: &Journal<'d, D>,
+    types: &Book,
+    words: &Book,
+) -> Order
+    ensures workers { result.workers ≡ workers }
+    ensures plan { result.plan ≡ plan_of rows journal.now }
+    ensures first { result.first ≡ first_file jobs.now }
+    ensures saved { (result.types_saved ≡ length types.now.texts)
+        × (result.words_saved ≡ length words.now.texts) }
+{
+    Order {
+        alloc,
+        workers,
+        plan: Plan {
+            rows,
+            version: journal.header.version,
+        },
+        first: first_of(jobs),
+        types_saved: types.len(),
+        words_saved: words.len(),
+    }
+}
+
+/// Does the jobs by a crew.
+///
+/// # Errors
+///
+/// There was no memory to begin. No job was begun then.
+fn by_crew<'d, D: Disk + Send, T: Send, O: Opens<T> + Send, R: Threads + Wait + Sync>(
+    rt: &R,
+    jobs: &mut [Job<T>],
+    crew: &mut Crew<O>,
+    journal: Journal<'d, D>,
+    types: Book,
+    words: Book,
+) -> Result<Journal<'d, D>, IngestRefused<'d, D>>
+where
+    O::Src: Send,
+    requires begin { MayBegin crew.old.order journal jobs.old }
+    requires openers { HasOpeners O.idle crew.old }
+    requires types { HoldsTypes crew.old.order journal types }
+    requires words { HoldsWords crew.old.order journal words }
+
+    // the openers
+    ensures gone { HaveGone O.idle O.goes crew.old.openers.items crew.new.openers.items }
+    ensures known { OnOk result (AreKnown O.knows crew.new.openers.items jobs.old jobs.new) }
+
+    // by the answer
+    ensures done { IfOk result (λ after. WereDone O.left O.name O.faults crew.old.order
+        journal.entry after jobs.old jobs.new) }
+    ensures refused { IfErr result (λ r. IsAsItWas journal.entry r.journal) }
+    ensures jobs { OnErr result (AreRefused jobs.old jobs.new) }
+{
+    match over_books(rt, jobs, crew, journal, types, words) {
+        Ok(journal) => Ok(journal),
+        Err(journal) => {
+            refuse(jobs);
+            Err(IngestRefused { journal })
+        }
+    }
+}
+
+/// An opener of open logs for each of so many workers.
+fn as_they_are(alloc: Global, count: usize) -> Result<Vec<AsIs>, AllocError>
+    ensures { IfOk result (λ openers. length openers.items ≡ count) }
+{
+    let mut openers = Vec::with_capacity(alloc, count)?;
+    for _made in 0..count {
+        openers.push_reserved(AsIs);
+    }
+    Ok(openers)
+}
+
 /// Does all the jobs, by so many workers that run at once, each with a consecutive piece of the
 /// jobs. Each file is cut into segments of at most so many rows. The journal comes back on each
 /// way; its disk has what was sealed, durably.
@@ -199,22 +305,73 @@ pub fn ingest<'d, D: Disk + Send, S: Source + Send, R: Threads + Wait + Sync>(
     ensures refused { IfErr result (λ r. IsAsItWas journal.entry r.journal) }
     ensures jobs { OnErr result (AreRefused jobs.old jobs.new) }
 {
-    let order = Order {
-        alloc,
-        workers: (workers as usize).min(jobs.len()).max(1),
-        plan: Plan {
-            rows,
-            version: journal.header.version,
-        },
-        first: first_of(jobs),
-        types_saved: types.len(),
-        words_saved: words.len(),
+    let count = (workers as usize).min(jobs.len()).max(1);
+    let Ok(openers) = as_they_are(alloc, count) else {
+        refuse(jobs);
+        return Err(IngestRefused { journal });
     };
-    match over_books(rt, jobs, order, journal, types, words) {
-        Ok(journal) => Ok(journal),
-        Err(journal) => {
-            refuse(jobs);
-            Err(IngestRefused { journal })
-        }
-    }
+    let order = order_for(alloc, count, rows, jobs, &journal, &types, &words);
+    let mut crew = Crew { order, openers };
+    by_crew(rt, jobs, &mut crew, journal, types, words)
+}
+
+/// Does all the jobs by one worker, in their order. The source of each is opened once its turn has
+/// come, for the thing that the job holds, by one opener, which comes back. Each file is cut into
+/// segments of at most so many rows. The journal comes back on each way; its disk has what was
+/// sealed, durably.
+///
+/// # Errors
+///
+/// There was no memory to begin. No job was begun then.
+pub fn ingest_opened<'d, D: Disk + Send, T: Send, O: Opens<T> + Send, R: Threads + Wait + Sync>(
+    rt: &R,
+    alloc: Global,
+    opener: O,
+    jobs: &mut [Job<T>],
+    rows: u32,
+    journal: Journal<'d, D>,
+    types: Book,
+    words: Book,
+) -> (Result<Journal<'d, D>, IngestRefused<'d, D>>, O)
+where
+    O::Src: Send,
+    requires rows { (1 ≤ rows) × (rows ≤ 65536) }
+    requires journal { MayOpen (state_of journal) }
+    requires books { HoldTexts (state_of journal) types words }
+    requires jobs { AreNew (first_file jobs.old) (state_of journal) jobs.old }
+    requires idle { O.idle opener }
+
+    // what became of the opener
+    ensures opener { O.idle result.1 × O.goes opener result.1 }
+    ensures known { IsOk result.0 → KnowsEach O.knows result.1 jobs.old jobs.new }
+
+    // where the jobs were begun
+    ensures done { IfOk result.0 (λ after. HasIngested O.left (plan_of rows journal.entry)
+        jobs.old jobs.new journal.entry after) }
+    ensures causes { IfOk result.0 (λ after. HaveCauses O.left O.name O.faults
+        (plan_of rows journal.entry) journal.entry after jobs.old jobs.new) }
+    ensures in_turn { IsOk result.0
+        → AreFullInTurn O.left (plan_of rows journal.entry) journal.entry jobs.old jobs.new }
+
+    // where there was no memory to begin
+    ensures refused { IfErr result.0 (λ r. IsAsItWas journal.entry r.journal) }
+    ensures jobs { OnErr result.0 (AreRefused jobs.old jobs.new) }
+{
+    let Ok(mut openers) = Vec::with_capacity(alloc, 1) else {
+        refuse(jobs);
+        return (Err(IngestRefused { journal }), opener);
+    };
+    openers.push_reserved(opener);
+    let order = order_for(alloc, 1, rows, jobs, &journal, &types, &words);
+    let mut crew = Crew { order, openers };
+    let done = by_crew(rt, jobs, &mut crew, journal, types, words);
+    let Crew {
+        order: _,
+        mut openers,
+    } = crew;
+    let Some(opener) = openers.pop() else {
+        unreachable!()
+    };
+    openers.destroy_empty();
+    (done, opener)
 }

@@ -82,8 +82,8 @@ fn take_source<'d, 'b, S: Source, D: Disk, R: Wait, A: Ledger, B: Ledger, C: Led
 /// rows, and the texts that they name are named by the worker's namer.
 ///
 /// `keeper` is the pass over the store that has the file's number. What came of it is the job's
-/// outcome, and the job has its source back, read as far as it was. The file of a part is not marked
-/// whole. Of a source that was not opened nothing is read, and the outcome stays as it was.
+/// outcome, and the job has its source back, read as far as it was. The file of a part is not
+/// marked whole. Of a source that was not opened nothing is read, and the outcome stays as it was.
 pub fn run_job<'d, 'b, S: Source, D: Disk, R: Wait, A: Ledger, B: Ledger, C: Ledger>(
     job: &mut Job<S>,
     rt: &R,

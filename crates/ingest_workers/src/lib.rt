@@ -19,7 +19,7 @@ mod start_workers;
 mod worker;
 mod worker_jobs;
 
-pub use ingesting::{IngestRefused, ingest};
+pub use ingesting::{IngestRefused, ingest, ingest_opened};
 pub use job::Job;
 pub use job_run::run_job;
 pub use opening::{AsIs, Opens};

@@ -1,7 +1,6 @@
 //! A worker with what opens the sources of its jobs.
-ghost use Rattle.std.specs.Prelude.{◌≡◌};
-ghost use Rattle.ingest_workers.specs.Worker.{DidJob, DidOnly, IsIdle, MayDo};
-ghost use Rattle.ingest_workers.specs.OpenWorker.{OpenDidOnly, open_rests, open_goes_on, open_wider, open_fits_on};
+ghost use Rattle.ingest_workers.specs.Worker.{MayDo};
+ghost use Rattle.ingest_workers.specs.OpenWorker.{IsClosed, OpenDidJob, OpenDidOnly, open_rests, open_goes_on, open_wider, open_fits_on};
 
 use crate::job::Job;
 use crate::opening::Opens;
@@ -20,13 +19,13 @@ pub(crate) struct OpenWorker<'b, O> {
 
 impl<'b, 'k, 'd, T, O: Opens<T>, D: Disk> Works<Job<T>, Pass<'k, Store<'d, 'b, D>>>
     for OpenWorker<'b, O> {
-    ghost ready = { λ w. IsIdle w.worker × O.idle w.opener };
+    ghost ready = { IsClosed O.idle };
 
     ghost fits = { λ w j k. MayDo D.state w.worker j k };
 
     ghost went = { OpenDidOnly O.left O.goes };
 
-    ghost did = { λ w j k v j' m. DidJob D.state O.left O.name O.faults w.worker j k v.worker j' m };
+    ghost did = { OpenDidJob D.state O.left O.name O.faults O.knows };
 
     fn work<R: Wait>(&mut self, rt: &R, job: &mut Job<T>, keeper: &mut Pass<'k, Store<'d, 'b, D>>) {
         if !job.is_open {

@@ -3,8 +3,9 @@ ghost use Rattle.std.specs.Prelude.{◌≡◌, ℕ, List, Option};
 
 use log_seams::Source;
 
-/// Opens the sources of jobs, one at a time. A job holds the thing that its source is opened for, which
-/// tells what the source will tell; once the job is done it has the thing back, as far as it was read.
+/// Opens the sources of jobs, one at a time. A job holds the thing that its source is opened for,
+/// which tells what the source will tell; once the job is done it has the thing back, as far as it was
+/// read.
 pub trait Opens<T> {
     /// What a job is read from.
     type Src: Source;
@@ -27,8 +28,11 @@ pub trait Opens<T> {
     /// What became of it: it opened and closed sources, and nothing else.
     ghost goes: { Self → Self → Type 0 };
 
-    /// Opens a source for a thing. There is always one: what is not to be read is a source that fails at
-    /// once, of which the file gets no message.
+    /// What it knows of a thing that it gave back.
+    ghost knows: { Self → T → Type 0 };
+
+    /// Opens a source for a thing. There is always one: what is not to be read is a source that fails
+    /// at once, of which the file gets no message.
     fn open(&mut self, asked: T) -> Self::Src
         requires { idle self.old }
         ensures left { Self.Src.left result ≡ left asked }
@@ -43,6 +47,7 @@ pub trait Opens<T> {
         ensures faults { faults result ≡ Self.Src.faults source }
         ensures name { (asked : T) → lends self.old asked (Self.Src.name source)
             → name result ≡ name asked }
+        ensures knows { knows self.new result }
         ensures idle { idle self.new }
         ensures goes { goes self.old self.new };
 
@@ -51,6 +56,9 @@ pub trait Opens<T> {
 
     // What became of it goes together.
     ghost goes_on: { (a b c : Self) → goes a b → goes b c → goes a c };
+
+    // What it knows it knows later.
+    ghost knows_on: { (a b : Self) (t : T) → goes a b → knows a t → knows b t };
 }
 
 /// Opens logs that are open already: the thing is the source itself.
@@ -72,6 +80,8 @@ impl<S: Source> Opens<S> for AsIs {
 
     ghost goes = { λ _ _. Unit {0} };
 
+    ghost knows = { λ _ _. Unit {0} };
+
     fn open(&mut self, asked: S) -> S {
         asked
     }
@@ -83,4 +93,6 @@ impl<S: Source> Opens<S> for AsIs {
     ghost rests = { λ o. tt };
 
     ghost goes_on = { λ a b c one two. tt };
+
+    ghost knows_on = { λ a b t one known. tt };
 }

@@ -1,18 +1,16 @@
 //! What a worker does: jobs, with its passes of the two books.
-ghost use Rattle.std.specs.Prelude.{◌≤◌};
+ghost use Rattle.std.specs.Prelude.{◌≤◌, [], ◌∷◌};
 ghost use Rattle.step_count.specs.Opens.{OpensFor};
 ghost use Rattle.dict_lock.specs.Cached.{pass_in};
 ghost use Rattle.ingest_workers.specs.Full.{books_by};
 ghost use Rattle.ingest_workers.specs.JobDone.{IsDone};
 ghost use Rattle.ingest_workers.specs.Met.{WasMetBy};
 ghost use Rattle.ingest_workers.specs.Worker.{DidJob, DidOnly, GoWith, IsIdle, IsNewJob, MayAddTexts, MayDo, NamesOnly};
-ghost use Rattle.ingest_workers.specs.WorkerLaws.{goes_on, wider, rests, fits_on};
 
 use crate::job::Job;
 use crate::job_run::run_job;
 use crate::worker::{BookPasses, Plan, Worker};
 use disk_seal::{CachedPasses, LockNamer, Store, Turns};
-use ingest_fork::Works;
 use log_seams::{Disk, Source};
 use std::alloc::Global;
 use std::marker::Brand;
@@ -97,16 +95,21 @@ fn do_job<'b, 'd, S: Source, D: Disk, R: Wait>(
     do_with_blanks::<_, _, _, Brand, Brand, Brand>(rt, alloc, plan, passes, job, keeper, blanks)
 }
 
-impl<'b, 'k, 'd, S: Source, D: Disk> Works<Job<S>, Pass<'k, Store<'d, 'b, D>>> for Worker<'b> {
-    ghost ready = { IsIdle };
-
-    ghost fits = { MayDo D.state };
-
-    ghost went = { DidOnly S.left };
-
-    ghost did = { DidJob D.state S.left S.name S.faults };
-
-    fn work<R: Wait>(&mut self, rt: &R, job: &mut Job<S>, keeper: &mut Pass<'k, Store<'d, 'b, D>>) {
+impl<'b> Worker<'b> {
+    /// Does a job with this keeper.
+    pub(crate) fn work<'d, S: Source, D: Disk, R: Wait>(
+        &mut self,
+        rt: &R,
+        job: &mut Job<S>,
+        keeper: &mut Pass<'_, Store<'d, 'b, D>>,
+    )
+        requires ready { IsIdle self.old }
+        requires fits { MayDo D.state self.old job.old keeper.old }
+        ensures ready { IsIdle self.new }
+        ensures went { DidOnly S.left (job.old ∷ []) (job.new ∷ []) self.old self.new }
+        ensures did { DidJob D.state S.left S.name S.faults self.old job.old keeper.old
+            self.new job.new keeper.new }
+    {
         let Some(passes) = self.passes.take() else {
             unreachable!()
         };
@@ -115,12 +118,4 @@ impl<'b, 'k, 'd, S: Source, D: Disk> Works<Job<S>, Pass<'k, Store<'d, 'b, D>>> f
             unreachable!()
         };
     }
-
-    ghost rests = { rests S.left };
-
-    ghost goes_on = { goes_on S.left };
-
-    ghost wider = { wider S.left };
-
-    ghost fits_on = { fits_on D.state S.left };
 }

@@ -1,7 +1,13 @@
-use Rattle.std.proofs.Common.{[], ◌∷◌, subst}
+use Rattle.std.proofs.Common.{[], ◌∷◌, ◌∙◌, subst, sym}
 use Rattle.ingest_fork.specs.Passes.{Joined}
 use Rattle.ingest_workers.proofs.ClosingLemmas.{joined_one}
 use Rattle.ingest_workers.proofs.close_store.end.Goals as goal
+
+pub dismiss-requires-clause-may : goal.dismiss-requires-clause-may
+dismiss-requires-clause-may g c = record {
+  of_types = λ i p at. let f = c.requires.may.of_types i p at in (f.0 ∙ sym c.join.ensures.lock, f.1);
+  of_words = λ i p at. let f = c.requires.may.of_words i p at in (f.0 ∙ sym c.join-2.ensures.lock, f.1);
+}
 
 pub returns-clause-ended : goal.returns-clause-ended
 returns-clause-ended g c = record {

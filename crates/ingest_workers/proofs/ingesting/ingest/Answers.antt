@@ -1,30 +1,27 @@
-use Rattle.std.proofs.Common.{◌≡◌, ◌<◌, arith, refl, sym, subst}
-use Rattle.disk_journal.specs.Journal.{state_of}
-use Rattle.ingest_workers.specs.Ingested.{AreNew, AreRefused}
-use Rattle.ingest_workers.proofs.IngestLemmas.{few_jobs}
+use Rattle.std.proofs.Common.{◌∙◌, arith, sym}
+use Rattle.ingest_workers.proofs.OrderLemmas.{causes_by_plan, done_by_plan, in_turn_by_plan, may_begin}
 use Rattle.ingest_workers.proofs.ingesting.ingest.Goals as goal
 
-pub over_books-requires-clause-begin : goal.over_books-requires-clause-begin
-over_books-requires-clause-begin g c κs within = let few = few_jobs (state_of c.args.journal) c.args.jobs.now c.requires.jobs in record {
-  workers = (omega (arith, c.requires.workers.0, c.min.ensures, c.max.ensures), omega (arith, c.requires.workers.0, c.requires.workers.1, c.min.ensures, c.max.ensures));
-  rows = c.requires.rows;
-  version = refl;
-  journal = c.requires.journal;
-  jobs = subst (λ n. AreNew n (state_of c.args.journal) c.args.jobs.now) (sym c.first_of.ensures) c.requires.jobs;
-  few = (subst (λ n. n < 4294967296) (sym c.first_of.ensures) few.0, few.1);
-}
+pub by_crew-requires-clause-begin : goal.by_crew-requires-clause-begin
+by_crew-requires-clause-begin g c κs within = may_begin c.order_for-order.result c.args.journal c.args.rows c.args.jobs.now
+    (omega (arith, c.requires.workers.0, c.order_for-order.ensures.workers, c.min.ensures, c.max-count.ensures), omega (arith, c.requires.workers.0, c.requires.workers.1, c.order_for-order.ensures.workers, c.min.ensures, c.max-count.ensures))
+    c.order_for-order.ensures.plan c.order_for-order.ensures.first c.requires.rows c.requires.journal c.requires.jobs
 
-pub returns-in-Ok-clause-done : goal.returns-in-Ok-clause-done
-returns-in-Ok-clause-done g c = c.in-Ok.ensures.done.done
+pub by_crew-requires-clause-openers : goal.by_crew-requires-clause-openers
+by_crew-requires-clause-openers g c κs within = record { counted = c.in-Ok.ensures ∙ sym c.order_for-order.ensures.workers; closed = λ n w at. tt }
 
-pub returns-in-Ok-clause-causes : goal.returns-in-Ok-clause-causes
-returns-in-Ok-clause-causes g c = c.in-Ok.ensures.done.causes
+pub by_crew-requires-clause-types : goal.by_crew-requires-clause-types
+by_crew-requires-clause-types g c κs within = record { counted = c.order_for-order.ensures.saved.0; are = c.requires.books.types_are }
 
-pub returns-in-Ok-clause-in_turn : goal.returns-in-Ok-clause-in_turn
-returns-in-Ok-clause-in_turn g c = λ one ok. let alone : c.max.result ≡ 1 = omega (arith, one, c.min.ensures, c.max.ensures) in c.in-Ok.ensures.done.in_turn alone
+pub by_crew-requires-clause-words : goal.by_crew-requires-clause-words
+by_crew-requires-clause-words g c κs within = record { counted = c.order_for-order.ensures.saved.1; are = c.requires.books.words_are }
 
-pub returns-in-Err-clause-refused : goal.returns-in-Err-clause-refused
-returns-in-Err-clause-refused g c = c.in-Err.ensures.refused.journal
+pub returns-clause-done : goal.returns-clause-done
+returns-clause-done g c = done_by_plan g.S.Source.left g.S.Source.name g.S.Source.faults c.order_for-order.result _ c.order_for-order.ensures.plan c.args.journal c.args.jobs.now c.by_crew.new.jobs c.by_crew.result c.by_crew.ensures.done
 
-pub returns-in-Err-clause-jobs : goal.returns-in-Err-clause-jobs
-returns-in-Err-clause-jobs g c = subst (λ js. AreRefused js c.refuse.new.jobs) c.in-Err.ensures.refused.jobs c.refuse.ensures
+pub returns-clause-causes : goal.returns-clause-causes
+returns-clause-causes g c = causes_by_plan g.S.Source.left g.S.Source.name g.S.Source.faults c.order_for-order.result _ c.order_for-order.ensures.plan c.args.journal c.args.jobs.now c.by_crew.new.jobs c.by_crew.result c.by_crew.ensures.done
+
+pub returns-clause-in_turn : goal.returns-clause-in_turn
+returns-clause-in_turn g c one ok = in_turn_by_plan g.S.Source.left g.S.Source.name g.S.Source.faults c.order_for-order.result _ c.order_for-order.ensures.plan c.args.journal c.args.jobs.now c.by_crew.new.jobs c.by_crew.result c.by_crew.ensures.done
+    (omega (arith, one, c.order_for-order.ensures.workers, c.min.ensures, c.max-count.ensures)) ok

@@ -1,11 +1,19 @@
-use Rattle.std.proofs.Common.{◌∙◌, subst, sym}
+use Rattle.std.proofs.Common.{◌∙◌, arith, subst, sym}
 use Rattle.turn_lock.specs.Words.{IsFreshOf}
-use Rattle.ingest_workers.proofs.CrewLemmas.{enrolled_more}
+use Rattle.ingest_workers.specs.declared.open_worker.OpenWorker.{OpenWorker}
+use Rattle.ingest_workers.proofs.LentLemmas.{enroll_more, lent_more}
 use Rattle.ingest_workers.proofs.start_workers.enroll.Goals as goal
 
-pub loop-made-preserved : goal.loop-made-preserved
-loop-made-preserved c = let i = c.loop-made.invariant in
-    let more = enrolled_more _ _ _ _ _ _ _ _ _ _ _ i.1 c.new.ensures.plan c.new.ensures.passes
-    (record { still = c.pass-of_types.ensures.still; made = c.pass-of_types.ensures.made; fresh = subst (λ p. IsFreshOf c.loop-made.types p) (sym c.new-passes.ensures.types) c.pass-of_types.ensures.pass })
-    (record { still = c.pass-of_words.ensures.still; made = c.pass-of_words.ensures.made; fresh = subst (λ p. IsFreshOf c.loop-made.words p) (sym c.new-passes.ensures.words) c.pass-of_words.ensures.pass }) in
-    (c.push_reserved.ensures.capacity ∙ i.0, rw c.push_reserved.ensures.items more)
+pub loop-opener-preserved : goal.loop-opener-preserved
+loop-opener-preserved g c = let i = c.loop-opener.invariant in
+    let worker : OpenWorker g.row.O.Denot = record { worker = c.new-worker.result; opener = c.in-Some.opener } in
+    let more = enroll_more _ _ _ _ _ _ _ c.loop-opener.workers.items worker _ i.4 c.new-worker.ensures.plan c.new-worker.ensures.passes
+    (record { still = c.pass-of_types.ensures.still; made = c.pass-of_types.ensures.made; fresh = subst (λ p. IsFreshOf c.loop-opener.types p) (sym c.new-passes.ensures.types) c.pass-of_types.ensures.pass })
+    (record { still = c.pass-of_words.ensures.still; made = c.pass-of_words.ensures.made; fresh = subst (λ p. IsFreshOf c.loop-opener.words p) (sym c.new-passes.ensures.words) c.pass-of_words.ensures.pass }) in
+    let lent = lent_more c.loop-opener.workers.items c.loop-opener.openers.items c.pop.new.self.items _ worker c.in-Some.ensures.items i.3 in (
+      c.push_reserved.ensures.capacity ∙ i.0,
+      c.in-Some.ensures.capacity ∙ i.1,
+      omega (arith, c.push_reserved.ensures.len, c.in-Some.ensures.len, i.2),
+      rw c.push_reserved.ensures.items lent,
+      rw c.push_reserved.ensures.items more,
+    )

@@ -1,11 +1,14 @@
-use Rattle.std.proofs.Common.{◌≡◌, refl, rules, sym, subst, ◌∙◌, Some, true, false}
+use Rattle.std.proofs.Common.{◌≡◌, refl, rules, sym, subst, ◌∙◌, false}
 use Rattle.ingest_workers.proofs.OpenLemmas.{IsOpened, did_only, did_same, name_same, undone}
 use Rattle.ingest_workers.proofs.open_worker.OpenWorkerWorksJobPassStore.work.Goals as goal
 
 pub returns-then-not-job-clause-did : goal.returns-then-not-job-clause-did
 returns-then-not-job-clause-did g c =
     let closed : c.args.job.now.is_open ≡ false = search rules in
-    undone g.D.Disk.state g.O.Opens.left g.O.Opens.name g.O.Opens.faults c.args.self.now.worker c.args.job.now c.args.keeper.now c.requires.ready.0 c.requires.fits closed
+    record {
+      job = undone g.D.Disk.state g.O.Opens.left g.O.Opens.name g.O.Opens.faults c.args.self.now.worker c.args.job.now c.args.keeper.now c.requires.ready.0 c.requires.fits closed;
+      known = λ opened t has. absurd (cc (opened, closed));
+    }
 
 pub returns-clause-went : goal.returns-clause-went
 returns-clause-went g c =
@@ -75,5 +78,8 @@ returns-clause-did g c =
       opened_is = c.with_source-opened.ensures.opened;
       outcome = c.into_parts-source.ensures.outcome;
     } in
-    did_same state g.O.Opens.left g.O.Opens.name g.O.Opens.faults g.O.Src.Source.left g.O.Src.Source.name g.O.Src.Source.faults c.args.self.now.worker c.work.new.self job _ c.with_source-opened.result c.work.new.job c.args.keeper.now c.work.new.keeper
-    is c.work.ensures.did
+    record {
+      job = did_same state g.O.Opens.left g.O.Opens.name g.O.Opens.faults g.O.Src.Source.left g.O.Src.Source.name g.O.Src.Source.faults c.args.self.now.worker c.work.new.self job _ c.with_source-opened.result c.work.new.job c.args.keeper.now c.work.new.keeper
+          is c.work.ensures.did;
+      known = λ opened t has. let same : c.close-asked.result ≡ t = cc (c.replace-left.ensures.after, has) in subst (λ x. g.O.Opens.knows c.close-asked.new.self x) same c.close-asked.ensures.knows;
+    }

@@ -1,6 +1,6 @@
 use Rattle.std.proofs.Common.{refl, sym, ◌≡◌, Some}
 use Rattle.ingest_workers.specs.WorkerLaws.{did_job, did_one, idle_with, passes_is}
-use Rattle.ingest_workers.proofs.worker_jobs.WorkerWorksJobPassStore.work.Goals as goal
+use Rattle.ingest_workers.proofs.worker.Worker.work.Goals as goal
 
 pub do_job-passes-requires-clause-may : goal.do_job-passes-requires-clause-may
 do_job-passes-requires-clause-may g c = let had : c.args.self.now.passes ≡ Some c.in-Some.passes = cc (c.take.ensures.value, c.in-Some.is) in
