@@ -1,3 +1,4 @@
 pub mod ReadLemmas
 pub mod PageLemmas
 pub mod StandLemmas
+pub mod ColumnLemmas

@@ -19,10 +19,10 @@ use Rattle.segment_pages.specs.StepsLoaded.{EndsBefore, FixedTold, HasLoaded, Lo
 
 -- ---- pieces
 
-long_piece : (at n : ℕ) (payload : List ℕ) → at + n ≤ length payload → length (piece at n payload) ≡ n
+pub long_piece : (at n : ℕ) (payload : List ℕ) → at + n ≤ length payload → length (piece at n payload) ≡ n
 long_piece at n payload le = omega (arith, length-take n (drop at payload), length-drop at payload, le)
 
-piece_within : (at n : ℕ) (payload behind : List ℕ) → at + n ≤ length payload → piece at n (payload ++ behind) ≡ piece at n payload
+pub piece_within : (at n : ℕ) (payload behind : List ℕ) → at + n ≤ length payload → piece at n (payload ++ behind) ≡ piece at n payload
 piece_within at n payload behind le =
     ap (take n) (drop-append-le at payload behind (omega (arith, le)))
     ∙ take-append-le n (drop at payload) behind (omega (arith, le, length-drop at payload))
@@ -74,7 +74,7 @@ pub record HasNext (p : Paged) (bytes : List ℕ) (all : List Row) : Type 0 wher
   pub all_are : all ≡ page ++ rest
   pub behind : HoldsLeft (paged_after p page) bytes rest
 
-dropped : (at : ℕ) (text bytes : List ℕ) → (stands : StandsAt at text bytes) → drop at bytes ≡ text ++ stands.behind
+pub dropped : (at : ℕ) (text bytes : List ℕ) → (stands : StandsAt at text bytes) → drop at bytes ≡ text ++ stands.behind
 dropped at text bytes stands = ap (drop at) stands.spells ∙ drop_at stands.front (text ++ stands.behind) at stands.place
 
 next_in : (p : Paged) (bytes : List ℕ) (all : List Row) (payload : List ℕ) (stands : StandsAt p.at payload bytes) (left : List (List Row)) → Goes p → length payload ≡ payload_size p.pages

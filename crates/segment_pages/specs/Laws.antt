@@ -1,5 +1,5 @@
 -- Where the rows of a journal's segment stand, and what is left behind the last page.
-use Rattle.std.specs.Prelude.{◌≡◌, ◌≤◌, ◌+◌, ℕ, List, [], ◌∷◌, ◌++◌, length}
+use Rattle.std.specs.Prelude.{◌≡◌, ◌≤◌, ◌+◌, ◌-◌, ℕ, List, [], ◌∷◌, ◌++◌, length}
 use Rattle.record_format.specs.declared.header.Header.{Header}
 use Rattle.column_store.specs.declared.row.Row.{Row}
 use Rattle.segment_format.specs.Layout.{head_of}
@@ -22,3 +22,7 @@ SegmentsAreHeld =
 -- behind the last page no rows are left
 abbrev pub NoneAreLeft : Type 0
 NoneAreLeft = (p : Paged) (bytes : List ℕ) (rows : List Row) → p.pages.rows ≤ p.pages.row → HoldsLeft p bytes rows → rows ≡ []
+
+-- so many rows are left as the pages before have not had
+abbrev pub LeftAreCounted : Type 0
+LeftAreCounted = (p : Paged) (bytes : List ℕ) (rows : List Row) → HoldsLeft p bytes rows → length rows ≡ p.pages.rows - p.pages.row

@@ -1,5 +1,5 @@
 -- Where a reader of a segment's pages stands, and which rows the bytes of a disk hold from there on.
-use Rattle.std.specs.Prelude.{◌≡◌, ◌<◌, ◌+◌, ◌*◌, ◌^◌, ℕ, List, ◌++◌, length, Option, Some, None}
+use Rattle.std.specs.Prelude.{◌≡◌, ◌<◌, ◌+◌, ◌*◌, ◌^◌, ℕ, ℤ, List, ◌++◌, length, map, take, drop, Option, Some, None}
 use Rattle.std.specs.List.{flat_map}
 use Rattle.log_seams.specs.Disk.{DiskState}
 use Rattle.column_store.specs.declared.row.Row.{Row}
@@ -25,6 +25,13 @@ paged_first at head = paged at (first_page head)
 -- behind a page of these rows
 abbrev pub paged_after : Paged → List Row → Paged
 paged_after p rows = paged p.at (after p.pages rows)
+
+-- behind all rows of the segment
+abbrev pub ended : Pages → Pages
+ended p = record p { row = p.rows; variable = p.variables }
+
+abbrev pub paged_end : Paged → Paged
+paged_end p = paged p.at (ended p.pages)
 
 -- how many bytes the columns have, and head and columns
 abbrev pub columns_size : Pages → ℕ
@@ -77,3 +84,24 @@ HoldsNoneTold (Some bytes) p = (rows : List Row) → ¬ HoldsLeft p bytes rows
 -- the disk was only read, and nothing but columns of the segment
 abbrev pub ReadsColumns : Paged → DiskState → DiskState → Type 0
 ReadsColumns p old new = OnlyReadsIn (p.at + p.pages.start) (columns_size p.pages) old new
+
+-- ---- columns, each for itself
+
+-- P holds of the rows that the bytes hold from the next page on, where they are told and hold rows
+abbrev pub OfRows : Option (List ℕ) → Paged → (List Row → Type 0) → Type 0
+OfRows None p P = Unit {0}
+OfRows (Some bytes) p P = (rows : List Row) → HoldsLeft p bytes rows → P rows
+
+-- so many of a list, behind the first ones
+abbrev pub part : {A : Type 0} → ℕ → ℕ → List A → List A
+part skipped count xs = take count (drop skipped xs)
+
+-- the patterns, the moments and the log types of rows
+abbrev pub patterns_in : List Row → List ℕ
+patterns_in rows = map (λ r. r.pattern) rows
+
+abbrev pub moments_in : List Row → List ℤ
+moments_in rows = map (λ r. r.moment) rows
+
+abbrev pub types_in : List Row → List ℕ
+types_in rows = map (λ r. r.log_type) rows

@@ -1,11 +1,11 @@
 -- What the buffer of a page holds before it is taken as columns.
-use Rattle.std.specs.Prelude.{◌≡◌, ◌<◌, ◌*◌, ◌^◌, ℕ, List, ◌++◌, length, drop, sum, Option, Some, None, All}
+use Rattle.std.specs.Prelude.{◌≡◌, ◌<◌, ◌*◌, ◌^◌, ℕ, Bool, true, false, List, ◌++◌, length, drop, sum, Option, Some, None, All}
 use Rattle.std.specs.List.{flat_map}
 use Rattle.record_format.specs.Lists.{four_bytes}
 use Rattle.segment_format.specs.declared.ask.PageAsk.{PageAsk}
-use Rattle.segment_format.specs.Pages.{page_rows, pieces}
+use Rattle.segment_format.specs.Pages.{Pages, page_rows, pieces}
 use Rattle.segment_format.specs.Laws.{page_bytes, piece}
-use Rattle.segment_pages.specs.Paged.{Paged}
+use Rattle.segment_pages.specs.Paged.{Paged, ended}
 
 -- the four pieces of a page whose length the count of rows tells
 abbrev pub fixed_bytes : PageAsk → List ℕ → List ℕ
@@ -35,3 +35,8 @@ LoadedTold (Some bytes) p text = HasLoaded p bytes text
 abbrev pub EndsBefore : ℕ → Option (List ℕ) → Type 0
 EndsBefore end None = Unit {0}
 EndsBefore end (Some bytes) = length bytes < end
+
+-- where a reader stands, that may have passed all rows
+abbrev pub passing : Bool → Pages → Pages
+passing false p = p
+passing true p = ended p

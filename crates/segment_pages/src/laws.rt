@@ -1,5 +1,5 @@
 //! Laws of what bytes hold, each the contract of a function that does nothing.
-ghost use Rattle.segment_pages.specs.Laws.{NoneAreLeft, SegmentsAreHeld};
+ghost use Rattle.segment_pages.specs.Laws.{LeftAreCounted, NoneAreLeft, SegmentsAreHeld};
 
 use archive_meaning::laws::{bytes_stand_for_one, entries_read_back};
 use segment_format::segments_read_back;
@@ -16,4 +16,9 @@ pub fn segments_are_held()
 /// Behind the last page no rows are left.
 pub fn none_are_left()
     ensures { NoneAreLeft }
+{}
+
+/// So many rows are left as the pages before have not had.
+pub fn left_are_counted()
+    ensures { LeftAreCounted }
 {}

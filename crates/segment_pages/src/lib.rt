@@ -4,12 +4,13 @@
 //! five pieces are read into one buffer, which is used for all pages.
 #![tactic(auto)]
 
+mod columns;
 mod heads;
 mod laws;
 mod loading;
 mod pages;
 mod refusal;
 
-pub use laws::{none_are_left, segments_are_held};
+pub use laws::{left_are_counted, none_are_left, segments_are_held};
 pub use pages::SegmentPages;
 pub use refusal::PageRefusal;

@@ -1,10 +1,11 @@
 //! A segment's pages on a disk.
-ghost use Rattle.std.specs.Prelude.{◌≡◌, ◌≤◌, ◌<◌, ◌+◌, ℕ, List, length, IfOk, OnErr, IfSome, IsNone, IsErrOf, IsTrue, IsFalse};
+ghost use Rattle.std.specs.Prelude.{◌≡◌, ◌≤◌, ◌<◌, ◌+◌, ◌-◌, ℕ, List, [], length, IfOk, OnOk, OnErr, IfSome, IsNone, IsErrOf, IsTrue, IsFalse};
 ghost use Rattle.log_seams.specs.Outside.{CountsOf};
 ghost use Rattle.column_store.specs.declared.row.Row.{Row};
 ghost use Rattle.segment_format.specs.Pages.{page_rows};
-ghost use Rattle.segment_pages.specs.Paged.{AreNextTold, HoldsLeft, HoldsNoneTold, HoldsSegment, ReadsColumns, paged_after, paged_first};
+ghost use Rattle.segment_pages.specs.Paged.{AreNextTold, HoldsLeft, HoldsNoneTold, HoldsSegment, OfRows, ReadsColumns, moments_in, paged_after, paged_end, paged_first, part, patterns_in, types_in};
 
+use crate::columns::{ask_of, fill_moments, fill_numbers, read_part, rows_behind};
 use crate::heads::is_head;
 use crate::loading::load;
 use crate::refusal::PageRefusal;
@@ -22,18 +23,21 @@ pub struct SegmentPages {
     at: u64,
     /// Which page is next.
     pages: PageReader,
+    /// Whether all rows were passed.
+    passed: bool,
 }
 
 impl Model for SegmentPages {
     ghost use Rattle.std.specs.Prelude.{◌<◌, ◌+◌, ◌^◌};
     ghost use Rattle.segment_pages.specs.Paged.{Paged, paged, payload_size};
+    ghost use Rattle.segment_pages.specs.StepsLoaded.{passing};
 
     ghost Value = { Paged };
 
-    ghost view = { λ p. paged p.at p.pages };
+    ghost view = { λ p. paged p.at (passing p.passed p.pages) };
 
     ghost invariant = { λ p. (p.at + payload_size p.pages < 2 ^ 64)
-        × (p.pages.variables < 2 ^ 32) };
+        × (p.pages.variables < 2 ^ 32) × (p.pages.rows < 2 ^ 32) };
 }
 
 impl SegmentPages {
@@ -61,7 +65,11 @@ impl SegmentPages {
             return None;
         }
         let pages = open_pages(head, length, steps)?;
-        Some(SegmentPages { at, pages })
+        Some(SegmentPages {
+            at,
+            pages,
+            passed: false,
+        })
     }
 
     /// Whether a page is left.
@@ -69,7 +77,7 @@ impl SegmentPages {
         ensures yes { IsTrue result → self.now.pages.row < self.now.pages.rows }
         ensures no { IsFalse result → self.now.pages.rows ≤ self.now.pages.row }
     {
-        self.pages.ask().is_some()
+        ask_of(self.passed, &self.pages).is_some()
     }
 
     /// Reads the rows of the next page, by five reads at most. The buffer holds the bytes of the page
@@ -104,12 +112,152 @@ impl SegmentPages {
         ensures counts { CountsOf PageRefusal.DiskFault
             (D.state disk.old).faults (D.state disk.new).faults result }
     {
-        let Some(ask) = self.pages.ask() else {
+        let Some(ask) = ask_of(self.passed, &self.pages) else {
             unreachable!();
         };
         let size = load(disk, self.at, &self.pages, &ask, buffer)?;
         let (bytes, _) = buffer.as_slice().split_at(size);
         let page = self.pages.fill_page(columns, bytes)?;
         Ok(page)
+    }
+    /// How many rows are left.
+    pub fn rows_left(&self) -> u32
+        ensures { result ≡ self.now.pages.rows - self.now.pages.row }
+    {
+        let Some(ask) = ask_of(self.passed, &self.pages) else {
+            return 0;
+        };
+        rows_behind(&ask, &self.pages)
+    }
+
+    /// Reads the log types of so many of the rows that are left, behind the first ones, by one read. The
+    /// buffer holds their bytes meanwhile.
+    ///
+    /// # Errors
+    ///
+    /// Those of `next_page`.
+    pub fn read_types<D: Disk>(
+        &self,
+        disk: &mut D,
+        skipped: u32,
+        count: u32,
+        buffer: &mut Vec<u8>,
+        types: &mut Vec<u32>,
+    ) -> Result<(), PageRefusal>
+        requires some { 0 < count }
+        requires within { skipped + count ≤ self.now.pages.rows - self.now.pages.row }
+
+        // what stays
+        ensures reads { ReadsColumns self.now (D.state disk.old) (D.state disk.new) }
+
+        // by the answer
+        ensures types { OnOk result (OfRows (D.state disk.old).seen self.now
+            (λ rows. types.new.items ≡ part skipped count (types_in rows))) }
+        ensures length { OnOk result (length types.new.items ≡ count) }
+
+        // causes
+        ensures damaged { IsErrOf result PageRefusal.Damaged
+            → HoldsNoneTold (D.state disk.old).seen self.now }
+        ensures counts { CountsOf PageRefusal.DiskFault
+            (D.state disk.old).faults (D.state disk.new).faults result }
+    {
+        let Some(ask) = ask_of(self.passed, &self.pages) else {
+            unreachable!();
+        };
+        let size = 4 * count as usize;
+        read_part(disk, self.at + ask.types + 4 * u64::from(skipped), size, buffer)?;
+        let (bytes, _) = buffer.as_slice().split_at(size);
+        fill_numbers(types, bytes)?;
+        Ok(())
+    }
+
+    /// The same of their moments.
+    ///
+    /// # Errors
+    ///
+    /// Those of `next_page`.
+    pub fn read_moments<D: Disk>(
+        &self,
+        disk: &mut D,
+        skipped: u32,
+        count: u32,
+        buffer: &mut Vec<u8>,
+        moments: &mut Vec<i64>,
+    ) -> Result<(), PageRefusal>
+        requires some { 0 < count }
+        requires within { skipped + count ≤ self.now.pages.rows - self.now.pages.row }
+
+        // what stays
+        ensures reads { ReadsColumns self.now (D.state disk.old) (D.state disk.new) }
+
+        // by the answer
+        ensures moments { OnOk result (OfRows (D.state disk.old).seen self.now
+            (λ rows. moments.new.items ≡ part skipped count (moments_in rows))) }
+        ensures length { OnOk result (length moments.new.items ≡ count) }
+
+        // causes
+        ensures damaged { IsErrOf result PageRefusal.Damaged
+            → HoldsNoneTold (D.state disk.old).seen self.now }
+        ensures counts { CountsOf PageRefusal.DiskFault
+            (D.state disk.old).faults (D.state disk.new).faults result }
+    {
+        let Some(ask) = ask_of(self.passed, &self.pages) else {
+            unreachable!();
+        };
+        let size = 8 * count as usize;
+        read_part(disk, self.at + ask.moments + 8 * u64::from(skipped), size, buffer)?;
+        let (bytes, _) = buffer.as_slice().split_at(size);
+        fill_moments(moments, bytes)?;
+        Ok(())
+    }
+
+    /// The same of the patterns of their stamps.
+    ///
+    /// # Errors
+    ///
+    /// Those of `next_page`.
+    pub fn read_patterns<D: Disk>(
+        &self,
+        disk: &mut D,
+        skipped: u32,
+        count: u32,
+        buffer: &mut Vec<u8>,
+        patterns: &mut Vec<u8>,
+    ) -> Result<(), PageRefusal>
+        requires some { 0 < count }
+        requires within { skipped + count ≤ self.now.pages.rows - self.now.pages.row }
+
+        // what stays
+        ensures reads { ReadsColumns self.now (D.state disk.old) (D.state disk.new) }
+
+        // by the answer
+        ensures patterns { OnOk result (OfRows (D.state disk.old).seen self.now
+            (λ rows. patterns.new.items ≡ part skipped count (patterns_in rows))) }
+        ensures length { OnOk result (length patterns.new.items ≡ count) }
+
+        // causes
+        ensures damaged { IsErrOf result PageRefusal.Damaged
+            → HoldsNoneTold (D.state disk.old).seen self.now }
+        ensures counts { CountsOf PageRefusal.DiskFault
+            (D.state disk.old).faults (D.state disk.new).faults result }
+    {
+        let Some(ask) = ask_of(self.passed, &self.pages) else {
+            unreachable!();
+        };
+        let size = count as usize;
+        read_part(disk, self.at + ask.patterns + u64::from(skipped), size, buffer)?;
+        let (bytes, _) = buffer.as_slice().split_at(size);
+        patterns.clear();
+        patterns.extend_from_slice(bytes)?;
+        Ok(())
+    }
+
+    /// Passes all rows that are left, which were read by their columns.
+    pub fn pass_rest(&mut self)
+        ensures end { self.new ≡ paged_end self.old }
+        ensures left { (bytes : List ℕ) (rows : List Row) → HoldsLeft self.old bytes rows
+            → HoldsLeft self.new bytes [] }
+    {
+        self.passed = true;
     }
 }
