@@ -165,7 +165,12 @@ impl SegmentPages {
             unreachable!();
         };
         let size = 4 * count as usize;
-        read_part(disk, self.at + ask.types + 4 * u64::from(skipped), size, buffer)?;
+        read_part(
+            disk,
+            self.at + ask.types + 4 * u64::from(skipped),
+            size,
+            buffer,
+        )?;
         let (bytes, _) = buffer.as_slice().split_at(size);
         fill_numbers(types, bytes)?;
         Ok(())
@@ -205,7 +210,12 @@ impl SegmentPages {
             unreachable!();
         };
         let size = 8 * count as usize;
-        read_part(disk, self.at + ask.moments + 8 * u64::from(skipped), size, buffer)?;
+        read_part(
+            disk,
+            self.at + ask.moments + 8 * u64::from(skipped),
+            size,
+            buffer,
+        )?;
         let (bytes, _) = buffer.as_slice().split_at(size);
         fill_moments(moments, bytes)?;
         Ok(())
@@ -245,7 +255,12 @@ impl SegmentPages {
             unreachable!();
         };
         let size = count as usize;
-        read_part(disk, self.at + ask.patterns + u64::from(skipped), size, buffer)?;
+        read_part(
+            disk,
+            self.at + ask.patterns + u64::from(skipped),
+            size,
+            buffer,
+        )?;
         let (bytes, _) = buffer.as_slice().split_at(size);
         patterns.clear();
         patterns.extend_from_slice(bytes)?;
