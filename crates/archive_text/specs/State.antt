@@ -11,12 +11,13 @@ pub record StoredState (D : Type 0) : Type 0 where
   pub given : ℕ
   pub faults : ℕ
 
--- the disk and the name of its borrow; the disk when the source was made; the bytes of the text that are left, where they are
--- told; how often a read has failed; and why
+-- the disk and the name of its borrow; the disk when the source was made; the log types that were cut; the bytes of the text
+-- that are left, where they are told; how often a read has failed; and why
 pub record TextState (D : Type 0) : Type 0 where
   pub disk : D
   pub name : ℕ
   pub opened : D
+  pub types : List (List ℕ)
   pub left : Option (List ℕ)
   pub faults : ℕ
   pub cause : Option TextCause

@@ -1,6 +1,7 @@
 //! The text of one file of an archive as a source.
-ghost use Rattle.std.specs.Prelude.{◌≡◌, ◌≢◌, None, Some, IfSome};
+ghost use Rattle.std.specs.Prelude.{◌≡◌, ◌≢◌, ◌≤◌, ◌<◌, None, Some, IfOk, IfSome, OnErr, length};
 ghost use Rattle.log_seams.specs.Disk.{Rests};
+ghost use Rattle.log_seams.specs.Outside.{Counts, Takes};
 ghost use Rattle.archive_open.specs.Shown.{StandsForNone};
 ghost use Rattle.archive_text.specs.Caused.{CountsBy};
 ghost use Rattle.archive_text.specs.Told.{disk_name};
@@ -58,6 +59,7 @@ impl<'a, D: Disk, N: Names> Model for FileText<'a, D, N> {
       disk = s.disk.now;
       name = s.disk.ghost_name;
       opened = s.opened.value;
+      types = s.layouts.now;
       left = option_map (drop s.walk.lines.given) s.told.has.0;
       faults = s.faults;
       cause = s.cause;
@@ -108,6 +110,7 @@ fn with_cause<'a, D: Disk, N: Names>(
 
     // the text
     ensures left { result.left ≡ text.entry.left }
+    ensures types { result.types ≡ text.entry.types }
     ensures faults { result.faults ≡ text.entry.faults }
     ensures cause { result.cause ≡ cause }
 
@@ -150,6 +153,7 @@ impl<'a, D: Disk, N: Names> FileText<'a, D, N> {
 
         // the text
         ensures left { result.left ≡ text.entry.left }
+        ensures types { result.types ≡ text.entry.types }
         ensures faults { result.faults ≡ text.entry.faults }
         ensures cause { text.entry.given ≡ 0 → text.entry.faults ≡ 0 → result.cause ≡ None }
 
@@ -175,6 +179,7 @@ impl<'a, D: Disk, N: Names> FileText<'a, D, N> {
 
         // the text
         ensures left { result.left ≡ text.entry.left }
+        ensures types { result.types ≡ text.entry.types }
         ensures faults { result.faults ≡ text.entry.faults }
         ensures cause { result.cause ≡ Some TextCause.Refused }
 
@@ -186,9 +191,49 @@ impl<'a, D: Disk, N: Names> FileText<'a, D, N> {
         with_cause(alloc, text, layouts, disk, room, Some(TextCause::Refused))
     }
 
+    /// Gives the next bytes to the front of a buffer, which is not empty, and answers how many, as a
+    /// read of a source does. The disk that was lent stays the one that it is.
+    pub fn give(&mut self, buf: &mut [u8]) -> Result<usize, Failed>
+        requires { 0 < length buf.old }
+
+        // as each source
+        ensures within { IfOk result (λ n. n ≤ length buf.old) }
+        ensures taken { IfOk result (λ n. Takes n buf.new self.old.left self.new.left) }
+        ensures untaken { OnErr result (self.new.left ≡ self.old.left) }
+        ensures cause { Counts self.old.faults self.new.faults result }
+
+        // what stays
+        ensures name { self.new.name ≡ self.old.name }
+        ensures opened { self.new.opened ≡ self.old.opened }
+        ensures types { self.new.types ≡ self.old.types }
+        ensures kept { self.old.cause ≢ None → self.new.cause ≡ self.old.cause }
+    {
+        if self.cause.is_some() {
+            self.faults = self.faults.saturating_add(1);
+            return Err(Failed);
+        }
+        match give_next(
+            self.told.names,
+            self.layouts,
+            self.told.open_end,
+            self.disk,
+            &mut self.walk,
+            buf,
+        ) {
+            Ok(count) => Ok(count),
+            Err(cause) => {
+                self.cause = Some(cause);
+                self.faults = self.faults.saturating_add(1);
+                Err(Failed)
+            }
+        }
+    }
+
     /// Ends the source. Take the answer apart at once: a contract follows the disk by its field.
     pub fn close(self) -> ClosedText<'a, D, N>
-        // the text
+        // the text, which stands on the disk as before
+        ensures seen { (D.state result.text.disk).seen ≡ (D.state self.entry.opened).seen }
+        ensures types { result.text.types ≡ self.entry.types }
         ensures left { result.text.left ≡ self.entry.left }
         ensures faults { result.text.faults ≡ self.entry.faults }
 
@@ -239,24 +284,6 @@ impl<'a, D: Disk, N: Names> Source for FileText<'a, D, N> {
     ghost faults = { λ s. s.faults };
 
     fn read(&mut self, buf: &mut [u8]) -> Result<usize, Failed> {
-        if self.cause.is_some() {
-            self.faults = self.faults.saturating_add(1);
-            return Err(Failed);
-        }
-        match give_next(
-            self.told.names,
-            self.layouts,
-            self.told.open_end,
-            self.disk,
-            &mut self.walk,
-            buf,
-        ) {
-            Ok(count) => Ok(count),
-            Err(cause) => {
-                self.cause = Some(cause);
-                self.faults = self.faults.saturating_add(1);
-                Err(Failed)
-            }
-        }
+        self.give(buf)
     }
 }

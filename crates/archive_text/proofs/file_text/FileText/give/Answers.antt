@@ -7,7 +7,7 @@ use Rattle.archive_text.specs.Caused.{CountsBy}
 use Rattle.archive_text.specs.State.{TextState}
 use Rattle.archive_text.proofs.CauseLemmas.{counts_refused, damaged_told, no_cause}
 use Rattle.archive_text.proofs.WayLemmas.{takes_text}
-use Rattle.archive_text.proofs.file_text.FileTextSource.read.Goals as goal
+use Rattle.archive_text.proofs.file_text.FileText.give.Goals as goal
 
 pub invariant_of-self-in-Err : goal.invariant_of-self-in-Err
 invariant_of-self-in-Err g c =
