@@ -191,8 +191,8 @@ impl<'a, D: Disk, N: Names> FileText<'a, D, N> {
         with_cause(alloc, text, layouts, disk, room, Some(TextCause::Refused))
     }
 
-    /// Gives the next bytes to the front of a buffer, which is not empty, and answers how many, as a
-    /// read of a source does. The disk that was lent stays the one that it is.
+    /// Gives the next bytes to the front of a buffer, which is not empty, and answers how many, as
+    /// a read of a source does. The disk that was lent stays the one that it is.
     pub fn give(&mut self, buf: &mut [u8]) -> Result<usize, Failed>
         requires { 0 < length buf.old }
 
