@@ -44,6 +44,10 @@ cause_name (Some TextCause.Damaged) = 2 ∷ []
 cause_name (Some TextCause.OutOfMemory) = 3 ∷ []
 cause_name (Some TextCause.Refused) = 4 ∷ []
 
+-- where reading a text has failed, there is a cause
+abbrev pub LeavesCause : Option TextCause → ℕ → Type 0
+LeavesCause cause faults = faults ≢ 0 → cause ≢ None
+
 -- the first cause stays
 abbrev pub StaysFirst : Option TextCause → Option TextCause → Type 0
 StaysFirst a b = a ≢ None → b ≡ a

@@ -1,6 +1,6 @@
 //! A source over a file of an archive.
 ghost use Rattle.std.specs.Prelude.{◌≡◌, ◌≢◌, None, Some};
-ghost use Rattle.archive_jobs.specs.Lent.{IsRead, cause_name, first_of};
+ghost use Rattle.archive_jobs.specs.Lent.{IsRead, LeavesCause, cause_name, first_of};
 
 use crate::lent::Lent;
 use crate::stored_file::StoredFile;
@@ -115,7 +115,7 @@ impl<'a, D: Disk, N: Names, L: Lent> FileSource<'a, D, N, L> {
 
         // the disk, and why a text could not be had
         ensures read { IsRead D.state L.lent result.cause result.disk.ghost_name result.disk.now }
-        ensures quiet { result.cause ≡ None → self.entry.text.faults ≡ 0 }
+        ensures leaves { LeavesCause result.cause result.file.faults }
         ensures first { self.entry.first ≢ None → result.cause ≡ self.entry.first }
     {
         let FileSource {
