@@ -1,5 +1,5 @@
 //! A journal on a disk in memory: its bytes, its refusals, and every crash of a run.
-ghost use Rattle.std.specs.Prelude.{◌<◌, ◌≤◌, IsTrue, IfOk};
+ghost use Rattle.std.specs.Prelude.{◌<◌, ◌≤◌, IsTrue, IfOk, OnOk};
 ghost use Rattle.log_seams.specs.MemDisk.{calls_of};
 ghost use Rattle.disk_journal.specs.Record.{IsFrame};
 ghost use Rattle.disk_journal.specs.State.{IsAtEnd};
@@ -12,7 +12,7 @@ use disk_journal::{
 };
 use log_seams::{Disk, Failed, MemDisk, Pending};
 use plain_list::Text;
-use record_format::Header;
+use record_format::{HEADER_LEN, Header};
 use std::alloc::{AllocError, Global};
 use std::test::Fail;
 
@@ -117,10 +117,12 @@ fn append_three<D: Disk>(
     requires one { IsFrame one.now }
     requires two { IsFrame two.now }
     requires three { IsFrame three.now }
+    ensures { OnOk result (IsAtEnd (state_of journal.new)) }
 {
     journal.append(one)?;
     journal.append(two)?;
-    journal.append(three)
+    journal.append(three)?;
+    Ok(())
 }
 
 fn append_both<D: Disk>(
@@ -521,6 +523,98 @@ fn keeps_at(alloc: Global, fault: u64) -> Result<bool, Fail>
 fn a_fault_of_three_appends_leaves_a_journal(rt: HostRuntime) -> Result<(), Fail> {
     for fault in 4..16 {
         if !keeps_at(rt.alloc(), fault)? {
+            return Err(Fail::new(fault));
+        }
+    }
+    Ok(())
+}
+
+// Where the three records stand.
+const THREE_PLACES: &[RecordPlace] = &[
+    RecordPlace {
+        at: 32,
+        kind: 1,
+        payload: 42,
+        length: 5,
+    },
+    RecordPlace {
+        at: 47,
+        kind: 2,
+        payload: 57,
+        length: 12,
+    },
+    RecordPlace {
+        at: 69,
+        kind: 3,
+        payload: 79,
+        length: 0,
+    },
+];
+
+// Whether these records stand at the gates, from the first on, and the closed gate behind them. The
+// journal stays at its end.
+fn stand_at_gates<D: Disk>(
+    journal: &mut Journal<'_, D>,
+    places: &[RecordPlace],
+) -> Result<bool, WalkRefusal>
+    requires { IsAtEnd (state_of journal.old) }
+    ensures { IsAtEnd (state_of journal.new) }
+{
+    let mut at = HEADER_LEN as u64;
+    for place in places {
+        let Some(next) = journal.place_at(at)? else {
+            return Ok(false);
+        };
+        if next != *place {
+            return Ok(false);
+        }
+        at = next.payload + next.length;
+    }
+    Ok(journal.place_at(at)?.is_none())
+}
+
+// What is found at the gates of an empty journal to which three records were appended.
+fn look_at_three(alloc: Global, disk: &mut MemDisk) -> Result<Result<bool, WalkRefusal>, Fail> {
+    let one = frame(alloc, 1, b"first")?;
+    let two = frame(alloc, 2, &[1; 12])?;
+    let three = frame(alloc, 3, &[])?;
+    let mut journal = end_of(disk)?;
+    append_three(
+        &mut journal,
+        one.as_slice(),
+        two.as_slice(),
+        three.as_slice(),
+    )?;
+    let found = stand_at_gates(&mut journal, THREE_PLACES);
+    Ok(if ends_at(&journal, 80, 3) {
+        found
+    } else {
+        Ok(false)
+    })
+}
+
+// Whether a look at each gate answers so, where the call of this number fails, and makes so many
+// calls.
+fn looks(
+    alloc: Global,
+    fault: u64,
+    answer: Result<bool, WalkRefusal>,
+    calls: u64,
+) -> Result<bool, Fail> {
+    let mut run = disk(alloc, &EMPTY, &[fault])?;
+    Ok(look_at_three(alloc, &mut run)? == answer && run.calls() as u64 == calls)
+}
+
+// There are 16 calls before the first look, and two of each look.
+#[test]
+fn each_gate_is_found(rt: HostRuntime) -> Result<(), Fail> {
+    holds(looks(rt.alloc(), 24, Ok(true), 24))
+}
+
+#[test]
+fn each_call_of_a_look_may_fail(rt: HostRuntime) -> Result<(), Fail> {
+    for fault in 16..24u64 {
+        if !looks(rt.alloc(), fault, Err(WalkRefusal::DiskFault), fault + 1)? {
             return Err(Fail::new(fault));
         }
     }
