@@ -1,22 +1,20 @@
 //! A store over a disk in memory, of whose calls in a commit each may be the last or fail.
-ghost use Rattle.std.specs.Prelude.{◌≡◌, ◌+◌, ◌^◌, ◌<◌, ◌≤◌, [], false, None, Some, length, is_ok, IfSome, IsTrue};
-ghost use Rattle.log_seams.specs.Outside.{Counts};
+ghost use Rattle.std.specs.Prelude.{◌≡◌, ◌+◌, ◌<◌, ◌≤◌, [], Some, length, IsTrue};
 ghost use Rattle.step_count.specs.Opens.{OpensFor};
 ghost use Rattle.turn_lock.specs.declared.board.About.{About};
 ghost use Rattle.turn_lock.specs.Words.{about_by, id_of, lock_by, lock_noted, made_by, seen_by, IsOpening, IsStillBy};
 ghost use Rattle.dict_core.specs.Fair.{IsFair};
 ghost use Rattle.dict_core.specs.declared.grows.TheConstants.{WORDS_FIRST as words_first};
-ghost use Rattle.disk_journal.specs.Journal.{state_of};
 ghost use Rattle.disk_seal.specs.declared.fixed.StoreFixed.{StoreFixed};
-ghost use Rattle.disk_seal.specs.Opening.{MayOpen};
 
+use crate::quiet::{QuietDisk, at_end};
 use crate::worked::WORKED;
 use column_store::Columns;
 use dict_core::{Book, WORDS_FIRST};
 use dict_lock::{SharedBook, intern};
 use disk_journal::Journal;
 use disk_seal::{DiskFault, Draft, Keeper, Receipt, Store, Turns, prepare};
-use log_seams::{Disk, Failed, MemDisk, Pending};
+use log_seams::{MemDisk, Pending};
 use logtype_text::{MAX_TYPE_LEN, MAX_WORD_LEN, text_ok};
 use plain_list::{NumberList, Text};
 use std::alloc::{AllocError, Global};
@@ -26,102 +24,6 @@ use std::sync::ledger::{Blank, Ledger};
 use std::test::Fail;
 use step_count::Steps;
 use turn_lock::{Maker, Note};
-
-/// A disk in memory that tells nothing.
-#[derive(Drop)]
-struct QuietDisk {
-    disk: MemDisk,
-    faults: u64,
-}
-
-impl QuietDisk {
-    /// Counts a fault.
-    fn fail<T>(&mut self) -> Result<T, Failed>
-        ensures failed { is_ok result ≡ false }
-        ensures counts { Counts self.old.faults self.new.faults result }
-    {
-        self.faults = self.faults.saturating_add(1);
-        Err(Failed)
-    }
-
-    /// Writes at a place that is not past the end.
-    fn put(&mut self, at: u64, bytes: &[u8]) -> Result<(), Failed>
-        requires { at + length bytes.now ≤ 2 ^ 62 }
-        ensures { Counts self.old.faults self.new.faults result }
-    {
-        if at > self.disk.bytes().len() as u64 {
-            return self.fail();
-        }
-        match self.disk.write(at, bytes) {
-            Ok(()) => Ok(()),
-            Err(_) => self.fail(),
-        }
-    }
-}
-
-impl Disk for QuietDisk {
-    ghost state = { λ d. record {
-      seen = None;
-      images = λ _. Unit {0};
-      clock = 0;
-      since = λ _ _. Unit {0};
-      ranges = None;
-      faults = d.faults;
-    } };
-
-    fn len(&mut self) -> Result<u64, Failed> {
-        match self.disk.len() {
-            Ok(length) => Ok(length),
-            Err(_) => self.fail(),
-        }
-    }
-
-    fn read(&mut self, at: u64, buf: &mut [u8]) -> Result<usize, Failed> {
-        match self.disk.read(at, buf) {
-            Ok(count) => Ok(count.min(buf.len())),
-            Err(_) => self.fail(),
-        }
-    }
-
-    fn write(&mut self, at: u64, bytes: &[u8]) -> Result<(), Failed> {
-        self.put(at, bytes)
-    }
-
-    fn sync(&mut self) -> Result<(), Failed> {
-        match self.disk.sync() {
-            Ok(()) => Ok(()),
-            Err(_) => self.fail(),
-        }
-    }
-
-    fn faults(&self) -> u64 {
-        self.faults
-    }
-
-    ghost lawful = { λ _. record {
-      reads_as = tt;
-      counts_now = λ _ _ _ _. tt;
-      only_now = λ _ _. tt;
-      wider = λ _ _ _ _ _. tt;
-    } };
-}
-
-/// The journal of a disk with one record, at its end.
-fn at_end(disk: &mut QuietDisk) -> Option<Journal<'_, QuietDisk>>
-    ensures { IfSome result (λ j. MayOpen (state_of j)) }
-{
-    let Ok(mut journal) = Journal::open_journal(disk) else {
-        return None;
-    };
-    match journal.next_place() {
-        Ok(Some(_)) => {}
-        _ => return None,
-    }
-    match journal.next_place() {
-        Ok(None) => Some(journal),
-        _ => None,
-    }
-}
 
 /// Counters that stand at 0.
 fn zeros<A: Ledger, B: Ledger, C: Ledger>(a: Blank, b: Blank, c: Blank) -> Turns<A, B, C>
