@@ -1,10 +1,16 @@
 -- What holds of whatever takes the pages of a walk.
-use Rattle.std.specs.Prelude.{List, [], ◌++◌}
+use Rattle.std.specs.Prelude.{ℕ, ◌<◌, ◌+◌, ◌-◌, ◌^◌, List, [], ◌++◌}
+use Rattle.segment_pages.specs.Paged.{Paged}
 use Rattle.word_places.specs.Held.{HeldNames}
 use Rattle.search_walk.specs.Scan.{Asked, IsFound, IsTried, Picks, Placed}
 use Rattle.search_walk.specs.Held.{Named}
 use Rattle.search_walk.specs.Ready.{Serves}
 use Rattle.search_walk.specs.StepsScope.{Scope}
+
+-- a page is left, and the numbers of the messages from here on, the first of which has this one, fit, with room for a page
+pub record IsLeft (p : Paged) (number : ℕ) : Type 0 where
+  pub page : p.pages.row < p.pages.rows
+  pub fits : number + (p.pages.rows - p.pages.row) + 4096 < 2 ^ 64
 
 module _ {W : Type 0} (reaches : W → W → Named → Asked → List Placed → Type 0) where
   -- past messages that are neither found nor tried it gets by no step

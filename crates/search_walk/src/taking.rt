@@ -1,12 +1,12 @@
 //! What takes the pages of segments, as a walk reads them.
-ghost use Rattle.std.specs.Prelude.{◌≡◌, ◌<◌, ◌+◌, ◌-◌, ◌^◌, ℕ, List, [], IfOk, OnOk, OnErr, IsErrOf};
+ghost use Rattle.std.specs.Prelude.{◌≡◌, ℕ, List, [], IfOk, OnOk, OnErr, IsErrOf};
 ghost use Rattle.log_seams.specs.Outside.{CountsOf};
 ghost use Rattle.word_places.specs.Held.{HeldNames};
 ghost use Rattle.search_walk.specs.Held.{Named, OfLeft};
 ghost use Rattle.search_walk.specs.PagesRead.{ReadsPage};
 ghost use Rattle.search_walk.specs.Scan.{Asked, Placed, numbered};
 ghost use Rattle.search_walk.specs.StepsScope.{Scope};
-ghost use Rattle.search_walk.specs.Takes.{GoesOn, HasWords, PassesOver, StandsOn, StopsBehind, StopsHere, StopsWithin};
+ghost use Rattle.search_walk.specs.Takes.{GoesOn, HasWords, IsLeft, PassesOver, StandsOn, StopsBehind, StopsHere, StopsWithin};
 ghost use Rattle.search_walk.specs.Walked.{PagesGone, PastTold};
 
 use crate::context::Context;
@@ -54,9 +54,7 @@ pub trait TakesPages {
         pages: &mut SegmentPages,
         disk: &mut D,
     ) -> Result<u32, SearchRefusal>
-        requires left { pages.old.pages.row < pages.old.pages.rows }
-        requires small { label.number + (pages.old.pages.rows - pages.old.pages.row) + 4096
-            < 2 ^ 64 }
+        requires left { IsLeft pages.old label.number }
         requires served { served self.old context.now held.old }
         requires told { (D.state disk.old).seen ≡ context.now.names.told }
 

@@ -1,4 +1,4 @@
-use Rattle.std.proofs.Common.{[], rules, refl}
+use Rattle.std.proofs.Common.{◌<◌, [], arith, rules, refl}
 use Rattle.segment_pages.proofs.PageLemmas.{none_left}
 use Rattle.search_walk.specs.Held.{Named}
 use Rattle.search_walk.proofs.AnswerLemmas.{on_err}
@@ -55,3 +55,8 @@ returns-in_err-rows-clause-damaged g c = λ is stands.
     let b = c.loop-pages.work in
     past_damaged (g.W.TakesPages.reaches a b n q) (g.W.TakesPages.stands b n) _ _ c.args.pages c.loop-pages.pages n c.args.label.name.now c.args.label.number c.loop-pages.pages.pages.row (λ xs f. g.met.W.TakesPages.stands_on a b n q xs f stands)
     c.loop-pages.invariant.0.reads.rests.seen c.loop-pages.invariant.0.past (c.in_err-rows.ensures.damaged (search rules))
+
+pub take_page-requires-clause-left : goal.take_page-requires-clause-left
+take_page-requires-clause-left g c =
+    let page : c.loop-pages.pages.pages.row < c.loop-pages.pages.pages.rows = search rules in
+    record { page = page; fits = omega (arith, page, c.loop-pages.invariant.0.place, c.loop-pages.invariant.0.same.2, c.requires.small) }
