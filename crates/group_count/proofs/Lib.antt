@@ -10,3 +10,4 @@ mod ShapeLemmas
 mod TableLemmas
 mod TypeLemmas
 mod WalkedLemmas
+pub mod ColumnLemmas

@@ -10,4 +10,5 @@ pub mod StepsGoing
 pub mod StepsRows
 pub mod StepsServed
 pub mod StepsTypes
+pub mod StepsWay
 pub mod Tables

@@ -1,5 +1,5 @@
 -- What the tables hold while messages are counted.
-use Rattle.std.specs.Prelude.{◌≡◌, ℕ, zero, suc, ◌+◌, ◌<◌, ◌^◌, nat_eq, cond, Bool, false, if◌then◌else◌, is_none, ℤ, pos, ◌-ℤ◌, List, [], map, length, count_by, slice_index_or, Option, None, Some, All}
+use Rattle.std.specs.Prelude.{◌≡◌, ℕ, zero, suc, ◌+◌, ◌<◌, ◌^◌, nat_eq, cond, Bool, false, if◌then◌else◌, is_none, ℤ, pos, ◌-ℤ◌, List, [], ◌∷◌, map, length, count_by, slice_index_or, Option, None, Some, All}
 use Rattle.std.specs.Borrow.{Bor}
 use Rattle.std.specs.BTreeMap as tree
 use Rattle.std.specs.BTreeMap.{BTreeMap, is_at}
@@ -58,6 +58,12 @@ start_of micro moment = saturate_signed w64 (moment -ℤ int_rem_euclid moment (
 abbrev pub minute_at : Bool → ℕ → ℤ → Option ℤ
 minute_at micro zero moment = None
 minute_at micro (suc k) moment = Some (start_of micro moment)
+
+-- the minutes that patterns and the moments at their places are in
+abbrev pub minutes_at : Bool → List ℕ → List ℤ → List (Option ℤ)
+minutes_at micro [] moments = []
+minutes_at micro (k ∷ patterns) [] = []
+minutes_at micro (k ∷ patterns) (moment ∷ moments) = minute_at micro k moment ∷ minutes_at micro patterns moments
 
 -- the table of minutes: `run` messages in a row had the minute `first`, and `minutes` has those before
 pub record MinuteState : Type 0 where

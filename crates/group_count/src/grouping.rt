@@ -1,15 +1,16 @@
 //! Counting the messages of an archive.
-ghost use Rattle.std.specs.Prelude.{◌≡◌, ◌↔◌, ◌<◌, ◌^◌, ℕ, ℤ, pos, List, [], length, count_by, is_none, All, Option, IsTrue, IfOk, OnErr, IsErrOf};
+ghost use Rattle.std.specs.Prelude.{◌≡◌, ◌<◌, ◌^◌, ℕ, ℤ, pos, List, [], length, count_by, is_none, All, Option, IfOk, OnErr, IsErrOf};
 ghost use Rattle.std.specs.Ordering.{int_cmp};
 ghost use Rattle.log_seams.specs.Disk.{Rests};
 ghost use Rattle.log_seams.specs.Outside.{CountsOf};
-ghost use Rattle.query_plan.specs.Laws.{IsPlain, IsSearched};
+ghost use Rattle.query_plan.specs.Laws.{IsSearched};
 ghost use Rattle.archive_places.specs.Opened.{OpensPlaces};
 ghost use Rattle.word_places.specs.Places.{AreInOrder};
 ghost use Rattle.search_walk.specs.Journal.{OfJournal, ReadsNoBarren, asked};
 ghost use Rattle.group_count.specs.Grouped.{HasGrouped, HasStoppedCounting};
 ghost use Rattle.group_count.specs.Groups.{AreGroups, by_key, by_moment, byte_order, stamped};
 ghost use Rattle.group_count.specs.StepsArchive.{reported};
+ghost use Rattle.group_count.specs.StepsServed.{IsWay};
 ghost use Rattle.group_count.specs.Tables.{AreCounts, AreMinutes, AreNumbered, texts_at};
 
 use crate::archive_counting::{Gone, count_archive};
@@ -21,10 +22,10 @@ use crate::page_counter::PageCounter;
 use crate::refusal::TableRefusal;
 use crate::report::GroupReport;
 use crate::types::TypeTable;
+use crate::way::{Way, way_of};
 use archive_places::Places;
 use column_store::Range;
 use log_seams::Disk;
-use query_plan::is_plain;
 use search_walk::{Query, SearchRefusal};
 use std::alloc::{AllocError, Global};
 use std::sync::ledger::Ledger;
@@ -94,7 +95,7 @@ fn minutes_of(
 fn group_types<D: Disk, L: Ledger, M: Ledger>(
     alloc: Global,
     query: &Query,
-    plain: bool,
+    way: Way,
     places: Places,
     disk: &mut D,
     opened: &mut Steps<L>,
@@ -103,7 +104,7 @@ fn group_types<D: Disk, L: Ledger, M: Ledger>(
     requires searched { IsSearched query.now.pattern }
     requires opens { OpensPlaces (D.state disk.old).seen places }
     requires order { AreInOrder 0 places.words }
-    requires plain { IsTrue plain ↔ IsPlain query.now.pattern }
+    requires way { IsWay query.now way }
 
     // what stays
     ensures rests { Rests (D.state disk.old) (D.state disk.new) }
@@ -127,7 +128,7 @@ fn group_types<D: Disk, L: Ledger, M: Ledger>(
 {
     // The log types of rows are those of the messages that they are the encodings of.
     rows_have_keys();
-    let mut counter = PageCounter::new(alloc, plain, TypeTable::new(alloc));
+    let mut counter = PageCounter::new(alloc, way, TypeTable::new(alloc));
     let gone = count_archive(query, places, disk, &mut counter, opened, expanded)?;
     let grouped = types_of(alloc, &counter.counts, &gone)?;
     Ok(grouped)
@@ -137,7 +138,7 @@ fn group_types<D: Disk, L: Ledger, M: Ledger>(
 fn group_minutes<D: Disk, L: Ledger, M: Ledger>(
     alloc: Global,
     query: &Query,
-    plain: bool,
+    way: Way,
     places: Places,
     disk: &mut D,
     opened: &mut Steps<L>,
@@ -146,7 +147,7 @@ fn group_minutes<D: Disk, L: Ledger, M: Ledger>(
     requires searched { IsSearched query.now.pattern }
     requires opens { OpensPlaces (D.state disk.old).seen places }
     requires order { AreInOrder 0 places.words }
-    requires plain { IsTrue plain ↔ IsPlain query.now.pattern }
+    requires way { IsWay query.now way }
 
     // what stays
     ensures rests { Rests (D.state disk.old) (D.state disk.new) }
@@ -172,7 +173,7 @@ fn group_minutes<D: Disk, L: Ledger, M: Ledger>(
     // moments count microseconds.
     rows_have_keys();
     let table = MinuteTable::new(alloc, places.header.version >= 3);
-    let mut counter = PageCounter::new(alloc, plain, table);
+    let mut counter = PageCounter::new(alloc, way, table);
     let gone = count_archive(query, places, disk, &mut counter, opened, expanded)?;
     let grouped = minutes_of(alloc, counter.into_counts(), &gone)?;
     Ok(grouped)
@@ -182,7 +183,7 @@ fn group_minutes<D: Disk, L: Ledger, M: Ledger>(
 fn group_found<D: Disk, L: Ledger, M: Ledger>(
     alloc: Global,
     query: &Query,
-    plain: bool,
+    way: Way,
     places: Places,
     disk: &mut D,
     by: GroupBy,
@@ -192,7 +193,7 @@ fn group_found<D: Disk, L: Ledger, M: Ledger>(
     requires searched { IsSearched query.now.pattern }
     requires opens { OpensPlaces (D.state disk.old).seen places }
     requires order { AreInOrder 0 places.words }
-    requires plain { IsTrue plain ↔ IsPlain query.now.pattern }
+    requires way { IsWay query.now way }
 
     // what stays
     ensures rests { Rests (D.state disk.old) (D.state disk.new) }
@@ -214,8 +215,8 @@ fn group_found<D: Disk, L: Ledger, M: Ledger>(
     ensures sink { ¬ IsErrOf result SearchRefusal.SinkFault }
 {
     match by {
-        GroupBy::Shape => group_types(alloc, query, plain, places, disk, opened, expanded),
-        GroupBy::Minute => group_minutes(alloc, query, plain, places, disk, opened, expanded),
+        GroupBy::Shape => group_types(alloc, query, way, places, disk, opened, expanded),
+        GroupBy::Minute => group_minutes(alloc, query, way, places, disk, opened, expanded),
     }
 }
 
@@ -269,7 +270,7 @@ pub fn group<D: Disk, L: Ledger, M: Ledger>(
         (D.state disk.old).faults (D.state disk.new).faults result }
     ensures sink { ¬ IsErrOf result SearchRefusal.SinkFault }
 {
-    let plain = is_plain(alloc, pattern)?;
+    let way = way_of(alloc, pattern, range)?;
     let query = Query::new(alloc, pattern, range)?;
-    group_found(alloc, &query, plain, places, disk, by, opened, expanded)
+    group_found(alloc, &query, way, places, disk, by, opened, expanded)
 }

@@ -6,6 +6,7 @@
 #![tactic(auto)]
 
 mod archive_counting;
+mod columns;
 mod counts;
 mod grouping;
 mod groups;
@@ -20,10 +21,9 @@ mod report;
 mod row_counting;
 mod table;
 mod tally;
-#[cfg(test)]
-mod tests;
 mod text_tally;
 mod types;
+mod way;
 
 pub use grouping::group;
 pub use groups::{Group, GroupBy, GroupList, Grouped};

@@ -1,9 +1,9 @@
 //! Messages counted by the minute of their stamp.
-ghost use Rattle.std.specs.Prelude.{◌≡◌, ℕ, ℤ, ◌+◌, ◌<◌, ◌^◌, ◌++◌, List, [], ◌∷◌, length, count_by, cond, is_none, All, IfOk, OnOk, Option};
+ghost use Rattle.std.specs.Prelude.{◌≡◌, ℕ, ℤ, ◌+◌, ◌<◌, ◌^◌, ◌++◌, List, [], ◌∷◌, length, count_by, cond, is_none, slice_get, All, IfOk, OnOk, Option, Some};
 ghost use Rattle.std.specs.BTreeMap.{IsOrdered};
 ghost use Rattle.std.specs.Ordering.{int_cmp, is_eq};
 ghost use Rattle.group_count.specs.Groups.{AreGroups, by_moment, stamped};
-ghost use Rattle.group_count.specs.Tables.{AreMinutes, IsTally, minute_at, minute_entries, start_of};
+ghost use Rattle.group_count.specs.Tables.{AreMinutes, IsTally, minute_at, minute_entries, minutes_at, start_of};
 
 use crate::groups::{Group, GroupList};
 use crate::tally::add_to;
@@ -58,6 +58,24 @@ fn start_of(micro: bool, moment: i64) -> i64
         moment.rem_euclid(60_000)
     };
     moment.saturating_sub(rest)
+}
+
+/// The pattern at a place.
+#[inline]
+fn pattern_at(patterns: &[u8], place: usize) -> u8
+    requires { place < length patterns.now }
+    ensures { slice_get patterns.now place ≡ Some result }
+{
+    patterns[place]
+}
+
+/// The moment at a place.
+#[inline]
+fn moment_at(moments: &[i64], place: usize) -> i64
+    requires { place < length moments.now }
+    ensures { slice_get moments.now place ≡ Some result }
+{
+    moments[place]
 }
 
 /// Adds a run of messages with one minute to the minutes before.
@@ -135,6 +153,26 @@ impl MinuteTable {
         }
         self.turn_to(start_of(self.micro, moment))?;
         self.run = self.run.saturating_add(1);
+        Ok(())
+    }
+
+    /// Counts a message with each of these patterns and the moment at its place.
+    pub(crate) fn count_stamps(
+        &mut self,
+        patterns: &[u8],
+        moments: &[i64],
+    ) -> Result<(), AllocError>
+        requires { length patterns.now ≡ length moments.now }
+        ensures micro { self.new.micro ≡ self.old.micro }
+        ensures counted { OnOk result ((keys : List (Option ℤ)) → AreMinutes self.old keys
+            → AreMinutes self.new
+            (keys ++ minutes_at self.old.micro patterns.now moments.now)) }
+    {
+        for place in 0..patterns.len() {
+            let pattern = pattern_at(patterns, place);
+            let moment = moment_at(moments, place);
+            self.count(pattern, moment)?;
+        }
         Ok(())
     }
 

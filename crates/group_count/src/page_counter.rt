@@ -7,17 +7,19 @@ ghost use Rattle.search_walk.specs.Held.{OfLeft};
 ghost use Rattle.search_walk.specs.PagesRead.{ReadsPage};
 ghost use Rattle.search_walk.specs.Ready.{IsReadyPage, Serves};
 ghost use Rattle.search_walk.specs.Scan.{numbered};
-ghost use Rattle.search_walk.specs.Walked.{PageGone, PastTold};
-ghost use Rattle.group_count.specs.StepsCounted.{Passes, Stops, sofar};
-ghost use Rattle.group_count.specs.StepsServed.{IsServed};
+ghost use Rattle.search_walk.specs.Walked.{PageGone, PagesGone, PastTold};
+ghost use Rattle.group_count.specs.StepsCounted.{Counted, Passes, Stops, sofar};
+ghost use Rattle.group_count.specs.StepsServed.{FindsAll, IsServed};
 
+use crate::columns::ColumnRoom;
 use crate::counts::Counts;
 use crate::row_counting::count_rows;
 use crate::table::RowTable;
+use crate::way::Way;
 use column_store::Columns;
 use log_seams::Disk;
 use search_walk::{Context, SearchRefusal, decide_rows};
-use segment_pages::SegmentPages;
+use segment_pages::{SegmentPages, left_are_counted};
 use std::alloc::Global;
 use std::mem;
 use std::sync::ledger::Ledger;
@@ -88,30 +90,33 @@ fn read_page<D: Disk>(
 /// Counts the rows of pages: what was counted, and the memory in which it is done.
 #[derive(Drop)]
 pub(crate) struct PageCounter<T> {
-    /// Whether the pattern is plain, so that no message is expanded.
-    plain: bool,
+    /// By what it is told which messages are found.
+    way: Way,
     pub(crate) counts: Counts<T>,
     room: PageRoom,
+    /// What columns are read into, where each message is found.
+    columns: ColumnRoom,
     /// What rows are written into.
     text: Vec<u8>,
 }
 
 impl<T> PageCounter<T> {
     /// Nothing was counted yet but what the table has. Takes no memory.
-    pub(crate) fn new(alloc: Global, plain: bool, table: T) -> PageCounter<T>
-        ensures plain { result.plain ≡ plain }
+    pub(crate) fn new(alloc: Global, way: Way, table: T) -> PageCounter<T>
+        ensures way { result.way ≡ way }
         ensures table { result.counts.table ≡ table }
         ensures matched { result.counts.matched ≡ 0 }
         ensures expanded { result.counts.expanded ≡ 0 }
     {
         PageCounter {
-            plain,
+            way,
             counts: Counts {
                 table,
                 matched: 0,
                 expanded: 0,
             },
             room: PageRoom::new(alloc),
+            columns: ColumnRoom::new(alloc),
             text: Vec::new(alloc),
         }
     }
@@ -121,14 +126,22 @@ impl<T> PageCounter<T> {
         self.room.alloc
     }
 
+    /// Whether each message is found, whatever it is.
+    pub(crate) fn finds_all(&self) -> bool
+        ensures { result ≡ self.now.way.all }
+    {
+        self.way.all
+    }
+
     /// What was counted.
     pub(crate) fn into_counts(self) -> Counts<T>
         ensures { result ≡ self.counts }
     {
         let PageCounter {
-            plain: _,
+            way: _,
             counts,
             room: _,
+            columns: _,
             text: _,
         } = self;
         counts
@@ -145,12 +158,12 @@ pub(crate) fn count_next<D: Disk, T: RowTable, M: Ledger>(
     expanded: &mut Steps<M>,
 ) -> Result<u32, SearchRefusal>
     requires left { pages.old.pages.row < pages.old.pages.rows }
-    requires served { IsServed context.now held.old counter.old.plain }
+    requires served { IsServed context.now held.old counter.old.way }
     requires told { (D.state disk.old).seen ≡ context.now.names.told }
 
     // what stays
     ensures reads { ReadsPage context.now.names pages.old (D.state disk.old) (D.state disk.new) }
-    ensures served { IfOk result (λ _. IsServed context.now held.new counter.new.plain) }
+    ensures served { IfOk result (λ _. IsServed context.now held.new counter.new.way) }
 
     // by the answer
     ensures gone { IfOk result (λ rows. PageGone pages.old pages.new rows) }
@@ -172,7 +185,7 @@ pub(crate) fn count_next<D: Disk, T: RowTable, M: Ledger>(
 {
     read_page(context, held, pages, disk, &mut counter.room)?;
     count_rows(
-        counter.plain,
+        counter.way.plain,
         context,
         held,
         &counter.room.columns,
@@ -182,4 +195,53 @@ pub(crate) fn count_next<D: Disk, T: RowTable, M: Ledger>(
         expanded,
     )?;
     Ok(counter.room.columns.rows())
+}
+
+/// Counts that so many messages were found.
+fn count_matched<T>(counts: &mut Counts<T>, rows: u32)
+    ensures table { counts.new.table ≡ counts.old.table }
+    ensures matched { Counted counts.old.matched counts.new.matched rows }
+    ensures expanded { counts.new.expanded ≡ counts.old.expanded }
+{
+    counts.matched = counts.matched.saturating_add(u64::from(rows));
+}
+
+/// Counts all rows that are left of a segment, where each message is found, by the columns that the table
+/// looks at. Answers how many they are.
+pub(crate) fn count_rest<D: Disk, T: RowTable>(
+    context: &Context<'_, D>,
+    pages: &mut SegmentPages,
+    disk: &mut D,
+    counter: &mut PageCounter<T>,
+) -> Result<u32, SearchRefusal>
+    requires left { pages.old.pages.row < pages.old.pages.rows }
+    requires all { FindsAll context.now.query }
+    requires told { (D.state disk.old).seen ≡ context.now.names.told }
+
+    // what stays
+    ensures reads { ReadsPage context.now.names pages.old (D.state disk.old) (D.state disk.new) }
+    ensures way { counter.new.way ≡ counter.old.way }
+
+    // by the answer
+    ensures gone { IfOk result (λ rows. PagesGone pages.old pages.new rows) }
+    ensures done { IfOk result (λ rows. (name : List ℕ) (number ticks : ℕ) → PastTold
+        (λ all. Passes T.counted context.now.names context.now.query all
+        (sofar counter.old.counts ticks) (sofar counter.new.counts ticks))
+        (D.state disk.old).seen pages.old context.now.names name number pages.new rows) }
+
+    // causes
+    ensures damaged { IsErrOf result SearchRefusal.Damaged
+        → OfLeft (D.state disk.old).seen pages.old context.now.names (λ _. ⊥) }
+    ensures counts { CountsOf SearchRefusal.DiskFault
+        (D.state disk.old).faults (D.state disk.new).faults result }
+    ensures sink { ¬ IsErrOf result SearchRefusal.SinkFault }
+{
+    // So many rows are left as the pages before have not had.
+    left_are_counted();
+    let _ = context;
+    let rows = pages.rows_left();
+    counter.counts.table.count_left(pages, disk, &mut counter.columns)?;
+    count_matched(&mut counter.counts, rows);
+    pages.pass_rest();
+    Ok(rows)
 }

@@ -8,7 +8,7 @@ ghost use Rattle.group_count.specs.StepsCounted.{Passes, Stops, sofar};
 ghost use Rattle.group_count.specs.StepsGoing.{passes_on, passes_over, stops_behind, stops_here, stops_more};
 ghost use Rattle.group_count.specs.StepsServed.{IsServed};
 
-use crate::page_counter::{PageCounter, count_next};
+use crate::page_counter::{PageCounter, count_next, count_rest};
 use crate::table::RowTable;
 use archive_places::SegmentFront;
 use log_seams::Disk;
@@ -41,7 +41,7 @@ impl<'a, T, M: Ledger> Counting<'a, T, M> {
 }
 
 impl<'a, T: RowTable, M: Ledger> TakesPages for Counting<'a, T, M> {
-    ghost served = { λ w s held. IsServed s held w.counter.now.plain };
+    ghost served = { λ w s held. IsServed s held w.counter.now.way };
 
     ghost reaches = { λ a b n q all. Passes T.counted n q all
         (sofar a.counter.now.counts a.expanded.now)
@@ -63,6 +63,9 @@ impl<'a, T: RowTable, M: Ledger> TakesPages for Counting<'a, T, M> {
         pages: &mut SegmentPages,
         disk: &mut D,
     ) -> Result<u32, SearchRefusal> {
+        if self.counter.finds_all() {
+            return count_rest(context, pages, disk, self.counter);
+        }
         count_next(context, held, pages, disk, self.counter, self.expanded)
     }
 
@@ -106,7 +109,7 @@ pub(crate) fn count_segments<D: Disk, T: RowTable, L: Ledger, M: Ledger>(
     opened: &mut Steps<L>,
     expanded: &mut Steps<M>,
 ) -> Result<u64, SearchRefusal>
-    requires served { IsServed context.now held.old counter.old.plain }
+    requires served { IsServed context.now held.old counter.old.way }
     requires told { (D.state disk.old).seen ≡ context.now.names.told }
 
     // what stays

@@ -1,13 +1,19 @@
 //! Tables in which rows are counted.
-ghost use Rattle.std.specs.Prelude.{ℕ, ◌↔◌, ◌≤◌, ◌++◌, ◌∷◌, [], List, IsTrue, OnOk};
+ghost use Rattle.std.specs.Prelude.{ℕ, ◌↔◌, ◌≤◌, ◌++◌, ◌∷◌, [], List, IsTrue, OnOk, IsErrOf};
+ghost use Rattle.log_seams.specs.Outside.{CountsOf};
 ghost use Rattle.column_store.specs.Row.{row_of};
 ghost use Rattle.column_store.specs.declared.row.Row.{Row};
+ghost use Rattle.segment_pages.specs.Paged.{HoldsNoneTold, OfRows, ReadsColumns};
 ghost use Rattle.group_count.specs.Laws.{minutes_of, numbers_of};
 ghost use Rattle.group_count.specs.Tables.{AreCounts, AreMinutes};
 
+use crate::columns::{ColumnRoom, count_minutes, count_types};
 use crate::minutes::MinuteTable;
 use crate::types::TypeTable;
 use column_store::RowRef;
+use log_seams::Disk;
+use search_walk::SearchRefusal;
+use segment_pages::SegmentPages;
 use std::alloc::AllocError;
 
 /// What rows are counted in, one after the other, by what they have in common.
@@ -19,6 +25,26 @@ pub(crate) trait RowTable {
     fn count_row(&mut self, row: RowRef<'_>) -> Result<(), AllocError>
         ensures { OnOk result ((version : ℕ) (before : List Row) → counted self.old version before
             → counted self.new version (before ++ row_of row.entry ∷ [])) };
+
+    /// Counts all rows that are left of a segment, by the columns that it looks at.
+    fn count_left<D: Disk>(
+        &mut self,
+        pages: &SegmentPages,
+        disk: &mut D,
+        room: &mut ColumnRoom,
+    ) -> Result<(), SearchRefusal>
+        // what stays
+        ensures reads { ReadsColumns pages.now (D.state disk.old) (D.state disk.new) }
+
+        // by the answer, and causes
+        ensures counted { OnOk result (OfRows (D.state disk.old).seen pages.now
+            (λ rows. (version : ℕ) (before : List Row) → counted self.old version before
+            → counted self.new version (before ++ rows))) }
+        ensures damaged { IsErrOf result SearchRefusal.Damaged
+            → HoldsNoneTold (D.state disk.old).seen pages.now }
+        ensures counts { CountsOf SearchRefusal.DiskFault
+            (D.state disk.old).faults (D.state disk.new).faults result }
+        ensures sink { ¬ IsErrOf result SearchRefusal.SinkFault };
 }
 
 impl RowTable for TypeTable {
@@ -27,6 +53,15 @@ impl RowTable for TypeTable {
     #[inline]
     fn count_row(&mut self, row: RowRef<'_>) -> Result<(), AllocError> {
         self.count(row.log_type)
+    }
+
+    fn count_left<D: Disk>(
+        &mut self,
+        pages: &SegmentPages,
+        disk: &mut D,
+        room: &mut ColumnRoom,
+    ) -> Result<(), SearchRefusal> {
+        count_types(self, pages, disk, room)
     }
 }
 
@@ -37,5 +72,14 @@ impl RowTable for MinuteTable {
     #[inline]
     fn count_row(&mut self, row: RowRef<'_>) -> Result<(), AllocError> {
         self.count(row.pattern, row.moment)
+    }
+
+    fn count_left<D: Disk>(
+        &mut self,
+        pages: &SegmentPages,
+        disk: &mut D,
+        room: &mut ColumnRoom,
+    ) -> Result<(), SearchRefusal> {
+        count_minutes(self, pages, disk, room)
     }
 }

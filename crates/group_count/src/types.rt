@@ -64,6 +64,17 @@ impl TypeTable {
         Ok(())
     }
 
+    /// Counts a message of the log type with each of these numbers.
+    pub fn count_all(&mut self, numbers: &[u32]) -> Result<(), AllocError>
+        ensures { OnOk result ((before : List ℕ) → AreCounts self.old before
+            → AreCounts self.new (before ++ numbers.now)) }
+    {
+        for number in numbers {
+            self.count(*number)?;
+        }
+        Ok(())
+    }
+
     /// The groups of what was counted, by the texts of the log types. Numbers with one text are one
     /// group.
     pub fn groups<N: Names>(&self, alloc: Global, names: &N) -> Result<GroupList, TableRefusal>

@@ -176,20 +176,20 @@ fn groups(
     }
 }
 
-/// Whether a count of all rows is refused so, where a byte is another one or a call of the disk
-/// fails.
+/// Whether a count by type is refused so, where a byte is another one or a call of the disk fails.
 fn is_refused(
     alloc: Global,
     at: usize,
     byte: u8,
     call: u64,
+    text: &[u8],
     refusal: SearchRefusal,
 ) -> Result<bool, AllocError> {
     let mut bytes = ROWS.to_vec(alloc)?;
     if let Some(place) = bytes.get_mut(at) {
         *place = byte;
     }
-    match group_of(alloc, bytes.as_slice(), &[call], b"", ALL, GroupBy::Shape)? {
+    match group_of(alloc, bytes.as_slice(), &[call], text, ALL, GroupBy::Shape)? {
         Ok(_) => Ok(false),
         Err(told) => Ok(told == refusal),
     }
@@ -256,6 +256,8 @@ const BY_TYPE: &[(Of, &[u8], &[u8], Work)] = &[
     (Of::Letters, b"d?e", b"1 a b c d e\n", (1, 1, 1, 1)),
     (Of::Rows, b"", b"3 run {w} x\n", (3, 0, 3, 4)),
     (Of::Rows, b" task_2 ", b"1 run {w} x\n", (1, 0, 1, 4)),
+    (Of::Rows, b"ask_2", b"1 run {w} x\n", (1, 0, 3, 4)),
+    (Of::Rows, b"n*ask_2 ", b"1 run {w} x\n", (1, 0, 3, 4)),
     (Of::Rows, b"task?2", b"1 run {w} x\n", (1, 1, 3, 4)),
     (Of::Rows, b"run;x", b"", (0, 0, 3, 4)),
     (Of::Stamps, b"20?000 INFO", b"1  INFO start\n", (1, 1, 1, 1)),
@@ -305,19 +307,22 @@ fn by_minute(rt: HostRuntime) -> Result<(), Fail> {
     Ok(())
 }
 
-/// A place of the rows with its byte, a call of the disk that fails, and how a count is refused. Byte
-/// 417 has the log type of the third row, and byte 421 how many variables it has.
-const REFUSED: &[(usize, u8, u64, SearchRefusal)] = &[
-    (417, 9, 99, SearchRefusal::Damaged),
-    (421, 9, 99, SearchRefusal::Damaged),
-    (0, 67, 32, SearchRefusal::DiskFault),
+/// A place of the rows with its byte, a call of the disk that fails, what is counted, and how that is
+/// refused. Byte 417 has the log type of the third row, and byte 421 how many variables it has, which a
+/// count of all messages does not read.
+const REFUSED: &[(usize, u8, u64, &[u8], SearchRefusal)] = &[
+    (417, 9, 99, b"", SearchRefusal::Damaged),
+    (417, 9, 99, b"run", SearchRefusal::Damaged),
+    (421, 9, 99, b"run", SearchRefusal::Damaged),
+    (0, 67, 20, b"", SearchRefusal::DiskFault),
+    (0, 67, 32, b"run", SearchRefusal::DiskFault),
 ];
 
 #[test]
 fn damage_and_faults_are_told(rt: HostRuntime) -> Result<(), Fail> {
-    for &(at, byte, call, refusal) in REFUSED {
-        let well = is_refused(rt.alloc(), at, byte, call, refusal)?;
-        assert!(rt; well, "{at} {call}");
+    for &(at, byte, call, text, refusal) in REFUSED {
+        let well = is_refused(rt.alloc(), at, byte, call, text, refusal)?;
+        assert!(rt; well, "{at} {call} {text:?}");
     }
     Ok(())
 }

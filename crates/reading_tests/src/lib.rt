@@ -6,3 +6,5 @@
 mod archive_text_tests;
 #[cfg(test)]
 mod group_count_tests;
+#[cfg(test)]
+mod group_table_tests;

@@ -70,10 +70,10 @@ new-context-requires g c =
 
 pub count_segments-requires-clause-served : goal.count_segments-requires-clause-served
 count_segments-requires-clause-served g c =
-    subst (λ (s : Scope). IsServed s c.in_ok-held.held c.args.counter.now.plain) (sym c.new-context.ensures)
+    subst (λ (s : Scope). IsServed s c.in_ok-held.held c.args.counter.now.way) (sym c.new-context.ensures)
     (record {
       serves = serves_first (g.D.Disk.state c.ask_words.new.disk).seen c.in_ok-held.held c.as_slice-records.result.now c.in_ok-held.ensures.records (subst (AreInOrder 0) (sym c.as_slice-records.ensures) c.requires.order);
-      plain = c.requires.plain;
+      way = c.requires.way;
     })
 
 pub count_segments-requires-clause-told : goal.count_segments-requires-clause-told

@@ -7,11 +7,11 @@ use Rattle.group_count.specs.Grouped.{HasGrouped, HasStoppedCounting}
 use Rattle.group_count.proofs.GroupedLemmas.{stopped_nothing}
 use Rattle.group_count.proofs.grouping.group.Goals as goal
 
-pub returns-in_err-plain-clause-reads : goal.returns-in_err-plain-clause-reads
-returns-in_err-plain-clause-reads g c = reads_nothing _ (asked c.args.pattern.now c.args.range.now) _ _ refl
+pub returns-in_err-way-clause-reads : goal.returns-in_err-way-clause-reads
+returns-in_err-way-clause-reads g c = reads_nothing _ (asked c.args.pattern.now c.args.range.now) _ _ refl
 
-pub returns-in_err-plain-clause-stopped : goal.returns-in_err-plain-clause-stopped
-returns-in_err-plain-clause-stopped g c = on_err c.from_residual.result _ (stopped_nothing _ c.args.places (asked c.args.pattern.now c.args.range.now) _ _ _ _ c.requires.opens refl refl)
+pub returns-in_err-way-clause-stopped : goal.returns-in_err-way-clause-stopped
+returns-in_err-way-clause-stopped g c = on_err c.from_residual.result _ (stopped_nothing _ c.args.places (asked c.args.pattern.now c.args.range.now) _ _ _ _ c.requires.opens refl refl)
 
 pub returns-in_err-query-clause-reads : goal.returns-in_err-query-clause-reads
 returns-in_err-query-clause-reads g c = reads_nothing _ (asked c.args.pattern.now c.args.range.now) _ _ refl
