@@ -240,7 +240,10 @@ pub(crate) fn count_rest<D: Disk, T: RowTable>(
     left_are_counted();
     let _ = context;
     let rows = pages.rows_left();
-    counter.counts.table.count_left(pages, disk, &mut counter.columns)?;
+    counter
+        .counts
+        .table
+        .count_left(pages, disk, &mut counter.columns)?;
     count_matched(&mut counter.counts, rows);
     pages.pass_rest();
     Ok(rows)

@@ -40,11 +40,7 @@ fn has_no_bound(range: &Range) -> bool
 }
 
 /// By what it is told which messages a pattern and a range find.
-pub(crate) fn way_of(
-    alloc: Global,
-    pattern: &Pattern,
-    range: &Range,
-) -> Result<Way, AllocError>
+pub(crate) fn way_of(alloc: Global, pattern: &Pattern, range: &Range) -> Result<Way, AllocError>
     ensures { IfOk result (IsWay (asked pattern.now range.now)) }
 {
     let plain = is_plain(alloc, pattern)?;

@@ -16,12 +16,11 @@ returns-in_err-count_run-clause-damaged g c = λ is.
     runs_none AreMinutes (λ (r : Row). minute_at c.args.table.now.micro r.pattern r.moment) c.args.pages.now _ _ _ _ _ c.loop-run.invariant.1 (c.in_err-count_run.ensures.damaged (search rules))
 
 pub loop-run-preserved : goal.loop-run-preserved
-loop-run-preserved g c =
-    (
-      c.count_run.ensures.micro ∙ c.loop-run.invariant.0,
-      runs_next AreMinutes (λ (r : Row). minute_at c.args.table.now.micro r.pattern r.moment) c.args.pages.now _ (g.D.Disk.state c.loop-run.disk) _ _ c.loop-run.table c.count_run.new.table _ _ _ _ (omega arith) (omega arith) c.loop-run.invariant.1
-          c.count_run.ensures.reads (search rules) (same_micro _ c.args.pages.now c.loop-run.table c.count_run.new.table c.args.table.now.micro _ _ c.loop-run.invariant.0 c.in_ok-count_run.ensures.counted),
-    )
+loop-run-preserved g c = (
+  c.count_run.ensures.micro ∙ c.loop-run.invariant.0,
+  runs_next AreMinutes (λ (r : Row). minute_at c.args.table.now.micro r.pattern r.moment) c.args.pages.now _ (g.D.Disk.state c.loop-run.disk) _ _ c.loop-run.table c.count_run.new.table _ _ _ _ (omega arith) (omega arith) c.loop-run.invariant.1
+      c.count_run.ensures.reads (search rules) (same_micro _ c.args.pages.now c.loop-run.table c.count_run.new.table c.args.table.now.micro _ _ c.loop-run.invariant.0 c.in_ok-count_run.ensures.counted),
+)
 
 pub returns-clause-counted : goal.returns-clause-counted
 returns-clause-counted g c =

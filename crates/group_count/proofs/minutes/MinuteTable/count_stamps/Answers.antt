@@ -16,8 +16,7 @@ loop-place-preserved c =
     let moment = c.moment_at-moment.result in
     let fits : FitsSigned w64 moment = search rules in
     let counted = rw (to_z-of_z w64 moment fits) at c.in_ok-count.ensures.counted in
-    let all = minutes_at micro c.args.patterns.now c.args.moments.now in
-    (
+    let all = minutes_at micro c.args.patterns.now c.args.moments.now in (
       c.count.ensures.micro ∙ c.loop-place.invariant.0,
       further AreMinutes c.args.self.now c.loop-place.self c.count.new.self all c.loop-place.place (minute_at micro pattern moment) (omega (arith, length_minutes micro c.args.patterns.now c.args.moments.now c.requires))
           (minutes_further micro c.args.patterns.now c.args.moments.now c.loop-place.place pattern moment c.pattern_at-pattern.ensures c.moment_at-moment.ensures) c.loop-place.invariant.1
