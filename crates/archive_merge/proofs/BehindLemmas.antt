@@ -158,6 +158,8 @@ module _ {D : Type 0} {d : DiskGhosts D} (view : SecondView) (first : ℕ) (stop
     all = λ none all run. came.all (done none) run.bytes all run.told_is (subst (λ l. HoldRun view.version view.texts run.bytes l nothing_so_far all) (sym (are run.sorted)) run.run);
     segments = came.segments;
     rows_count = came.rows_count;
+    last_is = came.last_is;
+    ended_is = came.ended_is;
     sealed = told_map (is_some (state_of before).disk.seen) exactly (told_here _ (came.sealed over known));
     held = told_map (is_some (state_of before).disk.seen) further (told_here _ (came.held over known));
   }
@@ -195,6 +197,8 @@ module _ {D : Type 0} {d : DiskGhosts D} (view : SecondView) (first : ℕ) (stop
     all = λ none all run. absurd (stopped none);
     segments = [];
     rows_count = refl;
+    last_is = sym new.not_whole;
+    ended_is = sym (ap (λ b. b && false) new.not_whole);
     sealed = if_told (is_some (state_of before).disk.seen) _ (λ told. picked ∙ ap (λ l. filter_map (in_file old.file) (journal_seen (entries_in l))) own);
     held = told_map (is_some (state_of before).disk.seen)
         (λ (holds : Holds before.header (told_entries (state_of before)) old.file [] false false).

@@ -1,7 +1,7 @@
 -- A file, a segment more at a time.
 use Rattle.std.proofs.Common.{◌≡◌, ℕ, ◌+◌, ◌<◌, ◌≤◌, zero, suc, List, [], ◌∷◌, ◌++◌, All, Bool, true, false, append_assoc, arith, refl, sym, ap, ap₂, ◌∙◌, subst, length, length-append, drop, get_or}
-use Rattle.std.specs.Prelude.{◌&&◌, Err, Ok, Option, Result, Some, is_ok, is_some}
-use Rattle.std.specs.List.{sum_by}
+use Rattle.std.specs.Prelude.{◌&&◌, ◌||◌, Err, Ok, Option, Result, Some, is_ok, is_some}
+use Rattle.std.specs.List.{list_any, sum_by}
 use Rattle.std.proofs.lemmas.List.{append-nil, drop_all}
 use Rattle.std.proofs.lemmas.List.Elements.{All-append, All-nil}
 use Rattle.std.proofs.lemmas.List.Sums.{sum_by-append, sum_by-cons}
@@ -65,6 +65,27 @@ one_alone P x holds (suc i) d lt = absurd (omega (arith, lt))
 abbrev rows_of : SegmentEntry → ℕ
 rows_of s = length s.rows
 
+-- ---- marks
+
+abbrev last_of : SegmentEntry → Bool
+last_of s = s.last
+
+abbrev ended_of : SegmentEntry → Bool
+ended_of s = s.last && s.ended
+
+both_false : (a b : Bool) → (a || b) ≡ false → (a ≡ false) × (b ≡ false)
+both_false true b is = absurd (cc (is))
+both_false false b is = (refl, is)
+
+or_none : (a : Bool) → (a || false) ≡ a
+or_none true = refl
+or_none false = refl
+
+-- a segment behind others that have no mark
+any_behind : (f : SegmentEntry → Bool) (ss : List SegmentEntry) (s : SegmentEntry) → list_any f ss ≡ false → list_any f (ss ++ s ∷ []) ≡ f s
+any_behind f [] s none = or_none (f s)
+any_behind f (t ∷ ss) s none = let both = both_false (f t) (list_any f ss) none in ap (λ b. b || list_any f (ss ++ s ∷ [])) both.0 ∙ any_behind f ss s both.1
+
 -- what the file in hand has
 abbrev so_far_in : List (List ℕ) → Hand → SoFar
 so_far_in covered hand = record { messages = covered; whole = hand.draft.last; ended = hand.draft.last && hand.draft.ended }
@@ -85,6 +106,8 @@ module _ {D : Type 0} (state : D → DiskState) (version : ℕ) (old : Texts) (p
     pub mine : All (λ (s : SegmentEntry). s.file ≡ number_of start) segments
     pub sealed : WhereTold state start (λ h. sealed_by more ≡ segments)
     pub rows_count : sum_by (λ (s : SegmentEntry). length s.rows) segments ≡ length covered
+    pub last_is : list_any (λ (s : SegmentEntry). s.last) segments ≡ hand.draft.last
+    pub ended_is : list_any (λ (s : SegmentEntry). s.last && s.ended) segments ≡ (hand.draft.last && hand.draft.ended)
     pub stands : StandsBehind state covered p hand
     pub number : file.file ≡ number_of start
     pub count : file.messages ≡ length covered
@@ -101,6 +124,8 @@ module _ {D : Type 0} (state : D → DiskState) (version : ℕ) (old : Texts) (p
     mine = All-nil (λ (s : SegmentEntry). s.file ≡ number_of start);
     sealed = λ a is. if_told (is_some (state a.fixed.opened).seen) _ (λ t. refl);
     rows_count = refl;
+    last_is = sym not_last;
+    ended_is = sym (ap (λ b. b && hand.draft.ended) not_last);
     stands = record {
       empty = empty;
       file = number ∙ new.number;
@@ -154,6 +179,9 @@ module _ {D : Type 0} (state : D → DiskState) (version : ℕ) (old : Texts) (p
         sealed = λ a is. told_both (is_some (state a.fixed.opened).seen)
             (λ one two. sealed_joined way.more moved.sealed.more ∙ (ap (λ l. l ++ sealed_by moved.sealed.more) one ∙ ap (λ l. way.segments ++ l) two)) (way.sealed a is) (moved.sealed.segments a (way.added.still.about_is ∙ is));
         rows_count = omega (arith, sum_by-append rows_of way.segments (segment_in moved.draft ∷ []), sum_by-cons rows_of (segment_in moved.draft) [], way.rows_count, moved.counted, length-append way.covered moved.messages);
+        last_is = any_behind last_of way.segments (segment_in moved.draft) (way.last_is ∙ moved.begun) ∙ (moved.marks.0 ∙ sym moved.last);
+        ended_is = any_behind ended_of way.segments (segment_in moved.draft) (way.ended_is ∙ ap (λ b. b && hand.draft.ended) moved.begun)
+            ∙ ap₂ (λ a b. a && b) (moved.marks.0 ∙ sym moved.last) (moved.marks.1 ∙ sym moved.ended);
         stands = next_stands;
         number = number ∙ way.number;
         count = count ∙ next_stands.first;
@@ -185,6 +213,8 @@ module _ {D : Type 0} (state : D → DiskState) (version : ℕ) (old : Texts) (p
       sealed = λ a is. told_both (is_some (state a.fixed.opened).seen)
           (λ one two. sealed_joined way.more nothing.more ∙ (ap (λ l. l ++ sealed_by nothing.more) one ∙ (ap (λ l. way.segments ++ l) two ∙ append-nil way.segments))) (way.sealed a is) (nothing.segments a (way.added.still.about_is ∙ is));
       rows_count = way.rows_count;
+      last_is = way.last_is ∙ sym way.whole;
+      ended_is = way.ended_is ∙ ap (λ b. b && hand.draft.ended) (sym way.whole);
       held = λ a is. told_map (is_some (state a.fixed.opened).seen)
           (λ (holds : Holds a.fixed.header (journal_seen (seen p)) hand.draft.file way.covered hand.draft.last (hand.draft.last && hand.draft.ended)).
           front_of a.fixed.header

@@ -293,6 +293,8 @@ module _ {D R A B C : Type 0} (state : D → DiskState) where
       file = took.marks.file;
       at = took.marks.first ∙ sym took.follows.first;
       counted = omega (arith, took.takes.rows_long, ap length none, canonical_long version took.rows old.types old.words took.messages took.source.0);
+      begun = took.follows.goes_on;
+      marks = (took.marks.last, took.marks.ended);
       sealed = sealed;
       last = emptied.last ∙ took.marks.last;
       ended = emptied.ended ∙ took.marks.ended;

@@ -1,6 +1,6 @@
 -- The files of a second archive behind those of a journal.
 use Rattle.std.specs.Prelude.{◌≡◌, ◌⊎◌, ℕ, ◌+◌, ◌-◌, ◌<◌, ◌≤◌, ◌&&◌, Bool, false, List, [], ◌++◌, length, is_some, Option, None, Some, slice_get, All, min}
-use Rattle.std.specs.List.{Contains, filter, filter_map, sum_by}
+use Rattle.std.specs.List.{Contains, filter, filter_map, list_any, sum_by}
 use Rattle.std.specs.List.Sorted.{IsNonDecreasingBy}
 use mathlib.Core.List.{IsPrefix}
 use Rattle.log_seams.specs.Disk.{DiskState}
@@ -116,8 +116,8 @@ module _ {D : Type 0} {d : DiskGhosts D} where
   -- ---- after
 
   -- The file has messages that are the first ones of the second archive's file with its number there, and all of them, with its
-  -- marks, where no file was stopped. Where the journal is told, the file's segments among the new entries have as many rows, and
-  -- a front of the journal holds exactly these messages of the file.
+  -- marks, where no file was stopped. Where the journal is told, the file's segments among the new entries have as many rows and
+  -- the same marks, and a front of the journal holds exactly these messages of the file.
   pub record IsMovedFile (s : SecondView) (first : ℕ) (stop : Option Stopped) (before : Journal D d) (fresh : List JournalEntry)
       (old new : Merged) : Type 0 where
     pub file : new.file ≡ old.file
@@ -129,6 +129,8 @@ module _ {D : Type 0} {d : DiskGhosts D} where
         → all ≡ record { messages = covered; whole = new.whole; ended = new.whole && ended }
     pub segments : List SegmentEntry
     pub rows_count : sum_by (λ (e : SegmentEntry). length e.rows) segments ≡ length covered
+    pub last_is : list_any (λ (e : SegmentEntry). e.last) segments ≡ new.whole
+    pub ended_is : list_any (λ (e : SegmentEntry). e.last && e.ended) segments ≡ (new.whole && ended)
     pub sealed : IfTold (is_some (state_of before).disk.seen) (filter_map (in_file old.file) fresh ≡ segments)
     pub held : IfTold (is_some (state_of before).disk.seen)
         (FrontHolds before.header (told_entries (state_of before) ++ fresh) old.file covered new.whole (new.whole && ended))

@@ -1,6 +1,6 @@
 -- What became of a file of the second archive.
 use Rattle.std.specs.Prelude.{◌≡◌, ◌&&◌, ℕ, Bool, true, false, List, [], length, Option, Some, All}
-use Rattle.std.specs.List.{sum_by}
+use Rattle.std.specs.List.{list_any, sum_by}
 use mathlib.Core.List.{IsPrefix}
 use Rattle.log_seams.specs.Disk.{DiskState}
 use Rattle.turn_lock.specs.Words.{number_of, seen}
@@ -22,8 +22,8 @@ module _ {D : Type 0} (state : D → DiskState) where
     pub not_whole : file.whole ≡ false
     pub so_far : HasSoFar state p []
 
-  -- Since the pass was `start` it has added segments of its file with these messages, and the journal that it has seen begins
-  -- with entries that hold them. Where the second archive's bytes are told and the places are a run to what it has of a file,
+  -- Since the pass was `start` it has added segments of its file with these messages and marks, and the journal that it has seen
+  -- begins with entries that hold them. Where the second archive's bytes are told and the places are a run to what it has of a file,
   -- they are the first of that file's messages; and all of them, with its marks, where all places were done.
   pub record CameOver (version : ℕ) (old : Texts) (places : List SegmentPlace) (told : Option (List ℕ)) (all_done : Bool)
       (start p : KeeperPass D) (file file_new : Merged) : Type 0 where
@@ -37,6 +37,8 @@ module _ {D : Type 0} (state : D → DiskState) where
     pub mine : All (λ (s : SegmentEntry). s.file ≡ number_of start) segments
     pub sealed : WhereTold state start (λ h. sealed_by more ≡ segments)
     pub rows_count : sum_by (λ (s : SegmentEntry). length s.rows) segments ≡ length covered
+    pub last_is : list_any (λ (s : SegmentEntry). s.last) segments ≡ file_new.whole
+    pub ended_is : list_any (λ (s : SegmentEntry). s.last && s.ended) segments ≡ (file_new.whole && ended)
     pub held : WhereTold state start (λ h.
         FrontHolds h (journal_seen (seen p)) (number_of start) covered file_new.whole (file_new.whole && ended))
     pub first : (bytes : List ℕ) (all : SoFar) → told ≡ Some bytes

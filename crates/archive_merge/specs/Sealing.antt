@@ -93,8 +93,8 @@ module _ {D : Type 0} (state : D → DiskState) where
     pub holds : WhereTold state p (λ h.
         Holds h (journal_seen (seen p)) hand.draft.file covered hand.draft.last (hand.draft.last && hand.draft.ended))
 
-  -- The segment at the place became the next one of the pass' file, with the numbers of the first archive. Where the bytes are
-  -- told, its messages are those of the rows of the segment that stands there.
+  -- The segment at the place became the next one of the pass' file, which was not whole, with its marks and the numbers of the
+  -- first archive. Where the bytes are told, its messages are those of the rows of the segment that stands there.
   pub record MovesSegment (version : ℕ) (old : Texts) (place : SegmentPlace) (told : Option (List ℕ)) (hand hand_new : Hand)
       (p q : KeeperPass D) : Type 0 where
     pub rows : List Row
@@ -106,6 +106,8 @@ module _ {D : Type 0} (state : D → DiskState) where
     pub file : draft.file ≡ hand.draft.file
     pub at : draft.first ≡ place.head.first
     pub counted : length draft.columns.rows ≡ length messages
+    pub begun : hand.draft.last ≡ false
+    pub marks : (draft.last ≡ place.head.last) × (draft.ended ≡ place.head.ended)
     pub sealed : HasSealed state draft p q
     pub last : hand_new.draft.last ≡ place.head.last
     pub ended : hand_new.draft.ended ≡ place.head.ended
