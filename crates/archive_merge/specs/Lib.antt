@@ -4,12 +4,15 @@ pub mod Ended
 pub mod Files
 pub mod InHand
 pub mod Laws
+pub mod Left
 pub mod Locked
 pub mod Merger
 pub mod MergerLaws
+pub mod Named
 pub mod Next
 pub mod PassLaws
 pub mod Runs
 pub mod Sealing
+pub mod StepsNamed
 pub mod Stops
 pub mod Taken
