@@ -6,6 +6,7 @@ pub mod HandLemmas
 pub mod LeftLemmas
 pub mod LockLemmas
 pub mod MergerLemmas
+pub mod MergingLemmas
 pub mod NamedLemmas
 pub mod NextLemmas
 pub mod PlaceLemmas

@@ -8,11 +8,13 @@ pub mod Left
 pub mod Locked
 pub mod Merger
 pub mod MergerLaws
+pub mod Merging
 pub mod Named
 pub mod Next
 pub mod PassLaws
 pub mod Runs
 pub mod Sealing
+pub mod StepsMerging
 pub mod StepsNamed
 pub mod Stops
 pub mod Taken
