@@ -27,7 +27,7 @@ pub record LeavesEntries (h : Header) (before es : List JournalEntry) (old new :
   pub since : (c : List ℕ) → new.since old.clock c → StandsBetween h before (es ++ tail) c
 
 -- The journal is over the same disk with the same header. The disk's count of faults does not fall, and it goes on telling its
--- bytes, or not telling them. What a crash since an earlier moment may have left is what it was, or what has come since the start.
+-- bytes, or not telling them. What a crash since an earlier moment may have left is what it was, or what has come since then.
 pub record HasGoneOn (old new : JournalState) : Type 0 where
   pub name : new.name ≡ old.name
   pub header : new.header ≡ old.header

@@ -50,8 +50,8 @@ pub record WasOnlyRead {E : Type 0} (state : E → DiskState) (refusal : Option 
   pub fault : (file : ℕ) → refusal ≡ Some (Stopped file SecondFault) → Rose (state a.now).faults (state b.now).faults
 
 -- The file has messages that are the first ones of the second archive's file with this number, and all of them, with its marks,
--- where all was done. Where the journal is told, the file's segments among the entries that were added have as many rows and these
--- marks, and a front of the journal holds exactly these messages of the file.
+-- where all was done. Where the journal is told, the file's segments among the entries that were added have as many rows and
+-- these marks, and a front of the journal holds exactly these messages of the file.
 pub record IsMergedFile (s : SecondView) (number : ℕ) (done : Type 0) (before : JournalState) (added : List JournalEntry)
     (file : Merged) : Type 0 where
   pub covered : List (List ℕ)
@@ -100,11 +100,12 @@ module _ {D : Type 0} {d : DiskGhosts D} where
         (told_entries (state_of after) ≡ told_entries (state_of before) ++ (naming ++ fresh))
     pub again : ¬ Rose (state_of before).disk.faults (state_of after).disk.faults → MayOpen (state_of after)
 
-  -- Why not all files are there, or not whole: a name is longer than an archive's may be, and nothing was done; not all names were
-  -- registered; a file was stopped. Want of memory is free.
+  -- Why not all files are there, or not whole: a name is longer than an archive's may be, and nothing was done; not all names
+  -- were registered; a file was stopped. Want of memory is free.
   abbrev pub HasMergeCause : SecondView → ℕ → List (List ℕ) → List Merged → Journal D d → Journal D d → MergeRefusal → Type 0
   HasMergeCause s first names files before after LongName = (¬ All IsShort names) × (files ≡ []) × (after ≡ before)
-  HasMergeCause s first names files before after (Names why) = HasNamesCause names (length files) (state_of before) (state_of after) why
+  HasMergeCause s first names files before after (Names why) =
+      HasNamesCause names (length files) (state_of before) (state_of after) why
   HasMergeCause s first names files before after (Stopped file cause) =
       HasStopped (IsFullByBoth s before) (AreOfBoth s) s first files before after (record { file = file; cause = cause })
   HasMergeCause s first names files before after OutOfMemory = Unit {0}

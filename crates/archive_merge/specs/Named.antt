@@ -34,8 +34,8 @@ AreNamesOf (Types first texts ∷ es) names = ⊥
 AreNamesOf (Words first texts ∷ es) names = ⊥
 AreNamesOf (Segment s ∷ es) names = ⊥
 
--- The names were added behind the journal by these entries, numbered on from `first`, and a store may be opened over it. Each image
--- since the start stands for the journal of before with some of the new entries.
+-- The names were added behind the journal by these entries, numbered on from `first`, and a store may be opened over it. Each
+-- image since the start stands for the journal of before with some of the new entries.
 pub record HasNames (first : ℕ) (names : List (List ℕ)) (naming : List JournalEntry) (old new : JournalState) : Type 0 where
   pub name : new.name ≡ old.name
   pub header : new.header ≡ old.header

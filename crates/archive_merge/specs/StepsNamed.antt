@@ -26,7 +26,8 @@ pub record MayBeNamed (held : ℕ) (names : List (List ℕ)) (j : JournalState) 
 
 module _ {D : Type 0} {d : DiskGhosts D} where
   -- They were; or the journal is as it was; or a call of the disk failed, and their record may be there.
-  pub record IsGroupNamed (held : ℕ) (names : List (List ℕ)) (result : Result Unit RegisterRefusal) (before after : Journal D d) : Type 0 where
+  pub record IsGroupNamed (held : ℕ) (names : List (List ℕ)) (result : Result Unit RegisterRefusal)
+      (before after : Journal D d) : Type 0 where
     pub done : OnOk result (HasNames held names (Files names ∷ []) (state_of before) (state_of after))
     pub goes : HasGoneOn (state_of before) (state_of after)
     pub same : (why : RegisterRefusal) → IsErrOf result why → why ≢ DiskFault
@@ -34,4 +35,5 @@ module _ {D : Type 0} {d : DiskGhosts D} where
     pub full : (end need : ℕ) → IsErrOf result (ArchiveFull end need) → IsFullFor names end need (state_of before)
     pub fault : IsErrOf result DiskFault → Rose (state_of before).disk.faults (state_of after).disk.faults
     pub under : IsErrOf result DiskFault → LeavesOnly (state_of before).disk (state_of after).disk
-        (λ c. IfTold (is_some (state_of before).disk.seen) (StandsForOr before.header (told_entries (state_of before)) (Files names ∷ []) c))
+        (λ c. IfTold (is_some (state_of before).disk.seen)
+        (StandsForOr before.header (told_entries (state_of before)) (Files names ∷ []) c))

@@ -54,7 +54,8 @@ pub struct MergeEnd<'s, 'd, E: Disk, D: Disk> {
 /// Whether no file has a name that is longer than an archive's may be.
 fn are_short(files: &[FileEntry]) -> bool
     ensures yes { IsTrue result → All (λ (f : FileEntry). length f.name ≤ MAX_NAME_LEN) files.now }
-    ensures no { IsFalse result → ¬ All (λ (f : FileEntry). length f.name ≤ MAX_NAME_LEN) files.now }
+    ensures no { IsFalse result
+        → ¬ All (λ (f : FileEntry). length f.name ≤ MAX_NAME_LEN) files.now }
 {
     files
         .iter()
@@ -251,11 +252,10 @@ fn name_and_move<'s, 'd, M: Names, E: Disk, D: Disk, R: Wait>(
     move_named(rt, alloc, first, merged, second, journal, types, words)
 }
 
-/// Registers the names of a second archive's files behind a journal, in groups of as many as a record
-/// may have, and moves the files there, one after the other, until one is stopped. The first has this
-/// number, which is how many files the journal's archive has. Both books have the journal's texts. The
-/// journal and the second disk come back on each way, and with them each file whose name was
-/// registered.
+/// Registers the names of a second archive's files behind a journal, in groups of as many as a
+/// record may have, and moves the files there, one after the other, until one is stopped. The first
+/// has this number, which is how many files the journal's archive has. Both books have the journal's
+/// texts. Journal and second disk come back on each way, and each file whose name was registered.
 pub fn merge<'s, 'd, M: Names, E: Disk, D: Disk, R: Wait>(
     rt: &R,
     alloc: Global,
