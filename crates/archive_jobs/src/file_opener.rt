@@ -1,8 +1,8 @@
 //! What opens the files of an archive, one after the other, and lends the disk to them.
 ghost use Rattle.std.specs.Prelude.{◌≡◌, None, Some, true, false};
 ghost use Rattle.log_seams.specs.Disk.{Rests};
-ghost use Rattle.archive_jobs.specs.Lent.{IsRead, StaysFirst, cause_name};
-ghost use Rattle.archive_jobs.specs.LentLaws.{stays_none, stays_then};
+ghost use Rattle.archive_jobs.specs.Lent.{IsRead, LeavesCause, StaysFirst, cause_name};
+ghost use Rattle.archive_jobs.specs.LentLaws.{leaves_later, stays_none, stays_then};
 
 use crate::file_source::{ClosedFile, FileSource};
 use crate::lent::Lent;
@@ -102,6 +102,8 @@ impl<'a, D: Disk, N: Names, L: Lent> Opens<StoredFile<'a, D, N, L>> for FileOpen
 
     ghost goes = { λ a b. StaysFirst a.cause b.cause };
 
+    ghost knows = { λ o t. LeavesCause o.cause t.faults };
+
     fn open(&mut self, asked: StoredFile<'a, D, N, L>) -> FileSource<'a, D, N, L> {
         let Some(Hand { disk, room }) = self.hand.take() else {
             unreachable!()
@@ -125,4 +127,7 @@ impl<'a, D: Disk, N: Names, L: Lent> Opens<StoredFile<'a, D, N, L>> for FileOpen
     ghost rests = { λ o. stays_none o.cause };
 
     ghost goes_on = { λ a b c one two. stays_then a.cause b.cause c.cause one two };
+
+    ghost knows_on = { λ a b t one known.
+        leaves_later a.cause b.cause t.faults one known };
 }
