@@ -179,11 +179,12 @@ pub record RefusesLogs (seen : Outside) (old new : DiskState) (status : ℕ) : T
 pub record TakesLogs (number lines workers : ℕ) (seen : Outside) (old new : DiskState) (status : ℕ) : Type 0 where
   pub came : List FileOutcome
   pub names_are : map (λ c. c.name) came ≡ generated_names
+  pub logs : All (λ c. c.log ≡ generated number lines c.name) came
   pub disk : FromEmpty old new
-      (λ from bytes stood. TakesIn segment_rows (generated number lines) default_header [] stood generated_names came from new)
+      (λ from bytes stood. TakesIn segment_rows default_header [] stood generated_names came from new)
   pub each : All (CameOfFile segment_rows came (with_logs (generated number lines) seen) (as_made old) new) came
-  pub in_turn : workers ≡ 1 → AreFullInTurn segment_rows (generated number lines) (as_made old) came
-  pub fits : AllFit (generated number lines) (as_made old) came
+  pub in_turn : workers ≡ 1 → AreFullInTurn segment_rows (as_made old) came
+  pub fits : AllFit (as_made old) came
   pub spared : All IsSpared came
   pub all : All IsTakenWhole came → IfSome old.seen (λ _. sum_by (λ c. c.messages) came ≡ 4 * lines)
   pub told : TellsParts came seen status ⊎ SumsUp came seen old new status

@@ -36,9 +36,11 @@ use Rattle.command_refusals.specs.declared.outcome.AddRefusal.TheVariants.{NameT
 use Rattle.command_refusals.specs.declared.outcome.PartCause.TheVariants.{OpenFault, ReadFault, LineTooLong, TooManyLines, Full}
 use Rattle.command_refusals.specs.declared.refusal.Refusal.TheVariants.{SinkFault}
 
--- What came of a file: its name, how many messages of it the archive has, whether these are all, and why they are not.
+-- What came of a file: its name, the bytes that it was made of, where they are told, how many messages of them the archive has,
+-- whether these are all, and why they are not.
 pub record FileOutcome : Type 0 where
   pub name : List ℕ
+  pub log : Option (List ℕ)
   pub messages : ℕ
   pub whole : Bool
   pub refusal : Option PartCause
@@ -55,42 +57,42 @@ line_of_came c = record { name = c.name; messages = c.messages; whole = c.whole 
 
 -- ---- the journal
 
--- where the bytes of the name are told, the message is one of theirs
-abbrev pub IsMessageIn : (List ℕ → Option (List ℕ)) → ℕ → List ℕ → List ℕ → Type 0
-IsMessageIn content version name message =
-    IfSome (content name) (λ bytes. (messages : List (List ℕ)) (ended : Bool) → MessagesOf version bytes messages ended
+-- where the bytes of a log are told, the message is one of theirs
+abbrev pub IsMessageIn : ℕ → Option (List ℕ) → List ℕ → Type 0
+IsMessageIn version log message =
+    IfSome log (λ bytes. (messages : List (List ℕ)) (ended : Bool) → MessagesOf version bytes messages ended
     → Contains messages message)
 
 -- The message is one of the log of a file. A log that could not be opened has none; of one that was, and whose bytes are not
 -- told, nothing is said.
-abbrev pub IsGivenBy : (List ℕ → Option (List ℕ)) → ℕ → FileOutcome → List ℕ → Type 0
-IsGivenBy content version c message = ¬ CouldNotOpen c × IsMessageIn content version c.name message
+abbrev pub IsGivenBy : ℕ → FileOutcome → List ℕ → Type 0
+IsGivenBy version c message = ¬ CouldNotOpen c × IsMessageIn version c.log message
 
 -- it is one of these files
-abbrev pub IsGiven : (List ℕ → Option (List ℕ)) → ℕ → List FileOutcome → List ℕ → Type 0
-IsGiven content version came message = (c : FileOutcome) × Contains came c × IsGivenBy content version c message
+abbrev pub IsGiven : ℕ → List FileOutcome → List ℕ → Type 0
+IsGiven version came message = (c : FileOutcome) × Contains came c × IsGivenBy version c message
 
 -- An entry that may stand behind the names of new files, which are numbered on from `first`: a segment of one of them, or
 -- texts of the encodings of their messages.
-abbrev pub IsOfNew : (List ℕ → Option (List ℕ)) → ℕ → List FileOutcome → ℕ → JournalEntry → Type 0
-IsOfNew content version came first (Files more) = ⊥
-IsOfNew content version came first (Types number texts) =
-    All (λ text. (m : List ℕ) × IsGiven content version came m × IsTypeOf version m text) texts
-IsOfNew content version came first (Words number texts) =
-    All (λ text. (m : List ℕ) × IsGiven content version came m × IsWordOf version m text) texts
-IsOfNew content version came first (Segment s) = (first ≤ s.file) × (s.file < first + length came)
+abbrev pub IsOfNew : ℕ → List FileOutcome → ℕ → JournalEntry → Type 0
+IsOfNew version came first (Files more) = ⊥
+IsOfNew version came first (Types number texts) =
+    All (λ text. (m : List ℕ) × IsGiven version came m × IsTypeOf version m text) texts
+IsOfNew version came first (Words number texts) =
+    All (λ text. (m : List ℕ) × IsGiven version came m × IsWordOf version m text) texts
+IsOfNew version came first (Segment s) = (first ≤ s.file) × (s.file < first + length came)
 
 -- ---- the content
 
--- A new file holds the first messages of its name, as many as it is told with, and all of them where nothing was refused of it,
+-- A new file holds the first messages of its log, as many as it is told with, and all of them where nothing was refused of it,
 -- which is where it is told as whole.
-pub record IsFront (content : List ℕ → Option (List ℕ)) (version : ℕ) (c : FileOutcome) (f : File) : Type 0 where
+pub record IsFront (version : ℕ) (c : FileOutcome) (f : File) : Type 0 where
   pub name : f.name ≡ c.name
   pub messages : length f.messages ≡ c.messages
   pub whole : f.whole ≡ c.whole
-  pub front : IfSome (content c.name) (λ bytes. (messages : List (List ℕ)) (ended : Bool)
+  pub front : IfSome c.log (λ bytes. (messages : List (List ℕ)) (ended : Bool)
       → MessagesOf version bytes messages ended → IsPrefix f.messages messages)
-  pub all : c.refusal ≡ None → (c.whole ≡ true) × IfSome (content c.name) (λ bytes. MessagesOf version bytes f.messages f.ended)
+  pub all : c.refusal ≡ None → (c.whole ≡ true) × IfSome c.log (λ bytes. MessagesOf version bytes f.messages f.ended)
 
 -- ---- what a crash leaves
 
@@ -127,15 +129,15 @@ pub record IsCutInto (rows number : ℕ) (f : File) (added : List JournalEntry) 
       (length (messages_in closed)) f.whole f.ended rest
 
 -- The names were added to the journal, and then what came of each file, in segments of at most so many rows.
-pub record TakesIn {bytes : List ℕ} (rows : ℕ) (content : List ℕ → Option (List ℕ)) (h : Header) (before : List JournalEntry)
-    (stood : StandsFor bytes h before) (names : List (List ℕ)) (came : List FileOutcome) (old new : DiskState) : Type 0 where
+pub record TakesIn {bytes : List ℕ} (rows : ℕ) (h : Header) (before : List JournalEntry) (stood : StandsFor bytes h before)
+    (names : List (List ℕ)) (came : List FileOutcome) (old new : DiskState) : Type 0 where
   pub added : List JournalEntry
-  pub each : All (IsOfNew content h.version came (length stood.legal.held.names)) added
+  pub each : All (IsOfNew h.version came (length stood.legal.held.names)) added
   pub leaves : LeavesJournal h before (before ++ (Files names ∷ added)) old new
   pub files : List File
   pub content_is : (image : List ℕ) (stands : StandsFor image h (before ++ (Files names ∷ added)))
       → content_of stands.legal.held ≡ content_of stood.legal.held ++ files
-  pub fronts : AllZip (IsFront content h.version) came files
+  pub fronts : AllZip (IsFront h.version) came files
   pub cuts : (i : ℕ) (f : File) → slice_get files i ≡ Some f → IsCutInto rows (length stood.legal.held.names + i) f added
 
 -- Where the disk tells its bytes, these and each image of it stand for one journal at the start. Then this holds of it.
@@ -147,14 +149,13 @@ FromArchive old P =
 
 -- ---- causes
 
--- what is told of the logs around a call: their bytes, and the counts of faults in opening and in reading them
+-- what is told of the logs around a call: the counts of faults in opening and in reading them
 pub record Logs : Type 0 where
-  pub content : List ℕ → Option (List ℕ)
   pub opens : List ℕ → ℕ × ℕ
   pub reads : List ℕ → ℕ × ℕ
 
 abbrev pub logs_of : Outside → Logs
-logs_of seen = record { content = seen.content; opens = seen.opens; reads = seen.reads }
+logs_of seen = record { opens = seen.opens; reads = seen.reads }
 
 -- where the bytes are told, they have more messages than so many
 abbrev pub HasMoreThan : ℕ → ℕ → Option (List ℕ) → Type 0
@@ -163,9 +164,9 @@ HasMoreThan count version told =
     → count < length messages)
 
 -- the text is one of the book in the journal, or one of the encoding of a message of these files
-abbrev pub IsThereOrGiven : (List ℕ → Option (List ℕ)) → ℕ → List FileOutcome → List JournalEntry → Which → List ℕ → Type 0
-IsThereOrGiven content version came es book text =
-    Contains (book_texts book es) text ⊎ IsTextOf version (IsGiven content version came) book text
+abbrev pub IsThereOrGiven : ℕ → List FileOutcome → List JournalEntry → Which → List ℕ → Type 0
+IsThereOrGiven version came es book text =
+    Contains (book_texts book es) text ⊎ IsTextOf version (IsGiven version came) book text
 
 -- this holds of the messages of a file that were taken in
 pub record OfTaken (c : FileOutcome) (P : List (List ℕ) → Type 0) : Type 0 where
@@ -175,40 +176,38 @@ pub record OfTaken (c : FileOutcome) (P : List (List ℕ) → Type 0) : Type 0 w
 
 -- There are as many texts of the journal and of these files, and one more is of the encoding of a log's next message, behind
 -- those that were taken of it.
-abbrev pub IsFullBehind : (List ℕ → Option (List ℕ)) → List FileOutcome → Header → List JournalEntry → List ℕ → List (List ℕ)
-    → Which → ℕ → Type 0
-IsFullBehind content came h es name taken book count =
-    IsFullBy (IsThereOrGiven content h.version came es book)
-    (IsTextOf h.version (IsNextOf h.version (content name) taken) book) count
+abbrev pub IsFullBehind : List FileOutcome → Header → List JournalEntry → FileOutcome → List (List ℕ) → Which → ℕ → Type 0
+IsFullBehind came h es c taken book count =
+    IsFullBy (IsThereOrGiven h.version came es book)
+    (IsTextOf h.version (IsNextOf h.version c.log taken) book) count
 
 -- A book may have so many texts, and is full behind the messages of the file that were taken in.
-abbrev pub IsFullByGiven : (List ℕ → Option (List ℕ)) → List FileOutcome → Header → List JournalEntry → FileOutcome → Which → ℕ
-    → Type 0
-IsFullByGiven content came h es c book count =
-    (count ≡ limit_of (header_limits h) book) × OfTaken c (λ sealed. IsFullBehind content came h es c.name sealed book count)
+abbrev pub IsFullByGiven : List FileOutcome → Header → List JournalEntry → FileOutcome → Which → ℕ → Type 0
+IsFullByGiven came h es c book count =
+    (count ≡ limit_of (header_limits h) book) × OfTaken c (λ sealed. IsFullBehind came h es c sealed book count)
 
 -- The texts of a book are those of the entries, and others of the encodings of messages of these files.
-abbrev pub WereGiven : (List ℕ → Option (List ℕ)) → ℕ → List FileOutcome → List JournalEntry → Which → List (List ℕ) → Type 0
-WereGiven content version came front book texts =
-    HasTextsBehind (IsTextOf version (IsGiven content version came) book) (book_texts book front) texts
+abbrev pub WereGiven : ℕ → List FileOutcome → List JournalEntry → Which → List (List ℕ) → Type 0
+WereGiven version came front book texts =
+    HasTextsBehind (IsTextOf version (IsGiven version came) book) (book_texts book front) texts
 
--- Why no further message of a log of this name was taken than these, into an archive with these entries: a read of it failed
--- behind them, the next line is too long, there are too many, or a dictionary is full at the next one.
-abbrev pub IsStoppedBy : Logs → List FileOutcome → Header → List JournalEntry → List ℕ → List (List ℕ) → PartCause → Type 0
-IsStoppedBy logs came h es name taken ReadFault = RoseIn (logs.reads name)
-    × IfSome (logs.content name) (λ bytes. (behind : Option (List ℕ)) × IsReadShort h.version bytes taken behind)
-IsStoppedBy logs came h es name taken (LineTooLong line) =
-    (line ≡ lines_count taken + 1) × IfSome (logs.content name) (IsBeforeLong h.version taken)
-IsStoppedBy logs came h es name taken TooManyLines =
-    (length taken ≡ most_messages) × HasMoreThan most_messages h.version (logs.content name)
-IsStoppedBy logs came h es name taken (Full book count) =
-    (count ≡ limit_of (header_limits h) book) × IsFullBehind logs.content came h es name taken book count
-IsStoppedBy logs came h es name taken _ = ⊥
+-- Why no further message of a file's log was taken than these, into an archive with these entries: a read of it failed behind
+-- them, the next line is too long, there are too many, or a dictionary is full at the next one.
+abbrev pub IsStoppedBy : Logs → List FileOutcome → Header → List JournalEntry → FileOutcome → List (List ℕ) → PartCause → Type 0
+IsStoppedBy logs came h es c taken ReadFault = RoseIn (logs.reads c.name)
+    × IfSome c.log (λ bytes. (behind : Option (List ℕ)) × IsReadShort h.version bytes taken behind)
+IsStoppedBy logs came h es c taken (LineTooLong line) =
+    (line ≡ lines_count taken + 1) × IfSome c.log (IsBeforeLong h.version taken)
+IsStoppedBy logs came h es c taken TooManyLines =
+    (length taken ≡ most_messages) × HasMoreThan most_messages h.version c.log
+IsStoppedBy logs came h es c taken (Full book count) =
+    (count ≡ limit_of (header_limits h) book) × IsFullBehind came h es c taken book count
+IsStoppedBy logs came h es c taken _ = ⊥
 
 -- The log has ended with these messages: they are all of its messages, or there is such a cause.
-abbrev pub HasEnded : Logs → List FileOutcome → Header → List JournalEntry → List ℕ → List (List ℕ) → Type 0
-HasEnded logs came h es name taken = AreAllOf h.version (logs.content name) taken
-    ⊎ ((cause : PartCause) × IsStoppedBy logs came h es name taken cause)
+abbrev pub HasEnded : Logs → List FileOutcome → Header → List JournalEntry → FileOutcome → List (List ℕ) → Type 0
+HasEnded logs came h es c taken = AreAllOf h.version c.log taken
+    ⊎ ((cause : PartCause) × IsStoppedBy logs came h es c taken cause)
 
 -- the entries begin with these ones, and where the disk's bytes are told and stand for a journal, it begins with the entries
 abbrev pub StandFirst : Header → List JournalEntry → DiskState → List JournalEntry → Type 0
@@ -223,8 +222,7 @@ pub record DidNotFit (logs : Logs) (rows first : ℕ) (came : List FileOutcome) 
   pub place : ℕ
   pub at : slice_get came place ≡ Some c
   pub room : OfTaken c (λ sealed. HadNoRoom h rows h.version (first + place) (StandFirst h named new)
-      (WereGiven logs.content h.version came) (AreFirstOf h.version (logs.content c.name)) (HasEnded logs came h named c.name)
-      sealed end need)
+      (WereGiven h.version came) (AreFirstOf h.version c.log) (HasEnded logs came h named c) sealed end need)
 
 -- A read of a log with these bytes failed, and the messages that were taken in are those of the bytes before the fault.
 pub record WasCutShort (version : ℕ) (c : FileOutcome) (bytes : List ℕ) : Type 0 where
@@ -247,15 +245,15 @@ abbrev pub HasFileCause : ℕ → List FileOutcome → Outside → DiskState →
 HasFileCause rows came seen old new c None = c.whole ≡ true
 HasFileCause rows came seen old new c (Some OpenFault) = RoseIn (seen.opens c.name) × (c.messages ≡ 0)
 HasFileCause rows came seen old new c (Some ReadFault) =
-    RoseIn (seen.reads c.name) × FromArchive old (λ h before bytes stood. IfSome (seen.content c.name) (WasCutShort h.version c))
+    RoseIn (seen.reads c.name) × FromArchive old (λ h before bytes stood. IfSome c.log (WasCutShort h.version c))
 HasFileCause rows came seen old new c (Some (LineTooLong line)) =
-    IfSome (seen.content c.name) (λ bytes. IsLong bytes line)
-    × FromArchive old (λ h before bytes stood. IfSome (seen.content c.name) (IsNextTooLong h.version c line))
+    IfSome c.log (λ bytes. IsLong bytes line)
+    × FromArchive old (λ h before bytes stood. IfSome c.log (IsNextTooLong h.version c line))
 HasFileCause rows came seen old new c (Some TooManyLines) =
     (c.messages ≡ most_messages)
-    × FromArchive old (λ h before bytes stood. HasMoreThan most_messages h.version (seen.content c.name))
+    × FromArchive old (λ h before bytes stood. HasMoreThan most_messages h.version c.log)
 HasFileCause rows came seen old new c (Some (Full book count)) =
-    FromArchive old (λ h before bytes stood. IsFullByGiven seen.content came h before c book count)
+    FromArchive old (λ h before bytes stood. IsFullByGiven came h before c book count)
 HasFileCause rows came seen old new c (Some (PartCause.ArchiveFull end need)) =
     FromArchive old (λ h before bytes stood. DidNotFit (logs_of seen) rows (length stood.legal.held.names) came h
     (before ++ Files (names_in came) ∷ []) new c end need)
@@ -311,10 +309,10 @@ unsealed_of rows (Some TooManyLines) = 0
 unsealed_of rows (Some (Full book count)) = 1
 unsealed_of rows (Some _) = rows
 
-module _ (rows : ℕ) (content : List ℕ → Option (List ℕ)) where
+module _ (rows : ℕ) where
   -- the message was met in this file, whose log was opened
   abbrev pub WasMetIn : ℕ → FileOutcome → List ℕ → Type 0
-  WasMetIn version c m = ¬ CouldNotOpen c × IsAmongFirst version (content c.name) (c.messages + unsealed_of rows c.refusal) m
+  WasMetIn version c m = ¬ CouldNotOpen c × IsAmongFirst version c.log (c.messages + unsealed_of rows c.refusal) m
 
   -- it was met in one of these files
   abbrev pub WasMetInOneOf : ℕ → List FileOutcome → List ℕ → Type 0
@@ -327,7 +325,7 @@ module _ (rows : ℕ) (content : List ℕ → Option (List ℕ)) where
       (count ≡ limit_of (header_limits h) book)
       × IsFullBy (λ text. Contains (book_texts book es) text
       ⊎ IsTextOf h.version (WasMetInOneOf h.version met) book text)
-      (IsTextOf h.version (IsMessageAt h.version (content c.name) c.messages) book) count
+      (IsTextOf h.version (IsMessageAt h.version c.log c.messages) book) count
 
 -- this holds of the files up to each one that a full dictionary stopped, of this one, and of the dictionary and the count that
 -- are told
@@ -337,41 +335,40 @@ OfStopped P came =
     → P (take (place + 1) came) c book count
 
 -- each full dictionary was so by the archive of before and the files up to the one that it stopped
-abbrev pub AreFullInTurn : ℕ → (List ℕ → Option (List ℕ)) → DiskState → List FileOutcome → Type 0
-AreFullInTurn rows content old came =
+abbrev pub AreFullInTurn : ℕ → DiskState → List FileOutcome → Type 0
+AreFullInTurn rows old came =
     OfStopped (λ met c book count. FromArchive old
-    (λ h before bytes stood. IsFullInTurn rows content h before met c book count)) came
+    (λ h before bytes stood. IsFullInTurn rows h before met c book count)) came
 
 -- ---- what was taken in fits in the dictionaries
 
-module _ (content : List ℕ → Option (List ℕ)) where
-  -- The message was taken in with a file whose bytes are told: it is one of their first messages, as many as the archive has of
-  -- the file.
-  pub record WasTakenWith (version : ℕ) (c : FileOutcome) (m : List ℕ) : Type 0 where
-    pub bytes : List ℕ
-    pub told : content c.name ≡ Some bytes
-    pub messages : List (List ℕ)
-    pub ended : Bool
-    pub are : MessagesOf version bytes messages ended
-    pub first : Contains (take c.messages messages) m
+-- The message was taken in with a file whose bytes are told: it is one of their first messages, as many as the archive has of the
+-- file.
+pub record WasTakenWith (version : ℕ) (c : FileOutcome) (m : List ℕ) : Type 0 where
+  pub bytes : List ℕ
+  pub told : c.log ≡ Some bytes
+  pub messages : List (List ℕ)
+  pub ended : Bool
+  pub are : MessagesOf version bytes messages ended
+  pub first : Contains (take c.messages messages) m
 
-  -- it was taken in with one of these files
-  abbrev pub WasTakenIn : ℕ → List FileOutcome → List ℕ → Type 0
-  WasTakenIn version came m = (c : FileOutcome) × Contains came c × WasTakenWith version c m
+-- it was taken in with one of these files
+abbrev pub WasTakenIn : ℕ → List FileOutcome → List ℕ → Type 0
+WasTakenIn version came m = (c : FileOutcome) × Contains came c × WasTakenWith version c m
 
-  -- the text is one of the book in the journal, or one of the encoding of a message that was taken in
-  abbrev pub IsThereOrTakenIn : Header → List JournalEntry → List FileOutcome → Which → List ℕ → Type 0
-  IsThereOrTakenIn h es came book text = Contains (book_texts book es) text
-      ⊎ IsTextOf h.version (WasTakenIn h.version came) book text
+-- the text is one of the book in the journal, or one of the encoding of a message that was taken in
+abbrev pub IsThereOrTakenIn : Header → List JournalEntry → List FileOutcome → Which → List ℕ → Type 0
+IsThereOrTakenIn h es came book text = Contains (book_texts book es) text
+    ⊎ IsTextOf h.version (WasTakenIn h.version came) book text
 
-  -- distinct such texts are no more than the book may have
-  abbrev pub FitIn : Header → List JournalEntry → List FileOutcome → Which → Type 0
-  FitIn h es came book = (texts : List (List ℕ)) → AreDistinct texts → All (IsThereOrTakenIn h es came book) texts
-      → length texts ≤ limit_of (header_limits h) book
+-- distinct such texts are no more than the book may have
+abbrev pub FitIn : Header → List JournalEntry → List FileOutcome → Which → Type 0
+FitIn h es came book = (texts : List (List ℕ)) → AreDistinct texts → All (IsThereOrTakenIn h es came book) texts
+    → length texts ≤ limit_of (header_limits h) book
 
 -- so it is of each dictionary of the archive of before
-abbrev pub AllFit : (List ℕ → Option (List ℕ)) → DiskState → List FileOutcome → Type 0
-AllFit content old came = FromArchive old (λ h before bytes stood. (book : Which) → FitIn content h before came book)
+abbrev pub AllFit : DiskState → List FileOutcome → Type 0
+AllFit old came = FromArchive old (λ h before bytes stood. (book : Which) → FitIn h before came book)
 
 -- ---- the answers
 
@@ -396,14 +393,15 @@ PrintsCame came first seen status =
     ⊎ (EndsWithoutMemory seen status
     × GrewByFront seen.out.0 seen.out.1 (directory_from first (map line_of_came came)) × Stayed seen.out_faults)
 
--- The names were added, from the first new number on, and the files taken in, in segments of at most so many rows. What came of
--- each is printed.
+-- The names were added, from the first new number on, and the files taken in, each from what is told of its name, in segments of
+-- at most so many rows. What came of each is printed.
 pub record AddsFiles (rows : ℕ) (names : List (List ℕ)) (seen : Outside) (old new : DiskState) (status : ℕ) : Type 0 where
   pub came : List FileOutcome
   pub first : ℕ
   pub names_are : map (λ c. c.name) came ≡ names
+  pub logs : All (λ c. c.log ≡ seen.content c.name) came
   pub numbered : OverJournal old.seen (λ journal. first ≡ length journal.names)
-  pub disk : FromArchive old (λ h before bytes stood. TakesIn rows seen.content h before stood names came old new)
+  pub disk : FromArchive old (λ h before bytes stood. TakesIn rows h before stood names came old new)
   pub printed : PrintsCame came first seen status
 
 -- The same, and what came of each file has its cause. With one worker a dictionary is full by the files up to the one that it
@@ -412,8 +410,8 @@ pub record TakesFiles (workers rows : ℕ) (names : List (List ℕ)) (seen : Out
     : Type 0 where
   pub adds : AddsFiles rows names seen old new status
   pub each : All (CameOfFile rows adds.came seen old new) adds.came
-  pub in_turn : workers ≡ 1 → AreFullInTurn rows seen.content old adds.came
-  pub fits : AllFit seen.content old adds.came
+  pub in_turn : workers ≡ 1 → AreFullInTurn rows old adds.came
+  pub fits : AllFit old adds.came
 
 -- How `ingest` ends, which has so many workers, and cuts files into segments of at most so many rows.
 abbrev pub EndsIngest : ℕ → ℕ → List (List ℕ) → Outside → DiskState → DiskState → ℕ → Type 0

@@ -29,7 +29,7 @@ use Rattle.command_answers.specs.Taken.{gravest}
 use Rattle.command_refusals.specs.declared.outcome.ReadRefusal.{ReadRefusal}
 use Rattle.command_refusals.specs.declared.outcome.ReadRefusal.TheVariants.{Damaged, DiskFault, SinkFault}
 use Rattle.write_commands.specs.declared.file_report.FileReport.{FileReport}
-use Rattle.write_commands.proofs.CameLemmas.{errors_came, names_came, statuses_came}
+use Rattle.write_commands.proofs.CameLemmas.{errors_came, logs_came, names_came, statuses_came}
 use Rattle.write_commands.proofs.LeavesLemmas.{from_archive}
 
 -- ---- what came of the files
@@ -37,38 +37,39 @@ use Rattle.write_commands.proofs.LeavesLemmas.{from_archive}
 abbrev none_refused : FileReport → Type 0
 none_refused file = file.refusal ≡ None
 
-messages_came : (files : List FileReport) → sum_by (λ (file : FileReport). file.messages) files ≡ sum_by (λ (c : FileOutcome). c.messages) (map came_of files)
-messages_came [] = refl
-messages_came (file ∷ files) =
-    sum_by-cons (λ (f : FileReport). f.messages) file files ∙ (ap (λ n. file.messages + n) (messages_came files) ∙ sym (sum_by-cons (λ (c : FileOutcome). c.messages) (came_of file) (map came_of files)))
+module _ (content : List ℕ → Option (List ℕ)) where
+  messages_came : (files : List FileReport) → sum_by (λ (file : FileReport). file.messages) files ≡ sum_by (λ (c : FileOutcome). c.messages) (map (came_of content) files)
+  messages_came [] = refl
+  messages_came (file ∷ files) =
+      sum_by-cons (λ (f : FileReport). f.messages) file files ∙ (ap (λ n. file.messages + n) (messages_came files) ∙ sym (sum_by-cons (λ (c : FileOutcome). c.messages) (came_of content file) (map (came_of content) files)))
 
-whole_back : (files : List FileReport) → All IsTakenWhole (map came_of files) → All none_refused files
-whole_back [] all = All-nil none_refused
-whole_back (file ∷ files) all =
-    All-cons none_refused file files (All-head IsTakenWhole (came_of file) (map came_of files) all) (whole_back files (All-tail IsTakenWhole (came_of file) (map came_of files) all))
+  whole_back : (files : List FileReport) → All IsTakenWhole (map (came_of content) files) → All none_refused files
+  whole_back [] all = All-nil none_refused
+  whole_back (file ∷ files) all =
+      All-cons none_refused file files (All-head IsTakenWhole (came_of content file) (map (came_of content) files) all) (whole_back files (All-tail IsTakenWhole (came_of content file) (map (came_of content) files) all))
 
-pub parts_told : (files : List FileReport) (seen : Outside) (status : ℕ) → ¬ All none_refused files → status ≡ status_of_taken files → SaysIn seen (flat_map error_of files) → TookNothing seen.out → Stayed seen.out_faults
-    → TellsParts (map came_of files) seen status
-parts_told files seen status part is said nothing sink = record {
-  part = λ whole. part (whole_back files whole);
-  status_is = is ∙ ap gravest (statuses_came files);
-  said = subst (λ text. SaysIn seen text) (errors_came files) said;
-  nothing = nothing;
-  sink = sink;
-}
+  pub parts_told : (files : List FileReport) (seen : Outside) (status : ℕ) → ¬ All none_refused files → status ≡ status_of_taken files → SaysIn seen (flat_map error_of files) → TookNothing seen.out → Stayed seen.out_faults
+      → TellsParts (map (came_of content) files) seen status
+  parts_told files seen status part is said nothing sink = record {
+    part = λ whole. part (whole_back files whole);
+    status_is = is ∙ ap gravest (statuses_came content files);
+    said = subst (λ text. SaysIn seen text) (errors_came content files) said;
+    nothing = nothing;
+    sink = sink;
+  }
 
-pub summed_up : (files : List FileReport) (seen : Outside) (old new : DiskState) (status messages : ℕ) (answer : Result Unit ReadRefusal) → All none_refused files → messages ≡ sum_by (λ (file : FileReport). file.messages) files
-    → EndsWith seen [] status (option_map of_read (answer_of answer)) → PrintsSummary (is_ok answer) messages old.seen seen.out.0 seen.out.1 → KeepsBytes old new → CountsOf DiskFault old.faults new.faults answer
-    → CountsOf SinkFault seen.out_faults.0 seen.out_faults.1 answer → ((at : ℕ) → answer ≡ Err (Damaged at) → RefusedAt at old.seen) → SumsUp (map came_of files) seen old new status
-summed_up files seen old new status messages answer whole is ends prints keeps disk sink damaged = record {
-  whole = All-map IsTakenWhole came_of files whole;
-  answer = answer;
-  ends = ends;
-  prints = subst (λ n. PrintsSummary (is_ok answer) n new.seen seen.out.0 seen.out.1) (is ∙ messages_came files) (subst (λ s. PrintsSummary (is_ok answer) messages s seen.out.0 seen.out.1) (sym keeps.seen) prints);
-  disk = disk.failed;
-  sink = sink;
-  damaged = λ at e. subst (RefusedAt at) (sym keeps.seen) (damaged at e);
-}
+  pub summed_up : (files : List FileReport) (seen : Outside) (old new : DiskState) (status messages : ℕ) (answer : Result Unit ReadRefusal) → All none_refused files → messages ≡ sum_by (λ (file : FileReport). file.messages) files
+      → EndsWith seen [] status (option_map of_read (answer_of answer)) → PrintsSummary (is_ok answer) messages old.seen seen.out.0 seen.out.1 → KeepsBytes old new → CountsOf DiskFault old.faults new.faults answer
+      → CountsOf SinkFault seen.out_faults.0 seen.out_faults.1 answer → ((at : ℕ) → answer ≡ Err (Damaged at) → RefusedAt at old.seen) → SumsUp (map (came_of content) files) seen old new status
+  summed_up files seen old new status messages answer whole is ends prints keeps disk sink damaged = record {
+    whole = All-map IsTakenWhole (came_of content) files whole;
+    answer = answer;
+    ends = ends;
+    prints = subst (λ n. PrintsSummary (is_ok answer) n new.seen seen.out.0 seen.out.1) (is ∙ messages_came files) (subst (λ s. PrintsSummary (is_ok answer) messages s seen.out.0 seen.out.1) (sym keeps.seen) prints);
+    disk = disk.failed;
+    sink = sink;
+    damaged = λ at e. subst (RefusedAt at) (sym keeps.seen) (damaged at e);
+  }
 
 -- how it ends
 pub ends_none : (seen : Outside) (told : Option Refusal) → told ≡ None → seen.err.1 ≡ seen.err.0 → EndsWith seen [] 0 told
@@ -98,10 +99,10 @@ leaves_later h before es old mid new law later keeps counts leaves = record {
   since = λ c left. ⊎_elim (λ was. leaves.since c was) (λ image. leaves.since c (law.counts_now old.clock c later (keeps.no_more c image))) (keeps.time.nothing_else old.clock c later left);
 }
 
-pub takes_later : (rows : ℕ) (content : List ℕ → Option (List ℕ)) (names : List (List ℕ)) (came : List FileOutcome) (old mid new : DiskState) → IsLawful mid → old.clock ≤ mid.clock → KeepsBytes mid new → mid.faults ≤ new.faults
-    → FromArchive old (λ h before bytes stood. TakesIn rows content h before stood names came old mid) → FromArchive old (λ h before bytes stood. TakesIn rows content h before stood names came old new)
-takes_later rows content names came old mid new law later keeps counts =
-    from_archive old old (λ h before bytes stood. TakesIn rows content h before stood names came old mid) (λ h before bytes stood. TakesIn rows content h before stood names came old new) refl (λ c image. image)
+pub takes_later : (rows : ℕ) (names : List (List ℕ)) (came : List FileOutcome) (old mid new : DiskState) → IsLawful mid → old.clock ≤ mid.clock → KeepsBytes mid new → mid.faults ≤ new.faults
+    → FromArchive old (λ h before bytes stood. TakesIn rows h before stood names came old mid) → FromArchive old (λ h before bytes stood. TakesIn rows h before stood names came old new)
+takes_later rows names came old mid new law later keeps counts =
+    from_archive old old (λ h before bytes stood. TakesIn rows h before stood names came old mid) (λ h before bytes stood. TakesIn rows h before stood names came old new) refl (λ c image. image)
     (λ h before bytes stood only takes. record {
       added = takes.added;
       each = takes.each;
@@ -124,16 +125,17 @@ sums_sooner came seen old mid new status low sums = record {
 }
 
 pub logs_added : (content : List ℕ → Option (List ℕ)) (workers : ℕ) (names : List (List ℕ)) (files : List FileReport) (seen : Outside) (old mid new : DiskState) (status : ℕ) → names ≡ generated_names → names_of files ≡ names → IsLawful mid → DiskGoesOn old mid
-    → KeepsBytes mid new → mid.faults ≤ new.faults → FromArchive old (λ h before bytes stood. TakesIn segment_rows content h before stood names (map came_of files) old mid)
-    → HaveFileCauses (logs_of (with_logs content seen)) workers segment_rows old new (map came_of files) → All IsSpared (map came_of files) → TellsParts (map came_of files) seen status ⊎ SumsUp (map came_of files) seen mid new status
+    → KeepsBytes mid new → mid.faults ≤ new.faults → FromArchive old (λ h before bytes stood. TakesIn segment_rows h before stood names (map (came_of content) files) old mid)
+    → HaveFileCauses (logs_of (with_logs content seen)) workers segment_rows old new (map (came_of content) files) → All IsSpared (map (came_of content) files) → TellsParts (map (came_of content) files) seen status ⊎ SumsUp (map (came_of content) files) seen mid new status
     → EndsLogs content workers seen old new status
 logs_added content workers names files seen old mid new status four named law goes keeps counts takes causes spared told =
     let adds : AddsLogs content workers names seen old new status = record {
-      came = map came_of files;
-      names_are = names_came files ∙ named;
-      disk = takes_later segment_rows content names (map came_of files) old mid new law goes.moments.later keeps counts takes;
+      came = map (came_of content) files;
+      names_are = names_came content files ∙ named;
+      logs = logs_came content files;
+      disk = takes_later segment_rows names (map (came_of content) files) old mid new law goes.moments.later keeps counts takes;
       causes = causes;
       spared = spared;
-      told = ⊎_elim (λ parts. inl parts) (λ sums. inr (sums_sooner (map came_of files) seen old mid new status goes.counts sums)) told;
+      told = ⊎_elim (λ parts. inl parts) (λ sums. inr (sums_sooner (map (came_of content) files) seen old mid new status goes.counts sums)) told;
     } in
     inr (subst (λ ns. AddsLogs content workers ns seen old new status) four adds)

@@ -114,7 +114,7 @@ stands h es tail at (Some bytes) told (inr stood) refused = refused.none h (es +
 
 module _ (number lines workers : ℕ) (seen : Outside) (old new : DiskState) (status : ℕ) (takes : TakesLogs number lines workers seen old new status) (told : is_some new.seen ≡ is_some old.seen) (none : old.seen ≡ Some []) where
   abbrev Leaves : DiskState → (bytes : List ℕ) → StandsFor bytes default_header [] → Type 0
-  Leaves from bytes stood = TakesIn segment_rows (generated number lines) default_header [] stood generated_names takes.came from new
+  Leaves from bytes stood = TakesIn segment_rows default_header [] stood generated_names takes.came from new
 
   none_damaged : (at : ℕ) → RefusedAt at new.seen → ⊥
   none_damaged at damaged =

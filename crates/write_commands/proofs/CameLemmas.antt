@@ -1,6 +1,7 @@
 -- What `ingest` answers, from what it printed of the files that were taken in.
 use Rattle.std.proofs.Common.{◌≡◌, refl, ap, subst, ◌∙◌, inl, inr, ℕ, List, [], ◌∷◌, ◌++◌, length, map}
-use Rattle.std.specs.Prelude.{is_some}
+use Rattle.std.specs.Prelude.{All, Option, is_some}
+use Rattle.std.proofs.lemmas.List.Elements.{All-cons, All-nil}
 use Rattle.std.specs.List.{flat_map}
 use Rattle.log_seams.specs.Disk.{DiskState}
 use Rattle.logtype_text.specs.Laws.{OneListOfParts}
@@ -22,21 +23,27 @@ use Rattle.write_commands.specs.declared.file_report.FileReport.{FileReport}
 use Rattle.write_commands.proofs.FittingLemmas.{all_fit}
 use Rattle.write_commands.proofs.WholeLemmas.{file_causes, full_in_turn}
 
-pub names_came : (files : List FileReport) → map (λ (c : FileOutcome). c.name) (map came_of files) ≡ names_of files
-names_came [] = refl
-names_came (file ∷ files) = ap (λ ns. file.name.now ∷ ns) (names_came files)
+module _ (content : List ℕ → Option (List ℕ)) where
+  pub names_came : (files : List FileReport) → map (λ (c : FileOutcome). c.name) (map (came_of content) files) ≡ names_of files
+  names_came [] = refl
+  names_came (file ∷ files) = ap (λ ns. file.name.now ∷ ns) (names_came files)
 
-lines_came : (files : List FileReport) → map line_of_taken files ≡ map line_of_came (map came_of files)
-lines_came [] = refl
-lines_came (file ∷ files) = ap (λ (ls : List FileLine). line_of_taken file ∷ ls) (lines_came files)
+  -- each has the bytes that are told of its name
+  pub logs_came : (files : List FileReport) → All (λ (c : FileOutcome). c.log ≡ content c.name) (map (came_of content) files)
+  logs_came [] = All-nil (λ (c : FileOutcome). c.log ≡ content c.name)
+  logs_came (file ∷ files) = All-cons (λ (c : FileOutcome). c.log ≡ content c.name) (came_of content file) (map (came_of content) files) refl (logs_came files)
 
-pub statuses_came : (files : List FileReport) → map (λ (file : FileReport). file_status file.refusal) files ≡ map (λ (c : FileOutcome). file_status c.refusal) (map came_of files)
-statuses_came [] = refl
-statuses_came (file ∷ files) = ap (λ ns. file_status file.refusal ∷ ns) (statuses_came files)
+  pub lines_came : (files : List FileReport) → map line_of_taken files ≡ map line_of_came (map (came_of content) files)
+  lines_came [] = refl
+  lines_came (file ∷ files) = ap (λ (ls : List FileLine). line_of_taken file ∷ ls) (lines_came files)
 
-pub errors_came : (files : List FileReport) → flat_map error_of files ≡ flat_map (λ (c : FileOutcome). file_error c.name c.refusal) (map came_of files)
-errors_came [] = refl
-errors_came (file ∷ files) = ap (λ text. error_of file ++ text) (errors_came files)
+  pub statuses_came : (files : List FileReport) → map (λ (file : FileReport). file_status file.refusal) files ≡ map (λ (c : FileOutcome). file_status c.refusal) (map (came_of content) files)
+  statuses_came [] = refl
+  statuses_came (file ∷ files) = ap (λ ns. file_status file.refusal ∷ ns) (statuses_came files)
+
+  pub errors_came : (files : List FileReport) → flat_map error_of files ≡ flat_map (λ (c : FileOutcome). file_error c.name c.refusal) (map (came_of content) files)
+  errors_came [] = refl
+  errors_came (file ∷ files) = ap (λ text. error_of file ++ text) (errors_came files)
 
 -- the call was refused as a whole
 pub refused_all : (workers rows : ℕ) (names : List (List ℕ)) (seen : Outside) (old new : DiskState) (status : ℕ) (refusal : AddRefusal) → status ≡ status_of (of_add refusal) → SaysIn seen (line_of [] (of_add refusal)) → TookNothing seen.out → Stayed seen.out_faults
@@ -45,27 +52,27 @@ refused_all workers rows names seen old new status refusal is said nothing sink 
     inl (record { refusal = refusal; ends = record { status_is = is; said = said }; nothing = nothing; sink = sink; cause = cause; disk = disk })
 
 module _ (one : OneListOfParts) (workers rows : ℕ) (names : List (List ℕ)) (seen : Outside) (old new : DiskState) (tells : is_some new.seen ≡ is_some old.seen) (status first : ℕ) (files : List FileReport) (named : names_of files ≡ names)
-    (numbered : OverJournal old.seen (λ journal. first ≡ length journal.names)) (disk : FromArchive old (λ h before bytes stood. TakesIn rows seen.content h before stood names (map came_of files) old new)) (caused : HaveFileCauses (logs_of seen) workers rows old new (map came_of files)) where
-  printed_came : PrintsCame (map came_of files) first seen status → EndsIngest workers rows names seen old new status
+    (numbered : OverJournal old.seen (λ journal. first ≡ length journal.names)) (disk : FromArchive old (λ h before bytes stood. TakesIn rows h before stood names (map (came_of seen.content) files) old new)) (caused : HaveFileCauses (logs_of seen) workers rows old new (map (came_of seen.content) files)) where
+  printed_came : PrintsCame (map (came_of seen.content) files) first seen status → EndsIngest workers rows names seen old new status
   printed_came printed = inr (record {
-    adds = record { came = map came_of files; first = first; names_are = names_came files ∙ named; numbered = numbered; disk = disk; printed = printed };
-    each = file_causes workers rows seen old new (map came_of files) caused;
-    in_turn = full_in_turn workers rows seen old new (map came_of files) caused;
-    fits = all_fit rows one seen.content names (map came_of files) old new tells disk;
+    adds = record { came = map (came_of seen.content) files; first = first; names_are = names_came seen.content files ∙ named; logs = logs_came seen.content files; numbered = numbered; disk = disk; printed = printed };
+    each = file_causes workers rows seen old new (map (came_of seen.content) files) caused;
+    in_turn = full_in_turn workers rows seen old new (map (came_of seen.content) files) caused;
+    fits = all_fit rows one names (map (came_of seen.content) files) old new tells disk;
   })
 
   -- all lines were printed
   pub printed_all : (told : List FileReport) → told ≡ files → Grew seen.out.0 seen.out.1 (directory_from first (map line_of_taken files)) → status ≡ status_of_taken told → SaysIn seen (flat_map error_of told) → Stayed seen.out_faults
       → EndsIngest workers rows names seen old new status
   printed_all told same grew is said sink = printed_came (inl (
-    is ∙ (ap status_of_taken same ∙ ap gravest (statuses_came files)),
-    subst (λ (ls : List FileLine). Grew seen.out.0 seen.out.1 (directory_from first ls)) (lines_came files) grew,
-    subst (λ text. SaysIn seen text) (ap (λ (fs : List FileReport). flat_map error_of fs) same ∙ errors_came files) said,
+    is ∙ (ap status_of_taken same ∙ ap gravest (statuses_came seen.content files)),
+    subst (λ (ls : List FileLine). Grew seen.out.0 seen.out.1 (directory_from first ls)) (lines_came seen.content files) grew,
+    subst (λ text. SaysIn seen text) (ap (λ (fs : List FileReport). flat_map error_of fs) same ∙ errors_came seen.content files) said,
     sink,
   ))
 
-  front_came : GrewByFront seen.out.0 seen.out.1 (directory_from first (map line_of_taken files)) → GrewByFront seen.out.0 seen.out.1 (directory_from first (map line_of_came (map came_of files)))
-  front_came grew = subst (λ (ls : List FileLine). GrewByFront seen.out.0 seen.out.1 (directory_from first ls)) (lines_came files) grew
+  front_came : GrewByFront seen.out.0 seen.out.1 (directory_from first (map line_of_taken files)) → GrewByFront seen.out.0 seen.out.1 (directory_from first (map line_of_came (map (came_of seen.content) files)))
+  front_came grew = subst (λ (ls : List FileLine). GrewByFront seen.out.0 seen.out.1 (directory_from first ls)) (lines_came seen.content files) grew
 
   -- the output failed
   pub printed_some : GrewByFront seen.out.0 seen.out.1 (directory_from first (map line_of_taken files)) → status ≡ status_of SinkFault → SaysIn seen (line_of [] SinkFault) → RoseIn seen.out_faults → EndsIngest workers rows names seen old new status

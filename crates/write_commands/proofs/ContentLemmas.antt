@@ -78,40 +78,40 @@ no_parts rows file ended some = record {
     many (suc k) (inr (inl variables)) = absurd (omega (arith, variables))
     many (suc k) (inr (inr bytes)) = absurd (omega (arith, bytes))
 
-pub record IsTold (content : List ℕ → Option (List ℕ)) (version rows : ℕ) (fresh : List JournalEntry) (ps : List Piece) (file : ℕ) (c : FileOutcome) : Type 0 where
+pub record IsTold (version rows : ℕ) (fresh : List JournalEntry) (ps : List Piece) (file : ℕ) (c : FileOutcome) : Type 0 where
   pub covered : List (List ℕ)
   pub ended : Bool
   pub holds : HoldsOf file ps covered c.whole (c.whole && ended)
   pub count : c.messages ≡ length covered
   pub cut : HasParts rows file fresh covered c.whole ended
-  pub first : IfSome (content c.name) (λ bytes. (messages : List (List ℕ)) (e : Bool) → MessagesOf version bytes messages e → IsPrefix covered messages)
-  pub all : c.refusal ≡ None → (c.whole ≡ true) × IfSome (content c.name) (λ bytes. MessagesOf version bytes covered ended)
+  pub first : IfSome c.log (λ bytes. (messages : List (List ℕ)) (e : Bool) → MessagesOf version bytes messages e → IsPrefix covered messages)
+  pub all : c.refusal ≡ None → (c.whole ≡ true) × IfSome c.log (λ bytes. MessagesOf version bytes covered ended)
 
 abbrev file_in : FileOutcome → ℕ → List Piece → File
 file_in c file ps = record { name = c.name; messages = messages_of file ps; whole = is_whole file ps; ended = is_ended file ps }
 
-front_of_told : (content : List ℕ → Option (List ℕ)) (version : ℕ) {rows : ℕ} {fresh : List JournalEntry} (ps : List Piece) (file : ℕ) (c : FileOutcome) → IsTold content version rows fresh ps file c → IsFront content version c (file_in c file ps)
-front_of_told content version ps file c told = record {
+front_of_told : (version : ℕ) {rows : ℕ} {fresh : List JournalEntry} (ps : List Piece) (file : ℕ) (c : FileOutcome) → IsTold version rows fresh ps file c → IsFront version c (file_in c file ps)
+front_of_told version ps file c told = record {
   name = refl;
   messages = ap length told.holds.messages ∙ sym told.count;
   whole = told.holds.whole_is;
-  front = subst (λ ms. IfSome (content c.name) (λ bytes. (messages : List (List ℕ)) (e : Bool) → MessagesOf version bytes messages e → IsPrefix ms messages)) (sym told.holds.messages) told.first;
+  front = subst (λ ms. IfSome c.log (λ bytes. (messages : List (List ℕ)) (e : Bool) → MessagesOf version bytes messages e → IsPrefix ms messages)) (sym told.holds.messages) told.first;
   all = λ is. let full = told.all is in (
     full.0,
-    subst (λ ms. IfSome (content c.name) (λ bytes. MessagesOf version bytes ms (is_ended file ps))) (sym told.holds.messages)
-        (subst (λ e. IfSome (content c.name) (λ bytes. MessagesOf version bytes told.covered e)) (sym (told.holds.ended_is ∙ ap (λ b. b && told.ended) full.0)) full.1),
+    subst (λ ms. IfSome c.log (λ bytes. MessagesOf version bytes ms (is_ended file ps))) (sym told.holds.messages)
+        (subst (λ e. IfSome c.log (λ bytes. MessagesOf version bytes told.covered e)) (sym (told.holds.ended_is ∙ ap (λ b. b && told.ended) full.0)) full.1),
   );
 }
 
-pub fronts_are : (content : List ℕ → Option (List ℕ)) (version : ℕ) {rows : ℕ} {fresh : List JournalEntry} (ps : List Piece) (k : ℕ) (names : List (List ℕ)) (came : List FileOutcome) → map (λ (c : FileOutcome). c.name) came ≡ names
-    → ((i : ℕ) (c : FileOutcome) → slice_get came i ≡ Some c → IsTold content version rows fresh ps (k + i) c) → AllZip (IsFront content version) came (files_from k names ps)
-fronts_are content version {rows} {fresh} ps k names came are each = subst (λ l. AllZip (IsFront content version) came (files_from k l ps)) are (go k came each)
+pub fronts_are : (version : ℕ) {rows : ℕ} {fresh : List JournalEntry} (ps : List Piece) (k : ℕ) (names : List (List ℕ)) (came : List FileOutcome) → map (λ (c : FileOutcome). c.name) came ≡ names
+    → ((i : ℕ) (c : FileOutcome) → slice_get came i ≡ Some c → IsTold version rows fresh ps (k + i) c) → AllZip (IsFront version) came (files_from k names ps)
+fronts_are version {rows} {fresh} ps k names came are each = subst (λ l. AllZip (IsFront version) came (files_from k l ps)) are (go k came each)
   where
-    go : (k : ℕ) (came : List FileOutcome) → ((i : ℕ) (c : FileOutcome) → slice_get came i ≡ Some c → IsTold content version rows fresh ps (k + i) c) → AllZip (IsFront content version) came (files_from k (map (λ (c : FileOutcome). c.name) came) ps)
+    go : (k : ℕ) (came : List FileOutcome) → ((i : ℕ) (c : FileOutcome) → slice_get came i ≡ Some c → IsTold version rows fresh ps (k + i) c) → AllZip (IsFront version) came (files_from k (map (λ (c : FileOutcome). c.name) came) ps)
     go k [] each = tt
     go k (c ∷ came) each = (
-      front_of_told content version ps k c (subst (λ n. IsTold content version rows fresh ps n c) (omega arith) (each 0 c refl)),
-      go (k + 1) came (λ i d at. subst (λ n. IsTold content version rows fresh ps n d) (omega arith) (each (suc i) d at)),
+      front_of_told version ps k c (subst (λ n. IsTold version rows fresh ps n c) (omega arith) (each 0 c refl)),
+      go (k + 1) came (λ i d at. subst (λ n. IsTold version rows fresh ps n d) (omega arith) (each (suc i) d at)),
     )
 
 -- the file at a place has the messages of its pieces
@@ -130,9 +130,9 @@ file_is ps k (name ∷ names) (suc i) f at =
     (rest.0 ∙ ap (λ n. messages_of n ps) here, rest.1 ∙ ap (λ n. is_whole n ps) here, rest.2 ∙ ap (λ n. is_ended n ps) here)
 
 -- and is cut into the parts that are told of it
-cut_of_told : (content : List ℕ → Option (List ℕ)) (version rows : ℕ) (fresh : List JournalEntry) (ps : List Piece) (file : ℕ) (c : FileOutcome) (f : File) → IsTold content version rows fresh ps file c
+cut_of_told : (version rows : ℕ) (fresh : List JournalEntry) (ps : List Piece) (file : ℕ) (c : FileOutcome) (f : File) → IsTold version rows fresh ps file c
     → (f.messages ≡ messages_of file ps) × (f.whole ≡ is_whole file ps) × (f.ended ≡ is_ended file ps) → IsCutInto rows file f fresh
-cut_of_told content version rows fresh ps file c f told is = record {
+cut_of_told version rows fresh ps file c f told is = record {
   closed = told.cut.closed;
   rest = told.cut.rest;
   parts = is.0 ∙ (told.holds.messages ∙ told.cut.parts);
@@ -161,11 +161,11 @@ all_left P xs ys all = subst (All P) (take-append_seam xs ys) (All-take P (lengt
 all_right : {A : Type 0} (P : A → Type 0) (xs ys : List A) → All P (xs ++ ys) → All P ys
 all_right P xs ys all = subst (All P) (drop-append_seam xs ys) (All-drop P (length xs) (xs ++ ys) all)
 
-module _ {S : Type 0} (left : S → Option (List ℕ)) (content : List ℕ → Option (List ℕ)) (version : ℕ) (came : List FileOutcome) (first : ℕ) (js : List (Job S)) where
+module _ {S : Type 0} (left : S → Option (List ℕ)) (version : ℕ) (came : List FileOutcome) (first : ℕ) (js : List (Job S)) where
   -- the jobs are those of the files
   pub record AreJobsOf : Type 0 where
     pub file : (i : ℕ) (job : Job S) → slice_get js i ≡ Some job → job.file ≡ first + i
-    pub log : (i : ℕ) (job : Job S) → slice_get js i ≡ Some job → (c : FileOutcome) × (slice_get came i ≡ Some c) × IsLogOf content c (in_source left job.source)
+    pub log : (i : ℕ) (job : Job S) → slice_get js i ≡ Some job → (c : FileOutcome) × (slice_get came i ≡ Some c) × IsLogOf c (in_source left job.source)
 
   nothing_given : (m : List ℕ) → ((messages : List (List ℕ)) (ended : Bool) → MessagesOf version [] messages ended → Contains messages m) → ⊥
   nothing_given m given = none_in (given [] true (messages_none version))
@@ -174,7 +174,7 @@ module _ {S : Type 0} (left : S → Option (List ℕ)) (content : List ℕ → O
       none_in c = absurd (omega (arith, c.1))
 
   -- a message of a job is one of a file whose log could be opened
-  pub given_of_names : AreJobsOf → (m : List ℕ) → IsGivenByJobs left version js m → IsGiven content version came m
+  pub given_of_names : AreJobsOf → (m : List ℕ) → IsGivenByJobs left version js m → IsGiven version came m
   given_of_names of m given =
       let log = of.log given.0 given.1 given.2 in (
         log.0,
@@ -185,37 +185,37 @@ module _ {S : Type 0} (left : S → Option (List ℕ)) (content : List ℕ → O
       contains_at : (l : List FileOutcome) (i : ℕ) (c : FileOutcome) → slice_get l i ≡ Some c → Contains l c
       contains_at l i c at = (i, slice_get_within l i c at, get_or_from_slice_get l i c c at)
 
-      by_log : (c : FileOutcome) (told : Option (List ℕ)) → IsLogOf content c told → IfSome told (λ b. (messages : List (List ℕ)) (ended : Bool) → MessagesOf version b messages ended → Contains messages m) → IsGivenBy content version c m
+      by_log : (c : FileOutcome) (told : Option (List ℕ)) → IsLogOf c told → IfSome told (λ b. (messages : List (List ℕ)) (ended : Bool) → MessagesOf version b messages ended → Contains messages m) → IsGivenBy version c m
       by_log c told (inl same) one = (same.1, subst (λ (o : Option (List ℕ)). IfSome o (λ b. (messages : List (List ℕ)) (ended : Bool) → MessagesOf version b messages ended → Contains messages m)) same.0 one)
       by_log c told (inr none) one =
           absurd (nothing_given m (subst (λ (o : Option (List ℕ)). IfSome o (λ b. (messages : List (List ℕ)) (ended : Bool) → MessagesOf version b messages ended → Contains messages m)) none one))
 
-  all_of_names : AreJobsOf → (es : List JournalEntry) → All (IsOfJobs js) es → All (IsTypeGiven left version js) (types_of es) → All (IsWordGiven left version js) (words_of es) → All (IsOfNew content version came first) es
-  all_of_names of [] each types words = All-nil (IsOfNew content version came first)
+  all_of_names : AreJobsOf → (es : List JournalEntry) → All (IsOfJobs js) es → All (IsTypeGiven left version js) (types_of es) → All (IsWordGiven left version js) (words_of es) → All (IsOfNew version came first) es
+  all_of_names of [] each types words = All-nil (IsOfNew version came first)
   all_of_names of (e ∷ es) each types words =
-      All-cons (IsOfNew content version came first) e es
+      All-cons (IsOfNew version came first) e es
       (entry e (All-head (IsOfJobs js) e es each) (all_left (IsTypeGiven left version js) (types_in e) (types_of es) types) (all_left (IsWordGiven left version js) (words_in e) (words_of es) words))
       (all_of_names of es (All-tail (IsOfJobs js) e es each) (all_right (IsTypeGiven left version js) (types_in e) (types_of es) types) (all_right (IsWordGiven left version js) (words_in e) (words_of es) words))
     where
-      entry : (e : JournalEntry) → IsOfJobs js e → All (IsTypeGiven left version js) (types_in e) → All (IsWordGiven left version js) (words_in e) → IsOfNew content version came first e
+      entry : (e : JournalEntry) → IsOfJobs js e → All (IsTypeGiven left version js) (types_in e) → All (IsWordGiven left version js) (words_in e) → IsOfNew version came first e
       entry (Files more) is t w = is
-      entry (Types number texts) is t w = All-weaker (IsTypeGiven left version js) (λ text. (m : List ℕ) × IsGiven content version came m × IsTypeOf version m text) (λ text g. (g.0, given_of_names of g.0 g.1, g.2)) texts t
-      entry (Words number texts) is t w = All-weaker (IsWordGiven left version js) (λ text. (m : List ℕ) × IsGiven content version came m × IsWordOf version m text) (λ text g. (g.0, given_of_names of g.0 g.1, g.2)) texts w
+      entry (Types number texts) is t w = All-weaker (IsTypeGiven left version js) (λ text. (m : List ℕ) × IsGiven version came m × IsTypeOf version m text) (λ text g. (g.0, given_of_names of g.0 g.1, g.2)) texts t
+      entry (Words number texts) is t w = All-weaker (IsWordGiven left version js) (λ text. (m : List ℕ) × IsGiven version came m × IsWordOf version m text) (λ text g. (g.0, given_of_names of g.0 g.1, g.2)) texts w
       entry (Segment s) is t w =
           let file : is.1.file ≡ first + is.0 = of.file is.0 is.1 is.2 in
           let named = of.log is.0 is.1 is.2 in
           (omega (arith, file, is.3), omega (arith, file, is.3, slice_get_within came is.0 named.0 named.1))
 
-new_from : (content : List ℕ → Option (List ℕ)) (version : ℕ) (came : List FileOutcome) (first : ℕ) (e : JournalEntry) → IsOfNew content version came first e → IsNewFrom first e
-new_from content version came first (Files more) new = new
-new_from content version came first (Types number texts) new = tt
-new_from content version came first (Words number texts) new = tt
-new_from content version came first (Segment s) new = new.0
+new_from : (version : ℕ) (came : List FileOutcome) (first : ℕ) (e : JournalEntry) → IsOfNew version came first e → IsNewFrom first e
+new_from version came first (Files more) new = new
+new_from version came first (Types number texts) new = tt
+new_from version came first (Words number texts) new = tt
+new_from version came first (Segment s) new = new.0
 
 -- ---- the archive with the new files
 
-module _ (content : List ℕ → Option (List ℕ)) (h : Header) (before : List JournalEntry) (names : List (List ℕ)) {bytes : List ℕ} (stood : StandsFor bytes h before) (fresh : List JournalEntry)
-    (legal : IsLegal h (before ++ (Files names ∷ fresh))) (came : List FileOutcome) (new : All (IsOfNew content h.version came (length stood.legal.held.names)) fresh) where
+module _ (h : Header) (before : List JournalEntry) (names : List (List ℕ)) {bytes : List ℕ} (stood : StandsFor bytes h before) (fresh : List JournalEntry)
+    (legal : IsLegal h (before ++ (Files names ∷ fresh))) (came : List FileOutcome) (new : All (IsOfNew h.version came (length stood.legal.held.names)) fresh) where
   abbrev first : ℕ
   first = length stood.legal.held.names
 
@@ -229,7 +229,7 @@ module _ (content : List ℕ → Option (List ℕ)) (h : Header) (before : List 
       subst (λ (x : Held). Run h x fresh legal.held) (split.2.1 ∙ ap (λ (x : Held). with_names x names) same) split.2.2
 
   grown_of_new : HasGrown first mid legal.held
-  grown_of_new = grown h first mid legal.held fresh run_of_new (All-weaker (IsOfNew content h.version came first) (IsNewFrom first) (new_from content h.version came first) fresh new)
+  grown_of_new = grown h first mid legal.held fresh run_of_new (All-weaker (IsOfNew h.version came first) (IsNewFrom first) (new_from h.version came first) fresh new)
 
   content_of_new : content_of legal.held ≡ content_of stood.legal.held ++ files_from first names legal.held.pieces
   content_of_new =
@@ -239,7 +239,7 @@ module _ (content : List ℕ → Option (List ℕ)) (h : Header) (before : List 
 
   -- what is told of each file makes what the archive has of them
   pub taken_in : (rows : ℕ) (old late : DiskState) → LeavesJournal h before (before ++ (Files names ∷ fresh)) old late → map (λ (c : FileOutcome). c.name) came ≡ names
-      → ((i : ℕ) (c : FileOutcome) → slice_get came i ≡ Some c → IsTold content h.version rows fresh legal.held.pieces (first + i) c) → TakesIn rows content h before stood names came old late
+      → ((i : ℕ) (c : FileOutcome) → slice_get came i ≡ Some c → IsTold h.version rows fresh legal.held.pieces (first + i) c) → TakesIn rows h before stood names came old late
   taken_in rows old late leaves are each = record {
     added = fresh;
     each = new;
@@ -249,15 +249,15 @@ module _ (content : List ℕ → Option (List ℕ)) (h : Header) (before : List 
         ap content_of (one_held h nothing_held stands.legal.held legal.held (before ++ (Files names ∷ fresh)) stands.legal.run legal.run) ∙ content_of_new;
     fronts = fronts;
     cuts = λ i f at.
-        let c = named_files (IsFront content h.version) came (files_from first names legal.held.pieces) i f fronts at in
-        cut_of_told content h.version rows fresh legal.held.pieces (first + i) c.0 f (each i c.0 c.1) (file_is legal.held.pieces first names i f at);
+        let c = named_files (IsFront h.version) came (files_from first names legal.held.pieces) i f fronts at in
+        cut_of_told h.version rows fresh legal.held.pieces (first + i) c.0 f (each i c.0 c.1) (file_is legal.held.pieces first names i f at);
   }
     where
-      fronts : AllZip (IsFront content h.version) came (files_from first names legal.held.pieces)
-      fronts = fronts_are content h.version legal.held.pieces first names came are each
+      fronts : AllZip (IsFront h.version) came (files_from first names legal.held.pieces)
+      fronts = fronts_are h.version legal.held.pieces first names came are each
 
   -- of a file whose job was not begun nothing is held
-  pub none_told : (rows i : ℕ) (c : FileOutcome) → 0 < rows → i < length names → fresh ≡ [] → c.messages ≡ 0 → c.whole ≡ false → c.refusal ≢ None → IsTold content h.version rows fresh legal.held.pieces (first + i) c
+  pub none_told : (rows i : ℕ) (c : FileOutcome) → 0 < rows → i < length names → fresh ≡ [] → c.messages ≡ 0 → c.whole ≡ false → c.refusal ≢ None → IsTold h.version rows fresh legal.held.pieces (first + i) c
   none_told rows i c some within nothing count part refused =
       let none : HasNone (first + i) mid.pieces = (new_file h before names stood.legal i within).none in
       let same : legal.held ≡ mid = subst (λ es. Run h mid es legal.held) nothing run_of_new in
@@ -268,7 +268,7 @@ module _ (content : List ℕ → Option (List ℕ)) (h : Header) (before : List 
         holds = record { messages = here.messages; whole_is = here.whole ∙ sym part; ended_is = here.ended ∙ sym (ap (λ b. b && false) part) };
         count = count;
         cut = subst (λ w. HasParts rows (first + i) fresh [] w false) (sym part) (subst (λ es. HasParts rows (first + i) es [] false false) (sym nothing) (no_parts rows (first + i) false some));
-        first = always (content c.name);
+        first = always c.log;
         all = λ is. absurd (refused is);
       }
     where
@@ -279,7 +279,7 @@ module _ (content : List ℕ → Option (List ℕ)) (h : Header) (before : List 
   -- of a file whose job was done these are
   pub file_told : {S D : Type 0} {d : DiskGhosts D} (left : S → Option (List ℕ)) (j : Journal D d) → HasNames h before names (state_of j) → (rows i : ℕ) (c : FileOutcome) (old done : Job S) → i < length names → old.file ≡ first + i
       → IsFileOf left (plan_of rows j) j fresh old done → c.messages ≡ done.outcome.messages → c.whole ≡ done.outcome.whole
-      → IsLogOf content c (in_source left old.source) → (c.refusal ≡ None → (in_source left old.source ≡ content c.name) × (old.is_open ≡ true) × (old.is_part ≡ false) × (done.outcome.cause ≡ None)) → IsTold content h.version rows fresh legal.held.pieces (first + i) c
+      → IsLogOf c (in_source left old.source) → (c.refusal ≡ None → (in_source left old.source ≡ c.log) × (old.is_open ≡ true) × (old.is_part ≡ false) × (done.outcome.cause ≡ None)) → IsTold h.version rows fresh legal.held.pieces (first + i) c
   file_told {S} {D} {d} left j named rows i c old done within number is count whole log opened =
       record {
         covered = is.covered;
@@ -287,10 +287,10 @@ module _ (content : List ℕ → Option (List ℕ)) (h : Header) (before : List 
         holds = holds;
         count = count ∙ is.count;
         cut = parts;
-        first = front_by (content c.name) (in_source left old.source) (⊎_elim (λ same. inl same.0) (λ none. inr none) log) first_told;
+        first = front_by c.log (in_source left old.source) (⊎_elim (λ same. inl same.0) (λ none. inr none) log) first_told;
         all = λ spared.
             let full : done.outcome.whole ≡ true = all_of (opened spared).1 (opened spared).2 (opened spared).3 in
-            (whole ∙ full, all_by (content c.name) (subst (λ (o : Option (List ℕ)). OfMessages h.version o (λ messages e. (is.covered ≡ messages) × (is.ended ≡ e))) (opened spared).0 (all_told full)));
+            (whole ∙ full, all_by c.log (subst (λ (o : Option (List ℕ)). OfMessages h.version o (λ messages e. (is.covered ≡ messages) × (is.ended ≡ e))) (opened spared).0 (all_told full)));
       }
     where
       version : (plan_of rows j).version ≡ h.version
@@ -355,24 +355,24 @@ module _ (content : List ℕ → Option (List ℕ)) (h : Header) (before : List 
 
 -- What is told of a file by its job. Where nothing was refused of it, its log was opened for the job, which was that of a whole file
 -- and had no cause.
-pub record CameOfJob {S : Type 0} (left : S → Option (List ℕ)) (content : List ℕ → Option (List ℕ)) (js js' : List (Job S)) (i : ℕ) (c : FileOutcome) : Type 0 where
+pub record CameOfJob {S : Type 0} (left : S → Option (List ℕ)) (js js' : List (Job S)) (i : ℕ) (c : FileOutcome) : Type 0 where
   pub old : Job S
   pub done : Job S
   pub at : slice_get js i ≡ Some old
   pub at_done : slice_get js' i ≡ Some done
   pub messages : c.messages ≡ done.outcome.messages
   pub whole : c.whole ≡ done.outcome.whole
-  pub opened : c.refusal ≡ None → (in_source left old.source ≡ content c.name) × (old.is_open ≡ true) × (old.is_part ≡ false) × (done.outcome.cause ≡ None)
+  pub opened : c.refusal ≡ None → (in_source left old.source ≡ c.log) × (old.is_open ≡ true) × (old.is_part ≡ false) × (done.outcome.cause ≡ None)
 
 pub named_at : (came : List FileOutcome) (names : List (List ℕ)) → map (λ (c : FileOutcome). c.name) came ≡ names → (i : ℕ) (c : FileOutcome) → slice_get came i ≡ Some c → slice_get names i ≡ Some c.name
 named_at came names are i c at =
     subst (λ l. slice_get l i ≡ Some c.name) are (slice_get-map (λ (x : FileOutcome). x.name) came i ∙ ap (option_map (λ (x : FileOutcome). x.name)) at)
 
-module _ {S D : Type 0} {d : DiskGhosts D} (left : S → Option (List ℕ)) (content : List ℕ → Option (List ℕ)) (h : Header) (before : List JournalEntry) (names : List (List ℕ)) {bytes : List ℕ} (stood : StandsFor bytes h before)
-    (j after : Journal D d) (law : IsLawful (d.state after.disk.now)) (named : HasNames h before names (state_of j)) (js js' : List (Job S)) (came : List FileOutcome) (of : AreJobsOf left content h.version came (length stood.legal.held.names) js)
-    (are : map (λ (c : FileOutcome). c.name) came ≡ names) (each : (i : ℕ) (c : FileOutcome) → slice_get came i ≡ Some c → CameOfJob left content js js' i c) where
+module _ {S D : Type 0} {d : DiskGhosts D} (left : S → Option (List ℕ)) (h : Header) (before : List JournalEntry) (names : List (List ℕ)) {bytes : List ℕ} (stood : StandsFor bytes h before)
+    (j after : Journal D d) (law : IsLawful (d.state after.disk.now)) (named : HasNames h before names (state_of j)) (js js' : List (Job S)) (came : List FileOutcome) (of : AreJobsOf left h.version came (length stood.legal.held.names) js)
+    (are : map (λ (c : FileOutcome). c.name) came ≡ names) (each : (i : ℕ) (c : FileOutcome) → slice_get came i ≡ Some c → CameOfJob left js js' i c) where
   -- the jobs were done
-  pub ingested_takes_in : (rows : ℕ) → HasIngested left (plan_of rows j) js js' j after → TakesIn rows content h before stood names came (d.state j.disk.now) (d.state after.disk.now)
+  pub ingested_takes_in : (rows : ℕ) → HasIngested left (plan_of rows j) js js' j after → TakesIn rows h before stood names came (d.state j.disk.now) (d.state after.disk.now)
   ingested_takes_in rows done =
       let s = done.stored in
       let k = s.left_by.kept in
@@ -382,29 +382,29 @@ module _ {S D : Type 0} {d : DiskGhosts D} (left : S → Option (List ℕ)) (con
       let legal : IsLegal h (before ++ (Files names ∷ s.fresh)) =
       subst (IsLegal h) grown
       (legal_front h (journal_of (state_by d.state done.store)) k.under (subst (λ x. IsLegal x (journal_of (state_by d.state done.store) ++ k.under)) (s.left_by.header ∙ named.header) (of_told (tells (state_by d.state done.store)) told k.legal))) in
-      let new : All (IsOfNew content h.version came (length stood.legal.held.names)) s.fresh =
-      all_of_names left content h.version came (length stood.legal.held.names) js of s.fresh s.others (subst (λ v. All (IsTypeGiven left v js) (types_of s.fresh)) version done.types) (subst (λ v. All (IsWordGiven left v js) (words_of s.fresh)) version done.words) in
-      taken_in content h before names stood s.fresh legal came new rows (d.state j.disk.now) (d.state after.disk.now) (left_leaves h before names j after law named done.store s.left_by s.fresh s.grown) are
+      let new : All (IsOfNew h.version came (length stood.legal.held.names)) s.fresh =
+      all_of_names left h.version came (length stood.legal.held.names) js of s.fresh s.others (subst (λ v. All (IsTypeGiven left v js) (types_of s.fresh)) version done.types) (subst (λ v. All (IsWordGiven left v js) (words_of s.fresh)) version done.words) in
+      taken_in h before names stood s.fresh legal came new rows (d.state j.disk.now) (d.state after.disk.now) (left_leaves h before names j after law named done.store s.left_by s.fresh s.grown) are
       (λ i c at.
       let one = each i c at in
       let its = s.files i one.old one.at in
       let log = of.log i one.old one.at in
       let same : its.0 ≡ one.done = some_is its.0 one.done (sym its.1 ∙ one.at_done) in
       let file : log.0 ≡ c = some_is log.0 c (sym log.1 ∙ at) in
-      file_told content h before names stood s.fresh legal came new left j named rows i c one.old one.done (slice_get_within names i c.name (named_at came names are i c at)) (of.file i one.old one.at)
-      (subst (λ (x : Job S). IsFileOf left (plan_of rows j) j s.fresh one.old x) same its.2) one.messages one.whole (subst (λ (x : FileOutcome). IsLogOf content x (in_source left one.old.source)) file log.2) one.opened)
+      file_told h before names stood s.fresh legal came new left j named rows i c one.old one.done (slice_get_within names i c.name (named_at came names are i c at)) (of.file i one.old one.at)
+      (subst (λ (x : Job S). IsFileOf left (plan_of rows j) j s.fresh one.old x) same its.2) one.messages one.whole (subst (λ (x : FileOutcome). IsLogOf x (in_source left one.old.source)) file log.2) one.opened)
     where
       some_is : {A : Type 0} (x y : A) → Some x ≡ Some y → x ≡ y
       some_is x y e = cc (e)
 
   -- none of them was begun
   pub refused_takes_in : (rows : ℕ) → 0 < rows → IsLawful (d.state j.disk.now) → ((c : List ℕ) → (d.state j.disk.now).images c → StandsFor c h (before ++ Files names ∷ [])) → IsLegal h (before ++ Files names ∷ []) → IsAsItWas j after → AreRefused js js'
-      → TakesIn rows content h before stood names came (d.state j.disk.now) (d.state after.disk.now)
+      → TakesIn rows h before stood names came (d.state j.disk.now) (d.state after.disk.now)
   refused_takes_in rows some law_j only legal stayed refused =
-      taken_in content h before names stood [] legal came (All-nil (IsOfNew content h.version came (length stood.legal.held.names))) rows (d.state j.disk.now) (d.state after.disk.now) (same_leaves h before names j after law named law_j only stayed) are
+      taken_in h before names stood [] legal came (All-nil (IsOfNew h.version came (length stood.legal.held.names))) rows (d.state j.disk.now) (d.state after.disk.now) (same_leaves h before names j after law named law_j only stayed) are
       (λ i c at.
       let one = each i c at in
       let none = refused.each i one.done one.at_done in
-      none_told content h before names stood [] legal came (All-nil (IsOfNew content h.version came (length stood.legal.held.names))) rows i c some (slice_get_within names i c.name (named_at came names are i c at)) refl
+      none_told h before names stood [] legal came (All-nil (IsOfNew h.version came (length stood.legal.held.names))) rows i c some (slice_get_within names i c.name (named_at came names are i c at)) refl
       (one.messages ∙ ap (λ (o : Outcome). o.messages) none) (one.whole ∙ ap (λ (o : Outcome). o.whole) none)
       (λ spared. absurd (cc (sym (ap (λ (o : Outcome). o.cause) none) ∙ (one.opened spared).3))))

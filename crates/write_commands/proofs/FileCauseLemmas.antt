@@ -12,7 +12,7 @@ use Rattle.log_seams.specs.Outside.{Rose}
 use Rattle.log_seams.proofs.MomentLemmas.{rose}
 use Rattle.log_sources.specs.declared.source.LogSource.{LogSource}
 use Rattle.log_sources.specs.declared.source.LogSource.TheVariants.{Opened, Unopened}
-use Rattle.log_sources.specs.Sources.{CameOf, IsCounted, IsOpened, faults_in, is_opened, left_in, name_in, no_name, refusal_of}
+use Rattle.log_sources.specs.Sources.{IsCounted, IsOpened, faults_in, is_opened, left_in, name_in, no_name, refusal_of}
 use Rattle.disk_journal.specs.declared.journal.Journal.{Journal}
 use Rattle.disk_journal.specs.Journal.{state_of}
 use Rattle.archive_meaning.specs.declared.entry.JournalEntry.{JournalEntry}
@@ -41,7 +41,7 @@ use Rattle.command_refusals.specs.declared.outcome.PartCause.{PartCause}
 use Rattle.write_commands.specs.declared.file_report.FileReport.{FileReport}
 use Rattle.write_commands.proofs.FitLemmas.{fit_of_job}
 use Rattle.write_commands.proofs.LineLemmas.{long_behind}
-use Rattle.write_commands.proofs.TakeInLemmas.{CameOfLog}
+use Rattle.write_commands.proofs.TakeInLemmas.{CameBy, CameOfLog}
 
 -- what is told at each place holds of each element
 each_of : {A : Type 0} (P : A → Type 0) (xs : List A) → ((i : ℕ) (x : A) → slice_get xs i ≡ Some x → P x) → All P xs
@@ -67,25 +67,25 @@ module _ (logs : Logs) (into : Target) (old new : DiskState) (c : FileOutcome) w
 
 module _ {S : Type 0} (left name : S → Option (List ℕ)) (faults : S → ℕ) (logs : Logs) (opens_now reads reads_now : List ℕ → ℕ) (opens_later : (n : List ℕ) → opens_now n ≤ (logs.opens n).1)
     (reads_sooner : (n : List ℕ) → (logs.reads n).0 ≤ reads n) (reads_later : (n : List ℕ) → reads_now n ≤ (logs.reads n).1) where
-  abbrev pub CameFrom : List ℕ → LogSource S → Type 0
-  CameFrom = CameOf left name faults logs.content (λ n. (logs.opens n).0) opens_now
+  abbrev pub CameFrom : FileOutcome → LogSource S → Type 0
+  CameFrom = CameBy left name faults (λ n. (logs.opens n).0) opens_now
 
   -- the log was not opened
-  opening_in : (into : Target) (old new : DiskState) (c : FileOutcome) (cause : OpenRefused) (n : ℕ) → CameFrom c.name (Unopened cause n) → c.messages ≡ 0 → c.whole ≡ false → c.refusal ≡ Some (of_opening cause) → CameIn logs into old new c
+  opening_in : (into : Target) (old new : DiskState) (c : FileOutcome) (cause : OpenRefused) (n : ℕ) → CameFrom c (Unopened cause n) → c.messages ≡ 0 → c.whole ≡ false → c.refusal ≡ Some (of_opening cause) → CameIn logs into old new c
   opening_in into old new c Failed n came none part is = came_in logs into old new c (Some PartCause.OpenFault) is (rose (logs.opens c.name).0 (logs.opens c.name).0 (opens_now c.name) (logs.opens c.name).1 (omega arith) came.1 (opens_later c.name), none) (λ some. part)
   opening_in into old new c OutOfMemory n came none part is = no_memory logs into old new c is part
 
   -- reads of it failed
-  reads_rose : (asked : List ℕ) (s : S) (t : LogSource S) → IsOpened left name faults (logs.content asked) asked s → name_in name t ≡ name s → IsCounted name faults reads reads_now t → Rose (faults s) (faults_in faults t)
+  reads_rose : (log : Option (List ℕ)) (asked : List ℕ) (s : S) (t : LogSource S) → IsOpened left name faults log asked s → name_in name t ≡ name s → IsCounted name faults reads reads_now t → Rose (faults s) (faults_in faults t)
       → Rose (logs.reads asked).0 (logs.reads asked).1
-  reads_rose asked s (Opened t) is named counted up =
+  reads_rose log asked s (Opened t) is named counted up =
       rose (logs.reads asked).0 (reads asked) (reads_now asked) (logs.reads asked).1 (reads_sooner asked) (counted asked (subst (λ (m : Option (List ℕ)). IfSome m (λ n. n ≡ asked)) (sym named) is.named) (subst (λ n. Rose n (faults t)) is.fresh up)) (reads_later asked)
-  reads_rose asked s (Unopened cause n) is named counted up =
+  reads_rose log asked s (Unopened cause n) is named counted up =
       let same : no_name ≡ asked = subst (λ (m : Option (List ℕ)). IfSome m (λ n. n ≡ asked)) (sym named) is.named in
       let none : is_utf8 no_name ≡ true = subst (λ n. is_utf8 n ≡ true) (sym same) is.text in
       absurd (cc (none, no_text))
 
-  module _ {D : Type 0} {d : DiskGhosts D} (j after : Journal D d) (came : List FileOutcome) (rows first : ℕ) (js : List (Job (LogSource S))) (of : AreJobsOf (left_in left) logs.content j.header.version came first js) (c : FileOutcome) where
+  module _ {D : Type 0} {d : DiskGhosts D} (j after : Journal D d) (came : List FileOutcome) (rows first : ℕ) (js : List (Job (LogSource S))) (of : AreJobsOf (left_in left) j.header.version came first js) (c : FileOutcome) where
     abbrev into : Target
     into = into_journal (state_of j) rows first came
 
@@ -102,20 +102,20 @@ module _ {S : Type 0} (left name : S → Option (List ℕ)) (faults : S → ℕ)
     CauseIn = HasCauseIn logs into (d.state j.disk.now) (d.state after.disk.now) c
 
     -- a text of the encoding of a message of a job is one of a message of a given file
-    of_given : (book : Which) (t : List ℕ) → IsThereOrGivenByJobs (left_in left) (plan_of rows j) js j book t → IsThereOrGiven logs.content j.header.version came (told_entries (state_of j)) book t
+    of_given : (book : Which) (t : List ℕ) → IsThereOrGivenByJobs (left_in left) (plan_of rows j) js j book t → IsThereOrGiven j.header.version came (told_entries (state_of j)) book t
     of_given WhichTypes t (inl there) = inl there
-    of_given WhichTypes t (inr given) = inr (given.0, given_of_names (left_in left) logs.content j.header.version came first js of given.0 given.1, given.2)
+    of_given WhichTypes t (inr given) = inr (given.0, given_of_names (left_in left) j.header.version came first js of given.0 given.1, given.2)
     of_given WhichWords t (inl there) = inl there
-    of_given WhichWords t (inr given) = inr (given.0, given_of_names (left_in left) logs.content j.header.version came first js of given.0 given.1, given.2)
+    of_given WhichWords t (inr given) = inr (given.0, given_of_names (left_in left) j.header.version came first js of given.0 given.1, given.2)
 
     -- a text of the log's next message is one of the next message of the named file
-    next_in : (bytes : Option (List ℕ)) (sealed : List (List ℕ)) (book : Which) (t : List ℕ) → bytes ≡ logs.content c.name → IsTextOf j.header.version (IsNextOf j.header.version bytes sealed) book t
-        → IsTextOf j.header.version (IsNextOf j.header.version (logs.content c.name) sealed) book t
+    next_in : (bytes : Option (List ℕ)) (sealed : List (List ℕ)) (book : Which) (t : List ℕ) → bytes ≡ c.log → IsTextOf j.header.version (IsNextOf j.header.version bytes sealed) book t
+        → IsTextOf j.header.version (IsNextOf j.header.version c.log sealed) book t
     next_in bytes sealed book t is next = subst (λ (o : Option (List ℕ)). IsTextOf j.header.version (IsNextOf j.header.version o sealed) book t) is next
 
     -- where a job's log has ended, the log of the named file has
-    stopped_by : (log : Log) → log.bytes ≡ logs.content c.name → (Rose log.faults log.faults_now → Rose (logs.reads c.name).0 (logs.reads c.name).1) → is_some (d.state j.disk.now).seen ≡ true → (taken : List (List ℕ)) (cause : Cause)
-        → HasLogCause (full log.bytes) log j.header.version taken cause → IsStoppedBy logs came j.header (told_entries (state_of j)) c.name taken (of_cause cause)
+    stopped_by : (log : Log) → log.bytes ≡ c.log → (Rose log.faults log.faults_now → Rose (logs.reads c.name).0 (logs.reads c.name).1) → is_some (d.state j.disk.now).seen ≡ true → (taken : List (List ℕ)) (cause : Cause)
+        → HasLogCause (full log.bytes) log j.header.version taken cause → IsStoppedBy logs came j.header (told_entries (state_of j)) c taken (of_cause cause)
     stopped_by log bytes up told taken Cause.ReadFault has =
         (up has.0, subst (λ (o : Option (List ℕ)). IfSome o (λ b. (behind : Option (List ℕ)) × IsReadShort j.header.version b taken behind)) bytes (IfSome_then log.bytes has.1 (λ b short. (log.behind, short))))
     stopped_by log bytes up told taken (Cause.LineTooLong line) has = (has.1, subst (λ (o : Option (List ℕ)). IfSome o (IsBeforeLong j.header.version taken)) bytes has.2)
@@ -127,14 +127,14 @@ module _ {S : Type 0} (left name : S → Option (List ℕ)) (faults : S → ℕ)
     stopped_by log bytes up told taken Cause.OutOfMemory has = has
     stopped_by log bytes up told taken (Cause.ArchiveFull end need) has = has
 
-    has_ended : (log : Log) → log.bytes ≡ logs.content c.name → (Rose log.faults log.faults_now → Rose (logs.reads c.name).0 (logs.reads c.name).1) → is_some (d.state j.disk.now).seen ≡ true → (taken : List (List ℕ))
-        → EndsLog (full log.bytes) log j.header.version taken → HasEnded logs came j.header (told_entries (state_of j)) c.name taken
+    has_ended : (log : Log) → log.bytes ≡ c.log → (Rose log.faults log.faults_now → Rose (logs.reads c.name).0 (logs.reads c.name).1) → is_some (d.state j.disk.now).seen ≡ true → (taken : List (List ℕ))
+        → EndsLog (full log.bytes) log j.header.version taken → HasEnded logs came j.header (told_entries (state_of j)) c taken
     has_ended log bytes up told taken (inl all) = inl (subst (λ (o : Option (List ℕ)). AreAllOf j.header.version o taken) bytes all)
     has_ended log bytes up told taken (inr why) = inr (of_cause why.0, stopped_by log bytes up told taken why.0 why.1)
 
     -- the cause of a job
     job_cause : (file : ℕ) (log : Log) (sealed : List (List ℕ)) (o : Option Cause) → HasJobCause (grounds_over full has_texts (plan_of rows j) file log.bytes j after) log j.header.version sealed o
-        → ((end need : ℕ) → HadNoRoomOver has_texts (plan_of rows j) file log.bytes j after (EndsLog (full log.bytes) log j.header.version) sealed end need → CauseIn (Some (PartCause.ArchiveFull end need))) → is_some o ≡ not c.whole → c.messages ≡ length sealed → log.bytes ≡ logs.content c.name
+        → ((end need : ℕ) → HadNoRoomOver has_texts (plan_of rows j) file log.bytes j after (EndsLog (full log.bytes) log j.header.version) sealed end need → CauseIn (Some (PartCause.ArchiveFull end need))) → is_some o ≡ not c.whole → c.messages ≡ length sealed → log.bytes ≡ c.log
         → (Rose log.faults log.faults_now → Rose (logs.reads c.name).0 (logs.reads c.name).1) → CauseIn (option_map of_cause o)
     job_cause file log sealed None has fits whole count bytes up = not_false c.whole whole
       where
@@ -160,10 +160,10 @@ module _ {S : Type 0} (left name : S → Option (List ℕ)) (faults : S → ℕ)
     not_whole (Some cause) false is some = refl
 
     -- the job was done
-    done_in : (s : LogSource S) (old done : Job (LogSource S)) → CameFrom c.name s → old.source ≡ Some s → old.is_open ≡ is_opened s
+    done_in : (s : LogSource S) (old done : Job (LogSource S)) → CameFrom c s → old.source ≡ Some s → old.is_open ≡ is_opened s
         → c.messages ≡ done.outcome.messages → c.whole ≡ done.outcome.whole → c.refusal ≡ refusal_by (refusal_of s) done.outcome.cause
         → HasItsCause full has_texts (left_in left) (name_in name) (faults_in faults) (plan_of rows j) j after old done
-        → ((bytes : Option (List ℕ)) → bytes ≡ logs.content c.name → (last : List (List ℕ) → Type 0) → (is_some (d.state j.disk.now).seen ≡ true → (taken : List (List ℕ)) → last taken → HasEnded logs came j.header (told_entries (state_of j)) c.name taken) → (sealed : List (List ℕ)) → c.messages ≡ length sealed → (end need : ℕ) → HadNoRoomOver has_texts (plan_of rows j) old.file bytes j after last sealed end need → CauseIn (Some (PartCause.ArchiveFull end need)))
+        → ((bytes : Option (List ℕ)) → bytes ≡ c.log → (last : List (List ℕ) → Type 0) → (is_some (d.state j.disk.now).seen ≡ true → (taken : List (List ℕ)) → last taken → HasEnded logs came j.header (told_entries (state_of j)) c taken) → (sealed : List (List ℕ)) → c.messages ≡ length sealed → (end need : ℕ) → HadNoRoomOver has_texts (plan_of rows j) old.file bytes j after last sealed end need → CauseIn (Some (PartCause.ArchiveFull end need)))
         → (old.is_open ≡ true → is_some done.outcome.cause ≡ not done.outcome.whole) → (old.is_open ≡ false → done.outcome ≡ nothing_done)
         → ((t : LogSource S) → done.source ≡ Some t → IsCounted name faults reads reads_now t) → In
     done_in (Unopened cause n) old done came_from has as_opened messages whole refusal its fits opened unopened counted =
@@ -173,9 +173,9 @@ module _ {S : Type 0} (left name : S → Option (List ℕ)) (faults : S → ℕ)
         let is : its.source.before ≡ Opened s = some_is its.source.before (Opened s) (sym its.source.had ∙ has) in
         let either : is_some done.outcome.cause ≡ not c.whole = opened as_opened ∙ ap not (sym whole) in
         let log : Log = log_of (left_in left) (faults_in faults) its.source.before its.source.after in
-        let bytes : log.bytes ≡ logs.content c.name = ap (left_in left) is ∙ came_from.left_is in
+        let bytes : log.bytes ≡ c.log = ap (left_in left) is ∙ came_from.left_is in
         let up : Rose log.faults log.faults_now → Rose (logs.reads c.name).0 (logs.reads c.name).1 =
-        λ risen. reads_rose c.name s its.source.after came_from (its.source.keeps.named ∙ ap (name_in name) is) (counted its.source.after its.source.has) (subst (λ n. Rose n (faults_in faults its.source.after)) (ap (faults_in faults) is) risen) in
+        λ risen. reads_rose c.log c.name s its.source.after came_from (its.source.keeps.named ∙ ap (name_in name) is) (counted its.source.after its.source.has) (subst (λ n. Rose n (faults_in faults its.source.after)) (ap (faults_in faults) is) risen) in
         came_in logs into (d.state j.disk.now) (d.state after.disk.now) c (option_map of_cause done.outcome.cause) refusal
         (job_cause old.file log its.sealed done.outcome.cause its.cause
         (fits log.bytes bytes (EndsLog (full log.bytes) log j.header.version) (has_ended log bytes up) its.sealed (messages ∙ its.count)) either (messages ∙ its.count) bytes up)
@@ -185,7 +185,7 @@ module _ {S : Type 0} (left name : S → Option (List ℕ)) (faults : S → ℕ)
         some_is x y e = cc (e)
 
     -- it was not begun
-    refused_in : (s : LogSource S) (done : Job (LogSource S)) → CameFrom c.name s → c.messages ≡ done.outcome.messages → c.whole ≡ done.outcome.whole → c.refusal ≡ refusal_by (refusal_of s) done.outcome.cause → done.outcome ≡ not_begun → In
+    refused_in : (s : LogSource S) (done : Job (LogSource S)) → CameFrom c s → c.messages ≡ done.outcome.messages → c.whole ≡ done.outcome.whole → c.refusal ≡ refusal_by (refusal_of s) done.outcome.cause → done.outcome ≡ not_begun → In
     refused_in (Unopened cause n) done came_from messages whole refusal none =
         opening_in into (d.state j.disk.now) (d.state after.disk.now) c cause n came_from (messages ∙ ap (λ (o : Outcome). o.messages) none) (whole ∙ ap (λ (o : Outcome). o.whole) none) refusal
     refused_in (Opened s) done came_from messages whole refusal none =
@@ -193,7 +193,7 @@ module _ {S : Type 0} (left name : S → Option (List ℕ)) (faults : S → ℕ)
 
   -- ---- all files
 
-  module _ {D : Type 0} {d : DiskGhosts D} (j after : Journal D d) (came : List FileOutcome) (rows first : ℕ) (js js' : List (Job (LogSource S))) (of : AreJobsOf (left_in left) logs.content j.header.version came first js) (each : (i : ℕ) (c : FileOutcome) → slice_get came i ≡ Some c → CameOfLog CameFrom js js' i c) where
+  module _ {D : Type 0} {d : DiskGhosts D} (j after : Journal D d) (came : List FileOutcome) (rows first : ℕ) (js js' : List (Job (LogSource S))) (of : AreJobsOf (left_in left) j.header.version came first js) (each : (i : ℕ) (c : FileOutcome) → slice_get came i ≡ Some c → CameOfLog CameFrom js js' i c) where
     abbrev AllIn : Type 0
     AllIn = All (CameIn logs (into_journal (state_of j) rows first came) (d.state j.disk.now) (d.state after.disk.now)) came
 
@@ -234,6 +234,6 @@ module _ {S : Type 0} (left name : S → Option (List ℕ)) (faults : S → ℕ)
     all_came law workers (inr none) given are counted = all_refused none.journal none.jobs
 
 -- without memory to begin
-pub all_unbegun : (logs : Logs) (into : Target) (old new : DiskState) (taken : List FileReport) → All IsNotBegun taken → All (CameIn logs into old new) (map came_of taken)
-all_unbegun logs into old new taken none =
-    All-map (CameIn logs into old new) came_of taken (All-weaker IsNotBegun (λ (file : FileReport). CameIn logs into old new (came_of file)) (λ file n. no_memory logs into old new (came_of file) n.refusal n.whole) taken none)
+pub all_unbegun : (content : List ℕ → Option (List ℕ)) (logs : Logs) (into : Target) (old new : DiskState) (taken : List FileReport) → All IsNotBegun taken → All (CameIn logs into old new) (map (came_of content) taken)
+all_unbegun content logs into old new taken none =
+    All-map (CameIn logs into old new) (came_of content) taken (All-weaker IsNotBegun (λ (file : FileReport). CameIn logs into old new (came_of content file)) (λ file n. no_memory logs into old new (came_of content file) n.refusal n.whole) taken none)

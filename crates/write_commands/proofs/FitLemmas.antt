@@ -45,20 +45,20 @@ Begins h front told = IfSome told (λ bytes. (es : Entries) → StandsFor bytes 
 -- ---- as it is told
 
 -- what is told of logs by these
-abbrev Told : (List ℕ → Option (List ℕ)) → (List ℕ → ℕ × ℕ) → (List ℕ → ℕ × ℕ) → Logs
-Told content opens reads = record { content = content; opens = opens; reads = reads }
+abbrev Told : (List ℕ → ℕ × ℕ) → (List ℕ → ℕ × ℕ) → Logs
+Told opens reads = record { opens = opens; reads = reads }
 
-module _ (content : List ℕ → Option (List ℕ)) (opens opens' reads : List ℕ → ℕ × ℕ) (rows first : ℕ) (came : List FileOutcome) (h : Header) (named : Entries) (mid new : DiskState) (same : new.seen ≡ mid.seen) (c : FileOutcome) (end need : ℕ) where
+module _ (opens opens' reads : List ℕ → ℕ × ℕ) (rows first : ℕ) (came : List FileOutcome) (h : Header) (named : Entries) (mid new : DiskState) (same : new.seen ≡ mid.seen) (c : FileOutcome) (end need : ℕ) where
   -- the disk's bytes are the same later, whatever openings failed
-  pub fit_later : DidNotFit (Told content opens reads) rows first came h named mid c end need → DidNotFit (Told content opens' reads) rows first came h named new c end need
+  pub fit_later : DidNotFit (Told opens reads) rows first came h named mid c end need → DidNotFit (Told opens' reads) rows first came h named new c end need
   fit_later fit = record {
     place = fit.place;
     at = fit.at;
     room = record {
       sealed = fit.room.sealed;
       count = fit.room.count;
-      holds = no_room_on h rows h.version (first + fit.place) (StandFirst h named mid) (StandFirst h named new) (WereGiven content h.version came) (WereGiven content h.version came) (AreFirstOf h.version (content c.name)) (AreFirstOf h.version (content c.name))
-          (HasEnded (Told content opens reads) came h named c.name) (HasEnded (Told content opens' reads) came h named c.name) fit.room.sealed end need
+      holds = no_room_on h rows h.version (first + fit.place) (StandFirst h named mid) (StandFirst h named new) (WereGiven h.version came) (WereGiven h.version came) (AreFirstOf h.version c.log) (AreFirstOf h.version c.log)
+          (HasEnded (Told opens reads) came h named c) (HasEnded (Told opens' reads) came h named c) fit.room.sealed end need
           (λ es stand. (stand.0, subst (Begins h es) (sym same) stand.1)) (λ es book texts has. has) (λ ms begin. begin) (λ ms ended. ended) fit.room.holds;
     };
   }
@@ -97,21 +97,21 @@ module _ {D : Type 0} {d : DiskGhosts D} (j after : Journal D d) (law : IsLawful
       (λ (more : StandsFor bytes store.header (all ++ tail)). subst (IsPrefix front) (one_journal bytes store.header store.header (all ++ tail) es more stands).1 (prefix_on front all (all ++ tail) on (tail, refl)))
       either)))
 
-module _ {S D : Type 0} {d : DiskGhosts D} (left : S → Option (List ℕ)) (logs : Logs) (j after : Journal D d) (came : List FileOutcome) (rows first : ℕ) (js : List (Job S)) (of : AreJobsOf left logs.content j.header.version came first js) where
-  text_of_names : (book : Which) (t : List ℕ) → IsTextOf j.header.version (IsGivenByJobs left j.header.version js) book t → IsTextOf j.header.version (IsGiven logs.content j.header.version came) book t
-  text_of_names WhichTypes t given = (given.0, given_of_names left logs.content j.header.version came first js of given.0 given.1, given.2)
-  text_of_names WhichWords t given = (given.0, given_of_names left logs.content j.header.version came first js of given.0 given.1, given.2)
+module _ {S D : Type 0} {d : DiskGhosts D} (left : S → Option (List ℕ)) (logs : Logs) (j after : Journal D d) (came : List FileOutcome) (rows first : ℕ) (js : List (Job S)) (of : AreJobsOf left j.header.version came first js) where
+  text_of_names : (book : Which) (t : List ℕ) → IsTextOf j.header.version (IsGivenByJobs left j.header.version js) book t → IsTextOf j.header.version (IsGiven j.header.version came) book t
+  text_of_names WhichTypes t given = (given.0, given_of_names left j.header.version came first js of given.0 given.1, given.2)
+  text_of_names WhichWords t given = (given.0, given_of_names left j.header.version came first js of given.0 given.1, given.2)
 
-  were_given : (front : Entries) (book : Which) (texts : Texts) → WereGivenByJobs left (plan_of rows j) js front book texts → WereGiven logs.content j.header.version came front book texts
+  were_given : (front : Entries) (book : Which) (texts : Texts) → WereGivenByJobs left (plan_of rows j) js front book texts → WereGiven j.header.version came front book texts
   were_given front book texts has = record {
     begins = has.begins;
     distinct = has.distinct;
-    others = All-weaker (IsTextOf j.header.version (IsGivenByJobs left j.header.version js) book) (IsTextOf j.header.version (IsGiven logs.content j.header.version came) book) (text_of_names book) _ has.others;
+    others = All-weaker (IsTextOf j.header.version (IsGivenByJobs left j.header.version js) book) (IsTextOf j.header.version (IsGiven j.header.version came) book) (text_of_names book) _ has.others;
   }
 
   -- the segment of a job's file did not fit
-  pub fit_of_job : (law : IsLawful (d.state after.disk.now)) (store : StoreView D) → IsLeftBy store j after → (place : ℕ) (job : Job S) → slice_get js place ≡ Some job → (c : FileOutcome) → slice_get came place ≡ Some c → (bytes : Option (List ℕ)) → bytes ≡ logs.content c.name
-      → (last : Texts → Type 0) → (is_some (d.state j.disk.now).seen ≡ true → (taken : Texts) → last taken → HasEnded logs came j.header (told_entries (state_of j)) c.name taken) → (sealed : Texts) → c.messages ≡ length sealed → (end need : ℕ) → HadNoRoomOver (WereGivenByJobs left (plan_of rows j) js) (plan_of rows j) job.file bytes j after last sealed end need
+  pub fit_of_job : (law : IsLawful (d.state after.disk.now)) (store : StoreView D) → IsLeftBy store j after → (place : ℕ) (job : Job S) → slice_get js place ≡ Some job → (c : FileOutcome) → slice_get came place ≡ Some c → (bytes : Option (List ℕ)) → bytes ≡ c.log
+      → (last : Texts → Type 0) → (is_some (d.state j.disk.now).seen ≡ true → (taken : Texts) → last taken → HasEnded logs came j.header (told_entries (state_of j)) c taken) → (sealed : Texts) → c.messages ≡ length sealed → (end need : ℕ) → HadNoRoomOver (WereGivenByJobs left (plan_of rows j) js) (plan_of rows j) job.file bytes j after last sealed end need
       → (j.header.length_limit < end + need) × IfTold (is_some (d.state j.disk.now).seen) (DidNotFit logs rows first came j.header (told_entries (state_of j)) (d.state after.disk.now) c end need)
   fit_of_job law store left_by place job at c named bytes log last ends sealed count end need had = (
     had.0,
@@ -123,9 +123,9 @@ module _ {S D : Type 0} {d : DiskGhosts D} (left : S → Option (List ℕ)) (log
           room = record {
             sealed = sealed;
             count = count;
-            holds = subst (λ (file : ℕ). HadNoRoom j.header rows j.header.version file (StandFirst j.header (told_entries (state_of j)) (d.state after.disk.now)) (WereGiven logs.content j.header.version came) (AreFirstOf j.header.version (logs.content c.name)) (HasEnded logs came j.header (told_entries (state_of j)) c.name) sealed end need) (of.file place job at)
+            holds = subst (λ (file : ℕ). HadNoRoom j.header rows j.header.version file (StandFirst j.header (told_entries (state_of j)) (d.state after.disk.now)) (WereGiven j.header.version came) (AreFirstOf j.header.version c.log) (HasEnded logs came j.header (told_entries (state_of j)) c) sealed end need) (of.file place job at)
                 (no_room_on j.header rows j.header.version job.file (IsBetween (told_entries (state_of j)) (told_entries (state_of after))) (StandFirst j.header (told_entries (state_of j)) (d.state after.disk.now))
-                (WereGivenByJobs left (plan_of rows j) js) (WereGiven logs.content j.header.version came) (AreFirstOf j.header.version bytes) (AreFirstOf j.header.version (logs.content c.name)) last (HasEnded logs came j.header (told_entries (state_of j)) c.name) sealed end need
+                (WereGivenByJobs left (plan_of rows j) js) (WereGiven j.header.version came) (AreFirstOf j.header.version bytes) (AreFirstOf j.header.version c.log) last (HasEnded logs came j.header (told_entries (state_of j)) c) sealed end need
                 (λ es between. (between.0, begins_disk j after law store left_by told es between.1)) were_given (λ ms begin. subst (λ (b : Option (List ℕ)). AreFirstOf j.header.version b ms) log begin) (ends told) room);
           };
         } in fit),

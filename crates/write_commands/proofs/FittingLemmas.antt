@@ -189,35 +189,35 @@ beside {A} {B} R xs ys i x both at = let y = go xs ys i both at in (y.0, contain
     go (a ∷ xs) (y ∷ ys) (suc i) both at = go xs ys i both.1 at
 
 -- where the bytes are told, the file has their first messages
-first_messages : (content : List ℕ → Option (List ℕ)) (version : ℕ) (c : FileOutcome) (f : File) (bytes : List ℕ) (messages : Texts) (ended : Bool) → IsFront content version c f → content c.name ≡ Some bytes → MessagesOf version bytes messages ended
+first_messages : (version : ℕ) (c : FileOutcome) (f : File) (bytes : List ℕ) (messages : Texts) (ended : Bool) → IsFront version c f → c.log ≡ Some bytes → MessagesOf version bytes messages ended
     → take c.messages messages ≡ f.messages
-first_messages content version c f bytes messages ended front told are =
+first_messages version c f bytes messages ended front told are =
     let begins : IsPrefix f.messages messages =
     subst (λ (o : Option (List ℕ)). IfSome o (λ b. (ms : Texts) (e : Bool) → MessagesOf version b ms e → IsPrefix f.messages ms)) told front.front messages ended are in
     ap₂ (λ n (ms : Texts). take n ms) (sym front.messages) (sym begins.1) ∙ take-append_seam f.messages begins.0
 
-module _ (rows : ℕ) (one : OneListOfParts) (content : List ℕ → Option (List ℕ)) (h : Header) (before : List JournalEntry) {bytes : List ℕ} (stood : StandsFor bytes h before) (names : Texts) (came : List FileOutcome) (old new : DiskState)
-    (takes : TakesIn rows content h before stood names came old new) (header : IsHeader h) (legal : IsLegal h (before ++ (Files names ∷ takes.added))) where
+module _ (rows : ℕ) (one : OneListOfParts) (h : Header) (before : List JournalEntry) {bytes : List ℕ} (stood : StandsFor bytes h before) (names : Texts) (came : List FileOutcome) (old new : DiskState)
+    (takes : TakesIn rows h before stood names came old new) (header : IsHeader h) (legal : IsLegal h (before ++ (Files names ∷ takes.added))) where
   abbrev es : List JournalEntry
   es = before ++ (Files names ∷ takes.added)
 
   -- what was taken in is encoded by the texts that are held
-  taken_encoded : (m : List ℕ) → WasTakenIn content h.version came m → IsEncodedBy h.version legal.held m
+  taken_encoded : (m : List ℕ) → WasTakenIn h.version came m → IsEncodedBy h.version legal.held m
   unfolding bytes_stand
   taken_encoded m (c, there, was) =
-      let f = beside (IsFront content h.version) came takes.files there.0 c takes.fronts (slice_get-get_or came there.0 c there.1 ∙ ap (λ (x : FileOutcome). Some x) there.2) in
+      let f = beside (IsFront h.version) came takes.files there.0 c takes.fronts (slice_get-get_or came there.0 c there.1 ∙ ap (λ (x : FileOutcome). Some x) there.2) in
       let in_content : Contains (content_of legal.held) f.0 = subst (λ (fs : List File). Contains fs f.0) (sym (takes.content_is (front_of h es ++ CLOSED_GATE ∷ []) (bytes_stand h es legal header)))
       (Contains-append_right (content_of stood.legal.held) takes.files f.0 f.1) in
-      let first = first_messages content h.version c f.0 was.bytes was.messages was.ended f.2 was.told was.are in
+      let first = first_messages h.version c f.0 was.bytes was.messages was.ended f.2 was.told was.are in
       All-contains (IsEncodedBy h.version legal.held) f.0.messages m (All-contains (IsEncodedFile h es legal) (content_of legal.held) f.0 (files_encoded h es legal) in_content) (subst (λ (ms : Texts). Contains ms m) first was.first)
 
-  taken_known : (book : Which) (text : List ℕ) → IsTextOf h.version (WasTakenIn content h.version came) book text → Contains (book_texts book es) text
+  taken_known : (book : Which) (text : List ℕ) → IsTextOf h.version (WasTakenIn h.version came) book text → Contains (book_texts book es) text
   taken_known WhichTypes text (m, taken, is) = subst (λ (l : Texts). Contains l text) (types_held h es legal) (type_known one h.version legal.held m text (taken_encoded m taken) is)
   taken_known WhichWords text (m, taken, is) = subst (λ (l : Texts). Contains l text) (words_held h es legal) (word_known one h.version legal.held m text (taken_encoded m taken) is)
 
-  fit_in : (book : Which) → FitIn content h before came book
+  fit_in : (book : Which) → FitIn h before came book
   fit_in book texts distinct each =
-      let known = All-weaker (IsThereOrTakenIn content h before came book) (Contains (book_texts book es)) (λ text is. ⊎_elim (texts_stay before (Files names ∷ takes.added) book text) (taken_known book text) is) texts each in
+      let known = All-weaker (IsThereOrTakenIn h before came book) (Contains (book_texts book es)) (λ text is. ⊎_elim (texts_stay before (Files names ∷ takes.added) book text) (taken_known book text) is) texts each in
       omega (arith, no_more_than (book_texts book es) texts distinct known, limits_kept h es legal book)
 
 -- ---- where the disk's bytes are told
@@ -227,15 +227,15 @@ legal_told h es tail None is reads = absurd (cc (is))
 legal_told h es tail (Some bytes) is (inl stood) = (stood.header, stood.legal)
 legal_told h es tail (Some bytes) is (inr stood) = (stood.header, legal_front h es tail stood.legal)
 
-pub all_fit : (rows : ℕ) → OneListOfParts → (content : List ℕ → Option (List ℕ)) (names : Texts) (came : List FileOutcome) (old new : DiskState) → is_some new.seen ≡ is_some old.seen
-    → FromArchive old (λ h before bytes stood. TakesIn rows content h before stood names came old new) → AllFit content old came
-all_fit rows one content names came old new tells from = go old.seen tells from
+pub all_fit : (rows : ℕ) → OneListOfParts → (names : Texts) (came : List FileOutcome) (old new : DiskState) → is_some new.seen ≡ is_some old.seen
+    → FromArchive old (λ h before bytes stood. TakesIn rows h before stood names came old new) → AllFit old came
+all_fit rows one names came old new tells from = go old.seen tells from
   where
     go : (was : Option (List ℕ)) → is_some new.seen ≡ is_some was
-        → IfSome was (λ bytes. (h : Header) (before : List JournalEntry) (stood : StandsFor bytes h before) → ((c : List ℕ) → old.images c → StandsFor c h before) → TakesIn rows content h before stood names came old new)
-        → IfSome was (λ bytes. (h : Header) (before : List JournalEntry) (stood : StandsFor bytes h before) → ((c : List ℕ) → old.images c → StandsFor c h before) → (book : Which) → FitIn content h before came book)
+        → IfSome was (λ bytes. (h : Header) (before : List JournalEntry) (stood : StandsFor bytes h before) → ((c : List ℕ) → old.images c → StandsFor c h before) → TakesIn rows h before stood names came old new)
+        → IfSome was (λ bytes. (h : Header) (before : List JournalEntry) (stood : StandsFor bytes h before) → ((c : List ℕ) → old.images c → StandsFor c h before) → (book : Which) → FitIn h before came book)
     go None tells from = tt
     go (Some bytes) tells from = λ h before stood only book.
         let takes = from h before stood only in
         let is = legal_told h (before ++ (Files names ∷ takes.added)) takes.leaves.tail new.seen tells takes.leaves.reads in
-        fit_in rows one content h before stood names came old new takes is.0 is.1 book
+        fit_in rows one h before stood names came old new takes is.0 is.1 book

@@ -17,11 +17,11 @@ use Rattle.command_answers.specs.Ingested.{FileOutcome, HasEnded, HasMoreThan, I
 use Rattle.write_commands.specs.Laws.{IsOfTold, IsReadable, IsUnopenedOrTold, RestsEndTheirLog, UnopenedGiveNothing}
 use Rattle.write_commands.proofs.LineLemmas.{long_behind}
 
-of_told_log : (content : List ℕ → Option (List ℕ)) (version : ℕ) (c : FileOutcome) (message : List ℕ) → IsUnopenedOrTold content c → IsGivenBy content version c message → IsOfTold content version c message
-of_told_log content version c message (inl unopened) given = absurd (given.0 unopened)
-of_told_log content version c message (inr some) given = go (content c.name) refl some given.1
+of_told_log : (version : ℕ) (c : FileOutcome) (message : List ℕ) → IsUnopenedOrTold c → IsGivenBy version c message → IsOfTold version c message
+of_told_log version c message (inl unopened) given = absurd (given.0 unopened)
+of_told_log version c message (inr some) given = go c.log refl some given.1
   where
-    go : (told : Option (List ℕ)) → content c.name ≡ told → IsSome told → IfSome told (λ bytes. (messages : List (List ℕ)) (ended : Bool) → MessagesOf version bytes messages ended → Contains messages message) → IsOfTold content version c message
+    go : (told : Option (List ℕ)) → c.log ≡ told → IsSome told → IfSome told (λ bytes. (messages : List (List ℕ)) (ended : Bool) → MessagesOf version bytes messages ended → Contains messages message) → IsOfTold version c message
     go None is some one = absurd (cc (some))
     go (Some bytes) is some one = let have = messages_exist version bytes in record {
       opened = given.0;
@@ -34,11 +34,11 @@ of_told_log content version c message (inr some) given = go (content c.name) ref
     }
 
 pub unopened_give_nothing : UnopenedGiveNothing
-unopened_give_nothing content version came message each given =
-    (given.0, given.1, of_told_log content version given.0 message (All-contains (IsUnopenedOrTold content) came given.0 each given.1) given.2)
+unopened_give_nothing version came message each given =
+    (given.0, given.1, of_told_log version given.0 message (All-contains IsUnopenedOrTold came given.0 each given.1) given.2)
 
-module _ (logs : Logs) (came : List FileOutcome) (h : Header) (es : List JournalEntry) (name : List ℕ) (messages taken : List (List ℕ)) (log : IsReadable logs came h es name messages) where
-  none_stops : (cause : PartCause) → IsStoppedBy logs came h es name taken cause → ⊥
+module _ (logs : Logs) (came : List FileOutcome) (h : Header) (es : List JournalEntry) (c : FileOutcome) (messages taken : List (List ℕ)) (log : IsReadable logs came h es c messages) where
+  none_stops : (cause : PartCause) → IsStoppedBy logs came h es c taken cause → ⊥
   none_stops PartCause.OpenFault is = is
   none_stops PartCause.ReadFault is = log.read is.0
   none_stops (PartCause.LineTooLong line) is =
@@ -52,7 +52,7 @@ module _ (logs : Logs) (came : List FileOutcome) (h : Header) (es : List Journal
   none_stops PartCause.DiskFault is = is
   none_stops PartCause.OutOfMemory is = is
 
-  all_taken : HasEnded logs came h es name taken → taken ≡ messages
+  all_taken : HasEnded logs came h es c taken → taken ≡ messages
   all_taken (inl all) =
       let same : (ms : List (List ℕ)) (e : Bool) → MessagesOf h.version log.bytes ms e → taken ≡ ms = subst (λ (o : Option (List ℕ)). AreAllOf h.version o taken) log.told all in
       same messages log.ended log.are
@@ -65,5 +65,5 @@ rests_end_their_log new logs rows first came h named c end need messages fit log
       sealed = fit.room.sealed;
       count = fit.room.count;
       part = part_in room.segment room.messages;
-      cut = ⊎_elim (λ whole. inl whole) (λ rest. inr (rest.0, all_taken logs came h named c.name messages (fit.room.sealed ++ room.messages) log rest.1)) room.cut;
+      cut = ⊎_elim (λ whole. inl whole) (λ rest. inr (rest.0, all_taken logs came h named c messages (fit.room.sealed ++ room.messages) log rest.1)) room.cut;
     }

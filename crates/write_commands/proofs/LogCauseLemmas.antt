@@ -91,20 +91,24 @@ module _ (number lines : ℕ) where
 
   -- ---- how many messages there are
 
-  one_counted : (c : FileOutcome) (file : File) → IsGenerated c.name → IsFront (generated number lines) 1 c file → c.refusal ≡ None → c.messages ≡ lines
-  one_counted c file is front whole =
+  -- the file is told by the bytes of its log
+  abbrev pub IsLogged : FileOutcome → Type 0
+  IsLogged c = c.log ≡ generated number lines c.name
+
+  one_counted : (c : FileOutcome) (file : File) → IsGenerated c.name → IsLogged c → IsFront 1 c file → c.refusal ≡ None → c.messages ≡ lines
+  one_counted c file is logged front whole =
       sym front.messages
-      ∙ as_many is.log is.four file.messages file.ended (subst (λ (o : Option (List ℕ)). IfSome o (λ bytes. MessagesOf 1 bytes file.messages file.ended)) (content_is c.name is) (front.all whole).1)
+      ∙ as_many is.log is.four file.messages file.ended (subst (λ (o : Option (List ℕ)). IfSome o (λ bytes. MessagesOf 1 bytes file.messages file.ended)) (logged ∙ content_is c.name is) (front.all whole).1)
 
   abbrev IsCounted : FileOutcome → Type 0
   IsCounted c = c.messages ≡ lines
 
-  each_counted : (came : List FileOutcome) (files : List File) → All IsGenerated (names_in came) → AllZip (IsFront (generated number lines) 1) came files → All IsTakenWhole came → All IsCounted came
-  each_counted [] files are fronts whole = All-nil IsCounted
-  each_counted (c ∷ came) [] are fronts whole = absurd fronts
-  each_counted (c ∷ came) (file ∷ files) are fronts whole =
-      All-cons IsCounted c came (one_counted c file (All-head IsGenerated c.name (names_in came) are) fronts.0 (All-head IsTakenWhole c came whole))
-      (each_counted came files (All-tail IsGenerated c.name (names_in came) are) fronts.1 (All-tail IsTakenWhole c came whole))
+  each_counted : (came : List FileOutcome) (files : List File) → All IsGenerated (names_in came) → All IsLogged came → AllZip (IsFront 1) came files → All IsTakenWhole came → All IsCounted came
+  each_counted [] files are logged fronts whole = All-nil IsCounted
+  each_counted (c ∷ came) [] are logged fronts whole = absurd fronts
+  each_counted (c ∷ came) (file ∷ files) are logged fronts whole =
+      All-cons IsCounted c came (one_counted c file (All-head IsGenerated c.name (names_in came) are) (All-head IsLogged c came logged) fronts.0 (All-head IsTakenWhole c came whole))
+      (each_counted came files (All-tail IsGenerated c.name (names_in came) are) (All-tail IsLogged c came logged) fronts.1 (All-tail IsTakenWhole c came whole))
 
   abbrev messages_in : List FileOutcome → ℕ
   messages_in came = sum_by (λ (c : FileOutcome). c.messages) came
@@ -124,29 +128,29 @@ module _ (number lines : ℕ) where
       omega (arith, one_more a (b ∷ c ∷ d ∷ []) _ all (one_more b (c ∷ d ∷ []) _ behind_a (one_more c (d ∷ []) _ behind_b (one_more d [] 0 behind_c refl))))
   four_counted (a ∷ b ∷ c ∷ d ∷ e ∷ came) are all = absurd (omega (arith, ap length are))
 
-  pub all_counted : (came : List FileOutcome) (files : List File) → names_in came ≡ generated_names → AllZip (IsFront (generated number lines) 1) came files → All IsTakenWhole came → messages_in came ≡ 4 * lines
-  all_counted came files are fronts whole = four_counted came are (each_counted came files (all_named came are) fronts whole)
+  pub all_counted : (came : List FileOutcome) (files : List File) → names_in came ≡ generated_names → All IsLogged came → AllZip (IsFront 1) came files → All IsTakenWhole came → messages_in came ≡ 4 * lines
+  all_counted came files are logged fronts whole = four_counted came are (each_counted came files (all_named came are) logged fronts whole)
 
   -- ---- causes
 
   -- what is told of the four logs where the openings of others may fail, and where none does
   abbrev told_with : (List ℕ → ℕ × ℕ) → Logs
-  told_with opens = record { content = generated number lines; opens = opens; reads = λ name. (0, 0) }
+  told_with opens = record { opens = opens; reads = λ name. (0, 0) }
 
   module _ (most : lines ≤ 1000000) (opens : List ℕ → ℕ × ℕ) (none : (name : List ℕ) → IsGenerated name → opens name ≡ (0, 0)) (into : Target) (old mid new : DiskState) (same : new.seen ≡ mid.seen) (later : mid.faults ≤ new.faults) where
     abbrev Spares : FileOutcome → Option PartCause → Type 0
     Spares c r = HasCauseIn (told_with (λ name. (0, 0))) into old new c r × MayRefuseLog r
 
-    spares : (c : FileOutcome) → IsGenerated c.name → (r : Option PartCause) → HasCauseIn (told_with opens) into old mid c r → Spares c r
-    spares c is None cause = (cause, tt)
-    spares c is (Some PartCause.OpenFault) cause = absurd (not_risen (subst RoseIn (none c.name is) cause.0))
-    spares c is (Some PartCause.ReadFault) cause = absurd (not_risen cause.0)
-    spares c is (Some (PartCause.LineTooLong line)) cause = absurd (none_long c.name is line cause.0)
-    spares c is (Some PartCause.TooManyLines) cause = absurd (none_many most into.header.version c.name is cause.1)
-    spares c is (Some (PartCause.Full book count)) cause = (cause, tt)
-    spares c is (Some (PartCause.ArchiveFull end need)) cause = ((cause.0, told_map into.told (fit_later (generated number lines) opens (λ name. (0, 0)) (λ name. (0, 0)) into.rows into.first into.came into.header into.entries mid new same c end need) cause.1), tt)
-    spares c is (Some PartCause.DiskFault) cause = (rose_on old.faults mid.faults new.faults later cause, tt)
-    spares c is (Some PartCause.OutOfMemory) cause = (tt, tt)
+    spares : (c : FileOutcome) → IsGenerated c.name → IsLogged c → (r : Option PartCause) → HasCauseIn (told_with opens) into old mid c r → Spares c r
+    spares c is logged None cause = (cause, tt)
+    spares c is logged (Some PartCause.OpenFault) cause = absurd (not_risen (subst RoseIn (none c.name is) cause.0))
+    spares c is logged (Some PartCause.ReadFault) cause = absurd (not_risen cause.0)
+    spares c is logged (Some (PartCause.LineTooLong line)) cause = absurd (none_long c.name is line (subst (λ (o : Option (List ℕ)). IfSome o (λ bytes. IsLong bytes line)) logged cause.0))
+    spares c is logged (Some PartCause.TooManyLines) cause = absurd (none_many most into.header.version c.name is (subst (λ (o : Option (List ℕ)). HasMoreThan most_messages into.header.version o) logged cause.1))
+    spares c is logged (Some (PartCause.Full book count)) cause = (cause, tt)
+    spares c is logged (Some (PartCause.ArchiveFull end need)) cause = ((cause.0, told_map into.told (fit_later opens (λ name. (0, 0)) (λ name. (0, 0)) into.rows into.first into.came into.header into.entries mid new same c end need) cause.1), tt)
+    spares c is logged (Some PartCause.DiskFault) cause = (rose_on old.faults mid.faults new.faults later cause, tt)
+    spares c is logged (Some PartCause.OutOfMemory) cause = (tt, tt)
 
     abbrev Before : FileOutcome → Type 0
     Before = CameIn (told_with opens) into old mid
@@ -154,27 +158,27 @@ module _ (number lines : ℕ) where
     abbrev After : FileOutcome → Type 0
     After = CameIn (told_with (λ name. (0, 0))) into old new
 
-    each_after : (came : List FileOutcome) → All IsGenerated (names_in came) → All Before came → All After came
-    each_after [] are all = All-nil After
-    each_after (c ∷ came) are all =
+    each_after : (came : List FileOutcome) → All IsGenerated (names_in came) → All IsLogged came → All Before came → All After came
+    each_after [] are logged all = All-nil After
+    each_after (c ∷ came) are logged all =
         let one : Before c = All-head Before c came all in
-        All-cons After c came (record { cause = (spares c (All-head IsGenerated c.name (names_in came) are) c.refusal one.cause).0; part = one.part })
-        (each_after came (All-tail IsGenerated c.name (names_in came) are) (All-tail Before c came all))
+        All-cons After c came (record { cause = (spares c (All-head IsGenerated c.name (names_in came) are) (All-head IsLogged c came logged) c.refusal one.cause).0; part = one.part })
+        (each_after came (All-tail IsGenerated c.name (names_in came) are) (All-tail IsLogged c came logged) (All-tail Before c came all))
 
-    each_spared : (came : List FileOutcome) → All IsGenerated (names_in came) → All Before came → All IsSpared came
-    each_spared [] are all = All-nil IsSpared
-    each_spared (c ∷ came) are all =
+    each_spared : (came : List FileOutcome) → All IsGenerated (names_in came) → All IsLogged came → All Before came → All IsSpared came
+    each_spared [] are logged all = All-nil IsSpared
+    each_spared (c ∷ came) are logged all =
         let one : Before c = All-head Before c came all in
-        All-cons IsSpared c came (spares c (All-head IsGenerated c.name (names_in came) are) c.refusal one.cause).1
-        (each_spared came (All-tail IsGenerated c.name (names_in came) are) (All-tail Before c came all))
+        All-cons IsSpared c came (spares c (All-head IsGenerated c.name (names_in came) are) (All-head IsLogged c came logged) c.refusal one.cause).1
+        (each_spared came (All-tail IsGenerated c.name (names_in came) are) (All-tail IsLogged c came logged) (All-tail Before c came all))
 
   -- the causes of the four logs
-  module _ (most : lines ≤ 1000000) (s later : GeneratedState) (workers rows : ℕ) (old mid new : DiskState) (same : new.seen ≡ mid.seen) (counts : mid.faults ≤ new.faults) (came : List FileOutcome) (are : names_in came ≡ generated_names) where
+  module _ (most : lines ≤ 1000000) (s later : GeneratedState) (workers rows : ℕ) (old mid new : DiskState) (same : new.seen ≡ mid.seen) (counts : mid.faults ≤ new.faults) (came : List FileOutcome) (are : names_in came ≡ generated_names) (logged : All IsLogged came) where
     abbrev opens_in : List ℕ → ℕ × ℕ
     opens_in name = (open_faults_of s name, open_faults_of later name)
 
     pub log_causes : HaveFileCauses (told_with opens_in) workers rows old mid came → HaveFileCauses (told_with (λ name. (0, 0))) workers rows old new came
-    log_causes have = record { into = have.into; came_are = have.came_are; rows_are = have.rows_are; told = have.told; causes = record { each = each_after most opens_in (calm s later) have.into old mid new same counts came (all_named came are) have.causes.each; in_turn = have.causes.in_turn } }
+    log_causes have = record { into = have.into; came_are = have.came_are; rows_are = have.rows_are; told = have.told; causes = record { each = each_after most opens_in (calm s later) have.into old mid new same counts came (all_named came are) logged have.causes.each; in_turn = have.causes.in_turn } }
 
     pub logs_spared : HaveFileCauses (told_with opens_in) workers rows old mid came → All IsSpared came
-    logs_spared have = each_spared most opens_in (calm s later) have.into old mid new same counts came (all_named came are) have.causes.each
+    logs_spared have = each_spared most opens_in (calm s later) have.into old mid new same counts came (all_named came are) logged have.causes.each

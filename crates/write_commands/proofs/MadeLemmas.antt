@@ -128,10 +128,10 @@ module _ (old mid : DiskState) (made : MakesEmpty default_header old mid) (tells
   nothing_from new goes from =
       from_empty new goes (λ h before bytes stood. TakesNothing h before mid new) (λ start bytes stood. TakesNothing default_header [] start new) from (λ bytes stood nothing. record { leaves = leaves_from [] new nothing.leaves })
 
-  takes_from : (content : List ℕ → Option (List ℕ)) (came : List FileOutcome) (new : DiskState) → DiskGoesOn mid new → FromArchive mid (λ h before bytes stood. TakesIn segment_rows content h before stood generated_names came mid new)
-      → FromEmpty old new (λ from bytes stood. TakesIn segment_rows content default_header [] stood generated_names came from new)
-  takes_from content came new goes from =
-      from_empty new goes (λ h before bytes stood. TakesIn segment_rows content h before stood generated_names came mid new) (λ start bytes stood. TakesIn segment_rows content default_header [] stood generated_names came start new) from
+  takes_from : (came : List FileOutcome) (new : DiskState) → DiskGoesOn mid new → FromArchive mid (λ h before bytes stood. TakesIn segment_rows h before stood generated_names came mid new)
+      → FromEmpty old new (λ from bytes stood. TakesIn segment_rows default_header [] stood generated_names came from new)
+  takes_from came new goes from =
+      from_empty new goes (λ h before bytes stood. TakesIn segment_rows h before stood generated_names came mid new) (λ start bytes stood. TakesIn segment_rows default_header [] stood generated_names came start new) from
       (λ bytes stood takes. record { added = takes.added; each = takes.each; leaves = leaves_from _ new takes.leaves; files = takes.files; content_is = takes.content_is; fronts = takes.fronts; cuts = takes.cuts })
 
   -- ---- causes
@@ -205,9 +205,9 @@ module _ (old mid : DiskState) (made : MakesEmpty default_header old mid) (tells
         };
       }
 
-  all_taken : (number lines : ℕ) (came : List FileOutcome) (new : DiskState) → map (λ (c : FileOutcome). c.name) came ≡ generated_names → FromEmpty old new (λ from bytes stood. TakesIn segment_rows (generated number lines) default_header [] stood generated_names came from new)
+  all_taken : (number lines : ℕ) (came : List FileOutcome) (new : DiskState) → map (λ (c : FileOutcome). c.name) came ≡ generated_names → All (λ (c : FileOutcome). c.log ≡ generated number lines c.name) came → FromEmpty old new (λ from bytes stood. TakesIn segment_rows default_header [] stood generated_names came from new)
       → All IsTakenWhole came → IfSome old.seen (λ _. sum_by (λ (c : FileOutcome). c.messages) came ≡ 4 * lines)
-  all_taken number lines came new are takes whole = IfSome_then old.seen takes (λ was took. all_counted number lines came took.1.2.1.1.files are took.1.2.1.1.fronts whole)
+  all_taken number lines came new are logged takes whole = IfSome_then old.seen takes (λ was took. all_counted number lines came took.1.2.1.1.files are logged took.1.2.1.1.fronts whole)
 
   -- ---- the answer
 
@@ -223,17 +223,18 @@ module _ (old mid : DiskState) (made : MakesEmpty default_header old mid) (tells
       } in
       bench_answers number lines workers seen old new status (goes.tells ∙ tells) (inr (inl refuses))
   answers_made one number lines workers seen new status goes (inr adds) =
-      let disk = takes_from (generated number lines) adds.came new goes adds.disk in
+      let disk = takes_from adds.came new goes adds.disk in
       let causes = causes_from (logs_of (with_logs (generated number lines) seen)) workers segment_rows adds.came new adds.causes in
       let takes : TakesLogs number lines workers seen old new status = record {
         came = adds.came;
         names_are = adds.names_are;
+        logs = adds.logs;
         disk = disk;
         each = file_causes workers segment_rows (with_logs (generated number lines) seen) (as_made old) new adds.came causes;
         in_turn = full_in_turn workers segment_rows (with_logs (generated number lines) seen) (as_made old) new adds.came causes;
-        fits = made_from (λ h before bytes stood. (book : Which) → FitIn (generated number lines) h before adds.came book) (all_fit segment_rows one (generated number lines) generated_names adds.came mid new goes.tells adds.disk);
+        fits = made_from (λ h before bytes stood. (book : Which) → FitIn h before adds.came book) (all_fit segment_rows one generated_names adds.came mid new goes.tells adds.disk);
         spared = adds.spared;
-        all = all_taken number lines adds.came new adds.names_are disk;
+        all = all_taken number lines adds.came new adds.names_are adds.logs disk;
         told = ⊎_elim (λ parts. inl parts) (λ sums. inr (sums_sooner adds.came seen old mid new status (omega (arith, steady)) sums)) adds.told;
       } in
       bench_answers number lines workers seen old new status (goes.tells ∙ tells) (inr (inr takes))

@@ -65,12 +65,12 @@ module _ (old mid late : DiskState) (looked : Looked old mid late) where
       })
 
   -- the names were appended, and the files taken in
-  pub takes_sooner : {rows : ℕ} (content : List ℕ → Option (List ℕ)) (names : List (List ℕ)) (first : ℕ) (came : List FileOutcome) (j : JournalState) (new : DiskState) → IsLawful j.disk → late.faults ≤ j.disk.faults → DiskGoesOn j.disk new
-      → FromArchive late (λ h before bytes stood. AddsNamesTo h before stood names first late j) → TakesInto rows content names first came j new → FromArchive old (λ h before bytes stood. TakesIn rows content h before stood names came old new)
-  takes_sooner {rows} content names first came j new law counts goes names_added into =
-      from_archive old late (λ h before bytes stood. AddsNamesTo h before stood names first late j) (λ h before bytes stood. TakesIn rows content h before stood names came old new) same_bytes no_more
+  pub takes_sooner : {rows : ℕ} (names : List (List ℕ)) (first : ℕ) (came : List FileOutcome) (j : JournalState) (new : DiskState) → IsLawful j.disk → late.faults ≤ j.disk.faults → DiskGoesOn j.disk new
+      → FromArchive late (λ h before bytes stood. AddsNamesTo h before stood names first late j) → TakesInto rows names first came j new → FromArchive old (λ h before bytes stood. TakesIn rows h before stood names came old new)
+  takes_sooner {rows} names first came j new law counts goes names_added into =
+      from_archive old late (λ h before bytes stood. AddsNamesTo h before stood names first late j) (λ h before bytes stood. TakesIn rows h before stood names came old new) same_bytes no_more
       (λ h before bytes stood only adds.
-      let takes : TakesIn rows content h before stood names came j.disk new = into h before bytes stood adds.has adds.number in
+      let takes : TakesIn rows h before stood names came j.disk new = into h before bytes stood adds.has adds.number in
       let past : LeavesOnly old j.disk (StandsBetween h before (before ++ Files names ∷ [])) =
       joined old late j.disk (StandsStill h before) (StandsBetween h before (before ++ Files names ∷ [])) (StandsBetween h before (before ++ Files names ∷ [])) law (looked_past old mid late looked h before only) adds.past
       (λ c stands. still_between h before (before ++ Files names ∷ []) c (Files names ∷ [], refl) stands) (λ c stands. stands) in

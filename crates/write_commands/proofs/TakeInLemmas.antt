@@ -6,6 +6,7 @@ use Rattle.std.proofs.lemmas.List.Elements.{All-map, All-nil, All-weaker}
 use Rattle.std.proofs.lemmas.Option.{get_or_from_slice_get, slice_get-map, slice_get_within}
 use Rattle.log_seams.specs.declared.disk.Disk.{Ghosts as DiskGhosts}
 use Rattle.log_seams.specs.declared.refusals.OpenRefused.{OpenRefused}
+use Rattle.log_seams.specs.declared.refusals.OpenRefused.TheVariants.{Failed, OutOfMemory}
 use Rattle.log_seams.specs.Disk.{IsLawful}
 use Rattle.record_format.specs.Header.{IsHeader, header_bytes}
 use Rattle.record_format.specs.declared.header.Header.{Header}
@@ -22,7 +23,7 @@ use Rattle.disk_seal.specs.Opening.{MayOpen}
 use Rattle.disk_seal.specs.Told.{journal_in}
 use Rattle.log_sources.specs.declared.source.LogSource.{LogSource}
 use Rattle.log_sources.specs.declared.source.LogSource.TheVariants.{Opened, Unopened}
-use Rattle.log_sources.specs.Sources.{CameOf, faults_in, is_opened, left_in, name_in, refusal_of}
+use Rattle.log_sources.specs.Sources.{CameOf, IsOpened, faults_in, is_opened, left_in, name_in, refusal_of}
 use Rattle.ingest_workers.specs.declared.job.Job.{Job}
 use Rattle.ingest_workers.specs.declared.outcome.Cause.{Cause}
 use Rattle.ingest_workers.specs.Ingested.{AreRefused, HasIngested, IsAsItWas, plan_of}
@@ -63,25 +64,25 @@ IsRefused c = (c.messages ≡ 0) × (c.whole ≡ false) × (c.refusal ≡ Some P
 
 -- nothing is added of files that were not begun
 pub none_takes_into : {D : Type 0} {d : DiskGhosts D} (rows : ℕ) → 0 < rows → (content : List ℕ → Option (List ℕ)) (names : List (List ℕ)) (first : ℕ) (taken : List FileReport) → names_of taken ≡ names → All IsNotBegun taken
-    → (j : Journal D d) → IsLawful (d.state j.disk.now) → MayOpen (state_of j) → TakesInto rows content names first (map came_of taken) (state_of j) (d.state j.disk.now)
+    → (j : Journal D d) → IsLawful (d.state j.disk.now) → MayOpen (state_of j) → TakesInto rows names first (map (came_of content) taken) (state_of j) (d.state j.disk.now)
 none_takes_into {D} {d} rows some content names first taken named none j law may = λ h before bytes stood has number.
     let stands = stands_named h before names (state_of j) may has in
-    let nothing = All-nil (IsOfNew content h.version came (length stood.legal.held.names)) in
-    taken_in content h before names stood [] stands.0 came nothing rows (d.state j.disk.now) (d.state j.disk.now) (same_leaves h before names j j law has law stands.1 (inl refl)) are
+    let nothing = All-nil (IsOfNew h.version came (length stood.legal.held.names)) in
+    taken_in h before names stood [] stands.0 came nothing rows (d.state j.disk.now) (d.state j.disk.now) (same_leaves h before names j j law has law stands.1 (inl refl)) are
     (λ i c at.
     let refused = refused_at i c at in
-    none_told content h before names stood [] stands.0 came nothing rows i c some (slice_get_within names i c.name (named_at came names are i c at)) refl refused.0 refused.1 (λ spared. absurd (cc (sym refused.2 ∙ spared))))
+    none_told h before names stood [] stands.0 came nothing rows i c some (slice_get_within names i c.name (named_at came names are i c at)) refl refused.0 refused.1 (λ spared. absurd (cc (sym refused.2 ∙ spared))))
   where
     came : List FileOutcome
-    came = map came_of taken
+    came = map (came_of content) taken
 
     are : map (λ (c : FileOutcome). c.name) came ≡ names
-    are = names_came taken ∙ named
+    are = names_came content taken ∙ named
 
     refused_at : (i : ℕ) (c : FileOutcome) → slice_get came i ≡ Some c → IsRefused c
     refused_at i c at =
         subst IsRefused (get_or_from_slice_get came i c c at)
-        (All-map IsRefused came_of taken (All-weaker IsNotBegun (λ (file : FileReport). IsRefused (came_of file)) (λ file n. (n.messages, n.whole, n.refusal)) taken none) i c (slice_get_within came i c at))
+        (All-map IsRefused (came_of content) taken (All-weaker IsNotBegun (λ (file : FileReport). IsRefused (came_of content file)) (λ file n. (n.messages, n.whole, n.refusal)) taken none) i c (slice_get_within came i c at))
 
 -- ---- each job has the source of its name
 
@@ -137,8 +138,12 @@ not_opening (Some (Cause.DiskFault opened now)) is = absurd (cc (is))
 not_opening (Some Cause.OutOfMemory) is = absurd (cc (is))
 not_opening (Some (Cause.ArchiveFull end need)) is = absurd (cc (is))
 
+-- a source was made of the log of a file
+abbrev pub CameBy : {S : Type 0} → (S → Option (List ℕ)) → (S → Option (List ℕ)) → (S → ℕ) → (List ℕ → ℕ) → (List ℕ → ℕ) → FileOutcome → LogSource S → Type 0
+CameBy left name faults opens opens_now c = CameOf left name faults (λ asked. c.log) opens opens_now c.name
+
 -- What is told of a file: its job, before and after it was done, and the log of its name, of which this was made.
-pub record CameOfLog {S : Type 0} (R : List ℕ → LogSource S → Type 0) (js js' : List (Job (LogSource S))) (i : ℕ) (c : FileOutcome) : Type 0 where
+pub record CameOfLog {S : Type 0} (R : FileOutcome → LogSource S → Type 0) (js js' : List (Job (LogSource S))) (i : ℕ) (c : FileOutcome) : Type 0 where
   pub source : LogSource S
   pub old : Job (LogSource S)
   pub done : Job (LogSource S)
@@ -147,7 +152,7 @@ pub record CameOfLog {S : Type 0} (R : List ℕ → LogSource S → Type 0) (js 
   pub has : old.source ≡ Some source
   pub opened : old.is_open ≡ is_opened source
   pub no_part : old.is_part ≡ false
-  pub came : R c.name source
+  pub came : R c source
   pub messages : c.messages ≡ done.outcome.messages
   pub whole : c.whole ≡ done.outcome.whole
   pub refusal : c.refusal ≡ refusal_by (refusal_of source) done.outcome.cause
@@ -156,14 +161,23 @@ module _ {S : Type 0} (left name : S → Option (List ℕ)) (faults : S → ℕ)
   abbrev Came_of : List ℕ → LogSource S → Type 0
   Came_of = CameOf left name faults content opens opens_now
 
+  abbrev By : FileOutcome → LogSource S → Type 0
+  By = CameBy left name faults opens opens_now
+
+  -- what is told of the file is told of its name
+  by_name : (c : FileOutcome) (s : LogSource S) → c.log ≡ content c.name → Came_of c.name s → By c s
+  by_name c (Opened s) is came = subst (λ (o : Option (List ℕ)). IsOpened left name faults o c.name s) (sym is) came
+  by_name c (Unopened Failed n) is came = came
+  by_name c (Unopened OutOfMemory n) is came = came
+
   -- where a log was opened, it is not told of the file that it could not be
-  log_of : (c : FileOutcome) (s : LogSource S) (cause : Option Cause) → Came_of c.name s → c.refusal ≡ refusal_by (refusal_of s) cause → IsLogOf content c (left_in left s)
+  log_of : (c : FileOutcome) (s : LogSource S) (cause : Option Cause) → By c s → c.refusal ≡ refusal_by (refusal_of s) cause → IsLogOf c (left_in left s)
   log_of c (Opened s) cause came is = inl (came.left_is, λ failed. not_opening cause (sym is ∙ failed))
   log_of c (Unopened opening n) cause came is = inr refl
 
-  opened_log : (asked : List ℕ) (s : LogSource S) → Came_of asked s → refusal_of s ≡ None → left_in left s ≡ content asked
-  opened_log asked (Opened s) came none = came.left_is
-  opened_log asked (Unopened cause n) came none = absurd (cc (none))
+  opened_log : (c : FileOutcome) (s : LogSource S) → By c s → refusal_of s ≡ None → left_in left s ≡ c.log
+  opened_log c (Opened s) came none = came.left_is
+  opened_log c (Unopened cause n) came none = absurd (cc (none))
 
   is_open : (s : LogSource S) → refusal_of s ≡ None → is_opened s ≡ true
   is_open (Opened s) none = refl
@@ -173,18 +187,18 @@ module _ {S : Type 0} (left name : S → Option (List ℕ)) (faults : S → ℕ)
     -- each file is told by its job, and by the opening of its log
     module _ (openings : List (Option OpenRefused)) (openings_are : openings ≡ map refusal_of sources) (js' : List (Job (LogSource S))) (taken : List FileReport) (named : names_of taken ≡ names)
         (told : (i : ℕ) (file : FileReport) → slice_get taken i ≡ Some file → IsToldBy openings js' i file) where
-      pub came_named : map (λ (c : FileOutcome). c.name) (map came_of taken) ≡ names
-      came_named = names_came taken ∙ named
+      pub came_named : map (λ (c : FileOutcome). c.name) (map (came_of content) taken) ≡ names
+      came_named = names_came content taken ∙ named
 
-      pub came_of_log : (i : ℕ) (c : FileOutcome) → slice_get (map came_of taken) i ≡ Some c → CameOfLog Came_of js js' i c
+      pub came_of_log : (i : ℕ) (c : FileOutcome) → slice_get (map (came_of content) taken) i ≡ Some c → CameOfLog By js js' i c
       came_of_log i c at = by_file (slice_get taken i) refl
         where
-          by_file : (o : Option FileReport) → slice_get taken i ≡ o → CameOfLog Came_of js js' i c
-          by_file None none = absurd (cc (sym at ∙ (slice_get-map came_of taken i ∙ ap (option_map came_of) none)))
+          by_file : (o : Option FileReport) → slice_get taken i ≡ o → CameOfLog By js js' i c
+          by_file None none = absurd (cc (sym at ∙ (slice_get-map (came_of content) taken i ∙ ap (option_map (came_of content)) none)))
           by_file (Some file) here =
-              let is : came_of file ≡ c = some_is (came_of file) c (sym (slice_get-map came_of taken i ∙ ap (option_map came_of) here) ∙ at) in
+              let is : came_of content file ≡ c = some_is (came_of content file) c (sym (slice_get-map (came_of content) taken i ∙ ap (option_map (came_of content)) here) ∙ at) in
               let t = told i file here in
-              let name_at : slice_get names i ≡ Some c.name = named_at (map came_of taken) names came_named i c at in
+              let name_at : slice_get names i ≡ Some c.name = named_at (map (came_of content) taken) names came_named i c at in
               let job = job_at Came_of names sources js opened sourced i c.name name_at in
               let p = place_of Came_of names sources js opened sourced i job.0 job.1 in
               let same_name : p.name ≡ c.name = some_is p.name c.name (sym p.name_at ∙ name_at) in
@@ -199,7 +213,7 @@ module _ {S : Type 0} (left name : S → Option (List ℕ)) (faults : S → ℕ)
                 has = p.has;
                 opened = open_at sources js opening i job.0 p.source job.1 p.source_at;
                 no_part = (numbered_at first js i job.0 numbered job.1).whole;
-                came = subst (λ n. Came_of n p.source) same_name p.came;
+                came = by_name c p.source (subst (λ (x : FileOutcome). x.log ≡ content x.name) is refl) (subst (λ n. Came_of n p.source) same_name p.came);
                 messages = ap (λ (x : FileOutcome). x.messages) (sym is) ∙ t.messages;
                 whole = ap (λ (x : FileOutcome). x.whole) (sym is) ∙ t.whole;
                 refusal = ap (λ (x : FileOutcome). x.refusal) (sym is) ∙ (t.refusal ∙ ap (λ (o : Option OpenRefused). refusal_by o t.job.outcome.cause) opening_is);
@@ -209,14 +223,14 @@ module _ {S : Type 0} (left name : S → Option (List ℕ)) (faults : S → ℕ)
               some_is x y e = cc (e)
 
       -- there is a file for each job
-      file_at : (i : ℕ) (name : List ℕ) → slice_get names i ≡ Some name → (c : FileOutcome) × (slice_get (map came_of taken) i ≡ Some c)
-      file_at i name at = go (slice_get (map came_of taken) i) refl (sym (slice_get-map (λ (x : FileOutcome). x.name) (map came_of taken) i) ∙ (ap (λ (l : List (List ℕ)). slice_get l i) came_named ∙ at))
+      file_at : (i : ℕ) (name : List ℕ) → slice_get names i ≡ Some name → (c : FileOutcome) × (slice_get (map (came_of content) taken) i ≡ Some c)
+      file_at i name at = go (slice_get (map (came_of content) taken) i) refl (sym (slice_get-map (λ (x : FileOutcome). x.name) (map (came_of content) taken) i) ∙ (ap (λ (l : List (List ℕ)). slice_get l i) came_named ∙ at))
         where
-          go : (o : Option FileOutcome) → slice_get (map came_of taken) i ≡ o → option_map (λ (x : FileOutcome). x.name) o ≡ Some name → (c : FileOutcome) × (slice_get (map came_of taken) i ≡ Some c)
+          go : (o : Option FileOutcome) → slice_get (map (came_of content) taken) i ≡ o → option_map (λ (x : FileOutcome). x.name) o ≡ Some name → (c : FileOutcome) × (slice_get (map (came_of content) taken) i ≡ Some c)
           go None here is = absurd (cc (is))
           go (Some c) here is = (c, here)
 
-      pub are_jobs_of : (version : ℕ) → AreJobsOf (left_in left) content version (map came_of taken) first js
+      pub are_jobs_of : (version : ℕ) → AreJobsOf (left_in left) version (map (came_of content) taken) first js
       are_jobs_of version = record {
         file = λ i job at. (numbered_at first js i job numbered at).file;
         log = λ i job at.
@@ -224,13 +238,13 @@ module _ {S : Type 0} (left name : S → Option (List ℕ)) (faults : S → ℕ)
             let f = file_at i p.name p.name_at in
             let l = came_of_log i f.0 f.1 in
             let has : job.source ≡ Some l.source = ap (λ (x : Job (LogSource S)). x.source) (some_is job l.old (sym at ∙ l.at)) ∙ l.has in
-            (f.0, f.1, subst (λ (o : Option (LogSource S)). IsLogOf content f.0 (in_source (left_in left) o)) (sym has) (log_of f.0 l.source l.done.outcome.cause l.came l.refusal));
+            (f.0, f.1, subst (λ (o : Option (LogSource S)). IsLogOf f.0 (in_source (left_in left) o)) (sym has) (log_of f.0 l.source l.done.outcome.cause l.came l.refusal));
       }
         where
           some_is : (x y : Job (LogSource S)) → Some x ≡ Some y → x ≡ y
           some_is x y e = cc (e)
 
-      came_of_jobs : (i : ℕ) (c : FileOutcome) → slice_get (map came_of taken) i ≡ Some c → CameOfJob (left_in left) content js js' i c
+      came_of_jobs : (i : ℕ) (c : FileOutcome) → slice_get (map (came_of content) taken) i ≡ Some c → CameOfJob (left_in left) js js' i c
       came_of_jobs i c at = let l = came_of_log i c at in record {
         old = l.old;
         done = l.done;
@@ -239,7 +253,7 @@ module _ {S : Type 0} (left name : S → Option (List ℕ)) (faults : S → ℕ)
         messages = l.messages;
         whole = l.whole;
         opened = λ spared. let none = both_none (refusal_of l.source) l.done.outcome.cause (sym l.refusal ∙ spared) in (
-          ap (in_source (left_in left)) l.has ∙ opened_log c.name l.source l.came none.0,
+          ap (in_source (left_in left)) l.has ∙ opened_log c l.source l.came none.0,
           l.opened ∙ is_open l.source none.0,
           l.no_part,
           none.1,
@@ -253,18 +267,18 @@ module _ {S : Type 0} (left name : S → Option (List ℕ)) (faults : S → ℕ)
 
       -- the jobs were done
       module _ {D : Type 0} {d : DiskGhosts D} (j after : Journal D d) (law : IsLawful (d.state after.disk.now)) where
-        done_takes_into : (rows : ℕ) → HasIngested (left_in left) (plan_of rows j) js js' j after → TakesInto rows content names first (map came_of taken) (state_of j) (d.state after.disk.now)
+        done_takes_into : (rows : ℕ) → HasIngested (left_in left) (plan_of rows j) js js' j after → TakesInto rows names first (map (came_of content) taken) (state_of j) (d.state after.disk.now)
         done_takes_into rows done = λ h before bytes stood has number.
-            ingested_takes_in (left_in left) content h before names stood j after law has js js' (map came_of taken) (subst (λ n. AreJobsOf (left_in left) content h.version (map came_of taken) n js) number (are_jobs_of h.version)) came_named came_of_jobs rows done
+            ingested_takes_in (left_in left) h before names stood j after law has js js' (map (came_of content) taken) (subst (λ n. AreJobsOf (left_in left) h.version (map (came_of content) taken) n js) number (are_jobs_of h.version)) came_named came_of_jobs rows done
 
         -- none was begun
-        refused_takes_into : (rows : ℕ) → 0 < rows → IsLawful (d.state j.disk.now) → MayOpen (state_of j) → IsAsItWas j after → AreRefused js js' → TakesInto rows content names first (map came_of taken) (state_of j) (d.state after.disk.now)
+        refused_takes_into : (rows : ℕ) → 0 < rows → IsLawful (d.state j.disk.now) → MayOpen (state_of j) → IsAsItWas j after → AreRefused js js' → TakesInto rows names first (map (came_of content) taken) (state_of j) (d.state after.disk.now)
         refused_takes_into rows some law_j may stayed refused = λ h before bytes stood has number.
             let stands = stands_named h before names (state_of j) may has in
-            refused_takes_in (left_in left) content h before names stood j after law has js js' (map came_of taken) (subst (λ n. AreJobsOf (left_in left) content h.version (map came_of taken) n js) number (are_jobs_of h.version)) came_named came_of_jobs
+            refused_takes_in (left_in left) h before names stood j after law has js js' (map (came_of content) taken) (subst (λ n. AreJobsOf (left_in left) h.version (map (came_of content) taken) n js) number (are_jobs_of h.version)) came_named came_of_jobs
             rows some law_j stands.1 stands.0 stayed refused
 
         pub did_take_into : IsLawful (d.state j.disk.now) → MayOpen (state_of j) → (workers rows : ℕ) → 0 < rows → DidJobs (left_in left) (name_in name) (faults_in faults) workers rows j after js js'
-            → TakesInto rows content names first (map came_of taken) (state_of j) (d.state after.disk.now)
+            → TakesInto rows names first (map (came_of content) taken) (state_of j) (d.state after.disk.now)
         did_take_into law_j may workers rows some (inl done) = done_takes_into rows done.ingested
         did_take_into law_j may workers rows some (inr none) = refused_takes_into rows some law_j may none.journal none.jobs

@@ -73,16 +73,16 @@ module _ (seen : Outside) (old new : DiskState) (into : Target) (told : FromArch
   from_header : (P : Header → Type 0) → P into.header → FromArchive old (λ h before bytes stood. P h)
   from_header P p = from_archive old old (λ h before bytes stood. IsTarget into h before (length stood.legal.held.names)) (λ h before bytes stood. P h) refl (λ c image. image) (λ h before bytes stood only is. subst P is.header p) told
 
-  full_of : (h : Header) (before : List JournalEntry) (held : ℕ) (c : FileOutcome) (book : Which) (count : ℕ) → IsTarget into h before held → IsFullByGiven seen.content into.came into.header into.entries c book count → IsFullByGiven seen.content into.came h before c book count
+  full_of : (h : Header) (before : List JournalEntry) (held : ℕ) (c : FileOutcome) (book : Which) (count : ℕ) → IsTarget into h before held → IsFullByGiven into.came into.header into.entries c book count → IsFullByGiven into.came h before c book count
   full_of h before held c book count is full = subst (λ (x : Header). FullBy x (book_texts book before)) is.header (subst (FullBy into.header) (texts_named (names_in into.came) into.entries before is.entries book) full)
     where
       -- by a book's texts in the journal
       FullBy : Header → List (List ℕ) → Type 0
       FullBy x texts = (count ≡ limit_of (header_limits x) book)
-          × OfTaken c (λ sealed. IsFullBy (λ t. Contains texts t ⊎ IsTextOf x.version (IsGiven seen.content x.version into.came) book t) (IsTextOf x.version (IsNextOf x.version (seen.content c.name) sealed) book) count)
+          × OfTaken c (λ sealed. IsFullBy (λ t. Contains texts t ⊎ IsTextOf x.version (IsGiven x.version into.came) book t) (IsTextOf x.version (IsNextOf x.version c.log sealed) book) count)
 
-  from_full : (c : FileOutcome) (book : Which) (count : ℕ) → IfTold into.told (IsFullByGiven seen.content into.came into.header into.entries c book count) → FromArchive old (λ h before bytes stood. IsFullByGiven seen.content into.came h before c book count)
-  from_full c book count cause = from_archive old old (λ h before bytes stood. IsTarget into h before (length stood.legal.held.names)) (λ h before bytes stood. IsFullByGiven seen.content into.came h before c book count) refl (λ c image. image)
+  from_full : (c : FileOutcome) (book : Which) (count : ℕ) → IfTold into.told (IsFullByGiven into.came into.header into.entries c book count) → FromArchive old (λ h before bytes stood. IsFullByGiven into.came h before c book count)
+  from_full c book count cause = from_archive old old (λ h before bytes stood. IsTarget into h before (length stood.legal.held.names)) (λ h before bytes stood. IsFullByGiven into.came h before c book count) refl (λ c image. image)
       (λ h before bytes stood only is. full_of h before (length stood.legal.held.names) c book count is (of_told into.told is.told cause)) told
 
   from_fit : (c : FileOutcome) (end need : ℕ) → IfTold into.told (DidNotFit (logs_of seen) into.rows into.first into.came into.header into.entries new c end need)
@@ -94,27 +94,27 @@ module _ (seen : Outside) (old new : DiskState) (into : Target) (told : FromArch
   file_cause : (c : FileOutcome) (r : Option PartCause) → HasCauseIn (logs_of seen) into old new c r → HasFileCause into.rows into.came seen old new c r
   file_cause c None cause = cause
   file_cause c (Some PartCause.OpenFault) cause = cause
-  file_cause c (Some PartCause.ReadFault) cause = (cause.0, from_header (λ h. IfSome (seen.content c.name) (WasCutShort h.version c)) cause.1)
-  file_cause c (Some (PartCause.LineTooLong line)) cause = (cause.0, from_header (λ h. IfSome (seen.content c.name) (IsNextTooLong h.version c line)) cause.1)
-  file_cause c (Some PartCause.TooManyLines) cause = (cause.0, from_header (λ h. HasMoreThan most_messages h.version (seen.content c.name)) cause.1)
+  file_cause c (Some PartCause.ReadFault) cause = (cause.0, from_header (λ h. IfSome c.log (WasCutShort h.version c)) cause.1)
+  file_cause c (Some (PartCause.LineTooLong line)) cause = (cause.0, from_header (λ h. IfSome c.log (IsNextTooLong h.version c line)) cause.1)
+  file_cause c (Some PartCause.TooManyLines) cause = (cause.0, from_header (λ h. HasMoreThan most_messages h.version c.log) cause.1)
   file_cause c (Some (PartCause.Full book count)) cause = from_full c book count cause
   file_cause c (Some (PartCause.ArchiveFull end need)) cause = from_fit c end need cause.1
   file_cause c (Some PartCause.DiskFault) cause = cause
   file_cause c (Some PartCause.OutOfMemory) cause = cause
 
   -- by the files up to the one that was stopped
-  turn_of : (h : Header) (before : List JournalEntry) (held : ℕ) (met : List FileOutcome) (c : FileOutcome) (book : Which) (count : ℕ) → IsTarget into h before held → IsFullInTurn into.rows seen.content into.header into.entries met c book count
-      → IsFullInTurn into.rows seen.content h before met c book count
+  turn_of : (h : Header) (before : List JournalEntry) (held : ℕ) (met : List FileOutcome) (c : FileOutcome) (book : Which) (count : ℕ) → IsTarget into h before held → IsFullInTurn into.rows into.header into.entries met c book count
+      → IsFullInTurn into.rows h before met c book count
   turn_of h before held met c book count is full = subst (λ (x : Header). FullBy x (book_texts book before)) is.header (subst (FullBy into.header) (texts_named (names_in into.came) into.entries before is.entries book) full)
     where
       -- by a book's texts in the journal
       FullBy : Header → List (List ℕ) → Type 0
       FullBy x texts = (count ≡ limit_of (header_limits x) book)
-          × IsFullBy (λ t. Contains texts t ⊎ IsTextOf x.version (WasMetInOneOf into.rows seen.content x.version met) book t) (IsTextOf x.version (IsMessageAt x.version (seen.content c.name) c.messages) book) count
+          × IsFullBy (λ t. Contains texts t ⊎ IsTextOf x.version (WasMetInOneOf into.rows x.version met) book t) (IsTextOf x.version (IsMessageAt x.version c.log c.messages) book) count
 
-  from_turns : (came : List FileOutcome) → AreFullInto seen.content into came → AreFullInTurn into.rows seen.content old came
+  from_turns : (came : List FileOutcome) → AreFullInto into came → AreFullInTurn into.rows old came
   from_turns came turns = λ place c book count at is.
-      from_archive old old (λ h before bytes stood. IsTarget into h before (length stood.legal.held.names)) (λ h before bytes stood. IsFullInTurn into.rows seen.content h before (take (place + 1) came) c book count) refl (λ c image. image)
+      from_archive old old (λ h before bytes stood. IsTarget into h before (length stood.legal.held.names)) (λ h before bytes stood. IsFullInTurn into.rows h before (take (place + 1) came) c book count) refl (λ c image. image)
       (λ h before bytes stood only target. turn_of h before (length stood.legal.held.names) (take (place + 1) came) c book count target (of_told into.told target.told (turns place c book count at is))) told
 
 pub file_causes : (workers rows : ℕ) (seen : Outside) (old new : DiskState) (came : List FileOutcome) → HaveFileCauses (logs_of seen) workers rows old new came → All (CameOfFile rows came seen old new) came
@@ -122,5 +122,5 @@ file_causes workers rows seen old new came have = subst (λ (cs : List FileOutco
     (subst (λ n. All (CameOfFile n have.into.came seen old new) came) have.rows_are
     (All-weaker (CameIn (logs_of seen) have.into old new) (CameOfFile have.into.rows have.into.came seen old new) (λ c is. record { cause = file_cause seen old new have.into have.told c c.refusal is.cause; part = is.part }) came have.causes.each))
 
-pub full_in_turn : (workers rows : ℕ) (seen : Outside) (old new : DiskState) (came : List FileOutcome) → HaveFileCauses (logs_of seen) workers rows old new came → workers ≡ 1 → AreFullInTurn rows seen.content old came
-full_in_turn workers rows seen old new came have one = subst (λ n. AreFullInTurn n seen.content old came) have.rows_are (from_turns seen old new have.into have.told came (have.causes.in_turn one))
+pub full_in_turn : (workers rows : ℕ) (seen : Outside) (old new : DiskState) (came : List FileOutcome) → HaveFileCauses (logs_of seen) workers rows old new came → workers ≡ 1 → AreFullInTurn rows old came
+full_in_turn workers rows seen old new came have one = subst (λ n. AreFullInTurn n old came) have.rows_are (from_turns seen old new have.into have.told came (have.causes.in_turn one))

@@ -25,8 +25,8 @@ pub record HasNames (h : Header) (before : List JournalEntry) (names : List (Lis
   pub entries : told_entries j ≡ before ++ Files names ∷ []
 
 -- what a source has left is that of the file's log, which could be opened, or nothing
-abbrev pub IsLogOf : (List ℕ → Option (List ℕ)) → FileOutcome → Option (List ℕ) → Type 0
-IsLogOf content c told = ((told ≡ content c.name) × ¬ CouldNotOpen c) ⊎ (told ≡ Some [])
+abbrev pub IsLogOf : FileOutcome → Option (List ℕ) → Type 0
+IsLogOf c told = ((told ≡ c.log) × ¬ CouldNotOpen c) ⊎ (told ≡ Some [])
 
 -- The names of new files were appended to the journal, which is told with them, and they are numbered from `first` on. Each image
 -- since the start stands for the journal of before, or for it with the names.
@@ -38,7 +38,7 @@ pub record AddsNamesTo (h : Header) (before : List JournalEntry) {bytes : List �
 
 -- Where the journal is told with the names behind an archive, numbered from `first` on, the files were taken into it in segments
 -- of at most so many rows, with what came of them.
-abbrev pub TakesInto : ℕ → (List ℕ → Option (List ℕ)) → List (List ℕ) → ℕ → List FileOutcome → JournalState → DiskState → Type 0
-TakesInto rows content names first came j new =
+abbrev pub TakesInto : ℕ → List (List ℕ) → ℕ → List FileOutcome → JournalState → DiskState → Type 0
+TakesInto rows names first came j new =
     (h : Header) (before : List JournalEntry) (bytes : List ℕ) (stood : StandsFor bytes h before) → HasNames h before names j
-    → first ≡ length stood.legal.held.names → TakesIn rows content h before stood names came j.disk new
+    → first ≡ length stood.legal.held.names → TakesIn rows h before stood names came j.disk new

@@ -1,5 +1,5 @@
 -- What follows from the definitions of what an ingest leaves and tells.
-use Rattle.std.specs.Prelude.{◌≡◌, ◌⊎◌, ◌≤◌, ℕ, Bool, List, ◌++◌, length, All, Option, Some, IsSome}
+use Rattle.std.specs.Prelude.{◌≡◌, ◌⊎◌, ◌≤◌, ℕ, Bool, List, ◌++◌, length, All, Some, IsSome}
 use Rattle.std.specs.List.{Contains}
 use Rattle.log_seams.specs.Disk.{DiskState}
 use Rattle.record_format.specs.declared.header.Header.{Header}
@@ -14,14 +14,14 @@ use Rattle.command_answers.specs.Ingested.{CouldNotOpen, DidNotFit, FileOutcome,
 -- ---- logs that could not be opened
 
 -- the log could not be opened, or its bytes are told
-abbrev pub IsUnopenedOrTold : (List ℕ → Option (List ℕ)) → FileOutcome → Type 0
-IsUnopenedOrTold content c = CouldNotOpen c ⊎ IsSome (content c.name)
+abbrev pub IsUnopenedOrTold : FileOutcome → Type 0
+IsUnopenedOrTold c = CouldNotOpen c ⊎ IsSome c.log
 
 -- the file's log could be opened, its bytes are told, and the message is one of theirs
-pub record IsOfTold (content : List ℕ → Option (List ℕ)) (version : ℕ) (c : FileOutcome) (message : List ℕ) : Type 0 where
+pub record IsOfTold (version : ℕ) (c : FileOutcome) (message : List ℕ) : Type 0 where
   pub opened : ¬ CouldNotOpen c
   pub bytes : List ℕ
-  pub told : content c.name ≡ Some bytes
+  pub told : c.log ≡ Some bytes
   pub messages : List (List ℕ)
   pub ended : Bool
   pub are : MessagesOf version bytes messages ended
@@ -31,24 +31,23 @@ pub record IsOfTold (content : List ℕ → Option (List ℕ)) (version : ℕ) (
 -- is one of told bytes.
 abbrev pub UnopenedGiveNothing : Type 0
 UnopenedGiveNothing =
-    (content : List ℕ → Option (List ℕ)) (version : ℕ) (came : List FileOutcome) (message : List ℕ)
-    → All (IsUnopenedOrTold content) came → IsGiven content version came message
-    → (c : FileOutcome) × Contains came c × IsOfTold content version c message
+    (version : ℕ) (came : List FileOutcome) (message : List ℕ) → All IsUnopenedOrTold came → IsGiven version came message
+    → (c : FileOutcome) × Contains came c × IsOfTold version c message
 
 -- ---- a rest that did not fit
 
 -- Nothing keeps a log with these messages from being read to its end: its bytes are told, no read of it failed, none of its lines
 -- is too long, it has not too many messages, and no dictionary is full at one of them.
-pub record IsReadable (logs : Logs) (came : List FileOutcome) (h : Header) (es : List JournalEntry) (name : List ℕ)
+pub record IsReadable (logs : Logs) (came : List FileOutcome) (h : Header) (es : List JournalEntry) (c : FileOutcome)
     (messages : List (List ℕ)) : Type 0 where
   pub bytes : List ℕ
-  pub told : logs.content name ≡ Some bytes
+  pub told : c.log ≡ Some bytes
   pub ended : Bool
   pub are : MessagesOf h.version bytes messages ended
-  pub read : ¬ RoseIn (logs.reads name)
+  pub read : ¬ RoseIn (logs.reads c.name)
   pub short : (line : ℕ) → ¬ IsLong bytes line
   pub few : length messages ≤ most_messages
-  pub free : (taken : List (List ℕ)) (book : Which) (count : ℕ) → ¬ IsFullBehind logs.content came h es name taken book count
+  pub free : (taken : List (List ℕ)) (book : Which) (count : ℕ) → ¬ IsFullBehind came h es c taken book count
 
 -- The part stands behind the messages that were taken in, and is whole, or is less and has all that are left.
 pub record IsWholeOrRest (rows : ℕ) (messages : List (List ℕ)) (c : FileOutcome) : Type 0 where
@@ -62,5 +61,5 @@ abbrev pub RestsEndTheirLog : DiskState → Type 0
 RestsEndTheirLog new =
     (logs : Logs) (rows first : ℕ) (came : List FileOutcome) (h : Header) (named : List JournalEntry) (c : FileOutcome)
     (end need : ℕ) (messages : List (List ℕ))
-    → DidNotFit logs rows first came h named new c end need → IsReadable logs came h named c.name messages
+    → DidNotFit logs rows first came h named new c end need → IsReadable logs came h named c messages
     → IsWholeOrRest rows messages c

@@ -60,17 +60,17 @@ pub record ShelfGoesOn {H : Type 0} (content : H → List ℕ → Option (List �
 -- ---- the answers
 
 -- The logs were added as new files, numbered on from `first`, and these are their reports.
-pub record AddsNewLogs (logs : Logs) (asked : NewLogs) (first : ℕ) (reports : List FileReport) (old new : DiskState)
-    : Type 0 where
+pub record AddsNewLogs (content : List ℕ → Option (List ℕ)) (logs : Logs) (asked : NewLogs) (first : ℕ)
+    (reports : List FileReport) (old new : DiskState) : Type 0 where
   -- each name has its report, in their order
   pub names : names_of reports ≡ names_asked asked
   -- the first number is how many files the archive had
   pub number : OverJournal old.seen (λ journal. first ≡ length journal.names)
   -- the archive has the names, and the files as they are reported
-  pub taken : FromArchive old (λ h before bytes stood. TakesIn asked.segment logs.content h before stood (names_asked asked)
-      (map came_of reports) old new)
+  pub taken : FromArchive old (λ h before bytes stood. TakesIn asked.segment h before stood (names_asked asked)
+      (map (came_of content) reports) old new)
   -- each file that is not whole has its cause
-  pub causes : HaveFileCauses logs asked.workers asked.segment old new (map came_of reports)
+  pub causes : HaveFileCauses logs asked.workers asked.segment old new (map (came_of content) reports)
 
 -- The adding was refused, and nothing was taken in.
 pub record RefusesNewLogs (asked : NewLogs) (old new : DiskState) (refusal : AddRefusal) : Type 0 where

@@ -12,7 +12,8 @@ pub record AddsLogs (content : List ℕ → Option (List ℕ)) (workers : ℕ) (
     (old new : DiskState) (status : ℕ) : Type 0 where
   pub came : List FileOutcome
   pub names_are : map (λ c. c.name) came ≡ names
-  pub disk : FromArchive old (λ h before bytes stood. TakesIn segment_rows content h before stood names came old new)
+  pub logs : All (λ c. c.log ≡ content c.name) came
+  pub disk : FromArchive old (λ h before bytes stood. TakesIn segment_rows h before stood names came old new)
   pub causes : HaveFileCauses (logs_of (with_logs content seen)) workers segment_rows old new came
   pub spared : All IsSpared came
   pub told : TellsParts came seen status ⊎ SumsUp came seen old new status

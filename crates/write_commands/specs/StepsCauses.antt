@@ -14,9 +14,8 @@ use Rattle.command_refusals.specs.LogLimits.{IsLong, most_messages}
 use Rattle.command_refusals.specs.declared.outcome.PartCause.{PartCause}
 
 -- what a shelf tells of the logs around a call
-abbrev pub logs_around : {H : Type 0} → (H → List ℕ → Option (List ℕ)) → (H → List ℕ → ℕ) → (H → List ℕ → ℕ) → H → H → Logs
-logs_around content open_faults read_faults shelf shelf_after = record {
-  content = content shelf;
+abbrev pub logs_around : {H : Type 0} → (H → List ℕ → ℕ) → (H → List ℕ → ℕ) → H → H → Logs
+logs_around open_faults read_faults shelf shelf_after = record {
   opens = λ name. (open_faults shelf name, open_faults shelf_after name);
   reads = λ name. (read_faults shelf name, read_faults shelf_after name);
 }
@@ -47,14 +46,14 @@ abbrev pub HasCauseIn : Logs → Target → DiskState → DiskState → FileOutc
 HasCauseIn logs into old new c None = c.whole ≡ true
 HasCauseIn logs into old new c (Some PartCause.OpenFault) = RoseIn (logs.opens c.name) × (c.messages ≡ 0)
 HasCauseIn logs into old new c (Some PartCause.ReadFault) =
-    RoseIn (logs.reads c.name) × IfSome (logs.content c.name) (WasCutShort into.header.version c)
+    RoseIn (logs.reads c.name) × IfSome c.log (WasCutShort into.header.version c)
 HasCauseIn logs into old new c (Some (PartCause.LineTooLong line)) =
-    IfSome (logs.content c.name) (λ bytes. IsLong bytes line)
-    × IfSome (logs.content c.name) (IsNextTooLong into.header.version c line)
+    IfSome c.log (λ bytes. IsLong bytes line)
+    × IfSome c.log (IsNextTooLong into.header.version c line)
 HasCauseIn logs into old new c (Some PartCause.TooManyLines) =
-    (c.messages ≡ most_messages) × HasMoreThan most_messages into.header.version (logs.content c.name)
+    (c.messages ≡ most_messages) × HasMoreThan most_messages into.header.version c.log
 HasCauseIn logs into old new c (Some (PartCause.Full book count)) =
-    IfTold into.told (IsFullByGiven logs.content into.came into.header into.entries c book count)
+    IfTold into.told (IsFullByGiven into.came into.header into.entries c book count)
 HasCauseIn logs into old new c (Some (PartCause.ArchiveFull end need)) =
     (into.header.length_limit < end + need)
     × IfTold into.told (DidNotFit logs into.rows into.first into.came into.header into.entries new c end need)
@@ -62,10 +61,10 @@ HasCauseIn logs into old new c (Some PartCause.DiskFault) = Rose old.faults new.
 HasCauseIn logs into old new c (Some PartCause.OutOfMemory) = Unit {0}
 
 -- each full dictionary was so by what the files were taken into, and by those up to the one that it stopped
-abbrev pub AreFullInto : (List ℕ → Option (List ℕ)) → Target → List FileOutcome → Type 0
-AreFullInto content into came =
+abbrev pub AreFullInto : Target → List FileOutcome → Type 0
+AreFullInto into came =
     OfStopped (λ met c book count. IfTold into.told
-    (IsFullInTurn into.rows content into.header into.entries met c book count)) came
+    (IsFullInTurn into.rows into.header into.entries met c book count)) came
 
 -- a file is whole exactly where nothing was refused of it, and a refusal has its cause
 pub record CameIn (logs : Logs) (into : Target) (old new : DiskState) (c : FileOutcome) : Type 0 where
@@ -77,7 +76,7 @@ pub record HaveCausesIn (logs : Logs) (workers : ℕ) (into : Target) (old new :
   -- each file has its cause
   pub each : All (CameIn logs into old new) came
   -- each full dictionary was so by the files up to the one that it stopped
-  pub in_turn : workers ≡ 1 → AreFullInto logs.content into came
+  pub in_turn : workers ≡ 1 → AreFullInto into came
 
 -- so it is of the files, by the archive where the disk tells it
 pub record HaveFileCauses (logs : Logs) (workers rows : ℕ) (old new : DiskState) (came : List FileOutcome) : Type 0 where

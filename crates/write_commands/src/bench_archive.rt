@@ -1,5 +1,5 @@
 //! The command `bench`: an archive of the generated logs, and its summary.
-ghost use Rattle.std.specs.Prelude.{◌≡◌, ◌+◌, ◌≤◌, ◌⊎◌, map, All, IfSome, IsFalse, IsTrue, None};
+ghost use Rattle.std.specs.Prelude.{◌≡◌, ◌+◌, ◌≤◌, ◌⊎◌, ℕ, List, map, All, IfSome, IsFalse, IsTrue, None, Option};
 ghost use Rattle.std.specs.List.{sum_by};
 ghost use Rattle.log_seams.specs.Disk.{KeepsBytes};
 ghost use Rattle.generated_logs.specs.Logs.{content_of};
@@ -75,9 +75,10 @@ fn sum_up<R: Threads + Sync, D: Disk, K: Sink>(
     out: &mut K,
     err: &mut K,
 ) -> u8
-    ensures told { AroundSinks K.written K.faults out.old out.new err.old err.new (λ seen.
-        TellsParts (map came_of files.now) seen result
-        ⊎ SumsUp (map came_of files.now) seen (D.state disk.old) (D.state disk.new) result) }
+    ensures told { (logs : List ℕ → Option (List ℕ))
+        → AroundSinks K.written K.faults out.old out.new err.old err.new (λ seen.
+        TellsParts (map (came_of logs) files.now) seen result
+        ⊎ SumsUp (map (came_of logs) files.now) seen (D.state disk.old) (D.state disk.new) result) }
     ensures keeps { KeepsBytes (D.state disk.old) (D.state disk.new) }
     ensures disk { (D.state disk.old).faults ≤ (D.state disk.new).faults }
     ensures out { K.faults out.old ≤ K.faults out.new }

@@ -291,15 +291,16 @@ where
 
     // the files
     ensures names { names_of taken.new.items ≡ names_asked asked.entry }
-    ensures taken { TakesInto asked.entry.segment (H.content shelf.old) (names_asked asked.entry)
-        named.first (map came_of taken.new.items) (state_of journal.entry)
+    ensures taken { TakesInto asked.entry.segment (names_asked asked.entry) named.first
+        (map (came_of (H.content shelf.old)) taken.new.items) (state_of journal.entry)
         (D.state result.disk.now) }
     ensures causes { HaveCausesIn
-        (logs_around H.content H.open_faults H.read_faults shelf.old shelf.new)
+        (logs_around H.open_faults H.read_faults shelf.old shelf.new)
         asked.entry.workers
         (into_journal (state_of journal.entry) asked.entry.segment named.first
-        (map came_of taken.new.items))
-        (state_of journal.entry).disk (D.state result.disk.now) (map came_of taken.new.items) }
+        (map (came_of (H.content shelf.old)) taken.new.items))
+        (state_of journal.entry).disk (D.state result.disk.now)
+        (map (came_of (H.content shelf.old)) taken.new.items) }
 {
     let Named {
         types,
@@ -345,8 +346,8 @@ where
     requires archive { IfSome (D.state disk.old).seen IsArchive }
 
     // by the answer
-    ensures added { IfOk result (λ first. AddsNewLogs
-        (logs_around H.content H.open_faults H.read_faults shelf.old shelf.new)
+    ensures added { IfOk result (λ first. AddsNewLogs (H.content shelf.old)
+        (logs_around H.open_faults H.read_faults shelf.old shelf.new)
         asked.entry first taken.new.items (D.state disk.old) (D.state disk.new)) }
     ensures refused { IfErr result
         (RefusesNewLogs asked.entry (D.state disk.old) (D.state disk.new)) }
@@ -382,8 +383,8 @@ where
     requires archive { IsTrue L.tells → IfSome (D.state disk.old).seen IsArchive }
 
     // by the answer
-    ensures added { IfOk result.0 (λ first. AddsNewLogs
-        (logs_around H.content H.open_faults H.read_faults shelf.old shelf.new)
+    ensures added { IfOk result.0 (λ first. AddsNewLogs (H.content shelf.old)
+        (logs_around H.open_faults H.read_faults shelf.old shelf.new)
         asked.entry first taken.new.items
         (told_if L.tells (D.state disk.old)) (told_if L.tells (D.state result.1.now))) }
     ensures refused { IfErr result.0 (RefusesNewLogs asked.entry
@@ -419,8 +420,8 @@ where
     requires room { HasRoomFor asked taken.old }
 
     // by the answer
-    ensures added { IfOk result (λ first. AddsNewLogs
-        (logs_around H.content H.open_faults H.read_faults shelf.old shelf.new)
+    ensures added { IfOk result (λ first. AddsNewLogs (H.content shelf.old)
+        (logs_around H.open_faults H.read_faults shelf.old shelf.new)
         asked.entry first taken.new.items
         (over B.archive (D.state disk.old) (D.state disk.old))
         (over B.archive (D.state disk.old) (D.state disk.new))) }

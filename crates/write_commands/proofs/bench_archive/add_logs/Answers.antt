@@ -10,7 +10,7 @@ use Rattle.write_commands.specs.StepsCauses.{HaveFileCauses}
 use Rattle.command_refusals.specs.declared.outcome.AddRefusal.TheVariants.{OutOfMemory}
 use Rattle.write_commands.specs.declared.file_report.FileReport.{FileReport}
 use Rattle.write_commands.proofs.BenchLemmas.{logs_added, refused_logs}
-use Rattle.write_commands.proofs.CameLemmas.{names_came}
+use Rattle.write_commands.proofs.CameLemmas.{logs_came, names_came}
 use Rattle.write_commands.proofs.CauseLemmas.{names_cause}
 use Rattle.write_commands.proofs.LogCauseLemmas.{log_causes, logs_spared}
 use Rattle.write_commands.proofs.StepsLemmas.{same_nothing}
@@ -38,17 +38,18 @@ returns-in-Ok-add_files-clause-ends g c = λ content unread opens reads.
     let names = map str_bytes c.log_names-names.result in
     let files = c.as_slice.ensures.value in
     let logs = ap₂ content_of c.new-shelf.ensures.number c.new-shelf.ensures.lines in
-    let told = subst (λ k. FromArchive old (λ h before bytes stood. TakesIn segment_rows k h before stood names (map came_of c.add_files.new.taken.items) old mid)) logs c.in-Ok-add_files.ensures.added.taken in
-    let takes = subst (λ (fs : List FileReport). FromArchive old (λ h before bytes stood. TakesIn segment_rows (content_of c.args.asked.number c.args.asked.lines) h before stood names (map came_of fs) old mid)) (sym files) told in
+    let told = subst (λ k. FromArchive old (λ h before bytes stood. TakesIn segment_rows h before stood names (map (came_of k) c.add_files.new.taken.items) old mid)) logs c.in-Ok-add_files.ensures.added.taken in
+    let takes = subst (λ (fs : List FileReport). FromArchive old (λ h before bytes stood. TakesIn segment_rows h before stood names (map (came_of (content_of c.args.asked.number c.args.asked.lines)) fs) old mid)) (sym files) told in
     let same = ap names_of files ∙ c.in-Ok-add_files.ensures.added.names in
-    let named : map (λ (x : FileOutcome). x.name) (map came_of c.as_slice.result.now) ≡ generated_names = names_came c.as_slice.result.now ∙ (same ∙ c.log_names-names.ensures) in
-    let were = subst (λ k. HaveFileCauses (record { content = k; opens = λ name. (open_faults_of c.new-shelf.result name, open_faults_of c.add_files.new.shelf name); reads = λ name. (0, 0) }) c.args.asked.workers segment_rows old mid (map came_of c.add_files.new.taken.items)) logs c.in-Ok-add_files.ensures.added.causes in
-    let causes = subst (λ (fs : List FileReport). HaveFileCauses (record { content = content_of c.args.asked.number c.args.asked.lines; opens = λ name. (open_faults_of c.new-shelf.result name, open_faults_of c.add_files.new.shelf name); reads = λ name. (0, 0) }) c.args.asked.workers segment_rows old mid (map came_of fs)) (sym files) were in
+    let named : map (λ (x : FileOutcome). x.name) (map (came_of (content_of c.args.asked.number c.args.asked.lines)) c.as_slice.result.now) ≡ generated_names = names_came (content_of c.args.asked.number c.args.asked.lines) c.as_slice.result.now ∙ (same ∙ c.log_names-names.ensures) in
+    let logged = logs_came (content_of c.args.asked.number c.args.asked.lines) c.as_slice.result.now in
+    let were = subst (λ k. HaveFileCauses (record { opens = λ name. (open_faults_of c.new-shelf.result name, open_faults_of c.add_files.new.shelf name); reads = λ name. (0, 0) }) c.args.asked.workers segment_rows old mid (map (came_of k) c.add_files.new.taken.items)) logs c.in-Ok-add_files.ensures.added.causes in
+    let causes = subst (λ (fs : List FileReport). HaveFileCauses (record { opens = λ name. (open_faults_of c.new-shelf.result name, open_faults_of c.add_files.new.shelf name); reads = λ name. (0, 0) }) c.args.asked.workers segment_rows old mid (map (came_of (content_of c.args.asked.number c.args.asked.lines)) fs)) (sym files) were in
     logs_added (content_of c.args.asked.number c.args.asked.lines) c.args.asked.workers names c.as_slice.result.now _ old mid new _ c.log_names-names.ensures same (law _)
     c.add_files.ensures.goes_on c.sum_up.ensures.keeps c.sum_up.ensures.disk takes
-    (log_causes c.args.asked.number c.args.asked.lines c.requires.lines c.new-shelf.result c.add_files.new.shelf c.args.asked.workers segment_rows old mid new c.sum_up.ensures.keeps.seen c.sum_up.ensures.disk (map came_of c.as_slice.result.now) named causes)
-    (logs_spared c.args.asked.number c.args.asked.lines c.requires.lines c.new-shelf.result c.add_files.new.shelf c.args.asked.workers segment_rows old mid new c.sum_up.ensures.keeps.seen c.sum_up.ensures.disk (map came_of c.as_slice.result.now) named causes)
-    (c.sum_up.ensures.told content unread opens reads)
+    (log_causes c.args.asked.number c.args.asked.lines c.requires.lines c.new-shelf.result c.add_files.new.shelf c.args.asked.workers segment_rows old mid new c.sum_up.ensures.keeps.seen c.sum_up.ensures.disk (map (came_of (content_of c.args.asked.number c.args.asked.lines)) c.as_slice.result.now) named logged causes)
+    (logs_spared c.args.asked.number c.args.asked.lines c.requires.lines c.new-shelf.result c.add_files.new.shelf c.args.asked.workers segment_rows old mid new c.sum_up.ensures.keeps.seen c.sum_up.ensures.disk (map (came_of (content_of c.args.asked.number c.args.asked.lines)) c.as_slice.result.now) named logged causes)
+    (c.sum_up.ensures.told (content_of c.args.asked.number c.args.asked.lines) content unread opens reads)
 
 pub returns-clause-ends : goal.returns-clause-ends
 returns-clause-ends g c = λ content unread opens reads.

@@ -57,11 +57,11 @@ returns-clause-added g c =
     let goes = subst (λ d. DiskGoesOn (g.D.Disk.state d) late) c.begin-journal.ensures.disk c.open_and_register.ensures.goes_on in
     let named = subst (λ d. FromArchive (g.D.Disk.state d) (λ h before bytes stood. AddsNamesTo h before stood (map str_bytes c.args.asked.files.now) first (g.D.Disk.state d) (state_of c.open_and_register.new.journal))) c.begin-journal.ensures.disk c.in_ok-named.ensures.names in
     let looked : Looked old old started = record { law_old = law _; law_mid = law _; law_new = law _; first = KeepsBytes-same _; second = begun.keeps; counts = omega (arith, begun.counts.later) } in
-    subst (λ d. AddsNewLogs (logs_around g.H.Shelf.content g.H.Shelf.open_faults g.H.Shelf.read_faults c.args.shelf.now c.take_in-journal.new.shelf) c.args.asked first files old (g.D.Disk.state d)) (sym back) (record {
+    subst (λ d. AddsNewLogs (g.H.Shelf.content c.args.shelf.now) (logs_around g.H.Shelf.open_faults g.H.Shelf.read_faults c.args.shelf.now c.take_in-journal.new.shelf) c.args.asked first files old (g.D.Disk.state d)) (sym back) (record {
       names = done.names;
       number = numbered_from old started (map str_bytes c.args.asked.files.now) first (state_of c.open_and_register.new.journal) begun.keeps.seen c.in_ok-header.ensures.begins.synced named;
-      taken = takes_sooner old old started looked (g.H.Shelf.content c.args.shelf.now) (map str_bytes c.args.asked.files.now) first (map came_of files) (state_of c.open_and_register.new.journal) _ (law _) goes.counts done.goes_on.disk named done.taken;
-      causes = causes_sooner old old started looked _ c.args.asked.workers c.args.asked.segment (map str_bytes c.args.asked.files.now) first (state_of c.open_and_register.new.journal) _ _ goes.counts (names_came files ∙ done.names) named done.causes;
+      taken = takes_sooner old old started looked (map str_bytes c.args.asked.files.now) first (map (came_of (g.H.Shelf.content c.args.shelf.now)) files) (state_of c.open_and_register.new.journal) _ (law _) goes.counts done.goes_on.disk named done.taken;
+      causes = causes_sooner old old started looked _ c.args.asked.workers c.args.asked.segment (map str_bytes c.args.asked.files.now) first (state_of c.open_and_register.new.journal) _ _ goes.counts (names_came (g.H.Shelf.content c.args.shelf.now) files ∙ done.names) named done.causes;
     })
 
 pub returns-clause-goes_on : goal.returns-clause-goes_on

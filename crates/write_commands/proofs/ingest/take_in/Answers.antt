@@ -24,8 +24,8 @@ returns-in_default-clause-taken g c =
 
 pub returns-in_default-clause-causes : goal.returns-in_default-clause-causes
 returns-in_default-clause-causes g c = record {
-  each = all_unbegun _ _ _ _ c.refuse_all.new.taken.items c.refuse_all.ensures.begun;
-  in_turn = λ one. unbegun_in_turn _ (into_journal (state_of c.args.journal) c.args.asked.segment c.args.named.first (map came_of c.refuse_all.new.taken.items)) c.refuse_all.new.taken.items c.refuse_all.ensures.begun;
+  each = all_unbegun (g.H.Shelf.content c.args.shelf.now) _ _ _ _ c.refuse_all.new.taken.items c.refuse_all.ensures.begun;
+  in_turn = λ one. unbegun_in_turn (g.H.Shelf.content c.args.shelf.now) (into_journal (state_of c.args.journal) c.args.asked.segment c.args.named.first (map (came_of (g.H.Shelf.content c.args.shelf.now)) c.refuse_all.new.taken.items)) c.refuse_all.new.taken.items c.refuse_all.ensures.begun;
 }
 
 pub returns-in_default-clause-logs : goal.returns-in_default-clause-logs
@@ -110,7 +110,7 @@ returns-clause-causes g c =
     let openings = c.as_slice.ensures.value ∙ c.begin_jobs.ensures.openings in
     let counted = as_many_done _ _ _ _ _ c.args.journal c.do_jobs-journal.result c.as_mut_slice.result.now c.do_jobs-journal.new.jobs c.do_jobs-journal.ensures in
     let told = told_back (λ (jobs : List (Job _)) (i : ℕ) (file : FileReport). IsToldBy c.as_slice.result.now jobs i file) c.end_jobs.new.taken.items c.begin_jobs.new.jobs.len c.do_jobs-journal.new.jobs _ (omega (arith, counted, ap length is, c.begin_jobs.new.jobs.ok.0)) c.end_jobs.ensures.told in
-    let logs = logs_around g.H.Shelf.content g.H.Shelf.open_faults g.H.Shelf.read_faults c.args.shelf.now c.close_logs.new.shelf in
+    let logs = logs_around g.H.Shelf.open_faults g.H.Shelf.read_faults c.args.shelf.now c.close_logs.new.shelf in
     let opens_later : (n : List ℕ) → g.H.Shelf.open_faults c.open_all.new.shelf n ≤ g.H.Shelf.open_faults c.close_logs.new.shelf n = λ n. omega (arith, c.close_logs.ensures.opens n) in
     let reads_sooner : (n : List ℕ) → g.H.Shelf.read_faults c.args.shelf.now n ≤ g.H.Shelf.read_faults c.open_all.new.shelf n = λ n. omega (arith, c.open_all.ensures.reads n) in
     let reads_later : (n : List ℕ) → g.H.Shelf.read_faults c.close_logs.new.shelf n ≤ g.H.Shelf.read_faults c.close_logs.new.shelf n = λ n. omega arith in
@@ -120,10 +120,10 @@ returns-clause-causes g c =
     (map str_bytes c.args.asked.files.now) c.in-Ok.opened.sources.items c.in-Ok.ensures.came c.args.named.first c.as_mut_slice.result.now sourced opening numbered c.as_slice.result.now openings c.do_jobs-journal.new.jobs c.end_jobs.new.taken.items c.end_jobs.ensures.names told in
     record {
       each = all_came g.H.Src.Source.left g.H.Src.Source.name g.H.Src.Source.faults logs (g.H.Shelf.open_faults c.open_all.new.shelf) (g.H.Shelf.read_faults c.open_all.new.shelf) (g.H.Shelf.read_faults c.close_logs.new.shelf) opens_later reads_sooner reads_later
-          c.args.journal c.do_jobs-journal.result (map came_of c.end_jobs.new.taken.items) c.args.asked.segment c.args.named.first c.as_mut_slice.result.now c.do_jobs-journal.new.jobs of each
+          c.args.journal c.do_jobs-journal.result (map (came_of (g.H.Shelf.content c.args.shelf.now)) c.end_jobs.new.taken.items) c.args.asked.segment c.args.named.first c.as_mut_slice.result.now c.do_jobs-journal.new.jobs of each
           (law _) c.args.asked.workers c.do_jobs-journal.ensures c.end_jobs.new.sources.items
           (c.end_jobs.ensures.sources ∙ ap sources_of (lent_back c.begin_jobs.new.jobs.len c.do_jobs-journal.new.jobs _ (omega (arith, counted, ap length is, c.begin_jobs.new.jobs.ok.0)))) c.close_logs.ensures.counted;
-      in_turn = did_in_turn g.H.Src.Source.left g.H.Src.Source.name g.H.Src.Source.faults (g.H.Shelf.content c.args.shelf.now) (g.H.Shelf.open_faults c.args.shelf.now) (g.H.Shelf.open_faults c.open_all.new.shelf)
-          c.args.journal (map came_of c.end_jobs.new.taken.items) c.args.asked.segment c.args.named.first c.as_mut_slice.result.now c.do_jobs-journal.new.jobs of each
+      in_turn = did_in_turn g.H.Src.Source.left g.H.Src.Source.name g.H.Src.Source.faults (g.H.Shelf.open_faults c.args.shelf.now) (g.H.Shelf.open_faults c.open_all.new.shelf)
+          c.args.journal (map (came_of (g.H.Shelf.content c.args.shelf.now)) c.end_jobs.new.taken.items) c.args.asked.segment c.args.named.first c.as_mut_slice.result.now c.do_jobs-journal.new.jobs of each
           c.do_jobs-journal.result c.args.asked.workers c.do_jobs-journal.ensures;
     }
