@@ -314,7 +314,7 @@ const REFUSED: &[(usize, u8, u64, &[u8], SearchRefusal)] = &[
     (417, 9, 99, b"", SearchRefusal::Damaged),
     (417, 9, 99, b"run", SearchRefusal::Damaged),
     (421, 9, 99, b"run", SearchRefusal::Damaged),
-    (0, 67, 20, b"", SearchRefusal::DiskFault),
+    (0, 67, 32, b"", SearchRefusal::DiskFault),
     (0, 67, 32, b"run", SearchRefusal::DiskFault),
 ];
 
