@@ -13,7 +13,7 @@ use std::test::Fail;
 
 // Four files, with at most two messages a segment: `one.log` has three lines and two segments,
 // `two.log` has no newline at its end, `no.log` has no bytes, and `gaps.log` an empty line.
-static FILES: [u8; 924] = [
+pub(crate) static FILES: [u8; 924] = [
     67, 76, 80, 65, 82, 67, 72, 10, 1, 0, 0, 0, 100, 0, 0, 0, 100, 0, 0, 0, 0, 0, 0, 0, 0, 16, 0,
     0, 0, 0, 0, 0, 1, 1, 48, 0, 0, 0, 0, 0, 0, 0, 4, 0, 0, 0, 7, 0, 0, 0, 111, 110, 101, 46, 108,
     111, 103, 7, 0, 0, 0, 116, 119, 111, 46, 108, 111, 103, 6, 0, 0, 0, 110, 111, 46, 108, 111,
@@ -104,7 +104,7 @@ fn ends_by(ended: Ended, cause: Option<TextCause>) -> bool {
 
 /// Reads what is left of a source, until it ends or a read fails. Answers whether one more read ends
 /// alike.
-fn take_rest<S: Source>(source: &mut S, out: &mut Vec<u8>) -> Result<bool, AllocError>
+pub(crate) fn take_rest<S: Source>(source: &mut S, out: &mut Vec<u8>) -> Result<bool, AllocError>
     ensures { S.name source.new ≡ S.name source.old }
 {
     let mut buf = [0; 7];
@@ -219,7 +219,7 @@ fn read_opened<D: Disk, N: KeepsTexts + Drop>(
 }
 
 /// A disk with these bytes, of which these calls fail.
-fn disk_of(alloc: Global, bytes: &[u8], fails: &[u64]) -> Result<MemDisk, AllocError> {
+pub(crate) fn disk_of(alloc: Global, bytes: &[u8], fails: &[u64]) -> Result<MemDisk, AllocError> {
     let bytes = Text::new(bytes.to_vec(alloc)?);
     MemDisk::new(alloc, bytes, 0, 1_000, fails.to_vec(alloc)?)
 }

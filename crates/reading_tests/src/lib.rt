@@ -1,7 +1,9 @@
-//! Tests of what is read of archives: counts by log type and by minute, and the text of a file as a
-//! source. They call what the crates make public.
+//! Tests of what is read of archives: counts by log type and by minute, the text of a file as a
+//! source, and the files of an archive as jobs. They call what the crates make public.
 #![tactic(auto)]
 
+#[cfg(test)]
+mod archive_jobs_tests;
 #[cfg(test)]
 mod archive_text_tests;
 #[cfg(test)]
