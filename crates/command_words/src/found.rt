@@ -288,7 +288,6 @@ pub(crate) fn read_command<'a>(
         "decode" => Ok(decode(found)),
         "search" => Ok(search(found)),
         "count" => Ok(count(found)),
-        "merge" => Ok(Some(Command::Merge)),
         "bench" => Ok(bench(found)),
         _ => Ok(None),
     }

@@ -29,7 +29,6 @@ const NO_FORM: &[&[&str]] = &[
     &["scan", "p"],
     &["scan", "p", "f", "g"],
     &["files", "a"],
-    &["merge", "a"],
     &["check", "--stats"],
     &["help"],
     &["help", "show"],

@@ -1,9 +1,0 @@
-mod AnswerLemmas
-mod CauseLemmas
-mod ContentLemmas
-mod LineLemmas
-mod MergedLemmas
-mod OverLemmas
-mod RefusedLemmas
-mod TakesOverLemmas
-mod WholeLemmas
