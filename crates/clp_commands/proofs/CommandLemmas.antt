@@ -20,11 +20,11 @@ use Rattle.command_refusals.specs.Outcome.{of_add, of_words}
 only : (words : List (List ℕ)) (read : Result Command WordsRefusal) (command : Command) → read ≡ Ok command → ((a : Asked) → Asks words a → IsAnswer a read) → (a : Asked) → Asks words a → asked_by command ≡ a
 only words read command is all a asks = subst (IsAnswer a) is (all a asks)
 
-pub Answers-asked : (known : Option KnownArchive) (words : List (List ℕ)) (seen : Outside) (old new : DiskState) (status : ℕ) (read : Result Command WordsRefusal) (command : Command) (a : Asked) → read ≡ Ok command → Asks words a → ((b : Asked) → Asks words b → IsAnswer b read)
-    → AnswersAsked known a seen old new status → Answers known words seen old new status
-Answers-asked known words seen old new status read command a is asks all answers = inr (record {
+pub Answers-asked : (known : Option KnownArchive) (words : List (List ℕ)) (seen : Outside) (old new second second_new : DiskState) (status : ℕ) (read : Result Command WordsRefusal) (command : Command) (a : Asked) → read ≡ Ok command → Asks words a → ((b : Asked) → Asks words b → IsAnswer b read)
+    → AnswersAsked known a seen old new second second_new status → Answers known words seen old new second second_new status
+Answers-asked known words seen old new second second_new status read command a is asks all answers = inr (record {
   usage = λ none. absurd (none a asks);
-  asked_for = λ b also. subst (λ x. AnswersAsked known x seen old new status) (same b also) answers;
+  asked_for = λ b also. subst (λ x. AnswersAsked known x seen old new second second_new status) (same b also) answers;
   taken = λ taken good. (a, asks);
 })
   where
@@ -32,9 +32,9 @@ Answers-asked known words seen old new status read command a is asks all answers
     same b also = let one = only words read command is all a asks in let other = only words read command is all b also in cc
 
 -- words that ask for nothing, or that there was no memory to read
-pub Answers-refused : (known : Option KnownArchive) (words : List (List ℕ)) (seen : Outside) (old new : DiskState) (status : ℕ) (read : Result Command WordsRefusal) (refusal : WordsRefusal) → read ≡ Err refusal → ((a : Asked) → Asks words a → IsAnswer a read)
-    → (AreTaken words → HaveGoodValues words → IfErr read (λ r. r ≡ WordsOutOfMemory)) → RefusesAtOnce seen old new status (of_words refusal) → Answers known words seen old new status
-Answers-refused known words seen old new status read WordsUsage is all taken refuses = inr (record {
+pub Answers-refused : (known : Option KnownArchive) (words : List (List ℕ)) (seen : Outside) (old new second second_new : DiskState) (status : ℕ) (read : Result Command WordsRefusal) (refusal : WordsRefusal) → read ≡ Err refusal → ((a : Asked) → Asks words a → IsAnswer a read)
+    → (AreTaken words → HaveGoodValues words → IfErr read (λ r. r ≡ WordsOutOfMemory)) → RefusesAtOnce seen old new status (of_words refusal) → Answers known words seen old new second second_new status
+Answers-refused known words seen old new second second_new status read WordsUsage is all taken refuses = inr (record {
   usage = λ _. refuses;
   asked_for = λ a asks. absurd (subst (IsAnswer a) is (all a asks));
   taken = λ passes good. absurd (other (subst (λ r. IfErr r (λ x. x ≡ WordsOutOfMemory)) is (taken passes good)));
@@ -42,7 +42,7 @@ Answers-refused known words seen old new status read WordsUsage is all taken ref
   where
     other : WordsUsage ≡ WordsOutOfMemory → ⊥
     other e = cc
-Answers-refused known words seen old new status read WordsOutOfMemory is all taken refuses = inl refuses
+Answers-refused known words seen old new second second_new status read WordsOutOfMemory is all taken refuses = inl refuses
 
 -- a list has an element where its image has one
 pub some_of : {A B : Type 0} (f : A → B) (xs : List A) → map f xs ≢ [] → 1 ≤ length xs

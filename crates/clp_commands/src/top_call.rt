@@ -1,7 +1,7 @@
 //! The top call.
 ghost use Rattle.std.specs.Prelude.{◌≡◌, ℕ, List, Option, map, string_bytes};
 ghost use Rattle.command_answers.specs.Answers.{Answers, AnswersAsked};
-ghost use Rattle.command_answers.specs.Words.{AskNoArchive, AskNoWriting, MayWrite, UsesArchive};
+ghost use Rattle.command_answers.specs.Words.{AskNoArchive, AskNoSecond, AskNoWriting, MayWrite, UsesArchive, UsesSecond};
 ghost use Rattle.command_refusals.specs.GoesOn.{DiskGoesOn, OutsideGoesOn};
 ghost use Rattle.command_refusals.specs.Outside.{around};
 ghost use Rattle.command_words.specs.Asked.{IsInRange, asked_by};
@@ -16,6 +16,7 @@ use count_command::count_messages;
 use disk_journal::create;
 use log_commands::{scan, show};
 use log_seams::{Disk, Shelf, Sink};
+use merge_command::merge_archives;
 use read_commands::{check, decode_file, files, search_messages};
 use std::alloc::Global;
 use std::marker::Brand;
@@ -33,12 +34,12 @@ use write_commands::{Base, NewLogs, bench, ingest_files};
 /// archive that a pattern matches, as `scan` prints those of a log, and `count` how many these are
 /// by log type or by minute. A refusal has its line on `err`.
 ///
-/// `ingest` adds logs to the archive, and prints of each what `files` prints. `bench` makes an archive of
-/// generated logs, and prints a summary of it. `disk` is the archive's.
-/// What is said of the bytes that `ingest` leaves holds for each archive `known` whose bytes the disk had
-/// at the start: whatever archive it had, and it is not asked for when the program runs.
-/// `rt` starts the threads of `ingest`. `second` is the disk beside the archive's for commands that
-/// write a new one; no command here needs it yet.
+/// `ingest` adds logs to the archive, and prints of each what `files` prints. `merge` adds the files of
+/// a second archive, and prints the same. `bench` makes an archive of generated logs, and prints a
+/// summary of it. `disk` is the archive's, and `second` that of the second one, which is only read.
+/// What is said of the bytes that `ingest` and `merge` leave holds for each archive `known` whose bytes
+/// the disk had at the start: whatever archive it had, and it is not asked for when the program runs.
+/// `rt` starts the threads of `ingest`.
 pub fn run<R: Threads + Wait + Sync, H: Shelf, D: Disk + Send, K: Sink>(
     rt: &R,
     alloc: Global,
@@ -58,7 +59,7 @@ where
     ensures answers { Answers known (map string_bytes words.now)
         (around H.content H.unread H.open_faults H.read_faults K.written K.faults
         shelf.old shelf.new out.old out.new err.old err.new)
-        (D.state disk.old) (D.state disk.new) result }
+        (D.state disk.old) (D.state disk.new) (D.state second.old) (D.state second.new) result }
 
     // whatever they ask for
     ensures outside { OutsideGoesOn
@@ -71,13 +72,13 @@ where
     ensures keeps { AskNoWriting (map string_bytes words.now)
         → KeepsBytes (D.state disk.old) (D.state disk.new) }
     ensures untouched { AskNoArchive (map string_bytes words.now) → disk.new ≡ disk.old }
-    ensures second { second.new ≡ second.old }
+    ensures second { AskNoSecond (map string_bytes words.now) → second.new ≡ second.old }
 {
     let command = match read_words(alloc, words) {
         Ok(command) => command,
         Err(refusal) => return report(err, "", refusal_of_words(refusal)),
     };
-    carry_out::<R, H, D, K, Brand>(rt, alloc, &command, shelf, disk, out, err)
+    carry_out::<R, H, D, K, Brand>(rt, alloc, &command, shelf, disk, second, out, err)
 }
 
 /// Does what a command asks for, and answers the status.
@@ -87,6 +88,7 @@ fn carry_out<R: Threads + Wait + Sync, H: Shelf, D: Disk + Send, K: Sink, B: Bas
     command: &Command<'_>,
     shelf: &mut H,
     disk: &mut D,
+    second: &mut D,
     out: &mut K,
     err: &mut K,
 ) -> u8
@@ -96,7 +98,7 @@ where
     ensures answers { AnswersAsked B.archive (asked_by command.now)
         (around H.content H.unread H.open_faults H.read_faults K.written K.faults
         shelf.old shelf.new out.old out.new err.old err.new)
-        (D.state disk.old) (D.state disk.new) result }
+        (D.state disk.old) (D.state disk.new) (D.state second.old) (D.state second.new) result }
 
     // whatever it asks for
     ensures outside { OutsideGoesOn
@@ -109,6 +111,7 @@ where
     ensures keeps { ¬ MayWrite (asked_by command.now)
         → KeepsBytes (D.state disk.old) (D.state disk.new) }
     ensures untouched { ¬ UsesArchive (asked_by command.now) → disk.new ≡ disk.old }
+    ensures second { ¬ UsesSecond (asked_by command.now) → second.new ≡ second.old }
 {
     match command {
         Command::Show { file } => show(alloc, file, shelf, out, err),
@@ -135,6 +138,7 @@ where
         }
         Command::Search { asked } => search_messages(rt, alloc, asked, disk, out, err),
         Command::Count { asked } => count_messages(alloc, asked, disk, out, err),
+        Command::Merge => merge_archives::<R, D, D, K, B>(rt, alloc, disk, second, out, err),
         Command::Bench { asked } => bench(rt, alloc, *asked, disk, out, err),
     }
 }

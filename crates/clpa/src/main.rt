@@ -90,7 +90,7 @@ fn main(rt: HostRuntime) -> ExitCode {
         DiskFile::to_read(place)
     };
     let mut logs = LogFiles::new(&rt, archive.locked_id());
-    // no command writes it yet
+    // no command writes it
     let mut second = DiskFile::to_read(FilePath {
         rt: &rt,
         path: line.second.as_str(),

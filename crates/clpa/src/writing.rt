@@ -11,7 +11,8 @@ fn may_write(command: &Command<'_>) -> bool
     ensures { IsTrue result ↔ MayWrite (asked_by command.now) }
 {
     match command {
-        Command::Create { .. } | Command::Ingest { .. } | Command::Bench { .. } => true,
+        Command::Create { .. } | Command::Ingest { .. } | Command::Merge | Command::Bench { .. } =>
+            true,
         Command::Show { .. }
         | Command::Scan { .. }
         | Command::Files

@@ -17,6 +17,7 @@ use Rattle.command_answers.specs.Known.{KnownArchive, over}
 use Rattle.command_answers.specs.Names.{RefusesNames}
 use Rattle.command_refusals.specs.declared.outcome.AddRefusal.{AddRefusal}
 use Rattle.command_answers.specs.Ingested.{EndsIngest}
+use Rattle.command_answers.specs.Merging.{Merge, Merges, PrintsMerge}
 use Rattle.archive_open.specs.Shown.{RefusedAt}
 use Rattle.command_refusals.specs.Reading.{EndsReading, IsComplete, OverJournal}
 use Rattle.command_refusals.specs.declared.outcome.ReadRefusal.{ReadRefusal}
@@ -35,7 +36,7 @@ use Rattle.command_answers.specs.Grouping.{PrintsGroups, grouped_by}
 use Rattle.command_words.specs.declared.command.CountKey.{CountKey}
 use Rattle.search_walk.specs.Journal.{asked}
 use Rattle.command_answers.specs.Benched.{SumsUpAll, EndsBench, MetNoLimit}
-use Rattle.command_words.specs.Asked.{Asked as AskedFor, to_bench, to_check, to_count, to_create, to_decode, to_ingest, to_list, to_scan, to_search, to_show, AreTaken, Asks, HaveGoodValues}
+use Rattle.command_words.specs.Asked.{Asked as AskedFor, to_bench, to_check, to_count, to_create, to_decode, to_ingest, to_list, to_merge, to_scan, to_search, to_show, AreTaken, Asks, HaveGoodValues}
 use Rattle.command_answers.specs.Shown.{Shows}
 use Rattle.command_refusals.specs.declared.refusal.Refusal.TheVariants.{Usage}
 use Rattle.command_answers.specs.Words.{AskSomething, IsUsage}
@@ -137,6 +138,15 @@ pub record AnswersCount (by : CountKey) (from to : Option ℤ) (stats : Bool) (p
   pub good : (items : List Item) → IsSearchPattern pattern items
       → AnswersGroups by (asked items (record { from = from; to = to })) stats seen old new status
 
+-- What `merge` answers, whatever archive is known. What is said of the disk's bytes, and of the journal that they stand for, holds
+-- where they were those of the known archive at the start.
+pub record AnswersMerge (known : Option KnownArchive) (seen : Outside) (old new second second_new : DiskState) (status : ℕ)
+    : Type 0 where
+  pub merge : Merge
+  pub first : ℕ
+  pub merges : Merges merge first (over known old old) (over known old new) second second_new
+  pub printed : PrintsMerge merge first seen status
+
 -- What `bench` answers. On an empty disk, where no call of the disk and no write to the output failed and no limit was met, all
 -- is summed up, or memory ended.
 pub record AnswersBench (number lines workers : ℕ) (seen : Outside) (old new : DiskState) (status : ℕ) : Type 0 where
@@ -144,30 +154,33 @@ pub record AnswersBench (number lines workers : ℕ) (seen : Outside) (old new :
   pub complete : old.seen ≡ Some [] → ¬ Rose old.faults new.faults → ¬ RoseIn seen.out_faults → MetNoLimit ends
       → SumsUpAll lines seen new status
 
--- What a command answers, whatever archive is known.
-abbrev pub AnswersAsked : Option KnownArchive → AskedFor → Outside → DiskState → DiskState → ℕ → Type 0
-AnswersAsked known (to_show file) seen old new status = AnswersLog (λ _ message text. Shows message text) seen file status
-AnswersAsked known (to_scan pattern file) seen old new status = AnswersScan pattern file seen status
-AnswersAsked known (to_create header) seen old new status = AnswersCreate header seen old new status
-AnswersAsked known (to_ingest workers segment files) seen old new status =
+-- What a command answers, whatever archive is known. The last two disks are the second one, before and after.
+abbrev pub AnswersAsked : Option KnownArchive → AskedFor → Outside → DiskState → DiskState → DiskState → DiskState → ℕ → Type 0
+AnswersAsked known (to_show file) seen old new second second_new status = AnswersLog (λ _ message text. Shows message text) seen file status
+AnswersAsked known (to_scan pattern file) seen old new second second_new status = AnswersScan pattern file seen status
+AnswersAsked known (to_create header) seen old new second second_new status = AnswersCreate header seen old new status
+AnswersAsked known (to_ingest workers segment files) seen old new second second_new status =
     AnswersIngest known workers segment files seen old new status
-AnswersAsked known to_list seen old new status = AnswersFiles seen old new status
-AnswersAsked known to_check seen old new status = AnswersCheck seen old new status
-AnswersAsked known (to_decode number) seen old new status = AnswersDecode number seen old new status
-AnswersAsked known (to_search from to stats workers pattern) seen old new status =
+AnswersAsked known to_list seen old new second second_new status = AnswersFiles seen old new status
+AnswersAsked known to_check seen old new second second_new status = AnswersCheck seen old new status
+AnswersAsked known (to_decode number) seen old new second second_new status = AnswersDecode number seen old new status
+AnswersAsked known (to_search from to stats workers pattern) seen old new second second_new status =
     AnswersPattern from to stats pattern seen old new status
-AnswersAsked known (to_count by from to stats pattern) seen old new status =
+AnswersAsked known (to_count by from to stats pattern) seen old new second second_new status =
     AnswersCount by from to stats pattern seen old new status
-AnswersAsked known (to_bench number lines workers) seen old new status = AnswersBench number lines workers seen old new status
+AnswersAsked known to_merge seen old new second second_new status =
+    AnswersMerge known seen old new second second_new status
+AnswersAsked known (to_bench number lines workers) seen old new second second_new status = AnswersBench number lines workers seen old new status
 
 -- What words answer that were read. Those that `clap` takes, and whose values are good, ask for something: so a usage error
 -- comes only where `clap` refuses them for another cause than memory, or where a value is not good.
-pub record AnswersWords (known : Option KnownArchive) (words : List (List ℕ)) (seen : Outside) (old new : DiskState) (status : ℕ)
-    : Type 0 where
+pub record AnswersWords (known : Option KnownArchive) (words : List (List ℕ)) (seen : Outside)
+    (old new second second_new : DiskState) (status : ℕ) : Type 0 where
   pub usage : IsUsage words → RefusesAtOnce seen old new status Usage
-  pub asked_for : (a : AskedFor) → Asks words a → AnswersAsked known a seen old new status
+  pub asked_for : (a : AskedFor) → Asks words a → AnswersAsked known a seen old new second second_new status
   pub taken : AreTaken words → HaveGoodValues words → AskSomething words
 
 -- What the program answers: there was no memory to read the words and nothing was done, or they were read.
-abbrev pub Answers : Option KnownArchive → List (List ℕ) → Outside → DiskState → DiskState → ℕ → Type 0
-Answers known words seen old new status = LacksMemoryAtOnce seen old new status ⊎ AnswersWords known words seen old new status
+abbrev pub Answers : Option KnownArchive → List (List ℕ) → Outside → DiskState → DiskState → DiskState → DiskState → ℕ → Type 0
+Answers known words seen old new second second_new status =
+    LacksMemoryAtOnce seen old new status ⊎ AnswersWords known words seen old new second second_new status

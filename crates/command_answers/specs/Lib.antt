@@ -6,6 +6,7 @@ pub mod Grouping
 pub mod Ingested
 pub mod Known
 pub mod Listing
+pub mod Merging
 pub mod Names
 pub mod Printing
 pub mod Scanned

@@ -5,7 +5,7 @@ use Rattle.log_seams.specs.Outside.{Adds, Rose}
 use Rattle.command_refusals.specs.Outside.{Outside}
 use Rattle.command_refusals.specs.Refusal.{Says, status_of, line_of}
 use Rattle.command_refusals.specs.declared.refusal.Refusal.{Refusal}
-use Rattle.command_refusals.specs.declared.refusal.Refusal.TheVariants.{BadPattern, OutOfMemory}
+use Rattle.command_refusals.specs.declared.refusal.Refusal.TheVariants.{BadPattern, OutOfMemory, SinkFault}
 use Rattle.wild_match.specs.Reading.{IsLoneBackslash}
 use Rattle.wild_match.specs.declared.read.PatternRefusal.{PatternRefusal}
 use Rattle.wild_match.specs.declared.read.PatternRefusal.TheVariants.{BadPattern as ReadBadPattern}
@@ -49,6 +49,10 @@ pub record EndsWith (seen : Outside) (name : List ℕ) (status : ℕ) (answer : 
 -- The call ended for want of memory.
 abbrev pub EndsWithoutMemory : Outside → ℕ → Type 0
 EndsWithoutMemory seen status = EndsWith seen [] status (Some OutOfMemory)
+
+-- The call ended since the output failed.
+abbrev pub EndsWithoutOutput : Outside → ℕ → Type 0
+EndsWithoutOutput seen status = EndsWith seen [] status (Some SinkFault)
 
 -- The call was refused before anything was printed.
 pub record Refuses (seen : Outside) (status : ℕ) (refusal : Refusal) : Type 0 where

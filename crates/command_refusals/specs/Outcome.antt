@@ -1,5 +1,5 @@
 -- How the commands of each kind end, and which refusal that is.
-use Rattle.std.specs.Prelude.{ℕ, Option, Some, None, Result, Ok, Err}
+use Rattle.std.specs.Prelude.{ℕ, List, [], Option, Some, None, Result, Ok, Err}
 use Rattle.disk_journal.specs.declared.refusals.CreateRefusal.{CreateRefusal}
 use Rattle.disk_journal.specs.declared.refusals.CreateRefusal.TheVariants.{DiskFault as CreateDiskFault}
 use Rattle.disk_journal.specs.declared.refusals.CreateRefusal.TheVariants.{NotEmpty as CreateNotEmpty}
@@ -26,13 +26,15 @@ use Rattle.archive_decode.specs.declared.refusal.DecodeRefusal.{DecodeRefusal}
 use Rattle.search_walk.specs.declared.refusal.SearchRefusal.{SearchRefusal}
 use Rattle.command_refusals.specs.declared.outcome.AddRefusal.{AddRefusal}
 use Rattle.command_refusals.specs.declared.outcome.FileRefusal.{FileRefusal}
+use Rattle.command_refusals.specs.declared.outcome.MergeRefusal.{MergeRefusal}
 use Rattle.command_refusals.specs.declared.outcome.PartCause.{PartCause}
 use Rattle.command_refusals.specs.declared.outcome.ReadRefusal.{ReadRefusal}
+use Rattle.command_refusals.specs.Refusal.{ending_of, file_ending_of}
 use Rattle.command_refusals.specs.declared.refusal.Refusal.{Refusal}
 use Rattle.command_refusals.specs.declared.refusal.Refusal.TheVariants.{Usage, BadPattern, OpenFault, ReadFault}
 use Rattle.command_refusals.specs.declared.refusal.Refusal.TheVariants.{LineTooLong, TooManyLines, DiskFault, Damaged}
 use Rattle.command_refusals.specs.declared.refusal.Refusal.TheVariants.{SinkFault, NotEmpty, NoSuchFile, OutOfMemory}
-use Rattle.command_refusals.specs.declared.refusal.Refusal.TheVariants.{NameTooLong, TooManyFiles, Full, ArchiveFull}
+use Rattle.command_refusals.specs.declared.refusal.Refusal.TheVariants.{NameTooLong, TooManyFiles, Full, ArchiveFull, SecondDamaged, VersionDiffers}
 
 -- the answer of a call that may refuse, where no refusal is `None`
 abbrev pub answer_of : {E : Type 0} → Result Unit E → Option E
@@ -153,3 +155,43 @@ of_part (PartCause.Full book count) = Full book count
 of_part (PartCause.ArchiveFull end need) = ArchiveFull end need
 of_part PartCause.DiskFault = DiskFault
 of_part PartCause.OutOfMemory = OutOfMemory
+
+-- why not all files of a second archive were added where the reading of the archive's header was refused, its opening, the naming
+-- of the files, and the opening of the second archive
+abbrev pub merge_from_start : StartRefusal → MergeRefusal
+merge_from_start StartRefusal.DiskFault = MergeRefusal.DiskFault
+merge_from_start (StartRefusal.Damaged at) = MergeRefusal.Damaged at
+
+abbrev pub merge_from_archive : ArchiveRefusal → MergeRefusal
+merge_from_archive ArchiveRefusal.DiskFault = MergeRefusal.DiskFault
+merge_from_archive (ArchiveRefusal.Damaged at) = MergeRefusal.Damaged at
+merge_from_archive ArchiveRefusal.OutOfMemory = MergeRefusal.OutOfMemory
+
+abbrev pub merge_from_register : RegisterRefusal → MergeRefusal
+merge_from_register RegisterRefusal.OutOfMemory = MergeRefusal.OutOfMemory
+merge_from_register (RegisterRefusal.ArchiveFull end need) = MergeRefusal.ArchiveFull end need
+merge_from_register RegisterRefusal.DiskFault = MergeRefusal.DiskFault
+
+abbrev pub merge_from_second : ArchiveRefusal → MergeRefusal
+merge_from_second ArchiveRefusal.DiskFault = MergeRefusal.DiskFault
+merge_from_second (ArchiveRefusal.Damaged at) = MergeRefusal.SecondDamaged at
+merge_from_second ArchiveRefusal.OutOfMemory = MergeRefusal.OutOfMemory
+
+-- The status and the line of a merge that was refused. A dictionary that is full, and a segment without room, are told with the
+-- name of their file.
+abbrev pub merge_ending : List ℕ → MergeRefusal → ℕ × List ℕ
+merge_ending name MergeRefusal.DiskFault = ending_of [] DiskFault
+merge_ending name (MergeRefusal.Damaged at) = ending_of [] (Damaged at)
+merge_ending name (MergeRefusal.SecondDamaged at) = ending_of [] (SecondDamaged at)
+merge_ending name (MergeRefusal.VersionDiffers first second) = ending_of [] (VersionDiffers first second)
+merge_ending name (MergeRefusal.TooManyFiles held more) = ending_of [] (TooManyFiles held more)
+merge_ending name (MergeRefusal.ArchiveFull end need) = ending_of [] (ArchiveFull end need)
+merge_ending name (MergeRefusal.Full book count) = file_ending_of name (Full book count)
+merge_ending name (MergeRefusal.SegmentFull end need) = file_ending_of name (ArchiveFull end need)
+merge_ending name MergeRefusal.OutOfMemory = ending_of [] OutOfMemory
+
+abbrev pub merge_status : MergeRefusal → ℕ
+merge_status refusal = (merge_ending [] refusal).0
+
+abbrev pub merge_line : List ℕ → MergeRefusal → List ℕ
+merge_line name refusal = (merge_ending name refusal).1

@@ -7,7 +7,7 @@ use Rattle.command_refusals.specs.declared.refusal.Refusal.{Refusal}
 use Rattle.command_refusals.specs.declared.refusal.Refusal.TheVariants.{Usage, BadPattern, OpenFault, ReadFault}
 use Rattle.command_refusals.specs.declared.refusal.Refusal.TheVariants.{LineTooLong, TooManyLines, DiskFault, Damaged}
 use Rattle.command_refusals.specs.declared.refusal.Refusal.TheVariants.{SinkFault, NotEmpty, NoSuchFile, OutOfMemory}
-use Rattle.command_refusals.specs.declared.refusal.Refusal.TheVariants.{NameTooLong, TooManyFiles, Full, ArchiveFull}
+use Rattle.command_refusals.specs.declared.refusal.Refusal.TheVariants.{NameTooLong, TooManyFiles, Full, ArchiveFull, SecondDamaged, VersionDiffers}
 use Rattle.row_codec.specs.declared.namer.Which.{Which}
 use Rattle.row_codec.specs.declared.namer.Which.TheVariants.{Types, Words}
 
@@ -48,6 +48,11 @@ ending_of name (Full book count) = (
       ++ (book_name book ++ (codes " is full at " ++ line (decimal count))))),
 )
 ending_of name (ArchiveFull end need) = (8, codes "clpa: archive: full at " ++ full_at end need)
+ending_of name (SecondDamaged at) = (6, codes "clpa: second archive: damaged at " ++ line (decimal at))
+ending_of name (VersionDiffers first second) = (
+  8,
+  codes "clpa: second archive: version " ++ (decimal second ++ (codes ", the archive has " ++ line (decimal first))),
+)
 
 -- The same of a refusal that came of a file: the disk, the memory and the archive's limit of length are then told with the
 -- file's name.

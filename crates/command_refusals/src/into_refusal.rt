@@ -1,12 +1,13 @@
 //! The printed refusal for each refusal of a command and of what it calls. Here alone one becomes the
 //! other.
 ghost use Rattle.std.specs.Prelude.{◌≡◌, option_map};
-ghost use Rattle.command_refusals.specs.Outcome.{answer_of, of_add, of_create, of_file, of_log, of_part, of_pattern, of_read, of_words};
+ghost use Rattle.command_refusals.specs.Outcome.{answer_of, of_add, of_create, of_file, from_print, of_log, of_part, of_pattern, of_read, of_words};
 
 use crate::outcome::{AddRefusal, FileRefusal, LogRefusal, PartCause, ReadRefusal};
 use crate::refusal::Refusal;
 use command_words::WordsRefusal;
 use disk_journal::CreateRefusal;
+use sink_pieces::PrintRefusal;
 use wild_match::PatternRefusal;
 
 /// The refusal of a command that prints a log.
@@ -81,6 +82,16 @@ pub fn refusal_of_pattern(refusal: PatternRefusal) -> Refusal
     match refusal {
         PatternRefusal::BadPattern { at } => Refusal::BadPattern { at },
         PatternRefusal::OutOfMemory => Refusal::OutOfMemory,
+    }
+}
+
+/// The refusal of a printing.
+pub fn refusal_of_print(refusal: PrintRefusal) -> Refusal
+    ensures { result ≡ of_read (from_print refusal) }
+{
+    match refusal {
+        PrintRefusal::SinkFault => Refusal::SinkFault,
+        PrintRefusal::OutOfMemory => Refusal::OutOfMemory,
     }
 }
 

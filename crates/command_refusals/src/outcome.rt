@@ -1,8 +1,9 @@
 //! How the commands of each kind end, and which of their refusals a refusal of the crates below is.
 ghost use Rattle.std.specs.Prelude.{◌≡◌};
 ghost use Rattle.command_refusals.specs.declared.outcome.AddRefusal.TheVariants.{OutOfMemory as AddOutOfMemory};
+ghost use Rattle.command_refusals.specs.declared.outcome.MergeRefusal.TheVariants.{OutOfMemory as MergeOutOfMemory};
 ghost use Rattle.command_refusals.specs.declared.outcome.ReadRefusal.TheVariants.{OutOfMemory, SinkFault};
-ghost use Rattle.command_refusals.specs.Outcome.{add_from_archive, add_from_check, add_from_register, add_from_start, file_from_archive, from_archive, from_check, from_decode, from_print, from_search};
+ghost use Rattle.command_refusals.specs.Outcome.{add_from_archive, add_from_check, add_from_register, add_from_start, file_from_archive, from_archive, from_check, from_decode, from_print, from_search, merge_from_archive, merge_from_register, merge_from_second, merge_from_start};
 
 use archive_check::CheckRefusal;
 use archive_decode::DecodeRefusal;
@@ -238,4 +239,81 @@ pub enum PartCause {
     DiskFault,
     /// There was no memory.
     OutOfMemory,
+}
+
+/// Why not all files of a second archive were added to an archive.
+#[derive(Clone, Copy, Debug, PartialEq, Eq)]
+pub enum MergeRefusal {
+    /// A call on the disk of one of the archives failed.
+    DiskFault,
+    /// The disk's bytes are no archive, by what stands at this place.
+    Damaged { at: u64 },
+    /// The second disk's bytes are no archive, by what stands at this place.
+    SecondDamaged { at: u64 },
+    /// The two archives are of different versions.
+    VersionDiffers { first: u32, second: u32 },
+    /// `more` names are too many with the `held` names of the archive.
+    TooManyFiles { held: u64, more: u64 },
+    /// Names do not fit the archive's limit of length: it ends at `end`, and they need `need` bytes.
+    ArchiveFull { end: u64, need: u64 },
+    /// Of a file: a text is new, and the dictionary has `count` texts, which is its limit.
+    Full { book: Which, count: u32 },
+    /// Of a file: records do not fit the archive's limit of length.
+    SegmentFull { end: u64, need: u64 },
+    /// There was no memory.
+    OutOfMemory,
+}
+
+impl From<AllocError> for MergeRefusal {
+    ghost from_gives = { λ _ e. e ≡ MergeOutOfMemory };
+
+    fn from(_: AllocError) -> Self {
+        MergeRefusal::OutOfMemory
+    }
+}
+
+impl From<StartRefusal> for MergeRefusal {
+    ghost from_gives = { λ r e. e ≡ merge_from_start r };
+
+    fn from(refusal: StartRefusal) -> Self {
+        match refusal {
+            StartRefusal::DiskFault => MergeRefusal::DiskFault,
+            StartRefusal::Damaged { at } => MergeRefusal::Damaged { at },
+        }
+    }
+}
+
+impl From<ArchiveRefusal> for MergeRefusal {
+    ghost from_gives = { λ r e. e ≡ merge_from_archive r };
+
+    fn from(refusal: ArchiveRefusal) -> Self {
+        match refusal {
+            ArchiveRefusal::DiskFault => MergeRefusal::DiskFault,
+            ArchiveRefusal::Damaged { at } => MergeRefusal::Damaged { at },
+            ArchiveRefusal::OutOfMemory => MergeRefusal::OutOfMemory,
+        }
+    }
+}
+
+impl From<RegisterRefusal> for MergeRefusal {
+    ghost from_gives = { λ r e. e ≡ merge_from_register r };
+
+    fn from(refusal: RegisterRefusal) -> Self {
+        match refusal {
+            RegisterRefusal::OutOfMemory => MergeRefusal::OutOfMemory,
+            RegisterRefusal::ArchiveFull { end, need } => MergeRefusal::ArchiveFull { end, need },
+            RegisterRefusal::DiskFault => MergeRefusal::DiskFault,
+        }
+    }
+}
+
+/// The refusal of a merge where the second archive was not opened.
+pub fn of_second(refusal: ArchiveRefusal) -> MergeRefusal
+    ensures { result ≡ merge_from_second refusal }
+{
+    match refusal {
+        ArchiveRefusal::DiskFault => MergeRefusal::DiskFault,
+        ArchiveRefusal::Damaged { at } => MergeRefusal::SecondDamaged { at },
+        ArchiveRefusal::OutOfMemory => MergeRefusal::OutOfMemory,
+    }
 }

@@ -46,6 +46,10 @@ pub enum Refusal {
     Full { book: Which, count: u32 },
     /// Records do not fit the archive's limit of length: it ends at `end`, and they need `need` bytes.
     ArchiveFull { end: u64, need: u64 },
+    /// The second archive's bytes are no archive: a place that is not before the first damage.
+    SecondDamaged { at: u64 },
+    /// The second archive is of another version than the archive, which has `first`.
+    VersionDiffers { first: u32, second: u32 },
 }
 
 /// Writes the pieces one after the other, until one fails, and tells whether all went out. Takes no
@@ -146,6 +150,23 @@ fn say_too_many<K: Sink>(err: &mut K, held: u64, more: u64)
     );
 }
 
+/// Writes which versions two archives are of. Takes no memory.
+fn say_versions<K: Sink>(err: &mut K, first: u32, second: u32)
+    ensures said { Says
+        (K.written err.old) (K.written err.new) (K.faults err.old) (K.faults err.new)
+        (line_of [] (Refusal.VersionDiffers first second)) }
+    ensures later { K.faults err.old ≤ K.faults err.new }
+{
+    say_numbers(
+        err,
+        &[b"clpa: second archive: version "],
+        u64::from(second),
+        b", the archive has ",
+        u64::from(first),
+        b"\n",
+    );
+}
+
 /// Writes which dictionary is full. Takes no memory.
 fn say_full<K: Sink>(err: &mut K, name: &[u8], book: Which, count: u32)
     ensures said { Says
@@ -228,6 +249,10 @@ fn say_line<K: Sink>(err: &mut K, name: &[u8], refusal: Refusal)
         Refusal::ArchiveFull { end, need } => {
             say_archive_full(err, &[b"clpa: archive: full at "], end, need);
         }
+        Refusal::SecondDamaged { at } => {
+            say_number(err, &[b"clpa: second archive: damaged at "], at, b"\n");
+        }
+        Refusal::VersionDiffers { first, second } => say_versions(err, first, second),
     }
 }
 
@@ -244,13 +269,14 @@ fn status_code(refusal: Refusal) -> u8
         | Refusal::TooManyLines
         | Refusal::Full { .. } => 4,
         Refusal::DiskFault => 5,
-        Refusal::Damaged { .. } => 6,
+        Refusal::Damaged { .. } | Refusal::SecondDamaged { .. } => 6,
         Refusal::SinkFault => 7,
         Refusal::NotEmpty { .. }
         | Refusal::NoSuchFile { .. }
         | Refusal::NameTooLong { .. }
         | Refusal::TooManyFiles { .. }
-        | Refusal::ArchiveFull { .. } => 8,
+        | Refusal::ArchiveFull { .. }
+        | Refusal::VersionDiffers { .. } => 8,
         Refusal::OutOfMemory => 9,
     }
 }
@@ -270,27 +296,29 @@ pub fn report<K: Sink>(err: &mut K, name: &str, refusal: Refusal) -> u8
 
 /// Writes the line of a refusal that came of a file with this name, and answers its status. Takes no
 /// memory.
-pub fn report_file<K: Sink>(err: &mut K, name: &str, refusal: Refusal) -> u8
+pub fn report_file<K: Sink>(err: &mut K, name: &[u8], refusal: Refusal) -> u8
     ensures status { result ≡ file_status_of refusal }
     ensures said { Says
         (K.written err.old) (K.written err.new) (K.faults err.old) (K.faults err.new)
         (file_line_of name.now refusal) }
     ensures later { K.faults err.old ≤ K.faults err.new }
 {
-    let bytes = name.as_bytes();
     match refusal {
         Refusal::DiskFault => {
-            say(err, &[b"clpa: ", bytes, b": disk failed\n"]);
+            say(err, &[b"clpa: ", name, b": disk failed\n"]);
             5
         }
         Refusal::OutOfMemory => {
-            say(err, &[b"clpa: ", bytes, b": out of memory\n"]);
+            say(err, &[b"clpa: ", name, b": out of memory\n"]);
             9
         }
         Refusal::ArchiveFull { end, need } => {
-            say_archive_full(err, &[b"clpa: ", bytes, b": archive full at "], end, need);
+            say_archive_full(err, &[b"clpa: ", name, b": archive full at "], end, need);
             4
         }
-        _ => report(err, name, refusal),
+        _ => {
+            say_line(err, name, refusal);
+            status_code(refusal)
+        }
     }
 }

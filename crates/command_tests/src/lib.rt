@@ -14,6 +14,8 @@ mod ingest_tests;
 #[cfg(test)]
 mod log_tests;
 #[cfg(test)]
+mod merge_tests;
+#[cfg(test)]
 mod outside;
 #[cfg(test)]
 mod search_tests;

@@ -115,7 +115,32 @@ where
     run(rt, alloc, words, logs, archive, second, out, err)
 }
 
-/// Calls `run` with these words, over the logs, the archive's disk and outputs with so much room.
+/// Calls `run` with these words, over the logs, the disks of the archive and of a second one, and outputs
+/// with so much room.
+fn beside<R: Threads + Wait + Sync>(
+    rt: &R,
+    alloc: Global,
+    words: &[String],
+    logs: &mut MemShelf,
+    archive: &mut MemDisk,
+    second: &mut MemDisk,
+    rooms: Rooms,
+) -> Result<Outcome, AllocError> {
+    let mut outcome = nothing(alloc, rooms)?;
+    outcome.status = answer(
+        rt,
+        alloc,
+        words,
+        logs,
+        archive,
+        second,
+        &mut outcome.out,
+        &mut outcome.err,
+    );
+    Ok(outcome)
+}
+
+/// The same where there is no second archive.
 pub(crate) fn listed<R: Threads + Wait + Sync>(
     rt: &R,
     alloc: Global,
@@ -125,18 +150,30 @@ pub(crate) fn listed<R: Threads + Wait + Sync>(
     rooms: Rooms,
 ) -> Result<Outcome, AllocError> {
     let mut second = MemDisk::new(alloc, Text::new(Vec::new(alloc)), 0, 0, Vec::new(alloc))?;
-    let mut outcome = nothing(alloc, rooms)?;
-    outcome.status = answer(
+    beside(rt, alloc, words, logs, archive, &mut second, rooms)
+}
+
+/// Whether the words are told so over no log and two archives, by outputs that take all.
+pub(crate) fn tells_beside<R: Threads + Wait + Sync>(
+    rt: &R,
+    alloc: Global,
+    row: &Told,
+    archive: &mut MemDisk,
+    second: &mut MemDisk,
+) -> Result<bool, AllocError> {
+    let (words, status, out, err) = *row;
+    let words = list_of(alloc, words)?;
+    let mut logs = MemShelf::new(alloc, Vec::new(alloc), Vec::new(alloc));
+    let outcome = beside(
         rt,
         alloc,
-        words,
-        logs,
+        words.as_slice(),
+        &mut logs,
         archive,
-        &mut second,
-        &mut outcome.out,
-        &mut outcome.err,
-    );
-    Ok(outcome)
+        second,
+        AMPLE,
+    )?;
+    Ok(outcome.is(status, out, err))
 }
 
 /// The same with words as they stand in a table.

@@ -64,6 +64,9 @@ count = command (codes "count")
     (needed (codes "by") ∷ option (codes "from") ∷ option (codes "to")
     ∷ flag (codes "stats") ∷ word (codes "pattern") ∷ [])
 
+abbrev pub merge : Shape
+merge = command (codes "merge") []
+
 abbrev pub bench : Shape
 bench = command (codes "bench")
     (word (codes "number") ∷ word (codes "lines") ∷ word (codes "workers") ∷ [])
@@ -80,5 +83,5 @@ top = record (new_shape (codes "clpa")) {
 abbrev pub clpa : App
 clpa = record {
   top = record top { is_leaf = false };
-  subs = show ∷ scan ∷ create ∷ ingest ∷ files ∷ check ∷ decode ∷ search ∷ count ∷ bench ∷ [];
+  subs = show ∷ scan ∷ create ∷ ingest ∷ files ∷ check ∷ decode ∷ search ∷ count ∷ merge ∷ bench ∷ [];
 }

@@ -27,6 +27,8 @@ pub enum Command<'a> {
     Search { asked: SearchWords<'a> },
     /// `count --by KEY [--from MS] [--to MS] [--stats] PATTERN`
     Count { asked: CountWords<'a> },
+    /// `merge`
+    Merge,
     /// `bench NUMBER LINES WORKERS`
     Bench { asked: BenchWords },
 }

@@ -141,5 +141,6 @@ pub(crate) fn commands<'a>(alloc: Global) -> Result<Command<'a>, AllocError>
         .subcommand(decode(alloc)?)?
         .subcommand(search(alloc)?)?
         .subcommand(count(alloc)?)?
+        .subcommand(Command::new(alloc, "merge"))?
         .subcommand(bench(alloc)?)
 }

@@ -288,6 +288,7 @@ pub(crate) fn read_command<'a>(
         "decode" => Ok(decode(found)),
         "search" => Ok(search(found)),
         "count" => Ok(count(found)),
+        "merge" => Ok(Some(Command::Merge)),
         "bench" => Ok(bench(found)),
         _ => Ok(None),
     }

@@ -8,6 +8,8 @@ mod damage_tests;
 #[cfg(test)]
 mod fault_tests;
 #[cfg(test)]
+mod merge_tests;
+#[cfg(test)]
 mod output_tests;
 #[cfg(test)]
 mod outside;

@@ -132,7 +132,8 @@ where
     run(rt, alloc, words, logs, archive, second, out, err)
 }
 
-/// Calls `run` with these words, over logs, the archive's disk and outputs whose writes may fail.
+/// Calls `run` with these words, over logs, the archive's disk and outputs whose writes may fail, where
+/// there is no second archive.
 pub(crate) fn call<R: Threads + Wait + Sync, H: Shelf>(
     rt: &R,
     alloc: Global,
@@ -144,8 +145,24 @@ pub(crate) fn call<R: Threads + Wait + Sync, H: Shelf>(
 where
     H::Src: Send,
 {
-    let words = list_of(alloc, words)?;
     let mut second = MemDisk::new(alloc, Text::new(Vec::new(alloc)), 0, 0, Vec::new(alloc))?;
+    beside(rt, alloc, words, logs, archive, &mut second, faults)
+}
+
+/// The same beside a second archive.
+fn beside<R: Threads + Wait + Sync, H: Shelf>(
+    rt: &R,
+    alloc: Global,
+    words: &[&str],
+    logs: &mut H,
+    archive: &mut MemDisk,
+    second: &mut MemDisk,
+    faults: Faults,
+) -> Result<Outcome, AllocError>
+where
+    H::Src: Send,
+{
+    let words = list_of(alloc, words)?;
     let mut outcome = nothing(alloc, faults)?;
     outcome.status = answer(
         rt,
@@ -153,11 +170,22 @@ where
         words.as_slice(),
         logs,
         archive,
-        &mut second,
+        second,
         &mut outcome.out,
         &mut outcome.err,
     );
     Ok(outcome)
+}
+
+/// Adds the files of a second archive.
+pub(crate) fn merge<R: Threads + Wait + Sync>(
+    rt: &R,
+    alloc: Global,
+    archive: &mut MemDisk,
+    second: &mut MemDisk,
+) -> Result<Outcome, AllocError> {
+    let mut logs = MemShelf::new(alloc, Vec::new(alloc), Vec::new(alloc));
+    beside(rt, alloc, &["merge"], &mut logs, archive, second, SOUND)
 }
 
 /// Whether the words are told so over logs and the archive's disk, by outputs that never fail.

@@ -29,6 +29,7 @@ const NO_FORM: &[&[&str]] = &[
     &["scan", "p"],
     &["scan", "p", "f", "g"],
     &["files", "a"],
+    &["merge", "a"],
     &["check", "--stats"],
     &["help"],
     &["help", "show"],

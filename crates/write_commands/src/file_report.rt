@@ -61,7 +61,7 @@ fn report_one<K: Sink>(err: &mut K, file: &FileReport<'_>) -> u8
 {
     match file.refusal {
         None => 0,
-        Some(cause) => report_file(err, file.name, refusal_of_part(cause)),
+        Some(cause) => report_file(err, file.name.as_bytes(), refusal_of_part(cause)),
     }
 }
 

@@ -22,7 +22,7 @@ impl Base for Brand {
 }
 
 /// A disk that is lent, for proofs alone.
-pub(crate) trait Lent {
+pub trait Lent {
     /// Which borrow it is.
     ghost name: { ℕ };
 
@@ -43,9 +43,11 @@ impl Lent for Brand {
 
 /// The same disk, whose bytes are told only where they are to be.
 #[derive(Drop)]
-pub(crate) struct Founded<'d, D: Disk, L: Lent> {
-    pub(crate) disk: &'d mut D,
-    pub(crate) lent: PhantomData<L>,
+pub struct Founded<'d, D: Disk, L: Lent> {
+    /// The disk.
+    pub disk: &'d mut D,
+    /// Which borrow it is.
+    pub lent: PhantomData<L>,
     ghost same: { disk.ghost_name ≡ L.name },
     ghost told: { is_some (D.state disk.now).seen ≡ L.told },
 }

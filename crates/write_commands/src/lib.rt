@@ -11,6 +11,6 @@ mod register;
 mod summary;
 
 pub use bench_archive::bench;
-pub use founded::Base;
+pub use founded::{Base, Founded, Lent};
 pub use ingest::{NewLogs, ingest_files};
 pub use laws::{rests_end_their_log, unopened_give_nothing};

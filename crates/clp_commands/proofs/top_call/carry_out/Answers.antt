@@ -108,3 +108,16 @@ returns-in-Bench-clause-keeps g c = λ none. absurd (none (rw (c.in-Bench.is) tt
 
 pub returns-in-Bench-clause-untouched : goal.returns-in-Bench-clause-untouched
 returns-in-Bench-clause-untouched g c = λ none. absurd (none (rw (c.in-Bench.is) tt))
+
+pub returns-in-Merge-clause-answers : goal.returns-in-Merge-clause-answers
+returns-in-Merge-clause-answers g c =
+    rw (c.in-Merge.is) (c.merge_archives.ensures.answers _ _ _ _)
+
+pub returns-in-Merge-clause-keeps : goal.returns-in-Merge-clause-keeps
+returns-in-Merge-clause-keeps g c = λ none. absurd (none (rw (c.in-Merge.is) tt))
+
+pub returns-in-Merge-clause-untouched : goal.returns-in-Merge-clause-untouched
+returns-in-Merge-clause-untouched g c = λ none. absurd (none (rw (c.in-Merge.is) tt))
+
+pub returns-in-Merge-clause-second : goal.returns-in-Merge-clause-second
+returns-in-Merge-clause-second g c = λ none. absurd (none (rw (c.in-Merge.is) refl))

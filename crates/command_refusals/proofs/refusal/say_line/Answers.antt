@@ -51,3 +51,9 @@ returns-in-Full-clause-said g c = Says-same _ _ _ _ _ (line_of c.args.name.now c
 
 pub returns-in-ArchiveFull-clause-said : goal.returns-in-ArchiveFull-clause-said
 returns-in-ArchiveFull-clause-said g c = Says-same _ _ _ _ _ (line_of c.args.name.now c.args.refusal) (rw c.in-ArchiveFull.is refl) c.say_archive_full.ensures.said
+
+pub returns-in-SecondDamaged-clause-said : goal.returns-in-SecondDamaged-clause-said
+returns-in-SecondDamaged-clause-said g c = Says-same _ _ _ _ _ (line_of c.args.name.now c.args.refusal) (rw c.in-SecondDamaged.is refl) c.say_number-in-SecondDamaged.ensures.said
+
+pub returns-in-VersionDiffers-clause-said : goal.returns-in-VersionDiffers-clause-said
+returns-in-VersionDiffers-clause-said g c = Says-same _ _ _ _ _ (line_of c.args.name.now c.args.refusal) (rw c.in-VersionDiffers.is refl) c.say_versions.ensures.said

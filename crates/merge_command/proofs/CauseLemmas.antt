@@ -1,0 +1,78 @@
+-- What a refusal of a merge rests on, as it is told.
+use Rattle.std.proofs.Common.{◌≡◌, ◌+◌, ◌<◌, ◌≤◌, ◌⊎◌, refl, ap, subst, ◌∙◌, ℕ, zero, suc, true, List, [], ◌∷◌, length, Some, arith}
+use Rattle.std.specs.Prelude.{is_some, min, slice_get}
+use Rattle.std.specs.List.{Contains}
+use mathlib.Core.List.{IsPrefix}
+use Rattle.std.proofs.lemmas.Option.{get_or_from_slice_get, slice_get_within}
+use Rattle.log_seams.specs.declared.disk.Disk.{Ghosts as DiskGhosts}
+use Rattle.record_format.specs.declared.header.Header.{Header}
+use Rattle.disk_journal.specs.Journal.{state_of}
+use Rattle.disk_journal.specs.declared.journal.Journal.{Journal}
+use Rattle.row_codec.specs.declared.namer.Which.{Which}
+use Rattle.row_codec.specs.declared.namer.Which.TheVariants.{Types, Words}
+use Rattle.archive_meaning.specs.declared.entry.JournalEntry.{JournalEntry}
+use Rattle.archive_meaning.specs.Held.{Held}
+use Rattle.archive_meaning.specs.Spelled.{end_of}
+use Rattle.archive_open.specs.Kept.{Kept}
+use Rattle.archive_open.specs.Shown.{IsArchiveOf, Shown}
+use Rattle.archive_open.specs.declared.files.FileEntry.{FileEntry}
+use Rattle.ingest_meaning.specs.Dictionaries.{HasTextsBehind, IsFullBy, book_texts, header_limits, limit_of}
+use Rattle.ingest_meaning.specs.Room.{needed_behind}
+use Rattle.ingest_workers.specs.Ingested.{told_entries}
+use Rattle.archive_merge.specs.Behind.{AreOfBoth, IsFullByBoth, LackedRoom, SecondView, old_texts}
+use Rattle.archive_merge.specs.Laws.{view_in}
+use Rattle.archive_merge.specs.declared.file.Merged.{Merged}
+use Rattle.file_lines.specs.Directory.{FileLine}
+use Rattle.command_answers.specs.Merging.{IsFullOfBoth, LacksRoom, texts_held}
+use Rattle.merge_command.specs.Came.{lines_by, name_in}
+use Rattle.write_commands.proofs.LeavesLemmas.{of_told}
+
+-- ---- texts
+
+-- the texts of the second archive are those that its journal holds
+pub texts_same : (s : SecondView) (b : Shown) (bytes : List ℕ) (g : Header) (es : List JournalEntry) (other : Held) → s ≡ view_in bytes b → IsArchiveOf b g es other → (book : Which) → old_texts s book ≡ texts_held book other
+texts_same s b bytes g es other view is Types = ap (λ (v : SecondView). v.texts.types) view ∙ ap (λ (k : Kept). k.types) is.kept
+texts_same s b bytes g es other view is Words = ap (λ (v : SecondView). v.texts.words) view ∙ ap (λ (k : Kept). k.words) is.kept
+
+module _ {D : Type 0} {d : DiskGhosts D} (s : SecondView) (h : Header) (before : List JournalEntry) (j after : Journal D d) (told : is_some (state_of j).disk.seen ≡ true) (header : j.header ≡ h) (entries : told_entries (state_of j) ≡ before)
+    (es : List JournalEntry) (left : told_entries (state_of after) ≡ es) (other : Held) (texts : (book : Which) → old_texts s book ≡ texts_held book other) where
+  -- a dictionary that is full
+  pub full_of_both : (book : Which) (count : ℕ) → IsFullByBoth s j book count → IsFullOfBoth h before other book count
+  full_of_both book count full =
+      subst (λ ts. (count ≡ limit_of (header_limits h) book) × IsFullBy (λ t. Contains (book_texts book before) t ⊎ Contains ts t) (Contains ts) count) (texts book)
+      (subst (λ es. (count ≡ limit_of (header_limits h) book) × IsFullBy (λ t. Contains (book_texts book es) t ⊎ Contains (old_texts s book) t) (Contains (old_texts s book)) count) entries
+      (subst (λ x. (count ≡ limit_of (header_limits x) book) × IsFullBy (λ t. Contains (book_texts book (told_entries (state_of j))) t ⊎ Contains (old_texts s book) t) (Contains (old_texts s book)) count) header
+      (of_told (is_some (state_of j).disk.seen) told full)))
+
+  -- a segment that does not fit
+  pub lacks_room : (file end need : ℕ) → h.length_limit < end + need → LackedRoom (AreOfBoth s) s file j after end need → LacksRoom h before es other end need
+  lacks_room file end need past lacked = record {
+    front = lacked.front;
+    begins = (subst (λ l. IsPrefix l lacked.front) entries lacked.between.0, subst (λ l. IsPrefix lacked.front l) left lacked.between.1);
+    ends = subst (λ x. end ≡ end_of x lacked.front) header lacked.ends;
+    past = past;
+    texts = in_book;
+    are = are;
+    segment = lacked.segment;
+    needs = lacked.needs ∙ ap (λ ns. min (needed_behind lacked.segment ns lacked.front lacked.types lacked.words) 18446744073709551615) lacked.numbers_are;
+  }
+    where
+      in_book : Which → List (List ℕ)
+      in_book Types = lacked.types
+      in_book Words = lacked.words
+
+      are : (book : Which) → HasTextsBehind (Contains (texts_held book other)) (book_texts book lacked.front) (in_book book)
+      are Types = subst (λ ts. HasTextsBehind (Contains ts) (book_texts Types lacked.front) lacked.types) (texts Types) lacked.has_types
+      are Words = subst (λ ts. HasTextsBehind (Contains ts) (book_texts Words lacked.front) lacked.words) (texts Words) lacked.has_words
+
+-- ---- the file that stopped a merge
+
+-- there is a line of each new file, with its name
+pub line_at : (files : List FileEntry) (ms : List Merged) (place : ℕ) (m : Merged) → length ms ≤ length files → slice_get ms place ≡ Some m → (line : FileLine) × (slice_get (lines_by files ms) place ≡ Some line) × (line.name ≡ name_in (slice_get files place))
+line_at files [] place m few at = absurd (cc (at))
+line_at [] (x ∷ ms) place m few at = absurd (omega (arith, few))
+line_at (f ∷ files) (x ∷ ms) zero m few at = (record { name = f.name; messages = x.messages; whole = x.whole }, refl, refl)
+line_at (f ∷ files) (x ∷ ms) (suc place) m few at = line_at files ms place m (omega (arith, few)) at
+
+pub contains_at : {A : Type 0} (xs : List A) (i : ℕ) (x : A) → slice_get xs i ≡ Some x → Contains xs x
+contains_at xs i x at = (i, slice_get_within xs i x at, get_or_from_slice_get xs i x x at)

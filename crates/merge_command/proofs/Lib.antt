@@ -1,0 +1,9 @@
+mod AnswerLemmas
+mod CauseLemmas
+mod ContentLemmas
+mod LineLemmas
+mod MergedLemmas
+mod OverLemmas
+mod RefusedLemmas
+mod TakesOverLemmas
+mod WholeLemmas

@@ -1,0 +1,201 @@
+-- Why not all was merged, as it is told of both disks and of both journals; and all that a merge leaves.
+use Rattle.std.proofs.Common.{◌≡◌, ◌≢◌, ◌+◌, ◌-◌, ◌<◌, ◌≤◌, inl, inr, refl, sym, ap, ap₂, subst, ◌∙◌, ℕ, true, List, [], ◌∷◌, ◌++◌, length, map, take, drop, Option, Some, None, arith}
+use Rattle.std.specs.Prelude.{All, IfSome, is_some, option_map, slice_get}
+use Rattle.std.specs.List.{Contains}
+use Rattle.std.proofs.lemmas.List.{length-map}
+use Rattle.std.proofs.lemmas.List.Elements.{All-append, All-nil}
+use Rattle.log_seams.specs.Disk.{DiskState, IsLawful, KeepsBytes}
+use Rattle.log_seams.specs.Outside.{Rose}
+use Rattle.log_seams.specs.declared.disk.Disk.{Ghosts as DiskGhosts}
+use Rattle.log_seams.proofs.MomentLemmas.{keeps_leave, rose, weaker}
+use Rattle.logtype_text.specs.Fair.{IsFairType, IsFairWord}
+use Rattle.record_format.specs.declared.header.Header.{Header}
+use Rattle.disk_journal.specs.Journal.{state_of}
+use Rattle.disk_journal.specs.State.{JournalState}
+use Rattle.disk_journal.specs.declared.journal.Journal.{Journal}
+use Rattle.disk_seal.specs.declared.files.RegisterRefusal.{RegisterRefusal}
+use Rattle.disk_seal.specs.declared.files.RegisterRefusal.TheVariants.{DiskFault}
+use Rattle.archive_meaning.specs.declared.entry.JournalEntry.{JournalEntry}
+use Rattle.archive_meaning.specs.declared.entry.JournalEntry.TheVariants.{Files, Types, Words, Segment}
+use Rattle.archive_meaning.specs.Held.{Held, nothing_held}
+use Rattle.archive_meaning.specs.Legal.{AreNamed, Run}
+use Rattle.archive_meaning.specs.Spelled.{end_of}
+use Rattle.archive_meaning.specs.Stands.{StandsFor}
+use Rattle.archive_open.specs.Shown.{HasLastGate, IsArchiveOf, IsGate, Opens, RefusedAt, Shown, StandsForNone}
+use Rattle.archive_open.specs.declared.files.FileEntry.{FileEntry}
+use Rattle.ingest_meaning.specs.Room.{files_size}
+use Rattle.ingest_workers.specs.Ingested.{told_entries}
+use Rattle.search_walk.specs.Journal.{OfJournal}
+use Rattle.archive_merge.specs.Behind.{AreOfBoth, HasRun, HasStopped, IsFullByBoth, SecondView}
+use Rattle.archive_merge.specs.Laws.{FilesAreRuns, TextsAreFair, view_in}
+use Rattle.archive_merge.specs.Merging.{HasMergeCause, HasMergedAll}
+use Rattle.archive_merge.specs.Named.{IsShort, names_of}
+use Rattle.archive_merge.specs.Runs.{SoFar, held_of}
+use Rattle.archive_merge.specs.declared.cause.MergeCause.{MergeCause}
+use Rattle.archive_merge.specs.declared.cause.MergeCause.TheVariants.{ArchiveFull, FirstFault, Full, OutOfMemory, SecondDamaged, SecondFault}
+use Rattle.archive_merge.specs.declared.file.Merged.{Merged}
+use Rattle.archive_merge.specs.declared.refusal.MergeRefusal.{MergeRefusal as Why}
+use Rattle.archive_merge.specs.declared.refusal.MergeRefusal.TheVariants.{LongName, Names, Stopped, OutOfMemory as NoMemory}
+use Rattle.file_lines.specs.Directory.{FileLine}
+use Rattle.command_refusals.specs.GoesOn.{DiskGoesOn}
+use Rattle.command_refusals.specs.Reading.{OverJournal}
+use Rattle.command_answers.specs.Ingested.{FromArchive}
+use Rattle.command_answers.specs.Merging.{HasDiskCause, HasJournalCause, IsStopped, Merge, Merges, TakesOver}
+use Rattle.merge_command.specs.Came.{lines_by, name_at, name_in, place_stopped, refusal_by}
+use Rattle.write_commands.specs.JournalLeft.{StandsBetween}
+use Rattle.write_commands.proofs.AppendLemmas.{OpensFrom, files_counted}
+use Rattle.write_commands.proofs.LeavesLemmas.{begun_sooner, from_archive, of_told, prefix_same, still_between}
+use Rattle.merge_command.proofs.CauseLemmas.{contains_at, full_of_both, lacks_room, line_at, texts_same}
+use Rattle.merge_command.proofs.OverLemmas.{names_shown}
+
+-- ---- bytes that stand for no journal
+
+-- a legal archive's names are short
+names_grow : (h : Header) (held more : Held) (es : List JournalEntry) (count : ℕ) → Run h held es more → AreNamed count es → All IsShort held.names → All IsShort more.names
+names_grow h held more [] count run named short = subst (λ (x : Held). All IsShort x.names) (sym run) short
+names_grow h held more (Files names ∷ es) count run named short =
+    names_grow h run.0 more es (count + length names) run.2 named.4
+    (subst (λ (x : Held). All IsShort x.names) (sym run.1) (All-append IsShort held.names names short named.2))
+names_grow h held more (Types first texts ∷ es) count run named short =
+    names_grow h run.0 more es count run.2 named (subst (λ (x : Held). All IsShort x.names) (sym run.1.1) short)
+names_grow h held more (Words first texts ∷ es) count run named short =
+    names_grow h run.0 more es count run.2 named (subst (λ (x : Held). All IsShort x.names) (sym run.1.1) short)
+names_grow h held more (Segment s ∷ es) count run named short =
+    names_grow h run.0 more es count run.2 named.1 (subst (λ (x : Held). All IsShort x.names) (sym run.1.2) short)
+
+-- so bytes whose archive has a long name stand for none
+long_none : (b : Shown) (bytes : List ℕ) → Opens (Some bytes) b → ¬ All IsShort (names_of b.files) → StandsForNone bytes
+long_none b bytes opens long = λ h es stands.
+    long (subst (All IsShort) (sym (names_shown b h es stands.legal.held (opens h es stands)))
+    (names_grow h nothing_held stands.legal.held es 0 stands.legal.run stands.legal.named (All-nil IsShort)))
+
+-- and so do bytes whose archive has a file with segments that are no run
+damaged_none : (runs : FilesAreRuns) (fair : TextsAreFair) (s : SecondView) (b : Shown) (file : ℕ) (bytes : List ℕ) → s ≡ view_in bytes b → Opens (Some bytes) b
+    → (All IsFairType s.texts.types → All IsFairWord s.texts.words → (all : SoFar) → ¬ HasRun s file all) → StandsForNone bytes
+damaged_none runs fair s b file bytes view opens cause = λ h es stands.
+    let is = opens h es stands in
+    let texts = fair bytes h es b stands is in
+    cause
+    (subst (λ (v : SecondView). All IsFairType v.texts.types) (sym view) texts.0)
+    (subst (λ (v : SecondView). All IsFairWord v.texts.words) (sym view) texts.1)
+    (held_of file stands.legal.held) (subst (λ v. HasRun v file (held_of file stands.legal.held)) (sym view) (runs bytes h es b file stands is))
+
+-- the last gate of an archive is told where its bytes stand for none
+refused_last : (told : Option (List ℕ)) (b : Shown) (last : ℕ) → last ≡ b.end - 1 → HasLastGate told b → ((bytes : List ℕ) → told ≡ Some bytes → StandsForNone bytes) → RefusedAt last told
+refused_last None b last same gate none = tt
+refused_last (Some bytes) b last same gate none = record {
+  none = none bytes refl;
+  behind = λ first damage. subst (λ n. first ≤ n) (sym same) (gate.behind first damage);
+  gate = inr (subst (λ n. IsGate n bytes) (sym same) gate.gate);
+}
+
+-- ---- the causes
+
+-- what holds of each journal that the bytes stand for, whose archive was opened
+pub over_opened : (told : Option (List ℕ)) (b : Shown) (P : Header → List JournalEntry → Held → Type 0) → Opens told b
+    → ((bytes : List ℕ) (g : Header) (es : List JournalEntry) (held : Held) → told ≡ Some bytes → IsArchiveOf b g es held → P g es held) → OfJournal told P
+over_opened None b P opens each = tt
+over_opened (Some bytes) b P opens each = λ g es stood. each bytes g es stood.legal.held refl (opens g es stood)
+
+length-lines : (files : List FileEntry) (ms : List Merged) → length ms ≤ length files → length (lines_by files ms) ≡ length ms
+length-lines files [] few = refl
+length-lines [] (m ∷ ms) few = absurd (omega (arith, few))
+length-lines (f ∷ files) (m ∷ ms) few = omega (arith, length-lines files ms (omega (arith, few)))
+
+module _ (runs : FilesAreRuns) (fair : TextsAreFair) {D : Type 0} {d : DiskGhosts D} (j after : Journal D d)
+    (s : SecondView) (b : Shown) (opens : Opens s.told b) (view : (bytes : List ℕ) → s.told ≡ Some bytes → s ≡ view_in bytes b)
+    (first : ℕ) (ms : List Merged) (few : length ms ≤ length b.files) (numbers : (i : ℕ) (x : Merged) → slice_get ms i ≡ Some x → x.file ≡ first + i) (last : ℕ) where
+
+  opens_at : (bytes : List ℕ) → s.told ≡ Some bytes → Opens (Some bytes) b
+  opens_at bytes is = subst (λ o. Opens o b) is opens
+
+  -- by the disks
+  pub disk_cause : last ≡ b.end - 1 → HasLastGate s.told b → (old second second_new : DiskState) → old.faults ≤ (state_of j).disk.faults → second.seen ≡ s.told
+      → (w : Why) → HasMergeCause s first (names_of b.files) ms j after w → ((file : ℕ) → w ≡ Stopped file SecondFault → Rose second.faults second_new.faults)
+      → HasDiskCause old (state_of after).disk second second_new (refusal_by last w)
+  disk_cause same gate old second second_new risen seen LongName cause fault =
+      subst (RefusedAt last) (sym seen) (refused_last s.told b last same gate (λ bytes is. long_none b bytes (opens_at bytes is) cause.0))
+  disk_cause same gate old second second_new risen seen (Names RegisterRefusal.OutOfMemory) cause fault = tt
+  disk_cause same gate old second second_new risen seen (Names (RegisterRefusal.ArchiveFull end need)) cause fault = tt
+  disk_cause same gate old second second_new risen seen (Names RegisterRefusal.DiskFault) cause fault =
+      inl (rose old.faults (state_of j).disk.faults (state_of after).disk.faults (state_of after).disk.faults risen cause (omega arith))
+  disk_cause same gate old second second_new risen seen (Stopped file (Full book count)) cause fault = tt
+  disk_cause same gate old second second_new risen seen (Stopped file (ArchiveFull end need)) cause fault = tt
+  disk_cause same gate old second second_new risen seen (Stopped file (FirstFault opened now)) cause fault =
+      inl (rose old.faults (state_of j).disk.faults (state_of after).disk.faults (state_of after).disk.faults risen
+      (subst (λ n. Rose n (state_of after).disk.faults) cause.cause.0 cause.cause.1) (omega arith))
+  disk_cause same gate old second second_new risen seen (Stopped file SecondFault) cause fault = inr (fault file refl)
+  disk_cause same gate old second second_new risen seen (Stopped file SecondDamaged) cause fault =
+      subst (RefusedAt last) (sym seen) (refused_last s.told b last same gate
+      (λ bytes is. damaged_none runs fair s b (cause.file.file - first) bytes (view bytes is) (opens_at bytes is) cause.cause))
+  disk_cause same gate old second second_new risen seen (Stopped file OutOfMemory) cause fault = tt
+  disk_cause same gate old second second_new risen seen NoMemory cause fault = tt
+
+  -- the file that stopped it
+  is_stopped : (file : ℕ) (cause : MergeCause) → HasStopped (IsFullByBoth s j) (AreOfBoth s) s first ms j after (record { file = file; cause = cause })
+      → (m : Merge) → m.files ≡ lines_by b.files ms → m.name ≡ name_at b.files (Some (file - first)) → IsStopped m
+  is_stopped file cause stopped m files name =
+      let l = line_at b.files ms stopped.place stopped.file few stopped.is in
+      let place : stopped.place ≡ file - first = omega (arith, stopped.file_is, numbers stopped.place stopped.file stopped.is) in (
+        l.0,
+        subst (λ ls. Contains ls l.0) (sym files) (contains_at (lines_by b.files ms) stopped.place l.0 l.1),
+        l.2 ∙ (ap (λ p. name_in (slice_get b.files p)) place ∙ sym name),
+      )
+
+  -- by both journals
+  pub journal_cause : (h : Header) (before added : List JournalEntry) (held : ℕ) → is_some (state_of j).disk.seen ≡ true → j.header ≡ h → told_entries (state_of j) ≡ before
+      → (m : Merge) → m.files ≡ lines_by b.files ms → (w : Why) → (w ≢ Names DiskFault → told_entries (state_of after) ≡ before ++ added) → m.name ≡ name_at b.files (place_stopped first (Some w))
+      → HasMergeCause s first (names_of b.files) ms j after w → OfJournal s.told (λ g es other. HasJournalCause h before (before ++ added) held g other m (refusal_by last w))
+  journal_cause h before added held told header entries m files LongName left name cause =
+      over_opened s.told b (λ g es other. HasJournalCause h before (before ++ added) held g other m (refusal_by last LongName)) opens (λ bytes g es other is shown. tt)
+  journal_cause h before added held told header entries m files (Names RegisterRefusal.OutOfMemory) left name cause =
+      over_opened s.told b (λ g es other. HasJournalCause h before (before ++ added) held g other m (refusal_by last (Names RegisterRefusal.OutOfMemory))) opens (λ bytes g es other is shown. tt)
+  journal_cause h before added held told header entries m files (Names (RegisterRefusal.ArchiveFull end need)) left name cause =
+      over_opened s.told b (λ g es other. HasJournalCause h before (before ++ added) held g other m (refusal_by last (Names (RegisterRefusal.ArchiveFull end need)))) opens (λ bytes g es other is shown. (
+        subst (λ x. end ≡ end_of x (before ++ added)) header (subst (λ l. end ≡ end_of j.header l) (left (λ e. absurd (cc (e)))) (of_told (is_some (state_of j).disk.seen) told cause.2)),
+        cause.1 ∙ ap₂ (λ n ns. files_size (take 512 (drop n ns))) (sym (ap length files ∙ length-lines b.files ms few)) (names_shown b g es other shown),
+        subst (λ (x : Header). x.length_limit < end + need) header cause.0,
+      ))
+  journal_cause h before added held told header entries m files (Names RegisterRefusal.DiskFault) left name cause =
+      over_opened s.told b (λ g es other. HasJournalCause h before (before ++ added) held g other m (refusal_by last (Names RegisterRefusal.DiskFault))) opens (λ bytes g es other is shown. tt)
+  journal_cause h before added held told header entries m files (Stopped file (Full book count)) left name cause =
+      over_opened s.told b (λ g es other. HasJournalCause h before (before ++ added) held g other m (refusal_by last (Stopped file (Full book count)))) opens (λ bytes g es other is shown. (
+        is_stopped file (Full book count) cause m files name,
+        full_of_both s h before j after told header entries (before ++ added) (left (λ e. absurd (cc (e)))) other (texts_same s b bytes g es other (view bytes is) shown) book count cause.cause,
+      ))
+  journal_cause h before added held told header entries m files (Stopped file (ArchiveFull end need)) left name cause =
+      over_opened s.told b (λ g es other. HasJournalCause h before (before ++ added) held g other m (refusal_by last (Stopped file (ArchiveFull end need)))) opens (λ bytes g es other is shown. (
+        is_stopped file (ArchiveFull end need) cause m files name,
+        lacks_room s h before j after told header entries (before ++ added) (left (λ e. absurd (cc (e)))) other (texts_same s b bytes g es other (view bytes is) shown) cause.file.file end need
+        (subst (λ (x : Header). x.length_limit < end + need) header cause.cause.0) (of_told (is_some (state_of j).disk.seen) told cause.cause.1),
+      ))
+  journal_cause h before added held told header entries m files (Stopped file (FirstFault opened now)) left name cause =
+      over_opened s.told b (λ g es other. HasJournalCause h before (before ++ added) held g other m (refusal_by last (Stopped file (FirstFault opened now)))) opens (λ bytes g es other is shown. tt)
+  journal_cause h before added held told header entries m files (Stopped file SecondFault) left name cause =
+      over_opened s.told b (λ g es other. HasJournalCause h before (before ++ added) held g other m (refusal_by last (Stopped file SecondFault))) opens (λ bytes g es other is shown. tt)
+  journal_cause h before added held told header entries m files (Stopped file SecondDamaged) left name cause =
+      over_opened s.told b (λ g es other. HasJournalCause h before (before ++ added) held g other m (refusal_by last (Stopped file SecondDamaged))) opens (λ bytes g es other is shown. tt)
+  journal_cause h before added held told header entries m files (Stopped file OutOfMemory) left name cause =
+      over_opened s.told b (λ g es other. HasJournalCause h before (before ++ added) held g other m (refusal_by last (Stopped file OutOfMemory))) opens (λ bytes g es other is shown. tt)
+  journal_cause h before added held told header entries m files NoMemory left name cause =
+      over_opened s.told b (λ g es other. HasJournalCause h before (before ++ added) held g other m (refusal_by last NoMemory)) opens (λ bytes g es other is shown. tt)
+
+-- ---- from the start of the call on
+
+-- what was taken over after the header was read
+pub takes_sooner : (old late new : DiskState) → IsLawful old → IsLawful late → KeepsBytes old late → old.faults ≤ late.faults → DiskGoesOn late new → (second : Option (List ℕ)) (m : Merge)
+    → FromArchive late (λ h before bytes stood. TakesOver second h before stood m late new) → FromArchive old (λ h before bytes stood. TakesOver second h before stood m old new)
+takes_sooner old late new law_old law_late keeps risen goes second m =
+    from_archive old late (λ h before bytes stood. TakesOver second h before stood m late new) (λ h before bytes stood. TakesOver second h before stood m old new) keeps.seen keeps.no_more
+    (λ h before bytes stood only takes. record {
+      added = takes.added;
+      leaves = begun_sooner h before before (before ++ takes.added) old late new
+          (weaker old late old.images (StandsBetween h before before) (keeps_leave old late law_old law_late keeps) (λ c image. still_between h before before c (prefix_same before) (only c image)))
+          (takes.added, refl) risen goes.moments takes.leaves;
+      files = takes.files;
+      content_is = takes.content_is;
+      told = takes.told;
+      fronts = takes.fronts;
+      all = takes.all;
+      cause = takes.cause;
+    })

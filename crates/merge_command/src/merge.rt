@@ -1,0 +1,148 @@
+//! The command `merge`.
+ghost use Rattle.std.specs.Prelude.{◌≡◌, ◌≤◌, is_some, length, IfErr, IfOk, IfSome, IsTrue};
+ghost use Rattle.archive_open.specs.Archive.{shown};
+ghost use Rattle.command_refusals.specs.GoesOn.{DiskGoesOn};
+ghost use Rattle.command_refusals.specs.Outside.{AroundSinks};
+ghost use Rattle.command_refusals.specs.Reading.{IsArchive};
+ghost use Rattle.command_answers.specs.Answers.{AnswersMerge};
+ghost use Rattle.command_answers.specs.Known.{over, told_if};
+ghost use Rattle.command_answers.specs.Merging.{Merges, PrintsMerge, merged_line, merged_status};
+ghost use Rattle.command_refusals.specs.Refusal.{Says};
+ghost use Rattle.merge_command.specs.Came.{kept_by, merge_of, refused_by};
+
+use crate::lines::lines_of;
+use crate::over::{Came, add_second};
+use crate::refused::name_of;
+use command_refusals::{MergeRefusal, refusal_of_print, report, report_merge};
+use file_lines::print_directory;
+use log_seams::{Disk, Sink};
+use sink_pieces::PrintRefusal;
+use std::alloc::Global;
+use std::marker::{Brand, PhantomData};
+use std::sync::Wait;
+use write_commands::{Base, Founded, Lent};
+
+/// Writes why not all was merged, and answers the status.
+fn report_came<K: Sink>(err: &mut K, came: &Came) -> u8
+    ensures status { result ≡ merged_status came.now.refusal }
+    ensures said { Says
+        (K.written err.old) (K.written err.new) (K.faults err.old) (K.faults err.new)
+        (merged_line (merge_of came.now).name came.now.refusal) }
+    ensures later { K.faults err.old ≤ K.faults err.new }
+{
+    match came.refusal {
+        None => 0,
+        Some(refusal) => {
+            let name = name_of(came.second.files().as_slice(), came.stopped);
+            report_merge(err, name, refusal)
+        }
+    }
+}
+
+/// Prints what came of a merge.
+fn print_came<K: Sink>(
+    alloc: Global,
+    came: &Came,
+    out: &mut K,
+    err: &mut K,
+) -> u8
+    requires few { length came.now.files.items ≤ length (shown kept_by came.now.second).files }
+    ensures prints { AroundSinks K.written K.faults out.old out.new err.old err.new (λ seen.
+        PrintsMerge (merge_of came.now) came.now.first seen result) }
+    ensures out { K.faults out.old ≤ K.faults out.new }
+    ensures err { K.faults err.old ≤ K.faults err.new }
+{
+    let files = came.second.files().as_slice();
+    let Ok(lines) = lines_of(alloc, files, came.files.as_slice()) else {
+        return report(err, "", refusal_of_print(PrintRefusal::OutOfMemory));
+    };
+    match print_directory(alloc, u64::from(came.first), lines.as_slice(), out) {
+        Ok(()) => report_came(err, came),
+        Err(refusal) => report(err, "", refusal_of_print(refusal)),
+    }
+}
+
+/// The same over a disk that is lent, which is an archive where its bytes are to be told. Gives the disk
+/// back.
+fn add_lent<'d, D: Disk, E: Disk, R: Wait, L: Lent>(
+    rt: &R,
+    alloc: Global,
+    disk: &'d mut D,
+    second: &mut E,
+) -> (Result<Came, MergeRefusal>, &'d mut D)
+    requires lent { disk.ghost_name ≡ L.name }
+    requires told { is_some (D.state disk.old).seen ≡ L.told }
+    requires archive { IsTrue L.tells → IfSome (D.state disk.old).seen IsArchive }
+
+    // by the answer
+    ensures came { IfOk result.0 (λ came. Merges (merge_of came) came.first
+        (told_if L.tells (D.state disk.old)) (told_if L.tells (D.state result.1.now))
+        (E.state second.old) (E.state second.new)) }
+    ensures few { IfOk result.0 (λ came.
+        length came.files.items ≤ length (shown kept_by came.second).files) }
+    ensures refused { IfErr result.0 (λ refusal. Merges (refused_by refusal) 0
+        (told_if L.tells (D.state disk.old)) (told_if L.tells (D.state result.1.now))
+        (E.state second.old) (E.state second.new)) }
+
+    // what stays
+    ensures back { result.1.ghost_name ≡ disk.entry.ghost_name }
+    ensures goes_on { DiskGoesOn (D.state disk.old) (D.state result.1.now) }
+{
+    let mut founded = Founded::<'d, D, L> {
+        disk,
+        lent: PhantomData,
+    };
+    let answer = add_second(rt, alloc, &mut founded, second);
+    let Founded { disk, .. } = founded;
+    (answer, disk)
+}
+
+/// The same over any disk: what is said of its bytes is said where they are those of the archive that
+/// is known.
+fn add_known<D: Disk, E: Disk, R: Wait, B: Base>(
+    rt: &R,
+    alloc: Global,
+    disk: &mut D,
+    second: &mut E,
+) -> Result<Came, MergeRefusal>
+    // by the answer
+    ensures came { IfOk result (λ came. Merges (merge_of came) came.first
+        (over B.archive (D.state disk.old) (D.state disk.old))
+        (over B.archive (D.state disk.old) (D.state disk.new))
+        (E.state second.old) (E.state second.new)) }
+    ensures few { IfOk result (λ came.
+        length came.files.items ≤ length (shown kept_by came.second).files) }
+    ensures refused { IfErr result (λ refusal. Merges (refused_by refusal) 0
+        (over B.archive (D.state disk.old) (D.state disk.old))
+        (over B.archive (D.state disk.old) (D.state disk.new))
+        (E.state second.old) (E.state second.new)) }
+
+    // what stays
+    ensures goes_on { DiskGoesOn (D.state disk.old) (D.state disk.new) }
+{
+    let (answer, _disk) = add_lent::<D, E, R, Brand>(rt, alloc, disk, second);
+    answer
+}
+
+/// Adds the files of the second archive behind those of the archive, and prints a line for each new
+/// file. The second disk is only read.
+pub fn merge_archives<R: Wait, D: Disk, E: Disk, K: Sink, B: Base>(
+    rt: &R,
+    alloc: Global,
+    disk: &mut D,
+    second: &mut E,
+    out: &mut K,
+    err: &mut K,
+) -> u8
+    ensures answers { AroundSinks K.written K.faults out.old out.new err.old err.new (λ seen.
+        AnswersMerge B.archive seen (D.state disk.old) (D.state disk.new)
+        (E.state second.old) (E.state second.new) result) }
+    ensures goes_on { DiskGoesOn (D.state disk.old) (D.state disk.new) }
+    ensures out { K.faults out.old ≤ K.faults out.new }
+    ensures err { K.faults err.old ≤ K.faults err.new }
+{
+    match add_known::<D, E, R, B>(rt, alloc, disk, second) {
+        Ok(came) => print_came(alloc, &came, out, err),
+        Err(refusal) => report_merge(err, b"", refusal),
+    }
+}

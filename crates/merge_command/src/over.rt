@@ -1,0 +1,171 @@
+//! The files of a second archive, added to an archive.
+ghost use Rattle.std.specs.Prelude.{◌≡◌, ◌+◌, ◌≤◌, length, IfErr, IfOk, IfSome};
+ghost use Rattle.log_seams.specs.Disk.{KeepsBytes};
+ghost use Rattle.disk_journal.specs.Journal.{state_of};
+ghost use Rattle.archive_open.specs.Archive.{shown};
+ghost use Rattle.archive_open.specs.Shown.{HasLastGate, Opens};
+ghost use Rattle.ingest_workers.specs.Ingested.{HoldTexts};
+ghost use Rattle.archive_merge.specs.Merging.{EndsMerge, MayMerge, WasOnlyRead, view_of};
+ghost use Rattle.archive_merge.specs.Named.{names_of};
+ghost use Rattle.command_refusals.specs.GoesOn.{DiskGoesOn};
+ghost use Rattle.command_refusals.specs.Reading.{IsArchive};
+ghost use Rattle.command_answers.specs.Merging.{Merges};
+ghost use Rattle.merge_command.specs.Came.{Agrees, kept_by, merge_of, refused_by, RefusesSecond};
+
+use crate::refused::{place_of, refusal_of};
+use archive_core::Books;
+use archive_meaning::MAX_FILES;
+use archive_merge::{MergeEnd, MergeRefusal as Why, Merged, ToMerge, merge, segments_go_on};
+use archive_open::{Archive, open_archive, open_for_append};
+use command_refusals::{MergeRefusal, of_second};
+use dict_core::Book;
+use disk_journal::{Journal, start};
+use log_seams::Disk;
+use row_codec::Names;
+use std::alloc::Global;
+use std::sync::Wait;
+
+/// What came of a merge.
+#[derive(Drop)]
+pub(crate) struct Came {
+    /// The number of the first new file.
+    pub(crate) first: u32,
+    /// The second archive.
+    pub(crate) second: Archive<Books>,
+    /// The new files: the first ones of the second archive's.
+    pub(crate) files: Vec<Merged>,
+    /// Why not all was merged.
+    pub(crate) refusal: Option<MergeRefusal>,
+    /// The place of the file that stopped it.
+    pub(crate) stopped: Option<usize>,
+}
+
+/// Opens the second archive.
+fn open_second<E: Disk>(
+    alloc: Global,
+    disk: &mut E,
+) -> Result<Archive<Books>, MergeRefusal>
+    ensures keeps { KeepsBytes (E.state disk.old) (E.state disk.new) }
+    ensures opened { IfOk result (λ archive.
+        Opens (E.state disk.old).seen (shown kept_by archive)) }
+    ensures last { IfOk result (λ archive.
+        HasLastGate (E.state disk.old).seen (shown kept_by archive)) }
+    ensures refused { IfErr result (RefusesSecond (E.state disk.old) (E.state disk.new)) }
+    ensures steady { IfOk result (λ archive.
+        (E.state disk.new).faults ≡ (E.state disk.old).faults) }
+{
+    match open_archive(alloc, disk) {
+        Ok(archive) => Ok(archive),
+        Err(refusal) => Err(of_second(refusal)),
+    }
+}
+
+/// Whether an archive of the version `other` with `more` files may come behind one with `held` files.
+fn agree(version: u32, held: u64, other: u32, more: u64) -> Result<(), MergeRefusal>
+    ensures { Agrees version held other more result }
+{
+    if version != other {
+        return Err(MergeRefusal::VersionDiffers {
+            first: version,
+            second: other,
+        });
+    }
+    if held.saturating_add(more) > MAX_FILES as u64 {
+        return Err(MergeRefusal::TooManyFiles { held, more });
+    }
+    Ok(())
+}
+
+/// What was lent to a merge, and why not all was merged.
+#[derive(Drop)]
+struct Returned<'s, 'd, E: Disk, D: Disk> {
+    journal: Journal<'d, D>,
+    disk: &'s mut E,
+    refusal: Option<Why>,
+}
+
+/// Merges the second archive into a journal. What came of each file is left in a vector, whose items go.
+fn merge_into<'s, 'd, M: Names, E: Disk, D: Disk, R: Wait>(
+    rt: &R,
+    alloc: Global,
+    first: u32,
+    second: ToMerge<'s, M, E>,
+    journal: Journal<'d, D>,
+    types: Book,
+    words: Book,
+    files: &mut Vec<Merged>,
+) -> Returned<'s, 'd, E, D>
+    requires begin { MayMerge first (M.version second.names.now) (length second.files.now) journal }
+    requires books { HoldTexts (state_of journal) types words }
+    ensures ends { EndsMerge (view_of M.types M.words M.version E.state second.entry) first
+        (names_of second.entry.files.now) files.new.items result.refusal
+        journal.entry result.journal }
+    ensures second { WasOnlyRead E.state result.refusal second.entry.disk result.disk }
+{
+    let MergeEnd {
+        journal,
+        disk,
+        files: merged,
+        refusal,
+    } = merge(rt, alloc, first, second, journal, types, words);
+    *files = merged;
+    Returned {
+        journal,
+        disk,
+        refusal,
+    }
+}
+
+/// Adds the files of the second archive behind those of the archive of a disk.
+///
+/// # Errors
+///
+/// An archive could not be opened, or the second one may not come behind the first. Nothing was
+/// written then.
+pub(crate) fn add_second<D: Disk, E: Disk, R: Wait>(
+    rt: &R,
+    alloc: Global,
+    disk: &mut D,
+    second: &mut E,
+) -> Result<Came, MergeRefusal>
+    requires archive { IfSome (D.state disk.old).seen IsArchive }
+
+    // by the answer
+    ensures came { IfOk result (λ came. Merges (merge_of came) came.first
+        (D.state disk.old) (D.state disk.new) (E.state second.old) (E.state second.new)) }
+    ensures few { IfOk result (λ came.
+        length came.files.items ≤ length (shown kept_by came.second).files) }
+    ensures refused { IfErr result (λ refusal. Merges (refused_by refusal) 0
+        (D.state disk.old) (D.state disk.new) (E.state second.old) (E.state second.new)) }
+
+    // what stays
+    ensures goes_on { DiskGoesOn (D.state disk.old) (D.state disk.new) }
+{
+    segments_go_on();
+    let header = start(disk)?;
+    let mut journal = Journal::begin(disk, header);
+    let archive: Archive<Books> = open_for_append(alloc, &mut journal)?;
+    let second_archive: Archive<Books> = open_second(alloc, second)?;
+    let held = archive.files().as_slice().len() as u64;
+    let more = second_archive.files().as_slice().len() as u64;
+    agree(header.version, held, second_archive.names().version, more)?;
+    let first = held as u32;
+    let Books { types, words, .. } = archive.into_books();
+    let to_merge = ToMerge {
+        names: second_archive.names(),
+        files: second_archive.files().as_slice(),
+        segments: second_archive.segments().as_slice(),
+        disk: second,
+    };
+    let mut files = Vec::new(alloc);
+    // taken apart, it would not be known how the loan of the journal's disk ends
+    let left = merge_into(rt, alloc, first, to_merge, journal, types, words, &mut files);
+    let refusal = left.refusal;
+    Ok(Came {
+        first,
+        files,
+        refusal: refusal_of(refusal, second_archive.last_gate()),
+        stopped: place_of(refusal, first),
+        second: second_archive,
+    })
+}
