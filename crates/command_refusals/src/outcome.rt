@@ -12,7 +12,7 @@ use disk_journal::StartRefusal;
 use disk_seal::RegisterRefusal;
 use log_seams::Failed;
 use row_codec::Which;
-use search_engine::SearchRefusal;
+use search_walk::SearchRefusal;
 use sink_pieces::PrintRefusal;
 use std::alloc::AllocError;
 
