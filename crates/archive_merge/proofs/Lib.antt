@@ -1,13 +1,10 @@
 pub mod BehindLemmas
 pub mod EndedLemmas
 pub mod FileLemmas
-pub mod GroupLemmas
 pub mod HandLemmas
-pub mod LeftLemmas
 pub mod LockLemmas
 pub mod MergerLemmas
 pub mod MergingLemmas
-pub mod NamedLemmas
 pub mod NextLemmas
 pub mod PlaceLemmas
 pub mod RunLemmas

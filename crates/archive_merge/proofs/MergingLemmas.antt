@@ -48,12 +48,12 @@ use Rattle.archive_merge.specs.declared.merger.Stopped.{Stopped}
 use Rattle.archive_merge.specs.declared.refusal.MergeRefusal.{MergeRefusal}
 use Rattle.archive_merge.specs.declared.refusal.MergeRefusal.TheVariants.{LongName, Names, OutOfMemory, Stopped as StoppedAt}
 use Rattle.archive_merge.specs.Behind.{AreOfBoth, HasMerged, HasRun, HasStopCause, IsFullByBoth, IsMovedFile, IsNewIn, IsOfFiles, LackedRoom, MayBegin, OnlyRead, SecondView, old_texts}
-use Rattle.archive_merge.specs.Left.{HasGoneOn, LeavesEntries, StandsForOr}
+use Rattle.name_records.specs.Left.{HasGoneOn, LeavesEntries, StandsForOr}
 use Rattle.archive_merge.specs.Merging.{EndsMerge, HasMergeCause, IsMergedFile, WasOnlyRead}
-use Rattle.archive_merge.specs.Named.{AreNamed, AreNamesOf, HasNames, IsShort, names_of}
+use Rattle.name_records.specs.Named.{AreNamed, AreNamesOf, HasNames, IsShort, names_of}
 use Rattle.archive_merge.specs.StepsMerging.{AreFresh, CameBehind, IsFresh, refusal_by}
-use Rattle.archive_merge.proofs.LeftLemmas.{by_told, either_left, goes_nowhere, goes_then, images_stand, of_told, prefix_on, prefix_same, store_entries_are, store_goes, store_left}
-use Rattle.archive_merge.proofs.NamedLemmas.{left_behind}
+use Rattle.name_records.proofs.LeftLemmas.{by_told, either_left, goes_nowhere, goes_then, images_stand, of_told, prefix_on, prefix_same, store_entries_are, store_goes, store_left}
+use Rattle.name_records.proofs.NamedLemmas.{left_behind}
 
 -- ---- the second disk
 

@@ -15,6 +15,5 @@ pub mod PassLaws
 pub mod Runs
 pub mod Sealing
 pub mod StepsMerging
-pub mod StepsNamed
 pub mod Stops
 pub mod Taken

@@ -27,8 +27,8 @@ use Rattle.archive_merge.specs.declared.merging.ToMerge.{ToMerge}
 use Rattle.archive_merge.specs.declared.refusal.MergeRefusal.{MergeRefusal}
 use Rattle.archive_merge.specs.declared.refusal.MergeRefusal.TheVariants.{LongName, Names, OutOfMemory, Stopped}
 use Rattle.archive_merge.specs.Behind.{AreOfBoth, HasRun, HasStopped, IsFullByBoth, IsOfFiles, SecondView}
-use Rattle.archive_merge.specs.Left.{HasGoneOn, LeavesEntries}
-use Rattle.archive_merge.specs.Named.{AreNamesOf, HasNamesCause, IsShort}
+use Rattle.name_records.specs.Left.{HasGoneOn, LeavesEntries}
+use Rattle.name_records.specs.Named.{AreNamesOf, HasNamesCause, IsShort}
 use Rattle.archive_merge.specs.Runs.{SoFar}
 use Rattle.archive_merge.specs.Taken.{texts_by}
 

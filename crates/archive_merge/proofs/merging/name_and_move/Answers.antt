@@ -4,7 +4,7 @@ use Rattle.disk_journal.specs.Journal.{state_of}
 use Rattle.archive_open.specs.declared.files.FileEntry.{FileEntry}
 use Rattle.archive_decode.proofs.SegmentLemmas.{rests_none}
 use Rattle.archive_merge.specs.Merging.{view_of}
-use Rattle.archive_merge.specs.Named.{AreNamed, names_of}
+use Rattle.name_records.specs.Named.{AreNamed, names_of}
 use Rattle.archive_merge.proofs.MergingLemmas.{books_held, ends_by, may_begin, names_only, no_room, not_read_for_memory, not_read_for_names}
 use Rattle.archive_merge.proofs.merging.name_and_move.Goals as goal
 

@@ -41,10 +41,10 @@ use Rattle.disk_seal.proofs.NextLemmas.{gate_at}
 use Rattle.disk_seal.proofs.OpenLemmas.{journal_is}
 use Rattle.disk_seal.proofs.ToldLemmas.{told_map}
 use Rattle.ingest_workers.specs.Ingested.{told_entries}
-use Rattle.archive_merge.specs.Left.{HasGoneOn, LeavesEntries, StandsBetween, StandsForOr}
-use Rattle.archive_merge.specs.Named.{AreNamed, AreNamesOf, HasNames, HasNamesCause}
-use Rattle.archive_merge.specs.StepsNamed.{MayBeNamed}
-use Rattle.archive_merge.proofs.LeftLemmas.{between_front, between_later, by_told, either_between, either_left, goes_nowhere, goes_then, images_stand, left_later, of_told, prefix_same}
+use Rattle.name_records.specs.Left.{HasGoneOn, LeavesEntries, StandsBetween, StandsForOr}
+use Rattle.name_records.specs.Named.{AreNamed, AreNamesOf, HasNames, HasNamesCause}
+use Rattle.name_records.specs.StepsNamed.{MayBeNamed}
+use Rattle.name_records.proofs.LeftLemmas.{between_front, between_later, by_told, either_between, either_left, goes_nowhere, goes_then, images_stand, left_later, of_told, prefix_same}
 
 -- ---- texts
 
@@ -282,10 +282,11 @@ module _ (first : ℕ) (names : List (List ℕ)) (naming : List JournalEntry) (o
   -- a group more was refused
   pub group_refused : (group : List (List ℕ)) (new : JournalState) → IsLawful new.disk → (why : RegisterRefusal) → HasGoneOn mid new → (why ≢ DiskFault → new ≡ mid) → ((end need : ℕ) → why ≡ ArchiveFull end need → IsFullFor group end need mid)
       → (why ≡ DiskFault → Rose mid.disk.faults new.disk.faults) → (why ≡ DiskFault → LeavesOnly mid.disk new.disk (λ c. IfTold (is_some mid.disk.seen) (StandsForOr mid.header (told_entries mid) (Files group ∷ []) c)))
-      → (all : List (List ℕ)) (count : ℕ) → count ≤ length all → names ≡ take count all → group ≡ take MAX_NAMES (drop count all) → AreNamed first all count (Some why) old new
-  group_refused group new law why goes same full fault under all count within are next = record {
-    within = within;
+      → (all : List (List ℕ)) (count : ℕ) → count < length all → names ≡ take count all → group ≡ take MAX_NAMES (drop count all) → AreNamed first all count (Some why) old new
+  group_refused group new law why goes same full fault under all count less are next = record {
+    within = omega (arith, less);
     all = λ none. absurd (cc (none));
+    less = λ some. less;
     goes = goes_then old mid new law names_goes goes;
     naming = naming;
     are = subst (AreNamesOf naming) are had.are;
@@ -331,6 +332,7 @@ module _ (first : ℕ) (names : List (List ℕ)) (naming : List JournalEntry) (o
   all_named law all count whole are = record {
     within = omega (arith, whole);
     all = λ none. whole;
+    less = λ some. absurd (some refl);
     goes = names_goes;
     naming = naming;
     are = subst (AreNamesOf naming) are had.are;

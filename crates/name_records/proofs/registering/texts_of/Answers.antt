@@ -1,7 +1,7 @@
 use Rattle.std.proofs.Common.{◌∙◌, arith}
 use Rattle.archive_open.specs.declared.files.FileEntry.{FileEntry}
-use Rattle.archive_merge.proofs.NamedLemmas.{texts_next}
-use Rattle.archive_merge.proofs.registering.texts_of.Goals as goal
+use Rattle.name_records.proofs.NamedLemmas.{texts_next}
+use Rattle.name_records.proofs.registering.texts_of.Goals as goal
 
 pub loop-file-preserved : goal.loop-file-preserved
 loop-file-preserved c =

@@ -7,7 +7,7 @@ use Rattle.std.proofs.Math.Seq.{drop-append_seam, take-append_seam}
 use Rattle.archive_meaning.specs.declared.TheConstants.{MAX_FILES, MAX_NAMES}
 use Rattle.archive_meaning.specs.Sums.{AddsNames}
 use Rattle.archive_open.specs.declared.files.FileEntry.{FileEntry}
-use Rattle.archive_merge.specs.Named.{IsShort, names_of}
+use Rattle.name_records.specs.Named.{IsShort, names_of}
 
 map-dropped : {A B : Type 0} (f : A → B) (k : ℕ) (xs : List A) → map f (drop k xs) ≡ drop k (map f xs)
 map-dropped f zero xs = refl

@@ -3,8 +3,8 @@ use Rattle.std.specs.Slice.Iter.{chunks_rest, chunks_size}
 use Rattle.disk_journal.specs.Journal.{state_of}
 use Rattle.archive_meaning.specs.declared.TheConstants.{MAX_NAMES}
 use Rattle.archive_meaning.specs.declared.entry.JournalEntry.{JournalEntry}
-use Rattle.archive_merge.specs.Named.{HasNames, names_of}
-use Rattle.archive_merge.proofs.registering.register_names.Given as goal
+use Rattle.name_records.specs.Named.{HasNames, names_of}
+use Rattle.name_records.proofs.registering.register_names.Given as goal
 
 abbrev pub invariant-loop-group : goal.invariant-loop-group
 invariant-loop-group g l = record {

@@ -9,10 +9,10 @@ use Rattle.disk_seal.specs.declared.files.RegisterRefusal.{RegisterRefusal}
 use Rattle.disk_seal.specs.declared.files.RegisterRefusal.TheVariants.{ArchiveFull, DiskFault}
 use Rattle.disk_journal.specs.Journal.{state_of}
 use Rattle.disk_seal.specs.Registered.{HoldsNames}
-use Rattle.archive_merge.specs.Named.{HasNames, names_of}
-use Rattle.archive_merge.proofs.GroupLemmas.{group_adds, group_left, group_next, group_taken, group_within, names_counted, none_left}
-use Rattle.archive_merge.proofs.NamedLemmas.{all_named, group_refused, names_then, no_names, unchanged}
-use Rattle.archive_merge.proofs.registering.register_names.Goals as goal
+use Rattle.name_records.specs.Named.{HasNames, names_of}
+use Rattle.name_records.proofs.GroupLemmas.{group_adds, group_left, group_next, group_taken, group_within, names_counted, none_left}
+use Rattle.name_records.proofs.NamedLemmas.{all_named, group_refused, names_then, no_names, unchanged}
+use Rattle.name_records.proofs.registering.register_names.Goals as goal
 
 pub loop-group-init : goal.loop-group-init
 loop-group-init g c = record {
@@ -87,7 +87,8 @@ returns-in-Err g c =
     (λ end need same. named.full end need (err (ArchiveFull end need) same))
     (λ same. named.fault (err DiskFault same))
     (λ same. named.under (err DiskFault same))
-    (names_of c.args.files.now) now.count (omega (arith, now.invariant.within, length-map c.args.files.now (λ (f : FileEntry). f.name))) refl
+    (names_of c.args.files.now) now.count
+    (omega (arith, group_within c.args.files.now c.in-Some.group.now _ now.count now.invariant.within is, size, subst (λ (l : List FileEntry). 0 < length l) steps.1.0 steps.1.2, length-map c.args.files.now (λ (f : FileEntry). f.name))) refl
     (group_next c.args.files.now c.in-Some.group.now _ now.count now.invariant.within is size)
 
 pub returns : goal.returns

@@ -1,6 +1,6 @@
 use Rattle.std.proofs.Common.{◌≡◌, take, length, vec_len, vec_capacity}
-use Rattle.archive_merge.specs.Named.{names_of}
-use Rattle.archive_merge.proofs.registering.texts_of.Given as goal
+use Rattle.name_records.specs.Named.{names_of}
+use Rattle.name_records.proofs.registering.texts_of.Given as goal
 
 abbrev pub invariant-loop-file : goal.invariant-loop-file
 invariant-loop-file l = record {

@@ -5,9 +5,9 @@ use Rattle.disk_journal.specs.Journal.{state_of}
 use Rattle.archive_meaning.specs.declared.entry.JournalEntry.TheVariants.{Files}
 use Rattle.disk_seal.specs.Registered.{HasRegistered}
 use Rattle.disk_seal.specs.declared.files.RegisterRefusal.{RegisterRefusal}
-use Rattle.archive_merge.specs.Named.{HasNames, names_of}
-use Rattle.archive_merge.proofs.NamedLemmas.{group_failed, group_goes, group_named, left_alone, nothing_ok}
-use Rattle.archive_merge.proofs.registering.register_group.Goals as goal
+use Rattle.name_records.specs.Named.{HasNames, names_of}
+use Rattle.name_records.proofs.NamedLemmas.{group_failed, group_goes, group_named, left_alone, nothing_ok}
+use Rattle.name_records.proofs.registering.register_group.Goals as goal
 
 pub returns-in_err-register : goal.returns-in_err-register
 returns-in_err-register g c =

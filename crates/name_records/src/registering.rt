@@ -1,11 +1,11 @@
-//! The names of the second archive's files, behind the journal of the first.
+//! The names of files behind a journal, in groups.
 ghost use Rattle.std.specs.Prelude.{◌≡◌, ◌+◌, ◌≤◌, length, All, IfOk};
 ghost use Rattle.disk_journal.specs.Journal.{state_of};
 ghost use Rattle.archive_meaning.specs.declared.TheConstants.{MAX_FILES};
 ghost use Rattle.disk_seal.specs.Opening.{MayOpen};
 ghost use Rattle.disk_seal.specs.Registered.{HoldsNames};
-ghost use Rattle.archive_merge.specs.Named.{AreNamed, IsShort, names_of};
-ghost use Rattle.archive_merge.specs.StepsNamed.{IsGroupNamed, MayBeNamed};
+ghost use Rattle.name_records.specs.Named.{AreNamed, IsShort, names_of};
+ghost use Rattle.name_records.specs.StepsNamed.{IsGroupNamed, MayBeNamed};
 
 use archive_meaning::MAX_NAMES;
 use archive_open::FileEntry;

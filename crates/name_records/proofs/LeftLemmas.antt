@@ -28,7 +28,7 @@ use Rattle.disk_seal.specs.Told.{IfTold, entry_of, journal_in}
 use Rattle.disk_seal.specs.View.{HasFirst, Image, Kept, StoreState, StoreView, journal_of, state_by, tells}
 use Rattle.disk_seal.proofs.ToldLemmas.{length-records}
 use Rattle.ingest_workers.specs.Ingested.{IsLeftBy, told_entries}
-use Rattle.archive_merge.specs.Left.{HasGoneOn, LeavesEntries, StandsBetween, StandsForOr}
+use Rattle.name_records.specs.Left.{HasGoneOn, LeavesEntries, StandsBetween, StandsForOr}
 
 -- ---- what is told
 

@@ -15,8 +15,8 @@ use Rattle.disk_seal.specs.Told.{IfTold}
 use Rattle.disk_seal.specs.declared.files.RegisterRefusal.{RegisterRefusal}
 use Rattle.disk_seal.specs.declared.files.RegisterRefusal.TheVariants.{ArchiveFull, DiskFault}
 use Rattle.ingest_workers.specs.Ingested.{told_entries}
-use Rattle.archive_merge.specs.Left.{HasGoneOn, StandsForOr}
-use Rattle.archive_merge.specs.Named.{HasNames}
+use Rattle.name_records.specs.Left.{HasGoneOn, StandsForOr}
+use Rattle.name_records.specs.Named.{HasNames}
 
 -- the names may be added behind a journal that has so many
 pub record MayBeNamed (held : ℕ) (names : List (List ℕ)) (j : JournalState) : Type 0 where
