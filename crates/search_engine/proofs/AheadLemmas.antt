@@ -216,12 +216,12 @@ if_ok_both (Err e) P Q R step has holds = tt
 
 -- ---- a round that was searched
 
-pub round_worked : (n : Named) (q asked : Asked) (held : HeldNames) (old new sent items : List Slotted) (pages : List Page) → asked ≡ q → length new ≡ length old
-    → ((k : ℕ) (d : Slotted) → k < length old → (get_or new k d).page ≡ (get_or old k d).page) → All (IsWorkedBy asked held) new → sent ≡ new → old ≡ items → pages_of items ≡ pages → AreReadyPages n q held pages
+pub round_worked : (n : Named) (q asked : Asked) (held by : HeldNames) (old new sent items : List Slotted) (pages : List Page) → asked ≡ q → by ≡ held → length new ≡ length old
+    → ((k : ℕ) (d : Slotted) → k < length old → (get_or new k d).page ≡ (get_or old k d).page) → All (IsWorkedBy asked by) new → sent ≡ new → old ≡ items → pages_of items ≡ pages → AreReadyPages n q held pages
     → All (IsWorked n q) sent × (pages_of sent ≡ pages_of items)
-round_worked n q asked held old new sent items pages same long each worked is lent mine ready =
+round_worked n q asked held by old new sent items pages same words long each worked is lent mine ready =
     let kept : pages_of new ≡ pages_of items = pages_kept old new long each ∙ ap pages_of lent in
     let own : AreReadyPages n q held (pages_of new) = subst (λ (l : List Page). AreReadyPages n q held l) (sym mine ∙ sym kept) ready in (
-      subst (λ (l : List Slotted). All (IsWorked n q) l) (sym is) (all_worked n q held new (subst (λ (x : Asked). All (IsWorkedBy x held) new) same worked) own),
+      subst (λ (l : List Slotted). All (IsWorked n q) l) (sym is) (all_worked n q held new (subst (λ (h : HeldNames). All (IsWorkedBy q h) new) words (subst (λ (x : Asked). All (IsWorkedBy x by) new) same worked)) own),
       ap pages_of is ∙ kept,
     )

@@ -1,5 +1,5 @@
 -- Pages whose columns were read before their turn.
-use Rattle.std.specs.Prelude.{◌≡◌, ◌<◌, ◌≤◌, ℕ, List, [], ◌∷◌, ◌++◌, length, Option, Result, OnOk, IsErrOf}
+use Rattle.std.specs.Prelude.{◌≡◌, ◌<◌, ◌≤◌, ◌+◌, ◌^◌, ℕ, List, [], ◌∷◌, ◌++◌, length, Option, Result, OnOk, IsErrOf}
 use Rattle.std.specs.List.{flat_map}
 use Rattle.log_seams.specs.Disk.{DiskState}
 use Rattle.log_seams.specs.Outside.{CountsOf}
@@ -40,3 +40,8 @@ pub record AddsNext (seen : Option (List ℕ)) (start now : Paged) (old new : Li
   pub next : AreNextTold seen start now page.rows
   pub after : now ≡ paged_after start page.rows
   pub count : length page.rows ≡ page_rows start.pages
+
+-- so many rows are counted in 32 bits, and the numbers of their messages, the first of which has this one, in 64
+pub record FitNumbers (number : ℕ) (rows : List Row) : Type 0 where
+  pub few : length rows < 2 ^ 32
+  pub small : number + length rows < 2 ^ 64

@@ -4,7 +4,9 @@ pub mod Worked
 pub mod Laws
 pub mod StepsPast
 pub mod Served
+pub mod Over
 pub mod Ahead
+pub mod NextPage
 pub mod Kept
 pub mod SegmentsDone
 pub mod Searched

@@ -12,6 +12,7 @@ mod printing;
 mod refusal;
 mod report;
 mod searching;
+mod threaded;
 
 pub use laws::{exact_expands_printed, one_is_found};
 pub use report::Report;

@@ -17,7 +17,6 @@ use segment_pages::SegmentPages;
 use std::alloc::Global;
 use std::collections::VecDeque;
 use std::thread::{Threads, join_mut};
-use word_places::HeldWords;
 
 /// How many pages are read before their turn at most, so that their rows have numbers of 32 bits.
 const MOST_AHEAD: usize = 65_536;
@@ -124,20 +123,19 @@ pub(crate) fn match_beside<R: Threads + Sync, D: Disk>(
     rt: &R,
     workers: usize,
     printer: &Printer<'_>,
-    held: &HeldWords,
     slots: &mut [PageSlot],
     pages: &mut SegmentPages,
     disk: &mut D,
     ahead: &mut PagesAhead,
 ) -> Result<(), SearchRefusal>
     requires workers { 0 < workers }
-    requires types { held.now.types ≡ printer.now.layouts.now }
+    requires types { printer.now.held.now.types ≡ printer.now.layouts.now }
 
     // the pages that were searched
     ensures len { length slots.new ≡ length slots.old }
     ensures pages { (k : ℕ) (d : Slotted) → k < length slots.old
         → (slice_index_or slots.new k d).page ≡ (slice_index_or slots.old k d).page }
-    ensures worked { All (IsWorkedBy printer.now.query.now held.now) slots.new }
+    ensures worked { All (IsWorkedBy printer.now.query.now printer.now.held.now) slots.new }
 
     // and those that were read
     ensures ahead { ReadAhead (D.state disk.old) (D.state disk.new)
@@ -149,14 +147,14 @@ pub(crate) fn match_beside<R: Threads + Sync, D: Disk>(
         &mut ||
             requires shared { IsSync R.row }
             requires workers { 0 < workers }
-            requires types { held.now.types ≡ printer.now.layouts.now }
+            requires types { printer.now.held.now.types ≡ printer.now.layouts.now }
             ensures len { length slots.exit.now ≡ length slots.entry.now }
             ensures pages { (k : ℕ) (d : Slotted) → k < length slots.entry.now
                 → (slice_index_or slots.exit.now k d).page
                 ≡ (slice_index_or slots.entry.now k d).page }
-            ensures worked { All (IsWorkedBy printer.entry.now.query.now held.entry.now)
-                slots.exit.now }
-        { match_pages(rt, workers, printer, held, slots) },
+            ensures worked { All
+                (IsWorkedBy printer.entry.now.query.now printer.entry.now.held.now) slots.exit.now }
+        { match_pages(rt, workers, printer, slots) },
         &mut || -> Result<(), SearchRefusal>
             ensures { ReadAhead (D.state disk.entry.now) (D.state disk.exit.now)
                 pages.entry.now pages.exit.now ahead.exit.now.columns.items result }

@@ -1,22 +1,21 @@
 //! A batch of pages: they are read one after the other, searched by workers, and sent on in order.
-ghost use Rattle.std.specs.Prelude.{◌≡◌, ◌<◌, ◌≤◌, ◌+◌, ◌^◌, ◌++◌, ◌∷◌, [], List, length, IfOk, OnOk, OnErr, IsErrOf};
+ghost use Rattle.std.specs.Prelude.{◌≡◌, ◌<◌, ◌≤◌, ◌++◌, ◌∷◌, [], length, IfOk, OnOk, OnErr, IsErrOf};
 ghost use Rattle.log_seams.specs.Outside.{CountsOf};
-ghost use Rattle.segment_format.specs.Pages.{page_rows};
-ghost use Rattle.segment_pages.specs.Paged.{AreNextTold, paged_after};
 ghost use Rattle.search_walk.specs.Held.{Named, OfLeft};
 ghost use Rattle.search_walk.specs.PagesRead.{ReadsPage};
-ghost use Rattle.search_walk.specs.Ready.{IsReadyPage};
+ghost use Rattle.search_walk.specs.Takes.{IsLeft};
 ghost use Rattle.search_engine.specs.Ahead.{AreAhead};
+ghost use Rattle.search_engine.specs.NextPage.{IsNextPage};
+ghost use Rattle.search_engine.specs.Over.{HaltsOver, IsServedOver, ReachesOver};
 ghost use Rattle.search_engine.specs.Served.{IsServed};
-ghost use Rattle.search_walk.specs.Scan.{Placed};
-ghost use Rattle.search_engine.specs.Sofar.{Passes, Stops, sofar};
-ghost use Rattle.search_engine.specs.Waiting.{Blames, Halts, Reaches, WaitFor, nothing_pending, page, pages_of, state};
+ghost use Rattle.search_engine.specs.Waiting.{Blames, nothing_pending, state};
 
 use crate::counts::Counts;
 use crate::gathering::gather_all;
 use crate::page_ahead::{PagesAhead, match_beside};
 use crate::page_slot::{NO_COUNTS, PageSlot, match_pages};
 use crate::printing::Printer;
+use crate::threaded::ThreadedContext;
 use log_seams::{Disk, Sink};
 use search_walk::{Context, Label, SearchRefusal};
 use segment_pages::SegmentPages;
@@ -31,45 +30,6 @@ use word_places::HeldWords;
 
 /// How many pages of a round each worker has. As many more are read meanwhile.
 const PAGES: usize = 2;
-
-/// Searches pages that are in memory, in at most so many threads, and sends on what they left, in order.
-fn match_and_send<R: Threads + Sync, D: Disk, K: Sink, M: Ledger>(
-    rt: &R,
-    workers: usize,
-    context: &Context<'_, D>,
-    held: &HeldWords,
-    slots: &mut [PageSlot],
-    out: &mut K,
-    gathered: &mut Vec<u8>,
-    counts: &mut Counts,
-    expanded: &mut Steps<M>,
-) -> Result<(), SearchRefusal>
-    requires workers { 0 < workers }
-    requires served { IsServed context.now.names context.now.query held.now
-        (pages_of slots.old) }
-
-    // by the answer
-    ensures done { OnOk result ((all : List Placed)
-        → WaitFor context.now.names (pages_of slots.old) all
-        → Passes context.now.names.version context.now.query all
-        (sofar (K.written out.old) gathered.old.items counts.old expanded.old)
-        (sofar (K.written out.new) gathered.new.items counts.new expanded.new)) }
-    ensures stopped { OnErr result ((all : List Placed)
-        → WaitFor context.now.names (pages_of slots.old) all
-        → Stops context.now.names.version context.now.query all
-        (sofar (K.written out.old) gathered.old.items counts.old expanded.old)
-        (K.written out.new) expanded.new) }
-
-    // causes
-    ensures damaged { IsErrOf result SearchRefusal.Damaged → Blames
-        context.now.names (pages_of slots.old) ⊥ }
-    ensures disk { ¬ IsErrOf result SearchRefusal.DiskFault }
-    ensures sink_counts { CountsOf SearchRefusal.SinkFault
-        (K.faults out.old) (K.faults out.new) result }
-{
-    match_pages(rt, workers, &Printer::of(context), held, slots);
-    gather_all(slots, out, gathered, counts, expanded)
-}
 
 /// What is at hand between the reads of pages: the lines for the output, the counts, and the pages that
 /// wait to be searched. Pages that were searched lend their memory to later ones.
@@ -138,8 +98,7 @@ impl PageBatch {
         pages: &mut SegmentPages,
         disk: &mut D,
     ) -> Result<PageSlot, SearchRefusal>
-        requires left { pages.old.pages.row < pages.old.pages.rows }
-        requires small { label.number + 4096 < 2 ^ 64 }
+        requires left { IsLeft pages.old label.number }
         requires served { IsServed context.now.names context.now.query held.old self.old.pages }
         requires told { (D.state disk.old).seen ≡ context.now.names.told }
 
@@ -150,14 +109,9 @@ impl PageBatch {
         ensures served { IsServed context.now.names context.now.query held.new self.old.pages }
 
         // by the answer
-        ensures page { IfOk result (λ s. s.page
-            ≡ page label.entry.name.now label.entry.number s.page.rows s.page.verdicts) }
-        ensures ready { IfOk result (λ s. IsReadyPage context.now.names context.now.query
-            held.new s.page.rows s.page.verdicts) }
-        ensures next { IfOk result (λ s.
-            AreNextTold (D.state disk.old).seen pages.old pages.new s.page.rows) }
-        ensures after { IfOk result (λ s. pages.new ≡ paged_after pages.old s.page.rows) }
-        ensures count { IfOk result (λ s. length s.page.rows ≡ page_rows pages.old.pages) }
+        ensures page { IfOk result (λ s. IsNextPage context.now.names context.now.query held.new
+            (D.state disk.old).seen pages.old pages.new
+            label.entry.name.now label.entry.number s.page) }
 
         // causes
         ensures damaged { IsErrOf result SearchRefusal.Damaged → OfLeft
@@ -216,43 +170,33 @@ impl PageBatch {
     /// Searches the pages that wait, and sends on what they left.
     pub(crate) fn run<R: Threads + Sync, D: Disk, K: Sink, M: Ledger>(
         &mut self,
-        rt: &R,
-        context: &Context<'_, D>,
+        over: &ThreadedContext<'_, '_, R, D>,
         held: &HeldWords,
         out: &mut K,
         expanded: &mut Steps<M>,
     ) -> Result<(), SearchRefusal>
-        requires served { IsServed context.now.names context.now.query held.now self.old.pages }
+        requires served { IsServedOver over.now.context.now held.now self.old.pages }
 
         // by the answer
-        ensures done { OnOk result (Reaches
-            context.now.names context.now.query []
+        ensures done { OnOk result (ReachesOver over.now.context.now []
             (state (K.written out.old) self.old expanded.old)
             (state (K.written out.new) self.new expanded.new)) }
         ensures empty { OnOk result (self.new.pages ≡ []) }
-        ensures stopped { OnErr result (Halts
-            context.now.names context.now.query []
+        ensures stopped { OnErr result (HaltsOver over.now.context.now []
             (state (K.written out.old) self.old expanded.old)
             (K.written out.new) expanded.new) }
 
         // causes
-        ensures damaged { IsErrOf result SearchRefusal.Damaged → Blames
-            context.now.names self.old.pages ⊥ }
+        ensures damaged { IsErrOf result SearchRefusal.Damaged
+            → Blames over.now.context.now.names self.old.pages ⊥ }
         ensures disk { ¬ IsErrOf result SearchRefusal.DiskFault }
         ensures sink_counts { CountsOf SearchRefusal.SinkFault
             (K.faults out.old) (K.faults out.new) result }
     {
-        match_and_send(
-            rt,
-            self.workers,
-            context,
-            held,
-            self.waiting.as_mut_slice(),
-            out,
-            &mut self.gathered,
-            &mut self.counts,
-            expanded,
-        )?;
+        let printer = Printer::of(over.context, held);
+        let slots = self.waiting.as_mut_slice();
+        match_pages(over.rt, self.workers, &printer, slots);
+        gather_all(slots, out, &mut self.gathered, &mut self.counts, expanded)?;
         swap(&mut self.waiting, &mut self.spare);
         self.waiting.clear();
         Ok(())
@@ -262,8 +206,7 @@ impl PageBatch {
     /// a segment are read. Nothing is sent after a fault of the disk.
     pub(crate) fn run_beside<R: Threads + Sync, D: Disk, K: Sink, M: Ledger>(
         &mut self,
-        rt: &R,
-        context: &Context<'_, D>,
+        over: &ThreadedContext<'_, '_, R, D>,
         held: &HeldWords,
         pages: &mut SegmentPages,
         disk: &mut D,
@@ -271,7 +214,7 @@ impl PageBatch {
         out: &mut K,
         expanded: &mut Steps<M>,
     ) -> Result<(), SearchRefusal>
-        requires served { IsServed context.now.names context.now.query held.now self.old.pages }
+        requires served { IsServedOver over.now.context.now held.now self.old.pages }
 
         // what is read
         ensures reads { (n : Named)
@@ -281,27 +224,25 @@ impl PageBatch {
         ensures few { length ahead.new.columns.items ≤ 65536 }
 
         // by the answer
-        ensures done { OnOk result (Reaches
-            context.now.names context.now.query []
+        ensures done { OnOk result (ReachesOver over.now.context.now []
             (state (K.written out.old) self.old expanded.old)
             (state (K.written out.new) self.new expanded.new)) }
         ensures empty { OnOk result (self.new.pages ≡ []) }
-        ensures stopped { OnErr result (Halts
-            context.now.names context.now.query []
+        ensures stopped { OnErr result (HaltsOver over.now.context.now []
             (state (K.written out.old) self.old expanded.old)
             (K.written out.new) expanded.new) }
 
         // causes
-        ensures damaged { IsErrOf result SearchRefusal.Damaged → Blames
-            context.now.names self.old.pages ⊥ }
+        ensures damaged { IsErrOf result SearchRefusal.Damaged
+            → Blames over.now.context.now.names self.old.pages ⊥ }
         ensures disk_counts { CountsOf SearchRefusal.DiskFault
             (D.state disk.old).faults (D.state disk.new).faults result }
         ensures sink_counts { CountsOf SearchRefusal.SinkFault
             (K.faults out.old) (K.faults out.new) result }
     {
-        let printer = Printer::of(context);
+        let printer = Printer::of(over.context, held);
         let slots = self.waiting.as_mut_slice();
-        match_beside(rt, self.workers, &printer, held, slots, pages, disk, ahead)?;
+        match_beside(over.rt, self.workers, &printer, slots, pages, disk, ahead)?;
         gather_all(slots, out, &mut self.gathered, &mut self.counts, expanded)?;
         swap(&mut self.waiting, &mut self.spare);
         self.waiting.clear();
@@ -311,33 +252,30 @@ impl PageBatch {
     /// Searches the pages that wait, and sends out all that is at hand.
     pub(crate) fn finish<R: Threads + Sync, D: Disk, K: Sink, M: Ledger>(
         &mut self,
-        rt: &R,
-        context: &Context<'_, D>,
+        over: &ThreadedContext<'_, '_, R, D>,
         held: &HeldWords,
         out: &mut K,
         expanded: &mut Steps<M>,
     ) -> Result<(), SearchRefusal>
-        requires served { IsServed context.now.names context.now.query held.now self.old.pages }
+        requires served { IsServedOver over.now.context.now held.now self.old.pages }
 
         // by the answer
-        ensures done { OnOk result (Reaches
-            context.now.names context.now.query []
+        ensures done { OnOk result (ReachesOver over.now.context.now []
             (state (K.written out.old) self.old expanded.old)
             (state (K.written out.new) self.new expanded.new)) }
         ensures empty { OnOk result ((self.new.pages ≡ []) × (self.new.gathered ≡ [])) }
-        ensures stopped { OnErr result (Halts
-            context.now.names context.now.query []
+        ensures stopped { OnErr result (HaltsOver over.now.context.now []
             (state (K.written out.old) self.old expanded.old)
             (K.written out.new) expanded.new) }
 
         // causes
-        ensures damaged { IsErrOf result SearchRefusal.Damaged → Blames
-            context.now.names self.old.pages ⊥ }
+        ensures damaged { IsErrOf result SearchRefusal.Damaged
+            → Blames over.now.context.now.names self.old.pages ⊥ }
         ensures disk { ¬ IsErrOf result SearchRefusal.DiskFault }
         ensures sink_counts { CountsOf SearchRefusal.SinkFault
             (K.faults out.old) (K.faults out.new) result }
     {
-        self.run(rt, context, held, out, expanded)?;
+        self.run(over, held, out, expanded)?;
         flush(out, &mut self.gathered)?;
         Ok(())
     }

@@ -2,12 +2,13 @@
 ghost use Rattle.std.specs.Prelude.{◌≡◌, ◌<◌, ◌+◌, ◌^◌, ℕ, List, All, length, IfOk, OnOk, IsErrOf, slice_index_or};
 ghost use Rattle.log_seams.specs.Outside.{CountsOf};
 ghost use Rattle.step_count.specs.Opens.{OpensFor};
-ghost use Rattle.segment_format.specs.Pages.{page_rows};
-ghost use Rattle.segment_pages.specs.Paged.{AreNextTold, Paged, paged_after};
+ghost use Rattle.segment_pages.specs.Paged.{Paged};
 ghost use Rattle.word_places.specs.Held.{Grow};
 ghost use Rattle.search_walk.specs.Held.{AreRowsOf, IsTold, Named, OfLeft};
 ghost use Rattle.search_walk.specs.PagesRead.{ReadsPage};
 ghost use Rattle.search_walk.specs.Ready.{IsReadyPage, Serves};
+ghost use Rattle.search_walk.specs.Takes.{IsLeft};
+ghost use Rattle.search_engine.specs.NextPage.{IsNextPage};
 ghost use Rattle.search_engine.specs.Waiting.{PrintsPage, Slotted, page};
 ghost use Rattle.search_engine.specs.Worked.{AreMatched, IsWorkedBy};
 
@@ -140,8 +141,7 @@ impl PageSlot {
         disk: &mut D,
         bytes: &mut Vec<u8>,
     ) -> Result<PageSlot, SearchRefusal>
-        requires left { pages.old.pages.row < pages.old.pages.rows }
-        requires small { label.number + 4096 < 2 ^ 64 }
+        requires left { IsLeft pages.old label.number }
         requires serves { Serves context.now.names held.old }
         requires told { (D.state disk.old).seen ≡ context.now.names.told }
 
@@ -152,14 +152,9 @@ impl PageSlot {
         ensures grow { Grow held.old.records held.new.records }
 
         // by the answer
-        ensures page { IfOk result (λ s. s.page
-            ≡ page label.entry.name.now label.entry.number s.page.rows s.page.verdicts) }
-        ensures ready { IfOk result (λ s. IsReadyPage context.now.names context.now.query
-            held.new s.page.rows s.page.verdicts) }
-        ensures next { IfOk result (λ s.
-            AreNextTold (D.state disk.old).seen pages.old pages.new s.page.rows) }
-        ensures after { IfOk result (λ s. pages.new ≡ paged_after pages.old s.page.rows) }
-        ensures count { IfOk result (λ s. length s.page.rows ≡ page_rows pages.old.pages) }
+        ensures page { IfOk result (λ s. IsNextPage context.now.names context.now.query held.new
+            (D.state disk.old).seen pages.old pages.new
+            label.entry.name.now label.entry.number s.page) }
 
         // causes
         ensures damaged { IsErrOf result SearchRefusal.Damaged → OfLeft
@@ -252,18 +247,19 @@ impl PageSlot {
 // Searches a page, with a counter of its own. Its counts are exact, as a page is small.
 fn match_counted<M: Ledger>(
     printer: &Printer<'_>,
-    held: &HeldWords,
     slot: &mut PageSlot,
     blank: Blank,
 ) -> Result<(), PrintRefusal>
     requires blank { OpensFor blank M.name M.parts }
-    requires types { held.now.types ≡ printer.now.layouts.now }
+    requires types { printer.now.held.now.types ≡ printer.now.layouts.now }
     ensures page { slot.new.page ≡ slot.old.page }
-    ensures done { OnOk result ((n : Named) → IsReadyPage n printer.now.query.now held.now
+    ensures done { OnOk result ((n : Named)
+        → IsReadyPage n printer.now.query.now printer.now.held.now
         slot.old.page.rows slot.old.page.verdicts
         → PrintsPage n printer.now.query.now slot.old.page slot.new.text slot.new.counts) }
     ensures damaged { IsErrOf result PrintRefusal.Damaged → (n : Named)
-        → IsReadyPage n printer.now.query.now held.now slot.old.page.rows slot.old.page.verdicts
+        → IsReadyPage n printer.now.query.now printer.now.held.now
+        slot.old.page.rows slot.old.page.verdicts
         → (messages : List (List ℕ)) → ¬ AreRowsOf n slot.old.page.rows messages }
 {
     let mut expanded: Steps<M> = Steps::new(blank);
@@ -275,7 +271,6 @@ fn match_counted<M: Ledger>(
     };
     print_page(
         printer,
-        held,
         label,
         &slot.columns,
         slot.verdicts.as_slice(),
@@ -286,22 +281,22 @@ fn match_counted<M: Ledger>(
 }
 
 /// Searches a page that is in memory.
-pub(crate) fn match_page(printer: &Printer<'_>, held: &HeldWords, slot: &mut PageSlot)
-    requires types { held.now.types ≡ printer.now.layouts.now }
+pub(crate) fn match_page(printer: &Printer<'_>, slot: &mut PageSlot)
+    requires types { printer.now.held.now.types ≡ printer.now.layouts.now }
     ensures page { slot.new.page ≡ slot.old.page }
-    ensures worked { IsWorkedBy printer.now.query.now held.now slot.new }
+    ensures worked { IsWorkedBy printer.now.query.now printer.now.held.now slot.new }
 {
-    let answer = match_counted::<Brand>(printer, held, slot, Blank::new(1));
+    let answer = match_counted::<Brand>(printer, slot, Blank::new(1));
     slot.answer = answer;
 }
 
 /// Searches pages that are in memory, one after the other.
-fn match_chunk(printer: &Printer<'_>, held: &HeldWords, slots: &mut [PageSlot])
-    requires types { held.now.types ≡ printer.now.layouts.now }
-    ensures { AreMatched printer.now.query.now held.now slots.old slots.new }
+fn match_chunk(printer: &Printer<'_>, slots: &mut [PageSlot])
+    requires types { printer.now.held.now.types ≡ printer.now.layouts.now }
+    ensures { AreMatched printer.now.query.now printer.now.held.now slots.old slots.new }
 {
     for slot in slots.iter_mut() {
-        match_page(printer, held, slot);
+        match_page(printer, slot);
     }
 }
 
@@ -311,20 +306,19 @@ pub(crate) fn match_pages<R: Threads + Sync>(
     rt: &R,
     workers: usize,
     printer: &Printer<'_>,
-    held: &HeldWords,
     slots: &mut [PageSlot],
 )
     requires workers { 0 < workers }
-    requires types { held.now.types ≡ printer.now.layouts.now }
+    requires types { printer.now.held.now.types ≡ printer.now.layouts.now }
     ensures len { length slots.new ≡ length slots.old }
     ensures pages { (k : ℕ) (d : Slotted) → k < length slots.old
         → (slice_index_or slots.new k d).page ≡ (slice_index_or slots.old k d).page }
-    ensures worked { All (IsWorkedBy printer.now.query.now held.now) slots.new }
+    ensures worked { All (IsWorkedBy printer.now.query.now printer.now.held.now) slots.new }
 {
     let size = slots.len().div_ceil(workers).max(1);
     // One chunk needs no other thread, and no look at how many processors there are.
     if slots.len() <= size {
-        match_chunk(printer, held, slots);
+        match_chunk(printer, slots);
         return;
     }
     par_chunks_mut_for_each(
@@ -332,9 +326,9 @@ pub(crate) fn match_pages<R: Threads + Sync>(
         slots,
         size,
         |_start: usize, chunk: &mut [PageSlot]|
-            requires { held.now.types ≡ printer.now.layouts.now }
-            ensures { AreMatched printer.entry.now.query.now
-                held.entry.now chunk.entry.now chunk.exit.now }
-        { match_chunk(printer, held, chunk) },
+            requires { printer.now.held.now.types ≡ printer.now.layouts.now }
+            ensures { AreMatched printer.entry.now.query.now printer.entry.now.held.now
+                chunk.entry.now chunk.exit.now }
+        { match_chunk(printer, chunk) },
     );
 }

@@ -1,5 +1,5 @@
 //! What takes the pages of a walk for a search: they wait, are searched by workers, and what is found goes out.
-ghost use Rattle.std.specs.Prelude.{◌≡◌, ◌<◌, ◌+◌, ◌-◌, ◌^◌, ◌∷◌, [], ℕ, List, length, IfOk, OnOk, OnErr, IsErrOf};
+ghost use Rattle.std.specs.Prelude.{◌≡◌, ◌<◌, ◌+◌, ◌^◌, ◌∷◌, [], ℕ, List, length, IfOk, OnOk, OnErr, IsErrOf};
 ghost use Rattle.std.specs.Thread.{IsSync};
 ghost use Rattle.log_seams.specs.Disk.{Rests};
 ghost use Rattle.log_seams.specs.Outside.{CountsOf};
@@ -7,9 +7,11 @@ ghost use Rattle.search_walk.specs.Held.{AreRowsOf, IsTold, OfLeft};
 ghost use Rattle.search_walk.specs.Opened.{NoFronts, ReadsFronts};
 ghost use Rattle.search_walk.specs.PagesRead.{ReadsPage};
 ghost use Rattle.search_walk.specs.Scan.{numbered};
-ghost use Rattle.search_walk.specs.Walked.{PageGone, PagesGone, PastTold};
+ghost use Rattle.search_walk.specs.Takes.{IsLeft};
+ghost use Rattle.search_walk.specs.Walked.{PageGone, PastTold};
 ghost use Rattle.segment_pages.specs.Paged.{Paged};
-ghost use Rattle.search_engine.specs.Ahead.{rows_of};
+ghost use Rattle.search_engine.specs.Ahead.{FitNumbers, rows_of};
+ghost use Rattle.search_engine.specs.Over.{HaltsOver, IsServedOver, ReachesOver};
 ghost use Rattle.search_engine.specs.SegmentsDone.{SearchedFronts, StoppedFronts};
 ghost use Rattle.search_engine.specs.Served.{IsServed};
 ghost use Rattle.search_engine.specs.StepsWaiting.{halts_behind, halts_more, halts_same, reaches_on, reaches_over, stands_on};
@@ -17,12 +19,12 @@ ghost use Rattle.search_engine.specs.Waiting.{Blames, Halts, Reaches, StandFor, 
 
 use crate::page_ahead::PagesAhead;
 use crate::page_batch::PageBatch;
+use crate::threaded::ThreadedContext;
 use archive_places::SegmentFront;
 use column_store::Columns;
 use log_seams::{Disk, Sink};
 use search_walk::{Context, Label, SearchRefusal, TakesPages, visit_segments};
 use segment_pages::SegmentPages;
-use std::alloc::Global;
 use std::sync::ledger::Ledger;
 use std::thread::Threads;
 use step_count::Steps;
@@ -32,8 +34,7 @@ use word_places::HeldWords;
 /// due. Where a page cannot be read, the pages before it are searched and sent out first, but
 /// not after a fault of the disk.
 fn read_next<R: Threads + Sync, D: Disk, K: Sink, M: Ledger>(
-    rt: &R,
-    context: &Context<'_, D>,
+    over: &ThreadedContext<'_, '_, R, D>,
     held: &mut HeldWords,
     label: Label<'_>,
     pages: &mut SegmentPages,
@@ -42,44 +43,43 @@ fn read_next<R: Threads + Sync, D: Disk, K: Sink, M: Ledger>(
     batch: &mut PageBatch,
     expanded: &mut Steps<M>,
 ) -> Result<u32, SearchRefusal>
-    requires left { pages.old.pages.row < pages.old.pages.rows }
-    requires small { label.number + 4096 < 2 ^ 64 }
-    requires served { IsServed context.now.names context.now.query held.old batch.old.pages }
-    requires told { (D.state disk.old).seen ≡ context.now.names.told }
+    requires left { IsLeft pages.old label.number }
+    requires served { IsServedOver over.now.context.now held.old batch.old.pages }
+    requires told { (D.state disk.old).seen ≡ over.now.context.now.names.told }
 
     // what stays
-    ensures reads { ReadsPage context.now.names pages.old (D.state disk.old) (D.state disk.new) }
-    ensures served { OnOk result (IsServed context.now.names context.now.query
-        held.new batch.new.pages) }
+    ensures reads { ReadsPage over.now.context.now.names pages.old
+        (D.state disk.old) (D.state disk.new) }
+    ensures served { OnOk result (IsServedOver over.now.context.now held.new batch.new.pages) }
 
     // by the answer
     ensures gone { IfOk result (λ rows. PageGone pages.old pages.new rows) }
     ensures done { IfOk result (λ rows. PastTold
-        (λ all. Reaches context.now.names context.now.query all
+        (λ all. ReachesOver over.now.context.now all
         (state (K.written out.old) batch.old expanded.old)
         (state (K.written out.new) batch.new expanded.new))
-        (D.state disk.old).seen pages.old context.now.names
+        (D.state disk.old).seen pages.old over.now.context.now.names
         label.entry.name.now label.entry.number pages.new rows) }
     ensures stopped { OnErr result (OfLeft (D.state disk.old).seen pages.old
-        context.now.names (λ messages. Halts context.now.names context.now.query
+        over.now.context.now.names (λ messages. HaltsOver over.now.context.now
         (numbered label.entry.name.now label.entry.number messages)
         (state (K.written out.old) batch.old expanded.old) (K.written out.new) expanded.new)) }
 
     // causes
     ensures damaged { IsErrOf result SearchRefusal.Damaged → Blames
-        context.now.names batch.old.pages
-        (OfLeft (D.state disk.old).seen pages.old context.now.names (λ _. ⊥)) }
+        over.now.context.now.names batch.old.pages
+        (OfLeft (D.state disk.old).seen pages.old over.now.context.now.names (λ _. ⊥)) }
     ensures disk_counts { CountsOf SearchRefusal.DiskFault
         (D.state disk.old).faults (D.state disk.new).faults result }
     ensures sink_counts { CountsOf SearchRefusal.SinkFault
         (K.faults out.old) (K.faults out.new) result }
 {
-    let slot = match batch.read(context, held, label, pages, disk) {
+    let slot = match batch.read(over.context, held, label, pages, disk) {
         Ok(slot) => slot,
         // An output that fails too would be a second fault.
         Err(SearchRefusal::DiskFault) => return Err(SearchRefusal::DiskFault),
         Err(refusal) => {
-            batch.finish(rt, context, held, out, expanded)?;
+            batch.finish(over, held, out, expanded)?;
             return Err(refusal);
         }
     };
@@ -88,7 +88,7 @@ fn read_next<R: Threads + Sync, D: Disk, K: Sink, M: Ledger>(
     if !batch.is_due() {
         return Ok(rows);
     }
-    batch.run(rt, context, held, out, expanded)?;
+    batch.run(over, held, out, expanded)?;
     Ok(rows)
 }
 
@@ -96,8 +96,7 @@ fn read_next<R: Threads + Sync, D: Disk, K: Sink, M: Ledger>(
 /// cannot be read, the pages before it are searched and sent out first, but not after a fault of the
 /// disk.
 fn wait_next<R: Threads + Sync, D: Disk, K: Sink, M: Ledger>(
-    rt: &R,
-    context: &Context<'_, D>,
+    over: &ThreadedContext<'_, '_, R, D>,
     held: &mut HeldWords,
     label: Label<'_>,
     columns: &mut Columns,
@@ -107,39 +106,41 @@ fn wait_next<R: Threads + Sync, D: Disk, K: Sink, M: Ledger>(
     expanded: &mut Steps<M>,
 ) -> Result<(), SearchRefusal>
     requires small { label.number + length columns.old.rows < 2 ^ 64 }
-    requires served { IsServed context.now.names context.now.query held.old batch.old.pages }
-    requires told { (D.state disk.old).seen ≡ context.now.names.told }
+    requires served { IsServedOver over.now.context.now held.old batch.old.pages }
+    requires told { (D.state disk.old).seen ≡ over.now.context.now.names.told }
 
     // what stays
     ensures reads { (p : Paged)
-        → ReadsPage context.now.names p (D.state disk.old) (D.state disk.new) }
-    ensures served { OnOk result (IsServed context.now.names context.now.query
-        held.new batch.new.pages) }
+        → ReadsPage over.now.context.now.names p (D.state disk.old) (D.state disk.new) }
+    ensures served { OnOk result (IsServedOver over.now.context.now held.new batch.new.pages) }
 
     // by the answer
     ensures done { OnOk result ((messages : List (List ℕ))
-        → AreRowsOf context.now.names columns.old.rows messages
-        → Reaches context.now.names context.now.query
+        → AreRowsOf over.now.context.now.names columns.old.rows messages
+        → ReachesOver over.now.context.now
         (numbered label.entry.name.now label.entry.number messages)
         (state (K.written out.old) batch.old expanded.old)
         (state (K.written out.new) batch.new expanded.new)) }
-    ensures stopped { OnErr result (Halts context.now.names context.now.query []
+    ensures stopped { OnErr result (HaltsOver over.now.context.now []
         (state (K.written out.old) batch.old expanded.old) (K.written out.new) expanded.new) }
 
     // causes
     ensures damaged { IsErrOf result SearchRefusal.Damaged → Blames
-        context.now.names batch.old.pages (¬ IsTold context.now.names) }
+        over.now.context.now.names batch.old.pages (¬ IsTold over.now.context.now.names) }
     ensures disk_counts { CountsOf SearchRefusal.DiskFault
         (D.state disk.old).faults (D.state disk.new).faults result }
     ensures sink_counts { CountsOf SearchRefusal.SinkFault
         (K.faults out.old) (K.faults out.new) result }
 {
-    let slot = match batch.take_slot().fill(context, held, label, columns, disk) {
+    let slot = match batch
+        .take_slot()
+        .fill(over.context, held, label, columns, disk)
+    {
         Ok(slot) => slot,
         // An output that fails too would be a second fault.
         Err(SearchRefusal::DiskFault) => return Err(SearchRefusal::DiskFault),
         Err(refusal) => {
-            batch.finish(rt, context, held, out, expanded)?;
+            batch.finish(over, held, out, expanded)?;
             return Err(refusal);
         }
     };
@@ -150,8 +151,7 @@ fn wait_next<R: Threads + Sync, D: Disk, K: Sink, M: Ledger>(
 /// Lets pages wait that were read before their turn, of which the first message has this label. Answers
 /// how many rows they have.
 fn wait_all<R: Threads + Sync, D: Disk, K: Sink, M: Ledger>(
-    rt: &R,
-    context: &Context<'_, D>,
+    over: &ThreadedContext<'_, '_, R, D>,
     held: &mut HeldWords,
     label: Label<'_>,
     disk: &mut D,
@@ -160,35 +160,33 @@ fn wait_all<R: Threads + Sync, D: Disk, K: Sink, M: Ledger>(
     ahead: &mut PagesAhead,
     expanded: &mut Steps<M>,
 ) -> Result<u32, SearchRefusal>
-    requires few { length (rows_of ahead.old.columns.items) < 2 ^ 32 }
-    requires small { label.number + length (rows_of ahead.old.columns.items) < 2 ^ 64 }
-    requires served { IsServed context.now.names context.now.query held.old batch.old.pages }
-    requires told { (D.state disk.old).seen ≡ context.now.names.told }
+    requires fit { FitNumbers label.number (rows_of ahead.old.columns.items) }
+    requires served { IsServedOver over.now.context.now held.old batch.old.pages }
+    requires told { (D.state disk.old).seen ≡ over.now.context.now.names.told }
 
     // what stays
     ensures reads { (p : Paged)
-        → ReadsPage context.now.names p (D.state disk.old) (D.state disk.new) }
-    ensures served { OnOk result (IsServed context.now.names context.now.query
-        held.new batch.new.pages) }
+        → ReadsPage over.now.context.now.names p (D.state disk.old) (D.state disk.new) }
+    ensures served { OnOk result (IsServedOver over.now.context.now held.new batch.new.pages) }
 
     // by the answer
     ensures count { IfOk result (λ rows. rows ≡ length (rows_of ahead.old.columns.items)) }
     ensures done { OnOk result ((messages : List (List ℕ))
-        → AreRowsOf context.now.names (rows_of ahead.old.columns.items) messages
-        → Reaches context.now.names context.now.query
+        → AreRowsOf over.now.context.now.names (rows_of ahead.old.columns.items) messages
+        → ReachesOver over.now.context.now
         (numbered label.entry.name.now label.entry.number messages)
         (state (K.written out.old) batch.old expanded.old)
         (state (K.written out.new) batch.new expanded.new)) }
     ensures stopped { OnErr result ((messages : List (List ℕ))
-        → AreRowsOf context.now.names (rows_of ahead.old.columns.items) messages
-        → Halts context.now.names context.now.query
+        → AreRowsOf over.now.context.now.names (rows_of ahead.old.columns.items) messages
+        → HaltsOver over.now.context.now
         (numbered label.entry.name.now label.entry.number messages)
         (state (K.written out.old) batch.old expanded.old) (K.written out.new) expanded.new) }
 
     // causes
     ensures damaged { IsErrOf result SearchRefusal.Damaged → Blames
-        context.now.names batch.old.pages ((messages : List (List ℕ))
-        → ¬ AreRowsOf context.now.names (rows_of ahead.old.columns.items) messages) }
+        over.now.context.now.names batch.old.pages ((messages : List (List ℕ))
+        → ¬ AreRowsOf over.now.context.now.names (rows_of ahead.old.columns.items) messages) }
     ensures disk_counts { CountsOf SearchRefusal.DiskFault
         (D.state disk.old).faults (D.state disk.new).faults result }
     ensures sink_counts { CountsOf SearchRefusal.SinkFault
@@ -201,76 +199,10 @@ fn wait_all<R: Threads + Sync, D: Disk, K: Sink, M: Ledger>(
             number: label.number + u64::from(rows),
         };
         rows += columns.rows();
-        wait_next(
-            rt,
-            context,
-            held,
-            here,
-            &mut columns,
-            disk,
-            out,
-            batch,
-            expanded,
-        )?;
+        wait_next(over, held, here, &mut columns, disk, out, batch, expanded)?;
         ahead.give_back(columns);
     }
     Ok(rows)
-}
-
-/// Reads the next page and lets it wait, as [`read_next`]; but where a round of pages waits, this is
-/// searched while the next pages are read, of which all wait then.
-fn read_on<R: Threads + Sync, D: Disk, K: Sink, M: Ledger>(
-    rt: &R,
-    context: &Context<'_, D>,
-    held: &mut HeldWords,
-    label: Label<'_>,
-    pages: &mut SegmentPages,
-    disk: &mut D,
-    out: &mut K,
-    batch: &mut PageBatch,
-    ahead: &mut PagesAhead,
-    expanded: &mut Steps<M>,
-) -> Result<u32, SearchRefusal>
-    requires left { pages.old.pages.row < pages.old.pages.rows }
-    requires small { label.number + (pages.old.pages.rows - pages.old.pages.row) + 4096 < 2 ^ 64 }
-    requires served { IsServed context.now.names context.now.query held.old batch.old.pages }
-    requires told { (D.state disk.old).seen ≡ context.now.names.told }
-
-    // what stays
-    ensures reads { ReadsPage context.now.names pages.old (D.state disk.old) (D.state disk.new) }
-    ensures served { OnOk result (IsServed context.now.names context.now.query
-        held.new batch.new.pages) }
-
-    // by the answer
-    ensures gone { IfOk result (λ rows. PagesGone pages.old pages.new rows) }
-    ensures done { IfOk result (λ rows. PastTold
-        (λ all. Reaches context.now.names context.now.query all
-        (state (K.written out.old) batch.old expanded.old)
-        (state (K.written out.new) batch.new expanded.new))
-        (D.state disk.old).seen pages.old context.now.names
-        label.entry.name.now label.entry.number pages.new rows) }
-    ensures stopped { OnErr result (OfLeft (D.state disk.old).seen pages.old
-        context.now.names (λ messages. Halts context.now.names context.now.query
-        (numbered label.entry.name.now label.entry.number messages)
-        (state (K.written out.old) batch.old expanded.old) (K.written out.new) expanded.new)) }
-
-    // causes
-    ensures damaged { IsErrOf result SearchRefusal.Damaged → Blames
-        context.now.names batch.old.pages
-        (OfLeft (D.state disk.old).seen pages.old context.now.names (λ _. ⊥)) }
-    ensures disk_counts { CountsOf SearchRefusal.DiskFault
-        (D.state disk.old).faults (D.state disk.new).faults result }
-    ensures sink_counts { CountsOf SearchRefusal.SinkFault
-        (K.faults out.old) (K.faults out.new) result }
-{
-    if !batch.is_round() {
-        return read_next(rt, context, held, label, pages, disk, out, batch, expanded);
-    }
-    batch.run_beside(rt, context, held, pages, disk, ahead, out, expanded)?;
-    if ahead.is_empty() {
-        return read_next(rt, context, held, label, pages, disk, out, batch, expanded);
-    }
-    wait_all(rt, context, held, label, disk, out, batch, ahead, expanded)
 }
 
 /// Takes the pages of a walk for a search: a batch of them waits, and what is found in them is written.
@@ -337,18 +269,23 @@ impl<'a, R: Threads + Sync, K: Sink, M: Ledger> TakesPages for Printing<'a, R, K
         pages: &mut SegmentPages,
         disk: &mut D,
     ) -> Result<u32, SearchRefusal> {
-        read_on(
-            self.rt,
+        let over = ThreadedContext {
+            rt: self.rt,
             context,
-            held,
-            label,
-            pages,
-            disk,
-            self.out,
-            self.batch,
-            self.ahead,
-            self.expanded,
-        )
+        };
+        let out = &mut *self.out;
+        let batch = &mut *self.batch;
+        let ahead = &mut *self.ahead;
+        let expanded = &mut *self.expanded;
+        if !batch.is_round() {
+            return read_next(&over, held, label, pages, disk, out, batch, expanded);
+        }
+        // A round that waits is searched while the next pages are read, of which all wait then.
+        batch.run_beside(&over, held, pages, disk, ahead, out, expanded)?;
+        if ahead.is_empty() {
+            return read_next(&over, held, label, pages, disk, out, batch, expanded);
+        }
+        wait_all(&over, held, label, disk, out, batch, ahead, expanded)
     }
 
     fn finish<D: Disk>(
@@ -356,8 +293,11 @@ impl<'a, R: Threads + Sync, K: Sink, M: Ledger> TakesPages for Printing<'a, R, K
         context: &Context<'_, D>,
         held: &HeldWords,
     ) -> Result<(), SearchRefusal> {
-        self.batch
-            .finish(self.rt, context, held, self.out, self.expanded)
+        let over = ThreadedContext {
+            rt: self.rt,
+            context,
+        };
+        self.batch.finish(&over, held, self.out, self.expanded)
     }
 
     ghost passes_over = { λ w n q all found tried. reaches_over n q all
@@ -388,9 +328,7 @@ impl<'a, R: Threads + Sync, K: Sink, M: Ledger> TakesPages for Printing<'a, R, K
 
 /// Searches the segments in their order, and answers how many were opened.
 pub(crate) fn print_segments<R: Threads + Sync, D: Disk, K: Sink, L: Ledger, M: Ledger>(
-    rt: &R,
-    alloc: Global,
-    context: &Context<'_, D>,
+    over: &ThreadedContext<'_, '_, R, D>,
     held: &mut HeldWords,
     fronts: &[SegmentFront],
     disk: &mut D,
@@ -399,37 +337,48 @@ pub(crate) fn print_segments<R: Threads + Sync, D: Disk, K: Sink, L: Ledger, M: 
     opened: &mut Steps<L>,
     expanded: &mut Steps<M>,
 ) -> Result<u64, SearchRefusal>
-    requires served { IsServed context.now.names context.now.query held.old batch.old.pages }
-    requires told { (D.state disk.old).seen ≡ context.now.names.told }
+    requires served { IsServedOver over.now.context.now held.old batch.old.pages }
+    requires told { (D.state disk.old).seen ≡ over.now.context.now.names.told }
 
     // what stays
     ensures rests { Rests (D.state disk.old) (D.state disk.new) }
-    ensures reads { ReadsFronts (D.state disk.old) (D.state disk.new)
-        context.now.names context.now.files context.now.query fronts.now }
-    ensures served { IfOk result (λ _. IsServed context.now.names context.now.query
+    ensures reads { ReadsFronts (D.state disk.old) (D.state disk.new) over.now.context.now.names
+        over.now.context.now.files over.now.context.now.query fronts.now }
+    ensures served { IfOk result (λ _. IsServedOver over.now.context.now
         held.new batch.new.pages) }
 
     // by the answer
-    ensures done { IfOk result (λ count. SearchedFronts (D.state disk.old).seen
-        context.now.names context.now.files context.now.query fronts.now
+    ensures done { IfOk result (λ count. SearchedFronts
+        (D.state disk.old).seen over.now.context.now.names
+        over.now.context.now.files over.now.context.now.query fronts.now
         (state (K.written out.old) batch.old expanded.old)
         (state (K.written out.new) batch.new expanded.new)
         opened.old opened.new count) }
-    ensures stopped { OnErr result (StoppedFronts (D.state disk.old).seen
-        context.now.names context.now.files context.now.query fronts.now
+    ensures stopped { OnErr result (StoppedFronts
+        (D.state disk.old).seen over.now.context.now.names
+        over.now.context.now.files over.now.context.now.query fronts.now
         (state (K.written out.old) batch.old expanded.old)
         (K.written out.new) expanded.new opened.old opened.new) }
 
     // causes
     ensures damaged { IsErrOf result SearchRefusal.Damaged → Blames
-        context.now.names batch.old.pages
-        (NoFronts (D.state disk.old).seen context.now.names context.now.files fronts.now) }
+        over.now.context.now.names batch.old.pages (NoFronts (D.state disk.old).seen
+        over.now.context.now.names over.now.context.now.files fronts.now) }
     ensures disk_counts { CountsOf SearchRefusal.DiskFault
         (D.state disk.old).faults (D.state disk.new).faults result }
     ensures sink_counts { CountsOf SearchRefusal.SinkFault
         (K.faults out.old) (K.faults out.new) result }
 {
+    let alloc = batch.alloc();
     let mut ahead = PagesAhead::new(alloc);
-    let mut printing = Printing::new(rt, out, batch, &mut ahead, expanded);
-    visit_segments(alloc, context, held, fronts, disk, &mut printing, opened)
+    let mut printing = Printing::new(over.rt, out, batch, &mut ahead, expanded);
+    visit_segments(
+        alloc,
+        over.context,
+        held,
+        fronts,
+        disk,
+        &mut printing,
+        opened,
+    )
 }

@@ -21,22 +21,26 @@ use step_count::Steps;
 use subquery_filter::Verdict;
 use word_places::{HeldWords, rows_are_local};
 
-/// What rows that were decided are printed by: the query, and the log types cut into pieces.
+/// What rows that were decided are printed by: the query, the log types cut into pieces, and the words
+/// that are held.
 #[derive(Clone, Copy)]
 pub(crate) struct Printer<'q> {
     pub(crate) query: &'q Query,
     pub(crate) layouts: &'q Layouts,
+    pub(crate) held: &'q HeldWords,
 }
 
 impl<'q> Printer<'q> {
-    /// What prints rows of a search.
-    pub(crate) fn of<D: Disk>(context: &Context<'q, D>) -> Printer<'q>
+    /// What prints rows of a search by these words.
+    pub(crate) fn of<D: Disk>(context: &Context<'q, D>, held: &'q HeldWords) -> Printer<'q>
         ensures query { result.query.now ≡ context.now.query }
         ensures types { result.layouts.now ≡ context.now.names.types }
+        ensures held { result.held.now ≡ held.now }
     {
         Printer {
             query: context.query(),
             layouts: context.layouts(),
+            held,
         }
     }
 }
@@ -95,8 +99,7 @@ fn is_certain(verdict: Verdict) -> bool
 /// costs less than a match over the row as it is stored. Where it was decided that it cannot be found
 /// it is not written, and where that it is expanded it is not matched for that.
 fn print_row<M: Ledger>(
-    query: &Query,
-    held: &HeldWords,
+    printer: &Printer<'_>,
     writer: &mut RowWriter<'_>,
     label: Label<'_>,
     row: RowRef<'_>,
@@ -105,19 +108,20 @@ fn print_row<M: Ledger>(
     counts: &mut Counts,
     expanded: &mut Steps<M>,
 ) -> Result<(), PrintRefusal>
-    requires { writer.old ≡ held.now.types }
+    requires { writer.old ≡ printer.now.held.now.types }
     ensures types { writer.new ≡ writer.old }
-    ensures done { OnOk result ((n : Named) → IsLent n query.now held.now (row_of row.entry) verdict
+    ensures done { OnOk result ((n : Named)
+        → IsLent n printer.now.query.now printer.now.held.now (row_of row.entry) verdict
         → (w : Option (List ℕ)) (message : List ℕ)
         → IsCanonical n.version (row_of row.entry) n.types n.words message
-        → Passes n.version query.now
+        → Passes n.version printer.now.query.now
         (placed label.entry.name.now label.entry.number message ∷ [])
         (sofar w gathered.old.items counts.old expanded.old)
         (sofar w gathered.new.items counts.new expanded.new)) }
     ensures ticks { OnErr result (expanded.new ≡ expanded.old) }
     ensures damaged { IsErrOf result PrintRefusal.Damaged → (n : Named)
-        → IsLent n query.now held.now (row_of row.entry) verdict → (message : List ℕ)
-        → ¬ IsCanonical n.version (row_of row.entry) n.types n.words message }
+        → IsLent n printer.now.query.now printer.now.held.now (row_of row.entry) verdict
+        → (message : List ℕ) → ¬ IsCanonical n.version (row_of row.entry) n.types n.words message }
 {
     // What the pattern matches, the one that the search is planned over matches too; and a row whose
     // words are held is written by these as by all words.
@@ -129,11 +133,11 @@ fn print_row<M: Ledger>(
     let len = gathered.len();
     put_label(gathered, label)?;
     let start = gathered.len();
-    if !writer.write_fitting(row, held, gathered)? {
+    if !writer.write_fitting(row, printer.held, gathered)? {
         return Err(PrintRefusal::Damaged);
     }
     let (_, text) = gathered.as_slice().split_at(start);
-    let judgement = query.judge(is_certain(verdict), text);
+    let judgement = printer.query.judge(is_certain(verdict), text);
     keep(judgement, len, gathered, counts, expanded)?;
     Ok(())
 }
@@ -150,7 +154,6 @@ fn verdict_at(verdicts: &[Verdict], place: u32) -> Verdict
 /// this label, and each has its verdict.
 pub(crate) fn print_page<M: Ledger>(
     printer: &Printer<'_>,
-    held: &HeldWords,
     label: Label<'_>,
     page: &Columns,
     verdicts: &[Verdict],
@@ -158,24 +161,24 @@ pub(crate) fn print_page<M: Ledger>(
     counts: &mut Counts,
     expanded: &mut Steps<M>,
 ) -> Result<(), PrintRefusal>
-    requires types { held.now.types ≡ printer.now.layouts.now }
+    requires types { printer.now.held.now.types ≡ printer.now.layouts.now }
     requires small { label.number + length page.now.rows < 2 ^ 64 }
     requires decided { length verdicts.now ≡ length page.now.rows }
     ensures done { OnOk result ((n : Named)
-        → IsReadyPage n printer.now.query.now held.now page.now.rows verdicts.now
+        → IsReadyPage n printer.now.query.now printer.now.held.now page.now.rows verdicts.now
         → (w : Option (List ℕ)) (messages : List (List ℕ)) → AreRowsOf n page.now.rows messages
         → Passes n.version printer.now.query.now
         (numbered label.entry.name.now label.entry.number messages)
         (sofar w gathered.old.items counts.old expanded.old)
         (sofar w gathered.new.items counts.new expanded.new)) }
     ensures ticks { OnErr result ((n : Named)
-        → IsReadyPage n printer.now.query.now held.now page.now.rows verdicts.now
+        → IsReadyPage n printer.now.query.now printer.now.held.now page.now.rows verdicts.now
         → (messages : List (List ℕ)) → AreRowsOf n page.now.rows messages
         → TicksWithin n.version printer.now.query.now
         (numbered label.entry.name.now label.entry.number messages)
         expanded.old expanded.new) }
     ensures damaged { IsErrOf result PrintRefusal.Damaged → (n : Named)
-        → IsReadyPage n printer.now.query.now held.now page.now.rows verdicts.now
+        → IsReadyPage n printer.now.query.now printer.now.held.now page.now.rows verdicts.now
         → (messages : List (List ℕ)) → ¬ AreRowsOf n page.now.rows messages }
 {
     let mut writer = RowWriter::new(printer.layouts);
@@ -187,8 +190,7 @@ pub(crate) fn print_page<M: Ledger>(
         let row = page.row(place);
         let verdict = verdict_at(verdicts, place);
         print_row(
-            printer.query,
-            held,
+            printer,
             &mut writer,
             here,
             row,

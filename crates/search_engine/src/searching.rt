@@ -12,6 +12,7 @@ ghost use Rattle.search_walk.specs.Journal.{OfJournal, ReadsNoBarren, asked};
 use crate::page_batch::PageBatch;
 use crate::page_taking::print_segments;
 use crate::report::Report;
+use crate::threaded::ThreadedContext;
 use archive_places::{Places, heads_stand, words_stand};
 use column_store::Range;
 use log_seams::{Disk, Sink};
@@ -83,11 +84,13 @@ fn search_opened<R: Threads + Sync, D: Disk, K: Sink, L: Ledger, M: Ledger>(
     let names = files.as_slice();
     let found = told.found.as_slice();
     let context = Context::new(query, &layouts, &told.filter, names, found, &held, disk);
+    let over = ThreadedContext {
+        rt,
+        context: &context,
+    };
     let fronts = segments.as_slice();
-    let count = print_segments(
-        rt, alloc, &context, &mut held, fronts, disk, out, batch, opened, expanded,
-    )?;
-    batch.finish(rt, &context, &held, out, expanded)?;
+    let count = print_segments(&over, &mut held, fronts, disk, out, batch, opened, expanded)?;
+    batch.finish(&over, &held, out, expanded)?;
     let counts = batch.counts();
     Ok(Report {
         matched: counts.matched,

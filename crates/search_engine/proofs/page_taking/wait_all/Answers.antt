@@ -18,12 +18,12 @@ loop-columns-init g c = record {
   faults = refl;
   sink = refl;
   served = c.requires.served;
-  reaches = waited_none c.args.context.now.names c.args.context.now.query c.args.label.name.now c.args.label.number (state (g.K.Sink.written c.args.out.now) c.args.batch.now c.args.expanded.now);
+  reaches = waited_none c.args.over.now.context.now.names c.args.over.now.context.now.query c.args.label.name.now c.args.label.number (state (g.K.Sink.written c.args.out.now) c.args.batch.now c.args.expanded.now);
 }
 
 pub loop-columns-preserved : goal.loop-columns-preserved
 loop-columns-preserved g c =
-    let n : Named = c.args.context.now.names in
+    let n : Named = c.args.over.now.context.now.names in
     let inv = c.loop-columns.invariant in
     let rows = c.in-Some.columns.rows in
     record {
@@ -35,30 +35,30 @@ loop-columns-preserved g c =
       sink = search rules;
       served = search rules;
       reaches =
-          waited_on n c.args.context.now.query c.args.label.name.now c.args.label.number inv.gone rows (c.args.label.number + c.from.result) (state (g.K.Sink.written c.args.out.now) c.args.batch.now c.args.expanded.now)
+          waited_on n c.args.over.now.context.now.query c.args.label.name.now c.args.label.number inv.gone rows (c.args.label.number + c.from.result) (state (g.K.Sink.written c.args.out.now) c.args.batch.now c.args.expanded.now)
           (state (g.K.Sink.written c.loop-columns.out) c.loop-columns.batch c.loop-columns.expanded) (state (g.K.Sink.written c.wait_next.new.out) c.wait_next.new.batch c.wait_next.new.expanded) (omega (arith, inv.count, c.from.ensures)) inv.reaches
           c.in_ok-wait_next.ensures.done;
     }
 
 pub wait_next-requires-clause-told : goal.wait_next-requires-clause-told
-wait_next-requires-clause-told g c = λ _ _. words_seen c.args.context.now.names (g.D.Disk.state c.args.disk.now) (g.D.Disk.state c.loop-columns.disk) c.loop-columns.invariant.reads ∙ c.requires.told
+wait_next-requires-clause-told g c = λ _ _. words_seen c.args.over.now.context.now.names (g.D.Disk.state c.args.disk.now) (g.D.Disk.state c.loop-columns.disk) c.loop-columns.invariant.reads ∙ c.requires.told
 
 pub returns-in_err-wait_next-clause-reads : goal.returns-in_err-wait_next-clause-reads
 returns-in_err-wait_next-clause-reads g c = λ p.
-    such_on (IsOfPage c.args.context.now.names p) (g.D.Disk.state c.args.disk.now) (g.D.Disk.state c.loop-columns.disk) (g.D.Disk.state c.wait_next.new.disk) (c.loop-columns.invariant.reads p) (c.wait_next.ensures.reads p)
+    such_on (IsOfPage c.args.over.now.context.now.names p) (g.D.Disk.state c.args.disk.now) (g.D.Disk.state c.loop-columns.disk) (g.D.Disk.state c.wait_next.new.disk) (c.loop-columns.invariant.reads p) (c.wait_next.ensures.reads p)
 
 pub returns-in_err-wait_next-clause-stopped : goal.returns-in_err-wait_next-clause-stopped
 returns-in_err-wait_next-clause-stopped g c =
-    let n : Named = c.args.context.now.names in
+    let n : Named = c.args.over.now.context.now.names in
     let inv = c.loop-columns.invariant in
     on_err c.from_residual.result _
-    (λ messages are. waited_stops n c.args.context.now.query c.args.label.name.now c.args.label.number inv.gone (rows_of c.loop-columns.ahead.columns.items) 0 (state (g.K.Sink.written c.args.out.now) c.args.batch.now c.args.expanded.now)
+    (λ messages are. waited_stops n c.args.over.now.context.now.query c.args.label.name.now c.args.label.number inv.gone (rows_of c.loop-columns.ahead.columns.items) 0 (state (g.K.Sink.written c.args.out.now) c.args.batch.now c.args.expanded.now)
     (state (g.K.Sink.written c.loop-columns.out) c.loop-columns.batch c.loop-columns.expanded) (g.K.Sink.written c.wait_next.new.out) c.wait_next.new.expanded inv.reaches c.in_err-wait_next.ensures.stopped messages
     (subst (λ (l : List Row). AreRowsOf n l messages) inv.all are))
 
 pub returns-in_err-wait_next-clause-damaged : goal.returns-in_err-wait_next-clause-damaged
 returns-in_err-wait_next-clause-damaged g c = λ is early waits messages are.
-    let n : Named = c.args.context.now.names in
+    let n : Named = c.args.over.now.context.now.names in
     let inv = c.loop-columns.invariant in
-    waited_damaged n c.args.context.now.query c.args.label.name.now c.args.label.number inv.gone (rows_of c.loop-columns.ahead.columns.items) 0 (state (g.K.Sink.written c.args.out.now) c.args.batch.now c.args.expanded.now)
+    waited_damaged n c.args.over.now.context.now.query c.args.label.name.now c.args.label.number inv.gone (rows_of c.loop-columns.ahead.columns.items) 0 (state (g.K.Sink.written c.args.out.now) c.args.batch.now c.args.expanded.now)
     (state (g.K.Sink.written c.loop-columns.out) c.loop-columns.batch c.loop-columns.expanded) inv.reaches (c.in_err-wait_next.ensures.damaged (search rules)) early waits messages (subst (λ (l : List Row). AreRowsOf n l messages) inv.all are)

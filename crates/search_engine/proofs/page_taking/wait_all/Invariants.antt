@@ -14,12 +14,12 @@ invariant-loop-columns g l = record {
   gone : List Row;
   all : rows_of l.fn.ahead.columns.items ≡ gone ++ rows_of l.ahead.columns.items;
   count : l.rows ≡ length gone;
-  reads : (p : Paged) → ReadsPage l.context.names p (g.D.Disk.state l.fn.disk) (g.D.Disk.state l.disk);
+  reads : (p : Paged) → ReadsPage l.over.context.now.names p (g.D.Disk.state l.fn.disk) (g.D.Disk.state l.disk);
   faults : (g.D.Disk.state l.disk).faults ≡ (g.D.Disk.state l.fn.disk).faults;
   sink : g.K.Sink.faults l.out ≡ g.K.Sink.faults l.fn.out;
-  served : IsServed l.context.names l.context.query l.held l.batch.pages;
-  reaches : (messages : List (List ℕ)) → AreRowsOf l.context.names gone messages
-      → Reaches l.context.names l.context.query (numbered l.label.name.now l.label.number messages)
+  served : IsServed l.over.context.now.names l.over.context.now.query l.held l.batch.pages;
+  reaches : (messages : List (List ℕ)) → AreRowsOf l.over.context.now.names gone messages
+      → Reaches l.over.context.now.names l.over.context.now.query (numbered l.label.name.now l.label.number messages)
       (state (g.K.Sink.written l.fn.out) l.fn.batch l.fn.expanded) (state (g.K.Sink.written l.out) l.batch l.expanded);
 }
 

@@ -14,7 +14,7 @@ loop-place-init g c = record {
 pub loop-place-preserved : goal.loop-place-preserved
 loop-place-preserved g c = record {
   past = λ n messages ready are.
-      let lent = lent_at n c.args.printer.now.query.now c.args.held.now c.args.page.now.rows c.args.verdicts.now c.loop-place.place _ c.verdict_at-verdict.result are.told ready c.row-row.ensures c.verdict_at-verdict.ensures in
+      let lent = lent_at n c.args.printer.now.query.now c.args.printer.now.held.now c.args.page.now.rows c.args.verdicts.now c.loop-place.place _ c.verdict_at-verdict.result are.told ready c.row-row.ensures c.verdict_at-verdict.ensures in
       rows_next n c.args.printer.now.query.now c.args.label.name.now c.args.label.number _ c.args.page.now.rows c.loop-place.place _ messages _ _ _ (search rules) c.row-row.ensures
       (c.loop-place.invariant.past n messages ready are) (c.in_ok-print_row.ensures.done n lent);
   types = c.print_row.ensures.types ∙ c.loop-place.invariant.types;
@@ -29,7 +29,7 @@ returns-in_err-print_row-clause-ticks g c =
 pub returns-in_err-print_row-clause-damaged : goal.returns-in_err-print_row-clause-damaged
 returns-in_err-print_row-clause-damaged g c = λ is n ready messages are.
     let p = err_from_is_err_and c.from_residual.result c.from_residual.ensures.1 in
-    let lent = lent_at n c.args.printer.now.query.now c.args.held.now c.args.page.now.rows c.args.verdicts.now c.loop-place.place _ c.verdict_at-verdict.result are.told ready c.row-row.ensures c.verdict_at-verdict.ensures in
+    let lent = lent_at n c.args.printer.now.query.now c.args.printer.now.held.now c.args.page.now.rows c.args.verdicts.now c.loop-place.place _ c.verdict_at-verdict.result are.told ready c.row-row.ensures c.verdict_at-verdict.ensures in
     rows_damaged n c.args.printer.now.query.now c.args.label.name.now c.args.label.number c.args.page.now.rows c.loop-place.place _ messages _ _ c.row-row.ensures
     (c.in_err-print_row.ensures.damaged (search (rules, is, p.1, p.2)) n lent) (c.loop-place.invariant.past n messages ready are)
 

@@ -1,25 +1,40 @@
-use Rattle.std.proofs.Common.{ap, sym, subst, rules}
+use Rattle.std.proofs.Common.{◌≡◌, ◌∙◌, All, ap, sym, subst, refl, rules}
+use Rattle.word_places.specs.Held.{HeldNames}
 use Rattle.search_walk.specs.Held.{Named}
-use Rattle.search_engine.specs.Waiting.{WaitFor, pages_of}
+use Rattle.search_walk.specs.Scan.{Asked}
+use Rattle.search_engine.specs.Waiting.{IsWorked, Pending, WaitFor, pages_of}
 use Rattle.search_walk.proofs.AnswerLemmas.{on_err}
+use Rattle.search_engine.proofs.AheadLemmas.{round_worked}
 use Rattle.search_engine.specs.StepsWaiting.{round_blames, round_halts, round_reaches}
 use Rattle.search_engine.proofs.page_batch.PageBatch.run.Goals as goal
 
-pub returns-in_err-match_and_send-clause-stopped : goal.returns-in_err-match_and_send-clause-stopped
-returns-in_err-match_and_send-clause-stopped g c =
-    let n : Named = c.args.context.now.names in
-    on_err c.from_residual.result _
-    (round_halts n c.args.context.now.query _ _ c.args.self.now _ _ _ c.self.view_is
-    (λ all waits. c.in_err-match_and_send.ensures.stopped all (subst (λ l. WaitFor n (pages_of l) all) (sym c.as_mut_slice.ensures.value) waits)))
+pub match_pages-requires-clause-types : goal.match_pages-requires-clause-types
+match_pages-requires-clause-types g c = λ _ _. ap (λ (h : HeldNames). h.types) c.of-printer.ensures.held ∙ c.requires.served.serves.types ∙ sym c.of-printer.ensures.types
 
-pub returns-in_err-match_and_send-clause-damaged : goal.returns-in_err-match_and_send-clause-damaged
-returns-in_err-match_and_send-clause-damaged g c = λ is.
-    let n : Named = c.args.context.now.names in
-    round_blames n c.args.self.now _ c.self.view_is
-    (λ all waits. c.in_err-match_and_send.ensures.damaged (search rules) all (subst (λ l. WaitFor n (pages_of l) all) (sym c.as_mut_slice.ensures.value) waits))
+pub returns-in_err-gather_all-clause-stopped : goal.returns-in_err-gather_all-clause-stopped
+returns-in_err-gather_all-clause-stopped g c =
+    let n : Named = c.args.over.now.context.now.names in
+    let q : Asked = c.args.over.now.context.now.query in
+    let r : All (IsWorked n q) c.match_pages.new.slots × (pages_of c.match_pages.new.slots ≡ pages_of c.self.inside.waiting.items) =
+    round_worked n q c.of-printer.result.query.now c.args.held.now c.of-printer.result.held.now c.as_mut_slice-slots.result.now c.match_pages.new.slots c.match_pages.new.slots c.self.inside.waiting.items c.args.self.now.pages c.of-printer.ensures.query c.of-printer.ensures.held c.match_pages.ensures.len c.match_pages.ensures.pages
+    c.match_pages.ensures.worked refl c.as_mut_slice-slots.ensures.value (ap (λ (e : Pending). e.pages) c.self.view_is) c.requires.served.ready in
+    on_err c.from_residual.result _
+    (round_halts n q _ _ c.args.self.now _ _ _ c.self.view_is (λ all waits. c.in_err-gather_all.ensures.stopped n q all r.0 (subst (λ l. WaitFor n l all) (sym r.1) waits)))
+
+pub returns-in_err-gather_all-clause-damaged : goal.returns-in_err-gather_all-clause-damaged
+returns-in_err-gather_all-clause-damaged g c = λ is.
+    let n : Named = c.args.over.now.context.now.names in
+    let q : Asked = c.args.over.now.context.now.query in
+    let r : All (IsWorked n q) c.match_pages.new.slots × (pages_of c.match_pages.new.slots ≡ pages_of c.self.inside.waiting.items) =
+    round_worked n q c.of-printer.result.query.now c.args.held.now c.of-printer.result.held.now c.as_mut_slice-slots.result.now c.match_pages.new.slots c.match_pages.new.slots c.self.inside.waiting.items c.args.self.now.pages c.of-printer.ensures.query c.of-printer.ensures.held c.match_pages.ensures.len c.match_pages.ensures.pages
+    c.match_pages.ensures.worked refl c.as_mut_slice-slots.ensures.value (ap (λ (e : Pending). e.pages) c.self.view_is) c.requires.served.ready in
+    round_blames n c.args.self.now _ c.self.view_is (λ all waits. c.in_err-gather_all.ensures.damaged (search rules) n q all r.0 (subst (λ l. WaitFor n l all) (sym r.1) waits))
 
 pub returns-clause-done : goal.returns-clause-done
 returns-clause-done g c =
-    let n : Named = c.args.context.now.names in
-    round_reaches n c.args.context.now.query _ _ c.args.self.now _ _ _ _ c.self.view_is (ap pages_of c.clear.ensures.items)
-    (λ all waits. c.in_ok-match_and_send.ensures.done all (subst (λ l. WaitFor n (pages_of l) all) (sym c.as_mut_slice.ensures.value) waits))
+    let n : Named = c.args.over.now.context.now.names in
+    let q : Asked = c.args.over.now.context.now.query in
+    let r : All (IsWorked n q) c.match_pages.new.slots × (pages_of c.match_pages.new.slots ≡ pages_of c.self.inside.waiting.items) =
+    round_worked n q c.of-printer.result.query.now c.args.held.now c.of-printer.result.held.now c.as_mut_slice-slots.result.now c.match_pages.new.slots c.match_pages.new.slots c.self.inside.waiting.items c.args.self.now.pages c.of-printer.ensures.query c.of-printer.ensures.held c.match_pages.ensures.len c.match_pages.ensures.pages
+    c.match_pages.ensures.worked refl c.as_mut_slice-slots.ensures.value (ap (λ (e : Pending). e.pages) c.self.view_is) c.requires.served.ready in
+    round_reaches n q _ _ c.args.self.now _ _ _ _ c.self.view_is (ap pages_of c.clear.ensures.items) (λ all waits. c.in_ok-gather_all.ensures.done n q all r.0 (subst (λ l. WaitFor n l all) (sym r.1) waits))

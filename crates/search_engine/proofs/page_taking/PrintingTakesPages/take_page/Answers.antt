@@ -1,8 +1,9 @@
-use Rattle.std.proofs.Common.{◌≡◌, ◌<◌, ◌∙◌, arith, length, rules, subst, []}
+use Rattle.std.proofs.Common.{◌≡◌, ◌<◌, ◌∙◌, arith, length, rules, subst, sym, []}
 use Rattle.segment_pages.specs.Paged.{Paged}
 use Rattle.search_walk.specs.Held.{Named}
 use Rattle.search_walk.specs.PagesRead.{IsOfPage, ReadsPage}
 use Rattle.search_walk.specs.Scan.{numbered}
+use Rattle.search_walk.specs.Takes.{IsLeft}
 use Rattle.search_walk.specs.Walked.{PageGone, PastTold}
 use Rattle.search_walk.proofs.AnswerLemmas.{if_ok_to, on_err, on_err_to}
 use Rattle.search_walk.proofs.PageLemmas.{left_nothing, page_gone, past_more, past_page}
@@ -13,30 +14,30 @@ use Rattle.search_engine.specs.Waiting.{Halts, Reaches, State, state}
 use Rattle.search_engine.proofs.AheadLemmas.{ahead_few, ahead_fits, ahead_next, ahead_some, ahead_still, blamed, if_ok_both, left_to, reads_seen, rows_damaged, rows_stop}
 use Rattle.search_engine.proofs.PageLemmas.{run_halts}
 use Rattle.search_engine.proofs.ServedLemmas.{served_none}
-use Rattle.search_engine.proofs.page_taking.read_on.Goals as goal
+use Rattle.search_engine.proofs.page_taking.PrintingTakesPages.take_page.Goals as goal
 
 pub returns-then-not-is_round-clause-gone : goal.returns-then-not-is_round-clause-gone
 returns-then-not-is_round-clause-gone g c =
-    if_ok_to c.read_next.result _ _ (λ rows gone. page_gone c.args.pages.now c.read_next.new.pages rows c.requires.left gone) c.read_next.ensures.gone
+    if_ok_to c.read_next.result _ _ (λ rows gone. page_gone c.args.pages.now c.read_next.new.pages rows c.requires.left.page gone) c.read_next.ensures.gone
 
 pub returns-in_err-run_beside-clause-stopped : goal.returns-in_err-run_beside-clause-stopped
 returns-in_err-run_beside-clause-stopped g c =
     on_err c.from_residual.result _
-    (run_halts _ c.args.pages.now c.args.context.now.names c.args.context.now.query c.args.label.name.now c.args.label.number (state _ c.args.batch.now _) _ _ c.in_err-run_beside.ensures.stopped)
+    (run_halts _ c.args.pages.now c.args.context.now.names c.args.context.now.query c.args.label.name.now c.args.label.number (state _ c.args.self.now.batch.now _) _ _ c.in_err-run_beside.ensures.stopped)
 
 pub returns-in_err-run_beside-clause-damaged : goal.returns-in_err-run_beside-clause-damaged
-returns-in_err-run_beside-clause-damaged g c = λ is early waits. left_nothing _ c.args.pages.now c.args.context.now.names (c.in_err-run_beside.ensures.damaged (search rules) early waits)
+returns-in_err-run_beside-clause-damaged g c = λ is stands. left_nothing _ c.args.pages.now c.args.context.now.names (c.in_err-run_beside.ensures.damaged (search rules) stands.0 stands.1)
 
-pub wait_all-requires-clause-few : goal.wait_all-requires-clause-few
-wait_all-requires-clause-few g c = λ _ _.
+pub wait_all-requires-clause-fit : goal.wait_all-requires-clause-fit
+wait_all-requires-clause-fit g c = λ _ _.
     let most = ahead_few _ c.args.pages.now c.run_beside.new.pages c.run_beside.new.ahead.columns.items c.in_ok-run_beside.ensures.ahead in
-    omega (arith, most, c.run_beside.ensures.few)
-
-pub wait_all-requires-clause-small : goal.wait_all-requires-clause-small
-wait_all-requires-clause-small g c = λ _ _. ahead_fits _ c.args.pages.now c.run_beside.new.pages c.run_beside.new.ahead.columns.items c.args.label.number c.requires.left c.requires.small c.in_ok-run_beside.ensures.ahead
+    record {
+      few = omega (arith, most, c.run_beside.ensures.few);
+      small = ahead_fits _ c.args.pages.now c.run_beside.new.pages c.run_beside.new.ahead.columns.items c.args.label.number c.requires.left.page c.requires.left.fits c.in_ok-run_beside.ensures.ahead;
+    }
 
 pub wait_all-requires-clause-served : goal.wait_all-requires-clause-served
-wait_all-requires-clause-served g c = λ _ _. served_none c.args.context.now.names c.args.context.now.query c.args.held.now c.run_beside.new.self.pages c.requires.served.serves c.in_ok-run_beside.ensures.empty
+wait_all-requires-clause-served g c = λ _ _. served_none c.args.context.now.names c.args.context.now.query c.args.held.now c.run_beside.new.self.pages c.requires.served.0.serves c.in_ok-run_beside.ensures.empty
 
 pub returns-clause-gone : goal.returns-clause-gone
 returns-clause-gone g c =
@@ -56,7 +57,7 @@ returns-clause-done g c =
     let n : Named = c.args.context.now.names in
     let q = c.args.context.now.query in
     let items = c.run_beside.new.ahead.columns.items in
-    let a : State = state (g.K.Sink.written c.args.out.now) c.args.batch.now c.args.expanded.now in
+    let a : State = state (g.K.Sink.written c.args.self.now.out.now) c.args.self.now.batch.now c.args.self.now.expanded.now in
     let b : State = state (g.K.Sink.written c.run_beside.new.out) c.run_beside.new.self c.run_beside.new.expanded in
     let d : State = state (g.K.Sink.written c.wait_all.new.out) c.wait_all.new.batch c.wait_all.new.expanded in
     if_ok_both c.wait_all.result _ _ _
@@ -69,7 +70,7 @@ returns-clause-stopped g c =
     let n : Named = c.args.context.now.names in
     let q = c.args.context.now.query in
     let items = c.run_beside.new.ahead.columns.items in
-    let a : State = state (g.K.Sink.written c.args.out.now) c.args.batch.now c.args.expanded.now in
+    let a : State = state (g.K.Sink.written c.args.self.now.out.now) c.args.self.now.batch.now c.args.self.now.expanded.now in
     let b : State = state (g.K.Sink.written c.run_beside.new.out) c.run_beside.new.self c.run_beside.new.expanded in
     let w = g.K.Sink.written c.wait_all.new.out in
     let k = c.wait_all.new.expanded in
@@ -80,7 +81,7 @@ returns-clause-stopped g c =
     c.wait_all.ensures.stopped
 
 pub returns-clause-damaged : goal.returns-clause-damaged
-returns-clause-damaged g c = λ is early waits.
+returns-clause-damaged g c = λ is stands.
     let n : Named = c.args.context.now.names in
     let items = c.run_beside.new.ahead.columns.items in
     rows_damaged _ c.args.pages.now c.run_beside.new.pages n (rows_of items) (ahead_next _ c.args.pages.now c.run_beside.new.pages items c.in_ok-run_beside.ensures.ahead)
@@ -89,13 +90,18 @@ returns-clause-damaged g c = λ is early waits.
 pub returns-in_err-run_beside-clause-reads : goal.returns-in_err-run_beside-clause-reads
 returns-in_err-run_beside-clause-reads g c = c.run_beside.ensures.reads c.args.context.now.names
 
+pub read_next-requires-then-is_empty-clause-left : goal.read_next-requires-then-is_empty-clause-left
+read_next-requires-then-is_empty-clause-left g c = λ _ _.
+    let still : c.run_beside.new.pages ≡ c.args.pages.now = ahead_still _ c.args.pages.now c.run_beside.new.pages c.run_beside.new.ahead.columns.items (search rules) c.in_ok-run_beside.ensures.ahead in
+    subst (λ (p : Paged). IsLeft p c.args.label.number) (sym still) c.requires.left
+
 pub read_next-requires-then-is_empty-clause-told : goal.read_next-requires-then-is_empty-clause-told
 read_next-requires-then-is_empty-clause-told g c = λ _ _. reads_seen c.args.pages.now (g.D.Disk.state c.args.disk.now) (g.D.Disk.state c.run_beside.new.disk) c.run_beside.ensures.reads ∙ c.requires.told
 
 pub returns-then-is_empty-clause-gone : goal.returns-then-is_empty-clause-gone
 returns-then-is_empty-clause-gone g c =
     let still : c.run_beside.new.pages ≡ c.args.pages.now = ahead_still _ c.args.pages.now c.run_beside.new.pages c.run_beside.new.ahead.columns.items (search rules) c.in_ok-run_beside.ensures.ahead in
-    if_ok_to c.read_next-then-is_empty.result _ _ (λ rows gone. page_gone c.args.pages.now c.read_next-then-is_empty.new.pages rows c.requires.left (subst (λ (p : Paged). PageGone p c.read_next-then-is_empty.new.pages rows) still gone)) c.read_next-then-is_empty.ensures.gone
+    if_ok_to c.read_next-then-is_empty.result _ _ (λ rows gone. page_gone c.args.pages.now c.read_next-then-is_empty.new.pages rows c.requires.left.page (subst (λ (p : Paged). PageGone p c.read_next-then-is_empty.new.pages rows) still gone)) c.read_next-then-is_empty.ensures.gone
 
 pub returns-then-is_empty-clause-reads : goal.returns-then-is_empty-clause-reads
 returns-then-is_empty-clause-reads g c =
@@ -116,7 +122,7 @@ returns-then-is_empty-clause-done g c =
     let now = c.read_next-then-is_empty.new.pages in
     let still : c.run_beside.new.pages ≡ c.args.pages.now = ahead_still _ c.args.pages.now c.run_beside.new.pages c.run_beside.new.ahead.columns.items (search rules) c.in_ok-run_beside.ensures.ahead in
     let seen : mid.seen ≡ old.seen = reads_seen c.args.pages.now old mid c.run_beside.ensures.reads in
-    let a : State = state (g.K.Sink.written c.args.out.now) c.args.batch.now c.args.expanded.now in
+    let a : State = state (g.K.Sink.written c.args.self.now.out.now) c.args.self.now.batch.now c.args.self.now.expanded.now in
     let b : State = state (g.K.Sink.written c.run_beside.new.out) c.run_beside.new.self c.run_beside.new.expanded in
     let d : State = state (g.K.Sink.written c.read_next-then-is_empty.new.out) c.read_next-then-is_empty.new.batch c.read_next-then-is_empty.new.expanded in
     if_ok_to c.read_next-then-is_empty.result _ _
@@ -134,7 +140,7 @@ returns-then-is_empty-clause-stopped g c =
     let number = c.args.label.number in
     let still : c.run_beside.new.pages ≡ c.args.pages.now = ahead_still _ c.args.pages.now c.run_beside.new.pages c.run_beside.new.ahead.columns.items (search rules) c.in_ok-run_beside.ensures.ahead in
     let seen : mid.seen ≡ old.seen = reads_seen c.args.pages.now old mid c.run_beside.ensures.reads in
-    let a : State = state (g.K.Sink.written c.args.out.now) c.args.batch.now c.args.expanded.now in
+    let a : State = state (g.K.Sink.written c.args.self.now.out.now) c.args.self.now.batch.now c.args.self.now.expanded.now in
     let b : State = state (g.K.Sink.written c.run_beside.new.out) c.run_beside.new.self c.run_beside.new.expanded in
     let w = g.K.Sink.written c.read_next-then-is_empty.new.out in
     let k = c.read_next-then-is_empty.new.expanded in
@@ -144,7 +150,7 @@ returns-then-is_empty-clause-stopped g c =
     c.read_next-then-is_empty.ensures.stopped
 
 pub returns-then-is_empty-clause-damaged : goal.returns-then-is_empty-clause-damaged
-returns-then-is_empty-clause-damaged g c = λ is early waits.
+returns-then-is_empty-clause-damaged g c = λ is stands.
     let n : Named = c.args.context.now.names in
     let old = g.D.Disk.state c.args.disk.now in
     let mid = g.D.Disk.state c.run_beside.new.disk in
