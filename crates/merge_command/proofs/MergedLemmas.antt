@@ -1,8 +1,7 @@
 -- Why not all was merged, as it is told of both disks and of both journals; and all that a merge leaves.
-use Rattle.std.proofs.Common.{◌≡◌, ◌≢◌, ◌+◌, ◌-◌, ◌<◌, ◌≤◌, inl, inr, refl, sym, ap, ap₂, subst, ◌∙◌, ℕ, true, List, [], ◌∷◌, ◌++◌, length, map, take, drop, Option, Some, None, arith}
-use Rattle.std.specs.Prelude.{All, IfSome, is_some, option_map, slice_get}
+use Rattle.std.proofs.Common.{◌≡◌, ◌≢◌, ◌+◌, ◌-◌, ◌<◌, ◌≤◌, inl, inr, refl, sym, ap, ap₂, subst, ◌∙◌, ℕ, true, List, [], ◌∷◌, ◌++◌, length, take, drop, Option, Some, None, arith}
+use Rattle.std.specs.Prelude.{All, is_some, slice_get}
 use Rattle.std.specs.List.{Contains}
-use Rattle.std.proofs.lemmas.List.{length-map}
 use Rattle.std.proofs.lemmas.List.Elements.{All-append, All-nil}
 use Rattle.log_seams.specs.Disk.{DiskState, IsLawful, KeepsBytes}
 use Rattle.log_seams.specs.Outside.{Rose}
@@ -11,7 +10,6 @@ use Rattle.log_seams.proofs.MomentLemmas.{keeps_leave, rose, weaker}
 use Rattle.logtype_text.specs.Fair.{IsFairType, IsFairWord}
 use Rattle.record_format.specs.declared.header.Header.{Header}
 use Rattle.disk_journal.specs.Journal.{state_of}
-use Rattle.disk_journal.specs.State.{JournalState}
 use Rattle.disk_journal.specs.declared.journal.Journal.{Journal}
 use Rattle.disk_seal.specs.declared.files.RegisterRefusal.{RegisterRefusal}
 use Rattle.disk_seal.specs.declared.files.RegisterRefusal.TheVariants.{DiskFault}
@@ -20,7 +18,6 @@ use Rattle.archive_meaning.specs.declared.entry.JournalEntry.TheVariants.{Files,
 use Rattle.archive_meaning.specs.Held.{Held, nothing_held}
 use Rattle.archive_meaning.specs.Legal.{AreNamed, Run}
 use Rattle.archive_meaning.specs.Spelled.{end_of}
-use Rattle.archive_meaning.specs.Stands.{StandsFor}
 use Rattle.archive_open.specs.Shown.{HasLastGate, IsArchiveOf, IsGate, Opens, RefusedAt, Shown, StandsForNone}
 use Rattle.archive_open.specs.declared.files.FileEntry.{FileEntry}
 use Rattle.ingest_meaning.specs.Room.{files_size}
@@ -28,7 +25,7 @@ use Rattle.ingest_workers.specs.Ingested.{told_entries}
 use Rattle.search_walk.specs.Journal.{OfJournal}
 use Rattle.archive_merge.specs.Behind.{AreOfBoth, HasRun, HasStopped, IsFullByBoth, SecondView}
 use Rattle.archive_merge.specs.Laws.{FilesAreRuns, TextsAreFair, view_in}
-use Rattle.archive_merge.specs.Merging.{HasMergeCause, HasMergedAll}
+use Rattle.archive_merge.specs.Merging.{HasMergeCause}
 use Rattle.archive_merge.specs.Named.{IsShort, names_of}
 use Rattle.archive_merge.specs.Runs.{SoFar, held_of}
 use Rattle.archive_merge.specs.declared.cause.MergeCause.{MergeCause}
@@ -36,14 +33,11 @@ use Rattle.archive_merge.specs.declared.cause.MergeCause.TheVariants.{ArchiveFul
 use Rattle.archive_merge.specs.declared.file.Merged.{Merged}
 use Rattle.archive_merge.specs.declared.refusal.MergeRefusal.{MergeRefusal as Why}
 use Rattle.archive_merge.specs.declared.refusal.MergeRefusal.TheVariants.{LongName, Names, Stopped, OutOfMemory as NoMemory}
-use Rattle.file_lines.specs.Directory.{FileLine}
 use Rattle.command_refusals.specs.GoesOn.{DiskGoesOn}
-use Rattle.command_refusals.specs.Reading.{OverJournal}
 use Rattle.command_answers.specs.Ingested.{FromArchive}
-use Rattle.command_answers.specs.Merging.{HasDiskCause, HasJournalCause, IsStopped, Merge, Merges, TakesOver}
+use Rattle.command_answers.specs.Merging.{HasDiskCause, HasJournalCause, IsStopped, Merge, TakesOver}
 use Rattle.merge_command.specs.Came.{lines_by, name_at, name_in, place_stopped, refusal_by}
 use Rattle.write_commands.specs.JournalLeft.{StandsBetween}
-use Rattle.write_commands.proofs.AppendLemmas.{OpensFrom, files_counted}
 use Rattle.write_commands.proofs.LeavesLemmas.{begun_sooner, from_archive, of_told, prefix_same, still_between}
 use Rattle.merge_command.proofs.CauseLemmas.{contains_at, full_of_both, lacks_room, line_at, texts_same}
 use Rattle.merge_command.proofs.OverLemmas.{names_shown}
@@ -105,7 +99,6 @@ length-lines (f ∷ files) (m ∷ ms) few = omega (arith, length-lines files ms 
 module _ (runs : FilesAreRuns) (fair : TextsAreFair) {D : Type 0} {d : DiskGhosts D} (j after : Journal D d)
     (s : SecondView) (b : Shown) (opens : Opens s.told b) (view : (bytes : List ℕ) → s.told ≡ Some bytes → s ≡ view_in bytes b)
     (first : ℕ) (ms : List Merged) (few : length ms ≤ length b.files) (numbers : (i : ℕ) (x : Merged) → slice_get ms i ≡ Some x → x.file ≡ first + i) (last : ℕ) where
-
   opens_at : (bytes : List ℕ) → s.told ≡ Some bytes → Opens (Some bytes) b
   opens_at bytes is = subst (λ o. Opens o b) is opens
 
@@ -167,7 +160,7 @@ module _ (runs : FilesAreRuns) (fair : TextsAreFair) {D : Type 0} {d : DiskGhost
       over_opened s.told b (λ g es other. HasJournalCause h before (before ++ added) held g other m (refusal_by last (Stopped file (ArchiveFull end need)))) opens (λ bytes g es other is shown. (
         is_stopped file (ArchiveFull end need) cause m files name,
         lacks_room s h before j after told header entries (before ++ added) (left (λ e. absurd (cc (e)))) other (texts_same s b bytes g es other (view bytes is) shown) cause.file.file end need
-        (subst (λ (x : Header). x.length_limit < end + need) header cause.cause.0) (of_told (is_some (state_of j).disk.seen) told cause.cause.1),
+            (subst (λ (x : Header). x.length_limit < end + need) header cause.cause.0) (of_told (is_some (state_of j).disk.seen) told cause.cause.1),
       ))
   journal_cause h before added held told header entries m files (Stopped file (FirstFault opened now)) left name cause =
       over_opened s.told b (λ g es other. HasJournalCause h before (before ++ added) held g other m (refusal_by last (Stopped file (FirstFault opened now)))) opens (λ bytes g es other is shown. tt)

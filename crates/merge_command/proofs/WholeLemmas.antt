@@ -1,11 +1,11 @@
 -- A merge from the start of the call on.
-use Rattle.std.proofs.Common.{◌≡◌, ◌≢◌, ◌+◌, ◌-◌, ◌<◌, ◌≤◌, refl, sym, ap, subst, ◌∙◌, inl, inr, ℕ, Bool, true, List, [], ◌++◌, length, map, Option, Some, None, arith, append_assoc}
-use Rattle.std.specs.Prelude.{IfErr, IfSome, is_some, option_map, slice_get, Result, Ok, Err, IsErrOf}
+use Rattle.std.proofs.Common.{◌≡◌, ◌≢◌, ◌+◌, ◌-◌, ◌≤◌, refl, sym, ap, subst, ◌∙◌, inl, inr, ℕ, Bool, true, List, [], ◌++◌, length, map, Option, Some, None, arith}
+use Rattle.std.specs.Prelude.{IfErr, IfSome, is_some, option_map, Result, Err, IsErrOf}
 use Rattle.std.proofs.lemmas.List.{length-map}
 use Rattle.log_seams.specs.Disk.{DiskState, IsLawful, KeepsBytes, Rests}
 use Rattle.log_seams.specs.Outside.{CountsOf, Rose}
 use Rattle.log_seams.specs.declared.disk.Disk.{Ghosts as DiskGhosts}
-use Rattle.log_seams.proofs.MomentLemmas.{keeps_on, rose}
+use Rattle.log_seams.proofs.MomentLemmas.{rose}
 use Rattle.record_format.specs.declared.header.Header.{Header}
 use Rattle.record_format.specs.Header.{IsHeader, header_bytes}
 use Rattle.dict_core.specs.Books.{BookState}
@@ -33,8 +33,7 @@ use Rattle.ingest_workers.specs.Ingested.{HoldTexts, told_entries}
 use Rattle.search_walk.specs.Journal.{OfJournal}
 use Rattle.archive_merge.specs.Behind.{SecondView}
 use Rattle.archive_merge.specs.Laws.{FilesAreRuns, TextsAreFair, texts_kept, view_in}
-use Rattle.archive_merge.specs.Left.{HasGoneOn}
-use Rattle.archive_merge.specs.Merging.{EndsMerge, MayMerge}
+use Rattle.archive_merge.specs.Merging.{EndsMerge}
 use Rattle.archive_merge.specs.Named.{names_of}
 use Rattle.archive_merge.specs.declared.file.Merged.{Merged}
 use Rattle.archive_merge.specs.declared.cause.MergeCause.TheVariants.{SecondFault}
@@ -48,8 +47,8 @@ use Rattle.command_refusals.specs.declared.outcome.MergeRefusal.{MergeRefusal}
 use Rattle.command_refusals.proofs.GoingLemmas.{DiskGoesOn-joined, DiskGoesOn-seen, KeepsBytes-same}
 use Rattle.command_answers.specs.Ingested.{FromArchive, TakesNothing}
 use Rattle.command_answers.specs.Merging.{HasDiskCause, HasJournalCause, Merge, Merges, TakesOver}
-use Rattle.merge_command.specs.Came.{Agrees, RefusesSecond, lines_by, name_at, place_stopped, refusal_by, refused_by}
-use Rattle.write_commands.proofs.AppendLemmas.{HasBooks, OpensFrom, files_counted, holds_names, may_append}
+use Rattle.merge_command.specs.Came.{Agrees, RefusesSecond, lines_by, name_at, place_stopped, refusal_by, refused_by, view_shown}
+use Rattle.write_commands.proofs.AppendLemmas.{HasBooks, OpensFrom, files_counted, may_append}
 use Rattle.write_commands.proofs.JoinLemmas.{types_held, words_held}
 use Rattle.write_commands.proofs.LeavesLemmas.{of_told, opened_as}
 use Rattle.write_commands.proofs.StepsLemmas.{kept_nothing, looked_nothing}
@@ -203,8 +202,18 @@ hold_texts old now a from types words books = record {
     shown_now = shows_of now.header now.disk.seen now.place now.count now.disk.images a may.header (subst (λ t. Opens t a) (sym from.looks.rests.seen) from.opened) may.ends.ends may.spelled
 
 -- what contracts tell of the second archive, by what was opened
-pub view_same : (s : SecondView) (b : Shown) (bytes : List ℕ) → s.version ≡ b.kept.version → s.texts ≡ texts_kept b.kept → s.told ≡ Some bytes → s.segments ≡ b.segments → s ≡ view_in bytes b
-view_same s b bytes version texts told segments = λ i. record { version = version i; texts = texts i; told = told i; segments = segments i }
+view_same : (s : SecondView) (b : Shown) (told : Option (List ℕ)) → s.version ≡ b.kept.version → s.texts ≡ texts_kept b.kept → s.told ≡ told → s.segments ≡ b.segments → s ≡ view_shown b told
+view_same s b told version texts seen segments = λ i. record { version = version i; texts = texts i; told = seen i; segments = segments i }
+
+-- how a merge ends, told of what was opened
+pub ends_shown : {D : Type 0} {d : DiskGhosts D} (s : SecondView) (b : Shown) (told : Option (List ℕ)) (files : List FileEntry) (first : ℕ) (ms : List Merged) (why : Option Why) (j after : Journal D d)
+    → s.version ≡ b.kept.version → s.texts ≡ texts_kept b.kept → s.told ≡ told → s.segments ≡ b.segments → files ≡ b.files → EndsMerge s first (names_of files) ms why j after → EndsMerge (view_shown b told) first (names_of b.files) ms why j after
+ends_shown s b told files first ms why j after version texts seen segments same ends =
+    subst (λ x. EndsMerge x first (names_of b.files) ms why j after) (view_same s b told version texts seen segments) (subst (λ fs. EndsMerge s first (names_of fs) ms why j after) same ends)
+
+-- where the bytes are told
+pub view_told : (b : Shown) (told : Option (List ℕ)) (bytes : List ℕ) → told ≡ Some bytes → view_shown b told ≡ view_in bytes b
+view_told b told bytes is = ap (view_shown b) is
 
 module _ (runs : FilesAreRuns) (fair : TextsAreFair) {D : Type 0} {d : DiskGhosts D} (start : DiskState) (old : JournalState) (j after : Journal D d) (a : Shown) (from : OpensFrom old (state_of j) a)
     (looked : LookedAt start old.disk (state_of j).disk) (law_new : IsLawful (state_of after).disk)

@@ -2,14 +2,16 @@
 use Rattle.std.specs.Prelude.{◌≡◌, ◌≢◌, ◌<◌, ◌≤◌, ◌+◌, ◌-◌, ℕ, List, [], ◌∷◌, Option, None, Some, Result, Ok, Err, slice_get}
 use Rattle.log_seams.specs.Disk.{DiskState}
 use Rattle.log_seams.specs.Outside.{Rose}
-use Rattle.record_format.specs.declared.header.Header.{Header}
 use Rattle.archive_meaning.specs.declared.TheConstants.{MAX_FILES}
 use Rattle.archive_core.specs.declared.books.Books.{Books}
 use Rattle.archive_open.specs.Archive.{shown}
 use Rattle.archive_open.specs.Kept.{Kept}
-use Rattle.archive_open.specs.Shown.{RefusedAt}
+use Rattle.archive_open.specs.Shown.{RefusedAt, Shown}
 use Rattle.archive_open.specs.declared.files.FileEntry.{FileEntry}
-use Rattle.archive_merge.specs.declared.cause.MergeCause.TheVariants.{ArchiveFull, FirstFault, Full, OutOfMemory, SecondDamaged, SecondFault}
+use Rattle.archive_merge.specs.Behind.{SecondView}
+use Rattle.archive_merge.specs.Laws.{texts_kept}
+use Rattle.archive_merge.specs.declared.cause.MergeCause.TheVariants.{ArchiveFull, FirstFault, Full}
+use Rattle.archive_merge.specs.declared.cause.MergeCause.TheVariants.{OutOfMemory, SecondDamaged, SecondFault}
 use Rattle.archive_merge.specs.declared.file.Merged.{Merged}
 use Rattle.archive_merge.specs.declared.refusal.MergeRefusal.{MergeRefusal as Why}
 use Rattle.archive_merge.specs.declared.refusal.MergeRefusal.TheVariants.{LongName, Names, Stopped, OutOfMemory as NoMemory}
@@ -64,6 +66,10 @@ kept_by b = record {
   version = b.version;
 }
 
+-- what contracts tell of a second archive, by what was opened over a disk that tells these bytes
+abbrev pub view_shown : Shown → Option (List ℕ) → SecondView
+view_shown a told = record { version = a.kept.version; texts = texts_kept a.kept; told = told; segments = a.segments }
+
 abbrev pub merge_of : Came → Merge
 merge_of c = record {
   files = lines_by (shown kept_by c.second).files c.files.items;
@@ -78,8 +84,10 @@ refused_by refusal = record { files = []; refusal = Some refusal; name = [] }
 -- the second archive may come behind the first, whose versions agree and whose files are not too many; or it may not
 abbrev pub Agrees : ℕ → ℕ → ℕ → ℕ → Result Unit MergeRefusal → Type 0
 Agrees version held other more (Ok done) = (other ≡ version) × (held + more ≤ MAX_FILES)
-Agrees version held other more (Err (MergeRefusal.VersionDiffers first second)) = (first ≡ version) × (second ≡ other) × (first ≢ second)
-Agrees version held other more (Err (MergeRefusal.TooManyFiles told further)) = (told ≡ held) × (further ≡ more) × (MAX_FILES < held + more)
+Agrees version held other more (Err (MergeRefusal.VersionDiffers first second)) =
+    (first ≡ version) × (second ≡ other) × (first ≢ second)
+Agrees version held other more (Err (MergeRefusal.TooManyFiles told further)) =
+    (told ≡ held) × (further ≡ more) × (MAX_FILES < held + more)
 Agrees version held other more (Err _) = ⊥
 
 -- why the second archive was not opened

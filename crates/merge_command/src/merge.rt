@@ -40,12 +40,7 @@ fn report_came<K: Sink>(err: &mut K, came: &Came) -> u8
 }
 
 /// Prints what came of a merge.
-fn print_came<K: Sink>(
-    alloc: Global,
-    came: &Came,
-    out: &mut K,
-    err: &mut K,
-) -> u8
+fn print_came<K: Sink>(alloc: Global, came: &Came, out: &mut K, err: &mut K) -> u8
     requires few { length came.now.files.items ≤ length (shown kept_by came.now.second).files }
     ensures prints { AroundSinks K.written K.faults out.old out.new err.old err.new (λ seen.
         PrintsMerge (merge_of came.now) came.now.first seen result) }
@@ -62,8 +57,8 @@ fn print_came<K: Sink>(
     }
 }
 
-/// The same over a disk that is lent, which is an archive where its bytes are to be told. Gives the disk
-/// back.
+/// The same over a disk that is lent, which is an archive where its bytes are to be told. Gives the
+/// disk back.
 fn add_lent<'d, D: Disk, E: Disk, R: Wait, L: Lent>(
     rt: &R,
     alloc: Global,
@@ -97,8 +92,8 @@ fn add_lent<'d, D: Disk, E: Disk, R: Wait, L: Lent>(
     (answer, disk)
 }
 
-/// The same over any disk: what is said of its bytes is said where they are those of the archive that
-/// is known.
+/// The same over any disk: what is said of its bytes is said where they are those of the archive
+/// that is known.
 fn add_known<D: Disk, E: Disk, R: Wait, B: Base>(
     rt: &R,
     alloc: Global,

@@ -1,5 +1,5 @@
 //! The files of a second archive, added to an archive.
-ghost use Rattle.std.specs.Prelude.{◌≡◌, ◌+◌, ◌≤◌, length, IfErr, IfOk, IfSome};
+ghost use Rattle.std.specs.Prelude.{◌≡◌, ◌≤◌, length, IfErr, IfOk, IfSome};
 ghost use Rattle.log_seams.specs.Disk.{KeepsBytes};
 ghost use Rattle.disk_journal.specs.Journal.{state_of};
 ghost use Rattle.archive_open.specs.Archive.{shown};
@@ -10,7 +10,7 @@ ghost use Rattle.archive_merge.specs.Named.{names_of};
 ghost use Rattle.command_refusals.specs.GoesOn.{DiskGoesOn};
 ghost use Rattle.command_refusals.specs.Reading.{IsArchive};
 ghost use Rattle.command_answers.specs.Merging.{Merges};
-ghost use Rattle.merge_command.specs.Came.{Agrees, kept_by, merge_of, refused_by, RefusesSecond};
+ghost use Rattle.merge_command.specs.Came.{Agrees, kept_by, merge_of, refused_by, view_shown, RefusesSecond};
 
 use crate::refused::{place_of, refusal_of};
 use archive_core::Books;
@@ -41,10 +41,7 @@ pub(crate) struct Came {
 }
 
 /// Opens the second archive.
-fn open_second<E: Disk>(
-    alloc: Global,
-    disk: &mut E,
-) -> Result<Archive<Books>, MergeRefusal>
+fn open_second<E: Disk>(alloc: Global, disk: &mut E) -> Result<Archive<Books>, MergeRefusal>
     ensures keeps { KeepsBytes (E.state disk.old) (E.state disk.new) }
     ensures opened { IfOk result (λ archive.
         Opens (E.state disk.old).seen (shown kept_by archive)) }
@@ -60,7 +57,8 @@ fn open_second<E: Disk>(
     }
 }
 
-/// Whether an archive of the version `other` with `more` files may come behind one with `held` files.
+/// Whether an archive of the version `other` with `more` files may come behind one with `held`
+/// files.
 fn agree(version: u32, held: u64, other: u32, more: u64) -> Result<(), MergeRefusal>
     ensures { Agrees version held other more result }
 {
@@ -84,7 +82,8 @@ struct Returned<'s, 'd, E: Disk, D: Disk> {
     refusal: Option<Why>,
 }
 
-/// Merges the second archive into a journal. What came of each file is left in a vector, whose items go.
+/// Merges the second archive into a journal. What came of each file is left in the vector, whose
+/// items before go.
 fn merge_into<'s, 'd, M: Names, E: Disk, D: Disk, R: Wait>(
     rt: &R,
     alloc: Global,
@@ -114,6 +113,36 @@ fn merge_into<'s, 'd, M: Names, E: Disk, D: Disk, R: Wait>(
         disk,
         refusal,
     }
+}
+
+/// The same for an archive that was opened, over its disk. Both are lent for lifetimes of their own:
+/// with one for both it would not be known how the loan of the disk ends.
+fn merge_opened<'a: 's, 's, 'd, E: Disk, D: Disk, R: Wait>(
+    rt: &R,
+    alloc: Global,
+    first: u32,
+    second: &'a Archive<Books>,
+    disk: &'s mut E,
+    journal: Journal<'d, D>,
+    books: Books,
+    files: &mut Vec<Merged>,
+) -> Returned<'s, 'd, E, D>
+    requires begin { MayMerge first (shown kept_by second.now).kept.version
+        (length (shown kept_by second.now).files) journal }
+    requires books { HoldTexts (state_of journal) books.types books.words }
+    ensures ends { EndsMerge (view_shown (shown kept_by second.now) (E.state disk.old).seen) first
+        (names_of (shown kept_by second.now).files) files.new.items result.refusal
+        journal.entry result.journal }
+    ensures second { WasOnlyRead E.state result.refusal disk.entry result.disk }
+{
+    let Books { types, words, .. } = books;
+    let to_merge = ToMerge {
+        names: second.names(),
+        files: second.files().as_slice(),
+        segments: second.segments().as_slice(),
+        disk,
+    };
+    merge_into(rt, alloc, first, to_merge, journal, types, words, files)
 }
 
 /// Adds the files of the second archive behind those of the archive of a disk.
@@ -150,16 +179,19 @@ pub(crate) fn add_second<D: Disk, E: Disk, R: Wait>(
     let more = second_archive.files().as_slice().len() as u64;
     agree(header.version, held, second_archive.names().version, more)?;
     let first = held as u32;
-    let Books { types, words, .. } = archive.into_books();
-    let to_merge = ToMerge {
-        names: second_archive.names(),
-        files: second_archive.files().as_slice(),
-        segments: second_archive.segments().as_slice(),
-        disk: second,
-    };
+    let books = archive.into_books();
     let mut files = Vec::new(alloc);
     // taken apart, it would not be known how the loan of the journal's disk ends
-    let left = merge_into(rt, alloc, first, to_merge, journal, types, words, &mut files);
+    let left = merge_opened(
+        rt,
+        alloc,
+        first,
+        &second_archive,
+        second,
+        journal,
+        books,
+        &mut files,
+    );
     let refusal = left.refusal;
     Ok(Came {
         first,

@@ -11,7 +11,7 @@ returns-in-Ok-clause-answers g c = λ content unread opens reads. record {
   printed = c.print_came.ensures.prints content unread opens reads;
 }
 
-pub returns-clause-answers : goal.returns-clause-answers
-returns-clause-answers g c = λ content unread opens reads.
+pub returns-in-Err-clause-answers : goal.returns-in-Err-clause-answers
+returns-in-Err-clause-answers g c = λ content unread opens reads.
     refused_all g.B.Base.archive _ (g.D.Disk.state c.args.disk.now) (g.D.Disk.state c.add_known.new.disk) (g.E.Disk.state c.args.second.now) (g.E.Disk.state c.add_known.new.second) _ c.in-Err.refusal
     c.report_merge.ensures.status c.report_merge.ensures.said refl refl c.in-Err.ensures.refused

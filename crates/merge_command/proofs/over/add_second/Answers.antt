@@ -1,4 +1,4 @@
-use Rattle.std.proofs.Common.{◌≡◌, ◌+◌, ◌≤◌, ◌∙◌, refl, sym, ap, subst, length, arith}
+use Rattle.std.proofs.Common.{◌≤◌, ◌∙◌, refl, sym, ap, subst, length, arith}
 use Rattle.std.specs.Prelude.{IfErr, IfSome}
 use Rattle.std.proofs.lemmas.Result.{err_from_is_err_and}
 use Rattle.log_seams.specs.Disk.{KeepsBytes}
@@ -7,18 +7,16 @@ use Rattle.log_seams.proofs.MomentLemmas.{keeps_on}
 use Rattle.record_format.specs.declared.header.Header.{Header}
 use Rattle.disk_journal.specs.Journal.{state_of}
 use Rattle.disk_journal.specs.State.{BeginsWith}
+use Rattle.archive_open.specs.Archive.{shown}
 use Rattle.archive_open.specs.Kept.{Kept}
 use Rattle.archive_open.specs.Shown.{HasLastGate, Opens}
-use Rattle.archive_merge.specs.Laws.{texts_kept}
-use Rattle.archive_merge.specs.Merging.{EndsMerge}
-use Rattle.archive_merge.specs.Named.{names_of}
 use Rattle.command_refusals.specs.GoesOn.{DiskGoesOn}
 use Rattle.command_refusals.specs.Reading.{IsArchive}
 use Rattle.command_refusals.proofs.GoingLemmas.{DiskGoesOn-joined}
 use Rattle.command_answers.specs.Merging.{Merges}
-use Rattle.merge_command.specs.Came.{name_at, refused_by}
+use Rattle.merge_command.specs.Came.{kept_by, merge_of, name_at, refused_by, view_shown}
 use Rattle.write_commands.proofs.AppendLemmas.{OpensFrom, holds_names, may_append}
-use Rattle.merge_command.proofs.WholeLemmas.{LookedAt, agree_refuses, err_with, hold_texts, looked_goes, merges, open_refuses, second_refuses, start_refuses, view_same}
+use Rattle.merge_command.proofs.WholeLemmas.{LookedAt, agree_refuses, err_with, hold_texts, looked_goes, merges, open_refuses, second_refuses, start_refuses, view_told}
 use Rattle.merge_command.proofs.over.add_second.Goals as goal
 
 -- ---- refused
@@ -43,7 +41,9 @@ returns-in_err-archive-clause-refused g c =
     let second = g.E.Disk.state c.args.second.now in
     let opened = c.open_for_append.ensures in
     let looked : LookedAt old mid new = record {
-      law_old = law _; law_mid = law _; law_new = law _;
+      law_old = law _;
+      law_mid = law _;
+      law_new = law _;
       keeps = subst (λ d. KeepsBytes old (g.D.Disk.state d)) (sym c.begin-journal.ensures.disk) c.start.ensures.keeps;
       rests = opened.looks.rests;
       first = subst (λ d. old.faults ≤ (g.D.Disk.state d).faults) (sym c.begin-journal.ensures.disk) c.start.ensures.counts.later;
@@ -65,7 +65,9 @@ returns-in_err-second_archive-clause-refused g c =
     let second_new = g.E.Disk.state c.open_second.new.disk in
     let opened = c.open_for_append.ensures in
     let looked : LookedAt old mid new = record {
-      law_old = law _; law_mid = law _; law_new = law _;
+      law_old = law _;
+      law_mid = law _;
+      law_new = law _;
       keeps = subst (λ d. KeepsBytes old (g.D.Disk.state d)) (sym c.begin-journal.ensures.disk) c.start.ensures.keeps;
       rests = opened.looks.rests;
       first = subst (λ d. old.faults ≤ (g.D.Disk.state d).faults) (sym c.begin-journal.ensures.disk) c.start.ensures.counts.later;
@@ -85,7 +87,9 @@ returns-in_err-second_archive-clause-goes_on g c =
     let new = g.D.Disk.state c.open_for_append.new.journal.disk.now in
     let opened = c.open_for_append.ensures in
     let looked : LookedAt old mid new = record {
-      law_old = law _; law_mid = law _; law_new = law _;
+      law_old = law _;
+      law_mid = law _;
+      law_new = law _;
       keeps = subst (λ d. KeepsBytes old (g.D.Disk.state d)) (sym c.begin-journal.ensures.disk) c.start.ensures.keeps;
       rests = opened.looks.rests;
       first = subst (λ d. old.faults ≤ (g.D.Disk.state d).faults) (sym c.begin-journal.ensures.disk) c.start.ensures.counts.later;
@@ -104,7 +108,9 @@ returns-in_err-agree-clause-refused g c =
     let second_new = g.E.Disk.state c.open_second.new.disk in
     let opened = c.open_for_append.ensures in
     let looked : LookedAt old mid new = record {
-      law_old = law _; law_mid = law _; law_new = law _;
+      law_old = law _;
+      law_mid = law _;
+      law_new = law _;
       keeps = subst (λ d. KeepsBytes old (g.D.Disk.state d)) (sym c.begin-journal.ensures.disk) c.start.ensures.keeps;
       rests = opened.looks.rests;
       first = subst (λ d. old.faults ≤ (g.D.Disk.state d).faults) (sym c.begin-journal.ensures.disk) c.start.ensures.counts.later;
@@ -128,7 +134,9 @@ returns-in_err-agree-clause-goes_on g c =
     let new = g.D.Disk.state c.open_for_append.new.journal.disk.now in
     let opened = c.open_for_append.ensures in
     let looked : LookedAt old mid new = record {
-      law_old = law _; law_mid = law _; law_new = law _;
+      law_old = law _;
+      law_mid = law _;
+      law_new = law _;
       keeps = subst (λ d. KeepsBytes old (g.D.Disk.state d)) (sym c.begin-journal.ensures.disk) c.start.ensures.keeps;
       rests = opened.looks.rests;
       first = subst (λ d. old.faults ≤ (g.D.Disk.state d).faults) (sym c.begin-journal.ensures.disk) c.start.ensures.counts.later;
@@ -139,35 +147,40 @@ returns-in_err-agree-clause-goes_on g c =
 
 -- ---- merged
 
-pub merge_into-left-requires-clause-begin : goal.merge_into-left-requires-clause-begin
-merge_into-left-requires-clause-begin g c =
+pub merge_opened-left-requires-clause-begin : goal.merge_opened-left-requires-clause-begin
+merge_opened-left-requires-clause-begin g c =
     let opened = c.open_for_append.ensures in
     let same = sym c.begin-journal.ensures.disk in
     let from : OpensFrom (state_of c.begin-journal.result) (state_of c.open_for_append.new.journal) _ = record {
       begins = subst (λ h. BeginsWith h (g.D.Disk.state c.begin-journal.result.disk.now)) (sym c.begin-journal.ensures.header) (subst (λ d. BeginsWith c.in_ok-header.header (g.D.Disk.state d)) same c.in_ok-header.ensures.begins);
       archive = subst (λ d. IfSome (g.D.Disk.state d).seen IsArchive) same (subst (λ t. IfSome t IsArchive) (sym c.start.ensures.keeps.seen) c.requires.archive);
-      looks = opened.looks; opened = c.in_ok-archive.ensures.opened; header = c.in_ok-archive.ensures.header; ends = c.in_ok-archive.ensures.at_end;
+      looks = opened.looks;
+      opened = c.in_ok-archive.ensures.opened;
+      header = c.in_ok-archive.ensures.header;
+      ends = c.in_ok-archive.ensures.at_end;
     } in
     let counted = ap length (c.as_slice.ensures ∙ c.files.ensures) in
-    let version = λ (k : Kept). k.version in
     record {
-      version_is = ap version c.names-2.ensures ∙ (sym (ap version c.names.ensures) ∙ (c.in_ok-agree.ensures.0 ∙ sym (ap (λ (h : Header). h.version) (opened.looks.header ∙ c.begin-journal.ensures.header))));
+      version_is = sym (ap (λ (k : Kept). k.version) c.names.ensures) ∙ (c.in_ok-agree.ensures.0 ∙ sym (ap (λ (h : Header). h.version) (opened.looks.header ∙ c.begin-journal.ensures.header)));
       opens = may_append (state_of c.begin-journal.result) (state_of c.open_for_append.new.journal) _ from;
       holds = holds_names (state_of c.begin-journal.result) (state_of c.open_for_append.new.journal) _ from (length c.as_slice.result.now) counted;
-      few = omega (arith, c.in_ok-agree.ensures.1, ap length (c.as_slice-2.ensures ∙ c.files-2.ensures), ap length (c.as_slice-3.ensures ∙ c.files-3.ensures));
+      few = omega (arith, c.in_ok-agree.ensures.1, ap length (c.as_slice-2.ensures ∙ c.files-2.ensures));
     }
 
-pub merge_into-left-requires-clause-books : goal.merge_into-left-requires-clause-books
-merge_into-left-requires-clause-books g c =
+pub merge_opened-left-requires-clause-books : goal.merge_opened-left-requires-clause-books
+merge_opened-left-requires-clause-books g c =
     let opened = c.open_for_append.ensures in
     let same = sym c.begin-journal.ensures.disk in
     let from : OpensFrom (state_of c.begin-journal.result) (state_of c.open_for_append.new.journal) _ = record {
       begins = subst (λ h. BeginsWith h (g.D.Disk.state c.begin-journal.result.disk.now)) (sym c.begin-journal.ensures.header) (subst (λ d. BeginsWith c.in_ok-header.header (g.D.Disk.state d)) same c.in_ok-header.ensures.begins);
       archive = subst (λ d. IfSome (g.D.Disk.state d).seen IsArchive) same (subst (λ t. IfSome t IsArchive) (sym c.start.ensures.keeps.seen) c.requires.archive);
-      looks = opened.looks; opened = c.in_ok-archive.ensures.opened; header = c.in_ok-archive.ensures.header; ends = c.in_ok-archive.ensures.at_end;
+      looks = opened.looks;
+      opened = c.in_ok-archive.ensures.opened;
+      header = c.in_ok-archive.ensures.header;
+      ends = c.in_ok-archive.ensures.at_end;
     } in
-    let books = c.into_books-types.ensures in
-    hold_texts (state_of c.begin-journal.result) (state_of c.open_for_append.new.journal) _ from c.into_books-types.result.types c.into_books-types.result.words
+    let books = c.into_books-books.ensures in
+    hold_texts (state_of c.begin-journal.result) (state_of c.open_for_append.new.journal) _ from c.into_books-books.result.types c.into_books-books.result.words
     (record { types_are = sym (ap (λ (k : Kept). k.types) books); words_are = sym (ap (λ (k : Kept). k.words) books); types_limit = sym (ap (λ (k : Kept). k.types_limit) books); words_limit = sym (ap (λ (k : Kept). k.words_limit) books) })
 
 pub returns-clause-came : goal.returns-clause-came
@@ -178,11 +191,13 @@ returns-clause-came g c =
     let new = g.D.Disk.state c.open_for_append.new.journal.disk.now in
     let second = g.E.Disk.state c.args.second.now in
     let second_mid = g.E.Disk.state c.open_second.new.disk in
-    let second_new = g.E.Disk.state c.merge_into-left.result.disk.now in
+    let second_new = g.E.Disk.state c.merge_opened-left.result.disk.now in
     let opened = c.open_for_append.ensures in
     let same = sym c.begin-journal.ensures.disk in
     let looked : LookedAt old mid new = record {
-      law_old = law _; law_mid = law _; law_new = law _;
+      law_old = law _;
+      law_mid = law _;
+      law_new = law _;
       keeps = subst (λ d. KeepsBytes old (g.D.Disk.state d)) same c.start.ensures.keeps;
       rests = opened.looks.rests;
       first = subst (λ d. old.faults ≤ (g.D.Disk.state d).faults) same c.start.ensures.counts.later;
@@ -191,27 +206,35 @@ returns-clause-came g c =
     let from : OpensFrom (state_of c.begin-journal.result) (state_of c.open_for_append.new.journal) _ = record {
       begins = subst (λ h. BeginsWith h mid) (sym c.begin-journal.ensures.header) (subst (λ d. BeginsWith c.in_ok-header.header (g.D.Disk.state d)) same c.in_ok-header.ensures.begins);
       archive = subst (λ t. IfSome t IsArchive) (sym looked.keeps.seen) c.requires.archive;
-      looks = opened.looks; opened = c.in_ok-archive.ensures.opened; header = c.in_ok-archive.ensures.header; ends = c.in_ok-archive.ensures.at_end;
+      looks = opened.looks;
+      opened = c.in_ok-archive.ensures.opened;
+      header = c.in_ok-archive.ensures.header;
+      ends = c.in_ok-archive.ensures.at_end;
     } in
+    let b = shown kept_by c.in_ok-second_archive.second_archive in
+    let m = merge_of (record {
+      first = length c.as_slice.result.now;
+      second = c.in_ok-second_archive.second_archive;
+      files = c.merge_opened-left.new.files;
+      refusal = c.refusal_of.result;
+      stopped = c.place_of.result;
+    }) in
     let counted = ap length (c.as_slice.ensures ∙ c.files.ensures) in
     let version = λ (k : Kept). k.version in
-    let read = c.merge_into-left.ensures.second in
+    let read = c.merge_opened-left.ensures.second in
     let told = sym c.open_second.ensures.keeps.seen in
-    let files = c.as_slice-3.ensures ∙ c.files-3.ensures in
-    let back = c.disk-2-1.given.1 (sym (c.merge_into-left.ensures.ends.merged.goes.name ∙ (opened.looks.name ∙ c.begin-journal.ensures.name))) in
+    let back = c.disk-2-1.given.1 (sym (c.merge_opened-left.ensures.ends.merged.goes.name ∙ (opened.looks.name ∙ c.begin-journal.ensures.name))) in
     let back_second = c.second-1.given.1 (sym read.lent) in
-    subst (λ d. Merges _ (length c.as_slice.result.now) old (g.D.Disk.state d) second (g.E.Disk.state c.second-1.given.0)) (sym back)
-    (subst (λ e. Merges _ (length c.as_slice.result.now) old (g.D.Disk.state c.merge_into-left.result.journal.disk.now) second (g.E.Disk.state e)) (sym back_second)
-    (merges c.segments_go_on.ensures.files c.segments_go_on.ensures.fair old (state_of c.begin-journal.result) c.open_for_append.new.journal c.merge_into-left.result.journal _ from looked (law _)
-    _ _ (subst (λ t. Opens t _) told c.in_ok-second_archive.ensures.opened)
-    (λ bytes is. view_same _ _ bytes (ap version c.names-2.ensures) (ap texts_kept c.names-2.ensures) is (c.as_slice-4.ensures ∙ c.segments.ensures))
-    (subst (λ t. HasLastGate t _) told c.in_ok-second_archive.ensures.last) c.last_gate.result c.last_gate.ensures
+    subst (λ d. Merges m (length c.as_slice.result.now) old (g.D.Disk.state d) second (g.E.Disk.state c.second-1.given.0)) (sym back)
+    (subst (λ e. Merges m (length c.as_slice.result.now) old (g.D.Disk.state c.merge_opened-left.result.journal.disk.now) second (g.E.Disk.state e)) (sym back_second)
+    (merges c.segments_go_on.ensures.files c.segments_go_on.ensures.fair old (state_of c.begin-journal.result) c.open_for_append.new.journal c.merge_opened-left.result.journal _ from looked (law _)
+    (view_shown b second_mid.seen) b (subst (λ t. Opens t b) told c.in_ok-second_archive.ensures.opened) (view_told b second_mid.seen)
+    (subst (λ t. HasLastGate t b) told c.in_ok-second_archive.ensures.last) c.last_gate.result c.last_gate.ensures
     second second_new told (keeps_on second second_mid second_new c.open_second.ensures.keeps read.rests)
-    (length c.as_slice.result.now) counted c.merge_into-left.new.files.items c.merge_into-left.result.refusal
-    (subst (λ fs. EndsMerge _ (length c.as_slice.result.now) (names_of fs) c.merge_into-left.new.files.items c.merge_into-left.result.refusal c.open_for_append.new.journal c.merge_into-left.result.journal) files c.merge_into-left.ensures.ends)
+    (length c.as_slice.result.now) counted c.merge_opened-left.new.files.items c.merge_opened-left.result.refusal c.merge_opened-left.ensures.ends
     (λ file is. subst (λ n. Rose n second_new.faults) c.in_ok-second_archive.ensures.steady (read.fault file is))
     (sym (ap version c.names.ensures) ∙ (c.in_ok-agree.ensures.0 ∙ sym (ap (λ (h : Header). h.version) (opened.looks.header ∙ c.begin-journal.ensures.header))))
-    _ refl c.refusal_of.ensures (ap (λ place. name_at _ place) c.place_of.ensures)))
+    m refl c.refusal_of.ensures (ap (λ place. name_at b.files place) c.place_of.ensures)))
 
 pub returns-clause-goes_on : goal.returns-clause-goes_on
 returns-clause-goes_on g c =
@@ -219,17 +242,19 @@ returns-clause-goes_on g c =
     let old = g.D.Disk.state c.args.disk.now in
     let mid = g.D.Disk.state c.begin-journal.result.disk.now in
     let new = g.D.Disk.state c.open_for_append.new.journal.disk.now in
-    let last = g.D.Disk.state c.merge_into-left.result.journal.disk.now in
+    let last = g.D.Disk.state c.merge_opened-left.result.journal.disk.now in
     let opened = c.open_for_append.ensures in
     let same = sym c.begin-journal.ensures.disk in
     let looked : LookedAt old mid new = record {
-      law_old = law _; law_mid = law _; law_new = law _;
+      law_old = law _;
+      law_mid = law _;
+      law_new = law _;
       keeps = subst (λ d. KeepsBytes old (g.D.Disk.state d)) same c.start.ensures.keeps;
       rests = opened.looks.rests;
       first = subst (λ d. old.faults ≤ (g.D.Disk.state d).faults) same c.start.ensures.counts.later;
       second = opened.counts.later;
     } in
-    let goes = c.merge_into-left.ensures.ends.merged.goes in
+    let goes = c.merge_opened-left.ensures.ends.merged.goes in
     let back = c.disk-2-1.given.1 (sym (goes.name ∙ (opened.looks.name ∙ c.begin-journal.ensures.name))) in
     subst (λ d. DiskGoesOn old (g.D.Disk.state d)) (sym back)
     (DiskGoesOn-joined old new last (law _) (looked_goes old mid new looked) (record { counts = goes.counts; tells = goes.tells; moments = goes.moments }))
