@@ -1,8 +1,6 @@
 //! Two logs over a disk of which one call after the other fails.
-ghost use Rattle.std.specs.Prelude.{◌≡◌, None, false, is_ok, IfSome};
+ghost use Rattle.std.specs.Prelude.{◌≡◌, None, false, is_ok};
 ghost use Rattle.log_seams.specs.Outside.{Counts};
-ghost use Rattle.disk_journal.specs.Journal.{state_of};
-ghost use Rattle.disk_seal.specs.Opening.{MayOpen};
 
 use dict_core::Book;
 use disk_journal::{Journal, create};
@@ -10,14 +8,14 @@ use ingest_workers::{Cause, Job, Outcome, ingest};
 use log_seams::{Disk, Failed, PlainSource};
 use plain_list::Text;
 use record_format::Header;
-use std::alloc::{AllocError, Global};
+use std::alloc::Global;
 use std::sync::Wait;
 use std::thread::Threads;
 
 /// A disk that tells nothing. Its call with the number `bad`, from 0, fails, and where it `stays` broken
 /// each one behind it.
 #[derive(Drop)]
-pub(crate) struct WornDisk {
+struct WornDisk {
     bytes: Vec<u8>,
     /// How many of its bytes were written.
     length: usize,
@@ -28,24 +26,6 @@ pub(crate) struct WornDisk {
 }
 
 impl WornDisk {
-    /// An empty disk with this room, whose call with the number `bad` fails, and where it `stays` each one
-    /// behind it.
-    pub(crate) fn new(
-        alloc: Global,
-        room: usize,
-        bad: u64,
-        stays: bool,
-    ) -> Result<WornDisk, AllocError> {
-        Ok(WornDisk {
-            bytes: vec![in alloc; 0; room]?,
-            length: 0,
-            calls: 0,
-            bad,
-            stays,
-            faults: 0,
-        })
-    }
-
     fn fail<T>(&mut self) -> Result<T, Failed>
         ensures failed { is_ok result ≡ false }
         ensures counts { Counts self.old.faults self.new.faults result }
@@ -132,10 +112,13 @@ impl Disk for WornDisk {
     } };
 }
 
-/// The journal of an archive that is made on the disk, which is empty; None where there is none.
-pub(crate) fn begun<'d>(disk: &'d mut WornDisk) -> Option<Journal<'d, WornDisk>>
-    ensures { IfSome result (λ journal. MayOpen (state_of journal)) }
-{
+/// What comes of a log of three lines on the empty disk; None where there is no archive to take it.
+fn ingested<R: Threads + Wait + Sync>(
+    rt: &R,
+    alloc: Global,
+    log: Text,
+    disk: &mut WornDisk,
+) -> Option<Outcome> {
     let header = Header {
         version: 1,
         types_limit: 10,
@@ -147,19 +130,9 @@ pub(crate) fn begun<'d>(disk: &'d mut WornDisk) -> Option<Journal<'d, WornDisk>>
         return None;
     };
     match journal.next_place() {
-        Ok(None) => Some(journal),
-        _ => None,
+        Ok(None) => {}
+        _ => return None,
     }
-}
-
-/// What comes of a log of three lines on the empty disk; None where there is no archive to take it.
-fn ingested<R: Threads + Wait + Sync>(
-    rt: &R,
-    alloc: Global,
-    log: Text,
-    disk: &mut WornDisk,
-) -> Option<Outcome> {
-    let journal = begun(disk)?;
     let mut jobs = [Job::new(0, PlainSource::new(log))];
     let (types, words) = (Book::new(alloc, 10), Book::new(alloc, 10));
     match ingest(rt, alloc, &mut jobs, 1, 2, journal, types, words) {
@@ -169,7 +142,7 @@ fn ingested<R: Threads + Wait + Sync>(
 }
 
 /// How many records a disk has that works again; None where it has no archive.
-pub(crate) fn records(disk: &mut WornDisk) -> Option<u64> {
+fn records(disk: &mut WornDisk) -> Option<u64> {
     disk.bad = u64::MAX;
     let mut journal = Journal::open_journal(disk).ok()?;
     for _ in 0..10 {
@@ -187,7 +160,14 @@ fn with_bad_call<R: Threads + Wait + Sync>(
     bad: u64,
     stays: bool,
 ) -> Option<(Option<Outcome>, Option<u64>)> {
-    let mut disk = WornDisk::new(alloc, 2000, bad, stays).ok()?;
+    let mut disk = WornDisk {
+        bytes: vec![in alloc; 0; 2000].ok()?,
+        length: 0,
+        calls: 0,
+        bad,
+        stays,
+        faults: 0,
+    };
     let log = Text::new(b"a 1\nb 2\nc 3\n".to_vec(alloc).ok()?);
     let outcome = ingested(rt, alloc, log, &mut disk);
     Some((outcome, records(&mut disk)))

@@ -1,6 +1,5 @@
 //! The files of a second archive behind those of a first, over disks in memory.
-use crate::outside::{AMPLE, Log, NEVER, Told, USAGE, call, disk, shelf, tells_beside};
-use log_seams::MemDisk;
+use crate::outside::{Log, Made, NEVER, Told, USAGE, all_told, made};
 use std::alloc::{AllocError, Global};
 use std::sync::Wait;
 use std::test::Fail;
@@ -13,14 +12,16 @@ const LOGS: &[Log<'static>] = &[
     ("d.log", b"task_9 done\ntask_2 done", NEVER),
     ("e.log", b"", NEVER),
     (
+        "u.log",
+        b"a\x12\\b 7\n2023-11-14 22:13:20.000123 up\n",
+        NEVER,
+    ),
+    (
         "t.log",
         b"2023-11-14 22:13:20,000 INFO start\n\tat x.Y(Z.java:7)\n\tat x.Z(Z.java:9)\n",
         NEVER,
     ),
 ];
-
-/// The calls that make an archive, one after the other.
-type Made = &'static [&'static [&'static str]];
 
 /// Two archives, and calls over both, one after the other.
 type Row = (Made, Made, &'static [Told]);
@@ -75,6 +76,26 @@ const WHOLE: &[Row] = &[
             (&["decode", "1"], 0, b"task_9 done\ntask_2 done", b""),
             (&["check"], 0, b"entries 10 files 3 messages 6\n", b""),
             (&["search", "task_9"], 0, b"d.log:1:task_9 done\n", b""),
+        ],
+    ),
+    // a row whose text has a placeholder's byte, and one with microseconds
+    (
+        &[&["create", "--format=3"], &["ingest", "a.log"]],
+        &[&["create", "--format=3"], &["ingest", "u.log"]],
+        &[
+            (&["merge"], 0, b"1 2 whole u.log\n", b""),
+            (
+                &["search", "--from=1700000000000123", "up"],
+                0,
+                b"u.log:2:2023-11-14 22:13:20.000123 up\n",
+                b"",
+            ),
+            (
+                &["decode", "1"],
+                0,
+                b"a\x12\\b 7\n2023-11-14 22:13:20.000123 up\n",
+                b"",
+            ),
         ],
     ),
     // a message of three lines, and a file of which the second archive has a part
@@ -159,42 +180,14 @@ const REFUSED: &[Row] = &[
     ),
 ];
 
-/// An archive that these calls made.
-fn made<R: Threads + Wait + Sync>(
-    rt: &R,
-    alloc: Global,
-    calls: Made,
-) -> Result<MemDisk, AllocError> {
-    let mut logs = shelf(alloc, LOGS, NEVER)?;
-    let mut archive = disk(alloc, &[], NEVER)?;
-    for &words in calls {
-        let _told = call(rt, alloc, words, &mut logs, &mut archive, AMPLE)?;
-    }
-    Ok(archive)
-}
-
-/// How many of the calls are told as they are to be.
-fn told_well<R: Threads + Wait + Sync>(
-    rt: &R,
-    alloc: Global,
-    calls: &[Told],
-    archive: &mut MemDisk,
-    second: &mut MemDisk,
-) -> Result<usize, AllocError> {
-    for (done, row) in calls.iter().enumerate() {
-        if !tells_beside(rt, alloc, row, archive, second)? {
-            return Ok(done);
-        }
-    }
-    Ok(calls.len())
-}
-
-/// Whether all calls over the two archives are told so.
+/// Whether all calls over the two archives are told so, and the second one stays.
 fn merges<R: Threads + Wait + Sync>(rt: &R, alloc: Global, row: &Row) -> Result<bool, AllocError> {
     let (first, second, calls) = *row;
-    let mut archive = made(rt, alloc, first)?;
-    let mut other = made(rt, alloc, second)?;
-    Ok(told_well(rt, alloc, calls, &mut archive, &mut other)? == calls.len())
+    let mut archive = made(rt, alloc, LOGS, first)?;
+    let mut other = made(rt, alloc, LOGS, second)?;
+    let bytes = other.bytes().to_vec(alloc)?;
+    let well = all_told(rt, alloc, calls, &mut archive, &mut other)?;
+    Ok(well && other.bytes() == bytes.as_slice())
 }
 
 #[test]

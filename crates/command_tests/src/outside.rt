@@ -153,29 +153,6 @@ pub(crate) fn listed<R: Threads + Wait + Sync>(
     beside(rt, alloc, words, logs, archive, &mut second, rooms)
 }
 
-/// Whether the words are told so over no log and two archives, by outputs that take all.
-pub(crate) fn tells_beside<R: Threads + Wait + Sync>(
-    rt: &R,
-    alloc: Global,
-    row: &Told,
-    archive: &mut MemDisk,
-    second: &mut MemDisk,
-) -> Result<bool, AllocError> {
-    let (words, status, out, err) = *row;
-    let words = list_of(alloc, words)?;
-    let mut logs = MemShelf::new(alloc, Vec::new(alloc), Vec::new(alloc));
-    let outcome = beside(
-        rt,
-        alloc,
-        words.as_slice(),
-        &mut logs,
-        archive,
-        second,
-        AMPLE,
-    )?;
-    Ok(outcome.is(status, out, err))
-}
-
 /// The same with words as they stand in a table.
 pub(crate) fn call<R: Threads + Wait + Sync>(
     rt: &R,
@@ -187,6 +164,61 @@ pub(crate) fn call<R: Threads + Wait + Sync>(
 ) -> Result<Outcome, AllocError> {
     let words = list_of(alloc, words)?;
     listed(rt, alloc, words.as_slice(), logs, archive, rooms)
+}
+
+/// Calls `run` with these words over no log and two archives, by outputs that take all.
+pub(crate) fn over_two<R: Threads + Wait + Sync>(
+    rt: &R,
+    alloc: Global,
+    words: &[&str],
+    archive: &mut MemDisk,
+    second: &mut MemDisk,
+) -> Result<Outcome, AllocError> {
+    let words = list_of(alloc, words)?;
+    let mut logs = MemShelf::new(alloc, Vec::new(alloc), Vec::new(alloc));
+    beside(
+        rt,
+        alloc,
+        words.as_slice(),
+        &mut logs,
+        archive,
+        second,
+        AMPLE,
+    )
+}
+
+/// Whether all of these calls, one after the other, are told so over the two archives.
+pub(crate) fn all_told<R: Threads + Wait + Sync>(
+    rt: &R,
+    alloc: Global,
+    calls: &[Told],
+    archive: &mut MemDisk,
+    second: &mut MemDisk,
+) -> Result<bool, AllocError> {
+    for &(words, status, out, err) in calls {
+        if !over_two(rt, alloc, words, archive, second)?.is(status, out, err) {
+            return Ok(false);
+        }
+    }
+    Ok(true)
+}
+
+/// Calls that make an archive, one after the other.
+pub(crate) type Made = &'static [&'static [&'static str]];
+
+/// The archive that these calls make of the logs.
+pub(crate) fn made<R: Threads + Wait + Sync>(
+    rt: &R,
+    alloc: Global,
+    logs: &[Log<'_>],
+    calls: Made,
+) -> Result<MemDisk, AllocError> {
+    let mut logs = shelf(alloc, logs, NEVER)?;
+    let mut archive = disk(alloc, &[], NEVER)?;
+    for &words in calls {
+        let _told = call(rt, alloc, words, &mut logs, &mut archive, AMPLE)?;
+    }
+    Ok(archive)
 }
 
 /// Whether the words are told so over the logs and the archive's disk, by outputs that take all.

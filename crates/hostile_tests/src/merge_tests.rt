@@ -1,13 +1,15 @@
 //! A merge that stops after any of its calls of the disk, or of whose calls one fails.
 
-use crate::outside::{DISK_FAILED, EMPTY, NEVER, SOUND, call, disk, merge, prints, shelf};
+use crate::outside::{
+    DISK_FAILED, EMPTY, Faults, NEVER, Outcome, SOUND, call, disk, over_two, prints, reading, shelf,
+};
 use log_seams::{MemDisk, Pending};
 use std::alloc::{AllocError, Global};
 use std::sync::Wait;
 use std::test::Fail;
 use std::thread::Threads;
 
-const PENDING: &[Pending] = &[
+pub(crate) const PENDING: &[Pending] = &[
     Pending::All,
     Pending::Nothing,
     Pending::FirstHalf,
@@ -15,7 +17,7 @@ const PENDING: &[Pending] = &[
 ];
 
 /// The log of the archive, and that of the second one, which shares a word with it.
-const FIRST: (&str, &[u8]) = ("a.log", b"task_1 done\ntask_2 done\n");
+pub(crate) const FIRST: (&str, &[u8]) = ("a.log", b"task_1 done\ntask_2 done\n");
 
 const SECOND: (&str, &[u8]) = ("c.log", b"task_2 done\n7\n");
 
@@ -40,7 +42,7 @@ const STATES: &[(&[u8], &[u8])] = &[
 ];
 
 /// An archive with this log, of whose calls this one fails.
-fn archive_of<R: Threads + Wait + Sync>(
+pub(crate) fn archive_of<R: Threads + Wait + Sync>(
     rt: &R,
     alloc: Global,
     log: (&str, &[u8]),
@@ -51,6 +53,16 @@ fn archive_of<R: Threads + Wait + Sync>(
     let mut archive = disk(alloc, &EMPTY, fault)?;
     let _told = call(rt, alloc, &["ingest", name], &mut logs, &mut archive, SOUND)?;
     Ok(archive)
+}
+
+/// Adds the files of the second archive.
+fn merge<R: Threads + Wait + Sync>(
+    rt: &R,
+    alloc: Global,
+    archive: &mut MemDisk,
+    second: &mut MemDisk,
+) -> Result<Outcome, AllocError> {
+    over_two(rt, alloc, &["merge"], archive, second, SOUND)
 }
 
 /// Whether the image is the archive with so many of the records.
@@ -70,10 +82,10 @@ fn stands<R: Threads + Wait + Sync>(
     )
 }
 
-/// How many of the records a crash leaves that comes so many calls before the end: each takes four calls,
-/// as in an ingest.
-fn records_left(before_end: usize, pending: Pending) -> usize {
-    let made = (4 * RECORDS).saturating_sub(before_end);
+/// How many of so many records a crash leaves that comes so many calls before the end: each takes four
+/// calls, as in an ingest.
+pub(crate) fn records_left(records: usize, before_end: usize, pending: Pending) -> usize {
+    let made = (4 * records).saturating_sub(before_end);
     match pending {
         Pending::All | Pending::Ones => (made + 1) / 4,
         Pending::Nothing | Pending::FirstHalf => made / 4,
@@ -91,7 +103,12 @@ fn bad_crash<R: Threads + Wait + Sync>(
     for after in calls.saturating_sub(4 * RECORDS)..=calls {
         for &pending in PENDING {
             let mut image = archive.stopped(after, pending)?;
-            if !stands(rt, alloc, &mut image, records_left(calls - after, pending))? {
+            if !stands(
+                rt,
+                alloc,
+                &mut image,
+                records_left(RECORDS, calls - after, pending),
+            )? {
                 return Ok(Some((after, pending)));
             }
         }
@@ -110,21 +127,67 @@ fn bad_stop<R: Threads + Wait + Sync>(
     bad_crash(rt, alloc, &archive)
 }
 
-/// Whether a merge is told as failed where this call of the second disk fails, counted from the first of
-/// the merge, and the archive has its file still.
+/// The calls of both disks that a merge makes: the number of the first one, and of the one behind the last.
+fn calls_of_merge<R: Threads + Wait + Sync>(
+    rt: &R,
+    alloc: Global,
+) -> Result<[(usize, usize); 2], AllocError> {
+    let mut archive = archive_of(rt, alloc, FIRST, NEVER)?;
+    let mut second = archive_of(rt, alloc, SECOND, NEVER)?;
+    let (first, other) = (archive.calls(), second.calls());
+    let _told = merge(rt, alloc, &mut archive, &mut second)?;
+    Ok([(first, archive.calls()), (other, second.calls())])
+}
+
+/// Whether the archive is legal, has its file still, and takes the second one's.
+fn takes_again<R: Threads + Wait + Sync>(
+    rt: &R,
+    alloc: Global,
+    archive: &mut MemDisk,
+    second: &mut MemDisk,
+) -> Result<bool, AllocError> {
+    Ok(
+        reading(rt, alloc, &["check"], archive)?.status == 0
+            && prints(rt, alloc, &["decode", "0"], archive, FIRST.1)?
+            && merge(rt, alloc, archive, second)?.status == 0,
+    )
+}
+
+/// Whether a merge is told as failed where these calls of the two disks fail, and can be done then.
 fn fails<R: Threads + Wait + Sync>(
     rt: &R,
     alloc: Global,
-    fault: usize,
+    first_fault: u64,
+    second_fault: u64,
 ) -> Result<bool, AllocError> {
-    let made = archive_of(rt, alloc, SECOND, NEVER)?.calls();
-    let mut archive = archive_of(rt, alloc, FIRST, NEVER)?;
-    let mut second = archive_of(rt, alloc, SECOND, (made + fault) as u64)?;
+    let mut archive = archive_of(rt, alloc, FIRST, first_fault)?;
+    let mut second = archive_of(rt, alloc, SECOND, second_fault)?;
     let outcome = merge(rt, alloc, &mut archive, &mut second)?;
     Ok(
         outcome.has_front(5, b"1 0 part c.log\n", DISK_FAILED)
-            && prints(rt, alloc, &["decode", "0"], &mut archive, FIRST.1)?,
+            && takes_again(rt, alloc, &mut archive, &mut second)?,
     )
+}
+
+/// The answer of a merge whose first write to the output fails.
+fn without_output<R: Threads + Wait + Sync>(
+    rt: &R,
+    alloc: Global,
+    archive: &mut MemDisk,
+) -> Result<Outcome, AllocError> {
+    let mut second = archive_of(rt, alloc, SECOND, NEVER)?;
+    let faults = Faults { out: 0, err: NEVER };
+    over_two(rt, alloc, &["merge"], archive, &mut second, faults)
+}
+
+/// Whether a merge that cannot print is told so, and is done.
+fn merges_without_output<R: Threads + Wait + Sync>(
+    rt: &R,
+    alloc: Global,
+) -> Result<bool, AllocError> {
+    let mut archive = archive_of(rt, alloc, FIRST, NEVER)?;
+    let outcome = without_output(rt, alloc, &mut archive)?;
+    Ok(outcome.is(7, b"", b"clpa: output failed\n") && stands(rt, alloc, &mut archive, RECORDS)?)
 }
 
 #[test]
@@ -135,10 +198,22 @@ fn each_stop_of_merge_keeps_what_was_acknowledged(rt: HostRuntime) -> Result<(),
 }
 
 #[test]
-fn a_fault_of_the_second_disk_ends_a_merge(rt: HostRuntime) -> Result<(), Fail> {
-    for fault in 0..4 {
-        let well = fails(&rt, rt.alloc(), fault)?;
+fn each_call_of_merge_that_fails_leaves_an_archive(rt: HostRuntime) -> Result<(), Fail> {
+    let [first, second] = calls_of_merge(&rt, rt.alloc())?;
+    for fault in first.0..first.1 {
+        let well = fails(&rt, rt.alloc(), fault as u64, NEVER)?;
         assert!(rt; well, "{fault}");
     }
+    for fault in second.0..second.1 {
+        let well = fails(&rt, rt.alloc(), NEVER, fault as u64)?;
+        assert!(rt; well, "second {fault}");
+    }
+    Ok(())
+}
+
+#[test]
+fn a_merge_that_cannot_print_is_done(rt: HostRuntime) -> Result<(), Fail> {
+    let well = merges_without_output(&rt, rt.alloc())?;
+    assert!(rt; well);
     Ok(())
 }

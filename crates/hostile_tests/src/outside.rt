@@ -177,15 +177,17 @@ where
     Ok(outcome)
 }
 
-/// Adds the files of a second archive.
-pub(crate) fn merge<R: Threads + Wait + Sync>(
+/// Calls `run` with these words over no log and two archives.
+pub(crate) fn over_two<R: Threads + Wait + Sync>(
     rt: &R,
     alloc: Global,
+    words: &[&str],
     archive: &mut MemDisk,
     second: &mut MemDisk,
+    faults: Faults,
 ) -> Result<Outcome, AllocError> {
     let mut logs = MemShelf::new(alloc, Vec::new(alloc), Vec::new(alloc));
-    beside(rt, alloc, &["merge"], &mut logs, archive, second, SOUND)
+    beside(rt, alloc, words, &mut logs, archive, second, faults)
 }
 
 /// Whether the words are told so over logs and the archive's disk, by outputs that never fail.
