@@ -85,9 +85,9 @@ fn stands<R: Threads + Wait + Sync>(
 /// How many of so many records a crash leaves that comes so many calls before the end: each takes four
 /// calls, as in an ingest.
 pub(crate) fn records_left(records: usize, before_end: usize, pending: Pending) -> usize {
-    let made = (4 * records).saturating_sub(before_end);
+    let made = records.saturating_mul(4).saturating_sub(before_end);
     match pending {
-        Pending::All | Pending::Ones => (made + 1) / 4,
+        Pending::All | Pending::Ones => made.saturating_add(1) / 4,
         Pending::Nothing | Pending::FirstHalf => made / 4,
     }
 }
