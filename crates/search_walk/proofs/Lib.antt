@@ -16,3 +16,4 @@ pub mod PageLemmas
 pub mod RunLemmas
 pub mod FrontLemmas
 pub mod SearchedLemmas
+pub mod LiteralLemmas
