@@ -16,4 +16,3 @@ pub mod PageLemmas
 pub mod RunLemmas
 pub mod FrontLemmas
 pub mod SearchedLemmas
-pub mod LiteralLemmas

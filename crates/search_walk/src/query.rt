@@ -1,6 +1,5 @@
 //! A search made ready.
-ghost use Rattle.std.specs.Prelude.{◌≡◌, IfOk, IfSome, IsTrue};
-ghost use Rattle.query_plan.specs.Needs.{around};
+ghost use Rattle.std.specs.Prelude.{◌≡◌, IfOk, IsTrue};
 ghost use Rattle.query_plan.specs.Pieces.{wide, wide_pieces};
 ghost use Rattle.wild_match.specs.Matches.{Match};
 ghost use Rattle.search_walk.specs.Judged.{Judges};
@@ -33,19 +32,10 @@ pub struct Query {
     whole: Matcher,
     /// Whether the two patterns are one.
     exact: bool,
-    /// The bytes of the pattern that the search is planned over, where it is these with any bytes on both
-    /// sides.
-    literal: Option<Vec<u8>>,
 }
-
-/// How many places at the front of a message a literal is looked for at, before the matcher is asked: a
-/// stamp has no more.
-const FRONT: usize = 28;
 
 impl Model for Query {
     ghost use Rattle.std.specs.Prelude.{◌≡◌, true};
-    ghost use Rattle.std.specs.Prelude.{IfSome};
-    ghost use Rattle.query_plan.specs.Needs.{around};
     ghost use Rattle.query_plan.specs.Pieces.{wide, wide_pieces};
     ghost use Rattle.search_walk.specs.Scan.{Asked};
 
@@ -55,8 +45,7 @@ impl Model for Query {
 
     ghost invariant = { λ q. (q.plan ≡ wide_pieces q.whole.items)
         × (q.planned.items ≡ wide q.whole.items)
-        × (q.exact ≡ true → wide q.whole.items ≡ q.whole.items)
-        × IfSome q.literal (λ bytes. wide q.whole.items ≡ around bytes.items) };
+        × (q.exact ≡ true → wide q.whole.items ≡ q.whole.items) };
 }
 
 /// Whether the items are the same.
@@ -74,52 +63,6 @@ fn are_same(items: &[Item], others: &[Item]) -> bool
     true
 }
 
-/// The bytes of items that have any bytes first and last, and nothing but bytes between.
-fn literal_of(alloc: Global, items: &[Item]) -> Result<Option<Vec<u8>>, AllocError>
-    ensures { IfOk result (λ found. IfSome found (λ bytes. items.now ≡ around bytes.items)) }
-{
-    let [Item::Many, inner @ .., Item::Many] = items else {
-        return Ok(None);
-    };
-    let mut bytes = Vec::new(alloc);
-    for item in inner {
-        let Item::Byte(byte) = *item else {
-            return Ok(None);
-        };
-        bytes.push(byte)?;
-    }
-    Ok(Some(bytes))
-}
-
-/// Whether a literal stands in a text from a place on.
-#[inline(always)]
-fn stands_at(text: &[u8], literal: &[u8], at: usize) -> bool
-    ensures { IsTrue result → Match (around literal.now) text.now }
-{
-    if text.len() < literal.len() || text.len() - literal.len() < at {
-        return false;
-    }
-    for place in 0..literal.len() {
-        if text[at + place] != literal[place] {
-            return false;
-        }
-    }
-    true
-}
-
-/// Whether a literal stands at one of the first places of a text. There it costs less to look for it byte
-/// by byte than by what is made ready for long texts.
-fn stands_in_front(text: &[u8], literal: &[u8]) -> bool
-    ensures { IsTrue result → Match (around literal.now) text.now }
-{
-    for at in 0..FRONT {
-        if stands_at(text, literal, at) {
-            return true;
-        }
-    }
-    false
-}
-
 impl Query {
     /// Makes a search ready.
     pub fn new(alloc: Global, pattern: &Pattern, range: &Range) -> Result<Query, AllocError>
@@ -130,14 +73,12 @@ impl Query {
         let planned = Matcher::new(alloc, plan.wide())?;
         let whole = Matcher::new(alloc, pattern)?;
         let exact = are_same(plan.wide().as_slice(), pattern.as_slice());
-        let literal = literal_of(alloc, plan.wide().as_slice())?;
         Ok(Query {
             plan,
             range: *range,
             planned,
             whole,
             exact,
-            literal,
         })
     }
 
@@ -155,16 +96,6 @@ impl Query {
         &self.range
     }
 
-    /// Whether the pattern that the search is planned over is seen to match at the front of a text.
-    fn is_in_front(&self, text: &[u8]) -> bool
-        ensures { IsTrue result → Match (wide self.now.pattern) text.now }
-    {
-        match &self.literal {
-            Some(literal) => stands_in_front(text, literal.as_slice()),
-            None => false,
-        }
-    }
-
     /// Whether a message is expanded, and whether it is found, where it is in the range.
     ///
     /// `certain` tells that the pattern that the search is planned over matches it.
@@ -174,7 +105,7 @@ impl Query {
     {
         // What the pattern matches, the one that the search is planned over matches too.
         wide_is_wider();
-        if !certain && !self.is_in_front(text) && !self.planned.matches(text) {
+        if !certain && !self.planned.matches(text) {
             return Judgement::Left;
         }
         if self.exact || self.whole.matches(text) {

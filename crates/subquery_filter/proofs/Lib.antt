@@ -6,11 +6,9 @@ mod VerdictLemmas
 mod TokenLemmas
 mod FilterLemmas
 mod NumberLemmas
-mod DecimalLemmas
 mod SlotLemmas
 mod StampLemmas
 mod MarkLemmas
-mod AroundLemmas
 mod ClosedLemmas
 mod BitLemmas
 pub mod HeadLemmas
