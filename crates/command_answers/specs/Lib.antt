@@ -13,5 +13,4 @@ pub mod Scanned
 pub mod Searching
 pub mod Shown
 pub mod Taken
-pub mod Upgrading
 pub mod Words

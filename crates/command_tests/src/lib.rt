@@ -19,5 +19,3 @@ mod merge_tests;
 mod outside;
 #[cfg(test)]
 mod search_tests;
-#[cfg(test)]
-mod upgrade_tests;

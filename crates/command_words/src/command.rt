@@ -29,8 +29,6 @@ pub enum Command<'a> {
     Count { asked: CountWords<'a> },
     /// `merge`
     Merge,
-    /// `upgrade`
-    Upgrade,
     /// `bench NUMBER LINES WORKERS`
     Bench { asked: BenchWords },
 }

@@ -17,5 +17,3 @@ mod outside;
 mod source_tests;
 #[cfg(test)]
 mod stop_tests;
-#[cfg(test)]
-mod upgrade_tests;

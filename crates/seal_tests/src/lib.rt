@@ -6,8 +6,6 @@ mod commit_tests;
 #[cfg(test)]
 mod found_tests;
 #[cfg(test)]
-mod looks_tests;
-#[cfg(test)]
 mod quiet;
 #[cfg(test)]
 mod worked;

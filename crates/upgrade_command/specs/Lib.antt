@@ -1,4 +1,0 @@
-pub mod Files
-pub mod Filling
-pub mod Old
-pub mod Taking
