@@ -34,7 +34,8 @@ install:
 	install -m 644 completions/clpa.bash $(SHARE)/bash-completion/completions/clpa
 	install -m 644 completions/_clpa $(DESTDIR)$(ZSH_COMPLETIONS)/_clpa
 	install -m 644 completions/clpa.fish $(DESTDIR)$(FISH_COMPLETIONS)/clpa.fish
-	install -m 755 examples/take-in examples/search-all examples/plot-minutes examples/merge-day $(SHARE)/clpa
+	install -m 755 examples/take-in examples/search-all examples/plot-minutes examples/merge-day \
+	    examples/upgrade-all $(SHARE)/clpa
 	install -m 644 README.md CHANGELOG.md VERSION $(SHARE)/doc/clpa
 	install -m 644 docs/*.md $(SHARE)/doc/clpa/docs
 	install -m 644 crates/clpa/data/service.log $(SHARE)/doc/clpa/examples

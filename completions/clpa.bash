@@ -5,7 +5,7 @@ _clpa() {
     COMPREPLY=()
     case $COMP_CWORD:$command in
         1:*) compopt -o default ;;
-        2:*) mapfile -t COMPREPLY < <(compgen -W 'bench check count create decode files ingest merge scan search show' -- "$word") ;;
+        2:*) mapfile -t COMPREPLY < <(compgen -W 'bench check count create decode files ingest merge scan search show upgrade' -- "$word") ;;
         3:show | 4:scan) compopt -o default ;;
         *:count)
             local words='--by= --from= --stats --to='

@@ -36,6 +36,7 @@ complete -c clpa -n __clpa_wants_command -a merge -d 'add the files of a second 
 complete -c clpa -n __clpa_wants_command -a scan -d 'print the messages of a log that match'
 complete -c clpa -n __clpa_wants_command -a search -d 'print the messages of an archive that match'
 complete -c clpa -n __clpa_wants_command -a show -d 'print a log with its variables marked'
+complete -c clpa -n __clpa_wants_command -a upgrade -d 'make an archive of the newest version of an older one'
 complete -c clpa -n __clpa_wants_log -F
 complete -c clpa -n '__clpa_in ingest' -F
 complete -c clpa -n '__clpa_in create' -l bytes -x -d 'how many bytes it may have'

@@ -8,11 +8,15 @@ mod archive_decode_tests;
 #[cfg(test)]
 mod archive_machine_tests;
 #[cfg(test)]
+mod archive_merge_tests;
+#[cfg(test)]
 mod archive_open_tests;
 #[cfg(test)]
 mod disk_seal_tests;
 #[cfg(test)]
 mod ingest_workers_fault_tests;
+#[cfg(test)]
+mod ingest_workers_opening_tests;
 #[cfg(test)]
 mod ingest_workers_tests;
 #[cfg(test)]
@@ -21,3 +25,5 @@ mod search_engine_tests;
 mod segment_pages_tests;
 #[cfg(test)]
 mod worked;
+#[cfg(test)]
+mod worn;

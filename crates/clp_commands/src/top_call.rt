@@ -22,6 +22,7 @@ use std::alloc::Global;
 use std::marker::Brand;
 use std::sync::Wait;
 use std::thread::Threads;
+use upgrade_command::upgrade_archive;
 use write_commands::{Base, NewLogs, bench, ingest_files};
 
 /// Does what the words ask for, and answers the status that the program ends with.
@@ -35,8 +36,10 @@ use write_commands::{Base, NewLogs, bench, ingest_files};
 /// by log type or by minute. A refusal has its line on `err`.
 ///
 /// `ingest` adds logs to the archive, and prints of each what `files` prints. `merge` adds the files of
-/// a second archive, and prints the same. `bench` makes an archive of generated logs, and prints a
-/// summary of it. `disk` is the archive's, and `second` that of the second one, which is only read.
+/// a second archive, which is only read, and prints the same. `upgrade` makes a second archive, of the
+/// newest version, of the files of the archive, which is only read, and prints the same. `bench` makes
+/// an archive of generated logs, and prints a summary of it. `disk` is the archive's, and `second` that
+/// of the second one.
 /// What is said of the bytes that `ingest` and `merge` leave holds for each archive `known` whose bytes
 /// the disk had at the start: whatever archive it had, and it is not asked for when the program runs.
 /// `rt` starts the threads of `ingest`.
@@ -139,6 +142,7 @@ where
         Command::Search { asked } => search_messages(rt, alloc, asked, disk, out, err),
         Command::Count { asked } => count_messages(alloc, asked, disk, out, err),
         Command::Merge => merge_archives::<R, D, D, K, B>(rt, alloc, disk, second, out, err),
+        Command::Upgrade => upgrade_archive(rt, alloc, disk, second, out, err),
         Command::Bench { asked } => bench(rt, alloc, *asked, disk, out, err),
     }
 }

@@ -5,7 +5,7 @@
 mod writing;
 
 use clp_commands::run;
-use host_files::{DiskFile, FilePath, LogFiles, Standard, Stream};
+use host_files::{DiskFile, FilePath, LogFiles, Place, Standard, Stream};
 use log_seams::{Disk, Shelf, Sink};
 use std::alloc::{AllocError, Global};
 use std::env;
@@ -13,7 +13,7 @@ use std::io::ErrorKind;
 use std::process::ExitCode;
 use std::sync::Wait;
 use std::thread::Threads;
-use writing::ask_to_write;
+use writing::{Writing, ask_to_write};
 
 /// What the words of the command line behind the program's name give.
 #[derive(Drop)]
@@ -24,8 +24,8 @@ struct CommandLine {
     second: String,
     /// The words of the command, which are all others.
     words: Vec<String>,
-    /// Whether the command may write the archive.
-    writes: bool,
+    /// Which archives the command may write.
+    writing: Writing,
 }
 
 /// Reads the words of the command line.
@@ -47,13 +47,23 @@ fn command_line(rt: &HostRuntime) -> Result<CommandLine, AllocError> {
         Err(_) => {}
     }
     let second = format!(in rt.alloc(); "{archive}.new")?;
-    let writes = ask_to_write(rt.alloc(), words.as_slice())?;
+    let writing = ask_to_write(rt.alloc(), words.as_slice())?;
     Ok(CommandLine {
         archive,
         second,
         words,
-        writes,
+        writing,
     })
+}
+
+/// The file of a place as a disk: one that may be written is opened and locked at once, and made at the
+/// first write where nothing stands there.
+fn disk_at<P: Place>(place: P, may_write: bool) -> DiskFile<P, P::File> {
+    if may_write {
+        DiskFile::to_write(place)
+    } else {
+        DiskFile::to_read(place)
+    }
 }
 
 /// What `run` answers where nothing is known of what the archive's file holds.
@@ -84,17 +94,13 @@ fn main(rt: HostRuntime) -> ExitCode {
         rt: &rt,
         path: line.archive.as_str(),
     };
-    let mut archive = if line.writes {
-        DiskFile::to_write(place)
-    } else {
-        DiskFile::to_read(place)
-    };
+    let mut archive = disk_at(place, line.writing.archive);
     let mut logs = LogFiles::new(&rt, archive.locked_id());
-    // no command writes it
-    let mut second = DiskFile::to_read(FilePath {
+    let second_place = FilePath {
         rt: &rt,
         path: line.second.as_str(),
-    });
+    };
+    let mut second = disk_at(second_place, line.writing.second);
     let status = answer(
         &rt,
         rt.alloc(),

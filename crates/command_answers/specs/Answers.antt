@@ -3,6 +3,7 @@ use Rattle.std.specs.Prelude.{◌≡◌, ◌≢◌, ℕ, List, Option, Some, Non
 use Rattle.command_refusals.specs.Outside.{Outside}
 use Rattle.command_refusals.specs.Ending.{EndsWith, NoneAdded, Stayed, RefusesPattern, TookNothing, RefusesAtOnce, RefusesPatternAtOnce, RoseIn, LacksMemoryAtOnce}
 use Rattle.command_refusals.specs.Outcome.{of_log, answer_of, of_create, of_add, of_file}
+use Rattle.command_refusals.specs.Refusal.{TellsNoMemory}
 use Rattle.command_refusals.specs.declared.outcome.LogRefusal.{LogRefusal}
 use Rattle.command_refusals.specs.declared.outcome.LogRefusal.TheVariants.{SinkFault}
 use Rattle.command_answers.specs.Printing.{Printed, HasCause}
@@ -11,6 +12,9 @@ use Rattle.wild_match.specs.declared.pattern.Item.{Item}
 use Rattle.command_answers.specs.Scanned.{Finds}
 use Rattle.log_seams.specs.Disk.{DiskState, KeepsBytes}
 use Rattle.record_format.specs.declared.header.Header.{Header}
+use Rattle.record_format.specs.declared.header.TheConstants.{LAST_VERSION}
+use Rattle.archive_meaning.specs.declared.entry.JournalEntry.{JournalEntry}
+use Rattle.archive_meaning.specs.Stands.{StandsFor}
 use Rattle.disk_journal.specs.Created.{CreateLeaves}
 use Rattle.disk_journal.specs.declared.refusals.CreateRefusal.{CreateRefusal}
 use Rattle.command_answers.specs.Known.{KnownArchive, over}
@@ -18,6 +22,8 @@ use Rattle.command_answers.specs.Names.{RefusesNames}
 use Rattle.command_refusals.specs.declared.outcome.AddRefusal.{AddRefusal}
 use Rattle.command_answers.specs.Ingested.{EndsIngest}
 use Rattle.command_answers.specs.Merging.{Merge, Merges, PrintsMerge}
+use Rattle.command_answers.specs.Upgrading.{EndsUpgrade, MetNone}
+use Rattle.archive_meaning.specs.declared.TheConstants.{MAX_ROWS}
 use Rattle.archive_open.specs.Shown.{RefusedAt}
 use Rattle.command_refusals.specs.Reading.{EndsReading, IsComplete, OverJournal}
 use Rattle.command_refusals.specs.declared.outcome.ReadRefusal.{ReadRefusal}
@@ -36,7 +42,7 @@ use Rattle.command_answers.specs.Grouping.{PrintsGroups, grouped_by}
 use Rattle.command_words.specs.declared.command.CountKey.{CountKey}
 use Rattle.search_walk.specs.Journal.{asked}
 use Rattle.command_answers.specs.Benched.{SumsUpAll, EndsBench, MetNoLimit}
-use Rattle.command_words.specs.Asked.{Asked as AskedFor, to_bench, to_check, to_count, to_create, to_decode, to_ingest, to_list, to_merge, to_scan, to_search, to_show, AreTaken, Asks, HaveGoodValues}
+use Rattle.command_words.specs.Asked.{Asked as AskedFor, to_bench, to_check, to_count, to_create, to_decode, to_ingest, to_list, to_merge, to_scan, to_search, to_show, to_upgrade, AreTaken, Asks, HaveGoodValues}
 use Rattle.command_answers.specs.Shown.{Shows}
 use Rattle.command_refusals.specs.declared.refusal.Refusal.TheVariants.{Usage}
 use Rattle.command_answers.specs.Words.{AskSomething, IsUsage}
@@ -147,6 +153,17 @@ pub record AnswersMerge (known : Option KnownArchive) (seen : Outside) (old new 
   pub merges : Merges merge first (over known old old) (over known old new) second second_new
   pub printed : PrintsMerge merge first seen status
 
+-- What `upgrade` answers, whose segments have so many rows at most. The archive is only read. One of an earlier version than the
+-- last is upgraded, or memory ended, where the second disk was empty, no call of the disks and no write to the output failed, and
+-- no limit was met.
+pub record AnswersUpgrade (rows : ℕ) (seen : Outside) (old new second second_new : DiskState) (status : ℕ) : Type 0 where
+  pub ends : EndsUpgrade rows seen old new second second_new status
+  pub keeps : KeepsBytes old new
+  pub complete : (bytes : List ℕ) (h : Header) (es : List JournalEntry) → old.seen ≡ Some bytes → StandsFor bytes h es
+      → h.version < LAST_VERSION → second.seen ≡ Some [] → ¬ Rose old.faults new.faults
+      → ¬ Rose second.faults second_new.faults → ¬ RoseIn seen.out_faults → MetNone ends
+      → (status ≡ 0) ⊎ TellsNoMemory status
+
 -- What `bench` answers. On an empty disk, where no call of the disk and no write to the output failed and no limit was met, all
 -- is summed up, or memory ended.
 pub record AnswersBench (number lines workers : ℕ) (seen : Outside) (old new : DiskState) (status : ℕ) : Type 0 where
@@ -170,6 +187,8 @@ AnswersAsked known (to_count by from to stats pattern) seen old new second secon
     AnswersCount by from to stats pattern seen old new status
 AnswersAsked known to_merge seen old new second second_new status =
     AnswersMerge known seen old new second second_new status
+AnswersAsked known to_upgrade seen old new second second_new status =
+    AnswersUpgrade MAX_ROWS seen old new second second_new status
 AnswersAsked known (to_bench number lines workers) seen old new second second_new status = AnswersBench number lines workers seen old new status
 
 -- What words answer that were read. Those that `clap` takes, and whose values are good, ask for something: so a usage error

@@ -13,4 +13,5 @@ pub mod Scanned
 pub mod Searching
 pub mod Shown
 pub mod Taken
+pub mod Upgrading
 pub mod Words

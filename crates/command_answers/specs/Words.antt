@@ -1,6 +1,6 @@
 -- What the words of the command line ask for, by what that does with the archive.
-use Rattle.std.specs.Prelude.{◌≡◌, ℕ, List}
-use Rattle.command_words.specs.Asked.{Asked, Asks, to_bench, to_check, to_count, to_create, to_decode, to_ingest, to_list, to_merge, to_scan, to_search, to_show}
+use Rattle.std.specs.Prelude.{ℕ, List}
+use Rattle.command_words.specs.Asked.{Asked, Asks, to_bench, to_check, to_count, to_create, to_decode, to_ingest, to_list, to_merge, to_scan, to_search, to_show, to_upgrade}
 
 -- the words ask for nothing
 abbrev pub IsUsage : List (List ℕ) → Type 0
@@ -22,6 +22,7 @@ UsesArchive (to_decode number) = Unit {0}
 UsesArchive (to_search from to stats workers pattern) = Unit {0}
 UsesArchive (to_count by from to stats pattern) = Unit {0}
 UsesArchive to_merge = Unit {0}
+UsesArchive to_upgrade = Unit {0}
 UsesArchive (to_bench number lines workers) = Unit {0}
 
 -- what is asked for may write to the archive
@@ -36,15 +37,27 @@ MayWrite (to_decode number) = ⊥
 MayWrite (to_search from to stats workers pattern) = ⊥
 MayWrite (to_count by from to stats pattern) = ⊥
 MayWrite to_merge = Unit {0}
+MayWrite to_upgrade = ⊥
 MayWrite (to_bench number lines workers) = Unit {0}
 
--- what is asked for reads the second archive
+-- what is asked for works on the second archive
 abbrev pub UsesSecond : Asked → Type 0
-UsesSecond a = a ≡ to_merge
+UsesSecond to_merge = Unit {0}
+UsesSecond to_upgrade = Unit {0}
+UsesSecond _ = ⊥
 
--- the words ask for nothing that reads the second archive
+-- what is asked for may write to the second archive
+abbrev pub MayWriteSecond : Asked → Type 0
+MayWriteSecond to_upgrade = Unit {0}
+MayWriteSecond _ = ⊥
+
+-- the words ask for nothing that works on the second archive
 abbrev pub AskNoSecond : List (List ℕ) → Type 0
 AskNoSecond words = (a : Asked) → Asks words a → ¬ UsesSecond a
+
+-- the words ask for nothing that may write to the second archive
+abbrev pub AskNoWritingSecond : List (List ℕ) → Type 0
+AskNoWritingSecond words = (a : Asked) → Asks words a → ¬ MayWriteSecond a
 
 -- the words ask for nothing that works on the archive
 abbrev pub AskNoArchive : List (List ℕ) → Type 0

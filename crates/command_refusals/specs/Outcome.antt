@@ -29,12 +29,14 @@ use Rattle.command_refusals.specs.declared.outcome.FileRefusal.{FileRefusal}
 use Rattle.command_refusals.specs.declared.outcome.MergeRefusal.{MergeRefusal}
 use Rattle.command_refusals.specs.declared.outcome.PartCause.{PartCause}
 use Rattle.command_refusals.specs.declared.outcome.ReadRefusal.{ReadRefusal}
+use Rattle.command_refusals.specs.declared.outcome.UpgradeRefusal.{UpgradeRefusal}
 use Rattle.command_refusals.specs.Refusal.{ending_of, file_ending_of}
 use Rattle.command_refusals.specs.declared.refusal.Refusal.{Refusal}
 use Rattle.command_refusals.specs.declared.refusal.Refusal.TheVariants.{Usage, BadPattern, OpenFault, ReadFault}
 use Rattle.command_refusals.specs.declared.refusal.Refusal.TheVariants.{LineTooLong, TooManyLines, DiskFault, Damaged}
 use Rattle.command_refusals.specs.declared.refusal.Refusal.TheVariants.{SinkFault, NotEmpty, NoSuchFile, OutOfMemory}
-use Rattle.command_refusals.specs.declared.refusal.Refusal.TheVariants.{NameTooLong, TooManyFiles, Full, ArchiveFull, SecondDamaged, VersionDiffers}
+use Rattle.command_refusals.specs.declared.refusal.Refusal.TheVariants.{NameTooLong, TooManyFiles, Full, ArchiveFull}
+use Rattle.command_refusals.specs.declared.refusal.Refusal.TheVariants.{SecondDamaged, VersionDiffers, AlreadyNewest}
 
 -- the answer of a call that may refuse, where no refusal is `None`
 abbrev pub answer_of : {E : Type 0} → Result Unit E → Option E
@@ -195,3 +197,28 @@ merge_status refusal = (merge_ending [] refusal).0
 
 abbrev pub merge_line : List ℕ → MergeRefusal → List ℕ
 merge_line name refusal = (merge_ending name refusal).1
+
+-- why an archive was not upgraded where opening it was refused, the making of the new one, and the naming of its files
+abbrev pub upgrade_from_archive : ArchiveRefusal → UpgradeRefusal
+upgrade_from_archive ArchiveRefusal.DiskFault = UpgradeRefusal.DiskFault
+upgrade_from_archive (ArchiveRefusal.Damaged at) = UpgradeRefusal.Damaged at
+upgrade_from_archive ArchiveRefusal.OutOfMemory = UpgradeRefusal.OutOfMemory
+
+abbrev pub upgrade_from_create : CreateRefusal → UpgradeRefusal
+upgrade_from_create CreateDiskFault = UpgradeRefusal.SecondFault
+upgrade_from_create (CreateNotEmpty len) = UpgradeRefusal.NotEmpty len
+
+abbrev pub upgrade_from_register : RegisterRefusal → UpgradeRefusal
+upgrade_from_register RegisterRefusal.OutOfMemory = UpgradeRefusal.OutOfMemory
+upgrade_from_register (RegisterRefusal.ArchiveFull end need) = UpgradeRefusal.ArchiveFull end need
+upgrade_from_register RegisterRefusal.DiskFault = UpgradeRefusal.SecondFault
+
+-- of the command that makes a new archive of an older one
+abbrev pub of_upgrade : UpgradeRefusal → Refusal
+of_upgrade UpgradeRefusal.DiskFault = DiskFault
+of_upgrade (UpgradeRefusal.Damaged at) = Damaged at
+of_upgrade (UpgradeRefusal.AlreadyNewest version) = AlreadyNewest version
+of_upgrade UpgradeRefusal.SecondFault = DiskFault
+of_upgrade (UpgradeRefusal.NotEmpty len) = NotEmpty len
+of_upgrade (UpgradeRefusal.ArchiveFull end need) = ArchiveFull end need
+of_upgrade UpgradeRefusal.OutOfMemory = OutOfMemory

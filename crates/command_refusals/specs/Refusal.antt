@@ -7,7 +7,8 @@ use Rattle.command_refusals.specs.declared.refusal.Refusal.{Refusal}
 use Rattle.command_refusals.specs.declared.refusal.Refusal.TheVariants.{Usage, BadPattern, OpenFault, ReadFault}
 use Rattle.command_refusals.specs.declared.refusal.Refusal.TheVariants.{LineTooLong, TooManyLines, DiskFault, Damaged}
 use Rattle.command_refusals.specs.declared.refusal.Refusal.TheVariants.{SinkFault, NotEmpty, NoSuchFile, OutOfMemory}
-use Rattle.command_refusals.specs.declared.refusal.Refusal.TheVariants.{NameTooLong, TooManyFiles, Full, ArchiveFull, SecondDamaged, VersionDiffers}
+use Rattle.command_refusals.specs.declared.refusal.Refusal.TheVariants.{NameTooLong, TooManyFiles, Full, ArchiveFull}
+use Rattle.command_refusals.specs.declared.refusal.Refusal.TheVariants.{SecondDamaged, VersionDiffers, AlreadyNewest}
 use Rattle.row_codec.specs.declared.namer.Which.{Which}
 use Rattle.row_codec.specs.declared.namer.Which.TheVariants.{Types, Words}
 
@@ -53,6 +54,8 @@ ending_of name (VersionDiffers first second) = (
   8,
   codes "clpa: second archive: version " ++ (decimal second ++ (codes ", the archive has " ++ line (decimal first))),
 )
+ending_of name (AlreadyNewest version) =
+    (8, codes "clpa: archive: version " ++ (decimal version ++ line (codes " is the newest")))
 
 -- The same of a refusal that came of a file: the disk, the memory and the archive's limit of length are then told with the
 -- file's name.

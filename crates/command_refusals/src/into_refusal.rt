@@ -1,9 +1,9 @@
 //! The printed refusal for each refusal of a command and of what it calls. Here alone one becomes the
 //! other.
 ghost use Rattle.std.specs.Prelude.{◌≡◌, option_map};
-ghost use Rattle.command_refusals.specs.Outcome.{answer_of, of_add, of_create, of_file, from_print, of_log, of_part, of_pattern, of_read, of_words};
+ghost use Rattle.command_refusals.specs.Outcome.{answer_of, of_add, of_create, of_file, from_print, of_log, of_part, of_pattern, of_read, of_upgrade, of_words};
 
-use crate::outcome::{AddRefusal, FileRefusal, LogRefusal, PartCause, ReadRefusal};
+use crate::outcome::{AddRefusal, FileRefusal, LogRefusal, PartCause, ReadRefusal, UpgradeRefusal};
 use crate::refusal::Refusal;
 use command_words::WordsRefusal;
 use disk_journal::CreateRefusal;
@@ -122,5 +122,19 @@ pub fn refusal_of_part(cause: PartCause) -> Refusal
         PartCause::ArchiveFull { end, need } => Refusal::ArchiveFull { end, need },
         PartCause::DiskFault => Refusal::DiskFault,
         PartCause::OutOfMemory => Refusal::OutOfMemory,
+    }
+}
+
+/// The refusal of an upgrade.
+pub fn refusal_of_upgrade(refusal: UpgradeRefusal) -> Refusal
+    ensures { result ≡ of_upgrade refusal }
+{
+    match refusal {
+        UpgradeRefusal::DiskFault | UpgradeRefusal::SecondFault => Refusal::DiskFault,
+        UpgradeRefusal::Damaged { at } => Refusal::Damaged { at },
+        UpgradeRefusal::AlreadyNewest { version } => Refusal::AlreadyNewest { version },
+        UpgradeRefusal::NotEmpty { len } => Refusal::NotEmpty { len },
+        UpgradeRefusal::ArchiveFull { end, need } => Refusal::ArchiveFull { end, need },
+        UpgradeRefusal::OutOfMemory => Refusal::OutOfMemory,
     }
 }

@@ -3,12 +3,13 @@ ghost use Rattle.std.specs.Prelude.{◌≡◌};
 ghost use Rattle.command_refusals.specs.declared.outcome.AddRefusal.TheVariants.{OutOfMemory as AddOutOfMemory};
 ghost use Rattle.command_refusals.specs.declared.outcome.MergeRefusal.TheVariants.{OutOfMemory as MergeOutOfMemory};
 ghost use Rattle.command_refusals.specs.declared.outcome.ReadRefusal.TheVariants.{OutOfMemory, SinkFault};
-ghost use Rattle.command_refusals.specs.Outcome.{add_from_archive, add_from_check, add_from_register, add_from_start, file_from_archive, from_archive, from_check, from_decode, from_print, from_search, merge_from_archive, merge_from_register, merge_from_second, merge_from_start};
+ghost use Rattle.command_refusals.specs.declared.outcome.UpgradeRefusal.TheVariants.{OutOfMemory as UpgradeOutOfMemory};
+ghost use Rattle.command_refusals.specs.Outcome.{add_from_archive, add_from_check, add_from_register, add_from_start, file_from_archive, from_archive, from_check, from_decode, from_print, from_search, merge_from_archive, merge_from_register, merge_from_second, merge_from_start, upgrade_from_archive, upgrade_from_create, upgrade_from_register};
 
 use archive_check::CheckRefusal;
 use archive_decode::DecodeRefusal;
 use archive_open::ArchiveRefusal;
-use disk_journal::StartRefusal;
+use disk_journal::{CreateRefusal, StartRefusal};
 use disk_seal::RegisterRefusal;
 use log_seams::Failed;
 use row_codec::Which;
@@ -315,5 +316,69 @@ pub fn of_second(refusal: ArchiveRefusal) -> MergeRefusal
         ArchiveRefusal::DiskFault => MergeRefusal::DiskFault,
         ArchiveRefusal::Damaged { at } => MergeRefusal::SecondDamaged { at },
         ArchiveRefusal::OutOfMemory => MergeRefusal::OutOfMemory,
+    }
+}
+
+/// Why an archive was not upgraded, or not all of it.
+#[derive(Clone, Copy, Debug, PartialEq, Eq)]
+pub enum UpgradeRefusal {
+    /// A call on the archive's disk failed.
+    DiskFault,
+    /// The disk's bytes are no archive, by what stands at this place.
+    Damaged { at: u64 },
+    /// The archive is of the newest version already.
+    AlreadyNewest { version: u32 },
+    /// A call on the second disk failed.
+    SecondFault,
+    /// The second disk has `len` bytes.
+    NotEmpty { len: u64 },
+    /// Names do not fit the limit of length: the new archive ends at `end`, and they need `need` bytes.
+    ArchiveFull { end: u64, need: u64 },
+    /// There was no memory.
+    OutOfMemory,
+}
+
+impl From<AllocError> for UpgradeRefusal {
+    ghost from_gives = { λ _ e. e ≡ UpgradeOutOfMemory };
+
+    fn from(_: AllocError) -> Self {
+        UpgradeRefusal::OutOfMemory
+    }
+}
+
+// of the archive that is upgraded
+impl From<ArchiveRefusal> for UpgradeRefusal {
+    ghost from_gives = { λ r e. e ≡ upgrade_from_archive r };
+
+    fn from(refusal: ArchiveRefusal) -> Self {
+        match refusal {
+            ArchiveRefusal::DiskFault => UpgradeRefusal::DiskFault,
+            ArchiveRefusal::Damaged { at } => UpgradeRefusal::Damaged { at },
+            ArchiveRefusal::OutOfMemory => UpgradeRefusal::OutOfMemory,
+        }
+    }
+}
+
+// of the new archive, as is the next one
+impl From<CreateRefusal> for UpgradeRefusal {
+    ghost from_gives = { λ r e. e ≡ upgrade_from_create r };
+
+    fn from(refusal: CreateRefusal) -> Self {
+        match refusal {
+            CreateRefusal::DiskFault => UpgradeRefusal::SecondFault,
+            CreateRefusal::NotEmpty { len } => UpgradeRefusal::NotEmpty { len },
+        }
+    }
+}
+
+impl From<RegisterRefusal> for UpgradeRefusal {
+    ghost from_gives = { λ r e. e ≡ upgrade_from_register r };
+
+    fn from(refusal: RegisterRefusal) -> Self {
+        match refusal {
+            RegisterRefusal::OutOfMemory => UpgradeRefusal::OutOfMemory,
+            RegisterRefusal::ArchiveFull { end, need } => UpgradeRefusal::ArchiveFull { end, need },
+            RegisterRefusal::DiskFault => UpgradeRefusal::SecondFault,
+        }
     }
 }

@@ -50,6 +50,8 @@ pub enum Refusal {
     SecondDamaged { at: u64 },
     /// The second archive is of another version than the archive, which has `first`.
     VersionDiffers { first: u32, second: u32 },
+    /// The archive is of the newest version already.
+    AlreadyNewest { version: u32 },
 }
 
 /// Writes the pieces one after the other, until one fails, and tells whether all went out. Takes no
@@ -167,6 +169,21 @@ fn say_versions<K: Sink>(err: &mut K, first: u32, second: u32)
     );
 }
 
+/// Writes that an archive of this version is of the newest. Takes no memory.
+fn say_newest<K: Sink>(err: &mut K, version: u32)
+    ensures said { Says
+        (K.written err.old) (K.written err.new) (K.faults err.old) (K.faults err.new)
+        (line_of [] (Refusal.AlreadyNewest version)) }
+    ensures later { K.faults err.old ≤ K.faults err.new }
+{
+    say_number(
+        err,
+        &[b"clpa: archive: version "],
+        u64::from(version),
+        b" is the newest\n",
+    );
+}
+
 /// Writes which dictionary is full. Takes no memory.
 fn say_full<K: Sink>(err: &mut K, name: &[u8], book: Which, count: u32)
     ensures said { Says
@@ -253,6 +270,7 @@ fn say_line<K: Sink>(err: &mut K, name: &[u8], refusal: Refusal)
             say_number(err, &[b"clpa: second archive: damaged at "], at, b"\n");
         }
         Refusal::VersionDiffers { first, second } => say_versions(err, first, second),
+        Refusal::AlreadyNewest { version } => say_newest(err, version),
     }
 }
 
@@ -276,7 +294,8 @@ fn status_code(refusal: Refusal) -> u8
         | Refusal::NameTooLong { .. }
         | Refusal::TooManyFiles { .. }
         | Refusal::ArchiveFull { .. }
-        | Refusal::VersionDiffers { .. } => 8,
+        | Refusal::VersionDiffers { .. }
+        | Refusal::AlreadyNewest { .. } => 8,
         Refusal::OutOfMemory => 9,
     }
 }

@@ -19,3 +19,5 @@ mod merge_tests;
 mod outside;
 #[cfg(test)]
 mod search_tests;
+#[cfg(test)]
+mod upgrade_tests;

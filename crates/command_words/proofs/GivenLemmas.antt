@@ -14,7 +14,7 @@ use Rattle.clap.specs.Faults.{check_fault, defaults_fault, entered_fault, fault_
 use Rattle.command_words.specs.Forms as forms
 use Rattle.command_words.specs.Forms.{clpa}
 use Rattle.command_words.specs.Values.{IsGood, IsGoodKey, IsGoodMoment, IsKeyIn, IsMomentIn, IsNumberIn, IsNumberOr, IsWithin}
-use Rattle.command_words.specs.Asked.{AreGood, Asked, Asks, Gives, HaveGoodValues, IsFound, IsInRange, name_of, to_bench, to_check, to_count, to_create, to_decode, to_ingest, to_list, to_merge, to_scan, to_search, to_show}
+use Rattle.command_words.specs.Asked.{AreGood, Asked, Asks, Gives, HaveGoodValues, IsFound, IsInRange, name_of, to_bench, to_check, to_count, to_create, to_decode, to_ingest, to_list, to_merge, to_scan, to_search, to_show, to_upgrade}
 use Rattle.command_words.specs.declared.command.CountKey.{CountKey}
 use Rattle.command_words.proofs.RowLemmas.{AllFull, Full, first_none, level_full, second_none}
 
@@ -232,6 +232,9 @@ good_count words e good =
 good_merge : IsGoodShape (ready forms.merge)
 good_merge words e good = record { asked = to_merge; named = refl; gives = tt }
 
+good_upgrade : IsGoodShape (ready forms.upgrade)
+good_upgrade words e good = record { asked = to_upgrade; named = refl; gives = tt }
+
 good_bench : IsGoodShape (ready forms.bench)
 good_bench words e good =
     let rows = rows_after (ready forms.bench).rules [] words in
@@ -275,11 +278,14 @@ checked_count = record { good = good_count; full = λ words e. (level_full (read
 checked_merge : Checked (ready forms.merge)
 checked_merge = record { good = good_merge; full = λ words e. (level_full (ready forms.merge) words refl (λ x. refl) e).0 }
 
+checked_upgrade : Checked (ready forms.upgrade)
+checked_upgrade = record { good = good_upgrade; full = λ words e. (level_full (ready forms.upgrade) words refl (λ x. refl) e).0 }
+
 checked_bench : Checked (ready forms.bench)
 checked_bench = record { good = good_bench; full = λ words e. (level_full (ready forms.bench) words refl (λ x. refl) e).0 }
 
 all_good : AllGood (built clpa).subs
-all_good = record { first = checked_show; second = record { first = checked_scan; second = record { first = checked_create; second = record { first = checked_ingest; second = record { first = checked_files; second = record { first = checked_check; second = record { first = checked_decode; second = record { first = checked_search; second = record { first = checked_count; second = record { first = checked_merge; second = record { first = checked_bench; second = tt } } } } } } } } } } }
+all_good = record { first = checked_show; second = record { first = checked_scan; second = record { first = checked_create; second = record { first = checked_ingest; second = record { first = checked_files; second = record { first = checked_check; second = record { first = checked_decode; second = record { first = checked_search; second = record { first = checked_count; second = record { first = checked_merge; second = record { first = checked_upgrade; second = record { first = checked_bench; second = tt } } } } } } } } } } } }
 
 found_good : (p : Shape → Bool) (subs : List Shape) → AllGood subs → IfGood (find p subs)
 found_good p [] all = tt
@@ -410,6 +416,7 @@ asked_in_range words (to_search from to stats workers pattern) asks =
     within 1 1 64 (first_of (codes "workers") asks.rows) workers (record { low = omega arith; high = omega arith }) asks.given.workers_are
 asked_in_range words (to_count by from to stats pattern) asks = tt
 asked_in_range words to_merge asks = tt
+asked_in_range words to_upgrade asks = tt
 asked_in_range words (to_bench number lines workers) asks = record {
   number_is = within_in 0 4294967295 (first_of (codes "number") asks.rows) number asks.given.number_is;
   lines_are = within_in 1 1000000 (first_of (codes "lines") asks.rows) lines asks.given.lines_are;

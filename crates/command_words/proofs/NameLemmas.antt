@@ -6,7 +6,7 @@ use Rattle.clap.specs.Walk.{Row, Text}
 use Rattle.record_format.specs.declared.header.Header.{Header}
 use Rattle.command_words.specs.declared.command.Command.{Command}
 use Rattle.command_words.specs.declared.command.CountKey.{CountKey}
-use Rattle.command_words.specs.Asked.{Asked, Gives, IsFor, IsReading, asked_by, name_of, to_bench, to_check, to_count, to_create, to_decode, to_ingest, to_list, to_merge, to_scan, to_search, to_show}
+use Rattle.command_words.specs.Asked.{Asked, Gives, IsFor, IsReading, asked_by, name_of, to_bench, to_check, to_count, to_create, to_decode, to_ingest, to_list, to_merge, to_scan, to_search, to_show, to_upgrade}
 
 -- what is asked under the name `show`
 pub only_show : (P : Asked → Type 0) → ((file : Text) → P (to_show file)) → (asked : Asked) → name_of asked ≡ codes "show" → P asked
@@ -20,6 +20,7 @@ only_show P p (to_decode number) e = absurd (other_text (codes "decode") (codes 
 only_show P p (to_search from to stats workers pattern) e = absurd (other_text (codes "search") (codes "show") refl e)
 only_show P p (to_count by from to stats pattern) e = absurd (other_text (codes "count") (codes "show") refl e)
 only_show P p to_merge e = absurd (other_text (codes "merge") (codes "show") refl e)
+only_show P p to_upgrade e = absurd (other_text (codes "upgrade") (codes "show") refl e)
 only_show P p (to_bench number lines workers) e = absurd (other_text (codes "bench") (codes "show") refl e)
 
 pub reads_show : (rows : List Row) (read : Option Command) → IfSome read (λ command. IsFor (codes "show") rows (asked_by command))
@@ -40,6 +41,7 @@ only_scan P p (to_decode number) e = absurd (other_text (codes "decode") (codes 
 only_scan P p (to_search from to stats workers pattern) e = absurd (other_text (codes "search") (codes "scan") refl e)
 only_scan P p (to_count by from to stats pattern) e = absurd (other_text (codes "count") (codes "scan") refl e)
 only_scan P p to_merge e = absurd (other_text (codes "merge") (codes "scan") refl e)
+only_scan P p to_upgrade e = absurd (other_text (codes "upgrade") (codes "scan") refl e)
 only_scan P p (to_bench number lines workers) e = absurd (other_text (codes "bench") (codes "scan") refl e)
 
 pub reads_scan : (rows : List Row) (read : Option Command) → IfSome read (λ command. IsFor (codes "scan") rows (asked_by command))
@@ -60,6 +62,7 @@ only_create P p (to_decode number) e = absurd (other_text (codes "decode") (code
 only_create P p (to_search from to stats workers pattern) e = absurd (other_text (codes "search") (codes "create") refl e)
 only_create P p (to_count by from to stats pattern) e = absurd (other_text (codes "count") (codes "create") refl e)
 only_create P p to_merge e = absurd (other_text (codes "merge") (codes "create") refl e)
+only_create P p to_upgrade e = absurd (other_text (codes "upgrade") (codes "create") refl e)
 only_create P p (to_bench number lines workers) e = absurd (other_text (codes "bench") (codes "create") refl e)
 
 pub reads_create : (rows : List Row) (read : Option Command) → IfSome read (λ command. IsFor (codes "create") rows (asked_by command))
@@ -80,6 +83,7 @@ only_ingest P p (to_decode number) e = absurd (other_text (codes "decode") (code
 only_ingest P p (to_search from to stats workers pattern) e = absurd (other_text (codes "search") (codes "ingest") refl e)
 only_ingest P p (to_count by from to stats pattern) e = absurd (other_text (codes "count") (codes "ingest") refl e)
 only_ingest P p to_merge e = absurd (other_text (codes "merge") (codes "ingest") refl e)
+only_ingest P p to_upgrade e = absurd (other_text (codes "upgrade") (codes "ingest") refl e)
 only_ingest P p (to_bench number lines workers) e = absurd (other_text (codes "bench") (codes "ingest") refl e)
 
 pub reads_ingest : (rows : List Row) (read : Option Command) → IfSome read (λ command. IsFor (codes "ingest") rows (asked_by command))
@@ -100,6 +104,7 @@ only_files P p (to_decode number) e = absurd (other_text (codes "decode") (codes
 only_files P p (to_search from to stats workers pattern) e = absurd (other_text (codes "search") (codes "files") refl e)
 only_files P p (to_count by from to stats pattern) e = absurd (other_text (codes "count") (codes "files") refl e)
 only_files P p to_merge e = absurd (other_text (codes "merge") (codes "files") refl e)
+only_files P p to_upgrade e = absurd (other_text (codes "upgrade") (codes "files") refl e)
 only_files P p (to_bench number lines workers) e = absurd (other_text (codes "bench") (codes "files") refl e)
 
 pub reads_files : (rows : List Row) (read : Option Command) → IfSome read (λ command. IsFor (codes "files") rows (asked_by command))
@@ -120,6 +125,7 @@ only_check P p (to_decode number) e = absurd (other_text (codes "decode") (codes
 only_check P p (to_search from to stats workers pattern) e = absurd (other_text (codes "search") (codes "check") refl e)
 only_check P p (to_count by from to stats pattern) e = absurd (other_text (codes "count") (codes "check") refl e)
 only_check P p to_merge e = absurd (other_text (codes "merge") (codes "check") refl e)
+only_check P p to_upgrade e = absurd (other_text (codes "upgrade") (codes "check") refl e)
 only_check P p (to_bench number lines workers) e = absurd (other_text (codes "bench") (codes "check") refl e)
 
 pub reads_check : (rows : List Row) (read : Option Command) → IfSome read (λ command. IsFor (codes "check") rows (asked_by command))
@@ -140,6 +146,7 @@ only_decode P p (to_decode number) e = p number
 only_decode P p (to_search from to stats workers pattern) e = absurd (other_text (codes "search") (codes "decode") refl e)
 only_decode P p (to_count by from to stats pattern) e = absurd (other_text (codes "count") (codes "decode") refl e)
 only_decode P p to_merge e = absurd (other_text (codes "merge") (codes "decode") refl e)
+only_decode P p to_upgrade e = absurd (other_text (codes "upgrade") (codes "decode") refl e)
 only_decode P p (to_bench number lines workers) e = absurd (other_text (codes "bench") (codes "decode") refl e)
 
 pub reads_decode : (rows : List Row) (read : Option Command) → IfSome read (λ command. IsFor (codes "decode") rows (asked_by command))
@@ -160,6 +167,7 @@ only_search P p (to_decode number) e = absurd (other_text (codes "decode") (code
 only_search P p (to_search from to stats workers pattern) e = p from to stats workers pattern
 only_search P p (to_count by from to stats pattern) e = absurd (other_text (codes "count") (codes "search") refl e)
 only_search P p to_merge e = absurd (other_text (codes "merge") (codes "search") refl e)
+only_search P p to_upgrade e = absurd (other_text (codes "upgrade") (codes "search") refl e)
 only_search P p (to_bench number lines workers) e = absurd (other_text (codes "bench") (codes "search") refl e)
 
 pub reads_search : (rows : List Row) (read : Option Command) → IfSome read (λ command. IsFor (codes "search") rows (asked_by command))
@@ -180,6 +188,7 @@ only_count P p (to_decode number) e = absurd (other_text (codes "decode") (codes
 only_count P p (to_search from to stats workers pattern) e = absurd (other_text (codes "search") (codes "count") refl e)
 only_count P p (to_count by from to stats pattern) e = p by from to stats pattern
 only_count P p to_merge e = absurd (other_text (codes "merge") (codes "count") refl e)
+only_count P p to_upgrade e = absurd (other_text (codes "upgrade") (codes "count") refl e)
 only_count P p (to_bench number lines workers) e = absurd (other_text (codes "bench") (codes "count") refl e)
 
 pub reads_count : (rows : List Row) (read : Option Command) → IfSome read (λ command. IsFor (codes "count") rows (asked_by command))
@@ -200,6 +209,7 @@ only_merge P p (to_decode number) e = absurd (other_text (codes "decode") (codes
 only_merge P p (to_search from to stats workers pattern) e = absurd (other_text (codes "search") (codes "merge") refl e)
 only_merge P p (to_count by from to stats pattern) e = absurd (other_text (codes "count") (codes "merge") refl e)
 only_merge P p to_merge e = p
+only_merge P p to_upgrade e = absurd (other_text (codes "upgrade") (codes "merge") refl e)
 only_merge P p (to_bench number lines workers) e = absurd (other_text (codes "bench") (codes "merge") refl e)
 
 pub reads_merge : (rows : List Row) (read : Option Command) → IfSome read (λ command. IsFor (codes "merge") rows (asked_by command))
@@ -207,6 +217,27 @@ pub reads_merge : (rows : List Row) (read : Option Command) → IfSome read (λ 
     → IsReading (codes "merge") rows read
 reads_merge rows read some all =
     record { some = some; all = λ asked is. only_merge (λ a. Gives rows a → IsSomeAnd read (λ command. asked_by command ≡ a)) all asked is.0 is.1 }
+
+-- what is asked under the name `upgrade`
+pub only_upgrade : (P : Asked → Type 0) → (P to_upgrade) → (asked : Asked) → name_of asked ≡ codes "upgrade" → P asked
+only_upgrade P p (to_show file) e = absurd (other_text (codes "show") (codes "upgrade") refl e)
+only_upgrade P p (to_scan pattern file) e = absurd (other_text (codes "scan") (codes "upgrade") refl e)
+only_upgrade P p (to_create header) e = absurd (other_text (codes "create") (codes "upgrade") refl e)
+only_upgrade P p (to_ingest workers segment files) e = absurd (other_text (codes "ingest") (codes "upgrade") refl e)
+only_upgrade P p to_list e = absurd (other_text (codes "files") (codes "upgrade") refl e)
+only_upgrade P p to_check e = absurd (other_text (codes "check") (codes "upgrade") refl e)
+only_upgrade P p (to_decode number) e = absurd (other_text (codes "decode") (codes "upgrade") refl e)
+only_upgrade P p (to_search from to stats workers pattern) e = absurd (other_text (codes "search") (codes "upgrade") refl e)
+only_upgrade P p (to_count by from to stats pattern) e = absurd (other_text (codes "count") (codes "upgrade") refl e)
+only_upgrade P p to_merge e = absurd (other_text (codes "merge") (codes "upgrade") refl e)
+only_upgrade P p to_upgrade e = p
+only_upgrade P p (to_bench number lines workers) e = absurd (other_text (codes "bench") (codes "upgrade") refl e)
+
+pub reads_upgrade : (rows : List Row) (read : Option Command) → IfSome read (λ command. IsFor (codes "upgrade") rows (asked_by command))
+    → (Gives rows to_upgrade → IsSomeAnd read (λ command. asked_by command ≡ to_upgrade))
+    → IsReading (codes "upgrade") rows read
+reads_upgrade rows read some all =
+    record { some = some; all = λ asked is. only_upgrade (λ a. Gives rows a → IsSomeAnd read (λ command. asked_by command ≡ a)) all asked is.0 is.1 }
 
 -- what is asked under the name `bench`
 pub only_bench : (P : Asked → Type 0) → ((number lines workers : ℕ) → P (to_bench number lines workers)) → (asked : Asked) → name_of asked ≡ codes "bench" → P asked
@@ -220,6 +251,7 @@ only_bench P p (to_decode number) e = absurd (other_text (codes "decode") (codes
 only_bench P p (to_search from to stats workers pattern) e = absurd (other_text (codes "search") (codes "bench") refl e)
 only_bench P p (to_count by from to stats pattern) e = absurd (other_text (codes "count") (codes "bench") refl e)
 only_bench P p to_merge e = absurd (other_text (codes "merge") (codes "bench") refl e)
+only_bench P p to_upgrade e = absurd (other_text (codes "upgrade") (codes "bench") refl e)
 only_bench P p (to_bench number lines workers) e = p number lines workers
 
 pub reads_bench : (rows : List Row) (read : Option Command) → IfSome read (λ command. IsFor (codes "bench") rows (asked_by command))
@@ -229,15 +261,16 @@ reads_bench rows read some all =
     record { some = some; all = λ asked is. only_bench (λ a. Gives rows a → IsSomeAnd read (λ command. asked_by command ≡ a)) all asked is.0 is.1 }
 
 -- a name that is none of them
-pub no_name : (name : Text) → (name ≡ codes "show" → ⊥) → (name ≡ codes "scan" → ⊥) → (name ≡ codes "create" → ⊥) → (name ≡ codes "ingest" → ⊥) → (name ≡ codes "files" → ⊥) → (name ≡ codes "check" → ⊥) → (name ≡ codes "decode" → ⊥) → (name ≡ codes "search" → ⊥) → (name ≡ codes "count" → ⊥) → (name ≡ codes "merge" → ⊥) → (name ≡ codes "bench" → ⊥) → (asked : Asked) → name_of asked ≡ name → ⊥
-no_name name n0 n1 n2 n3 n4 n5 n6 n7 n8 n9 n10 (to_show file) e = n0 (sym e)
-no_name name n0 n1 n2 n3 n4 n5 n6 n7 n8 n9 n10 (to_scan pattern file) e = n1 (sym e)
-no_name name n0 n1 n2 n3 n4 n5 n6 n7 n8 n9 n10 (to_create header) e = n2 (sym e)
-no_name name n0 n1 n2 n3 n4 n5 n6 n7 n8 n9 n10 (to_ingest workers segment files) e = n3 (sym e)
-no_name name n0 n1 n2 n3 n4 n5 n6 n7 n8 n9 n10 to_list e = n4 (sym e)
-no_name name n0 n1 n2 n3 n4 n5 n6 n7 n8 n9 n10 to_check e = n5 (sym e)
-no_name name n0 n1 n2 n3 n4 n5 n6 n7 n8 n9 n10 (to_decode number) e = n6 (sym e)
-no_name name n0 n1 n2 n3 n4 n5 n6 n7 n8 n9 n10 (to_search from to stats workers pattern) e = n7 (sym e)
-no_name name n0 n1 n2 n3 n4 n5 n6 n7 n8 n9 n10 (to_count by from to stats pattern) e = n8 (sym e)
-no_name name n0 n1 n2 n3 n4 n5 n6 n7 n8 n9 n10 to_merge e = n9 (sym e)
-no_name name n0 n1 n2 n3 n4 n5 n6 n7 n8 n9 n10 (to_bench number lines workers) e = n10 (sym e)
+pub no_name : (name : Text) → (name ≡ codes "show" → ⊥) → (name ≡ codes "scan" → ⊥) → (name ≡ codes "create" → ⊥) → (name ≡ codes "ingest" → ⊥) → (name ≡ codes "files" → ⊥) → (name ≡ codes "check" → ⊥) → (name ≡ codes "decode" → ⊥) → (name ≡ codes "search" → ⊥) → (name ≡ codes "count" → ⊥) → (name ≡ codes "merge" → ⊥) → (name ≡ codes "upgrade" → ⊥) → (name ≡ codes "bench" → ⊥) → (asked : Asked) → name_of asked ≡ name → ⊥
+no_name name n0 n1 n2 n3 n4 n5 n6 n7 n8 n9 n10 n11 (to_show file) e = n0 (sym e)
+no_name name n0 n1 n2 n3 n4 n5 n6 n7 n8 n9 n10 n11 (to_scan pattern file) e = n1 (sym e)
+no_name name n0 n1 n2 n3 n4 n5 n6 n7 n8 n9 n10 n11 (to_create header) e = n2 (sym e)
+no_name name n0 n1 n2 n3 n4 n5 n6 n7 n8 n9 n10 n11 (to_ingest workers segment files) e = n3 (sym e)
+no_name name n0 n1 n2 n3 n4 n5 n6 n7 n8 n9 n10 n11 to_list e = n4 (sym e)
+no_name name n0 n1 n2 n3 n4 n5 n6 n7 n8 n9 n10 n11 to_check e = n5 (sym e)
+no_name name n0 n1 n2 n3 n4 n5 n6 n7 n8 n9 n10 n11 (to_decode number) e = n6 (sym e)
+no_name name n0 n1 n2 n3 n4 n5 n6 n7 n8 n9 n10 n11 (to_search from to stats workers pattern) e = n7 (sym e)
+no_name name n0 n1 n2 n3 n4 n5 n6 n7 n8 n9 n10 n11 (to_count by from to stats pattern) e = n8 (sym e)
+no_name name n0 n1 n2 n3 n4 n5 n6 n7 n8 n9 n10 n11 to_merge e = n9 (sym e)
+no_name name n0 n1 n2 n3 n4 n5 n6 n7 n8 n9 n10 n11 to_upgrade e = n10 (sym e)
+no_name name n0 n1 n2 n3 n4 n5 n6 n7 n8 n9 n10 n11 (to_bench number lines workers) e = n11 (sym e)

@@ -10,7 +10,7 @@ use Rattle.clap.specs.declared.builder.value_parser.Reading.TheVariants.{AsWritt
 use Rattle.clap.specs.declared.parser.matches.ValueSource.TheVariants.{CommandLine, DefaultValue}
 use Rattle.clap.proofs.OnLiterals.{clap_on_literals}
 use Rattle.command_words.specs.Forms.{clpa}
-use Rattle.command_words.specs.Asked.{Asked, Asks, Gives, name_of, to_check, to_count, to_create, to_decode, to_ingest, to_list, to_merge, to_scan, to_search, to_show}
+use Rattle.command_words.specs.Asked.{Asked, Asks, Gives, name_of, to_check, to_count, to_create, to_decode, to_ingest, to_list, to_merge, to_scan, to_search, to_show, to_upgrade}
 use Rattle.command_words.specs.Spellings.{AskNothing}
 use Rattle.command_words.specs.Values.{key_word}
 use Rattle.command_words.specs.declared.command.CountKey.{CountKey}
@@ -119,6 +119,10 @@ only_check = record { rows = []; good = refl; found = refl; given = tt }
 pub only_merge : Asks (codes "merge" ∷ []) to_merge
 unfolding clap_on_literals
 only_merge = record { rows = []; good = refl; found = refl; given = tt }
+
+pub only_upgrade : Asks (codes "upgrade" ∷ []) to_upgrade
+unfolding clap_on_literals
+only_upgrade = record { rows = []; good = refl; found = refl; given = tt }
 
 pub only_create : Asks (codes "create" ∷ []) (to_create (record { version = 1; types_limit = 16777216; words_limit = 2147483648; length_limit = 1099511627776 }))
 unfolding clap_on_literals

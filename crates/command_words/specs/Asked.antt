@@ -24,7 +24,7 @@ use Rattle.command_words.specs.declared.command.WordsRefusal.TheVariants.{Usage,
 use Rattle.command_words.specs.declared.command.Command.{Command}
 use Rattle.command_words.specs.declared.command.Command.TheVariants.{Show, Scan, Create, Ingest}
 use Rattle.command_words.specs.declared.command.Command.TheVariants.{Files, Check, Decode, Search}
-use Rattle.command_words.specs.declared.command.Command.TheVariants.{Bench, Count, Merge}
+use Rattle.command_words.specs.declared.command.Command.TheVariants.{Bench, Count, Merge, Upgrade}
 
 -- what can be asked for, with its values
 pub data Asked : Type 0 where
@@ -44,6 +44,7 @@ pub data Asked : Type 0 where
   -- what is counted by, the first and the last moment, whether counts of the search are printed, a pattern
   to_count : CountKey → Option ℤ → Option ℤ → Bool → Text → Asked
   to_merge : Asked
+  to_upgrade : Asked
   -- a number, lines, workers
   to_bench : ℕ → ℕ → ℕ → Asked
 
@@ -59,6 +60,7 @@ name_of (to_decode number) = codes "decode"
 name_of (to_search from to stats workers pattern) = codes "search"
 name_of (to_count by from to stats pattern) = codes "count"
 name_of to_merge = codes "merge"
+name_of to_upgrade = codes "upgrade"
 name_of (to_bench number lines workers) = codes "bench"
 
 -- the options of `create` give this header
@@ -112,6 +114,7 @@ Gives rows (to_decode number) = IsNumberIn 0 4294967295 (first_of (codes "number
 Gives rows (to_search from to stats workers pattern) = IsSearch rows from to stats workers pattern
 Gives rows (to_count by from to stats pattern) = IsCount rows by from to stats pattern
 Gives rows to_merge = Unit {0}
+Gives rows to_upgrade = Unit {0}
 Gives rows (to_bench number lines workers) = IsBench rows number lines workers
 
 -- The words ask for this: `clap` finds no fault in them, and finds the command with these values.
@@ -167,6 +170,7 @@ IsInRange (to_decode number) = IsWithin 0 4294967295 number
 IsInRange (to_search from to stats workers pattern) = IsWithin 1 64 workers
 IsInRange (to_count by from to stats pattern) = Unit {0}
 IsInRange to_merge = Unit {0}
+IsInRange to_upgrade = Unit {0}
 IsInRange (to_bench number lines workers) = IsBenchInRange number lines workers
 
 -- ---- the command as it is answered
@@ -194,6 +198,7 @@ asked_by (Decode number) = to_decode number
 asked_by (Search asked) = searched asked
 asked_by (Count asked) = counted asked
 asked_by Merge = to_merge
+asked_by Upgrade = to_upgrade
 asked_by (Bench asked) = benched asked
 
 -- the answer to words that ask for this: it, or want of memory

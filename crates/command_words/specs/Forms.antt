@@ -67,6 +67,9 @@ count = command (codes "count")
 abbrev pub merge : Shape
 merge = command (codes "merge") []
 
+abbrev pub upgrade : Shape
+upgrade = command (codes "upgrade") []
+
 abbrev pub bench : Shape
 bench = command (codes "bench")
     (word (codes "number") ∷ word (codes "lines") ∷ word (codes "workers") ∷ [])
@@ -83,5 +86,5 @@ top = record (new_shape (codes "clpa")) {
 abbrev pub clpa : App
 clpa = record {
   top = record top { is_leaf = false };
-  subs = show ∷ scan ∷ create ∷ ingest ∷ files ∷ check ∷ decode ∷ search ∷ count ∷ merge ∷ bench ∷ [];
+  subs = show ∷ scan ∷ create ∷ ingest ∷ files ∷ check ∷ decode ∷ search ∷ count ∷ merge ∷ upgrade ∷ bench ∷ [];
 }

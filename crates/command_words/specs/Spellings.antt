@@ -3,7 +3,7 @@ use Rattle.std.specs.Prelude.{◌≤◌, ℕ, List, [], ◌∷◌, None, codes, 
 use Rattle.std.specs.Fmt.{decimal}
 use Rattle.clap.specs.Walk.{Text}
 use Rattle.command_words.specs.Asked.{Asked, Asks, to_check, to_count, to_create, to_decode}
-use Rattle.command_words.specs.Asked.{to_ingest, to_list, to_merge, to_scan, to_search, to_show}
+use Rattle.command_words.specs.Asked.{to_ingest, to_list, to_merge, to_scan, to_search, to_show, to_upgrade}
 use Rattle.command_words.specs.declared.command.CountKey.TheVariants.{LogType, Minute}
 
 -- behind `--` each text is a word
@@ -32,6 +32,7 @@ pub record AreEnough : Type 0 where
   pub files : Asks (codes "files" ∷ []) to_list
   pub check : Asks (codes "check" ∷ []) to_check
   pub merge : Asks (codes "merge" ∷ []) to_merge
+  pub upgrade : Asks (codes "upgrade" ∷ []) to_upgrade
   pub create : Asks (codes "create" ∷ []) (to_create (record {
     version = 1;
     types_limit = 16777216;

@@ -29,6 +29,8 @@ pub enum Command<'a> {
     Count { asked: CountWords<'a> },
     /// `merge`
     Merge,
+    /// `upgrade`
+    Upgrade,
     /// `bench NUMBER LINES WORKERS`
     Bench { asked: BenchWords },
 }

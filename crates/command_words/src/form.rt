@@ -142,5 +142,6 @@ pub(crate) fn commands<'a>(alloc: Global) -> Result<Command<'a>, AllocError>
         .subcommand(search(alloc)?)?
         .subcommand(count(alloc)?)?
         .subcommand(Command::new(alloc, "merge"))?
+        .subcommand(Command::new(alloc, "upgrade"))?
         .subcommand(bench(alloc)?)
 }

@@ -289,6 +289,7 @@ pub(crate) fn read_command<'a>(
         "search" => Ok(search(found)),
         "count" => Ok(count(found)),
         "merge" => Ok(Some(Command::Merge)),
+        "upgrade" => Ok(Some(Command::Upgrade)),
         "bench" => Ok(bench(found)),
         _ => Ok(None),
     }

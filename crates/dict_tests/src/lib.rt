@@ -6,6 +6,8 @@ mod dict_core_tests;
 #[cfg(test)]
 mod dict_lock_tests;
 #[cfg(test)]
+mod ingest_fork_beside_tests;
+#[cfg(test)]
 mod ingest_fork_tests;
 #[cfg(test)]
 mod telling;

@@ -17,3 +17,5 @@ mod outside;
 mod source_tests;
 #[cfg(test)]
 mod stop_tests;
+#[cfg(test)]
+mod upgrade_tests;

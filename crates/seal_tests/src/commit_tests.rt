@@ -26,7 +26,7 @@ use step_count::Steps;
 use turn_lock::{Maker, Note};
 
 /// Counters that stand at 0.
-fn zeros<A: Ledger, B: Ledger, C: Ledger>(a: Blank, b: Blank, c: Blank) -> Turns<A, B, C>
+pub(crate) fn zeros<A: Ledger, B: Ledger, C: Ledger>(a: Blank, b: Blank, c: Blank) -> Turns<A, B, C>
     requires first { OpensFor a A.name A.parts }
     requires second { OpensFor b B.name B.parts }
     requires third { OpensFor c C.name C.parts }
@@ -39,7 +39,7 @@ fn zeros<A: Ledger, B: Ledger, C: Ledger>(a: Blank, b: Blank, c: Blank) -> Turns
 }
 
 /// A note of the maker's next pass over its lock.
-fn noted<'l>(maker: &mut Maker<Book>, lock: &'l SharedBook) -> Note<'l, Book>
+pub(crate) fn noted<'l>(maker: &mut Maker<Book>, lock: &'l SharedBook) -> Note<'l, Book>
     requires lock { lock_by maker.old ≡ id_of lock.now }
     requires room { made_by maker.old < 4294967290 }
     ensures noted { lock_noted result ≡ lock_by maker.old }
@@ -84,7 +84,7 @@ fn name<R: Wait, L: Ledger>(
 type Committed = Option<Result<Receipt, DiskFault>>;
 
 /// Commits a segment without rows, of the file of the maker's next pass, and the texts that are not saved.
-fn committed<'d, 'b, R: Wait, A: Ledger, B: Ledger, C: Ledger>(
+pub(crate) fn committed<'d, 'b, R: Wait, A: Ledger, B: Ledger, C: Ledger>(
     rt: &R,
     alloc: Global,
     maker: &mut Maker<Store<'d, 'b, QuietDisk>>,
@@ -196,7 +196,7 @@ fn over_journal<R: Wait, A: Ledger, B: Ledger, C: Ledger>(
 }
 
 /// A disk with one record, whose call of this number fails.
-fn one_record(alloc: Global, fault: u64) -> Result<MemDisk, AllocError> {
+pub(crate) fn one_record(alloc: Global, fault: u64) -> Result<MemDisk, AllocError> {
     let mut bytes = Vec::from_slice(alloc, &WORKED[..55])?;
     bytes.push(0)?;
     let fails = vec![in alloc; fault; 1]?;

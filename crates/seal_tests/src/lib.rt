@@ -6,6 +6,8 @@ mod commit_tests;
 #[cfg(test)]
 mod found_tests;
 #[cfg(test)]
+mod looks_tests;
+#[cfg(test)]
 mod quiet;
 #[cfg(test)]
 mod worked;

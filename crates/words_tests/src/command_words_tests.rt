@@ -30,6 +30,7 @@ const NO_FORM: &[&[&str]] = &[
     &["scan", "p", "f", "g"],
     &["files", "a"],
     &["merge", "a"],
+    &["upgrade", "a"],
     &["check", "--stats"],
     &["help"],
     &["help", "show"],

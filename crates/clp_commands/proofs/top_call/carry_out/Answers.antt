@@ -120,4 +120,14 @@ pub returns-in-Merge-clause-untouched : goal.returns-in-Merge-clause-untouched
 returns-in-Merge-clause-untouched g c = λ none. absurd (none (rw (c.in-Merge.is) tt))
 
 pub returns-in-Merge-clause-second : goal.returns-in-Merge-clause-second
-returns-in-Merge-clause-second g c = λ none. absurd (none (rw (c.in-Merge.is) refl))
+returns-in-Merge-clause-second g c = λ none. absurd (none (rw (c.in-Merge.is) tt))
+
+pub returns-in-Upgrade-clause-answers : goal.returns-in-Upgrade-clause-answers
+returns-in-Upgrade-clause-answers g c =
+    rw (c.in-Upgrade.is) (c.upgrade_archive.ensures.answers _ _ _ _)
+
+pub returns-in-Upgrade-clause-untouched : goal.returns-in-Upgrade-clause-untouched
+returns-in-Upgrade-clause-untouched g c = λ none. absurd (none (rw (c.in-Upgrade.is) tt))
+
+pub returns-in-Upgrade-clause-second : goal.returns-in-Upgrade-clause-second
+returns-in-Upgrade-clause-second g c = λ none. absurd (none (rw (c.in-Upgrade.is) tt))

@@ -57,3 +57,6 @@ returns-in-SecondDamaged-clause-said g c = Says-same _ _ _ _ _ (line_of c.args.n
 
 pub returns-in-VersionDiffers-clause-said : goal.returns-in-VersionDiffers-clause-said
 returns-in-VersionDiffers-clause-said g c = Says-same _ _ _ _ _ (line_of c.args.name.now c.args.refusal) (rw c.in-VersionDiffers.is refl) c.say_versions.ensures.said
+
+pub returns-in-AlreadyNewest-clause-said : goal.returns-in-AlreadyNewest-clause-said
+returns-in-AlreadyNewest-clause-said g c = Says-same _ _ _ _ _ (line_of c.args.name.now c.args.refusal) (rw c.in-AlreadyNewest.is refl) c.say_newest.ensures.said

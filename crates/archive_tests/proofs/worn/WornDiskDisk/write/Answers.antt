@@ -1,6 +1,6 @@
 use Rattle.std.proofs.Common.{inl, refl, arith, rules}
 use Rattle.std.proofs.Math.Nat.{le-max_left}
-use Rattle.archive_tests.proofs.ingest_workers_fault_tests.WornDiskDisk.write.Goals as goal
+use Rattle.archive_tests.proofs.worn.WornDiskDisk.write.Goals as goal
 
 -- what may be left now might have been left before, and then it is torn nowhere
 pub returns : goal.returns

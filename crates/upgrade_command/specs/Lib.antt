@@ -1,0 +1,4 @@
+pub mod Files
+pub mod Filling
+pub mod Old
+pub mod Taking
