@@ -1,5 +1,5 @@
 //! The check of an archive.
-ghost use Rattle.std.specs.Prelude.{◌≡◌, ◌<◌, ◌+◌, ◌≤◌, ◌^◌, ℕ, IfOk, IfSome, IsErrOf, IsFalse, IsTrue, OnOk, length};
+ghost use Rattle.std.specs.Prelude.{◌≡◌, ◌<◌, ◌+◌, ◌≤◌, ◌^◌, ℕ, IfOk, IfSome, IsErrOf, IsFalse, IsTrue, OnOk};
 ghost use Rattle.log_seams.specs.Disk.{KeepsBytes, Rests};
 ghost use Rattle.log_seams.specs.Outside.{CountsOf};
 ghost use Rattle.disk_journal.specs.Place.{ClosedAt};

@@ -1,5 +1,5 @@
 //! A record as an entry, which a judge admits.
-ghost use Rattle.std.specs.Prelude.{◌≡◌, ◌<◌, ◌↔◌, IsErrOf, IsTrue, OnOk};
+ghost use Rattle.std.specs.Prelude.{◌≡◌, ◌↔◌, IsErrOf, IsTrue, OnOk};
 ghost use Rattle.archive_core.specs.declared.refusal.JudgeRefusal.TheVariants.{Illegal};
 ghost use Rattle.archive_check.specs.Taken.{Takes, TakesNone};
 

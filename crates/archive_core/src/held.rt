@@ -1,5 +1,5 @@
 //! Whether the words of a row may stand in the slots of its log type.
-ghost use Rattle.std.specs.Prelude.{◌≡◌, ◌↔◌, MatchOption, Option, IsTrue, Some, slice_get};
+ghost use Rattle.std.specs.Prelude.{◌≡◌, ◌↔◌, MatchOption, IsTrue, Some, slice_get};
 ghost use Rattle.logtype_text.specs.Parts.{HasKind};
 ghost use Rattle.row_codec.specs.StepsBody.{HasNoText};
 ghost use Rattle.row_codec.specs.StepsCut.{IsHeldToken, IsHeldWord};

@@ -1,5 +1,5 @@
 //! What workers have in hand.
-ghost use Rattle.std.specs.Prelude.{◌≡◌, ◌<◌, ◌^◌, [], ◌++◌, ◌∷◌, IfNone, IfSome, IfOk, OnOk, Some, length};
+ghost use Rattle.std.specs.Prelude.{◌≡◌, ◌<◌, ◌^◌, [], ◌++◌, ◌∷◌, IfNone, IfSome, IfOk, OnOk, length};
 ghost use Rattle.column_store.specs.Row.{variable_count};
 ghost use Rattle.archive_machine.specs.Machine.{rows_of, with_rows};
 ghost use Rattle.archive_machine.specs.StepsHands.{IsFirstHand, IsNoHand};

@@ -1,5 +1,5 @@
 //! Opening an archive.
-ghost use Rattle.std.specs.Prelude.{◌≡◌, ℕ, IfOk, IsErrOf, IsTrue, OnOk};
+ghost use Rattle.std.specs.Prelude.{◌≡◌, ℕ, IfOk, IsErrOf, OnOk};
 ghost use Rattle.log_seams.specs.Disk.{KeepsBytes};
 ghost use Rattle.log_seams.specs.Outside.{CountsOf};
 ghost use Rattle.disk_journal.specs.Journal.{state_of};

@@ -1,7 +1,7 @@
 //! Texts for reading: one buffer for each dictionary, without an index.
-ghost use Rattle.std.specs.Prelude.{◌≡◌, ◌≤◌, ◌<◌, [], ◌∷◌, ◌++◌, length, IfOk, IsTrue, IsFalse, OnOk, refl};
+ghost use Rattle.std.specs.Prelude.{◌≡◌, ◌≤◌, [], ◌∷◌, ◌++◌, IfOk, IsTrue, IsFalse, refl};
 ghost use Rattle.dict_core.specs.declared.texts.TheConstants.{MAX_TEXTS};
-ghost use Rattle.archive_open.specs.Kept.{Kept, MayHold};
+ghost use Rattle.archive_open.specs.Kept.{MayHold};
 
 use crate::keeps::KeepsTexts;
 use dict_core::{MAX_TEXTS, Texts};

@@ -1,5 +1,5 @@
 //! The walk along an archive's records, and what is kept of each.
-ghost use Rattle.std.specs.Prelude.{◌≡◌, ◌≢◌, ◌≤◌, ◌<◌, ◌+◌, ◌⊎◌, ◌∷◌, [], ◌++◌, ◌^◌, ℕ, List, length, map, IfOk, OnOk, IsTrue, IsFalse, IsErrOf, IsNone};
+ghost use Rattle.std.specs.Prelude.{◌≡◌, ◌≢◌, ◌<◌, ◌⊎◌, ◌++◌, ◌^◌, ℕ, List, length, map, IfOk, OnOk, IsTrue, IsFalse, IsErrOf, IsNone};
 ghost use Rattle.log_seams.specs.Outside.{CountsOf};
 ghost use Rattle.record_format.specs.Lists.{AreTexts, files_payload, four_bytes, list_bytes, texts_payload};
 ghost use Rattle.disk_journal.specs.Calls.{StaysAt};

@@ -1,5 +1,5 @@
 //! A segment by the fixed part of its head.
-ghost use Rattle.std.specs.Prelude.{◌≡◌, ◌≢◌, ◌<◌, ◌+◌, Bool, length, IfSome, IsNone};
+ghost use Rattle.std.specs.Prelude.{◌≡◌, ◌≢◌, Bool, length, IfSome, IsNone};
 ghost use Rattle.segment_format.specs.Layout.{IsFixed, fixed_bytes, flags, head_length};
 ghost use Rattle.archive_places.specs.Fronts.{fixed_in};
 

@@ -1,5 +1,5 @@
 //! The walk along an archive's records, and what is kept of each.
-ghost use Rattle.std.specs.Prelude.{◌≡◌, ◌≢◌, ◌<◌, ◌⊎◌, ◌+◌, ℕ, length, IfOk, OnOk, IsTrue, IsFalse, IsErrOf, IsNone};
+ghost use Rattle.std.specs.Prelude.{◌≡◌, ◌≢◌, ◌<◌, ◌⊎◌, ◌+◌, ℕ, IfOk, OnOk, IsTrue, IsFalse, IsErrOf, IsNone};
 ghost use Rattle.log_seams.specs.Outside.{CountsOf};
 ghost use Rattle.disk_journal.specs.Calls.{StaysAt};
 ghost use Rattle.disk_journal.specs.Journal.{state_of};

@@ -1,5 +1,5 @@
 //! How far the writing of a file came, and its way over segments and pages.
-ghost use Rattle.std.specs.Prelude.{◌≡◌, ◌≤◌, ◌<◌, ◌⊎◌, ℕ, List, Some, [], length, IfOk, IfSome, IsErrOf, IsFalse, IsNone, IsTrue, None, OnOk, false};
+ghost use Rattle.std.specs.Prelude.{◌≡◌, ◌≤◌, ◌<◌, ◌⊎◌, ℕ, List, [], length, IfOk, IfSome, IsErrOf, IsFalse, IsNone, IsTrue, None, OnOk, false};
 ghost use Rattle.log_seams.specs.Disk.{Rests};
 ghost use Rattle.log_seams.specs.Outside.{CountsOf};
 ghost use Rattle.column_store.specs.declared.row.Row.{Row};

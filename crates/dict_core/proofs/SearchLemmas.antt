@@ -1,13 +1,13 @@
 -- Finding a text in a buffer: where it stands, and what is passed over.
-use Rattle.std.proofs.Common.{◌≡◌, ◌≢◌, ◌⊎◌, ⊎_elim, inl, inr, ◌↔◌, ℕ, zero, suc, ◌+◌, ◌-◌, ◌<◌, ◌≤◌, true, false, leb, min, List, [], ◌∷◌, ◌++◌, length, get_or, take, drop, refl, sym, ap, subst, ◌∙◌, arith, Option, None, Some, slice_get, slice_index, slice_range}
+use Rattle.std.proofs.Common.{◌≡◌, ◌≢◌, ◌⊎◌, ⊎_elim, inl, inr, ◌↔◌, ℕ, zero, suc, ◌+◌, ◌-◌, ◌<◌, ◌≤◌, true, false, leb, List, [], ◌∷◌, length, get_or, take, drop, refl, sym, ap, subst, ◌∙◌, arith, Option, None, Some, slice_get, slice_index, slice_range}
 use Rattle.std.proofs.lemmas.Bool.{leb-true, leb-false, cases_lt}
-use Rattle.std.proofs.lemmas.List.{length-drop, length-take-le, get_or-drop, get_or-take, get_or_default, take_at, nil_from_length}
+use Rattle.std.proofs.lemmas.List.{length-drop, length-take-le, get_or-drop, get_or-take, take_at, nil_from_length}
 use Rattle.std.proofs.lemmas.List.Prefix.{at_from_reads}
 use Rattle.std.proofs.lemmas.Option.{same_Some}
 use Rattle.std.specs.List.Sorted.{IsPartitionPoint}
-use Rattle.memchr.specs.Find.{OccursAt, Nowhere, NoneBefore, IsFirst}
+use Rattle.memchr.specs.Find.{OccursAt, Nowhere, IsFirst}
 use Rattle.dict_core.specs.Buffer.{texts_from, Rise, start_from, start_at, text_at}
-use Rattle.dict_core.proofs.BufferLemmas.{rise_last, rise_end, rise_start, start_last, start_next, texts_get}
+use Rattle.dict_core.proofs.BufferLemmas.{rise_end, rise_start, start_last, start_next, texts_get}
 
 -- no end is before the start
 rise_low : (start : ℕ) (ends : List ℕ) (last k : ℕ) → Rise start ends last → k < length ends → start ≤ slice_index ends k

@@ -1,5 +1,5 @@
 //! The index of a book: from a text's hash to the texts that have it.
-ghost use Rattle.std.specs.Prelude.{◌≡◌, ℕ, ◌+◌, ◌-◌, ◌<◌, ◌≤◌, [], ◌∷◌, ◌++◌, length, take, map, nat_eq, slice_get, slice_index, vec_len, vec_capacity, Some, IfOk, IfErr, OnOk, OnErr, IsErrOf};
+ghost use Rattle.std.specs.Prelude.{◌≡◌, ℕ, ◌+◌, ◌-◌, ◌<◌, ◌≤◌, [], ◌∷◌, ◌++◌, length, take, map, slice_get, slice_index, vec_len, vec_capacity, Some, IfOk, IfErr, OnOk, OnErr, IsErrOf};
 ghost use Rattle.indexmap.specs.IndexMap.{spare, IsUnchanged};
 ghost use Rattle.dict_core.specs.Books.{StandsTwice};
 ghost use Rattle.plain_list.specs.Texts.{AreDistinct, IsNew};

@@ -1,7 +1,7 @@
 //! Books shared by passes and by threads.
-ghost use Rattle.std.specs.Prelude.{◌≡◌, ℕ, IsTrue, IfSome, All, slice_get, Some};
+ghost use Rattle.std.specs.Prelude.{◌≡◌, IsTrue, All};
 ghost use Rattle.step_count.specs.Opens.{OpensFor};
-ghost use Rattle.turn_lock.specs.Words.{lock_of, number_of, IsReady, IsStill};
+ghost use Rattle.turn_lock.specs.Words.{lock_of, IsReady, IsStill};
 ghost use Rattle.dict_core.specs.Fair.{IsFair};
 
 use dict_core::{Book, BookRefusal, WORDS_FIRST};

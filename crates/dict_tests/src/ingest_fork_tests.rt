@@ -1,5 +1,5 @@
 //! Workers that write their number into the jobs, and passes that are made and ended together.
-ghost use Rattle.std.specs.Prelude.{◌≡◌, ℕ, ◌+◌, ◌<◌, [], IfOk};
+ghost use Rattle.std.specs.Prelude.{◌≡◌, ◌<◌, IfOk};
 ghost use Rattle.std.proofs.Common.{◌∙◌, refl};
 ghost use Rattle.turn_lock.specs.Words.{id_of, lock_by, made_by, HasJoinedAll};
 

@@ -8,7 +8,7 @@ use Rattle.turn_lock.specs.declared.note.Note.{Note}
 use Rattle.turn_lock.specs.Words.{seen, own_list, about, lock_of, lock_noted, noted, IsReady, IsStill}
 use Rattle.dict_core.specs.Books.{BookState}
 use Rattle.archive_meaning.specs.declared.entry.JournalEntry.{JournalEntry}
-use Rattle.archive_meaning.specs.Spelled.{end_of, types_of}
+use Rattle.archive_meaning.specs.Spelled.{end_of}
 use Rattle.disk_seal.specs.declared.draft.Draft.{Draft}
 use Rattle.disk_seal.specs.declared.faults.DiskFault.{DiskFault}
 use Rattle.disk_seal.specs.declared.fixed.StoreFixed.{StoreFixed}
@@ -22,8 +22,7 @@ use Rattle.disk_seal.specs.Adding.{front_of}
 use Rattle.disk_seal.specs.Pieces.{CanFollow, added_by}
 use Rattle.disk_seal.specs.Sealing.{told_as, MayPut}
 use Rattle.disk_seal.specs.Draft.{MayFollow, journal_seen}
-use Rattle.disk_seal.specs.Planned.{segment_of, IsBehind, IsTextsThen, entries_with, all_need, needed}
-use Rattle.ingest_meaning.specs.WordsIn.{words_of}
+use Rattle.disk_seal.specs.Planned.{segment_of, IsBehind, IsTextsThen, entries_with, needed}
 
 -- a note of a book's pass
 abbrev pub BookNote : Type 0

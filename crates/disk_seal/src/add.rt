@@ -1,5 +1,5 @@
 //! One record behind the others.
-ghost use Rattle.std.specs.Prelude.{◌≡◌, ◌+◌, ◌≤◌, None, [], ◌∷◌, length, OnOk, OnErr};
+ghost use Rattle.std.specs.Prelude.{◌≡◌, None, [], ◌∷◌, length, OnOk, OnErr};
 ghost use Rattle.log_seams.specs.Outside.{Counts};
 ghost use Rattle.disk_journal.specs.Record.{saved_of};
 ghost use Rattle.disk_seal.specs.Told.{entry_of};

@@ -1,5 +1,5 @@
 //! Collecting the texts that are not saved.
-ghost use Rattle.std.specs.Prelude.{◌≡◌, ◌+◌, ◌≤◌, drop, IfOk};
+ghost use Rattle.std.specs.Prelude.{◌≡◌, ◌+◌, drop, IfOk};
 ghost use Rattle.turn_lock.specs.Words.{seen, lock_of, lock_noted, noted};
 ghost use Rattle.dict_lock.specs.Shared.{HasSeenBook};
 ghost use Rattle.disk_seal.specs.Collected.{IsSameButBooks, HasSeenMore};

@@ -1,5 +1,5 @@
 //! What stands behind a gate of a store's journal.
-ghost use Rattle.std.specs.Prelude.{◌≡◌, ℕ, None, IfOk, IfSome, IfNone, OnOk, IsErrOf};
+ghost use Rattle.std.specs.Prelude.{◌≡◌, ℕ, IfOk, IfSome, IfNone, OnOk, IsErrOf};
 ghost use Rattle.log_seams.specs.Outside.{CountsOf};
 ghost use Rattle.disk_journal.specs.Journal.{state_of};
 ghost use Rattle.disk_journal.specs.State.{IsAtEnd};

@@ -1,5 +1,5 @@
 //! The records of texts and of segments, framed.
-ghost use Rattle.std.specs.Prelude.{◌≡◌, ◌<◌, ◌^◌, [], ℕ, length, IfOk};
+ghost use Rattle.std.specs.Prelude.{◌≡◌, length, IfOk};
 ghost use Rattle.record_format.specs.Lists.{AreTexts};
 ghost use Rattle.archive_meaning.specs.declared.entry.JournalEntry.TheVariants.{Types, Words};
 ghost use Rattle.disk_seal.specs.Framed.{IsFramedOrNone, in_order};

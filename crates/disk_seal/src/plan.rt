@@ -1,6 +1,6 @@
 //! Which records a turn is to append.
-ghost use Rattle.std.specs.Prelude.{◌≡◌, ◌+◌, ◌≤◌, ◌<◌, ℕ, None, drop, IfOk, OnErr, IsErrOf, min};
-ghost use Rattle.turn_lock.specs.Words.{seen, lock_of, lock_noted, noted, StaysAs, IsNoteOf};
+ghost use Rattle.std.specs.Prelude.{◌≡◌, ◌+◌, ℕ, None, drop, IfOk, IsErrOf, min};
+ghost use Rattle.turn_lock.specs.Words.{seen, lock_of, lock_noted, noted, StaysAs};
 ghost use Rattle.dict_lock.specs.Shared.{HasSeenBook};
 ghost use Rattle.disk_seal.specs.View.{state_by};
 ghost use Rattle.disk_seal.specs.Pieces.{size_of};

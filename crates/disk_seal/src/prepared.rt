@@ -1,5 +1,5 @@
 //! Preparing a segment in a turn, and committing it.
-ghost use Rattle.std.specs.Prelude.{◌≡◌, ◌+◌, ◌≤◌, ℕ, length, IfOk, IfErr, None, OnErr, OnOk, IsErrOf};
+ghost use Rattle.std.specs.Prelude.{◌≡◌, ◌+◌, ℕ, length, IfOk, IfErr, None, OnErr, OnOk, IsErrOf};
 ghost use mathlib.Core.List.{IsPrefix};
 ghost use Rattle.turn_lock.specs.Words.{number_of, noted, seen, IsReady};
 ghost use Rattle.disk_seal.specs.View.{state_by, Kept};

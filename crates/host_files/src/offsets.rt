@@ -1,5 +1,5 @@
 //! Reads and writes at offsets of a file that go on until all is done.
-ghost use Rattle.std.specs.Prelude.{◌≡◌, ◌≤◌, ◌<◌, ◌+◌, ◌^◌, length, true, IfOk, IfSome, OnOk, option_map};
+ghost use Rattle.std.specs.Prelude.{◌≡◌, ◌≤◌, ◌+◌, ◌^◌, length, true, IfOk, IfSome, OnOk, option_map};
 ghost use Rattle.log_seams.specs.Disk.{Gave, laid};
 
 use crate::place::OffsetFile;

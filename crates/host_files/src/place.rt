@@ -1,5 +1,5 @@
 //! Where a disk's file stands: a path, at which it is opened or made, in a folder that is synced.
-ghost use Rattle.std.specs.Prelude.{◌≡◌, ◌≢◌, ◌<◌, ◌≤◌, ◌-◌, ◌^◌, ◌↔◌, ◌⊎◌, ℕ, Bool, List, Option, length, take, true, None, Ok, Err, Some, IfOk, IfErr, IfSome, OnErr, OnOk, IsTrue, option_map};
+ghost use Rattle.std.specs.Prelude.{◌≡◌, ◌≢◌, ◌<◌, ◌≤◌, ◌^◌, ◌↔◌, ◌⊎◌, ℕ, Bool, List, Option, length, take, true, None, Ok, Err, Some, IfOk, IfErr, IfSome, OnErr, OnOk, IsTrue, option_map};
 ghost use Rattle.std.specs.IoError.{error_kind};
 ghost use Rattle.log_seams.specs.Disk.{laid};
 ghost use Rattle.host_files.specs.Offset.{GaveSome};

@@ -1,5 +1,5 @@
 //! The passes of a lock, one for each job: made before the workers begin, ended once they are done.
-ghost use Rattle.std.specs.Prelude.{◌≡◌, ◌+◌, ◌<◌, ◌≤◌, [], vec_capacity};
+ghost use Rattle.std.specs.Prelude.{◌≡◌, ◌+◌, ◌≤◌, [], vec_capacity};
 ghost use Rattle.turn_lock.specs.Words.{id_of, lock_by, made_by};
 ghost use Rattle.ingest_fork.specs.Passes.{AreJoinable, Fresh, Joined};
 

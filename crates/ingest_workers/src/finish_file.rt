@@ -1,5 +1,5 @@
 //! The end of a file.
-ghost use Rattle.std.specs.Prelude.{◌≡◌, ◌≤◌, ℕ, Bool, List, None, Ok, Some, false, true, not, is_some, length};
+ghost use Rattle.std.specs.Prelude.{◌≡◌, ◌≤◌, ℕ, Bool, List, None, Ok, false, true, not, is_some, length};
 ghost use Rattle.archive_meaning.specs.declared.TheConstants.{MAX_ROWS, MAX_MESSAGES};
 ghost use Rattle.archive_meaning.specs.Held.{last_is_open};
 ghost use Rattle.disk_seal.specs.Fixed.{KeeperPass};

@@ -1,5 +1,5 @@
 //! All jobs, by workers.
-ghost use Rattle.std.specs.Prelude.{◌≡◌, ◌≤◌, ◌<◌, length, IfOk, IfErr, IsOk, OnErr, OnOk};
+ghost use Rattle.std.specs.Prelude.{◌≡◌, ◌≤◌, length, IfOk, IfErr, IsOk, OnErr, OnOk};
 ghost use Rattle.turn_lock.specs.Words.{id_of, lock_by};
 ghost use Rattle.ingest_fork.specs.declared.works.TheConstants.{MAX_WORKERS};
 ghost use Rattle.disk_journal.specs.Journal.{state_of};

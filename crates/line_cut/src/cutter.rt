@@ -35,7 +35,7 @@ pub struct Cutter<S> {
 }
 
 impl<S> Model for Cutter<S> {
-    ghost use Rattle.std.specs.Prelude.{◌+◌, ◌<◌, ◌≤◌, drop, length, take};
+    ghost use Rattle.std.specs.Prelude.{◌<◌, ◌≤◌, drop, length, take};
     ghost use Rattle.line_cut.specs.Cutting.{CutterState};
     ghost use Rattle.line_cut.specs.declared.cutter.TheConstants.{MAX_LINE_LEN};
 

@@ -1,5 +1,5 @@
 //! Where a line in a window ends.
-ghost use Rattle.std.specs.Prelude.{◌≡◌, ◌+◌, ◌-◌, ◌<◌, ◌≤◌, IfOk, OnErr, length, take, drop};
+ghost use Rattle.std.specs.Prelude.{◌≡◌, ◌+◌, ◌<◌, ◌≤◌, IfOk, OnErr, length, take, drop};
 ghost use Rattle.log_messages.specs.Messages.{IsLine};
 ghost use Rattle.log_seams.specs.Outside.{Counts};
 ghost use Rattle.line_cut.specs.Length.{bytes_left};

@@ -3,7 +3,7 @@ use Rattle.line_cut.specs.declared.cut.Cut.{Cut}
 use Rattle.line_cut.specs.declared.cut.Cut.TheVariants.{ReadFault as CutReadFault, LineTooLong as CutLineTooLong, TooManyLines as CutTooManyLines, OutOfMemory as CutOutOfMemory}
 use Rattle.command_refusals.specs.declared.outcome.LogRefusal.{LogRefusal}
 use Rattle.command_refusals.specs.declared.outcome.LogRefusal.TheVariants.{ReadFault, LineTooLong, TooManyLines, OutOfMemory}
-use Rattle.std.specs.Prelude.{◌≡◌, [], ◌+◌, ℕ, List, ◌++◌, Option, true, false, IfSome}
+use Rattle.std.specs.Prelude.{◌≡◌, [], ℕ, List, ◌++◌, Option, true, false, IfSome}
 use Rattle.line_cut.specs.Cutting.{CutterState}
 use Rattle.line_cut.specs.declared.cut.Progress.TheVariants.{Open}
 use Rattle.command_refusals.specs.LogLimits.{most_bytes, most_messages}

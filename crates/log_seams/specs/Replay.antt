@@ -1,6 +1,6 @@
 -- The calls that a disk in memory keeps, as events with the newest first, and what follows from them:
 -- its bytes, the images that a crash may leave, and the ranges read.
-use Rattle.std.specs.Prelude.{◌≡◌, ◌⊎◌, ℕ, ◌+◌, ◌/◌, ◌≤◌, Bool, nat_le, if◌then◌else◌}
+use Rattle.std.specs.Prelude.{◌≡◌, ◌⊎◌, ℕ, ◌/◌, ◌≤◌, Bool, nat_le, if◌then◌else◌}
 use Rattle.std.specs.Prelude.{List, [], ◌∷◌, ◌++◌, length, take, drop, replicate}
 use Rattle.log_seams.specs.Disk.{laid, Torn}
 use Rattle.log_seams.specs.declared.mem_disk.Call.{Call}

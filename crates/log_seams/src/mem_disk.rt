@@ -179,7 +179,7 @@ fn left_by(
 }
 
 impl MemDisk {
-    ghost use Rattle.std.specs.Prelude.{[], ◌∷◌, ◌||◌, is_ok, not, false, min, ◌-◌};
+    ghost use Rattle.std.specs.Prelude.{[], ◌∷◌, false, min, ◌-◌};
     ghost use Rattle.log_seams.specs.StepsReplay.{IsQuiet};
     ghost use Rattle.log_seams.specs.Disk.{Rests};
     ghost use Rattle.log_seams.specs.MemDisk.{first_of, bytes_of, calls_of, events_of, events_until, disk_state, fails_next, lacks_room, Recorded, IsNewDisk};

@@ -1,5 +1,5 @@
 //! Logs in memory that are opened by name.
-ghost use Rattle.std.specs.Prelude.{◌≡◌, ◌≢◌, ◌+◌, ◌-◌, ◌<◌, ◌≤◌, ◌↔◌, ◌⊎◌, List, ℕ, ◌∷◌, min, length, IfOk, IsSome, IsNone, IsErr, IsErrOf, OnErr, OnOk, ◌++◌, [], Contains, option_copied};
+ghost use Rattle.std.specs.Prelude.{◌≡◌, ◌≢◌, ◌<◌, ◌≤◌, ◌↔◌, ◌⊎◌, List, ℕ, ◌∷◌, min, length, IfOk, IsSome, IsNone, IsErr, IsErrOf, OnErr, OnOk, ◌++◌, [], Contains, option_copied};
 ghost use Rattle.log_seams.specs.MemShelf.{file_of, IsOpened};
 ghost use Rattle.log_seams.specs.Memory.{CalledOnce};
 ghost use Rattle.log_seams.specs.Outside.{Counts, Rose, Takes};

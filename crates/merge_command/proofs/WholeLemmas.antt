@@ -1,5 +1,5 @@
 -- A merge from the start of the call on.
-use Rattle.std.proofs.Common.{◌≡◌, ◌≢◌, ◌+◌, ◌-◌, ◌≤◌, refl, sym, ap, subst, ◌∙◌, inl, inr, ℕ, Bool, true, List, [], ◌++◌, length, map, Option, Some, None, arith}
+use Rattle.std.proofs.Common.{◌≡◌, ◌≢◌, ◌-◌, ◌≤◌, refl, sym, ap, subst, ◌∙◌, inl, inr, ℕ, Bool, true, List, [], ◌++◌, length, map, Option, Some, None, arith}
 use Rattle.std.specs.Prelude.{IfErr, IfSome, is_some, option_map, Result, Err, IsErrOf}
 use Rattle.std.proofs.lemmas.List.{length-map}
 use Rattle.log_seams.specs.Disk.{DiskState, IsLawful, KeepsBytes, Rests}

@@ -1,5 +1,5 @@
 //! What a log type must have so that a message of it can match.
-ghost use Rattle.std.specs.Prelude.{◌≡◌, ◌++◌, ◌∷◌, ◌||◌, IfOk, OnOk};
+ghost use Rattle.std.specs.Prelude.{◌≡◌, ◌++◌, ◌∷◌, IfOk, OnOk};
 ghost use Rattle.time_patterns.specs.Laws.{is_stamp_byte};
 ghost use Rattle.query_plan.specs.Cutting.{bones_first};
 ghost use Rattle.query_plan.specs.Pieces.{IsCut};

@@ -1,5 +1,5 @@
 //! The command `decode`: the bytes of a file of an archive.
-ghost use Rattle.std.specs.Prelude.{◌≡◌, ◌<◌, ◌⊎◌, ℕ, Ok, Err, length, IsErrOf};
+ghost use Rattle.std.specs.Prelude.{◌≡◌, ◌<◌, ◌⊎◌, ℕ, Ok, length, IsErrOf};
 ghost use Rattle.log_seams.specs.Disk.{KeepsBytes};
 ghost use Rattle.log_seams.specs.Outside.{CountsOf};
 ghost use Rattle.archive_meaning.specs.Held.{content_of};

@@ -1,5 +1,5 @@
 //! From the numbers of words to those of the same words in another archive.
-ghost use Rattle.std.specs.Prelude.{ℕ, IfSome, List, Some};
+ghost use Rattle.std.specs.Prelude.{ℕ, IfSome, List};
 ghost use Rattle.row_rename.specs.Renamed.{HaveOneText};
 ghost use Rattle.row_rename.specs.Tables.{IsTable};
 

@@ -1,17 +1,14 @@
 -- Two books as the dictionaries of an archive, in tests.
-use Rattle.std.proofs.Common.{◌≡◌, ℕ, ◌+◌, ◌<◌, zero, suc, List, [], ◌∷◌, ◌++◌, length, get_or, take, refl, sym, ◌∙◌, ap, subst, arith, inl, inr, append_assoc}
-use Rattle.logtype_text.specs.declared.spans.Span.{Span}
-use Rattle.logtype_text.specs.Encoded.{texts_at}
-use Rattle.std.proofs.lemmas.List.{get_or-map, length-map}
-use Rattle.std.specs.Prelude.{slice_range, Some, Err, OnErr, Result, slice_get}
-use Rattle.std.proofs.lemmas.List.{append-nil, take_more}
-use Rattle.std.proofs.lemmas.List.Elements.{All-append, All-cons, All-nil}
+use Rattle.std.proofs.Common.{◌≡◌, ℕ, ◌+◌, ◌<◌, zero, suc, List, [], ◌∷◌, ◌++◌, length, get_or, take, refl, sym, ◌∙◌, ap, subst, arith, inl, inr}
+use Rattle.std.specs.Prelude.{Some, Err, OnErr, Result, slice_get}
+use Rattle.std.proofs.lemmas.List.{take_more}
+use Rattle.std.proofs.lemmas.List.Elements.{All-cons, All-nil}
 use mathlib.Core.List.{IsPrefix}
 use Rattle.row_codec.specs.declared.namer.NameRefusal.{NameRefusal}
 use Rattle.row_codec.specs.declared.namer.NameRefusal.TheVariants.{Full}
 use Rattle.row_codec.specs.declared.namer.Which.{Which}
 use Rattle.dict_core.specs.Books.{BookState, Names}
-use Rattle.row_codec.specs.Naming.{AreNumbers, HasGrown, Known, MetLimit}
+use Rattle.row_codec.specs.Naming.{AreNumbers, HasGrown, MetLimit}
 use Rattle.plain_list.specs.Texts.{IsNew}
 use Rattle.row_codec.proofs.GrowthLemmas.{grows_self, grows_then}
 use Rattle.row_tests.specs.StepsBooks.{known_of}

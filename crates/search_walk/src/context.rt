@@ -45,11 +45,7 @@ pub struct Context<'q, D: Disk> {
 }
 
 impl<'q, D: Disk> Model for Context<'q, D> {
-    ghost use Rattle.std.specs.Prelude.{◌≡◌};
-    ghost use Rattle.query_plan.specs.Laws.{IsSearched};
-    ghost use Rattle.query_plan.specs.Pieces.{wide_pieces};
-    ghost use Rattle.barren_segments.specs.Barren.{IsBounded, LeavesOut};
-    ghost use Rattle.search_walk.specs.Held.{IsTold, named};
+    ghost use Rattle.search_walk.specs.Held.{named};
     ghost use Rattle.search_walk.specs.StepsScope.{IsScope, Scope, scope};
 
     ghost Value = { Scope };

@@ -1,6 +1,6 @@
 //! The fixed part of a segment's head.
 
-ghost use Rattle.std.specs.Prelude.{◌≡◌, ◌≢◌, ◌<◌, ◌≤◌, ◌++◌, Bool, length, take, IfSome, IsNone, OnOk};
+ghost use Rattle.std.specs.Prelude.{◌≡◌, ◌≢◌, ◌≤◌, ◌++◌, Bool, length, take, IfSome, IsNone, OnOk};
 ghost use Rattle.segment_format.specs.Layout.{IsFixed, fixed_bytes, flags, head_length};
 
 use crate::numbers::{put_long, put_moment, put_number};

@@ -1,5 +1,5 @@
 //! Whether a head's lists are sorted.
-ghost use Rattle.std.specs.Prelude.{◌≤◌, ◌<◌, ◌^◌, IsTrue};
+ghost use Rattle.std.specs.Prelude.{IsTrue};
 ghost use Rattle.std.specs.List.Sorted.{IsStrictlyIncreasing};
 ghost use Rattle.segment_format.specs.Layout.{IsHead, IsNumberSet};
 

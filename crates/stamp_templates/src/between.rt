@@ -1,5 +1,5 @@
 //! Where a text may stand in the stamps of moments between two.
-ghost use Rattle.std.specs.Prelude.{◌≡◌, ◌⊎◌, ◌<◌, ◌≤◌, ℕ, ℤ, ◌<ℤ◌, ◌≤ℤ◌, ◌^◌, pos, neg_ℤ, List, length, slice_index, IfSome, IsFalse, IsNone, IsTrue};
+ghost use Rattle.std.specs.Prelude.{◌⊎◌, ◌<◌, ◌≤◌, ℕ, ℤ, ◌<ℤ◌, ◌≤ℤ◌, ◌^◌, pos, neg_ℤ, List, IfSome, IsFalse, IsNone, IsTrue};
 ghost use Rattle.time_patterns.specs.Stamps.{IsPrintable, Prints};
 ghost use Rattle.wild_match.specs.Matches.{Match};
 ghost use Rattle.query_plan.specs.Needs.{around};

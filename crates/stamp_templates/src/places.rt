@@ -1,5 +1,5 @@
 //! Where a text may stand in the stamps of a pattern.
-ghost use Rattle.std.specs.Prelude.{◌≡◌, ◌+◌, ◌≤◌, ℕ, ℤ, List, ◌↔◌, IfOk, IsFalse, IsTrue};
+ghost use Rattle.std.specs.Prelude.{◌+◌, ◌≤◌, ℕ, ℤ, ◌↔◌, IfOk, IsFalse, IsTrue};
 ghost use Rattle.std.specs.List.{Contains};
 ghost use Rattle.time_patterns.specs.Stamps.{Prints};
 ghost use Rattle.wild_match.specs.Matches.{Match};

@@ -1,5 +1,5 @@
 //! A day of the calendar with a time of that day, and the microseconds that count to it.
-ghost use Rattle.std.specs.Prelude.{◌≡◌, ◌≢◌, ◌%◌, ◌<◌, ◌≤◌, ◌⊎◌, pos, ◌*ℤ◌, ◌≤ℤ◌, IfSome, IfNone};
+ghost use Rattle.std.specs.Prelude.{◌≡◌, ◌≢◌, ◌%◌, ◌<◌, ◌≤◌, ◌⊎◌, pos, ◌*ℤ◌, IfSome, IfNone};
 
 use crate::digits::two_digits;
 use jiff_core::civil::Date;

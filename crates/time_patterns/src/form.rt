@@ -1,5 +1,5 @@
 //! The form of a pattern, and what is read and printed by it.
-ghost use Rattle.std.specs.Prelude.{◌≡◌, ◌≢◌, ℕ, ℤ, pos, ◌*ℤ◌, List, ◌+◌, ◌/◌, ◌%◌, ◌^◌, ◌<◌, ◌≤◌, ◌↔◌, ◌++◌, length, take, IsTrue, IfSome, IfNone};
+ghost use Rattle.std.specs.Prelude.{◌≡◌, ◌≢◌, ℤ, pos, ◌*ℤ◌, ◌+◌, ◌^◌, ◌<◌, ◌≤◌, ◌↔◌, ◌++◌, length, take, IsTrue, IfSome, IfNone};
 ghost use Rattle.time_patterns.specs.Stamps.{EndsStamp};
 ghost use Rattle.time_patterns.specs.Forms.{fraction_text};
 ghost use Rattle.time_patterns.specs.Steps.{digits_of, IsFewDigits, IsFraction, LacksFraction};
@@ -62,7 +62,6 @@ fn ends_stamp(rest: &[u8]) -> bool
 }
 
 impl Form {
-    ghost use Rattle.time_patterns.specs.declared.form.Form.{Form};
     ghost use Rattle.time_patterns.specs.Steps.{IsSound, IsTail, LacksTail};
     ghost use Rattle.time_patterns.specs.Forms.{IsTimeOf, text_of};
     ghost use Rattle.time_patterns.specs.CivilTime.{micros_of};

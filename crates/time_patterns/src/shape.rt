@@ -1,7 +1,7 @@
 //! How the texts of stamps begin: the day and the time of day, in five shapes.
-ghost use Rattle.std.specs.Prelude.{◌≡◌, ◌≢◌, ℕ, List, ◌+◌, ◌≤◌, ◌++◌, length, take, All, Some, None, IfSome, IfNone, pos, ◌≤ℤ◌};
+ghost use Rattle.std.specs.Prelude.{◌≡◌, ◌≤◌, take, All, None, IfSome, IfNone, pos, ◌≤ℤ◌};
 ghost use Rattle.time_patterns.specs.declared.field.Field.{Field};
-ghost use Rattle.time_patterns.specs.Digits.{AreWithin, fields_text};
+ghost use Rattle.time_patterns.specs.Digits.{fields_text};
 ghost use Rattle.time_patterns.specs.Steps.{AreFields, IsOnlyShape, LacksFields, MayBegin};
 ghost use Rattle.time_patterns.specs.declared.civil_time.CivilTime.{CivilTime};
 ghost use Rattle.time_patterns.specs.CivilTime.{numbers_of};
@@ -73,7 +73,6 @@ const COLON: Field = Field {
 const SHORTEST: usize = 17;
 
 impl Shape {
-    ghost use Rattle.time_patterns.specs.declared.shape.Shape.{Shape};
     ghost use Rattle.time_patterns.specs.Forms.{first_year, last_year};
 
     /// The year, the month, the day, the hour, the minute and the second, in order.

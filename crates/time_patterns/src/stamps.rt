@@ -1,6 +1,5 @@
 //! The stamps of lines: read, tested and printed.
 ghost use Rattle.std.specs.Prelude.{◌≡◌, ◌≤◌, ◌↔◌, take, IsTrue, IfSome, IfNone};
-ghost use Rattle.time_patterns.specs.declared.form.Form.{Form};
 ghost use Rattle.time_patterns.specs.Stamps.{HasNoStamp, IsPrintable, IsStampOf, Prints};
 ghost use Rattle.time_patterns.specs.Steps.{IsFirstFit, IsFirstTail, IsSound, IsTail, LacksTail, LackTails, NoneFits};
 

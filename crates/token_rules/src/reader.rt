@@ -14,7 +14,7 @@ pub struct TokenReader<'b> {
 }
 
 impl<'b> TokenReader<'b> {
-    ghost use Rattle.std.specs.Prelude.{◌≡◌, ◌<◌, ◌≤◌, ◌↔◌, length, IsTrue, IfSome, IsNone};
+    ghost use Rattle.std.specs.Prelude.{◌≡◌, ◌≤◌, ◌↔◌, length, IsTrue, IfSome, IsNone};
     ghost use Rattle.token_rules.specs.Reading.{body_of};
     ghost use Rattle.token_rules.specs.Tokens.{IsOutside, IsToken, IsVariableAt, OnlyDelimiters};
 

@@ -1,7 +1,7 @@
 //! Delimiters and runs of other bytes, found by windows.
-ghost use Rattle.std.specs.Prelude.{◌≡◌, ◌+◌, ◌<◌, ◌≤◌, ◌||◌, ◌&&◌, ℕ, nat_le, length, IfSome, IsNone, IsTrue, slice_index};
+ghost use Rattle.std.specs.Prelude.{◌≡◌, ◌+◌, ◌<◌, ◌≤◌, ◌||◌, ◌&&◌, nat_le, length, IfSome, IsNone, IsTrue, slice_index};
 ghost use Rattle.token_rules.specs.StepsOfWindows.{IsRun, Shows};
-ghost use Rattle.token_rules.specs.Tokens.{IsDelimiter, OnlyDelimiters, is_token_byte};
+ghost use Rattle.token_rules.specs.Tokens.{OnlyDelimiters, is_token_byte};
 
 use crate::classes::{self, DIGIT, HEXADECIMAL, LETTER};
 use crate::tokens::run_from;

@@ -1,6 +1,6 @@
 -- What `upgrade` answers, from what its steps leave.
-use Rattle.std.proofs.Common.{◌≡◌, ◌≢◌, ◌⊎◌, ◌≤◌, ◌<◌, ◌==◌, ◌||◌, inl, inr, ⊎_elim, refl, sym, ap, ap₂, subst, ◌∙◌, ℕ, Bool, true, false, if◌then◌else◌, List, [], ◌∷◌, ◌++◌, length, map, Option, Some, None, arith}
-use Rattle.std.specs.Prelude.{All, IfSome, is_some}
+use Rattle.std.proofs.Common.{◌≡◌, ◌⊎◌, ◌≤◌, ◌<◌, ◌==◌, ◌||◌, inl, inr, ⊎_elim, refl, ap, ap₂, subst, ◌∙◌, ℕ, Bool, true, false, if◌then◌else◌, List, [], ◌∷◌, ◌++◌, length, map, Option, Some, None, arith}
+use Rattle.std.specs.Prelude.{All, IfSome}
 use Rattle.std.specs.List.{flat_map}
 use Rattle.std.proofs.lemmas.List.Elements.{All-head, All-nil, All-tail, All-weaker, All-cons}
 use Rattle.std.proofs.lemmas.Option.{IfSome_then}
@@ -9,30 +9,29 @@ use Rattle.log_seams.specs.Outside.{Rose}
 use Rattle.log_seams.proofs.MomentLemmas.{keeps_on}
 use Rattle.record_format.specs.declared.header.Header.{Header}
 use Rattle.record_format.specs.declared.header.TheConstants.{LAST_VERSION}
-use Rattle.archive_meaning.specs.Held.{Held, content_of}
+use Rattle.archive_meaning.specs.Held.{content_of}
 use Rattle.archive_meaning.specs.Stands.{StandsFor}
 use Rattle.archive_meaning.specs.declared.entry.JournalEntry.{JournalEntry}
 use Rattle.archive_open.specs.Shown.{Opens, RefusedAt, Shown}
 use Rattle.search_walk.specs.Journal.{OfJournal}
 use Rattle.sink_pieces.specs.Output.{Grew, GrewByFront}
 use Rattle.file_lines.specs.Directory.{FileLine, directory_from}
-use Rattle.command_refusals.specs.Ending.{EndsWith, EndsWithoutMemory, EndsWithoutOutput, RoseIn, SaysIn, Stayed, TookNothing}
+use Rattle.command_refusals.specs.Ending.{EndsWith, RoseIn, SaysIn, Stayed, TookNothing}
 use Rattle.command_refusals.specs.Outcome.{of_upgrade}
 use Rattle.command_refusals.specs.Outside.{Outside}
 use Rattle.command_refusals.specs.Refusal.{TellsNoMemory, line_of, status_of}
 use Rattle.command_refusals.specs.declared.outcome.PartCause.{PartCause}
 use Rattle.command_refusals.specs.declared.outcome.UpgradeRefusal.{UpgradeRefusal}
-use Rattle.command_refusals.specs.declared.refusal.Refusal.TheVariants.{SinkFault}
 use Rattle.command_refusals.specs.GoesOn.{DiskGoesOn}
 use Rattle.command_refusals.proofs.GoingLemmas.{DiskGoesOn-seen, KeepsBytes-same}
 use Rattle.command_answers.specs.Ingested.{FileOutcome, PrintsCame, line_of_came}
 use Rattle.command_answers.specs.Taken.{file_error, file_status, gravest, has}
 use Rattle.command_answers.specs.Answers.{AnswersUpgrade}
-use Rattle.command_answers.specs.Upgrading.{AreOlder, CameOfText, EndsTexts, EndsUpgrade, FromNew, HasTextCause, IsHeaderFor, MadeNone, MakesNew, MeetsNone, MetNone, NamedNotAll, NamesMetNone, NamesSome, PrintsUpgrade, RefusesMakingNew, RefusesNewNames, Upgrades, header_for}
+use Rattle.command_answers.specs.Upgrading.{AreOlder, CameOfText, EndsTexts, EndsUpgrade, FromNew, HasTextCause, IsHeaderFor, MadeNone, MakesNew, MeetsNone, MetNone, NamedNotAll, NamesMetNone, NamesSome, PrintsUpgrade, header_for}
 use Rattle.ingest_workers.specs.declared.outcome.Outcome.{Outcome}
 use Rattle.upgrade_command.specs.Files.{bare, bares_by}
 use Rattle.upgrade_command.specs.Old.{IsOld, RefusesOld}
-use Rattle.upgrade_command.specs.Taking.{MakesNone, NamesFirst, TakesFiles, TakesNone, TakesTexts}
+use Rattle.upgrade_command.specs.Taking.{MakesNone, TakesFiles, TakesNone}
 
 -- ---- the archive
 

@@ -1,7 +1,7 @@
 -- What a new archive has of each file.
-use Rattle.std.proofs.Common.{◌≡◌, ◌≢◌, ◌+◌, ◌≤◌, ◌<◌, ◌&&◌, ◌⊎◌, inl, inr, refl, sym, ap, ap₂, subst, ◌∙◌, ℕ, zero, suc, Bool, true, false, List, [], ◌∷◌, ◌++◌, length, map, Option, Some, None, arith}
-use Rattle.std.specs.Prelude.{All, IfSome, is_some, not, option_map, slice_get}
-use Rattle.std.specs.List.{AllZip, filter_map}
+use Rattle.std.proofs.Common.{◌≡◌, ◌≢◌, ◌+◌, ◌≤◌, ◌<◌, ◌&&◌, inl, inr, refl, sym, ap, ap₂, subst, ◌∙◌, ℕ, zero, suc, Bool, true, false, List, [], ◌∷◌, ◌++◌, length, map, Option, Some, None, arith}
+use Rattle.std.specs.Prelude.{All, is_some, option_map, slice_get}
+use Rattle.std.specs.List.{AllZip}
 use Rattle.std.proofs.lemmas.List.Elements.{All-nil}
 use mathlib.Core.List.{IsPrefix}
 use Rattle.log_seams.specs.declared.disk.Disk.{Ghosts as DiskGhosts}
@@ -12,24 +12,19 @@ use Rattle.disk_journal.specs.Journal.{state_of}
 use Rattle.disk_journal.specs.declared.journal.Journal.{Journal}
 use Rattle.archive_meaning.specs.Held.{File, Held, Piece, files_from, is_ended, is_whole, messages_of, nothing_held}
 use Rattle.archive_meaning.specs.Legal.{Run}
-use Rattle.archive_meaning.specs.Stands.{IsLegal}
 use Rattle.archive_meaning.specs.declared.entry.JournalEntry.{JournalEntry}
 use Rattle.archive_open.specs.Shown.{counted}
 use Rattle.archive_open.specs.declared.files.FileEntry.{FileEntry}
 use Rattle.archive_text.specs.State.{StoredState}
 use Rattle.ingest_meaning.specs.Given.{AreAllOf}
-use Rattle.ingest_meaning.specs.Parts.{IsCut, IsOpen, Part, columns_of, front, messages_in, rest_of, segments_from}
-use Rattle.ingest_workers.specs.Ingested.{IsFileOf, OfMessages, not_begun, plan_of, told_entries}
+use Rattle.ingest_meaning.specs.Parts.{IsCut, Part, columns_of, front, messages_in, rest_of, segments_from}
+use Rattle.ingest_workers.specs.Ingested.{IsFileOf, OfMessages, plan_of, told_entries}
 use Rattle.ingest_workers.specs.Journal.{FrontHolds}
 use Rattle.ingest_workers.specs.JobDone.{in_source}
 use Rattle.ingest_workers.specs.declared.job.Job.{Job}
 use Rattle.ingest_workers.specs.declared.outcome.Cause.{Cause}
-use Rattle.ingest_workers.specs.declared.outcome.Cause.TheVariants.{OutOfMemory}
-use Rattle.ingest_workers.specs.declared.outcome.Outcome.{Outcome}
-use Rattle.message_reader.specs.Versions.{MessagesOf}
 use Rattle.file_lines.specs.Directory.{FileLine, line_of_file}
 use Rattle.command_answers.specs.Ingested.{FileOutcome, IsCutInto, line_of_came}
-use Rattle.command_refusals.specs.declared.outcome.PartCause.{PartCause}
 use Rattle.name_records.proofs.LeftLemmas.{of_told}
 use Rattle.write_commands.specs.Jobs.{of_cause}
 use Rattle.write_commands.proofs.ContentLemmas.{HasParts}

@@ -1,30 +1,23 @@
 -- The steps by which a new archive gets its files.
-use Rattle.std.proofs.Common.{◌≡◌, ◌≢◌, ◌+◌, ◌-◌, ◌≤◌, ◌<◌, inl, inr, refl, sym, ap, subst, ◌∙◌, ℕ, zero, suc, true, List, [], ◌∷◌, ◌++◌, length, map, take, drop, Option, Some, None, Result, Ok, Err, arith}
-use Rattle.std.specs.Prelude.{All, IfErr, IfOk, IfSome, is_ok, is_some, option_map}
-use Rattle.std.proofs.lemmas.List.{length-append, length-map, take-append-drop}
-use Rattle.log_seams.specs.Disk.{DiskState, IsLawful, LeavesOnly, Rests}
+use Rattle.std.proofs.Common.{◌≡◌, ◌≢◌, ◌-◌, ◌≤◌, ◌<◌, inl, inr, refl, sym, ap, subst, ◌∙◌, ℕ, zero, suc, true, List, [], ◌∷◌, ◌++◌, length, map, take, drop, Option, Some, None, Result, Ok, Err, arith}
+use Rattle.std.specs.Prelude.{IfErr, IfOk, IfSome, is_ok, is_some, option_map}
+use Rattle.std.proofs.lemmas.List.{length-append, take-append-drop}
+use Rattle.log_seams.specs.Disk.{DiskState, IsLawful, Rests}
 use Rattle.log_seams.specs.Outside.{Rose}
 use Rattle.log_seams.specs.declared.disk.Disk.{Ghosts as DiskGhosts}
 use Rattle.record_format.specs.declared.header.Header.{Header}
-use Rattle.record_format.specs.Header.{IsHeader}
 use Rattle.dict_core.specs.Books.{BookState}
 use Rattle.disk_journal.specs.Created.{CreateLeaves, MakesEmpty}
 use Rattle.disk_journal.specs.declared.refusals.CreateRefusal.{CreateRefusal}
 use Rattle.disk_journal.specs.Journal.{state_of}
 use Rattle.disk_journal.specs.State.{JournalState}
 use Rattle.disk_journal.specs.declared.journal.Journal.{Journal}
-use Rattle.archive_meaning.specs.declared.TheConstants.{MAX_NAMES}
-use Rattle.archive_meaning.specs.Held.{File, Held, content_of}
+use Rattle.archive_meaning.specs.Held.{File, content_of}
 use Rattle.archive_meaning.specs.Spelled.{end_of}
-use Rattle.archive_meaning.specs.declared.entry.JournalEntry.{JournalEntry}
-use Rattle.archive_open.specs.Shown.{HasLastGate, Opens, RefusedAt, Shown, StandsForNone, counted}
-use Rattle.archive_open.specs.declared.files.FileEntry.{FileEntry}
-use Rattle.archive_text.specs.Caused.{CountsBy}
+use Rattle.archive_open.specs.Shown.{HasLastGate, Opens, Shown, StandsForNone, counted}
 use Rattle.archive_text.specs.declared.cause.TextCause.{TextCause}
 use Rattle.archive_jobs.specs.Lent.{IsRead, LeavesCause, LentDisk, OpenerState}
 use Rattle.archive_text.specs.State.{StoredState}
-use Rattle.ingest_meaning.specs.Room.{files_size}
-use Rattle.disk_seal.specs.Told.{IfTold}
 use Rattle.disk_seal.specs.declared.files.RegisterRefusal.{RegisterRefusal}
 use Rattle.disk_seal.proofs.ToldLemmas.{told_map}
 use Rattle.ingest_workers.specs.Ingested.{HasIngested, HaveCauses, HoldTexts, plan_of, told_entries}
@@ -38,11 +31,10 @@ use Rattle.search_walk.specs.Journal.{OfJournal}
 use Rattle.command_refusals.specs.GoesOn.{DiskGoesOn}
 use Rattle.command_refusals.specs.Outcome.{upgrade_from_create, upgrade_from_register}
 use Rattle.command_refusals.specs.declared.outcome.UpgradeRefusal.{UpgradeRefusal}
-use Rattle.command_answers.specs.Benched.{at_moment}
 use Rattle.command_answers.specs.Ingested.{LeavesJournal}
-use Rattle.command_answers.specs.Upgrading.{EndsTexts, FromNew, LacksRoomFor, NamedNotAll, NamesSome}
+use Rattle.command_answers.specs.Upgrading.{EndsTexts, LacksRoomFor, NamedNotAll, NamesSome}
 use Rattle.upgrade_command.specs.Files.{stop_by, text_faults, text_left, text_name}
-use Rattle.upgrade_command.specs.Filling.{DidFill, HasNoTexts, IsNewJournal, NamesOnly}
+use Rattle.upgrade_command.specs.Filling.{DidFill, HasNoTexts, IsNewJournal}
 use Rattle.upgrade_command.specs.Taking.{MakesNone, NamesFirst}
 use Rattle.upgrade_command.proofs.MadeLemmas.{from_new, leaves_from}
 use Rattle.upgrade_command.proofs.OldLemmas.{last_refused}

@@ -1,5 +1,5 @@
 -- What was taken in fits in the dictionaries of the new archive.
-use Rattle.std.proofs.Common.{◌≡◌, ◌+◌, ◌++◌, ◌∷◌, [], ◌≤◌, ◌==◌, ⊎_elim, inl, inr, refl, sym, ap, ap₂, ◌∙◌, subst, ℕ, zero, suc, Bool, true, false, if◌then◌else◌, List, length, map, take, Option, Some, None, get_or, append-nil, arith}
+use Rattle.std.proofs.Common.{◌≡◌, ◌+◌, ◌++◌, ◌∷◌, [], ◌≤◌, ◌==◌, ⊎_elim, refl, sym, ap, ap₂, ◌∙◌, subst, ℕ, zero, suc, Bool, true, false, if◌then◌else◌, List, length, map, take, Option, Some, get_or, append-nil, arith}
 use Rattle.std.specs.Prelude.{All, IfSome, nat_eq, slice_get}
 use Rattle.std.specs.List.{AllZip, Contains, IsDistinct}
 use Rattle.std.specs.Cmp.Lexicographic.{bytes_decides, nat_list_eq_equiv, pointwise}

@@ -1,11 +1,10 @@
 -- What a second disk is left with, from the making of the new archive on.
-use Rattle.std.proofs.Common.{◌≡◌, ◌≤◌, ◌<◌, ◌⊎◌, inr, refl, sym, ap, subst, ◌∙◌, ℕ, List, map, Option, Some}
+use Rattle.std.proofs.Common.{◌≡◌, ◌≤◌, ◌<◌, inr, refl, sym, ap, subst, ◌∙◌, ℕ, List, Option, Some}
 use Rattle.std.specs.Prelude.{is_some, option_map}
 use Rattle.log_seams.specs.Disk.{DiskState, IsLawful, LeavesOnly}
 use Rattle.log_seams.specs.declared.disk.Disk.{Ghosts as DiskGhosts}
 use Rattle.logtype_text.specs.Laws.{OneListOfParts}
 use Rattle.record_format.specs.declared.header.Header.{Header}
-use Rattle.record_format.specs.declared.header.TheConstants.{LAST_VERSION}
 use Rattle.disk_journal.specs.Created.{MakesEmpty}
 use Rattle.disk_journal.specs.Journal.{state_of}
 use Rattle.disk_journal.specs.declared.journal.Journal.{Journal}

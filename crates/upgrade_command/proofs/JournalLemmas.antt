@@ -1,13 +1,11 @@
 -- The journal in which files are named and taken in.
-use Rattle.std.proofs.Common.{◌≡◌, ◌+◌, ◌≤◌, ◌<◌, ◌⊎◌, inl, inr, refl, sym, ap, subst, ◌∙◌, ℕ, true, List, [], ◌∷◌, ◌++◌, length, take, Option, Some, None, arith, append-nil}
+use Rattle.std.proofs.Common.{◌≡◌, ◌⊎◌, inl, inr, refl, sym, subst, ◌∙◌, ℕ, true, List, [], ◌++◌, Option, Some, None, arith, append-nil}
 use Rattle.std.specs.Prelude.{All, IfSome, is_some}
 use Rattle.std.proofs.lemmas.List.{take_all}
 use Rattle.std.proofs.lemmas.List.Elements.{All-nil, All-weaker}
-use Rattle.log_seams.specs.Disk.{DiskState, IsLawful}
+use Rattle.log_seams.specs.Disk.{IsLawful}
 use Rattle.log_seams.specs.declared.disk.Disk.{Ghosts as DiskGhosts}
 use Rattle.log_seams.proofs.MomentLemmas.{started}
-use Rattle.record_format.specs.Header.{IsHeader}
-use Rattle.record_format.specs.declared.header.Header.{Header}
 use Rattle.disk_journal.specs.Journal.{state_of}
 use Rattle.disk_journal.specs.declared.journal.Journal.{Journal}
 use Rattle.archive_meaning.specs.Held.{Held, nothing_held}
@@ -25,11 +23,10 @@ use Rattle.ingest_workers.specs.declared.job.Job.{Job}
 use Rattle.name_records.specs.Left.{HasGoneOn, LeavesEntries, StandsForOr}
 use Rattle.name_records.specs.Named.{AreNamesOf, HasNames}
 use Rattle.name_records.proofs.LeftLemmas.{by_told, either_left, goes_nowhere, goes_then, images_stand, of_told, store_goes, store_left}
-use Rattle.name_records.proofs.NamedLemmas.{left_behind, names_goes}
+use Rattle.name_records.proofs.NamedLemmas.{left_behind}
 use Rattle.command_answers.specs.Ingested.{LeavesJournal}
-use Rattle.write_commands.proofs.PieceLemmas.{HasGrown, IsNewFrom, grown}
-use Rattle.write_commands.specs.Jobs.{AreNotBegun}
-use Rattle.upgrade_command.specs.Filling.{AreFilled, DidFill, FillsNamed, IsNewJournal}
+use Rattle.write_commands.proofs.PieceLemmas.{IsNewFrom, grown}
+use Rattle.upgrade_command.specs.Filling.{DidFill, FillsNamed, IsNewJournal}
 use Rattle.upgrade_command.proofs.RecordLemmas.{entries_named, names_held}
 
 -- ---- what was added behind the names

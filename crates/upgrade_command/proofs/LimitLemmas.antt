@@ -1,5 +1,5 @@
 -- Why not all of a file was taken in: a dictionary or the archive was full.
-use Rattle.std.proofs.Common.{◌≡◌, ◌≢◌, ◌+◌, ◌<◌, ◌⊎◌, inl, inr, refl, sym, ap, ap₂, subst, ◌∙◌, ℕ, zero, suc, true, List, [], ◌∷◌, length, map, take, Option, Some, None, arith}
+use Rattle.std.proofs.Common.{◌≡◌, ◌≢◌, ◌+◌, ◌<◌, ◌⊎◌, inl, inr, refl, sym, ap, subst, ◌∙◌, ℕ, zero, suc, true, List, [], ◌∷◌, length, take, Option, Some, None, arith}
 use Rattle.std.specs.Prelude.{IfSome, is_some, option_map, slice_get}
 use Rattle.std.specs.List.{Contains}
 use Rattle.std.proofs.lemmas.Option.{IfSome_then, get_or_from_slice_get, slice_get_within}
@@ -14,16 +14,15 @@ use Rattle.archive_meaning.specs.declared.entry.JournalEntry.{JournalEntry}
 use Rattle.archive_open.specs.declared.files.FileEntry.{FileEntry}
 use Rattle.archive_text.specs.State.{StoredState}
 use Rattle.ingest_meaning.specs.Dictionaries.{IsTextOf, book_texts}
-use Rattle.ingest_meaning.specs.Given.{AreAllOf, IsAmongFirst, IsMessageAt, IsNextOf}
-use Rattle.ingest_workers.specs.Causes.{EndsLog, HasJobCause, HasLogCause, Log, log_of}
-use Rattle.ingest_workers.specs.InTurn.{AreFullInTurn, IsMetBy, IsNextFor}
-use Rattle.ingest_workers.specs.Ingested.{HadNoRoomOver, IsFullByGiven as IsFullByJobs, IsThereOrGiven as IsThereOrGivenByJobs, IsLeftBy, WereGiven as WereGivenByJobs, grounds_over, plan_of, told_entries}
+use Rattle.ingest_meaning.specs.Given.{AreAllOf, IsAmongFirst, IsNextOf}
+use Rattle.ingest_workers.specs.Causes.{EndsLog, HasJobCause, HasLogCause, Log}
+use Rattle.ingest_workers.specs.InTurn.{AreFullInTurn, IsMetBy}
+use Rattle.ingest_workers.specs.Ingested.{IsFullByGiven as IsFullByJobs, IsThereOrGiven as IsThereOrGivenByJobs, IsLeftBy, WereGiven as WereGivenByJobs, grounds_over, plan_of, told_entries}
 use Rattle.ingest_workers.specs.JobDone.{in_source}
 use Rattle.ingest_workers.specs.Met.{WasMet}
 use Rattle.ingest_workers.specs.Outcome.{met_by, unsealed_by}
 use Rattle.ingest_workers.specs.declared.job.Job.{Job}
 use Rattle.ingest_workers.specs.declared.outcome.Cause.{Cause}
-use Rattle.ingest_workers.specs.declared.outcome.Outcome.{Outcome}
 use Rattle.ingest_workers.proofs.FullLemmas.{full_by_wider}
 use Rattle.disk_seal.specs.View.{StoreView}
 use Rattle.message_reader.specs.Taken.{IsBeforeLong, IsReadShort}
@@ -32,14 +31,14 @@ use Rattle.command_refusals.specs.Ending.{RoseIn}
 use Rattle.command_refusals.specs.LogLimits.{most_messages}
 use Rattle.command_refusals.specs.declared.outcome.PartCause.{PartCause}
 use Rattle.command_refusals.specs.declared.outcome.UpgradeRefusal.{UpgradeRefusal}
-use Rattle.command_answers.specs.Ingested.{DidNotFit, FileOutcome, HasEnded, HasMoreThan, IsFullInTurn, IsStoppedBy, IsThereOrGiven, OfStopped, WasMetInOneOf, unsealed_of}
+use Rattle.command_answers.specs.Ingested.{FileOutcome, HasEnded, HasMoreThan, IsFullInTurn, IsStoppedBy, IsThereOrGiven, OfStopped, WasMetInOneOf, unsealed_of}
 use Rattle.command_answers.specs.Upgrading.{HasLimitCause, texts_read}
 use Rattle.write_commands.specs.Jobs.{of_cause}
 use Rattle.write_commands.proofs.ContentLemmas.{AreJobsOf as HaveJobs, given_of_names}
 use Rattle.write_commands.proofs.FitLemmas.{fit_of_job}
 use Rattle.write_commands.proofs.TakeInLemmas.{not_opening}
-use Rattle.upgrade_command.specs.Files.{came_by, outcome_by, text_faults, text_left, text_name}
-use Rattle.upgrade_command.proofs.CameLemmas.{IsAt, came_at, some_is, there_at}
+use Rattle.upgrade_command.specs.Files.{came_by, outcome_by, text_left}
+use Rattle.upgrade_command.proofs.CameLemmas.{came_at, there_at}
 
 -- where a reading was ended, its count of faults is told to have risen
 pub stop_rises : (stop : Option UpgradeRefusal) (name : List ℕ) → stop ≢ None → RoseIn ((texts_read stop).reads name)

@@ -1,16 +1,15 @@
 -- The journal of an archive that was just made, and what it leaves of the disk.
-use Rattle.std.proofs.Common.{◌≡◌, ◌+◌, ◌≤◌, refl, sym, ap, subst, ◌∙◌, ℕ, Bool, true, List, [], ◌∷◌, ◌++◌, length, Option, Some, None, arith, append-nil}
+use Rattle.std.proofs.Common.{◌≡◌, ◌≤◌, refl, sym, ap, subst, ◌∙◌, ℕ, true, List, [], ◌∷◌, ◌++◌, length, Option, Some, None, arith}
 use Rattle.std.specs.Prelude.{IfSome, is_some}
 use Rattle.std.proofs.lemmas.List.{length-append}
 use Rattle.log_seams.specs.Disk.{DiskState, IsLawful, IsSynced, Only, Reads}
 use Rattle.log_seams.specs.Outside.{Rose}
 use Rattle.record_format.specs.Header.{IsHeader, header_bytes}
 use Rattle.record_format.specs.declared.header.Header.{Header}
-use Rattle.record_format.specs.declared.header.TheConstants.{HEADER_LEN, LAST_VERSION}
+use Rattle.record_format.specs.declared.header.TheConstants.{HEADER_LEN}
 use Rattle.record_format.proofs.HeaderLemmas.{length-header_bytes}
 use Rattle.disk_journal.specs.Created.{MakesEmpty}
 use Rattle.disk_journal.specs.Place.{AtEnd, entries}
-use Rattle.disk_journal.specs.Record.{Stands}
 use Rattle.disk_journal.specs.State.{JournalState}
 use Rattle.disk_journal.specs.declared.record.TheConstants.{CLOSED_GATE}
 use Rattle.archive_meaning.specs.Held.{Held, nothing_held}
@@ -19,7 +18,7 @@ use Rattle.archive_meaning.specs.Spelled.{end_of, records_of}
 use Rattle.archive_meaning.specs.Stands.{IsLegal}
 use Rattle.archive_meaning.specs.declared.entry.JournalEntry.{JournalEntry}
 use Rattle.archive_meaning.proofs.RunLemmas.{one_held}
-use Rattle.disk_seal.specs.Told.{IfTold, journal_in}
+use Rattle.disk_seal.specs.Told.{journal_in}
 use Rattle.ingest_workers.specs.Ingested.{told_entries}
 use Rattle.name_records.proofs.LeftLemmas.{by_told}
 use Rattle.command_refusals.specs.GoesOn.{DiskGoesOn}

@@ -1,5 +1,5 @@
 -- The archive that is upgraded, as it was opened.
-use Rattle.std.proofs.Common.{◌≡◌, ◌≢◌, ◌+◌, ◌-◌, ◌≤◌, ◌<◌, ◌⊎◌, inr, refl, sym, ap, subst, ◌∙◌, ℕ, List, [], ◌∷◌, ◌++◌, length, map, Option, Some, None, Result, Ok, Err, arith}
+use Rattle.std.proofs.Common.{◌≡◌, ◌≢◌, ◌+◌, ◌-◌, ◌≤◌, ◌<◌, inr, refl, sym, ap, subst, ◌∙◌, ℕ, List, [], ◌∷◌, length, map, Option, Some, None, Result, Ok, Err, arith}
 use Rattle.std.specs.Prelude.{All, IfErr, IfOk}
 use Rattle.std.proofs.lemmas.List.{length-append, length-map}
 use Rattle.std.proofs.lemmas.List.Elements.{All-append, All-cons, All-head, All-nil, All-tail}
@@ -11,11 +11,11 @@ use Rattle.record_format.specs.Header.{IsHeader}
 use Rattle.record_format.specs.declared.header.Header.{Header}
 use Rattle.record_format.specs.declared.header.TheConstants.{LAST_VERSION}
 use Rattle.archive_meaning.specs.declared.TheConstants.{MAX_FILES, MAX_NAME_LEN}
-use Rattle.archive_meaning.specs.Held.{File, Held, Piece, content_of, files_from, nothing_held}
+use Rattle.archive_meaning.specs.Held.{Held, Piece, files_from, nothing_held}
 use Rattle.archive_meaning.specs.Legal.{AreNamed, Run}
 use Rattle.archive_meaning.specs.declared.entry.JournalEntry.{JournalEntry}
 use Rattle.archive_meaning.specs.declared.entry.JournalEntry.TheVariants.{Files, Segment, Types, Words}
-use Rattle.archive_open.specs.Shown.{HasLastGate, IsArchiveOf, IsGate, Opens, RefusedAt, Shown, StandsForNone, counted}
+use Rattle.archive_open.specs.Shown.{HasLastGate, IsGate, Opens, RefusedAt, Shown, StandsForNone, counted}
 use Rattle.archive_open.specs.declared.files.FileEntry.{FileEntry}
 use Rattle.search_walk.specs.Journal.{OfJournal}
 use Rattle.name_records.specs.Named.{IsShort, names_of}

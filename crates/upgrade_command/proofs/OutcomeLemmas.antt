@@ -1,6 +1,6 @@
 -- What is told of each file: that it is the archive's, and why not all of it was taken in.
-use Rattle.std.proofs.Common.{◌≡◌, ◌≢◌, ◌+◌, ◌-◌, ◌≤◌, ◌<◌, ◌⊎◌, inl, inr, ⊎_elim, refl, sym, ap, subst, ◌∙◌, ℕ, zero, suc, Bool, true, false, List, [], ◌∷◌, length, map, Option, Some, None, arith}
-use Rattle.std.specs.Prelude.{All, IfSome, is_some, not, option_map, slice_get}
+use Rattle.std.proofs.Common.{◌≡◌, ◌≢◌, ◌-◌, ◌⊎◌, inl, inr, refl, sym, ap, subst, ◌∙◌, ℕ, suc, Bool, true, false, List, [], ◌∷◌, length, map, Option, Some, None, arith}
+use Rattle.std.specs.Prelude.{IfSome, is_some, not, option_map, slice_get}
 use Rattle.std.specs.List.{AllZip}
 use Rattle.std.proofs.lemmas.List.{length-map}
 use Rattle.std.proofs.lemmas.Option.{IfSome_then, slice_get-map, slice_get_within}
@@ -13,17 +13,16 @@ use Rattle.record_format.specs.declared.header.TheConstants.{LAST_VERSION}
 use Rattle.disk_journal.specs.Journal.{state_of}
 use Rattle.disk_journal.specs.declared.journal.Journal.{Journal}
 use Rattle.archive_meaning.specs.Held.{File, Held, content_of, file_text}
-use Rattle.archive_meaning.specs.Stands.{StandsFor}
 use Rattle.archive_meaning.specs.declared.entry.JournalEntry.{JournalEntry}
 use Rattle.archive_open.specs.Shown.{IsArchiveOf, Opens, Shown, counted}
 use Rattle.archive_open.specs.declared.files.FileEntry.{FileEntry}
 use Rattle.archive_text.specs.State.{StoredState}
 use Rattle.archive_text.specs.Told.{TellsFile}
 use Rattle.archive_text.specs.declared.cause.TextCause.{TextCause}
-use Rattle.archive_jobs.specs.Jobs.{AreJobsOf, IsJobOf}
+use Rattle.archive_jobs.specs.Jobs.{IsJobOf}
 use Rattle.ingest_meaning.specs.Given.{AreAllOf}
-use Rattle.ingest_workers.specs.Causes.{HasJobCause, Log, log_of}
-use Rattle.ingest_workers.specs.Ingested.{HasItsCause, IsFileOf, OfMessages, grounds_over, not_begun, plan_of}
+use Rattle.ingest_workers.specs.Causes.{HasJobCause, Log}
+use Rattle.ingest_workers.specs.Ingested.{OfMessages, grounds_over, not_begun, plan_of}
 use Rattle.ingest_workers.specs.JobDone.{in_source}
 use Rattle.ingest_workers.specs.declared.job.Job.{Job}
 use Rattle.ingest_workers.specs.declared.outcome.Cause.{Cause}
@@ -34,12 +33,11 @@ use Rattle.message_reader.proofs.VersionLawLemmas.{messages_exist}
 use Rattle.row_codec.specs.declared.namer.Which.{Which}
 use Rattle.search_walk.specs.Journal.{OfJournal}
 use Rattle.command_refusals.specs.LogLimits.{most_messages}
-use Rattle.command_refusals.specs.declared.outcome.PartCause.{PartCause}
 use Rattle.command_refusals.specs.declared.outcome.UpgradeRefusal.{UpgradeRefusal}
 use Rattle.command_answers.specs.Ingested.{FileOutcome, HasMoreThan, WasCutShort}
-use Rattle.command_answers.specs.Upgrading.{AreUpgrades, CameOfText, HasTextCause, IsOutcomeOf, IsUpgradeOf}
+use Rattle.command_answers.specs.Upgrading.{AreUpgrades, HasTextCause, IsOutcomeOf, IsUpgradeOf}
 use Rattle.write_commands.specs.Jobs.{of_cause}
-use Rattle.upgrade_command.specs.Files.{outcome_by, stop_by, text_faults, text_left, text_name}
+use Rattle.upgrade_command.specs.Files.{outcome_by, stop_by, text_left}
 use Rattle.upgrade_command.proofs.CameLemmas.{some_is}
 use Rattle.upgrade_command.proofs.FileLemmas.{IsFileFor}
 use Rattle.upgrade_command.proofs.RecordLemmas.{element_at}

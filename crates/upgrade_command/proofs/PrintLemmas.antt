@@ -1,5 +1,5 @@
 -- What is printed of the files, one after the other.
-use Rattle.std.proofs.Common.{◌≡◌, ◌≢◌, ◌+◌, ◌<◌, ◌≤◌, inl, inr, refl, sym, ap, ap₂, subst, ◌∙◌, ℕ, zero, suc, List, [], ◌∷◌, ◌++◌, length, map, take, get_or, Option, Some, None, Result, Ok, Err, arith}
+use Rattle.std.proofs.Common.{◌≡◌, ◌+◌, ◌<◌, ◌≤◌, inl, inr, refl, sym, ap, ap₂, subst, ◌∙◌, ℕ, zero, suc, List, [], ◌∷◌, ◌++◌, length, map, take, get_or, Option, Some, None, Result, Err, arith}
 use Rattle.std.specs.Prelude.{option_map}
 use Rattle.std.specs.List.{flat_map}
 use Rattle.std.proofs.Math.Seq.{take-suc}
@@ -12,7 +12,7 @@ use Rattle.archive_open.specs.declared.files.FileEntry.{FileEntry}
 use Rattle.ingest_workers.specs.declared.job.Job.{Job}
 use Rattle.ingest_workers.specs.declared.outcome.Outcome.{Outcome}
 use Rattle.file_lines.specs.Directory.{FileLine, directory_from}
-use Rattle.command_refusals.specs.Ending.{EndsWith, SaysIn, Stayed}
+use Rattle.command_refusals.specs.Ending.{SaysIn, Stayed}
 use Rattle.command_refusals.specs.Outcome.{from_print, of_read, of_upgrade}
 use Rattle.command_refusals.specs.Outside.{Outside}
 use Rattle.command_refusals.specs.Refusal.{line_of, status_of}

@@ -1,8 +1,7 @@
 -- What a second disk is left with, where the files were named and taken in.
-use Rattle.std.proofs.Common.{◌≡◌, ◌≢◌, ◌+◌, ◌-◌, ◌≤◌, ◌<◌, ◌⊎◌, inl, inr, refl, sym, ap, ap₂, subst, ◌∙◌, ℕ, Bool, true, false, List, [], ◌∷◌, ◌++◌, length, map, take, drop, Option, Some, None, arith}
-use Rattle.std.specs.Prelude.{All, IfSome, is_some, not, option_map, slice_get}
+use Rattle.std.proofs.Common.{◌≡◌, ◌≢◌, ◌-◌, ◌≤◌, ◌<◌, ◌⊎◌, inl, inr, refl, sym, ap, subst, ◌∙◌, ℕ, Bool, true, false, List, [], ◌++◌, length, Option, Some, None, arith}
+use Rattle.std.specs.Prelude.{All, is_some, not, option_map, slice_get}
 use Rattle.std.specs.List.{AllZip}
-use Rattle.std.proofs.lemmas.List.{length-map, take-append-drop}
 use Rattle.std.proofs.lemmas.List.Elements.{All-nil}
 use Rattle.std.proofs.lemmas.Option.{slice_get_within}
 use Rattle.log_seams.specs.Disk.{DiskState, IsLawful}
@@ -11,11 +10,10 @@ use Rattle.log_seams.specs.declared.disk.Disk.{Ghosts as DiskGhosts}
 use Rattle.logtype_text.specs.Laws.{OneListOfParts}
 use Rattle.record_format.specs.declared.header.Header.{Header}
 use Rattle.record_format.specs.declared.header.TheConstants.{LAST_VERSION}
-use Rattle.row_codec.specs.declared.namer.Which.{Which}
 use Rattle.disk_journal.specs.Created.{MakesEmpty}
 use Rattle.disk_journal.specs.Journal.{state_of}
 use Rattle.disk_journal.specs.declared.journal.Journal.{Journal}
-use Rattle.archive_meaning.specs.Held.{File, Held, content_of, files_from, nothing_held}
+use Rattle.archive_meaning.specs.Held.{File, content_of, files_from, nothing_held}
 use Rattle.archive_meaning.specs.Stands.{IsLegal, StandsFor}
 use Rattle.archive_meaning.specs.declared.entry.JournalEntry.{JournalEntry}
 use Rattle.archive_meaning.proofs.RunLemmas.{one_held}
@@ -24,8 +22,8 @@ use Rattle.archive_open.specs.declared.files.FileEntry.{FileEntry}
 use Rattle.archive_text.specs.State.{StoredState}
 use Rattle.archive_text.specs.declared.cause.TextCause.{TextCause}
 use Rattle.archive_jobs.specs.Jobs.{AreJobsOf, IsJobOf}
-use Rattle.ingest_workers.specs.Causes.{HasJobCause, log_of}
-use Rattle.ingest_workers.specs.Ingested.{HasItsCause, IsFileOf, IsFullByGiven as IsFullByJobs, IsTypeGiven, IsWordGiven, WereGiven as WereGivenByJobs, grounds_over, not_begun, plan_of, told_entries}
+use Rattle.ingest_workers.specs.Causes.{log_of}
+use Rattle.ingest_workers.specs.Ingested.{HasItsCause, IsFileOf, IsFullByGiven as IsFullByJobs, WereGiven as WereGivenByJobs, not_begun, plan_of, told_entries}
 use Rattle.ingest_workers.specs.JobDone.{in_source}
 use Rattle.ingest_workers.specs.declared.job.Job.{Job}
 use Rattle.ingest_workers.specs.declared.outcome.Outcome.{Outcome}
@@ -34,8 +32,8 @@ use Rattle.command_refusals.specs.GoesOn.{DiskGoesOn}
 use Rattle.command_refusals.specs.declared.outcome.PartCause.{PartCause}
 use Rattle.command_refusals.specs.declared.outcome.UpgradeRefusal.{UpgradeRefusal}
 use Rattle.command_answers.specs.Benched.{at_moment}
-use Rattle.command_answers.specs.Ingested.{FileOutcome, FitIn, IsCutInto, IsFullInTurn, IsOfNew, LeavesJournal, OfStopped, line_of_came, names_in}
-use Rattle.command_answers.specs.Upgrading.{AreNamesOf as AreNamesTold, CameOfText, FromNew, HasLimitCause, HasTextCause, MakesNew}
+use Rattle.command_answers.specs.Ingested.{FileOutcome, IsFullInTurn, IsOfNew, LeavesJournal, OfStopped, names_in}
+use Rattle.command_answers.specs.Upgrading.{CameOfText, FromNew, HasLimitCause, HasTextCause, MakesNew}
 use Rattle.write_commands.specs.Jobs.{of_cause}
 use Rattle.write_commands.proofs.ContentLemmas.{AreJobsOf as HaveJobs}
 use Rattle.upgrade_command.specs.Files.{came_by, outcome_by, stop_by, text_faults, text_left, text_name}

@@ -1,5 +1,5 @@
 -- What came of the files of an archive, by their jobs.
-use Rattle.std.specs.Prelude.{ℕ, List, [], ◌∷◌, map, Option, None, Some, option_map, Result, Ok, Err}
+use Rattle.std.specs.Prelude.{ℕ, List, [], ◌∷◌, map, Option, None, option_map, Result, Ok, Err}
 use Rattle.archive_open.specs.declared.files.FileEntry.{FileEntry}
 use Rattle.archive_text.specs.State.{StoredState}
 use Rattle.archive_text.specs.declared.cause.TextCause.{TextCause}

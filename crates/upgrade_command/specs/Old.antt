@@ -3,7 +3,6 @@ use Rattle.std.specs.Prelude.{◌≡◌, ◌-◌, ◌<◌, ◌≤◌, ℕ, List,
 use Rattle.log_seams.specs.Disk.{DiskState}
 use Rattle.log_seams.specs.Outside.{Rose}
 use Rattle.record_format.specs.Header.{IsHeader}
-use Rattle.record_format.specs.declared.header.Header.{Header}
 use Rattle.record_format.specs.declared.header.TheConstants.{LAST_VERSION}
 use Rattle.archive_meaning.specs.declared.TheConstants.{MAX_FILES, MAX_NAME_LEN}
 use Rattle.archive_open.specs.Shown.{HasLastGate, Opens, RefusedAt, Shown}

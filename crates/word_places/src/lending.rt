@@ -1,5 +1,5 @@
 //! Words by their numbers, as far as they were read.
-ghost use Rattle.std.specs.Prelude.{◌≡◌, ◌≤◌, ◌<◌, ◌+◌, ◌-◌, ◌^◌, length, MatchOption, slice_get, Some};
+ghost use Rattle.std.specs.Prelude.{◌≡◌, ◌≤◌, ◌+◌, ◌-◌, ◌^◌, length, MatchOption, slice_get, Some};
 ghost use Rattle.plain_list.specs.Texts.{IsNew};
 ghost use Rattle.word_places.specs.Held.{AreNumbered, HasNumber, lent, lends};
 

@@ -1,5 +1,5 @@
 //! The command `bench`: an archive of the generated logs, and its summary.
-ghost use Rattle.std.specs.Prelude.{◌≡◌, ◌+◌, ◌≤◌, ◌⊎◌, ℕ, List, map, All, IfSome, IsFalse, IsTrue, None, Option};
+ghost use Rattle.std.specs.Prelude.{◌≡◌, ◌≤◌, ◌⊎◌, ℕ, List, map, All, IfSome, IsFalse, IsTrue, None, Option};
 ghost use Rattle.std.specs.List.{sum_by};
 ghost use Rattle.log_seams.specs.Disk.{KeepsBytes};
 ghost use Rattle.generated_logs.specs.Logs.{content_of};

@@ -1,5 +1,5 @@
 //! The command `ingest`: logs become the files of an archive.
-ghost use Rattle.std.specs.Prelude.{◌≡◌, ◌+◌, ◌≤◌, ℕ, List, [], length, map, slice_get, vec_len, vec_capacity, false, All, IfErr, IfOk, IfSome, IsTrue, is_some, None, Some};
+ghost use Rattle.std.specs.Prelude.{◌≡◌, ◌+◌, ◌≤◌, ℕ, List, [], length, map, slice_get, vec_len, vec_capacity, false, All, IfErr, IfOk, IfSome, IsTrue, is_some, Some};
 ghost use Rattle.std.specs.List.{AllZip};
 ghost use Rattle.disk_journal.specs.Journal.{state_of};
 ghost use Rattle.disk_seal.specs.Opening.{MayOpen};

@@ -1,6 +1,6 @@
 //! The summary of an archive: how many messages it has, how many of them are found, and how many
 //! segments there are.
-ghost use Rattle.std.specs.Prelude.{◌≡◌, ◌<◌, ℕ, None, is_ok, IfErr, IfOk, IsErrOf};
+ghost use Rattle.std.specs.Prelude.{◌≡◌, ℕ, None, is_ok, IfErr, IfOk, IsErrOf};
 ghost use Rattle.log_seams.specs.Disk.{KeepsBytes};
 ghost use Rattle.log_seams.specs.Outside.{CountsOf};
 ghost use Rattle.step_count.specs.Opens.{OpensFor};

@@ -1,4 +1,4 @@
-use Rattle.std.proofs.Common.{◌≡◌, ◌∙◌, ℕ, sym, subst, length, slice_index, slice_get, Some, List, [], arith}
+use Rattle.std.proofs.Common.{◌≡◌, ◌∙◌, sym, subst, length, slice_index, slice_get, Some, []}
 use Rattle.std.proofs.lemmas.List.{nil_from_length}
 use Rattle.std.proofs.lemmas.Bool.{eqb-true}
 use Rattle.memchr.specs.Find.{IsFirst}

@@ -1,7 +1,7 @@
-use Rattle.std.proofs.Common.{◌≡◌, ◌+◌, ◌≤◌, ◌<◌, ◌∙◌, ℕ, sym, ap, subst, length, slice_index, arith, ⊎_elim}
+use Rattle.std.proofs.Common.{◌≡◌, ◌+◌, ◌∙◌, sym, ap, subst, length, arith, ⊎_elim}
 use Rattle.std.proofs.lemmas.Bool.{cases_lt}
 use Rattle.std.proofs.lemmas.List.{take_rest}
-use Rattle.dict_core.specs.Buffer.{start_at, text_at}
+use Rattle.dict_core.specs.Buffer.{text_at}
 use Rattle.dict_core.proofs.BufferLemmas.{start_last}
 use Rattle.dict_core.proofs.SearchLemmas.{rise_all, none_behind, some_behind, Hit, hit_passes, hit_is, hit_is_other}
 use Rattle.dict_core.proofs.search.first_match.Goals as goal

@@ -1,6 +1,4 @@
 use Rattle.std.proofs.Common.{arith, refl}
-use Rattle.dict_core.specs.Fair.{IsFair}
-use Rattle.logtype_text.specs.Fair.{IsFairType}
 use Rattle.dict_tests.proofs.dict_lock_tests.is_fair.Goals as goal
 
 pub returns-then-number-lt-WORDS_FIRST : goal.returns-then-number-lt-WORDS_FIRST

@@ -1,4 +1,4 @@
-use Rattle.std.proofs.Common.{arith, rules, tests}
+use Rattle.std.proofs.Common.{rules, tests}
 use Rattle.stamp_templates.proofs.BetweenLemmas.{stands_out}
 use Rattle.stamp_templates.proofs.between.is_kept_out.Goals as goal
 

@@ -1,4 +1,4 @@
-use Rattle.std.proofs.Common.{◌≡◌, arith, of_z, refl, rules, to_z, w64}
+use Rattle.std.proofs.Common.{◌≡◌, of_z, refl, rules, to_z, w64}
 use Rattle.stamp_templates.proofs.between.may_hold_between.Goals as goal
 
 pub returns-in_default : goal.returns-in_default

@@ -1,4 +1,4 @@
-use Rattle.std.proofs.Common.{ℕ, ◌≡◌, ◌≤◌, ℤ, arith, subst}
+use Rattle.std.proofs.Common.{ℕ, arith, subst}
 use Rattle.time_patterns.specs.Stamps.{IsPrintable}
 use Rattle.stamp_templates.proofs.BetweenLemmas.{in_range}
 use Rattle.stamp_templates.proofs.between.printed_by.Goals.{in-10, in-0-to-5, in-6-to-9, in-11-to-16, in-17-to-21, in-22-to-25, in_default}

@@ -1,13 +1,12 @@
-use Rattle.std.proofs.Common.{◌≡◌, ◌-◌, ◌∙◌, ap, arith, length, map, subst, sym}
-use Rattle.std.specs.Prelude.{IfSome, Option, option_map}
-use Rattle.archive_text.specs.declared.cause.TextCause.{TextCause}
+use Rattle.std.proofs.Common.{◌≡◌, ◌-◌, ◌∙◌, ap, arith, length, subst, sym}
+use Rattle.std.specs.Prelude.{IfSome, option_map}
 use Rattle.archive_meaning.specs.declared.TheConstants.{MAX_ROWS}
 use Rattle.archive_jobs.specs.Jobs.{AreJobsOf}
 use Rattle.archive_jobs.specs.Lent.{IsRead}
 use Rattle.command_refusals.specs.GoesOn.{DiskGoesOn}
 use Rattle.command_answers.specs.Upgrading.{EndsTexts, header_for}
-use Rattle.upgrade_command.specs.Files.{bare, bares_by, came_by, outcomes_of, read_by, stop_by}
-use Rattle.upgrade_command.specs.Taking.{TakesFiles, TakesNone, TakesTexts}
+use Rattle.upgrade_command.specs.Files.{bares_by, came_by, outcomes_of, read_by, stop_by}
+use Rattle.upgrade_command.specs.Taking.{TakesNone, TakesTexts}
 use Rattle.upgrade_command.proofs.CameLemmas.{bares_came}
 use Rattle.upgrade_command.proofs.FillLemmas.{back_whole, did_counted, err_is, ok_is, read_ends}
 use Rattle.upgrade_command.proofs.IntoLemmas.{into_goes, into_names, into_texts}

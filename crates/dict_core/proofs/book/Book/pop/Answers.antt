@@ -1,4 +1,4 @@
-use Rattle.std.proofs.Common.{◌≡◌, ◌-◌, ◌∙◌, suc, sym, ap, length, arith, Some, slice_get}
+use Rattle.std.proofs.Common.{◌≡◌, ◌-◌, ◌∙◌, suc, ap, length, arith}
 use Rattle.dict_core.specs.Chains.{place_at}
 use Rattle.dict_core.proofs.BookLemmas.{book_place, book_less}
 use Rattle.dict_core.proofs.book.Book.pop.Goals as goal

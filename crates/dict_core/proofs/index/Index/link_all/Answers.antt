@@ -1,8 +1,8 @@
-use Rattle.std.proofs.Common.{◌≡◌, ◌+◌, ◌<◌, ◌∷◌, ◌++◌, [], ◌∙◌, sym, ap, subst, take, length, get_or, arith}
+use Rattle.std.proofs.Common.{◌≡◌, ◌+◌, ◌<◌, ◌∷◌, ◌++◌, [], ◌∙◌, ap, subst, take, length, arith}
 use Rattle.std.proofs.lemmas.List.{take_all, take_more, length-take, length_push}
 use Rattle.std.proofs.lemmas.Option.{slice_get_within, get_or_from_slice_get}
 use Rattle.plain_list.specs.Texts.{AreDistinct}
-use Rattle.dict_core.specs.Chains.{hash_by, place_at, IsBook}
+use Rattle.dict_core.specs.Chains.{hash_by, place_at}
 use Rattle.dict_core.proofs.BookLemmas.{book_back, book_newest, book_new, book_more, taken}
 use Rattle.dict_core.proofs.index.Index.link_all.Goals as goal
 
