@@ -17,7 +17,6 @@ use Rattle.command_refusals.specs.Outcome.{from_print, of_read, of_upgrade}
 use Rattle.command_refusals.specs.Outside.{Outside}
 use Rattle.command_refusals.specs.Refusal.{line_of, status_of}
 use Rattle.command_refusals.specs.declared.outcome.UpgradeRefusal.{UpgradeRefusal}
-use Rattle.command_refusals.specs.declared.refusal.Refusal.TheVariants.{OutOfMemory}
 use Rattle.command_answers.specs.Ingested.{FileOutcome, PrintsCame, line_of_came}
 use Rattle.command_answers.specs.Taken.{file_error, file_status, gravest}
 use Rattle.command_answers.specs.Upgrading.{PrintsUpgrade}
@@ -94,7 +93,7 @@ module _ (seen : Outside) (status : ℕ) (told : List NewFile) (came : List File
 nothing_of : (old : Option (List ℕ)) (text : List ℕ) → GrewByFront old old text
 nothing_of old text = ([], text, refl, Grew-nothing old)
 
-pub printed_none : (seen : Outside) (status : ℕ) (came : List FileOutcome) → status ≡ status_of OutOfMemory → SaysIn seen (line_of [] OutOfMemory) → seen.out.1 ≡ seen.out.0 → Stayed seen.out_faults → PrintsCame came 0 seen status
+pub printed_none : (seen : Outside) (status : ℕ) (came : List FileOutcome) → status ≡ status_of (of_read (from_print PrintRefusal.OutOfMemory)) → SaysIn seen (line_of [] (of_read (from_print PrintRefusal.OutOfMemory))) → seen.out.1 ≡ seen.out.0 → Stayed seen.out_faults → PrintsCame came 0 seen status
 printed_none seen status came is said same stayed =
     inr (inr (record { status_is = is; said = said }, subst (λ (o : Option (List ℕ)). GrewByFront seen.out.0 o (directory_from 0 (map line_of_came came))) (sym same) (nothing_of seen.out.0 (directory_from 0 (map line_of_came came))), stayed))
 

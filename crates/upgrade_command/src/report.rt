@@ -14,12 +14,13 @@ ghost use Rattle.upgrade_command.specs.declared.report.NewFile.{NewFile};
 use archive_open::FileEntry;
 use archive_text::TextCause;
 use command_refusals::{
-    PartCause, Refusal, UpgradeRefusal, refusal_of_part, refusal_of_print, refusal_of_upgrade,
-    report, report_file,
+    PartCause, UpgradeRefusal, refusal_of_part, refusal_of_print, refusal_of_upgrade, report,
+    report_file,
 };
 use file_lines::{Listed, print_directory};
 use ingest_workers::{Cause, Outcome};
 use log_seams::Sink;
+use sink_pieces::PrintRefusal;
 use std::alloc::{AllocError, Global};
 
 /// What came of a file.
@@ -162,7 +163,7 @@ fn print_all<K: Sink>(
     ensures err { K.faults err.old ≤ K.faults err.new }
 {
     let Ok(told) = tell_files(alloc, files, outcomes) else {
-        return report(err, "", Refusal::OutOfMemory);
+        return report(err, "", refusal_of_print(PrintRefusal::OutOfMemory));
     };
     match print_directory(alloc, 0, told.as_slice(), out) {
         Ok(()) => report_files(err, told.as_slice()),
