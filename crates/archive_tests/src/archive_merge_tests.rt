@@ -298,7 +298,7 @@ fn stopping_calls<R: Wait>(rt: &R, alloc: Global) -> Result<Option<u64>, AllocEr
     for call in 0..40u64 {
         let left = left_of(rt, alloc, (&[], &[]), u64::MAX, call)?;
         if left == (Some((NAME, Some(refusal))), Some(5), false) {
-            count += 1;
+            count = count.saturating_add(1);
         } else if left != (None, Some(4), false) && left != (Some((WHOLE, None)), Some(7), true) {
             return Ok(None);
         }
