@@ -24,9 +24,12 @@ use Rattle.query_plan.specs.Needs.{Owns, around}
 use Rattle.query_plan.specs.Pieces.{After, EndsWord, Free, IsCut, IsInner, IsSomeInner, bytes, flat}
 use Rattle.query_plan.specs.Readings.{Rest, now, SomeReads, Term, Star, AtWord, Goes, shut, lead, Reads, star, mark, text as as_text, held, Accepts, letter, pass, eat, fill}
 use Rattle.subquery_filter.specs.declared.token.Token.{Token}
+use Rattle.subquery_filter.specs.declared.tokens.ClosedNumber.{ClosedNumber}
 use Rattle.subquery_filter.specs.Filter.{AreCoded, Finds, Has, IsAsked, MarksOpen, MarksVariable}
 use Rattle.subquery_filter.specs.StepsLetters.{kinds_in}
-use Rattle.subquery_filter.specs.Tokens.{IsClosed, RowsBring, RowsBringClosed, StandsInStamp, StandsInType}
+use Rattle.subquery_filter.specs.StepsFilter.{IsClosedBy}
+use Rattle.subquery_filter.specs.Tokens.{IsClosedIn, IsInRun, LiesAcross, RowsBring, RowsBringClosed, RowsBringClosedRuns, StampBrings, StandsInType}
+use Rattle.subquery_filter.proofs.AroundLemmas.{across_ends}
 use Rattle.subquery_filter.proofs.BarrenLemmas.{body_behind}
 use Rattle.subquery_filter.proofs.BitLemmas.{has_left, has_right, has_through}
 use Rattle.subquery_filter.proofs.TokenLemmas.{kinds_are, same_text}
@@ -245,14 +248,17 @@ chunk_at (p ∷ ps) (suc n) x y z one two three =
     let rest = chunk_at ps n x y z one two three in
     (p ∷ rest.0, rest.1, ap (λ (l : List Piece). p ∷ l) rest.2)
 
-pub closed_at : (ps : List Piece) (place a b : ℕ) (t : List ℕ) (code : Coded) → 1 ≤ place → slice_get ps (place - 1) ≡ Some (Mark a) → slice_get ps place ≡ Some (Word t) → slice_get ps (place + 1) ≡ Some (Mark b)
-    → is_variable (Some a) t ≡ true → Codes t code → IsClosed ps t code
-closed_at ps zero a b t code some left here right is coded = absurd (omega (arith, some))
-closed_at ps (suc n) a b t code some left here right is coded =
+pub closed_by : (ps : List Piece) (place a b : ℕ) (t : List ℕ) (code : Coded) → 1 ≤ place → slice_get ps (place - 1) ≡ Some (Mark a) → slice_get ps place ≡ Some (Word t) → slice_get ps (place + 1) ≡ Some (Mark b)
+    → is_variable (Some a) t ≡ true → Codes t code → IsClosedBy ps t code a b
+closed_by ps zero a b t code some left here right is coded = absurd (omega (arith, some))
+closed_by ps (suc n) a b t code some left here right is coded =
     let one : suc n - 1 ≡ n = omega arith in
     let two : suc n + 1 ≡ suc (suc n) = omega arith in
     let at = chunk_at ps n (Mark a) (Word t) (Mark b) (ap (λ (i : ℕ). slice_get ps i) (sym one) ∙ left) here (ap (λ (i : ℕ). slice_get ps i) (sym two) ∙ right) in
-    record { before = a; behind = b; chunk = record { before = at.0; behind = at.1; stands = at.2; whole = tt }; variable = is; coded = coded }
+    (record { before = a; behind = b; chunk = record { before = at.0; behind = at.1; stands = at.2; whole = tt }; variable = is; coded = coded }, refl, refl)
+
+pub closed_number_is : (ps : List Piece) (t : List ℕ) (n m : ClosedNumber) → m ≡ n → IsClosedBy ps t m.code m.before m.behind → IsClosedBy ps t n.code n.before n.behind
+closed_number_is ps t n m same closed = subst (λ (x : ClosedNumber). IsClosedBy ps t x.code x.before x.behind) same closed
 
 -- ---- rows
 
@@ -275,8 +281,8 @@ owned_slot words t (Variable kind w ∷ parts) (n ∷ row) has (inl same) =
     record { place = zero; kind = kind; word = n; slot = refl; at = refl; has = subst (λ (x : List ℕ). HasWord words kind x n) same has.0 }
 owned_slot words t (Variable kind w ∷ parts) (n ∷ row) has (inr owns) = later t words (slots parts) row kind n (owned_slot words t parts row has.1 owns)
 
-pub rows_bring_closed : ReadingsAreExact → ChunksAreBrought → RowsBringClosed
-rows_bring_closed law chunks version ps row types words text message t code cut is matches h here =
+pub rows_bring_closed_runs : ReadingsAreExact → ChunksAreBrought → RowsBringClosedRuns
+rows_bring_closed_runs law chunks version ps row types words text message t w code cut is matches (h, w_is) here =
     let means = is.means in
     let body = joined means.parts in
     let behind = body_behind version row.pattern row.moment means.stamp body (subst (λ m. HasStamp version m row.pattern row.moment (length means.stamp)) means.is is.stamp) in
@@ -284,11 +290,20 @@ rows_bring_closed law chunks version ps row types words text message t code cut 
     let kinds : slots means.parts ≡ kinds_in false text = sym (kinds_are means.parts) ∙ ap (kinds_in false) typed in
     let parts = cut_facts h.before h.behind t h.chunk.behind (cut_from h.chunk.before (Mark h.before ∷ Word t ∷ Mark h.behind ∷ h.chunk.behind) (subst IsCut h.chunk.stands cut)) in
     elim (chunks ps (closed h.before t h.behind) means.stamp body means.parts cut h.chunk behind is.body (subst (Match (flat ps)) means.is matches)) [
-      | inl within ↦ inl (means.stamp, means.stamped, stands_within h.before h.behind t means.stamp within)
-      | inr (inl across) ↦ inl (means.stamp, means.stamped, ends_within h.before h.behind t means.stamp body parts.1 across)
+      | inl within ↦ inl (means.stamp, means.stamped, inl (subst (λ x. Match (around x) means.stamp) (sym w_is) within))
+      | inr (inl across) ↦
+          inl (means.stamp, means.stamped, inr (subst (λ x. LiesAcross x means.stamp) (sym w_is) (across_ends (chunk_text (closed h.before t h.behind)) means.stamp body across), ends_within h.before h.behind t means.stamp body parts.1 across))
       | inr (inr there) ↦
           let v = owned_slot words t means.parts row.words means.coded (owned_in law h.before h.behind t body means.parts parts.0 parts.1 parts.2 h.variable is.body there.0) in
           inr (record { place = v.place; kind = v.kind; word = v.word; slot = subst (λ l. slice_get l v.place ≡ Some v.kind) kinds v.slot; at = v.at; has = v.has })
+    ]
+
+pub rows_bring_closed : ReadingsAreExact → ChunksAreBrought → RowsBringClosed
+rows_bring_closed law chunks version ps row types words text message t code cut is matches h here =
+    elim (rows_bring_closed_runs law chunks version ps row types words text message t (h.before ∷ (t ++ h.behind ∷ [])) code cut is matches (h, refl) here) [
+      | inl (s, stamped, inl within) ↦ inl (s, stamped, stands_within h.before h.behind t s within)
+      | inl (s, stamped, inr (ends, m)) ↦ inl (s, stamped, m)
+      | inr owns ↦ inr owns
     ]
 
 -- ---- the tokens of a filter
@@ -309,13 +324,16 @@ itself k =
     subst (λ x. Match x k.text) (sym (k.same ∙ k.stands)) (here_in k.text k.text (all_of k.text))
 
 pub token_found : RowsBring → (version : ℕ) (ps : List Piece) (row : Row) (types words : List (List ℕ)) (text message : List ℕ) (k : Token) → IsCut ps → IsCanonical version row types words message
-    → Match (flat ps) message → IsAsked ps k → slice_get types row.log_type ≡ Some text → StandsInStamp k.matcher.items row ⊎ (StandsInType k.matcher.items text ⊎ FindsInSlot k words text row.words)
+    → Match (flat ps) message → IsAsked ps k → slice_get types row.log_type ≡ Some text → StampBrings k.chunk k.text row ⊎ (StandsInType k.matcher.items text ⊎ FindsInSlot k words text row.words)
 token_found laws version ps row types words text message k cut is matches asked here = by_code k.closed refl
   where
-    by_code : (o : Option Coded) → k.closed ≡ o → StandsInStamp k.matcher.items row ⊎ (StandsInType k.matcher.items text ⊎ FindsInSlot k words text row.words)
-    by_code None none = elim (laws.0 version ps row types words text message k.matcher.items cut is matches asked.token here) [
+    items : k.matcher.items ≡ around k.text
+    items = k.same ∙ k.stands
+
+    by_code : (o : Option Coded) → k.closed ≡ o → StampBrings k.chunk k.text row ⊎ (StandsInType k.matcher.items text ⊎ FindsInSlot k words text row.words)
+    by_code None none = elim (laws.0 version ps row types words text message k.text k.chunk cut is matches (asked.runs none) here) [
       | inl stamp ↦ inl stamp
-      | inr (inl among) ↦ inr (inl among)
+      | inr (inl among) ↦ inr (inl (subst (λ x. StandsInType x text) (sym items) among))
       | inr (inr v) ↦ inr (inr (record {
         place = v.place;
         kind = v.kind;
@@ -324,11 +342,11 @@ token_found laws version ps row types words text message k cut is matches asked 
         slot = v.slot;
         at = v.at;
         has = v.has;
-        finds = (v.fits, λ code some. absurd (let e : None ≡ Some code = sym none ∙ some in cc));
+        finds = (subst (λ x. Match x v.variable) (sym items) v.fits, λ code some. absurd (let e : None ≡ Some code = sym none ∙ some in cc));
       }))
     ]
-    by_code (Some code) some = elim (laws.1 version ps row types words text message k.text code cut is matches (asked.closed code some) here) [
-      | inl stamp ↦ inl (stamp.0, stamp.1, subst (λ x. Match x stamp.0) (sym (k.same ∙ k.stands)) stamp.2)
+    by_code (Some code) some = elim (laws.1 version ps row types words text message k.text k.chunk code cut is matches (asked.closed code some) here) [
+      | inl stamp ↦ inl stamp
       | inr v ↦ inr (inr (record {
         place = v.place;
         kind = v.kind;
@@ -341,14 +359,25 @@ token_found laws version ps row types words text message k cut is matches asked 
       }))
     ]
 
-pub asked_at : (ps : List Piece) (place : ℕ) (t : List ℕ) (k : Token) → slice_get ps place ≡ Some (Word t) → k.text ≡ t → ((code : Coded) → k.closed ≡ Some code → IsClosed ps t code) → IsAsked ps k
-asked_at ps place t k there is closes = record {
+pub asked_at : (ps : List Piece) (place : ℕ) (t w : List ℕ) (k : Token) → slice_get ps place ≡ Some (Word t) → k.text ≡ t → k.chunk ≡ w → (k.closed ≡ None → IsInRun ps t w)
+    → ((code : Coded) → k.closed ≡ Some code → IsClosedIn ps t w code) → IsAsked ps k
+asked_at ps place t w k there is around_is runs closes = record {
   token = (t, (place, slice_get_within ps place (Word t) there, get_or_from_slice_get ps place (Word t) (Word t) there), k.same ∙ k.stands ∙ ap around is);
-  closed = λ code some. subst (λ (x : List ℕ). IsClosed ps x code) (sym is) (closes code some);
+  runs = λ none. subst (λ (x : List ℕ). IsInRun ps x k.chunk) (sym is) (subst (IsInRun ps t) (sym around_is) (runs none));
+  closed = λ code some. subst (λ (x : List ℕ). IsClosedIn ps x k.chunk code) (sym is) (subst (λ (x : List ℕ). IsClosedIn ps t x code) (sym around_is) (closes code some));
 }
 
+-- a number between delimiters with these
+pub closed_in : (ps : List Piece) (t w : List ℕ) (number : Option ClosedNumber) (closed : Option Coded) → ((n : ClosedNumber) → number ≡ Some n → IsClosedBy ps t n.code n.before n.behind)
+    → ((n : ClosedNumber) → number ≡ Some n → w ≡ n.before ∷ (t ++ n.behind ∷ [])) → ((code : Coded) → closed ≡ Some code → (n : ClosedNumber) × (number ≡ Some n) × (n.code ≡ code))
+    → (code : Coded) → closed ≡ Some code → IsClosedIn ps t w code
+closed_in ps t w number closed told text codes code some =
+    let (n, is, same) = codes code some in
+    let (h, before, behind) = told n is in
+    subst (IsClosedIn ps t w) same (h, text n is ∙ sym (λ i. before i ∷ (t ++ behind i ∷ [])))
+
 pub are_coded : (ps : List Piece) (tokens : List Token) → All (IsAsked ps) tokens → AreCoded tokens
-are_coded ps tokens are j d lt code some = ((are j d lt).closed code some).coded
+are_coded ps tokens are j d lt code some = ((are j d lt).closed code some).0.coded
 
 -- ---- bits of a variable
 

@@ -28,7 +28,7 @@ use Rattle.subquery_filter.specs.declared.slots.TypeTest.{TypeTest}
 use Rattle.subquery_filter.specs.declared.token.Token.{Token}
 use Rattle.subquery_filter.specs.declared.verdicts.Verdict.{Verdict}
 use Rattle.subquery_filter.specs.declared.verdicts.Verdict.TheVariants.{Rejected, Certain, Tried}
-use Rattle.subquery_filter.specs.Filter.{AreSmall, AreTests, AsksTypes, Covers, Has, HasNoMatch, IsAsked, IsFilter, IsListed, IsRight, IsRowVerdict, IsSlot, IsTest, LacksAll, Marks, MarksOpen, MarksVariable, marks_at, may_by}
+use Rattle.subquery_filter.specs.Filter.{AreSmall, AreTests, AsksTypes, Covers, Has, HasNoMatch, IsAsked, IsFilter, IsListed, IsRight, IsRowVerdict, IsSlot, IsTest, LacksAll, StampMarks, MarksOpen, MarksVariable, marks_at, may_by}
 use Rattle.subquery_filter.specs.StepsFilter.{AreTokens, HasEach, IsShut, Lacks, LacksTokens, StampsBring, Stays}
 use Rattle.subquery_filter.specs.StepsLetters.{kinds_in}
 use Rattle.subquery_filter.specs.Tokens.{RowsBring}
@@ -211,7 +211,7 @@ ByVariables f test words text row bits =
 -- a row that does not bring all that is wanted is not matched
 lacks_bits : RowsBring → (ps : List Piece) (types words : List (List ℕ)) (f : Filter) → IsFilter ps types words f → (row : Row) (test : TypeTest) (bits : ℕ)
     → slice_get f.tests.items row.log_type ≡ Some test → test.verdict ≡ Tried → Has bits test.has
-    → ((s : List ℕ) → HasStampText row.pattern row.moment s → Marks f.tokens.items s bits)
+    → ((s : List ℕ) → HasStampText row.pattern row.moment s → StampMarks f.tokens.items s bits)
     → ((parts : List Part) → slice_get types row.log_type ≡ Some (type_text (map symbol_of parts)) → ByVariables f test words (type_text (map symbol_of parts)) row.words bits)
     → ¬ Has bits f.wanted → (version : ℕ) (message : List ℕ) → IsCanonical version row types words message → ¬ Match (flat ps) message
 lacks_bits law ps types words f is row test bits at tried has stamp variables lacks version message canonical matches =
@@ -236,7 +236,7 @@ row_lacks law p types words f is row test at tried h =
     (λ parts typed place kind word variable slot there listed has j d lt fits.
     let same : (k : Kind) → k ≡ kind → HasWord words k variable word = λ k e. subst (λ (x : Kind). HasWord words x variable word) (sym e) has in
     h.slots listed.at listed.from listed.to listed.slot word listed.is (subst (λ (n : ℕ). slice_get row.words n ≡ Some word) (sym listed.same_place) there) words variable
-    (λ w. is.marks listed.at listed.slot listed.is w) is.asks.small (are_coded (wide_pieces p) f.tokens.items is.asks.are) (same listed.slot.kind listed.same_kind) j d lt fits (listed.covers words variable word has j d lt fits))
+    (λ w. is.marks listed.at listed.slot listed.is w) is.asks.small is.asks.numbers (are_coded (wide_pieces p) f.tokens.items is.asks.are) (same listed.slot.kind listed.same_kind) j d lt fits (listed.covers words variable word has j d lt fits))
     h.lacks
 
 rejected_row : RejectedNeverMatches → (p : List Item) → IsSearched p → (types words : List (List ℕ)) (f : Filter) → IsFilter (wide_pieces p) types words f → (row : Row) (test : TypeTest)
@@ -276,7 +276,7 @@ may_listed f types words ps is brought bits numbers each at slot there Word same
     λ j d lt fits. has_through bits brought (slice_index_or f.tokens.items j d).bit has
     (has_through brought (marks_at f.marks word) (slice_index_or f.tokens.items j d).bit (each word (listed refl)) (is.marks at slot there same word variable has_word.1 j d lt fits.0))
 
-stamp_may : (f : Filter) (types words : List (List ℕ)) (ps : List Piece) → IsFilter ps types words f → (row : Row) (bits : ℕ) → Has bits f.stamped → (s : List ℕ) → HasStampText row.pattern row.moment s → Marks f.tokens.items s bits
+stamp_may : (f : Filter) (types words : List (List ℕ)) (ps : List Piece) → IsFilter ps types words f → (row : Row) (bits : ℕ) → Has bits f.stamped → (s : List ℕ) → HasStampText row.pattern row.moment s → StampMarks f.tokens.items s bits
 stamp_may f types words ps is row bits has s stamped = λ j d lt fits.
     has_through bits f.stamped (slice_index_or f.tokens.items j d).bit has
     (has_through f.stamped (slice_index_or f.stamps.items row.pattern 0) (slice_index_or f.tokens.items j d).bit (is.asks.stamped row.pattern) (is.asks.stamps row.pattern row.moment s stamped j d lt fits))
@@ -285,7 +285,7 @@ stamp_may f types words ps is row bits has s stamped = λ j d lt fits.
 -- bits
 row_shut : RowsBring → (p : List Item) (types words : List (List ℕ)) (f : Filter) → IsFilter (wide_pieces p) types words f → (row : Row) (test : TypeTest) (stamped brought : ℕ)
     → slice_get f.tests.items row.log_type ≡ Some test → test.verdict ≡ Tried → LacksAll f test stamped brought
-    → ((s : List ℕ) → HasStampText row.pattern row.moment s → Marks f.tokens.items s stamped) → HasEach f.marks (numbers_of_row types row) brought → IsRowVerdict (wide_pieces p) types words row Rejected
+    → ((s : List ℕ) → HasStampText row.pattern row.moment s → StampMarks f.tokens.items s stamped) → HasEach f.marks (numbers_of_row types row) brought → IsRowVerdict (wide_pieces p) types words row Rejected
 row_shut law p types words f is row test stamped brought at tried h stamp each version message canonical =
     lacks_bits law (wide_pieces p) types words f is row test h.bits at tried h.has (stamp_more_bits f.tokens.items row stamped h.bits h.stamps stamp)
     (λ parts typed place kind word variable slot there l has.
@@ -294,8 +294,8 @@ row_shut law p types words f is row test stamped brought at tried h stamp each v
     (λ w. row_number types row parts typed place word (subst (λ (k : Kind). slice_get (kinds_in false (type_text (map symbol_of parts))) place ≡ Some k) w slot) there) has l.covers)
     h.lacks version message canonical
   where
-    stamp_more_bits : (tokens : List Token) (row : Row) (few bits : ℕ) → Has bits few → ((s : List ℕ) → HasStampText row.pattern row.moment s → Marks tokens s few)
-        → (s : List ℕ) → HasStampText row.pattern row.moment s → Marks tokens s bits
+    stamp_more_bits : (tokens : List Token) (row : Row) (few bits : ℕ) → Has bits few → ((s : List ℕ) → HasStampText row.pattern row.moment s → StampMarks tokens s few)
+        → (s : List ℕ) → HasStampText row.pattern row.moment s → StampMarks tokens s bits
     stamp_more_bits tokens row few bits has marks s stamped = λ j d lt fits. has_through bits few (slice_index_or tokens j d).bit has (marks s stamped j d lt fits)
 
 pub none_may : RejectedNeverMatches → RowsBring → (p : List Item) → IsSearched p → (types words : List (List ℕ)) (f : Filter) → IsFilter (wide_pieces p) types words f

@@ -6,9 +6,11 @@ mod VerdictLemmas
 mod TokenLemmas
 mod FilterLemmas
 mod NumberLemmas
+mod DecimalLemmas
 mod SlotLemmas
 mod StampLemmas
 mod MarkLemmas
+mod AroundLemmas
 mod ClosedLemmas
 mod BitLemmas
 pub mod HeadLemmas

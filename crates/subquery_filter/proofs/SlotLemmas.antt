@@ -1,11 +1,11 @@
 -- The slots of log types, and what rows bring by them.
 use Rattle.std.proofs.Common.{◌≡◌, ◌≢◌, ℕ, zero, suc, ◌+◌, ◌<◌, ◌≤◌, true, false, cond, List, [], ◌∷◌, ◌++◌, length, drop, refl, sym, ◌∙◌, ap, subst, arith, inl, inr, length-append}
-use Rattle.std.specs.Prelude.{◌==◌, ℤ, Option, None, Some, bit_or, slice_get, slice_index_or}
+use Rattle.std.specs.Prelude.{◌==◌, ◌⊎◌, ℤ, Option, None, Some, bit_or, slice_get, slice_index_or}
 use Rattle.std.proofs.lemmas.Bool.{cases_Bool, cases_lt}
 use Rattle.column_store.specs.declared.row.Row.{Row}
 use Rattle.row_codec.specs.Means.{HasStampText, HasWord}
 use Rattle.logtype_text.specs.declared.symbols.Kind.{Kind}
-use Rattle.logtype_text.specs.declared.symbols.Kind.TheVariants.{Word}
+use Rattle.logtype_text.specs.declared.symbols.Kind.TheVariants.{Whole, Word, Decimal}
 use Rattle.logtype_text.specs.declared.symbols.Symbol.{Symbol}
 use Rattle.logtype_text.specs.declared.symbols.Symbol.TheVariants.{Byte, Slot as SlotSymbol}
 use Rattle.logtype_text.specs.TypeText.{is_escaped, text_of_symbol}
@@ -15,10 +15,10 @@ use Rattle.subquery_filter.specs.declared.slots.KindBits.{KindBits}
 use Rattle.subquery_filter.specs.declared.slots.Slot.{Slot}
 use Rattle.subquery_filter.specs.declared.slots.TypeTest.{TypeTest}
 use Rattle.subquery_filter.specs.declared.token.Token.{Token}
-use Rattle.subquery_filter.specs.Filter.{AreCoded, AreKindBits, AreMarks, AreSlots, AreSmall, AreStamps, Covers, Has, IsSlot, Marks, MarksVariable, slot_may}
+use Rattle.subquery_filter.specs.Filter.{AreCoded, AreKindBits, AreMarks, AreNumberBits, AreSlots, AreSmall, AreStamps, Covers, Finds, Has, IsSlot, StampMarks, MarksVariable, slot_may}
 use Rattle.subquery_filter.specs.StepsFilter.{Lacks, ListedUpTo, SlotGives, SlotIs, Stays}
 use Rattle.subquery_filter.specs.StepsLetters.{kind_at, kind_before, kinds_in}
-use Rattle.subquery_filter.proofs.BitLemmas.{has_left, has_right, has_through}
+use Rattle.subquery_filter.proofs.BitLemmas.{has_left, has_right, has_self, has_through}
 use Rattle.subquery_filter.proofs.FilterLemmas.{push_got, push_last, slot_stays}
 use Rattle.subquery_filter.proofs.LetterLemmas.{other_byte, same_byte}
 use Rattle.subquery_filter.proofs.TokenLemmas.{kinds_slot}
@@ -124,7 +124,7 @@ listed_all bits text rest place first known slots none h tokens are k kind at =
 -- ---- what a row brings by its slots
 
 pub gives_more : (f : Filter) (slot : Slot) (word bits more : ℕ) → Has more bits → SlotGives f slot word bits → SlotGives f slot word more
-gives_more f slot word bits more has gives words variable marks small coded is j d lt m own = has_through more bits _ has (gives words variable marks small coded is j d lt m own)
+gives_more f slot word bits more has gives words variable marks small numbers coded is j d lt m own = has_through more bits _ has (gives words variable marks small numbers coded is j d lt m own)
 
 pub is_more : (f : Filter) (at : ℕ) (row : List ℕ) (bits more : ℕ) → Has more bits → SlotIs f at row bits → SlotIs f at row more
 is_more f at row bits more has is slot word there here = gives_more f slot word bits more has (is slot word there here)
@@ -143,7 +143,7 @@ same_slots : (o : Option Slot) (a b : Slot) → o ≡ Some a → o ≡ Some b �
 same_slots o a b one two = cc (one, two)
 
 pub is_covered : (f : Filter) (at : ℕ) (row : List ℕ) (all bits : ℕ) (mine : Slot) → Some mine ≡ slice_get f.slots.items at → Has all bits → Has bits mine.bits → SlotIs f at row all
-is_covered f at row all bits mine got more has slot word there here words variable marks small coded is j d lt m own =
+is_covered f at row all bits mine got more has slot word there here words variable marks small numbers coded is j d lt m own =
     let same = same_slots (slice_get f.slots.items at) mine slot (sym got) there in
     has_through all slot.bits _ (has_through all bits slot.bits more (subst (λ (x : Slot). Has bits x.bits) same has)) own
 
@@ -158,7 +158,7 @@ gives_short f slot row all none word here = absurd (let e : None ≡ Some word =
 pub gives_brought : (f : Filter) (slot : Slot) (row : List ℕ) (all bits w : ℕ) → Some w ≡ slice_get row slot.place → Has all bits
     → ((words : List (List ℕ)) (variable : List ℕ) → (slot.kind ≡ Word → AreMarks f.tokens.items words f.marks) → AreSmall f.tokens.items f.small.items → AreCoded f.tokens.items → HasWord words slot.kind variable w → MarksVariable f.tokens.items variable bits)
     → (word : ℕ) → slice_get row slot.place ≡ Some word → SlotGives f slot word all
-gives_brought f slot row all bits w got more brings word here words variable marks small coded is j d lt m own =
+gives_brought f slot row all bits w got more brings word here words variable marks small numbers coded is j d lt m own =
     let word_same : w ≡ word = same_words (slice_get row slot.place) w word (sym got) here in
     has_through all bits _ more (brings words variable marks small coded (subst (λ n. HasWord words slot.kind variable n) (sym word_same) is) j d lt m)
   where
@@ -182,7 +182,7 @@ may_step f first end brought bits more here before at slot from to there = elim 
 -- ---- what a row lacks
 
 pub lacks_by : (f : Filter) (test : TypeTest) (row : Row) (bits all : ℕ) → Has bits test.has → ((at : ℕ) → test.first ≤ at → at < test.end → SlotIs f at row.words bits) → Has all bits
-    → (AreStamps f.tokens.items f.stamps.items → (s : List ℕ) → HasStampText row.pattern row.moment s → Marks f.tokens.items s all) → ¬ Has all f.wanted → Lacks f test row
+    → (AreStamps f.tokens.items f.stamps.items → (s : List ℕ) → HasStampText row.pattern row.moment s → StampMarks f.tokens.items s all) → ¬ Has all f.wanted → Lacks f test row
 lacks_by f test row bits all has slots more stamp lacks = record {
   bits = all;
   has = has_through all bits test.has more has;
@@ -191,13 +191,66 @@ lacks_by f test row bits all has slots more stamp lacks = record {
   lacks = lacks;
 }
 
-pub stamp_more : (tokens : List Token) (s : List ℕ) (bits more : ℕ) → Marks tokens s more → Marks tokens s (bit_or bits more)
+pub stamp_more : (tokens : List Token) (s : List ℕ) (bits more : ℕ) → StampMarks tokens s more → StampMarks tokens s (bit_or bits more)
 stamp_more tokens s bits more marks j d lt m = has_through (bit_or bits more) more _ (has_right bits more) (marks j d lt m)
 
 pub stamp_brings : (tokens looked : List Token) (may bits brought pattern : ℕ) (moment : ℤ) (stamps : List ℕ) → looked ≡ tokens → may ≡ slice_index_or stamps pattern 0
-    → ((s : List ℕ) → (HasStampText pattern moment s → Marks looked s may) → HasStampText pattern moment s → Marks looked s brought)
-    → AreStamps tokens stamps → (s : List ℕ) → HasStampText pattern moment s → Marks tokens s (bit_or bits brought)
+    → ((s : List ℕ) → (HasStampText pattern moment s → StampMarks looked s may) → HasStampText pattern moment s → StampMarks looked s brought)
+    → AreStamps tokens stamps → (s : List ℕ) → HasStampText pattern moment s → StampMarks tokens s (bit_or bits brought)
 stamp_brings tokens looked may bits brought pattern moment stamps same is tells are s stamped =
     stamp_more tokens s bits brought
-    (subst (λ (l : List Token). Marks l s brought) same
-    (tells s (λ h. subst (λ (n : ℕ). Marks looked s n) (sym is) (subst (λ (l : List Token). Marks l s (slice_index_or stamps pattern 0)) (sym same) (are pattern moment s h))) stamped))
+    (subst (λ (l : List Token). StampMarks l s brought) same
+    (tells s (λ h. subst (λ (n : ℕ). StampMarks looked s n) (sym is) (subst (λ (l : List Token). StampMarks l s (slice_index_or stamps pattern 0)) (sym same) (are pattern moment s h))) stamped))
+
+-- ---- what a row lacks without its numbers and its stamp
+
+-- the slots of words listed from the first up to a place
+abbrev pub WordsBefore : Filter → List ℕ → ℕ → ℕ → ℕ → Type 0
+WordsBefore f row first end bits = (at : ℕ) → first ≤ at → at < end → (slot : Slot) → slice_get f.slots.items at ≡ Some slot → slot.kind ≡ Word → SlotIs f at row bits
+
+pub words_step : (f : Filter) (row : List ℕ) (first end bits more : ℕ) → Has (bit_or bits more) bits → ((slot : Slot) → slice_get f.slots.items end ≡ Some slot → slot.kind ≡ Word → SlotIs f end row (bit_or bits more))
+    → WordsBefore f row first end bits → WordsBefore f row first (end + 1) (bit_or bits more)
+words_step f row first end bits more has here before at from to slot there w = elim (cases_lt at end) [
+  | inl less ↦ is_more f at row bits (bit_or bits more) has (before at from less slot there w)
+  | inr past ↦
+      let e : end ≡ at = omega (arith, to, past) in
+      subst (λ n. SlotIs f n row (bit_or bits more)) e (here slot (subst (λ n. slice_get f.slots.items n ≡ Some slot) (sym e) there) w)
+]
+
+word_kind : (kind : Kind) → (kind ≡ Word) ⊎ (kind ≢ Word)
+word_kind Word = inl refl
+word_kind Whole = inr (λ e. cc (e))
+word_kind Decimal = inr (λ e. cc (e))
+
+pub lacks_numbers : (f : Filter) (test : TypeTest) (row : Row) (may bits : ℕ) → Has bits (bit_or (bit_or test.has f.numbers) may)
+    → ((at : ℕ) → test.first ≤ at → at < test.end → (slot : Slot) → slice_get f.slots.items at ≡ Some slot → slot.kind ≡ Word → SlotIs f at row.words bits)
+    → may ≡ slice_index_or f.stamps.items row.pattern 0 → ¬ Has bits f.wanted → Lacks f test row
+lacks_numbers f test row may bits more dictionary may_is lacks =
+    let others : ℕ = bit_or test.has f.numbers in
+    let own : Has bits others = has_through bits (bit_or others may) others more (has_left others may others (has_self others)) in
+    let known : Has bits test.has = has_through bits others test.has own (has_left test.has f.numbers test.has (has_self test.has)) in
+    let by_numbers : Has bits f.numbers = has_through bits others f.numbers own (has_right test.has f.numbers) in
+    let by_stamp : Has bits may = has_through bits (bit_or others may) may more (has_right others may) in
+    record {
+      bits = bits;
+      has = known;
+      slots = λ at from to slot word there here words variable marks small numbers coded is j d lt m own.
+          by_kind by_numbers slot words variable word (slice_index_or f.tokens.items j d).bit numbers is (λ w. dictionary at from to slot there w slot word there here words variable marks small numbers coded is j d lt m own) j d lt m refl;
+      stamp = λ stamps s stamped j d lt lies.
+          has_through bits may (slice_index_or f.tokens.items j d).bit by_stamp (subst (λ (n : ℕ). StampMarks f.tokens.items s n) (sym may_is) (stamps row.pattern row.moment s stamped) j d lt lies);
+      lacks = lacks;
+    }
+  where
+    by_kind : Has bits f.numbers → (slot : Slot) (words : List (List ℕ)) (variable : List ℕ) (word bit : ℕ) → AreNumberBits f.tokens.items f.numbers → HasWord words slot.kind variable word → (slot.kind ≡ Word → Has bits bit)
+        → (j : ℕ) (d : Token) → j < length f.tokens.items → Finds (slice_index_or f.tokens.items j d) variable → bit ≡ (slice_index_or f.tokens.items j d).bit → Has bits bit
+    by_kind more slot words variable word bit numbers is dictionary j d lt finds same = elim (word_kind slot.kind) [
+      | inl w ↦ dictionary w
+      | inr other ↦ subst (Has bits) (sym same) (has_through bits f.numbers (slice_index_or f.tokens.items j d).bit more (numbers slot.kind other words variable word is j d lt finds))
+    ]
+
+-- the bits of whole numbers and of decimals are those of numbers
+pub number_bits : (tokens : List Token) (kinds : KindBits) → AreKindBits tokens kinds → AreNumberBits tokens (bit_or kinds.whole kinds.decimal)
+number_bits tokens kinds are Word other words variable word is j d lt finds = absurd (other refl)
+number_bits tokens kinds are Whole other words variable word is j d lt finds = has_left kinds.whole kinds.decimal _ (are.whole words variable word is j d lt finds)
+number_bits tokens kinds are Decimal other words variable word is j d lt finds =
+    has_through (bit_or kinds.whole kinds.decimal) kinds.decimal _ (has_right kinds.whole kinds.decimal) (are.decimal words variable word is j d lt finds)

@@ -1,7 +1,7 @@
 -- A token of the pattern stands in a row's stamp, among the constant bytes of its log type, or in the text of a
 -- variable.
 use Rattle.std.proofs.Common.{◌≡◌, ℕ, zero, suc, Bool, true, false, cond, List, [], ◌∷◌, ◌++◌, length, map, refl, sym, ◌∙◌, ap, subst, inl, inr}
-use Rattle.std.specs.Prelude.{Option, Some, slice_get}
+use Rattle.std.specs.Prelude.{◌⊎◌, Option, Some, slice_get}
 use Rattle.time_patterns.specs.Stamps.{HasStamp}
 use Rattle.logtype_text.specs.declared.symbols.Kind.{Kind}
 use Rattle.logtype_text.specs.declared.symbols.Kind.TheVariants.{Whole, Word, Decimal}
@@ -12,10 +12,10 @@ use Rattle.wild_match.specs.Matches.{Match}
 use Rattle.row_codec.specs.Means.{EachWord, HasWord}
 use Rattle.row_codec.proofs.EncoderLemmas.{slots}
 use Rattle.query_plan.specs.Laws.{TokensStand}
-use Rattle.query_plan.specs.Needs.{HeldIn, around}
+use Rattle.query_plan.specs.Needs.{HeldIn, around, marked}
 use Rattle.query_plan.specs.Pieces.{flat}
 use Rattle.subquery_filter.specs.StepsLetters.{kind_at, kind_before, kinds_in, marked_from}
-use Rattle.subquery_filter.specs.Tokens.{RowsBringTokens, StandsInType}
+use Rattle.subquery_filter.specs.Tokens.{RowsBringTokens, StandsInSlot, StandsInType}
 use Rattle.subquery_filter.proofs.BarrenLemmas.{body_behind}
 use Rattle.subquery_filter.proofs.LetterLemmas.{no_escape, no_kind}
 use Rattle.subquery_filter.proofs.VerdictLemmas.{marked_are}
@@ -63,6 +63,25 @@ held_slot words t (Variable kind text ∷ parts) [] has held = absurd has
 held_slot words t (Variable kind text ∷ parts) (w ∷ row) has (inl m) =
     record { place = zero; kind = kind; word = w; variable = text; slot = refl; at = refl; has = has.0; fits = m }
 held_slot words t (Variable kind text ∷ parts) (w ∷ row) has (inr held) = later t words (slots parts) row kind w (held_slot words t parts row has.1 held)
+
+-- what a body brings of a token
+pub body_brings : (words : List (List ℕ)) (t text : List ℕ) (parts : List Part) (row : List ℕ) → type_text (map symbol_of parts) ≡ text → EachWord (HasWord words) parts row
+    → Match (around t) (marked 10 parts) ⊎ HeldIn t parts → StandsInType (around t) text ⊎ StandsInSlot (around t) words text row
+body_brings words t text parts row typed coded (inl among) =
+    inl (subst (λ x. Match (around t) (marked_from false (10 ∷ []) x)) typed (subst (Match (around t)) (sym (marked_are 10 parts)) among))
+body_brings words t text parts row typed coded (inr held) =
+    let kinds : slots parts ≡ kinds_in false text = sym (kinds_are parts) ∙ ap (kinds_in false) typed in
+    let v = held_slot words t parts row coded held in
+    inr (record {
+      place = v.place;
+      kind = v.kind;
+      word = v.word;
+      variable = v.variable;
+      slot = subst (λ l. slice_get l v.place ≡ Some v.kind) kinds v.slot;
+      at = v.at;
+      has = v.has;
+      fits = v.fits;
+    })
 
 -- ---- the law
 

@@ -25,7 +25,7 @@ use Rattle.subquery_filter.specs.declared.token.Token.{Token}
 use Rattle.subquery_filter.specs.declared.verdicts.Verdict.{Verdict}
 use Rattle.subquery_filter.specs.declared.verdicts.Verdict.TheVariants.{Rejected, Certain, Tried}
 use Rattle.subquery_filter.specs.StepsLetters.{kinds_in}
-use Rattle.subquery_filter.specs.Tokens.{IsClosed, IsTokenOf, StandsInType}
+use Rattle.subquery_filter.specs.Tokens.{IsClosedIn, IsInRun, IsTokenOf, LiesInStamp, StandsInType}
 use Rattle.subquery_filter.specs.Verdicts.{IsCertain, IsRejected}
 
 -- all of some bits are among these
@@ -37,6 +37,10 @@ Has bits some = bit_or bits some ≡ bits
 -- the bit of each token that stands in the text is among these
 abbrev pub Marks : List Token → List ℕ → ℕ → Type 0
 Marks tokens text bits = All (λ k. Match k.matcher.items text → Has bits k.bit) tokens
+
+-- the bit of each token that lies in the stamp, with what stands around it in the pattern, is among these
+abbrev pub StampMarks : List Token → List ℕ → ℕ → Type 0
+StampMarks tokens s bits = All (λ k. LiesInStamp k.chunk k.text s → Has bits k.bit) tokens
 
 -- the token may be in a variable with this text: it stands in it, and is all of it where it is a closed number
 abbrev pub Finds : Token → List ℕ → Type 0
@@ -73,6 +77,10 @@ pub record AreKindBits (tokens : List Token) (bits : KindBits) : Type 0 where
   pub decimal : Covers tokens Decimal bits.decimal
   pub word : Covers tokens Word bits.word
 
+-- the bit of each token that may be in a number is among these
+abbrev pub AreNumberBits : List Token → ℕ → Type 0
+AreNumberBits tokens bits = (kind : Kind) → kind ≢ Word → Covers tokens kind bits
+
 -- the marks that stand behind the low bits of a number
 abbrev pub marks_at : WordMarks → ℕ → ℕ
 marks_at marks n = slice_index_or marks.table.items (bit_and n marks.mask) 0
@@ -88,7 +96,7 @@ AreSmall tokens small = (n bits : ℕ) → slice_get small n ≡ Some bits → M
 -- what each pattern's stamps may bring stands at its number
 abbrev pub AreStamps : List Token → List ℕ → Type 0
 AreStamps tokens stamps =
-    (pattern : ℕ) (moment : ℤ) (s : List ℕ) → HasStampText pattern moment s → Marks tokens s (slice_index_or stamps pattern 0)
+    (pattern : ℕ) (moment : ℤ) (s : List ℕ) → HasStampText pattern moment s → StampMarks tokens s (slice_index_or stamps pattern 0)
 
 -- ---- what is known of a log type
 
@@ -165,10 +173,11 @@ AreTold f verdicts =
 
 -- ---- the filter
 
--- a token of the pieces, and closed where it is kept as a closed number
+-- a token of the pieces, with the text that stands around it there, and closed where it is kept as a closed number
 pub record IsAsked (ps : List Piece) (k : Token) : Type 0 where
   pub token : IsTokenOf ps k.matcher.items
-  pub closed : (code : Coded) → k.closed ≡ Some code → IsClosed ps k.text code
+  pub runs : k.closed ≡ None → IsInRun ps k.text k.chunk
+  pub closed : (code : Coded) → k.closed ≡ Some code → IsClosedIn ps k.text k.chunk code
 
 -- the texts of the tokens, in their order
 abbrev pub AreTexts : List Token → List (List ℕ) → Type 0
@@ -186,6 +195,7 @@ pub record AsksTypes (ps : List Piece) (types : List (List ℕ)) (f : Filter) : 
       → AreTexts f.tokens.items f.needles.items
   pub told : AreTold f f.verdicts.items
   pub brought : (n : ℕ) → Has f.brought (marks_at f.marks n)
+  pub numbers : AreNumberBits f.tokens.items f.numbers
   pub small : AreSmall f.tokens.items f.small.items
   pub stamps : AreStamps f.tokens.items f.stamps.items
   pub stamped : (pattern : ℕ) → Has f.stamped (slice_index_or f.stamps.items pattern 0)

@@ -15,3 +15,8 @@ is_digits point (b ∷ t) = if is_in_range 48 57 b then is_digits point t else (
 -- a text that may stand in that of a number
 abbrev pub is_number_part : Bool → List ℕ → Bool
 is_number_part point t = is_digits point (unsigned t)
+
+-- digits alone, the first of which is no zero
+abbrev pub is_plain : List ℕ → Bool
+is_plain [] = false
+is_plain (b ∷ t) = is_in_range 49 57 b && is_digits false t

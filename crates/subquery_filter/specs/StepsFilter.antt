@@ -1,12 +1,14 @@
 -- What the parts of a filter tell each other.
-use Rattle.std.specs.Prelude.{◌≡◌, ◌≢◌, ◌⊎◌, ◌+◌, ◌<◌, ◌≤◌, ℕ, ℤ, false, List, [], All, Some, bit_and, drop, length, slice_get, slice_index_or}
+use Rattle.std.specs.Prelude.{◌≡◌, ◌≢◌, ◌⊎◌, ◌+◌, ◌++◌, ◌<◌, ◌≤◌, ℕ, ℤ, false, List, [], All, Some, bit_and, drop, length, slice_get, slice_index_or}
 use Rattle.std.specs.List.{Contains}
 use Rattle.column_store.specs.declared.row.Row.{Row}
+use Rattle.var_codec.specs.declared.Coded.{Coded}
 use Rattle.logtype_text.specs.declared.symbols.Kind.{Kind}
 use Rattle.logtype_text.specs.declared.symbols.Kind.TheVariants.{Word}
 use Rattle.row_codec.specs.Means.{HasStampText, HasWord}
 use Rattle.segment_format.specs.declared.head.Head.{Head}
 use Rattle.query_plan.specs.declared.pieces.Piece.{Piece}
+use Rattle.query_plan.specs.Laws.{NoGap, chunk_text}
 use Rattle.subquery_filter.specs.declared.filter.Filter.{Filter}
 use Rattle.subquery_filter.specs.declared.marks.WordMarks.{WordMarks}
 use Rattle.subquery_filter.specs.declared.slots.KindBits.{KindBits}
@@ -14,8 +16,9 @@ use Rattle.subquery_filter.specs.declared.slots.Slot.{Slot}
 use Rattle.subquery_filter.specs.declared.slots.TypeTest.{TypeTest}
 use Rattle.subquery_filter.specs.declared.token.Token.{Token}
 use Rattle.subquery_filter.specs.declared.verdicts.Verdict.TheVariants.{Rejected, Tried}
-use Rattle.subquery_filter.specs.Filter.{AreCoded, AreKindBits, AreMarks, AreSmall, AreStamps, Finds, Has, IsAsked, IsSlot, IsWithin, LacksAll, Marks, marks_at}
+use Rattle.subquery_filter.specs.Filter.{AreCoded, AreKindBits, AreMarks, AreNumberBits, AreSmall, AreStamps, Finds, Has, IsAsked, IsSlot, IsWithin, LacksAll, StampMarks, marks_at}
 use Rattle.subquery_filter.specs.StepsLetters.{kinds_in}
+use Rattle.subquery_filter.specs.Tokens.{IsClosed}
 
 -- tokens of these pieces
 abbrev pub AreTokens : List Piece → List Token → Type 0
@@ -61,7 +64,8 @@ pub record ListedUpTo (bits : KindBits) (text rest : List ℕ) (place first know
 abbrev pub SlotGives : Filter → Slot → ℕ → ℕ → Type 0
 SlotGives f slot word bits =
     (words : List (List ℕ)) (variable : List ℕ) → (slot.kind ≡ Word → AreMarks f.tokens.items words f.marks)
-    → AreSmall f.tokens.items f.small.items → AreCoded f.tokens.items → HasWord words slot.kind variable word
+    → AreSmall f.tokens.items f.small.items → AreNumberBits f.tokens.items f.numbers → AreCoded f.tokens.items
+    → HasWord words slot.kind variable word
     → All (λ k. Finds k variable → Has slot.bits k.bit → Has bits k.bit) f.tokens.items
 
 -- so it is of the slot that is listed at this place
@@ -77,7 +81,7 @@ pub record Lacks (f : Filter) (test : TypeTest) (row : Row) : Type 0 where
   pub slots : (at : ℕ) → test.first ≤ at → at < test.end → SlotIs f at row.words bits
   pub stamp :
       AreStamps f.tokens.items f.stamps.items → (s : List ℕ) → HasStampText row.pattern row.moment s
-      → Marks f.tokens.items s bits
+      → StampMarks f.tokens.items s bits
   pub lacks : ¬ Has bits f.wanted
 
 -- so it is by what is known of its log type
@@ -96,4 +100,18 @@ IsShut f stamped brought t =
 abbrev pub StampsBring : Filter → Head → ℕ → Type 0
 StampsBring f head bits =
     AreStamps f.tokens.items f.stamps.items → (pattern : ℕ) (moment : ℤ) (s : List ℕ) → (pattern ≢ 0 → IsWithin head moment)
-    → HasStampText pattern moment s → Marks f.tokens.items s bits
+    → HasStampText pattern moment s → StampMarks f.tokens.items s bits
+
+-- ---- the text around a token
+
+-- the text is added of some of the pieces at the front, none of them a gap
+abbrev pub AddsRun : List Piece → List ℕ → List ℕ → Type 0
+AddsRun ps old new = (run rest : List Piece) × (ps ≡ run ++ rest) × NoGap run × (new ≡ old ++ chunk_text run)
+
+-- the text is that of some of the pieces at the end, none of them a gap
+abbrev pub EndsRun : List Piece → List ℕ → Type 0
+EndsRun ps text = (before run : List Piece) × (ps ≡ before ++ run) × NoGap run × (text ≡ chunk_text run)
+
+-- the token is closed between these delimiters
+abbrev pub IsClosedBy : List Piece → List ℕ → Coded → ℕ → ℕ → Type 0
+IsClosedBy ps t code a b = (h : IsClosed ps t code) × (h.before ≡ a) × (h.behind ≡ b)

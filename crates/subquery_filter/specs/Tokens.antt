@@ -1,6 +1,6 @@
 -- What the tokens of a pattern tell of the rows that it may match: each of them stands in the row's
 -- stamp, among the constant bytes of its log type, or in the text of one of its variables.
-use Rattle.std.specs.Prelude.{◌≡◌, ◌⊎◌, ℕ, Some, List, [], ◌∷◌, false, true, slice_get}
+use Rattle.std.specs.Prelude.{◌≡◌, ◌⊎◌, ◌<◌, ◌++◌, ℕ, Some, List, [], ◌∷◌, drop, false, slice_get, take, true}
 use Rattle.std.specs.List.{Contains}
 use Rattle.token_rules.specs.Tokens.{is_variable}
 use Rattle.var_codec.specs.Codes.{Codes}
@@ -12,7 +12,7 @@ use Rattle.wild_match.specs.declared.pattern.Item.{Item}
 use Rattle.row_codec.specs.Means.{HasStampText, HasWord, IsCanonical}
 use Rattle.query_plan.specs.declared.pieces.Piece.{Piece}
 use Rattle.query_plan.specs.declared.pieces.Piece.TheVariants.{Mark, Word}
-use Rattle.query_plan.specs.Laws.{IsChunk}
+use Rattle.query_plan.specs.Laws.{BeginsMark, IsChunk, chunk_text}
 use Rattle.query_plan.specs.Needs.{around}
 use Rattle.query_plan.specs.Pieces.{IsCut, flat}
 use Rattle.subquery_filter.specs.StepsLetters.{kinds_in, marked_from}
@@ -74,6 +74,54 @@ RowsBringClosed =
     → IsCut ps → IsCanonical version row types words message → Match (flat ps) message → IsClosed ps t code
     → slice_get types row.log_type ≡ Some text → StandsInStamp (around t) row ⊎ OwnsSlot t words text row.words
 
+-- ---- with what stands around them in the pattern
+
+-- so many bytes of the text end the stamp, and a delimiter of the text stands behind them
+pub record EndsAt (w s : List ℕ) (n : ℕ) : Type 0 where
+  pub some : 0 < n
+  pub marks : BeginsMark (drop n w)
+  pub before : List ℕ
+  pub ends : s ≡ before ++ take n w
+
+-- a front of the text ends the stamp, and a delimiter of the text stands behind it
+abbrev pub LiesAcross : List ℕ → List ℕ → Type 0
+LiesAcross w s = (n : ℕ) × EndsAt w s n
+
+-- a token lies in the stamp with the text that stands around it in the pattern: all of that text stands there,
+-- or a front of it at the stamp's end
+abbrev pub LiesInStamp : List ℕ → List ℕ → List ℕ → Type 0
+LiesInStamp w t s = Match (around w) s ⊎ (LiesAcross w s × Match (around t) s)
+
+-- the text is that of some of the pieces in a row, none of them a gap, and the token is one of these
+pub record IsInRun (ps : List Piece) (t w : List ℕ) : Type 0 where
+  pub run : List Piece
+  pub chunk : IsChunk ps run
+  pub has : Contains run (Word t)
+  pub text : w ≡ chunk_text run
+
+-- the text is that of the token, which is closed, with the delimiters on both sides
+abbrev pub IsClosedIn : List Piece → List ℕ → List ℕ → Coded → Type 0
+IsClosedIn ps t w code = (h : IsClosed ps t code) × (w ≡ h.before ∷ (t ++ h.behind ∷ []))
+
+-- the token lies in the stamp of the row
+abbrev pub StampBrings : List ℕ → List ℕ → Row → Type 0
+StampBrings w t row = (s : List ℕ) × HasStampText row.pattern row.moment s × LiesInStamp w t s
+
+-- a row whose message the pieces match brings each token: in its stamp with what stands around it, or in its body
+abbrev pub RowsBringRuns : Type 0
+RowsBringRuns =
+    (version : ℕ) (ps : List Piece) (row : Row) (types words : List (List ℕ)) (text message t w : List ℕ)
+    → IsCut ps → IsCanonical version row types words message → Match (flat ps) message → IsInRun ps t w
+    → slice_get types row.log_type ≡ Some text
+    → StampBrings w t row ⊎ (StandsInType (around t) text ⊎ StandsInSlot (around t) words text row.words)
+
+-- and so each closed one: in its stamp, or as the whole text of a variable
+abbrev pub RowsBringClosedRuns : Type 0
+RowsBringClosedRuns =
+    (version : ℕ) (ps : List Piece) (row : Row) (types words : List (List ℕ)) (text message t w : List ℕ) (code : Coded)
+    → IsCut ps → IsCanonical version row types words message → Match (flat ps) message → IsClosedIn ps t w code
+    → slice_get types row.log_type ≡ Some text → StampBrings w t row ⊎ OwnsSlot t words text row.words
+
 -- both
 abbrev pub RowsBring : Type 0
-RowsBring = RowsBringTokens × RowsBringClosed
+RowsBring = RowsBringRuns × RowsBringClosedRuns

@@ -9,13 +9,13 @@ ghost use Rattle.query_plan.specs.Laws.{IsSearched};
 ghost use Rattle.query_plan.specs.Pieces.{wide_pieces};
 ghost use Rattle.query_plan.specs.declared.pieces.Piece.{Piece};
 ghost use Rattle.subquery_filter.specs.declared.slots.Slot.{Slot};
-ghost use Rattle.subquery_filter.specs.Filter.{AreCoded, AreMarks, AreSmall, AreStamps, AreTold, AsksTypes, Has, HasNoMatch, IsFilter, IsRowVerdict, IsTold, LacksAll, Marks, MarksVariable, slot_may};
+ghost use Rattle.subquery_filter.specs.Filter.{AreCoded, AreMarks, AreSmall, AreStamps, AreTold, AsksTypes, Has, HasNoMatch, IsFilter, IsRowVerdict, IsTold, LacksAll, MarksVariable, StampMarks, slot_may};
 ghost use Rattle.subquery_filter.specs.declared.verdicts.Verdict.TheVariants.{Certain};
 ghost use Rattle.subquery_filter.specs.Found.{HaveAll};
 ghost use Rattle.subquery_filter.specs.StepsFilter.{HasEach, IsShut, Lacks, LacksTokens, SlotGives, SlotIs, StampsBring};
 
 use crate::bits::{any_of, has, mark_at};
-use crate::laws::{rows_bring_closed, rows_bring_tokens, verdicts_hold};
+use crate::laws::{rows_bring_runs, verdicts_hold};
 use crate::marks::WordMarks;
 use crate::needles::{lists_with, needles_of};
 use crate::numbers::{decimal_bits, has_open, kind_bits, mark_small, whole_bits};
@@ -55,6 +55,8 @@ pub struct Filter {
     marks: WordMarks,
     /// The bits that words may bring.
     brought: u8,
+    /// The bits that numbers may bring.
+    numbers: u8,
     /// The bits of small whole numbers, where a slot of a whole number is listed.
     small: Vec<u8>,
     /// The bits that stamps may bring, by the numbers of their patterns, and those of all patterns.
@@ -102,14 +104,8 @@ impl Filter {
         let looked = tokens.as_slice();
         let mut slots = Vec::new(alloc);
         let mut tests = Vec::new(alloc);
-        test_types(
-            plan,
-            looked,
-            &kind_bits(looked),
-            names,
-            &mut slots,
-            &mut tests,
-        )?;
+        let kinds = kind_bits(looked);
+        test_types(plan, looked, &kinds, names, &mut slots, &mut tests)?;
         let needles = needles_of(alloc, slots.as_slice(), looked)?;
         let small = small_needed(alloc, slots.as_slice(), looked)?;
         let stamps = mark_stamps(alloc, looked)?;
@@ -124,6 +120,7 @@ impl Filter {
             needles,
             marks: WordMarks::none(alloc),
             brought: wanted,
+            numbers: kinds.whole | kinds.decimal,
             small,
             stamps,
             stamped,
@@ -236,7 +233,7 @@ impl Filter {
         match kind {
             Kind::Word => self.marks.at(word),
             Kind::Whole => whole_bits(self.tokens.as_slice(), self.small.as_slice(), word),
-            Kind::Decimal => decimal_bits(self.tokens.as_slice(), word),
+            Kind::Decimal => decimal_bits(self.tokens.as_slice(), self.small.as_slice(), word),
         }
     }
 
@@ -280,6 +277,52 @@ impl Filter {
         all
     }
 
+    /// The bits that a row brings by the slot that is listed at a place, where it is one of a word.
+    #[inline]
+    fn dictionary_bits(&self, at: usize, words: &[u64], bits: u8) -> u8
+        ensures { (all : ℕ) → Has all bits → Has all result → (slot : Slot)
+            → slice_get self.now.slots.items at ≡ Some slot → slot.kind ≡ Word
+            → SlotIs self.now at words.now all }
+    {
+        let Some(slot) = self.slot_at(at) else {
+            return 0;
+        };
+        if slot.kind != Kind::Word {
+            return 0;
+        }
+        self.slot_bits(at, words, bits)
+    }
+
+    /// These bits, and those that a row brings by its words.
+    #[inline]
+    fn with_words(&self, test: &TypeTest, words: &[u64], bits: u8) -> u8
+        ensures more { Has result bits }
+        ensures slots { (at : ℕ) → test.now.first ≤ at → at < test.now.end → (slot : Slot)
+            → slice_get self.now.slots.items at ≡ Some slot → slot.kind ≡ Word
+            → SlotIs self.now at words.now result }
+    {
+        let mut all = bits;
+        for at in test.first..test.end {
+            all |= self.dictionary_bits(at, words, all);
+        }
+        all
+    }
+
+    /// Whether a row of a log type does not bring all tokens, whatever its numbers and its stamp are: so
+    /// neither are looked at where a token stands in no word of it that only words may bring.
+    #[inline]
+    fn lacks_words(&self, test: &TypeTest, row: RowRef<'_>) -> bool
+        ensures { IsTrue result → Lacks self.now test.now (row_of row.entry) }
+    {
+        let may = mark_at(self.stamps.as_slice(), u64::from(row.pattern));
+        let others = test.has | self.numbers | may;
+        if has(others, self.wanted) {
+            return false;
+        }
+        let all = self.with_words(test, row.words, others);
+        !has(all, self.wanted)
+    }
+
     /// These bits, and those that a row brings by its stamp, which is printed only where its pattern
     /// may bring all that is missing.
     #[inline]
@@ -287,7 +330,7 @@ impl Filter {
         ensures more { Has result bits }
         ensures stamp { AreStamps self.now.tokens.items self.now.stamps.items → (s : List ℕ)
             → HasStampText row.entry.pattern row.entry.moment s
-            → Marks self.now.tokens.items s result }
+            → StampMarks self.now.tokens.items s result }
     {
         let may = mark_at(self.stamps.as_slice(), u64::from(row.pattern));
         if !has(bits | may, self.wanted) {
@@ -308,6 +351,9 @@ impl Filter {
     fn lacks(&self, test: &TypeTest, row: RowRef<'_>, page: &mut PageTests) -> bool
         ensures { IsTrue result → Lacks self.now test.now (row_of row.entry) }
     {
+        if self.lacks_words(test, row) {
+            return true;
+        }
         let bits = self.with_slots(test, row.words, test.has);
         if has(bits, self.wanted) {
             return false;
@@ -373,8 +419,7 @@ impl Filter {
             → IsRowVerdict (wide_pieces p) types words (row_of row.entry) Certain }
     {
         verdicts_hold();
-        rows_bring_tokens();
-        rows_bring_closed();
+        rows_bring_runs();
         let Some(verdict) = self.verdict_at(row.log_type) else {
             return Verdict::Tried;
         };
@@ -458,8 +503,7 @@ impl Filter {
             → HasNoMatch (wide_pieces p) names texts head.now }
     {
         verdicts_hold();
-        rows_bring_tokens();
-        rows_bring_closed();
+        rows_bring_runs();
         let types = head.types.as_slice();
         let stamped = self.stamps_of(head);
         if self.some_may(types, stamped, 0) {

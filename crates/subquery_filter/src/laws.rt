@@ -1,6 +1,6 @@
 //! Laws of barren segments and of verdicts. The functions do nothing.
 ghost use Rattle.subquery_filter.specs.Laws.{BarrenHasNoMatch};
-ghost use Rattle.subquery_filter.specs.Tokens.{RowsBringClosed, RowsBringTokens};
+ghost use Rattle.subquery_filter.specs.Tokens.{RowsBringClosed, RowsBringClosedRuns, RowsBringRuns, RowsBringTokens};
 ghost use Rattle.subquery_filter.specs.Verdicts.{CertainAlwaysMatches, RejectedNeverMatches};
 
 use query_plan::{
@@ -42,6 +42,19 @@ pub fn rows_bring_tokens()
 pub fn rows_bring_closed()
     ensures { RowsBringClosed }
 {
+    chunks_are_brought();
+    readings_are_exact();
+}
+
+/// A row whose message a pattern matches brings each token of the pattern: in its stamp, and there with
+/// what stands around the token in the pattern, among the constant bytes of its log type, or in the text
+/// of one of its variables. One that stands between delimiters of the pattern and is a variable it brings
+/// in its stamp so, or as the whole text of a variable.
+pub fn rows_bring_runs()
+    ensures runs { RowsBringRuns }
+    ensures closed { RowsBringClosedRuns }
+{
+    tokens_are_brought();
     chunks_are_brought();
     readings_are_exact();
 }

@@ -5,6 +5,7 @@
 #![tactic(auto)]
 
 mod accepting;
+mod beside;
 mod bits;
 mod filter;
 mod known;
@@ -29,7 +30,9 @@ pub use accepting::accepts;
 pub use filter::Filter;
 pub use known::{KnownWord, known_words};
 pub use known_names::KnownNames;
-pub use laws::{barren_has_no_match, rows_bring_closed, rows_bring_tokens, verdicts_hold};
+pub use laws::{
+    barren_has_no_match, rows_bring_closed, rows_bring_runs, rows_bring_tokens, verdicts_hold,
+};
 pub use rules::{barren, barren_by, is_outside};
 pub use shared::PageTests;
 pub use verdicts::{Verdict, verdict_of};

@@ -1,6 +1,6 @@
 //! The texts that may stand in those of numbers.
 ghost use Rattle.std.specs.Prelude.{◌≡◌, IsFalse, None, false, true};
-ghost use Rattle.subquery_filter.specs.NumberText.{is_digits, is_number_part, unsigned};
+ghost use Rattle.subquery_filter.specs.NumberText.{is_digits, is_number_part, is_plain, unsigned};
 
 use var_codec::Coded;
 
@@ -37,4 +37,14 @@ pub(crate) fn is_open(closed: Option<Coded>, text: &[u8]) -> bool
     ensures { IsFalse result → closed ≡ None → is_number_part true text.now ≡ false }
 {
     closed.is_none() && is_digits(true, unsigned(text))
+}
+
+/// Whether a text is digits alone, the first of which is no zero.
+pub(crate) fn is_plain(text: &[u8]) -> bool
+    ensures { result ≡ is_plain text.now }
+{
+    match text.split_first() {
+        Some((first, behind)) => *first >= b'1' && *first <= b'9' && is_digits(false, behind),
+        None => false,
+    }
 }

@@ -1,5 +1,5 @@
 //! Which tokens stand in the texts of numbers.
-ghost use Rattle.std.specs.Prelude.{◌≡◌, ℕ, List, All, IfOk, IsFalse, None, Some, false, true};
+ghost use Rattle.std.specs.Prelude.{◌≡◌, ℕ, List, ◌/◌, ◌%◌, ◌^◌, All, IfOk, IsFalse, IsTrue, None, Some, false, slice_get, true};
 ghost use Rattle.std.specs.Fmt.{signed_decimal};
 ghost use Rattle.std.specs.Int.{cast_signed, w64};
 ghost use Rattle.var_codec.specs.Codes.{Codes};
@@ -10,7 +10,7 @@ ghost use Rattle.wild_match.specs.Matches.{Match};
 ghost use Rattle.row_codec.specs.Means.{HasWord};
 ghost use Rattle.query_plan.specs.Needs.{around};
 ghost use Rattle.subquery_filter.specs.Filter.{AreCoded, AreKindBits, AreSmall, Covers, Finds, MarksOpen, MarksVariable};
-ghost use Rattle.subquery_filter.specs.NumberText.{is_number_part};
+ghost use Rattle.subquery_filter.specs.NumberText.{is_number_part, is_plain};
 
 use crate::number_text::{is_digits, unsigned};
 use crate::slots::KindBits;
@@ -22,6 +22,9 @@ use var_codec::{Coded, decimal_ok, decimal_text, one_word, whole_text};
 
 /// How many whole numbers have their marks in a table.
 const SMALL: u64 = 65_536;
+
+/// The bits of a decimal's word that are the number of its digits.
+const NUMBER: u64 = (1 << 54) - 1;
 
 /// Whether a token that is no closed number may stand in a variable of this kind.
 fn may_stand(text: &[u8], kind: Kind) -> bool
@@ -165,9 +168,36 @@ pub(crate) fn whole_bits(tokens: &[Token], small: &[u8], word: u64) -> u8
     exact | open_whole(tokens, small, word)
 }
 
-/// The bits of the tokens, but for closed numbers, that stand in the text of a decimal.
+/// Whether no token may stand in the text of a decimal but such as are digits alone, the first of which is no
+/// zero: they stand in it only where they stand in that of its digits read as one number.
+#[inline]
+fn are_plain(tokens: &[Token]) -> bool
+    ensures { IsTrue result → All (λ k. k.closed ≡ None → is_number_part true k.text ≡ true
+        → is_plain k.text ≡ true) tokens.now }
+{
+    for token in tokens {
+        if is_pointed(token) {
+            return false;
+        }
+    }
+    true
+}
+
+/// Whether a token may stand in the text of a number, and is not digits alone, the first of which is no zero.
+#[inline]
+fn is_pointed(token: &Token) -> bool
+    ensures { IsFalse result → token.now.closed ≡ None → is_number_part true token.now.text ≡ true
+        → is_plain token.now.text ≡ true }
+{
+    if token.plain {
+        return false;
+    }
+    token.numeric
+}
+
+/// The bits of the tokens, but for closed numbers, that stand in the text of a decimal, by its digits.
 #[inline(never)]
-fn open_decimal(tokens: &[Token], word: u64) -> u8
+fn printed_decimal(tokens: &[Token], word: u64) -> u8
     ensures { (text : List ℕ) → Codes text (DecimalWord word) → MarksOpen tokens.now text result }
 {
     if !decimal_ok(word) {
@@ -178,15 +208,47 @@ fn open_decimal(tokens: &[Token], word: u64) -> u8
     open_marks(tokens, &digits[..len])
 }
 
+/// The digits of a decimal read as one number.
+#[inline]
+fn number_in(word: u64) -> u64
+    ensures { result ≡ word / 2 ^ 8 % 2 ^ 54 }
+{
+    word >> 8 & NUMBER
+}
+
+/// The marks at a place of the table.
+#[inline]
+fn small_at(small: &[u8], place: usize) -> Option<u8>
+    ensures { result ≡ slice_get small.now place }
+{
+    small.get(place).copied()
+}
+
+/// The same by the table of small numbers, where its digits are one of these and that tells enough.
+#[inline]
+fn open_decimal(tokens: &[Token], small: &[u8], word: u64) -> u8
+    ensures { AreSmall tokens.now small.now → (text : List ℕ) → Codes text (DecimalWord word)
+        → MarksOpen tokens.now text result }
+{
+    if !are_plain(tokens) {
+        return printed_decimal(tokens, word);
+    }
+    match small_at(small, number_in(word) as usize) {
+        Some(bits) => bits,
+        None => printed_decimal(tokens, word),
+    }
+}
+
 /// The bits of the tokens that are in a decimal.
-pub(crate) fn decimal_bits(tokens: &[Token], word: u64) -> u8
-    ensures { AreCoded tokens.now → (variable : List ℕ) → Codes variable (DecimalWord word)
-        → MarksVariable tokens.now variable result }
+#[inline]
+pub(crate) fn decimal_bits(tokens: &[Token], small: &[u8], word: u64) -> u8
+    ensures { AreSmall tokens.now small.now → AreCoded tokens.now → (variable : List ℕ)
+        → Codes variable (DecimalWord word) → MarksVariable tokens.now variable result }
 {
     one_word();
     let exact = coded_bits(tokens, Coded::Decimal(word));
     if !has_open(tokens) {
         return exact;
     }
-    exact | open_decimal(tokens, word)
+    exact | open_decimal(tokens, small, word)
 }

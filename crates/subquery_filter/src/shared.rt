@@ -2,7 +2,7 @@
 ghost use Rattle.std.specs.Prelude.{◌≤◌, length};
 
 use crate::token::Token;
-use crate::tokens::marks_of;
+use crate::tokens::chunk_marks;
 use time_patterns::StampPrinter;
 
 /// The numbers of patterns are below this.
@@ -60,8 +60,8 @@ fn common_front(one: &[u8], other: &[u8]) -> usize
     one.len().min(other.len())
 }
 
-/// The bits of the tokens that stand in what the stamps of the two moments have in common, and so in
-/// each stamp of a moment between them.
+/// The bits of the tokens that stand, with what stands around them in the pattern, in what the stamps of the
+/// two moments have in common, and so in each stamp of a moment between them.
 fn span_bits(tokens: &[Token], pattern: u8, span: Span, printer: &mut StampPrinter) -> u8 {
     if span.greatest < span.least {
         return 0;
@@ -76,7 +76,7 @@ fn span_bits(tokens: &[Token], pattern: u8, span: Span, printer: &mut StampPrint
     };
     let low = &low[..low_end];
     let front = common_front(low, &high[..high_end]);
-    marks_of(tokens, &low[..front])
+    chunk_marks(tokens, &low[..front])
 }
 
 impl PageTests {

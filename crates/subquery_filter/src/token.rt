@@ -1,7 +1,7 @@
 //! A token that is looked for.
 ghost use Rattle.std.specs.Prelude.{◌≡◌, None, false, true};
 ghost use Rattle.query_plan.specs.Needs.{around};
-ghost use Rattle.subquery_filter.specs.NumberText.{is_number_part};
+ghost use Rattle.subquery_filter.specs.NumberText.{is_number_part, is_plain};
 
 use plain_list::Text;
 use var_codec::Coded;
@@ -12,6 +12,9 @@ use wild_match::{Matcher, Pattern};
 pub(crate) struct Token {
     /// Its bytes.
     pub(crate) text: Text,
+    /// Its bytes with what stands around it in the pattern, without a gap between: of a closed number its
+    /// delimiters, of another token all up to the gaps on both sides. So it stands in a stamp.
+    pub(crate) chunk: Text,
     /// Matches the texts that the token stands in.
     pub(crate) matcher: Matcher,
     /// The same as a pattern.
@@ -23,7 +26,10 @@ pub(crate) struct Token {
     pub(crate) closed: Option<Coded>,
     /// Whether it is no closed number, and may stand in the text of a number.
     pub(crate) numeric: bool,
+    /// Whether it is digits alone, the first of which is no zero.
+    pub(crate) plain: bool,
     pub(crate) ghost same: { matcher.items ≡ pattern },
     pub(crate) ghost stands: { pattern ≡ around text },
     pub(crate) ghost numeric_is: { numeric ≡ false → closed ≡ None → is_number_part true text ≡ false },
+    pub(crate) ghost plain_is: { plain ≡ is_plain text },
 }

@@ -1,16 +1,18 @@
 //! The tokens of a pattern, and in which texts they stand.
-ghost use Rattle.std.specs.Prelude.{◌≡◌, ℕ, All, IfOk, IfSome, IsTrue, None, OnOk, Option, Some, slice_get, true};
+ghost use Rattle.std.specs.Prelude.{◌≡◌, ◌<◌, ℕ, All, IfOk, IfSome, IsTrue, None, OnOk, Option, Some, length, slice_get, take, true};
 ghost use Rattle.token_rules.specs.Tokens.{is_variable};
 ghost use Rattle.var_codec.specs.Codes.{Codes};
 ghost use Rattle.var_codec.specs.declared.Coded.{Coded};
 ghost use Rattle.wild_match.specs.Matches.{Match};
 ghost use Rattle.query_plan.specs.declared.pieces.Piece.TheVariants.{Mark, Word};
-ghost use Rattle.subquery_filter.specs.Filter.{Gives, Has, IsWanted, Marks, MarksOpen};
-ghost use Rattle.subquery_filter.specs.StepsFilter.{AreTokens, HasAll};
+ghost use Rattle.subquery_filter.specs.Filter.{Gives, Has, IsWanted, MarksOpen};
+ghost use Rattle.subquery_filter.specs.declared.tokens.ClosedNumber.{ClosedNumber};
+ghost use Rattle.subquery_filter.specs.StepsFilter.{AreTokens, EndsRun, HasAll, IsClosedBy};
 ghost use Rattle.query_plan.specs.Needs.{around};
-ghost use Rattle.subquery_filter.specs.Tokens.{IsClosed, StandsInType};
+ghost use Rattle.subquery_filter.specs.Tokens.{StandsInType};
 
-use crate::number_text::is_open;
+use crate::beside::{pass_piece, text_around};
+use crate::number_text::{is_open, is_plain};
 use crate::short_text::stands_in;
 use crate::token::Token;
 use crate::verdicts::matches_marked;
@@ -94,26 +96,56 @@ fn number_code(text: &[u8]) -> Option<Coded>
     }
 }
 
-/// What the token at a place is stored as, where it is a number between two delimiters.
-fn closed_code(pieces: &[Piece], place: usize, text: &[u8]) -> Option<Coded>
+/// A number between two delimiters of the pattern, and what it is stored as.
+#[derive(Clone, Copy)]
+pub(crate) struct ClosedNumber {
+    pub(crate) code: Coded,
+    pub(crate) before: u8,
+    pub(crate) behind: u8,
+}
+
+/// The token at a place, where it is a number between two delimiters.
+fn closed_number(pieces: &[Piece], place: usize, text: &[u8]) -> Option<ClosedNumber>
     requires { slice_get pieces.now place ≡ Some (Word text.now) }
-    ensures { (code : Coded) → result ≡ Some code → IsClosed pieces.now text.now code }
+    ensures { (n : ClosedNumber) → result ≡ Some n
+        → IsClosedBy pieces.now text.now n.code n.before n.behind }
 {
     if place == 0 {
         return None;
     }
-    mark_at(pieces, place - 1)?;
-    mark_at(pieces, place + 1)?;
-    number_code(text)
+    let before = mark_at(pieces, place - 1)?;
+    let behind = mark_at(pieces, place + 1)?;
+    let code = number_code(text)?;
+    Some(ClosedNumber {
+        code,
+        before,
+        behind,
+    })
 }
 
-/// Appends the piece at a place where it is a token.
+/// What a closed number is stored as.
+fn code_of(number: Option<ClosedNumber>) -> Option<Coded>
+    ensures none { result ≡ None → number ≡ None }
+    ensures some { (code : Coded) → result ≡ Some code → (n : ClosedNumber)
+        × (number ≡ Some n) × (n.code ≡ code) }
+{
+    match number {
+        Some(number) => Some(number.code),
+        None => None,
+    }
+}
+
+/// Appends the piece at a place where it is a token. The text of the pieces between it and the gap before
+/// it is given.
 fn push_token(
     alloc: Global,
     tokens: &mut Vec<Token>,
     pieces: &[Piece],
     place: usize,
+    front: &[u8],
 ) -> Result<(), AllocError>
+    requires within { place < length pieces.now }
+    requires front { EndsRun (take place pieces.now) front.now }
     ensures { OnOk result (AreTokens pieces.now tokens.old.items
         → AreTokens pieces.now tokens.new.items) }
 {
@@ -123,16 +155,21 @@ fn push_token(
     let pattern = around(alloc, bytes)?;
     let matcher = Matcher::new(alloc, &pattern)?;
     let bit = bit_behind(tokens.len());
-    let closed = closed_code(pieces, place, bytes);
+    let number = closed_number(pieces, place, bytes);
+    let chunk = text_around(alloc, pieces, place, bytes, front, number)?;
+    let closed = code_of(number);
     let numeric = is_open(closed, bytes);
+    let plain = is_plain(bytes);
     let text = Text::new(Vec::from_slice(alloc, bytes)?);
     tokens.push(Token {
         text,
+        chunk,
         matcher,
         pattern,
         bit,
         closed,
         numeric,
+        plain,
     })?;
     Ok(())
 }
@@ -142,8 +179,10 @@ pub(crate) fn tokens_of(alloc: Global, pieces: &[Piece]) -> Result<Vec<Token>, A
     ensures { IfOk result (λ tokens. AreTokens pieces.now tokens.items) }
 {
     let mut tokens = Vec::new(alloc);
+    let mut front = Vec::new(alloc);
     for place in 0..pieces.len() {
-        push_token(alloc, &mut tokens, pieces, place)?;
+        push_token(alloc, &mut tokens, pieces, place, front.as_slice())?;
+        pass_piece(&mut front, &pieces[place])?;
     }
     Ok(tokens)
 }
@@ -160,25 +199,13 @@ pub(crate) fn all_bits(tokens: &[Token]) -> u8
     bits
 }
 
-/// The bit of a token where it stands in a text.
-#[inline]
-fn mark_of(token: &Token, text: &[u8]) -> u8
-    ensures { Match token.now.matcher.items text.now → result ≡ token.now.bit }
-{
-    if stands_in(text, token.text.as_slice()) {
-        token.bit
-    } else {
-        0
-    }
-}
-
-/// The bits of the tokens that stand in a text.
-pub(crate) fn marks_of(tokens: &[Token], text: &[u8]) -> u8
-    ensures { Marks tokens.now text.now result }
-{
+/// The bits of the tokens that stand in a text with all that stands around them in the pattern.
+pub(crate) fn chunk_marks(tokens: &[Token], text: &[u8]) -> u8 {
     let mut bits = 0;
     for token in tokens {
-        bits |= mark_of(token, text);
+        if stands_in(text, token.chunk.as_slice()) {
+            bits |= token.bit;
+        }
     }
     bits
 }

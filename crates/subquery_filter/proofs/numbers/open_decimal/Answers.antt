@@ -1,6 +1,13 @@
-use Rattle.std.proofs.Common.{List, ℕ, subst, sym}
-use Rattle.subquery_filter.specs.Filter.{MarksOpen}
+use Rattle.std.proofs.Common.{rules}
+use Rattle.subquery_filter.proofs.DecimalLemmas.{small_marks}
 use Rattle.subquery_filter.proofs.numbers.open_decimal.Goals as goal
 
-pub returns : goal.returns
-returns c = λ text is. subst (λ (t : List ℕ). MarksOpen c.args.tokens.now t c.open_marks.result) (sym (c.decimal_text-len.ensures.only text is)) c.open_marks.ensures
+pub returns-then-not-are_plain : goal.returns-then-not-are_plain
+returns-then-not-are_plain c = λ small. c.printed_decimal.ensures
+
+pub returns-in-Some : goal.returns-in-Some
+returns-in-Some c = λ small text is.
+    small_marks c.args.tokens.now c.args.small.now c.args.word c.number_in.result c.in-Some.bits small c.number_in.ensures (search rules) (c.are_plain.ensures (search rules)) text is
+
+pub returns-in-None : goal.returns-in-None
+returns-in-None c = λ small. c.printed_decimal-in-None.ensures

@@ -3,7 +3,7 @@ use Rattle.subquery_filter.proofs.StampLemmas.{stamps_end, stamps_first, stamps_
 use Rattle.subquery_filter.proofs.stamps.mark_stamps.Goals as goal
 
 pub loop-pattern-init : goal.loop-pattern-init
-loop-pattern-init c = (omega arith, stamps_first c.args.tokens.now _ c.new-stamps.result.items c.push.new.self.items c.marks_of.result c.new-stamps.ensures.items c.in_ok-push.ensures.items refl c.marks_of.ensures)
+loop-pattern-init c = (omega arith, stamps_first c.args.tokens.now _ c.new-stamps.result.items c.push.new.self.items c.stamp_marks.result c.new-stamps.ensures.items c.in_ok-push.ensures.items refl c.stamp_marks.ensures)
 
 pub loop-pattern-preserved : goal.loop-pattern-preserved
 loop-pattern-preserved c = (

@@ -1,12 +1,12 @@
 use Rattle.std.proofs.Common.{rules}
-use Rattle.wild_match.specs.Matches.{Match}
 use Rattle.subquery_filter.specs.declared.token.Token.{Token}
 use Rattle.subquery_filter.proofs.FilterLemmas.{each_step}
+use Rattle.subquery_filter.specs.Tokens.{LiesInStamp}
 use Rattle.subquery_filter.proofs.stamps.pattern_bits.Goals as goal
 
 pub loop-token-preserved : goal.loop-token-preserved
 loop-token-preserved c = λ moment s prints.
-    each_step (λ (k : Token). Match k.matcher.items s) c.args.tokens.now c.loop-token.token-index c.loop-token.bits c.stamp_bit-bits.result _ (search rules) c.token-item.is (c.stamp_bit-bits.ensures moment s prints) (c.loop-token.invariant moment s prints)
+    each_step (λ (k : Token). LiesInStamp k.chunk k.text s) c.args.tokens.now c.loop-token.token-index c.loop-token.bits c.stamp_bit-bits.result _ (search rules) c.token-item.is (c.stamp_bit-bits.ensures moment s prints) (c.loop-token.invariant moment s prints)
 
 pub returns : goal.returns
 returns c = λ moment s prints k d lt m. c.loop-token.invariant moment s prints k d (search rules) m

@@ -1,11 +1,11 @@
 use Rattle.std.proofs.Common.{List, ℕ}
 use Rattle.std.specs.Prelude.{ℤ}
 use Rattle.time_patterns.specs.Stamps.{Prints}
-use Rattle.wild_match.specs.Matches.{Match}
 use Rattle.subquery_filter.specs.declared.token.Token.{Token}
 use Rattle.subquery_filter.proofs.FilterLemmas.{EachBefore}
+use Rattle.subquery_filter.specs.Tokens.{LiesInStamp}
 use Rattle.subquery_filter.proofs.stamps.pattern_bits.Given as goal
 
 abbrev pub invariant-loop-token : goal.invariant-loop-token
 invariant-loop-token l =
-    (moment : ℤ) (s : List ℕ) → Prints l.pattern moment s → EachBefore (λ (k : Token). Match k.matcher.items s) l.tokens l.token-index l.bits
+    (moment : ℤ) (s : List ℕ) → Prints l.pattern moment s → EachBefore (λ (k : Token). LiesInStamp k.chunk k.text s) l.tokens l.token-index l.bits

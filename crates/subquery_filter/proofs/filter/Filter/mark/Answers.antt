@@ -18,6 +18,7 @@ returns c = filter_ok c.args.self c.args.lists.now _ c.told.result c.told.ensure
         needles = a.needles;
         told = told_none _ c.new.result.items c.new.ensures.items;
         brought = c.all.ensures;
+        numbers = a.numbers;
         small = a.small;
         stamps = a.stamps;
         stamped = a.stamped;

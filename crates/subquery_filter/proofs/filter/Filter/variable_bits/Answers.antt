@@ -9,4 +9,4 @@ returns-in-Whole c = λ words variable marks small coded has.
 
 pub returns-in-Decimal : goal.returns-in-Decimal
 returns-in-Decimal c = λ words variable marks small coded has.
-    (rw c.as_slice-in-Decimal.ensures.value at c.decimal_bits.ensures) coded variable (subst (λ (k : Kind). HasWord words k variable c.args.word) c.in-Decimal.is has)
+    (rw (c.as_slice-in-Decimal.ensures.value, c.as_slice-in-Decimal-2.ensures.value) at c.decimal_bits.ensures) small coded variable (subst (λ (k : Kind). HasWord words k variable c.args.word) c.in-Decimal.is has)

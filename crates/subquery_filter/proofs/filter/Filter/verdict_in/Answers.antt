@@ -5,11 +5,11 @@ use Rattle.subquery_filter.proofs.filter.Filter.verdict_in.Goals as goal
 
 pub returns-then-lacks_tokens-clause-told : goal.returns-then-lacks_tokens-clause-told
 returns-then-lacks_tokens-clause-told c = λ p types words searched is.
-    row_lacks_tokens (c.rows_bring_tokens.ensures, c.rows_bring_closed.ensures) p types words c.args.self.now is (row_of c.args.row) c.in-Some.verdict (search rules) (search rules) (c.lacks_tokens.ensures (search rules))
+    row_lacks_tokens (c.rows_bring_runs.ensures.runs, c.rows_bring_runs.ensures.closed) p types words c.args.self.now is (row_of c.args.row) c.in-Some.verdict (search rules) (search rules) (c.lacks_tokens.ensures (search rules))
 
 pub returns-clause-told : goal.returns-clause-told
 returns-clause-told c = λ p types words searched is.
-    told_verdict c.verdicts_hold.ensures.rejected c.verdicts_hold.ensures.certain (c.rows_bring_tokens.ensures, c.rows_bring_closed.ensures) p searched types words c.args.self.now is (row_of c.args.row) c.in-Some.verdict (search rules)
+    told_verdict c.verdicts_hold.ensures.rejected c.verdicts_hold.ensures.certain (c.rows_bring_runs.ensures.runs, c.rows_bring_runs.ensures.closed) p searched types words c.args.self.now is (row_of c.args.row) c.in-Some.verdict (search rules)
 
 pub returns-clause-certain : goal.returns-clause-certain
 returns-clause-certain c = λ certain p types asks words.

@@ -1,0 +1,9 @@
+use Rattle.std.proofs.Common.{rules}
+use Rattle.column_store.specs.Row.{row_of}
+use Rattle.subquery_filter.proofs.SlotLemmas.{lacks_numbers}
+use Rattle.subquery_filter.proofs.filter.Filter.lacks_words.Goals as goal
+
+pub returns : goal.returns
+returns c = λ yes.
+    lacks_numbers c.args.self.now c.args.test.now (row_of c.args.row) c.mark_at-may.result c.with_words-all.result c.with_words-all.ensures.more c.with_words-all.ensures.slots (search rules)
+    (c.has-2.ensures.no (search rules))
