@@ -294,7 +294,7 @@ fn stopping_calls<R: Wait>(rt: &R, alloc: Global) -> Result<Option<u64>, AllocEr
         file: 1,
         cause: MergeCause::SecondFault,
     };
-    let mut count = 0;
+    let mut count = 0u64;
     for call in 0..40u64 {
         let left = left_of(rt, alloc, (&[], &[]), u64::MAX, call)?;
         if left == (Some((NAME, Some(refusal))), Some(5), false) {
