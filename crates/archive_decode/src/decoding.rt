@@ -14,7 +14,6 @@ use crate::lines::Lines;
 use crate::refusal::DecodeRefusal;
 use crate::segment::{PageRoom, write_segment};
 use archive_open::{Archive, FileEntry, KeepsTexts, SegmentPlace};
-use column_store::Columns;
 use log_seams::{Disk, Sink};
 use row_codec::{Layouts, Names};
 use segment_pages::segments_are_held;
@@ -32,7 +31,6 @@ fn ends_open(file: &FileEntry) -> bool
 
 /// Writes the messages of those segments that are of the file of a number.
 fn write_segments<N: Names, D: Disk, K: Sink, L: Ledger>(
-    alloc: Global,
     number: u32,
     places: &[SegmentPlace],
     names: &N,
@@ -68,17 +66,12 @@ fn write_segments<N: Names, D: Disk, K: Sink, L: Ledger>(
         (D.state disk.old).faults (D.state disk.new).faults result }
     ensures sink { CountsOf DecodeRefusal.SinkFault (K.faults out.old) (K.faults out.new) result }
 {
-    let mut room = PageRoom {
-        bytes: Vec::new(alloc),
-        columns: Columns::new(alloc),
-    };
+    let mut room = PageRoom::new(lines.alloc);
     for place in places {
         if place.head.file != number {
             continue;
         }
-        write_segment(
-            alloc, place, names, layouts, disk, &mut room, lines, out, steps,
-        )?;
+        write_segment(place, names, layouts, disk, &mut room, lines, out, steps)?;
     }
     Ok(())
 }
@@ -112,7 +105,6 @@ fn decode_with<N: KeepsTexts + Drop, D: Disk, K: Sink, L: Ledger>(
     let file = &archive.files().as_slice()[number as usize];
     let open_end = ends_open(file);
     write_segments(
-        alloc,
         number,
         archive.segments().as_slice(),
         names,

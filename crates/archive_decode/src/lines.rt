@@ -18,6 +18,8 @@ use step_count::Steps;
 /// The messages so far, with a newline between each two.
 #[derive(Debug, Drop)]
 pub(crate) struct Lines {
+    /// The allocator that they were made with.
+    pub(crate) alloc: Global,
     /// The bytes that were not sent yet.
     pub(crate) gathered: Vec<u8>,
     /// Whether there was a message.
@@ -31,6 +33,7 @@ impl Lines {
         ensures begun { result.begun ≡ false }
     {
         Lines {
+            alloc,
             gathered: Vec::new(alloc),
             begun: false,
         }

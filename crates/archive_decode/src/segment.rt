@@ -20,8 +20,20 @@ use step_count::Steps;
 /// Memory that serves all pages: for the bytes of a page, and for its rows.
 #[derive(Drop)]
 pub(crate) struct PageRoom {
-    pub(crate) bytes: Vec<u8>,
-    pub(crate) columns: Columns,
+    alloc: Global,
+    bytes: Vec<u8>,
+    columns: Columns,
+}
+
+impl PageRoom {
+    /// For no page yet. Takes no memory.
+    pub(crate) fn new(alloc: Global) -> PageRoom {
+        PageRoom {
+            alloc,
+            bytes: Vec::new(alloc),
+            columns: Columns::new(alloc),
+        }
+    }
 }
 
 /// Writes the messages of a page.
@@ -62,7 +74,6 @@ fn write_page<N: Names, K: Sink, L: Ledger>(
 
 /// Writes the messages of a segment.
 pub(crate) fn write_segment<N: Names, D: Disk, K: Sink, L: Ledger>(
-    alloc: Global,
     place: &SegmentPlace,
     names: &N,
     layouts: &Layouts,
@@ -99,7 +110,7 @@ pub(crate) fn write_segment<N: Names, D: Disk, K: Sink, L: Ledger>(
         return Err(DecodeRefusal::Damaged);
     };
     while pages.has_next() {
-        let columns = mem::replace(&mut room.columns, Columns::new(alloc));
+        let columns = mem::replace(&mut room.columns, Columns::new(room.alloc));
         room.columns = match pages.next_page(disk, &mut room.bytes, columns) {
             Ok(columns) => columns,
             Err(refusal) => return Err(of_page(refusal)),

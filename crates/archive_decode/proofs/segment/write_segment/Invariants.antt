@@ -4,8 +4,8 @@ use Rattle.archive_decode.specs.StepsHeld.{HoldsMessages}
 use Rattle.archive_decode.proofs.SegmentLemmas.{Going}
 use Rattle.archive_decode.proofs.segment.write_segment.Given as goal
 
-abbrev pub invariant-loop-alloc : goal.invariant-loop-alloc
-invariant-loop-alloc g l = record {
+abbrev pub invariant-loop-pages : goal.invariant-loop-pages
+invariant-loop-pages g l = record {
   rests : Rests (g.D.Disk.state l.fn.disk) (g.D.Disk.state l.disk);
   going : (bytes : List ℕ) (messages : List (List ℕ)) → (g.D.Disk.state l.fn.disk).seen ≡ Some bytes
       → HoldsMessages (g.N.Names.types l.names) (g.N.Names.words l.names) l.place bytes messages
@@ -14,5 +14,5 @@ invariant-loop-alloc g l = record {
   sink : g.K.Sink.faults l.out ≡ g.K.Sink.faults l.fn.out;
 }
 
-abbrev pub decreases-loop-alloc : goal.decreases-loop-alloc
-decreases-loop-alloc g l = l.pages.pages.rows - l.pages.pages.row
+abbrev pub decreases-loop-pages : goal.decreases-loop-pages
+decreases-loop-pages g l = l.pages.pages.rows - l.pages.pages.row
