@@ -23,4 +23,4 @@ pub returns-clause-prints : goal.returns-clause-prints
 returns-clause-prints g c = λ content unread opens reads.
     printed_short _ _ c.in-Ok.told.items _ c.in-Ok.ensures c.print_directory.result c.in-Err.refusal c.in-Err.is c.print_directory.ensures.cause
     (subst (λ (fs : List NewFile). GrewByFront (g.K.Sink.written c.args.out.now) (g.K.Sink.written c.print_directory.new.out) (directory_from 0 (map (λ (f : NewFile). line_of_came (bare_of f)) fs))) c.as_slice.ensures.value c.in-Err.ensures.err)
-    (rw (← c.refusal_of_print.ensures) c.report-in-Err.ensures.status) (rw (← c.refusal_of_print.ensures) c.report-in-Err.ensures.said)
+    (rw (← c.refusal_of_print-in-Err.ensures) c.report-in-Err.ensures.status) (rw (← c.refusal_of_print-in-Err.ensures) c.report-in-Err.ensures.said)
