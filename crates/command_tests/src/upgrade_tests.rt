@@ -1,5 +1,6 @@
 //! Archives of earlier versions as archives of the last one, over disks in memory.
 use crate::outside::{Log, Made, NEVER, Told, USAGE, all_told, disk, made, over_two};
+use log_seams::MemDisk;
 use std::alloc::{AllocError, Global};
 use std::sync::Wait;
 use std::test::Fail;
@@ -7,11 +8,13 @@ use std::thread::Threads;
 
 /// The logs. In `t.log` a message has three lines from version 2 on. The stamp of `u.log` is one in version
 /// 3 alone. The lines of `v.log` have one log type, or two where the stamp of the second one is read; there
-/// is no day as that of the first.
+/// is no day as that of the first. The log types of `s.log` are two, or three from version 2 on, each of
+/// which has the line of the others once more.
 const LOGS: &[Log<'static>] = &[
     ("a.log", b"x\ny\nz\n", NEVER),
     ("d.log", b"task_9 done\ntask_2 done", NEVER),
     ("e.log", b"", NEVER),
+    ("s.log", STEPS, NEVER),
     ("t.log", TRACE, NEVER),
     ("u.log", b"2023-11-14 22:13:20.000123 up\n", NEVER),
     (
@@ -24,6 +27,16 @@ const LOGS: &[Log<'static>] = &[
 
 const TRACE: &[u8] = b"2023-11-14 22:13:20,000 ERROR failed\njava.io.IOException: reset\n\
     \tat x.Y(Z.java:7)\n2023-11-14 22:13:21,000 INFO on\n";
+
+const STEPS: &[u8] = b"2023-11-14 22:13:20,000 x\n\
+    zzzzzzzzzzzzzzzzzzzzzzzzzzzzzzzzzzzzzzzzzzzzzzzzzzzzzzzzzzzzzzzz\n\
+    2023-11-14 22:13:20,000 x\n\
+    zzzzzzzzzzzzzzzzzzzzzzzzzzzzzzzzzzzzzzzzzzzzzzzzzzzzzzzzzzzzzzzz\n\
+    zzzzzzzzzzzzzzzzzzzzzzzzzzzzzzzzzzzzzzzzzzzzzzzzzzzzzzzzzzzzzzzz\n\
+    2023-11-14 22:13:20,000 x\n\
+    zzzzzzzzzzzzzzzzzzzzzzzzzzzzzzzzzzzzzzzzzzzzzzzzzzzzzzzzzzzzzzzz\n\
+    zzzzzzzzzzzzzzzzzzzzzzzzzzzzzzzzzzzzzzzzzzzzzzzzzzzzzzzzzzzzzzzz\n\
+    zzzzzzzzzzzzzzzzzzzzzzzzzzzzzzzzzzzzzzzzzzzzzzzzzzzzzzzzzzzzzzzz\n";
 
 /// What is said of an archive that has the last version.
 const NEWEST: &[u8] = b"clpa: archive: version 3 is the newest\n";
@@ -152,10 +165,80 @@ const REFUSED: &[Row] = &[
             (&["decode", "1"], 0, b"2023-13-14 22:13:20.000123 up\n", b""),
         ],
     ),
+    // the bytes have no room for the texts, which are still to be saved with the next file
+    (
+        &[&["create", "--bytes=500"], &["ingest", "s.log", "e.log"]],
+        &[
+            (&["check"], 0, b"entries 4 files 2 messages 9\n", b""),
+            (
+                &["upgrade"],
+                4,
+                b"0 0 part s.log\n1 0 part e.log\n",
+                b"clpa: s.log: archive full at 65, 544 more needed\n\
+                clpa: e.log: archive full at 65, 481 more needed\n",
+            ),
+        ],
+        &[(&["check"], 0, b"entries 1 files 2 messages 0\n", b"")],
+    ),
+];
+
+/// A place, the byte that is put there, and what comes of the archive then.
+const CHANGED: &[(usize, u8, Row)] = &[
+    // a name that is no text
+    (
+        50,
+        0xFF,
+        (
+            &[&["create"], &["ingest", "a.log"]],
+            &[(&["upgrade"], 0, b"0 3 whole \xFF.log\n", b"")],
+            &[
+                (&["files"], 0, b"0 3 whole \xFF.log\n", b""),
+                (&["search", "y"], 0, b"\xFF.log:2:y\n", b""),
+            ],
+        ),
+    ),
+    // a row of the second of three files names a word that is not there: the first file is whole
+    (
+        359,
+        9,
+        (
+            &[
+                &["create"],
+                &["ingest", "a.log", "w.log"],
+                &["ingest", "d.log"],
+            ],
+            &[(&["upgrade"], 6, b"", b"clpa: archive: damaged at 597\n")],
+            &[
+                (
+                    &["files"],
+                    0,
+                    b"0 3 whole a.log\n1 0 part w.log\n2 0 part d.log\n",
+                    b"",
+                ),
+                (&["check"], 0, b"entries 3 files 3 messages 3\n", b""),
+                (&["decode", "0"], 0, b"x\ny\nz\n", b""),
+            ],
+        ),
+    ),
 ];
 
 /// Whether all calls are told so, over the archive with a new one beside and over the new one, and the
 /// archive stays.
+fn stays<R: Threads + Wait + Sync>(
+    rt: &R,
+    alloc: Global,
+    archive: &mut MemDisk,
+    over_old: &[Told],
+    over_new: &[Told],
+) -> Result<bool, AllocError> {
+    let mut second = disk(alloc, &[], NEVER)?;
+    let bytes = archive.bytes().to_vec(alloc)?;
+    let well = all_told(rt, alloc, over_old, archive, &mut second)?
+        && all_told(rt, alloc, over_new, &mut second, archive)?;
+    Ok(well && archive.bytes() == bytes.as_slice())
+}
+
+/// The same of the archive that is made.
 fn upgrades<R: Threads + Wait + Sync>(
     rt: &R,
     alloc: Global,
@@ -163,11 +246,24 @@ fn upgrades<R: Threads + Wait + Sync>(
 ) -> Result<bool, AllocError> {
     let (old, over_old, over_new) = *row;
     let mut archive = made(rt, alloc, LOGS, old)?;
-    let mut second = disk(alloc, &[], NEVER)?;
-    let bytes = archive.bytes().to_vec(alloc)?;
-    let well = all_told(rt, alloc, over_old, &mut archive, &mut second)?
-        && all_told(rt, alloc, over_new, &mut second, &mut archive)?;
-    Ok(well && archive.bytes() == bytes.as_slice())
+    stays(rt, alloc, &mut archive, over_old, over_new)
+}
+
+/// The same of that archive with another byte at a place.
+fn upgrades_changed<R: Threads + Wait + Sync>(
+    rt: &R,
+    alloc: Global,
+    at: usize,
+    byte: u8,
+    row: &Row,
+) -> Result<bool, AllocError> {
+    let (old, over_old, over_new) = *row;
+    let mut bytes = made(rt, alloc, LOGS, old)?.bytes().to_vec(alloc)?;
+    if let Some(place) = bytes.get_mut(at) {
+        *place = byte;
+    }
+    let mut archive = disk(alloc, &bytes, NEVER)?;
+    stays(rt, alloc, &mut archive, over_old, over_new)
 }
 
 #[test]
@@ -184,6 +280,15 @@ fn archives_that_cannot_be_upgraded_are_refused(rt: HostRuntime) -> Result<(), F
     for row in REFUSED {
         let well = upgrades(&rt, rt.alloc(), row)?;
         assert!(rt; well, "{row:?}");
+    }
+    Ok(())
+}
+
+#[test]
+fn changed_archives_are_upgraded_or_told(rt: HostRuntime) -> Result<(), Fail> {
+    for &(at, byte, row) in CHANGED {
+        let well = upgrades_changed(&rt, rt.alloc(), at, byte, &row)?;
+        assert!(rt; well, "{at}");
     }
     Ok(())
 }
