@@ -67,7 +67,7 @@ fn leaves<R: Threads + Wait + Sync>(
         return stands(rt, alloc, image, records);
     }
     let told = reading(rt, alloc, &["check"], image)?;
-    Ok(told.is(6, b"", b"clpa: archive: damaged at 0\n") || told.is(0, STATES[0].0, b""))
+    Ok(told.is(6, b"", b"clpa: archive: damaged at 0\n") || stands(rt, alloc, image, 0)?)
 }
 
 /// A count of calls after which a crash leaves another archive than it is to leave; None where there is
@@ -100,6 +100,31 @@ fn bad_stop<R: Threads + Wait + Sync>(
     bad_crash(rt, alloc, &second)
 }
 
+/// Whether each image that a crash leaves of the archive after so many calls is the archive.
+fn is_left(archive: &MemDisk, after: usize) -> Result<bool, AllocError> {
+    for &pending in PENDING {
+        let image = archive.stopped(after, pending)?;
+        if image.bytes() != archive.bytes() {
+            return Ok(false);
+        }
+    }
+    Ok(true)
+}
+
+/// Whether it is so after each call of an upgrade.
+fn archive_is_left<R: Threads + Wait + Sync>(rt: &R, alloc: Global) -> Result<bool, AllocError> {
+    let mut archive = archive_of(rt, alloc, FIRST, NEVER)?;
+    let mut second = disk(alloc, &[], NEVER)?;
+    let first = archive.calls();
+    let _told = upgrade(rt, alloc, &mut archive, &mut second)?;
+    for after in first..=archive.calls() {
+        if !is_left(&archive, after)? {
+            return Ok(false);
+        }
+    }
+    Ok(true)
+}
+
 /// The calls of both disks that an upgrade makes: the number of the first one, and of the one behind the
 /// last.
 fn calls_of_upgrade<R: Threads + Wait + Sync>(
@@ -113,8 +138,25 @@ fn calls_of_upgrade<R: Threads + Wait + Sync>(
     Ok([(first, archive.calls()), (0, second.calls())])
 }
 
+/// Whether the archive has its file still, and is upgraded to a disk that works; and what was left of the
+/// new one is an archive, or none.
+fn upgrades_again<R: Threads + Wait + Sync>(
+    rt: &R,
+    alloc: Global,
+    archive: &mut MemDisk,
+    left: &mut MemDisk,
+) -> Result<bool, AllocError> {
+    let mut second = disk(alloc, &[], NEVER)?;
+    Ok(
+        (left.bytes().is_empty() || reading(rt, alloc, &["check"], left)?.status == 0)
+            && prints(rt, alloc, &["decode", "0"], archive, FIRST.1)?
+            && upgrade(rt, alloc, archive, &mut second)?.status == 0
+            && stands(rt, alloc, &mut second, RECORDS)?,
+    )
+}
+
 /// Whether an upgrade is told as failed where these calls of the two disks fail: as the outcome of the file
-/// where this was begun. The archive stays.
+/// where this was begun. It can be made again then.
 fn fails<R: Threads + Wait + Sync>(
     rt: &R,
     alloc: Global,
@@ -130,7 +172,7 @@ fn fails<R: Threads + Wait + Sync>(
     } else {
         outcome.has_front(5, PART, DISK_FAILED)
     };
-    Ok(well && prints(rt, alloc, &["decode", "0"], &mut archive, FIRST.1)?)
+    Ok(well && upgrades_again(rt, alloc, &mut archive, &mut second)?)
 }
 
 /// Whether an upgrade that cannot print is told so, and is done.
@@ -153,6 +195,13 @@ fn each_stop_of_upgrade_leaves_a_front_of_the_new_archive(rt: HostRuntime) -> Re
 }
 
 #[test]
+fn each_stop_of_upgrade_leaves_the_archive(rt: HostRuntime) -> Result<(), Fail> {
+    let well = archive_is_left(&rt, rt.alloc())?;
+    assert!(rt; well);
+    Ok(())
+}
+
+#[test]
 fn each_call_of_upgrade_that_fails_is_told(rt: HostRuntime) -> Result<(), Fail> {
     let [first, second] = calls_of_upgrade(&rt, rt.alloc())?;
     for fault in first.0..first.1 {
@@ -161,7 +210,13 @@ fn each_call_of_upgrade_that_fails_is_told(rt: HostRuntime) -> Result<(), Fail> 
     }
     // The last twelve calls append the records behind the name.
     for fault in second.0..second.1 {
-        let well = fails(&rt, rt.alloc(), NEVER, fault as u64, second.1 - fault <= 12)?;
+        let well = fails(
+            &rt,
+            rt.alloc(),
+            NEVER,
+            fault as u64,
+            second.1.saturating_sub(fault) <= 12,
+        )?;
         assert!(rt; well, "second {fault}");
     }
     Ok(())
