@@ -1,10 +1,9 @@
 -- Rows that were decided, and words that are held for them.
-use Rattle.std.proofs.Common.{◌≡◌, ℕ, zero, suc, ◌+◌, ◌≤◌, List, [], ◌∷◌, ◌++◌, length, map, take, Option, Some, None, refl, sym, ◌∙◌, ap, subst}
+use Rattle.std.proofs.Common.{arith, ◌≡◌, ℕ, zero, suc, ◌+◌, ◌≤◌, List, [], ◌∷◌, ◌++◌, length, map, take, Option, Some, None, refl, sym, ◌∙◌, ap, subst}
 use Rattle.std.specs.Prelude.{drop, slice_get}
 use Rattle.std.specs.List.{AllZip, flat_map}
 use Rattle.std.proofs.lemmas.List.Concat.{flat_map-cons}
 use Rattle.std.proofs.lemmas.List.{take_all}
-use Rattle.std.proofs.Math.Seq.{take-add}
 use Rattle.std.proofs.lemmas.List.Elements.{All-cons, All-nil}
 use Rattle.column_store.specs.declared.row.Row.{Row}
 use Rattle.archive_meaning.specs.Back.{list_in}
@@ -20,8 +19,7 @@ use Rattle.word_places.proofs.OrderLemmas.{unread_numbered}
 use Rattle.word_places.proofs.HeldLemmas.{all_agree, grow_all_held, grow_places}
 use Rattle.search_walk.specs.Scan.{Asked}
 use Rattle.search_walk.specs.Held.{IsTold, Named, StandIn, named, words_told}
-use Rattle.search_walk.specs.Ready.{IsLent, IsReady, IsReadyPage, Serves}
-use Rattle.search_walk.proofs.RowLemmas.{drop_here}
+use Rattle.search_walk.specs.Ready.{AreDecided, IsDecided, IsLent, IsReady, IsReadyPage, Serves}
 
 -- ---- the words of the bytes
 
@@ -54,20 +52,20 @@ lent_row n q held row v told serves ready = record {
   agree = λ not. told_agree n.told n.places n.words held.records (numbers_of_row n.types row) told serves.places serves.numbered serves.right (ready.held not);
 }
 
-row_at : (n : Named) (q : Asked) (records : List HeldRecord) (rows : List Row) (verdicts : List Verdict) (k : ℕ) (row : Row) (v : Verdict) → AllZip (IsReady n q records) rows verdicts
-    → slice_get rows k ≡ Some row → slice_get verdicts k ≡ Some v → IsReady n q records row v
-row_at n q records [] verdicts k row v each is told = absurd (cc (is))
-row_at n q records (r ∷ rows) [] k row v each is told = absurd each
-row_at n q records (r ∷ rows) (w ∷ verdicts) zero row v each is told =
-    let one : r ≡ row = cc (is) in
-    let two : w ≡ v = cc (told) in
-    subst (λ (x : Row). IsReady n q records x v) one (subst (λ (x : Verdict). IsReady n q records r x) two each.0)
-row_at n q records (r ∷ rows) (w ∷ verdicts) (suc k) row v each is told = row_at n q records rows verdicts k row v each.1 is told
+-- what stands at the same place of both lists
+pub zip_at : {A B : Type 0} (R : A → B → Type 0) (xs : List A) (ys : List B) (k : ℕ) (x : A) (y : B) → AllZip R xs ys → slice_get xs k ≡ Some x → slice_get ys k ≡ Some y → R x y
+zip_at R [] ys k x y each is told = absurd (cc (is))
+zip_at R (a ∷ xs) [] k x y each is told = absurd each
+zip_at R (a ∷ xs) (b ∷ ys) zero x y each is told =
+    let one : a ≡ x = cc (is) in
+    let two : b ≡ y = cc (told) in
+    subst (λ z. R z y) one (subst (λ z. R a z) two each.0)
+zip_at R (a ∷ xs) (b ∷ ys) (suc k) x y each is told = zip_at R xs ys k x y each.1 is told
 
 -- a row of a page that is ready
 pub lent_at : (n : Named) (q : Asked) (held : HeldNames) (rows : List Row) (verdicts : List Verdict) (k : ℕ) (row : Row) (v : Verdict) → IsTold n → IsReadyPage n q held rows verdicts
     → slice_get rows k ≡ Some row → slice_get verdicts k ≡ Some v → IsLent n q held row v
-lent_at n q held rows verdicts k row v told page is at = lent_row n q held row v told page.serves (row_at n q held.records rows verdicts k row v page.each is at)
+lent_at n q held rows verdicts k row v told page is at = lent_row n q held row v told page.serves (zip_at (IsReady n q held.records) rows verdicts k row v page.each is at)
 
 -- ---- growth
 
@@ -96,21 +94,36 @@ zip_push R [] (b ∷ ys) x y each one = absurd each
 zip_push R (a ∷ xs) [] x y each one = absurd each
 zip_push R (a ∷ xs) (b ∷ ys) x y each one = (each.0, zip_push R xs ys x y each.1 one)
 
--- one more row of a page
-pub rows_more : (n : Named) (q : Asked) (old new : List HeldRecord) (rows : List Row) (verdicts later : List Verdict) (k : ℕ) (row : Row) (v : Verdict) → AreNumbered 0 old → AreNumbered 0 new → Grow old new
-    → slice_get rows k ≡ Some row → later ≡ verdicts ++ v ∷ [] → AllZip (IsReady n q old) (take k rows) verdicts → IsReady n q new row v → AllZip (IsReady n q new) (take (k + 1) rows) later
-rows_more n q old new rows verdicts later k row v are_old are_new grow is added each one =
-    let parts : take (k + 1) rows ≡ take k rows ++ row ∷ [] = take-add k 1 rows ∙ ap (λ (l : List Row). take k rows ++ take 1 l) (drop_here rows k row is) in
-    subst (λ (l : List Row). AllZip (IsReady n q new) l later) (sym parts)
-    (subst (λ (l : List Verdict). AllZip (IsReady n q new) (take k rows ++ row ∷ []) l) (sym added)
-    (zip_push (IsReady n q new) (take k rows) verdicts row v (rows_grow n q old new (take k rows) verdicts are_old are_new grow each) one))
+-- ---- the first rows of a page, one after the other
 
-pub rows_none : (n : Named) (q : Asked) (records : List HeldRecord) (rows : List Row) (verdicts : List Verdict) → verdicts ≡ [] → AllZip (IsReady n q records) (take 0 rows) verdicts
-rows_none n q records rows verdicts none = subst (λ (l : List Verdict). AllZip (IsReady n q records) [] l) (sym none) tt
+pub take_more : {A : Type 0} (xs : List A) (k : ℕ) (x : A) → slice_get xs k ≡ Some x → take (k + 1) xs ≡ take k xs ++ x ∷ []
+take_more [] k x is = absurd (cc (is))
+take_more (a ∷ xs) zero x is = let one : a ≡ x = cc (is) in ap (λ z. z ∷ []) one
+take_more (a ∷ xs) (suc k) x is =
+    let next : suc k + 1 ≡ suc (k + 1) = omega arith in
+    ap (λ (n : ℕ). take n (a ∷ xs)) next ∙ ap (λ l. a ∷ l) (take_more xs k x is)
 
-pub rows_all : (n : Named) (q : Asked) (records : List HeldRecord) (rows : List Row) (verdicts : List Verdict) (k : ℕ) → length rows ≤ k → AllZip (IsReady n q records) (take k rows) verdicts
+pub zip_none : {A B : Type 0} (R : A → B → Type 0) (xs : List A) (ys : List B) → ys ≡ [] → AllZip R (take 0 xs) ys
+zip_none R xs ys none = subst (λ l. AllZip R [] l) (sym none) tt
+
+pub zip_more : {A B : Type 0} (R : A → B → Type 0) (xs : List A) (ys later : List B) (k : ℕ) (x : A) (y : B) → slice_get xs k ≡ Some x → later ≡ ys ++ y ∷ [] → AllZip R (take k xs) ys → R x y → AllZip R (take (k + 1) xs) later
+zip_more R xs ys later k x y is added each one =
+    subst (λ l. AllZip R l later) (sym (take_more xs k x is)) (subst (λ l. AllZip R (take k xs ++ x ∷ []) l) (sym added) (zip_push R (take k xs) ys x y each one))
+
+pub zip_all : {A B : Type 0} (R : A → B → Type 0) (xs : List A) (ys : List B) (k : ℕ) → length xs ≤ k → AllZip R (take k xs) ys → AllZip R xs ys
+zip_all R xs ys k end each = subst (λ l. AllZip R l ys) (take_all k xs end) each
+
+-- one more row of a page, of which the verdicts are known
+pub rows_more : (n : Named) (q : Asked) (old new : List HeldRecord) (rows : List Row) (verdicts : List Verdict) (k : ℕ) (row : Row) (v : Verdict) → AreNumbered 0 old → AreNumbered 0 new → Grow old new
+    → slice_get rows k ≡ Some row → slice_get verdicts k ≡ Some v → AllZip (IsReady n q old) (take k rows) (take k verdicts) → IsReady n q new row v → AllZip (IsReady n q new) (take (k + 1) rows) (take (k + 1) verdicts)
+rows_more n q old new rows verdicts k row v are_old are_new grow is at each one =
+    zip_more (IsReady n q new) rows (take k verdicts) (take (k + 1) verdicts) k row v is (take_more verdicts k v at) (rows_grow n q old new (take k rows) (take k verdicts) are_old are_new grow each) one
+
+pub rows_all : (n : Named) (q : Asked) (records : List HeldRecord) (rows : List Row) (verdicts : List Verdict) (k : ℕ) → length rows ≤ k → AreDecided n q rows verdicts → AllZip (IsReady n q records) (take k rows) (take k verdicts)
     → AllZip (IsReady n q records) rows verdicts
-rows_all n q records rows verdicts k end each = subst (λ (l : List Row). AllZip (IsReady n q records) l verdicts) (take_all k rows end) each
+rows_all n q records rows verdicts k end decided each =
+    let long : length verdicts ≡ length rows = zip_long (λ row v. IsTold n → IsDecided n q row v) rows verdicts decided in
+    zip_all (IsReady n q records) rows verdicts k end (subst (λ l. AllZip (IsReady n q records) (take k rows) l) (take_all k verdicts (omega (arith, long, end))) each)
 
 -- the records went on, and the log types are the same
 pub serves_grown : (n : Named) (told : Option (List ℕ)) (old new : HeldNames) → told ≡ n.told → Serves n old → new.types ≡ old.types → Grow old.records new.records → AreNumbered 0 new.records

@@ -24,7 +24,11 @@ IsDecided n q row Certain = Holds q.range row.pattern row.moment
     × ((message : List ℕ) → IsSpelling row n.types n.words message → Match (wide q.pattern) message)
 IsDecided n q row Tried = Holds q.range row.pattern row.moment
 
--- that is right, and the words of a row that may have to be written are held
+-- what is told of each row of a page is right, where the words stand on the disk
+abbrev pub AreDecided : Named → Asked → List Row → List Verdict → Type 0
+AreDecided n q rows verdicts = AllZip (λ row v. IsTold n → IsDecided n q row v) rows verdicts
+
+-- what is told of a row is right, and the words of one that may have to be written are held
 pub record IsReady (n : Named) (q : Asked) (records : List HeldRecord) (row : Row) (verdict : Verdict) : Type 0 where
   pub decided : IsTold n → IsDecided n q row verdict
   pub held : verdict ≢ Rejected → AreHeld records (numbers_of_row n.types row)

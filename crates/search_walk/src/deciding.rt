@@ -1,5 +1,5 @@
-//! Rows that are decided, and the words that are read for them.
-ghost use Rattle.std.specs.Prelude.{◌≡◌, ◌≢◌, IfOk, IsFalse, IsTrue, OnOk, IsErrOf};
+//! Rows that are decided, and the words that are read for those that may have to be written.
+ghost use Rattle.std.specs.Prelude.{◌≡◌, ◌≢◌, ◌<◌, ◌≤◌, length, vec_capacity, slice_get, Some, IsFalse, IsTrue, OnOk, IsErrOf};
 ghost use Rattle.std.specs.List.{AllZip};
 ghost use Rattle.log_seams.specs.Disk.{Rests};
 ghost use Rattle.log_seams.specs.Outside.{CountsOf};
@@ -7,13 +7,13 @@ ghost use Rattle.column_store.specs.Row.{row_of};
 ghost use Rattle.word_places.specs.Held.{Grow};
 ghost use Rattle.word_places.specs.Reads.{ReadsWords};
 ghost use Rattle.search_walk.specs.Held.{IsTold};
-ghost use Rattle.search_walk.specs.Ready.{IsReady, Serves};
+ghost use Rattle.search_walk.specs.Ready.{AreDecided, IsDecided, IsReady, Serves};
 
 use crate::context::Context;
 use crate::refusal::SearchRefusal;
 use column_store::{Columns, RowRef};
 use log_seams::Disk;
-use subquery_filter::{PageTests, Verdict};
+use subquery_filter::Verdict;
 use word_places::HeldWords;
 
 /// Whether it is known that a row's message is not expanded.
@@ -24,14 +24,40 @@ pub fn is_rejected(verdict: Verdict) -> bool
     matches!(verdict, Verdict::Rejected)
 }
 
-/// Decides a row, and reads its words where it may have to be written.
-fn decide_row<D: Disk>(
+/// The verdict at a place.
+fn verdict_at(verdicts: &[Verdict], place: u32) -> Verdict
+    requires { place < length verdicts.now }
+    ensures { slice_get verdicts.now place ≡ Some result }
+{
+    verdicts[place as usize]
+}
+
+/// Decides each row of a page, by its moment and by its numbers alone. It asks neither the disk nor a
+/// word, and takes no memory: there is room for a verdict for each row.
+// A function of its own, so that its loop has the registers.
+#[inline(never)]
+pub fn decide_page<D: Disk>(context: &Context<'_, D>, page: &Columns, verdicts: &mut Vec<Verdict>)
+    requires { length page.now.rows ≤ vec_capacity verdicts.old }
+    ensures { AreDecided context.now.names context.now.query page.now.rows verdicts.new.items }
+{
+    verdicts.clear();
+    let mut tests = context.begin_page(page);
+    for place in 0..page.rows() {
+        let verdict = context.decide_in(page.row(place), &mut tests);
+        verdicts.push_reserved(verdict);
+    }
+}
+
+/// Reads the words of a row that was decided, where it may have to be written and they are not held.
+fn hold_row<D: Disk>(
     context: &Context<'_, D>,
     row: RowRef<'_>,
-    tests: &mut PageTests,
+    verdict: Verdict,
     held: &mut HeldWords,
     disk: &mut D,
-) -> Result<Verdict, SearchRefusal>
+) -> Result<(), SearchRefusal>
+    requires decided { IsTold context.now.names
+        → IsDecided context.now.names context.now.query (row_of row) verdict }
     requires serves { Serves context.now.names held.old }
     requires told { (D.state disk.old).seen ≡ context.now.names.told }
 
@@ -42,30 +68,63 @@ fn decide_row<D: Disk>(
     ensures grow { Grow held.old.records held.new.records }
 
     // by the answer, and causes
-    ensures ready { IfOk result (IsReady context.now.names context.now.query
-        held.new.records (row_of row.entry)) }
+    ensures ready { OnOk result (IsReady context.now.names context.now.query
+        held.new.records (row_of row.entry) verdict) }
     ensures damaged { IsErrOf result SearchRefusal.Damaged → ¬ IsTold context.now.names }
     ensures counts { CountsOf SearchRefusal.DiskFault
         (D.state disk.old).faults (D.state disk.new).faults result }
     ensures sink { ¬ IsErrOf result SearchRefusal.SinkFault }
 {
-    let verdict = context.decide_in(row, tests);
     if is_rejected(verdict) {
-        return Ok(verdict);
+        return Ok(());
     }
     if held.has_row(row) {
-        return Ok(verdict);
+        return Ok(());
     }
     let answer = held.hold_row(disk, row);
     // The numbers of the records still go on from one to the next.
     let _ = held.record_count();
     answer?;
-    Ok(verdict)
+    Ok(())
+}
+
+/// Reads the words of the rows of a page that were decided, of those that may have to be written, as
+/// far as they are not held.
+// A function of its own, so that its loop has the registers.
+#[inline(never)]
+pub fn hold_rows<D: Disk>(
+    context: &Context<'_, D>,
+    page: &Columns,
+    verdicts: &[Verdict],
+    held: &mut HeldWords,
+    disk: &mut D,
+) -> Result<(), SearchRefusal>
+    requires decided { AreDecided context.now.names context.now.query page.now.rows verdicts.now }
+    requires serves { Serves context.now.names held.old }
+    requires told { (D.state disk.old).seen ≡ context.now.names.told }
+
+    // what stays, and what grows
+    ensures rests { Rests (D.state disk.old) (D.state disk.new) }
+    ensures reads { ReadsWords context.now.names.places (D.state disk.old) (D.state disk.new) }
+    ensures serves { Serves context.now.names held.new }
+    ensures grow { Grow held.old.records held.new.records }
+
+    // by the answer, and causes
+    ensures ready { OnOk result (AllZip (IsReady context.now.names context.now.query
+        held.new.records) page.now.rows verdicts.now) }
+    ensures damaged { IsErrOf result SearchRefusal.Damaged → ¬ IsTold context.now.names }
+    ensures counts { CountsOf SearchRefusal.DiskFault
+        (D.state disk.old).faults (D.state disk.new).faults result }
+    ensures sink { ¬ IsErrOf result SearchRefusal.SinkFault }
+{
+    for place in 0..page.rows() {
+        let verdict = verdict_at(verdicts, place);
+        hold_row(context, page.row(place), verdict, held, disk)?;
+    }
+    Ok(())
 }
 
 /// Decides each row of a page, and reads the words of those that may have to be written.
-// A function of its own, so that its loop has the registers.
-#[inline(never)]
 pub fn decide_rows<D: Disk>(
     context: &Context<'_, D>,
     page: &Columns,
@@ -91,12 +150,7 @@ pub fn decide_rows<D: Disk>(
     ensures sink { ¬ IsErrOf result SearchRefusal.SinkFault }
 {
     verdicts.clear();
-    let mut tests = context.begin_page(page);
-    for place in 0..page.rows() {
-        let verdict = decide_row(context, page.row(place), &mut tests, held, disk)?;
-        let Ok(()) = verdicts.push(verdict) else {
-            return Err(SearchRefusal::OutOfMemory);
-        };
-    }
-    Ok(())
+    verdicts.reserve(page.rows() as usize)?;
+    decide_page(context, page, verdicts);
+    hold_rows(context, page, verdicts.as_slice(), held, disk)
 }

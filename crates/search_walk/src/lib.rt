@@ -14,7 +14,7 @@ mod taking;
 
 pub use asking::{Told, ask_words};
 pub use context::Context;
-pub use deciding::{decide_rows, is_rejected};
+pub use deciding::{decide_page, decide_rows, hold_rows, is_rejected};
 pub use label::Label;
 pub use query::{Judgement, Query};
 pub use refusal::SearchRefusal;

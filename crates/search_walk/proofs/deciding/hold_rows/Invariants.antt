@@ -4,7 +4,7 @@ use Rattle.log_seams.specs.Disk.{Rests}
 use Rattle.word_places.specs.Held.{Grow}
 use Rattle.word_places.specs.Reads.{ReadsWords}
 use Rattle.search_walk.specs.Ready.{IsReady, Serves}
-use Rattle.search_walk.proofs.deciding.decide_rows.Given as goal
+use Rattle.search_walk.proofs.deciding.hold_rows.Given as goal
 
 abbrev pub invariant-loop-place : goal.invariant-loop-place
 invariant-loop-place g l = record {
@@ -13,5 +13,5 @@ invariant-loop-place g l = record {
   reads : ReadsWords l.context.names.places (g.D.Disk.state l.fn.disk) (g.D.Disk.state l.disk);
   serves : Serves l.context.names l.held;
   grow : Grow l.fn.held.records l.held.records;
-  ready : AllZip (IsReady l.context.names l.context.query l.held.records) (take l.place l.page.rows) l.verdicts.items;
+  ready : AllZip (IsReady l.context.names l.context.query l.held.records) (take l.place l.page.rows) (take l.place l.verdicts);
 }

@@ -1,6 +1,6 @@
 use Rattle.word_places.proofs.HeldLemmas.{grow_same}
 use Rattle.search_walk.proofs.ReadyLemmas.{serves_grown}
-use Rattle.search_walk.proofs.deciding.decide_row.Goals as goal
+use Rattle.search_walk.proofs.deciding.hold_row.Goals as goal
 
 pub returns-then-is_rejected-clause-grow : goal.returns-then-is_rejected-clause-grow
 returns-then-is_rejected-clause-grow g c = grow_same c.args.held.now.records
