@@ -10,6 +10,7 @@ pub mod NextPage
 pub mod Kept
 pub mod SegmentsDone
 pub mod Searched
+pub mod Prepared
 pub mod Refused
 pub mod StepsSofar
 pub mod StepsWaiting

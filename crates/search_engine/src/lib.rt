@@ -8,6 +8,7 @@ mod page_ahead;
 mod page_batch;
 mod page_slot;
 mod page_taking;
+mod prepared;
 mod printing;
 mod refusal;
 mod report;

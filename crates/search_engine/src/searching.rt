@@ -11,20 +11,18 @@ ghost use Rattle.search_walk.specs.Journal.{OfJournal, ReadsNoBarren, asked};
 
 use crate::page_batch::PageBatch;
 use crate::page_taking::print_segments;
+use crate::prepared::Prepared;
 use crate::report::Report;
 use crate::threaded::ThreadedContext;
 use archive_places::{Places, heads_stand, words_stand};
 use column_store::Range;
 use log_seams::{Disk, Sink};
-use row_codec::Layouts;
-use search_walk::{Context, Query, SearchRefusal, ask_words};
+use search_walk::{Context, Query, SearchRefusal};
 use std::alloc::Global;
 use std::sync::ledger::Ledger;
 use std::thread::Threads;
 use step_count::Steps;
-use subquery_filter::Filter;
 use wild_match::Pattern;
-use word_places::HeldWords;
 
 /// Searches the segments of an archive, with nothing gathered, and sends out what is left.
 fn search_opened<R: Threads + Sync, D: Disk, K: Sink, L: Ledger, M: Ledger>(
@@ -66,21 +64,14 @@ fn search_opened<R: Threads + Sync, D: Disk, K: Sink, L: Ledger, M: Ledger>(
     // A journal's words and heads stand where its places say.
     words_stand();
     heads_stand();
-    let Places {
-        header,
-        types,
-        words,
+    let prepared = Prepared::of(batch.alloc(), query, places, disk)?;
+    let Prepared {
         files,
         segments,
-        entries: _,
-        end: _,
-    } = places;
-    let alloc = batch.alloc();
-    let records = words.as_slice();
-    let mut held = HeldWords::new(alloc, types, header.version, records)?;
-    let layouts = Layouts::of(alloc, &held)?;
-    let filter = Filter::begin(alloc, query.plan(), &held)?;
-    let told = ask_words(alloc, query, filter, records, disk)?;
+        mut held,
+        layouts,
+        told,
+    } = prepared;
     let names = files.as_slice();
     let found = told.found.as_slice();
     let context = Context::new(query, &layouts, &told.filter, names, found, &held, disk);

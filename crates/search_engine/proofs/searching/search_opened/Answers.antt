@@ -1,80 +1,39 @@
-use Rattle.std.proofs.Common.{◌∙◌, ap, map, sym, subst, rules, refl, length, [], ℕ, List}
+use Rattle.std.proofs.Common.{◌∙◌, ap, sym, subst, rules, refl, [], ℕ, List}
 use Rattle.std.specs.Prelude.{Option}
 use Rattle.log_seams.proofs.MomentLemmas.{rests_on}
-use Rattle.word_places.specs.Held.{unread}
-use Rattle.query_plan.specs.declared.pieces.Piece.{Piece}
 use Rattle.search_walk.specs.Held.{Named, named}
 use Rattle.search_walk.specs.Opened.{NoFronts, ReadsFronts}
 use Rattle.search_engine.specs.SegmentsDone.{SearchedFronts, StoppedFronts}
 use Rattle.search_engine.specs.Served.{IsServed}
-use Rattle.search_walk.specs.StepsScope.{Scope}
+use Rattle.search_walk.specs.StepsScope.{IsScope, Scope}
 use Rattle.search_engine.specs.Waiting.{Blames, Halts, Pending, Reaches, state}
-use Rattle.subquery_filter.specs.Filter.{AsksTypes}
-use Rattle.query_plan.specs.Needs.{needed_variables_of}
-use Rattle.query_plan.specs.Pieces.{Free, needed_of, wide_pieces}
-use Rattle.subquery_filter.specs.Found.{AreNumbers}
-use Rattle.word_places.specs.Places.{AreInOrder}
 use Rattle.search_walk.proofs.AnswerLemmas.{on_err}
-use Rattle.search_walk.proofs.ReadyLemmas.{named_words}
 use Rattle.search_engine.proofs.ServedLemmas.{served_first}
-use Rattle.search_walk.proofs.JournalLemmas.{knows, reads_nothing}
+use Rattle.search_walk.proofs.JournalLemmas.{knows}
 use Rattle.search_engine.proofs.SearchLemmas.{stopped_nothing, waits_none}
 use Rattle.search_walk.proofs.JournalLemmas.{all_damaged, all_read, words_damaged, words_only}
 use Rattle.search_engine.proofs.JournalLemmas.{all_searched, all_stopped, last_blamed, last_halted}
 use Rattle.search_engine.proofs.searching.search_opened.Goals as goal
 
-pub returns-in_err-held-clause-reads : goal.returns-in_err-held-clause-reads
-returns-in_err-held-clause-reads g c = reads_nothing _ c.args.query.now _ _ refl
+pub returns-in_err-prepared-clause-reads : goal.returns-in_err-prepared-clause-reads
+returns-in_err-prepared-clause-reads g c = words_only _ c.args.places c.args.query.now c.args.places.words _ _ refl c.requires.opens c.of.ensures.reads
 
-pub returns-in_err-held-clause-stopped : goal.returns-in_err-held-clause-stopped
-returns-in_err-held-clause-stopped g c = on_err c.from_residual.result _ (stopped_nothing _ c.args.places c.args.query.now _ _ _ _ _ _ c.requires.opens refl refl refl)
+pub returns-in_err-prepared-clause-stopped : goal.returns-in_err-prepared-clause-stopped
+returns-in_err-prepared-clause-stopped g c = on_err c.from_residual.result _ (stopped_nothing _ c.args.places c.args.query.now _ _ _ _ _ _ c.requires.opens refl refl refl)
 
-pub returns-in_err-layouts-clause-reads : goal.returns-in_err-layouts-clause-reads
-returns-in_err-layouts-clause-reads g c = reads_nothing _ c.args.query.now _ _ refl
-
-pub returns-in_err-layouts-clause-stopped : goal.returns-in_err-layouts-clause-stopped
-returns-in_err-layouts-clause-stopped g c = on_err c.from_residual-in_err-layouts.result _ (stopped_nothing _ c.args.places c.args.query.now _ _ _ _ _ _ c.requires.opens refl refl refl)
-
-pub returns-in_err-filter-clause-reads : goal.returns-in_err-filter-clause-reads
-returns-in_err-filter-clause-reads g c = reads_nothing _ c.args.query.now _ _ refl
-
-pub returns-in_err-filter-clause-stopped : goal.returns-in_err-filter-clause-stopped
-returns-in_err-filter-clause-stopped g c = on_err c.from_residual-in_err-filter.result _ (stopped_nothing _ c.args.places c.args.query.now _ _ _ _ _ _ c.requires.opens refl refl refl)
-
-pub ask_words-requires : goal.ask_words-requires
-ask_words-requires g c = subst (AreInOrder 0) (sym c.as_slice-records.ensures) c.requires.order
-
-pub returns-in_err-told-clause-reads : goal.returns-in_err-told-clause-reads
-returns-in_err-told-clause-reads g c = words_only _ c.args.places c.args.query.now c.as_slice-records.result.now _ _ c.as_slice-records.ensures c.requires.opens c.ask_words.ensures.reads
-
-pub returns-in_err-told-clause-stopped : goal.returns-in_err-told-clause-stopped
-returns-in_err-told-clause-stopped g c = on_err c.from_residual-in_err-told.result _ (stopped_nothing _ c.args.places c.args.query.now _ _ _ _ _ _ c.requires.opens refl refl refl)
-
-pub returns-in_err-told-clause-damaged : goal.returns-in_err-told-clause-damaged
-returns-in_err-told-clause-damaged g c = λ is. words_damaged _ c.args.places c.as_slice-records.result.now c.words_stand.ensures c.as_slice-records.ensures c.requires.opens (c.in_err-told.ensures.damaged (search rules))
+pub returns-in_err-prepared-clause-damaged : goal.returns-in_err-prepared-clause-damaged
+returns-in_err-prepared-clause-damaged g c = λ is. words_damaged _ c.args.places c.args.places.words c.words_stand.ensures refl c.requires.opens (c.in_err-prepared.ensures.damaged (search rules))
 
 pub new-context-requires : goal.new-context-requires
 new-context-requires g c =
-    let q = c.args.query.now in
-    let d0 = g.D.Disk.state c.args.disk.now in
-    let d1 = g.D.Disk.state c.ask_words.new.disk in
-    record {
-      searched = c.requires.searched;
-      layouts_are = c.in_ok-layouts.ensures;
-      count = ap (λ (l : List (Option ℕ)). length l) c.as_slice-found.ensures.value ∙ c.in_ok-told.ensures.count;
-      filtered = λ told. named_words d0.seen d1.seen c.as_slice-records.result.now c.in_ok-held.held _ c.ask_words.ensures.rests.seen c.in_ok-held.ensures.records c.in_ok-told.ensures.filter told c.in_ok-held.held.types
-          (subst (λ (l : List Piece). AsksTypes l c.in_ok-held.held.types c.in_ok-filter.filter) c.plan.ensures c.in_ok-filter.ensures);
-      numbered = λ told.
-          subst (λ (l : List (Option ℕ)). AreNumbers (named d1.seen c.in_ok-held.held).words (needed_of Free (wide_pieces q.pattern)) (needed_variables_of Free (wide_pieces q.pattern)) l) (sym c.as_slice-found.ensures.value)
-          (named_words d0.seen d1.seen c.as_slice-records.result.now c.in_ok-held.held (λ words. AreNumbers words (needed_of Free (wide_pieces q.pattern)) (needed_variables_of Free (wide_pieces q.pattern)) c.in_ok-told.told.found.items)
-          c.ask_words.ensures.rests.seen c.in_ok-held.ensures.records c.in_ok-told.ensures.found told);
-    }
+    let p = c.in_ok-prepared.prepared in
+    subst (λ (l : List (Option ℕ)). IsScope (named (g.D.Disk.state c.of.new.disk).seen p.held) c.args.query.now p.layouts p.told.filter l) (sym c.as_slice-found.ensures.value) c.in_ok-prepared.ensures.ready
 
 pub print_segments-requires-clause-served : goal.print_segments-requires-clause-served
 print_segments-requires-clause-served g c = λ _ _.
-    subst (λ (s : Scope). IsServed s.names s.query c.in_ok-held.held c.args.batch.now.pages) (sym c.new-context.ensures)
-    (served_first (g.D.Disk.state c.ask_words.new.disk).seen c.args.query.now c.in_ok-held.held c.as_slice-records.result.now c.args.batch.now.pages c.in_ok-held.ensures.records
-    (subst (AreInOrder 0) (sym c.as_slice-records.ensures) c.requires.order) (ap (λ (p : Pending). p.pages) c.requires.empty))
+    subst (λ (s : Scope). IsServed s.names s.query c.in_ok-prepared.prepared.held c.args.batch.now.pages) (sym c.new-context.ensures)
+    (served_first (g.D.Disk.state c.of.new.disk).seen c.args.query.now c.in_ok-prepared.prepared.held c.args.places.words c.args.batch.now.pages c.in_ok-prepared.ensures.kept.records
+    c.requires.order (ap (λ (p : Pending). p.pages) c.requires.empty))
 
 pub print_segments-requires-clause-told : goal.print_segments-requires-clause-told
 print_segments-requires-clause-told g c = λ _ _. ap (λ (s : Scope). s.names.told) (sym c.new-context.ensures)
@@ -83,54 +42,54 @@ pub returns-in_err-count-clause-reads : goal.returns-in_err-count-clause-reads
 returns-in_err-count-clause-reads g c =
     let q = c.args.query.now in
     let d0 = g.D.Disk.state c.args.disk.now in
-    let d1 = g.D.Disk.state c.ask_words.new.disk in
+    let d1 = g.D.Disk.state c.of.new.disk in
     let a = c.args.places in
-    let n : Named = named d1.seen c.in_ok-held.held in
-    let known = knows d0.seen d1.seen a c.in_ok-held.held n c.ask_words.ensures.rests.seen c.in_ok-held.ensures.types c.in_ok-held.ensures.version (c.in_ok-held.ensures.records ∙ ap (map unread) c.as_slice-records.ensures) refl in
-    all_read d0.seen d1.seen a n c.as_slice-names.result.now c.as_slice-fronts.result.now c.words_stand.ensures c.heads_stand.ensures c.as_slice-names.ensures c.as_slice-fronts.ensures c.requires.opens known c.ask_words.ensures.rests.seen q c.as_slice-records.result.now d0 d1 (g.D.Disk.state c.print_segments.new.disk) c.ask_words.ensures.rests.seen c.as_slice-records.ensures c.ask_words.ensures.reads
+    let n : Named = named d1.seen c.in_ok-prepared.prepared.held in
+    let known = knows d0.seen d1.seen a c.in_ok-prepared.prepared.held n c.of.ensures.rests.seen c.in_ok-prepared.ensures.kept.types c.in_ok-prepared.ensures.kept.version c.in_ok-prepared.ensures.kept.records refl in
+    all_read d0.seen d1.seen a n c.as_slice-names.result.now c.as_slice-fronts.result.now c.words_stand.ensures c.heads_stand.ensures (c.as_slice-names.ensures ∙ c.in_ok-prepared.ensures.kept.files) (c.as_slice-fronts.ensures ∙ c.in_ok-prepared.ensures.kept.segments) c.requires.opens known c.of.ensures.rests.seen q a.words d0 d1 (g.D.Disk.state c.print_segments.new.disk) c.of.ensures.rests.seen refl c.of.ensures.reads
     (subst (λ (s : Scope). ReadsFronts d1 (g.D.Disk.state c.print_segments.new.disk) s.names s.files s.query c.as_slice-fronts.result.now) c.new-context.ensures c.print_segments.ensures.reads)
 
 pub returns-in_err-finish-clause-reads : goal.returns-in_err-finish-clause-reads
 returns-in_err-finish-clause-reads g c =
     let q = c.args.query.now in
     let d0 = g.D.Disk.state c.args.disk.now in
-    let d1 = g.D.Disk.state c.ask_words.new.disk in
+    let d1 = g.D.Disk.state c.of.new.disk in
     let a = c.args.places in
-    let n : Named = named d1.seen c.in_ok-held.held in
-    let known = knows d0.seen d1.seen a c.in_ok-held.held n c.ask_words.ensures.rests.seen c.in_ok-held.ensures.types c.in_ok-held.ensures.version (c.in_ok-held.ensures.records ∙ ap (map unread) c.as_slice-records.ensures) refl in
-    all_read d0.seen d1.seen a n c.as_slice-names.result.now c.as_slice-fronts.result.now c.words_stand.ensures c.heads_stand.ensures c.as_slice-names.ensures c.as_slice-fronts.ensures c.requires.opens known c.ask_words.ensures.rests.seen q c.as_slice-records.result.now d0 d1 (g.D.Disk.state c.print_segments.new.disk) c.ask_words.ensures.rests.seen c.as_slice-records.ensures c.ask_words.ensures.reads
+    let n : Named = named d1.seen c.in_ok-prepared.prepared.held in
+    let known = knows d0.seen d1.seen a c.in_ok-prepared.prepared.held n c.of.ensures.rests.seen c.in_ok-prepared.ensures.kept.types c.in_ok-prepared.ensures.kept.version c.in_ok-prepared.ensures.kept.records refl in
+    all_read d0.seen d1.seen a n c.as_slice-names.result.now c.as_slice-fronts.result.now c.words_stand.ensures c.heads_stand.ensures (c.as_slice-names.ensures ∙ c.in_ok-prepared.ensures.kept.files) (c.as_slice-fronts.ensures ∙ c.in_ok-prepared.ensures.kept.segments) c.requires.opens known c.of.ensures.rests.seen q a.words d0 d1 (g.D.Disk.state c.print_segments.new.disk) c.of.ensures.rests.seen refl c.of.ensures.reads
     (subst (λ (s : Scope). ReadsFronts d1 (g.D.Disk.state c.print_segments.new.disk) s.names s.files s.query c.as_slice-fronts.result.now) c.new-context.ensures c.print_segments.ensures.reads)
 
 pub returns-clause-reads : goal.returns-clause-reads
 returns-clause-reads g c =
     let q = c.args.query.now in
     let d0 = g.D.Disk.state c.args.disk.now in
-    let d1 = g.D.Disk.state c.ask_words.new.disk in
+    let d1 = g.D.Disk.state c.of.new.disk in
     let a = c.args.places in
-    let n : Named = named d1.seen c.in_ok-held.held in
-    let known = knows d0.seen d1.seen a c.in_ok-held.held n c.ask_words.ensures.rests.seen c.in_ok-held.ensures.types c.in_ok-held.ensures.version (c.in_ok-held.ensures.records ∙ ap (map unread) c.as_slice-records.ensures) refl in
-    all_read d0.seen d1.seen a n c.as_slice-names.result.now c.as_slice-fronts.result.now c.words_stand.ensures c.heads_stand.ensures c.as_slice-names.ensures c.as_slice-fronts.ensures c.requires.opens known c.ask_words.ensures.rests.seen q c.as_slice-records.result.now d0 d1 (g.D.Disk.state c.print_segments.new.disk) c.ask_words.ensures.rests.seen c.as_slice-records.ensures c.ask_words.ensures.reads
+    let n : Named = named d1.seen c.in_ok-prepared.prepared.held in
+    let known = knows d0.seen d1.seen a c.in_ok-prepared.prepared.held n c.of.ensures.rests.seen c.in_ok-prepared.ensures.kept.types c.in_ok-prepared.ensures.kept.version c.in_ok-prepared.ensures.kept.records refl in
+    all_read d0.seen d1.seen a n c.as_slice-names.result.now c.as_slice-fronts.result.now c.words_stand.ensures c.heads_stand.ensures (c.as_slice-names.ensures ∙ c.in_ok-prepared.ensures.kept.files) (c.as_slice-fronts.ensures ∙ c.in_ok-prepared.ensures.kept.segments) c.requires.opens known c.of.ensures.rests.seen q a.words d0 d1 (g.D.Disk.state c.print_segments.new.disk) c.of.ensures.rests.seen refl c.of.ensures.reads
     (subst (λ (s : Scope). ReadsFronts d1 (g.D.Disk.state c.print_segments.new.disk) s.names s.files s.query c.as_slice-fronts.result.now) c.new-context.ensures c.print_segments.ensures.reads)
 
 pub returns-in_err-count-clause-rests : goal.returns-in_err-count-clause-rests
-returns-in_err-count-clause-rests g c = rests_on _ (g.D.Disk.state c.ask_words.new.disk) _ c.ask_words.ensures.rests c.print_segments.ensures.rests
+returns-in_err-count-clause-rests g c = rests_on _ (g.D.Disk.state c.of.new.disk) _ c.of.ensures.rests c.print_segments.ensures.rests
 
 pub returns-in_err-finish-clause-rests : goal.returns-in_err-finish-clause-rests
-returns-in_err-finish-clause-rests g c = rests_on _ (g.D.Disk.state c.ask_words.new.disk) _ c.ask_words.ensures.rests c.print_segments.ensures.rests
+returns-in_err-finish-clause-rests g c = rests_on _ (g.D.Disk.state c.of.new.disk) _ c.of.ensures.rests c.print_segments.ensures.rests
 
 pub returns-clause-rests : goal.returns-clause-rests
-returns-clause-rests g c = rests_on _ (g.D.Disk.state c.ask_words.new.disk) _ c.ask_words.ensures.rests c.print_segments.ensures.rests
+returns-clause-rests g c = rests_on _ (g.D.Disk.state c.of.new.disk) _ c.of.ensures.rests c.print_segments.ensures.rests
 
 pub returns-in_err-count-clause-stopped : goal.returns-in_err-count-clause-stopped
 returns-in_err-count-clause-stopped g c =
     let q = c.args.query.now in
     let d0 = g.D.Disk.state c.args.disk.now in
-    let d1 = g.D.Disk.state c.ask_words.new.disk in
+    let d1 = g.D.Disk.state c.of.new.disk in
     let a = c.args.places in
-    let n : Named = named d1.seen c.in_ok-held.held in
-    let known = knows d0.seen d1.seen a c.in_ok-held.held n c.ask_words.ensures.rests.seen c.in_ok-held.ensures.types c.in_ok-held.ensures.version (c.in_ok-held.ensures.records ∙ ap (map unread) c.as_slice-records.ensures) refl in
+    let n : Named = named d1.seen c.in_ok-prepared.prepared.held in
+    let known = knows d0.seen d1.seen a c.in_ok-prepared.prepared.held n c.of.ensures.rests.seen c.in_ok-prepared.ensures.kept.types c.in_ok-prepared.ensures.kept.version c.in_ok-prepared.ensures.kept.records refl in
     on_err c.from_residual-in_err-count.result _
-    (all_stopped d0.seen d1.seen a n c.as_slice-names.result.now c.as_slice-fronts.result.now c.words_stand.ensures c.heads_stand.ensures c.as_slice-names.ensures c.as_slice-fronts.ensures c.requires.opens known c.ask_words.ensures.rests.seen q (g.K.Sink.written c.args.out.now) (g.K.Sink.written c.print_segments.new.out) c.args.batch.now c.args.expanded.now c.print_segments.new.expanded c.args.opened.now c.print_segments.new.opened c.requires.empty
+    (all_stopped d0.seen d1.seen a n c.as_slice-names.result.now c.as_slice-fronts.result.now c.words_stand.ensures c.heads_stand.ensures (c.as_slice-names.ensures ∙ c.in_ok-prepared.ensures.kept.files) (c.as_slice-fronts.ensures ∙ c.in_ok-prepared.ensures.kept.segments) c.requires.opens known c.of.ensures.rests.seen q (g.K.Sink.written c.args.out.now) (g.K.Sink.written c.print_segments.new.out) c.args.batch.now c.args.expanded.now c.print_segments.new.expanded c.args.opened.now c.print_segments.new.opened c.requires.empty
     (subst (λ (s : Scope). StoppedFronts d1.seen s.names s.files s.query c.as_slice-fronts.result.now (state (g.K.Sink.written c.args.out.now) c.args.batch.now c.args.expanded.now) (g.K.Sink.written c.print_segments.new.out) c.print_segments.new.expanded c.args.opened.now c.print_segments.new.opened)
     c.new-context.ensures c.in_err-count.ensures.stopped))
 
@@ -138,11 +97,11 @@ pub returns-in_err-count-clause-damaged : goal.returns-in_err-count-clause-damag
 returns-in_err-count-clause-damaged g c = λ is.
     let q = c.args.query.now in
     let d0 = g.D.Disk.state c.args.disk.now in
-    let d1 = g.D.Disk.state c.ask_words.new.disk in
+    let d1 = g.D.Disk.state c.of.new.disk in
     let a = c.args.places in
-    let n : Named = named d1.seen c.in_ok-held.held in
-    let known = knows d0.seen d1.seen a c.in_ok-held.held n c.ask_words.ensures.rests.seen c.in_ok-held.ensures.types c.in_ok-held.ensures.version (c.in_ok-held.ensures.records ∙ ap (map unread) c.as_slice-records.ensures) refl in
-    all_damaged d0.seen d1.seen a n c.as_slice-names.result.now c.as_slice-fronts.result.now c.words_stand.ensures c.heads_stand.ensures c.as_slice-names.ensures c.as_slice-fronts.ensures c.requires.opens known c.ask_words.ensures.rests.seen
+    let n : Named = named d1.seen c.in_ok-prepared.prepared.held in
+    let known = knows d0.seen d1.seen a c.in_ok-prepared.prepared.held n c.of.ensures.rests.seen c.in_ok-prepared.ensures.kept.types c.in_ok-prepared.ensures.kept.version c.in_ok-prepared.ensures.kept.records refl in
+    all_damaged d0.seen d1.seen a n c.as_slice-names.result.now c.as_slice-fronts.result.now c.words_stand.ensures c.heads_stand.ensures (c.as_slice-names.ensures ∙ c.in_ok-prepared.ensures.kept.files) (c.as_slice-fronts.ensures ∙ c.in_ok-prepared.ensures.kept.segments) c.requires.opens known c.of.ensures.rests.seen
     (subst (λ (s : Scope). NoFronts d1.seen s.names s.files c.as_slice-fronts.result.now) c.new-context.ensures
     (c.in_err-count.ensures.damaged (search rules) [] (waits_none _ c.args.batch.now c.requires.empty)))
 
@@ -150,12 +109,12 @@ pub returns-in_err-finish-clause-stopped : goal.returns-in_err-finish-clause-sto
 returns-in_err-finish-clause-stopped g c =
     let q = c.args.query.now in
     let d0 = g.D.Disk.state c.args.disk.now in
-    let d1 = g.D.Disk.state c.ask_words.new.disk in
+    let d1 = g.D.Disk.state c.of.new.disk in
     let a = c.args.places in
-    let n : Named = named d1.seen c.in_ok-held.held in
-    let known = knows d0.seen d1.seen a c.in_ok-held.held n c.ask_words.ensures.rests.seen c.in_ok-held.ensures.types c.in_ok-held.ensures.version (c.in_ok-held.ensures.records ∙ ap (map unread) c.as_slice-records.ensures) refl in
+    let n : Named = named d1.seen c.in_ok-prepared.prepared.held in
+    let known = knows d0.seen d1.seen a c.in_ok-prepared.prepared.held n c.of.ensures.rests.seen c.in_ok-prepared.ensures.kept.types c.in_ok-prepared.ensures.kept.version c.in_ok-prepared.ensures.kept.records refl in
     on_err c.from_residual-in_err-finish.result _
-    (last_halted d0.seen d1.seen a n c.as_slice-names.result.now c.as_slice-fronts.result.now c.words_stand.ensures c.heads_stand.ensures c.as_slice-names.ensures c.as_slice-fronts.ensures c.requires.opens known c.ask_words.ensures.rests.seen q (g.K.Sink.written c.args.out.now) (g.K.Sink.written c.finish.new.out) c.args.batch.now (state (g.K.Sink.written c.print_segments.new.out) c.print_segments.new.batch c.print_segments.new.expanded) c.args.expanded.now c.finish.new.expanded c.args.opened.now c.print_segments.new.opened c.in_ok-count.count c.requires.empty
+    (last_halted d0.seen d1.seen a n c.as_slice-names.result.now c.as_slice-fronts.result.now c.words_stand.ensures c.heads_stand.ensures (c.as_slice-names.ensures ∙ c.in_ok-prepared.ensures.kept.files) (c.as_slice-fronts.ensures ∙ c.in_ok-prepared.ensures.kept.segments) c.requires.opens known c.of.ensures.rests.seen q (g.K.Sink.written c.args.out.now) (g.K.Sink.written c.finish.new.out) c.args.batch.now (state (g.K.Sink.written c.print_segments.new.out) c.print_segments.new.batch c.print_segments.new.expanded) c.args.expanded.now c.finish.new.expanded c.args.opened.now c.print_segments.new.opened c.in_ok-count.count c.requires.empty
     (subst (λ (s : Scope). SearchedFronts d1.seen s.names s.files s.query c.as_slice-fronts.result.now (state (g.K.Sink.written c.args.out.now) c.args.batch.now c.args.expanded.now) (state (g.K.Sink.written c.print_segments.new.out) c.print_segments.new.batch c.print_segments.new.expanded) c.args.opened.now c.print_segments.new.opened c.in_ok-count.count) c.new-context.ensures c.in_ok-count.ensures.done)
     (subst (λ (s : Scope). Halts s.names s.query [] (state (g.K.Sink.written c.print_segments.new.out) c.print_segments.new.batch c.print_segments.new.expanded) (g.K.Sink.written c.finish.new.out) c.finish.new.expanded) c.new-context.ensures c.in_err-finish.ensures.stopped))
 
@@ -163,11 +122,11 @@ pub returns-in_err-finish-clause-damaged : goal.returns-in_err-finish-clause-dam
 returns-in_err-finish-clause-damaged g c = λ is.
     let q = c.args.query.now in
     let d0 = g.D.Disk.state c.args.disk.now in
-    let d1 = g.D.Disk.state c.ask_words.new.disk in
+    let d1 = g.D.Disk.state c.of.new.disk in
     let a = c.args.places in
-    let n : Named = named d1.seen c.in_ok-held.held in
-    let known = knows d0.seen d1.seen a c.in_ok-held.held n c.ask_words.ensures.rests.seen c.in_ok-held.ensures.types c.in_ok-held.ensures.version (c.in_ok-held.ensures.records ∙ ap (map unread) c.as_slice-records.ensures) refl in
-    last_blamed d0.seen d1.seen a n c.as_slice-names.result.now c.as_slice-fronts.result.now c.words_stand.ensures c.heads_stand.ensures c.as_slice-names.ensures c.as_slice-fronts.ensures c.requires.opens known c.ask_words.ensures.rests.seen q (g.K.Sink.written c.args.out.now) c.args.batch.now (state (g.K.Sink.written c.print_segments.new.out) c.print_segments.new.batch c.print_segments.new.expanded) c.args.expanded.now c.args.opened.now c.print_segments.new.opened c.in_ok-count.count c.requires.empty
+    let n : Named = named d1.seen c.in_ok-prepared.prepared.held in
+    let known = knows d0.seen d1.seen a c.in_ok-prepared.prepared.held n c.of.ensures.rests.seen c.in_ok-prepared.ensures.kept.types c.in_ok-prepared.ensures.kept.version c.in_ok-prepared.ensures.kept.records refl in
+    last_blamed d0.seen d1.seen a n c.as_slice-names.result.now c.as_slice-fronts.result.now c.words_stand.ensures c.heads_stand.ensures (c.as_slice-names.ensures ∙ c.in_ok-prepared.ensures.kept.files) (c.as_slice-fronts.ensures ∙ c.in_ok-prepared.ensures.kept.segments) c.requires.opens known c.of.ensures.rests.seen q (g.K.Sink.written c.args.out.now) c.args.batch.now (state (g.K.Sink.written c.print_segments.new.out) c.print_segments.new.batch c.print_segments.new.expanded) c.args.expanded.now c.args.opened.now c.print_segments.new.opened c.in_ok-count.count c.requires.empty
     (subst (λ (s : Scope). SearchedFronts d1.seen s.names s.files s.query c.as_slice-fronts.result.now (state (g.K.Sink.written c.args.out.now) c.args.batch.now c.args.expanded.now) (state (g.K.Sink.written c.print_segments.new.out) c.print_segments.new.batch c.print_segments.new.expanded) c.args.opened.now c.print_segments.new.opened c.in_ok-count.count) c.new-context.ensures c.in_ok-count.ensures.done)
     (subst (λ (s : Scope). Blames s.names c.print_segments.new.batch.pages ⊥) c.new-context.ensures (c.in_err-finish.ensures.damaged (search rules)))
 
@@ -175,11 +134,11 @@ pub returns-clause-done : goal.returns-clause-done
 returns-clause-done g c =
     let q = c.args.query.now in
     let d0 = g.D.Disk.state c.args.disk.now in
-    let d1 = g.D.Disk.state c.ask_words.new.disk in
+    let d1 = g.D.Disk.state c.of.new.disk in
     let a = c.args.places in
-    let n : Named = named d1.seen c.in_ok-held.held in
-    let known = knows d0.seen d1.seen a c.in_ok-held.held n c.ask_words.ensures.rests.seen c.in_ok-held.ensures.types c.in_ok-held.ensures.version (c.in_ok-held.ensures.records ∙ ap (map unread) c.as_slice-records.ensures) refl in
-    all_searched d0.seen d1.seen a n c.as_slice-names.result.now c.as_slice-fronts.result.now c.words_stand.ensures c.heads_stand.ensures c.as_slice-names.ensures c.as_slice-fronts.ensures c.requires.opens known c.ask_words.ensures.rests.seen q c.counts-counts.result c.in_ok-count.count (g.K.Sink.written c.args.out.now) (g.K.Sink.written c.finish.new.out) c.args.batch.now c.finish.new.self (state (g.K.Sink.written c.print_segments.new.out) c.print_segments.new.batch c.print_segments.new.expanded) c.args.opened.now c.print_segments.new.opened c.args.expanded.now
+    let n : Named = named d1.seen c.in_ok-prepared.prepared.held in
+    let known = knows d0.seen d1.seen a c.in_ok-prepared.prepared.held n c.of.ensures.rests.seen c.in_ok-prepared.ensures.kept.types c.in_ok-prepared.ensures.kept.version c.in_ok-prepared.ensures.kept.records refl in
+    all_searched d0.seen d1.seen a n c.as_slice-names.result.now c.as_slice-fronts.result.now c.words_stand.ensures c.heads_stand.ensures (c.as_slice-names.ensures ∙ c.in_ok-prepared.ensures.kept.files) (c.as_slice-fronts.ensures ∙ c.in_ok-prepared.ensures.kept.segments) c.requires.opens known c.of.ensures.rests.seen q c.counts-counts.result c.in_ok-count.count (g.K.Sink.written c.args.out.now) (g.K.Sink.written c.finish.new.out) c.args.batch.now c.finish.new.self (state (g.K.Sink.written c.print_segments.new.out) c.print_segments.new.batch c.print_segments.new.expanded) c.args.opened.now c.print_segments.new.opened c.args.expanded.now
     c.finish.new.expanded c.requires.empty c.counts-counts.ensures
     (subst (λ (s : Scope). SearchedFronts d1.seen s.names s.files s.query c.as_slice-fronts.result.now (state (g.K.Sink.written c.args.out.now) c.args.batch.now c.args.expanded.now) (state (g.K.Sink.written c.print_segments.new.out) c.print_segments.new.batch c.print_segments.new.expanded) c.args.opened.now c.print_segments.new.opened c.in_ok-count.count) c.new-context.ensures c.in_ok-count.ensures.done)
     (subst (λ (s : Scope). Reaches s.names s.query [] (state (g.K.Sink.written c.print_segments.new.out) c.print_segments.new.batch c.print_segments.new.expanded) (state (g.K.Sink.written c.finish.new.out) c.finish.new.self c.finish.new.expanded)) c.new-context.ensures c.in_ok-finish.ensures.done)

@@ -1,0 +1,62 @@
+use Rattle.std.proofs.Common.{◌∙◌, List, ap, map, refl, rules, subst, sym}
+use Rattle.query_plan.specs.declared.pieces.Piece.{Piece}
+use Rattle.query_plan.specs.Needs.{needed_variables_of}
+use Rattle.query_plan.specs.Pieces.{Free, needed_of, wide_pieces}
+use Rattle.subquery_filter.specs.Filter.{AsksTypes}
+use Rattle.subquery_filter.specs.Found.{AreNumbers}
+use Rattle.word_places.specs.declared.place.WordsPlace.{WordsPlace}
+use Rattle.word_places.specs.Held.{unread}
+use Rattle.word_places.specs.Places.{AreInOrder, OfWords}
+use Rattle.word_places.specs.Reads.{ReadsWords}
+use Rattle.word_places.proofs.ReadLemmas.{words_none}
+use Rattle.search_walk.proofs.ReadyLemmas.{named_words}
+use Rattle.search_engine.proofs.prepared.Prepared.of.Goals as goal
+
+pub ask_words-requires : goal.ask_words-requires
+ask_words-requires g c = subst (AreInOrder 0) (sym c.as_slice-records.ensures) c.requires.order
+
+pub returns-in_err-held-clause-reads : goal.returns-in_err-held-clause-reads
+returns-in_err-held-clause-reads g c = words_none c.args.places.words _ _ refl
+
+pub returns-in_err-layouts-clause-reads : goal.returns-in_err-layouts-clause-reads
+returns-in_err-layouts-clause-reads g c = words_none c.args.places.words _ _ refl
+
+pub returns-in_err-filter-clause-reads : goal.returns-in_err-filter-clause-reads
+returns-in_err-filter-clause-reads g c = words_none c.args.places.words _ _ refl
+
+pub returns-in_err-told-clause-reads : goal.returns-in_err-told-clause-reads
+returns-in_err-told-clause-reads g c =
+    subst (λ (l : List WordsPlace). ReadsWords l (g.D.Disk.state c.args.disk.now) (g.D.Disk.state c.ask_words.new.disk)) c.as_slice-records.ensures c.ask_words.ensures.reads
+
+pub returns-in_err-told-clause-damaged : goal.returns-in_err-told-clause-damaged
+returns-in_err-told-clause-damaged g c = λ is.
+    subst (λ (l : List WordsPlace). OfWords (g.D.Disk.state c.args.disk.now).seen l (λ _. ⊥)) c.as_slice-records.ensures (c.in_err-told.ensures.damaged (search rules))
+
+pub returns-clause-reads : goal.returns-clause-reads
+returns-clause-reads g c =
+    subst (λ (l : List WordsPlace). ReadsWords l (g.D.Disk.state c.args.disk.now) (g.D.Disk.state c.ask_words.new.disk)) c.as_slice-records.ensures c.ask_words.ensures.reads
+
+pub returns-clause-kept : goal.returns-clause-kept
+returns-clause-kept g c = record {
+  types = c.in_ok-held.ensures.types;
+  version = c.in_ok-held.ensures.version;
+  records = c.in_ok-held.ensures.records ∙ ap (map unread) c.as_slice-records.ensures;
+  files = refl;
+  segments = refl;
+}
+
+pub returns-clause-ready : goal.returns-clause-ready
+returns-clause-ready g c =
+    let q = c.args.query.now in
+    let d0 = g.D.Disk.state c.args.disk.now in
+    let d1 = g.D.Disk.state c.ask_words.new.disk in
+    let records = c.as_slice-records.result.now in
+    record {
+      searched = c.requires.searched;
+      layouts_are = c.in_ok-layouts.ensures;
+      count = c.in_ok-told.ensures.count;
+      filtered = λ told. named_words d0.seen d1.seen records c.in_ok-held.held _ c.ask_words.ensures.rests.seen c.in_ok-held.ensures.records c.in_ok-told.ensures.filter told c.in_ok-held.held.types
+          (subst (λ (l : List Piece). AsksTypes l c.in_ok-held.held.types c.in_ok-filter.filter) c.plan.ensures c.in_ok-filter.ensures);
+      numbered = named_words d0.seen d1.seen records c.in_ok-held.held (λ words. AreNumbers words (needed_of Free (wide_pieces q.pattern)) (needed_variables_of Free (wide_pieces q.pattern)) c.in_ok-told.told.found.items)
+          c.ask_words.ensures.rests.seen c.in_ok-held.ensures.records c.in_ok-told.ensures.found;
+    }

@@ -1,0 +1,87 @@
+//! What a search holds of an archive before it walks the segments.
+ghost use Rattle.std.specs.Prelude.{IfOk, IsErrOf};
+ghost use Rattle.log_seams.specs.Disk.{Rests};
+ghost use Rattle.log_seams.specs.Outside.{CountsOf};
+ghost use Rattle.query_plan.specs.Laws.{IsSearched};
+ghost use Rattle.word_places.specs.Places.{AreInOrder, OfWords};
+ghost use Rattle.word_places.specs.Reads.{ReadsWords};
+ghost use Rattle.search_engine.specs.Prepared.{IsReadyFor, KeepsPlaces};
+
+use archive_open::FileList;
+use archive_places::{FrontList, Places};
+use log_seams::Disk;
+use row_codec::Layouts;
+use search_walk::{Query, SearchRefusal, Told, ask_words};
+use std::alloc::Global;
+use subquery_filter::Filter;
+use word_places::HeldWords;
+
+/// An archive whose words were asked what a query leaves to them.
+#[derive(Drop)]
+pub(crate) struct Prepared {
+    /// The files, each at its number.
+    pub(crate) files: FileList,
+    /// The segments, sorted by file and first message.
+    pub(crate) segments: FrontList,
+    /// The words, none of which is held yet, beside the log types.
+    pub(crate) held: HeldWords,
+    /// The log types, cut into their constants and slots.
+    pub(crate) layouts: Layouts,
+    /// The filter of the query, and the numbers of the words that it needs.
+    pub(crate) told: Told,
+}
+
+impl Prepared {
+    /// Cuts the log types of an archive, and asks its words what a query leaves to them.
+    ///
+    /// # Errors
+    ///
+    /// `DiskFault`, where the disk's count of faults rose; `Damaged`, where no words stand at their
+    /// places; or `OutOfMemory`.
+    pub(crate) fn of<D: Disk>(
+        alloc: Global,
+        query: &Query,
+        places: Places,
+        disk: &mut D,
+    ) -> Result<Prepared, SearchRefusal>
+        requires searched { IsSearched query.now.pattern }
+        requires order { AreInOrder 0 places.words }
+
+        // what stays
+        ensures rests { Rests (D.state disk.old) (D.state disk.new) }
+        ensures reads { ReadsWords places.words (D.state disk.old) (D.state disk.new) }
+
+        // by the answer
+        ensures kept { IfOk result (KeepsPlaces places) }
+        ensures ready { IfOk result (IsReadyFor (D.state disk.new).seen query.now) }
+
+        // causes
+        ensures damaged { IsErrOf result SearchRefusal.Damaged
+            → OfWords (D.state disk.old).seen places.words (λ _. ⊥) }
+        ensures disk_counts { CountsOf SearchRefusal.DiskFault
+            (D.state disk.old).faults (D.state disk.new).faults result }
+        ensures sink { ¬ IsErrOf result SearchRefusal.SinkFault }
+    {
+        let Places {
+            header,
+            types,
+            words,
+            files,
+            segments,
+            entries: _,
+            end: _,
+        } = places;
+        let records = words.as_slice();
+        let held = HeldWords::new(alloc, types, header.version, records)?;
+        let layouts = Layouts::of(alloc, &held)?;
+        let filter = Filter::begin(alloc, query.plan(), &held)?;
+        let told = ask_words(alloc, query, filter, records, disk)?;
+        Ok(Prepared {
+            files,
+            segments,
+            held,
+            layouts,
+            told,
+        })
+    }
+}
