@@ -1,8 +1,8 @@
 -- Pages that were read before their turn.
 use Rattle.std.proofs.Common.{All, get_or, ◌≡◌, ℕ, ◌+◌, ◌-◌, ◌*◌, ◌^◌, ◌<◌, ◌≤◌, List, [], ◌∷◌, ◌++◌, length, Option, Some, None, refl, sym, ◌∙◌, ap, ap₂, subst, arith, length-append}
 use Rattle.std.proofs.lemmas.List.{append_assoc}
+use Rattle.std.proofs.lemmas.List.Elements.{All-head, All-push, All-same}
 use Rattle.log_seams.specs.Disk.{DiskState}
-use Rattle.column_store.specs.Columns.{ColumnsState}
 use Rattle.column_store.specs.declared.row.Row.{Row}
 use Rattle.segment_format.specs.Pages.{page_rows, pages_at}
 use Rattle.segment_pages.specs.Paged.{AreNextTold, HoldsLeft, Paged, paged, paged_after}
@@ -12,6 +12,7 @@ use Rattle.search_walk.specs.declared.refusal.SearchRefusal.{SearchRefusal}
 use Rattle.word_places.specs.Held.{HeldNames}
 use Rattle.search_walk.specs.Held.{AreRowsOf, IsTold, Named, OfLeft}
 use Rattle.search_walk.specs.PagesRead.{IsOfPage, ReadsPage}
+use Rattle.search_walk.specs.Ready.{AreDecided}
 use Rattle.search_walk.specs.Scan.{Asked, Placed, numbered}
 use Rattle.search_walk.specs.Walked.{PagesGone}
 use Rattle.search_walk.proofs.PageLemmas.{parts_of, same_columns}
@@ -19,7 +20,8 @@ use Rattle.search_walk.proofs.PagesReadLemmas.{such_on}
 use Rattle.search_walk.proofs.PickLemmas.{numbered_append}
 use Rattle.subquery_filter.specs.declared.verdicts.Verdict.{Verdict}
 use Rattle.search_engine.specs.Sofar.{sofar}
-use Rattle.search_engine.specs.Ahead.{AddsNext, AreAhead, rows_of}
+use Rattle.search_engine.specs.declared.page_ahead.AheadPage.{AheadPage}
+use Rattle.search_engine.specs.Ahead.{AddsNext, AllMayWait, AreAhead, AreDecidedPages, IsDecidedPage, MayWait, rows_of}
 use Rattle.search_engine.specs.Served.{AreReadyPages}
 use Rattle.search_engine.specs.Worked.{IsWorkedBy}
 use Rattle.search_engine.proofs.ServedLemmas.{all_worked}
@@ -29,49 +31,57 @@ use Rattle.search_engine.specs.Waiting.{Blames, Halts, IsWorked, Page, Pending, 
 
 -- ---- one page more
 
-pub ahead_none : (seen : Option (List ℕ)) (start now : Paged) (pages : List ColumnsState) → pages ≡ [] → now ≡ start → AreAhead seen start pages now
-ahead_none seen start now pages none same = subst (λ (l : List ColumnsState). AreAhead seen start l now) (sym none) same
+pub ahead_none : (seen : Option (List ℕ)) (start now : Paged) (pages : List AheadPage) → pages ≡ [] → now ≡ start → AreAhead seen start pages now
+ahead_none seen start now pages none same = subst (λ (l : List AheadPage). AreAhead seen start l now) (sym none) same
 
-pub ahead_push : (seen : Option (List ℕ)) (start now later : Paged) (pages more : List ColumnsState) → AreAhead seen start pages now → now.pages.row < now.pages.rows → AddsNext seen now later pages more → AreAhead seen start more later
-ahead_push seen start now later pages more ahead left adds =
-    subst (λ (l : List ColumnsState). AreAhead seen start l later) (sym adds.added) (put pages start ahead)
+pub ahead_push : (n : Named) (q : Asked) (seen : Option (List ℕ)) (start now later : Paged) (pages more : List AheadPage) → AreAhead seen start pages now → now.pages.row < now.pages.rows → AddsNext n q seen now later pages more
+    → AreAhead seen start more later
+ahead_push n q seen start now later pages more ahead left adds =
+    subst (λ (l : List AheadPage). AreAhead seen start l later) (sym adds.added) (put pages start ahead)
   where
-    put : (cs : List ColumnsState) (p : Paged) → AreAhead seen p cs now → AreAhead seen p (cs ++ adds.page ∷ []) later
+    put : (cs : List AheadPage) (p : Paged) → AreAhead seen p cs now → AreAhead seen p (cs ++ adds.page ∷ []) later
     put [] p same =
         subst (λ (x : Paged). AreAhead seen x (adds.page ∷ []) later) same
-        (left, adds.count, subst (λ (y : Paged). AreNextTold seen now y adds.page.rows) adds.after adds.next, adds.after)
-    put (c ∷ cs) p is = (is.0, is.1, is.2, put cs (paged_after p c.rows) is.3)
+        (left, adds.count, subst (λ (y : Paged). AreNextTold seen now y adds.page.columns.rows) adds.after adds.next, adds.after)
+    put (c ∷ cs) p is = (is.0, is.1, is.2, put cs (paged_after p c.columns.rows) is.3)
+
+pub decided_push : (n : Named) (q : Asked) (seen : Option (List ℕ)) (start now : Paged) (pages more : List AheadPage) → AreDecidedPages n q pages → AddsNext n q seen start now pages more → AreDecidedPages n q more
+decided_push n q seen start now pages more are adds =
+    All-same (IsDecidedPage n q) more (pages ++ adds.page ∷ []) adds.added (All-push (IsDecidedPage n q) pages adds.page are adds.decided)
+
+pub decided_same : (n : Named) (q : Asked) (rows others : List Row) (verdicts told : List Verdict) → others ≡ rows → told ≡ verdicts → AreDecided n q rows verdicts → AreDecided n q others told
+decided_same n q rows others verdicts told one two are = subst (λ (l : List Row). AreDecided n q l told) (sym one) (subst (λ (l : List Verdict). AreDecided n q rows l) (sym two) are)
 
 -- ---- where the reader stands
 
-pub ahead_same : (seen : Option (List ℕ)) (start now : Paged) (pages : List ColumnsState) → AreAhead seen start pages now
+pub ahead_same : (seen : Option (List ℕ)) (start now : Paged) (pages : List AheadPage) → AreAhead seen start pages now
     → (now.at ≡ start.at) × (now.pages.start ≡ start.pages.start) × (now.pages.rows ≡ start.pages.rows) × (now.pages.variables ≡ start.pages.variables)
 ahead_same seen start now [] same = (ap (λ (p : Paged). p.at) same, ap (λ (p : Paged). p.pages.start) same, ap (λ (p : Paged). p.pages.rows) same, ap (λ (p : Paged). p.pages.variables) same)
-ahead_same seen start now (c ∷ pages) ahead = ahead_same seen (paged_after start c.rows) now pages ahead.3
+ahead_same seen start now (c ∷ pages) ahead = ahead_same seen (paged_after start c.columns.rows) now pages ahead.3
 
-pub ahead_row : (seen : Option (List ℕ)) (start now : Paged) (pages : List ColumnsState) → AreAhead seen start pages now → now.pages.row ≡ start.pages.row + length (rows_of pages)
+pub ahead_row : (seen : Option (List ℕ)) (start now : Paged) (pages : List AheadPage) → AreAhead seen start pages now → now.pages.row ≡ start.pages.row + length (rows_of pages)
 ahead_row seen start now [] same = let row : now.pages.row ≡ start.pages.row = ap (λ (p : Paged). p.pages.row) same in omega (arith, row)
 ahead_row seen start now (c ∷ pages) ahead =
-    let rest : now.pages.row ≡ start.pages.row + page_rows start.pages + length (rows_of pages) = ahead_row seen (paged_after start c.rows) now pages ahead.3 in
-    omega (arith, rest, ahead.1, length-append c.rows (rows_of pages))
+    let rest : now.pages.row ≡ start.pages.row + page_rows start.pages + length (rows_of pages) = ahead_row seen (paged_after start c.columns.rows) now pages ahead.3 in
+    omega (arith, rest, ahead.1, length-append c.columns.rows (rows_of pages))
 
-pub ahead_inside : (seen : Option (List ℕ)) (start now : Paged) (pages : List ColumnsState) → start.pages.row ≤ start.pages.rows → AreAhead seen start pages now → now.pages.row ≤ now.pages.rows
+pub ahead_inside : (seen : Option (List ℕ)) (start now : Paged) (pages : List AheadPage) → start.pages.row ≤ start.pages.rows → AreAhead seen start pages now → now.pages.row ≤ now.pages.rows
 ahead_inside seen start now [] inside same =
     let row : now.pages.row ≡ start.pages.row = ap (λ (p : Paged). p.pages.row) same in
     let rows : now.pages.rows ≡ start.pages.rows = ap (λ (p : Paged). p.pages.rows) same in
     omega (arith, row, rows, inside)
 ahead_inside seen start now (c ∷ pages) inside ahead =
     let step : start.pages.row + page_rows start.pages ≤ start.pages.rows = omega (arith, ahead.0) in
-    ahead_inside seen (paged_after start c.rows) now pages step ahead.3
+    ahead_inside seen (paged_after start c.columns.rows) now pages step ahead.3
 
-pub ahead_few : (seen : Option (List ℕ)) (start now : Paged) (pages : List ColumnsState) → AreAhead seen start pages now → length (rows_of pages) ≤ 4096 * length pages
+pub ahead_few : (seen : Option (List ℕ)) (start now : Paged) (pages : List AheadPage) → AreAhead seen start pages now → length (rows_of pages) ≤ 4096 * length pages
 ahead_few seen start now [] same = omega arith
 ahead_few seen start now (c ∷ pages) ahead =
-    let rest = ahead_few seen (paged_after start c.rows) now pages ahead.3 in
-    omega (arith, rest, ahead.1, length-append c.rows (rows_of pages))
+    let rest = ahead_few seen (paged_after start c.columns.rows) now pages ahead.3 in
+    omega (arith, rest, ahead.1, length-append c.columns.rows (rows_of pages))
 
 -- one page at least was read
-pub ahead_gone : (seen : Option (List ℕ)) (start now : Paged) (c : ColumnsState) (pages : List ColumnsState) (count : ℕ) → AreAhead seen start (c ∷ pages) now → count ≡ length (rows_of (c ∷ pages)) → PagesGone start now count
+pub ahead_gone : (seen : Option (List ℕ)) (start now : Paged) (c : AheadPage) (pages : List AheadPage) (count : ℕ) → AreAhead seen start (c ∷ pages) now → count ≡ length (rows_of (c ∷ pages)) → PagesGone start now count
 ahead_gone seen start now c pages count ahead counted =
     let same = ahead_same seen start now (c ∷ pages) ahead in
     let row = ahead_row seen start now (c ∷ pages) ahead in
@@ -81,19 +91,19 @@ ahead_gone seen start now c pages count ahead counted =
       rows = same.2;
       variables = same.3;
       row = omega (arith, row, counted);
-      some = omega (arith, counted, ahead.0, ahead.1, length-append c.rows (rows_of pages));
+      some = omega (arith, counted, ahead.0, ahead.1, length-append c.columns.rows (rows_of pages));
       inside = ahead_inside seen start now (c ∷ pages) (omega (arith, ahead.0)) ahead;
     }
 
-pub ahead_some : (seen : Option (List ℕ)) (start now : Paged) (pages : List ColumnsState) (count : ℕ) → 0 < length pages → AreAhead seen start pages now → count ≡ length (rows_of pages) → PagesGone start now count
+pub ahead_some : (seen : Option (List ℕ)) (start now : Paged) (pages : List AheadPage) (count : ℕ) → 0 < length pages → AreAhead seen start pages now → count ≡ length (rows_of pages) → PagesGone start now count
 ahead_some seen start now [] count some ahead counted = absurd (omega (arith, some))
 ahead_some seen start now (c ∷ pages) count some ahead counted = ahead_gone seen start now c pages count ahead counted
 
-pub ahead_still : (seen : Option (List ℕ)) (start now : Paged) (pages : List ColumnsState) → pages ≡ [] → AreAhead seen start pages now → now ≡ start
-ahead_still seen start now pages none ahead = subst (λ (l : List ColumnsState). AreAhead seen start l now) none ahead
+pub ahead_still : (seen : Option (List ℕ)) (start now : Paged) (pages : List AheadPage) → pages ≡ [] → AreAhead seen start pages now → now ≡ start
+ahead_still seen start now pages none ahead = subst (λ (l : List AheadPage). AreAhead seen start l now) none ahead
 
 -- so many rows fit behind a number
-pub ahead_fits : (seen : Option (List ℕ)) (start now : Paged) (pages : List ColumnsState) (number : ℕ) → start.pages.row < start.pages.rows → number + (start.pages.rows - start.pages.row) + 4096 < 2 ^ 64 → AreAhead seen start pages now
+pub ahead_fits : (seen : Option (List ℕ)) (start now : Paged) (pages : List AheadPage) (number : ℕ) → start.pages.row < start.pages.rows → number + (start.pages.rows - start.pages.row) + 4096 < 2 ^ 64 → AreAhead seen start pages now
     → number + length (rows_of pages) < 2 ^ 64
 ahead_fits seen start now pages number left small ahead =
     let row = ahead_row seen start now pages ahead in
@@ -118,18 +128,18 @@ words_seen n old new reads = (reads (paged 0 (pages_at 0 0 0 0 0))).rests.seen
 pub counts_none : (old new : ℕ) → new ≡ old → CountsOf {T = Unit {0}} SearchRefusal.DiskFault old new (Ok tt)
 counts_none old new same = record { later = omega (arith, same); steady = same; failed = λ is. absurd (cc (is)); spared = λ e is other. same }
 
-pub ahead_reads : (seen : Option (List ℕ)) (start now : Paged) (pages : List ColumnsState) (old mid new : DiskState) → AreAhead seen start pages now → ((n : Named) → ReadsPage n start old mid) → ((n : Named) → ReadsPage n now mid new)
+pub ahead_reads : (seen : Option (List ℕ)) (start now : Paged) (pages : List AheadPage) (old mid new : DiskState) → AreAhead seen start pages now → ((n : Named) → ReadsPage n start old mid) → ((n : Named) → ReadsPage n now mid new)
     → (n : Named) → ReadsPage n start old new
 ahead_reads seen start now pages old mid new ahead one two = λ n. such_on (IsOfPage n start) old mid new (one n) (same_columns n start now mid new (ahead_same seen start now pages ahead) (two n))
 
 -- the rows of all pages are the next ones
-pub ahead_next : (seen : Option (List ℕ)) (start now : Paged) (pages : List ColumnsState) → AreAhead seen start pages now → AreNextTold seen start now (rows_of pages)
+pub ahead_next : (seen : Option (List ℕ)) (start now : Paged) (pages : List AheadPage) → AreAhead seen start pages now → AreNextTold seen start now (rows_of pages)
 ahead_next None start now pages ahead = tt
 ahead_next (Some bytes) start now [] same = λ all holds. (all, refl, subst (λ (p : Paged). HoldsLeft p bytes all) (sym same) holds)
 ahead_next (Some bytes) start now (c ∷ pages) ahead = λ all holds.
     let one = ahead.2 all holds in
-    let two = ahead_next (Some bytes) (paged_after start c.rows) now pages ahead.3 one.0 one.2 in
-    (two.0, one.1 ∙ ap (λ (l : List Row). c.rows ++ l) two.1 ∙ sym (append_assoc c.rows (rows_of pages) two.0), two.2)
+    let two = ahead_next (Some bytes) (paged_after start c.columns.rows) now pages ahead.3 one.0 one.2 in
+    (two.0, one.1 ∙ ap (λ (l : List Row). c.columns.rows ++ l) two.1 ∙ sym (append_assoc c.columns.rows (rows_of pages) two.0), two.2)
 
 -- ---- pages that wait
 
@@ -191,12 +201,22 @@ pub waited_none : (n : Named) (q : Asked) (name : List ℕ) (number : ℕ) (a : 
 waited_none n q name number a [] are = reaches_none n q a
 waited_none n q name number a (m ∷ messages) are = absurd are.are
 
-pub rows_first : (old new : List ColumnsState) (c : ColumnsState) → old ≡ c ∷ new → rows_of old ≡ c.rows ++ rows_of new
+pub rows_first : (old new : List AheadPage) (c : AheadPage) → old ≡ c ∷ new → rows_of old ≡ c.columns.rows ++ rows_of new
 rows_first old new c is = ap rows_of is
 
 -- the rows so far and those of the pages that are left
-pub rows_gone : (all gone : List Row) (old new : List ColumnsState) (c : ColumnsState) → all ≡ gone ++ rows_of old → old ≡ c ∷ new → all ≡ (gone ++ c.rows) ++ rows_of new
-rows_gone all gone old new c whole is = whole ∙ ap (λ (l : List Row). gone ++ l) (rows_first old new c is) ∙ sym (append_assoc gone c.rows (rows_of new))
+pub rows_gone : (all gone : List Row) (old new : List AheadPage) (c : AheadPage) → all ≡ gone ++ rows_of old → old ≡ c ∷ new → all ≡ (gone ++ c.columns.rows) ++ rows_of new
+rows_gone all gone old new c whole is = whole ∙ ap (λ (l : List Row). gone ++ l) (rows_first old new c is) ∙ sym (append_assoc gone c.columns.rows (rows_of new))
+
+-- the first of the pages that are left may wait, if all of them may
+pub waits_first : (n : Named) (q : Asked) (number at : ℕ) (gone : List Row) (all old new : List AheadPage) (c : AheadPage) → AllMayWait n q number all → AreDecidedPages n q old → rows_of all ≡ gone ++ rows_of old → old ≡ c ∷ new
+    → at ≡ number + length gone → MayWait n q at c
+waits_first n q number at gone all old new c may decided whole is place =
+    let long = ap length (rows_gone (rows_of all) gone old new c whole is) in
+    record {
+      decided = All-head (IsDecidedPage n q) c new (All-same (IsDecidedPage n q) (c ∷ new) old (sym is) decided);
+      small = omega (arith, long, may.small, place, length-append (gone ++ c.columns.rows) (rows_of new), length-append gone c.columns.rows);
+    }
 
 -- ---- behind a round that was searched
 

@@ -1,4 +1,4 @@
-//! Pages that are read before their turn, while others are searched.
+//! Pages that are read and decided before their turn, while others are searched.
 ghost use Rattle.std.specs.Prelude.{◌≡◌, ◌<◌, [], ℕ, All, length, IsFalse, IsTrue, OnOk, OnErr, slice_index_or};
 ghost use Rattle.std.specs.Thread.{IsSync};
 ghost use Rattle.log_seams.specs.Outside.{CountsOf};
@@ -12,23 +12,43 @@ use crate::page_slot::{PageSlot, match_pages};
 use crate::printing::Printer;
 use column_store::Columns;
 use log_seams::Disk;
-use search_walk::SearchRefusal;
+use search_walk::{Context, SearchRefusal, decide_page};
+use segment_format::PAGE_ROWS;
 use segment_pages::SegmentPages;
 use std::alloc::Global;
 use std::collections::VecDeque;
 use std::thread::{Threads, join_mut};
+use subquery_filter::Verdict;
 
 /// How many pages are read before their turn at most, so that their rows have numbers of 32 bits.
 const MOST_AHEAD: usize = 65_536;
 
-/// The columns of pages that were read before their turn, in the order of the pages, and the memory
-/// that reading takes place in.
+/// A page that was read before its turn, and what was decided of its rows.
+#[derive(Drop)]
+pub(crate) struct AheadPage {
+    pub(crate) columns: Columns,
+    /// What was decided of each row.
+    pub(crate) verdicts: Vec<Verdict>,
+}
+
+impl AheadPage {
+    /// A page without rows. Takes no memory.
+    fn new(alloc: Global) -> AheadPage {
+        AheadPage {
+            columns: Columns::new(alloc),
+            verdicts: Vec::new(alloc),
+        }
+    }
+}
+
+/// The pages that were read before their turn, in their order, and the memory that reading takes place
+/// in.
 #[derive(Drop)]
 pub(crate) struct PagesAhead {
     pub(crate) alloc: Global,
-    pub(crate) columns: VecDeque<Columns>,
-    /// Columns of pages that had their turn, which lend their memory.
-    pub(crate) spare: Vec<Columns>,
+    pub(crate) queue: VecDeque<AheadPage>,
+    /// Pages that had their turn, which lend their memory.
+    pub(crate) spare: Vec<AheadPage>,
     pub(crate) bytes: Vec<u8>,
 }
 
@@ -37,7 +57,7 @@ impl PagesAhead {
     pub(crate) fn new(alloc: Global) -> PagesAhead {
         PagesAhead {
             alloc,
-            columns: VecDeque::new(alloc),
+            queue: VecDeque::new(alloc),
             spare: Vec::new(alloc),
             bytes: Vec::new(alloc),
         }
@@ -45,22 +65,23 @@ impl PagesAhead {
 
     /// Whether no page was read before its turn.
     pub(crate) fn is_empty(&self) -> bool
-        ensures none { IsTrue result → self.now.columns.items ≡ [] }
-        ensures some { IsFalse result → 0 < length self.now.columns.items }
+        ensures none { IsTrue result → self.now.queue.items ≡ [] }
+        ensures some { IsFalse result → 0 < length self.now.queue.items }
     {
-        self.columns.is_empty()
+        self.queue.is_empty()
     }
 
-    /// Takes the memory of columns that are no longer needed, where there is room for it.
-    pub(crate) fn give_back(&mut self, columns: Columns)
-        ensures { self.new.columns.items ≡ self.old.columns.items }
+    /// Takes the memory of a page that is no longer needed, where there is room for it.
+    pub(crate) fn give_back(&mut self, page: AheadPage)
+        ensures { self.new.queue.items ≡ self.old.queue.items }
     {
-        let _ = self.spare.push(columns);
+        let _ = self.spare.push(page);
     }
 
-    /// Reads the next page of a segment. A refusal changes nothing.
+    /// Reads the next page of a segment, and decides its rows. A refusal changes nothing.
     fn read_one<D: Disk>(
         &mut self,
+        context: &Context<'_, D>,
         pages: &mut SegmentPages,
         disk: &mut D,
     ) -> Result<(), SearchRefusal>
@@ -70,44 +91,54 @@ impl PagesAhead {
         ensures reads { (n : Named)
             → ReadsPage n pages.old (D.state disk.old) (D.state disk.new) }
         ensures kept { OnErr result ((pages.new ≡ pages.old)
-            × (self.new.columns.items ≡ self.old.columns.items)) }
+            × (self.new.queue.items ≡ self.old.queue.items)) }
 
         // by the answer, and causes
-        ensures added { OnOk result (AddsNext (D.state disk.old).seen pages.old pages.new
-            self.old.columns.items self.new.columns.items) }
+        ensures added { OnOk result (AddsNext context.now.names context.now.query
+            (D.state disk.old).seen pages.old pages.new
+            self.old.queue.items self.new.queue.items) }
         ensures counts { CountsOf SearchRefusal.DiskFault
             (D.state disk.old).faults (D.state disk.new).faults result }
     {
-        self.columns.reserve(1)?;
-        let spare = match self.spare.pop() {
-            Some(columns) => columns,
-            None => Columns::new(self.alloc),
+        self.queue.reserve(1)?;
+        let AheadPage {
+            columns,
+            mut verdicts,
+        } = match self.spare.pop() {
+            Some(page) => page,
+            None => AheadPage::new(self.alloc),
         };
-        let columns = pages.next_page(disk, &mut self.bytes, spare)?;
-        self.columns.push_back_reserved(columns);
+        // With room for what is decided of its rows, a page that was read is not lost.
+        verdicts.clear();
+        verdicts.reserve(PAGE_ROWS as usize)?;
+        let columns = pages.next_page(disk, &mut self.bytes, columns)?;
+        decide_page(context, &columns, &mut verdicts);
+        self.queue
+            .push_back_reserved(AheadPage { columns, verdicts });
         Ok(())
     }
 
-    /// Reads the next pages of a segment, at most so many, as far as they can be read: what stops it
-    /// is told where the next page has its turn. A refusal is a fault of the disk.
+    /// Reads the next pages of a segment, at most so many, as far as they can be read, and decides their
+    /// rows: what stops it is told where the next page has its turn. A refusal is a fault of the disk.
     pub(crate) fn read<D: Disk>(
         &mut self,
+        context: &Context<'_, D>,
         pages: &mut SegmentPages,
         disk: &mut D,
         most: usize,
     ) -> Result<(), SearchRefusal>
-        ensures { ReadAhead (D.state disk.old) (D.state disk.new)
-            pages.old pages.new self.new.columns.items result }
+        ensures { ReadAhead context.now.names context.now.query (D.state disk.old)
+            (D.state disk.new) pages.old pages.new self.new.queue.items result }
     {
-        self.columns.clear();
+        self.queue.clear();
         for _ in 0..most {
-            if self.columns.len() >= MOST_AHEAD {
+            if self.queue.len() >= MOST_AHEAD {
                 return Ok(());
             }
             if !pages.has_next() {
                 return Ok(());
             }
-            match self.read_one(pages, disk) {
+            match self.read_one(context, pages, disk) {
                 Ok(()) => {}
                 Err(SearchRefusal::DiskFault) => return Err(SearchRefusal::DiskFault),
                 Err(_) => return Ok(()),
@@ -118,12 +149,13 @@ impl PagesAhead {
 }
 
 /// Searches pages that are in memory, in at most so many threads, while this one reads as many of the
-/// next pages of a segment.
+/// next pages of a segment, and decides their rows.
 pub(crate) fn match_beside<R: Threads + Sync, D: Disk>(
     rt: &R,
     workers: usize,
     printer: &Printer<'_>,
     slots: &mut [PageSlot],
+    context: &Context<'_, D>,
     pages: &mut SegmentPages,
     disk: &mut D,
     ahead: &mut PagesAhead,
@@ -138,8 +170,8 @@ pub(crate) fn match_beside<R: Threads + Sync, D: Disk>(
     ensures worked { All (IsWorkedBy printer.now.query.now printer.now.held.now) slots.new }
 
     // and those that were read
-    ensures ahead { ReadAhead (D.state disk.old) (D.state disk.new)
-        pages.old pages.new ahead.new.columns.items result }
+    ensures ahead { ReadAhead context.now.names context.now.query (D.state disk.old)
+        (D.state disk.new) pages.old pages.new ahead.new.queue.items result }
 {
     let most = slots.len();
     let ((), answer) = join_mut(
@@ -156,9 +188,10 @@ pub(crate) fn match_beside<R: Threads + Sync, D: Disk>(
                 (IsWorkedBy printer.entry.now.query.now printer.entry.now.held.now) slots.exit.now }
         { match_pages(rt, workers, printer, slots) },
         &mut || -> Result<(), SearchRefusal>
-            ensures { ReadAhead (D.state disk.entry.now) (D.state disk.exit.now)
-                pages.entry.now pages.exit.now ahead.exit.now.columns.items result }
-        { ahead.read(pages, disk, most) },
+            ensures { ReadAhead context.entry.now.names context.entry.now.query
+                (D.state disk.entry.now) (D.state disk.exit.now)
+                pages.entry.now pages.exit.now ahead.exit.now.queue.items result }
+        { ahead.read(context, pages, disk, most) },
     );
     answer
 }

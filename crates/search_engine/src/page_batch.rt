@@ -4,7 +4,7 @@ ghost use Rattle.log_seams.specs.Outside.{CountsOf};
 ghost use Rattle.search_walk.specs.Held.{Named, OfLeft};
 ghost use Rattle.search_walk.specs.PagesRead.{ReadsPage};
 ghost use Rattle.search_walk.specs.Takes.{IsLeft};
-ghost use Rattle.search_engine.specs.Ahead.{AreAhead};
+ghost use Rattle.search_engine.specs.Ahead.{AreAhead, AreDecidedPages};
 ghost use Rattle.search_engine.specs.NextPage.{IsNextPage};
 ghost use Rattle.search_engine.specs.Over.{HaltsOver, IsServedOver, ReachesOver};
 ghost use Rattle.search_engine.specs.Served.{IsServed};
@@ -203,7 +203,7 @@ impl PageBatch {
     }
 
     /// Searches the pages that wait, and sends on what they left; meanwhile as many of the next pages of
-    /// a segment are read. Nothing is sent after a fault of the disk.
+    /// a segment are read and decided. Nothing is sent after a fault of the disk.
     pub(crate) fn run_beside<R: Threads + Sync, D: Disk, K: Sink, M: Ledger>(
         &mut self,
         over: &ThreadedContext<'_, '_, R, D>,
@@ -220,8 +220,10 @@ impl PageBatch {
         ensures reads { (n : Named)
             → ReadsPage n pages.old (D.state disk.old) (D.state disk.new) }
         ensures ahead { OnOk result (AreAhead (D.state disk.old).seen
-            pages.old ahead.new.columns.items pages.new) }
-        ensures few { length ahead.new.columns.items ≤ 65536 }
+            pages.old ahead.new.queue.items pages.new) }
+        ensures decided { AreDecidedPages over.now.context.now.names over.now.context.now.query
+            ahead.new.queue.items }
+        ensures few { length ahead.new.queue.items ≤ 65536 }
 
         // by the answer
         ensures done { OnOk result (ReachesOver over.now.context.now []
@@ -242,7 +244,16 @@ impl PageBatch {
     {
         let printer = Printer::of(over.context, held);
         let slots = self.waiting.as_mut_slice();
-        match_beside(over.rt, self.workers, &printer, slots, pages, disk, ahead)?;
+        match_beside(
+            over.rt,
+            self.workers,
+            &printer,
+            slots,
+            over.context,
+            pages,
+            disk,
+            ahead,
+        )?;
         gather_all(slots, out, &mut self.gathered, &mut self.counts, expanded)?;
         swap(&mut self.waiting, &mut self.spare);
         self.waiting.clear();

@@ -8,17 +8,19 @@ ghost use Rattle.search_walk.specs.Held.{AreRowsOf, IsTold, Named, OfLeft};
 ghost use Rattle.search_walk.specs.PagesRead.{ReadsPage};
 ghost use Rattle.search_walk.specs.Ready.{IsReadyPage, Serves};
 ghost use Rattle.search_walk.specs.Takes.{IsLeft};
+ghost use Rattle.search_engine.specs.Ahead.{MayWait};
 ghost use Rattle.search_engine.specs.NextPage.{IsNextPage};
 ghost use Rattle.search_engine.specs.Waiting.{PrintsPage, Slotted, page};
 ghost use Rattle.search_engine.specs.Worked.{AreMatched, IsWorkedBy};
 
 use crate::counts::Counts;
+use crate::page_ahead::AheadPage;
 use crate::printing::{Printer, print_page};
 use crate::refusal::PrintRefusal;
 use column_store::Columns;
 use log_seams::Disk;
 use rayon::prelude::par_chunks_mut_for_each;
-use search_walk::{Context, Label, SearchRefusal, decide_rows, is_rejected};
+use search_walk::{Context, Label, SearchRefusal, decide_rows, hold_rows, is_rejected};
 use segment_pages::SegmentPages;
 use std::alloc::Global;
 use std::marker::{Brand, Model};
@@ -187,17 +189,17 @@ impl PageSlot {
         })
     }
 
-    /// Takes columns in the place of those that it has, which it leaves there, decides their rows, and
-    /// reads the words by which they may have to be written.
+    /// Takes a page that was decided in the place of the one that it has, whose memory it leaves there,
+    /// and reads the words by which its rows may have to be written.
     pub(crate) fn fill<D: Disk>(
         self,
         context: &Context<'_, D>,
         held: &mut HeldWords,
         label: Label<'_>,
-        columns: &mut Columns,
+        ahead: &mut AheadPage,
         disk: &mut D,
     ) -> Result<PageSlot, SearchRefusal>
-        requires small { label.number + length columns.old.rows < 2 ^ 64 }
+        requires may_wait { MayWait context.now.names context.now.query label.number ahead.old }
         requires serves { Serves context.now.names held.old }
         requires told { (D.state disk.old).seen ≡ context.now.names.told }
 
@@ -208,8 +210,8 @@ impl PageSlot {
         ensures grow { Grow held.old.records held.new.records }
 
         // by the answer
-        ensures page { IfOk result (λ s. s.page
-            ≡ page label.entry.name.now label.entry.number columns.old.rows s.page.verdicts) }
+        ensures page { IfOk result (λ s. s.page ≡ page label.entry.name.now label.entry.number
+            ahead.old.columns.rows ahead.old.verdicts.items) }
         ensures ready { IfOk result (λ s. IsReadyPage context.now.names context.now.query
             held.new s.page.rows s.page.verdicts) }
 
@@ -222,7 +224,7 @@ impl PageSlot {
         let PageSlot {
             name: mut kept,
             number: _,
-            columns: mut own,
+            mut columns,
             mut verdicts,
             text,
             counts,
@@ -230,12 +232,13 @@ impl PageSlot {
         } = self;
         kept.clear();
         kept.extend_from_slice(label.name)?;
-        swap(&mut own, columns);
-        decide_rows(context, &own, held, disk, &mut verdicts)?;
+        swap(&mut columns, &mut ahead.columns);
+        swap(&mut verdicts, &mut ahead.verdicts);
+        hold_rows(context, &columns, verdicts.as_slice(), held, disk)?;
         Ok(PageSlot {
             name: kept,
             number: label.number,
-            columns: own,
+            columns,
             verdicts,
             text,
             counts,

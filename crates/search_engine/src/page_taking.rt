@@ -1,5 +1,5 @@
 //! What takes the pages of a walk for a search: they wait, are searched by workers, and what is found goes out.
-ghost use Rattle.std.specs.Prelude.{◌≡◌, ◌<◌, ◌+◌, ◌^◌, ◌∷◌, [], ℕ, List, length, IfOk, OnOk, OnErr, IsErrOf};
+ghost use Rattle.std.specs.Prelude.{◌≡◌, ◌∷◌, [], ℕ, List, length, IfOk, OnOk, OnErr, IsErrOf};
 ghost use Rattle.std.specs.Thread.{IsSync};
 ghost use Rattle.log_seams.specs.Disk.{Rests};
 ghost use Rattle.log_seams.specs.Outside.{CountsOf};
@@ -10,18 +10,17 @@ ghost use Rattle.search_walk.specs.Scan.{numbered};
 ghost use Rattle.search_walk.specs.Takes.{IsLeft};
 ghost use Rattle.search_walk.specs.Walked.{PageGone, PastTold};
 ghost use Rattle.segment_pages.specs.Paged.{Paged};
-ghost use Rattle.search_engine.specs.Ahead.{FitNumbers, rows_of};
+ghost use Rattle.search_engine.specs.Ahead.{AllMayWait, MayWait, rows_of};
 ghost use Rattle.search_engine.specs.Over.{HaltsOver, IsServedOver, ReachesOver};
 ghost use Rattle.search_engine.specs.SegmentsDone.{SearchedFronts, StoppedFronts};
 ghost use Rattle.search_engine.specs.Served.{IsServed};
 ghost use Rattle.search_engine.specs.StepsWaiting.{halts_behind, halts_more, halts_same, reaches_on, reaches_over, stands_on};
 ghost use Rattle.search_engine.specs.Waiting.{Blames, Halts, Reaches, StandFor, state};
 
-use crate::page_ahead::PagesAhead;
+use crate::page_ahead::{AheadPage, PagesAhead};
 use crate::page_batch::PageBatch;
 use crate::threaded::ThreadedContext;
 use archive_places::SegmentFront;
-use column_store::Columns;
 use log_seams::{Disk, Sink};
 use search_walk::{Context, Label, SearchRefusal, TakesPages, visit_segments};
 use segment_pages::SegmentPages;
@@ -99,13 +98,14 @@ fn wait_next<R: Threads + Sync, D: Disk, K: Sink, M: Ledger>(
     over: &ThreadedContext<'_, '_, R, D>,
     held: &mut HeldWords,
     label: Label<'_>,
-    columns: &mut Columns,
+    page: &mut AheadPage,
     disk: &mut D,
     out: &mut K,
     batch: &mut PageBatch,
     expanded: &mut Steps<M>,
 ) -> Result<(), SearchRefusal>
-    requires small { label.number + length columns.old.rows < 2 ^ 64 }
+    requires may_wait { MayWait over.now.context.now.names over.now.context.now.query
+        label.number page.old }
     requires served { IsServedOver over.now.context.now held.old batch.old.pages }
     requires told { (D.state disk.old).seen ≡ over.now.context.now.names.told }
 
@@ -116,7 +116,7 @@ fn wait_next<R: Threads + Sync, D: Disk, K: Sink, M: Ledger>(
 
     // by the answer
     ensures done { OnOk result ((messages : List (List ℕ))
-        → AreRowsOf over.now.context.now.names columns.old.rows messages
+        → AreRowsOf over.now.context.now.names page.old.columns.rows messages
         → ReachesOver over.now.context.now
         (numbered label.entry.name.now label.entry.number messages)
         (state (K.written out.old) batch.old expanded.old)
@@ -134,7 +134,7 @@ fn wait_next<R: Threads + Sync, D: Disk, K: Sink, M: Ledger>(
 {
     let slot = match batch
         .take_slot()
-        .fill(over.context, held, label, columns, disk)
+        .fill(over.context, held, label, page, disk)
     {
         Ok(slot) => slot,
         // An output that fails too would be a second fault.
@@ -160,7 +160,8 @@ fn wait_all<R: Threads + Sync, D: Disk, K: Sink, M: Ledger>(
     ahead: &mut PagesAhead,
     expanded: &mut Steps<M>,
 ) -> Result<u32, SearchRefusal>
-    requires fit { FitNumbers label.number (rows_of ahead.old.columns.items) }
+    requires may_wait { AllMayWait over.now.context.now.names over.now.context.now.query
+        label.number ahead.old.queue.items }
     requires served { IsServedOver over.now.context.now held.old batch.old.pages }
     requires told { (D.state disk.old).seen ≡ over.now.context.now.names.told }
 
@@ -170,15 +171,15 @@ fn wait_all<R: Threads + Sync, D: Disk, K: Sink, M: Ledger>(
     ensures served { OnOk result (IsServedOver over.now.context.now held.new batch.new.pages) }
 
     // by the answer
-    ensures count { IfOk result (λ rows. rows ≡ length (rows_of ahead.old.columns.items)) }
+    ensures count { IfOk result (λ rows. rows ≡ length (rows_of ahead.old.queue.items)) }
     ensures done { OnOk result ((messages : List (List ℕ))
-        → AreRowsOf over.now.context.now.names (rows_of ahead.old.columns.items) messages
+        → AreRowsOf over.now.context.now.names (rows_of ahead.old.queue.items) messages
         → ReachesOver over.now.context.now
         (numbered label.entry.name.now label.entry.number messages)
         (state (K.written out.old) batch.old expanded.old)
         (state (K.written out.new) batch.new expanded.new)) }
     ensures stopped { OnErr result ((messages : List (List ℕ))
-        → AreRowsOf over.now.context.now.names (rows_of ahead.old.columns.items) messages
+        → AreRowsOf over.now.context.now.names (rows_of ahead.old.queue.items) messages
         → HaltsOver over.now.context.now
         (numbered label.entry.name.now label.entry.number messages)
         (state (K.written out.old) batch.old expanded.old) (K.written out.new) expanded.new) }
@@ -186,21 +187,21 @@ fn wait_all<R: Threads + Sync, D: Disk, K: Sink, M: Ledger>(
     // causes
     ensures damaged { IsErrOf result SearchRefusal.Damaged → Blames
         over.now.context.now.names batch.old.pages ((messages : List (List ℕ))
-        → ¬ AreRowsOf over.now.context.now.names (rows_of ahead.old.columns.items) messages) }
+        → ¬ AreRowsOf over.now.context.now.names (rows_of ahead.old.queue.items) messages) }
     ensures disk_counts { CountsOf SearchRefusal.DiskFault
         (D.state disk.old).faults (D.state disk.new).faults result }
     ensures sink_counts { CountsOf SearchRefusal.SinkFault
         (K.faults out.old) (K.faults out.new) result }
 {
     let mut rows = 0;
-    while let Some(mut columns) = ahead.columns.pop_front() {
+    while let Some(mut page) = ahead.queue.pop_front() {
         let here = Label {
             name: label.name,
             number: label.number + u64::from(rows),
         };
-        rows += columns.rows();
-        wait_next(over, held, here, &mut columns, disk, out, batch, expanded)?;
-        ahead.give_back(columns);
+        rows += page.columns.rows();
+        wait_next(over, held, here, &mut page, disk, out, batch, expanded)?;
+        ahead.give_back(page);
     }
     Ok(rows)
 }

@@ -4,15 +4,16 @@ use Rattle.segment_pages.specs.Paged.{Paged}
 use Rattle.search_walk.specs.Held.{AreRowsOf}
 use Rattle.search_walk.specs.PagesRead.{ReadsPage}
 use Rattle.search_walk.specs.Scan.{numbered}
-use Rattle.search_engine.specs.Ahead.{rows_of}
+use Rattle.search_engine.specs.Ahead.{AreDecidedPages, rows_of}
 use Rattle.search_engine.specs.Served.{IsServed}
 use Rattle.search_engine.specs.Waiting.{Reaches, state}
 use Rattle.search_engine.proofs.page_taking.wait_all.Given as goal
 
-abbrev pub invariant-loop-columns : goal.invariant-loop-columns
-invariant-loop-columns g l = record {
+abbrev pub invariant-loop-page : goal.invariant-loop-page
+invariant-loop-page g l = record {
   gone : List Row;
-  all : rows_of l.fn.ahead.columns.items ≡ gone ++ rows_of l.ahead.columns.items;
+  all : rows_of l.fn.ahead.queue.items ≡ gone ++ rows_of l.ahead.queue.items;
+  decided : AreDecidedPages l.over.context.now.names l.over.context.now.query l.ahead.queue.items;
   count : l.rows ≡ length gone;
   reads : (p : Paged) → ReadsPage l.over.context.now.names p (g.D.Disk.state l.fn.disk) (g.D.Disk.state l.disk);
   faults : (g.D.Disk.state l.disk).faults ≡ (g.D.Disk.state l.fn.disk).faults;
@@ -23,5 +24,5 @@ invariant-loop-columns g l = record {
       (state (g.K.Sink.written l.fn.out) l.fn.batch l.fn.expanded) (state (g.K.Sink.written l.out) l.batch l.expanded);
 }
 
-abbrev pub decreases-loop-columns : goal.decreases-loop-columns
-decreases-loop-columns g l = length l.ahead.columns.items
+abbrev pub decreases-loop-page : goal.decreases-loop-page
+decreases-loop-page g l = length l.ahead.queue.items

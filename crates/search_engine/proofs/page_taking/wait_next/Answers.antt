@@ -46,7 +46,7 @@ returns-in_err-push-clause-stopped g c = on_err c.from_residual-in_err-push.resu
 
 pub returns-clause-done : goal.returns-clause-done
 returns-clause-done g c =
-    page_reaches c.args.over.now.context.now.names c.args.over.now.context.now.query c.args.label.name.now c.args.label.number c.args.columns.now.rows c.in-Ok.slot.page.verdicts _ c.args.batch.now c.take_slot.new.self c.push.new.self _ c.in-Ok.slot.page
+    page_reaches c.args.over.now.context.now.names c.args.over.now.context.now.query c.args.label.name.now c.args.label.number c.args.page.now.columns.rows c.args.page.now.verdicts.items _ c.args.batch.now c.take_slot.new.self c.push.new.self _ c.in-Ok.slot.page
     c.take_slot.ensures c.in-Ok.ensures.page c.in_ok-push.ensures.done
 
 pub returns-clause-served : goal.returns-clause-served

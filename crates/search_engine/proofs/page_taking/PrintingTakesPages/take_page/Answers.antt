@@ -28,12 +28,13 @@ returns-in_err-run_beside-clause-stopped g c =
 pub returns-in_err-run_beside-clause-damaged : goal.returns-in_err-run_beside-clause-damaged
 returns-in_err-run_beside-clause-damaged g c = λ is stands. left_nothing _ c.args.pages.now c.args.context.now.names (c.in_err-run_beside.ensures.damaged (search rules) stands.0 stands.1)
 
-pub wait_all-requires-clause-fit : goal.wait_all-requires-clause-fit
-wait_all-requires-clause-fit g c = λ _ _.
-    let most = ahead_few _ c.args.pages.now c.run_beside.new.pages c.run_beside.new.ahead.columns.items c.in_ok-run_beside.ensures.ahead in
+pub wait_all-requires-clause-may_wait : goal.wait_all-requires-clause-may_wait
+wait_all-requires-clause-may_wait g c = λ _ _.
+    let most = ahead_few _ c.args.pages.now c.run_beside.new.pages c.run_beside.new.ahead.queue.items c.in_ok-run_beside.ensures.ahead in
     record {
+      decided = c.run_beside.ensures.decided;
       few = omega (arith, most, c.run_beside.ensures.few);
-      small = ahead_fits _ c.args.pages.now c.run_beside.new.pages c.run_beside.new.ahead.columns.items c.args.label.number c.requires.left.page c.requires.left.fits c.in_ok-run_beside.ensures.ahead;
+      small = ahead_fits _ c.args.pages.now c.run_beside.new.pages c.run_beside.new.ahead.queue.items c.args.label.number c.requires.left.page c.requires.left.fits c.in_ok-run_beside.ensures.ahead;
     }
 
 pub wait_all-requires-clause-served : goal.wait_all-requires-clause-served
@@ -41,8 +42,8 @@ wait_all-requires-clause-served g c = λ _ _. served_none c.args.context.now.nam
 
 pub returns-clause-gone : goal.returns-clause-gone
 returns-clause-gone g c =
-    let some : 0 < length c.run_beside.new.ahead.columns.items = search rules in
-    if_ok_to c.wait_all.result _ _ (λ rows counted. ahead_some _ c.args.pages.now c.run_beside.new.pages c.run_beside.new.ahead.columns.items rows some c.in_ok-run_beside.ensures.ahead counted) c.wait_all.ensures.count
+    let some : 0 < length c.run_beside.new.ahead.queue.items = search rules in
+    if_ok_to c.wait_all.result _ _ (λ rows counted. ahead_some _ c.args.pages.now c.run_beside.new.pages c.run_beside.new.ahead.queue.items rows some c.in_ok-run_beside.ensures.ahead counted) c.wait_all.ensures.count
 
 pub wait_all-requires-clause-told : goal.wait_all-requires-clause-told
 wait_all-requires-clause-told g c = λ _ _. reads_seen c.args.pages.now (g.D.Disk.state c.args.disk.now) (g.D.Disk.state c.run_beside.new.disk) c.run_beside.ensures.reads ∙ c.requires.told
@@ -56,7 +57,7 @@ pub returns-clause-done : goal.returns-clause-done
 returns-clause-done g c =
     let n : Named = c.args.context.now.names in
     let q = c.args.context.now.query in
-    let items = c.run_beside.new.ahead.columns.items in
+    let items = c.run_beside.new.ahead.queue.items in
     let a : State = state (g.K.Sink.written c.args.self.now.out.now) c.args.self.now.batch.now c.args.self.now.expanded.now in
     let b : State = state (g.K.Sink.written c.run_beside.new.out) c.run_beside.new.self c.run_beside.new.expanded in
     let d : State = state (g.K.Sink.written c.wait_all.new.out) c.wait_all.new.batch c.wait_all.new.expanded in
@@ -69,7 +70,7 @@ pub returns-clause-stopped : goal.returns-clause-stopped
 returns-clause-stopped g c =
     let n : Named = c.args.context.now.names in
     let q = c.args.context.now.query in
-    let items = c.run_beside.new.ahead.columns.items in
+    let items = c.run_beside.new.ahead.queue.items in
     let a : State = state (g.K.Sink.written c.args.self.now.out.now) c.args.self.now.batch.now c.args.self.now.expanded.now in
     let b : State = state (g.K.Sink.written c.run_beside.new.out) c.run_beside.new.self c.run_beside.new.expanded in
     let w = g.K.Sink.written c.wait_all.new.out in
@@ -83,7 +84,7 @@ returns-clause-stopped g c =
 pub returns-clause-damaged : goal.returns-clause-damaged
 returns-clause-damaged g c = λ is stands.
     let n : Named = c.args.context.now.names in
-    let items = c.run_beside.new.ahead.columns.items in
+    let items = c.run_beside.new.ahead.queue.items in
     rows_damaged _ c.args.pages.now c.run_beside.new.pages n (rows_of items) (ahead_next _ c.args.pages.now c.run_beside.new.pages items c.in_ok-run_beside.ensures.ahead)
     (blamed n c.run_beside.new.self.pages _ c.in_ok-run_beside.ensures.empty (c.wait_all.ensures.damaged is))
 
@@ -92,7 +93,7 @@ returns-in_err-run_beside-clause-reads g c = c.run_beside.ensures.reads c.args.c
 
 pub read_next-requires-then-is_empty-clause-left : goal.read_next-requires-then-is_empty-clause-left
 read_next-requires-then-is_empty-clause-left g c = λ _ _.
-    let still : c.run_beside.new.pages ≡ c.args.pages.now = ahead_still _ c.args.pages.now c.run_beside.new.pages c.run_beside.new.ahead.columns.items (search rules) c.in_ok-run_beside.ensures.ahead in
+    let still : c.run_beside.new.pages ≡ c.args.pages.now = ahead_still _ c.args.pages.now c.run_beside.new.pages c.run_beside.new.ahead.queue.items (search rules) c.in_ok-run_beside.ensures.ahead in
     subst (λ (p : Paged). IsLeft p c.args.label.number) (sym still) c.requires.left
 
 pub read_next-requires-then-is_empty-clause-told : goal.read_next-requires-then-is_empty-clause-told
@@ -100,13 +101,13 @@ read_next-requires-then-is_empty-clause-told g c = λ _ _. reads_seen c.args.pag
 
 pub returns-then-is_empty-clause-gone : goal.returns-then-is_empty-clause-gone
 returns-then-is_empty-clause-gone g c =
-    let still : c.run_beside.new.pages ≡ c.args.pages.now = ahead_still _ c.args.pages.now c.run_beside.new.pages c.run_beside.new.ahead.columns.items (search rules) c.in_ok-run_beside.ensures.ahead in
+    let still : c.run_beside.new.pages ≡ c.args.pages.now = ahead_still _ c.args.pages.now c.run_beside.new.pages c.run_beside.new.ahead.queue.items (search rules) c.in_ok-run_beside.ensures.ahead in
     if_ok_to c.read_next-then-is_empty.result _ _ (λ rows gone. page_gone c.args.pages.now c.read_next-then-is_empty.new.pages rows c.requires.left.page (subst (λ (p : Paged). PageGone p c.read_next-then-is_empty.new.pages rows) still gone)) c.read_next-then-is_empty.ensures.gone
 
 pub returns-then-is_empty-clause-reads : goal.returns-then-is_empty-clause-reads
 returns-then-is_empty-clause-reads g c =
     let n : Named = c.args.context.now.names in
-    let still : c.run_beside.new.pages ≡ c.args.pages.now = ahead_still _ c.args.pages.now c.run_beside.new.pages c.run_beside.new.ahead.columns.items (search rules) c.in_ok-run_beside.ensures.ahead in
+    let still : c.run_beside.new.pages ≡ c.args.pages.now = ahead_still _ c.args.pages.now c.run_beside.new.pages c.run_beside.new.ahead.queue.items (search rules) c.in_ok-run_beside.ensures.ahead in
     let mid = g.D.Disk.state c.run_beside.new.disk in
     let new = g.D.Disk.state c.read_next-then-is_empty.new.disk in
     such_on (IsOfPage n c.args.pages.now) (g.D.Disk.state c.args.disk.now) mid new (c.run_beside.ensures.reads n) (subst (λ (p : Paged). ReadsPage n p mid new) still c.read_next-then-is_empty.ensures.reads)
@@ -120,7 +121,7 @@ returns-then-is_empty-clause-done g c =
     let name = c.args.label.name.now in
     let number = c.args.label.number in
     let now = c.read_next-then-is_empty.new.pages in
-    let still : c.run_beside.new.pages ≡ c.args.pages.now = ahead_still _ c.args.pages.now c.run_beside.new.pages c.run_beside.new.ahead.columns.items (search rules) c.in_ok-run_beside.ensures.ahead in
+    let still : c.run_beside.new.pages ≡ c.args.pages.now = ahead_still _ c.args.pages.now c.run_beside.new.pages c.run_beside.new.ahead.queue.items (search rules) c.in_ok-run_beside.ensures.ahead in
     let seen : mid.seen ≡ old.seen = reads_seen c.args.pages.now old mid c.run_beside.ensures.reads in
     let a : State = state (g.K.Sink.written c.args.self.now.out.now) c.args.self.now.batch.now c.args.self.now.expanded.now in
     let b : State = state (g.K.Sink.written c.run_beside.new.out) c.run_beside.new.self c.run_beside.new.expanded in
@@ -138,7 +139,7 @@ returns-then-is_empty-clause-stopped g c =
     let mid = g.D.Disk.state c.run_beside.new.disk in
     let name = c.args.label.name.now in
     let number = c.args.label.number in
-    let still : c.run_beside.new.pages ≡ c.args.pages.now = ahead_still _ c.args.pages.now c.run_beside.new.pages c.run_beside.new.ahead.columns.items (search rules) c.in_ok-run_beside.ensures.ahead in
+    let still : c.run_beside.new.pages ≡ c.args.pages.now = ahead_still _ c.args.pages.now c.run_beside.new.pages c.run_beside.new.ahead.queue.items (search rules) c.in_ok-run_beside.ensures.ahead in
     let seen : mid.seen ≡ old.seen = reads_seen c.args.pages.now old mid c.run_beside.ensures.reads in
     let a : State = state (g.K.Sink.written c.args.self.now.out.now) c.args.self.now.batch.now c.args.self.now.expanded.now in
     let b : State = state (g.K.Sink.written c.run_beside.new.out) c.run_beside.new.self c.run_beside.new.expanded in
@@ -154,7 +155,7 @@ returns-then-is_empty-clause-damaged g c = λ is stands.
     let n : Named = c.args.context.now.names in
     let old = g.D.Disk.state c.args.disk.now in
     let mid = g.D.Disk.state c.run_beside.new.disk in
-    let still : c.run_beside.new.pages ≡ c.args.pages.now = ahead_still _ c.args.pages.now c.run_beside.new.pages c.run_beside.new.ahead.columns.items (search rules) c.in_ok-run_beside.ensures.ahead in
+    let still : c.run_beside.new.pages ≡ c.args.pages.now = ahead_still _ c.args.pages.now c.run_beside.new.pages c.run_beside.new.ahead.queue.items (search rules) c.in_ok-run_beside.ensures.ahead in
     let seen : mid.seen ≡ old.seen = reads_seen c.args.pages.now old mid c.run_beside.ensures.reads in
     left_to (λ _. ⊥) (λ _. ⊥) old.seen mid.seen c.args.pages.now c.run_beside.new.pages n seen still (λ messages never. never)
     (blamed n c.run_beside.new.self.pages _ c.in_ok-run_beside.ensures.empty (c.read_next-then-is_empty.ensures.damaged is))
