@@ -100,12 +100,15 @@ fn bad_stop<R: Threads + Wait + Sync>(
     bad_crash(rt, alloc, &second)
 }
 
-/// Whether each image that a crash leaves of the archive after so many calls is the archive.
-fn is_left(archive: &MemDisk, after: usize) -> Result<bool, AllocError> {
-    for &pending in PENDING {
-        let image = archive.stopped(after, pending)?;
-        if image.bytes() != archive.bytes() {
-            return Ok(false);
+/// Whether each image that a crash leaves of the archive after so many calls, or more, is the archive.
+fn is_left(archive: &MemDisk, first: usize) -> Result<bool, AllocError> {
+    let calls = archive.calls();
+    for after in first..=calls {
+        for &pending in PENDING {
+            let image = archive.stopped(after, pending)?;
+            if image.bytes() != archive.bytes() {
+                return Ok(false);
+            }
         }
     }
     Ok(true)
@@ -117,12 +120,7 @@ fn archive_is_left<R: Threads + Wait + Sync>(rt: &R, alloc: Global) -> Result<bo
     let mut second = disk(alloc, &[], NEVER)?;
     let first = archive.calls();
     let _told = upgrade(rt, alloc, &mut archive, &mut second)?;
-    for after in first..=archive.calls() {
-        if !is_left(&archive, after)? {
-            return Ok(false);
-        }
-    }
-    Ok(true)
+    is_left(&archive, first)
 }
 
 /// The calls of both disks that an upgrade makes: the number of the first one, and of the one behind the
