@@ -1,10 +1,11 @@
 //! The files of a second archive behind those of a first, over disks of which each call may fail.
+ghost use Rattle.std.specs.Prelude.{◌≡◌};
 ghost use Rattle.disk_journal.specs.Journal.{state_of};
 ghost use Rattle.disk_seal.specs.Opening.{MayOpen};
 
 use crate::worn::{WornDisk, at_end, begun, records};
 use archive_core::Books;
-use archive_merge::{MergeCause, MergeRefusal, Merged, ToMerge, merge};
+use archive_merge::{MergeCause, MergeEnd, MergeRefusal, Merged, ToMerge, merge};
 use archive_open::{Archive, FileEntry, open_archive};
 use dict_core::Book;
 use disk_journal::Journal;
@@ -57,28 +58,70 @@ static ADDED: [u8; 164] = [
 /// The last new file, and why the new files are not all or not whole.
 type Came = (Option<Merged>, Option<MergeRefusal>);
 
-/// What comes of a merge behind a journal with these texts, whose archive has so many files. None where
-/// the versions differ.
-fn merged_behind<R: Wait>(
+/// What was lent to a merge, and what came of it; None where the versions differ.
+#[derive(Drop)]
+struct Ended<'s, 'd> {
+    journal: Journal<'d, WornDisk>,
+    disk: &'s mut MemDisk,
+    came: Option<Came>,
+}
+
+/// What comes of a merge behind a journal with these texts, whose archive has so many files.
+fn merged_behind<'s, 'd, R: Wait>(
     rt: &R,
     alloc: Global,
     first: u32,
-    second: ToMerge<'_, Books, MemDisk>,
-    journal: Journal<'_, WornDisk>,
+    second: ToMerge<'s, Books, MemDisk>,
+    journal: Journal<'d, WornDisk>,
     books: Books,
-) -> Option<Came>
+) -> Ended<'s, 'd>
     requires { MayOpen (state_of journal) }
 {
     let agrees = second.names.version == journal.header.version;
     if !agrees || first > 9 || second.files.len() > 1000 {
-        return None;
+        let ToMerge { disk, .. } = second;
+        return Ended {
+            journal,
+            disk,
+            came: None,
+        };
     }
     let Books { types, words, .. } = books;
-    let end = merge(rt, alloc, first, second, journal, types, words);
-    Some((end.files.last().copied(), end.refusal))
+    let MergeEnd {
+        journal,
+        disk,
+        files,
+        refusal,
+    } = merge(rt, alloc, first, second, journal, types, words);
+    Ended {
+        journal,
+        disk,
+        came: Some((files.last().copied(), refusal)),
+    }
 }
 
-/// The same of an archive that was opened, behind the archive of a disk, which has one file.
+/// The same of an archive that was opened, over its disk, behind an archive with one file. Both are lent
+/// for lifetimes of their own: with one for both it would not be known how the loan of the disk ends.
+fn merged_opened<'a: 's, 's, 'd, R: Wait>(
+    rt: &R,
+    alloc: Global,
+    second: &'a Archive<Books>,
+    disk: &'s mut MemDisk,
+    journal: Journal<'d, WornDisk>,
+    books: Books,
+) -> Ended<'s, 'd>
+    requires { MayOpen (state_of journal) }
+{
+    let second = ToMerge {
+        names: second.names(),
+        files: second.files().as_slice(),
+        segments: second.segments().as_slice(),
+        disk,
+    };
+    merged_behind(rt, alloc, 1, second, journal, books)
+}
+
+/// The same behind the archive of a disk.
 fn merged_over<R: Wait>(
     rt: &R,
     alloc: Global,
@@ -88,13 +131,8 @@ fn merged_over<R: Wait>(
     books: Books,
 ) -> Option<Came> {
     let journal = at_end(disk)?;
-    let second = ToMerge {
-        names: second.names(),
-        files: second.files().as_slice(),
-        segments: second.segments().as_slice(),
-        disk: other,
-    };
-    merged_behind(rt, alloc, 1, second, journal, books)
+    let ended = merged_opened(rt, alloc, second, other, journal, books);
+    ended.came
 }
 
 /// Places, and the bytes that come there.
@@ -319,12 +357,12 @@ fn files_of(alloc: Global, count: usize, length: usize) -> Result<Vec<FileEntry>
     let mut files = Vec::with_capacity(alloc, count)?;
     for _made in 0..count {
         let name = Text::new(vec![in alloc; b'n'; length]?);
-        files.push_reserved(FileEntry {
+        files.push(FileEntry {
             name,
             messages: 0,
             whole: false,
             ended: false,
-        });
+        })?;
     }
     Ok(files)
 }
@@ -340,7 +378,27 @@ fn empty_books(alloc: Global) -> Books
     }
 }
 
-/// What comes of these files behind an archive without files, which is made on the disk.
+/// What comes of these files behind an archive without files. The disk has a lifetime of its own here too.
+fn merged_files<'a: 's, 's, 'd, R: Wait>(
+    rt: &R,
+    alloc: Global,
+    names: &'a Books,
+    files: &'a [FileEntry],
+    disk: &'s mut MemDisk,
+    journal: Journal<'d, WornDisk>,
+) -> Ended<'s, 'd>
+    requires { MayOpen (state_of journal) }
+{
+    let second = ToMerge {
+        names,
+        files,
+        segments: &[],
+        disk,
+    };
+    merged_behind(rt, alloc, 0, second, journal, empty_books(alloc))
+}
+
+/// The same of one that is made on the disk.
 fn begun_with<R: Wait>(
     rt: &R,
     alloc: Global,
@@ -350,13 +408,8 @@ fn begun_with<R: Wait>(
 ) -> Option<Came> {
     let journal = begun(disk)?;
     let names = empty_books(alloc);
-    let second = ToMerge {
-        names: &names,
-        files,
-        segments: &[],
-        disk: other,
-    };
-    merged_behind(rt, alloc, 0, second, journal, empty_books(alloc))
+    let ended = merged_files(rt, alloc, &names, files, other, journal);
+    ended.came
 }
 
 /// How many files there are, how long their names are, the number of the last one that is named, why not
