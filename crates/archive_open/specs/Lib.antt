@@ -5,4 +5,3 @@ pub mod Archive
 pub mod StepsNext
 pub mod StepsBuilt
 pub mod StepsFiles
-pub mod Grown

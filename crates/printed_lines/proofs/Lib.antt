@@ -1,4 +1,0 @@
-pub mod AnswerLemmas
-pub mod LineLemmas
-pub mod MatchLemmas
-pub mod RowLemmas
