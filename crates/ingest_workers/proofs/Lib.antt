@@ -11,8 +11,6 @@ pub mod MaySealLemmas
 pub mod NoRoomLemmas
 pub mod CrewLemmas
 pub mod LockLemmas
-pub mod FollowLemmas
-pub mod PassedLemmas
 pub mod IngestLemmas
 pub mod ClosingLemmas
 pub mod GivenLemmas

@@ -27,4 +27,3 @@ pub mod InTurn
 pub mod Ordered
 pub mod ClosedStore
 pub mod OpenWorker
-pub mod Beside
