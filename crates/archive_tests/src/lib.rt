@@ -16,8 +16,6 @@ mod disk_seal_tests;
 #[cfg(test)]
 mod ingest_workers_fault_tests;
 #[cfg(test)]
-mod ingest_workers_opening_tests;
-#[cfg(test)]
 mod ingest_workers_tests;
 #[cfg(test)]
 mod search_engine_tests;
