@@ -58,8 +58,10 @@ pub(crate) struct Writing {
 /// reads them; words that are no command write nothing.
 pub(crate) fn ask_to_write(alloc: Global, words: &[String]) -> Result<Writing, AllocError>
     // the archive
-    ensures no { IfOk result (λ w. IsFalse w.archive → AskNoWriting (map string_bytes words.now)) }
-    ensures yes { IfOk result (λ w. IsTrue w.archive → ¬ AskNoWriting (map string_bytes words.now)) }
+    ensures no { IfOk result (λ w. IsFalse w.archive
+        → AskNoWriting (map string_bytes words.now)) }
+    ensures yes { IfOk result (λ w. IsTrue w.archive
+        → ¬ AskNoWriting (map string_bytes words.now)) }
 
     // the second one
     ensures not_second { IfOk result (λ w. IsFalse w.second
