@@ -1,6 +1,7 @@
 pub mod KeptLemmas
 pub mod FilesLemmas
 pub mod NextLemmas
+pub mod GrownLemmas
 pub mod ReadLemmas
 pub mod WalkLemmas
 pub mod AsideLemmas

@@ -57,7 +57,7 @@ places_joined at types (f ∷ es) e =
 pub front_length : (h : Header) (es : List JournalEntry) → length (front_of h es) ≡ 32 + length (spelled (records_of es))
 front_length h es = omega (arith, length-append (header_bytes h) (spelled (records_of es)), length-header_bytes h)
 
-places_more : (h : Header) (es : List JournalEntry) (e : JournalEntry) → places_of (es ++ e ∷ []) ≡ places_of es ++ placed (length (front_of h es)) (types_of es) e
+pub places_more : (h : Header) (es : List JournalEntry) (e : JournalEntry) → places_of (es ++ e ∷ []) ≡ places_of es ++ placed (length (front_of h es)) (types_of es) e
 places_more h es e = places_joined 32 [] es e ∙ ap (λ n. places_of es ++ placed n (types_of es) e) (sym (front_length h es))
 
 -- ---- an entry that follows

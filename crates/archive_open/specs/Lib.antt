@@ -5,3 +5,4 @@ pub mod Archive
 pub mod StepsNext
 pub mod StepsBuilt
 pub mod StepsFiles
+pub mod Grown

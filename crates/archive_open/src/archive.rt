@@ -3,6 +3,7 @@ ghost use Rattle.std.specs.Prelude.{◌≡◌, ◌-◌};
 ghost use Rattle.archive_open.specs.Archive.{shown};
 
 use crate::files::FileList;
+use crate::grown::Grown;
 use crate::keeps::KeepsTexts;
 use crate::segments::SegmentList;
 use record_format::Header;
@@ -38,6 +39,17 @@ impl<K: KeepsTexts + Drop> Archive<K> {
         ensures { K.kept result ≡ (shown K.kept self).kept }
     {
         self.names
+    }
+
+    /// The texts and the files, for use beyond the archive. Takes no memory.
+    pub fn into_grown(self) -> Grown<K>
+        ensures texts { K.kept result.names ≡ (shown K.kept self).kept }
+        ensures files { result.files.items ≡ (shown K.kept self).files }
+    {
+        Grown {
+            names: self.names,
+            files: self.files.into_vec(),
+        }
     }
 
     /// The files, each at its number.

@@ -6,6 +6,7 @@
 
 mod archive;
 mod files;
+mod grown;
 mod keeps;
 mod open;
 mod plain;
@@ -15,6 +16,7 @@ mod walk;
 
 pub use archive::Archive;
 pub use files::{FileEntry, FileList};
+pub use grown::{Grown, add_head, add_listed};
 pub use keeps::KeepsTexts;
 pub use open::{open_archive, open_for_append};
 pub use plain::{PlainBook, PlainBooks};

@@ -9,6 +9,7 @@ ghost use Rattle.archive_open.specs.Shown.{HasLastGate, Looks, Opens, RefusedAt,
 
 use crate::archive::Archive;
 use crate::files::FileList;
+use crate::grown::Grown;
 use crate::keeps::KeepsTexts;
 use crate::refusal::ArchiveRefusal;
 use crate::segments::{SegmentList, sort};
@@ -38,6 +39,8 @@ pub fn open_for_append<D: Disk, K: KeepsTexts + Drop>(
         (shown K.kept archive).header ≡ journal.old.header) }
     ensures last { IfOk result (λ archive.
         HasLastGate (D.state journal.old.disk.now).seen (shown K.kept archive)) }
+    ensures entries { IfOk result (λ archive.
+        (shown K.kept archive).entries ≡ journal.new.count) }
     ensures at_end { OnOk result (IsAtEnd (state_of journal.new)) }
     ensures damaged { (at : ℕ) → IsErrOf result (ArchiveRefusal.Damaged at)
         → RefusedAt at (D.state journal.old.disk.now).seen }
@@ -46,16 +49,18 @@ pub fn open_for_append<D: Disk, K: KeepsTexts + Drop>(
 {
     let header = *journal.header();
     let mut opening = Opening {
-        names: K::begin(alloc, &header),
-        files: Vec::new(alloc),
+        grown: Grown {
+            names: K::begin(alloc, &header),
+            files: Vec::new(alloc),
+        },
         segments: Vec::new(alloc),
     };
     keep_all(alloc, journal, &mut opening)?;
     sort(&mut opening.segments);
     Ok(Archive {
         header,
-        names: opening.names,
-        files: FileList::new(opening.files),
+        names: opening.grown.names,
+        files: FileList::new(opening.grown.files),
         segments: SegmentList::new(opening.segments),
         entries: journal.count(),
         end: journal.end(),

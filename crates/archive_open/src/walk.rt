@@ -1,112 +1,28 @@
 //! The walk along an archive's records, and what is kept of each.
-ghost use Rattle.std.specs.Prelude.{◌≡◌, ◌≢◌, ◌<◌, ◌⊎◌, ◌++◌, ◌^◌, ℕ, List, length, map, IfOk, OnOk, IsTrue, IsFalse, IsErrOf, IsNone};
+ghost use Rattle.std.specs.Prelude.{◌≡◌, ◌≢◌, ◌<◌, ◌⊎◌, ℕ, IfOk, OnOk, IsTrue, IsFalse, IsErrOf, IsNone};
 ghost use Rattle.log_seams.specs.Outside.{CountsOf};
-ghost use Rattle.record_format.specs.Lists.{AreTexts, files_payload, four_bytes, list_bytes, texts_payload};
 ghost use Rattle.disk_journal.specs.Calls.{StaysAt};
 ghost use Rattle.disk_journal.specs.Journal.{state_of};
-ghost use Rattle.archive_open.specs.Kept.{MayHold, limit_of, texts_of, with_texts};
 ghost use Rattle.archive_open.specs.StepsBuilt.{built_of};
 ghost use Rattle.archive_open.specs.Shown.{RefusedAt, Spares};
-ghost use Rattle.archive_open.specs.StepsNext.{BuildsNext, BuildsTold, EndsWith, GoesOnTo, GoesWith, Looks, NoneNext, NoneTold, ReadsOf, StandsWhole, new_file};
+ghost use Rattle.archive_open.specs.StepsNext.{BuildsNext, BuildsTold, EndsWith, GoesOnTo, GoesWith, Looks, NoneNext, NoneTold, ReadsOf, StandsWhole};
 
-use crate::files::{FileEntry, add_files};
+use crate::grown::{Grown, add_listed};
 use crate::keeps::KeepsTexts;
 use crate::refusal::ArchiveRefusal;
 use crate::segments::{SegmentPlace, add_segment, load_head};
 use disk_journal::{Journal, RecordPlace};
 use log_seams::Disk;
-use record_format::{
-    FILES_KIND, FormatRefusal, SEGMENT_KIND, TYPES_KIND, WORDS_KIND, next_text, read_files,
-    texts_front,
-};
-use row_codec::Which;
+use record_format::{FILES_KIND, SEGMENT_KIND, TYPES_KIND, WORDS_KIND};
 use std::alloc::{AllocError, Global};
 
 /// What was built of the records so far.
 #[derive(Drop)]
 pub(crate) struct Opening<K: KeepsTexts> {
-    /// The texts.
-    pub(crate) names: K,
-    /// The files.
-    pub(crate) files: Vec<FileEntry>,
+    /// The texts and the files.
+    pub(crate) grown: Grown<K>,
     /// The segments in the order of their records.
     pub(crate) segments: Vec<SegmentPlace>,
-}
-
-// Keeps the names of further files, and tells whether the payload has such.
-fn keep_names(alloc: Global, files: &mut Vec<FileEntry>, payload: &[u8]) -> Result<bool, AllocError>
-    ensures kept { IfOk result (λ yes. IsTrue yes → (names : List (List ℕ)) × AreTexts names
-        × (payload.now ≡ files_payload names)
-        × (files.new.items ≡ files.old.items ++ map new_file names)) }
-    ensures refused { IfOk result (λ yes. IsFalse yes
-        → (names : List (List ℕ)) → AreTexts names → payload.now ≢ files_payload names) }
-{
-    match read_files(alloc, payload) {
-        Ok(names) => {
-            add_files(files, names)?;
-            Ok(true)
-        }
-        Err(FormatRefusal::Malformed) => Ok(false),
-        Err(FormatRefusal::OutOfMemory) => Err(AllocError),
-    }
-}
-
-// Adds texts behind those of a dictionary, each straight from the bytes. Tells whether these are so
-// many texts and no more, and it may have them. Where not, some may have been added.
-fn add_texts<K: KeepsTexts + Drop>(
-    names: &mut K,
-    kind: Which,
-    count: u32,
-    bytes: &[u8],
-) -> Result<bool, AllocError>
-    ensures added { IfOk result (λ yes. IsTrue yes
-        → (texts : List (List ℕ)) × AreTexts texts
-        × (four_bytes count ++ bytes.now ≡ list_bytes texts)
-        × (K.kept names.new ≡ with_texts kind texts (K.kept names.old))) }
-    ensures refused { IfOk result (λ yes. IsFalse yes
-        → (texts : List (List ℕ)) → AreTexts texts
-        → four_bytes count ++ bytes.now ≡ list_bytes texts
-        → ¬ MayHold (limit_of kind (K.kept names.old))
-        (texts_of kind (K.kept names.old) ++ texts)) }
-{
-    let mut rest = bytes;
-    for _ in 0..count {
-        let Some((text, after)) = next_text(rest) else {
-            return Ok(false);
-        };
-        if !names.add(kind, text)? {
-            return Ok(false);
-        }
-        rest = after;
-    }
-    Ok(rest.is_empty())
-}
-
-// Keeps texts of a dictionary, and tells whether the payload has such, and the dictionary may have
-// them.
-fn keep_texts<K: KeepsTexts + Drop>(
-    names: &mut K,
-    kind: Which,
-    payload: &[u8],
-) -> Result<bool, AllocError>
-    ensures kept { IfOk result (λ yes. IsTrue yes
-        → (first : ℕ) × ((texts : List (List ℕ)) × (first < 2 ^ 32) × AreTexts texts
-        × (payload.now ≡ texts_payload first texts)
-        × (K.kept names.new ≡ with_texts kind texts (K.kept names.old)))) }
-    ensures refused { IfOk result (λ yes. IsFalse yes
-        → (first : ℕ) (texts : List (List ℕ)) → first < 2 ^ 32 → AreTexts texts
-        → payload.now ≡ texts_payload first texts
-        → first ≡ length (texts_of kind (K.kept names.old))
-        → ¬ MayHold (limit_of kind (K.kept names.old))
-        (texts_of kind (K.kept names.old) ++ texts)) }
-{
-    let Some(front) = texts_front(payload) else {
-        return Ok(false);
-    };
-    if front.first != names.count(kind) {
-        return Ok(false);
-    }
-    add_texts(names, kind, front.count, front.rest)
 }
 
 // Keeps what a record that is no segment has, and tells whether it may follow.
@@ -123,12 +39,7 @@ fn keep_listed<K: KeepsTexts + Drop>(
     ensures refused { IfOk result (λ yes. IsFalse yes → (at : ℕ)
         → NoneNext at kind payload.now (built_of K.kept opening.old)) }
 {
-    match kind {
-        FILES_KIND => keep_names(alloc, &mut opening.files, payload),
-        TYPES_KIND => keep_texts(&mut opening.names, Which::Types, payload),
-        WORDS_KIND => keep_texts(&mut opening.names, Which::Words, payload),
-        _ => Ok(false),
-    }
+    add_listed(alloc, &mut opening.grown, kind, payload)
 }
 
 // Keeps the place and the head of a segment, and tells whether it may follow.
@@ -167,7 +78,7 @@ fn keep_segment<D: Disk, K: KeepsTexts + Drop>(
         length: place.length,
         head,
     };
-    Ok(add_segment(&mut opening.files, &mut opening.segments, segment)?)
+    Ok(add_segment(&mut opening.grown.files, &mut opening.segments, segment)?)
 }
 
 // Whether a record of this kind is no segment, and is of some entry.

@@ -33,7 +33,7 @@ use Rattle.disk_seal.proofs.ToldLemmas.{told_map, told_both}
 
 -- ---- how long the journal in a list is
 
-length_joined : (xs ys : List StoreEntry) → journal_length (xs ++ ys) ≡ journal_length xs + journal_length ys
+pub length_joined : (xs ys : List StoreEntry) → journal_length (xs ++ ys) ≡ journal_length xs + journal_length ys
 length_joined [] ys = omega arith
 length_joined (Entry e ∷ xs) ys = omega (arith, length_joined xs ys)
 length_joined (Blank ∷ xs) ys = omega (arith, length_joined xs ys)
@@ -75,6 +75,11 @@ seen_list s k =
     told_map (tells s) (λ (is : journal_seen (recorded s.disk.seen s.count) ≡ journal_of s).
     seen_joined (recorded s.disk.seen s.count) (mark s.stopped) ∙ ap (λ l. journal_seen (recorded s.disk.seen s.count) ++ l) (none_seen s.stopped) ∙ append-nil (journal_seen (recorded s.disk.seen s.count)) ∙ is)
     (recorded_seen s.disk.seen s.count (tells s) k.tells_still)
+
+count_in : (told : Option (List ℕ)) (n : ℕ) (b : Bool) → is_some told ≡ b → IfTold b (n ≡ length (journal_in told n))
+count_in None n false is = tt
+count_in None n true is = absurd (cc (is))
+count_in (Some bytes) n b is = told_always b (sym (length_in bytes n))
 
 -- ---- the turn
 
@@ -184,6 +189,10 @@ module _ {D : Type 0} (state : D → DiskState) (p m : KeeperPass D) (v : StoreV
       pub records_told : RunsOn state v w → v.count ≡ journal_length (seen q)
       records_told runs = sym (length_list s) ∙ ap journal_length (sym (seen_is ∙ runs.entries))
 
+      -- where it is told, the count is that of the entries that the pass has seen
+      pub counted_told : RunsOn state v w → WhereTold state q (λ _ es. v.count ≡ length es)
+      counted_told runs = where_told (λ _ es. v.count ≡ length es) runs.entries (count_in s.disk.seen v.count (tells s) k.tells_still)
+
       pub has_next : (at : ℕ) (next : Option Found) → RunsOn state v w → IfSome next (λ f. FindsNext at f s) → IfSome next (λ f. HasNext state at f q)
       has_next at None runs finds = tt
       has_next at (Some f) runs finds = record { whole = finds.whole; next = where_told (λ h es. IsNextIn h es at f) runs.entries finds.next }
@@ -207,6 +216,9 @@ module _ {D : Type 0} (state : D → DiskState) (p m : KeeperPass D) (v : StoreV
         here = none.here;
         untold = λ a is. subst (λ (x : StoreFixed D). is_some (state x.opened).seen ≡ false) (fixed a (sym about_same ∙ is)) none.untold;
       }
+
+pub counted_by : {D : Type 0} (state : D → DiskState) (q : KeeperPass D) (n m : ℕ) → n ≡ m → WhereTold state q (λ _ es. m ≡ length es) → WhereTold state q (λ _ es. n ≡ length es)
+counted_by state q n m same counted a is = subst (λ k. IfTold (is_some (state a.fixed.opened).seen) (k ≡ length (journal_seen (seen q)))) (sym same) (counted a is)
 
 -- ---- one turn after another
 

@@ -1,10 +1,10 @@
 //! A look at a gate of the journal, in a turn of a pass.
-ghost use Rattle.std.specs.Prelude.{◌≡◌, ℕ, IfOk, IfSome, IfNone, IsErrOf};
+ghost use Rattle.std.specs.Prelude.{◌≡◌, ℕ, length, IfOk, IfSome, IfNone, IsErrOf};
 ghost use Rattle.step_count.specs.Opens.{OpensFor};
 ghost use Rattle.turn_lock.specs.Words.{seen, IsReady};
 ghost use Rattle.disk_seal.specs.Fixed.{KeeperPass};
 ghost use Rattle.disk_seal.specs.Prepare.{HasSeenOpening};
-ghost use Rattle.disk_seal.specs.Looked.{journal_length, MayLook, HasTurned};
+ghost use Rattle.disk_seal.specs.Looked.{journal_length, WhereTold, MayLook, HasTurned};
 ghost use Rattle.disk_seal.specs.Looked.{HasNext, HasNone, HasHalted, TellsNothing};
 
 use crate::found::{Found, FoundRefusal};
@@ -46,6 +46,8 @@ pub trait Looks<D: Disk> {
         // by the answer
         ensures records { IfOk result (λ l.
             l.records ≡ journal_length (seen (pass self.new))) }
+        ensures counted { IfOk result (λ l.
+            WhereTold D.state (pass self.new) (λ _ es. l.records ≡ length es)) }
         ensures next { IfOk result (λ l. IfSome l.next (λ f.
             HasNext D.state at f (pass self.new))) }
         ensures none { IfOk result (λ l. IfNone l.next
@@ -74,6 +76,8 @@ fn look_with<'d, 'b, D: Disk, R: Wait, L: Ledger>(
 
     // by the answer
     ensures records { IfOk result (λ l. l.records ≡ journal_length (seen pass.new)) }
+    ensures counted { IfOk result (λ l.
+        WhereTold D.state pass.new (λ _ es. l.records ≡ length es)) }
     ensures next { IfOk result (λ l. IfSome l.next (λ f. HasNext D.state at f pass.new)) }
     ensures none { IfOk result (λ l. IfNone l.next (HasNone D.state at pass.new)) }
 

@@ -22,7 +22,7 @@ returns-clause-ranges g c = head_reads_of c.args.place _ _ _ c.requires.kind c.l
 pub returns-clause-kept : goal.returns-clause-kept
 returns-clause-kept g c = λ yes.
     let old : Built = built_of g.K.KeepsTexts.kept c.args.opening.now in
-    let new : Built = built_of g.K.KeepsTexts.kept (record { names = c.args.opening.now.names; files = c.add_segment.new.files; segments = c.add_segment.new.segments }) in
+    let new : Built = built_of g.K.KeepsTexts.kept (record { grown = record { names = c.args.opening.now.grown.names; files = c.add_segment.new.files }; segments = c.add_segment.new.segments }) in
     let added = c.in_ok-add_segment.ensures.added yes in
     segment_told c.args.place _ c.in-Some.head old new c.requires.whole c.requires.kind (search rules) refl added.1 added.2
 

@@ -1,5 +1,5 @@
 use Rattle.std.proofs.Common.{◌∙◌}
-use Rattle.disk_seal.proofs.LookedLemmas.{may_look, marks_by, has_turned, records_told, has_next, has_none, has_halted}
+use Rattle.disk_seal.proofs.LookedLemmas.{may_look, marks_by, has_turned, records_told, counted_by, counted_told, has_next, has_none, has_halted}
 use Rattle.disk_seal.proofs.looks.look_with.Goals as goal
 
 pub next_after-answer-requires : goal.next_after-answer-requires
@@ -13,6 +13,13 @@ returns-in-Ok-clause-records g c =
     c.records-records.ensures
     ∙ records_told g.D.Disk.state c.args.pass.now c.take-turn.new.self c.take-turn.result.value c.facts.ensures take.still take.seen take.entries take.fixed c.next_after-answer.new.self c.next_after-answer.ensures.stays
     c.put.new.pass c.put.ensures.still c.put.ensures.ready c.put.ensures.seen c.in-Ok.ensures.runs
+
+pub returns-in-Ok-clause-counted : goal.returns-in-Ok-clause-counted
+returns-in-Ok-clause-counted g c =
+    let take = c.take-turn.ensures in
+    counted_by g.D.Disk.state c.put.new.pass _ _ c.records-records.ensures
+    (counted_told g.D.Disk.state c.args.pass.now c.take-turn.new.self c.take-turn.result.value c.facts.ensures take.still take.seen take.entries take.fixed c.next_after-answer.new.self c.next_after-answer.ensures.stays
+    c.put.new.pass c.put.ensures.still c.put.ensures.ready c.put.ensures.seen c.in-Ok.ensures.runs)
 
 pub returns-in-Ok-clause-next : goal.returns-in-Ok-clause-next
 returns-in-Ok-clause-next g c =

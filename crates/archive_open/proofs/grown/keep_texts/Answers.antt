@@ -3,7 +3,7 @@ use Rattle.std.proofs.lemmas.Result.{IfOk-weaker}
 use Rattle.record_format.specs.Lists.{four_bytes}
 use Rattle.record_format.proofs.ListLemmas.{no_front}
 use Rattle.archive_open.proofs.KeptLemmas.{list_behind, other_first}
-use Rattle.archive_open.proofs.walk.keep_texts.Goals as goal
+use Rattle.archive_open.proofs.grown.keep_texts.Goals as goal
 
 pub returns-in_default-clause-refused : goal.returns-in_default-clause-refused
 returns-in_default-clause-refused g c = λ no first texts fits are is same may. no_front c.args.payload.now (c.in_default.ensures.none (search rules)) first texts is

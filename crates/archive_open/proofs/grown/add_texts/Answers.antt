@@ -1,6 +1,6 @@
 use Rattle.std.proofs.Common.{rules, arith}
 use Rattle.archive_open.proofs.KeptLemmas.{walk_begun, walk_ended, walk_on, walk_over, walk_refused, walk_short}
-use Rattle.archive_open.proofs.walk.add_texts.Goals as goal
+use Rattle.archive_open.proofs.grown.add_texts.Goals as goal
 
 pub returns-in_default-clause-refused : goal.returns-in_default-clause-refused
 returns-in_default-clause-refused g c = λ no texts are is may.

@@ -1,0 +1,4 @@
+pub mod AnswerLemmas
+pub mod LineLemmas
+pub mod MatchLemmas
+pub mod RowLemmas
