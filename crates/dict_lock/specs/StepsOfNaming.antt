@@ -4,7 +4,7 @@ use Rattle.std.specs.List.{Contains}
 use Rattle.dict_core.specs.Books.{BookState}
 use Rattle.plain_list.specs.Texts.{AreDistinct, IsNew}
 use Rattle.turn_lock.specs.Words.{seen}
-use Rattle.dict_lock.specs.Cache.{CacheState, IsEven, Remembers, HoldsAll}
+use Rattle.dict_lock.specs.Cache.{CacheState, IsEven, Keeps, Remembers, HoldsAll}
 use Rattle.dict_lock.specs.Shared.{BookPass, IsFull}
 use Rattle.dict_lock.specs.declared.naming.TheConstants.{UNKNOWN}
 
@@ -53,6 +53,11 @@ pub record Grows (old new : CacheState) (texts : List (List ℕ)) : Type 0 where
   pub same : more ≡ [] → new ≡ old
   pub distinct : AreDistinct old.texts → AreDistinct new.texts
   pub even : IsEven old → IsEven new
+
+-- a cache goes on knowing all that it knew, and what it learned is among the texts
+pub record KnowsMore (old new : CacheState) (texts : List (List ℕ)) : Type 0 where
+  pub kept : Keeps old new
+  pub grows : Grows old new texts
 
 -- the text at the place is not in the book, which is full
 pub record IsRefusedAt (book : BookState) (texts : List (List ℕ)) (place count : ℕ) : Type 0 where

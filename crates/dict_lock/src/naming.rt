@@ -7,7 +7,7 @@ ghost use Rattle.dict_core.specs.Fair.{IsFair};
 ghost use Rattle.dict_core.specs.declared.refusals.BookRefusal.TheVariants.{Full};
 ghost use Rattle.dict_lock.specs.Cache.{GrowsBy, Remembers, HoldsAll, HoldsFront, Keeps, IsSeen, StaysSeen};
 ghost use Rattle.dict_lock.specs.Naming.{AreNumbers, NamesMore, MeetsLimit};
-ghost use Rattle.dict_lock.specs.StepsOfNaming.{HasNoMark, IsMarked, FoundAll, Grows, NamesFront, AddsAmong, IsRefusedAt, IsRefusedTo};
+ghost use Rattle.dict_lock.specs.StepsOfNaming.{HasNoMark, IsMarked, FoundAll, Grows, KnowsMore, NamesFront, AddsAmong, IsRefusedAt, IsRefusedTo};
 
 use crate::cache::Cache;
 use crate::texts::TextSlice;
@@ -168,8 +168,7 @@ pub(crate) fn name_in_turn<T: TextSlice, R: Wait, L: Ledger>(
 
     // whatever the answer
     ensures pass { NamesMore pass.old pass.new (T.texts texts.now) }
-    ensures kept { Keeps cache.old cache.new }
-    ensures grows { Grows cache.old cache.new (T.texts texts.now) }
+    ensures knows { KnowsMore cache.old cache.new (T.texts texts.now) }
     ensures cache { IsSeen cache.new (seen pass.new) }
     ensures turns { turns.new ≡ turns.old + 1 }
 

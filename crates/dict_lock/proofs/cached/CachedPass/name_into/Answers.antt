@@ -23,4 +23,4 @@ pub returns-then-look_up-clause-learned : goal.returns-then-look_up-clause-learn
 returns-then-look_up-clause-learned g c = learns_nothing _ _ _ _
 
 pub returns-clause-learned : goal.returns-clause-learned
-returns-clause-learned g c = let turn = c.name_in_turn.ensures in learns_in_turn _ _ _ _ _ _ turn.grows c.if-look_up.ensures.all turn.turns turn.held
+returns-clause-learned g c = let turn = c.name_in_turn.ensures in learns_in_turn _ _ _ _ _ _ turn.knows.grows c.if-look_up.ensures.all turn.turns turn.held
