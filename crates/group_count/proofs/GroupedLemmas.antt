@@ -27,7 +27,7 @@ use Rattle.group_count.specs.Laws.{RowsHaveMinutes, RowsHaveTypes, minutes_of, n
 use Rattle.group_count.specs.declared.counts.Counts.{Counts}
 use Rattle.group_count.specs.StepsArchive.{HasCounted, reported}
 use Rattle.group_count.specs.StepsCounted.{Sofar, sofar}
-use Rattle.group_count.specs.Tables.{AreCounts, AreMinutes, AreNumbered, MinuteState, minute_at, texts_at}
+use Rattle.group_count.specs.Tables.{AreMinutes, AreNumbered, AreTypes, MinuteState, TypeState, minute_at, texts_at}
 
 -- what follows for each journal that the places are of
 pub of_places : (seen : Option (List ℕ)) (a : Places) (P Q : Header → List JournalEntry → Held → Type 0) → OpensPlaces seen a
@@ -97,13 +97,13 @@ module _ {T : Type 0} (counted : T → ℕ → List Row → Type 0) (h : Header)
 
 -- ---- by log type
 
-abbrev pub counted_types : List ℕ → ℕ → List Row → Type 0
-counted_types table version rows = AreCounts table (numbers_of rows)
+abbrev pub counted_types : TypeState → ℕ → List Row → Type 0
+counted_types table types rows = AreTypes types table (numbers_of rows)
 
-module _ (law : RowsHaveTypes) (h : Header) (es : List JournalEntry) (held : Held) (q : Asked) (gone : Gone) (x y : Sofar (List ℕ)) (o0 o1 : ℕ) (none : AreCounts x.table [])
+module _ (law : RowsHaveTypes) (h : Header) (es : List JournalEntry) (held : Held) (q : Asked) (gone : Gone) (x y : Sofar TypeState) (o0 o1 : ℕ) (none : AreTypes (length gone.held.types) x.table [])
     (has : HasCounted counted_types h es held q gone x y o0 o1) where
-  table_counts : AreCounts y.table (numbers_of has.rows)
-  table_counts = has.adds.table h.version [] none
+  table_counts : AreTypes (length gone.held.types) y.table (numbers_of has.rows)
+  table_counts = has.adds.table (length gone.held.types) [] none
 
   table_numbered : AreNumbered gone.held.types (numbers_of has.rows)
   table_numbered =
@@ -114,11 +114,11 @@ module _ (law : RowsHaveTypes) (h : Header) (es : List JournalEntry) (held : Hel
       })
 
   -- a table that can give no groups is that of no journal
-  pub types_damaged : ((numbers : List ℕ) → AreCounts y.table numbers → ¬ AreNumbered gone.held.types numbers) → ⊥
+  pub types_damaged : ((numbers : List ℕ) → AreTypes (length gone.held.types) y.table numbers → ¬ AreNumbered gone.held.types numbers) → ⊥
   types_damaged never = never (numbers_of has.rows) table_counts table_numbered
 
   pub types_done : (g : Grouped) → x.matched ≡ 0 → x.expanded ≡ 0 → g.report ≡ record { matched = y.matched; expanded = y.expanded; opened = gone.opened; segments = gone.segments }
-      → ((numbers : List ℕ) → AreCounts y.table numbers → AreNumbered gone.held.types numbers → AreGroups byte_order (texts_at gone.held.types numbers) (by_key g.groups)) → All (λ p. p.moment ≡ pos 0) g.groups → g.without ≡ 0
+      → ((numbers : List ℕ) → AreTypes (length gone.held.types) y.table numbers → AreNumbered gone.held.types numbers → AreGroups byte_order (texts_at gone.held.types numbers) (by_key g.groups)) → All (λ p. p.moment ≡ pos 0) g.groups → g.without ≡ 0
       → HasGrouped h es held q Shape g o0 o1 x.ticks y.ticks
   types_done g none_matched none_expanded report groups moments without =
       has_grouped counted_types h es held q gone x y o0 o1 has Shape g none_matched none_expanded report (record {
@@ -160,6 +160,13 @@ module _ (law : RowsHaveMinutes) (h : Header) (es : List JournalEntry) (held : H
 
 -- ---- of the journal that the bytes stand for
 
+-- the places have as many log types as there are held
+types_none : (a : Places) (h : Header) (es : List JournalEntry) (held : Held) → ArePlacesOf a h es held → (gone : Gone) → gone.held.types ≡ held.types
+    → (table start : TypeState) → start ≡ table → AreTypes (length a.types) table [] → AreTypes (length gone.held.types) start []
+types_none a h es held is gone types table start is_table none =
+    subst (λ (t : TypeState). AreTypes (length gone.held.types) t []) (sym is_table)
+    (subst (λ (l : List (List ℕ)). AreTypes (length l) table []) (is.types ∙ sym types) none)
+
 module _ (seen : Option (List ℕ)) (a : Places) (opens : OpensPlaces seen a) (q : Asked) (gone : Gone) (e0 e1 o0 o1 : ℕ) where
   pub all_stopped : {T : Type 0} (counted : T → ℕ → List Row → Type 0) (k m : Counts T) → OfJournal seen (λ h es held. HasCounted counted h es held q gone (sofar k e0) (sofar m e1) o0 o1)
       → OfJournal seen (λ h es held. HasStoppedCounting h es held q o0 o1 e0 e1)
@@ -167,19 +174,19 @@ module _ (seen : Option (List ℕ)) (a : Places) (opens : OpensPlaces seen a) (q
       of_places seen a (λ h es held. HasCounted counted h es held q gone (sofar k e0) (sofar m e1) o0 o1) (λ h es held. HasStoppedCounting h es held q o0 o1 e0 e1) opens
       (λ h es held is done. counted_stopped counted h es held q gone (sofar k e0) (sofar m e1) o0 o1 done) has
 
-  module _ (law : RowsHaveTypes) (table : List ℕ) (k m : Counts (List ℕ)) (is_table : k.table ≡ table) (none : AreCounts table []) (has : OfJournal seen (λ h es held. HasCounted counted_types h es held q gone (sofar k e0) (sofar m e1) o0 o1)) where
-    pub all_types_damaged : ((numbers : List ℕ) → AreCounts m.table numbers → ¬ AreNumbered gone.held.types numbers) → OfJournal seen (λ _ _ _. ⊥)
+  module _ (law : RowsHaveTypes) (table : TypeState) (k m : Counts TypeState) (is_table : k.table ≡ table) (none : AreTypes (length a.types) table []) (has : OfJournal seen (λ h es held. HasCounted counted_types h es held q gone (sofar k e0) (sofar m e1) o0 o1)) where
+    pub all_types_damaged : ((numbers : List ℕ) → AreTypes (length gone.held.types) m.table numbers → ¬ AreNumbered gone.held.types numbers) → OfJournal seen (λ _ _ _. ⊥)
     all_types_damaged never =
         of_places seen a (λ h es held. HasCounted counted_types h es held q gone (sofar k e0) (sofar m e1) o0 o1) (λ _ _ _. ⊥) opens
-        (λ h es held is done. types_damaged law h es held q gone (sofar k e0) (sofar m e1) o0 o1 (subst (λ (t : List ℕ). AreCounts t []) (sym is_table) none) done never) has
+        (λ h es held is done. types_damaged law h es held q gone (sofar k e0) (sofar m e1) o0 o1 (types_none a h es held is gone done.types table k.table is_table none) done never) has
 
     pub all_types : (g : Grouped) → k.matched ≡ 0 → k.expanded ≡ 0 → g.report ≡ reported m gone
-        → ((numbers : List ℕ) → AreCounts m.table numbers → AreNumbered gone.held.types numbers → AreGroups byte_order (texts_at gone.held.types numbers) (by_key g.groups)) → All (λ p. p.moment ≡ pos 0) g.groups → g.without ≡ 0
+        → ((numbers : List ℕ) → AreTypes (length gone.held.types) m.table numbers → AreNumbered gone.held.types numbers → AreGroups byte_order (texts_at gone.held.types numbers) (by_key g.groups)) → All (λ p. p.moment ≡ pos 0) g.groups → g.without ≡ 0
         → OfJournal seen (λ h es held. HasGrouped h es held q Shape g o0 o1 e0 e1)
     all_types g none_matched none_expanded report groups moments without =
         of_places seen a (λ h es held. HasCounted counted_types h es held q gone (sofar k e0) (sofar m e1) o0 o1) (λ h es held. HasGrouped h es held q Shape g o0 o1 e0 e1) opens
         (λ h es held is done.
-        types_done law h es held q gone (sofar k e0) (sofar m e1) o0 o1 (subst (λ (t : List ℕ). AreCounts t []) (sym is_table) none) done g none_matched none_expanded report groups moments without) has
+        types_done law h es held q gone (sofar k e0) (sofar m e1) o0 o1 (types_none a h es held is gone done.types table k.table is_table none) done g none_matched none_expanded report groups moments without) has
 
   pub all_minutes : (law : RowsHaveMinutes) (table : MinuteState) (k m : Counts MinuteState) (g : Grouped) → k.table ≡ table → IsTrue table.micro ↔ (3 ≤ a.header.version) → AreMinutes table [] → k.matched ≡ 0 → k.expanded ≡ 0 → g.report ≡ reported m gone
       → ((keys : List (Option ℤ)) → AreMinutes m.table keys → length keys < 2 ^ 64 → AreGroups int_cmp (stamped keys) (by_moment g.groups)) → All (λ p. p.key ≡ []) g.groups

@@ -4,7 +4,13 @@ use Rattle.std.proofs.lemmas.List.{map-append}
 use Rattle.column_store.specs.declared.row.Row.{Row}
 use Rattle.segment_pages.specs.Paged.{OfRows, Paged, types_in}
 use Rattle.group_count.specs.Laws.{minutes_of, numbers_of}
-use Rattle.group_count.specs.Tables.{AreCounts, AreMinutes, MinuteState, minute_at}
+use Rattle.group_count.specs.Tables.{AreMinutes, AreTypes, HoldTypes, MinuteState, TypeState, minute_at}
+
+pub types_more : (a b : TypeState) (types : ℕ) (before : List Row) (row : Row) → b.limit ≡ a.limit
+    → ((numbers : List ℕ) → HoldTypes a numbers → HoldTypes b (numbers ++ row.log_type ∷ []))
+    → AreTypes types a (numbers_of before) → AreTypes types b (numbers_of (before ++ row ∷ []))
+types_more a b types before row same more held =
+    (same ∙ held.0, subst (HoldTypes b) (sym (map-append (λ (r : Row). r.log_type) before (row ∷ []))) (more (numbers_of before) held.1))
 
 pub minutes_more : (a b : MinuteState) (version : ℕ) (before : List Row) (row : Row) → b.micro ≡ a.micro
     → ((keys : List (Option ℤ)) → AreMinutes a keys → AreMinutes b (keys ++ minute_at a.micro row.pattern row.moment ∷ []))
@@ -19,11 +25,12 @@ minutes_more a b version before row same more held =
 
 -- ---- the rows that are left
 
-pub types_left : (seen : Option (List ℕ)) (p : Paged) (a b : List ℕ) → OfRows seen p (λ rows. (numbers : List ℕ) → AreCounts a numbers → AreCounts b (numbers ++ types_in rows))
-    → OfRows seen p (λ rows. (version : ℕ) (before : List Row) → AreCounts a (numbers_of before) → AreCounts b (numbers_of (before ++ rows)))
-types_left None p a b more = tt
-types_left (Some bytes) p a b more = λ rows holds version before has.
-    subst (AreCounts b) (sym (map-append (λ (r : Row). r.log_type) before rows)) (more rows holds (numbers_of before) has)
+pub types_left : (seen : Option (List ℕ)) (p : Paged) (a b : TypeState) → b.limit ≡ a.limit
+    → OfRows seen p (λ rows. (numbers : List ℕ) → HoldTypes a numbers → HoldTypes b (numbers ++ types_in rows))
+    → OfRows seen p (λ rows. (types : ℕ) (before : List Row) → AreTypes types a (numbers_of before) → AreTypes types b (numbers_of (before ++ rows)))
+types_left None p a b same more = tt
+types_left (Some bytes) p a b same more = λ rows holds types before has.
+    (same ∙ has.0, subst (HoldTypes b) (sym (map-append (λ (r : Row). r.log_type) before rows)) (more rows holds (numbers_of before) has.1))
 
 pub minutes_left : (seen : Option (List ℕ)) (p : Paged) (a b : MinuteState) → b.micro ≡ a.micro
     → OfRows seen p (λ rows. (keys : List (Option ℤ)) → AreMinutes a keys → AreMinutes b (keys ++ minutes_of a.micro rows))

@@ -1,16 +1,17 @@
 -- The texts of log types, counted by their numbers.
-use Rattle.std.proofs.Common.{◌≡◌, ◌+◌, ◌<◌, ◌≤◌, ◌^◌, ◌&&◌, ◌∷◌, ℕ, Bool, nat_lt, refl, subst, List, [], length, cond, count_by, slice_index_or, arith, ap, sym, ◌∙◌}
+use Rattle.std.proofs.Common.{◌≡◌, ◌+◌, ◌<◌, ◌≤◌, ◌^◌, ◌&&◌, ◌∷◌, ◌++◌, ℕ, Bool, IsTrue, true, All, nat_lt, refl, subst, List, [], length, cond, count_by, slice_index_or, arith, ap, sym, ◌∙◌}
 use Rattle.std.specs.Ordering.{is_eq}
 use Rattle.std.specs.Borrow.{Bor}
 use Rattle.std.specs.BTreeMap.{BTreeMap, IsEmpty, IsOrdered, is_at}
 use Rattle.std.specs.Map.{lookup}
 use Rattle.std.proofs.lemmas.Bool.Decides.{nat_tests}
 use Rattle.std.proofs.lemmas.List.{get_or_past}
+use Rattle.std.proofs.lemmas.List.Elements.{All-cons, All-head, All-nil, All-tail}
 use Rattle.std.proofs.lemmas.List.Sums.{count_by-le-length}
 use Rattle.group_count.specs.Groups.{AreGroups, by_key, byte_order, how_often}
 use Rattle.group_count.specs.declared.groups.Group.{Group}
 use Rattle.group_count.specs.StepsTypes.{often_below}
-use Rattle.group_count.specs.Tables.{AreCounts, AreNumbered, IsTextTally, some_of, text_entries, text_order, texts_at}
+use Rattle.group_count.specs.Tables.{AreCounts, AreNumbered, AreTypes, HoldTypes, IsTextTally, TypeState, some_of, text_entries, text_order, texts_at}
 use Rattle.std.proofs.lemmas.Cmp.{nat_list_cmp_total}
 use Rattle.group_count.proofs.GroupLemmas.{tally_groups}
 use Rattle.group_count.proofs.CountLemmas.{count_cons, count_below_more, count_below_all, count_map, count_none}
@@ -53,6 +54,40 @@ module _ (types : List (List ℕ)) (counts numbers : List ℕ) (are : AreCounts 
   -- a number that has no text was not counted
   pub none_without_text : (place : ℕ) → length types ≤ place → slice_index_or counts place 0 ≡ 0
   none_without_text place above = are numbered.few place ∙ count_none (length types) place numbers numbered.within above
+
+-- ---- the table
+
+all_front : (P : ℕ → Type 0) (xs ys : List ℕ) → All P (xs ++ ys) → All P xs
+all_front P [] ys all = All-nil P
+all_front P (x ∷ xs) ys all = All-cons P x xs (All-head P x (xs ++ ys) all) (all_front P xs ys (All-tail P x (xs ++ ys) all))
+
+all_last : (P : ℕ → Type 0) (xs : List ℕ) (y : ℕ) → All P (xs ++ y ∷ []) → P y
+all_last P [] y all = All-head P y [] all
+all_last P (x ∷ xs) y all = all_last P xs y (All-tail P x (xs ++ y ∷ []) all)
+
+-- a number more, below the limit
+pub counted_below : (a b : TypeState) (numbers : List ℕ) (n : ℕ) → b.limit ≡ a.limit → b.beyond ≡ a.beyond → n < a.limit
+    → ((before : List ℕ) → AreCounts a.counts before → AreCounts b.counts (before ++ n ∷ [])) → HoldTypes a numbers → HoldTypes b (numbers ++ n ∷ [])
+counted_below a b numbers n limit beyond lt more was = record {
+  counts = λ all. more numbers (was.counts (subst (λ (l : ℕ). All (λ m. m < l) numbers) limit (all_front (λ (m : ℕ). m < b.limit) numbers (n ∷ []) all)));
+  beyond = λ is all. was.beyond (subst IsTrue beyond is) (subst (λ (l : ℕ). All (λ m. m < l) numbers) limit (all_front (λ (m : ℕ). m < b.limit) numbers (n ∷ []) all));
+}
+
+-- a number that is not
+pub marked_beyond : (a b : TypeState) (numbers : List ℕ) (n : ℕ) → b.limit ≡ a.limit → b.beyond ≡ true → a.limit ≤ n → HoldTypes b (numbers ++ n ∷ [])
+marked_beyond a b numbers n limit beyond le =
+    let none : All (λ (m : ℕ). m < b.limit) (numbers ++ n ∷ []) → ⊥ = λ all. let lt = all_last (λ (m : ℕ). m < b.limit) numbers n all in omega (arith, lt, le, limit) in
+    record { counts = λ all. absurd (none all); beyond = λ is all. none all }
+
+module _ (types : List (List ℕ)) (table : TypeState) (numbers : List ℕ) (are : AreTypes (length types) table numbers) (numbered : AreNumbered types numbers) where
+  all_below : All (λ (n : ℕ). n < table.limit) numbers
+  all_below = subst (λ (l : ℕ). All (λ n. n < l) numbers) (sym are.0) numbered.within
+
+  pub are_counts : AreCounts table.counts numbers
+  are_counts = are.1.counts all_below
+
+  pub are_none_beyond : IsTrue table.beyond → ⊥
+  are_none_beyond is = are.1.beyond is all_below
 
 -- the entries of a tally of texts are the groups of these
 pub type_groups : (types : List (List ℕ)) (numbers : List ℕ) (m : BTreeMap (Bor (List ℕ)) ℕ) (groups : List Group)

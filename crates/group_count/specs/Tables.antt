@@ -1,5 +1,5 @@
 -- What the tables hold while messages are counted.
-use Rattle.std.specs.Prelude.{◌≡◌, ℕ, zero, suc, ◌+◌, ◌<◌, ◌^◌, nat_eq, cond, Bool, false, if◌then◌else◌, is_none, ℤ, pos, ◌-ℤ◌, List, [], ◌∷◌, map, length, count_by, slice_index_or, Option, None, Some, All}
+use Rattle.std.specs.Prelude.{◌≡◌, ℕ, zero, suc, ◌+◌, ◌<◌, ◌^◌, nat_eq, cond, Bool, IsTrue, false, if◌then◌else◌, is_none, ℤ, pos, ◌-ℤ◌, List, [], ◌∷◌, map, length, count_by, slice_index_or, Option, None, Some, All}
 use Rattle.std.specs.Borrow.{Bor}
 use Rattle.std.specs.BTreeMap as tree
 use Rattle.std.specs.BTreeMap.{BTreeMap, is_at}
@@ -12,6 +12,22 @@ use Rattle.group_count.specs.Groups.{byte_order}
 -- each place of the counts has how often its number stands among the numbers, unless they are very many
 abbrev pub AreCounts : List ℕ → List ℕ → Type 0
 AreCounts counts numbers = length numbers < 2 ^ 64 → (t : ℕ) → slice_index_or counts t 0 ≡ count_by (λ n. nat_eq n t) numbers
+
+-- the table of log types: so many there are, how often each number below came, and whether one came that is not below
+pub record TypeState : Type 0 where
+  pub limit : ℕ
+  pub counts : List ℕ
+  pub beyond : Bool
+
+-- These numbers were counted: each at its place where all are below the limit; and it is told only where it is so that they are
+-- not.
+pub record HoldTypes (table : TypeState) (numbers : List ℕ) : Type 0 where
+  pub counts : All (λ n. n < table.limit) numbers → AreCounts table.counts numbers
+  pub beyond : IsTrue table.beyond → ¬ All (λ n. n < table.limit) numbers
+
+-- these numbers were counted in a table of so many log types
+abbrev pub AreTypes : ℕ → TypeState → List ℕ → Type 0
+AreTypes types table numbers = (table.limit ≡ types) × HoldTypes table numbers
 
 -- each of the numbers has a text, and they are not so many that a count may be short
 pub record AreNumbered (texts : List (List ℕ)) (numbers : List ℕ) : Type 0 where

@@ -3,7 +3,7 @@ ghost use Rattle.std.specs.Prelude.{◌≡◌, ℕ, ℤ, ◌<◌, ◌≤◌, ◌
 ghost use Rattle.log_seams.specs.Outside.{CountsOf};
 ghost use Rattle.segment_pages.specs.Paged.{HoldsNoneTold, OfRows, ReadsColumns, part, types_in};
 ghost use Rattle.group_count.specs.Laws.{minutes_of};
-ghost use Rattle.group_count.specs.Tables.{AreCounts, AreMinutes};
+ghost use Rattle.group_count.specs.Tables.{AreMinutes, HoldTypes};
 
 use crate::minutes::MinuteTable;
 use crate::types::TypeTable;
@@ -46,11 +46,12 @@ pub(crate) fn count_types<D: Disk>(
 ) -> Result<(), SearchRefusal>
     // what stays
     ensures reads { ReadsColumns pages.now (D.state disk.old) (D.state disk.new) }
+    ensures limit { table.new.limit ≡ table.old.limit }
 
     // by the answer, and causes
     ensures counted { OnOk result (OfRows (D.state disk.old).seen pages.now
-        (λ rows. (numbers : List ℕ) → AreCounts table.old numbers
-        → AreCounts table.new (numbers ++ types_in rows))) }
+        (λ rows. (numbers : List ℕ) → HoldTypes table.old numbers
+        → HoldTypes table.new (numbers ++ types_in rows))) }
     ensures damaged { IsErrOf result SearchRefusal.Damaged
         → HoldsNoneTold (D.state disk.old).seen pages.now }
     ensures counts { CountsOf SearchRefusal.DiskFault

@@ -11,7 +11,7 @@ ghost use Rattle.group_count.specs.Grouped.{HasGrouped, HasStoppedCounting};
 ghost use Rattle.group_count.specs.Groups.{AreGroups, by_key, by_moment, byte_order, stamped};
 ghost use Rattle.group_count.specs.StepsArchive.{reported};
 ghost use Rattle.group_count.specs.StepsServed.{IsWay};
-ghost use Rattle.group_count.specs.Tables.{AreCounts, AreMinutes, AreNumbered, texts_at};
+ghost use Rattle.group_count.specs.Tables.{AreMinutes, AreNumbered, AreTypes, texts_at};
 
 use crate::archive_counting::{Gone, count_archive};
 use crate::counts::Counts;
@@ -46,14 +46,16 @@ fn report_of<T>(counts: &Counts<T>, gone: &Gone) -> GroupReport
 
 /// The groups of what was counted by log types.
 fn types_of(alloc: Global, counts: &Counts<TypeTable>, gone: &Gone) -> Result<Grouped, TableRefusal>
-    ensures groups { IfOk result (λ g. (numbers : List ℕ) → AreCounts counts.now.table numbers
+    ensures groups { IfOk result (λ g. (numbers : List ℕ)
+        → AreTypes (length gone.now.held.types) counts.now.table numbers
         → AreNumbered gone.now.held.types numbers
         → AreGroups byte_order (texts_at gone.now.held.types numbers) (by_key g.groups)) }
     ensures moments { IfOk result (λ g. All (λ p. p.moment ≡ pos 0) g.groups) }
     ensures without { IfOk result (λ g. g.without ≡ 0) }
     ensures report { IfOk result (λ g. g.report ≡ reported counts.now gone.now) }
     ensures damaged { IsErrOf result TableRefusal.Damaged → (numbers : List ℕ)
-        → AreCounts counts.now.table numbers → ¬ AreNumbered gone.now.held.types numbers }
+        → AreTypes (length gone.now.held.types) counts.now.table numbers
+        → ¬ AreNumbered gone.now.held.types numbers }
 {
     let groups = counts.table.groups(alloc, &gone.held)?;
     Ok(Grouped {
@@ -128,7 +130,8 @@ fn group_types<D: Disk, L: Ledger, M: Ledger>(
 {
     // The log types of rows are those of the messages that they are the encodings of.
     rows_have_keys();
-    let mut counter = PageCounter::new(alloc, way, TypeTable::new(alloc));
+    let table = TypeTable::new(alloc, places.types.len());
+    let mut counter = PageCounter::new(alloc, way, table);
     let gone = count_archive(query, places, disk, &mut counter, opened, expanded)?;
     let grouped = types_of(alloc, &counter.counts, &gone)?;
     Ok(grouped)

@@ -5,7 +5,7 @@ ghost use Rattle.column_store.specs.Row.{row_of};
 ghost use Rattle.column_store.specs.declared.row.Row.{Row};
 ghost use Rattle.segment_pages.specs.Paged.{HoldsNoneTold, OfRows, ReadsColumns};
 ghost use Rattle.group_count.specs.Laws.{minutes_of, numbers_of};
-ghost use Rattle.group_count.specs.Tables.{AreCounts, AreMinutes};
+ghost use Rattle.group_count.specs.Tables.{AreMinutes, AreTypes};
 
 use crate::columns::{ColumnRoom, count_minutes, count_types};
 use crate::minutes::MinuteTable;
@@ -18,7 +18,8 @@ use std::alloc::AllocError;
 
 /// What rows are counted in, one after the other, by what they have in common.
 pub(crate) trait RowTable {
-    // These rows, of an archive of this version, were counted.
+    // These rows were counted. The number is of the archive: its version for minutes, and how many log
+    // types it has for these.
     ghost counted: { Self → ℕ → List Row → Type 0 };
 
     /// Counts a row.
@@ -48,7 +49,7 @@ pub(crate) trait RowTable {
 }
 
 impl RowTable for TypeTable {
-    ghost counted = { λ t _ rows. AreCounts t (numbers_of rows) };
+    ghost counted = { λ t types rows. AreTypes types t (numbers_of rows) };
 
     #[inline]
     fn count_row(&mut self, row: RowRef<'_>) -> Result<(), AllocError> {

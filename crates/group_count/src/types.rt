@@ -1,7 +1,7 @@
 //! Messages counted by the number of their log type.
 ghost use Rattle.std.specs.Prelude.{◌≡◌, ℕ, ◌<◌, ◌≤◌, ◌^◌, ◌++◌, List, [], ◌∷◌, pos, length, slice_index_or, All, IfOk, IsErrOf, OnOk};
 ghost use Rattle.group_count.specs.Groups.{AreGroups, by_key, byte_order};
-ghost use Rattle.group_count.specs.Tables.{AreCounts, AreNumbered, texts_at};
+ghost use Rattle.group_count.specs.Tables.{AreCounts, AreNumbered, AreTypes, HoldTypes, texts_at};
 
 use crate::groups::GroupList;
 use crate::refusal::TableRefusal;
@@ -14,25 +14,32 @@ use std::marker::Model;
 /// How many messages of each log type were counted.
 #[derive(Debug, Drop)]
 pub struct TypeTable {
-    /// For each number of a log type how many there are, up to the greatest number that came.
+    /// How many log types there are.
+    limit: u32,
+    /// For each number of a log type how many there are, up to the greatest of these that came.
     counts: Vec<u64>,
+    /// Whether a number came that is none of a log type.
+    beyond: bool,
 }
 
 impl Model for TypeTable {
-    ghost use Rattle.std.specs.Prelude.{ℕ, ◌≤◌, ◌^◌, List, length};
+    ghost use Rattle.std.specs.Prelude.{◌≤◌, length};
+    ghost use Rattle.group_count.specs.Tables.{TypeState};
 
-    ghost Value = { List ℕ };
+    ghost Value = { TypeState };
 
-    ghost view = { λ t. t.counts.items };
+    ghost view = { λ t. record { limit = t.limit; counts = t.counts.items; beyond = t.beyond } };
 
-    ghost invariant = { λ t. length t.counts.items ≤ 2 ^ 32 };
+    // so a number that is none of a log type takes no memory
+    ghost invariant = { λ t. length t.counts.items ≤ t.limit };
 }
 
 /// Lets the counts reach a place.
 fn reach(counts: &mut Vec<u64>, place: usize) -> Result<(), AllocError>
     requires { place < 2 ^ 32 }
     ensures room { OnOk result (place < length counts.new.items) }
-    ensures few { length counts.old.items ≤ 2 ^ 32 → length counts.new.items ≤ 2 ^ 32 }
+    ensures few { (most : ℕ) → place < most → length counts.old.items ≤ most
+        → length counts.new.items ≤ most }
     ensures same { OnOk result ((t : ℕ)
         → slice_index_or counts.new.items t 0 ≡ slice_index_or counts.old.items t 0) }
 {
@@ -42,32 +49,52 @@ fn reach(counts: &mut Vec<u64>, place: usize) -> Result<(), AllocError>
     Ok(())
 }
 
+/// Counts a number at its place.
+#[inline]
+fn count_at(counts: &mut Vec<u64>, place: usize) -> Result<(), AllocError>
+    requires { place < 2 ^ 32 }
+    ensures few { (most : ℕ) → place < most → length counts.old.items ≤ most
+        → length counts.new.items ≤ most }
+    ensures counted { OnOk result ((numbers : List ℕ) → AreCounts counts.old.items numbers
+        → AreCounts counts.new.items (numbers ++ place ∷ [])) }
+{
+    reach(counts, place)?;
+    counts[place] = counts[place].saturating_add(1);
+    Ok(())
+}
+
 impl TypeTable {
-    /// A table in which nothing was counted. Takes no memory.
-    pub fn new(alloc: Global) -> TypeTable
-        ensures { AreCounts result [] }
+    /// A table of so many log types, in which nothing was counted. Takes no memory.
+    pub fn new(alloc: Global, limit: u32) -> TypeTable
+        ensures { AreTypes limit result [] }
     {
         TypeTable {
+            limit,
             counts: Vec::new(alloc),
+            beyond: false,
         }
     }
 
-    /// Counts a message of the log type with this number.
+    /// Counts a message of the log type with this number. A number that is none of a log type is
+    /// only marked: the rows of a damaged archive may have any.
     #[inline]
     pub fn count(&mut self, number: u32) -> Result<(), AllocError>
-        ensures { OnOk result ((numbers : List ℕ) → AreCounts self.old numbers
-            → AreCounts self.new (numbers ++ number ∷ [])) }
+        ensures limit { self.new.limit ≡ self.old.limit }
+        ensures counted { OnOk result ((numbers : List ℕ) → HoldTypes self.old numbers
+            → HoldTypes self.new (numbers ++ number ∷ [])) }
     {
-        let place = number as usize;
-        reach(&mut self.counts, place)?;
-        self.counts[place] = self.counts[place].saturating_add(1);
-        Ok(())
+        if number >= self.limit {
+            self.beyond = true;
+            return Ok(());
+        }
+        count_at(&mut self.counts, number as usize)
     }
 
     /// Counts a message of the log type with each of these numbers.
     pub fn count_all(&mut self, numbers: &[u32]) -> Result<(), AllocError>
-        ensures { OnOk result ((before : List ℕ) → AreCounts self.old before
-            → AreCounts self.new (before ++ numbers.now)) }
+        ensures limit { self.new.limit ≡ self.old.limit }
+        ensures counted { OnOk result ((before : List ℕ) → HoldTypes self.old before
+            → HoldTypes self.new (before ++ numbers.now)) }
     {
         for number in numbers {
             self.count(*number)?;
@@ -78,13 +105,18 @@ impl TypeTable {
     /// The groups of what was counted, by the texts of the log types. Numbers with one text are one
     /// group.
     pub fn groups<N: Names>(&self, alloc: Global, names: &N) -> Result<GroupList, TableRefusal>
-        ensures groups { IfOk result (λ groups. (numbers : List ℕ) → AreCounts self.now numbers
+        ensures groups { IfOk result (λ groups. (numbers : List ℕ)
+            → AreTypes (length (N.types names.now)) self.now numbers
             → AreNumbered (N.types names.now) numbers
             → AreGroups byte_order (texts_at (N.types names.now) numbers) (by_key groups)) }
         ensures moments { IfOk result (λ groups. All (λ g. g.moment ≡ pos 0) groups) }
         ensures damaged { IsErrOf result TableRefusal.Damaged → (numbers : List ℕ)
-            → AreCounts self.now numbers → ¬ AreNumbered (N.types names.now) numbers }
+            → AreTypes (length (N.types names.now)) self.now numbers
+            → ¬ AreNumbered (N.types names.now) numbers }
     {
+        if self.beyond {
+            return Err(TableRefusal::Damaged);
+        }
         let mut tally = BTreeMap::new(alloc);
         tally_texts(self.counts.as_slice(), names, &mut tally)?;
         Ok(groups_of(alloc, &tally)?)

@@ -100,9 +100,9 @@ fn log_types(alloc: Global) -> Result<LogTypes, AllocError> {
     })
 }
 
-/// A table in which numbers were counted.
+/// A table of three log types in which numbers were counted.
 fn counted(alloc: Global, numbers: &[u32]) -> Result<TypeTable, AllocError> {
-    let mut table = TypeTable::new(alloc);
+    let mut table = TypeTable::new(alloc, TEXTS.len() as u32);
     for number in numbers {
         table.count(*number)?;
     }
@@ -176,13 +176,19 @@ fn rows_by_minute(alloc: Global) -> bool {
     true
 }
 
+/// Numbers of which one has no text. One that is far beyond takes no more memory than others.
+const BEYOND: &[&[u32]] = &[&[0, 6], &[6], &[u32::MAX, 0], &[1, 4_000_000_000, 2]];
+
 /// Whether a number without a text is told.
 fn tells_damage(alloc: Global) -> Result<bool, AllocError> {
     let types = log_types(alloc)?;
-    Ok(matches!(
-        types_printed(alloc, &types, &[0, 6]),
-        Err(TableRefusal::Damaged)
-    ))
+    for numbers in BEYOND {
+        let printed = types_printed(alloc, &types, numbers);
+        if !matches!(printed, Err(TableRefusal::Damaged)) {
+            return Ok(false);
+        }
+    }
+    Ok(true)
 }
 
 #[test]

@@ -1,9 +1,13 @@
-use Rattle.std.proofs.Common.{◌≡◌, rules, subst}
+use Rattle.std.proofs.Common.{◌≡◌, rules, subst, sym}
 use Rattle.group_count.specs.Tables.{AreCounts}
-use Rattle.group_count.proofs.TypeLemmas.{type_groups}
+use Rattle.group_count.proofs.TypeLemmas.{are_counts, are_none_beyond, type_groups}
 use Rattle.group_count.proofs.types.TypeTable.groups.Goals as goal
 
 pub returns-clause-groups : goal.returns-clause-groups
 returns-clause-groups g c = λ numbers are numbered.
-    let same : c.args.self.now ≡ c.as_slice.result.now = search rules in
-    type_groups (g.N.Names.types c.args.names.now) numbers c.tally_texts.new.tally c.in_ok-groups_of.field-0 (c.in_ok-tally_texts.ensures.tally numbers (subst (λ counts. AreCounts counts numbers) same are) numbered) c.groups_of.ensures.ordered c.in_ok-groups_of.ensures.groups
+    let same : c.args.self.now.counts ≡ c.as_slice.result.now = search rules in
+    type_groups (g.N.Names.types c.args.names.now) numbers c.tally_texts.new.tally c.in_ok-groups_of.field-0
+    (c.in_ok-tally_texts.ensures.tally numbers (subst (λ counts. AreCounts counts numbers) same (are_counts (g.N.Names.types c.args.names.now) c.args.self.now numbers are numbered)) numbered) c.groups_of.ensures.ordered c.in_ok-groups_of.ensures.groups
+
+pub returns-then-beyond-clause-damaged : goal.returns-then-beyond-clause-damaged
+returns-then-beyond-clause-damaged g c = λ is numbers are numbered. are_none_beyond (g.N.Names.types c.args.names.now) c.args.self.now numbers are numbered (search rules)
