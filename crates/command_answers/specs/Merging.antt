@@ -81,18 +81,27 @@ pub record LacksRoom (h : Header) (before es : List JournalEntry) (other : Held)
 abbrev pub IsStopped : Merge → Type 0
 IsStopped m = (line : FileLine) × Contains m.files line × (line.name ≡ m.name)
 
+-- the second archive may come behind one with so many files: both are of one version, and their files are not too many
+pub record MayCome (h : Header) (held : ℕ) (g : Header) (other : Held) : Type 0 where
+  pub version_is : g.version ≡ h.version
+  pub few : RefusesMore held (length other.names) None
+
 -- What a refusal rests on, where the archive was a journal with the entries `before` and has the entries `es`, and the second
--- disk's bytes stand for one that holds `other`. Want of memory is free.
+-- disk's bytes stand for one that holds `other`. Want of memory is free. That archives are of two versions comes first, and then
+-- that they have too many files: all other causes are those of a second archive that may come behind.
 abbrev pub HasJournalCause : Header → List JournalEntry → List JournalEntry → ℕ → Header → Held → Merge → MergeRefusal → Type 0
 HasJournalCause h before es held g other m (MergeRefusal.VersionDiffers first second) =
     (first ≡ h.version) × (second ≡ g.version) × (first ≢ second)
 HasJournalCause h before es held g other m (MergeRefusal.TooManyFiles told more) =
-    (told ≡ held) × (more ≡ length other.names) × RefusesMore told more (Some (TooManyFiles told more))
+    (g.version ≡ h.version) × (told ≡ held) × (more ≡ length other.names)
+    × RefusesMore told more (Some (TooManyFiles told more))
 HasJournalCause h before es held g other m (MergeRefusal.ArchiveFull end need) =
-    (end ≡ end_of h es) × (need ≡ files_size (take 512 (drop (length m.files) other.names))) × (h.length_limit < end + need)
-HasJournalCause h before es held g other m (MergeRefusal.Full book count) = IsStopped m × IsFullOfBoth h before other book count
+    MayCome h held g other × (end ≡ end_of h es)
+    × (need ≡ files_size (take 512 (drop (length m.files) other.names))) × (h.length_limit < end + need)
+HasJournalCause h before es held g other m (MergeRefusal.Full book count) =
+    MayCome h held g other × IsStopped m × IsFullOfBoth h before other book count
 HasJournalCause h before es held g other m (MergeRefusal.SegmentFull end need) =
-    IsStopped m × LacksRoom h before es other end need
+    MayCome h held g other × IsStopped m × LacksRoom h before es other end need
 HasJournalCause h before es held g other m _ = Unit {0}
 
 -- And what it rests on by the disks alone.
@@ -107,7 +116,7 @@ HasDiskCause old new second second_new _ = Unit {0}
 
 -- The journal begins with the old one, and each image since the start stands for a journal between the two. The old files are as
 -- they were. Behind them stand the new ones as they are told, which have first messages of the second archive's; where nothing
--- was refused they are its files, and both archives are of one version.
+-- was refused they are its files, and it may come behind.
 pub record TakesOver {bytes : List ℕ} (second : Option (List ℕ)) (h : Header) (before : List JournalEntry)
     (stood : StandsFor bytes h before) (m : Merge) (old new : DiskState) : Type 0 where
   pub added : List JournalEntry
@@ -117,15 +126,18 @@ pub record TakesOver {bytes : List ℕ} (second : Option (List ℕ)) (h : Header
       → content_of stands.legal.held ≡ content_of stood.legal.held ++ files
   pub told : m.files ≡ map line_of_held files
   pub fronts : OfJournal second (λ g es other. AreFrontsOf (content_of other) files)
-  pub all : m.refusal ≡ None → OfJournal second (λ g es other. (files ≡ content_of other) × (g.version ≡ h.version))
+  pub all : m.refusal ≡ None → OfJournal second (λ g es other.
+      (files ≡ content_of other) × MayCome h (length stood.legal.held.names) g other)
   pub cause : IfSome m.refusal (λ refusal. OfJournal second (λ g es other.
       HasJournalCause h before (before ++ added) (length stood.legal.held.names) g other m refusal))
 
--- The new files, numbered on from `first`, are those that the archive has behind its old ones. The second disk was only read.
+-- The new files, numbered on from `first`, are those that the archive has behind its old ones. A second archive without files
+-- leaves the first alone. The second disk was only read.
 pub record Merges (m : Merge) (first : ℕ) (old new second second_new : DiskState) : Type 0 where
   pub takes : FromArchive old (λ h before bytes stood. TakesOver second.seen h before stood m old new)
   pub numbered : m.files ≢ [] → OverJournal old.seen (λ journal. first ≡ length journal.names)
   pub cause : IfSome m.refusal (HasDiskCause old new second second_new)
+  pub idle : OfJournal second.seen (λ g es other. other.names ≡ [] → KeepsBytes old new)
   pub only_read : KeepsBytes second second_new
 
 abbrev pub merged_status : Option MergeRefusal → ℕ

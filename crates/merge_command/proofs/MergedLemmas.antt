@@ -35,7 +35,7 @@ use Rattle.archive_merge.specs.declared.refusal.MergeRefusal.{MergeRefusal as Wh
 use Rattle.archive_merge.specs.declared.refusal.MergeRefusal.TheVariants.{LongName, Names, Stopped, OutOfMemory as NoMemory}
 use Rattle.command_refusals.specs.GoesOn.{DiskGoesOn}
 use Rattle.command_answers.specs.Ingested.{FromArchive}
-use Rattle.command_answers.specs.Merging.{HasDiskCause, HasJournalCause, IsStopped, Merge, TakesOver}
+use Rattle.command_answers.specs.Merging.{HasDiskCause, HasJournalCause, IsStopped, MayCome, Merge, TakesOver}
 use Rattle.merge_command.specs.Came.{lines_by, name_at, name_in, place_stopped, refusal_by}
 use Rattle.write_commands.specs.JournalLeft.{StandsBetween}
 use Rattle.write_commands.proofs.LeavesLemmas.{begun_sooner, from_archive, of_told, prefix_same, still_between}
@@ -137,40 +137,44 @@ module _ (runs : FilesAreRuns) (fair : TextsAreFair) {D : Type 0} {d : DiskGhost
 
   -- by both journals
   pub journal_cause : (h : Header) (before added : List JournalEntry) (held : ℕ) → is_some (state_of j).disk.seen ≡ true → j.header ≡ h → told_entries (state_of j) ≡ before
+      → ((g : Header) (es : List JournalEntry) (other : Held) → IsArchiveOf b g es other → MayCome h held g other)
       → (m : Merge) → m.files ≡ lines_by b.files ms → (w : Why) → (w ≢ Names DiskFault → told_entries (state_of after) ≡ before ++ added) → m.name ≡ name_at b.files (place_stopped first (Some w))
       → HasMergeCause s first (names_of b.files) ms j after w → OfJournal s.told (λ g es other. HasJournalCause h before (before ++ added) held g other m (refusal_by last w))
-  journal_cause h before added held told header entries m files LongName left name cause =
+  journal_cause h before added held told header entries may m files LongName left name cause =
       over_opened s.told b (λ g es other. HasJournalCause h before (before ++ added) held g other m (refusal_by last LongName)) opens (λ bytes g es other is shown. tt)
-  journal_cause h before added held told header entries m files (Names RegisterRefusal.OutOfMemory) left name cause =
+  journal_cause h before added held told header entries may m files (Names RegisterRefusal.OutOfMemory) left name cause =
       over_opened s.told b (λ g es other. HasJournalCause h before (before ++ added) held g other m (refusal_by last (Names RegisterRefusal.OutOfMemory))) opens (λ bytes g es other is shown. tt)
-  journal_cause h before added held told header entries m files (Names (RegisterRefusal.ArchiveFull end need)) left name cause =
+  journal_cause h before added held told header entries may m files (Names (RegisterRefusal.ArchiveFull end need)) left name cause =
       over_opened s.told b (λ g es other. HasJournalCause h before (before ++ added) held g other m (refusal_by last (Names (RegisterRefusal.ArchiveFull end need)))) opens (λ bytes g es other is shown. (
+        may g es other shown,
         subst (λ x. end ≡ end_of x (before ++ added)) header (subst (λ l. end ≡ end_of j.header l) (left (λ e. absurd (cc (e)))) (of_told (is_some (state_of j).disk.seen) told cause.2)),
         cause.1 ∙ ap₂ (λ n ns. files_size (take 512 (drop n ns))) (sym (ap length files ∙ length-lines b.files ms few)) (names_shown b g es other shown),
         subst (λ (x : Header). x.length_limit < end + need) header cause.0,
       ))
-  journal_cause h before added held told header entries m files (Names RegisterRefusal.DiskFault) left name cause =
+  journal_cause h before added held told header entries may m files (Names RegisterRefusal.DiskFault) left name cause =
       over_opened s.told b (λ g es other. HasJournalCause h before (before ++ added) held g other m (refusal_by last (Names RegisterRefusal.DiskFault))) opens (λ bytes g es other is shown. tt)
-  journal_cause h before added held told header entries m files (Stopped file (Full book count)) left name cause =
+  journal_cause h before added held told header entries may m files (Stopped file (Full book count)) left name cause =
       over_opened s.told b (λ g es other. HasJournalCause h before (before ++ added) held g other m (refusal_by last (Stopped file (Full book count)))) opens (λ bytes g es other is shown. (
+        may g es other shown,
         is_stopped file (Full book count) cause m files name,
         full_of_both s h before j after told header entries (before ++ added) (left (λ e. absurd (cc (e)))) other (texts_same s b bytes g es other (view bytes is) shown) book count cause.cause,
       ))
-  journal_cause h before added held told header entries m files (Stopped file (ArchiveFull end need)) left name cause =
+  journal_cause h before added held told header entries may m files (Stopped file (ArchiveFull end need)) left name cause =
       over_opened s.told b (λ g es other. HasJournalCause h before (before ++ added) held g other m (refusal_by last (Stopped file (ArchiveFull end need)))) opens (λ bytes g es other is shown. (
+        may g es other shown,
         is_stopped file (ArchiveFull end need) cause m files name,
         lacks_room s h before j after told header entries (before ++ added) (left (λ e. absurd (cc (e)))) other (texts_same s b bytes g es other (view bytes is) shown) cause.file.file end need
             (subst (λ (x : Header). x.length_limit < end + need) header cause.cause.0) (of_told (is_some (state_of j).disk.seen) told cause.cause.1),
       ))
-  journal_cause h before added held told header entries m files (Stopped file (FirstFault opened now)) left name cause =
+  journal_cause h before added held told header entries may m files (Stopped file (FirstFault opened now)) left name cause =
       over_opened s.told b (λ g es other. HasJournalCause h before (before ++ added) held g other m (refusal_by last (Stopped file (FirstFault opened now)))) opens (λ bytes g es other is shown. tt)
-  journal_cause h before added held told header entries m files (Stopped file SecondFault) left name cause =
+  journal_cause h before added held told header entries may m files (Stopped file SecondFault) left name cause =
       over_opened s.told b (λ g es other. HasJournalCause h before (before ++ added) held g other m (refusal_by last (Stopped file SecondFault))) opens (λ bytes g es other is shown. tt)
-  journal_cause h before added held told header entries m files (Stopped file SecondDamaged) left name cause =
+  journal_cause h before added held told header entries may m files (Stopped file SecondDamaged) left name cause =
       over_opened s.told b (λ g es other. HasJournalCause h before (before ++ added) held g other m (refusal_by last (Stopped file SecondDamaged))) opens (λ bytes g es other is shown. tt)
-  journal_cause h before added held told header entries m files (Stopped file OutOfMemory) left name cause =
+  journal_cause h before added held told header entries may m files (Stopped file OutOfMemory) left name cause =
       over_opened s.told b (λ g es other. HasJournalCause h before (before ++ added) held g other m (refusal_by last (Stopped file OutOfMemory))) opens (λ bytes g es other is shown. tt)
-  journal_cause h before added held told header entries m files NoMemory left name cause =
+  journal_cause h before added held told header entries may m files NoMemory left name cause =
       over_opened s.told b (λ g es other. HasJournalCause h before (before ++ added) held g other m (refusal_by last NoMemory)) opens (λ bytes g es other is shown. tt)
 
 -- ---- from the start of the call on

@@ -39,12 +39,13 @@ took_nothing refusal old new second h before stood nothing cause = record {
         held_same : content_of stands.legal.held ≡ content_of stood.legal.held
         held_same = ap content_of (one_held h nothing_held stands.legal.held stood.legal.held (before ++ []) stands.legal.run (subst (λ es. Run h nothing_held es stood.legal.held) (sym (append-nil before)) stood.legal.run))
 
-pub refused_early : (refusal : MergeRefusal) (old new second second_new : DiskState) → FromArchive old (λ h before bytes stood. TakesNothing h before old new) → KeepsBytes second second_new → HasDiskCause old new second second_new refusal
+pub refused_early : (refusal : MergeRefusal) (old new second second_new : DiskState) → FromArchive old (λ h before bytes stood. TakesNothing h before old new) → KeepsBytes old new → KeepsBytes second second_new → HasDiskCause old new second second_new refusal
     → FromArchive old (λ h before bytes stood. OfJournal second.seen (λ g es other. HasJournalCause h before (before ++ []) (length stood.legal.held.names) g other (refused_by refusal) refusal)) → Merges (refused_by refusal) 0 old new second second_new
-refused_early refusal old new second second_new nothing keeps disk journal = record {
+refused_early refusal old new second second_new nothing still keeps disk journal = record {
   takes = both old.seen nothing journal;
   numbered = λ some. absurd (some refl);
   cause = disk;
+  idle = of_all second.seen (λ g es other. other.names ≡ [] → KeepsBytes old new) (λ g es other none. still);
   only_read = keeps;
 }
   where

@@ -25,7 +25,7 @@ use Rattle.archive_merge.specs.Named.{names_of}
 use Rattle.archive_merge.specs.declared.file.Merged.{Merged}
 use Rattle.archive_merge.specs.declared.refusal.MergeRefusal.{MergeRefusal as Why}
 use Rattle.command_answers.specs.Ingested.{LeavesJournal}
-use Rattle.command_answers.specs.Merging.{HasJournalCause, Merge, TakesOver}
+use Rattle.command_answers.specs.Merging.{HasJournalCause, MayCome, Merge, TakesOver}
 use Rattle.merge_command.specs.Came.{lines_by}
 use Rattle.write_commands.specs.JournalLeft.{StandsBetween}
 use Rattle.write_commands.proofs.AppendLemmas.{OpensFrom, files_counted, may_append}
@@ -43,7 +43,7 @@ module _ (runs : FilesAreRuns) {D : Type 0} {d : DiskGhosts D} (old : JournalSta
     (s : SecondView) (b : Shown) (opens : Opens s.told b) (view : (bytes : List ℕ) → s.told ≡ Some bytes → s ≡ view_in bytes b)
     (first : ℕ) (counted : first ≡ length a.files) (ms : List Merged) (why : Option Why) (merged : HasMergedAll s first (names_of b.files) ms why j after)
     (m : Merge) (lines_are : m.files ≡ lines_by b.files ms) (none : m.refusal ≡ None → why ≡ None)
-    (versions : OfJournal s.told (λ g es other. g.version ≡ j.header.version)) where
+    (comes : (h : Header) (held : ℕ) → j.header ≡ h → first ≡ held → OfJournal s.told (λ g es other. MayCome h held g other)) where
   few : length ms ≤ length b.files
   few = omega (arith, merged.within, length-map b.files (λ (f : FileEntry). f.name))
 
@@ -101,6 +101,6 @@ module _ (runs : FilesAreRuns) {D : Type 0} {d : DiskGhosts D} (old : JournalSta
       fronts = fronts runs s b opens view h before merged.naming merged.fresh stood ms few merged.named legal new (state_of j) some opened.0 opened.1 (why ≡ None) numbers merged.each;
       all = λ is. both_of s.told _ _ _ (λ g es other one two. (one, two))
           (whole runs s b opens view h before merged.naming merged.fresh stood ms few merged.named legal new (state_of j) some opened.0 opened.1 (why ≡ None) numbers merged.each (none is) (merged.done (none is) ∙ length-map b.files (λ (f : FileEntry). f.name)))
-          (subst (λ (x : Header). OfJournal s.told (λ g es other. g.version ≡ x.version)) opened.0 versions);
+          (comes h (length stood.legal.held.names) opened.0 number);
       cause = cause;
     }

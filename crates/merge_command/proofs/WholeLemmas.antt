@@ -1,11 +1,11 @@
 -- A merge from the start of the call on.
-use Rattle.std.proofs.Common.{◌≡◌, ◌≢◌, ◌-◌, ◌≤◌, refl, sym, ap, subst, ◌∙◌, inl, inr, ℕ, Bool, true, List, [], ◌++◌, length, map, Option, Some, None, arith}
+use Rattle.std.proofs.Common.{◌≡◌, ◌≢◌, ◌+◌, ◌-◌, ◌≤◌, refl, sym, ap, subst, ◌∙◌, inl, inr, ℕ, Bool, true, List, [], ◌∷◌, ◌++◌, length, map, Option, Some, None, arith}
 use Rattle.std.specs.Prelude.{IfErr, IfSome, is_some, option_map, Result, Err, IsErrOf}
 use Rattle.std.proofs.lemmas.List.{length-map}
 use Rattle.log_seams.specs.Disk.{DiskState, IsLawful, KeepsBytes, Rests}
 use Rattle.log_seams.specs.Outside.{CountsOf, Rose}
 use Rattle.log_seams.specs.declared.disk.Disk.{Ghosts as DiskGhosts}
-use Rattle.log_seams.proofs.MomentLemmas.{rose}
+use Rattle.log_seams.proofs.MomentLemmas.{keeps_on, rose}
 use Rattle.record_format.specs.declared.header.Header.{Header}
 use Rattle.record_format.specs.Header.{IsHeader, header_bytes}
 use Rattle.dict_core.specs.Books.{BookState}
@@ -20,6 +20,7 @@ use Rattle.disk_seal.specs.Opening.{MayOpen}
 use Rattle.disk_seal.specs.Told.{IfTold, journal_in}
 use Rattle.disk_seal.specs.declared.files.RegisterRefusal.TheVariants.{DiskFault}
 use Rattle.disk_seal.proofs.ToldLemmas.{told_both}
+use Rattle.archive_meaning.specs.declared.TheConstants.{MAX_FILES}
 use Rattle.archive_meaning.specs.declared.entry.JournalEntry.{JournalEntry}
 use Rattle.archive_meaning.specs.Held.{Held}
 use Rattle.archive_meaning.specs.Spelled.{records_of}
@@ -46,13 +47,14 @@ use Rattle.command_refusals.specs.declared.outcome.AddRefusal.TheVariants.{TooMa
 use Rattle.command_refusals.specs.declared.outcome.MergeRefusal.{MergeRefusal}
 use Rattle.command_refusals.proofs.GoingLemmas.{DiskGoesOn-joined, DiskGoesOn-seen, KeepsBytes-same}
 use Rattle.command_answers.specs.Ingested.{FromArchive, TakesNothing}
-use Rattle.command_answers.specs.Merging.{HasDiskCause, HasJournalCause, Merge, Merges, TakesOver}
+use Rattle.command_answers.specs.Merging.{HasDiskCause, HasJournalCause, MayCome, Merge, Merges, TakesOver}
 use Rattle.merge_command.specs.Came.{Agrees, RefusesSecond, lines_by, name_at, place_stopped, refusal_by, refused_by, view_shown}
 use Rattle.write_commands.proofs.AppendLemmas.{HasBooks, OpensFrom, files_counted, may_append}
 use Rattle.write_commands.proofs.JoinLemmas.{types_held, words_held}
 use Rattle.write_commands.proofs.LeavesLemmas.{of_told, opened_as}
 use Rattle.write_commands.proofs.StepsLemmas.{kept_nothing, looked_nothing}
 use Rattle.merge_command.proofs.MergedLemmas.{disk_cause, journal_cause, over_opened, takes_sooner}
+use Rattle.merge_command.proofs.OverLemmas.{names_shown}
 use Rattle.merge_command.proofs.RefusedLemmas.{refused_early}
 use Rattle.merge_command.proofs.TakesOverLemmas.{takes_over}
 
@@ -86,9 +88,9 @@ none_there at (Some bytes) refused = refused.none
 pub start_refuses : {A : Type 0} (old new second : DiskState) (result : Result A StartRefusal) (r : StartRefusal) → result ≡ Err r → IsLawful old → IsLawful new → KeepsBytes old new
     → ((at : ℕ) → IsErrOf result (StartRefusal.Damaged at) → HasNoHeader at old) → CountsOf StartRefusal.DiskFault old.faults new.faults result → Merges (refused_by (merge_from_start r)) 0 old new second second
 start_refuses old new second result StartRefusal.DiskFault is law_old law_new keeps damaged counts =
-    refused_early MergeRefusal.DiskFault old new second second (kept_nothing old new law_old law_new keeps counts.later) (KeepsBytes-same second) (inl (counts.failed is)) (on_all old second.seen MergeRefusal.DiskFault (λ h before held g other. tt))
+    refused_early MergeRefusal.DiskFault old new second second (kept_nothing old new law_old law_new keeps counts.later) keeps (KeepsBytes-same second) (inl (counts.failed is)) (on_all old second.seen MergeRefusal.DiskFault (λ h before held g other. tt))
 start_refuses old new second result (StartRefusal.Damaged at) is law_old law_new keeps damaged counts =
-    refused_early (MergeRefusal.Damaged at) old new second second (kept_nothing old new law_old law_new keeps counts.later) (KeepsBytes-same second)
+    refused_early (MergeRefusal.Damaged at) old new second second (kept_nothing old new law_old law_new keeps counts.later) keeps (KeepsBytes-same second)
     (none_there at old.seen (start_refused at old (damaged at is))) (on_all old second.seen (MergeRefusal.Damaged at) (λ h before held g other. tt))
 
 -- The header was read, and the archive of the disk looked at.
@@ -105,6 +107,10 @@ at_nothing : (old mid new : DiskState) → LookedAt old mid new → FromArchive 
 at_nothing old mid new looked =
     looked_nothing old mid new (record { law_old = looked.law_old; law_mid = looked.law_mid; law_new = looked.law_new; first = looked.keeps; second = rests_keep mid new looked.rests; counts = omega (arith, looked.first, looked.second) })
 
+-- and nothing was written
+looked_still : (old mid new : DiskState) → LookedAt old mid new → KeepsBytes old new
+looked_still old mid new looked = keeps_on old mid new looked.keeps looked.rests
+
 pub looked_goes : (old mid new : DiskState) → LookedAt old mid new → DiskGoesOn old new
 looked_goes old mid new looked =
     DiskGoesOn-joined old mid new looked.law_new (DiskGoesOn-seen old mid looked.law_old looked.law_mid looked.first looked.keeps.seen looked.keeps.time)
@@ -113,22 +119,22 @@ looked_goes old mid new looked =
 pub open_refuses : {A : Type 0} (old mid new second : DiskState) → LookedAt old mid new → (result : Result A ArchiveRefusal) (r : ArchiveRefusal) → result ≡ Err r
     → ((at : ℕ) → IsErrOf result (ArchiveRefusal.Damaged at) → RefusedAt at mid.seen) → CountsOf ArchiveRefusal.DiskFault mid.faults new.faults result → Merges (refused_by (merge_from_archive r)) 0 old new second second
 open_refuses old mid new second looked result ArchiveRefusal.DiskFault is damaged counts =
-    refused_early MergeRefusal.DiskFault old new second second (at_nothing old mid new looked) (KeepsBytes-same second)
+    refused_early MergeRefusal.DiskFault old new second second (at_nothing old mid new looked) (looked_still old mid new looked) (KeepsBytes-same second)
     (inl (rose old.faults mid.faults new.faults new.faults looked.first (counts.failed is) (omega arith))) (on_all old second.seen MergeRefusal.DiskFault (λ h before held g other. tt))
 open_refuses old mid new second looked result (ArchiveRefusal.Damaged at) is damaged counts =
-    refused_early (MergeRefusal.Damaged at) old new second second (at_nothing old mid new looked) (KeepsBytes-same second)
+    refused_early (MergeRefusal.Damaged at) old new second second (at_nothing old mid new looked) (looked_still old mid new looked) (KeepsBytes-same second)
     (subst (λ t. IfSome t StandsForNone) looked.keeps.seen (none_there at mid.seen (damaged at is))) (on_all old second.seen (MergeRefusal.Damaged at) (λ h before held g other. tt))
 open_refuses old mid new second looked result ArchiveRefusal.OutOfMemory is damaged counts =
-    refused_early MergeRefusal.OutOfMemory old new second second (at_nothing old mid new looked) (KeepsBytes-same second) tt (on_all old second.seen MergeRefusal.OutOfMemory (λ h before held g other. tt))
+    refused_early MergeRefusal.OutOfMemory old new second second (at_nothing old mid new looked) (looked_still old mid new looked) (KeepsBytes-same second) tt (on_all old second.seen MergeRefusal.OutOfMemory (λ h before held g other. tt))
 
 -- the second archive was not opened
 pub second_refuses : (old mid new second second_new : DiskState) → LookedAt old mid new → KeepsBytes second second_new → (r : MergeRefusal) → RefusesSecond second second_new r → Merges (refused_by r) 0 old new second second_new
 second_refuses old mid new second second_new looked keeps MergeRefusal.DiskFault refuses =
-    refused_early MergeRefusal.DiskFault old new second second_new (at_nothing old mid new looked) keeps (inr refuses) (on_all old second.seen MergeRefusal.DiskFault (λ h before held g other. tt))
+    refused_early MergeRefusal.DiskFault old new second second_new (at_nothing old mid new looked) (looked_still old mid new looked) keeps (inr refuses) (on_all old second.seen MergeRefusal.DiskFault (λ h before held g other. tt))
 second_refuses old mid new second second_new looked keeps (MergeRefusal.SecondDamaged at) refuses =
-    refused_early (MergeRefusal.SecondDamaged at) old new second second_new (at_nothing old mid new looked) keeps refuses (on_all old second.seen (MergeRefusal.SecondDamaged at) (λ h before held g other. tt))
+    refused_early (MergeRefusal.SecondDamaged at) old new second second_new (at_nothing old mid new looked) (looked_still old mid new looked) keeps refuses (on_all old second.seen (MergeRefusal.SecondDamaged at) (λ h before held g other. tt))
 second_refuses old mid new second second_new looked keeps MergeRefusal.OutOfMemory refuses =
-    refused_early MergeRefusal.OutOfMemory old new second second_new (at_nothing old mid new looked) keeps tt (on_all old second.seen MergeRefusal.OutOfMemory (λ h before held g other. tt))
+    refused_early MergeRefusal.OutOfMemory old new second second_new (at_nothing old mid new looked) (looked_still old mid new looked) keeps tt (on_all old second.seen MergeRefusal.OutOfMemory (λ h before held g other. tt))
 second_refuses old mid new second second_new looked keeps (MergeRefusal.Damaged at) refuses = absurd refuses
 second_refuses old mid new second second_new looked keeps (MergeRefusal.VersionDiffers one two) refuses = absurd refuses
 second_refuses old mid new second second_new looked keeps (MergeRefusal.TooManyFiles told more) refuses = absurd refuses
@@ -153,18 +159,19 @@ module _ (old mid new second second_new : DiskState) (looked : LookedAt old mid 
 
   pub agree_refuses : (r : MergeRefusal) → Agrees version held other more (Err r) → Merges (refused_by r) 0 old new second second_new
   agree_refuses (MergeRefusal.VersionDiffers one two) differs =
-      refused_early (MergeRefusal.VersionDiffers one two) old new second second_new (at_nothing old mid new looked) keeps tt
+      refused_early (MergeRefusal.VersionDiffers one two) old new second second_new (at_nothing old mid new looked) (looked_still old mid new looked) keeps tt
       (on_both (λ h before n g held. HasJournalCause h before (before ++ []) n g held (refused_by (MergeRefusal.VersionDiffers one two)) (MergeRefusal.VersionDiffers one two)) (λ h before first g es held is shown. (
         differs.0 ∙ (version_is ∙ ap (λ (x : Header). x.version) is.header),
         differs.1 ∙ (other_is ∙ ap (λ (k : Kept). k.version) shown.kept),
         differs.2,
       )))
   agree_refuses (MergeRefusal.TooManyFiles told further) many =
-      refused_early (MergeRefusal.TooManyFiles told further) old new second second_new (at_nothing old mid new looked) keeps tt
+      refused_early (MergeRefusal.TooManyFiles told further) old new second second_new (at_nothing old mid new looked) (looked_still old mid new looked) keeps tt
       (on_both (λ h before n g held. HasJournalCause h before (before ++ []) n g held (refused_by (MergeRefusal.TooManyFiles told further)) (MergeRefusal.TooManyFiles told further)) (λ h before one g es two is shown. (
-        many.0 ∙ files_counted h before a one held is counted,
-        many.1 ∙ files_counted g es b two more shown counted_more,
-        (refl, omega (arith, many.0, many.1, many.2)),
+        sym (ap (λ (k : Kept). k.version) shown.kept) ∙ (sym other_is ∙ (many.0 ∙ (version_is ∙ ap (λ (x : Header). x.version) is.header))),
+        many.1 ∙ files_counted h before a one held is counted,
+        many.2 ∙ files_counted g es b two more shown counted_more,
+        (refl, omega (arith, many.1, many.2, many.3)),
       )))
   agree_refuses MergeRefusal.DiskFault agrees = absurd agrees
   agree_refuses (MergeRefusal.Damaged at) agrees = absurd agrees
@@ -175,6 +182,11 @@ module _ (old mid new second second_new : DiskState) (looked : LookedAt old mid 
   agree_refuses (MergeRefusal.SegmentFull end need) agrees = absurd agrees
 
 -- ---- merged
+
+-- there are as many names as files
+no_files : (files : List FileEntry) → names_of files ≡ [] → files ≡ []
+no_files [] none = refl
+no_files (f ∷ files) none = absurd (cc (none))
 
 -- what the archive that was opened shows of the journal that is read
 shows_of : (h : Header) (told : Option (List ℕ)) (place n : ℕ) (images : List ℕ → Type 0) (a : Shown) → IsHeader h → Opens told a → AtEnd (header_bytes h) place n told images → entries told n ≡ records_of (journal_in told n)
@@ -219,8 +231,8 @@ module _ (runs : FilesAreRuns) (fair : TextsAreFair) {D : Type 0} {d : DiskGhost
     (looked : LookedAt start old.disk (state_of j).disk) (law_new : IsLawful (state_of after).disk)
     (s : SecondView) (b : Shown) (opens : Opens s.told b) (view : (bytes : List ℕ) → s.told ≡ Some bytes → s ≡ view_in bytes b) (gate : HasLastGate s.told b) (last : ℕ) (last_is : last ≡ b.end - 1)
     (second second_new : DiskState) (second_is : second.seen ≡ s.told) (read : KeepsBytes second second_new)
-    (first : ℕ) (counted : first ≡ length a.files) (ms : List Merged) (why : Option Why) (ends : EndsMerge s first (names_of b.files) ms why j after)
-    (fault : (file : ℕ) → why ≡ Some (Stopped file SecondFault) → Rose second.faults second_new.faults) (version : b.kept.version ≡ j.header.version)
+    (first : ℕ) (counted : first ≡ length a.files) (ms : List Merged) (why : Option Why) (ends : EndsMerge s first (names_of b.files) ms why j after) (stays : b.files ≡ [] → after ≡ j)
+    (fault : (file : ℕ) → why ≡ Some (Stopped file SecondFault) → Rose second.faults second_new.faults) (version : b.kept.version ≡ j.header.version) (few_both : first + length b.files ≤ MAX_FILES)
     (m : Merge) (files_are : m.files ≡ lines_by b.files ms) (refusal_is : m.refusal ≡ option_map (refusal_by last) why) (name_is : m.name ≡ name_at b.files (place_stopped first why)) where
   few : length ms ≤ length b.files
   few = omega (arith, ends.merged.within, length-map b.files (λ (f : FileEntry). f.name))
@@ -232,8 +244,15 @@ module _ (runs : FilesAreRuns) (fair : TextsAreFair) {D : Type 0} {d : DiskGhost
       go None is = refl
       go (Some w) is = absurd (cc (is))
 
-  versions : OfJournal s.told (λ g es other. g.version ≡ j.header.version)
-  versions = over_opened s.told b (λ g es other. g.version ≡ j.header.version) opens (λ bytes g es other is shown. sym (ap (λ (k : Kept). k.version) shown.kept) ∙ version)
+  -- it may come behind an archive of this header and so many files
+  may_come : (h : Header) (held : ℕ) → j.header ≡ h → first ≡ held → (g : Header) (es : List JournalEntry) (other : Held) → IsArchiveOf b g es other → MayCome h held g other
+  may_come h held header number g es other shown = record {
+    version_is = sym (ap (λ (k : Kept). k.version) shown.kept) ∙ (version ∙ ap (λ (x : Header). x.version) header);
+    few = omega (arith, few_both, number, files_counted g es b other (length b.files) shown refl);
+  }
+
+  comes : (h : Header) (held : ℕ) → j.header ≡ h → first ≡ held → OfJournal s.told (λ g es other. MayCome h held g other)
+  comes h held header number = over_opened s.told b (λ g es other. MayCome h held g other) opens (λ bytes g es other is shown. may_come h held header number g es other shown)
 
   goes : DiskGoesOn old.disk (state_of after).disk
   goes =
@@ -252,16 +271,18 @@ module _ (runs : FilesAreRuns) (fair : TextsAreFair) {D : Type 0} {d : DiskGhost
           let opened = opened_as (state_of j) h before bytes may.header may.spelled may.legal may.ends.ends (from.looks.rests.seen ∙ is) stood in
           let added : List JournalEntry = ends.merged.naming ++ ends.merged.fresh in
           let Q : MergeRefusal → Type 0 = λ refusal. OfJournal s.told (λ g es other. HasJournalCause h before (before ++ added) (length stood.legal.held.names) g other m refusal) in
-          takes_over runs old j after a from looked.law_mid looked.law_new law_new looked.second s b opens view first counted ms why ends.merged m files_are none versions h before bytes is stood only
+          takes_over runs old j after a from looked.law_mid looked.law_new law_new looked.second s b opens view first counted ms why ends.merged m files_are none comes h before bytes is stood only
           (subst (λ r. IfSome r Q) (sym refusal_is) (causes h before added (length stood.legal.held.names) told opened.0 opened.1
+          (may_come h (length stood.legal.held.names) opened.0 (files_counted h before a stood.legal.held first ((subst (λ t. Opens t a) is from.opened) h before stood) counted))
           (λ apart. of_told (is_some (state_of j).disk.seen) told (ends.merged.entries apart) ∙ ap (λ es. es ++ added) opened.1) why refl))
         where
           causes : (h : Header) (before added : List JournalEntry) (held : ℕ) → is_some (state_of j).disk.seen ≡ true → j.header ≡ h → told_entries (state_of j) ≡ before
+              → ((g : Header) (es : List JournalEntry) (other : Held) → IsArchiveOf b g es other → MayCome h held g other)
               → (why ≢ Some (Names DiskFault) → told_entries (state_of after) ≡ before ++ added) → (w : Option Why) → why ≡ w
               → IfSome (option_map (refusal_by last) w) (λ refusal. OfJournal s.told (λ g es other. HasJournalCause h before (before ++ added) held g other m refusal))
-          causes h before added held told header entries left None is = tt
-          causes h before added held told header entries left (Some w) is =
-              journal_cause runs fair j after s b opens view first ms few ends.merged.numbers last h before added held told header entries m files_are w
+          causes h before added held told header entries may left None is = tt
+          causes h before added held told header entries may left (Some w) is =
+              journal_cause runs fair j after s b opens view first ms few ends.merged.numbers last h before added held told header entries may m files_are w
               (λ apart. left (λ same. apart (cc (is, same)))) (name_is ∙ ap (λ y. name_at b.files (place_stopped first y)) is) (ends.cause w is)
 
   disk_causes : (w : Option Why) → why ≡ w → IfSome (option_map (refusal_by last) w) (HasDiskCause start (state_of after).disk second second_new)
@@ -270,12 +291,19 @@ module _ (runs : FilesAreRuns) (fair : TextsAreFair) {D : Type 0} {d : DiskGhost
       disk_cause runs fair j after s b opens view first ms few ends.merged.numbers last last_is gate start second second_new (omega (arith, looked.first, looked.second)) second_is w (ends.cause w is)
       (λ file same. fault file (is ∙ ap Some same))
 
+  -- a second archive without files
+  still : b.files ≡ [] → KeepsBytes start (state_of after).disk
+  still none = subst (λ (x : Journal D d). KeepsBytes start (state_of x).disk) (sym (stays none)) (looked_still start old.disk (state_of j).disk looked)
+
   pub merges : Merges m first start (state_of after).disk second second_new
   merges = record {
     takes = subst (λ t. FromArchive start (λ h before bytes stood. TakesOver t h before stood m start (state_of after).disk)) (sym second_is)
         (takes_sooner start old.disk (state_of after).disk looked.law_old looked.law_mid looked.keeps looked.first goes s.told m taken);
     numbered = λ some. subst (λ t. OverJournal t (λ journal. first ≡ length journal.names)) looked.keeps.seen (number old.disk.seen from.opened);
     cause = subst (λ r. IfSome r (HasDiskCause start (state_of after).disk second second_new)) (sym refusal_is) (disk_causes why refl);
+    idle = subst (λ t. OfJournal t (λ g es other. other.names ≡ [] → KeepsBytes start (state_of after).disk)) (sym second_is)
+        (over_opened s.told b (λ g es other. other.names ≡ [] → KeepsBytes start (state_of after).disk) opens
+        (λ bytes g es other is shown none. still (no_files b.files (names_shown b g es other shown ∙ none))));
     only_read = read;
   }
     where

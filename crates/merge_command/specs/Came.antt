@@ -87,7 +87,7 @@ Agrees version held other more (Ok done) = (other ≡ version) × (held + more �
 Agrees version held other more (Err (MergeRefusal.VersionDiffers first second)) =
     (first ≡ version) × (second ≡ other) × (first ≢ second)
 Agrees version held other more (Err (MergeRefusal.TooManyFiles told further)) =
-    (told ≡ held) × (further ≡ more) × (MAX_FILES < held + more)
+    (other ≡ version) × (told ≡ held) × (further ≡ more) × (MAX_FILES < held + more)
 Agrees version held other more (Err _) = ⊥
 
 -- why the second archive was not opened

@@ -1,5 +1,5 @@
 //! The files of a second archive, added to an archive.
-ghost use Rattle.std.specs.Prelude.{◌≡◌, ◌≤◌, length, IfErr, IfOk, IfSome};
+ghost use Rattle.std.specs.Prelude.{◌≡◌, ◌≤◌, [], length, IfErr, IfOk, IfSome};
 ghost use Rattle.log_seams.specs.Disk.{KeepsBytes};
 ghost use Rattle.disk_journal.specs.Journal.{state_of};
 ghost use Rattle.archive_open.specs.Archive.{shown};
@@ -99,6 +99,7 @@ fn merge_into<'s, 'd, M: Names, E: Disk, D: Disk, R: Wait>(
     ensures ends { EndsMerge (view_of M.types M.words M.version E.state second.entry) first
         (names_of second.entry.files.now) files.new.items result.refusal
         journal.entry result.journal }
+    ensures none { second.entry.files.now ≡ [] → result.journal ≡ journal.entry }
     ensures second { WasOnlyRead E.state result.refusal second.entry.disk result.disk }
 {
     let MergeEnd {
@@ -133,6 +134,7 @@ fn merge_opened<'a: 's, 's, 'd, E: Disk, D: Disk, R: Wait>(
     ensures ends { EndsMerge (view_shown (shown kept_by second.now) (E.state disk.old).seen) first
         (names_of (shown kept_by second.now).files) files.new.items result.refusal
         journal.entry result.journal }
+    ensures none { (shown kept_by second.now).files ≡ [] → result.journal ≡ journal.entry }
     ensures second { WasOnlyRead E.state result.refusal disk.entry result.disk }
 {
     let Books { types, words, .. } = books;

@@ -231,9 +231,10 @@ returns-clause-came g c =
     (view_shown b second_mid.seen) b (subst (λ t. Opens t b) told c.in_ok-second_archive.ensures.opened) (view_told b second_mid.seen)
     (subst (λ t. HasLastGate t b) told c.in_ok-second_archive.ensures.last) c.last_gate.result c.last_gate.ensures
     second second_new told (keeps_on second second_mid second_new c.open_second.ensures.keeps read.rests)
-    (length c.as_slice.result.now) counted c.merge_opened-left.new.files.items c.merge_opened-left.result.refusal c.merge_opened-left.ensures.ends
+    (length c.as_slice.result.now) counted c.merge_opened-left.new.files.items c.merge_opened-left.result.refusal c.merge_opened-left.ensures.ends c.merge_opened-left.ensures.none
     (λ file is. subst (λ n. Rose n second_new.faults) c.in_ok-second_archive.ensures.steady (read.fault file is))
     (sym (ap version c.names.ensures) ∙ (c.in_ok-agree.ensures.0 ∙ sym (ap (λ (h : Header). h.version) (opened.looks.header ∙ c.begin-journal.ensures.header))))
+    (omega (arith, c.in_ok-agree.ensures.1, ap length (c.as_slice-2.ensures ∙ c.files-2.ensures)))
     m refl c.refusal_of.ensures (ap (λ place. name_at b.files place) c.place_of.ensures)))
 
 pub returns-clause-goes_on : goal.returns-clause-goes_on

@@ -20,3 +20,6 @@ pub returns-clause-ends : goal.returns-clause-ends
 returns-clause-ends g c =
     ends_shown _ (shown kept_by c.args.second.now) (g.E.Disk.state c.args.disk.now).seen c.as_slice.result.now c.args.first c.merge_into.new.files.items c.merge_into.result.refusal c.args.journal c.merge_into.result.journal
     (ap (λ (k : Kept). k.version) c.names.ensures) (ap texts_kept c.names.ensures) refl (c.as_slice-2.ensures ∙ c.segments.ensures) (c.as_slice.ensures ∙ c.files.ensures) c.merge_into.ensures.ends
+
+pub returns-clause-none : goal.returns-clause-none
+returns-clause-none g c = λ is. c.merge_into.ensures.none (c.as_slice.ensures ∙ (c.files.ensures ∙ is))
