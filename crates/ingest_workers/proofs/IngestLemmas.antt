@@ -14,7 +14,7 @@ use Rattle.turn_lock.specs.declared.board.About.{About}
 use Rattle.turn_lock.specs.declared.grows.Grows.{Ghosts}
 use Rattle.turn_lock.specs.Words.{lock_of, made_by, seen, own_list, about, number_of, IsReady, IsFreshOf, IsStillBy}
 use Rattle.ingest_fork.specs.Passes.{Fresh}
-use Rattle.ingest_fork.specs.Picked.{entries_in}
+use Rattle.ingest_fork.specs.Picked.{entries_in, AddedByOne}
 use Rattle.ingest_fork.specs.Works.{Done}
 use Rattle.ingest_fork.proofs.PlaceLemmas.{at_right, there_is}
 use Rattle.dict_core.specs.Books.{BookState}
@@ -221,9 +221,12 @@ module _ {S D : Type 0} {d : DiskGhosts D} (left name : S → Option (List ℕ))
         each : (k : ℕ) (x : StoreEntry) → slice_get (list_behind d.state opened store) k ≡ Some x → OfEntry (IsOfJobs js) x
         each k x at = let here : slice_get (list_of d.state store) (length (list_of d.state opened) + k) ≡ Some x
             = ap (λ l. slice_get l (length (list_of d.state opened) + k)) (sym h.front.1) ∙ (at_right (list_of d.state opened) h.front.0 k ∙ (ap (λ l. slice_get l k) (sym behind) ∙ at)) in
-            let a = h.added (length (list_of d.state opened) + k) x (omega arith) here in
+            ⊎_elim
+            (λ (is_mark : x ≡ Stopped). subst (λ (y : StoreEntry). OfEntry (IsOfJobs js) y) (sym is_mark) tt)
+            (λ (a : AddedByOne MayAdd h.passes' (length (list_of d.state opened) + k) x).
             let counts = h.done.keepers in let even = h.counted in let lt = slice_get_within h.passes' a.place a.pass a.is in let job = there_is js a.place (omega arith) in
-            of_jobs js a.place job.0 (number_of a.pass) x job.1 (sym (number_at a.place job.0 a.pass job.1 a.is)) a.allowed
+            of_jobs js a.place job.0 (number_of a.pass) x job.1 (sym (number_at a.place job.0 a.pass job.1 a.is)) a.allowed)
+            (h.added (length (list_of d.state opened) + k) x (omega arith) here)
 
         all_now : journal_seen (list_of d.state store) ≡ told_entries (state_of before) ++ journal_seen (list_behind d.state opened store)
         all_now = ap journal_seen (sym h.front.1) ∙ (seen_joined (list_of d.state opened) h.front.0
@@ -264,7 +267,7 @@ module _ {S D : Type 0} {d : DiskGhosts D} (left name : S → Option (List ℕ))
         no_mark (Some bytes) n xs ys is = not_entry (journal_in (Some bytes) n) xs ys is
 
     -- so the disk's count of faults rose
-    rose_by : Kept (state_by d.state store) → store.opened ≡ before.disk.now → store.disk ≡ after.disk.now → (front : List StoreEntry) → IsPrefix (front ++ Stopped ∷ []) (list_of d.state store)
+    pub rose_by : Kept (state_by d.state store) → store.opened ≡ before.disk.now → store.disk ≡ after.disk.now → (front : List StoreEntry) → IsPrefix (front ++ Stopped ∷ []) (list_of d.state store)
         → Rose (state_of before).disk.faults (state_of after).disk.faults
     rose_by kept opened_is disk_is front on =
         let stopped = marked (d.state store.disk).seen store.count store.stopped front on in

@@ -11,6 +11,8 @@ pub mod MaySealLemmas
 pub mod NoRoomLemmas
 pub mod CrewLemmas
 pub mod LockLemmas
+pub mod FollowLemmas
+pub mod PassedLemmas
 pub mod IngestLemmas
 pub mod ClosingLemmas
 pub mod GivenLemmas

@@ -1,19 +1,18 @@
 -- What holds of the store once all jobs were done and its lock was closed.
-use Rattle.std.proofs.Common.{◌≡◌, ◌≢◌, ℕ, ◌+◌, ◌==◌, Bool, true, false, if◌then◌else◌, List, [], ◌++◌, length, drop, sym, refl, ap, ◌∙◌, subst, arith, Option, None, Some, slice_get, Result, Ok, Err, IfOk, IfErr}
+use Rattle.std.proofs.Common.{◌≡◌, ◌≢◌, inl, inr, ⊎_elim, ℕ, ◌+◌, ◌==◌, Bool, true, false, if◌then◌else◌, List, ◌++◌, length, drop, sym, refl, ap, ◌∙◌, subst, arith, Option, None, Some, slice_get, Result, Ok, Err, IfOk, IfErr, All}
 use Rattle.std.proofs.lemmas.Bool.Decides.{nat_tests}
 use Rattle.std.specs.List.{filter_map}
-use Rattle.std.proofs.lemmas.Option.{slice_get_within}
+use Rattle.std.proofs.lemmas.Option.{slice_get_within, get_or_from_slice_get}
 use mathlib.Core.List.{IsPrefix}
 use Rattle.log_seams.specs.Disk.{DiskState}
 use Rattle.turn_lock.specs.declared.board.About.{About}
 use Rattle.turn_lock.specs.declared.grows.Grows.{Ghosts}
-use Rattle.turn_lock.specs.History.{Has}
-use Rattle.turn_lock.specs.Words.{made_by, seen_by, ended_by, about_by, seen, own_list, number_of, IsStill, HasFixed, HasJoinedAll, IsOpening}
-use Rattle.ingest_fork.specs.Passes.{Fresh, AreJoinable, AreStill}
-use Rattle.ingest_fork.specs.Picked.{entries_in, AddsAlone, IsPast, NoneAdded}
+use Rattle.turn_lock.specs.History.{StandsIn}
+use Rattle.turn_lock.specs.Words.{made_by, seen_by, own_by, about_by, seen, own_list, number_of, IsStill, HasFixed, IsOpening}
+use Rattle.ingest_fork.specs.Passes.{Fresh, AreJoinable, AreStill, IsOneOf}
+use Rattle.ingest_fork.specs.Picked.{entries_in, AddedByOne, AddsAlone, IsPast}
 use Rattle.ingest_fork.specs.Works.{AllDone}
-use Rattle.ingest_fork.proofs.PassLemmas.{all_joined}
-use Rattle.ingest_fork.proofs.PickLemmas.{picked_own, each_added}
+use Rattle.ingest_fork.proofs.PickLemmas.{picked_own}
 use Rattle.ingest_fork.proofs.PlaceLemmas.{there_is}
 use Rattle.archive_meaning.specs.declared.entry.JournalEntry.TheVariants.{Files, Types, Words, Segment}
 use Rattle.disk_seal.specs.declared.entry.StoreEntry.{StoreEntry}
@@ -26,7 +25,7 @@ use Rattle.ingest_workers.specs.declared.job.Job.{Job}
 use Rattle.ingest_workers.specs.declared.worker.Worker.{Worker}
 use Rattle.ingest_workers.specs.Journal.{HasAdded}
 use Rattle.ingest_workers.specs.Worker.{DidJob, DidOnly}
-use Rattle.ingest_workers.specs.Locked.{KeeperMaker, file_segment, MayDoAll, MayDoAt, HasDoneAll, HasClosed, HasKept, list_of, IsStillStore, HasWorked}
+use Rattle.ingest_workers.specs.Locked.{KeeperMaker, file_segment, MayDoAll, MayDoAt, HasClosed, HasKept, list_of, IsStillStore, HasWorked}
 
 module _ {X Y : Type 0} {P Q : X → Type 0} where
   pub ok_then : (r : Result X Y) → ((x : X) → P x → Q x) → IfOk r P → IfOk r Q
@@ -59,6 +58,11 @@ pub record Did {D : Type 0} (p q : KeeperPass D) : Type 0 where
   pub more : List (ℕ × StoreEntry)
   pub added : HasAdded p q more
 
+-- an entry in an own list of marks is a mark
+a_mark : (list : List (ℕ × StoreEntry)) (j : ℕ) (e : StoreEntry) → All (λ (x : ℕ × StoreEntry). x.1 ≡ Stopped) list → StandsIn list j e → e ≡ Stopped
+a_mark list j e marks s = let at = get_or_from_slice_get list s.0 (j, e) (j, e) s.1 in let is = marks s.0 (j, e) (slice_get_within list s.0 (j, e) s.1) in
+    subst (λ (x : ℕ × StoreEntry). x.1 ≡ Stopped) at is
+
 module _ {S D : Type 0} (state : D → DiskState) (left name : S → Option (List ℕ)) (faults : S → ℕ) (ws ws' : List Worker) (js js' : List (Job S)) (ks qs : List (KeeperPass D)) (even : length ks ≡ length js)
     (all : AllDone (DidOnly left) (DidJob state left name faults) ws ws' js js' ks qs) where
   -- the pass at a place after the jobs were done is the pass of before, which added some entries
@@ -67,7 +71,7 @@ module _ {S D : Type 0} (state : D → DiskState) (left name : S → Option (Lis
       let d = all.each i j.0 k.0 j.1 k.1 in let same : d.keeper ≡ q = cc (d.keeper_is, at) in
       (k.0, k.1, subst (λ (x : KeeperPass D). Did k.0 x) same (record { more = d.did_it.done.came.done.more; added = d.did_it.done.came.done.added }))
 
-  are_still : AreStill ks qs
+  pub are_still : AreStill ks qs
   are_still = record {
     counted = all.keepers;
     each = λ i p q one two. let r = did_at i q two in let same : r.0 ≡ p = cc (one, r.1) in subst (λ (x : KeeperPass D). IsStill x q) same r.2.added.still;
@@ -78,17 +82,11 @@ module _ {S D : Type 0} {G : Ghosts (StoreView D) StoreEntry (StoreFixed D)} (st
   joinable m m' ws ws' js js' ks qs fresh all i q at = let r = did_at state left name faults ws ws' js js' ks qs fresh.counted all i q at in let was = fresh.each i r.0 r.1 in
       (r.2.added.still.lock ∙ (was.lock ∙ sym fresh.still.lock), r.2.added.ready)
 
-  -- the first passes of the lock are joined, and no other was made
-  pub all_ended : (m end : KeeperMaker D G) (ws ws' : List Worker) (js js' : List (Job S)) → made_by m ≡ 0 → HasDoneAll state left name faults m end ws ws' js js' → HasJoinedAll end
-  all_ended m end ws ws' js js' none h = all_joined m h.middle h.middle end h.passes h.passes' (length js) h.fresh
-      (are_still state left name faults ws ws' js js' h.passes h.passes' h.fresh.counted h.done)
-      (record { about_is = refl; made = refl; others = λ a n is low high. absurd (omega arith) }) h.joined
-
   pub has_worked : (m : KeeperMaker D G) (first : ℕ) (ws ws' : List Worker) (js js' : List (Job S)) (before after : StoreView D) → IsOpening m first (list_of state before) (fixed_of before)
       → HasClosed state left name faults m ws ws' js js' after → HasWorked state left name faults first ws ws' js js' before after
   has_worked m first ws ws' js js' before after o h = record {
     fixed = h.fixed opening about_end;
-    front = subst (λ l. IsPrefix l (list_of state after)) seen_then (subst (λ l. IsPrefix (seen_by h.done.middle) l) (sym h.entries) h.done.joined.seen_on);
+    front = subst (λ l. IsPrefix l (list_of state after)) o.seen_is (subst (λ l. IsPrefix (seen_by m) l) (sym h.entries) h.done.ended.seen_on);
     passes = h.done.passes;
     passes' = h.done.passes';
     counted = h.done.fresh.counted;
@@ -100,26 +98,31 @@ module _ {S D : Type 0} {G : Ghosts (StoreView D) StoreEntry (StoreFixed D)} (st
     };
     went = h.done.went;
     done = h.done.done;
-    files = λ i q at. let mine = h.done.joined.each i q (omega arith) at in
+    files = λ i q at. let mine = h.done.ended.each i q at in
         subst (λ l. filter_map (file_segment (number_of q)) (drop (length (list_of state before)) l) ≡ filter_map (file_segment (number_of q)) (entries_in (own_list q))) (sym h.entries)
         (subst (λ l. filter_map (file_segment (number_of q)) (drop (length (list_of state before)) (seen_by h.end)) ≡ filter_map (file_segment (number_of q)) (entries_in l)) mine.own_is
         (picked_own MayAdd h.end (file_segment (number_of q)) (number_of q) opening h.owned about_end (adds_alone (number_of q))
         (subst (λ l. IsPast (length (list_of state before)) l) (sym mine.own_is) (past i q at))));
-    seen_on = λ i q at. subst (λ l. IsPrefix (seen q) l) (sym h.entries) (h.done.joined.each i q (omega arith) at).seen_on;
-    added = λ j e le at. each_added MayAdd h.end h.done.middle h.done.passes' h.owned h.done.joined none_added opening j e about_end le (subst (λ l. slice_get l j ≡ Some e) h.entries at);
+    seen_on = λ i q at. subst (λ l. IsPrefix (seen q) l) (sym h.entries) (h.done.ended.each i q at).seen_on;
+    added = λ j e le at. let one = h.owned opening j e about_end le (subst (λ l. slice_get l j ≡ Some e) h.entries at) in ⊎_elim
+        (λ (of : IsOneOf h.done.passes' 0 one.0). inr (by_job j e one.0 of one.2 one.3))
+        (λ (marks : All (λ (x : ℕ × StoreEntry). x.1 ≡ Stopped) (own_by h.end one.0)). inl (a_mark (own_by h.end one.0) j e marks one.3)) (h.done.ended.only one.0 one.1);
   }
     where
       opening : About (StoreFixed D)
       opening = record { first = first; start = length (list_of state before); fixed = fixed_of before }
 
       about_end : about_by h.end ≡ Some opening
-      about_end = h.done.joined.about_is ∙ (h.done.fresh.still.about_is ∙ o.about_is)
+      about_end = h.done.ended.about_is ∙ o.about_is
 
-      seen_then : seen_by h.done.middle ≡ list_of state before
-      seen_then = h.done.fresh.still.seen_is ∙ o.seen_is
-
-      none_added : NoneAdded h.done.middle
-      none_added n has = let none : ended_by h.done.middle ≡ [] = h.done.fresh.still.ended ∙ o.ended in absurd (subst (λ l. Has l n) none has)
+      by_job : (j : ℕ) (e : StoreEntry) (n : ℕ) → IsOneOf h.done.passes' 0 n → MayAdd n e → StandsIn (own_by h.end n) j e → AddedByOne MayAdd h.done.passes' j e
+      by_job j e n of may stands = record {
+        place = of.0;
+        pass = of.1;
+        is = of.3;
+        allowed = subst (λ (k : ℕ). MayAdd k e) (sym of.4) may;
+        own = subst (λ (l : List (ℕ × StoreEntry)). StandsIn l j e) (ap (own_by h.end) (sym of.4) ∙ (h.done.ended.each of.0 of.1 of.3).own_is) stands;
+      }
 
       past : (i : ℕ) (q : KeeperPass D) → slice_get h.done.passes' i ≡ Some q → IsPast (length (list_of state before)) (own_list q)
       past i q at = let r = did_at state left name faults ws ws' js js' h.done.passes h.done.passes' h.done.fresh.counted h.done.done i q at in let f = h.done.fresh.each i r.0 r.1 in

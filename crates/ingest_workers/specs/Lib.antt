@@ -27,3 +27,4 @@ pub mod InTurn
 pub mod Ordered
 pub mod ClosedStore
 pub mod OpenWorker
+pub mod Beside

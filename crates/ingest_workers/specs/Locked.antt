@@ -1,12 +1,14 @@
 -- Jobs that workers do under the keeper's lock, and the store that comes back.
-use Rattle.std.specs.Prelude.{◌≡◌, ℕ, ◌+◌, ◌≤◌, List, [], length, drop, Option, None, Some, slice_get}
+use Rattle.std.specs.Prelude.{◌≡◌, ◌⊎◌, ℕ, ◌+◌, ◌≤◌, List, [], length, drop, Option, None, Some, slice_get, All}
 use Rattle.std.specs.List.{filter_map}
 use mathlib.Core.List.{IsPrefix}
 use Rattle.log_seams.specs.Disk.{DiskState}
 use Rattle.turn_lock.specs.declared.grows.Grows.{Ghosts}
 use Rattle.turn_lock.specs.declared.maker.Maker.{Maker}
-use Rattle.turn_lock.specs.Words.{seen, own_list, about, number_of, IsReady, HasFixed, IsAllOwned, about_by, seen_by}
-use Rattle.ingest_fork.specs.Passes.{Fresh, Joined}
+use Rattle.turn_lock.specs.History.{Has}
+use Rattle.turn_lock.specs.Words.{seen, own_list, about, number_of, IsReady, HasFixed, HasJoinedAll, IsAllOwned}
+use Rattle.turn_lock.specs.Words.{about_by, ended_by, own_by, seen_by}
+use Rattle.ingest_fork.specs.Passes.{Fresh, HasEnded, IsOneOf}
 use Rattle.ingest_fork.specs.Picked.{entries_in, AddedByOne}
 use Rattle.ingest_fork.specs.Works.{AllFit, AllDone, AllWent}
 use Rattle.archive_meaning.specs.declared.entry.SegmentEntry.{SegmentEntry}
@@ -29,12 +31,21 @@ file_segment n (Entry e) = in_file n e
 file_segment n Blank = None
 file_segment n Stopped = None
 
+module _ {D : Type 0} {G : Ghosts (StoreView D) StoreEntry (StoreFixed D)} where
+  -- The maker joined every pass that it made: these, and others that added nothing but the mark of a store that is stopped.
+  pub record HasEndedWith (m end : KeeperMaker D G) (ps : List (KeeperPass D)) : Type 0 where
+    pub about_is : about_by end ≡ about_by m
+    pub seen_on : IsPrefix (seen_by m) (seen_by end)
+    pub each : (i : ℕ) (p : KeeperPass D) → slice_get ps i ≡ Some p → HasEnded end p
+    pub only : (n : ℕ) → Has (ended_by end) n → IsOneOf ps 0 n ⊎ All (λ x. x.1 ≡ Stopped) (own_by end n)
+    pub all : HasJoinedAll end
+
 module _ {S D : Type 0} {G : Ghosts (StoreView D) StoreEntry (StoreFixed D)} (state : D → DiskState) where
   -- each worker may do each job with the pass that the maker makes for it
   abbrev pub MayDoAll : KeeperMaker D G → List Worker → List (Job S) → Type 0
   MayDoAll m ws js = (m' : KeeperMaker D G) (ks : List (KeeperPass D)) → Fresh m m' ks (length js) → AllFit (MayDo state) ws js ks
 
-  -- The maker made a pass for each job, the workers did the jobs with these, and the maker joined them.
+  -- The maker made a pass for each job, the workers did the jobs with these, and the maker joined them and all others.
   pub record HasDoneAll (left name : S → Option (List ℕ)) (faults : S → ℕ) (m end : KeeperMaker D G) (ws ws' : List Worker)
       (js js' : List (Job S)) : Type 0 where
     pub middle : KeeperMaker D G
@@ -43,7 +54,7 @@ module _ {S D : Type 0} {G : Ghosts (StoreView D) StoreEntry (StoreFixed D)} (st
     pub fresh : Fresh m middle passes (length js)
     pub went : AllWent IsIdle (DidOnly left) js js' ws ws'
     pub done : AllDone (DidOnly left) (DidJob state left name faults) ws ws' js js' passes passes'
-    pub joined : Joined middle end passes' 0
+    pub ended : HasEndedWith m end passes'
 
   -- all was done, and the lock closed
   pub record HasClosed (left name : S → Option (List ℕ)) (faults : S → ℕ) (m : KeeperMaker D G) (ws ws' : List Worker)
@@ -87,8 +98,8 @@ module _ {S D : Type 0} (state : D → DiskState) where
       → ((i : ℕ) (p : KeeperPass D) → slice_get ks i ≡ Some p → IsPassOf state first store i p × IsReady p)
       → AllFit (MayDo state) ws js ks
 
-  -- The workers did the jobs with passes over the store. What they added stands behind the store's list: each entry was added by
-  -- one of the passes, which may add it, and the segments of a pass' file are those that it added, in order.
+  -- The workers did the jobs with passes over the store. What they added stands behind the store's list: each entry but a mark
+  -- was added by one of the passes, which may add it, and the segments of a pass' file are those that it added, in order.
   pub record HasWorked (left name : S → Option (List ℕ)) (faults : S → ℕ) (first : ℕ) (ws ws' : List Worker)
       (js js' : List (Job S)) (before after : StoreView D) : Type 0 where
     pub fixed : fixed_of after ≡ fixed_of before
@@ -104,4 +115,4 @@ module _ {S D : Type 0} (state : D → DiskState) where
         (entries_in (own_list q))
     pub seen_on : (i : ℕ) (q : KeeperPass D) → slice_get passes' i ≡ Some q → IsPrefix (seen q) (list_of state after)
     pub added : (j : ℕ) (e : StoreEntry) → length (list_of state before) ≤ j → slice_get (list_of state after) j ≡ Some e
-        → AddedByOne MayAdd passes' j e
+        → (e ≡ Stopped) ⊎ AddedByOne MayAdd passes' j e

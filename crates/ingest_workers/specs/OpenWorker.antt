@@ -48,6 +48,12 @@ module _ {T O : Type 0} (knows : O → T → Type 0) where
   abbrev pub AreKnown : List O → List (Job T) → List (Job T) → Type 0
   AreKnown os js js' = (i : ℕ) (j j' : Job T) → slice_get js i ≡ Some j → slice_get js' i ≡ Some j' → OneKnows os j j'
 
+module _ {T O : Type 0} (idle : O → Type 0) (goes : O → O → Type 0) (knows : O → T → Type 0) where
+  -- what became of openers that served the workers of these jobs
+  pub record HaveServed (os os' : List O) (js js' : List (Job T)) : Type 0 where
+    pub gone : HaveGone idle goes os os'
+    pub known : AreKnown knows os' js js'
+
 module _ {T O : Type 0} (left : T → Option (List ℕ)) (goes : O → O → Type 0) where
   -- it did nothing but some of these jobs, which became those, and the opener opened and closed sources
   pub record OpenDidOnly (js js' : List (Job T)) (w v : OpenWorker O) : Type 0 where

@@ -13,10 +13,16 @@ use Rattle.disk_seal.specs.Opening.{MayOpen}
 use Rattle.ingest_fork.specs.Works.{AllReady}
 use Rattle.ingest_workers.specs.declared.ingesting.Crew.{Crew}
 use Rattle.ingest_workers.specs.declared.ingesting.Order.{Order}
+use Rattle.ingest_workers.specs.declared.ingesting.Split.{Split}
 use Rattle.ingest_workers.specs.declared.job.Job.{Job}
 use Rattle.ingest_workers.specs.StartedWorkers.{BookMaker}
 use Rattle.ingest_workers.specs.Ingested.{AreNew, HasBook, HasEndedBooks, HasIngested, HaveCauses, HaveCausesIn, IsAsItWas, OpensBook, books_at, told_entries}
 use Rattle.ingest_workers.specs.InTurn.{AreFullInTurn, WereFilled}
+
+-- by 1 to 64 workers, in segments of 1 to 65,536 rows
+pub record IsSplit (s : Split) : Type 0 where
+  pub workers : (1 ≤ s.workers) × (s.workers ≤ MAX_WORKERS)
+  pub rows : (1 ≤ s.rows) × (s.rows ≤ 65536)
 
 module _ {O : Type 0} where
   -- there is an opener for each worker, and none of them has a source open

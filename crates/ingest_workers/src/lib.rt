@@ -1,6 +1,7 @@
 //! Ingest: logs become the files of an archive.
 #![tactic(auto)]
 
+mod beside;
 mod close_store;
 mod file_end;
 mod finish_file;
@@ -19,7 +20,7 @@ mod start_workers;
 mod worker;
 mod worker_jobs;
 
-pub use ingesting::{IngestRefused, ingest, ingest_opened};
+pub use ingesting::{IngestRefused, Split, ingest, ingest_beside, ingest_opened};
 pub use job::Job;
 pub use job_run::run_job;
 pub use opening::{AsIs, Opens};

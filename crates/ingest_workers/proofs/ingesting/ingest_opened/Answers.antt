@@ -1,4 +1,5 @@
-use Rattle.std.proofs.Common.{◌∙◌, ◌∷◌, ◌++◌, [], arith, ap}
+use Rattle.std.proofs.Common.{◌∙◌, ◌∷◌, ◌++◌, [], arith, ap, refl}
+use Rattle.ingest_workers.proofs.FollowLemmas.{begins_always}
 use Rattle.ingest_workers.proofs.LentLemmas.{known_alone}
 use Rattle.ingest_workers.proofs.OrderLemmas.{causes_by_plan, done_by_plan, in_turn_by_plan, lone_gone, may_begin, on_ok}
 use Rattle.ingest_workers.proofs.ingesting.ingest_opened.Goals as goal
@@ -16,6 +17,9 @@ by_crew-done-requires-clause-types g c κs within = record { counted = c.order_f
 
 pub by_crew-done-requires-clause-words : goal.by_crew-done-requires-clause-words
 by_crew-done-requires-clause-words g c κs within = record { counted = c.order_for-order.ensures.saved.1; are = c.requires.books.words_are }
+
+pub by_crew-done-requires-clause-beside : goal.by_crew-done-requires-clause-beside
+by_crew-done-requires-clause-beside g c κs within = begins_always _ c.args.journal refl refl refl (λ h es hs. tt)
 
 pub returns-clause-opener : goal.returns-clause-opener
 returns-clause-opener g c =

@@ -1,11 +1,14 @@
 use Rattle.std.proofs.Common.{◌∙◌, List, ap, arith, refl, reverse, subst, sym, vec_items}
 use Rattle.ingest_fork.specs.Works.{AllReady}
+use Rattle.disk_seal.specs.declared.fixed.StoreFixed.{StoreFixed}
+use Rattle.disk_seal.specs.View.{StoreView}
 use Rattle.ingest_workers.specs.declared.open_worker.OpenWorker.{OpenWorker}
 use Rattle.ingest_workers.specs.OpenWorker.{AreKnown, openers_in, workers_in}
 use Rattle.ingest_workers.specs.StartedWorkers.{MayDismiss}
 use Rattle.ingest_workers.proofs.ClosingLemmas.{books_known, ends_book, may_dismiss, types_each, types_still, words_each, words_still}
 use Rattle.ingest_workers.proofs.CrewLemmas.{map_count}
-use Rattle.ingest_workers.proofs.IngestLemmas.{causes_by, crew, ingested_by, may_do_by, stayed_by}
+use Rattle.ingest_workers.proofs.FollowLemmas.{begins_over, went_beside}
+use Rattle.ingest_workers.proofs.IngestLemmas.{causes_by, crew, ingested_by, may_do_by, rose_by, stayed_by}
 use Rattle.ingest_workers.proofs.InTurnLemmas.{were_filled}
 use Rattle.ingest_workers.proofs.LentLemmas.{all_closed, dismiss_new, enrolled_as, known_reversed, lent_gone, lent_none, ready_reversed}
 use Rattle.ingest_workers.proofs.ingesting.with_workers.Goals as goal
@@ -31,6 +34,9 @@ over_store-requires-clause-may g c κs within =
     (λ n w at. (crew _ _ _ _ _ _ _ _ _ _ _ _ _ _ _ _ _ _ c.requires.types c.requires.words c.pass-types_reader.ensures.pass c.pass-words_reader.ensures.pass
     c.pass-types_reader.ensures.still c.pass-types_reader.ensures.made c.pass-words_reader.ensures.still c.pass-words_reader.ensures.made e c.requires.begin.workers.1 n w at).1)
 
+pub over_store-requires-clause-beside : goal.over_store-requires-clause-beside
+over_store-requires-clause-beside g c κs within = begins_over _ c.args.journal c.pass-types_reader.result c.pass-words_reader.result c.args.crew.now.order.types_saved c.args.crew.now.order.words_saved _ c.open_store-store.ensures c.requires.beside
+
 -- ---- all done
 
 pub returns-in-Ok-over_store-clause-done : goal.returns-in-Ok-over_store-clause-done
@@ -55,11 +61,19 @@ returns-in-Ok-over_store-clause-done g c =
     }
 
 pub returns-in-Ok-over_store-clause-gone : goal.returns-in-Ok-over_store-clause-gone
-returns-in-Ok-over_store-clause-gone g c = lent_gone g.O.Opens.idle g.O.Opens.goes _ _ (openers_in c.enroll.new.workers.items) (openers_in c.over_store.new.workers.items) c.enroll.ensures.openers c.end.ensures.openers c.in-Ok-over_store.ensures.gone
+returns-in-Ok-over_store-clause-gone g c = lent_gone g.O.Opens.idle g.O.Opens.goes _ _ (openers_in c.enroll.new.workers.items) (openers_in c.over_store.new.workers.items) c.enroll.ensures.openers c.end.ensures.openers c.in-Ok-over_store.ensures.openers.gone
 
 pub returns-in-Ok-over_store-clause-known : goal.returns-in-Ok-over_store-clause-known
 returns-in-Ok-over_store-clause-known g c = subst (λ l. AreKnown g.O.Opens.knows l c.args.jobs.now c.over_store.new.jobs) (sym c.end.ensures.openers)
-    (known_reversed g.O.Opens.knows (openers_in c.over_store.new.workers.items) c.args.jobs.now c.over_store.new.jobs c.in-Ok-over_store.ensures.known)
+    (known_reversed g.O.Opens.knows (openers_in c.over_store.new.workers.items) c.args.jobs.now c.over_store.new.jobs c.in-Ok-over_store.ensures.openers.known)
+
+pub returns-in-Ok-over_store-clause-beside : goal.returns-in-Ok-over_store-clause-beside
+returns-in-Ok-over_store-clause-beside g c =
+    let types = c.pass-types_reader.result in let words = c.pass-words_reader.result in let order = c.args.crew.now.order in let store = c.in-Ok-over_store.store in
+    let fixed = c.in-Ok-over_store.ensures.done.fixed in
+    went_beside _ _ c.args.journal c.end.result types words order.types_saved order.words_saved c.open_store-store.result store c.open_store-store.ensures c.in-Ok-over_store.ensures.beside c.end.ensures.journal
+    (rose_by g.O.Opens.left g.O.Opens.name g.O.Opens.faults c.args.journal c.end.result types words order.types_saved order.words_saved store c.end.ensures.kept
+    (ap (λ (x : StoreFixed g.row.D.Denot). x.opened) fixed ∙ ap (λ (x : StoreView g.row.D.Denot). x.opened) c.open_store-store.ensures) (sym c.end.ensures.journal.disk))
 
 pub end-requires-clause-may : goal.end-requires-clause-may
 end-requires-clause-may g c =
