@@ -11,15 +11,15 @@ use log_seams::Sink;
 
 /// What came of a file that was to be taken in.
 #[derive(Clone, Copy, Debug)]
-pub(crate) struct FileReport<'a> {
+pub struct FileReport<'a> {
     /// Its name.
-    pub(crate) name: &'a str,
+    pub name: &'a str,
     /// How many messages of it the archive has.
-    pub(crate) messages: u64,
+    pub messages: u64,
     /// Whether these are all.
-    pub(crate) whole: bool,
+    pub whole: bool,
     /// Why they are not.
-    pub(crate) refusal: Option<PartCause>,
+    pub refusal: Option<PartCause>,
 }
 
 impl Listed for FileReport<'_> {
@@ -66,7 +66,7 @@ fn report_one<K: Sink>(err: &mut K, file: &FileReport<'_>) -> u8
 }
 
 /// Writes a line for each file that is not whole, in their order, and answers the gravest status of all.
-pub(crate) fn report_taken<K: Sink>(err: &mut K, files: &[FileReport<'_>]) -> u8
+pub fn report_taken<K: Sink>(err: &mut K, files: &[FileReport<'_>]) -> u8
     ensures status { result ≡ status_of_taken files.now }
     ensures said { Says
         (K.written err.old) (K.written err.new) (K.faults err.old) (K.faults err.new)
