@@ -21,5 +21,3 @@ mod outside;
 mod search_tests;
 #[cfg(test)]
 mod upgrade_tests;
-#[cfg(test)]
-mod watch_tests;

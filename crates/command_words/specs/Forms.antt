@@ -43,8 +43,7 @@ create = command (codes "create")
 
 abbrev pub ingest : Shape
 ingest = command (codes "ingest")
-    (option (codes "workers") ∷ option (codes "segment") ∷ option (codes "watch")
-    ∷ several (codes "file") ∷ [])
+    (option (codes "workers") ∷ option (codes "segment") ∷ several (codes "file") ∷ [])
 
 abbrev pub files : Shape
 files = command (codes "files") []

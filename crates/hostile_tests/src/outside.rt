@@ -51,11 +51,6 @@ impl Outcome {
         self.status == status && self.out.bytes() == out && self.err.bytes() == err
     }
 
-    /// What the call printed.
-    pub(crate) fn printed(&self) -> &[u8] {
-        self.out.bytes()
-    }
-
     /// Whether the call answered this, said this, and wrote a front of these bytes.
     pub(crate) fn has_front(&self, status: u8, out: &[u8], err: &[u8]) -> bool {
         self.status == status && out.starts_with(self.out.bytes()) && self.err.bytes() == err
@@ -68,7 +63,7 @@ pub(crate) fn disk(alloc: Global, bytes: &[u8], fault: u64) -> Result<MemDisk, A
         alloc,
         Text::new(bytes.to_vec(alloc)?),
         1 << 16,
-        1000,
+        400,
         vec![in alloc; fault; 1]?,
     )
 }
@@ -103,7 +98,7 @@ pub(crate) const SOUND: Faults = Faults {
 };
 
 /// The words of a command line.
-pub(crate) fn list_of(alloc: Global, words: &[&str]) -> Result<Vec<String>, AllocError> {
+fn list_of(alloc: Global, words: &[&str]) -> Result<Vec<String>, AllocError> {
     let mut list = Vec::new(alloc);
     for word in words {
         list.push(String::from_str(alloc, word)?)?;
@@ -121,7 +116,7 @@ fn nothing(alloc: Global, faults: Faults) -> Result<Outcome, AllocError> {
 }
 
 /// What `run` answers where no archive is known that the disk holds.
-pub(crate) fn answer<R: Threads + Wait + Sync, H: Shelf, D: Disk + Send, K: Sink + Send>(
+fn answer<R: Threads + Wait + Sync, H: Shelf, D: Disk + Send, K: Sink>(
     rt: &R,
     alloc: Global,
     words: &[String],

@@ -1,4 +1,3 @@
-pub mod Followed
 pub mod IngestPrints
 pub mod Jobs
 pub mod JournalLeft

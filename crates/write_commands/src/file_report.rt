@@ -11,15 +11,15 @@ use log_seams::Sink;
 
 /// What came of a file that was to be taken in.
 #[derive(Clone, Copy, Debug)]
-pub struct FileReport<'a> {
+pub(crate) struct FileReport<'a> {
     /// Its name.
-    pub name: &'a str,
+    pub(crate) name: &'a str,
     /// How many messages of it the archive has.
-    pub messages: u64,
+    pub(crate) messages: u64,
     /// Whether these are all.
-    pub whole: bool,
+    pub(crate) whole: bool,
     /// Why they are not.
-    pub refusal: Option<PartCause>,
+    pub(crate) refusal: Option<PartCause>,
 }
 
 impl Listed for FileReport<'_> {
@@ -66,7 +66,7 @@ fn report_one<K: Sink>(err: &mut K, file: &FileReport<'_>) -> u8
 }
 
 /// Writes a line for each file that is not whole, in their order, and answers the gravest status of all.
-pub fn report_taken<K: Sink>(err: &mut K, files: &[FileReport<'_>]) -> u8
+pub(crate) fn report_taken<K: Sink>(err: &mut K, files: &[FileReport<'_>]) -> u8
     ensures status { result ≡ status_of_taken files.now }
     ensures said { Says
         (K.written err.old) (K.written err.new) (K.faults err.old) (K.faults err.new)
