@@ -9,7 +9,8 @@ use Rattle.archive_meaning.specs.Held.{Held, content_of}
 use Rattle.archive_open.specs.declared.segments.SegmentPlace.{SegmentPlace}
 use Rattle.archive_open.specs.Shown.{places_of}
 use Rattle.search_walk.specs.Opened.{AreOpened}
-use Rattle.search_walk.specs.Scan.{AreFound, Asked, Placed, all_placed}
+use Rattle.printed_lines.specs.Lines.{Placed}
+use Rattle.search_walk.specs.Scan.{AreFound, Asked, all_placed}
 use Rattle.search_walk.specs.Journal.{OfJournal}
 use Rattle.group_count.specs.Grouped.{AreExpanded, IsGrouped, messages_of}
 use Rattle.group_count.specs.Printed.{minutes_text, types_text}

@@ -16,7 +16,8 @@ use Rattle.wild_match.specs.declared.pattern.Item.TheVariants.{Byte, Many, One}
 use Rattle.segment_pages.specs.Paged.{HoldsLeft, HoldsNoneTold, OfRows, Paged, ReadsColumns, columns_size, moments_in, paged_end, part, patterns_in}
 use Rattle.segment_pages.specs.Laws.{LeftAreCounted}
 use Rattle.segment_pages.proofs.ReadLemmas.{none_within, reads_on}
-use Rattle.search_walk.specs.Scan.{Asked, IsFound, Picks, Placed, numbered}
+use Rattle.printed_lines.specs.Lines.{Picks, Placed, numbered}
+use Rattle.search_walk.specs.Scan.{Asked, IsFound}
 use Rattle.search_walk.specs.Held.{AreRowsOf, Named}
 use Rattle.search_walk.specs.Walked.{PagesGone, PastTold}
 use Rattle.search_walk.proofs.PagesReadLemmas.{rests_same}

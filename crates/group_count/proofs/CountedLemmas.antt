@@ -21,8 +21,9 @@ use Rattle.search_walk.specs.declared.query.Judgement.TheVariants.{Found, Left, 
 use Rattle.search_walk.specs.Held.{AreRowsOf, Named}
 use Rattle.search_walk.specs.Judged.{Judges as JudgesText}
 use Rattle.search_walk.specs.Ready.{IsDecided, IsLent}
-use Rattle.search_walk.specs.Scan.{Asked, IsFound, IsInRange, IsTried, Placed, numbered, placed}
-use Rattle.search_walk.proofs.PickLemmas.{numbered_append}
+use Rattle.printed_lines.specs.Lines.{Placed, numbered, placed}
+use Rattle.search_walk.specs.Scan.{Asked, IsFound, IsInRange, IsTried}
+use Rattle.printed_lines.proofs.LineLemmas.{numbered_append}
 use Rattle.search_walk.proofs.RowLemmas.{in_range, next_row, none_left}
 use Rattle.search_walk.proofs.VerdictLemmas.{decided_inside, lent_canonical, lent_has, lent_spelling}
 use Rattle.group_count.specs.Grouped.{IsExpanded}

@@ -15,7 +15,8 @@ use Rattle.column_store.specs.declared.row.Row.{Row}
 use Rattle.row_codec.specs.Means.{IsCanonical}
 use Rattle.search_walk.specs.Journal.{OfJournal}
 use Rattle.search_walk.specs.Opened.{IsBarrenFor}
-use Rattle.search_walk.specs.Scan.{Asked, IsFound, Placed, all_placed}
+use Rattle.printed_lines.specs.Lines.{Placed}
+use Rattle.search_walk.specs.Scan.{Asked, IsFound, all_placed}
 use Rattle.search_walk.proofs.PickLemmas.{picks_once, picks_short}
 use Rattle.group_count.specs.declared.archive_counting.Gone.{Gone}
 use Rattle.group_count.specs.declared.groups.GroupBy.{GroupBy}

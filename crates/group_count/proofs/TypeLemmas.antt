@@ -1,5 +1,5 @@
 -- The texts of log types, counted by their numbers.
-use Rattle.std.proofs.Common.{◌≡◌, ◌+◌, ◌<◌, ◌≤◌, ◌^◌, ◌&&◌, ◌∷◌, ◌++◌, ℕ, Bool, IsTrue, true, All, nat_lt, refl, subst, List, [], length, cond, count_by, slice_index_or, arith, ap, sym, ◌∙◌}
+use Rattle.std.proofs.Common.{◌≡◌, ◌+◌, ◌<◌, ◌≤◌, ◌^◌, ◌&&◌, ◌∷◌, ◌++◌, ℕ, Bool, IsTrue, IsFalse, true, All, nat_lt, refl, subst, List, [], length, cond, count_by, slice_index_or, arith, ap, sym, ◌∙◌}
 use Rattle.std.specs.Ordering.{is_eq}
 use Rattle.std.specs.Borrow.{Bor}
 use Rattle.std.specs.BTreeMap.{BTreeMap, IsEmpty, IsOrdered, is_at}
@@ -61,6 +61,10 @@ all_front : (P : ℕ → Type 0) (xs ys : List ℕ) → All P (xs ++ ys) → All
 all_front P [] ys all = All-nil P
 all_front P (x ∷ xs) ys all = All-cons P x xs (All-head P x (xs ++ ys) all) (all_front P xs ys (All-tail P x (xs ++ ys) all))
 
+all_more : (P : ℕ → Type 0) (xs : List ℕ) (y : ℕ) → All P xs → P y → All P (xs ++ y ∷ [])
+all_more P [] y all is = All-cons P y [] is (All-nil P)
+all_more P (x ∷ xs) y all is = All-cons P x (xs ++ y ∷ []) (All-head P x xs all) (all_more P xs y (All-tail P x xs all) is)
+
 all_last : (P : ℕ → Type 0) (xs : List ℕ) (y : ℕ) → All P (xs ++ y ∷ []) → P y
 all_last P [] y all = All-head P y [] all
 all_last P (x ∷ xs) y all = all_last P xs y (All-tail P x (xs ++ y ∷ []) all)
@@ -70,14 +74,18 @@ pub counted_below : (a b : TypeState) (old : List ℕ) (numbers : List ℕ) (n :
     → ((before : List ℕ) → AreCounts old before → AreCounts b.counts (before ++ n ∷ [])) → HoldTypes a numbers → HoldTypes b (numbers ++ n ∷ [])
 counted_below a b old numbers n limit same beyond lt more was = record {
   counts = λ all. more numbers (subst (λ (l : List ℕ). AreCounts l numbers) (sym same) (was.counts (subst (λ (l : ℕ). All (λ m. m < l) numbers) limit (all_front (λ (m : ℕ). m < b.limit) numbers (n ∷ []) all))));
-  beyond = λ is all. was.beyond (subst IsTrue beyond is) (subst (λ (l : ℕ). All (λ m. m < l) numbers) limit (all_front (λ (m : ℕ). m < b.limit) numbers (n ∷ []) all));
+  marked = λ is all. was.marked (subst IsTrue beyond is) (subst (λ (l : ℕ). All (λ m. m < l) numbers) limit (all_front (λ (m : ℕ). m < b.limit) numbers (n ∷ []) all));
+  unmarked = λ is. subst (λ (l : ℕ). All (λ m. m < l) (numbers ++ n ∷ [])) (sym limit) (all_more (λ (m : ℕ). m < a.limit) numbers n (was.unmarked (subst IsFalse beyond is)) lt);
 }
+
+not_both : (b : Bool) → b ≡ true → IsFalse b → ⊥
+not_both b marked unmarked = cc (sym marked ∙ unmarked)
 
 -- a number that is not
 pub marked_beyond : (a b : TypeState) (numbers : List ℕ) (n : ℕ) → b.limit ≡ a.limit → b.beyond ≡ true → a.limit ≤ n → HoldTypes b (numbers ++ n ∷ [])
 marked_beyond a b numbers n limit beyond le =
     let none : All (λ (m : ℕ). m < b.limit) (numbers ++ n ∷ []) → ⊥ = λ all. let lt = all_last (λ (m : ℕ). m < b.limit) numbers n all in omega (arith, lt, le, limit) in
-    record { counts = λ all. absurd (none all); beyond = λ is all. none all }
+    record { counts = λ all. absurd (none all); marked = λ is all. none all; unmarked = λ is. absurd (not_both b.beyond beyond is) }
 
 module _ (types : List (List ℕ)) (table : TypeState) (numbers : List ℕ) (are : AreTypes (length types) table numbers) (numbered : AreNumbered types numbers) where
   all_below : All (λ (n : ℕ). n < table.limit) numbers
@@ -87,7 +95,11 @@ module _ (types : List (List ℕ)) (table : TypeState) (numbers : List ℕ) (are
   are_counts = are.1.counts all_below
 
   pub are_none_beyond : IsTrue table.beyond → ⊥
-  are_none_beyond is = are.1.beyond is all_below
+  are_none_beyond is = are.1.marked is all_below
+
+-- where nothing is marked each number has a text
+pub unmarked_numbered : (types : List (List ℕ)) (table : TypeState) (numbers : List ℕ) → IsFalse table.beyond → AreTypes (length types) table numbers → All (λ n. n < length types) numbers
+unmarked_numbered types table numbers unmarked are = subst (λ (l : ℕ). All (λ n. n < l) numbers) are.0 (are.1.unmarked unmarked)
 
 -- the entries of a tally of texts are the groups of these
 pub type_groups : (types : List (List ℕ)) (numbers : List ℕ) (m : BTreeMap (Bor (List ℕ)) ℕ) (groups : List Group)

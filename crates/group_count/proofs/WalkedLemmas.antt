@@ -12,12 +12,13 @@ use Rattle.archive_places.specs.Laws.{HeadsStand, WordsStand}
 use Rattle.archive_places.specs.Opened.{OpensPlaces}
 use Rattle.search_walk.specs.Held.{AreRowsOf, Named, OfLeft, OfSegments}
 use Rattle.search_walk.specs.Journal.{OfJournal}
-use Rattle.search_walk.specs.Scan.{Asked, Placed, numbered}
+use Rattle.printed_lines.specs.Lines.{Placed, numbered}
+use Rattle.search_walk.specs.Scan.{Asked}
 use Rattle.search_walk.specs.Walked.{PastTold, Searched, SearchedFronts, Stopped, StoppedFronts}
 use Rattle.search_walk.proofs.GroupLemmas.{content_small}
 use Rattle.search_walk.proofs.JournalLemmas.{Knows, of_journal}
 use Rattle.search_walk.proofs.PageLemmas.{left_all, past_page}
-use Rattle.search_walk.proofs.PickLemmas.{numbered_append}
+use Rattle.printed_lines.proofs.LineLemmas.{numbered_append}
 use Rattle.group_count.specs.declared.archive_counting.Gone.{Gone}
 use Rattle.group_count.specs.declared.counts.Counts.{Counts}
 use Rattle.group_count.specs.Grouped.{HasStoppedCounting}

@@ -6,7 +6,8 @@ use Rattle.archive_meaning.specs.declared.entry.JournalEntry.{JournalEntry}
 use Rattle.archive_meaning.specs.Held.{Held, content_of}
 use Rattle.archive_open.specs.declared.segments.SegmentPlace.{SegmentPlace}
 use Rattle.query_plan.specs.Laws.{IsPlain}
-use Rattle.search_walk.specs.Scan.{AreFound, Asked, IsTried, Picks, Placed, all_placed}
+use Rattle.printed_lines.specs.Lines.{Picks, Placed}
+use Rattle.search_walk.specs.Scan.{AreFound, Asked, IsTried, all_placed}
 use Rattle.search_walk.specs.Opened.{AreOpened}
 use Rattle.search_walk.specs.Journal.{AreSegmentsOf}
 use Rattle.group_count.specs.declared.groups.Group.{Group}

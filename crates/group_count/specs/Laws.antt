@@ -5,7 +5,8 @@ use Rattle.logtype_text.specs.TypeText.{type_text}
 use Rattle.column_store.specs.declared.row.Row.{Row}
 use Rattle.row_codec.specs.Means.{AreCanonical}
 use Rattle.query_plan.specs.Laws.{IsPlain}
-use Rattle.search_walk.specs.Scan.{AreTried, Asked, Placed}
+use Rattle.printed_lines.specs.Lines.{Placed}
+use Rattle.search_walk.specs.Scan.{AreTried, Asked}
 use Rattle.group_count.specs.Grouped.{AreExpanded}
 use Rattle.group_count.specs.Groups.{HaveMinutes, HaveTypes}
 use Rattle.group_count.specs.Printed.{shape_of, shape_of_symbols}

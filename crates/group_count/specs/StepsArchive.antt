@@ -6,7 +6,8 @@ use Rattle.archive_meaning.specs.Held.{Held, content_of}
 use Rattle.archive_open.specs.declared.segments.SegmentPlace.{SegmentPlace}
 use Rattle.column_store.specs.declared.row.Row.{Row}
 use Rattle.row_codec.specs.Means.{AreCanonical}
-use Rattle.search_walk.specs.Scan.{AreFound, Asked, Placed, all_placed}
+use Rattle.printed_lines.specs.Lines.{Placed}
+use Rattle.search_walk.specs.Scan.{AreFound, Asked, all_placed}
 use Rattle.search_walk.specs.Opened.{AreOpened}
 use Rattle.search_walk.specs.Journal.{AreSegmentsOf}
 use Rattle.group_count.specs.declared.archive_counting.Gone.{Gone}

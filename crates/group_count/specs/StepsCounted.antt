@@ -4,7 +4,8 @@ use Rattle.column_store.specs.declared.row.Row.{Row}
 use Rattle.row_codec.specs.Means.{AreCanonical}
 use Rattle.search_walk.specs.declared.query.Judgement.{Judgement}
 use Rattle.search_walk.specs.declared.query.Judgement.TheVariants.{Left, Tried, Found}
-use Rattle.search_walk.specs.Scan.{AreFound, Asked, Placed}
+use Rattle.printed_lines.specs.Lines.{Placed}
+use Rattle.search_walk.specs.Scan.{AreFound, Asked}
 use Rattle.search_walk.specs.Held.{Named}
 use Rattle.group_count.specs.declared.counts.Counts.{Counts}
 use Rattle.group_count.specs.Grouped.{AreExpanded, messages_of}

@@ -1,5 +1,5 @@
 -- What the tables hold while messages are counted.
-use Rattle.std.specs.Prelude.{◌≡◌, ℕ, zero, suc, ◌+◌, ◌<◌, ◌^◌, nat_eq, cond, Bool, IsTrue, false, if◌then◌else◌, is_none, ℤ, pos, ◌-ℤ◌, List, [], ◌∷◌, map, length, count_by, slice_index_or, Option, None, Some, All}
+use Rattle.std.specs.Prelude.{◌≡◌, ℕ, zero, suc, ◌+◌, ◌<◌, ◌^◌, nat_eq, cond, Bool, IsTrue, IsFalse, false, if◌then◌else◌, is_none, ℤ, pos, ◌-ℤ◌, List, [], ◌∷◌, map, length, count_by, slice_index_or, Option, None, Some, All}
 use Rattle.std.specs.Borrow.{Bor}
 use Rattle.std.specs.BTreeMap as tree
 use Rattle.std.specs.BTreeMap.{BTreeMap, is_at}
@@ -19,11 +19,11 @@ pub record TypeState : Type 0 where
   pub counts : List ℕ
   pub beyond : Bool
 
--- These numbers were counted: each at its place where all are below the limit; and it is told only where it is so that they are
--- not.
+-- These numbers were counted: where all are below the limit each stands at its place, and it is marked just where one is not.
 pub record HoldTypes (table : TypeState) (numbers : List ℕ) : Type 0 where
   pub counts : All (λ n. n < table.limit) numbers → AreCounts table.counts numbers
-  pub beyond : IsTrue table.beyond → ¬ All (λ n. n < table.limit) numbers
+  pub marked : IsTrue table.beyond → ¬ All (λ n. n < table.limit) numbers
+  pub unmarked : IsFalse table.beyond → All (λ n. n < table.limit) numbers
 
 -- these numbers were counted in a table of so many log types
 abbrev pub AreTypes : ℕ → TypeState → List ℕ → Type 0

@@ -6,7 +6,7 @@ ghost use Rattle.segment_pages.specs.Paged.{AreNextTold, paged_after};
 ghost use Rattle.search_walk.specs.Held.{OfLeft};
 ghost use Rattle.search_walk.specs.PagesRead.{ReadsPage};
 ghost use Rattle.search_walk.specs.Ready.{IsReadyPage, Serves};
-ghost use Rattle.search_walk.specs.Scan.{numbered};
+ghost use Rattle.printed_lines.specs.Lines.{numbered};
 ghost use Rattle.search_walk.specs.Walked.{PageGone, PagesGone, PastTold};
 ghost use Rattle.group_count.specs.StepsCounted.{Counted, Passes, Stops, sofar};
 ghost use Rattle.group_count.specs.StepsServed.{FindsAll, IsServed};

@@ -1,11 +1,11 @@
 //! Rows that are counted, by what they are stored as or by what they are written as.
-ghost use Rattle.std.specs.Prelude.{◌≡◌, ◌<◌, ◌↔◌, ◌∷◌, [], ℕ, List, length, IsTrue, OnOk, OnErr, IsErrOf, Some, slice_get};
+ghost use Rattle.std.specs.Prelude.{◌≡◌, ◌↔◌, ◌∷◌, [], ℕ, List, length, IsTrue, OnOk, OnErr, IsErrOf};
 ghost use Rattle.column_store.specs.Row.{row_of};
 ghost use Rattle.row_codec.specs.Means.{IsCanonical};
 ghost use Rattle.query_plan.specs.Laws.{IsPlain};
 ghost use Rattle.search_walk.specs.Held.{AreRowsOf, Named};
 ghost use Rattle.search_walk.specs.Ready.{IsLent, IsReadyPage};
-ghost use Rattle.search_walk.specs.Scan.{numbered, placed};
+ghost use Rattle.printed_lines.specs.Lines.{numbered, placed};
 ghost use Rattle.group_count.specs.StepsCounted.{Adds, Passes, Stops, judged_more, judged_rows, sofar};
 
 use crate::counts::Counts;
@@ -16,7 +16,7 @@ use column_store::{Columns, RowRef};
 use log_seams::Disk;
 use query_plan::wide_is_wider;
 use row_codec::{Layouts, RowWriter};
-use search_walk::{Context, Judgement, Query, is_rejected};
+use search_walk::{Context, Judgement, Query, is_certain, is_rejected, verdict_at};
 use std::alloc::AllocError;
 use std::sync::ledger::Ledger;
 use step_count::Steps;
@@ -99,13 +99,6 @@ fn count_judged<T: RowTable, M: Ledger>(
     Ok(())
 }
 
-/// Whether it is known that a row's message is expanded, where it is in the range.
-fn is_certain(verdict: Verdict) -> bool
-    ensures { IsTrue result → verdict ≡ Verdict.Certain }
-{
-    matches!(verdict, Verdict::Certain)
-}
-
 /// Writes a row in the place of the text of the last one, and counts it where its message is found.
 fn count_written<T: RowTable, M: Ledger>(
     query: &Query,
@@ -144,14 +137,6 @@ fn count_written<T: RowTable, M: Ledger>(
     let judgement = query.judge(is_certain(verdict), text.as_slice());
     count_judged(judgement, row, counts, expanded)?;
     Ok(())
-}
-
-/// The verdict at a place.
-fn verdict_at(verdicts: &[Verdict], place: u32) -> Verdict
-    requires { place < length verdicts.now }
-    ensures { slice_get verdicts.now place ≡ Some result }
-{
-    verdicts[place as usize]
 }
 
 /// Counts the rows of a page of a plain pattern whose messages are found. None of them is expanded.

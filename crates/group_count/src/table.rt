@@ -18,14 +18,14 @@ use std::alloc::AllocError;
 
 /// What rows are counted in, one after the other, by what they have in common.
 pub(crate) trait RowTable {
-    // These rows were counted. The number is of the archive: its version for minutes, and how many log
-    // types it has for these.
+    // These rows were counted, of an archive of which a table knows one number: that of minutes its
+    // version, and that of log types how many of these it has.
     ghost counted: { Self → ℕ → List Row → Type 0 };
 
     /// Counts a row.
     fn count_row(&mut self, row: RowRef<'_>) -> Result<(), AllocError>
-        ensures { OnOk result ((version : ℕ) (before : List Row) → counted self.old version before
-            → counted self.new version (before ++ row_of row.entry ∷ [])) };
+        ensures { OnOk result ((known : ℕ) (before : List Row) → counted self.old known before
+            → counted self.new known (before ++ row_of row.entry ∷ [])) };
 
     /// Counts all rows that are left of a segment, by the columns that it looks at.
     fn count_left<D: Disk>(
@@ -39,8 +39,8 @@ pub(crate) trait RowTable {
 
         // by the answer, and causes
         ensures counted { OnOk result (OfRows (D.state disk.old).seen pages.now
-            (λ rows. (version : ℕ) (before : List Row) → counted self.old version before
-            → counted self.new version (before ++ rows))) }
+            (λ rows. (known : ℕ) (before : List Row) → counted self.old known before
+            → counted self.new known (before ++ rows))) }
         ensures damaged { IsErrOf result SearchRefusal.Damaged
             → HoldsNoneTold (D.state disk.old).seen pages.now }
         ensures counts { CountsOf SearchRefusal.DiskFault

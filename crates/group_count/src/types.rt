@@ -1,5 +1,5 @@
 //! Messages counted by the number of their log type.
-ghost use Rattle.std.specs.Prelude.{◌≡◌, ℕ, ◌<◌, ◌≤◌, ◌^◌, ◌++◌, List, [], ◌∷◌, pos, length, slice_index_or, All, IfOk, IsErrOf, OnOk};
+ghost use Rattle.std.specs.Prelude.{◌≡◌, ℕ, ◌<◌, ◌≤◌, ◌^◌, ◌++◌, List, [], ◌∷◌, pos, length, slice_index_or, All, IfOk, IsErrOf, IsOk, OnOk};
 ghost use Rattle.group_count.specs.Groups.{AreGroups, by_key, byte_order};
 ghost use Rattle.group_count.specs.Tables.{AreCounts, AreNumbered, AreTypes, HoldTypes, texts_at};
 
@@ -73,12 +73,13 @@ impl TypeTable {
     }
 
     /// Counts a message of the log type with this number. A number that is none of a log type is
-    /// only marked: the rows of a damaged archive may have any.
+    /// only marked, and takes no memory: the rows of a damaged archive may have any.
     #[inline]
     pub fn count(&mut self, number: u32) -> Result<(), AllocError>
         ensures limit { self.new.limit ≡ self.old.limit }
         ensures counted { OnOk result ((numbers : List ℕ) → HoldTypes self.old numbers
             → HoldTypes self.new (numbers ++ number ∷ [])) }
+        ensures beyond { self.old.limit ≤ number → IsOk result }
     {
         if number >= self.limit {
             self.beyond = true;
@@ -100,12 +101,15 @@ impl TypeTable {
     }
 
     /// The groups of what was counted, by the texts of the log types. Numbers with one text are one
-    /// group.
+    /// group. There are none where a number that is none of a log type was counted.
     pub fn groups<N: Names>(&self, alloc: Global, names: &N) -> Result<GroupList, TableRefusal>
         ensures groups { IfOk result (λ groups. (numbers : List ℕ)
             → AreTypes (length (N.types names.now)) self.now numbers
             → AreNumbered (N.types names.now) numbers
             → AreGroups byte_order (texts_at (N.types names.now) numbers) (by_key groups)) }
+        ensures numbered { IfOk result (λ _. (numbers : List ℕ)
+            → AreTypes (length (N.types names.now)) self.now numbers
+            → All (λ n. n < length (N.types names.now)) numbers) }
         ensures moments { IfOk result (λ groups. All (λ g. g.moment ≡ pos 0) groups) }
         ensures damaged { IsErrOf result TableRefusal.Damaged → (numbers : List ℕ)
             → AreTypes (length (N.types names.now)) self.now numbers

@@ -100,7 +100,7 @@ fn log_types(alloc: Global) -> Result<LogTypes, AllocError> {
     })
 }
 
-/// A table of three log types in which numbers were counted.
+/// A table of the log types above in which numbers were counted.
 fn counted(alloc: Global, numbers: &[u32]) -> Result<TypeTable, AllocError> {
     let mut table = TypeTable::new(alloc, TEXTS.len() as u32);
     for number in numbers {

@@ -13,11 +13,12 @@ use Rattle.word_places.specs.Held.{HeldNames}
 use Rattle.search_walk.specs.Held.{AreRowsOf, IsTold, Named, OfLeft}
 use Rattle.search_walk.specs.PagesRead.{IsOfPage, ReadsPage}
 use Rattle.search_walk.specs.Ready.{AreDecided}
-use Rattle.search_walk.specs.Scan.{Asked, Placed, numbered}
+use Rattle.printed_lines.specs.Lines.{Placed, numbered}
+use Rattle.search_walk.specs.Scan.{Asked}
 use Rattle.search_walk.specs.Walked.{PagesGone}
 use Rattle.search_walk.proofs.PageLemmas.{parts_of, same_columns}
 use Rattle.search_walk.proofs.PagesReadLemmas.{such_on}
-use Rattle.search_walk.proofs.PickLemmas.{numbered_append}
+use Rattle.printed_lines.proofs.LineLemmas.{numbered_append}
 use Rattle.subquery_filter.specs.declared.verdicts.Verdict.{Verdict}
 use Rattle.search_engine.specs.Sofar.{sofar}
 use Rattle.search_engine.specs.declared.page_ahead.AheadPage.{AheadPage}

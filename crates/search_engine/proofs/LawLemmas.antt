@@ -1,7 +1,8 @@
 -- What is found and what is expanded.
 use Rattle.std.proofs.Common.{◌≡◌, inl, inr, List, [], ◌∷◌, sym, ◌∙◌, ap}
 use Rattle.query_plan.specs.Laws.{WideIsExact, WideIsWider}
-use Rattle.search_walk.specs.Scan.{IsFound, IsTried, Picks, Placed}
+use Rattle.printed_lines.specs.Lines.{Picks, Placed}
+use Rattle.search_walk.specs.Scan.{IsFound, IsTried}
 use Rattle.search_engine.specs.Laws.{ExactExpandsPrinted, OneIsFound}
 use Rattle.search_walk.proofs.PickLemmas.{picks_once}
 

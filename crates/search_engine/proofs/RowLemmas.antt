@@ -3,7 +3,6 @@ use Rattle.std.proofs.Common.{◌≡◌, inl, inr, ℕ, ◌+◌, ◌<◌, ◌≤
 use Rattle.std.specs.Prelude.{slice_get}
 use Rattle.std.proofs.lemmas.List.{append-nil, append_assoc, take_at, drop_at}
 use Rattle.std.proofs.Math.ListN.{drop_of_length-le}
-use Rattle.std.specs.Fmt.{decimal}
 use Rattle.column_store.specs.Range.{Holds}
 use Rattle.column_store.specs.declared.range.Range.{Range}
 use Rattle.column_store.specs.declared.row.Row.{Row}
@@ -12,14 +11,15 @@ use Rattle.row_codec.proofs.CanonicalLemmas.{rows_return}
 use Rattle.search_walk.specs.declared.query.Judgement.{Judgement}
 use Rattle.search_walk.specs.declared.query.Judgement.TheVariants.{Left, Tried, Found}
 use Rattle.search_engine.specs.declared.counts.Counts.{Counts}
-use Rattle.search_walk.specs.Scan.{Asked, IsFound, IsInRange, IsTried, Placed, line_of, numbered, placed}
+use Rattle.printed_lines.specs.Lines.{Placed, label_of, line_of, numbered, placed}
+use Rattle.search_walk.specs.Scan.{Asked, IsFound, IsInRange, IsTried}
 use Rattle.search_engine.specs.Sofar.{Passes, Sofar, TicksWithin, sofar}
 use Rattle.search_walk.specs.Held.{AreRowsOf, Named}
 use Rattle.search_walk.specs.Judged.{Judges}
-use Rattle.search_engine.specs.Kept.{Keeps, label_of}
+use Rattle.search_engine.specs.Kept.{Keeps}
 use Rattle.search_engine.specs.StepsPast.{PastRows}
 use Rattle.sink_pieces.proofs.OutputLemmas.{Grew-nothing}
-use Rattle.search_walk.proofs.PickLemmas.{numbered_append}
+use Rattle.printed_lines.proofs.LineLemmas.{line_written, numbered_append}
 use Rattle.search_engine.specs.StepsSofar.{passes_none, passes_on, ticks_behind, ticks_same}
 use Rattle.query_plan.specs.Laws.{WideIsWider}
 use Rattle.subquery_filter.specs.declared.verdicts.Verdict.{Verdict}
@@ -82,13 +82,6 @@ pub outside_passes : (version : ℕ) (q : Asked) (range : Range) (row : Row) (ty
 outside_passes version q range row types words name number message w g a t same out is =
     let no : IsInRange version q.range message → ⊥ = λ inside. out (of_range version range row types words message is (subst (λ r. IsInRange version r message) (sym same) inside)) in
     passed version q (placed name number message) w g g a a t t (λ f. no f.inside) (λ f. no f.inside) refl refl refl
-
--- the line of a message
-line_written : (name : List ℕ) (number : ℕ) (message g : List ℕ) → ((g ++ label_of name number) ++ message) ++ 10 ∷ [] ≡ g ++ line_of (placed name number message)
-line_written name number message g =
-    append_assoc (g ++ label_of name number) message (10 ∷ []) ∙ append_assoc g (label_of name number) (message ++ 10 ∷ [])
-    ∙ ap (λ (l : List ℕ). g ++ l) (append_assoc name (58 ∷ (decimal number ++ 58 ∷ [])) (message ++ 10 ∷ [])
-    ∙ ap (λ (l : List ℕ). name ++ (58 ∷ l)) (append_assoc (decimal number) (58 ∷ []) (message ++ 10 ∷ [])))
 
 row_judged : (version : ℕ) (q : Asked) (name : List ℕ) (number : ℕ) (message : List ℕ) (w : Option (List ℕ)) (g g2 h : List ℕ) (a b : Counts) (t u : ℕ) (j : Judgement) (kept : ℕ) → IsInRange version q.range message
     → Judges q message j → take kept g2 ≡ g → g2 ≡ (g ++ label_of name number) ++ message → Keeps j kept g2 h a b t u → Passes version q (placed name number message ∷ []) (sofar w g a t) (sofar w h b u)

@@ -7,7 +7,8 @@ use Rattle.archive_meaning.specs.Held.{content_of}
 use Rattle.archive_meaning.specs.Stands.{StandsFor}
 use Rattle.archive_open.specs.declared.segments.SegmentPlace.{SegmentPlace}
 use Rattle.search_engine.specs.declared.counts.Counts.{Counts}
-use Rattle.search_walk.specs.Scan.{Asked, IsFound, IsTried, Placed, all_placed, lines_of}
+use Rattle.printed_lines.specs.Lines.{Placed, lines_of}
+use Rattle.search_walk.specs.Scan.{Asked, IsFound, IsTried, all_placed}
 use Rattle.sink_pieces.specs.Output.{GrewByFront}
 use Rattle.sink_pieces.proofs.OutputLemmas.{Grew-nothing}
 use Rattle.search_engine.specs.Sofar.{Passes, Sofar, sofar}

@@ -1,14 +1,9 @@
 -- What becomes of a written message.
 use Rattle.std.specs.Prelude.{◌≡◌, ◌+◌, ℕ, List, [], ◌∷◌, ◌++◌, take}
-use Rattle.std.specs.Fmt.{decimal}
 use Rattle.search_walk.specs.declared.query.Judgement.{Judgement}
 use Rattle.search_walk.specs.declared.query.Judgement.TheVariants.{Left, Tried, Found}
 use Rattle.search_engine.specs.declared.counts.Counts.{Counts}
 use Rattle.search_engine.specs.Sofar.{Counted}
-
--- what stands before a message in its line
-abbrev pub label_of : List ℕ → ℕ → List ℕ
-label_of name number = name ++ (58 ∷ (decimal number ++ 58 ∷ []))
 
 -- A message that was written goes, back to the first bytes, or stays with a newline behind it; it is counted.
 pub record Leaves (kept : ℕ) (old new : List ℕ) (a b : Counts) (ticks later : ℕ) : Type 0 where

@@ -1,7 +1,7 @@
 -- Pages that wait and how far a search has come, said of what the search goes over.
 use Rattle.std.specs.Prelude.{ℕ, List, Option}
 use Rattle.word_places.specs.Held.{HeldNames}
-use Rattle.search_walk.specs.Scan.{Placed}
+use Rattle.printed_lines.specs.Lines.{Placed}
 use Rattle.search_walk.specs.StepsScope.{Scope}
 use Rattle.search_engine.specs.Served.{IsServed}
 use Rattle.search_engine.specs.Waiting.{Halts, Page, Reaches, State}

@@ -5,7 +5,8 @@ use Rattle.archive_meaning.specs.declared.entry.JournalEntry.{JournalEntry}
 use Rattle.archive_meaning.specs.Held.{Held, content_of}
 use Rattle.archive_open.specs.declared.segments.SegmentPlace.{SegmentPlace}
 use Rattle.search_engine.specs.declared.report.Report.{Report}
-use Rattle.search_walk.specs.Scan.{AreFound, AreTried, Asked, Placed, all_placed, lines_of}
+use Rattle.printed_lines.specs.Lines.{Placed, lines_of}
+use Rattle.search_walk.specs.Scan.{AreFound, AreTried, Asked, all_placed}
 use Rattle.sink_pieces.specs.Output.{Grew, GrewByFront}
 use Rattle.search_walk.specs.Opened.{AreOpened}
 use Rattle.search_walk.specs.Journal.{AreSegmentsOf}

@@ -5,12 +5,14 @@ use Rattle.column_store.specs.declared.row.Row.{Row}
 use Rattle.subquery_filter.specs.declared.verdicts.Verdict.{Verdict}
 use Rattle.sink_pieces.specs.Output.{Grew, GrewByFront}
 use Rattle.sink_pieces.proofs.OutputLemmas.{Moves-all}
-use Rattle.search_walk.specs.Scan.{Asked, IsFound, IsTried, Picks, Placed, numbered}
+use Rattle.printed_lines.specs.Lines.{Picks, Placed, numbered}
+use Rattle.search_walk.specs.Scan.{Asked, IsFound, IsTried}
 use Rattle.search_engine.specs.Sofar.{Passes, Sofar, Stops, sofar}
 use Rattle.search_walk.specs.Held.{AreRowsOf, Named}
 use Rattle.search_engine.specs.Waiting.{Blames, Halts, Page, Pending, Reaches, Same, StandFor, State, WaitFor, page, sofar_of, state}
 use Rattle.search_engine.specs.StepsSofar.{front_none, goes_moved, passes_moves, passes_none, passes_on, stops_behind, stops_here, stops_more, ticks_same}
-use Rattle.search_walk.proofs.PickLemmas.{picks_append, picks_once, picks_split}
+use Rattle.printed_lines.proofs.LineLemmas.{picks_append}
+use Rattle.search_walk.proofs.PickLemmas.{picks_once, picks_split}
 
 -- ---- lists of which the same is found and expanded
 

@@ -4,7 +4,8 @@ use Rattle.column_store.specs.declared.row.Row.{Row}
 use Rattle.subquery_filter.specs.declared.verdicts.Verdict.{Verdict}
 use Rattle.search_engine.specs.declared.refusal.PrintRefusal.{PrintRefusal}
 use Rattle.search_engine.specs.declared.counts.Counts.{Counts}
-use Rattle.search_walk.specs.Scan.{Asked, IsFound, IsTried, Picks, Placed, numbered}
+use Rattle.printed_lines.specs.Lines.{Picks, Placed, numbered}
+use Rattle.search_walk.specs.Scan.{Asked, IsFound, IsTried}
 use Rattle.search_engine.specs.Sofar.{Passes, Sofar, Stops, sofar}
 use Rattle.search_walk.specs.Held.{AreRowsOf, Named}
 

@@ -6,7 +6,7 @@ ghost use Rattle.log_seams.specs.Outside.{CountsOf};
 ghost use Rattle.search_walk.specs.Held.{AreRowsOf, IsTold, OfLeft};
 ghost use Rattle.search_walk.specs.Opened.{NoFronts, ReadsFronts};
 ghost use Rattle.search_walk.specs.PagesRead.{ReadsPage};
-ghost use Rattle.search_walk.specs.Scan.{numbered};
+ghost use Rattle.printed_lines.specs.Lines.{numbered};
 ghost use Rattle.search_walk.specs.Takes.{IsLeft};
 ghost use Rattle.search_walk.specs.Walked.{PageGone, PastTold};
 ghost use Rattle.segment_pages.specs.Paged.{Paged};

@@ -1,20 +1,21 @@
 //! Rows that are printed.
-ghost use Rattle.std.specs.Prelude.{◌≡◌, ◌<◌, ◌+◌, ◌^◌, ◌++◌, ◌∷◌, [], ℕ, List, Option, length, IsTrue, OnOk, OnErr, IsErrOf, Some, slice_get};
+ghost use Rattle.std.specs.Prelude.{◌≡◌, ◌<◌, ◌+◌, ◌^◌, ◌∷◌, [], ℕ, List, Option, length, OnOk, OnErr, IsErrOf};
 ghost use Rattle.column_store.specs.Row.{row_of};
 ghost use Rattle.row_codec.specs.Means.{IsCanonical};
 ghost use Rattle.search_walk.specs.Held.{AreRowsOf, Named};
-ghost use Rattle.search_engine.specs.Kept.{Keeps, label_of};
+ghost use Rattle.search_engine.specs.Kept.{Keeps};
 ghost use Rattle.search_walk.specs.Ready.{IsLent, IsReadyPage};
-ghost use Rattle.search_walk.specs.Scan.{numbered, placed};
+ghost use Rattle.printed_lines.specs.Lines.{numbered, placed};
 ghost use Rattle.search_engine.specs.Sofar.{Passes, TicksWithin, sofar};
 
 use crate::counts::Counts;
 use crate::refusal::PrintRefusal;
 use column_store::{Columns, RowRef};
 use log_seams::Disk;
+use printed_lines::put_label;
 use query_plan::wide_is_wider;
 use row_codec::{Layouts, RowWriter};
-use search_walk::{Context, Judgement, Label, Query, is_rejected};
+use search_walk::{Context, Judgement, Label, Query, is_certain, is_rejected, verdict_at};
 use std::alloc::AllocError;
 use std::sync::ledger::Ledger;
 use step_count::Steps;
@@ -45,18 +46,6 @@ impl<'q> Printer<'q> {
     }
 }
 
-/// Appends what stands before a message in its line.
-fn put_label(gathered: &mut Vec<u8>, label: Label<'_>) -> Result<(), AllocError>
-    ensures { OnOk result (gathered.new.items
-        ≡ gathered.old.items ++ label_of label.entry.name.now label.entry.number) }
-{
-    gathered.extend_from_slice(label.name)?;
-    gathered.push(b':')?;
-    gathered.extend_from_slice(itoa::Buffer::new().format(label.number).as_bytes())?;
-    gathered.push(b':')?;
-    Ok(())
-}
-
 /// Keeps a message that was written behind the first so many bytes, or takes it back, and counts it.
 fn keep<M: Ledger>(
     judgement: Judgement,
@@ -84,13 +73,6 @@ fn keep<M: Ledger>(
         }
     }
     Ok(())
-}
-
-/// Whether it is known that a row's message is expanded, where it is in the range.
-fn is_certain(verdict: Verdict) -> bool
-    ensures { IsTrue result → verdict ≡ Verdict.Certain }
-{
-    matches!(verdict, Verdict::Certain)
 }
 
 /// Writes the line of a row behind what is gathered, where its message is found.
@@ -131,7 +113,7 @@ fn print_row<M: Ledger>(
         return Ok(());
     }
     let len = gathered.len();
-    put_label(gathered, label)?;
+    put_label(gathered, label.name, label.number)?;
     let start = gathered.len();
     if !writer.write_fitting(row, printer.held, gathered)? {
         return Err(PrintRefusal::Damaged);
@@ -140,14 +122,6 @@ fn print_row<M: Ledger>(
     let judgement = printer.query.judge(is_certain(verdict), text);
     keep(judgement, len, gathered, counts, expanded)?;
     Ok(())
-}
-
-/// The verdict at a place.
-fn verdict_at(verdicts: &[Verdict], place: u32) -> Verdict
-    requires { place < length verdicts.now }
-    ensures { slice_get verdicts.now place ≡ Some result }
-{
-    verdicts[place as usize]
 }
 
 /// Writes the lines of the rows of a page that are found behind what is gathered. The first row has

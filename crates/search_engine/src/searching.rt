@@ -96,7 +96,7 @@ fn search_opened<R: Threads + Sync, D: Disk, K: Sink, L: Ledger, M: Ledger>(
 /// [`read_pattern`](wild_match::read_pattern) read, and the places those of the disk.
 ///
 /// Words are read where they are wanted: all of them once, where some log type leaves the decision to
-/// its words; and then with its record each word of a message that is written.
+/// its words or a word that is needed is a variable; and then with its record each word of a message that is written.
 ///
 /// As many pages as two for each of the `workers` are searched in as many threads, while one thread
 /// reads as many of the next ones; it prints too. Pages of which little is left to search are searched

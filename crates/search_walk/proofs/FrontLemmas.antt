@@ -15,7 +15,8 @@ use Rattle.archive_open.specs.declared.segments.SegmentPlace.{SegmentPlace}
 use Rattle.archive_places.specs.declared.front.SegmentFront.{SegmentFront}
 use Rattle.archive_places.specs.Fronts.{fixed_in, front_of_place}
 use Rattle.archive_places.specs.Heads.{OfFront}
-use Rattle.search_walk.specs.Scan.{Asked, Placed}
+use Rattle.printed_lines.specs.Lines.{Placed}
+use Rattle.search_walk.specs.Scan.{Asked}
 use Rattle.search_walk.specs.Held.{Named, OfSegments}
 use Rattle.search_walk.specs.Opened.{IsBarrenFor, IsRead, NoFronts, OfFronts, ReadsFronts, ReadsOpened, ReadsTold}
 use Rattle.search_walk.specs.Walked.{SearchedFronts, StoppedFronts}

@@ -30,9 +30,9 @@ use Rattle.archive_meaning.proofs.SumsLemmas.{messages_joined, whole_joined}
 use Rattle.archive_open.specs.declared.files.FileEntry.{FileEntry}
 use Rattle.archive_open.specs.declared.segments.SegmentPlace.{SegmentPlace}
 use Rattle.archive_open.specs.Shown.{head_in, places_from}
-use Rattle.search_walk.specs.Scan.{numbered}
+use Rattle.printed_lines.specs.Lines.{numbered}
 use Rattle.search_walk.proofs.RowsHeld.{HasRows, HaveRows, texts_of}
-use Rattle.search_walk.proofs.PickLemmas.{numbered_append}
+use Rattle.printed_lines.proofs.LineLemmas.{numbered_append}
 
 -- the segment is one of the file of a number
 abbrev pub is_of : ℕ → SegmentPlace → Bool

@@ -14,7 +14,8 @@ use Rattle.archive_meaning.specs.Spelled.{end_of}
 use Rattle.archive_open.specs.Shown.{IsArchiveOf, Shown, kept_of, places_of as segments_of}
 use Rattle.column_store.specs.declared.range.Range.{Range}
 use Rattle.wild_match.specs.declared.pattern.Item.{Item}
-use Rattle.search_walk.specs.Scan.{Asked, Placed, all_placed}
+use Rattle.printed_lines.specs.Lines.{Placed}
+use Rattle.search_walk.specs.Scan.{Asked, all_placed}
 use Rattle.archive_places.specs.declared.front.SegmentFront.{SegmentFront}
 use Rattle.archive_places.specs.declared.places.Places.{Places}
 use Rattle.archive_places.specs.Heads.{HasHeadAt}

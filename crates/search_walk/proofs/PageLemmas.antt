@@ -7,12 +7,12 @@ use Rattle.segment_format.specs.Pages.{page_rows}
 use Rattle.segment_pages.specs.Paged.{AreNextTold, HoldsNoneTold, Paged, columns_size}
 use Rattle.segment_pages.specs.Laws.{NoneAreLeft}
 use Rattle.search_walk.specs.PagesRead.{IsOfPage, ReadsPage}
-use Rattle.search_walk.specs.Scan.{Placed, numbered}
+use Rattle.printed_lines.specs.Lines.{Placed, numbered}
 use Rattle.search_walk.specs.Held.{AreRowsOf, Named, OfLeft}
 use Rattle.search_walk.specs.StepsPast.{PagesPast}
 use Rattle.search_walk.specs.Walked.{PageGone, PagesGone, PastTold}
 use Rattle.search_walk.proofs.PagesReadLemmas.{such_none, such_on, such_weaker}
-use Rattle.search_walk.proofs.PickLemmas.{numbered_append}
+use Rattle.printed_lines.proofs.LineLemmas.{numbered_append}
 use Rattle.search_walk.proofs.RowLemmas.{none_left}
 
 -- ---- rows in two parts

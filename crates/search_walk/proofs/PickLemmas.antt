@@ -1,12 +1,6 @@
 -- Those of a list that have something.
-use Rattle.std.proofs.Common.{◌≡◌, inl, inr, ℕ, ◌+◌, ◌≤◌, List, [], ◌∷◌, ◌++◌, length, refl, sym, ◌∙◌, ap, subst, arith}
-use Rattle.search_walk.specs.Scan.{Picks, Placed, numbered, placed}
-
-pub picks_append : {A : Type 0} (P : A → Type 0) (xs ys a b : List A) → Picks P xs a → Picks P ys b → Picks P (xs ++ ys) (a ++ b)
-picks_append P [] ys a b one two = subst (λ l. Picks P ys (l ++ b)) (sym one) two
-picks_append {A} P (x ∷ xs) ys a b (inl p) two =
-    inl (p.0 ++ b, p.1, picks_append P xs ys p.0 b p.2 two, ap (λ (l : List A). l ++ b) p.3)
-picks_append P (x ∷ xs) ys a b (inr p) two = inr (p.0, picks_append P xs ys a b p.1 two)
+use Rattle.std.proofs.Common.{◌≡◌, inl, inr, ◌≤◌, List, [], ◌∷◌, ◌++◌, length, refl, sym, ◌∙◌, ap, arith}
+use Rattle.printed_lines.specs.Lines.{Picks}
 
 pub record Split {A : Type 0} (P : A → Type 0) (xs ys c : List A) : Type 0 where
   pub a : List A
@@ -35,7 +29,3 @@ picks_once {A} P (x ∷ xs) a b (inl p) (inl q) = p.3 ∙ ap (λ (l : List A). x
 picks_once P (x ∷ xs) a b (inl p) (inr q) = absurd (q.0 p.1)
 picks_once P (x ∷ xs) a b (inr p) (inl q) = absurd (p.0 q.1)
 picks_once P (x ∷ xs) a b (inr p) (inr q) = picks_once P xs a b p.1 q.1
-
-pub numbered_append : (name : List ℕ) (k : ℕ) (ms ns : List (List ℕ)) (n : ℕ) → n ≡ k + length ms → numbered name k (ms ++ ns) ≡ numbered name k ms ++ numbered name n ns
-numbered_append name k [] ns n is = ap (λ (j : ℕ). numbered name j ns) (sym (is ∙ omega arith))
-numbered_append name k (m ∷ ms) ns n is = ap (λ (l : List Placed). placed name k m ∷ l) (numbered_append name (k + 1) ms ns n (omega (arith, is)))

@@ -15,7 +15,7 @@ use Rattle.archive_open.specs.declared.files.FileEntry.{FileEntry}
 use Rattle.archive_open.specs.declared.segments.SegmentPlace.{SegmentPlace}
 use Rattle.archive_places.specs.Heads.{HasHeadAt}
 use Rattle.archive_places.specs.Words.{words_places_of}
-use Rattle.search_walk.specs.Scan.{Placed, numbered}
+use Rattle.printed_lines.specs.Lines.{Placed, numbered}
 use Rattle.search_walk.specs.Held.{HaveMessages, IsTold, Named}
 
 -- what the numbers of rows stand for, and the archive's version

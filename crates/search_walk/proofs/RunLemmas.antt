@@ -7,12 +7,14 @@ use Rattle.std.proofs.Math.Seq.{drop-cons, take-add}
 use Rattle.std.proofs.Math.ListN.{drop_of_length-le}
 use Rattle.archive_open.specs.declared.files.FileEntry.{FileEntry}
 use Rattle.archive_open.specs.declared.segments.SegmentPlace.{SegmentPlace}
-use Rattle.search_walk.specs.Scan.{Asked, Placed, numbered}
+use Rattle.printed_lines.specs.Lines.{Placed, numbered}
+use Rattle.search_walk.specs.Scan.{Asked}
 use Rattle.search_walk.specs.Held.{HaveMessages, Named, OfSegments}
 use Rattle.search_walk.specs.Opened.{AreOpened, IsBarrenFor, IsRead, ReadsOpened}
 use Rattle.search_walk.specs.Walked.{Searched, Stopped}
 use Rattle.search_walk.specs.StepsPast.{SegmentsPastTold}
-use Rattle.search_walk.proofs.PickLemmas.{picks_append, picks_once, picks_split}
+use Rattle.printed_lines.proofs.LineLemmas.{picks_append}
+use Rattle.search_walk.proofs.PickLemmas.{picks_once, picks_split}
 use Rattle.search_walk.proofs.PagesReadLemmas.{two_added}
 
 -- ---- the next segment

@@ -14,7 +14,8 @@ use Rattle.archive_open.specs.declared.segments.SegmentPlace.{SegmentPlace}
 use Rattle.subquery_filter.specs.Filter.{HasNoMatch, IsWithin, MayHave}
 use Rattle.subquery_filter.proofs.HeadLemmas.{within_moments}
 use Rattle.segment_format.specs.declared.head.Head.{Head}
-use Rattle.search_walk.specs.Scan.{Asked, IsFound, IsTried, Picks, Placed, numbered}
+use Rattle.printed_lines.specs.Lines.{Picks, Placed, numbered}
+use Rattle.search_walk.specs.Scan.{Asked, IsFound, IsTried}
 use Rattle.search_walk.specs.Held.{IsTold, Named, OfLeft, OfSegments}
 use Rattle.search_walk.specs.Opened.{AreOpened, IsBarrenFor}
 use Rattle.search_walk.specs.Walked.{Searched, Stopped}

@@ -19,7 +19,8 @@ use Rattle.barren_segments.specs.Barren.{IsBarren}
 use Rattle.subquery_filter.specs.Laws.{BarrenHasNoMatch, words_of}
 use Rattle.archive_open.specs.declared.files.FileEntry.{FileEntry}
 use Rattle.archive_open.specs.declared.segments.SegmentPlace.{SegmentPlace}
-use Rattle.search_walk.specs.Scan.{Asked, IsFound, IsTried, Picks, Placed, numbered}
+use Rattle.printed_lines.specs.Lines.{Picks, Placed, numbered}
+use Rattle.search_walk.specs.Scan.{Asked, IsFound, IsTried}
 use Rattle.search_walk.specs.Held.{HasMessages, HaveMessages, IsTold, Named, OfLeft, OfSegments}
 use Rattle.search_walk.specs.PagesRead.{IsOfPage, ReadsPage}
 use Rattle.search_walk.specs.Opened.{IsBarrenFor, IsRead, ReadsOpened}

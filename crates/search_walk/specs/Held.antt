@@ -15,7 +15,7 @@ use Rattle.archive_places.specs.Heads.{HasHeadAt}
 use Rattle.word_places.specs.declared.place.WordsPlace.{WordsPlace}
 use Rattle.word_places.specs.Held.{HeldNames, places_of}
 use Rattle.word_places.specs.Places.{AreWords, payload_in}
-use Rattle.search_walk.specs.Scan.{Placed, numbered}
+use Rattle.printed_lines.specs.Lines.{Placed, numbered}
 
 -- ---- names whose words stand on a disk
 

@@ -14,7 +14,8 @@ use Rattle.archive_open.specs.declared.segments.SegmentPlace.{SegmentPlace}
 use Rattle.archive_places.specs.declared.front.SegmentFront.{SegmentFront}
 use Rattle.archive_places.specs.Fronts.{front_of_place}
 use Rattle.word_places.specs.Reads.{IsOfWords}
-use Rattle.search_walk.specs.Scan.{Asked, Picks}
+use Rattle.printed_lines.specs.Lines.{Picks}
+use Rattle.search_walk.specs.Scan.{Asked}
 use Rattle.search_walk.specs.Held.{Named, OfSegments}
 
 -- by these log types and words the segment's head tells that none of its rows is found

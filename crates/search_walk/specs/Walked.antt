@@ -7,7 +7,8 @@ use Rattle.segment_pages.specs.Paged.{HoldsLeft, Paged, paged_after}
 use Rattle.archive_open.specs.declared.files.FileEntry.{FileEntry}
 use Rattle.archive_open.specs.declared.segments.SegmentPlace.{SegmentPlace}
 use Rattle.archive_places.specs.declared.front.SegmentFront.{SegmentFront}
-use Rattle.search_walk.specs.Scan.{Asked, Placed, numbered}
+use Rattle.printed_lines.specs.Lines.{Placed, numbered}
+use Rattle.search_walk.specs.Scan.{Asked}
 use Rattle.search_walk.specs.Held.{AreRowsOf, Named, OfSegments}
 use Rattle.search_walk.specs.Opened.{AreOpened, OfFronts}
 

@@ -1,5 +1,5 @@
 //! Rows that are decided, and the words that are read for those that may have to be written.
-ghost use Rattle.std.specs.Prelude.{◌≡◌, ◌≢◌, ◌<◌, ◌≤◌, length, vec_capacity, slice_get, Some, IsFalse, IsTrue, OnOk, IsErrOf};
+ghost use Rattle.std.specs.Prelude.{◌≡◌, ◌≤◌, length, vec_capacity, OnOk, IsErrOf};
 ghost use Rattle.std.specs.List.{AllZip};
 ghost use Rattle.log_seams.specs.Disk.{Rests};
 ghost use Rattle.log_seams.specs.Outside.{CountsOf};
@@ -11,26 +11,11 @@ ghost use Rattle.search_walk.specs.Ready.{AreDecided, IsDecided, IsReady, Serves
 
 use crate::context::Context;
 use crate::refusal::SearchRefusal;
+use crate::verdicts::{is_rejected, verdict_at};
 use column_store::{Columns, RowRef};
 use log_seams::Disk;
 use subquery_filter::Verdict;
 use word_places::HeldWords;
-
-/// Whether it is known that a row's message is not expanded.
-pub fn is_rejected(verdict: Verdict) -> bool
-    ensures yes { IsTrue result → verdict ≡ Verdict.Rejected }
-    ensures no { IsFalse result → verdict ≢ Verdict.Rejected }
-{
-    matches!(verdict, Verdict::Rejected)
-}
-
-/// The verdict at a place.
-fn verdict_at(verdicts: &[Verdict], place: u32) -> Verdict
-    requires { place < length verdicts.now }
-    ensures { slice_get verdicts.now place ≡ Some result }
-{
-    verdicts[place as usize]
-}
 
 /// Decides each row of a page, by its moment and by its numbers alone. It asks neither the disk nor a
 /// word, and takes no memory: there is room for a verdict for each row.

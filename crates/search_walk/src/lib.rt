@@ -11,12 +11,14 @@ mod query;
 mod refusal;
 mod segments;
 mod taking;
+mod verdicts;
 
 pub use asking::{Told, ask_words};
 pub use context::Context;
-pub use deciding::{decide_page, decide_rows, hold_rows, is_rejected};
+pub use deciding::{decide_page, decide_rows, hold_rows};
 pub use label::Label;
 pub use query::{Judgement, Query};
 pub use refusal::SearchRefusal;
 pub use segments::visit_segments;
 pub use taking::TakesPages;
+pub use verdicts::{is_certain, is_rejected, verdict_at};

@@ -3,7 +3,7 @@ ghost use Rattle.std.specs.Prelude.{◌≡◌, ◌<◌, ◌+◌, ◌^◌, OnOk, 
 ghost use Rattle.log_seams.specs.Outside.{CountsOf};
 ghost use Rattle.search_walk.specs.PagesRead.{ReadsPage};
 ghost use Rattle.search_walk.specs.Held.{OfLeft};
-ghost use Rattle.search_walk.specs.Scan.{numbered};
+ghost use Rattle.printed_lines.specs.Lines.{numbered};
 
 use crate::context::Context;
 use crate::label::Label;

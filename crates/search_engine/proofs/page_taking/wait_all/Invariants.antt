@@ -3,7 +3,7 @@ use Rattle.column_store.specs.declared.row.Row.{Row}
 use Rattle.segment_pages.specs.Paged.{Paged}
 use Rattle.search_walk.specs.Held.{AreRowsOf}
 use Rattle.search_walk.specs.PagesRead.{ReadsPage}
-use Rattle.search_walk.specs.Scan.{numbered}
+use Rattle.printed_lines.specs.Lines.{numbered}
 use Rattle.search_engine.specs.Ahead.{AreDecidedPages, rows_of}
 use Rattle.search_engine.specs.Served.{IsServed}
 use Rattle.search_engine.specs.Waiting.{Reaches, state}

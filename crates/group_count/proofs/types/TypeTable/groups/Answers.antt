@@ -1,7 +1,7 @@
 use Rattle.std.proofs.Common.{◌≡◌, IsErrOf, rules, subst}
 use Rattle.group_count.specs.Tables.{AreCounts}
 use Rattle.group_count.specs.declared.refusal.TableRefusal.TheVariants.{Damaged}
-use Rattle.group_count.proofs.TypeLemmas.{are_counts, are_none_beyond, type_groups}
+use Rattle.group_count.proofs.TypeLemmas.{are_counts, are_none_beyond, type_groups, unmarked_numbered}
 use Rattle.group_count.proofs.types.TypeTable.groups.Goals as goal
 
 pub returns-clause-groups : goal.returns-clause-groups
@@ -18,3 +18,7 @@ returns-in_err-tally_texts-clause-damaged g c = λ is numbers are numbered.
     let same : c.args.self.now.counts ≡ c.as_slice.result.now = search rules in
     let damaged : IsErrOf c.tally_texts.result Damaged = search rules in
     c.tally_texts.ensures.damaged damaged numbers (subst (λ counts. AreCounts counts numbers) same (are_counts (g.N.Names.types c.args.names.now) c.args.self.now numbers are numbered)) numbered
+
+pub returns-clause-numbered : goal.returns-clause-numbered
+returns-clause-numbered g c = λ numbers are.
+    unmarked_numbered (g.N.Names.types c.args.names.now) c.args.self.now numbers (search rules) are

@@ -2,7 +2,7 @@ use Rattle.std.proofs.Common.{◌≡◌, ◌<◌, ◌∙◌, arith, length, rule
 use Rattle.segment_pages.specs.Paged.{Paged}
 use Rattle.search_walk.specs.Held.{Named}
 use Rattle.search_walk.specs.PagesRead.{IsOfPage, ReadsPage}
-use Rattle.search_walk.specs.Scan.{numbered}
+use Rattle.printed_lines.specs.Lines.{numbered}
 use Rattle.search_walk.specs.Takes.{IsLeft}
 use Rattle.search_walk.specs.Walked.{PageGone, PastTold}
 use Rattle.search_walk.proofs.AnswerLemmas.{if_ok_to, on_err, on_err_to}
