@@ -56,6 +56,15 @@ pub struct PlainBooks {
     version: u32,
 }
 
+impl PlainBooks {
+    /// The version of the archive.
+    pub fn version(&self) -> u32
+        ensures { result ≡ self.now.version }
+    {
+        self.version
+    }
+}
+
 impl Names for PlainBooks {
     ghost types = { λ b. b.types.texts };
 

@@ -3,11 +3,11 @@ use Rattle.std.specs.Prelude.{◌≡◌, ◌≢◌, ◌<◌, ◌≤◌, ◌+◌,
 use Rattle.log_seams.specs.Disk.{DiskState}
 use Rattle.log_seams.specs.Outside.{Rose}
 use Rattle.archive_meaning.specs.declared.TheConstants.{MAX_FILES}
-use Rattle.archive_core.specs.declared.books.Books.{Books}
 use Rattle.archive_open.specs.Archive.{shown}
 use Rattle.archive_open.specs.Kept.{Kept}
 use Rattle.archive_open.specs.Shown.{RefusedAt, Shown}
 use Rattle.archive_open.specs.declared.files.FileEntry.{FileEntry}
+use Rattle.archive_open.specs.declared.plain.PlainBooks.{PlainBooks}
 use Rattle.archive_merge.specs.Behind.{SecondView}
 use Rattle.archive_merge.specs.Laws.{texts_kept}
 use Rattle.archive_merge.specs.declared.cause.MergeCause.TheVariants.{ArchiveFull, FirstFault, Full}
@@ -57,7 +57,7 @@ name_at files None = []
 name_at files (Some place) = name_in (slice_get files place)
 
 -- the texts that are kept, by both books
-abbrev pub kept_by : Books → Kept
+abbrev pub kept_by : PlainBooks → Kept
 kept_by b = record {
   types = b.types.texts;
   words = b.words.texts;

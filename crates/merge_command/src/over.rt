@@ -16,7 +16,7 @@ use crate::refused::{place_of, refusal_of};
 use archive_core::Books;
 use archive_meaning::MAX_FILES;
 use archive_merge::{MergeEnd, MergeRefusal as Why, Merged, ToMerge, merge, segments_go_on};
-use archive_open::{Archive, open_archive, open_for_append};
+use archive_open::{Archive, PlainBooks, open_archive, open_for_append};
 use command_refusals::{MergeRefusal, of_second};
 use dict_core::Book;
 use disk_journal::{Journal, start};
@@ -31,7 +31,7 @@ pub(crate) struct Came {
     /// The number of the first new file.
     pub(crate) first: u32,
     /// The second archive.
-    pub(crate) second: Archive<Books>,
+    pub(crate) second: Archive<PlainBooks>,
     /// The new files: the first ones of the second archive's.
     pub(crate) files: Vec<Merged>,
     /// Why not all was merged.
@@ -40,8 +40,8 @@ pub(crate) struct Came {
     pub(crate) stopped: Option<usize>,
 }
 
-/// Opens the second archive.
-fn open_second<E: Disk>(alloc: Global, disk: &mut E) -> Result<Archive<Books>, MergeRefusal>
+/// Opens the second archive, for reading: none of its texts is looked up.
+fn open_second<E: Disk>(alloc: Global, disk: &mut E) -> Result<Archive<PlainBooks>, MergeRefusal>
     ensures keeps { KeepsBytes (E.state disk.old) (E.state disk.new) }
     ensures opened { IfOk result (λ archive.
         Opens (E.state disk.old).seen (shown kept_by archive)) }
@@ -122,7 +122,7 @@ fn merge_opened<'a: 's, 's, 'd, E: Disk, D: Disk, R: Wait>(
     rt: &R,
     alloc: Global,
     first: u32,
-    second: &'a Archive<Books>,
+    second: &'a Archive<PlainBooks>,
     disk: &'s mut E,
     journal: Journal<'d, D>,
     books: Books,
@@ -176,10 +176,10 @@ pub(crate) fn add_second<D: Disk, E: Disk, R: Wait>(
     let header = start(disk)?;
     let mut journal = Journal::begin(disk, header);
     let archive: Archive<Books> = open_for_append(alloc, &mut journal)?;
-    let second_archive: Archive<Books> = open_second(alloc, second)?;
+    let second_archive: Archive<PlainBooks> = open_second(alloc, second)?;
     let held = archive.files().as_slice().len() as u64;
     let more = second_archive.files().as_slice().len() as u64;
-    agree(header.version, held, second_archive.names().version, more)?;
+    agree(header.version, held, second_archive.names().version(), more)?;
     let first = held as u32;
     let books = archive.into_books();
     let mut files = Vec::new(alloc);

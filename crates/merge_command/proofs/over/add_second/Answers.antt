@@ -121,9 +121,9 @@ returns-in_err-agree-clause-refused g c =
     subst (λ d. IfErr c.from_residual-in_err-agree.result (λ refusal. Merges (refused_by refusal) 0 old (g.D.Disk.state d) second second_new)) (sym back)
     (err_with (λ refusal. Merges (refused_by refusal) 0 old new second second_new) c.from_residual-in_err-agree.result p.0 _ p.1 p.2
     (agree_refuses old mid new second second_new looked c.open_second.ensures.keeps _ _ c.in_ok-archive.ensures.opened c.in_ok-second_archive.ensures.opened
-    c.in_ok-header.header.version (length c.as_slice.result.now) c.names.result.now.version (length c.as_slice-2.result.now)
+    c.in_ok-header.header.version (length c.as_slice.result.now) c.version.result (length c.as_slice-2.result.now)
     (sym (ap (λ (h : Header). h.version) (c.in_ok-archive.ensures.header ∙ c.begin-journal.ensures.header)))
-    (ap length (c.as_slice.ensures ∙ c.files.ensures)) (ap (λ (k : Kept). k.version) c.names.ensures) (ap length (c.as_slice-2.ensures ∙ c.files-2.ensures))
+    (ap length (c.as_slice.ensures ∙ c.files.ensures)) (c.version.ensures ∙ ap (λ (k : Kept). k.version) c.names.ensures) (ap length (c.as_slice-2.ensures ∙ c.files-2.ensures))
     c.in_err-agree.field-0.0 c.in_err-agree.ensures))
 
 pub returns-in_err-agree-clause-goes_on : goal.returns-in_err-agree-clause-goes_on
@@ -161,7 +161,7 @@ merge_opened-left-requires-clause-begin g c =
     } in
     let counted = ap length (c.as_slice.ensures ∙ c.files.ensures) in
     record {
-      version_is = sym (ap (λ (k : Kept). k.version) c.names.ensures) ∙ (c.in_ok-agree.ensures.0 ∙ sym (ap (λ (h : Header). h.version) (opened.looks.header ∙ c.begin-journal.ensures.header)));
+      version_is = sym (c.version.ensures ∙ ap (λ (k : Kept). k.version) c.names.ensures) ∙ (c.in_ok-agree.ensures.0 ∙ sym (ap (λ (h : Header). h.version) (opened.looks.header ∙ c.begin-journal.ensures.header)));
       opens = may_append (state_of c.begin-journal.result) (state_of c.open_for_append.new.journal) _ from;
       holds = holds_names (state_of c.begin-journal.result) (state_of c.open_for_append.new.journal) _ from (length c.as_slice.result.now) counted;
       few = omega (arith, c.in_ok-agree.ensures.1, ap length (c.as_slice-2.ensures ∙ c.files-2.ensures));
@@ -233,7 +233,7 @@ returns-clause-came g c =
     second second_new told (keeps_on second second_mid second_new c.open_second.ensures.keeps read.rests)
     (length c.as_slice.result.now) counted c.merge_opened-left.new.files.items c.merge_opened-left.result.refusal c.merge_opened-left.ensures.ends c.merge_opened-left.ensures.none
     (λ file is. subst (λ n. Rose n second_new.faults) c.in_ok-second_archive.ensures.steady (read.fault file is))
-    (sym (ap version c.names.ensures) ∙ (c.in_ok-agree.ensures.0 ∙ sym (ap (λ (h : Header). h.version) (opened.looks.header ∙ c.begin-journal.ensures.header))))
+    (sym (c.version.ensures ∙ ap version c.names.ensures) ∙ (c.in_ok-agree.ensures.0 ∙ sym (ap (λ (h : Header). h.version) (opened.looks.header ∙ c.begin-journal.ensures.header))))
     (omega (arith, c.in_ok-agree.ensures.1, ap length (c.as_slice-2.ensures ∙ c.files-2.ensures)))
     m refl c.refusal_of.ensures (ap (λ place. name_at b.files place) c.place_of.ensures)))
 
