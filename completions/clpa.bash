@@ -17,7 +17,7 @@ _clpa() {
             compopt -o nospace
             ;;
         *:ingest)
-            mapfile -t COMPREPLY < <(compgen -W '--segment= --workers=' -- "$word")
+            mapfile -t COMPREPLY < <(compgen -W '--segment= --watch= --workers=' -- "$word")
             compopt -o default
             ;;
         *:search) mapfile -t COMPREPLY < <(compgen -W '--from= --stats --to= --workers=' -- "$word") ;;

@@ -1,8 +1,8 @@
 -- Words ask for one thing alone, so what that answers is what the program answers.
-use Rattle.std.proofs.Common.{◌≡◌, ◌≢◌, ◌≤◌, arith, refl, subst, inl, inr, ℕ, List, [], ◌∷◌, length, map, Option, Some, Result, Ok, Err}
+use Rattle.std.proofs.Common.{◌≡◌, ◌≢◌, ◌≤◌, arith, refl, sym, subst, inl, inr, ℕ, List, [], ◌∷◌, length, map, Option, None, Some, Result, Ok, Err}
 use Rattle.std.specs.Prelude.{IfErr}
 use Rattle.log_seams.specs.Disk.{DiskState}
-use Rattle.command_words.specs.Asked.{AreTaken, Asked, Asks, HaveGoodValues, IsAnswer, asked_by}
+use Rattle.command_words.specs.Asked.{AreTaken, Asked, Asks, HaveGoodValues, IsAnswer, asked_by, to_ingest}
 use Rattle.command_words.specs.declared.command.Command.{Command}
 use Rattle.command_words.specs.declared.command.WordsRefusal.{WordsRefusal}
 use Rattle.command_words.specs.declared.command.WordsRefusal.TheVariants.{Usage as WordsUsage, OutOfMemory as WordsOutOfMemory}
@@ -10,7 +10,7 @@ use Rattle.command_refusals.specs.Outside.{Outside}
 use Rattle.command_refusals.specs.Ending.{RefusesAtOnce}
 use Rattle.command_refusals.specs.declared.outcome.AddRefusal.{AddRefusal}
 use Rattle.command_answers.specs.Names.{RefusesNames}
-use Rattle.command_answers.specs.Answers.{AnswersIngest}
+use Rattle.command_answers.specs.Answers.{AnswersWatch}
 use Rattle.command_answers.specs.Ingested.{EndsIngest}
 use Rattle.command_answers.specs.Known.{KnownArchive, over}
 use Rattle.command_answers.specs.Answers.{Answers, AnswersAsked}
@@ -50,6 +50,14 @@ some_of f [] some = absurd (some refl)
 some_of f (x ∷ xs) some = omega arith
 
 -- what `ingest` answers, by its names and by how it ends
-pub ingest_answers : (known : Option KnownArchive) (workers rows : ℕ) (names : List (List ℕ)) (seen : Outside) (old new : DiskState) (status : ℕ) → ((refusal : AddRefusal) → RefusesNames names (Some refusal) → RefusesAtOnce seen old new status (of_add refusal))
-    → EndsIngest workers rows names seen (over known old old) (over known old new) status → AnswersIngest known workers rows names seen old new status
-ingest_answers known workers rows names seen old new status first ends = record { names_first = first; ends = ends }
+pub ingest_answers : (known : Option KnownArchive) (workers rows : ℕ) (names : List (List ℕ)) (seen : Outside) (old new second second_new : DiskState) (status : ℕ) (watch : Option (List ℕ)) → watch ≡ None
+    → ((refusal : AddRefusal) → RefusesNames names (Some refusal) → RefusesAtOnce seen old new status (of_add refusal))
+    → EndsIngest workers rows names seen (over known old old) (over known old new) status → AnswersAsked known (to_ingest workers rows watch names) seen old new second second_new status
+ingest_answers known workers rows names seen old new second second_new status watch is first ends =
+    subst (λ w. AnswersAsked known (to_ingest workers rows w names) seen old new second second_new status) (sym is) (record { names_first = first; ends = ends })
+
+-- and with a pattern that is watched for
+pub watch_answers : (known : Option KnownArchive) (workers rows : ℕ) (names : List (List ℕ)) (seen : Outside) (old new second second_new : DiskState) (status : ℕ) (pattern : List ℕ) (watch : Option (List ℕ)) → watch ≡ Some pattern
+    → AnswersWatch known workers rows pattern names seen old new status → AnswersAsked known (to_ingest workers rows watch names) seen old new second second_new status
+watch_answers known workers rows names seen old new second second_new status pattern watch is answers =
+    subst (λ w. AnswersAsked known (to_ingest workers rows w names) seen old new second second_new status) (sym is) answers

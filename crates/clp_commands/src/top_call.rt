@@ -23,6 +23,7 @@ use std::marker::Brand;
 use std::sync::Wait;
 use std::thread::Threads;
 use upgrade_command::upgrade_archive;
+use watch_command::watch_files;
 use write_commands::{Base, NewLogs, bench, ingest_files};
 
 /// Does what the words ask for, and answers the status that the program ends with.
@@ -35,15 +36,16 @@ use write_commands::{Base, NewLogs, bench, ingest_files};
 /// archive that a pattern matches, as `scan` prints those of a log, and `count` how many these are
 /// by log type or by minute. A refusal has its line on `err`.
 ///
-/// `ingest` adds logs to the archive, and prints of each what `files` prints. `merge` adds the files of
-/// a second archive, which is only read, and prints the same. `upgrade` makes a second archive, of the
-/// newest version, of the files of the archive, which is only read, and prints the same. `bench` makes
-/// an archive of generated logs, and prints a summary of it. `disk` is the archive's, and `second` that
-/// of the second one.
+/// `ingest` adds logs to the archive, and prints of each what `files` prints; with `--watch` it prints
+/// before these lines the messages of each sealed segment that a pattern matches, beside the workers.
+/// `merge` adds the files of a second archive, which is only read, and prints what `files` prints of
+/// each. `upgrade` makes a second archive, of the newest version, of the files of the archive, which is
+/// only read, and prints the same. `bench` makes an archive of generated logs, and prints a summary of
+/// it. `disk` is the archive's, and `second` that of the second one.
 /// What is said of the bytes that `ingest` and `merge` leave holds for each archive `known` whose bytes
 /// the disk had at the start: whatever archive it had, and it is not asked for when the program runs.
-/// `rt` starts the threads of `ingest`.
-pub fn run<R: Threads + Wait + Sync, H: Shelf, D: Disk + Send, K: Sink>(
+/// `rt` starts the threads of `ingest`, `upgrade`, `bench` and `search`.
+pub fn run<R: Threads + Wait + Sync, H: Shelf, D: Disk + Send, K: Sink + Send>(
     rt: &R,
     alloc: Global,
     words: &[String],
@@ -85,7 +87,7 @@ where
 }
 
 /// Does what a command asks for, and answers the status.
-fn carry_out<R: Threads + Wait + Sync, H: Shelf, D: Disk + Send, K: Sink, B: Base>(
+fn carry_out<R: Threads + Wait + Sync, H: Shelf, D: Disk + Send, K: Sink + Send, B: Base>(
     rt: &R,
     alloc: Global,
     command: &Command<'_>,
@@ -125,7 +127,12 @@ where
         }
         Command::Ingest { asked } => {
             let logs = NewLogs::of(asked);
-            ingest_files::<R, H, D, K, B>(rt, alloc, logs, shelf, disk, out, err)
+            match asked.watch {
+                None => ingest_files::<R, H, D, K, B>(rt, alloc, logs, shelf, disk, out, err),
+                Some(pattern) => watch_files::<R, H, D, K, B>(
+                    rt, alloc, logs, pattern, shelf, disk, out, err,
+                ),
+            }
         }
         Command::Files => {
             let outcome = files(alloc, disk, out);

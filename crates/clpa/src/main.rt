@@ -67,7 +67,7 @@ fn disk_at<P: Place>(place: P, may_write: bool) -> DiskFile<P, P::File> {
 }
 
 /// What `run` answers where nothing is known of what the archive's file holds.
-fn answer<R: Threads + Wait + Sync, H: Shelf, D: Disk + Send, K: Sink>(
+fn answer<R: Threads + Wait + Sync, H: Shelf, D: Disk + Send, K: Sink + Send>(
     rt: &R,
     alloc: Global,
     words: &[String],

@@ -21,6 +21,7 @@ use Rattle.command_answers.specs.Known.{KnownArchive, over}
 use Rattle.command_answers.specs.Names.{RefusesNames}
 use Rattle.command_refusals.specs.declared.outcome.AddRefusal.{AddRefusal}
 use Rattle.command_answers.specs.Ingested.{EndsIngest}
+use Rattle.command_answers.specs.Watching.{EndsWatch}
 use Rattle.command_answers.specs.Merging.{Merge, Merges, PrintsMerge}
 use Rattle.command_answers.specs.Upgrading.{EndsUpgrade, MetNone}
 use Rattle.archive_meaning.specs.declared.TheConstants.{MAX_ROWS}
@@ -78,6 +79,21 @@ pub record AnswersIngest (known : Option KnownArchive) (workers rows : ℕ) (nam
   pub names_first : (refusal : AddRefusal) → RefusesNames names (Some refusal)
       → RefusesAtOnce seen old new status (of_add refusal)
   pub ends : EndsIngest workers rows names seen (over known old old) (over known old new) status
+
+-- What `ingest --watch` answers for a pattern that is one, whatever archive is known, as `ingest` does. There may be no memory for
+-- the pattern, which is read before the names are looked at.
+pub record AnswersGoodWatch (known : Option KnownArchive) (workers rows : ℕ) (items : List Item) (names : List (List ℕ))
+    (seen : Outside) (old new : DiskState) (status : ℕ) : Type 0 where
+  pub names_first : (refusal : AddRefusal) → RefusesNames names (Some refusal)
+      → RefusesAtOnce seen old new status (of_add refusal) ⊎ LacksMemoryAtOnce seen old new status
+  pub ends : EndsWatch workers rows items names seen (over known old old) (over known old new) status
+
+-- What `ingest --watch` answers: the pattern is refused, or the files are taken in.
+pub record AnswersWatch (known : Option KnownArchive) (workers rows : ℕ) (pattern : List ℕ) (names : List (List ℕ))
+    (seen : Outside) (old new : DiskState) (status : ℕ) : Type 0 where
+  pub lone_backslash : (at : ℕ) → IsLoneBackslash pattern at → RefusesPatternAtOnce seen old new status at
+  pub good : (items : List Item) → IsSearchPattern pattern items
+      → AnswersGoodWatch known workers rows items names seen old new status
 
 -- The files of the archive were printed, or the command was refused with a cause.
 pub record AnswersFiles (seen : Outside) (old new : DiskState) (status : ℕ) : Type 0 where
@@ -176,8 +192,10 @@ abbrev pub AnswersAsked : Option KnownArchive → AskedFor → Outside → DiskS
 AnswersAsked known (to_show file) seen old new second second_new status = AnswersLog (λ _ message text. Shows message text) seen file status
 AnswersAsked known (to_scan pattern file) seen old new second second_new status = AnswersScan pattern file seen status
 AnswersAsked known (to_create header) seen old new second second_new status = AnswersCreate header seen old new status
-AnswersAsked known (to_ingest workers segment files) seen old new second second_new status =
+AnswersAsked known (to_ingest workers segment None files) seen old new second second_new status =
     AnswersIngest known workers segment files seen old new status
+AnswersAsked known (to_ingest workers segment (Some pattern) files) seen old new second second_new status =
+    AnswersWatch known workers segment pattern files seen old new status
 AnswersAsked known to_list seen old new second second_new status = AnswersFiles seen old new status
 AnswersAsked known to_check seen old new second second_new status = AnswersCheck seen old new status
 AnswersAsked known (to_decode number) seen old new second second_new status = AnswersDecode number seen old new status

@@ -393,27 +393,27 @@ PrintsCame came first seen status =
     ⊎ (EndsWithoutMemory seen status
     × GrewByFront seen.out.0 seen.out.1 (directory_from first (map line_of_came came)) × Stayed seen.out_faults)
 
--- The names were added, from the first new number on, and the files taken in, each from what is told of its name, in segments of
--- at most so many rows. What came of each is printed.
-pub record AddsFiles (rows : ℕ) (names : List (List ℕ)) (seen : Outside) (old new : DiskState) (status : ℕ) : Type 0 where
+-- The names were added, numbered on from `first`, and the files taken in, each from what is told of its name, in segments of at
+-- most so many rows.
+pub record AddsFiles (rows : ℕ) (names : List (List ℕ)) (seen : Outside) (old new : DiskState) : Type 0 where
   pub came : List FileOutcome
   pub first : ℕ
   pub names_are : map (λ c. c.name) came ≡ names
   pub logs : All (λ c. c.log ≡ seen.content c.name) came
   pub numbered : OverJournal old.seen (λ journal. first ≡ length journal.names)
   pub disk : FromArchive old (λ h before bytes stood. TakesIn rows h before stood names came old new)
-  pub printed : PrintsCame came first seen status
 
 -- The same, and what came of each file has its cause. With one worker a dictionary is full by the files up to the one that it
 -- stopped. With any number what was taken in fits in the dictionaries.
-pub record TakesFiles (workers rows : ℕ) (names : List (List ℕ)) (seen : Outside) (old new : DiskState) (status : ℕ)
-    : Type 0 where
-  pub adds : AddsFiles rows names seen old new status
+pub record TakesFiles (workers rows : ℕ) (names : List (List ℕ)) (seen : Outside) (old new : DiskState) : Type 0 where
+  pub adds : AddsFiles rows names seen old new
   pub each : All (CameOfFile rows adds.came seen old new) adds.came
   pub in_turn : workers ≡ 1 → AreFullInTurn rows old adds.came
   pub fits : AllFit old adds.came
 
--- How `ingest` ends, which has so many workers, and cuts files into segments of at most so many rows.
+-- How `ingest` ends, which has so many workers, and cuts files into segments of at most so many rows: it is refused, or what came
+-- of each file is printed.
 abbrev pub EndsIngest : ℕ → ℕ → List (List ℕ) → Outside → DiskState → DiskState → ℕ → Type 0
 EndsIngest workers rows names seen old new status =
-    RefusesIngest names seen old new status ⊎ TakesFiles workers rows names seen old new status
+    RefusesIngest names seen old new status
+    ⊎ ((takes : TakesFiles workers rows names seen old new) × PrintsCame takes.adds.came takes.adds.first seen status)

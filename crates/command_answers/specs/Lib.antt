@@ -14,4 +14,5 @@ pub mod Searching
 pub mod Shown
 pub mod Taken
 pub mod Upgrading
+pub mod Watching
 pub mod Words

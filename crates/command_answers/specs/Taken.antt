@@ -22,3 +22,9 @@ has n (m ∷ ms) = (m == n) || has n ms
 -- not whole. It is 0 only where all files are whole.
 abbrev pub gravest : List ℕ → ℕ
 gravest statuses = if has 5 statuses then 5 else (if has 9 statuses then 9 else (if has 4 statuses then 4 else 0))
+
+-- The same with the statuses of what the whole call met beside: that of a failed output goes before all others, and that of a
+-- damaged archive behind that of a disk that failed.
+abbrev pub gravest_of_call : List ℕ → ℕ
+gravest_of_call statuses =
+    if has 7 statuses then 7 else (if has 5 statuses then 5 else (if has 6 statuses then 6 else gravest statuses))

@@ -15,7 +15,7 @@ abbrev pub UsesArchive : Asked → Type 0
 UsesArchive (to_show file) = ⊥
 UsesArchive (to_scan pattern file) = ⊥
 UsesArchive (to_create header) = Unit {0}
-UsesArchive (to_ingest workers segment files) = Unit {0}
+UsesArchive (to_ingest workers segment watch files) = Unit {0}
 UsesArchive to_list = Unit {0}
 UsesArchive to_check = Unit {0}
 UsesArchive (to_decode number) = Unit {0}
@@ -30,7 +30,7 @@ abbrev pub MayWrite : Asked → Type 0
 MayWrite (to_show file) = ⊥
 MayWrite (to_scan pattern file) = ⊥
 MayWrite (to_create header) = Unit {0}
-MayWrite (to_ingest workers segment files) = Unit {0}
+MayWrite (to_ingest workers segment watch files) = Unit {0}
 MayWrite to_list = ⊥
 MayWrite to_check = ⊥
 MayWrite (to_decode number) = ⊥

@@ -21,3 +21,5 @@ mod outside;
 mod search_tests;
 #[cfg(test)]
 mod upgrade_tests;
+#[cfg(test)]
+mod watch_tests;

@@ -99,7 +99,7 @@ fn nothing(alloc: Global, rooms: Rooms) -> Result<Outcome, AllocError> {
 }
 
 /// What `run` answers where no archive is known that the disk holds.
-fn answer<R: Threads + Wait + Sync, H: Shelf, D: Disk + Send, K: Sink>(
+pub(crate) fn answer<R: Threads + Wait + Sync, H: Shelf, D: Disk + Send, K: Sink + Send>(
     rt: &R,
     alloc: Global,
     words: &[String],

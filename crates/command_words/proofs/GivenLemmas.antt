@@ -185,7 +185,7 @@ good_ingest words e good =
     let workers = number_or 1 1 64 (first_of (codes "workers") rows) good.workers in
     let segment = number_or 65536 1 65536 (first_of (codes "segment") rows) good.segment in
     let files = given_values (codes "file") rows g1.0 in
-    record { asked = to_ingest workers.0 segment.0 files.0; named = refl; gives = record { workers_are = workers.1; segment_is = segment.1; files_are = files.1 } }
+    record { asked = to_ingest workers.0 segment.0 (first_of (codes "watch") rows) files.0; named = refl; gives = record { workers_are = workers.1; segment_is = segment.1; watch_is = refl; files_are = files.1 } }
 
 good_files : IsGoodShape (ready forms.files)
 good_files words e good = record { asked = to_list; named = refl; gives = tt }
@@ -404,7 +404,7 @@ asked_in_range words (to_create header) asks =
       least_length = bytes.low;
       most_length = bytes.high;
     }
-asked_in_range words (to_ingest workers segment files) asks = record {
+asked_in_range words (to_ingest workers segment watch files) asks = record {
   workers_are = within 1 1 64 (first_of (codes "workers") asks.rows) workers (record { low = omega arith; high = omega arith }) asks.given.workers_are;
   segment_is = within 65536 1 65536 (first_of (codes "segment") asks.rows) segment (record { low = omega arith; high = omega arith }) asks.given.segment_is;
   some = some_values (codes "file") asks.rows files (rows_full words (codes "ingest") asks.rows asks.good asks.found) asks.given.files_are;

@@ -13,7 +13,7 @@ pub only_show : (P : Asked → Type 0) → ((file : Text) → P (to_show file)) 
 only_show P p (to_show file) e = p file
 only_show P p (to_scan pattern file) e = absurd (other_text (codes "scan") (codes "show") refl e)
 only_show P p (to_create header) e = absurd (other_text (codes "create") (codes "show") refl e)
-only_show P p (to_ingest workers segment files) e = absurd (other_text (codes "ingest") (codes "show") refl e)
+only_show P p (to_ingest workers segment watch files) e = absurd (other_text (codes "ingest") (codes "show") refl e)
 only_show P p to_list e = absurd (other_text (codes "files") (codes "show") refl e)
 only_show P p to_check e = absurd (other_text (codes "check") (codes "show") refl e)
 only_show P p (to_decode number) e = absurd (other_text (codes "decode") (codes "show") refl e)
@@ -34,7 +34,7 @@ pub only_scan : (P : Asked → Type 0) → ((pattern file : Text) → P (to_scan
 only_scan P p (to_show file) e = absurd (other_text (codes "show") (codes "scan") refl e)
 only_scan P p (to_scan pattern file) e = p pattern file
 only_scan P p (to_create header) e = absurd (other_text (codes "create") (codes "scan") refl e)
-only_scan P p (to_ingest workers segment files) e = absurd (other_text (codes "ingest") (codes "scan") refl e)
+only_scan P p (to_ingest workers segment watch files) e = absurd (other_text (codes "ingest") (codes "scan") refl e)
 only_scan P p to_list e = absurd (other_text (codes "files") (codes "scan") refl e)
 only_scan P p to_check e = absurd (other_text (codes "check") (codes "scan") refl e)
 only_scan P p (to_decode number) e = absurd (other_text (codes "decode") (codes "scan") refl e)
@@ -55,7 +55,7 @@ pub only_create : (P : Asked → Type 0) → ((header : Header) → P (to_create
 only_create P p (to_show file) e = absurd (other_text (codes "show") (codes "create") refl e)
 only_create P p (to_scan pattern file) e = absurd (other_text (codes "scan") (codes "create") refl e)
 only_create P p (to_create header) e = p header
-only_create P p (to_ingest workers segment files) e = absurd (other_text (codes "ingest") (codes "create") refl e)
+only_create P p (to_ingest workers segment watch files) e = absurd (other_text (codes "ingest") (codes "create") refl e)
 only_create P p to_list e = absurd (other_text (codes "files") (codes "create") refl e)
 only_create P p to_check e = absurd (other_text (codes "check") (codes "create") refl e)
 only_create P p (to_decode number) e = absurd (other_text (codes "decode") (codes "create") refl e)
@@ -72,11 +72,11 @@ reads_create rows read some all =
     record { some = some; all = λ asked is. only_create (λ a. Gives rows a → IsSomeAnd read (λ command. asked_by command ≡ a)) all asked is.0 is.1 }
 
 -- what is asked under the name `ingest`
-pub only_ingest : (P : Asked → Type 0) → ((workers segment : ℕ) (files : List Text) → P (to_ingest workers segment files)) → (asked : Asked) → name_of asked ≡ codes "ingest" → P asked
+pub only_ingest : (P : Asked → Type 0) → ((workers segment : ℕ) (watch : Option Text) (files : List Text) → P (to_ingest workers segment watch files)) → (asked : Asked) → name_of asked ≡ codes "ingest" → P asked
 only_ingest P p (to_show file) e = absurd (other_text (codes "show") (codes "ingest") refl e)
 only_ingest P p (to_scan pattern file) e = absurd (other_text (codes "scan") (codes "ingest") refl e)
 only_ingest P p (to_create header) e = absurd (other_text (codes "create") (codes "ingest") refl e)
-only_ingest P p (to_ingest workers segment files) e = p workers segment files
+only_ingest P p (to_ingest workers segment watch files) e = p workers segment watch files
 only_ingest P p to_list e = absurd (other_text (codes "files") (codes "ingest") refl e)
 only_ingest P p to_check e = absurd (other_text (codes "check") (codes "ingest") refl e)
 only_ingest P p (to_decode number) e = absurd (other_text (codes "decode") (codes "ingest") refl e)
@@ -87,7 +87,7 @@ only_ingest P p to_upgrade e = absurd (other_text (codes "upgrade") (codes "inge
 only_ingest P p (to_bench number lines workers) e = absurd (other_text (codes "bench") (codes "ingest") refl e)
 
 pub reads_ingest : (rows : List Row) (read : Option Command) → IfSome read (λ command. IsFor (codes "ingest") rows (asked_by command))
-    → ((workers segment : ℕ) (files : List Text) → Gives rows (to_ingest workers segment files) → IsSomeAnd read (λ command. asked_by command ≡ to_ingest workers segment files))
+    → ((workers segment : ℕ) (watch : Option Text) (files : List Text) → Gives rows (to_ingest workers segment watch files) → IsSomeAnd read (λ command. asked_by command ≡ to_ingest workers segment watch files))
     → IsReading (codes "ingest") rows read
 reads_ingest rows read some all =
     record { some = some; all = λ asked is. only_ingest (λ a. Gives rows a → IsSomeAnd read (λ command. asked_by command ≡ a)) all asked is.0 is.1 }
@@ -97,7 +97,7 @@ pub only_files : (P : Asked → Type 0) → (P to_list) → (asked : Asked) → 
 only_files P p (to_show file) e = absurd (other_text (codes "show") (codes "files") refl e)
 only_files P p (to_scan pattern file) e = absurd (other_text (codes "scan") (codes "files") refl e)
 only_files P p (to_create header) e = absurd (other_text (codes "create") (codes "files") refl e)
-only_files P p (to_ingest workers segment files) e = absurd (other_text (codes "ingest") (codes "files") refl e)
+only_files P p (to_ingest workers segment watch files) e = absurd (other_text (codes "ingest") (codes "files") refl e)
 only_files P p to_list e = p
 only_files P p to_check e = absurd (other_text (codes "check") (codes "files") refl e)
 only_files P p (to_decode number) e = absurd (other_text (codes "decode") (codes "files") refl e)
@@ -118,7 +118,7 @@ pub only_check : (P : Asked → Type 0) → (P to_check) → (asked : Asked) →
 only_check P p (to_show file) e = absurd (other_text (codes "show") (codes "check") refl e)
 only_check P p (to_scan pattern file) e = absurd (other_text (codes "scan") (codes "check") refl e)
 only_check P p (to_create header) e = absurd (other_text (codes "create") (codes "check") refl e)
-only_check P p (to_ingest workers segment files) e = absurd (other_text (codes "ingest") (codes "check") refl e)
+only_check P p (to_ingest workers segment watch files) e = absurd (other_text (codes "ingest") (codes "check") refl e)
 only_check P p to_list e = absurd (other_text (codes "files") (codes "check") refl e)
 only_check P p to_check e = p
 only_check P p (to_decode number) e = absurd (other_text (codes "decode") (codes "check") refl e)
@@ -139,7 +139,7 @@ pub only_decode : (P : Asked → Type 0) → ((number : ℕ) → P (to_decode nu
 only_decode P p (to_show file) e = absurd (other_text (codes "show") (codes "decode") refl e)
 only_decode P p (to_scan pattern file) e = absurd (other_text (codes "scan") (codes "decode") refl e)
 only_decode P p (to_create header) e = absurd (other_text (codes "create") (codes "decode") refl e)
-only_decode P p (to_ingest workers segment files) e = absurd (other_text (codes "ingest") (codes "decode") refl e)
+only_decode P p (to_ingest workers segment watch files) e = absurd (other_text (codes "ingest") (codes "decode") refl e)
 only_decode P p to_list e = absurd (other_text (codes "files") (codes "decode") refl e)
 only_decode P p to_check e = absurd (other_text (codes "check") (codes "decode") refl e)
 only_decode P p (to_decode number) e = p number
@@ -160,7 +160,7 @@ pub only_search : (P : Asked → Type 0) → ((from to : Option ℤ) (stats : Bo
 only_search P p (to_show file) e = absurd (other_text (codes "show") (codes "search") refl e)
 only_search P p (to_scan pattern file) e = absurd (other_text (codes "scan") (codes "search") refl e)
 only_search P p (to_create header) e = absurd (other_text (codes "create") (codes "search") refl e)
-only_search P p (to_ingest workers segment files) e = absurd (other_text (codes "ingest") (codes "search") refl e)
+only_search P p (to_ingest workers segment watch files) e = absurd (other_text (codes "ingest") (codes "search") refl e)
 only_search P p to_list e = absurd (other_text (codes "files") (codes "search") refl e)
 only_search P p to_check e = absurd (other_text (codes "check") (codes "search") refl e)
 only_search P p (to_decode number) e = absurd (other_text (codes "decode") (codes "search") refl e)
@@ -181,7 +181,7 @@ pub only_count : (P : Asked → Type 0) → ((by : CountKey) (from to : Option �
 only_count P p (to_show file) e = absurd (other_text (codes "show") (codes "count") refl e)
 only_count P p (to_scan pattern file) e = absurd (other_text (codes "scan") (codes "count") refl e)
 only_count P p (to_create header) e = absurd (other_text (codes "create") (codes "count") refl e)
-only_count P p (to_ingest workers segment files) e = absurd (other_text (codes "ingest") (codes "count") refl e)
+only_count P p (to_ingest workers segment watch files) e = absurd (other_text (codes "ingest") (codes "count") refl e)
 only_count P p to_list e = absurd (other_text (codes "files") (codes "count") refl e)
 only_count P p to_check e = absurd (other_text (codes "check") (codes "count") refl e)
 only_count P p (to_decode number) e = absurd (other_text (codes "decode") (codes "count") refl e)
@@ -202,7 +202,7 @@ pub only_merge : (P : Asked → Type 0) → (P to_merge) → (asked : Asked) →
 only_merge P p (to_show file) e = absurd (other_text (codes "show") (codes "merge") refl e)
 only_merge P p (to_scan pattern file) e = absurd (other_text (codes "scan") (codes "merge") refl e)
 only_merge P p (to_create header) e = absurd (other_text (codes "create") (codes "merge") refl e)
-only_merge P p (to_ingest workers segment files) e = absurd (other_text (codes "ingest") (codes "merge") refl e)
+only_merge P p (to_ingest workers segment watch files) e = absurd (other_text (codes "ingest") (codes "merge") refl e)
 only_merge P p to_list e = absurd (other_text (codes "files") (codes "merge") refl e)
 only_merge P p to_check e = absurd (other_text (codes "check") (codes "merge") refl e)
 only_merge P p (to_decode number) e = absurd (other_text (codes "decode") (codes "merge") refl e)
@@ -223,7 +223,7 @@ pub only_upgrade : (P : Asked → Type 0) → (P to_upgrade) → (asked : Asked)
 only_upgrade P p (to_show file) e = absurd (other_text (codes "show") (codes "upgrade") refl e)
 only_upgrade P p (to_scan pattern file) e = absurd (other_text (codes "scan") (codes "upgrade") refl e)
 only_upgrade P p (to_create header) e = absurd (other_text (codes "create") (codes "upgrade") refl e)
-only_upgrade P p (to_ingest workers segment files) e = absurd (other_text (codes "ingest") (codes "upgrade") refl e)
+only_upgrade P p (to_ingest workers segment watch files) e = absurd (other_text (codes "ingest") (codes "upgrade") refl e)
 only_upgrade P p to_list e = absurd (other_text (codes "files") (codes "upgrade") refl e)
 only_upgrade P p to_check e = absurd (other_text (codes "check") (codes "upgrade") refl e)
 only_upgrade P p (to_decode number) e = absurd (other_text (codes "decode") (codes "upgrade") refl e)
@@ -244,7 +244,7 @@ pub only_bench : (P : Asked → Type 0) → ((number lines workers : ℕ) → P 
 only_bench P p (to_show file) e = absurd (other_text (codes "show") (codes "bench") refl e)
 only_bench P p (to_scan pattern file) e = absurd (other_text (codes "scan") (codes "bench") refl e)
 only_bench P p (to_create header) e = absurd (other_text (codes "create") (codes "bench") refl e)
-only_bench P p (to_ingest workers segment files) e = absurd (other_text (codes "ingest") (codes "bench") refl e)
+only_bench P p (to_ingest workers segment watch files) e = absurd (other_text (codes "ingest") (codes "bench") refl e)
 only_bench P p to_list e = absurd (other_text (codes "files") (codes "bench") refl e)
 only_bench P p to_check e = absurd (other_text (codes "check") (codes "bench") refl e)
 only_bench P p (to_decode number) e = absurd (other_text (codes "decode") (codes "bench") refl e)
@@ -265,7 +265,7 @@ pub no_name : (name : Text) → (name ≡ codes "show" → ⊥) → (name ≡ co
 no_name name n0 n1 n2 n3 n4 n5 n6 n7 n8 n9 n10 n11 (to_show file) e = n0 (sym e)
 no_name name n0 n1 n2 n3 n4 n5 n6 n7 n8 n9 n10 n11 (to_scan pattern file) e = n1 (sym e)
 no_name name n0 n1 n2 n3 n4 n5 n6 n7 n8 n9 n10 n11 (to_create header) e = n2 (sym e)
-no_name name n0 n1 n2 n3 n4 n5 n6 n7 n8 n9 n10 n11 (to_ingest workers segment files) e = n3 (sym e)
+no_name name n0 n1 n2 n3 n4 n5 n6 n7 n8 n9 n10 n11 (to_ingest workers segment watch files) e = n3 (sym e)
 no_name name n0 n1 n2 n3 n4 n5 n6 n7 n8 n9 n10 n11 to_list e = n4 (sym e)
 no_name name n0 n1 n2 n3 n4 n5 n6 n7 n8 n9 n10 n11 to_check e = n5 (sym e)
 no_name name n0 n1 n2 n3 n4 n5 n6 n7 n8 n9 n10 n11 (to_decode number) e = n6 (sym e)

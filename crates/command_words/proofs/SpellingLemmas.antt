@@ -36,13 +36,40 @@ any_scan pattern file = record {
   given = (refl, refl);
 }
 
-pub any_ingest : (one other : Text) → Asks (codes "ingest" ∷ codes "--" ∷ one ∷ other ∷ []) (to_ingest 1 65536 (one ∷ other ∷ []))
+pub any_ingest : (one other : Text) → Asks (codes "ingest" ∷ codes "--" ∷ one ∷ other ∷ []) (to_ingest 1 65536 None (one ∷ other ∷ []))
 unfolding clap_on_literals
 any_ingest one other = record {
   rows = row (codes "file") (one ∷ other ∷ []) ∷ [];
   good = refl;
   found = refl;
-  given = record { workers_are = refl; segment_is = refl; files_are = refl };
+  given = record { workers_are = refl; segment_is = refl; watch_is = refl; files_are = refl };
+}
+
+pub any_watched : (file : Text) → Asks (codes "ingest" ∷ codes "--watch=a*b" ∷ codes "--" ∷ file ∷ []) (to_ingest 1 65536 (Some (codes "a*b")) (file ∷ []))
+unfolding clap_on_literals
+any_watched file = record {
+  rows = row (codes "watch") (codes "a*b" ∷ []) ∷ row (codes "file") (file ∷ []) ∷ [];
+  good = refl;
+  found = refl;
+  given = record { workers_are = refl; segment_is = refl; watch_is = refl; files_are = refl };
+}
+
+pub any_watched_apart : (file : Text) → Asks (codes "ingest" ∷ codes "--watch" ∷ codes "a*b" ∷ codes "--" ∷ file ∷ []) (to_ingest 1 65536 (Some (codes "a*b")) (file ∷ []))
+unfolding clap_on_literals
+any_watched_apart file = record {
+  rows = row (codes "watch") (codes "a*b" ∷ []) ∷ row (codes "file") (file ∷ []) ∷ [];
+  good = refl;
+  found = refl;
+  given = record { workers_are = refl; segment_is = refl; watch_is = refl; files_are = refl };
+}
+
+pub any_watched_all : (file : Text) → Asks (codes "ingest" ∷ codes "--watch=" ∷ codes "--" ∷ file ∷ []) (to_ingest 1 65536 (Some []) (file ∷ []))
+unfolding clap_on_literals
+any_watched_all file = record {
+  rows = row (codes "watch") ([] ∷ []) ∷ row (codes "file") (file ∷ []) ∷ [];
+  good = refl;
+  found = refl;
+  given = record { workers_are = refl; segment_is = refl; watch_is = refl; files_are = refl };
 }
 
 pub any_search : (pattern : Text) → Asks (codes "search" ∷ codes "--" ∷ pattern ∷ []) (to_search None None false 1 pattern)
@@ -155,6 +182,10 @@ no_apart = faulty _ (codes "search" ∷ codes "--from" ∷ codes "-5" ∷ codes 
 pub no_twice : AskNothing (codes "search" ∷ codes "--stats" ∷ codes "--stats" ∷ codes "x" ∷ [])
 unfolding clap_on_literals
 no_twice = faulty _ (codes "search" ∷ codes "--stats" ∷ codes "--stats" ∷ codes "x" ∷ []) refl (λ e. cc (e))
+
+pub no_watch_twice : AskNothing (codes "ingest" ∷ codes "--watch=a" ∷ codes "--watch=b" ∷ codes "x" ∷ [])
+unfolding clap_on_literals
+no_watch_twice = faulty _ (codes "ingest" ∷ codes "--watch=a" ∷ codes "--watch=b" ∷ codes "x" ∷ []) refl (λ e. cc (e))
 
 pub no_missing : AskNothing (codes "scan" ∷ codes "x" ∷ [])
 unfolding clap_on_literals

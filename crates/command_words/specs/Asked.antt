@@ -1,5 +1,5 @@
 -- What words ask for.
-use Rattle.std.specs.Prelude.{◌≡◌, ◌≢◌, ℕ, ℤ, Bool, true, List, [], Option, Some, map, codes, Result, Ok, Err}
+use Rattle.std.specs.Prelude.{◌≡◌, ◌≢◌, ℕ, ℤ, Bool, true, List, [], Option, Some, map, option_map, codes, Result, Ok, Err}
 use Rattle.std.specs.Prelude.{◌↔◌, IsTrue, IfSome, IsSomeAnd}
 use Rattle.clap.specs.Walk.{Row, Text, all_of, first_of, rows_of}
 use Rattle.clap.specs.Matches.{found_of}
@@ -33,8 +33,8 @@ pub data Asked : Type 0 where
   -- a pattern and a file
   to_scan : Text → Text → Asked
   to_create : Header → Asked
-  -- workers, rows of a segment, files
-  to_ingest : ℕ → ℕ → List Text → Asked
+  -- workers, rows of a segment, the pattern of messages that are printed as they are sealed, files
+  to_ingest : ℕ → ℕ → Option Text → List Text → Asked
   to_list : Asked
   to_check : Asked
   -- a file's number
@@ -53,7 +53,7 @@ abbrev pub name_of : Asked → Text
 name_of (to_show file) = codes "show"
 name_of (to_scan pattern file) = codes "scan"
 name_of (to_create header) = codes "create"
-name_of (to_ingest workers segment files) = codes "ingest"
+name_of (to_ingest workers segment watch files) = codes "ingest"
 name_of to_list = codes "files"
 name_of to_check = codes "check"
 name_of (to_decode number) = codes "decode"
@@ -72,9 +72,11 @@ pub record IsCreate (rows : List Row) (header : Header) : Type 0 where
       header.length_limit
 
 -- the options and words of `ingest` give these
-pub record IsIngest (rows : List Row) (workers segment : ℕ) (files : List Text) : Type 0 where
+pub record IsIngest (rows : List Row) (workers segment : ℕ) (watch : Option Text)
+    (files : List Text) : Type 0 where
   pub workers_are : IsNumberOr 1 1 64 (first_of (codes "workers") rows) workers
   pub segment_is : IsNumberOr 65536 1 65536 (first_of (codes "segment") rows) segment
+  pub watch_is : first_of (codes "watch") rows ≡ watch
   pub files_are : all_of (codes "file") rows ≡ Some files
 
 -- the options and the word of `search` give these
@@ -107,7 +109,7 @@ Gives rows (to_show file) = first_of (codes "file") rows ≡ Some file
 Gives rows (to_scan pattern file) =
     (first_of (codes "pattern") rows ≡ Some pattern) × (first_of (codes "file") rows ≡ Some file)
 Gives rows (to_create header) = IsCreate rows header
-Gives rows (to_ingest workers segment files) = IsIngest rows workers segment files
+Gives rows (to_ingest workers segment watch files) = IsIngest rows workers segment watch files
 Gives rows to_list = Unit {0}
 Gives rows to_check = Unit {0}
 Gives rows (to_decode number) = IsNumberIn 0 4294967295 (first_of (codes "number") rows) number
@@ -163,7 +165,7 @@ abbrev pub IsInRange : Asked → Type 0
 IsInRange (to_show file) = Unit {0}
 IsInRange (to_scan pattern file) = Unit {0}
 IsInRange (to_create header) = IsHeader header
-IsInRange (to_ingest workers segment files) = IsIngestInRange workers segment files
+IsInRange (to_ingest workers segment watch files) = IsIngestInRange workers segment files
 IsInRange to_list = Unit {0}
 IsInRange to_check = Unit {0}
 IsInRange (to_decode number) = IsWithin 0 4294967295 number
@@ -176,7 +178,8 @@ IsInRange (to_bench number lines workers) = IsBenchInRange number lines workers
 -- ---- the command as it is answered
 
 abbrev pub ingested : IngestWords → Asked
-ingested asked = to_ingest asked.workers asked.segment (map (λ s. s.now) asked.files.items)
+ingested asked = to_ingest asked.workers asked.segment (option_map (λ s. s.now) asked.watch)
+    (map (λ s. s.now) asked.files.items)
 
 abbrev pub searched : SearchWords → Asked
 searched asked = to_search asked.from asked.to asked.stats asked.workers asked.pattern.now

@@ -43,7 +43,8 @@ create = command (codes "create")
 
 abbrev pub ingest : Shape
 ingest = command (codes "ingest")
-    (option (codes "workers") ∷ option (codes "segment") ∷ several (codes "file") ∷ [])
+    (option (codes "workers") ∷ option (codes "segment") ∷ option (codes "watch")
+    ∷ several (codes "file") ∷ [])
 
 abbrev pub files : Shape
 files = command (codes "files") []

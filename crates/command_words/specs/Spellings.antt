@@ -1,5 +1,5 @@
 -- How words are spelled, for every text and every number.
-use Rattle.std.specs.Prelude.{◌≤◌, ℕ, List, [], ◌∷◌, None, codes, true, false}
+use Rattle.std.specs.Prelude.{◌≤◌, ℕ, List, [], ◌∷◌, Some, None, codes, true, false}
 use Rattle.std.specs.Fmt.{decimal}
 use Rattle.clap.specs.Walk.{Text}
 use Rattle.command_words.specs.Asked.{Asked, Asks, to_check, to_count, to_create, to_decode}
@@ -12,7 +12,17 @@ pub record AreWords : Type 0 where
   pub scan : (pattern file : Text)
       → Asks (codes "scan" ∷ codes "--" ∷ pattern ∷ file ∷ []) (to_scan pattern file)
   pub ingest : (one other : Text)
-      → Asks (codes "ingest" ∷ codes "--" ∷ one ∷ other ∷ []) (to_ingest 1 65536 (one ∷ other ∷ []))
+      → Asks (codes "ingest" ∷ codes "--" ∷ one ∷ other ∷ [])
+      (to_ingest 1 65536 None (one ∷ other ∷ []))
+  pub watched : (file : Text)
+      → Asks (codes "ingest" ∷ codes "--watch=a*b" ∷ codes "--" ∷ file ∷ [])
+      (to_ingest 1 65536 (Some (codes "a*b")) (file ∷ []))
+  pub watched_apart : (file : Text)
+      → Asks (codes "ingest" ∷ codes "--watch" ∷ codes "a*b" ∷ codes "--" ∷ file ∷ [])
+      (to_ingest 1 65536 (Some (codes "a*b")) (file ∷ []))
+  pub watched_all : (file : Text)
+      → Asks (codes "ingest" ∷ codes "--watch=" ∷ codes "--" ∷ file ∷ [])
+      (to_ingest 1 65536 (Some []) (file ∷ []))
   pub search : (pattern : Text)
       → Asks (codes "search" ∷ codes "--" ∷ pattern ∷ []) (to_search None None false 1 pattern)
   pub counted : (pattern : Text)
@@ -51,6 +61,8 @@ pub record AreRefused : Type 0 where
   pub hyphen : AskNothing (codes "search" ∷ codes "-x" ∷ [])
   pub apart : AskNothing (codes "search" ∷ codes "--from" ∷ codes "-5" ∷ codes "x" ∷ [])
   pub twice : AskNothing (codes "search" ∷ codes "--stats" ∷ codes "--stats" ∷ codes "x" ∷ [])
+  pub watch_twice : AskNothing
+      (codes "ingest" ∷ codes "--watch=a" ∷ codes "--watch=b" ∷ codes "x" ∷ [])
   pub missing : AskNothing (codes "scan" ∷ codes "x" ∷ [])
   pub no_key : AskNothing (codes "count" ∷ codes "x" ∷ [])
   pub other_key : AskNothing (codes "count" ∷ codes "--by=hour" ∷ codes "x" ∷ [])

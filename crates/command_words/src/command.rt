@@ -15,7 +15,7 @@ pub enum Command<'a> {
     Scan { pattern: &'a str, file: &'a str },
     /// `create [--format V] [--types N] [--words N] [--bytes N]`, as the header of the archive
     Create { header: Header },
-    /// `ingest [--workers W] [--segment R] FILE...`
+    /// `ingest [--workers W] [--segment R] [--watch PATTERN] FILE...`
     Ingest { asked: IngestWords<'a> },
     /// `files`
     Files,
@@ -42,6 +42,8 @@ pub struct IngestWords<'a> {
     pub workers: u32,
     /// How many rows a segment has at most: 1 to 65,536.
     pub segment: u32,
+    /// The pattern of the messages that are printed as they are sealed, where it is given.
+    pub watch: Option<&'a str>,
     /// The names of the logs: one at least.
     pub files: Vec<&'a str>,
 }

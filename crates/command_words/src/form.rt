@@ -76,6 +76,7 @@ fn ingest<'a>(alloc: Global) -> Result<Command<'a>, AllocError>
     Command::new(alloc, "ingest")
         .arg(option(alloc, "workers"))?
         .arg(option(alloc, "segment"))?
+        .arg(option(alloc, "watch"))?
         .arg(several(alloc, "file"))
 }
 

@@ -191,19 +191,21 @@ fn read_ingest<'a>(
     found: &ArgMatches<'a>,
 ) -> Result<Option<IngestWords<'a>>, AllocError>
     ensures some { IfOk result (λ o. IfSome o (λ i. Gives (rows_in found.now) (ingested i))) }
-    ensures all { (workers segment : ℕ) (files : List Text)
-        → Gives (rows_in found.now) (to_ingest workers segment files)
-        → IfOk result (λ o. IsSomeAnd o (λ i. ingested i ≡ to_ingest workers segment files)) }
+    ensures all { (workers segment : ℕ) (watch : Option Text) (files : List Text)
+        → Gives (rows_in found.now) (to_ingest workers segment watch files)
+        → IfOk result (λ o. IsSomeAnd o (λ i. ingested i ≡ to_ingest workers segment watch files)) }
 {
     let Some((workers, segment)) = read_counts(found) else {
         return Ok(None);
     };
+    let watch = text(found, "watch");
     let Some(files) = texts(alloc, found, "file")? else {
         return Ok(None);
     };
     Ok(Some(IngestWords {
         workers,
         segment,
+        watch,
         files,
     }))
 }

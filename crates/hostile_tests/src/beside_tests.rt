@@ -1,15 +1,15 @@
-//! Two workers that have to run beside each other.
-ghost use Rattle.std.specs.Prelude.{None};
+//! Two workers that have to run beside each other, and a reader that has to run beside a worker.
+ghost use Rattle.std.specs.Prelude.{None, Some};
 
-use crate::outside::{EMPTY, NEVER, disk, tells};
-use log_seams::{Failed, MemDisk, OpenRefused, Shelf, Source};
+use crate::outside::{EMPTY, NEVER, answer, disk, list_of, tells};
+use log_seams::{Failed, MemDisk, MemSink, OpenRefused, Shelf, Sink, Source};
 use std::alloc::{AllocError, Global};
 use std::sync::Wait;
 use std::sync::atomic::{AtomicU64, Ordering};
 use std::test::Fail;
 use std::thread::Threads;
 
-/// How often a log asks whether the other was read, before it fails.
+/// How often a log asks for what it waits for, before it fails.
 const TURNS: u64 = 1_000_000_000;
 
 /// How many logs wait for each other.
@@ -29,10 +29,10 @@ struct MeetingLog<'a> {
     faults: u64,
 }
 
-/// Whether each of the logs was read before the turns ran out.
-fn all_begun(begun: &AtomicU64) -> bool {
+/// Whether a count came to so much before the turns ran out.
+fn comes_to(count: &AtomicU64, wanted: u64) -> bool {
     for _ in 0..TURNS {
-        if begun.load(Ordering::SeqCst) >= LOGS {
+        if count.load(Ordering::SeqCst) >= wanted {
             return true;
         }
     }
@@ -50,7 +50,7 @@ impl Source for MeetingLog<'_> {
         if !self.waited {
             self.waited = true;
             self.begun.fetch_add(1, Ordering::SeqCst);
-            if !all_begun(self.begun) {
+            if !comes_to(self.begun, LOGS) {
                 self.faults = self.faults.saturating_add(1);
                 return Err(Failed);
             }
@@ -119,5 +119,163 @@ fn two_workers_read_two_logs_beside_each_other(rt: HostRuntime) -> Result<(), Fa
     let mut archive = disk(rt.alloc(), &EMPTY, NEVER)?;
     let met = are_met(&rt, rt.alloc(), &mut archive)?;
     assert!(rt; met);
+    Ok(())
+}
+
+/// The bytes of a log of which a message is printed while it is read.
+const WATCHED: &[u8] = b"hit\nend\n";
+
+/// How many of them the first read gives: the second line without its end.
+const FIRST: usize = 7;
+
+/// What is printed of the first line.
+const HIT: &[u8] = b"a.log:1:hit\n";
+
+/// A log whose reads behind the first wait until the message of its first line was printed. It tells
+/// nothing.
+#[derive(Drop)]
+struct WaitingLog<'a> {
+    /// How many bytes were printed.
+    printed: &'a AtomicU64,
+    /// What is left of its bytes.
+    left: &'static [u8],
+    begun: bool,
+    faults: u64,
+}
+
+impl Source for WaitingLog<'_> {
+    ghost left = { λ _. None };
+
+    ghost name = { λ _. None };
+
+    ghost faults = { λ s. s.faults };
+
+    fn read(&mut self, buf: &mut [u8]) -> Result<usize, Failed> {
+        let most = if self.begun { buf.len() } else { FIRST };
+        if self.begun && !comes_to(self.printed, HIT.len() as u64) {
+            self.faults = self.faults.saturating_add(1);
+            return Err(Failed);
+        }
+        self.begun = true;
+        let count = self.left.len().min(buf.len()).min(most);
+        buf[..count].copy_from_slice(&self.left[..count]);
+        self.left = &self.left[count..];
+        Ok(count)
+    }
+}
+
+/// A shelf that has such a log under each name.
+#[derive(Drop)]
+struct WaitingShelf<'a> {
+    printed: &'a AtomicU64,
+    faults: u64,
+}
+
+impl<'a> Shelf for WaitingShelf<'a> {
+    type Src = WaitingLog<'a>;
+
+    ghost content = { λ _ _. None };
+
+    ghost unread = { λ _ _. None };
+
+    ghost open_faults = { λ _ _. 0 };
+
+    ghost read_faults = { λ s _. s.faults };
+
+    fn open_log(&mut self, _name: &str) -> Result<WaitingLog<'a>, OpenRefused> {
+        Ok(WaitingLog {
+            printed: self.printed,
+            left: WATCHED,
+            begun: false,
+            faults: 0,
+        })
+    }
+
+    fn close_log(&mut self, src: WaitingLog<'a>) {
+        self.faults = self.faults.saturating_add(src.faults);
+    }
+}
+
+/// A sink that counts what it takes, or does not.
+#[derive(Drop)]
+struct CountingSink<'a> {
+    sink: MemSink,
+    /// How many bytes those took that count.
+    taken: &'a AtomicU64,
+    counts: bool,
+}
+
+impl Sink for CountingSink<'_> {
+    ghost written = { λ s. Some s.sink.written };
+
+    ghost faults = { λ s. s.sink.faults };
+
+    fn write(&mut self, bytes: &[u8]) -> Result<usize, Failed> {
+        match self.sink.write(bytes) {
+            Ok(count) => {
+                if self.counts {
+                    self.taken.fetch_add(count as u64, Ordering::SeqCst);
+                }
+                Ok(count)
+            }
+            Err(failed) => Err(failed),
+        }
+    }
+}
+
+/// Such a sink with room for all that the test prints.
+fn counting<'a>(
+    alloc: Global,
+    taken: &'a AtomicU64,
+    counts: bool,
+) -> Result<CountingSink<'a>, AllocError> {
+    Ok(CountingSink {
+        sink: MemSink::new(alloc, 4096, Vec::new(alloc))?,
+        taken,
+        counts,
+    })
+}
+
+/// Whether the words take the log in and print both of its lines.
+fn is_printed<R: Threads + Wait + Sync>(
+    rt: &R,
+    alloc: Global,
+    words: &[String],
+    archive: &mut MemDisk,
+    second: &mut MemDisk,
+) -> Result<bool, AllocError> {
+    let printed = AtomicU64::new(0);
+    // with a count for each it would not be known how long the two are lent
+    let mut out = counting(alloc, &printed, true)?;
+    let mut err = counting(alloc, &printed, false)?;
+    let mut logs = WaitingShelf {
+        printed: &printed,
+        faults: 0,
+    };
+    let status = answer(
+        rt, alloc, words, &mut logs, archive, second, &mut out, &mut err,
+    );
+    Ok(
+        status == 0
+            && out.sink.bytes() == b"a.log:1:hit\n0 2 whole a.log\n".as_slice()
+            && err.sink.bytes().is_empty(),
+    )
+}
+
+fn is_printed_anew<R: Threads + Wait + Sync>(rt: &R, alloc: Global) -> Result<bool, AllocError> {
+    let words = list_of(
+        alloc,
+        &["ingest", "--segment", "1", "--watch", "hit", "a.log"],
+    )?;
+    let mut archive = disk(alloc, &EMPTY, NEVER)?;
+    let mut second = disk(alloc, &[], NEVER)?;
+    is_printed(rt, alloc, words.as_slice(), &mut archive, &mut second)
+}
+
+// The log is not read to its end before the line of its first message was printed.
+#[test]
+fn a_message_is_printed_while_its_log_is_read(rt: HostRuntime) -> Result<(), Fail> {
+    let well = is_printed_anew(&rt, rt.alloc())?;
+    assert!(rt; well);
     Ok(())
 }

@@ -19,3 +19,5 @@ mod source_tests;
 mod stop_tests;
 #[cfg(test)]
 mod upgrade_tests;
+#[cfg(test)]
+mod watch_tests;

@@ -51,6 +51,11 @@ impl Outcome {
         self.status == status && self.out.bytes() == out && self.err.bytes() == err
     }
 
+    /// What the call printed.
+    pub(crate) fn printed(&self) -> &[u8] {
+        self.out.bytes()
+    }
+
     /// Whether the call answered this, said this, and wrote a front of these bytes.
     pub(crate) fn has_front(&self, status: u8, out: &[u8], err: &[u8]) -> bool {
         self.status == status && out.starts_with(self.out.bytes()) && self.err.bytes() == err
@@ -63,7 +68,7 @@ pub(crate) fn disk(alloc: Global, bytes: &[u8], fault: u64) -> Result<MemDisk, A
         alloc,
         Text::new(bytes.to_vec(alloc)?),
         1 << 16,
-        400,
+        1000,
         vec![in alloc; fault; 1]?,
     )
 }
@@ -98,7 +103,7 @@ pub(crate) const SOUND: Faults = Faults {
 };
 
 /// The words of a command line.
-fn list_of(alloc: Global, words: &[&str]) -> Result<Vec<String>, AllocError> {
+pub(crate) fn list_of(alloc: Global, words: &[&str]) -> Result<Vec<String>, AllocError> {
     let mut list = Vec::new(alloc);
     for word in words {
         list.push(String::from_str(alloc, word)?)?;
@@ -116,7 +121,7 @@ fn nothing(alloc: Global, faults: Faults) -> Result<Outcome, AllocError> {
 }
 
 /// What `run` answers where no archive is known that the disk holds.
-fn answer<R: Threads + Wait + Sync, H: Shelf, D: Disk + Send, K: Sink>(
+pub(crate) fn answer<R: Threads + Wait + Sync, H: Shelf, D: Disk + Send, K: Sink + Send>(
     rt: &R,
     alloc: Global,
     words: &[String],

@@ -7,7 +7,6 @@ ghost use Rattle.command_answers.specs.Upgrading.{PrintsUpgrade};
 ghost use Rattle.command_refusals.specs.Outside.{AroundSinks};
 ghost use Rattle.command_refusals.specs.Refusal.{Says};
 ghost use Rattle.write_commands.specs.Jobs.{of_cause};
-ghost use Rattle.write_commands.specs.Taken.{graver};
 ghost use Rattle.upgrade_command.specs.Files.{bare_of, bares_by, stop_by};
 ghost use Rattle.upgrade_command.specs.declared.report.NewFile.{NewFile};
 
@@ -22,6 +21,7 @@ use ingest_workers::{Cause, Outcome};
 use log_seams::Sink;
 use sink_pieces::PrintRefusal;
 use std::alloc::{AllocError, Global};
+use write_commands::{graver, part_cause};
 
 /// What came of a file.
 #[derive(Clone, Copy, Debug)]
@@ -52,22 +52,7 @@ impl Listed for NewFile<'_> {
     }
 }
 
-/// Why not all messages of a file were taken in, by the cause of its job.
-fn part_cause(cause: Cause) -> PartCause
-    ensures { result ≡ of_cause cause }
-{
-    match cause {
-        Cause::ReadFault => PartCause::ReadFault,
-        Cause::LineTooLong { line } => PartCause::LineTooLong { line },
-        Cause::TooManyLines => PartCause::TooManyLines,
-        Cause::Full { book, count } => PartCause::Full { book, count },
-        Cause::DiskFault { .. } => PartCause::DiskFault,
-        Cause::OutOfMemory => PartCause::OutOfMemory,
-        Cause::ArchiveFull { end, need } => PartCause::ArchiveFull { end, need },
-    }
-}
-
-/// The same of a job that may have none.
+/// Why not all messages of a file were taken in, by the cause of its job, if it has one.
 fn refusal_of(cause: Option<Cause>) -> Option<PartCause>
     ensures { result ≡ option_map of_cause cause }
 {
@@ -107,18 +92,6 @@ pub(crate) fn stop_of(cause: Option<TextCause>, last: u64) -> Option<UpgradeRefu
     })
 }
 
-/// The graver of two statuses of files.
-fn graver_of(one: u8, other: u8) -> u8
-    ensures { result ≡ graver one other }
-{
-    match (one, other) {
-        (5, _) | (_, 5) => 5,
-        (9, _) | (_, 9) => 9,
-        (4, _) | (_, 4) => 4,
-        _ => 0,
-    }
-}
-
 /// Writes the line of a file of which something was refused, and answers its status.
 fn report_one<K: Sink>(err: &mut K, file: &NewFile<'_>) -> u8
     ensures status { result ≡ file_status file.now.refusal }
@@ -143,7 +116,7 @@ fn report_files<K: Sink>(err: &mut K, files: &[NewFile<'_>]) -> u8
 {
     let mut status = 0;
     for file in files {
-        status = graver_of(status, report_one(err, file));
+        status = graver(status, report_one(err, file));
     }
     status
 }

@@ -51,6 +51,13 @@ const NO_OPTION: &[&[&str]] = &[
     &["ingest"],
     &["ingest", "--workers=2"],
     &["ingest", "a", "--stats"],
+    &["ingest", "--watch=a"],
+    &["ingest", "a", "--watch"],
+    &["ingest", "--watch", "--segment=5", "a"],
+    &["ingest", "--watch", "-x", "a"],
+    &["ingest", "--watch=a", "--watch=a", "a"],
+    &["ingest", "--watch", "a", "b", "--watch", "c"],
+    &["search", "--watch=a", "a"],
     &["search"],
     &["search", "a", "b"],
     &["search", "-a"],
@@ -262,6 +269,48 @@ fn ingests(alloc: Global, words: &[&str], wanted: (u32, u32, usize)) -> Result<b
         }
         _ => false,
     })
+}
+
+/// Words of `ingest`, the pattern of the messages that are printed, and the count of files.
+const WATCHES: &[(&[&str], Option<&str>, usize)] = &[
+    (&["ingest", "a"], None, 1),
+    (&["ingest", "--", "--watch=a"], None, 1),
+    (&["ingest", "--watch=a", "b"], Some("a"), 1),
+    (&["ingest", "--watch", "a", "b", "c"], Some("a"), 2),
+    (&["ingest", "a", "--watch", "*error*"], Some("*error*"), 1),
+    (&["ingest", "--watch=", "a"], Some(""), 1),
+    (&["ingest", "a", "--watch", ""], Some(""), 1),
+    (&["ingest", "--watch", "-", "a"], Some("-"), 1),
+    (&["ingest", "--watch=-x", "a"], Some("-x"), 1),
+    (&["ingest", "--watch=a=b", "a"], Some("a=b"), 1),
+    (
+        &["ingest", "--segment=5", "--watch", "2", "--workers=3", "4"],
+        Some("2"),
+        1,
+    ),
+];
+
+/// Whether the words ask to ingest so many files, with the messages of this pattern printed.
+fn watches(
+    alloc: Global,
+    words: &[&str],
+    pattern: Option<&str>,
+    files: usize,
+) -> Result<bool, AllocError> {
+    let all = words_of(alloc, words)?;
+    Ok(match read_words(alloc, all.as_slice()) {
+        Ok(Command::Ingest { asked }) => asked.watch == pattern && asked.files.len() == files,
+        _ => false,
+    })
+}
+
+#[test]
+fn ingest_may_have_a_pattern(rt: HostRuntime) -> Result<(), Fail> {
+    for &(words, pattern, files) in WATCHES {
+        let well = watches(rt.alloc(), words, pattern, files)?;
+        assert!(rt; well, "{words:?}");
+    }
+    Ok(())
 }
 
 #[test]

@@ -34,7 +34,7 @@ use Rattle.disk_seal.proofs.ToldLemmas.{told_both, told_map}
 use Rattle.ingest_workers.specs.Ingested.{told_entries}
 use Rattle.ingest_workers.specs.Journal.{Holds}
 use Rattle.command_answers.specs.Names.{RefusesMore, RefusesNames}
-use Rattle.write_commands.specs.Naming.{IsNamed}
+use Rattle.write_commands.specs.Naming.{HasNamesMore, IsHeldBy, IsNamed}
 use Rattle.command_refusals.specs.Reading.{IsArchive}
 use Rattle.write_commands.proofs.JoinLemmas.{new_file, types_held, types_named, words_held, words_named}
 
@@ -151,15 +151,61 @@ pub record HasBooks (k : Kept) (types words : BookState) : Type 0 where
   pub types_limit : k.types_limit ≡ types.limit
   pub words_limit : k.words_limit ≡ words.limit
 
-ready : (h : Header) (es : List JournalEntry) (a : Shown) (types words : BookState) (names : List (List ℕ)) (first : ℕ) (legal : IsLegal h es) → IsArchiveOf a h es legal.held → HasBooks a.kept types words → first ≡ length a.files
+-- both books have the texts of the entries
+abbrev AreTextsOf : Header → List JournalEntry → BookState → BookState → Type 0
+AreTextsOf h es types words =
+    ((types.texts ≡ types_of es) × (types.limit ≡ h.types_limit)) × ((words.texts ≡ words_of es) × (words.limit ≡ h.words_limit))
+
+texts_shown : (h : Header) (es : List JournalEntry) (legal : IsLegal h es) (a : Shown) (types words : BookState) → IsArchiveOf a h es legal.held → HasBooks a.kept types words → AreTextsOf h es types words
+texts_shown h es legal a types words is books = (
+  (sym books.types_are ∙ (ap (λ (k : Kept). k.types) is.kept ∙ types_held h es legal), sym books.types_limit ∙ ap (λ (k : Kept). k.types_limit) is.kept),
+  (sym books.words_are ∙ (ap (λ (k : Kept). k.words) is.kept ∙ words_held h es legal), sym books.words_limit ∙ ap (λ (k : Kept). k.words_limit) is.kept),
+)
+
+-- an archive that was opened, with the books of one that was opened from the same bytes
+pub is_held : (old now : JournalState) (a b : Shown) → OpensFrom old now a → Opens old.disk.seen b → (types words : BookState) → HasBooks b.kept types words → (files : ℕ) → files ≡ length a.files → IsHeldBy now types words files
+is_held old now a b from opens types words books files same = record {
+  opens = may;
+  texts = record { types_are = told_map (is_some now.disk.seen) (λ (t : AreTextsOf now.header (told_entries now) types words). t.0) texts; words_are = told_map (is_some now.disk.seen) (λ (t : AreTextsOf now.header (told_entries now) types words). t.1) texts };
+  names = holds_names old now a from files same;
+}
+  where
+    may : MayOpen now
+    may = may_append old now a from
+
+    texts : IfTold (is_some now.disk.seen) (AreTextsOf now.header (told_entries now) types words)
+    texts =
+        told_both (is_some now.disk.seen) (λ (legal : IsLegal now.header (told_entries now)) (shows : ShowsOf b now.header (told_entries now)). texts_shown now.header (told_entries now) legal b types words (shows legal) books)
+        may.legal (shows_of now.header now.disk.seen now.place now.count now.disk.images b may.header (subst (λ told. Opens told b) (sym from.looks.rests.seen) opens) may.ends.ends may.spelled)
+
+-- where its bytes are told, they stand for its entries
+pub held_stands : (j : JournalState) → MayOpen j → (bytes : List ℕ) → j.disk.seen ≡ Some bytes → StandsFor bytes j.header (told_entries j)
+held_stands j may bytes told = go j.disk.seen told may.spelled may.legal may.ends.ends
+  where
+    go : (seen : Option (List ℕ)) → seen ≡ Some bytes → entries seen j.count ≡ records_of (journal_in seen j.count) → IfTold (is_some seen) (IsLegal j.header (journal_in seen j.count))
+        → AtEnd (header_bytes j.header) j.place j.count seen j.disk.images → StandsFor bytes j.header (journal_in seen j.count)
+    go None is spelled legal ends = absurd (cc (is))
+    go (Some b) is spelled legal ends =
+        let same : b ≡ bytes = cc (is) in
+        record { header = may.header; legal = legal; stands = subst (λ rs. Stands (header_bytes j.header) rs bytes) spelled (subst (λ x. Stands (header_bytes j.header) (entries (Some b) j.count) x) same ends.stands) }
+
+-- and so does each image of it
+pub held_only : (j : JournalState) → MayOpen j → (bytes : List ℕ) → j.disk.seen ≡ Some bytes → (c : List ℕ) → j.disk.images c → StandsFor c j.header (told_entries j)
+held_only j may bytes told c image = subst (λ x. StandsFor x j.header (told_entries j)) (sym (go j.disk.seen told may.ends.ends)) (held_stands j may bytes told)
+  where
+    go : (seen : Option (List ℕ)) → seen ≡ Some bytes → AtEnd (header_bytes j.header) j.place j.count seen j.disk.images → c ≡ bytes
+    go None is ends = absurd (cc (is))
+    go (Some b) is ends = let same : b ≡ bytes = cc (is) in ends.only c image ∙ same
+
+-- ---- the new files
+
+ready : (h : Header) (es : List JournalEntry) (types words : BookState) (names : List (List ℕ)) (first : ℕ) (legal : IsLegal h es) → AreTextsOf h es types words → first ≡ length legal.held.names
     → IsReady h (es ++ Files names ∷ []) types words first (length names)
-ready h es a types words names first legal is books same =
-    let number : first ≡ length legal.held.names = files_counted h es a legal.held first is same in
-    record {
-      types_are = (sym books.types_are ∙ (ap (λ (k : Kept). k.types) is.kept ∙ (types_held h es legal ∙ sym (types_named es names))), sym books.types_limit ∙ ap (λ (k : Kept). k.types_limit) is.kept);
-      words_are = (sym books.words_are ∙ (ap (λ (k : Kept). k.words) is.kept ∙ (words_held h es legal ∙ sym (words_named es names))), sym books.words_limit ∙ ap (λ (k : Kept). k.words_limit) is.kept);
-      empty = λ i within. subst (λ n. Holds h (es ++ Files names ∷ []) (n + i) [] false false) (sym number) (holds i within);
-    }
+ready h es types words names first legal texts number = record {
+  types_are = (texts.0.0 ∙ sym (types_named es names), texts.0.1);
+  words_are = (texts.1.0 ∙ sym (words_named es names), texts.1.1);
+  empty = λ i within. subst (λ n. Holds h (es ++ Files names ∷ []) (n + i) [] false false) (sym number) (holds i within);
+}
   where
     holds : (i : ℕ) → i < length names → Holds h (es ++ Files names ∷ []) (length legal.held.names + i) [] false false
     holds i within =
@@ -174,36 +220,42 @@ pub record AppendsNames (held : ℕ) (names : List (List ℕ)) (old new : Journa
   pub fits : old.place + 1 + files_size names ≤ old.header.length_limit
   pub opens : StaysOpen held old new
 
-module _ (old now new : JournalState) (a : Shown) (from : OpensFrom old now a) (held : ℕ) (same : held ≡ length a.files) (names : List (List ℕ)) (appends : AppendsNames held names now new) where
-  pub told_named : IfTold (is_some new.disk.seen) (told_entries new ≡ told_entries now ++ Files names ∷ [])
+module _ (j new : JournalState) (types words : BookState) (files : ℕ) (held : IsHeldBy j types words files) (names : List (List ℕ)) (appends : AppendsNames files names j new) where
+  pub told_named : IfTold (is_some new.disk.seen) (told_entries new ≡ told_entries j ++ Files names ∷ [])
   told_named =
-      let may = may_append old now a from in
-      entries_named now.header may.header names held now.place now.disk.seen new.disk.seen now.count new.count appends.goes.tells appends.added.added may.spelled may.legal
-      (holds_names old now a from held same) appends.adds (gate_at now.header now.disk.seen now.place now.count now.disk.images may.ends.ends may.spelled) appends.fits
+      let may = held.opens in
+      entries_named j.header may.header names files j.place j.disk.seen new.disk.seen j.count new.count appends.goes.tells appends.added.added may.spelled may.legal
+      held.names appends.adds (gate_at j.header j.disk.seen j.place j.count j.disk.images may.ends.ends may.spelled) appends.fits
 
-  told_ready : (types words : BookState) → HasBooks a.kept types words → IfTold (is_some new.disk.seen) (IsReady new.header (told_entries new) types words held (length names))
-  told_ready types words books =
-      let es = told_entries now ++ Files names ∷ [] in
-      let here : IfTold (is_some now.disk.seen) (IsReady now.header es types words held (length names)) =
-      told_both (is_some now.disk.seen) (λ (legal : IsLegal now.header (told_entries now)) (shows : ShowsOf a now.header (told_entries now)). ready now.header (told_entries now) a types words names held legal (shows legal) books same)
-      (may_append old now a from).legal (shows_now old now a from) in
-      let there : IfTold (is_some new.disk.seen) (IsReady new.header es types words held (length names)) =
-      subst (λ h. IfTold (is_some new.disk.seen) (IsReady h es types words held (length names))) (sym appends.goes.header)
-      (subst (λ b. IfTold b (IsReady now.header es types words held (length names))) (sym appends.goes.tells) here) in
-      told_both (is_some new.disk.seen) (λ (is : told_entries new ≡ es) (r : IsReady new.header es types words held (length names)). subst (λ x. IsReady new.header x types words held (length names)) (sym is) r) told_named there
+  -- the journal has the names more
+  pub names_more : HasNamesMore names j new
+  names_more = record { header = appends.goes.header; count = appends.added.count; tells = appends.goes.tells; entries = told_named }
 
-  all_named : (types words : BookState) → HasBooks a.kept types words → IsNamed new types words held (length names)
-  all_named types words books =
-      let r = told_ready types words books in
+  told_ready : IfTold (is_some new.disk.seen) (IsReady new.header (told_entries new) types words files (length names))
+  told_ready =
+      let es = told_entries j ++ Files names ∷ [] in
+      let texts : IfTold (is_some j.disk.seen) (AreTextsOf j.header (told_entries j) types words) = told_both (is_some j.disk.seen) (λ t w. (t, w)) held.texts.types_are held.texts.words_are in
+      let numbered : IfTold (is_some j.disk.seen) ((legal : IsLegal j.header (told_entries j)) × (files ≡ length legal.held.names)) =
+      told_both (is_some j.disk.seen) (λ legal number. (legal, number legal)) held.opens.legal held.names in
+      let here : IfTold (is_some j.disk.seen) (IsReady j.header es types words files (length names)) =
+      told_both (is_some j.disk.seen) (λ (n : (legal : IsLegal j.header (told_entries j)) × (files ≡ length legal.held.names)) (t : AreTextsOf j.header (told_entries j) types words). ready j.header (told_entries j) types words names files n.0 t n.1) numbered texts in
+      let there : IfTold (is_some new.disk.seen) (IsReady new.header es types words files (length names)) =
+      subst (λ h. IfTold (is_some new.disk.seen) (IsReady h es types words files (length names))) (sym appends.goes.header)
+      (subst (λ b. IfTold b (IsReady j.header es types words files (length names))) (sym appends.goes.tells) here) in
+      told_both (is_some new.disk.seen) (λ (is : told_entries new ≡ es) (r : IsReady new.header es types words files (length names)). subst (λ x. IsReady new.header x types words files (length names)) (sym is) r) told_named there
+
+  all_named : IsNamed new types words files (length names)
+  all_named =
+      let r = told_ready in
       let told = is_some new.disk.seen in
-      let Is : Type 0 = IsReady new.header (told_entries new) types words held (length names) in
+      let Is : Type 0 = IsReady new.header (told_entries new) types words files (length names) in
       record {
-        opens = appends.opens (may_append old now a from) (holds_names old now a from held same);
+        opens = appends.opens held.opens held.names;
         texts = record { types_are = told_map told (λ (x : Is). x.types_are) r; words_are = told_map told (λ (x : Is). x.words_are) r };
         few = appends.adds.all;
         empty = told_map told (λ (x : Is). x.empty) r;
       }
 
-  pub is_named : (types words : BookState) → HasBooks a.kept types words → (first count : ℕ) → first ≡ held → count ≡ length names → IsNamed new types words first count
-  is_named types words books first count number counted =
-      subst (λ n. IsNamed new types words n count) (sym number) (subst (λ n. IsNamed new types words held n) (sym counted) (all_named types words books))
+  pub is_named : (first count : ℕ) → first ≡ files → count ≡ length names → IsNamed new types words first count
+  is_named first count number counted =
+      subst (λ n. IsNamed new types words n count) (sym number) (subst (λ n. IsNamed new types words files n) (sym counted) all_named)

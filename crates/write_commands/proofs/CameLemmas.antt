@@ -9,7 +9,7 @@ use Rattle.sink_pieces.specs.Output.{Grew, GrewByFront}
 use Rattle.command_refusals.specs.Outside.{Outside}
 use Rattle.file_lines.specs.Directory.{FileLine, directory_from}
 use Rattle.command_refusals.specs.Ending.{EndsWithoutMemory, RoseIn, SaysIn, Stayed, TookNothing}
-use Rattle.command_answers.specs.Ingested.{EndsIngest, FileOutcome, FromArchive, HasCallCause, PrintsCame, TakesIn, TakesNothing, line_of_came, logs_of}
+use Rattle.command_answers.specs.Ingested.{EndsIngest, FileOutcome, FromArchive, HasCallCause, PrintsCame, TakesFiles, TakesIn, TakesNothing, line_of_came, logs_of}
 use Rattle.write_commands.specs.IngestPrints.{came_of, names_of}
 use Rattle.write_commands.specs.StepsCauses.{HaveFileCauses}
 use Rattle.command_refusals.specs.Reading.{OverJournal}
@@ -51,20 +51,30 @@ pub refused_all : (workers rows : ℕ) (names : List (List ℕ)) (seen : Outside
 refused_all workers rows names seen old new status refusal is said nothing sink cause disk =
     inl (record { refusal = refusal; ends = record { status_is = is; said = said }; nothing = nothing; sink = sink; cause = cause; disk = disk })
 
-module _ (one : OneListOfParts) (workers rows : ℕ) (names : List (List ℕ)) (seen : Outside) (old new : DiskState) (tells : is_some new.seen ≡ is_some old.seen) (status first : ℕ) (files : List FileReport) (named : names_of files ≡ names)
+module _ (one : OneListOfParts) (workers rows : ℕ) (names : List (List ℕ)) (seen : Outside) (old new : DiskState) (tells : is_some new.seen ≡ is_some old.seen) (first : ℕ) (files : List FileReport) (named : names_of files ≡ names)
     (numbered : OverJournal old.seen (λ journal. first ≡ length journal.names)) (disk : FromArchive old (λ h before bytes stood. TakesIn rows h before stood names (map (came_of seen.content) files) old new)) (caused : HaveFileCauses (logs_of seen) workers rows old new (map (came_of seen.content) files)) where
-  printed_came : PrintsCame (map (came_of seen.content) files) first seen status → EndsIngest workers rows names seen old new status
-  printed_came printed = inr (record {
-    adds = record { came = map (came_of seen.content) files; first = first; names_are = names_came seen.content files ∙ named; logs = logs_came seen.content files; numbered = numbered; disk = disk; printed = printed };
+  -- the files were taken in
+  takes_came : TakesFiles workers rows names seen old new
+  takes_came = record {
+    adds = record { came = map (came_of seen.content) files; first = first; names_are = names_came seen.content files ∙ named; logs = logs_came seen.content files; numbered = numbered; disk = disk };
     each = file_causes workers rows seen old new (map (came_of seen.content) files) caused;
     in_turn = full_in_turn workers rows seen old new (map (came_of seen.content) files) caused;
     fits = all_fit rows one names (map (came_of seen.content) files) old new tells disk;
-  })
+  }
+
+  -- and this holds of what came of them, and of the first number
+  pub takes_with : (P : List FileOutcome → ℕ → Type 0) → P (map (came_of seen.content) files) first → (t : TakesFiles workers rows names seen old new) × P t.adds.came t.adds.first
+  unfolding takes_came
+  takes_with P holds = (takes_came, holds)
+
+  -- it is printed
+  printed_came : (status : ℕ) → PrintsCame (map (came_of seen.content) files) first seen status → EndsIngest workers rows names seen old new status
+  printed_came status printed = inr (takes_with (λ came n. PrintsCame came n seen status) printed)
 
   -- all lines were printed
-  pub printed_all : (told : List FileReport) → told ≡ files → Grew seen.out.0 seen.out.1 (directory_from first (map line_of_taken files)) → status ≡ status_of_taken told → SaysIn seen (flat_map error_of told) → Stayed seen.out_faults
+  pub printed_all : (status : ℕ) (told : List FileReport) → told ≡ files → Grew seen.out.0 seen.out.1 (directory_from first (map line_of_taken files)) → status ≡ status_of_taken told → SaysIn seen (flat_map error_of told) → Stayed seen.out_faults
       → EndsIngest workers rows names seen old new status
-  printed_all told same grew is said sink = printed_came (inl (
+  printed_all status told same grew is said sink = printed_came status (inl (
     is ∙ (ap status_of_taken same ∙ ap gravest (statuses_came seen.content files)),
     subst (λ (ls : List FileLine). Grew seen.out.0 seen.out.1 (directory_from first ls)) (lines_came seen.content files) grew,
     subst (λ text. SaysIn seen text) (ap (λ (fs : List FileReport). flat_map error_of fs) same ∙ errors_came seen.content files) said,
@@ -75,9 +85,9 @@ module _ (one : OneListOfParts) (workers rows : ℕ) (names : List (List ℕ)) (
   front_came grew = subst (λ (ls : List FileLine). GrewByFront seen.out.0 seen.out.1 (directory_from first ls)) (lines_came seen.content files) grew
 
   -- the output failed
-  pub printed_some : GrewByFront seen.out.0 seen.out.1 (directory_from first (map line_of_taken files)) → status ≡ status_of SinkFault → SaysIn seen (line_of [] SinkFault) → RoseIn seen.out_faults → EndsIngest workers rows names seen old new status
-  printed_some grew is said rose = printed_came (inr (inl (record { status_is = is; said = said }, front_came grew, rose)))
+  pub printed_some : (status : ℕ) → GrewByFront seen.out.0 seen.out.1 (directory_from first (map line_of_taken files)) → status ≡ status_of SinkFault → SaysIn seen (line_of [] SinkFault) → RoseIn seen.out_faults → EndsIngest workers rows names seen old new status
+  printed_some status grew is said rose = printed_came status (inr (inl (record { status_is = is; said = said }, front_came grew, rose)))
 
   -- there was no memory for the lines
-  pub printed_short : GrewByFront seen.out.0 seen.out.1 (directory_from first (map line_of_taken files)) → EndsWithoutMemory seen status → Stayed seen.out_faults → EndsIngest workers rows names seen old new status
-  printed_short grew ends sink = printed_came (inr (inr (ends, front_came grew, sink)))
+  pub printed_short : (status : ℕ) → GrewByFront seen.out.0 seen.out.1 (directory_from first (map line_of_taken files)) → EndsWithoutMemory seen status → Stayed seen.out_faults → EndsIngest workers rows names seen old new status
+  printed_short status grew ends sink = printed_came status (inr (inr (ends, front_came grew, sink)))

@@ -1,7 +1,7 @@
 -- Why an ingest is refused as a whole.
 use Rattle.std.proofs.Common.{◌≡◌, ◌+◌, ◌<◌, ◌≤◌, inl, inr, refl, sym, ap, ap₂, subst, ◌∙◌, ℕ, true, List, length, Option, Some, None, arith}
 use Rattle.std.specs.Prelude.{IfErr, IfSome, IsErrOf, Result, Err, Ok, is_some}
-use Rattle.log_seams.specs.Disk.{DiskState, KeepsBytes, Rests}
+use Rattle.log_seams.specs.Disk.{DiskState, KeepsBytes}
 use Rattle.log_seams.specs.Outside.{CountsOf}
 use Rattle.log_seams.proofs.MomentLemmas.{rose}
 use Rattle.record_format.specs.declared.header.Header.{Header}
@@ -11,7 +11,8 @@ use Rattle.disk_journal.specs.declared.refusals.StartRefusal.{StartRefusal}
 use Rattle.archive_meaning.specs.declared.entry.JournalEntry.{JournalEntry}
 use Rattle.archive_meaning.specs.Spelled.{end_of}
 use Rattle.archive_meaning.specs.Stands.{StandsFor}
-use Rattle.archive_open.specs.Shown.{Opens, RefusedAt, Shown, StandsForNone}
+use Rattle.dict_core.specs.Books.{BookState}
+use Rattle.archive_open.specs.Shown.{RefusedAt, StandsForNone}
 use Rattle.archive_open.proofs.OpenLemmas.{start_refused}
 use Rattle.archive_open.specs.declared.refusal.ArchiveRefusal.{ArchiveRefusal}
 use Rattle.disk_seal.specs.Opening.{MayOpen}
@@ -26,7 +27,8 @@ use Rattle.command_refusals.specs.Reading.{OverJournal}
 use Rattle.command_refusals.specs.declared.outcome.AddRefusal.{AddRefusal}
 use Rattle.write_commands.specs.declared.ingest.NewLogs.{NewLogs}
 use Rattle.write_commands.specs.StepsAdding.{RefusesNewLogs, names_asked}
-use Rattle.write_commands.proofs.AppendLemmas.{OpensFrom, files_counted, may_append}
+use Rattle.write_commands.specs.Naming.{IsHeldBy}
+use Rattle.write_commands.proofs.RegisterLemmas.{held_same}
 use Rattle.write_commands.proofs.LeavesLemmas.{from_archive, of_told, opened_as}
 use Rattle.write_commands.proofs.StepsLemmas.{Looked, no_more, same_bytes}
 
@@ -36,51 +38,57 @@ refused_none at None refused = tt
 refused_none at (Some bytes) refused = refused.none
 
 -- the archive could not be opened
-pub archive_cause : {A : Type 0} (names : List (List ℕ)) (old new : DiskState) (result : Result A ArchiveRefusal) (r : ArchiveRefusal) → result ≡ Err r → Rests old new
+pub archive_cause : {A : Type 0} (names : List (List ℕ)) (old new : DiskState) (result : Result A ArchiveRefusal) (r : ArchiveRefusal) → result ≡ Err r → KeepsBytes old new
     → ((at : ℕ) → IsErrOf result (ArchiveRefusal.Damaged at) → RefusedAt at old.seen) → CountsOf ArchiveRefusal.DiskFault old.faults new.faults result → HasCallCause names old new (add_from_archive r)
-archive_cause names old new result ArchiveRefusal.DiskFault is rests damaged counts = (counts.failed is, inl (rests.seen, rests.no_more))
-archive_cause names old new result (ArchiveRefusal.Damaged at) is rests damaged counts = refused_none at old.seen (damaged at is)
-archive_cause names old new result ArchiveRefusal.OutOfMemory is rests damaged counts = tt
+archive_cause names old new result ArchiveRefusal.DiskFault is keeps damaged counts = (counts.failed is, inl (keeps.seen, keeps.no_more))
+archive_cause names old new result (ArchiveRefusal.Damaged at) is keeps damaged counts = refused_none at old.seen (damaged at is)
+archive_cause names old new result ArchiveRefusal.OutOfMemory is keeps damaged counts = tt
+
+-- where its bytes are told, the journal holds so many names
+holds_told : (j : JournalState) (types words : BookState) (held : ℕ) → IsHeldBy j types words held → (bytes : List ℕ) → j.disk.seen ≡ Some bytes → (h : Header) (before : List JournalEntry) (stood : StandsFor bytes h before) → held ≡ length stood.legal.held.names
+holds_told j types words held of bytes told h before stood =
+    let may = of.opens in
+    let opened = opened_as j h before bytes may.header may.spelled may.legal may.ends.ends told stood in
+    held_same j.header h (told_entries j) before held opened.0 opened.1 (of_told (is_some j.disk.seen) (ap is_some told) of.names) stood.legal
 
 -- it would have too many files
-pub many_cause : (names : List (List ℕ)) (old new : DiskState) (a : Shown) (held more : ℕ) (refusal : AddRefusal) → Opens old.seen a → held ≡ length a.files → more ≡ length names → RefusesMore held more (Some refusal) → HasCallCause names old new refusal
-many_cause names old new a held more refusal opens same counted refuses =
-    subst (HasCallCause names old new) (sym refuses.0) (inr ((refl, refuses.1), counted, over old.seen opens))
+pub many_cause : (names : List (List ℕ)) (j : JournalState) (types words : BookState) (held more : ℕ) (refusal : AddRefusal) → IsHeldBy j types words held → more ≡ length names → RefusesMore held more (Some refusal) → HasCallCause names j.disk j.disk refusal
+many_cause names j types words held more refusal of counted refuses =
+    subst (HasCallCause names j.disk j.disk) (sym refuses.0) (inr ((refl, refuses.1), counted, over j.disk.seen refl))
   where
-    over : (told : Option (List ℕ)) → Opens told a → OverJournal told (λ journal. held ≡ length journal.names)
-    over None opens = tt
-    over (Some bytes) opens = λ h es stood. files_counted h es a stood.legal.held held (opens h es stood) same
+    over : (told : Option (List ℕ)) → j.disk.seen ≡ told → OverJournal told (λ journal. held ≡ length journal.names)
+    over None is = tt
+    over (Some bytes) is = λ h es stood. holds_told j types words held of bytes is h es stood
 
 -- the names could not be appended
-pub register_cause : {A : Type 0} (names : List (List ℕ)) (old now new : JournalState) (a : Shown) (from : OpensFrom old now a) (held : ℕ) → held ≡ length a.files → held + length names ≤ 1048576 → (result : Result A RegisterRefusal) (r : RegisterRefusal) → result ≡ Err r → old.disk.faults ≤ now.disk.faults
-    → ((end need : ℕ) → IsErrOf result (RegisterRefusal.ArchiveFull end need) → IsFullFor names end need now) → CountsOf RegisterRefusal.DiskFault now.disk.faults new.disk.faults result
-    → HasCallCause names old.disk new.disk (add_from_register r)
-register_cause names old now new a from held counted few result RegisterRefusal.OutOfMemory is risen full counts = tt
-register_cause names old now new a from held counted few result RegisterRefusal.DiskFault is risen full counts = (rose old.disk.faults now.disk.faults new.disk.faults new.disk.faults risen (counts.failed is) (omega arith), inr (few_in old.disk.seen from.opened))
+pub register_cause : {A : Type 0} (names : List (List ℕ)) (j new : JournalState) (types words : BookState) (held : ℕ) (of : IsHeldBy j types words held) → held + length names ≤ 1048576 → (result : Result A RegisterRefusal) (r : RegisterRefusal) → result ≡ Err r
+    → ((end need : ℕ) → IsErrOf result (RegisterRefusal.ArchiveFull end need) → IsFullFor names end need j) → CountsOf RegisterRefusal.DiskFault j.disk.faults new.disk.faults result
+    → HasCallCause names j.disk new.disk (add_from_register r)
+register_cause names j new types words held of few result RegisterRefusal.OutOfMemory is full counts = tt
+register_cause names j new types words held of few result RegisterRefusal.DiskFault is full counts = (counts.failed is, inr (few_in j.disk.seen refl))
   where
-    few_in : (told : Option (List ℕ)) → Opens told a → IfSome told (λ bytes. (h : Header) (before : List JournalEntry) (stood : StandsFor bytes h before) → ((c : List ℕ) → old.disk.images c → StandsFor c h before) → length stood.legal.held.names + length names ≤ 1048576)
-    few_in None opens = tt
-    few_in (Some bytes) opens = λ h before stood only. omega (arith, few, files_counted h before a stood.legal.held held (opens h before stood) counted)
-register_cause names old now new a from held counted few result (RegisterRefusal.ArchiveFull end need) is risen full counts = go old.disk.seen refl from.opened
+    few_in : (told : Option (List ℕ)) → j.disk.seen ≡ told → IfSome told (λ bytes. (h : Header) (before : List JournalEntry) (stood : StandsFor bytes h before) → ((c : List ℕ) → j.disk.images c → StandsFor c h before) → length stood.legal.held.names + length names ≤ 1048576)
+    few_in None told = tt
+    few_in (Some bytes) told = λ h before stood only. omega (arith, few, holds_told j types words held of bytes told h before stood)
+register_cause names j new types words held of few result (RegisterRefusal.ArchiveFull end need) is full counts = go j.disk.seen refl
   where
-    may : MayOpen now
-    may = may_append old now a from
+    may : MayOpen j
+    may = of.opens
 
-    past : IsFullFor names end need now
+    past : IsFullFor names end need j
     past = full end need is
 
-    go : (told : Option (List ℕ)) → old.disk.seen ≡ told → Opens told a
-        → IfSome told (λ bytes. (h : Header) (before : List JournalEntry) (stood : StandsFor bytes h before) → ((c : List ℕ) → old.disk.images c → StandsFor c h before) → GoPast names h before (length stood.legal.held.names) end need)
-    go None told opens = tt
-    go (Some bytes) told opens = λ h before stood only.
-        let seen = from.looks.rests.seen ∙ told in
-        let some : is_some now.disk.seen ≡ true = ap is_some seen in
-        let opened = opened_as now h before bytes may.header may.spelled may.legal may.ends.ends seen stood in
-        let gate : now.place + 1 ≡ end_of now.header (told_entries now) = of_told (is_some now.disk.seen) some (gate_at now.header now.disk.seen now.place now.count now.disk.images may.ends.ends may.spelled) in record {
+    go : (told : Option (List ℕ)) → j.disk.seen ≡ told
+        → IfSome told (λ bytes. (h : Header) (before : List JournalEntry) (stood : StandsFor bytes h before) → ((c : List ℕ) → j.disk.images c → StandsFor c h before) → GoPast names h before (length stood.legal.held.names) end need)
+    go None told = tt
+    go (Some bytes) told = λ h before stood only.
+        let some : is_some j.disk.seen ≡ true = ap is_some told in
+        let opened = opened_as j h before bytes may.header may.spelled may.legal may.ends.ends told stood in
+        let gate : j.place + 1 ≡ end_of j.header (told_entries j) = of_told (is_some j.disk.seen) some (gate_at j.header j.disk.seen j.place j.count j.disk.images may.ends.ends may.spelled) in record {
           ends = past.ends ∙ (gate ∙ ap₂ (λ x es. end_of x es) opened.0 opened.1);
           needs = past.needs;
           past = subst (λ (x : Header). x.length_limit < end + need) opened.0 past.past;
-          few = omega (arith, few, files_counted h before a stood.legal.held held (opens h before stood) counted);
+          few = omega (arith, few, holds_told j types words held of bytes told h before stood);
         }
 
 -- the answer of the call

@@ -34,9 +34,9 @@ use Rattle.ingest_meaning.specs.Parts.{in_file}
 use Rattle.ingest_meaning.specs.Parts.{IsCut, IsOpen, Part, columns_of, front, messages_in, rest_of, segments_from}
 use Rattle.ingest_workers.specs.Worker.{IsGiven as IsGivenByJobs}
 use Rattle.command_answers.specs.Ingested.{FileOutcome, IsCutInto, IsFront, IsGiven, IsGivenBy, IsOfNew, LeavesJournal, TakesIn}
-use Rattle.write_commands.specs.JournalLeft.{HasNames, IsLogOf}
+use Rattle.write_commands.specs.JournalLeft.{HasNames, HasTakenIn, IsLogOf}
 use Rattle.write_commands.proofs.JoinLemmas.{HasNone, content_grows, new_file, with_names}
-use Rattle.write_commands.proofs.LeavesLemmas.{left_leaves, of_told, same_leaves}
+use Rattle.write_commands.proofs.LeavesLemmas.{left_entries, left_leaves, of_told, same_leaves, stayed_entries}
 use Rattle.write_commands.proofs.PieceLemmas.{HasGrown, HoldsOf, IsNewFrom, grown, one_file}
 
 -- ---- one new file
@@ -239,19 +239,22 @@ module _ (h : Header) (before : List JournalEntry) (names : List (List ℕ)) {by
 
   -- what is told of each file makes what the archive has of them
   pub taken_in : (rows : ℕ) (old late : DiskState) → LeavesJournal h before (before ++ (Files names ∷ fresh)) old late → map (λ (c : FileOutcome). c.name) came ≡ names
-      → ((i : ℕ) (c : FileOutcome) → slice_get came i ≡ Some c → IsTold h.version rows fresh legal.held.pieces (first + i) c) → TakesIn rows h before stood names came old late
-  taken_in rows old late leaves are each = record {
-    added = fresh;
-    each = new;
-    leaves = leaves;
-    files = files_from first names legal.held.pieces;
-    content_is = λ image stands.
-        ap content_of (one_held h nothing_held stands.legal.held legal.held (before ++ (Files names ∷ fresh)) stands.legal.run legal.run) ∙ content_of_new;
-    fronts = fronts;
-    cuts = λ i f at.
-        let c = named_files (IsFront h.version) came (files_from first names legal.held.pieces) i f fronts at in
-        cut_of_told h.version rows fresh legal.held.pieces (first + i) c.0 f (each i c.0 c.1) (file_is legal.held.pieces first names i f at);
-  }
+      → ((i : ℕ) (c : FileOutcome) → slice_get came i ≡ Some c → IsTold h.version rows fresh legal.held.pieces (first + i) c) → (t : TakesIn rows h before stood names came old late) × (t.added ≡ fresh)
+  taken_in rows old late leaves are each = (
+    record {
+      added = fresh;
+      each = new;
+      leaves = leaves;
+      files = files_from first names legal.held.pieces;
+      content_is = λ image stands.
+          ap content_of (one_held h nothing_held stands.legal.held legal.held (before ++ (Files names ∷ fresh)) stands.legal.run legal.run) ∙ content_of_new;
+      fronts = fronts;
+      cuts = λ i f at.
+          let c = named_files (IsFront h.version) came (files_from first names legal.held.pieces) i f fronts at in
+          cut_of_told h.version rows fresh legal.held.pieces (first + i) c.0 f (each i c.0 c.1) (file_is legal.held.pieces first names i f at);
+    },
+    refl,
+  )
     where
       fronts : AllZip (IsFront h.version) came (files_from first names legal.held.pieces)
       fronts = fronts_are h.version legal.held.pieces first names came are each
@@ -372,7 +375,7 @@ module _ {S D : Type 0} {d : DiskGhosts D} (left : S → Option (List ℕ)) (h :
     (j after : Journal D d) (law : IsLawful (d.state after.disk.now)) (named : HasNames h before names (state_of j)) (js js' : List (Job S)) (came : List FileOutcome) (of : AreJobsOf left h.version came (length stood.legal.held.names) js)
     (are : map (λ (c : FileOutcome). c.name) came ≡ names) (each : (i : ℕ) (c : FileOutcome) → slice_get came i ≡ Some c → CameOfJob left js js' i c) where
   -- the jobs were done
-  pub ingested_takes_in : (rows : ℕ) → HasIngested left (plan_of rows j) js js' j after → TakesIn rows h before stood names came (d.state j.disk.now) (d.state after.disk.now)
+  ingested_takes_in : (rows : ℕ) (done : HasIngested left (plan_of rows j) js js' j after) → (t : TakesIn rows h before stood names came (d.state j.disk.now) (d.state after.disk.now)) × (t.added ≡ done.stored.fresh)
   ingested_takes_in rows done =
       let s = done.stored in
       let k = s.left_by.kept in
@@ -397,9 +400,17 @@ module _ {S D : Type 0} {d : DiskGhosts D} (left : S → Option (List ℕ)) (h :
       some_is : {A : Type 0} (x y : A) → Some x ≡ Some y → x ≡ y
       some_is x y e = cc (e)
 
+  pub ingested_taken : (rows : ℕ) → HasIngested left (plan_of rows j) js js' j after → HasTakenIn rows h before stood names came (state_of j) (state_of after)
+  ingested_taken rows done =
+      let s = done.stored in
+      let t = ingested_takes_in rows done in record {
+        takes = t.0;
+        entries = left_entries done.store j after s.left_by ∙ (s.grown ∙ (ap (λ l. l ++ s.fresh) named.entries ∙ (append_assoc before (Files names ∷ []) s.fresh ∙ ap (λ (l : List JournalEntry). before ++ (Files names ∷ l)) (sym t.1))));
+      }
+
   -- none of them was begun
-  pub refused_takes_in : (rows : ℕ) → 0 < rows → IsLawful (d.state j.disk.now) → ((c : List ℕ) → (d.state j.disk.now).images c → StandsFor c h (before ++ Files names ∷ [])) → IsLegal h (before ++ Files names ∷ []) → IsAsItWas j after → AreRefused js js'
-      → TakesIn rows h before stood names came (d.state j.disk.now) (d.state after.disk.now)
+  refused_takes_in : (rows : ℕ) → 0 < rows → IsLawful (d.state j.disk.now) → ((c : List ℕ) → (d.state j.disk.now).images c → StandsFor c h (before ++ Files names ∷ [])) → IsLegal h (before ++ Files names ∷ []) → IsAsItWas j after → AreRefused js js'
+      → (t : TakesIn rows h before stood names came (d.state j.disk.now) (d.state after.disk.now)) × (t.added ≡ [])
   refused_takes_in rows some law_j only legal stayed refused =
       taken_in h before names stood [] legal came (All-nil (IsOfNew h.version came (length stood.legal.held.names))) rows (d.state j.disk.now) (d.state after.disk.now) (same_leaves h before names j after law named law_j only stayed) are
       (λ i c at.
@@ -408,3 +419,11 @@ module _ {S D : Type 0} {d : DiskGhosts D} (left : S → Option (List ℕ)) (h :
       none_told h before names stood [] legal came (All-nil (IsOfNew h.version came (length stood.legal.held.names))) rows i c some (slice_get_within names i c.name (named_at came names are i c at)) refl
       (one.messages ∙ ap (λ (o : Outcome). o.messages) none) (one.whole ∙ ap (λ (o : Outcome). o.whole) none)
       (λ spared. absurd (cc (sym (ap (λ (o : Outcome). o.cause) none) ∙ (one.opened spared).3))))
+
+  pub refused_taken : (rows : ℕ) → 0 < rows → IsLawful (d.state j.disk.now) → ((c : List ℕ) → (d.state j.disk.now).images c → StandsFor c h (before ++ Files names ∷ [])) → IsLegal h (before ++ Files names ∷ []) → IsAsItWas j after → AreRefused js js'
+      → HasTakenIn rows h before stood names came (state_of j) (state_of after)
+  refused_taken rows some law_j only legal stayed refused =
+      let t = refused_takes_in rows some law_j only legal stayed refused in record {
+        takes = t.0;
+        entries = stayed_entries j after stayed ∙ (named.entries ∙ ap (λ (l : List JournalEntry). before ++ (Files names ∷ l)) (sym t.1));
+      }

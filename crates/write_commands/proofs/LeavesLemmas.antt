@@ -1,5 +1,5 @@
 -- What an ingest leaves of its disk, step by step.
-use Rattle.std.proofs.Common.{◌≡◌, ◌≤◌, ◌⊎◌, inl, inr, refl, sym, ap, subst, ◌∙◌, ℕ, zero, suc, Bool, true, List, [], ◌∷◌, ◌++◌, length, take, drop, Option, Some, None, arith, append-nil, append_assoc, ⊎_elim}
+use Rattle.std.proofs.Common.{◌≡◌, ◌≤◌, ◌⊎◌, inl, inr, refl, sym, ap, ap₂, subst, ◌∙◌, ℕ, zero, suc, Bool, true, List, [], ◌∷◌, ◌++◌, length, take, drop, Option, Some, None, arith, append-nil, append_assoc, ⊎_elim}
 use Rattle.std.specs.Prelude.{IfSome, is_some}
 use Rattle.std.proofs.lemmas.List.{length-append, length-map, take-append-drop, take_all}
 use Rattle.std.proofs.lemmas.Option.{IfSome_then}
@@ -145,7 +145,7 @@ opened_as j h before bytes header spelled legal ends is stood = go j.disk.seen s
 
 -- ---- the store
 
-counted : (told : Option (List ℕ)) (n : ℕ) → is_some told ≡ true → length (journal_in told n) ≡ n
+pub counted : (told : Option (List ℕ)) (n : ℕ) → is_some told ≡ true → length (journal_in told n) ≡ n
 counted None n is = absurd (cc (is))
 counted (Some bytes) n is = length-map (entries (Some bytes) n) entry_of ∙ length-records n _
 
@@ -199,6 +199,16 @@ module _ (s : StoreState) (kept : Kept s) (law : IsLawful s.disk) (told : tells 
   }
 
 -- ---- the ingest
+
+module _ {D : Type 0} {d : DiskGhosts D} where
+  -- the entries of a journal that a store left are the store's
+  pub left_entries : (store : StoreView D) (before after : Journal D d) → IsLeftBy store before after → told_entries (state_of after) ≡ journal_of (state_by d.state store)
+  left_entries store before after left = ap₂ (λ (x : D) n. journal_in (d.state x).seen n) (sym left.disk) left.count
+
+  -- and of one that is as it was they are as they were
+  pub stayed_entries : (before after : Journal D d) → IsAsItWas before after → told_entries (state_of after) ≡ told_entries (state_of before)
+  stayed_entries before after (inl same) = ap (λ (x : Journal D d). told_entries (state_of x)) same
+  stayed_entries before after (inr stayed) = left_entries stayed.0 before after stayed.1.left_by ∙ stayed.1.entries
 
 module _ {D : Type 0} {d : DiskGhosts D} (h : Header) (before : List JournalEntry) (names : List (List ℕ)) (j after : Journal D d) (law : IsLawful (d.state after.disk.now)) (named : HasNames h before names (state_of j)) where
   length-named : length before ≤ j.count

@@ -6,7 +6,9 @@ pub mod CauseLemmas
 pub mod ContentLemmas
 pub mod FileCauseLemmas
 pub mod FitLemmas
+pub mod FollowLemmas
 pub mod FittingLemmas
+pub mod HeldLemmas
 pub mod InTurnLemmas
 pub mod JobLemmas
 pub mod JoinLemmas

@@ -25,6 +25,10 @@ pub record Looked (old mid new : DiskState) : Type 0 where
   pub second : KeepsBytes mid new
   pub counts : old.faults ≤ new.faults
 
+-- nothing was done yet
+pub same_looked : (d : DiskState) → IsLawful d → Looked d d d
+same_looked d law = record { law_old = law; law_mid = law; law_new = law; first = KeepsBytes-same d; second = KeepsBytes-same d; counts = omega arith }
+
 looked_past : (old mid new : DiskState) → Looked old mid new → (h : Header) (before : List JournalEntry) → ((c : List ℕ) → old.images c → StandsFor c h before) → LeavesOnly old new (StandsStill h before)
 looked_past old mid new looked h before only =
     keeps_still h before old mid new looked.law_mid looked.law_new
@@ -64,29 +68,53 @@ module _ (old mid late : DiskState) (looked : Looked old mid late) where
             (prefix_same before) looked.counts goes.moments nothing.leaves;
       })
 
-  -- the names were appended, and the files taken in
-  pub takes_sooner : {rows : ℕ} (names : List (List ℕ)) (first : ℕ) (came : List FileOutcome) (j : JournalState) (new : DiskState) → IsLawful j.disk → late.faults ≤ j.disk.faults → DiskGoesOn j.disk new
-      → FromArchive late (λ h before bytes stood. AddsNamesTo h before stood names first late j) → TakesInto rows names first came j new → FromArchive old (λ h before bytes stood. TakesIn rows h before stood names came old new)
-  takes_sooner {rows} names first came j new law counts goes names_added into =
-      from_archive old late (λ h before bytes stood. AddsNamesTo h before stood names first late j) (λ h before bytes stood. TakesIn rows h before stood names came old new) same_bytes no_more
-      (λ h before bytes stood only adds.
-      let takes : TakesIn rows h before stood names came j.disk new = into h before bytes stood adds.has adds.number in
+  -- the files were taken in
+  pub takes_looked : {rows : ℕ} (new : DiskState) → DiskGoesOn late new → (h : Header) (before : List JournalEntry) (bytes : List ℕ) (stood : StandsFor bytes h before) → ((c : List ℕ) → old.images c → StandsFor c h before) → (names : List (List ℕ)) (came : List FileOutcome)
+      → (t : TakesIn rows h before stood names came late new) → (u : TakesIn rows h before stood names came old new) × (u.added ≡ t.added)
+  takes_looked {rows} new goes h before bytes stood only names came takes = (
+    record {
+      added = takes.added;
+      each = takes.each;
+      leaves = begun_sooner h before before (before ++ (Files names ∷ takes.added)) old late new
+          (weaker old late (StandsStill h before) (StandsBetween h before before) (looked_past old mid late looked h before only) (λ c stands. still_between h before before c (prefix_same before) stands))
+          (Files names ∷ takes.added, refl) looked.counts goes.moments takes.leaves;
+      files = takes.files;
+      content_is = takes.content_is;
+      fronts = takes.fronts;
+      cuts = takes.cuts;
+    },
+    refl,
+  )
+
+  -- what is taken into the journal that has the names, is so from the start
+  pub takes_from : {rows : ℕ} (h : Header) (before : List JournalEntry) (bytes : List ℕ) (stood : StandsFor bytes h before) (names : List (List ℕ)) (first : ℕ) (came : List FileOutcome) (j : JournalState) (new : DiskState) → IsLawful j.disk → late.faults ≤ j.disk.faults → DiskGoesOn j.disk new
+      → ((c : List ℕ) → old.images c → StandsFor c h before) → AddsNamesTo h before stood names first late j → (t : TakesIn rows h before stood names came j.disk new) → (u : TakesIn rows h before stood names came old new) × (u.added ≡ t.added)
+  takes_from {rows} h before bytes stood names first came j new law counts goes only adds takes =
       let past : LeavesOnly old j.disk (StandsBetween h before (before ++ Files names ∷ [])) =
       joined old late j.disk (StandsStill h before) (StandsBetween h before (before ++ Files names ∷ [])) (StandsBetween h before (before ++ Files names ∷ [])) law (looked_past old mid late looked h before only) adds.past
-      (λ c stands. still_between h before (before ++ Files names ∷ []) c (Files names ∷ [], refl) stands) (λ c stands. stands) in
-      record {
-        added = takes.added;
-        each = takes.each;
-        leaves = begun_sooner h before (before ++ Files names ∷ []) (before ++ (Files names ∷ takes.added)) old j.disk new past (behind_names before names takes.added) (omega (arith, looked.counts, counts)) goes.moments takes.leaves;
-        files = takes.files;
-        content_is = takes.content_is;
-        fronts = takes.fronts;
-        cuts = takes.cuts;
-      })
-      names_added
+      (λ c stands. still_between h before (before ++ Files names ∷ []) c (Files names ∷ [], refl) stands) (λ c stands. stands) in (
+        record {
+          added = takes.added;
+          each = takes.each;
+          leaves = begun_sooner h before (before ++ Files names ∷ []) (before ++ (Files names ∷ takes.added)) old j.disk new past (behind_names before names takes.added) (omega (arith, looked.counts, counts)) goes.moments takes.leaves;
+          files = takes.files;
+          content_is = takes.content_is;
+          fronts = takes.fronts;
+          cuts = takes.cuts;
+        },
+        refl,
+      )
     where
       behind_names : (before : List JournalEntry) (names : List (List ℕ)) (added : List JournalEntry) → IsPrefix (before ++ Files names ∷ []) (before ++ (Files names ∷ added))
       behind_names before names added = (added, append_assoc before (Files names ∷ []) added)
+
+  -- the names were appended, and the files taken in
+  pub takes_sooner : {rows : ℕ} (names : List (List ℕ)) (first : ℕ) (came : List FileOutcome) (j after : JournalState) → IsLawful j.disk → late.faults ≤ j.disk.faults → DiskGoesOn j.disk after.disk
+      → FromArchive late (λ h before bytes stood. AddsNamesTo h before stood names first late j) → TakesInto rows names first came j after → FromArchive old (λ h before bytes stood. TakesIn rows h before stood names came old after.disk)
+  takes_sooner {rows} names first came j after law counts goes names_added into =
+      from_archive old late (λ h before bytes stood. AddsNamesTo h before stood names first late j) (λ h before bytes stood. TakesIn rows h before stood names came old after.disk) same_bytes no_more
+      (λ h before bytes stood only adds. (takes_from h before bytes stood names first came j after.disk law counts goes only adds (into h before bytes stood adds.has adds.number).takes).0)
+      names_added
 
 -- the first new file has the number of the names of before
 pub numbered_from : (old late : DiskState) (names : List (List ℕ)) (first : ℕ) (j : JournalState) → late.seen ≡ old.seen → IsSynced late → FromArchive late (λ h before bytes stood. AddsNamesTo h before stood names first late j)

@@ -36,7 +36,7 @@ use Rattle.write_commands.specs.Naming.{AreNumbered}
 use Rattle.command_refusals.specs.declared.outcome.PartCause.{PartCause}
 use Rattle.write_commands.specs.declared.file_report.FileReport.{FileReport}
 use Rattle.write_commands.proofs.CameLemmas.{names_came}
-use Rattle.write_commands.proofs.ContentLemmas.{AreJobsOf, CameOfJob, ingested_takes_in, named_at, none_told, refused_takes_in, taken_in}
+use Rattle.write_commands.proofs.ContentLemmas.{AreJobsOf, CameOfJob, ingested_taken, named_at, none_told, refused_taken, taken_in}
 use Rattle.write_commands.proofs.JobLemmas.{numbered_at}
 use Rattle.write_commands.proofs.LeavesLemmas.{of_told, same_leaves}
 
@@ -64,14 +64,15 @@ IsRefused c = (c.messages ≡ 0) × (c.whole ≡ false) × (c.refusal ≡ Some P
 
 -- nothing is added of files that were not begun
 pub none_takes_into : {D : Type 0} {d : DiskGhosts D} (rows : ℕ) → 0 < rows → (content : List ℕ → Option (List ℕ)) (names : List (List ℕ)) (first : ℕ) (taken : List FileReport) → names_of taken ≡ names → All IsNotBegun taken
-    → (j : Journal D d) → IsLawful (d.state j.disk.now) → MayOpen (state_of j) → TakesInto rows names first (map (came_of content) taken) (state_of j) (d.state j.disk.now)
+    → (j : Journal D d) → IsLawful (d.state j.disk.now) → MayOpen (state_of j) → TakesInto rows names first (map (came_of content) taken) (state_of j) (state_of j)
 none_takes_into {D} {d} rows some content names first taken named none j law may = λ h before bytes stood has number.
     let stands = stands_named h before names (state_of j) may has in
     let nothing = All-nil (IsOfNew h.version came (length stood.legal.held.names)) in
-    taken_in h before names stood [] stands.0 came nothing rows (d.state j.disk.now) (d.state j.disk.now) (same_leaves h before names j j law has law stands.1 (inl refl)) are
+    let t = taken_in h before names stood [] stands.0 came nothing rows (d.state j.disk.now) (d.state j.disk.now) (same_leaves h before names j j law has law stands.1 (inl refl)) are
     (λ i c at.
     let refused = refused_at i c at in
-    none_told h before names stood [] stands.0 came nothing rows i c some (slice_get_within names i c.name (named_at came names are i c at)) refl refused.0 refused.1 (λ spared. absurd (cc (sym refused.2 ∙ spared))))
+    none_told h before names stood [] stands.0 came nothing rows i c some (slice_get_within names i c.name (named_at came names are i c at)) refl refused.0 refused.1 (λ spared. absurd (cc (sym refused.2 ∙ spared)))) in
+    record { takes = t.0; entries = has.entries ∙ ap (λ (l : List JournalEntry). before ++ (Files names ∷ l)) (sym t.1) }
   where
     came : List FileOutcome
     came = map (came_of content) taken
@@ -267,18 +268,18 @@ module _ {S : Type 0} (left name : S → Option (List ℕ)) (faults : S → ℕ)
 
       -- the jobs were done
       module _ {D : Type 0} {d : DiskGhosts D} (j after : Journal D d) (law : IsLawful (d.state after.disk.now)) where
-        done_takes_into : (rows : ℕ) → HasIngested (left_in left) (plan_of rows j) js js' j after → TakesInto rows names first (map (came_of content) taken) (state_of j) (d.state after.disk.now)
+        done_takes_into : (rows : ℕ) → HasIngested (left_in left) (plan_of rows j) js js' j after → TakesInto rows names first (map (came_of content) taken) (state_of j) (state_of after)
         done_takes_into rows done = λ h before bytes stood has number.
-            ingested_takes_in (left_in left) h before names stood j after law has js js' (map (came_of content) taken) (subst (λ n. AreJobsOf (left_in left) h.version (map (came_of content) taken) n js) number (are_jobs_of h.version)) came_named came_of_jobs rows done
+            ingested_taken (left_in left) h before names stood j after law has js js' (map (came_of content) taken) (subst (λ n. AreJobsOf (left_in left) h.version (map (came_of content) taken) n js) number (are_jobs_of h.version)) came_named came_of_jobs rows done
 
         -- none was begun
-        refused_takes_into : (rows : ℕ) → 0 < rows → IsLawful (d.state j.disk.now) → MayOpen (state_of j) → IsAsItWas j after → AreRefused js js' → TakesInto rows names first (map (came_of content) taken) (state_of j) (d.state after.disk.now)
+        refused_takes_into : (rows : ℕ) → 0 < rows → IsLawful (d.state j.disk.now) → MayOpen (state_of j) → IsAsItWas j after → AreRefused js js' → TakesInto rows names first (map (came_of content) taken) (state_of j) (state_of after)
         refused_takes_into rows some law_j may stayed refused = λ h before bytes stood has number.
             let stands = stands_named h before names (state_of j) may has in
-            refused_takes_in (left_in left) h before names stood j after law has js js' (map (came_of content) taken) (subst (λ n. AreJobsOf (left_in left) h.version (map (came_of content) taken) n js) number (are_jobs_of h.version)) came_named came_of_jobs
+            refused_taken (left_in left) h before names stood j after law has js js' (map (came_of content) taken) (subst (λ n. AreJobsOf (left_in left) h.version (map (came_of content) taken) n js) number (are_jobs_of h.version)) came_named came_of_jobs
             rows some law_j stands.1 stands.0 stayed refused
 
         pub did_take_into : IsLawful (d.state j.disk.now) → MayOpen (state_of j) → (workers rows : ℕ) → 0 < rows → DidJobs (left_in left) (name_in name) (faults_in faults) workers rows j after js js'
-            → TakesInto rows names first (map (came_of content) taken) (state_of j) (d.state after.disk.now)
+            → TakesInto rows names first (map (came_of content) taken) (state_of j) (state_of after)
         did_take_into law_j may workers rows some (inl done) = done_takes_into rows done.ingested
         did_take_into law_j may workers rows some (inr none) = refused_takes_into rows some law_j may none.journal none.jobs

@@ -67,6 +67,20 @@ causes_sooner old mid late looked logs workers rows names first j new came risen
     is_target : (h : Header) (before : List JournalEntry) (held : ℕ) → HasNames h before names j → first ≡ held → IsTarget (into_journal j rows first came) h before held
     is_target h before held has numbered = record { told = has.told; header = has.header; entries = has.entries ∙ ap (λ (ns : List (List ℕ)). before ++ Files ns ∷ []) (sym named); first = numbered }
 
+-- from an earlier moment, since which the disk was only read
+pub causes_looked : (old mid late : DiskState) → Looked old mid late → (logs : Logs) (workers rows : ℕ) (new : DiskState) (came : List FileOutcome) → HaveFileCauses logs workers rows late new came → HaveFileCauses logs workers rows old new came
+causes_looked old mid late looked logs workers rows new came have = record {
+  into = have.into;
+  came_are = have.came_are;
+  rows_are = have.rows_are;
+  told = from_archive old late (λ h before bytes stood. IsTarget have.into h before (length stood.legal.held.names)) (λ h before bytes stood. IsTarget have.into h before (length stood.legal.held.names)) (same_bytes old mid late looked) (no_more old mid late looked)
+      (λ h before bytes stood only target. target) have.told;
+  causes = record {
+    each = All-weaker (CameIn logs have.into late new) (CameIn logs have.into old new) (came_on logs have.into old late new looked.counts) came have.causes.each;
+    in_turn = have.causes.in_turn;
+  };
+}
+
 -- ---- as it is told
 
 module _ (seen : Outside) (old new : DiskState) (into : Target) (told : FromArchive old (λ h before bytes stood. IsTarget into h before (length stood.legal.held.names))) where

@@ -36,9 +36,15 @@ pub record AddsNamesTo (h : Header) (before : List JournalEntry) {bytes : List �
   pub number : first ≡ length stood.legal.held.names
   pub past : LeavesOnly old j.disk (StandsBetween h before (before ++ Files names ∷ []))
 
+-- The files were taken into the journal that has their names, and it has now the entries that were added.
+pub record HasTakenIn {bytes : List ℕ} (rows : ℕ) (h : Header) (before : List JournalEntry) (stood : StandsFor bytes h before)
+    (names : List (List ℕ)) (came : List FileOutcome) (j after : JournalState) : Type 0 where
+  pub takes : TakesIn rows h before stood names came j.disk after.disk
+  pub entries : told_entries after ≡ before ++ (Files names ∷ takes.added)
+
 -- Where the journal is told with the names behind an archive, numbered from `first` on, the files were taken into it in segments
 -- of at most so many rows, with what came of them.
-abbrev pub TakesInto : ℕ → List (List ℕ) → ℕ → List FileOutcome → JournalState → DiskState → Type 0
-TakesInto rows names first came j new =
+abbrev pub TakesInto : ℕ → List (List ℕ) → ℕ → List FileOutcome → JournalState → JournalState → Type 0
+TakesInto rows names first came j after =
     (h : Header) (before : List JournalEntry) (bytes : List ℕ) (stood : StandsFor bytes h before) → HasNames h before names j
-    → first ≡ length stood.legal.held.names → TakesIn rows h before stood names came j.disk new
+    → first ≡ length stood.legal.held.names → HasTakenIn rows h before stood names came j after

@@ -1,3 +1,4 @@
+pub mod Followed
 pub mod IngestPrints
 pub mod Jobs
 pub mod JournalLeft

@@ -2,24 +2,26 @@
 ghost use Rattle.std.specs.Prelude.{◌≡◌, ◌≤◌};
 ghost use Rattle.std.specs.List.{flat_map};
 ghost use Rattle.command_refusals.specs.Refusal.{Says};
+ghost use Rattle.write_commands.specs.Jobs.{of_cause};
 ghost use Rattle.write_commands.specs.Taken.{error_of, graver, line_of_taken, status_of_taken};
 ghost use Rattle.command_answers.specs.Taken.{file_status};
 
 use command_refusals::{PartCause, refusal_of_part, report_file};
 use file_lines::Listed;
+use ingest_workers::Cause;
 use log_seams::Sink;
 
 /// What came of a file that was to be taken in.
 #[derive(Clone, Copy, Debug)]
-pub(crate) struct FileReport<'a> {
+pub struct FileReport<'a> {
     /// Its name.
-    pub(crate) name: &'a str,
+    pub name: &'a str,
     /// How many messages of it the archive has.
-    pub(crate) messages: u64,
+    pub messages: u64,
     /// Whether these are all.
-    pub(crate) whole: bool,
+    pub whole: bool,
     /// Why they are not.
-    pub(crate) refusal: Option<PartCause>,
+    pub refusal: Option<PartCause>,
 }
 
 impl Listed for FileReport<'_> {
@@ -38,9 +40,24 @@ impl Listed for FileReport<'_> {
     }
 }
 
+/// Why not all messages of a file were taken in, by the cause of its job.
+pub fn part_cause(cause: Cause) -> PartCause
+    ensures { result ≡ of_cause cause }
+{
+    match cause {
+        Cause::ReadFault => PartCause::ReadFault,
+        Cause::LineTooLong { line } => PartCause::LineTooLong { line },
+        Cause::TooManyLines => PartCause::TooManyLines,
+        Cause::Full { book, count } => PartCause::Full { book, count },
+        Cause::DiskFault { .. } => PartCause::DiskFault,
+        Cause::OutOfMemory => PartCause::OutOfMemory,
+        Cause::ArchiveFull { end, need } => PartCause::ArchiveFull { end, need },
+    }
+}
+
 /// The graver of two statuses of files: a disk that failed before want of memory, and this before a log
 /// that is not whole.
-fn graver(one: u8, other: u8) -> u8
+pub fn graver(one: u8, other: u8) -> u8
     ensures { result ≡ graver one other }
 {
     match (one, other) {
@@ -66,7 +83,7 @@ fn report_one<K: Sink>(err: &mut K, file: &FileReport<'_>) -> u8
 }
 
 /// Writes a line for each file that is not whole, in their order, and answers the gravest status of all.
-pub(crate) fn report_taken<K: Sink>(err: &mut K, files: &[FileReport<'_>]) -> u8
+pub fn report_taken<K: Sink>(err: &mut K, files: &[FileReport<'_>]) -> u8
     ensures status { result ≡ status_of_taken files.now }
     ensures said { Says
         (K.written err.old) (K.written err.new) (K.faults err.old) (K.faults err.new)

@@ -1,8 +1,9 @@
 //! The command `ingest`: logs become the files of an archive.
-ghost use Rattle.std.specs.Prelude.{◌≡◌, ◌+◌, ◌≤◌, ℕ, List, [], length, map, slice_get, vec_len, vec_capacity, false, All, IfErr, IfOk, IfSome, IsTrue, is_some, Some};
+ghost use Rattle.std.specs.Prelude.{◌≡◌, ◌+◌, ◌≤◌, ℕ, List, [], length, map, slice_get, vec_len, vec_capacity, false, All, IfErr, IfOk, IfSome, IsTrue, OnErr, OnOk, is_some, Some};
 ghost use Rattle.std.specs.List.{AllZip};
 ghost use Rattle.disk_journal.specs.Journal.{state_of};
 ghost use Rattle.disk_seal.specs.Opening.{MayOpen};
+ghost use Rattle.ingest_workers.specs.Beside.{MayBeginWith};
 ghost use Rattle.ingest_workers.specs.Ingested.{AreNew, HoldTexts, first_file};
 ghost use Rattle.ingest_workers.specs.Outcome.{nothing_done};
 ghost use Rattle.command_refusals.specs.Outside.{around};
@@ -11,28 +12,32 @@ ghost use Rattle.command_refusals.specs.GoesOn.{DiskGoesOn, OutsideGoesOn};
 ghost use Rattle.ingest_fork.specs.declared.works.TheConstants.{MAX_WORKERS};
 ghost use Rattle.command_answers.specs.Ingested.{EndsIngest};
 ghost use Rattle.command_answers.specs.Known.{over, told_if};
+ghost use Rattle.write_commands.specs.Followed.{Follows, WentAlong};
 ghost use Rattle.write_commands.specs.IngestPrints.{came_of, names_of};
 ghost use Rattle.write_commands.specs.Jobs.{DidJobs, IsNotBegun, IsToldBy, opens_of, refusal_by, sources_of};
 ghost use Rattle.write_commands.specs.StepsAdding.{AddsNewLogs, HasRoomFor, IsInLimits, MayAdd, RefusesNewLogs, ShelfGoesOn, names_asked};
 ghost use Rattle.write_commands.specs.StepsCauses.{HaveCausesIn, into_journal, logs_around};
 ghost use Rattle.write_commands.specs.JournalLeft.{TakesInto};
 ghost use Rattle.command_answers.specs.Names.{RefusesNames};
-ghost use Rattle.write_commands.specs.Naming.{AreNumbered, HasGoneOn, IsNamed};
+ghost use Rattle.write_commands.specs.Naming.{AreNumbered, HasGoneOn, IsHeldBy, IsNamed};
 ghost use Rattle.command_refusals.specs.Ending.{RefusesAtOnce};
 ghost use Rattle.command_refusals.specs.Reading.{IsArchive};
 ghost use Rattle.command_refusals.specs.declared.outcome.AddRefusal.{AddRefusal};
 ghost use Rattle.command_refusals.specs.Outcome.{of_add};
 
-use crate::file_report::{FileReport, report_taken};
+use crate::file_report::{FileReport, part_cause, report_taken};
 use crate::founded::{Base, Founded, Lent};
 use crate::names::refuse_names;
-use crate::register::{Named, open_and_register};
+use crate::register::{Holding, Named, hold, name_files};
+use archive_core::Books;
+use archive_open::{Archive, open_for_append};
 use command_refusals::{AddRefusal, PartCause, Refusal, refusal_of_add, report};
 use command_words::IngestWords;
 use dict_core::Book;
 use disk_journal::{Journal, start};
+use disk_seal::{Alone, Beside};
 use file_lines::print_directory;
-use ingest_workers::{Cause, Job, ingest};
+use ingest_workers::{Cause, Job, Split, ingest_beside};
 use log_seams::{Disk, OpenRefused, Shelf, Sink, Source};
 use log_sources::{LogSource, close_logs, open_logs};
 use logtype_text::one_list_of_parts;
@@ -78,15 +83,7 @@ fn refusal_of_file(opening: Option<OpenRefused>, cause: Option<Cause>) -> Option
         Some(OpenRefused::OutOfMemory) => return Some(PartCause::OutOfMemory),
         None => {}
     }
-    Some(match cause? {
-        Cause::ReadFault => PartCause::ReadFault,
-        Cause::LineTooLong { line } => PartCause::LineTooLong { line },
-        Cause::TooManyLines => PartCause::TooManyLines,
-        Cause::Full { book, count } => PartCause::Full { book, count },
-        Cause::DiskFault { .. } => PartCause::DiskFault,
-        Cause::OutOfMemory => PartCause::OutOfMemory,
-        Cause::ArchiveFull { end, need } => PartCause::ArchiveFull { end, need },
-    })
+    Some(part_cause(cause?))
 }
 
 /// Tells of each file that there was no memory to begin with it.
@@ -235,8 +232,9 @@ fn end_jobs<'a, S>(
     }
 }
 
-/// Does the jobs over a journal. Without memory to begin the jobs say so.
-fn do_jobs<'d, R: Threads + Wait + Sync, S: Source + Send, D: Disk + Send>(
+/// Does the jobs over a journal, with a follower of it beside the workers. Without memory to begin the
+/// jobs say so.
+fn do_jobs<'d, R: Threads + Wait + Sync, S: Source + Send, D: Disk + Send, B: Beside<D> + Send>(
     rt: &R,
     alloc: Global,
     asked: NewLogs<'_>,
@@ -244,32 +242,31 @@ fn do_jobs<'d, R: Threads + Wait + Sync, S: Source + Send, D: Disk + Send>(
     types: Book,
     words: Book,
     jobs: &mut [Job<S>],
+    beside: &mut B,
 ) -> Journal<'d, D>
     requires workers { (1 ≤ asked.workers) × (asked.workers ≤ MAX_WORKERS) }
     requires segment { (1 ≤ asked.segment) × (asked.segment ≤ 65536) }
     requires journal { MayOpen (state_of journal) }
     requires books { HoldTexts (state_of journal) types words }
     requires jobs { AreNew (first_file jobs.old) (state_of journal) jobs.old }
-    ensures { DidJobs S.left S.name S.faults asked.entry.workers asked.entry.segment
+    requires beside { MayBeginWith (B.known beside.old) journal }
+    ensures did { DidJobs S.left S.name S.faults asked.entry.workers asked.entry.segment
         journal.entry result jobs.old jobs.new }
+    ensures along { WentAlong (B.known beside.old) (B.known beside.new) journal.entry result }
 {
-    match ingest(
-        rt,
-        alloc,
-        jobs,
-        asked.workers,
-        asked.segment,
-        journal,
-        types,
-        words,
-    ) {
+    let split = Split {
+        workers: asked.workers,
+        rows: asked.segment,
+    };
+    match ingest_beside(rt, alloc, jobs, split, journal, types, words, beside) {
         Ok(journal) => journal,
         Err(refused) => refused.journal,
     }
 }
 
-/// Takes the logs in as the new files of a journal. Without memory to begin each file is told so.
-fn take_in<'a, 'd, R: Threads + Wait + Sync, H: Shelf, D: Disk + Send>(
+/// Takes the logs in as the new files of a journal, with a follower of it beside. Without memory to begin
+/// each file is told so.
+fn take_in<'a, 'd, R: Threads + Wait + Sync, H: Shelf, D: Disk + Send, B: Beside<D> + Send>(
     rt: &R,
     alloc: Global,
     asked: NewLogs<'a>,
@@ -277,6 +274,7 @@ fn take_in<'a, 'd, R: Threads + Wait + Sync, H: Shelf, D: Disk + Send>(
     named: Named,
     shelf: &mut H,
     taken: &mut Vec<FileReport<'a>>,
+    beside: &mut B,
 ) -> Journal<'d, D>
 where
     H::Src: Send,
@@ -284,6 +282,7 @@ where
     requires named { IsNamed (state_of journal) named.types named.words named.first
         (length asked.files.now) }
     requires room { HasRoomFor asked taken.old }
+    requires beside { MayBeginWith (B.known beside.old) journal }
 
     // what stays
     ensures goes_on { HasGoneOn journal.entry result }
@@ -293,7 +292,7 @@ where
     ensures names { names_of taken.new.items ≡ names_asked asked.entry }
     ensures taken { TakesInto asked.entry.segment (names_asked asked.entry) named.first
         (map (came_of (H.content shelf.old)) taken.new.items) (state_of journal.entry)
-        (D.state result.disk.now) }
+        (state_of result) }
     ensures causes { HaveCausesIn
         (logs_around H.open_faults H.read_faults shelf.old shelf.new)
         asked.entry.workers
@@ -301,6 +300,9 @@ where
         (map (came_of (H.content shelf.old)) taken.new.items))
         (state_of journal.entry).disk (D.state result.disk.now)
         (map (came_of (H.content shelf.old)) taken.new.items) }
+
+    // the follower
+    ensures along { WentAlong (B.known beside.old) (B.known beside.new) journal.entry result }
 {
     let Named {
         types,
@@ -317,7 +319,16 @@ where
         mut openings,
     } = opened;
     begin_jobs(first, &mut sources, &mut jobs, &mut openings);
-    let journal = do_jobs(rt, alloc, asked, journal, types, words, jobs.as_mut_slice());
+    let journal = do_jobs(
+        rt,
+        alloc,
+        asked,
+        journal,
+        types,
+        words,
+        jobs.as_mut_slice(),
+        beside,
+    );
     end_jobs(
         asked.files,
         openings.as_slice(),
@@ -328,6 +339,68 @@ where
     jobs.destroy_empty();
     close_logs(shelf, sources);
     journal
+}
+
+/// What came of the adding of logs to an archive that was opened.
+#[derive(Drop)]
+pub struct Added<'d, D: Disk> {
+    /// The archive's journal.
+    pub journal: Journal<'d, D>,
+    /// The number of the first new file, or why there is none.
+    pub answer: Result<u32, AddRefusal>,
+}
+
+/// Adds the logs to an archive that was opened, by its journal, with a follower of the journal beside
+/// the workers. Where no file was added the follower was not called.
+pub fn add_opened<'a, 'd, R: Threads + Wait + Sync, H: Shelf, D: Disk + Send, B: Beside<D> + Send>(
+    rt: &R,
+    alloc: Global,
+    asked: NewLogs<'a>,
+    journal: Journal<'d, D>,
+    holding: Holding,
+    shelf: &mut H,
+    taken: &mut Vec<FileReport<'a>>,
+    beside: &mut B,
+) -> Added<'d, D>
+where
+    H::Src: Send,
+    requires asked { MayAdd asked }
+    requires room { HasRoomFor asked taken.old }
+    requires held { IsHeldBy (state_of journal) holding.types holding.words holding.files }
+    requires beside { MayBeginWith (B.known beside.old) journal }
+
+    // by the answer
+    ensures added { IfOk result.answer (λ first. AddsNewLogs (H.content shelf.old)
+        (logs_around H.open_faults H.read_faults shelf.old shelf.new) asked.entry first
+        taken.new.items (D.state journal.entry.disk.now) (D.state result.journal.disk.now)) }
+    ensures followed { OnOk result.answer (Follows (B.known beside.old) (B.known beside.new)
+        asked.entry.segment (names_asked asked.entry)
+        (map (came_of (H.content shelf.old)) taken.new.items)
+        (D.state journal.entry.disk.now) (D.state result.journal.disk.now)) }
+    ensures refused { IfErr result.answer (RefusesNewLogs asked.entry
+        (D.state journal.entry.disk.now) (D.state result.journal.disk.now)) }
+    ensures rests { OnErr result.answer (beside.new ≡ beside.old) }
+
+    // what stays
+    ensures goes_on { HasGoneOn journal.entry result.journal }
+    ensures logs { ShelfGoesOn H.content H.open_faults H.read_faults shelf.old shelf.new }
+{
+    let mut journal = journal;
+    let named = match name_files(alloc, &mut journal, holding, asked.files) {
+        Ok(named) => named,
+        Err(refusal) => {
+            return Added {
+                journal,
+                answer: Err(refusal),
+            };
+        }
+    };
+    let first = named.first;
+    let journal = take_in(rt, alloc, asked, journal, named, shelf, taken, beside);
+    Added {
+        journal,
+        answer: Ok(first),
+    }
 }
 
 /// Adds the logs to the archive of a disk. Answers the number of the first new file.
@@ -358,10 +431,12 @@ where
 {
     let header = start(disk)?;
     let mut journal = Journal::begin(disk, header);
-    let named = open_and_register(alloc, &mut journal, asked.files)?;
-    let first = named.first;
-    let _journal = take_in(rt, alloc, asked, journal, named, shelf, taken);
-    Ok(first)
+    let archive: Archive<Books> = open_for_append(alloc, &mut journal)?;
+    let files = archive.files().as_slice().len() as u64;
+    let holding = hold(archive.into_books(), files);
+    let mut alone = Alone {};
+    let added = add_opened(rt, alloc, asked, journal, holding, shelf, taken, &mut alone);
+    added.answer
 }
 
 /// The same over a disk that is lent, which is an archive where its bytes are to be told. Gives the disk

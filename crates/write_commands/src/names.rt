@@ -8,7 +8,7 @@ use command_refusals::AddRefusal;
 
 /// What is refused of the names that are given, before the archive is looked at: the first one that is too
 /// long, or that they are too many.
-pub(crate) fn refuse_names(names: &[&str]) -> Option<AddRefusal>
+pub fn refuse_names(names: &[&str]) -> Option<AddRefusal>
     ensures { RefusesNames (map str_bytes names.now) result }
 {
     for (index, name) in names.iter().enumerate() {

@@ -1,18 +1,15 @@
-//! Opening an archive, and naming the files that are added to it.
-ghost use Rattle.std.specs.Prelude.{◌≡◌, length, map, IfErr, IfOk, IfSome, OnErr};
+//! Naming the files that are added to an archive.
+ghost use Rattle.std.specs.Prelude.{◌≡◌, length, map, IfErr, IfOk, OnErr, OnOk};
 ghost use Rattle.disk_journal.specs.Journal.{state_of};
-ghost use Rattle.disk_journal.specs.State.{BeginsWith, IsAtFirst};
 ghost use Rattle.command_refusals.specs.GoesOn.{DiskGoesOn};
 ghost use Rattle.command_answers.specs.Ingested.{FromArchive, HasCallCause, TakesNothing};
 ghost use Rattle.write_commands.specs.JournalLeft.{AddsNamesTo};
-ghost use Rattle.write_commands.specs.Naming.{IsNamed};
+ghost use Rattle.write_commands.specs.Naming.{HasNamesMore, IsHeldBy, IsNamed};
 ghost use Rattle.write_commands.specs.StepsAdding.{AreAccepted};
-ghost use Rattle.command_refusals.specs.Reading.{IsArchive};
 ghost use Rattle.log_sources.specs.Sources.{str_bytes};
 
 use crate::names::refuse_more;
 use archive_core::Books;
-use archive_open::{Archive, open_for_append};
 use command_refusals::AddRefusal;
 use dict_core::Book;
 use disk_journal::Journal;
@@ -20,6 +17,31 @@ use disk_seal::register;
 use log_seams::Disk;
 use plain_list::{Text, TextList};
 use std::alloc::{AllocError, Global};
+
+/// What an archive has that was opened.
+#[derive(Drop)]
+pub struct Holding {
+    /// The texts of log types.
+    pub types: Book,
+    /// The words of variables.
+    pub words: Book,
+    /// How many files there are.
+    pub files: u64,
+}
+
+/// What an archive has that was opened with these books and so many files.
+pub fn hold(books: Books, files: u64) -> Holding
+    ensures types { result.types ≡ books.types }
+    ensures words { result.words ≡ books.words }
+    ensures files { result.files ≡ files }
+{
+    let Books { types, words, .. } = books;
+    Holding {
+        types,
+        words,
+        files,
+    }
+}
 
 /// An archive that was opened, and in which new files have their names.
 #[derive(Drop)]
@@ -44,20 +66,21 @@ fn texts_of(alloc: Global, names: &[&str]) -> Result<TextList, AllocError>
     Ok(TextList::new(texts))
 }
 
-/// Opens the archive of a journal before its first record, and appends the names of new files.
-pub(crate) fn open_and_register<D: Disk>(
+/// Appends the names of new files to the journal of an archive that was opened.
+pub(crate) fn name_files<D: Disk>(
     alloc: Global,
     journal: &mut Journal<'_, D>,
+    holding: Holding,
     names: &[&str],
 ) -> Result<Named, AddRefusal>
-    requires first { IsAtFirst (state_of journal.old) }
-    requires begins { BeginsWith journal.old.header (D.state journal.old.disk.now) }
-    requires archive { IfSome (D.state journal.old.disk.now).seen IsArchive }
+    requires held { IsHeldBy (state_of journal.old) holding.types holding.words holding.files }
     requires names { AreAccepted (map str_bytes names.now) }
 
-    // the disk
+    // the journal
     ensures name { journal.new.disk.ghost_name ≡ journal.old.disk.ghost_name }
     ensures goes_on { DiskGoesOn (D.state journal.old.disk.now) (D.state journal.new.disk.now) }
+    ensures more { OnOk result (HasNamesMore (map str_bytes names.now)
+        (state_of journal.old) (state_of journal.new)) }
 
     // named
     ensures named { IfOk result (λ n.
@@ -73,14 +96,16 @@ pub(crate) fn open_and_register<D: Disk>(
     ensures cause { IfErr result (HasCallCause (map str_bytes names.now)
         (D.state journal.old.disk.now) (D.state journal.new.disk.now)) }
 {
-    let archive: Archive<Books> = open_for_append(alloc, journal)?;
-    let held = archive.files().as_slice().len() as u64;
-    if let Some(refusal) = refuse_more(held, names.len() as u64) {
+    let Holding {
+        types,
+        words,
+        files,
+    } = holding;
+    if let Some(refusal) = refuse_more(files, names.len() as u64) {
         return Err(refusal);
     }
     let texts = texts_of(alloc, names)?;
-    let first = register(alloc, journal, held as u32, &texts)?;
-    let Books { types, words, .. } = archive.into_books();
+    let first = register(alloc, journal, files as u32, &texts)?;
     Ok(Named {
         types,
         words,

@@ -1,6 +1,7 @@
-use Rattle.std.proofs.Common.{refl, rules}
+use Rattle.std.proofs.Common.{ap, refl, rules}
+use Rattle.std.specs.Prelude.{option_map}
 use Rattle.log_sources.specs.Sources.{str_bytes}
-use Rattle.clp_commands.proofs.CommandLemmas.{ingest_answers, some_of}
+use Rattle.clp_commands.proofs.CommandLemmas.{ingest_answers, some_of, watch_answers}
 use Rattle.read_commands.proofs.CompleteLemmas.{check_answers, decode_answers, files_answers}
 use Rattle.clp_commands.proofs.top_call.carry_out.Goals as goal
 
@@ -79,15 +80,40 @@ ingest_files-requires-clause-some g c κs within =
     let range = rw (c.in-Ingest.is) at c.requires in
     rw (c.of-logs.ensures.files) (some_of str_bytes c.in-Ingest.asked.files.items range.some)
 
-pub returns-in-Ingest-clause-answers : goal.returns-in-Ingest-clause-answers
-returns-in-Ingest-clause-answers g c =
-    rw (c.in-Ingest.is) (rw (← c.of-logs.ensures.files) (rw (← c.of-logs.ensures.segment) (rw (← c.of-logs.ensures.workers) (ingest_answers _ _ _ _ _ _ _ _ c.ingest_files.ensures.names c.ingest_files.ensures.answers))))
+pub returns-in-None-clause-answers : goal.returns-in-None-clause-answers
+returns-in-None-clause-answers g c =
+    rw (c.in-Ingest.is) (rw (← c.of-logs.ensures.files) (rw (← c.of-logs.ensures.segment) (rw (← c.of-logs.ensures.workers) (ingest_answers _ _ _ _ _ _ _ _ _ _ _ (ap (option_map str_bytes) c.in-None.is) c.ingest_files.ensures.names c.ingest_files.ensures.answers))))
 
-pub returns-in-Ingest-clause-keeps : goal.returns-in-Ingest-clause-keeps
-returns-in-Ingest-clause-keeps g c = λ none. absurd (none (rw (c.in-Ingest.is) tt))
+pub returns-in-None-clause-keeps : goal.returns-in-None-clause-keeps
+returns-in-None-clause-keeps g c = λ none. absurd (none (rw (c.in-Ingest.is) tt))
 
-pub returns-in-Ingest-clause-untouched : goal.returns-in-Ingest-clause-untouched
-returns-in-Ingest-clause-untouched g c = λ none. absurd (none (rw (c.in-Ingest.is) tt))
+pub returns-in-None-clause-untouched : goal.returns-in-None-clause-untouched
+returns-in-None-clause-untouched g c = λ none. absurd (none (rw (c.in-Ingest.is) tt))
+
+pub watch_files-requires-clause-workers : goal.watch_files-requires-clause-workers
+watch_files-requires-clause-workers g c κs within =
+    let range = rw (c.in-Ingest.is) at c.requires in
+    rw (c.of-logs.ensures.workers) (range.workers_are.low, range.workers_are.high)
+
+pub watch_files-requires-clause-segment : goal.watch_files-requires-clause-segment
+watch_files-requires-clause-segment g c κs within =
+    let range = rw (c.in-Ingest.is) at c.requires in
+    rw (c.of-logs.ensures.segment) (range.segment_is.low, range.segment_is.high)
+
+pub watch_files-requires-clause-some : goal.watch_files-requires-clause-some
+watch_files-requires-clause-some g c κs within =
+    let range = rw (c.in-Ingest.is) at c.requires in
+    rw (c.of-logs.ensures.files) (some_of str_bytes c.in-Ingest.asked.files.items range.some)
+
+pub returns-in-Some-clause-answers : goal.returns-in-Some-clause-answers
+returns-in-Some-clause-answers g c =
+    rw (c.in-Ingest.is) (rw (← c.of-logs.ensures.files) (rw (← c.of-logs.ensures.segment) (rw (← c.of-logs.ensures.workers) (watch_answers _ _ _ _ _ _ _ _ _ _ _ _ (ap (option_map str_bytes) c.in-Some.is) c.watch_files.ensures.answers))))
+
+pub returns-in-Some-clause-keeps : goal.returns-in-Some-clause-keeps
+returns-in-Some-clause-keeps g c = λ none. absurd (none (rw (c.in-Ingest.is) tt))
+
+pub returns-in-Some-clause-untouched : goal.returns-in-Some-clause-untouched
+returns-in-Some-clause-untouched g c = λ none. absurd (none (rw (c.in-Ingest.is) tt))
 
 pub bench-requires-clause-lines : goal.bench-requires-clause-lines
 bench-requires-clause-lines g c κs within =

@@ -8,9 +8,9 @@ pub returns-in-Some : goal.returns-in-Some
 returns-in-Some c =
     reads_ingest (rows_in c.args.found.now) (Some (Ingest c.in-Some.asked))
     (refl, subst (λ o. IfSome o (λ i. Gives (rows_in c.args.found.now) (ingested i))) c.in-Some.is c.in_ok-asked.ensures.some)
-    (λ workers segment files gives. subst (λ o. IsSomeAnd o (λ i. ingested i ≡ to_ingest workers segment files)) c.in-Some.is (c.in_ok-asked.ensures.all workers segment files gives))
+    (λ workers segment watch files gives. subst (λ o. IsSomeAnd o (λ i. ingested i ≡ to_ingest workers segment watch files)) c.in-Some.is (c.in_ok-asked.ensures.all workers segment watch files gives))
 
 pub returns-in-None : goal.returns-in-None
 returns-in-None c =
     reads_ingest (rows_in c.args.found.now) None tt
-    (λ workers segment files gives. subst (λ o. IsSomeAnd o (λ i. ingested i ≡ to_ingest workers segment files)) c.in-None.is (c.in_ok-asked.ensures.all workers segment files gives))
+    (λ workers segment watch files gives. subst (λ o. IsSomeAnd o (λ i. ingested i ≡ to_ingest workers segment watch files)) c.in-None.is (c.in_ok-asked.ensures.all workers segment watch files gives))

@@ -9,7 +9,7 @@ loop-file-preserved g c =
     let before = c.loop-file.invariant in
     let one = c.report_one.ensures in
     record {
-      status = gravest_next (λ (f : NewFile). file_status f.refusal) (λ (f : NewFile). file_error f.name.now f.refusal) c.args.files.now c.loop-file.file-index _ _ _ _ c.loop-file-test.true before.status one.status c.graver_of-status.ensures;
+      status = gravest_next (λ (f : NewFile). file_status f.refusal) (λ (f : NewFile). file_error f.name.now f.refusal) c.args.files.now c.loop-file.file-index _ _ _ _ c.loop-file-test.true before.status one.status c.graver-status.ensures;
       said = said_next (λ (f : NewFile). file_status f.refusal) (λ (f : NewFile). file_error f.name.now f.refusal) _ _ _ _ _ _ c.args.files.now c.loop-file.file-index _ c.loop-file-test.true before.later one.later before.said one.said;
       later = omega (arith, before.later, one.later);
     }

@@ -45,7 +45,7 @@ returns-in-Ok-print_directory-clause-answers g c =
     let caused = subst (λ (fs : List FileReport). HaveFileCauses (logs_around g.H.Shelf.open_faults g.H.Shelf.read_faults c.args.shelf.now c.add_known.new.shelf) c.args.asked.workers c.args.asked.segment old new (map (came_of (g.H.Shelf.content c.args.shelf.now)) fs)) (sym files) c.in-Ok-add_known.ensures.added.causes in
     let taken = subst (λ (fs : List FileReport). FromArchive old (λ h before bytes stood. TakesIn c.args.asked.segment h before stood (map str_bytes c.args.asked.files.now) (map (came_of (g.H.Shelf.content c.args.shelf.now)) fs) old new)) (sym files) c.in-Ok-add_known.ensures.added.taken in
     let told = c.as_slice-in-Ok-print_directory.ensures.value in
-    printed_all c.one_list_of_parts.ensures.one c.args.asked.workers c.args.asked.segment (map str_bytes c.args.asked.files.now) _ old new (tells_alike (are_of g.B.Base.archive (g.D.Disk.state c.args.disk.now).seen) (g.D.Disk.state c.args.disk.now) (g.D.Disk.state c.add_known.new.disk) c.add_known.ensures.goes_on.tells) _ c.from.result c.as_slice.result.now (ap names_of files ∙ c.in-Ok-add_known.ensures.added.names) numbered taken caused
+    printed_all c.one_list_of_parts.ensures.one c.args.asked.workers c.args.asked.segment (map str_bytes c.args.asked.files.now) _ old new (tells_alike (are_of g.B.Base.archive (g.D.Disk.state c.args.disk.now).seen) (g.D.Disk.state c.args.disk.now) (g.D.Disk.state c.add_known.new.disk) c.add_known.ensures.goes_on.tells) c.from.result c.as_slice.result.now (ap names_of files ∙ c.in-Ok-add_known.ensures.added.names) numbered taken caused _
     c.as_slice-in-Ok-print_directory.result.now (told ∙ sym files) c.in-Ok-print_directory.ensures.ok c.report_taken.ensures.status c.report_taken.ensures.said c.in-Ok-print_directory.ensures.cause.steady
 
 pub returns-in-Err-SinkFault-clause-answers : goal.returns-in-Err-SinkFault-clause-answers
@@ -56,7 +56,7 @@ returns-in-Err-SinkFault-clause-answers g c =
     let numbered = subst (λ n. OverJournal old.seen (λ journal. n ≡ length journal.names)) (sym c.from.ensures) c.in-Ok-add_known.ensures.added.number in
     let caused = subst (λ (fs : List FileReport). HaveFileCauses (logs_around g.H.Shelf.open_faults g.H.Shelf.read_faults c.args.shelf.now c.add_known.new.shelf) c.args.asked.workers c.args.asked.segment old new (map (came_of (g.H.Shelf.content c.args.shelf.now)) fs)) (sym files) c.in-Ok-add_known.ensures.added.causes in
     let taken = subst (λ (fs : List FileReport). FromArchive old (λ h before bytes stood. TakesIn c.args.asked.segment h before stood (map str_bytes c.args.asked.files.now) (map (came_of (g.H.Shelf.content c.args.shelf.now)) fs) old new)) (sym files) c.in-Ok-add_known.ensures.added.taken in
-    printed_some c.one_list_of_parts.ensures.one c.args.asked.workers c.args.asked.segment (map str_bytes c.args.asked.files.now) _ old new (tells_alike (are_of g.B.Base.archive (g.D.Disk.state c.args.disk.now).seen) (g.D.Disk.state c.args.disk.now) (g.D.Disk.state c.add_known.new.disk) c.add_known.ensures.goes_on.tells) _ c.from.result c.as_slice.result.now (ap names_of files ∙ c.in-Ok-add_known.ensures.added.names) numbered taken caused
+    printed_some c.one_list_of_parts.ensures.one c.args.asked.workers c.args.asked.segment (map str_bytes c.args.asked.files.now) _ old new (tells_alike (are_of g.B.Base.archive (g.D.Disk.state c.args.disk.now).seen) (g.D.Disk.state c.args.disk.now) (g.D.Disk.state c.add_known.new.disk) c.add_known.ensures.goes_on.tells) c.from.result c.as_slice.result.now (ap names_of files ∙ c.in-Ok-add_known.ensures.added.names) numbered taken caused _
     c.in-Err-SinkFault.ensures.err c.report-in-Err-SinkFault.ensures.status c.report-in-Err-SinkFault.ensures.said (search rules)
 
 pub returns-in-Ok-add_known-clause-answers : goal.returns-in-Ok-add_known-clause-answers
@@ -67,7 +67,7 @@ returns-in-Ok-add_known-clause-answers g c =
     let numbered = subst (λ n. OverJournal old.seen (λ journal. n ≡ length journal.names)) (sym c.from.ensures) c.in-Ok-add_known.ensures.added.number in
     let caused = subst (λ (fs : List FileReport). HaveFileCauses (logs_around g.H.Shelf.open_faults g.H.Shelf.read_faults c.args.shelf.now c.add_known.new.shelf) c.args.asked.workers c.args.asked.segment old new (map (came_of (g.H.Shelf.content c.args.shelf.now)) fs)) (sym files) c.in-Ok-add_known.ensures.added.causes in
     let taken = subst (λ (fs : List FileReport). FromArchive old (λ h before bytes stood. TakesIn c.args.asked.segment h before stood (map str_bytes c.args.asked.files.now) (map (came_of (g.H.Shelf.content c.args.shelf.now)) fs) old new)) (sym files) c.in-Ok-add_known.ensures.added.taken in
-    printed_short c.one_list_of_parts.ensures.one c.args.asked.workers c.args.asked.segment (map str_bytes c.args.asked.files.now) _ old new (tells_alike (are_of g.B.Base.archive (g.D.Disk.state c.args.disk.now).seen) (g.D.Disk.state c.args.disk.now) (g.D.Disk.state c.add_known.new.disk) c.add_known.ensures.goes_on.tells) _ c.from.result c.as_slice.result.now (ap names_of files ∙ c.in-Ok-add_known.ensures.added.names) numbered taken caused
+    printed_short c.one_list_of_parts.ensures.one c.args.asked.workers c.args.asked.segment (map str_bytes c.args.asked.files.now) _ old new (tells_alike (are_of g.B.Base.archive (g.D.Disk.state c.args.disk.now).seen) (g.D.Disk.state c.args.disk.now) (g.D.Disk.state c.add_known.new.disk) c.add_known.ensures.goes_on.tells) c.from.result c.as_slice.result.now (ap names_of files ∙ c.in-Ok-add_known.ensures.added.names) numbered taken caused _
     c.in-Err-OutOfMemory.ensures.err (record { status_is = c.report-in-Err-OutOfMemory.ensures.status; said = c.report-in-Err-OutOfMemory.ensures.said }) (search rules)
 
 pub returns-clause-answers : goal.returns-clause-answers

@@ -8,6 +8,7 @@ use Rattle.write_commands.specs.StepsCauses.{into_journal, logs_around}
 use Rattle.write_commands.specs.Naming.{AreNumbered}
 use Rattle.write_commands.specs.declared.file_report.FileReport.{FileReport}
 use Rattle.ingest_workers.specs.declared.job.Job.{Job}
+use Rattle.write_commands.proofs.FollowLemmas.{rests_same}
 use Rattle.write_commands.proofs.JobLemmas.{are_new, as_many, as_many_done, did_go_on}
 use Rattle.write_commands.proofs.PopLemmas.{lent_back, told_back}
 use Rattle.write_commands.proofs.FileCauseLemmas.{all_came, all_unbegun}
@@ -27,6 +28,9 @@ returns-in_default-clause-causes g c = record {
   each = all_unbegun (g.H.Shelf.content c.args.shelf.now) _ _ _ _ c.refuse_all.new.taken.items c.refuse_all.ensures.begun;
   in_turn = λ one. unbegun_in_turn (g.H.Shelf.content c.args.shelf.now) (into_journal (state_of c.args.journal) c.args.asked.segment c.args.named.first (map (came_of (g.H.Shelf.content c.args.shelf.now)) c.refuse_all.new.taken.items)) c.refuse_all.new.taken.items c.refuse_all.ensures.begun;
 }
+
+pub returns-in_default-clause-along : goal.returns-in_default-clause-along
+returns-in_default-clause-along g c = rests_same (g.B.Beside.known c.args.beside.now) c.args.journal c.requires.beside
 
 pub returns-in_default-clause-logs : goal.returns-in_default-clause-logs
 returns-in_default-clause-logs g c = record {
@@ -82,7 +86,7 @@ returns-clause-logs g c = record {
 pub returns-clause-goes_on : goal.returns-clause-goes_on
 returns-clause-goes_on g c =
     let law = (g.met.D.Disk g.world.𝓛 g.world.𝓜 g.world.𝓡 ((λ s x. x), (λ x. x), (λ x. x), λ x. x)).lawful in
-    did_go_on _ _ _ _ _ c.args.journal c.do_jobs-journal.result _ _ (law c.args.journal.disk.now) c.do_jobs-journal.ensures
+    did_go_on _ _ _ _ _ c.args.journal c.do_jobs-journal.result _ _ (law c.args.journal.disk.now) c.do_jobs-journal.ensures.did
 
 pub returns-clause-taken : goal.returns-clause-taken
 returns-clause-taken g c =
@@ -92,11 +96,11 @@ returns-clause-taken g c =
     let opening = ap opens_of is ∙ c.begin_jobs.ensures.opened in
     let numbered = subst (AreNumbered c.args.named.first) (sym is) c.begin_jobs.ensures.numbered in
     let openings = c.as_slice.ensures.value ∙ c.begin_jobs.ensures.openings in
-    let counted = as_many_done _ _ _ _ _ c.args.journal c.do_jobs-journal.result c.as_mut_slice.result.now c.do_jobs-journal.new.jobs c.do_jobs-journal.ensures in
+    let counted = as_many_done _ _ _ _ _ c.args.journal c.do_jobs-journal.result c.as_mut_slice.result.now c.do_jobs-journal.new.jobs c.do_jobs-journal.ensures.did in
     let told = told_back (λ (jobs : List (Job _)) (i : ℕ) (file : FileReport). IsToldBy c.as_slice.result.now jobs i file) c.end_jobs.new.taken.items c.begin_jobs.new.jobs.len c.do_jobs-journal.new.jobs _ (omega (arith, counted, ap length is, c.begin_jobs.new.jobs.ok.0)) c.end_jobs.ensures.told in
     did_take_into g.H.Src.Source.left g.H.Src.Source.name g.H.Src.Source.faults (g.H.Shelf.content c.args.shelf.now) (g.H.Shelf.open_faults c.args.shelf.now) (g.H.Shelf.open_faults c.open_all.new.shelf)
     (map str_bytes c.args.asked.files.now) c.in-Ok.opened.sources.items c.in-Ok.ensures.came c.args.named.first c.as_mut_slice.result.now sourced opening numbered c.as_slice.result.now openings c.do_jobs-journal.new.jobs c.end_jobs.new.taken.items c.end_jobs.ensures.names told
-    c.args.journal c.do_jobs-journal.result (law _) (law _) c.requires.named.opens c.args.asked.workers c.args.asked.segment (omega (arith, c.requires.limits.segment.0)) c.do_jobs-journal.ensures
+    c.args.journal c.do_jobs-journal.result (law _) (law _) c.requires.named.opens c.args.asked.workers c.args.asked.segment (omega (arith, c.requires.limits.segment.0)) c.do_jobs-journal.ensures.did
 
 -- ---- why files are not whole
 
@@ -108,7 +112,7 @@ returns-clause-causes g c =
     let opening = ap opens_of is ∙ c.begin_jobs.ensures.opened in
     let numbered = subst (AreNumbered c.args.named.first) (sym is) c.begin_jobs.ensures.numbered in
     let openings = c.as_slice.ensures.value ∙ c.begin_jobs.ensures.openings in
-    let counted = as_many_done _ _ _ _ _ c.args.journal c.do_jobs-journal.result c.as_mut_slice.result.now c.do_jobs-journal.new.jobs c.do_jobs-journal.ensures in
+    let counted = as_many_done _ _ _ _ _ c.args.journal c.do_jobs-journal.result c.as_mut_slice.result.now c.do_jobs-journal.new.jobs c.do_jobs-journal.ensures.did in
     let told = told_back (λ (jobs : List (Job _)) (i : ℕ) (file : FileReport). IsToldBy c.as_slice.result.now jobs i file) c.end_jobs.new.taken.items c.begin_jobs.new.jobs.len c.do_jobs-journal.new.jobs _ (omega (arith, counted, ap length is, c.begin_jobs.new.jobs.ok.0)) c.end_jobs.ensures.told in
     let logs = logs_around g.H.Shelf.open_faults g.H.Shelf.read_faults c.args.shelf.now c.close_logs.new.shelf in
     let opens_later : (n : List ℕ) → g.H.Shelf.open_faults c.open_all.new.shelf n ≤ g.H.Shelf.open_faults c.close_logs.new.shelf n = λ n. omega (arith, c.close_logs.ensures.opens n) in
@@ -121,9 +125,9 @@ returns-clause-causes g c =
     record {
       each = all_came g.H.Src.Source.left g.H.Src.Source.name g.H.Src.Source.faults logs (g.H.Shelf.open_faults c.open_all.new.shelf) (g.H.Shelf.read_faults c.open_all.new.shelf) (g.H.Shelf.read_faults c.close_logs.new.shelf) opens_later reads_sooner reads_later
           c.args.journal c.do_jobs-journal.result (map (came_of (g.H.Shelf.content c.args.shelf.now)) c.end_jobs.new.taken.items) c.args.asked.segment c.args.named.first c.as_mut_slice.result.now c.do_jobs-journal.new.jobs of each
-          (law _) c.args.asked.workers c.do_jobs-journal.ensures c.end_jobs.new.sources.items
+          (law _) c.args.asked.workers c.do_jobs-journal.ensures.did c.end_jobs.new.sources.items
           (c.end_jobs.ensures.sources ∙ ap sources_of (lent_back c.begin_jobs.new.jobs.len c.do_jobs-journal.new.jobs _ (omega (arith, counted, ap length is, c.begin_jobs.new.jobs.ok.0)))) c.close_logs.ensures.counted;
       in_turn = did_in_turn g.H.Src.Source.left g.H.Src.Source.name g.H.Src.Source.faults (g.H.Shelf.open_faults c.args.shelf.now) (g.H.Shelf.open_faults c.open_all.new.shelf)
           c.args.journal (map (came_of (g.H.Shelf.content c.args.shelf.now)) c.end_jobs.new.taken.items) c.args.asked.segment c.args.named.first c.as_mut_slice.result.now c.do_jobs-journal.new.jobs of each
-          c.do_jobs-journal.result c.args.asked.workers c.do_jobs-journal.ensures;
+          c.do_jobs-journal.result c.args.asked.workers c.do_jobs-journal.ensures.did;
     }
