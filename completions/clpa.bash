@@ -14,7 +14,6 @@ _clpa() {
             ;;
         *:create)
             mapfile -t COMPREPLY < <(compgen -W '--bytes= --format= --types= --words=' -- "$word")
-            compopt -o nospace
             ;;
         *:ingest)
             mapfile -t COMPREPLY < <(compgen -W '--segment= --watch= --workers=' -- "$word")
@@ -22,6 +21,8 @@ _clpa() {
             ;;
         *:search) mapfile -t COMPREPLY < <(compgen -W '--from= --stats --to= --workers=' -- "$word") ;;
     esac
+    # a value follows at once
+    [[ ${COMPREPLY[*]} != *= ]] || compopt -o nospace
 }
 
 complete -F _clpa clpa
