@@ -20,7 +20,7 @@ use write_commands::{FileReport, report_taken};
 
 /// The graver of two statuses: that of a failed output, of a failed disk, of a damaged archive, of want
 /// of memory, of a log that is not whole.
-fn graver(one: u8, other: u8) -> u8
+fn graver_of_call(one: u8, other: u8) -> u8
     ensures { result ≡ gravest_of_call (one ∷ other ∷ []) }
 {
     match (one, other) {
@@ -82,5 +82,5 @@ pub(crate) fn print_rest<K: Sink>(
         Ok(()) => report_taken(err, files),
         Err(refusal) => report(err, "", refusal_of_print(refusal)),
     };
-    graver(status, other)
+    graver_of_call(status, other)
 }

@@ -33,7 +33,6 @@ use archive_core::Books;
 use archive_open::{Archive, open_for_append};
 use command_refusals::{AddRefusal, PartCause, Refusal, refusal_of_add, report};
 use command_words::IngestWords;
-use dict_core::Book;
 use disk_journal::{Journal, start};
 use disk_seal::{Alone, Beside};
 use file_lines::print_directory;
@@ -239,21 +238,21 @@ fn do_jobs<'d, R: Threads + Wait + Sync, S: Source + Send, D: Disk + Send, B: Be
     alloc: Global,
     asked: NewLogs<'_>,
     journal: Journal<'d, D>,
-    types: Book,
-    words: Book,
+    named: Named,
     jobs: &mut [Job<S>],
     beside: &mut B,
 ) -> Journal<'d, D>
     requires workers { (1 ≤ asked.workers) × (asked.workers ≤ MAX_WORKERS) }
     requires segment { (1 ≤ asked.segment) × (asked.segment ≤ 65536) }
     requires journal { MayOpen (state_of journal) }
-    requires books { HoldTexts (state_of journal) types words }
+    requires books { HoldTexts (state_of journal) named.types named.words }
     requires jobs { AreNew (first_file jobs.old) (state_of journal) jobs.old }
     requires beside { MayBeginWith (B.known beside.old) journal }
     ensures did { DidJobs S.left S.name S.faults asked.entry.workers asked.entry.segment
         journal.entry result jobs.old jobs.new }
     ensures along { WentAlong (B.known beside.old) (B.known beside.new) journal.entry result }
 {
+    let Named { types, words, .. } = named;
     let split = Split {
         workers: asked.workers,
         rows: asked.segment,
@@ -304,11 +303,6 @@ where
     // the follower
     ensures along { WentAlong (B.known beside.old) (B.known beside.new) journal.entry result }
 {
-    let Named {
-        types,
-        words,
-        first,
-    } = named;
     let Ok(opened) = open_all(alloc, shelf, asked.files) else {
         refuse_all(asked.files, taken);
         return journal;
@@ -318,14 +312,13 @@ where
         mut jobs,
         mut openings,
     } = opened;
-    begin_jobs(first, &mut sources, &mut jobs, &mut openings);
+    begin_jobs(named.first, &mut sources, &mut jobs, &mut openings);
     let journal = do_jobs(
         rt,
         alloc,
         asked,
         journal,
-        types,
-        words,
+        named,
         jobs.as_mut_slice(),
         beside,
     );

@@ -26,23 +26,23 @@ returns-clause-prints g c = λ logs content unread opens reads.
     elim c.match-printed.branch [
       | in-Ok w ↦
           let text = flat_map error_of files in
-          let then : TellsOther one w.report_taken-other.result c.graver.result (written mid) (written last) (faults mid) (faults last) text = record {
-            status_is = c.graver.ensures ∙ ap (λ n. gravest_of_call (one ∷ n ∷ [])) w.other-is;
+          let then : TellsOther one w.report_taken-other.result c.graver_of_call.result (written mid) (written last) (faults mid) (faults last) text = record {
+            status_is = c.graver_of_call.ensures ∙ ap (λ n. gravest_of_call (one ∷ n ∷ [])) w.other-is;
             said = subst (λ e. Says (written mid) (written e) (faults mid) (faults e) text) (sym w.err-is) w.report_taken-other.ensures.said;
             later = subst (λ e. faults mid ≤ faults e) (sym w.err-is) w.report_taken-other.ensures.later;
           } in
-          rest_told logs reader files c.args.watched.first _ c.graver.result
-          (tells_files reader _ one w.report_taken-other.result c.graver.result (faults mid) (written mid) first logs files w.report_taken-other.ensures.status then)
+          rest_told logs reader files c.args.watched.first _ c.graver_of_call.result
+          (tells_files reader _ one w.report_taken-other.result c.graver_of_call.result (faults mid) (written mid) first logs files w.report_taken-other.ensures.status then)
           (λ sink. ap written (c.print_files-printed.ensures.silent sink).1) w.in-Ok.ensures.done w.in-Ok.ensures.counts.steady
       | in-Err w ↦
           let refusal = w.in-Err.refusal in
           let text = line_of [] (of_read (from_print refusal)) in
-          let then : TellsOther one w.report-other.result c.graver.result (written mid) (written last) (faults mid) (faults last) text = record {
-            status_is = c.graver.ensures ∙ ap (λ n. gravest_of_call (one ∷ n ∷ [])) w.other-is;
+          let then : TellsOther one w.report-other.result c.graver_of_call.result (written mid) (written last) (faults mid) (faults last) text = record {
+            status_is = c.graver_of_call.ensures ∙ ap (λ n. gravest_of_call (one ∷ n ∷ [])) w.other-is;
             said = subst (λ e. Says (written mid) (written e) (faults mid) (faults e) text) (sym w.err-is) (rw (← w.refusal_of_print.ensures) w.report-other.ensures.said);
             later = subst (λ e. faults mid ≤ faults e) (sym w.err-is) w.report-other.ensures.later;
           } in
-          rest_cut logs reader files c.args.watched.first _ c.graver.result refusal (λ sink. cc ((w.in-Err.ensures.silent sink).0))
-          (tells_cut reader _ one w.report-other.result c.graver.result (faults mid) (written mid) first refusal (rw (← w.refusal_of_print.ensures) w.report-other.ensures.status) then)
+          rest_cut logs reader files c.args.watched.first _ c.graver_of_call.result refusal (λ sink. cc ((w.in-Err.ensures.silent sink).0))
+          (tells_cut reader _ one w.report-other.result c.graver_of_call.result (faults mid) (written mid) first refusal (rw (← w.refusal_of_print.ensures) w.report-other.ensures.status) then)
           w.in-Err.ensures.front (λ is. w.in-Err.ensures.counts.failed (ap (λ e. Err e) is)) (λ other. w.in-Err.ensures.counts.spared refusal refl other)
     ]
