@@ -118,7 +118,7 @@ fn decode_with<N: KeepsTexts + Drop, D: Disk, K: Sink, L: Ledger>(
     Ok(())
 }
 
-/// Writes the bytes of the file of a number into a sink, in pieces of 64 KiB: of a whole file the
+/// Writes the bytes of the file of a number into a sink, in pieces of 32 KiB: of a whole file the
 /// bytes that it had, of a part each of its messages that the archive has with a newline behind it.
 /// It only reads the disk.
 ///

@@ -5,8 +5,9 @@ ghost use Rattle.log_seams.specs.Outside.{Counts};
 
 use log_seams::{Failed, Sink};
 
-/// How many bytes are gathered before they go to the sink.
-pub const PIECE: usize = 65_536;
+/// How many bytes are gathered before they go to the sink: two pieces fit into a pipe of 64 KiB, so that
+/// who writes goes on while the other end reads. It is free to tune.
+pub const PIECE: usize = 32_768;
 
 /// Writes all of `bytes`, in as many writes as the sink needs.
 ///
