@@ -1,8 +1,9 @@
 -- Steps on the way to words that are held.
-use Rattle.std.specs.Prelude.{◌≡◌, ◌⊎◌, ◌<◌, ◌≤◌, ℕ, Bool, true, List, ◌∷◌, set, is_some, Option, Some, None, slice_get}
+use Rattle.std.specs.Prelude.{◌≡◌, ◌⊎◌, ◌<◌, ◌≤◌, ℕ, Bool, true, List, ◌∷◌, length, set, is_some, Option, Some, None, slice_get}
 use Rattle.logtype_text.specs.declared.symbols.Kind.{Kind}
 use Rattle.word_places.specs.declared.gaps.Gap.{Gap}
 use Rattle.word_places.specs.declared.held.HeldRecord.{HeldRecord}
+use Rattle.word_places.specs.Held.{IsHeld, lends}
 
 -- the record at a place begins with a number that is not above this
 abbrev pub StartsBy : List HeldRecord → ℕ → ℕ → Type 0
@@ -19,6 +20,10 @@ TellsRead records at read = (r : HeldRecord) → slice_get records at ≡ Some r
 -- so many records at the front were read
 abbrev pub AreReadTo : ℕ → List HeldRecord → Type 0
 AreReadTo count records = (at : ℕ) (r : HeldRecord) → at < count → slice_get records at ≡ Some r → is_some r.words ≡ true
+
+-- a number is held, if it is some word's
+abbrev pub HasHeld : List HeldRecord → ℕ → Type 0
+HasHeld records number = number < length (lends records) → IsHeld records number
 
 -- a number is none of a gap
 abbrev pub IsBeside : Gap → ℕ → Type 0

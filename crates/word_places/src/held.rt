@@ -92,14 +92,15 @@ impl HeldWords {
     }
 
     /// Whether it is known that all words of a row are held, so that none has to be asked: by a compare
-    /// for each of its numbers. A number that stands before the first record that was not read is held,
-    /// and one that is past the last word is no word.
+    /// for each of its numbers, and by a look at the record of one that stands behind a record that was
+    /// not read. One that is past the last word is no word.
     #[inline]
     pub fn has_row(&self, row: RowRef<'_>) -> bool
         ensures held { IsTrue result → (types : List (List ℕ))
             → AreHeld self.now.records (numbers_of_row types (row_of row.entry)) }
     {
-        are_held(self.records.as_slice(), self.front, row.words)
+        let records = self.records.as_slice();
+        are_held(records, self.hints.as_slice(), self.front, row.words)
     }
 }
 

@@ -1,5 +1,5 @@
 //! Reading the words that are wanted, each with its record.
-ghost use Rattle.std.specs.Prelude.{◌≡◌, ◌<◌, length, OnOk, IsErrOf, IfSome, IsNone, slice_get, Some, None, slice_index_or, []};
+ghost use Rattle.std.specs.Prelude.{◌≡◌, ◌<◌, length, OnOk, IsErrOf, IfSome, IsNone, IsTrue, slice_get, Some, None, slice_index_or, []};
 ghost use Rattle.log_seams.specs.Disk.{Rests};
 ghost use Rattle.log_seams.specs.Outside.{CountsOf};
 ghost use Rattle.column_store.specs.Row.{row_of};
@@ -12,6 +12,7 @@ ghost use Rattle.word_places.specs.declared.held.HeldRecord.{HeldRecord};
 ghost use Rattle.word_places.specs.Reads.{ReadsOneOf, ReadsWords};
 
 use crate::held::{HeldRecord, HeldWords};
+use crate::hints::record_near;
 use crate::order::{place_at, record_of};
 use crate::reading::read_record;
 use crate::record::RecordWords;
@@ -146,6 +147,18 @@ fn wanted(records: &[HeldRecord], number: u32) -> Option<usize>
         return None;
     }
     Some(at)
+}
+
+/// Whether the record that has a number is known to be read.
+#[inline]
+pub(crate) fn is_held(records: &[HeldRecord], hints: &[u32], number: u32) -> bool
+    requires { AreNumbered 0 records.now }
+    ensures { IsTrue result → IsHeld records.now number }
+{
+    match record_near(records, hints, number) {
+        Some(at) => is_read(records, at),
+        None => false,
+    }
 }
 
 // How many records at the front were read, where it is known of so many.
