@@ -19,7 +19,7 @@ use Rattle.word_places.proofs.OrderLemmas.{unread_numbered}
 use Rattle.word_places.proofs.HeldLemmas.{all_agree, grow_all_held, grow_places}
 use Rattle.search_walk.specs.Scan.{Asked}
 use Rattle.search_walk.specs.Held.{IsTold, Named, StandIn, named, words_told}
-use Rattle.search_walk.specs.Ready.{AreDecided, IsDecided, IsLent, IsReady, IsReadyPage, Serves}
+use Rattle.search_walk.specs.Ready.{AreDecided, AreHeldFor, IsDecided, IsLent, IsReady, IsReadyPage, Serves}
 
 -- ---- the words of the bytes
 
@@ -82,6 +82,21 @@ rows_grow n q old new [] (v ∷ verdicts) are_old are_new grow each = absurd eac
 rows_grow n q old new (r ∷ rows) [] are_old are_new grow each = absurd each
 rows_grow n q old new (r ∷ rows) (v ∷ verdicts) are_old are_new grow each = (ready_grows n q old new r v are_old are_new grow each.0, rows_grow n q old new rows verdicts are_old are_new grow each.1)
 
+-- rows that were decided, and whose words are held
+pub rows_ready : (n : Named) (q : Asked) (records : List HeldRecord) (rows : List Row) (verdicts : List Verdict) → AreDecided n q rows verdicts → AreHeldFor records rows verdicts → AllZip (IsReady n q records) rows verdicts
+rows_ready n q records [] [] decided held = tt
+rows_ready n q records [] (v ∷ verdicts) decided held = absurd held
+rows_ready n q records (r ∷ rows) [] decided held = absurd held
+rows_ready n q records (r ∷ rows) (v ∷ verdicts) decided held =
+    (record { decided = decided.0; held = λ not. held.0 not n.types }, rows_ready n q records rows verdicts decided.1 held.1)
+
+pub held_grow : (old new : List HeldRecord) (rows : List Row) (verdicts : List Verdict) → AreNumbered 0 old → AreNumbered 0 new → Grow old new → AreHeldFor old rows verdicts → AreHeldFor new rows verdicts
+held_grow old new [] [] are_old are_new grow held = tt
+held_grow old new [] (v ∷ verdicts) are_old are_new grow held = absurd held
+held_grow old new (r ∷ rows) [] are_old are_new grow held = absurd held
+held_grow old new (r ∷ rows) (v ∷ verdicts) are_old are_new grow held =
+    (λ not types. grow_all_held old new (numbers_of_row types r) are_old are_new grow (held.0 not types), held_grow old new rows verdicts are_old are_new grow held.1)
+
 pub zip_long : {A B : Type 0} (R : A → B → Type 0) (xs : List A) (ys : List B) → AllZip R xs ys → length ys ≡ length xs
 zip_long R [] [] each = refl
 zip_long R [] (b ∷ ys) each = absurd each
@@ -112,6 +127,10 @@ zip_more R xs ys later k x y is added each one =
 
 pub zip_all : {A B : Type 0} (R : A → B → Type 0) (xs : List A) (ys : List B) (k : ℕ) → length xs ≤ k → AllZip R (take k xs) ys → AllZip R xs ys
 zip_all R xs ys k end each = subst (λ l. AllZip R l ys) (take_all k xs end) each
+
+-- all rows of a page, of which there is a verdict each
+pub zip_full : {A B : Type 0} (R : A → B → Type 0) (xs : List A) (ys : List B) (k : ℕ) → length xs ≤ k → length ys ≡ length xs → AllZip R (take k xs) (take k ys) → AllZip R xs ys
+zip_full R xs ys k end long each = zip_all R xs ys k end (subst (λ l. AllZip R (take k xs) l) (take_all k ys (omega (arith, long, end))) each)
 
 -- one more row of a page, of which the verdicts are known
 pub rows_more : (n : Named) (q : Asked) (old new : List HeldRecord) (rows : List Row) (verdicts : List Verdict) (k : ℕ) (row : Row) (v : Verdict) → AreNumbered 0 old → AreNumbered 0 new → Grow old new

@@ -1,5 +1,5 @@
 //! Rows that are decided, and the words that are read for those that may have to be written.
-ghost use Rattle.std.specs.Prelude.{◌≡◌, ◌≤◌, length, vec_capacity, OnOk, IsErrOf};
+ghost use Rattle.std.specs.Prelude.{◌≡◌, ◌≤◌, length, vec_capacity, IsTrue, OnOk, IsErrOf};
 ghost use Rattle.std.specs.List.{AllZip};
 ghost use Rattle.log_seams.specs.Disk.{Rests};
 ghost use Rattle.log_seams.specs.Outside.{CountsOf};
@@ -7,7 +7,7 @@ ghost use Rattle.column_store.specs.Row.{row_of};
 ghost use Rattle.word_places.specs.Held.{Grow};
 ghost use Rattle.word_places.specs.Reads.{ReadsWords};
 ghost use Rattle.search_walk.specs.Held.{IsTold};
-ghost use Rattle.search_walk.specs.Ready.{AreDecided, IsDecided, IsReady, Serves};
+ghost use Rattle.search_walk.specs.Ready.{AreDecided, AreHeldFor, IsDecided, IsHeldFor, IsReady, Serves};
 
 use crate::context::Context;
 use crate::refusal::SearchRefusal;
@@ -73,18 +73,48 @@ fn hold_row<D: Disk>(
     Ok(())
 }
 
+/// Whether it is known that the words of a row that was decided are held, where it may have to be
+/// written.
+fn has_row(row: RowRef<'_>, verdict: Verdict, held: &HeldWords) -> bool
+    ensures { IsTrue result → IsHeldFor held.now.records (row_of row.entry) verdict }
+{
+    if is_rejected(verdict) {
+        return true;
+    }
+    held.has_row(row)
+}
+
+/// Whether it is known that the words of all rows of a page are held that may have to be written. It
+/// asks neither the disk nor a word.
+// A function of its own, so that its loop has the registers.
+#[inline(never)]
+pub fn has_rows(page: &Columns, verdicts: &[Verdict], held: &HeldWords) -> bool
+    requires { length verdicts.now ≡ length page.now.rows }
+    ensures { IsTrue result → AreHeldFor held.now.records page.now.rows verdicts.now }
+{
+    for place in 0..page.rows() {
+        let verdict = verdict_at(verdicts, place);
+        if !has_row(page.row(place), verdict, held) {
+            return false;
+        }
+    }
+    true
+}
+
 /// Reads the words of the rows of a page that were decided, of those that may have to be written, as
-/// far as they are not held.
+/// far as they are not held: none where it is known that they are.
 // A function of its own, so that its loop has the registers.
 #[inline(never)]
 pub fn hold_rows<D: Disk>(
     context: &Context<'_, D>,
     page: &Columns,
     verdicts: &[Verdict],
+    known: bool,
     held: &mut HeldWords,
     disk: &mut D,
 ) -> Result<(), SearchRefusal>
     requires decided { AreDecided context.now.names context.now.query page.now.rows verdicts.now }
+    requires known { IsTrue known → AreHeldFor held.old.records page.now.rows verdicts.now }
     requires serves { Serves context.now.names held.old }
     requires told { (D.state disk.old).seen ≡ context.now.names.told }
 
@@ -102,6 +132,9 @@ pub fn hold_rows<D: Disk>(
         (D.state disk.old).faults (D.state disk.new).faults result }
     ensures sink { ¬ IsErrOf result SearchRefusal.SinkFault }
 {
+    if known {
+        return Ok(());
+    }
     for place in 0..page.rows() {
         let verdict = verdict_at(verdicts, place);
         hold_row(context, page.row(place), verdict, held, disk)?;
@@ -137,5 +170,5 @@ pub fn decide_rows<D: Disk>(
     verdicts.clear();
     verdicts.reserve(page.rows() as usize)?;
     decide_page(context, page, verdicts);
-    hold_rows(context, page, verdicts.as_slice(), held, disk)
+    hold_rows(context, page, verdicts.as_slice(), false, held, disk)
 }

@@ -15,7 +15,7 @@ mod verdicts;
 
 pub use asking::{Told, ask_words};
 pub use context::Context;
-pub use deciding::{decide_page, decide_rows, hold_rows};
+pub use deciding::{decide_page, decide_rows, has_rows, hold_rows};
 pub use label::Label;
 pub use query::{Judgement, Query};
 pub use refusal::SearchRefusal;

@@ -5,8 +5,14 @@ use Rattle.word_places.proofs.ReadLemmas.{words_none, words_on}
 use Rattle.search_walk.specs.Held.{IsTold}
 use Rattle.search_walk.specs.Ready.{IsDecided}
 use Rattle.search_walk.proofs.PagesReadLemmas.{rests_same}
-use Rattle.search_walk.proofs.ReadyLemmas.{rows_all, rows_more, zip_at, zip_long}
+use Rattle.search_walk.proofs.ReadyLemmas.{rows_all, rows_more, rows_ready, zip_at, zip_long}
 use Rattle.search_walk.proofs.deciding.hold_rows.Goals as goal
+
+pub returns-then-known-clause-grow : goal.returns-then-known-clause-grow
+returns-then-known-clause-grow g c = grow_same c.args.held.now.records
+
+pub returns-then-known-clause-ready : goal.returns-then-known-clause-ready
+returns-then-known-clause-ready g c = rows_ready c.args.context.now.names c.args.context.now.query c.args.held.now.records c.args.page.now.rows c.args.verdicts.now c.requires.decided (c.requires.known (search rules))
 
 pub loop-place-init : goal.loop-place-init
 loop-place-init g c = record {
