@@ -466,9 +466,9 @@ fn calls_until_printed<R: Threads + Sync>(
 
 /// How many workers there are, and how many calls of the disk there are before something is printed: one
 /// reads the head, and a page is read by five. One worker has a piece for the
-/// output after two pages. Of each of the others four pages are in memory, two that are searched, and
-/// two that are read meanwhile.
-const OF_ROUNDS: &[(u32, u64)] = &[(1, 11), (2, 41), (3, 61)];
+/// output after a page. Of each of the others four pages are in memory, two that are searched, and two
+/// that are read meanwhile.
+const OF_ROUNDS: &[(u32, u64)] = &[(1, 6), (2, 41), (3, 61)];
 
 #[test]
 fn a_round_has_four_pages_a_worker(rt: HostRuntime) -> Result<(), Fail> {

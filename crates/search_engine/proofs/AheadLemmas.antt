@@ -1,7 +1,7 @@
 -- Pages that were read before their turn.
 use Rattle.std.proofs.Common.{All, get_or, ◌≡◌, ℕ, ◌+◌, ◌-◌, ◌*◌, ◌^◌, ◌<◌, ◌≤◌, List, [], ◌∷◌, ◌++◌, length, Option, Some, None, refl, sym, ◌∙◌, ap, ap₂, subst, arith, length-append}
 use Rattle.std.proofs.lemmas.List.{append_assoc}
-use Rattle.std.proofs.lemmas.List.Elements.{All-head, All-push, All-same}
+use Rattle.std.proofs.lemmas.List.Elements.{All-cons, All-head, All-nil, All-push, All-same, All-tail}
 use Rattle.log_seams.specs.Disk.{DiskState}
 use Rattle.column_store.specs.declared.row.Row.{Row}
 use Rattle.segment_format.specs.Pages.{page_rows, pages_at}
@@ -9,20 +9,22 @@ use Rattle.segment_pages.specs.Paged.{AreNextTold, HoldsLeft, Paged, paged, page
 use Rattle.std.specs.Prelude.{Err, IfOk, Ok, OnOk, Result}
 use Rattle.log_seams.specs.Outside.{CountsOf}
 use Rattle.search_walk.specs.declared.refusal.SearchRefusal.{SearchRefusal}
-use Rattle.word_places.specs.Held.{HeldNames}
+use Rattle.word_places.specs.declared.held.HeldRecord.{HeldRecord}
+use Rattle.word_places.specs.Held.{AreNumbered, Grow, HeldNames}
 use Rattle.search_walk.specs.Held.{AreRowsOf, IsTold, Named, OfLeft}
 use Rattle.search_walk.specs.PagesRead.{IsOfPage, ReadsPage}
-use Rattle.search_walk.specs.Ready.{AreDecided}
+use Rattle.search_walk.specs.Ready.{AreDecided, AreHeldFor}
 use Rattle.printed_lines.specs.Lines.{Placed, numbered}
 use Rattle.search_walk.specs.Scan.{Asked}
 use Rattle.search_walk.specs.Walked.{PagesGone}
 use Rattle.search_walk.proofs.PageLemmas.{parts_of, same_columns}
 use Rattle.search_walk.proofs.PagesReadLemmas.{such_on}
+use Rattle.search_walk.proofs.ReadyLemmas.{held_grow}
 use Rattle.printed_lines.proofs.LineLemmas.{numbered_append}
 use Rattle.subquery_filter.specs.declared.verdicts.Verdict.{Verdict}
 use Rattle.search_engine.specs.Sofar.{sofar}
 use Rattle.search_engine.specs.declared.page_ahead.AheadPage.{AheadPage}
-use Rattle.search_engine.specs.Ahead.{AddsNext, AllMayWait, AreAhead, AreDecidedPages, IsDecidedPage, MayWait, rows_of}
+use Rattle.search_engine.specs.Ahead.{AddsNext, AllMayWait, AreAhead, AreDecidedPages, AreHeldPages, IsDecidedPage, IsHeldPage, MayWait, rows_of}
 use Rattle.search_engine.specs.Served.{AreReadyPages}
 use Rattle.search_engine.specs.Worked.{IsWorkedBy}
 use Rattle.search_engine.proofs.ServedLemmas.{all_worked}
@@ -52,6 +54,19 @@ decided_push n q seen start now pages more are adds =
 
 pub decided_same : (n : Named) (q : Asked) (rows others : List Row) (verdicts told : List Verdict) → others ≡ rows → told ≡ verdicts → AreDecided n q rows verdicts → AreDecided n q others told
 decided_same n q rows others verdicts told one two are = subst (λ (l : List Row). AreDecided n q l told) (sym one) (subst (λ (l : List Verdict). AreDecided n q rows l) (sym two) are)
+
+-- ---- words that are held for pages
+
+pub held_same : (records : List HeldRecord) (rows others : List Row) (verdicts told : List Verdict) → others ≡ rows → told ≡ verdicts → AreHeldFor records rows verdicts → AreHeldFor records others told
+held_same records rows others verdicts told one two are = subst (λ (l : List Row). AreHeldFor records l told) (sym one) (subst (λ (l : List Verdict). AreHeldFor records rows l) (sym two) are)
+
+-- words that are held stay
+pub held_pages_grow : (old new : List HeldRecord) (pages : List AheadPage) → AreNumbered 0 old → AreNumbered 0 new → Grow old new → AreHeldPages old pages → AreHeldPages new pages
+held_pages_grow old new [] are_old are_new grow held = All-nil (IsHeldPage new)
+held_pages_grow old new (p ∷ pages) are_old are_new grow held =
+    All-cons (IsHeldPage new) p pages
+    (λ is. held_grow old new p.columns.rows p.verdicts.items are_old are_new grow (All-head (IsHeldPage old) p pages held is))
+    (held_pages_grow old new pages are_old are_new grow (All-tail (IsHeldPage old) p pages held))
 
 -- ---- where the reader stands
 

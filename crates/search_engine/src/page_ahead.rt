@@ -4,7 +4,7 @@ ghost use Rattle.std.specs.Thread.{IsSync};
 ghost use Rattle.log_seams.specs.Outside.{CountsOf};
 ghost use Rattle.search_walk.specs.Held.{Named};
 ghost use Rattle.search_walk.specs.PagesRead.{ReadsPage};
-ghost use Rattle.search_engine.specs.Ahead.{AddsNext, ReadAhead};
+ghost use Rattle.search_engine.specs.Ahead.{AddsNext, AreHeldPages, ReadAhead};
 ghost use Rattle.search_engine.specs.Waiting.{Slotted};
 ghost use Rattle.search_engine.specs.Worked.{IsWorkedBy};
 
@@ -12,13 +12,14 @@ use crate::page_slot::{PageSlot, match_pages};
 use crate::printing::Printer;
 use column_store::Columns;
 use log_seams::Disk;
-use search_walk::{Context, SearchRefusal, decide_page};
+use search_walk::{Context, SearchRefusal, decide_page, has_rows};
 use segment_format::PAGE_ROWS;
 use segment_pages::SegmentPages;
 use std::alloc::Global;
 use std::collections::VecDeque;
 use std::thread::{Threads, join_mut};
 use subquery_filter::Verdict;
+use word_places::HeldWords;
 
 /// How many pages are read before their turn at most, so that their rows have numbers of 32 bits.
 const MOST_AHEAD: usize = 65_536;
@@ -29,6 +30,8 @@ pub(crate) struct AheadPage {
     pub(crate) columns: Columns,
     /// What was decided of each row.
     pub(crate) verdicts: Vec<Verdict>,
+    /// Whether it is known that the words are held by which its rows may have to be written.
+    pub(crate) known: bool,
 }
 
 impl AheadPage {
@@ -37,6 +40,7 @@ impl AheadPage {
         AheadPage {
             columns: Columns::new(alloc),
             verdicts: Vec::new(alloc),
+            known: false,
         }
     }
 }
@@ -78,10 +82,12 @@ impl PagesAhead {
         let _ = self.spare.push(page);
     }
 
-    /// Reads the next page of a segment, and decides its rows. A refusal changes nothing.
+    /// Reads the next page of a segment, decides its rows, and looks whether their words are held. A
+    /// refusal changes nothing.
     fn read_one<D: Disk>(
         &mut self,
         context: &Context<'_, D>,
+        held: &HeldWords,
         pages: &mut SegmentPages,
         disk: &mut D,
     ) -> Result<(), SearchRefusal>
@@ -97,6 +103,8 @@ impl PagesAhead {
         ensures added { OnOk result (AddsNext context.now.names context.now.query
             (D.state disk.old).seen pages.old pages.new
             self.old.queue.items self.new.queue.items) }
+        ensures held { OnOk result (AreHeldPages held.now.records self.old.queue.items
+            → AreHeldPages held.now.records self.new.queue.items) }
         ensures counts { CountsOf SearchRefusal.DiskFault
             (D.state disk.old).faults (D.state disk.new).faults result }
     {
@@ -104,6 +112,7 @@ impl PagesAhead {
         let AheadPage {
             columns,
             mut verdicts,
+            known: _,
         } = match self.spare.pop() {
             Some(page) => page,
             None => AheadPage::new(self.alloc),
@@ -113,8 +122,13 @@ impl PagesAhead {
         verdicts.reserve(PAGE_ROWS as usize)?;
         let columns = pages.next_page(disk, &mut self.bytes, columns)?;
         decide_page(context, &columns, &mut verdicts);
-        self.queue
-            .push_back_reserved(AheadPage { columns, verdicts });
+        // While the rows are near. Words that are held stay.
+        let known = has_rows(&columns, verdicts.as_slice(), held);
+        self.queue.push_back_reserved(AheadPage {
+            columns,
+            verdicts,
+            known,
+        });
         Ok(())
     }
 
@@ -123,12 +137,14 @@ impl PagesAhead {
     pub(crate) fn read<D: Disk>(
         &mut self,
         context: &Context<'_, D>,
+        held: &HeldWords,
         pages: &mut SegmentPages,
         disk: &mut D,
         most: usize,
     ) -> Result<(), SearchRefusal>
-        ensures { ReadAhead context.now.names context.now.query (D.state disk.old)
-            (D.state disk.new) pages.old pages.new self.new.queue.items result }
+        ensures { ReadAhead context.now.names context.now.query held.now.records
+            (D.state disk.old) (D.state disk.new) pages.old pages.new
+            self.new.queue.items result }
     {
         self.queue.clear();
         for _ in 0..most {
@@ -138,7 +154,7 @@ impl PagesAhead {
             if !pages.has_next() {
                 return Ok(());
             }
-            match self.read_one(context, pages, disk) {
+            match self.read_one(context, held, pages, disk) {
                 Ok(()) => {}
                 Err(SearchRefusal::DiskFault) => return Err(SearchRefusal::DiskFault),
                 Err(_) => return Ok(()),
@@ -149,7 +165,7 @@ impl PagesAhead {
 }
 
 /// Searches pages that are in memory, in at most so many threads, while this one reads as many of the
-/// next pages of a segment, and decides their rows.
+/// next pages of a segment, decides their rows, and looks whether their words are held.
 pub(crate) fn match_beside<R: Threads + Sync, D: Disk>(
     rt: &R,
     workers: usize,
@@ -170,8 +186,9 @@ pub(crate) fn match_beside<R: Threads + Sync, D: Disk>(
     ensures worked { All (IsWorkedBy printer.now.query.now printer.now.held.now) slots.new }
 
     // and those that were read
-    ensures ahead { ReadAhead context.now.names context.now.query (D.state disk.old)
-        (D.state disk.new) pages.old pages.new ahead.new.queue.items result }
+    ensures ahead { ReadAhead context.now.names context.now.query
+        printer.now.held.now.records (D.state disk.old) (D.state disk.new)
+        pages.old pages.new ahead.new.queue.items result }
 {
     let most = slots.len();
     let ((), answer) = join_mut(
@@ -189,9 +206,10 @@ pub(crate) fn match_beside<R: Threads + Sync, D: Disk>(
         { match_pages(rt, workers, printer, slots) },
         &mut || -> Result<(), SearchRefusal>
             ensures { ReadAhead context.entry.now.names context.entry.now.query
+                printer.entry.now.held.now.records
                 (D.state disk.entry.now) (D.state disk.exit.now)
                 pages.entry.now pages.exit.now ahead.exit.now.queue.items result }
-        { ahead.read(context, pages, disk, most) },
+        { ahead.read(context, printer.held, pages, disk, most) },
     );
     answer
 }

@@ -4,7 +4,7 @@ ghost use Rattle.log_seams.specs.Outside.{CountsOf};
 ghost use Rattle.search_walk.specs.Held.{Named, OfLeft};
 ghost use Rattle.search_walk.specs.PagesRead.{ReadsPage};
 ghost use Rattle.search_walk.specs.Takes.{IsLeft};
-ghost use Rattle.search_engine.specs.Ahead.{AreAhead, AreDecidedPages};
+ghost use Rattle.search_engine.specs.Ahead.{AreAhead, AreDecidedPages, AreHeldPages};
 ghost use Rattle.search_engine.specs.NextPage.{IsNextPage};
 ghost use Rattle.search_engine.specs.Over.{HaltsOver, IsServedOver, ReachesOver};
 ghost use Rattle.search_engine.specs.Served.{IsServed};
@@ -223,6 +223,7 @@ impl PageBatch {
             pages.old ahead.new.queue.items pages.new) }
         ensures decided { AreDecidedPages over.now.context.now.names over.now.context.now.query
             ahead.new.queue.items }
+        ensures held { AreHeldPages held.now.records ahead.new.queue.items }
         ensures few { length ahead.new.queue.items ≤ 65536 }
 
         // by the answer

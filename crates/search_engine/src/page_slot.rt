@@ -8,7 +8,7 @@ ghost use Rattle.search_walk.specs.Held.{AreRowsOf, IsTold, Named, OfLeft};
 ghost use Rattle.search_walk.specs.PagesRead.{ReadsPage};
 ghost use Rattle.search_walk.specs.Ready.{IsReadyPage, Serves};
 ghost use Rattle.search_walk.specs.Takes.{IsLeft};
-ghost use Rattle.search_engine.specs.Ahead.{MayWait};
+ghost use Rattle.search_engine.specs.Ahead.{IsHeldPage, MayWait};
 ghost use Rattle.search_engine.specs.NextPage.{IsNextPage};
 ghost use Rattle.search_engine.specs.Waiting.{PrintsPage, Slotted, page};
 ghost use Rattle.search_engine.specs.Worked.{AreMatched, IsWorkedBy};
@@ -200,6 +200,7 @@ impl PageSlot {
         disk: &mut D,
     ) -> Result<PageSlot, SearchRefusal>
         requires may_wait { MayWait context.now.names context.now.query label.number ahead.old }
+        requires held { IsHeldPage held.old.records ahead.old }
         requires serves { Serves context.now.names held.old }
         requires told { (D.state disk.old).seen ≡ context.now.names.told }
 
@@ -230,11 +231,12 @@ impl PageSlot {
             counts,
             answer,
         } = self;
+        let known = ahead.known;
         kept.clear();
         kept.extend_from_slice(label.name)?;
         swap(&mut columns, &mut ahead.columns);
         swap(&mut verdicts, &mut ahead.verdicts);
-        hold_rows(context, &columns, verdicts.as_slice(), held, disk)?;
+        hold_rows(context, &columns, verdicts.as_slice(), known, held, disk)?;
         Ok(PageSlot {
             name: kept,
             number: label.number,

@@ -10,7 +10,8 @@ ghost use Rattle.printed_lines.specs.Lines.{numbered};
 ghost use Rattle.search_walk.specs.Takes.{IsLeft};
 ghost use Rattle.search_walk.specs.Walked.{PageGone, PastTold};
 ghost use Rattle.segment_pages.specs.Paged.{Paged};
-ghost use Rattle.search_engine.specs.Ahead.{AllMayWait, MayWait, rows_of};
+ghost use Rattle.word_places.specs.Held.{Grow};
+ghost use Rattle.search_engine.specs.Ahead.{AllMayWait, AreHeldPages, IsHeldPage, MayWait, rows_of};
 ghost use Rattle.search_engine.specs.Over.{HaltsOver, IsServedOver, ReachesOver};
 ghost use Rattle.search_engine.specs.SegmentsDone.{SearchedFronts, StoppedFronts};
 ghost use Rattle.search_engine.specs.Served.{IsServed};
@@ -106,6 +107,7 @@ fn wait_next<R: Threads + Sync, D: Disk, K: Sink, M: Ledger>(
 ) -> Result<(), SearchRefusal>
     requires may_wait { MayWait over.now.context.now.names over.now.context.now.query
         label.number page.old }
+    requires held { IsHeldPage held.old.records page.old }
     requires served { IsServedOver over.now.context.now held.old batch.old.pages }
     requires told { (D.state disk.old).seen ≡ over.now.context.now.names.told }
 
@@ -113,6 +115,7 @@ fn wait_next<R: Threads + Sync, D: Disk, K: Sink, M: Ledger>(
     ensures reads { (p : Paged)
         → ReadsPage over.now.context.now.names p (D.state disk.old) (D.state disk.new) }
     ensures served { OnOk result (IsServedOver over.now.context.now held.new batch.new.pages) }
+    ensures grow { OnOk result (Grow held.old.records held.new.records) }
 
     // by the answer
     ensures done { OnOk result ((messages : List (List ℕ))
@@ -162,6 +165,7 @@ fn wait_all<R: Threads + Sync, D: Disk, K: Sink, M: Ledger>(
 ) -> Result<u32, SearchRefusal>
     requires may_wait { AllMayWait over.now.context.now.names over.now.context.now.query
         label.number ahead.old.queue.items }
+    requires held { AreHeldPages held.old.records ahead.old.queue.items }
     requires served { IsServedOver over.now.context.now held.old batch.old.pages }
     requires told { (D.state disk.old).seen ≡ over.now.context.now.names.told }
 

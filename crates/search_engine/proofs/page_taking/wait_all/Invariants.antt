@@ -4,7 +4,7 @@ use Rattle.segment_pages.specs.Paged.{Paged}
 use Rattle.search_walk.specs.Held.{AreRowsOf}
 use Rattle.search_walk.specs.PagesRead.{ReadsPage}
 use Rattle.printed_lines.specs.Lines.{numbered}
-use Rattle.search_engine.specs.Ahead.{AreDecidedPages, rows_of}
+use Rattle.search_engine.specs.Ahead.{AreDecidedPages, AreHeldPages, rows_of}
 use Rattle.search_engine.specs.Served.{IsServed}
 use Rattle.search_engine.specs.Waiting.{Reaches, state}
 use Rattle.search_engine.proofs.page_taking.wait_all.Given as goal
@@ -14,6 +14,7 @@ invariant-loop-page g l = record {
   gone : List Row;
   all : rows_of l.fn.ahead.queue.items ≡ gone ++ rows_of l.ahead.queue.items;
   decided : AreDecidedPages l.over.context.now.names l.over.context.now.query l.ahead.queue.items;
+  held : AreHeldPages l.held.records l.ahead.queue.items;
   count : l.rows ≡ length gone;
   reads : (p : Paged) → ReadsPage l.over.context.now.names p (g.D.Disk.state l.fn.disk) (g.D.Disk.state l.disk);
   faults : (g.D.Disk.state l.disk).faults ≡ (g.D.Disk.state l.fn.disk).faults;

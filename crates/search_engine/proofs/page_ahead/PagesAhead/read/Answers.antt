@@ -3,7 +3,7 @@ use Rattle.std.proofs.lemmas.List.Elements.{All-nil, All-same}
 use Rattle.segment_pages.specs.Paged.{Paged}
 use Rattle.search_walk.proofs.PagesReadLemmas.{such_none}
 use Rattle.search_engine.specs.declared.page_ahead.AheadPage.{AheadPage}
-use Rattle.search_engine.specs.Ahead.{AddsNext, AreAhead, IsDecidedPage}
+use Rattle.search_engine.specs.Ahead.{AddsNext, AreAhead, IsDecidedPage, IsHeldPage}
 use Rattle.search_engine.proofs.AheadLemmas.{ahead_none, ahead_push, ahead_reads, counts_fault, counts_none, decided_push, reads_seen}
 use Rattle.search_engine.proofs.page_ahead.PagesAhead.read.Goals as goal
 
@@ -13,6 +13,7 @@ loop-init g c = record {
   faults = refl;
   ahead = ahead_none _ c.args.pages.now c.args.pages.now _ c.clear.ensures.items refl;
   decided = All-same (IsDecidedPage c.args.context.now.names c.args.context.now.query) _ [] c.clear.ensures.items (All-nil (IsDecidedPage c.args.context.now.names c.args.context.now.query));
+  held = All-same (IsHeldPage c.args.held.now.records) _ [] c.clear.ensures.items (All-nil (IsHeldPage c.args.held.now.records));
   few = search rules;
 }
 
@@ -26,6 +27,7 @@ returns-in-Err-DiskFault g c =
       reads = ahead_reads old.seen c.args.pages.now c.loop.pages c.loop.self.queue.items old mid new c.loop.invariant.ahead c.loop.invariant.reads c.read_one.ensures.reads;
       ahead = tt;
       decided = All-same (IsDecidedPage c.args.context.now.names c.args.context.now.query) _ _ kept.1 c.loop.invariant.decided;
+      held = All-same (IsHeldPage c.args.held.now.records) _ _ kept.1 c.loop.invariant.held;
       few = omega (arith, ap length kept.1, c.loop.invariant.few);
       damaged = search rules;
       sink = search rules;
@@ -45,6 +47,7 @@ returns-in-Err g c =
           subst (λ (p : Paged). AreAhead old.seen c.args.pages.now c.read_one.new.self.queue.items p) (sym kept.0)
           (subst (λ (l : List AheadPage). AreAhead old.seen c.args.pages.now l c.loop.pages) (sym kept.1) c.loop.invariant.ahead);
       decided = All-same (IsDecidedPage c.args.context.now.names c.args.context.now.query) _ _ kept.1 c.loop.invariant.decided;
+      held = All-same (IsHeldPage c.args.held.now.records) _ _ kept.1 c.loop.invariant.held;
       few = omega (arith, ap length kept.1, c.loop.invariant.few);
       damaged = search rules;
       sink = search rules;
@@ -66,5 +69,6 @@ loop-preserved g c =
       faults = search rules;
       ahead = ahead_push n q old.seen c.args.pages.now c.loop.pages c.read_one.new.pages c.loop.self.queue.items c.read_one.new.self.queue.items c.loop.invariant.ahead (search rules) told;
       decided = decided_push n q _ c.loop.pages c.read_one.new.pages c.loop.self.queue.items c.read_one.new.self.queue.items c.loop.invariant.decided adds;
+      held = c.in-Ok.ensures.held c.loop.invariant.held;
       few = omega (arith, ap length adds.added, length-append c.loop.self.queue.items (adds.page ∷ []), room);
     }

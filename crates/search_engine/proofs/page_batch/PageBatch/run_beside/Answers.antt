@@ -4,6 +4,7 @@ use Rattle.search_walk.specs.Held.{Named}
 use Rattle.search_walk.specs.Scan.{Asked}
 use Rattle.search_engine.specs.Waiting.{IsWorked, Pending, WaitFor, pages_of}
 use Rattle.search_walk.proofs.AnswerLemmas.{on_err}
+use Rattle.search_engine.specs.Ahead.{AreHeldPages}
 use Rattle.search_engine.proofs.AheadLemmas.{round_worked}
 use Rattle.search_engine.specs.StepsWaiting.{halts_same, round_blames, round_halts, round_reaches}
 use Rattle.search_engine.proofs.page_batch.PageBatch.run_beside.Goals as goal
@@ -41,3 +42,13 @@ returns-clause-done g c =
     round_worked n q c.of-printer.result.query.now c.args.held.now c.of-printer.result.held.now c.as_mut_slice-slots.result.now c.match_beside.new.slots c.match_beside.new.slots c.self.inside.waiting.items c.args.self.now.pages c.of-printer.ensures.query c.of-printer.ensures.held c.match_beside.ensures.len c.match_beside.ensures.pages
     c.match_beside.ensures.worked refl c.as_mut_slice-slots.ensures.value (ap (λ (e : Pending). e.pages) c.self.view_is) c.requires.served.ready in
     round_reaches n q _ _ c.args.self.now _ _ _ _ c.self.view_is (ap pages_of c.clear.ensures.items) (λ all waits. c.in_ok-gather_all.ensures.done n q all r.0 (subst (λ l. WaitFor n l all) (sym r.1) waits))
+
+-- the records are those that the printer was made with
+pub returns-in_err-match_beside-clause-held : goal.returns-in_err-match_beside-clause-held
+returns-in_err-match_beside-clause-held g c = subst (λ (h : HeldNames). AreHeldPages h.records c.match_beside.new.ahead.queue.items) c.of-printer.ensures.held c.match_beside.ensures.ahead.held
+
+pub returns-in_err-gather_all-clause-held : goal.returns-in_err-gather_all-clause-held
+returns-in_err-gather_all-clause-held g c = subst (λ (h : HeldNames). AreHeldPages h.records c.match_beside.new.ahead.queue.items) c.of-printer.ensures.held c.match_beside.ensures.ahead.held
+
+pub returns-clause-held : goal.returns-clause-held
+returns-clause-held g c = subst (λ (h : HeldNames). AreHeldPages h.records c.match_beside.new.ahead.queue.items) c.of-printer.ensures.held c.match_beside.ensures.ahead.held

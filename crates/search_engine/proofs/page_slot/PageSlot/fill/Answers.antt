@@ -4,7 +4,7 @@ use Rattle.word_places.proofs.HeldLemmas.{grow_same}
 use Rattle.search_walk.specs.Ready.{IsReady}
 use Rattle.search_walk.proofs.PagesReadLemmas.{such_none, words_such}
 use Rattle.search_walk.proofs.ReadyLemmas.{zip_long}
-use Rattle.search_engine.proofs.AheadLemmas.{decided_same}
+use Rattle.search_engine.proofs.AheadLemmas.{decided_same, held_same}
 use Rattle.search_engine.proofs.page_slot.PageSlot.fill.Goals as goal
 
 pub returns-in_err-extend_from_slice-clause-grow : goal.returns-in_err-extend_from_slice-clause-grow
@@ -26,3 +26,7 @@ invariant_of-result g c =
 
 pub returns-clause-reads : goal.returns-clause-reads
 returns-clause-reads g c = λ p. words_such c.args.context.now.names p (g.D.Disk.state c.args.disk.now) _ c.hold_rows.ensures.rests c.hold_rows.ensures.reads
+
+pub hold_rows-requires-clause-known : goal.hold_rows-requires-clause-known
+hold_rows-requires-clause-known g c = λ is.
+    held_same c.args.held.now.records c.args.ahead.now.columns.rows c.swap.new.x.rows c.args.ahead.now.verdicts.items c.as_slice.result.now (search rules) (search rules) (c.requires.held is)
