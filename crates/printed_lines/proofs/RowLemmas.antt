@@ -1,5 +1,5 @@
 -- The line of a row's message, and what the loop over rows has passed.
-use Rattle.std.proofs.Common.{◌≡◌, inl, inr, ℕ, suc, ◌+◌, ◌≤◌, List, [], ◌∷◌, ◌++◌, Bool, true, false, length, take, drop, Option, Some, refl, sym, ◌∙◌, ap, ap₂, subst, arith, length-append}
+use Rattle.std.proofs.Common.{◌≡◌, inl, inr, ℕ, zero, suc, ◌+◌, ◌≤◌, List, [], ◌∷◌, ◌++◌, Bool, true, false, length, take, drop, Option, Some, refl, sym, ◌∙◌, ap, ap₂, subst, arith, length-append}
 use Rattle.std.specs.Prelude.{IsTrue, slice_get, ◌↔◌}
 use Rattle.std.proofs.lemmas.List.{append-nil, append_assoc, take_at, drop_at}
 use Rattle.std.proofs.Math.ListN.{drop_of_length-le}
@@ -51,6 +51,10 @@ row_lines pattern version row types words name number message text g g1 g2 h tri
     ap (take kept) (whole ∙ append_assoc g (label_of name number) message) ∙ take_at g (label_of name number ++ message) kept (sym size) in
     row_left pattern name number message g g2 h matched kept (subst (λ l. IsTrue matched ↔ Match pattern l) read test) back whole left
 
+-- of a message that the pattern does not match nothing is written
+pub row_passed : (pattern : List Item) (name : List ℕ) (number : ℕ) (message g : List ℕ) → (¬ Match pattern message) → HasLines pattern (placed name number message ∷ []) g g
+row_passed pattern name number message g none = record { found = []; matched = inr (none, refl); lines = sym (append-nil g) }
+
 -- ---- the rows
 
 drop_here : (rows : List Row) (k : ℕ) (row : Row) → slice_get rows k ≡ Some row → drop k rows ≡ row ∷ drop (k + 1) rows
@@ -73,6 +77,15 @@ first_row version row others types words (m ∷ messages) are = record { message
 none_left : (version : ℕ) (rows : List Row) (types words messages : List (List ℕ)) → rows ≡ [] → AreCanonical version rows types words messages → messages ≡ []
 none_left version rows types words [] none are = refl
 none_left version rows types words (m ∷ messages) none are = absurd (subst (λ l. AreCanonical version l types words (m ∷ messages)) none are)
+
+-- a row that is the encoding of no message is none of rows that are
+pub rows_misfit : (version : ℕ) (types words : List (List ℕ)) (rows : List Row) (messages : List (List ℕ)) (k : ℕ) (row : Row) → slice_get rows k ≡ Some row
+    → ((message : List ℕ) → ¬ IsCanonical version row types words message) → AreCanonical version rows types words messages → ⊥
+rows_misfit version types words [] messages k row is none are = cc (is)
+rows_misfit version types words (r ∷ rows) [] k row is none are = are
+rows_misfit version types words (r ∷ rows) (m ∷ messages) zero row is none are =
+    let same : r ≡ row = cc (is) in none m (subst (λ x. IsCanonical version x types words m) same are.0)
+rows_misfit version types words (r ∷ rows) (m ∷ messages) (suc k) row is none are = rows_misfit version types words rows messages k row is none are.1
 
 front_longer : (old new : Option (List ℕ)) (text more : List ℕ) → GrewByFront old new text → GrewByFront old new (text ++ more)
 front_longer old new text more f = (f.0, f.1 ++ more, ap (λ (l : List ℕ). l ++ more) f.2 ∙ append_assoc f.0 f.1 more, f.3)
@@ -155,10 +168,6 @@ module _ (version : ℕ) (types words : List (List ℕ)) (pattern : List Item) (
       let with_line = line_next k at row now gathered mid place is past lines in
       front_of_all (past.gone ++ next.message ∷ []) next.left with_line.found new (gone_next k row now gathered is past) with_line.matched
       (Gathers-front start now new mid (lines_of with_line.found) with_line.gathers front)
-
-  pub rows_misfit : (k : ℕ) (row : Row) (now : Option (List ℕ)) (gathered : List ℕ) → slice_get rows k ≡ Some row → ((message : List ℕ) → ¬ IsCanonical version row types words message)
-      → Past k now gathered → ⊥
-  rows_misfit k row now gathered is none past = let next = next_row k row past.left is past.are in none next.message next.is
 
   pub rows_end : (k : ℕ) (now : Option (List ℕ)) (gathered : List ℕ) → length rows ≤ k → Past k now gathered → HasGathered pattern (numbered name number messages) start now gathered
   rows_end k now gathered end past =

@@ -2,11 +2,13 @@
 ghost use Rattle.std.specs.Prelude.{◌∷◌, [], ℕ, List, IfOk, OnOk, IsTrue, IsFalse};
 ghost use Rattle.column_store.specs.Row.{row_of};
 ghost use Rattle.row_codec.specs.Means.{IsCanonical};
+ghost use Rattle.pair_sieve.specs.Sieve.{Knows};
 ghost use Rattle.printed_lines.specs.Lines.{placed};
 ghost use Rattle.printed_lines.specs.Printed.{HasLines, IsLeft};
 
 use crate::label::put_label;
 use column_store::RowRef;
+use pair_sieve::PairSieve;
 use row_codec::{Names, write_fitting};
 use std::alloc::AllocError;
 use wild_match::{Pattern, matches};
@@ -24,18 +26,22 @@ fn end_line(matched: bool, len: usize, gathered: &mut Vec<u8>) -> Result<(), All
 }
 
 /// Appends the line of a row's message where the pattern matches it, and tells whether the row can be
-/// written. The message has this number in the file of this name.
+/// written. The message has this number in the file of this name. A row is passed over where the sieve
+/// tells that the pattern matches none of its messages; then it is not known whether it can be written.
 ///
-/// It is written first and then matched: one that is not matched is taken back.
+/// Any other is written first and then matched: one that is not matched is taken back.
 pub(crate) fn print_row<N: Names>(
     names: &N,
     name: &[u8],
     number: u64,
     row: RowRef<'_>,
     pattern: &Pattern,
+    sieve: &PairSieve,
     gathered: &mut Vec<u8>,
 ) -> Result<bool, AllocError>
-    ensures done { IfOk result (λ fits. IsTrue fits → (version : ℕ) (message : List ℕ)
+    ensures done { IfOk result (λ fits. IsTrue fits
+        → Knows pattern.now (N.types names.now) (N.words names.now) sieve.now
+        → (version : ℕ) (message : List ℕ)
         → IsCanonical version (row_of row.entry) (N.types names.now) (N.words names.now) message
         → HasLines pattern.now (placed name.now number message ∷ [])
         gathered.old.items gathered.new.items) }
@@ -43,6 +49,9 @@ pub(crate) fn print_row<N: Names>(
         → ¬ IsCanonical version (row_of row.entry) (N.types names.now) (N.words names.now)
         message) }
 {
+    if !sieve.may_match(row) {
+        return Ok(true);
+    }
     let len = gathered.len();
     put_label(gathered, name, number)?;
     let start = gathered.len();
