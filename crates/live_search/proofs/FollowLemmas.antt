@@ -22,6 +22,8 @@ use Rattle.disk_seal.proofs.PrepareLemmas.{seen_joined}
 use Rattle.disk_seal.proofs.ToldLemmas.{told_both, told_map}
 use Rattle.sink_pieces.specs.Output.{Grew, GrewByFront, Took}
 use Rattle.sink_pieces.proofs.OutputLemmas.{Grew-append}
+use Rattle.wild_match.specs.declared.pattern.Item.{Item}
+use Rattle.pair_sieve.specs.Sieve.{Tells}
 use Rattle.printed_lines.specs.Lines.{lines_of}
 use Rattle.printed_lines.proofs.LineLemmas.{lines_joined}
 use Rattle.live_search.specs.declared.refusal.LiveRefusal.{LiveRefusal}
@@ -144,6 +146,7 @@ module _ {K : Type 0} (written : K → Option (List ℕ)) where
           end = g.end;
           live = g.live;
           grown = λ none. absurd (cc (none));
+          sieved = λ none. absurd (cc (none));
           printed = (lines_of g.found, [], sym (append-nil (lines_of g.found)), printed_all v h held handled runs g);
         };
   }
@@ -213,6 +216,7 @@ module _ {K : Type 0} (written : K → Option (List ℕ)) where
         next = record { header = c.stands.header; legal = b.legal; gate = c.stands.gate runs; saved = b.saved };
         run = runs_go_on h nothing_held held g.end c.start c.handled run (live_runs h v.reached.pattern held g.end c.handled g.found g.live);
         grown = g.grown runs;
+        sieved = g.sieved runs;
       }
 
       -- the lists with one entry more
@@ -259,6 +263,7 @@ module _ {K : Type 0} (written : K → Option (List ℕ)) where
               live = subst (λ x. Live h x held (c.handled ++ b.entry ∷ []) (g.found ++ did.here) did.more) (sym done.past.pattern)
                   (live_more h v.reached.pattern held g.end did.more c.handled b.entry g.found did.here g.live did.accepts did.brings);
               grown = λ _. did.grown;
+              sieved = λ _. subst (λ (x : List Item). Tells x did.more.types did.more.words w.reached.sieve) (sym done.past.pattern) did.sieved;
               printed = subst (λ o. Took (is_none o) (written w.begun) (written w.out) (lines_of (g.found ++ did.here))) (sym on)
                   (subst (λ x. Grew (written x) (written w.out) (lines_of (g.found ++ did.here))) (sym takes.begun) grew);
             };
@@ -289,6 +294,7 @@ module _ {K : Type 0} (written : K → Option (List ℕ)) where
               live = subst (λ x. Live h x held (c.handled ++ b.entry ∷ []) (g.found ++ did.here) did.more) (sym begins.past.pattern)
                   (live_more h v.reached.pattern held g.end did.more c.handled b.entry g.found did.here g.live did.accepts did.brings);
               grown = λ none. absurd (cc (off, none));
+              sieved = λ none. absurd (cc (off, none));
               printed = subst (λ o. Took (is_none o) (written w.begun) (written w.out) (lines_of (g.found ++ did.here))) (sym off)
                   (subst (λ x. GrewByFront (written x) (written w.out) (lines_of (g.found ++ did.here))) (sym takes.begun) joined);
             };
@@ -339,6 +345,7 @@ module _ {K : Type 0} (written : K → Option (List ℕ)) where
               end = g.end;
               live = subst (λ x. Live h x held handled g.found g.end) (sym leaves.stays.pattern) g.live;
               grown = λ none. absurd (cc (off, none));
+              sieved = λ none. absurd (cc (off, none));
               printed = subst (λ o. Took (is_none o) (written w.begun) (written w.out) (lines_of g.found)) (sym off) (lines_of g.found, [], sym (append-nil (lines_of g.found)), grew);
             };
       }

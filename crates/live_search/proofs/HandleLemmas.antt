@@ -1,5 +1,6 @@
 -- What the handling of a record does, by what was read and printed.
 use Rattle.std.proofs.Common.{◌≡◌, ◌≢◌, ℕ, zero, suc, ◌+◌, ◌<◌, List, [], ◌∷◌, ◌++◌, length, get_or, Option, refl, sym, ◌∙◌, ap, ap₂, subst, arith}
+use Rattle.std.proofs.lemmas.List.{append-nil}
 use Rattle.record_format.specs.declared.header.Header.{Header}
 use Rattle.column_store.specs.declared.row.Row.{Row}
 use Rattle.row_codec.specs.Means.{AreCanonical}
@@ -25,6 +26,8 @@ use Rattle.archive_open.proofs.FilesLemmas.{entries_from}
 use Rattle.archive_open.proofs.NextLemmas.{is_segment, next_form, own_follows}
 use Rattle.disk_seal.specs.declared.found.Found.{Found}
 use Rattle.sink_pieces.proofs.OutputLemmas.{Grew-nothing}
+use Rattle.pair_sieve.specs.Sieve.{Knows, SieveView, Tells}
+use Rattle.pair_sieve.proofs.SieveLemmas.{tells_longer}
 use Rattle.printed_lines.specs.Lines.{Placed, numbered}
 use Rattle.live_search.specs.Handled.{GoesPast, Handles, HasBegun, Meets, MeetsNone, Reached}
 use Rattle.live_search.specs.Live.{Brings}
@@ -59,6 +62,17 @@ grown_next : (f : Found) (r : Reached) (new : GrownView) (h : Header) (es : List
 grown_next f r new h es e held grows m =
     let a = accepted h es e held m.next.legal m.run in grows r.at h es e m.next (grows_of r.grown h es held m.run m.grown) a.more a.run
 
+-- what a sieve tells of texts that are held it tells of those that are held with the entry
+tells_on : (h : Header) (held more : Held) (e : JournalEntry) (pattern : List Item) (s : SieveView) → Accepts h held e more → Tells pattern held.types held.words s → Tells pattern more.types more.words s
+tells_on h held more (Files names) pattern s is tells = subst (λ (x : Held). Tells pattern x.types x.words s) (sym is) tells
+tells_on h held more (Types first texts) pattern s is tells =
+    subst (λ (x : Held). Tells pattern x.types x.words s) (sym is.1)
+    (subst (λ (l : List (List ℕ)). Tells pattern (held.types ++ texts) l s) (append-nil held.words) (tells_longer pattern held.types held.words texts [] s tells))
+tells_on h held more (Words first texts) pattern s is tells =
+    subst (λ (x : Held). Tells pattern x.types x.words s) (sym is.1)
+    (subst (λ (l : List (List ℕ)). Tells pattern l (held.words ++ texts) s) (append-nil held.types) (tells_longer pattern held.types held.words [] texts s tells))
+tells_on h held more (Segment g) pattern s is tells = subst (λ (x : Held). Tells pattern x.types x.words s) (sym is.2) tells
+
 pub meets_none : (f : Found) (r : Reached) → NoneGrows f.place.kind f.payload r.grown → MeetsNone f r
 meets_none f r none h es e held m = none r.at h es e m.next (grows_of r.grown h es held m.run m.grown)
 
@@ -71,8 +85,9 @@ brings_nothing h pattern held types (Types first texts) kind payload other is = 
 brings_nothing h pattern held types (Words first texts) kind payload other is = refl
 brings_nothing h pattern held types (Segment s) kind payload other is = absurd (other (sym (ap (λ (r : Saved). r.kind) is)))
 
-pub listed_handled : (f : Found) (old new : Reached) (w : Option (List ℕ)) → f.place.kind ≢ 4 → GoesPast f old new → GrowsNext f.place.kind f.payload old.grown new.grown → Handles f old new w w
-listed_handled f old new w other past grows = record {
+pub listed_handled : (f : Found) (old new : Reached) (w : Option (List ℕ)) → f.place.kind ≢ 4 → GoesPast f old new → GrowsNext f.place.kind f.payload old.grown new.grown → new.sieve ≡ old.sieve
+    → Handles f old new w w
+listed_handled f old new w other past grows same = record {
   past = past;
   done = λ h es e held m.
       let a = accepted h es e held m.next.legal m.run in
@@ -82,6 +97,7 @@ listed_handled f old new w other past grows = record {
         accepts = a.accepts;
         brings = brings_nothing h old.pattern held (types_of es) e f.place.kind f.payload other m.next.saved;
         grown = grown_next f old new.grown h es e held grows m;
+        sieved = subst (λ x. Tells old.pattern a.more.types a.more.words x) (sym same) (tells_on h held a.more e old.pattern old.sieve a.accepts m.sieved);
         printed = Grew-nothing w;
       };
 }
@@ -141,7 +157,8 @@ of_part f old new head rows four part grows h es e held m =
     (subst (λ x. Accepts h held x a.more) is.1 a.accepts) (subst (λ x. AreNamed (length held.names) (x ∷ [])) is.1 a.named) (grown_next f old new h es e held grows m))
 
 module _ (f : Found) (old new : Reached) (kept : Kept) (head : Head) (rows : List Row) (four : f.place.kind ≡ 4) (part : HoldsPart f.payload head rows)
-    (grows : GrowsNext f.place.kind f.payload old.grown new.grown) (same_kept : kept ≡ old.grown.kept) where
+    (grows : GrowsNext f.place.kind f.payload old.grown new.grown) (same_kept : kept ≡ old.grown.kept)
+    (looks : (pattern : List Item) → Tells pattern kept.types kept.words old.sieve → Knows pattern kept.types kept.words new.sieve) where
   -- the rows' messages, by the texts that are kept
   messages_of : (h : Header) (es : List JournalEntry) (e : JournalEntry) (held : Held) → (m : Meets f old h es e held)
       → AreCanonical h.version rows kept.types kept.words (of_part f old new.grown head rows four part grows h es e held m).messages
@@ -150,15 +167,24 @@ module _ (f : Found) (old new : Reached) (kept : Kept) (head : Head) (rows : Lis
       let is : kept ≡ kept_of h held = same_kept ∙ m.grown.kept in
       subst (λ (k : Kept). AreCanonical h.version rows k.types k.words of.messages) (sym is) of.same
 
+  knows_of : (h : Header) (es : List JournalEntry) (e : JournalEntry) (held : Held) → (m : Meets f old h es e held) → Knows old.pattern kept.types kept.words new.sieve
+  knows_of h es e held m =
+      let is : kept ≡ kept_of h held = same_kept ∙ m.grown.kept in looks old.pattern (subst (λ (k : Kept). Tells old.pattern k.types k.words old.sieve) (sym is) m.sieved)
+
+  sieved_of : (h : Header) (es : List JournalEntry) (e : JournalEntry) (held more : Held) → Accepts h held e more → (m : Meets f old h es e held) → Tells old.pattern more.types more.words new.sieve
+  sieved_of h es e held more accepts m =
+      let is : kept ≡ kept_of h held = same_kept ∙ m.grown.kept in
+      tells_on h held more e old.pattern new.sieve accepts (subst (λ (k : Kept). Tells old.pattern k.types k.words new.sieve) is (knows_of h es e held m).tells)
+
   pub part_handled : (before after : Option (List ℕ)) → GoesPast f old new
-      → ((version : ℕ) (messages : List (List ℕ)) → AreCanonical version rows kept.types kept.words messages
+      → (Knows new.pattern kept.types kept.words new.sieve → (version : ℕ) (messages : List (List ℕ)) → AreCanonical version rows kept.types kept.words messages
       → HasPrinted new.pattern (numbered (get_or new.grown.files head.file no_file).name (head.first + 1) messages) before after) → Handles f old new before after
   part_handled before after past prints = record {
     past = past;
     done = λ h es e held m.
         let a = accepted h es e held m.next.legal m.run in
         let of = of_part f old new.grown head rows four part grows h es e held m in
-        let mine = prints h.version of.messages (messages_of h es e held m) in
+        let mine = prints (subst (λ (p : List Item). Knows p kept.types kept.words new.sieve) (sym past.pattern) (knows_of h es e held m)) h.version of.messages (messages_of h es e held m) in
         let has = subst (λ (l : List Placed). HasPrinted old.pattern l before after) of.placed
         (subst (λ (p : List Item). HasPrinted p (numbered (get_or new.grown.files head.file no_file).name (head.first + 1) of.messages) before after) past.pattern mine) in
         record {
@@ -167,18 +193,19 @@ module _ (f : Found) (old new : Reached) (kept : Kept) (head : Head) (rows : Lis
           accepts = a.accepts;
           brings = subst (λ x. Brings h old.pattern held x has.found) (sym of.is) (of.messages, of.own, has.matched);
           grown = grown_next f old new.grown h es e held grows m;
+          sieved = sieved_of h es e held a.more a.accepts m;
           printed = has.printed;
         };
   }
 
   pub part_begun : (before after : Option (List ℕ)) → GoesPast f old new
-      → ((version : ℕ) (messages : List (List ℕ)) → AreCanonical version rows kept.types kept.words messages
+      → (Knows new.pattern kept.types kept.words new.sieve → (version : ℕ) (messages : List (List ℕ)) → AreCanonical version rows kept.types kept.words messages
       → HasPrintedFront new.pattern (numbered (get_or new.grown.files head.file no_file).name (head.first + 1) messages) before after)
       → (h : Header) (es : List JournalEntry) (e : JournalEntry) (held : Held) → Meets f old h es e held → HasBegun h held e old before after
   part_begun before after past prints h es e held m =
       let a = accepted h es e held m.next.legal m.run in
       let of = of_part f old new.grown head rows four part grows h es e held m in
-      let mine = prints h.version of.messages (messages_of h es e held m) in
+      let mine = prints (subst (λ (p : List Item). Knows p kept.types kept.words new.sieve) (sym past.pattern) (knows_of h es e held m)) h.version of.messages (messages_of h es e held m) in
       let has = subst (λ (l : List Placed). HasPrintedFront old.pattern l before after) of.placed
       (subst (λ (p : List Item). HasPrintedFront p (numbered (get_or new.grown.files head.file no_file).name (head.first + 1) of.messages) before after) past.pattern mine) in
       record {
@@ -198,6 +225,18 @@ pub by_names : (version : ℕ) (rows : List Row) (types words : List (List ℕ))
 by_names version rows types words kept messages t w are =
     subst (λ l. AreCanonical version rows l words messages) (sym t) (subst (λ l. AreCanonical version rows kept.types l messages) (sym w) are)
 
+pub knows_by : (types words : List (List ℕ)) (kept : Kept) (pattern : List Item) (s : SieveView) → types ≡ kept.types → words ≡ kept.words → Knows pattern kept.types kept.words s → Knows pattern types words s
+knows_by types words kept pattern s t w knows = subst (λ l. Knows pattern l words s) (sym t) (subst (λ l. Knows pattern kept.types l s) (sym w) knows)
+
+-- what a look at the texts that a keeper names has told of
+pub looked_by : (types words : List (List ℕ)) (mid kept : Kept) (s looked new : SieveView) → types ≡ mid.types → words ≡ mid.words → kept ≡ mid → new ≡ looked
+    → ((pattern : List Item) → Tells pattern types words s → Knows pattern types words looked) → (pattern : List Item) → Tells pattern kept.types kept.words s → Knows pattern kept.types kept.words new
+looked_by types words mid kept s looked new t w k n knows pattern tells =
+    let has = subst (λ (x : Kept). Tells pattern x.types x.words s) k tells in
+    let own = subst (λ l. Tells pattern l words s) (sym t) (subst (λ l. Tells pattern mid.types l s) (sym w) has) in
+    let got = subst (λ x. Knows pattern types words x) (sym n) (knows pattern own) in
+    subst (λ (x : Kept). Knows pattern x.types x.words new) (sym k) (subst (λ l. Knows pattern l mid.words new) t (subst (λ l. Knows pattern types l new) w got))
+
 -- ---- with the gate passed
 
 module _ {B : Type 0} (keeps : B → Kept) (old mid new : Grown B) (same : new ≡ mid) where
@@ -206,3 +245,6 @@ module _ {B : Type 0} (keeps : B → Kept) (old mid new : Grown B) (same : new �
 
   pub names_to : keeps mid.names ≡ keeps old.names → keeps new.names ≡ keeps old.names
   names_to is = ap (λ (x : Grown B). keeps x.names) same ∙ is
+
+  pub kept_to : keeps new.names ≡ keeps mid.names
+  kept_to = ap (λ (x : Grown B). keeps x.names) same

@@ -10,6 +10,7 @@ use Rattle.archive_meaning.specs.Spelled.{front_of}
 use Rattle.archive_meaning.specs.Stands.{StandsFor}
 use Rattle.archive_meaning.proofs.RunLemmas.{one_held}
 use Rattle.archive_open.specs.Shown.{IsArchiveOf, Opens, Shown, files_of, kept_of}
+use Rattle.pair_sieve.specs.Sieve.{Tells}
 use Rattle.sink_pieces.specs.Output.{Grew, Took}
 use Rattle.sink_pieces.proofs.OutputLemmas.{Grew-nothing}
 use Rattle.live_search.specs.declared.refusal.LiveRefusal.TheVariants.{Damaged, DiskFault, SinkFault}
@@ -20,8 +21,8 @@ use Rattle.live_search.specs.Taken.{Takes}
 use Rattle.live_search.specs.Reader.{KeepsCount, LiveStands, LiveView}
 
 pub begins_stands : {K : Type 0} (written : K → Option (List ℕ)) (v : LiveView K) (a : Shown) → v.refusal ≡ None → v.out ≡ v.begun → v.reached.grown.kept ≡ a.kept → v.reached.grown.files ≡ a.files
-    → v.reached.at ≡ a.end - 1 → (bytes : List ℕ) → Opens (Some bytes) a → (h : Header) (es : List JournalEntry) → StandsFor bytes h es → LiveStands written v h es []
-begins_stands written v a runs same kept files at bytes opens h es stood =
+    → v.reached.at ≡ a.end - 1 → ((types words : List (List ℕ)) → Tells v.reached.pattern types words v.reached.sieve) → (bytes : List ℕ) → Opens (Some bytes) a → (h : Header) (es : List JournalEntry) → StandsFor bytes h es → LiveStands written v h es []
+begins_stands written v a runs same kept files at tells bytes opens h es stood =
     let is : IsArchiveOf a h es stood.legal.held = opens h es stood in
     record {
       header = stood.header;
@@ -34,6 +35,7 @@ begins_stands written v a runs same kept files at bytes opens h es stood =
             end = held;
             live = (refl, refl);
             grown = λ _. record { kept = kept ∙ is.kept ∙ ap (kept_of h) one; files = files ∙ is.files ∙ ap files_of one };
+            sieved = λ _. tells held.types held.words;
             printed = subst (λ o. Took (is_none o) (written v.begun) (written v.out) []) (sym runs) (subst (λ o. Grew (written v.begun) (written o) []) (sym same) (Grew-nothing (written v.begun)));
           };
     }

@@ -10,6 +10,7 @@ use Rattle.archive_meaning.specs.Legal.{Run}
 use Rattle.archive_meaning.specs.Spelled.{front_of}
 use Rattle.archive_open.specs.Grown.{IsGrown}
 use Rattle.disk_seal.specs.Beside.{Follower}
+use Rattle.pair_sieve.specs.Sieve.{Tells}
 use Rattle.printed_lines.specs.Lines.{Placed, lines_of}
 use Rattle.live_search.specs.declared.refusal.LiveRefusal.{LiveRefusal}
 use Rattle.live_search.specs.declared.refusal.LiveRefusal.TheVariants.{DiskFault, SinkFault, Damaged, OutOfMemory}
@@ -42,12 +43,13 @@ has_halted (Some OutOfMemory) = false
 
 module _ {K : Type 0} (written : K → Option (List ℕ)) where
   -- Behind entries that hold this it has handled these: it has printed the lines of what is found in them, or a front of those
-  -- where it reads no further; else it keeps what is held with them.
+  -- where it reads no further; else it keeps what is held with them, and its sieve tells of the texts.
   pub record HasGone (r : LiveView K) (h : Header) (held : Held) (es : List JournalEntry) : Type 0 where
     pub found : List Placed
     pub end : Held
     pub live : Live h r.reached.pattern held es found end
     pub grown : r.refusal ≡ None → IsGrown r.reached.grown h end
+    pub sieved : r.refusal ≡ None → Tells r.reached.pattern end.types end.words r.reached.sieve
     pub printed : Took (is_none r.refusal) (written r.begun) (written r.out) (lines_of found)
 
   -- it has begun behind the first entries and handled the others

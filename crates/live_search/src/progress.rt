@@ -6,7 +6,7 @@ ghost use Rattle.archive_meaning.specs.declared.TheConstants.{MAX_MESSAGES};
 ghost use Rattle.archive_open.specs.Grown.{GrowsNext, NoneGrows, grown_of};
 ghost use Rattle.archive_open.specs.StepsFiles.{no_file};
 ghost use Rattle.printed_lines.specs.Lines.{numbered};
-ghost use Rattle.live_search.specs.Handled.{GoesPast, Handles, MeetsNone, Stops, reached_of};
+ghost use Rattle.live_search.specs.Handled.{GoesPast, Handles, KnowsTexts, MeetsNone, Stops, reached_of};
 ghost use Rattle.live_search.specs.Part.{HoldsPart};
 ghost use Rattle.printed_lines.specs.Printed.{HasPrinted, HasPrintedFront};
 
@@ -16,6 +16,7 @@ use archive_open::{Grown, KeepsTexts, add_head, add_listed};
 use column_store::Columns;
 use disk_seal::Found;
 use log_seams::Sink;
+use pair_sieve::PairSieve;
 use printed_lines::print_segment;
 use record_format::{FormatRefusal, SEGMENT_KIND};
 use segment_format::Head;
@@ -31,6 +32,8 @@ pub(crate) struct Progress<B: KeepsTexts> {
     pub(crate) grown: Grown<B>,
     /// What is searched for.
     pub(crate) pattern: Pattern,
+    /// Tells of rows that it matches none of their messages.
+    pub(crate) sieve: PairSieve,
     /// How many entries of the journal it began with.
     pub(crate) first: u64,
     /// How many behind these it has handled.
@@ -106,7 +109,8 @@ fn grow_part<B: KeepsTexts + Drop>(
     Ok((head, columns))
 }
 
-/// Prints what the pattern matches of a segment's messages, and tells whether its rows can be written.
+/// Prints what the pattern matches of a segment's messages, and tells whether its rows can be written
+/// that the sieve does not pass over. What was printed is said where the sieve knows of the texts.
 fn print_part<B: KeepsTexts + Drop, K: Sink>(
     progress: &Progress<B>,
     head: &Head,
@@ -117,7 +121,8 @@ fn print_part<B: KeepsTexts + Drop, K: Sink>(
     requires small { head.now.first + 1 + length columns.now.rows < 2 ^ 64 }
 
     // by the answer
-    ensures done { IfOk result (λ fits. IsTrue fits → (version : ℕ) (messages : List (List ℕ))
+    ensures done { IfOk result (λ fits. IsTrue fits → KnowsTexts (reached_of B.kept progress.now)
+        → (version : ℕ) (messages : List (List ℕ))
         → AreCanonical version columns.now.rows (B.kept progress.now.grown.names).types
         (B.kept progress.now.grown.names).words messages
         → HasPrinted progress.now.pattern (numbered
@@ -126,7 +131,8 @@ fn print_part<B: KeepsTexts + Drop, K: Sink>(
     ensures misfit { IfOk result (λ fits. IsFalse fits → (version : ℕ) (messages : List (List ℕ))
         → ¬ AreCanonical version columns.now.rows (B.kept progress.now.grown.names).types
         (B.kept progress.now.grown.names).words messages) }
-    ensures front { OnErr result ((version : ℕ) (messages : List (List ℕ))
+    ensures front { OnErr result (KnowsTexts (reached_of B.kept progress.now)
+        → (version : ℕ) (messages : List (List ℕ))
         → AreCanonical version columns.now.rows (B.kept progress.now.grown.names).types
         (B.kept progress.now.grown.names).words messages
         → HasPrintedFront progress.now.pattern (numbered
@@ -144,6 +150,7 @@ fn print_part<B: KeepsTexts + Drop, K: Sink>(
         head.first + 1,
         columns,
         &progress.pattern,
+        &progress.sieve,
         out,
     )
 }
@@ -155,6 +162,7 @@ fn go_past<B: KeepsTexts + Drop>(progress: &mut Progress<B>, found: &Found)
     ensures past { GoesPast found.now
         (reached_of B.kept progress.old) (reached_of B.kept progress.new) }
     ensures grown { progress.new.grown ≡ progress.old.grown }
+    ensures sieve { progress.new.sieve ≡ progress.old.sieve }
 {
     progress.handled += 1;
     progress.at = found.place.payload + found.place.length;
@@ -211,6 +219,7 @@ fn handle_part<B: KeepsTexts + Drop, K: Sink>(
     ensures counts { CountsOf LiveRefusal.SinkFault (K.faults out.old) (K.faults out.new) result }
 {
     let (head, columns) = grow_part(progress.alloc, &mut progress.grown, found)?;
+    progress.sieve.look(&progress.grown.names)?;
     go_past(progress, found);
     if !print_part(progress, &head, &columns, out)? {
         return Err(LiveRefusal::Damaged { at: found.place.at });

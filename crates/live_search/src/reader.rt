@@ -7,6 +7,7 @@ use crate::refusal::LiveRefusal;
 use archive_open::{Archive, KeepsTexts};
 use disk_seal::{Beside, Found, Looks, Opened};
 use log_seams::{Disk, Sink};
+use pair_sieve::PairSieve;
 use std::alloc::Global;
 use std::marker::Model;
 use std::sync::Wait;
@@ -82,11 +83,13 @@ impl<'o, B: KeepsTexts + Drop, K: Sink> LiveReader<'o, B, K> {
     {
         let first = archive.entries();
         let at = archive.last_gate();
+        let sieve = PairSieve::new(alloc, &pattern);
         LiveReader {
             progress: Progress {
                 alloc,
                 grown: archive.into_grown(),
                 pattern,
+                sieve,
                 first,
                 handled: 0,
                 at,

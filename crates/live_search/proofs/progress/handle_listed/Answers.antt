@@ -17,4 +17,4 @@ pub returns-clause-handled : goal.returns-clause-handled
 returns-clause-handled g c = λ out.
     let past = c.go_past.ensures.past in
     listed_handled c.args.found.now (reached_of g.B.KeepsTexts.kept c.args.progress.now) (reached_of g.B.KeepsTexts.kept c.go_past.new.progress) out c.requires.kind
-    (record { pattern = past.pattern; first = past.first; handled = past.handled; at = past.at }) (search (rules, c.in_ok-grow_listed.ensures.added, c.go_past.ensures.grown))
+    (record { pattern = past.pattern; first = past.first; handled = past.handled; at = past.at }) (search (rules, c.in_ok-grow_listed.ensures.added, c.go_past.ensures.grown)) c.go_past.ensures.sieve

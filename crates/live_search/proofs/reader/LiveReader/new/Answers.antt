@@ -8,4 +8,4 @@ invariant_of-result g c = count_first g.K.Sink.faults _ _ (search rules)
 
 pub returns-clause-stands : goal.returns-clause-stands
 returns-clause-stands g c = λ bytes opens h es stood.
-    begins_stands g.K.Sink.written _ (shown g.B.KeepsTexts.kept c.args.archive) (search rules) (search rules) (search rules) (search rules) (search rules) bytes opens h es stood
+    begins_stands g.K.Sink.written _ (shown g.B.KeepsTexts.kept c.args.archive) (search rules) (search rules) (search rules) (search rules) (search rules) (search rules) bytes opens h es stood
