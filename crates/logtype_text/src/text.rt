@@ -73,9 +73,9 @@ pub(crate) fn placeholder(kind: Kind) -> u8
     }
 }
 
-// Whether a constant byte needs the escape.
+/// Whether a constant byte stands behind a `\` in the text of a log type. Takes no memory.
 #[inline]
-pub(crate) fn needs_escape(byte: u8) -> bool
+pub fn needs_escape(byte: u8) -> bool
     ensures { result ≡ is_escaped byte }
 {
     (WHOLE <= byte && byte <= DECIMAL) || byte == ESCAPE

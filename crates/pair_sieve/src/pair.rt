@@ -5,6 +5,7 @@ ghost use Rattle.stamp_templates.specs.Laws.{StandsInNone};
 ghost use Rattle.wild_match.specs.declared.pattern.Item.TheVariants.{Byte};
 ghost use Rattle.pair_sieve.specs.Pairs.{IsOfNumber, IsPairOf};
 
+use logtype_text::needs_escape;
 use stamp_templates::may_stand;
 use wild_match::Item;
 
@@ -40,13 +41,6 @@ fn is_of_number(byte: u8) -> bool
     byte.is_ascii_digit() || byte == b'-' || byte == b'.'
 }
 
-/// Whether a constant byte stands in the text of a log type behind a `\`.
-fn is_escaped(byte: u8) -> bool
-    ensures { result ≡ is_escaped byte }
-{
-    (0x11 <= byte && byte <= 0x13) || byte == b'\\'
-}
-
 /// Whether the pair tells a message by its log type and its words alone.
 fn serves(pair: Pair) -> bool
     ensures first { IsTrue result → ¬ IsOfNumber pair.before }
@@ -56,7 +50,7 @@ fn serves(pair: Pair) -> bool
 {
     !is_of_number(pair.before)
         && !is_of_number(pair.after)
-        && !is_escaped(pair.after)
+        && !needs_escape(pair.after)
         && !may_stand(&[pair.before])
 }
 
