@@ -173,10 +173,12 @@ fn a_record_that_breaks_off_is_damaged(rt: HostRuntime) {
 
 // ---- words that are held
 
-// Words of which none is held, beside one log type.
+// Words of which none is held, beside a log type with a word and one with a number before it, where a
+// byte that is escaped is no slot.
 fn held(alloc: Global) -> Result<HeldWords, AllocError> {
     let mut types = Texts::new(alloc);
     types.push(b"of \x12")?;
+    types.push(b"\\\x12 \x11 of \x12")?;
     HeldWords::new(alloc, types, 1, WORDS)
 }
 
@@ -227,16 +229,19 @@ fn a_record_is_held_from_its_first_use_on(rt: HostRuntime) {
     assert!(rt; holds_by_record_of(rt.alloc()) == Ok(true));
 }
 
-// Holds the words of a row of the log type.
-fn hold_row(held: &mut HeldWords, disk: &mut MemDisk, word: u64) -> Result<(), HoldRefusal> {
-    let words = [word];
-    let row = RowRef {
+// A row of a log type.
+fn row_of(log_type: u32, words: &[u64]) -> RowRef<'_> {
+    RowRef {
         pattern: 0,
         moment: 0,
-        log_type: 0,
-        words: &words,
-    };
-    held.hold_row(disk, row)
+        log_type,
+        words,
+    }
+}
+
+// Holds the words of a row of the first log type.
+fn hold_row(held: &mut HeldWords, disk: &mut MemDisk, word: u64) -> Result<(), HoldRefusal> {
+    held.hold_row(disk, row_of(0, &[word]))
 }
 
 // Whether the words of rows are held.
@@ -258,6 +263,33 @@ fn holds_rows_of(alloc: Global) -> Result<bool, HoldRefusal> {
 #[test]
 fn the_words_of_a_row_are_held(rt: HostRuntime) {
     assert!(rt; holds_rows_of(rt.alloc()) == Ok(true));
+}
+
+// Whether a number is asked of where it is a word, and not where it stands for itself.
+fn knows_by_slots(held: &mut HeldWords, disk: &mut MemDisk) -> Result<bool, HoldRefusal> {
+    if held.has_row(row_of(1, &[3, 0])) {
+        return Ok(false);
+    }
+    held.hold_row(disk, row_of(1, &[3, 0]))?;
+    Ok(
+        held.has_row(row_of(1, &[3, 0]))
+            && !held.has_row(row_of(1, &[0, 3]))
+            && !held.has_row(row_of(0, &[3]))
+            && held.has_row(row_of(0, &[1 << 40]))
+            && held.has_row(row_of(1, &[3]))
+            && held.has_row(row_of(7, &[3]))
+            && disk.calls() == 1,
+    )
+}
+
+fn knows_by_slots_of(alloc: Global) -> Result<bool, HoldRefusal> {
+    let mut held = held(alloc)?;
+    knows_by_slots(&mut held, &mut disk(alloc, &ARCHIVE, &[])?)
+}
+
+#[test]
+fn a_number_that_is_no_word_is_not_asked_of(rt: HostRuntime) {
+    assert!(rt; knows_by_slots_of(rt.alloc()) == Ok(true));
 }
 
 // Why the word 3 is not held from these bytes.

@@ -57,16 +57,16 @@ decided_same n q rows others verdicts told one two are = subst (λ (l : List Row
 
 -- ---- words that are held for pages
 
-pub held_same : (records : List HeldRecord) (rows others : List Row) (verdicts told : List Verdict) → others ≡ rows → told ≡ verdicts → AreHeldFor records rows verdicts → AreHeldFor records others told
-held_same records rows others verdicts told one two are = subst (λ (l : List Row). AreHeldFor records l told) (sym one) (subst (λ (l : List Verdict). AreHeldFor records rows l) (sym two) are)
+pub held_same : (held : HeldNames) (rows others : List Row) (verdicts told : List Verdict) → others ≡ rows → told ≡ verdicts → AreHeldFor held rows verdicts → AreHeldFor held others told
+held_same held rows others verdicts told one two are = subst (λ (l : List Row). AreHeldFor held l told) (sym one) (subst (λ (l : List Verdict). AreHeldFor held rows l) (sym two) are)
 
 -- words that are held stay
-pub held_pages_grow : (old new : List HeldRecord) (pages : List AheadPage) → AreNumbered 0 old → AreNumbered 0 new → Grow old new → AreHeldPages old pages → AreHeldPages new pages
-held_pages_grow old new [] are_old are_new grow held = All-nil (IsHeldPage new)
-held_pages_grow old new (p ∷ pages) are_old are_new grow held =
+pub held_pages_grow : (old new : HeldNames) (pages : List AheadPage) → AreNumbered 0 old.records → AreNumbered 0 new.records → Grow old.records new.records → new.types ≡ old.types → AreHeldPages old pages → AreHeldPages new pages
+held_pages_grow old new [] are_old are_new grow same held = All-nil (IsHeldPage new)
+held_pages_grow old new (p ∷ pages) are_old are_new grow same held =
     All-cons (IsHeldPage new) p pages
-    (λ is. held_grow old new p.columns.rows p.verdicts.items are_old are_new grow (All-head (IsHeldPage old) p pages held is))
-    (held_pages_grow old new pages are_old are_new grow (All-tail (IsHeldPage old) p pages held))
+    (λ is. held_grow old new p.columns.rows p.verdicts.items are_old are_new grow same (All-head (IsHeldPage old) p pages held is))
+    (held_pages_grow old new pages are_old are_new grow same (All-tail (IsHeldPage old) p pages held))
 
 -- ---- where the reader stands
 

@@ -6,7 +6,7 @@ use Rattle.log_seams.specs.Outside.{CountsOf}
 use Rattle.column_store.specs.declared.row.Row.{Row}
 use Rattle.segment_format.specs.Pages.{page_rows}
 use Rattle.segment_pages.specs.Paged.{AreNextTold, Paged, paged_after}
-use Rattle.word_places.specs.declared.held.HeldRecord.{HeldRecord}
+use Rattle.word_places.specs.Held.{HeldNames}
 use Rattle.search_walk.specs.declared.refusal.SearchRefusal.{SearchRefusal}
 use Rattle.search_walk.specs.Held.{Named}
 use Rattle.search_walk.specs.PagesRead.{ReadsPage}
@@ -26,11 +26,11 @@ abbrev pub AreDecidedPages : Named → Asked → List AheadPage → Type 0
 AreDecidedPages n q pages = All (IsDecidedPage n q) pages
 
 -- where a page says that its words are held they are, and so does each of the pages
-abbrev pub IsHeldPage : List HeldRecord → AheadPage → Type 0
-IsHeldPage records p = IsTrue p.known → AreHeldFor records p.columns.rows p.verdicts.items
+abbrev pub IsHeldPage : HeldNames → AheadPage → Type 0
+IsHeldPage held p = IsTrue p.known → AreHeldFor held p.columns.rows p.verdicts.items
 
-abbrev pub AreHeldPages : List HeldRecord → List AheadPage → Type 0
-AreHeldPages records pages = All (IsHeldPage records) pages
+abbrev pub AreHeldPages : HeldNames → List AheadPage → Type 0
+AreHeldPages held pages = All (IsHeldPage held) pages
 
 -- the pages are the next ones of a segment, from the one place up to the other
 abbrev pub AreAhead : Option (List ℕ) → Paged → List AheadPage → Paged → Type 0
@@ -40,13 +40,13 @@ AreAhead seen start (p ∷ pages) now =
     × AreNextTold seen start (paged_after start p.columns.rows) p.columns.rows
     × AreAhead seen (paged_after start p.columns.rows) pages now
 
--- pages were read and decided as far as they could be, beside these records, and a refusal is a fault of the disk
-pub record ReadAhead (n : Named) (q : Asked) (records : List HeldRecord) (old new : DiskState) (start now : Paged) (pages : List AheadPage)
+-- pages were read and decided as far as they could be, beside these words, and a refusal is a fault of the disk
+pub record ReadAhead (n : Named) (q : Asked) (words : HeldNames) (old new : DiskState) (start now : Paged) (pages : List AheadPage)
     (r : Result (Unit {0}) SearchRefusal) : Type 0 where
   pub reads : (any : Named) → ReadsPage any start old new
   pub ahead : OnOk r (AreAhead old.seen start pages now)
   pub decided : AreDecidedPages n q pages
-  pub held : AreHeldPages records pages
+  pub held : AreHeldPages words pages
   pub few : length pages ≤ 65536
   pub damaged : ¬ IsErrOf r SearchRefusal.Damaged
   pub sink : ¬ IsErrOf r SearchRefusal.SinkFault

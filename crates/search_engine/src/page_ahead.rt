@@ -103,8 +103,8 @@ impl PagesAhead {
         ensures added { OnOk result (AddsNext context.now.names context.now.query
             (D.state disk.old).seen pages.old pages.new
             self.old.queue.items self.new.queue.items) }
-        ensures held { OnOk result (AreHeldPages held.now.records self.old.queue.items
-            → AreHeldPages held.now.records self.new.queue.items) }
+        ensures held { OnOk result (AreHeldPages held.now self.old.queue.items
+            → AreHeldPages held.now self.new.queue.items) }
         ensures counts { CountsOf SearchRefusal.DiskFault
             (D.state disk.old).faults (D.state disk.new).faults result }
     {
@@ -142,7 +142,7 @@ impl PagesAhead {
         disk: &mut D,
         most: usize,
     ) -> Result<(), SearchRefusal>
-        ensures { ReadAhead context.now.names context.now.query held.now.records
+        ensures { ReadAhead context.now.names context.now.query held.now
             (D.state disk.old) (D.state disk.new) pages.old pages.new
             self.new.queue.items result }
     {
@@ -187,7 +187,7 @@ pub(crate) fn match_beside<R: Threads + Sync, D: Disk>(
 
     // and those that were read
     ensures ahead { ReadAhead context.now.names context.now.query
-        printer.now.held.now.records (D.state disk.old) (D.state disk.new)
+        printer.now.held.now (D.state disk.old) (D.state disk.new)
         pages.old pages.new ahead.new.queue.items result }
 {
     let most = slots.len();
@@ -206,7 +206,7 @@ pub(crate) fn match_beside<R: Threads + Sync, D: Disk>(
         { match_pages(rt, workers, printer, slots) },
         &mut || -> Result<(), SearchRefusal>
             ensures { ReadAhead context.entry.now.names context.entry.now.query
-                printer.entry.now.held.now.records
+                printer.entry.now.held.now
                 (D.state disk.entry.now) (D.state disk.exit.now)
                 pages.entry.now pages.exit.now ahead.exit.now.queue.items result }
         { ahead.read(context, printer.held, pages, disk, most) },

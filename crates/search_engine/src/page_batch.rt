@@ -223,7 +223,7 @@ impl PageBatch {
             pages.old ahead.new.queue.items pages.new) }
         ensures decided { AreDecidedPages over.now.context.now.names over.now.context.now.query
             ahead.new.queue.items }
-        ensures held { AreHeldPages held.now.records ahead.new.queue.items }
+        ensures held { AreHeldPages held.now ahead.new.queue.items }
         ensures few { length ahead.new.queue.items ≤ 65536 }
 
         // by the answer

@@ -200,7 +200,7 @@ impl PageSlot {
         disk: &mut D,
     ) -> Result<PageSlot, SearchRefusal>
         requires may_wait { MayWait context.now.names context.now.query label.number ahead.old }
-        requires held { IsHeldPage held.old.records ahead.old }
+        requires held { IsHeldPage held.old ahead.old }
         requires serves { Serves context.now.names held.old }
         requires told { (D.state disk.old).seen ≡ context.now.names.told }
 

@@ -107,7 +107,7 @@ fn wait_next<R: Threads + Sync, D: Disk, K: Sink, M: Ledger>(
 ) -> Result<(), SearchRefusal>
     requires may_wait { MayWait over.now.context.now.names over.now.context.now.query
         label.number page.old }
-    requires held { IsHeldPage held.old.records page.old }
+    requires held { IsHeldPage held.old page.old }
     requires served { IsServedOver over.now.context.now held.old batch.old.pages }
     requires told { (D.state disk.old).seen ≡ over.now.context.now.names.told }
 
@@ -165,7 +165,7 @@ fn wait_all<R: Threads + Sync, D: Disk, K: Sink, M: Ledger>(
 ) -> Result<u32, SearchRefusal>
     requires may_wait { AllMayWait over.now.context.now.names over.now.context.now.query
         label.number ahead.old.queue.items }
-    requires held { AreHeldPages held.old.records ahead.old.queue.items }
+    requires held { AreHeldPages held.old ahead.old.queue.items }
     requires served { IsServedOver over.now.context.now held.old batch.old.pages }
     requires told { (D.state disk.old).seen ≡ over.now.context.now.names.told }
 

@@ -19,7 +19,7 @@ use Rattle.word_places.proofs.OrderLemmas.{unread_numbered}
 use Rattle.word_places.proofs.HeldLemmas.{all_agree, grow_all_held, grow_places}
 use Rattle.search_walk.specs.Scan.{Asked}
 use Rattle.search_walk.specs.Held.{IsTold, Named, StandIn, named, words_told}
-use Rattle.search_walk.specs.Ready.{AreDecided, AreHeldFor, IsDecided, IsLent, IsReady, IsReadyPage, Serves}
+use Rattle.search_walk.specs.Ready.{AreDecided, AreHeldFor, IsDecided, IsHeldFor, IsLent, IsReady, IsReadyPage, Serves}
 
 -- ---- the words of the bytes
 
@@ -82,20 +82,26 @@ rows_grow n q old new [] (v ∷ verdicts) are_old are_new grow each = absurd eac
 rows_grow n q old new (r ∷ rows) [] are_old are_new grow each = absurd each
 rows_grow n q old new (r ∷ rows) (v ∷ verdicts) are_old are_new grow each = (ready_grows n q old new r v are_old are_new grow each.0, rows_grow n q old new rows verdicts are_old are_new grow each.1)
 
--- rows that were decided, and whose words are held
-pub rows_ready : (n : Named) (q : Asked) (records : List HeldRecord) (rows : List Row) (verdicts : List Verdict) → AreDecided n q rows verdicts → AreHeldFor records rows verdicts → AllZip (IsReady n q records) rows verdicts
-rows_ready n q records [] [] decided held = tt
-rows_ready n q records [] (v ∷ verdicts) decided held = absurd held
-rows_ready n q records (r ∷ rows) [] decided held = absurd held
-rows_ready n q records (r ∷ rows) (v ∷ verdicts) decided held =
-    (record { decided = decided.0; held = λ not. held.0 not n.types }, rows_ready n q records rows verdicts decided.1 held.1)
+-- a row that was decided, and whose words are held
+pub row_ready : (n : Named) (q : Asked) (held : HeldNames) (row : Row) (verdict : Verdict) → held.types ≡ n.types → (IsTold n → IsDecided n q row verdict) → IsHeldFor held row verdict → IsReady n q held.records row verdict
+row_ready n q held row verdict same decided are =
+    record { decided = decided; held = λ not. subst (λ (ts : List (List ℕ)). AreHeld held.records (numbers_of_row ts row)) same (are not) }
 
-pub held_grow : (old new : List HeldRecord) (rows : List Row) (verdicts : List Verdict) → AreNumbered 0 old → AreNumbered 0 new → Grow old new → AreHeldFor old rows verdicts → AreHeldFor new rows verdicts
-held_grow old new [] [] are_old are_new grow held = tt
-held_grow old new [] (v ∷ verdicts) are_old are_new grow held = absurd held
-held_grow old new (r ∷ rows) [] are_old are_new grow held = absurd held
-held_grow old new (r ∷ rows) (v ∷ verdicts) are_old are_new grow held =
-    (λ not types. grow_all_held old new (numbers_of_row types r) are_old are_new grow (held.0 not types), held_grow old new rows verdicts are_old are_new grow held.1)
+-- the same of each row
+pub rows_ready : (n : Named) (q : Asked) (held : HeldNames) (rows : List Row) (verdicts : List Verdict) → held.types ≡ n.types → AreDecided n q rows verdicts → AreHeldFor held rows verdicts
+    → AllZip (IsReady n q held.records) rows verdicts
+rows_ready n q held [] [] same decided are = tt
+rows_ready n q held [] (v ∷ verdicts) same decided are = absurd are
+rows_ready n q held (r ∷ rows) [] same decided are = absurd are
+rows_ready n q held (r ∷ rows) (v ∷ verdicts) same decided are = (row_ready n q held r v same decided.0 are.0, rows_ready n q held rows verdicts same decided.1 are.1)
+
+-- words that are held stay
+pub held_grow : (old new : HeldNames) (rows : List Row) (verdicts : List Verdict) → AreNumbered 0 old.records → AreNumbered 0 new.records → Grow old.records new.records → new.types ≡ old.types → AreHeldFor old rows verdicts → AreHeldFor new rows verdicts
+held_grow old new [] [] are_old are_new grow same held = tt
+held_grow old new [] (v ∷ verdicts) are_old are_new grow same held = absurd held
+held_grow old new (r ∷ rows) [] are_old are_new grow same held = absurd held
+held_grow old new (r ∷ rows) (v ∷ verdicts) are_old are_new grow same held =
+    (λ not. subst (λ (ts : List (List ℕ)). AreHeld new.records (numbers_of_row ts r)) (sym same) (grow_all_held old.records new.records (numbers_of_row old.types r) are_old are_new grow (held.0 not)), held_grow old new rows verdicts are_old are_new grow same held.1)
 
 pub zip_long : {A B : Type 0} (R : A → B → Type 0) (xs : List A) (ys : List B) → AllZip R xs ys → length ys ≡ length xs
 zip_long R [] [] each = refl

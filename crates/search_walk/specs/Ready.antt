@@ -33,13 +33,13 @@ pub record IsReady (n : Named) (q : Asked) (records : List HeldRecord) (row : Ro
   pub decided : IsTold n → IsDecided n q row verdict
   pub held : verdict ≢ Rejected → AreHeld records (numbers_of_row n.types row)
 
--- the words of a row are held, whatever its log type is, if it may have to be written
-abbrev pub IsHeldFor : List HeldRecord → Row → Verdict → Type 0
-IsHeldFor records row verdict = verdict ≢ Rejected → (types : List (List ℕ)) → AreHeld records (numbers_of_row types row)
+-- the words of a row are held, if it may have to be written
+abbrev pub IsHeldFor : HeldNames → Row → Verdict → Type 0
+IsHeldFor held row verdict = verdict ≢ Rejected → AreHeld held.records (numbers_of_row held.types row)
 
 -- the same of each row of a page
-abbrev pub AreHeldFor : List HeldRecord → List Row → List Verdict → Type 0
-AreHeldFor records rows verdicts = AllZip (IsHeldFor records) rows verdicts
+abbrev pub AreHeldFor : HeldNames → List Row → List Verdict → Type 0
+AreHeldFor held rows verdicts = AllZip (IsHeldFor held) rows verdicts
 
 -- the words that are held are those of the names
 pub record Serves (n : Named) (held : HeldNames) : Type 0 where

@@ -60,10 +60,7 @@ fn hold_row<D: Disk>(
         (D.state disk.old).faults (D.state disk.new).faults result }
     ensures sink { ¬ IsErrOf result SearchRefusal.SinkFault }
 {
-    if is_rejected(verdict) {
-        return Ok(());
-    }
-    if held.has_row(row) {
+    if has_row(row, verdict, held) {
         return Ok(());
     }
     let answer = held.hold_row(disk, row);
@@ -76,7 +73,7 @@ fn hold_row<D: Disk>(
 /// Whether it is known that the words of a row that was decided are held, where it may have to be
 /// written.
 fn has_row(row: RowRef<'_>, verdict: Verdict, held: &HeldWords) -> bool
-    ensures { IsTrue result → IsHeldFor held.now.records (row_of row.entry) verdict }
+    ensures { IsTrue result → IsHeldFor held.now (row_of row.entry) verdict }
 {
     if is_rejected(verdict) {
         return true;
@@ -90,7 +87,7 @@ fn has_row(row: RowRef<'_>, verdict: Verdict, held: &HeldWords) -> bool
 #[inline(never)]
 pub fn has_rows(page: &Columns, verdicts: &[Verdict], held: &HeldWords) -> bool
     requires { length verdicts.now ≡ length page.now.rows }
-    ensures { IsTrue result → AreHeldFor held.now.records page.now.rows verdicts.now }
+    ensures { IsTrue result → AreHeldFor held.now page.now.rows verdicts.now }
 {
     for place in 0..page.rows() {
         let verdict = verdict_at(verdicts, place);
@@ -114,7 +111,7 @@ pub fn hold_rows<D: Disk>(
     disk: &mut D,
 ) -> Result<(), SearchRefusal>
     requires decided { AreDecided context.now.names context.now.query page.now.rows verdicts.now }
-    requires known { IsTrue known → AreHeldFor held.old.records page.now.rows verdicts.now }
+    requires known { IsTrue known → AreHeldFor held.old page.now.rows verdicts.now }
     requires serves { Serves context.now.names held.old }
     requires told { (D.state disk.old).seen ≡ context.now.names.told }
 

@@ -1,8 +1,10 @@
 -- The words in the slots of a text, one by one.
-use Rattle.std.proofs.Common.{◌≡◌, ⊎_elim, ℕ, zero, suc, ◌+◌, ◌-◌, ◌<◌, ◌≤◌, List, [], ◌∷◌, ◌++◌, length, get_or, take, drop, refl, sym, ◌∙◌, ap, subst, arith, append_assoc}
-use Rattle.std.specs.Prelude.{Bool, Option, Some, None, false, true}
-use Rattle.std.proofs.lemmas.List.{append-nil, drop_all, drop_more, take_rest}
+use Rattle.std.proofs.Common.{◌≡◌, ⊎_elim, ℕ, zero, suc, ◌+◌, ◌-◌, ◌<◌, ◌≤◌, List, [], ◌∷◌, ◌++◌, length, get_or, take, drop, refl, sym, ◌∙◌, ap, subst, arith, append_assoc, length-append}
+use Rattle.std.specs.Prelude.{Bool, Option, Some, None, false, true, slice_index_or}
+use Rattle.std.proofs.lemmas.List.{append-nil, drop_all, drop_more, get_or_append_left, get_or_past, take_rest}
+use Rattle.std.proofs.lemmas.Bool.{cases_lt}
 use Rattle.std.proofs.lemmas.List.Elements.{Contains-append_cases}
+use Rattle.std.proofs.Math.Seq.{get_or-append_seam}
 use Rattle.logtype_text.specs.declared.symbols.Kind.{Kind}
 use Rattle.logtype_text.specs.declared.symbols.Kind.TheVariants.{Whole, Word, Decimal}
 use Rattle.row_codec.specs.Numbers.{kinds_from, word_numbers}
@@ -13,7 +15,7 @@ use Rattle.word_places.specs.Held.{AreHeld, AreNumbered, Grow, IsHeld, RightTold
 use Rattle.word_places.specs.Local.{Agree}
 use Rattle.word_places.specs.Places.{OfWords}
 use Rattle.word_places.specs.Reads.{ReadsOneOf, ReadsWords}
-use Rattle.word_places.specs.StepsHeld.{with_kind}
+use Rattle.word_places.specs.StepsHeld.{HaveSlots, with_kind}
 use Rattle.word_places.proofs.HeldLemmas.{agree_told, grow_all_held, grow_count, grow_on, grow_places, grow_same}
 use Rattle.word_places.proofs.ReadLemmas.{words_of_one, words_on}
 
@@ -130,7 +132,88 @@ right_next told later old now new same first second right =
 pub cut_first : (left : List ℕ) → 0 < length left → left ≡ get_or left 0 0 ∷ take (length left - 1) (drop 1 left)
 cut_first left some = drop_more left 0 0 some ∙ ap (λ (l : List ℕ). get_or left 0 0 ∷ l) (sym (take_rest left 1))
 
+-- ---- the slots of a log type alone
+
+-- a buffer of slots, of which the text from a place on is left
+pub record AreSlotsTo (slots text : List ℕ) (escaped : Bool) (at : ℕ) : Type 0 where
+  pub front : List Kind
+  pub kinds : (rest : List ℕ) → kinds_from false (slots ++ rest) ≡ front ++ kinds_from false rest
+  pub left : kinds_from false text ≡ front ++ kinds_from escaped (drop at text)
+
+pub slots_none : (slots text : List ℕ) → slots ≡ [] → AreSlotsTo slots text false 0
+slots_none slots text none = record { front = []; kinds = λ rest. ap (λ (l : List ℕ). kinds_from false (l ++ rest)) none; left = refl }
+
+-- a byte that is no slot
+pub slots_pass : (slots text : List ℕ) (escaped next : Bool) (at byte : ℕ) (slot : Option Kind) → AreSlotsTo slots text escaped at → at < length text → byte ≡ get_or text at 0
+    → ((rest : List ℕ) → kinds_from escaped (byte ∷ rest) ≡ with_kind slot (kinds_from next rest)) → slot ≡ None → AreSlotsTo slots text next (at + 1)
+slots_pass slots text escaped next at byte slot so_far within is step none = record {
+  front = so_far.front;
+  kinds = so_far.kinds;
+  left = so_far.left ∙ ap (λ (ks : List Kind). so_far.front ++ ks) (kinds_on escaped next text at byte slot within is step ∙ ap (λ (s : Option Kind). with_kind s (kinds_from next (drop (at + 1) text))) none);
+}
+
+-- a slot, which is put behind those before
+pub slots_next : (slots more text : List ℕ) (escaped next : Bool) (at byte : ℕ) (slot : Option Kind) (kind : Kind) → AreSlotsTo slots text escaped at → at < length text → byte ≡ get_or text at 0
+    → ((rest : List ℕ) → kinds_from escaped (byte ∷ rest) ≡ with_kind slot (kinds_from next rest)) → slot ≡ Some kind → escaped ≡ false → next ≡ false → more ≡ slots ++ byte ∷ []
+    → AreSlotsTo more text next (at + 1)
+slots_next slots more text escaped next at byte slot kind so_far within is step some first behind pushed = record {
+  front = so_far.front ++ kind ∷ [];
+  kinds = λ rest. ap (λ (l : List ℕ). kinds_from false (l ++ rest)) pushed ∙ ap (λ (l : List ℕ). kinds_from false l) (append_assoc slots (byte ∷ []) rest) ∙ so_far.kinds (byte ∷ rest)
+      ∙ ap (λ (ks : List Kind). so_far.front ++ ks) (one rest) ∙ sym (append_assoc so_far.front (kind ∷ []) (kinds_from false rest));
+  left = so_far.left ∙ ap (λ (ks : List Kind). so_far.front ++ ks) (kinds_on escaped next text at byte slot within is step ∙ ap (λ (s : Option Kind). with_kind s (kinds_from next (drop (at + 1) text))) some)
+      ∙ sym (append_assoc so_far.front (kind ∷ []) (kinds_from next (drop (at + 1) text)));
+}
+  where
+    one : (rest : List ℕ) → kinds_from false (byte ∷ rest) ≡ kind ∷ kinds_from false rest
+    one rest = ap (λ (e : Bool). kinds_from e (byte ∷ rest)) (sym first) ∙ step rest ∙ (λ i. with_kind (some i) (kinds_from (behind i) rest))
+
+-- there is no more text
+pub slots_all : (slots text : List ℕ) (escaped : Bool) (at : ℕ) → AreSlotsTo slots text escaped at → length text ≤ at → kinds_from false slots ≡ kinds_from false text
+slots_all slots text escaped at so_far all =
+    ap (λ (l : List ℕ). kinds_from false l) (sym (append-nil slots)) ∙ so_far.kinds [] ∙ ap (λ (ks : List Kind). so_far.front ++ ks) (sym (none escaped) ∙ ap (λ (l : List ℕ). kinds_from escaped l) (sym (drop_all at text all)))
+    ∙ sym so_far.left
+  where
+    none : (escaped : Bool) → kinds_from escaped [] ≡ []
+    none true = refl
+    none false = refl
+
+-- the slots of so many log types
+pub record HaveSlotsTo (types slots : List (List ℕ)) (count : ℕ) : Type 0 where
+  pub many : length slots ≡ count
+  pub same : (number : ℕ) → number < count → kinds_from false (get_or slots number []) ≡ kinds_from false (get_or types number [])
+
+pub have_none : (types : List (List ℕ)) → HaveSlotsTo types [] 0
+have_none types = record { many = refl; same = λ number lt. absurd (omega (arith, lt)) }
+
+pub have_next : (types slots more : List (List ℕ)) (count : ℕ) (text one : List ℕ) → HaveSlotsTo types slots count → text ≡ get_or types count [] → kinds_from false one ≡ kinds_from false text
+    → more ≡ slots ++ one ∷ [] → HaveSlotsTo types more (count + 1)
+have_next types slots more count text one so_far is same pushed = record {
+  many = ap (λ (l : List (List ℕ)). length l) pushed ∙ length-append slots (one ∷ []) ∙ ap (λ (n : ℕ). n + 1) so_far.many;
+  same = λ number lt. ap (λ (l : List (List ℕ)). kinds_from false (get_or l number [])) pushed ∙ ⊎_elim (λ before. older number before) (λ last. newest number (omega (arith, lt, last))) (cases_lt number count);
+}
+  where
+    older : (number : ℕ) → number < count → kinds_from false (get_or (slots ++ one ∷ []) number []) ≡ kinds_from false (get_or types number [])
+    older number before = ap (λ (l : List ℕ). kinds_from false l) (get_or_append_left slots (one ∷ []) [] number (omega (arith, before, so_far.many))) ∙ so_far.same number before
+
+    newest : (number : ℕ) → number ≡ count → kinds_from false (get_or (slots ++ one ∷ []) number []) ≡ kinds_from false (get_or types number [])
+    newest number last =
+        ap (λ (l : List ℕ). kinds_from false l) (ap (λ (n : ℕ). get_or (slots ++ one ∷ []) n []) (last ∙ sym so_far.many) ∙ get_or-append_seam slots one [] [])
+        ∙ same ∙ ap (λ (l : List ℕ). kinds_from false l) (is ∙ ap (λ (n : ℕ). get_or types n []) (sym last))
+
+pub have_all : (types slots : List (List ℕ)) (count : ℕ) → HaveSlotsTo types slots count → length types ≤ count → HaveSlots types slots
+have_all types slots count so_far all = λ number. ⊎_elim (λ lt. so_far.same number lt) (λ past. none number past) (cases_lt number count)
+  where
+    none : (number : ℕ) → count ≤ number → kinds_from false (get_or slots number []) ≡ kinds_from false (get_or types number [])
+    none number past =
+        ap (λ (l : List ℕ). kinds_from false l) (get_or_past slots number [] (omega (arith, past, so_far.many)) ∙ sym (get_or_past types number [] (omega (arith, past, all))))
+
 -- ---- a row
+
+-- the words of a row by the slots of its log type
+pub numbers_by_slots : (types slots others : List (List ℕ)) (number : ℕ) (text words : List ℕ) → types ≡ others → HaveSlots types slots → text ≡ slice_index_or slots number []
+    → word_numbers (kinds_from false text) words ≡ word_numbers (kinds_from false (slice_index_or others number [])) words
+numbers_by_slots types slots others number text words same have is =
+    ap (λ (ks : List Kind). word_numbers ks words) (ap (λ (l : List ℕ). kinds_from false l) is ∙ have number ∙ ap (λ (l : List (List ℕ)). kinds_from false (slice_index_or l number [])) same)
 
 pub agree_row : (told : Option (List ℕ)) (names old new : List HeldRecord) (numbers others : List ℕ) → old ≡ names → numbers ≡ others → AreNumbered 0 new → Grow old new
     → (RightTold told old → RightTold told new) → AreHeld new numbers → RightTold told names → OfWords told (places_of names) (λ words. Agree others words (lends new))

@@ -1,6 +1,7 @@
 -- Steps on the way to words that are held.
-use Rattle.std.specs.Prelude.{◌≡◌, ◌⊎◌, ◌<◌, ◌≤◌, ℕ, Bool, true, List, ◌∷◌, length, set, is_some, Option, Some, None, slice_get}
+use Rattle.std.specs.Prelude.{◌≡◌, ◌⊎◌, ◌<◌, ◌≤◌, ℕ, Bool, false, true, List, [], ◌∷◌, length, set, is_some, Option, Some, None, slice_get, slice_index_or}
 use Rattle.logtype_text.specs.declared.symbols.Kind.{Kind}
+use Rattle.row_codec.specs.Numbers.{kinds_from}
 use Rattle.word_places.specs.declared.gaps.Gap.{Gap}
 use Rattle.word_places.specs.declared.held.HeldRecord.{HeldRecord}
 use Rattle.word_places.specs.Held.{IsHeld, lends}
@@ -33,6 +34,11 @@ IsBeside gap number = (number < gap.first) ⊎ (gap.end ≤ number)
 abbrev pub Puts : List HeldRecord → ℕ → List (List ℕ) → List HeldRecord → Type 0
 Puts old at words new =
     (r : HeldRecord) → slice_get old at ≡ Some r → new ≡ set old at (record { place = r.place; words = Some words })
+
+-- these have the slots of the log types
+abbrev pub HaveSlots : List (List ℕ) → List (List ℕ) → Type 0
+HaveSlots types slots =
+    (number : ℕ) → kinds_from false (slice_index_or slots number []) ≡ kinds_from false (slice_index_or types number [])
 
 -- the kinds, behind this one if there is one
 abbrev pub with_kind : Option Kind → List Kind → List Kind

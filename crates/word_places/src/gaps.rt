@@ -1,11 +1,15 @@
 //! Numbers of which it is told without a look that they are held.
-ghost use Rattle.std.specs.Prelude.{◌<◌, ℕ, All, IsTrue, length};
-ghost use Rattle.word_places.specs.Held.{AreNumbered, IsHeld, lends};
+ghost use Rattle.std.specs.Prelude.{◌≡◌, ◌<◌, ℕ, All, IsTrue, false, length};
+ghost use Rattle.logtype_text.specs.declared.symbols.Kind.TheVariants.{Word};
+ghost use Rattle.row_codec.specs.Numbers.{kinds_from, word_numbers};
+ghost use Rattle.word_places.specs.Held.{AreHeld, AreNumbered, IsHeld, lends};
 ghost use Rattle.word_places.specs.StepsHeld.{AreReadTo, HasHeld, IsBeside};
 
 use crate::held::HeldRecord;
 use crate::holding::is_held;
 use crate::order::place_at;
+use crate::slots::read_kind;
+use logtype_text::Kind;
 
 /// Numbers of words whose records may not have been read: from the first of them up to the end, which is
 /// not among them.
@@ -71,6 +75,52 @@ pub(crate) fn are_held(records: &[HeldRecord], hints: &[u32], front: usize, numb
         if !is_known(records, hints, gap, *number) {
             return false;
         }
+    }
+    true
+}
+
+// Whether it is known that the word in a slot of this kind is held, where the kind has words of the
+// dictionary.
+#[inline]
+fn is_slot_known(records: &[HeldRecord], hints: &[u32], gap: Gap, kind: Kind, word: u64) -> bool
+    requires numbered { AreNumbered 0 records.now }
+    requires beside { (n : ℕ) → IsBeside gap n → HasHeld records.now n }
+    ensures { IsTrue result → kind ≡ Word → HasHeld records.now word }
+{
+    kind != Kind::Word || is_known(records, hints, gap, word)
+}
+
+/// Whether it is known that the words in the slots of a log type's text are held.
+// A function of its own, since most rows are told by their numbers alone.
+#[inline(never)]
+pub(crate) fn are_slots_held(
+    records: &[HeldRecord],
+    hints: &[u32],
+    front: usize,
+    text: &[u8],
+    words: &[u64],
+) -> bool
+    requires numbered { AreNumbered 0 records.now }
+    requires read { AreReadTo front records.now }
+    ensures { IsTrue result
+        → AreHeld records.now (word_numbers (kinds_from false text.now) words.now) }
+{
+    let gap = gap_behind(records, front);
+    let mut escaped = false;
+    let mut left = words;
+    for byte in text {
+        let (next, slot) = read_kind(escaped, *byte);
+        escaped = next;
+        let Some(kind) = slot else {
+            continue;
+        };
+        let [word, behind @ ..] = left else {
+            return true;
+        };
+        if !is_slot_known(records, hints, gap, kind, *word) {
+            return false;
+        }
+        left = behind;
     }
     true
 }

@@ -5,11 +5,12 @@ ghost use Rattle.row_codec.specs.Numbers.{numbers_of_row};
 ghost use Rattle.word_places.specs.Held.{AreHeld, AreNumbered, HeldNames, unread};
 ghost use Rattle.word_places.specs.Places.{AreInOrder};
 
-use crate::gaps::are_held;
+use crate::gaps::{are_held, are_slots_held};
 use crate::hints::hints_of;
 use crate::lending::{number_in, text_in};
 use crate::place::WordsPlace;
 use crate::record::RecordWords;
+use crate::type_slots::{slots_of, text_at};
 use column_store::RowRef;
 use dict_core::Texts;
 use row_codec::Names;
@@ -32,6 +33,8 @@ pub struct HeldRecord {
 pub struct HeldWords {
     pub(crate) alloc: Global,
     pub(crate) types: Texts,
+    /// Of each log type the bytes that stand for its slots.
+    pub(crate) slots: Texts,
     pub(crate) version: u32,
     pub(crate) records: Vec<HeldRecord>,
     /// How many records at the front are known to be read. It goes on after each read.
@@ -42,13 +45,14 @@ pub struct HeldWords {
 
 impl Model for HeldWords {
     ghost use Rattle.word_places.specs.Held.{AreNumbered, HeldNames};
-    ghost use Rattle.word_places.specs.StepsHeld.{AreReadTo};
+    ghost use Rattle.word_places.specs.StepsHeld.{AreReadTo, HaveSlots};
 
     ghost Value = { HeldNames };
 
     ghost view = { λ h. record { types = h.types; version = h.version; records = h.records.items } };
 
-    ghost invariant = { λ h. AreNumbered 0 h.records.items × AreReadTo h.front h.records.items };
+    ghost invariant = { λ h. AreNumbered 0 h.records.items × AreReadTo h.front h.records.items
+        × HaveSlots h.types h.slots };
 }
 
 impl HeldWords {
@@ -66,6 +70,7 @@ impl HeldWords {
         ensures records { IfOk result (λ held. held.records ≡ map unread places.now) }
     {
         let hints = hints_of(alloc, places)?;
+        let slots = slots_of(alloc, &types)?;
         let mut records = Vec::with_capacity(alloc, places.len())?;
         for place in places {
             records.push_reserved(HeldRecord {
@@ -76,6 +81,7 @@ impl HeldWords {
         Ok(HeldWords {
             alloc,
             types,
+            slots,
             version,
             records,
             front: 0,
@@ -93,14 +99,19 @@ impl HeldWords {
 
     /// Whether it is known that all words of a row are held, so that none has to be asked: by a compare
     /// for each of its numbers, and by a look at the record of one that stands behind a record that was
-    /// not read. One that is past the last word is no word.
+    /// not read. One that is past the last word is no word. Where a number may be that of a word which is
+    /// not held, the slots of the log type tell whether it is one.
     #[inline]
     pub fn has_row(&self, row: RowRef<'_>) -> bool
-        ensures held { IsTrue result → (types : List (List ℕ))
-            → AreHeld self.now.records (numbers_of_row types (row_of row.entry)) }
+        ensures held { IsTrue result
+            → AreHeld self.now.records (numbers_of_row self.now.types (row_of row.entry)) }
     {
-        let records = self.records.as_slice();
-        are_held(records, self.hints.as_slice(), self.front, row.words)
+        let (records, hints) = (self.records.as_slice(), self.hints.as_slice());
+        if are_held(records, hints, self.front, row.words) {
+            return true;
+        }
+        let slots = text_at(&self.slots, row.log_type);
+        are_slots_held(records, hints, self.front, slots, row.words)
     }
 }
 

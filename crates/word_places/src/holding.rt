@@ -1,5 +1,5 @@
 //! Reading the words that are wanted, each with its record.
-ghost use Rattle.std.specs.Prelude.{◌≡◌, ◌<◌, length, OnOk, IsErrOf, IfSome, IsNone, IsTrue, slice_get, Some, None, slice_index_or, []};
+ghost use Rattle.std.specs.Prelude.{◌≡◌, ◌<◌, length, OnOk, IsErrOf, IfSome, IsNone, IsTrue, slice_get, Some, None};
 ghost use Rattle.log_seams.specs.Disk.{Rests};
 ghost use Rattle.log_seams.specs.Outside.{CountsOf};
 ghost use Rattle.column_store.specs.Row.{row_of};
@@ -18,8 +18,8 @@ use crate::reading::read_record;
 use crate::record::RecordWords;
 use crate::refusal::HoldRefusal;
 use crate::slots::hold_slots;
+use crate::type_slots::text_at;
 use column_store::RowRef;
-use dict_core::Texts;
 use log_seams::Disk;
 use std::alloc::Global;
 
@@ -80,20 +80,10 @@ impl HeldWords {
         ensures counts { CountsOf HoldRefusal.DiskFault
             (D.state disk.old).faults (D.state disk.new).faults result }
     {
-        let text = type_at(&self.types, row.log_type);
-        let answer = hold_slots(self.alloc, &mut self.records, disk, text, row.words);
+        let slots = text_at(&self.slots, row.log_type);
+        let answer = hold_slots(self.alloc, &mut self.records, disk, slots, row.words);
         self.front = read_front(self.records.as_slice(), self.front);
         answer
-    }
-}
-
-// The text of a log type, which is empty where there is none with this number.
-fn type_at(types: &Texts, number: u32) -> &[u8]
-    ensures { result.now ≡ slice_index_or types.now number [] }
-{
-    match types.text_of(number) {
-        Some(text) => text,
-        None => &[],
     }
 }
 

@@ -20,6 +20,7 @@ mod reading;
 mod record;
 mod refusal;
 mod slots;
+mod type_slots;
 
 pub use finding::find_words;
 pub use held::{HeldRecord, HeldWords};

@@ -1,5 +1,5 @@
 //! The words in the slots of a log type.
-ghost use Rattle.std.specs.Prelude.{◌≡◌, ◌<◌, ◌∷◌, ℕ, List, false, length, OnOk, IsErrOf};
+ghost use Rattle.std.specs.Prelude.{◌≡◌, ◌<◌, ◌∷◌, ℕ, List, false, length, IfSome, OnOk, IsErrOf};
 ghost use Rattle.log_seams.specs.Disk.{Rests};
 ghost use Rattle.log_seams.specs.Outside.{CountsOf};
 ghost use Rattle.logtype_text.specs.declared.symbols.Kind.TheVariants.{Word};
@@ -16,12 +16,13 @@ use log_seams::Disk;
 use logtype_text::Kind;
 use std::alloc::Global;
 
-// The kind of the slot that a byte of a log type's text is, if it is one, and whether it escapes the next
-// byte; `escaped` tells that it is escaped itself.
+/// The kind of the slot that a byte of a log type's text is, if it is one, and whether it escapes the next
+/// byte; `escaped` tells that it is escaped itself.
 #[inline]
-fn read_kind(escaped: bool, byte: u8) -> (bool, Option<Kind>)
-    ensures { (text : List ℕ)
+pub(crate) fn read_kind(escaped: bool, byte: u8) -> (bool, Option<Kind>)
+    ensures kinds { (text : List ℕ)
         → kinds_from escaped (byte ∷ text) ≡ with_kind result.1 (kinds_from result.0 text) }
+    ensures slot { IfSome result.1 (λ _. (escaped ≡ false) × (result.0 ≡ false)) }
 {
     if escaped {
         return (false, None);

@@ -34,8 +34,9 @@ loop-page-preserved g c =
       all = rows_gone _ inv.gone c.loop-page.ahead.queue.items c.give_back.new.self.queue.items c.in-Some.page inv.all (search rules);
       decided = All-rest (IsDecidedPage n c.args.over.now.context.now.query) c.in-Some.page c.give_back.new.self.queue.items c.loop-page.ahead.queue.items (search rules) inv.decided;
       held =
-          held_pages_grow c.loop-page.held.records c.wait_next.new.held.records c.give_back.new.self.queue.items inv.served.serves.numbered c.in_ok-wait_next.ensures.served.serves.numbered c.in_ok-wait_next.ensures.grow
-          (All-rest (IsHeldPage c.loop-page.held.records) c.in-Some.page c.give_back.new.self.queue.items c.loop-page.ahead.queue.items (search rules) inv.held);
+          held_pages_grow c.loop-page.held c.wait_next.new.held c.give_back.new.self.queue.items inv.served.serves.numbered c.in_ok-wait_next.ensures.served.serves.numbered c.in_ok-wait_next.ensures.grow
+          (c.in_ok-wait_next.ensures.served.serves.types ∙ sym inv.served.serves.types)
+          (All-rest (IsHeldPage c.loop-page.held) c.in-Some.page c.give_back.new.self.queue.items c.loop-page.ahead.queue.items (search rules) inv.held);
       count = omega (arith, inv.count, length-append inv.gone rows, c.rows-rows.ensures);
       reads = λ p. such_on (IsOfPage n p) (g.D.Disk.state c.args.disk.now) (g.D.Disk.state c.loop-page.disk) (g.D.Disk.state c.wait_next.new.disk) (inv.reads p) (c.wait_next.ensures.reads p);
       faults = search rules;
@@ -54,7 +55,7 @@ wait_next-requires-clause-may_wait g c = λ _ _.
 
 pub wait_next-requires-clause-held : goal.wait_next-requires-clause-held
 wait_next-requires-clause-held g c = λ _ _.
-    All-head (IsHeldPage c.loop-page.held.records) c.in-Some.page c.pop_front.new.self.items (All-same (IsHeldPage c.loop-page.held.records) (c.in-Some.page ∷ c.pop_front.new.self.items) c.loop-page.ahead.queue.items (sym (search rules)) c.loop-page.invariant.held)
+    All-head (IsHeldPage c.loop-page.held) c.in-Some.page c.pop_front.new.self.items (All-same (IsHeldPage c.loop-page.held) (c.in-Some.page ∷ c.pop_front.new.self.items) c.loop-page.ahead.queue.items (sym (search rules)) c.loop-page.invariant.held)
 
 pub wait_next-requires-clause-told : goal.wait_next-requires-clause-told
 wait_next-requires-clause-told g c = λ _ _. words_seen c.args.over.now.context.now.names (g.D.Disk.state c.args.disk.now) (g.D.Disk.state c.loop-page.disk) c.loop-page.invariant.reads ∙ c.requires.told

@@ -14,7 +14,7 @@ invariant-loop-page g l = record {
   gone : List Row;
   all : rows_of l.fn.ahead.queue.items ≡ gone ++ rows_of l.ahead.queue.items;
   decided : AreDecidedPages l.over.context.now.names l.over.context.now.query l.ahead.queue.items;
-  held : AreHeldPages l.held.records l.ahead.queue.items;
+  held : AreHeldPages l.held l.ahead.queue.items;
   count : l.rows ≡ length gone;
   reads : (p : Paged) → ReadsPage l.over.context.now.names p (g.D.Disk.state l.fn.disk) (g.D.Disk.state l.disk);
   faults : (g.D.Disk.state l.disk).faults ≡ (g.D.Disk.state l.fn.disk).faults;

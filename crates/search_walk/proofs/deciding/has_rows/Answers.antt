@@ -13,7 +13,7 @@ verdict_at-verdict-requires c =
 
 pub loop-place-preserved : goal.loop-place-preserved
 loop-place-preserved c =
-    zip_more (IsHeldFor c.args.held.now.records) c.args.page.now.rows _ _ c.loop-place.place _ c.verdict_at-verdict.result c.row.ensures (take_more c.args.verdicts.now c.loop-place.place c.verdict_at-verdict.result c.verdict_at-verdict.ensures) c.loop-place.invariant (c.has_row.ensures (search rules))
+    zip_more (IsHeldFor c.args.held.now) c.args.page.now.rows _ _ c.loop-place.place _ c.verdict_at-verdict.result c.row.ensures (take_more c.args.verdicts.now c.loop-place.place c.verdict_at-verdict.result c.verdict_at-verdict.ensures) c.loop-place.invariant (c.has_row.ensures (search rules))
 
 pub returns : goal.returns
-returns c = λ _. zip_full (IsHeldFor c.args.held.now.records) c.args.page.now.rows c.args.verdicts.now c.loop-place.place (search rules) c.requires c.loop-place.invariant
+returns c = λ _. zip_full (IsHeldFor c.args.held.now) c.args.page.now.rows c.args.verdicts.now c.loop-place.place (search rules) c.requires c.loop-place.invariant

@@ -1,12 +1,13 @@
+use Rattle.std.proofs.Common.{rules}
 use Rattle.word_places.proofs.HeldLemmas.{grow_same}
-use Rattle.search_walk.proofs.ReadyLemmas.{serves_grown}
+use Rattle.search_walk.proofs.ReadyLemmas.{row_ready, serves_grown}
 use Rattle.search_walk.proofs.deciding.hold_row.Goals as goal
-
-pub returns-then-is_rejected-clause-grow : goal.returns-then-is_rejected-clause-grow
-returns-then-is_rejected-clause-grow g c = grow_same c.args.held.now.records
 
 pub returns-then-has_row-clause-grow : goal.returns-then-has_row-clause-grow
 returns-then-has_row-clause-grow g c = grow_same c.args.held.now.records
+
+pub returns-then-has_row-clause-ready : goal.returns-then-has_row-clause-ready
+returns-then-has_row-clause-ready g c = row_ready c.args.context.now.names c.args.context.now.query c.args.held.now _ c.args.verdict c.requires.serves.types c.requires.decided (c.has_row.ensures (search rules))
 
 pub returns-in_err-answer-clause-serves : goal.returns-in_err-answer-clause-serves
 returns-in_err-answer-clause-serves g c =

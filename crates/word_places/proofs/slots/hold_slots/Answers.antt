@@ -46,7 +46,7 @@ loop-byte-preserved g c =
       rests = rests_on _ _ _ inv.rests c.hold_slot.ensures.rests;
       reads = reads_next old now _ _ _ inv.held.grow inv.reads c.hold_slot.ensures.reads;
       held = held_slot old now new c.args.text.now c.args.words.now c.loop-byte.escaped c.read_kind-next.result.0 c.loop-byte.byte-index _ (get_or left 0 0) c.read_kind-next.result.1 c.in-Some.kind left _
-          inv.held c.loop-byte-test.true refl c.read_kind-next.ensures c.in-Some.is (cut_first left (search rules)) c.hold_slot.ensures.numbered c.hold_slot.ensures.grow c.in_ok-hold_slot.ensures.held;
+          inv.held c.loop-byte-test.true refl c.read_kind-next.ensures.kinds c.in-Some.is (cut_first left (search rules)) c.hold_slot.ensures.numbered c.hold_slot.ensures.grow c.in_ok-hold_slot.ensures.held;
       right = right_next _ _ old now new inv.rests.seen inv.right c.hold_slot.ensures.right;
       steady = c.in_ok-hold_slot.ensures.counts.steady ∙ inv.steady;
     }

@@ -13,7 +13,7 @@ loop-init g c = record {
   faults = refl;
   ahead = ahead_none _ c.args.pages.now c.args.pages.now _ c.clear.ensures.items refl;
   decided = All-same (IsDecidedPage c.args.context.now.names c.args.context.now.query) _ [] c.clear.ensures.items (All-nil (IsDecidedPage c.args.context.now.names c.args.context.now.query));
-  held = All-same (IsHeldPage c.args.held.now.records) _ [] c.clear.ensures.items (All-nil (IsHeldPage c.args.held.now.records));
+  held = All-same (IsHeldPage c.args.held.now) _ [] c.clear.ensures.items (All-nil (IsHeldPage c.args.held.now));
   few = search rules;
 }
 
@@ -27,7 +27,7 @@ returns-in-Err-DiskFault g c =
       reads = ahead_reads old.seen c.args.pages.now c.loop.pages c.loop.self.queue.items old mid new c.loop.invariant.ahead c.loop.invariant.reads c.read_one.ensures.reads;
       ahead = tt;
       decided = All-same (IsDecidedPage c.args.context.now.names c.args.context.now.query) _ _ kept.1 c.loop.invariant.decided;
-      held = All-same (IsHeldPage c.args.held.now.records) _ _ kept.1 c.loop.invariant.held;
+      held = All-same (IsHeldPage c.args.held.now) _ _ kept.1 c.loop.invariant.held;
       few = omega (arith, ap length kept.1, c.loop.invariant.few);
       damaged = search rules;
       sink = search rules;
@@ -47,7 +47,7 @@ returns-in-Err g c =
           subst (λ (p : Paged). AreAhead old.seen c.args.pages.now c.read_one.new.self.queue.items p) (sym kept.0)
           (subst (λ (l : List AheadPage). AreAhead old.seen c.args.pages.now l c.loop.pages) (sym kept.1) c.loop.invariant.ahead);
       decided = All-same (IsDecidedPage c.args.context.now.names c.args.context.now.query) _ _ kept.1 c.loop.invariant.decided;
-      held = All-same (IsHeldPage c.args.held.now.records) _ _ kept.1 c.loop.invariant.held;
+      held = All-same (IsHeldPage c.args.held.now) _ _ kept.1 c.loop.invariant.held;
       few = omega (arith, ap length kept.1, c.loop.invariant.few);
       damaged = search rules;
       sink = search rules;

@@ -10,6 +10,6 @@ invariant-loop g l = record {
   faults : (g.D.Disk.state l.disk).faults ≡ (g.D.Disk.state l.fn.disk).faults;
   ahead : AreAhead (g.D.Disk.state l.fn.disk).seen l.fn.pages l.self.queue.items l.pages;
   decided : AreDecidedPages l.context.names l.context.query l.self.queue.items;
-  held : AreHeldPages l.held.records l.self.queue.items;
+  held : AreHeldPages l.held l.self.queue.items;
   few : length l.self.queue.items ≤ 65536;
 }

@@ -41,8 +41,8 @@ has_rows-known-requires g c =
 
 pub returns-clause-held : goal.returns-clause-held
 returns-clause-held g c = λ are.
-    let records = c.args.held.now.records in
+    let held = c.args.held.now in
     let page : AheadPage = record { columns = c.in_ok-columns.columns; verdicts = c.decide_page.new.verdicts; known = c.has_rows-known.result } in
     let added : c.push_back_reserved.new.self.items ≡ c.args.self.now.queue.items ++ page ∷ [] = c.push_back_reserved.ensures.items ∙ ap (λ (l : List AheadPage). l ++ page ∷ []) c.reserve.ensures.items in
-    All-same (IsHeldPage records) _ _ added
-    (All-push (IsHeldPage records) c.args.self.now.queue.items page are (λ is. subst (λ (l : List Verdict). AreHeldFor records c.in_ok-columns.columns.rows l) c.as_slice.ensures.value (c.has_rows-known.ensures is)))
+    All-same (IsHeldPage held) _ _ added
+    (All-push (IsHeldPage held) c.args.self.now.queue.items page are (λ is. subst (λ (l : List Verdict). AreHeldFor held c.in_ok-columns.columns.rows l) c.as_slice.ensures.value (c.has_rows-known.ensures is)))

@@ -45,10 +45,10 @@ returns-clause-done g c =
 
 -- the records are those that the printer was made with
 pub returns-in_err-match_beside-clause-held : goal.returns-in_err-match_beside-clause-held
-returns-in_err-match_beside-clause-held g c = subst (λ (h : HeldNames). AreHeldPages h.records c.match_beside.new.ahead.queue.items) c.of-printer.ensures.held c.match_beside.ensures.ahead.held
+returns-in_err-match_beside-clause-held g c = subst (λ (h : HeldNames). AreHeldPages h c.match_beside.new.ahead.queue.items) c.of-printer.ensures.held c.match_beside.ensures.ahead.held
 
 pub returns-in_err-gather_all-clause-held : goal.returns-in_err-gather_all-clause-held
-returns-in_err-gather_all-clause-held g c = subst (λ (h : HeldNames). AreHeldPages h.records c.match_beside.new.ahead.queue.items) c.of-printer.ensures.held c.match_beside.ensures.ahead.held
+returns-in_err-gather_all-clause-held g c = subst (λ (h : HeldNames). AreHeldPages h c.match_beside.new.ahead.queue.items) c.of-printer.ensures.held c.match_beside.ensures.ahead.held
 
 pub returns-clause-held : goal.returns-clause-held
-returns-clause-held g c = subst (λ (h : HeldNames). AreHeldPages h.records c.match_beside.new.ahead.queue.items) c.of-printer.ensures.held c.match_beside.ensures.ahead.held
+returns-clause-held g c = subst (λ (h : HeldNames). AreHeldPages h c.match_beside.new.ahead.queue.items) c.of-printer.ensures.held c.match_beside.ensures.ahead.held

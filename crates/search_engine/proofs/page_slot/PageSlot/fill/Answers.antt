@@ -29,4 +29,4 @@ returns-clause-reads g c = λ p. words_such c.args.context.now.names p (g.D.Disk
 
 pub hold_rows-requires-clause-known : goal.hold_rows-requires-clause-known
 hold_rows-requires-clause-known g c = λ is.
-    held_same c.args.held.now.records c.args.ahead.now.columns.rows c.swap.new.x.rows c.args.ahead.now.verdicts.items c.as_slice.result.now (search rules) (search rules) (c.requires.held is)
+    held_same c.args.held.now c.args.ahead.now.columns.rows c.swap.new.x.rows c.args.ahead.now.verdicts.items c.as_slice.result.now (search rules) (search rules) (c.requires.held is)

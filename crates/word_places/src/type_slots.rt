@@ -1,0 +1,51 @@
+//! The slots of log types, without the constant bytes between them.
+ghost use Rattle.std.specs.Prelude.{◌≡◌, [], false, IfOk, OnOk, slice_index_or};
+ghost use Rattle.row_codec.specs.Numbers.{kinds_from};
+ghost use Rattle.word_places.specs.StepsHeld.{HaveSlots};
+
+use crate::slots::read_kind;
+use dict_core::Texts;
+use std::alloc::{AllocError, Global};
+
+/// The text with a number, which is empty where there is none.
+#[inline]
+pub(crate) fn text_at(texts: &Texts, number: u32) -> &[u8]
+    ensures { result.now ≡ slice_index_or texts.now number [] }
+{
+    match texts.text_of(number) {
+        Some(text) => text,
+        None => &[],
+    }
+}
+
+// The bytes of a log type's text that stand for its slots, put into a buffer that is empty.
+fn push_slots(text: &[u8], slots: &mut Vec<u8>) -> Result<(), AllocError>
+    requires { slots.old.items ≡ [] }
+    ensures { OnOk result (kinds_from false slots.new.items ≡ kinds_from false text.now) }
+{
+    let mut escaped = false;
+    for byte in text {
+        let (next, slot) = read_kind(escaped, *byte);
+        escaped = next;
+        let Some(_kind) = slot else {
+            continue;
+        };
+        slots.push(*byte)?;
+    }
+    Ok(())
+}
+
+/// Of each log type the bytes that stand for its slots: what tells which numbers of a row are words, in a
+/// few bytes for each.
+pub(crate) fn slots_of(alloc: Global, types: &Texts) -> Result<Texts, AllocError>
+    ensures { IfOk result (λ slots. HaveSlots types.now slots) }
+{
+    let mut all = Texts::new(alloc);
+    let mut slots = Vec::new(alloc);
+    for number in 0..types.len() {
+        slots.clear();
+        push_slots(text_at(types, number), &mut slots)?;
+        all.push(slots.as_slice())?;
+    }
+    Ok(all)
+}
