@@ -1,4 +1,4 @@
-# `make` proves and builds the program and leaves it at bin/clpa; `make demo` shows it at once; `make dist`
+# `make` proves and builds the program as the gate does, and leaves it at bin/clpa; `make demo` shows it at once; `make dist`
 # packs it for machines that have nothing of this.
 PROGRAM := bin/clpa
 PREFIX ?= /usr/local
@@ -11,9 +11,7 @@ FISH_COMPLETIONS ?= $(PREFIX)/share/fish/vendor_completions.d
 .PHONY: build demo test dist install clean rt
 
 build: rt
-	cd crates/clpa && rt run -- - show data/service.log > /dev/null
-	mkdir -p bin
-	cp crates/clpa/out/clpa $(PROGRAM)
+	tools/build
 
 demo:
 	tools/demo
