@@ -18,6 +18,8 @@ pub(crate) struct Halting<'t> {
     pub(crate) fails: u64,
     /// Whether another has its lock.
     pub(crate) lock_taken: bool,
+    /// What a sync of it fails with.
+    pub(crate) sync_fails: Option<ErrorKind>,
     /// What was called, one digit a call: 2 for a sync of the file, 4 for taking its lock, 5 for a read, 6
     /// for its length, 7 for a write.
     pub(crate) trace: &'t Cell<u64>,
@@ -37,6 +39,7 @@ impl<'t> Halting<'t> {
             calls: 0,
             fails,
             lock_taken: false,
+            sync_fails: None,
             trace,
         }
     }
@@ -131,7 +134,10 @@ impl OffsetFile for Halting<'_> {
 
     fn sync(&mut self) -> io::Result<()> {
         note(self.trace, 2);
-        Ok(())
+        match self.sync_fails {
+            Some(kind) => Err(kind.into()),
+            None => Ok(()),
+        }
     }
 
     ghost bounded = { λ _. tt };
@@ -147,9 +153,12 @@ pub(crate) struct HaltingPlace<'t> {
     pub(crate) bytes: &'t [u8],
     /// Whether another has the lock of the file.
     pub(crate) lock_taken: bool,
+    /// What a sync of the file fails with.
+    pub(crate) sync_fails: Option<ErrorKind>,
     /// Whether a sync of the folder fails.
     pub(crate) folder_fails: bool,
-    /// What was called, one digit a call: 1 for making the file, 3 for a sync of the folder.
+    /// What was called, one digit a call: 1 for making the file, 3 for a sync of the folder, 8 for opening
+    /// the file to read it alone.
     pub(crate) trace: &'t Cell<u64>,
 }
 
@@ -161,6 +170,7 @@ impl<'t> HaltingPlace<'t> {
             is_there: false,
             bytes: &[],
             lock_taken: false,
+            sync_fails: None,
             folder_fails: false,
             trace,
         }
@@ -170,6 +180,7 @@ impl<'t> HaltingPlace<'t> {
         let bytes = Vec::from_slice(self.alloc, self.bytes)?;
         let mut file = Halting::new(bytes, u64::MAX, self.trace);
         file.lock_taken = self.lock_taken;
+        file.sync_fails = self.sync_fails;
         Ok(file)
     }
 }
@@ -182,6 +193,11 @@ impl<'t> Place for HaltingPlace<'t> {
             return Ok(Some(self.file()?));
         }
         Ok(None)
+    }
+
+    fn open_to_read(&self) -> io::Result<Option<Halting<'t>>> {
+        note(self.trace, 8);
+        self.open()
     }
 
     fn make(&self) -> io::Result<Halting<'t>> {

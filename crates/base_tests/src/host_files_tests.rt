@@ -7,6 +7,7 @@ use host_files::{DiskFile, LogFile, Stream};
 use log_seams::{Disk, Failed, Sink, Source};
 use std::alloc::{AllocError, Global};
 use std::cell::Cell;
+use std::io::ErrorKind;
 use std::test::Fail;
 
 /// Bytes of which neighbours differ.
@@ -169,17 +170,24 @@ fn the_lock_comes_before_all_else(rt: HostRuntime) {
     assert!(rt; writes(rt.alloc(), true, [false; 4], 4));
 }
 
-/// Whether a disk that is read alone asks for no lock.
-fn reads(alloc: Global) -> bool {
+/// Whether a disk that is read alone answers a sync so where that of its file fails with this, and asks
+/// neither for a lock nor for a sync of the folder.
+fn reads(alloc: Global, sync_fails: Option<ErrorKind>, synced: bool) -> bool {
     let trace = Cell::new(0);
-    let mut disk = DiskFile::to_read(place_of_one(alloc, &trace, true));
+    let mut place = place_of_one(alloc, &trace, true);
+    place.sync_fails = sync_fails;
+    let mut disk = DiskFile::to_read(place);
     let is_locked = disk.locked_id().is_some();
-    !is_locked && answers(&mut disk) == [true, true, false, true] && trace.get() == 65_523
+    !is_locked && answers(&mut disk) == [true, true, false, synced] && trace.get() == 86_552
 }
 
+// A file that has no sync is read as others are; one whose sync fails is not.
 #[test]
 fn what_is_read_alone_is_not_locked(rt: HostRuntime) {
-    assert!(rt; reads(rt.alloc()));
+    assert!(rt; reads(rt.alloc(), None, true));
+    assert!(rt; reads(rt.alloc(), Some(ErrorKind::InvalidInput), true));
+    assert!(rt; reads(rt.alloc(), Some(ErrorKind::ReadOnlyFilesystem), true));
+    assert!(rt; reads(rt.alloc(), Some(ErrorKind::Other), false));
 }
 
 /// Whether a file that is made is not written, by these calls: between making and locking it another took

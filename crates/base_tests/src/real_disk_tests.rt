@@ -153,9 +153,17 @@ const READ_ONLY: &[DiskCall] = &[
     DiskCall::Faults(1),
 ];
 
+/// The same file has no sync, which one that only reads does without.
+const NO_SYNC: &[DiskCall] = &[
+    DiskCall::Read(0, Ok(8), b"Linux ve"),
+    DiskCall::Sync(Ok(())),
+    DiskCall::Faults(0),
+];
+
 #[test]
 fn a_file_that_can_only_be_read(rt: HostRuntime) {
     assert!(rt; written_answers(&rt, "/proc/version", READ_ONLY));
+    assert!(rt; read_answers(&rt, "/proc/version", NO_SYNC));
 }
 
 /// One that writes a file of two bytes while another has its lock.

@@ -1,5 +1,6 @@
 //! A file as a disk. It tells no content, and counts one fault for each call that failed.
-ghost use Rattle.std.specs.Prelude.{◌≡◌, ◌≤◌, ◌+◌, ◌^◌, length, None, IfOk};
+ghost use Rattle.std.specs.Prelude.{◌≡◌, ◌≢◌, ◌≤◌, ◌+◌, ◌^◌, ◌↔◌, ◌⊎◌, length, None, Ok, Err, IfOk, IfErr, IsTrue};
+ghost use Rattle.std.specs.IoError.{error_kind};
 
 use crate::faults::counted;
 use crate::file_id::FileId;
@@ -43,11 +44,33 @@ fn not_held() -> io::Error {
     ErrorKind::PermissionDenied.into()
 }
 
+/// Whether a file was not synced because it has no sync, as one of a file system that is only read.
+fn has_no_sync(error: io::Error) -> bool
+    ensures { IsTrue result ↔ ((error_kind error ≡ ErrorKind.ReadOnlyFilesystem)
+        ⊎ (error_kind error ≡ ErrorKind.InvalidInput)
+        ⊎ (error_kind error ≡ ErrorKind.Unsupported)
+        ⊎ (error_kind error ≡ ErrorKind.PermissionDenied)) }
+{
+    let kind = error.kind();
+    kind == ErrorKind::ReadOnlyFilesystem
+        || kind == ErrorKind::InvalidInput
+        || kind == ErrorKind::Unsupported
+        || kind == ErrorKind::PermissionDenied
+}
+
+/// Syncs a file that is read alone, where it has a sync: nothing was written here that would need one.
+fn sync_read<F: OffsetFile>(file: &mut F) -> io::Result<()> {
+    match file.sync() {
+        Err(error) if has_no_sync(error) => Ok(()),
+        answer => answer,
+    }
+}
+
 impl<P: Place> PlacedFile<P, P::File> {
     /// Opens a file that is read alone, where it is there and not open yet.
     fn find(&mut self) -> io::Result<()> {
         if let Held::Reading(None) = &self.held {
-            self.held = Held::Reading(self.place.open()?);
+            self.held = Held::Reading(self.place.open_to_read()?);
         }
         Ok(())
     }
@@ -86,12 +109,12 @@ impl<P: Place> PlacedFile<P, P::File> {
         }
     }
 
-    /// The folder is synced once, at the first sync of the file, so that the file's name is as durable
-    /// as its bytes.
+    /// Of a file that may be written the folder is synced too, once, at the first sync, so that the
+    /// file's name is as durable as its bytes. One that is read alone asks nothing of the folder.
     fn sync(&mut self) -> io::Result<()> {
         self.find()?;
         match &mut self.held {
-            Held::Reading(Some(file)) => file.sync()?,
+            Held::Reading(Some(file)) => return sync_read(file),
             Held::Locked(locked) => locked.sync()?,
             Held::Reading(None) | Held::Absent => return Ok(()),
             Held::Refused => return Err(not_held()),
@@ -119,7 +142,8 @@ pub struct DiskFile<P, F: OffsetFile> {
 }
 
 impl<P: Place> DiskFile<P, P::File> {
-    /// A disk that is read alone, and takes no lock. Its file was not looked for yet; each write fails.
+    /// A disk that is read alone, takes no lock, and asks nothing of the folder. Its file was not looked
+    /// for yet; each write fails.
     pub fn to_read(place: P) -> Self
         ensures { result.faults ≡ 0 }
     {

@@ -5,7 +5,7 @@ ghost use Rattle.log_seams.specs.Disk.{laid};
 ghost use Rattle.host_files.specs.Offset.{GaveSome};
 
 use crate::file_id::FileId;
-use std::fs::{File, OpenOptions};
+use std::fs::{self, File, OpenOptions};
 use std::io::{self, ErrorKind};
 use std::os::fd::AsRawFd;
 use std::os::unix::fs::FileExt;
@@ -100,8 +100,12 @@ pub trait Place {
     /// The file there.
     type File: OffsetFile;
 
-    /// Opens the file; `None` where nothing stands there.
+    /// Opens the file to write it, or to read it alone where that is all that it allows; `None` where
+    /// nothing stands there.
     fn open(&self) -> io::Result<Option<Self::File>>;
+
+    /// Opens the file to read it alone; `None` where nothing stands there.
+    fn open_to_read(&self) -> io::Result<Option<Self::File>>;
 
     /// Makes the file, where nothing stands yet.
     fn make(&self) -> io::Result<Self::File>;
@@ -141,6 +145,14 @@ fn open_if_there<R: Files<File = File>>(rt: &R, path: &str) -> io::Result<Option
     }
 }
 
+/// Opens a file for reading alone. A folder is not opened, nor a pipe, which would wait for its writer.
+fn open_file<R: Files<File = File>>(rt: &R, path: &str) -> io::Result<File> {
+    if !fs::metadata(rt, path)?.is_file() {
+        return Err(ErrorKind::InvalidInput.into());
+    }
+    File::open(rt, path)
+}
+
 /// A file whose number is none of the three of the standard streams: what is meant for a stream that
 /// was closed must not land in the file.
 fn above_streams(file: File) -> io::Result<File> {
@@ -172,6 +184,13 @@ impl<R: Files<File = File>> Place for FilePath<'_, R> {
 
     fn open(&self) -> io::Result<Option<File>> {
         match open_if_there(self.rt, self.path)? {
+            Some(file) => Ok(Some(above_streams(file)?)),
+            None => Ok(None),
+        }
+    }
+
+    fn open_to_read(&self) -> io::Result<Option<File>> {
+        match if_there(open_file(self.rt, self.path))? {
             Some(file) => Ok(Some(above_streams(file)?)),
             None => Ok(None),
         }
