@@ -47,7 +47,7 @@ has_chunk ps c is s m =
 
 -- ---- it stands in the stamp, over the border, or in the body
 
-front_run : (w s : List ℕ) → Steps (bytes w (Many ∷ [])) s → Run w s
+pub front_run : (w s : List ℕ) → Steps (bytes w (Many ∷ [])) s → Run w s
 front_run [] s m = record { rest = s; joins = refl }
 front_run (b ∷ w) [] m = elim m [ ]
 front_run (b ∷ w) (c ∷ s) (byte m) = let r = front_run w s m in record { rest = r.rest; joins = ap (λ x. c ∷ x) r.joins }

@@ -16,3 +16,4 @@ mod BringLemmas
 mod TailLemmas
 mod TokenLemmas
 mod ChunkLemmas
+mod SlotLemmas

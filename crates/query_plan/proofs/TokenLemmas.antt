@@ -62,7 +62,7 @@ has_word t (WordPiece w ∷ ps) has s m = elim (contains_cases (WordPiece w) (Wo
   | inr there ↦ bytes_in t (flat ps) (λ u n. has_word t ps there u n) w s m
 ]
 
-inner_of : (t : List ℕ) → IsSomeInner t → IsInner t
+pub inner_of : (t : List ℕ) → IsSomeInner t → IsInner t
 inner_of [] c = absurd c
 inner_of (b ∷ t) c = c
 

@@ -4,6 +4,7 @@ ghost use Rattle.query_plan.specs.Laws.{ConstantsSuffice, NeededWordsAreBrought,
 ghost use Rattle.query_plan.specs.Laws.{ReadingsAreExact, SearchesAreSearched, WideIsExact};
 ghost use Rattle.query_plan.specs.Laws.{ChunksAreBrought, ForeignStandsInNoStamp, TokensAreBrought, TokensStand};
 ghost use Rattle.query_plan.specs.Laws.{WideIsWidened, WideIsWider};
+ghost use Rattle.query_plan.specs.Slots.{ChunksMayStand, FrontsBegin, TextsStand};
 
 use logtype_text::parts_are_cut;
 
@@ -58,6 +59,17 @@ pub fn tokens_are_brought()
 /// in the body with a delimiter.
 pub fn chunks_are_brought()
     ensures { ChunksAreBrought }
+{
+    parts_are_cut();
+}
+
+/// A text stands in a body only where it may stand in the text of the body's log type, and at its front
+/// only where it may begin there. So of a message that a pattern matches, each run of the pattern's
+/// pieces between two gaps stands in its stamp, or goes on behind it, or may stand in its log type.
+pub fn texts_stand()
+    ensures stand { TextsStand }
+    ensures fronts { FrontsBegin }
+    ensures chunks { ChunksMayStand }
 {
     parts_are_cut();
 }

@@ -1,0 +1,5 @@
+use Rattle.stamp_templates.specs.StepsBetween.{AreSame}
+use Rattle.stamp_templates.proofs.between.same_front.Given as goal
+
+abbrev pub invariant-loop-place : goal.invariant-loop-place
+invariant-loop-place l = AreSame l.one l.other l.place
