@@ -1,4 +1,4 @@
-use Rattle.std.proofs.Common.{◌<◌, length, rules, tests}
+use Rattle.std.proofs.Common.{◌<◌, rules, tests}
 use Rattle.std.specs.Prelude.{slice_index}
 use Rattle.stamp_templates.proofs.BetweenLemmas.{front_below}
 use Rattle.stamp_templates.proofs.between.is_below.Goals.{then-place-text, else-place-text}

@@ -1,4 +1,4 @@
-use Rattle.std.proofs.Common.{◌≡◌, ◌≤◌, ◌++◌, length, take, rules, tests, subst, inl, inr}
+use Rattle.std.proofs.Common.{◌≡◌, ◌++◌, take, rules, tests, subst, inl, inr}
 use Rattle.stamp_templates.specs.Laws.{IsNotAbove}
 use Rattle.stamp_templates.proofs.BetweenLemmas.{stands_out}
 use Rattle.stamp_templates.proofs.between.is_kept_out.Goals as goal
