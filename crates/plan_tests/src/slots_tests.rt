@@ -43,8 +43,14 @@ const SLOTS: &[(&[u8], &[u8], bool, bool)] = &[
 #[test]
 fn where_texts_may_stand(rt: HostRuntime) {
     for (text, log_type, begins, stands) in SLOTS {
-        assert!(rt; may_begin(text, log_type) == *begins, "{text:?} begins {log_type:?}");
-        assert!(rt; may_stand(text, log_type) == *stands, "{text:?} stands in {log_type:?}");
+        assert!(rt;
+            may_begin(text, log_type) == *begins,
+            "{text:?} begins {log_type:?}"
+        );
+        assert!(rt;
+            may_stand(text, log_type) == *stands,
+            "{text:?} stands in {log_type:?}"
+        );
     }
 }
 
