@@ -3,3 +3,5 @@
 
 #[cfg(test)]
 mod query_plan_tests;
+#[cfg(test)]
+mod slots_tests;

@@ -1,12 +1,12 @@
 -- A text that stands in a body may stand in the body's log type.
-use Rattle.std.proofs.Common.{◌≡◌, ◌⊎◌, ℕ, cond, List, [], ◌∷◌, ◌++◌, map, refl, sym, ◌∙◌, ap, subst, inl, inr}
+use Rattle.std.proofs.Common.{◌≡◌, ℕ, cond, List, [], ◌∷◌, ◌++◌, map, refl, sym, ◌∙◌, ap, subst, inl, inr}
 use Rattle.std.specs.Prelude.{◌↔◌, ◌≢◌, IsTrue, Option, None}
 use Rattle.token_rules.specs.Tokens.{is_token_byte, IsDelimiter}
 use Rattle.logtype_text.specs.declared.symbols.Kind.{Kind}
 use Rattle.logtype_text.specs.declared.symbols.Symbol.{Symbol}
-use Rattle.logtype_text.specs.declared.symbols.Symbol.TheVariants.{Byte, Slot}
+use Rattle.logtype_text.specs.declared.symbols.Symbol.TheVariants.{Slot}
 use Rattle.logtype_text.specs.Cut.{PartsAreCut, plains}
-use Rattle.logtype_text.specs.Parts.{Part, Constant, Variable, symbol_of}
+use Rattle.logtype_text.specs.Parts.{Part, Constant, symbol_of}
 use Rattle.logtype_text.specs.TypeText.{text_of_symbol, type_text}
 use Rattle.logtype_text.proofs.TextLemmas.{first_same, some_byte}
 use Rattle.wild_match.specs.declared.pattern.Item.TheVariants.{Many}
@@ -150,15 +150,6 @@ left_then P Q R rest symbol after cut step left =
     let here = subst (λ x. P ↔ Q x) l.1 left.2 in
     let more = step l.0 in
     (l.0, l.2, (λ p. more.0 (here.0 p), λ r. here.1 (more.1 r)))
-
-pub none_stands : (w : List ℕ) (symbol : Symbol) (others : List Symbol) → ¬ MayBegin w (symbol ∷ others) → MayStand w (symbol ∷ others) ↔ MayStand w others
-none_stands w symbol others never = (
-  λ (m : MayStand w (symbol ∷ others)). elim m [
-    | inl begins ↦ absurd (never begins)
-    | inr later ↦ later
-  ],
-  λ m. inr m,
-)
 
 pub stands_here : (w : List ℕ) (symbols : List Symbol) → MayBegin w symbols → MayStand w symbols
 stands_here w [] m = m

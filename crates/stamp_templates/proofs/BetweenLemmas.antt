@@ -1,55 +1,84 @@
 -- What lies between two texts.
-use Rattle.std.proofs.Common.{◌≡◌, ℕ, zero, suc, ◌+◌, ◌-◌, ◌<◌, ◌≤◌, ◌⊎◌, inl, inr, List, [], ◌∷◌, length, sym, ap, subst, ◌∙◌, arith, ℤ}
+use Rattle.std.proofs.Common.{◌≡◌, ℕ, zero, suc, ◌+◌, ◌<◌, ◌≤◌, ◌⊎◌, inl, inr, List, [], ◌∷◌, ◌++◌, length, take, drop, sym, ap, subst, ◌∙◌, arith, ℤ}
+use Rattle.std.proofs.Math.ListN.{get_or-append}
 use Rattle.std.proofs.lemmas.Bool.{cases_lt}
+use Rattle.std.proofs.lemmas.List.{length-append, take-append-drop}
 use Rattle.std.specs.Prelude.{◌<ℤ◌, ◌≤ℤ◌, slice_index}
 use Rattle.time_patterns.specs.Laws.{PrintsFrom}
 use Rattle.time_patterns.specs.Stamps.{IsPrintable, Prints}
 use Rattle.wild_match.specs.Matches.{Match}
 use Rattle.query_plan.specs.Needs.{around}
 use Rattle.stamp_templates.specs.Laws.{IsNotAbove, MatchesStand, PlacesFit, StandsAt}
+use Rattle.stamp_templates.specs.StepsBetween.{AreSame}
 use Rattle.stamp_templates.specs.Templates.{FitsAt, template_of}
-use Rattle.stamp_templates.proofs.PlaceLemmas.{same_byte}
 use Rattle.stamp_templates.proofs.SearchLemmas.{within}
 
 -- what a pattern prints lies in its range
 pub in_range : (k : ℕ) (m first end : ℤ) (unit : ℕ) → PrintsFrom k first end unit → IsPrintable k m → (first ≤ℤ m) × (m <ℤ end)
 in_range k m first end unit range is = let r = (range m).0 is in (r.0, r.1)
 
--- the bytes of two texts before a place are the same
-abbrev pub AreSame : List ℕ → List ℕ → ℕ → Type 0
-AreSame low high place = (i : ℕ) → i < place → slice_index low i ≡ slice_index high i
-
-pub same_more : (low high : List ℕ) (place : ℕ) → AreSame low high place → slice_index low place ≡ slice_index high place → AreSame low high (place + 1)
-same_more low high place same here i lt =
+pub same_more : (one other : List ℕ) (place : ℕ) → AreSame one other place → slice_index one place ≡ slice_index other place → AreSame one other (place + 1)
+same_more one other place same here i lt =
     elim (cases_lt i place) [
       | inl before ↦ same i before
       | inr past ↦
           let e : i ≡ place = omega (arith, lt, past) in
-          subst (λ n. slice_index low n ≡ slice_index high n) (sym e) here
+          subst (λ n. slice_index one n ≡ slice_index other n) (sym e) here
     ]
 
--- the byte behind those lies between theirs
-byte_between : (low stamp high : List ℕ) (place : ℕ) → IsNotAbove low stamp → IsNotAbove stamp high → AreSame low high place → place < length low → place < length stamp → place < length high
-    → (slice_index low place ≤ slice_index stamp place) × (slice_index stamp place ≤ slice_index high place)
-byte_between [] stamp high place from to same in_low in_stamp in_high = absurd (omega (arith, in_low))
-byte_between (a ∷ low) [] high place from to same in_low in_stamp in_high = absurd (omega (arith, in_stamp))
-byte_between (a ∷ low) (c ∷ stamp) [] place from to same in_low in_stamp in_high = absurd (omega (arith, in_high))
-byte_between (a ∷ low) (c ∷ stamp) (b ∷ high) zero from to same in_low in_stamp in_high = (not_above a c (IsNotAbove low stamp) from, not_above c b (IsNotAbove stamp high) to)
+-- behind bytes that two texts have in common, the next one of the lower is not above that of the other
+next_byte : (low high : List ℕ) (place : ℕ) → IsNotAbove low high → AreSame low high place → place < length low → place < length high → slice_index low place ≤ slice_index high place
+next_byte [] high place below same in_low in_high = absurd (omega (arith, in_low))
+next_byte (a ∷ low) [] place below same in_low in_high = absurd (omega (arith, in_high))
+next_byte (a ∷ low) (b ∷ high) zero below same in_low in_high = not_above a b (IsNotAbove low high) below
   where
     not_above : (x y : ℕ) (P : Type 0) → (x < y) ⊎ ((x ≡ y) × P) → x ≤ y
     not_above x y P (inl less) = omega (arith, less)
     not_above x y P (inr h) = omega (arith, h.0)
-byte_between (a ∷ low) (c ∷ stamp) (b ∷ high) (suc place) from to same in_low in_stamp in_high =
+next_byte (a ∷ low) (b ∷ high) (suc place) below same in_low in_high =
     let first : a ≡ b = same 0 (omega arith) in
-    let rest : AreSame low high place = λ i lt. same (suc i) (omega (arith, lt)) in
-    elim from [
-      | inl less ↦ elim to [
-        | inl above ↦ absurd (omega (arith, first, less, above))
+    elim below [
+      | inl less ↦ absurd (omega (arith, first, less))
+      | inr h ↦ next_byte low high place h.1 (λ i lt. same (suc i) (omega (arith, lt))) (omega (arith, in_low)) (omega (arith, in_high))
+    ]
+
+-- a byte of the front of a text
+in_front : (text behind : List ℕ) (i : ℕ) → i < length text → slice_index (text ++ behind) i ≡ slice_index text i
+in_front text behind i lt = get_or-append text behind 0 i lt
+
+front_same : (text behind other : List ℕ) (place : ℕ) → place < length text → AreSame text other place → AreSame (text ++ behind) other place
+front_same text behind other place within same i lt = in_front text behind i (omega (arith, lt, within)) ∙ same i lt
+
+-- what begins with a text is above another one where the first byte that differs is more
+pub front_above : (text other behind : List ℕ) (place : ℕ) → AreSame text other place → place < length text → place < length other → slice_index other place < slice_index text place → ¬ IsNotAbove (text ++ behind) other
+front_above text other behind place same in_text in_other more is =
+    let next = next_byte (text ++ behind) other place is (front_same text behind other place in_text same) (omega (arith, in_text, length-append text behind)) in_other in
+    omega (arith, next, more, in_front text behind place in_text)
+
+-- and below it where that byte is less
+pub front_below : (text other behind : List ℕ) (place : ℕ) → AreSame text other place → place < length text → place < length other → slice_index text place < slice_index other place → ¬ IsNotAbove other (text ++ behind)
+front_below text other behind place same in_text in_other less is =
+    let next = next_byte other (text ++ behind) place is (λ i lt. sym (front_same text behind other place in_text same i lt)) in_other (omega (arith, in_text, length-append text behind)) in
+    omega (arith, next, less, in_front text behind place in_text)
+
+-- what lies between two texts with the same bytes before a place lies between them from there on too
+pub between_behind : (low stamp high : List ℕ) (at : ℕ) → at ≤ length low → at ≤ length high → at ≤ length stamp → take at low ≡ take at high → IsNotAbove low stamp → IsNotAbove stamp high
+    → IsNotAbove (drop at low) (drop at stamp) × IsNotAbove (drop at stamp) (drop at high)
+between_behind low stamp high zero in_low in_high in_stamp same above below = (above, below)
+between_behind [] stamp high (suc at) in_low in_high in_stamp same above below = absurd (omega (arith, in_low))
+between_behind (a ∷ low) [] high (suc at) in_low in_high in_stamp same above below = absurd (omega (arith, in_stamp))
+between_behind (a ∷ low) (c ∷ stamp) [] (suc at) in_low in_high in_stamp same above below = absurd (omega (arith, in_high))
+between_behind (a ∷ low) (c ∷ stamp) (b ∷ high) (suc at) in_low in_high in_stamp same above below =
+    let first : a ≡ b = cc (same) in
+    let rest : take at low ≡ take at high = cc (same) in
+    elim above [
+      | inl less ↦ elim below [
+        | inl more ↦ absurd (omega (arith, first, less, more))
         | inr h ↦ absurd (omega (arith, first, less, h.0))
       ]
-      | inr g ↦ elim to [
-        | inl above ↦ absurd (omega (arith, first, g.0, above))
-        | inr h ↦ byte_between low stamp high place g.1 h.1 rest (omega (arith, in_low)) (omega (arith, in_stamp)) (omega (arith, in_high))
+      | inr g ↦ elim below [
+        | inl more ↦ absurd (omega (arith, first, g.0, more))
+        | inr h ↦ between_behind low stamp high at (omega (arith, in_low)) (omega (arith, in_high)) (omega (arith, in_stamp)) rest g.1 h.1
       ]
     ]
 
@@ -57,18 +86,17 @@ byte_between (a ∷ low) (c ∷ stamp) (b ∷ high) (suc place) from to same in_
 abbrev pub IsOutAt : List ℕ → List ℕ → List ℕ → ℕ → Type 0
 IsOutAt low high text at = (stamp : List ℕ) → IsNotAbove low stamp → IsNotAbove stamp high → ¬ StandsAt text stamp at
 
--- so a text with another byte there does not stand
-pub stands_out : (low high text : List ℕ) (at place : ℕ) → AreSame low high place → place < length low → place < length high → at ≤ place → place - at < length text
-    → ((slice_index text (place - at) < slice_index low place) ⊎ (slice_index high place < slice_index text (place - at)))
+-- so is a text that is below or above what the two have from there on
+pub stands_out : (low high text : List ℕ) (at : ℕ) → at ≤ length low → at ≤ length high → take at low ≡ take at high
+    → ((behind : List ℕ) → ¬ IsNotAbove (drop at low) (text ++ behind)) ⊎ ((behind : List ℕ) → ¬ IsNotAbove (text ++ behind) (drop at high))
     → IsOutAt low high text at
-stands_out low high text at place same in_low in_high from within out stamp above below stands =
-    let e : at + (place - at) ≡ place = omega (arith, from) in
-    let byte : slice_index stamp place ≡ slice_index text (place - at) =
-    ap (λ (n : ℕ). slice_index stamp n) (sym e) ∙ same_byte stamp text at stands (place - at) within in
-    let b = byte_between low stamp high place above below same in_low (omega (arith, stands.0, within, from)) in_high in
+stands_out low high text at in_low in_high same out stamp above below stands =
+    let behind = drop (length text) (drop at stamp) in
+    let cut : drop at stamp ≡ text ++ behind = sym (take-append-drop (length text) (drop at stamp)) ∙ ap (λ t. t ++ behind) stands.1 in
+    let b = between_behind low stamp high at in_low in_high (omega (arith, stands.0)) same above below in
     elim out [
-      | inl less ↦ omega (arith, less, byte, b.0)
-      | inr more ↦ omega (arith, more, byte, b.1)
+      | inl less ↦ less behind (subst (λ t. IsNotAbove (drop at low) t) cut b.0)
+      | inr more ↦ more behind (subst (λ t. IsNotAbove t (drop at high)) cut b.1)
     ]
 
 -- ---- places before another one

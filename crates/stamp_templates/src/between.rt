@@ -1,9 +1,10 @@
 //! Where a text may stand in the stamps of moments between two.
-ghost use Rattle.std.specs.Prelude.{◌⊎◌, ◌<◌, ◌≤◌, ℕ, ℤ, ◌<ℤ◌, ◌≤ℤ◌, ◌^◌, pos, neg_ℤ, List, IfSome, IsFalse, IsNone, IsTrue};
+ghost use Rattle.std.specs.Prelude.{◌≤◌, ◌++◌, ℕ, ℤ, ◌<ℤ◌, ◌≤ℤ◌, ◌^◌, pos, neg_ℤ, List, length, IfSome, IsFalse, IsNone, IsTrue};
 ghost use Rattle.time_patterns.specs.Stamps.{IsPrintable, Prints};
 ghost use Rattle.wild_match.specs.Matches.{Match};
 ghost use Rattle.query_plan.specs.Needs.{around};
 ghost use Rattle.stamp_templates.specs.Laws.{IsNotAbove, StandsAt, StandsInNoneBetween};
+ghost use Rattle.stamp_templates.specs.StepsBetween.{AreSame};
 ghost use Rattle.stamp_templates.specs.Templates.{FitsAt};
 
 use crate::laws::{matches_stand, places_fit, texts_rise};
@@ -109,34 +110,48 @@ fn narrowed(pattern: u8, least: i64, greatest: i64) -> Option<(i64, i64)>
     Some((whole_below(low, unit), whole_above(high, unit)))
 }
 
-/// Whether a byte is not between two.
-#[inline]
-fn is_out(low: u8, high: u8, byte: u8) -> bool
-    ensures { IsTrue result → (byte < low) ⊎ (high < byte) }
+/// How many bytes at the front two texts have in common.
+fn same_front(one: &[u8], other: &[u8]) -> usize
+    ensures within { (result ≤ length one.now) × (result ≤ length other.now) }
+    ensures same { AreSame one.now other.now result }
 {
-    byte < low || high < byte
+    for place in 0..one.len() {
+        if place >= other.len() || one[place] != other[place] {
+            return place;
+        }
+    }
+    one.len()
 }
 
-/// Whether a text stands from this place on in no text that lies between two: all of these begin with the
-/// bytes that the two have in common, and their next one lies between those of the two.
+/// Whether each text that begins with this one is below the other, by the first byte that differs.
+fn is_below(text: &[u8], other: &[u8]) -> bool
+    ensures { IsTrue result → (behind : List ℕ) → ¬ IsNotAbove other.now (text.now ++ behind) }
+{
+    let place = same_front(text, other);
+    place < text.len() && place < other.len() && text[place] < other[place]
+}
+
+/// Whether each text that begins with this one is above the other, by the first byte that differs.
+fn is_above(text: &[u8], other: &[u8]) -> bool
+    ensures { IsTrue result → (behind : List ℕ) → ¬ IsNotAbove (text.now ++ behind) other.now }
+{
+    let place = same_front(text, other);
+    place < text.len() && place < other.len() && other[place] < text[place]
+}
+
+/// Whether a text stands at this place in no text that lies between two: where the two have the same
+/// bytes before the place, so has each text between them, and what stands there lies between what the
+/// two have from there on.
 fn is_kept_out(low: &[u8], high: &[u8], text: &[u8], at: usize) -> bool
     ensures { IsTrue result → (stamp : List ℕ) → IsNotAbove low.now stamp
         → IsNotAbove stamp high.now → ¬ StandsAt text.now stamp at }
 {
-    for place in 0..low.len() {
-        if place >= high.len() {
-            return false;
-        }
-        if place >= at && place - at < text.len() {
-            if is_out(low[place], high[place], text[place - at]) {
-                return true;
-            }
-        }
-        if low[place] != high[place] {
-            return false;
-        }
+    if at > low.len() || at > high.len() {
+        return false;
     }
-    false
+    let (front, least) = low.split_at(at);
+    let (same, greatest) = high.split_at(at);
+    front == same && (is_below(text, least) || is_above(text, greatest))
 }
 
 /// Whether a text may stand at a place in a stamp of the template that lies between two texts.

@@ -1,6 +1,5 @@
-use Rattle.std.proofs.Common.{List, subst, sym}
+use Rattle.std.proofs.Common.{subst, sym}
 use Rattle.std.specs.Prelude.{◌∷◌, ◌≡◌, ◌↔◌}
-use Rattle.logtype_text.specs.declared.symbols.Symbol.{Symbol}
 use Rattle.query_plan.specs.Slots.{MayBegin}
 use Rattle.query_plan.proofs.SlotLemmas.{left_then}
 use Rattle.query_plan.proofs.slots.may_begin.Goals as goal

@@ -1,0 +1,60 @@
+//! Where texts may stand in log types, which are given by their texts.
+use query_plan::{may_begin, may_stand, texts_stand};
+
+/// A text, the text of a log type, and whether the text may begin it and may stand in it.
+const SLOTS: &[(&[u8], &[u8], bool, bool)] = &[
+    // a time of the day: in one word, in three slots, where the constant bytes have its colons
+    (b"00:04:34", b" INFO opened by \x12", false, false),
+    (b"00:04:34", b"\x11:\x11:\x11", true, true),
+    (b"00:04:34", b"Mar \x12 \x12:\x12:\x11 up", false, true),
+    (b"00:04:34", b" took \x13:\x11 s", false, false),
+    (b"00:04:34", b" from 00:04:34 on", false, true),
+    (b"00:04:34", b":04:34 behind a stamp", false, false),
+    (b":04:34", b":04:34 behind a stamp", true, true),
+    (b":04:34", b":\x11:\x11 behind a stamp", true, true),
+    // a delimiter before a slot is the text's too
+    (b":04", b"\x11:\x11", false, true),
+    (b":04", b"\x11 \x11", false, false),
+    (b" 04", b"\x11 \x11", false, true),
+    (b"04:", b"\x11 \x11", false, false),
+    (b"04:", b"\x11", false, false),
+    // a token goes to the end of its slot, and constant bytes stand for themselves
+    (b"a1b c", b"\x12 c", true, true),
+    (b"a1b c", b"\x12 d", false, false),
+    (b"a1b c", b"x\x12 c", false, true),
+    (b"a1b c", b"\x12", false, false),
+    (b"opened", b" INFO opened by", false, true),
+    (b"opener", b" INFO opened by", false, false),
+    (b"opener", b" INFO opened by \x12", false, true),
+    // an escaped byte is a constant, and a slot's byte is none
+    (b"a\x11b", b"a\\\x11b", true, true),
+    (b"\x11", b"\\\x11", true, true),
+    (b"\x11", b"\x11", false, false),
+    (b"7", b"\\\x11", false, false),
+    (b"7", b"\x11", true, true),
+    (b"\\", b"a \\\\ b", false, true),
+    (b"\\\\", b"a \\\\ b", false, false),
+    // the empty text, and the empty log type
+    (b"", b"", true, true),
+    (b"", b"\x11", true, true),
+    (b"a", b"", false, false),
+];
+
+#[test]
+fn where_texts_may_stand(rt: HostRuntime) {
+    for (text, log_type, begins, stands) in SLOTS {
+        assert!(rt;
+            may_begin(text, log_type) == *begins,
+            "{text:?} begins {log_type:?}"
+        );
+        assert!(rt;
+            may_stand(text, log_type) == *stands,
+            "{text:?} stands in {log_type:?}"
+        );
+    }
+}
+
+#[test]
+fn the_law_of_texts_stands() {
+    texts_stand();
+}
