@@ -39,9 +39,12 @@ start_within bytes start is =
 -- a text ends where the next one begins
 pub ends_at : (bytes : List ℕ) (all : ℕ) (starts : List ℕ) (at : ℕ) → AreBeside bytes all starts → at < length starts
     → get_or starts (at + 1) all ≡ get_or starts at 0 + 4 + length (text_from bytes (get_or starts at 0))
-ends_at bytes all [] at beside within = absurd (omega (arith, within))
-ends_at bytes all (start ∷ starts) zero beside within = beside.0
-ends_at bytes all (start ∷ starts) (suc at) beside within = ends_at bytes all starts at beside.1 (omega (arith, within))
+ends_at bytes all starts at beside within = ap (λ (n : ℕ). get_or starts n all) (omega arith) ∙ next starts at beside within
+  where
+    next : (starts : List ℕ) (at : ℕ) → AreBeside bytes all starts → at < length starts → get_or starts (suc at) all ≡ get_or starts at 0 + 4 + length (text_from bytes (get_or starts at 0))
+    next [] at beside within = absurd (omega (arith, within))
+    next (start ∷ starts) zero beside within = beside.0
+    next (start ∷ starts) (suc at) beside within = next starts at beside.1 (omega (arith, within))
 
 -- a text and its length are bytes of the payload
 pub end_within : (bytes : List ℕ) (start : ℕ) → IsTextAt bytes start → start + 4 + length (text_from bytes start) ≤ length bytes
@@ -85,7 +88,7 @@ starts_more bytes front rest text after starts start all parts is fits begins =
 -- a text that begins where those before it end
 beside_put : (bytes starts : List ℕ) (start end : ℕ) → AreBeside bytes start starts → end ≡ start + 4 + length (text_from bytes start) → AreBeside bytes end (starts ++ start ∷ [])
 beside_put bytes [] start end beside ends = (ends, tt)
-beside_put bytes (one ∷ []) start end beside ends = (beside.0, ends, tt)
+beside_put bytes (one ∷ []) start end beside ends = (beside.0, (ends, tt))
 beside_put bytes (one ∷ two ∷ starts) start end beside ends = (beside.0, beside_put bytes (two ∷ starts) start end beside.1 ends)
 
 pub beside_more : (bytes front rest text after starts : List ℕ) (start : ℕ) → AreBeside bytes (length bytes - length rest) starts
@@ -112,7 +115,7 @@ pub walk_all : (bytes texts rest starts : List ℕ) (count : ℕ) → count < 2 
     → All (IsTextAt bytes) starts → AreBeside bytes (length bytes - length rest) starts → length starts ≡ count → rest ≡ [] → AreWalked count texts bytes starts
 walk_all bytes texts rest starts count lt read all beside len none = record {
   stand = all;
-  beside = subst (λ (l : List ℕ). AreBeside bytes (length bytes - length l) starts) none beside;
+  beside = subst (λ (n : ℕ). AreBeside bytes n starts) (omega (arith, ap (λ (l : List ℕ). length l) none)) beside;
   are = record { count = omega (arith, lt, len, length-map starts (text_from bytes)); lengths = read.lengths };
   spelled = read_all (four_bytes count ++ texts) count (map (text_from bytes) starts) rest read (length-map starts (text_from bytes) ∙ len) none;
 }
