@@ -8,6 +8,7 @@
 
 mod encoding;
 mod laws;
+mod plain;
 mod spans;
 mod splitting;
 mod symbols;
@@ -15,10 +16,11 @@ mod text;
 
 pub use encoding::encode_body;
 pub use laws::{one_list_of_parts, one_type_text, parts_are_cut};
+pub use plain::plain_front;
 pub use spans::{CodedList, Span, Spans, Split};
 pub use splitting::split;
 pub use symbols::{Kind, Symbol, Symbols};
-pub use text::{TextRefusal, first_symbol, from_text, needs_escape, plain_front, text_ok, to_text};
+pub use text::{TextRefusal, first_symbol, from_text, needs_escape, text_ok, to_text};
 
 /// The most bytes that the text of a log type may have: each byte of the longest body with a `\`.
 pub const MAX_TYPE_LEN: usize = 2 * MAX_WORD_LEN;

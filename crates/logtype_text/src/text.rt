@@ -1,5 +1,5 @@
 //! The text that a log type is stored as.
-ghost use Rattle.std.specs.Prelude.{◌≡◌, ◌≢◌, ℕ, ◌<◌, ◌≤◌, List, [], ◌∷◌, ◌↔◌, All, IfOk, IfNone, IfSome, IsErrOf, IsTrue, MatchOption, ◌++◌, false, length, slice_index, take, true};
+ghost use Rattle.std.specs.Prelude.{◌≡◌, ◌≢◌, ℕ, List, [], ◌∷◌, ◌↔◌, IfOk, IfNone, IfSome, IsErrOf, IsTrue, MatchOption, ◌++◌};
 ghost use Rattle.logtype_text.specs.declared.symbols.Symbol.{Symbol};
 ghost use Rattle.logtype_text.specs.declared.text.TextRefusal.TheVariants.{OutOfMemory};
 ghost use Rattle.logtype_text.specs.TypeText.{IsGood, IsLoneAt, IsTypeText, is_escaped, placeholder, text_of_symbol, type_text};
@@ -12,7 +12,8 @@ use thiserror::Error;
 // Stands before a constant byte that is a placeholder's or is this byte.
 pub(crate) const ESCAPE: u8 = b'\\';
 
-const WHOLE: u8 = 0x11;
+// The placeholders, one behind the other: of a whole number, of a word, and of a decimal.
+pub(crate) const WHOLE: u8 = 0x11;
 
 const WORD: u8 = 0x12;
 
@@ -139,21 +140,6 @@ pub fn first_symbol(text: &[u8]) -> Option<(Symbol, &[u8])>
         [ESCAPE, ..] | [] => None,
         [byte, rest @ ..] => Some((plain_symbol(*byte), rest)),
     }
-}
-
-/// How many bytes at the front of a text are constants that stand there as they are: none of them is
-/// a placeholder or a `\`. Takes no memory.
-#[inline]
-pub fn plain_front(text: &[u8]) -> usize
-    ensures within { result ≤ length text.now }
-    ensures plain { All (λ b. is_escaped b ≡ false) (take result text.now) }
-    ensures most { result < length text.now → is_escaped (slice_index text.now result) ≡ true }
-{
-    let mut end = 0;
-    while end < text.len() && !needs_escape(text[end]) {
-        end += 1;
-    }
-    end
 }
 
 // The symbol of a byte that has no escape before it and is none.

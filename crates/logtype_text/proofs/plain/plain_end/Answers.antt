@@ -1,7 +1,7 @@
 use Rattle.std.proofs.Common.{◌≡◌, false, sym, ◌∙◌, arith}
 use Rattle.std.proofs.lemmas.List.Elements.{All-more}
 use Rattle.logtype_text.specs.TypeText.{is_escaped}
-use Rattle.logtype_text.proofs.text.plain_front.Goals as goal
+use Rattle.logtype_text.proofs.plain.plain_end.Goals as goal
 
 pub loop-end-preserved : goal.loop-end-preserved
 loop-end-preserved c = record {

@@ -1,7 +1,7 @@
 use Rattle.std.proofs.Common.{◌≡◌, ◌-◌, ◌≤◌, false, length, take}
 use Rattle.std.specs.Prelude.{All}
 use Rattle.logtype_text.specs.TypeText.{is_escaped}
-use Rattle.logtype_text.proofs.text.plain_front.Given as goal
+use Rattle.logtype_text.proofs.plain.plain_front.Given as goal
 
 abbrev pub invariant-loop-end : goal.invariant-loop-end
 invariant-loop-end l = record {
