@@ -295,6 +295,11 @@ pub spelling_found : (row : Row) (types words : List (List ℕ)) → length type
 spelling_found row types words past (message, is) =
     let within = slice_get_within types row.log_type (type_text (map symbol_of is.parts)) is.typed in omega arith
 
+-- the text of the log type of a row that can be written, which can be written with the row's words
+pub spelling_text : (row : Row) (types words : List (List ℕ)) → HasSpelling row types words → (text : List ℕ) × (slice_get types row.log_type ≡ Some text) × HasBody words text row.words
+spelling_text row types words (message, is) =
+    (type_text (map symbol_of is.parts), is.typed, (joined is.parts, record { parts = is.parts; typed = refl; written = is.written; is = refl }))
+
 -- what was appended for the stamp and then for the body is what the row is written as
 pub spelled : (row : Row) (types words : List (List ℕ)) (text stamp body old mid new : List ℕ) → slice_get types row.log_type ≡ Some text → HasStampText row.pattern row.moment stamp → IsBody words text row.words body → mid ≡ old ++ stamp → new ≡ mid ++ body → (message : List ℕ) × IsSpelling row types words message × (new ≡ old ++ message)
 spelled row types words text stamp body old mid new at stamped is first then = (

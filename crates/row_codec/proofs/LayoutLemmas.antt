@@ -1,5 +1,5 @@
 -- Runs of constants with slots behind them.
-use Rattle.std.proofs.Common.{◌≡◌, ℕ, ◌-◌, ◌+◌, ◌≤◌, ◌<◌, List, [], ◌∷◌, ◌++◌, length, take, drop, map, refl, sym, ◌∙◌, ap, ap₂, subst, arith, append_assoc}
+use Rattle.std.proofs.Common.{◌≡◌, ℕ, zero, suc, ◌-◌, ◌+◌, ◌≤◌, ◌<◌, List, [], ◌∷◌, ◌++◌, length, take, drop, map, refl, sym, ◌∙◌, ap, ap₂, subst, arith, append_assoc}
 use Rattle.std.specs.Prelude.{All, OnErr, Result, Ok, Err, Some, slice_get}
 use mathlib.Core.List.{IsPrefix}
 use Rattle.std.proofs.lemmas.List.{append-nil, length-append, take-append-le, drop-append-le}
@@ -15,6 +15,7 @@ use Rattle.row_codec.specs.declared.layouts.Next.{Next}
 use Rattle.row_codec.specs.declared.layouts.Next.TheVariants.{Slot as NextSlot, End, Misfit}
 use Rattle.row_codec.specs.declared.layouts.Piece.{Piece}
 use Rattle.row_codec.specs.declared.layouts.Start.{Start}
+use Rattle.row_codec.specs.Laid.{AreCut}
 use Rattle.row_codec.specs.StepsBody.{HasBody, IsBody, Puts}
 use Rattle.row_codec.specs.StepsLayouts.{AddsRun, AddsSymbol, IsClosed, IsCutUpTo, IsLaidOut, LaysOut, Needs, constants, laid_text, run_text, spelled}
 use Rattle.row_codec.proofs.BodyLemmas.{IsPlain, plain_text, puts_byte, puts_has, puts_then, body_empty}
@@ -404,3 +405,16 @@ prefix_more xs ys y front at =
 pub prefix_all : (xs ys : List (List ℕ)) → IsPrefix xs ys → length ys ≤ length xs → xs ≡ ys
 prefix_all xs ys ([], is) long = sym (append-nil xs) ∙ is
 prefix_all xs ys (z ∷ zs, is) long = absurd (omega (arith, long, ap length is, length-append xs (z ∷ zs)))
+
+get_front : (xs ys : List (List ℕ)) (number : ℕ) (text : List ℕ) → slice_get xs number ≡ Some text → slice_get (xs ++ ys) number ≡ Some text
+get_front [] ys number text at = absurd (cc)
+get_front (x ∷ xs) ys zero text at = at
+get_front (x ∷ xs) ys (suc number) text at = get_front xs ys number text at
+
+-- the texts of a front are those of the log types with their numbers
+pub front_cut : (cut types : List (List ℕ)) → IsPrefix cut types → AreCut cut types
+front_cut cut types front number text at = subst (λ (l : List (List ℕ)). slice_get l number ≡ Some text) front.1 (get_front cut front.0 number text at)
+
+-- and those of all log types
+pub all_cut : (cut types : List (List ℕ)) → cut ≡ types → AreCut cut types
+all_cut cut types same number text at = subst (λ (l : List (List ℕ)). slice_get l number ≡ Some text) same at

@@ -1,4 +1,5 @@
 pub mod Encoding
+pub mod Laid
 pub mod Laws
 pub mod Means
 pub mod Messages

@@ -146,7 +146,7 @@ pub(crate) fn put_stamp(
 
 // Appends what the text of a log type is written as with these words in its slots, where they fit
 // the slots and it is one.
-fn put_body<N: Names>(
+pub(crate) fn put_body<N: Names>(
     text: &[u8],
     words: &[u64],
     names: &N,

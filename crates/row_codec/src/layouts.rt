@@ -2,6 +2,7 @@
 ghost use Rattle.std.specs.Prelude.{◌≡◌, ◌≤◌, ◌++◌, [], ◌∷◌, ℕ, List, IfNone, IfOk, IfSome, OnErr, OnOk, Some, length, slice_get};
 ghost use mathlib.Core.List.{IsPrefix};
 ghost use Rattle.logtype_text.specs.TypeText.{IsTypeText};
+ghost use Rattle.row_codec.specs.Laid.{AreCut};
 ghost use Rattle.row_codec.specs.StepsLayouts.{AddsRun, AddsSymbol, IsClosed, LaysOut, spelled};
 
 use crate::Names;
@@ -49,6 +50,9 @@ pub struct Layouts {
     // The constants of all log types, as they are printed.
     bytes: Vec<u8>,
     pieces: Vec<Piece>,
+    // For each log type which of its first 64 slots are words: a bit for each, the lowest for the
+    // first. These are hints, on which no answer rests.
+    word_slots: Vec<u64>,
     starts: Vec<Start>,
 }
 
@@ -71,6 +75,7 @@ impl Layouts {
         Layouts {
             bytes: Vec::new(alloc),
             pieces: Vec::new(alloc),
+            word_slots: Vec::new(alloc),
             starts: Vec::new(alloc),
         }
     }
@@ -81,6 +86,21 @@ impl Layouts {
     {
         let mut layouts = Layouts::new(alloc);
         layouts.extend(names)?;
+        Ok(layouts)
+    }
+
+    /// The layouts of the first log types that an archive has, of so many at most. They are those of
+    /// the common ones, as a log type gets its number when it is first met.
+    pub fn front<N: Names>(alloc: Global, names: &N, most: u32) -> Result<Layouts, AllocError>
+        ensures { IfOk result (λ layouts. AreCut layouts (N.types names.now)) }
+    {
+        let mut layouts = Layouts::new(alloc);
+        for number in 0..most {
+            let Some(text) = names.type_text(number) else {
+                break;
+            };
+            layouts.push(text)?;
+        }
         Ok(layouts)
     }
 
@@ -120,8 +140,21 @@ impl Layouts {
             piece: self.pieces.len(),
         };
         lay_out(text, &mut self.bytes, &mut self.pieces)?;
+        // First, since without memory a hint too many is left, and no log type.
+        self.word_slots
+            .push(words_among(&self.pieces[start.piece..]))?;
         self.starts.push(start)?;
         Ok(())
+    }
+
+    // Which of the first 64 slots of the log type with this number are words: a bit for each, the
+    // lowest for the first. No bit is set where there is no layout of it.
+    #[inline]
+    pub(crate) fn slots_of(&self, number: u32) -> u64 {
+        match self.word_slots.get(number as usize) {
+            Some(slots) => *slots,
+            None => 0,
+        }
     }
 
     // The layout of the log type with this number.
@@ -140,6 +173,19 @@ impl Layouts {
             pieces: &self.pieces[start.piece..],
         })
     }
+}
+
+// Which of the first 64 slots are words: a bit for each, the lowest for the first.
+fn words_among(pieces: &[Piece]) -> u64 {
+    let mut words = 0;
+    let mut bit: u64 = 1;
+    for piece in pieces {
+        if let Next::Slot(Kind::Word) = piece.next {
+            words |= bit;
+        }
+        bit <<= 1;
+    }
+    words
 }
 
 // Adds the constants and the pieces of a text.

@@ -1,5 +1,6 @@
 //! Rows that one writer writes, whose log types were cut before.
 ghost use Rattle.std.specs.Prelude.{◌≡◌, ◌≤◌, length};
+ghost use Rattle.row_codec.specs.Laid.{AreCut};
 ghost use Rattle.row_codec.specs.declared.TheConstants.{MAX_MESSAGE_LEN};
 
 use crate::books::Books;
@@ -17,7 +18,7 @@ fn appends(
     books: &Books,
     text: Option<&[u8]>,
 ) -> Result<bool, AllocError>
-    requires types { writer.old ≡ books.now.types.texts }
+    requires types { AreCut writer.old books.now.types.texts }
     ensures types { writer.new ≡ writer.old }
 {
     let mut out = vec![in alloc; b'>']?;
@@ -121,7 +122,7 @@ fn name_four(books: &mut Books) -> Result<(), BookRefusal> {
 
 // Whether one writer writes all the rows as told.
 fn are_written(alloc: Global, writer: &mut RowWriter<'_>, books: &Books) -> Result<bool, AllocError>
-    requires types { writer.old ≡ books.now.types.texts }
+    requires types { AreCut writer.old books.now.types.texts }
 {
     for &(pattern, moment, log_type, words, text) in ROWS {
         let row = RowRef {
@@ -157,6 +158,55 @@ fn are_written_over_new(alloc: Global) -> Result<bool, Fail> {
 #[test]
 fn one_writer_for_rows_of_several_types(rt: HostRuntime) -> Result<(), Fail> {
     let well = are_written_over_new(rt.alloc())?;
+    assert!(rt; well);
+    Ok(())
+}
+
+// Looks at all the rows.
+fn look_at_all(writer: &mut RowWriter<'_>, books: &Books)
+    ensures { writer.new ≡ writer.old }
+{
+    for &(pattern, moment, log_type, words, _) in ROWS {
+        let row = RowRef {
+            pattern,
+            moment,
+            log_type,
+            words,
+        };
+        writer.look_at(row, books);
+    }
+}
+
+// Whether one writer, which looked at them before, writes all the rows as told where so many log types
+// were cut.
+fn are_written_by_front(alloc: Global, books: &Books, most: u32) -> Result<bool, AllocError> {
+    let layouts = Layouts::front(alloc, books, most)?;
+    let mut writer = RowWriter::new(&layouts);
+    look_at_all(&mut writer, books);
+    are_written(alloc, &mut writer, books)
+}
+
+// None of the four log types, some, all, and more than there are.
+const FRONTS: &[u32] = &[0, 1, 3, 4, 100];
+
+fn are_written_by_fronts(alloc: Global, books: &mut Books) -> Result<bool, Fail> {
+    name_four(books)?;
+    for most in FRONTS {
+        if !are_written_by_front(alloc, books, *most)? {
+            return Ok(false);
+        }
+    }
+    Ok(true)
+}
+
+fn are_written_by_fronts_over_new(alloc: Global) -> Result<bool, Fail> {
+    let mut books = Books::new(alloc, 1, 100);
+    are_written_by_fronts(alloc, &mut books)
+}
+
+#[test]
+fn rows_on_both_sides_of_a_front(rt: HostRuntime) -> Result<(), Fail> {
+    let well = are_written_by_fronts_over_new(rt.alloc())?;
     assert!(rt; well);
     Ok(())
 }
