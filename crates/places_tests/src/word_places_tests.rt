@@ -173,12 +173,31 @@ fn a_record_that_breaks_off_is_damaged(rt: HostRuntime) {
 
 // ---- words that are held
 
-// Words of which none is held, beside a log type with a word and one with a number before it, where a
-// byte that is escaped is no slot.
+// A log type with a word.
+const WITH_WORD: &[u8] = b"of \x12";
+
+// One with a number before its word, where a byte that is escaped is no slot.
+const WITH_NUMBER: &[u8] = b"\\\x12 \x11 of \x12";
+
+// Words of which none is held, beside two log types.
 fn held(alloc: Global) -> Result<HeldWords, AllocError> {
     let mut types = Texts::new(alloc);
-    types.push(b"of \x12")?;
-    types.push(b"\\\x12 \x11 of \x12")?;
+    types.push(WITH_WORD)?;
+    types.push(WITH_NUMBER)?;
+    HeldWords::new(alloc, types, 1, WORDS)
+}
+
+// How many log types stand before the last two of many, which are more than have their slots kept.
+const MANY: u32 = 1100;
+
+// The same words, beside many log types.
+fn held_of_many(alloc: Global) -> Result<HeldWords, AllocError> {
+    let mut types = Texts::new(alloc);
+    for _ in 0..MANY {
+        types.push(b"\x11 \x11")?;
+    }
+    types.push(WITH_WORD)?;
+    types.push(WITH_NUMBER)?;
     HeldWords::new(alloc, types, 1, WORDS)
 }
 
@@ -265,31 +284,44 @@ fn the_words_of_a_row_are_held(rt: HostRuntime) {
     assert!(rt; holds_rows_of(rt.alloc()) == Ok(true));
 }
 
-// Whether a number is asked of where it is a word, and not where it stands for itself.
-fn knows_by_slots(held: &mut HeldWords, disk: &mut MemDisk) -> Result<bool, HoldRefusal> {
-    if held.has_row(row_of(1, &[3, 0])) {
+// Whether a number is asked of where it is a word, and not where it stands for itself. The log type with a
+// word has this number, the one with a number before it the next.
+fn knows_by_slots(held: &mut HeldWords, disk: &mut MemDisk, at: u32) -> Result<bool, HoldRefusal> {
+    let next = at.saturating_add(1);
+    if held.has_row(row_of(next, &[3, 0])) {
         return Ok(false);
     }
-    held.hold_row(disk, row_of(1, &[3, 0]))?;
+    held.hold_row(disk, row_of(next, &[3, 0]))?;
     Ok(
-        held.has_row(row_of(1, &[3, 0]))
-            && !held.has_row(row_of(1, &[0, 3]))
-            && !held.has_row(row_of(0, &[3]))
-            && held.has_row(row_of(0, &[1 << 40]))
-            && held.has_row(row_of(1, &[3]))
-            && held.has_row(row_of(7, &[3]))
+        held.has_row(row_of(next, &[3, 0]))
+            && !held.has_row(row_of(next, &[0, 3]))
+            && !held.has_row(row_of(at, &[3]))
+            && held.has_row(row_of(at, &[1 << 40]))
+            && held.has_row(row_of(next, &[3]))
+            && held.has_row(row_of(next.saturating_add(1), &[3]))
             && disk.calls() == 1,
     )
 }
 
 fn knows_by_slots_of(alloc: Global) -> Result<bool, HoldRefusal> {
     let mut held = held(alloc)?;
-    knows_by_slots(&mut held, &mut disk(alloc, &ARCHIVE, &[])?)
+    knows_by_slots(&mut held, &mut disk(alloc, &ARCHIVE, &[])?, 0)
+}
+
+// The same of log types whose texts are read.
+fn knows_by_texts_of(alloc: Global) -> Result<bool, HoldRefusal> {
+    let mut held = held_of_many(alloc)?;
+    knows_by_slots(&mut held, &mut disk(alloc, &ARCHIVE, &[])?, MANY)
 }
 
 #[test]
 fn a_number_that_is_no_word_is_not_asked_of(rt: HostRuntime) {
     assert!(rt; knows_by_slots_of(rt.alloc()) == Ok(true));
+}
+
+#[test]
+fn nor_where_no_slots_are_kept(rt: HostRuntime) {
+    assert!(rt; knows_by_texts_of(rt.alloc()) == Ok(true));
 }
 
 // Why the word 3 is not held from these bytes.

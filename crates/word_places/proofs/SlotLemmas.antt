@@ -1,7 +1,7 @@
 -- The words in the slots of a text, one by one.
 use Rattle.std.proofs.Common.{◌≡◌, ⊎_elim, ℕ, zero, suc, ◌+◌, ◌-◌, ◌<◌, ◌≤◌, List, [], ◌∷◌, ◌++◌, length, get_or, take, drop, refl, sym, ◌∙◌, ap, subst, arith, append_assoc, length-append}
 use Rattle.std.specs.Prelude.{Bool, Option, Some, None, false, true, slice_index_or}
-use Rattle.std.proofs.lemmas.List.{append-nil, drop_all, drop_more, get_or_append_left, get_or_past, take_rest}
+use Rattle.std.proofs.lemmas.List.{append-nil, drop_all, drop_more, get_or_append_left, take_rest}
 use Rattle.std.proofs.lemmas.Bool.{cases_lt}
 use Rattle.std.proofs.lemmas.List.Elements.{Contains-append_cases}
 use Rattle.std.proofs.Math.Seq.{get_or-append_seam}
@@ -200,20 +200,16 @@ have_next types slots more count text one so_far is same pushed = record {
         ap (λ (l : List ℕ). kinds_from false l) (ap (λ (n : ℕ). get_or (slots ++ one ∷ []) n []) (last ∙ sym so_far.many) ∙ get_or-append_seam slots one [] [])
         ∙ same ∙ ap (λ (l : List ℕ). kinds_from false l) (is ∙ ap (λ (n : ℕ). get_or types n []) (sym last))
 
-pub have_all : (types slots : List (List ℕ)) (count : ℕ) → HaveSlotsTo types slots count → length types ≤ count → HaveSlots types slots
-have_all types slots count so_far all = λ number. ⊎_elim (λ lt. so_far.same number lt) (λ past. none number past) (cases_lt number count)
-  where
-    none : (number : ℕ) → count ≤ number → kinds_from false (get_or slots number []) ≡ kinds_from false (get_or types number [])
-    none number past =
-        ap (λ (l : List ℕ). kinds_from false l) (get_or_past slots number [] (omega (arith, past, so_far.many)) ∙ sym (get_or_past types number [] (omega (arith, past, all))))
+pub have_all : (types slots : List (List ℕ)) (count : ℕ) → HaveSlotsTo types slots count → HaveSlots types slots
+have_all types slots count so_far = λ number lt. so_far.same number (omega (arith, lt, so_far.many))
 
 -- ---- a row
 
 -- the words of a row by the slots of its log type
-pub numbers_by_slots : (types slots others : List (List ℕ)) (number : ℕ) (text words : List ℕ) → types ≡ others → HaveSlots types slots → text ≡ slice_index_or slots number []
+pub numbers_by_slots : (types others : List (List ℕ)) (number : ℕ) (text words : List ℕ) → types ≡ others → kinds_from false text ≡ kinds_from false (slice_index_or types number [])
     → word_numbers (kinds_from false text) words ≡ word_numbers (kinds_from false (slice_index_or others number [])) words
-numbers_by_slots types slots others number text words same have is =
-    ap (λ (ks : List Kind). word_numbers ks words) (ap (λ (l : List ℕ). kinds_from false l) is ∙ have number ∙ ap (λ (l : List (List ℕ)). kinds_from false (slice_index_or l number [])) same)
+numbers_by_slots types others number text words same kinds =
+    ap (λ (ks : List Kind). word_numbers ks words) (kinds ∙ ap (λ (l : List (List ℕ)). kinds_from false (slice_index_or l number [])) same)
 
 pub agree_row : (told : Option (List ℕ)) (names old new : List HeldRecord) (numbers others : List ℕ) → old ≡ names → numbers ≡ others → AreNumbered 0 new → Grow old new
     → (RightTold told old → RightTold told new) → AreHeld new numbers → RightTold told names → OfWords told (places_of names) (λ words. Agree others words (lends new))

@@ -35,10 +35,10 @@ abbrev pub Puts : List HeldRecord → ℕ → List (List ℕ) → List HeldRecor
 Puts old at words new =
     (r : HeldRecord) → slice_get old at ≡ Some r → new ≡ set old at (record { place = r.place; words = Some words })
 
--- these have the slots of the log types
+-- these have the slots of the first log types
 abbrev pub HaveSlots : List (List ℕ) → List (List ℕ) → Type 0
 HaveSlots types slots =
-    (number : ℕ) → kinds_from false (slice_index_or slots number []) ≡ kinds_from false (slice_index_or types number [])
+    (number : ℕ) → number < length slots → kinds_from false (slice_index_or slots number []) ≡ kinds_from false (slice_index_or types number [])
 
 -- the kinds, behind this one if there is one
 abbrev pub with_kind : Option Kind → List Kind → List Kind

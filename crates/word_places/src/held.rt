@@ -1,5 +1,5 @@
 //! The words of an archive, of which some records are held in memory.
-ghost use Rattle.std.specs.Prelude.{◌≡◌, ℕ, List, IsTrue, length, map, IfOk};
+ghost use Rattle.std.specs.Prelude.{◌≡◌, IsTrue, length, map, IfOk};
 ghost use Rattle.column_store.specs.Row.{row_of};
 ghost use Rattle.row_codec.specs.Numbers.{numbers_of_row};
 ghost use Rattle.word_places.specs.Held.{AreHeld, AreNumbered, HeldNames, unread};
@@ -10,7 +10,7 @@ use crate::hints::hints_of;
 use crate::lending::{number_in, text_in};
 use crate::place::WordsPlace;
 use crate::record::RecordWords;
-use crate::type_slots::{slots_of, text_at};
+use crate::type_slots::{slots_at, slots_of};
 use column_store::RowRef;
 use dict_core::Texts;
 use row_codec::Names;
@@ -19,6 +19,10 @@ use std::marker::Model;
 
 /// The first version whose moments count microseconds.
 const MICRO_VERSION: u32 = 3;
+
+/// Of how many log types the slots are kept beside their texts: the first ones, which most rows have, since
+/// a log type gets its number where its text is first met. Free to tune: of others the text is read.
+const SLOT_TYPES: u32 = 1024;
 
 /// A record of words: where it stands, and its words, once they are read.
 #[derive(Debug, Drop)]
@@ -33,7 +37,7 @@ pub struct HeldRecord {
 pub struct HeldWords {
     pub(crate) alloc: Global,
     pub(crate) types: Texts,
-    /// Of each log type the bytes that stand for its slots.
+    /// Of each of the first log types the bytes that stand for its slots.
     pub(crate) slots: Texts,
     pub(crate) version: u32,
     pub(crate) records: Vec<HeldRecord>,
@@ -70,7 +74,7 @@ impl HeldWords {
         ensures records { IfOk result (λ held. held.records ≡ map unread places.now) }
     {
         let hints = hints_of(alloc, places)?;
-        let slots = slots_of(alloc, &types)?;
+        let slots = slots_of(alloc, &types, SLOT_TYPES)?;
         let mut records = Vec::with_capacity(alloc, places.len())?;
         for place in places {
             records.push_reserved(HeldRecord {
@@ -110,7 +114,7 @@ impl HeldWords {
         if are_held(records, hints, self.front, row.words) {
             return true;
         }
-        let slots = text_at(&self.slots, row.log_type);
+        let slots = slots_at(&self.slots, &self.types, row.log_type);
         are_slots_held(records, hints, self.front, slots, row.words)
     }
 }

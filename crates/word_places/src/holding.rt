@@ -18,7 +18,7 @@ use crate::reading::read_record;
 use crate::record::RecordWords;
 use crate::refusal::HoldRefusal;
 use crate::slots::hold_slots;
-use crate::type_slots::text_at;
+use crate::type_slots::slots_at;
 use column_store::RowRef;
 use log_seams::Disk;
 use std::alloc::Global;
@@ -80,7 +80,7 @@ impl HeldWords {
         ensures counts { CountsOf HoldRefusal.DiskFault
             (D.state disk.old).faults (D.state disk.new).faults result }
     {
-        let slots = text_at(&self.slots, row.log_type);
+        let slots = slots_at(&self.slots, &self.types, row.log_type);
         let answer = hold_slots(self.alloc, &mut self.records, disk, slots, row.words);
         self.front = read_front(self.records.as_slice(), self.front);
         answer

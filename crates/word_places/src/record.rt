@@ -1,9 +1,9 @@
 //! The words of one record in memory.
-ghost use Rattle.std.specs.Prelude.{◌≡◌, ◌≢◌, ◌≤◌, ◌↔◌, ◌++◌, List, ℕ, All, IsTrue, length, map, IfOk, IfSome, IfNone, MatchOption, slice_get, Some};
+ghost use Rattle.std.specs.Prelude.{◌≡◌, ◌≢◌, ◌<◌, ◌≤◌, ◌↔◌, ◌+◌, ◌++◌, List, ℕ, All, IsTrue, length, map, IfOk, IfSome, IfNone, MatchOption, slice_get, slice_index_or, Some};
 ghost use Rattle.plain_list.specs.Texts.{IsNew};
 ghost use Rattle.record_format.specs.Lists.{AreTexts, four_bytes, list_bytes};
 ghost use Rattle.word_places.specs.Places.{Spells};
-ghost use Rattle.word_places.specs.Record.{AreWalked, IsTextAt, text_from};
+ghost use Rattle.word_places.specs.Record.{AreBeside, AreWalked, IsTextAt, text_from};
 
 use crate::place::WordsPlace;
 use record_format::{next_text, texts_front};
@@ -22,14 +22,15 @@ pub struct RecordWords {
 }
 
 impl Model for RecordWords {
-    ghost use Rattle.std.specs.Prelude.{List, ℕ, All, map};
-    ghost use Rattle.word_places.specs.Record.{IsTextAt, text_from};
+    ghost use Rattle.std.specs.Prelude.{List, ℕ, All, length, map};
+    ghost use Rattle.word_places.specs.Record.{AreBeside, IsTextAt, text_from};
 
     ghost Value = { List (List ℕ) };
 
     ghost view = { λ r. map (text_from r.bytes.items) r.starts.items };
 
-    ghost invariant = { λ r. All (IsTextAt r.bytes.items) r.starts.items };
+    ghost invariant = { λ r. All (IsTextAt r.bytes.items) r.starts.items
+        × AreBeside r.bytes.items (length r.bytes.items) r.starts.items };
 }
 
 impl RecordWords {
@@ -70,25 +71,36 @@ impl RecordWords {
     }
 }
 
-// The text at a start.
+// Where a text ends: where the length of the next one stands, or where all bytes end.
+fn end_of(starts: &[u32], at: usize, all: usize) -> usize
+    requires { at < length starts.now }
+    ensures { result ≡ slice_index_or starts.now (at + 1) all }
+{
+    match starts.get(at + 1) {
+        Some(next) => *next as usize,
+        None => all,
+    }
+}
+
+// The text at a start. Its end is told without a look at its length, which stands before it.
 fn text_in<'b>(bytes: &'b [u8], starts: &[u32], at: usize) -> Option<&'b [u8]>
-    requires { All (IsTextAt bytes.now) starts.now }
+    requires starts { All (IsTextAt bytes.now) starts.now }
+    requires beside { AreBeside bytes.now (length bytes.now) starts.now }
     ensures { MatchOption result (length starts.now ≤ at)
         (λ text. slice_get (map (text_from bytes.now) starts.now) at ≡ Some text.now) }
 {
     if at >= starts.len() {
         return None;
     }
-    let start = starts[at] as usize;
-    match next_text(&bytes[start..]) {
-        Some((text, _)) => Some(text),
-        None => unreachable!(),
-    }
+    let start = starts[at] as usize + LEN_SIZE;
+    let end = end_of(starts, at, bytes.len());
+    Some(&bytes[start..end])
 }
 
 // The place of a start where this text stands.
 fn place_in(bytes: &[u8], starts: &[u32], text: &[u8]) -> Option<usize>
-    requires { All (IsTextAt bytes.now) starts.now }
+    requires starts { All (IsTextAt bytes.now) starts.now }
+    requires beside { AreBeside bytes.now (length bytes.now) starts.now }
     ensures { MatchOption result (IsNew (map (text_from bytes.now) starts.now) text.now)
         (λ at. slice_get (map (text_from bytes.now) starts.now) at ≡ Some text.now) }
 {
@@ -103,6 +115,7 @@ fn place_in(bytes: &[u8], starts: &[u32], text: &[u8]) -> Option<usize>
 // Whether this text stands at a start.
 fn is_at(bytes: &[u8], starts: &[u32], at: usize, text: &[u8]) -> bool
     requires starts { All (IsTextAt bytes.now) starts.now }
+    requires beside { AreBeside bytes.now (length bytes.now) starts.now }
     ensures { IsTrue result
         ↔ (slice_get (map (text_from bytes.now) starts.now) at ≡ Some text.now) }
 {
@@ -118,6 +131,8 @@ fn starts_in(alloc: Global, place: WordsPlace, bytes: &[u8]) -> Result<Option<Ve
     requires { length bytes.now ≡ place.length }
     ensures starts { IfOk result (λ read. IfSome read (λ starts.
         All (IsTextAt bytes.now) starts.items)) }
+    ensures beside { IfOk result (λ read. IfSome read (λ starts.
+        AreBeside bytes.now (length bytes.now) starts.items)) }
     ensures some { IfOk result (λ read. IfSome read (λ starts.
         Spells place bytes.now (map (text_from bytes.now) starts.items))) }
     ensures none { IfOk result (λ read. IfNone read

@@ -2,8 +2,8 @@ use Rattle.std.proofs.Common.{◌++◌, ◌-◌, ℕ, List, All, length, map, re
 use Rattle.std.proofs.lemmas.List.{length-map}
 use Rattle.record_format.specs.Lists.{four_bytes}
 use Rattle.record_format.proofs.ListLemmas.{IsReadTo, left_over, no_text, too_many}
-use Rattle.word_places.specs.Record.{IsTextAt, text_from}
-use Rattle.word_places.proofs.RecordLemmas.{front_more, starts_more, walk_more}
+use Rattle.word_places.specs.Record.{AreBeside, IsTextAt, text_from}
+use Rattle.word_places.proofs.RecordLemmas.{beside_more, front_more, starts_more, walk_more}
 use Rattle.word_places.proofs.record.walked.Goals as goal
 
 pub returns-then-texts-count-clause-none : goal.returns-then-texts-count-clause-none
@@ -26,6 +26,8 @@ loop-preserved c =
           (walk_more bytes c.args.texts.now inv.front.0 c.loop.rest.now c.in-Some._text.now c.in-Some.after.now c.loop.starts.items c.args.count start inv.read inv.front.1 refl fits some);
       stand = subst (λ (ss : List ℕ). All (IsTextAt bytes) ss) (sym c.push_reserved.ensures.items)
           (starts_more bytes inv.front.0 c.loop.rest.now c.in-Some._text.now c.in-Some.after.now c.loop.starts.items start inv.stand inv.front.1 refl fits some);
+      beside = subst (λ (ss : List ℕ). AreBeside bytes (length bytes - length c.in-Some.after.now) ss) (sym c.push_reserved.ensures.items)
+          (beside_more bytes inv.front.0 c.loop.rest.now c.in-Some._text.now c.in-Some.after.now c.loop.starts.items start inv.beside inv.front.1 refl fits some);
       front = front_more bytes inv.front.0 c.loop.rest.now c.in-Some._text.now c.in-Some.after.now inv.front.1 some;
       many = omega (arith, inv.many, c.push_reserved.ensures.len);
       room = omega (arith, inv.room, c.push_reserved.ensures.capacity);
