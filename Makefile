@@ -26,16 +26,21 @@ install:
 	@[ -x $(PROGRAM) ] || { echo 'make install: there is no $(PROGRAM): run make first' >&2; exit 1; }
 	install -d $(DESTDIR)$(PREFIX)/bin $(SHARE)/man/man1 $(SHARE)/bash-completion/completions \
 	    $(DESTDIR)$(ZSH_COMPLETIONS) $(DESTDIR)$(FISH_COMPLETIONS) $(SHARE)/clpa \
-	    $(SHARE)/doc/clpa/docs $(SHARE)/doc/clpa/examples
+	    $(SHARE)/doc/clpa/docs $(SHARE)/doc/clpa/benchmarks $(SHARE)/doc/clpa/examples
 	install -m 755 $(PROGRAM) $(DESTDIR)$(PREFIX)/bin/clpa
 	install -m 644 docs/clpa.1 $(SHARE)/man/man1/clpa.1
 	install -m 644 completions/clpa.bash $(SHARE)/bash-completion/completions/clpa
 	install -m 644 completions/_clpa $(DESTDIR)$(ZSH_COMPLETIONS)/_clpa
 	install -m 644 completions/clpa.fish $(DESTDIR)$(FISH_COMPLETIONS)/clpa.fish
-	install -m 755 examples/take-in examples/search-all examples/plot-minutes examples/merge-day \
-	    examples/upgrade-all $(SHARE)/clpa
-	install -m 644 README.md CHANGELOG.md VERSION $(SHARE)/doc/clpa
-	install -m 644 docs/*.md $(SHARE)/doc/clpa/docs
+	for file in examples/*; do \
+	    [ -d $$file ] || { install -m 755 $$file $(SHARE)/clpa && \
+	    ln -sf ../../../clpa/$${file##*/} $(SHARE)/doc/clpa/examples; } || exit 1; \
+	done
+	sed 's|/usr/local/|$(PREFIX)/|g' docs/INSTALLED.md > $(SHARE)/doc/clpa/README.md
+	chmod 644 $(SHARE)/doc/clpa/README.md
+	install -m 644 CHANGELOG.md CONTRIBUTING.md VERSION $(SHARE)/doc/clpa
+	install -m 644 $(filter-out docs/INSTALLED.md,$(wildcard docs/*.md)) $(SHARE)/doc/clpa/docs
+	install -m 644 benchmarks/README.md $(SHARE)/doc/clpa/benchmarks
 	install -m 644 crates/clpa/data/service.log $(SHARE)/doc/clpa/examples
 	for file in logrotate/service systemd/clpa-archive.service systemd/clpa-archive.timer; do \
 	    install -d $(SHARE)/doc/clpa/examples/$${file%/*} && \
