@@ -64,6 +64,7 @@ fn write_page<N: Names, K: Sink, L: Ledger>(
 {
     let mut writer = RowWriter::new(layouts);
     for place in 0..columns.rows() {
+        writer.look_ahead(columns, place, names);
         let row = columns.row(place);
         if !lines.push(row, names, &mut writer, out, steps)? {
             return Err(DecodeRefusal::Damaged);

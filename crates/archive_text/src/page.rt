@@ -43,6 +43,7 @@ pub(crate) fn write_page<N: Names>(
         if lines.gathered.len() >= PIECE {
             return Ok(place);
         }
+        writer.look_ahead(columns, place, names);
         let row = columns.row(place);
         if !lines.push(row, names, &mut writer)? {
             return Err(TextCause::Damaged);

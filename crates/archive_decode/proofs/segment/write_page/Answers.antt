@@ -18,7 +18,7 @@ loop-place-preserved g c =
     let done = c.in_ok-push.ensures.ok (search rules) in
     record {
       adds = page_more _ _ _ c.loop-place.place _ _ _ _ _ _ _ done.0 c.row-row.ensures done.1 c.loop-place.invariant.adds done.2 (c.in_ok-push.ensures.begun (search rules));
-      types = c.in_ok-push.ensures.types ∙ c.loop-place.invariant.types;
+      types = c.in_ok-push.ensures.types ∙ (c.look_ahead.ensures ∙ c.loop-place.invariant.types);
       faults = c.in_ok-push.ensures.sink.steady ∙ c.loop-place.invariant.faults;
     }
 

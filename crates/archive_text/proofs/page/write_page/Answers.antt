@@ -15,7 +15,7 @@ loop-place-preserved g c =
     let done = c.in_ok-push.ensures.ok (search rules) in
     record {
       written = rows_more _ _ _ c.args.columns.now.rows c.loop-place.place _ c.args.lines.now c.loop-place.lines c.push.new.self done.0 c.row-row.ensures done.1 (sym done.2) (c.in_ok-push.ensures.begun (search rules)) c.loop-place.invariant.written;
-      types = c.in_ok-push.ensures.types ∙ c.loop-place.invariant.types;
+      types = c.in_ok-push.ensures.types ∙ (c.look_ahead.ensures ∙ c.loop-place.invariant.types);
       sent = c.in_ok-push.ensures.sent ∙ c.loop-place.invariant.sent;
       given = c.in_ok-push.ensures.given ∙ c.loop-place.invariant.given;
     }
