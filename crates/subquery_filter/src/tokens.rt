@@ -238,8 +238,7 @@ pub(crate) fn chunk_marks(tokens: &[Token], text: &[u8]) -> u8 {
     bits
 }
 
-/// The bit of a token where it stands among the constant bytes of a log type. It is looked for as they are
-/// stored, so it may seem to stand there where the `\` before a constant byte ends it.
+/// The bit of a token where it stands among the constant bytes of a log type, as they are stored.
 fn gift_of(token: &Token, text: &[u8]) -> u8
     ensures { IsTypeText text.now → StandsInType token.now.matcher.items text.now
         → result ≡ token.now.bit }

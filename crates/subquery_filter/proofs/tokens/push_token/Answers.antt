@@ -1,6 +1,7 @@
 use Rattle.std.proofs.Common.{refl, rules}
 use Rattle.subquery_filter.proofs.ClosedLemmas.{asked_at, closed_in}
 use Rattle.subquery_filter.proofs.FilterLemmas.{tokens_push}
+use Rattle.subquery_filter.proofs.StoredLemmas.{word_inner}
 use Rattle.subquery_filter.proofs.tokens.push_token.Goals as goal
 
 pub returns : goal.returns
