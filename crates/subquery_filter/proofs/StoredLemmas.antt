@@ -54,7 +54,7 @@ word_inner (Word w ∷ ps) (suc place) t cut at = word_inner ps place t cut.2 at
 
 -- ---- the constant bytes, with a newline for each slot
 
-shows : List Symbol → List ℕ
+abbrev shows : List Symbol → List ℕ
 shows [] = []
 shows (Byte b ∷ symbols) = b ∷ shows symbols
 shows (Slot kind ∷ symbols) = 10 ∷ shows symbols

@@ -1,5 +1,5 @@
 use Rattle.std.proofs.Common.{rules}
-use Rattle.std.specs.Prelude.{◌↔◌, Some, None, IsTrue}
+use Rattle.std.specs.Prelude.{◌↔◌, false, Some, None, IsTrue}
 use Rattle.query_plan.specs.Laws.{HasNot}
 use Rattle.query_plan.specs.Needs.{skeleton_of}
 use Rattle.query_plan.specs.Pieces.{flat}
@@ -14,3 +14,8 @@ pub returns-then-not-matches_letters-clause-rejected : goal.returns-then-not-mat
 returns-then-not-matches_letters-clause-rejected c = λ parts same is.
     let tells : IsTrue c.matches_letters.result ↔ Match (skeleton_of c.args.plan.now) (marked_from false (mark_of None) c.args.text.now) = search rules in
     tells_not c.matches_letters.result (constants_tell (skeleton_of c.args.plan.now) c.args.text.now parts same tells) c.if-not-matches_letters.true
+
+pub returns-then-is_certain-clause-certain : goal.returns-then-is_certain-clause-certain
+returns-then-is_certain-clause-certain c = λ parts same is.
+    let tells : IsTrue c.is_certain.result ↔ (BeginsMany (flat c.args.plan.now) × HasNot 10 (flat c.args.plan.now) × Match (flat c.args.plan.now) (marked_from false (mark_of (Some 10)) c.args.text.now)) = search rules in
+    certain_of c.args.plan.now c.args.text.now parts same (tells.0 c.if-is_certain.true)

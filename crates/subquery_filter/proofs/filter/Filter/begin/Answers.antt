@@ -1,4 +1,4 @@
-use Rattle.std.proofs.Common.{◌≡◌, ℕ, List, [], subst, sym}
+use Rattle.std.proofs.Common.{ℕ, List, rules, subst, sym}
 use Rattle.std.specs.Prelude.{bit_or, slice_index_or}
 use Rattle.query_plan.specs.Pieces.{IsCut}
 use Rattle.subquery_filter.specs.declared.token.Token.{Token}
