@@ -1,9 +1,8 @@
 -- A token that stands among the constant bytes of a log type stands in its text as it is stored.
-use Rattle.std.proofs.Common.{◌≡◌, ℕ, zero, suc, Bool, true, false, List, [], ◌∷◌, ◌++◌, map, refl, sym, ◌∙◌, ap, subst, inl, inr}
-use Rattle.std.specs.Prelude.{◌⊎◌, ◌&&◌, IsTrue, Some, slice_get}
+use Rattle.std.proofs.Common.{◌≡◌, ℕ, zero, suc, Bool, true, false, List, [], ◌∷◌, ◌++◌, refl, sym, ◌∙◌, ap, subst, inl, inr}
+use Rattle.std.specs.Prelude.{◌&&◌, Some, slice_get}
 use Rattle.std.specs.List.{list_all}
 use Rattle.token_rules.specs.Tokens.{is_token_byte}
-use Rattle.logtype_text.specs.declared.symbols.Kind.{Kind}
 use Rattle.logtype_text.specs.declared.symbols.Symbol.{Symbol}
 use Rattle.logtype_text.specs.declared.symbols.Symbol.TheVariants.{Byte, Slot}
 use Rattle.logtype_text.specs.TypeText.{IsTypeText, text_of_symbol, type_text}
@@ -18,7 +17,6 @@ use Rattle.subquery_filter.specs.declared.token.Token.{Token}
 use Rattle.subquery_filter.specs.StepsLetters.{marked_from}
 use Rattle.subquery_filter.specs.Tokens.{StandsInType, is_inner, stored}
 use Rattle.subquery_filter.proofs.ClosedLemmas.{here_in, many}
-use Rattle.subquery_filter.proofs.NumberLemmas.{stands_in}
 use Rattle.subquery_filter.proofs.VerdictLemmas.{marked_byte, marked_slot}
 
 -- ---- a token of the pieces has no delimiter

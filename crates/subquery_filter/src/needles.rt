@@ -1,5 +1,5 @@
 //! The texts that are looked for in words.
-ghost use Rattle.std.specs.Prelude.{◌≡◌, ◌↔◌, ℕ, Some, IfOk, IsTrue, OnOk, slice_get};
+ghost use Rattle.std.specs.Prelude.{◌↔◌, ℕ, IfOk, IsTrue, OnOk};
 ghost use Rattle.std.specs.List.{Contains};
 ghost use Rattle.wild_match.specs.Runs.{Occurs};
 ghost use Rattle.subquery_filter.specs.Filter.{AreTexts};

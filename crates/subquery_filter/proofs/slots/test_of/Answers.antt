@@ -1,7 +1,7 @@
-use Rattle.std.proofs.Common.{inr, rules}
-use Rattle.subquery_filter.specs.declared.verdicts.Verdict.TheVariants.{Rejected, Tried}
+use Rattle.std.proofs.Common.{inr}
+use Rattle.subquery_filter.specs.declared.verdicts.Verdict.TheVariants.{Rejected}
 use Rattle.subquery_filter.proofs.BitLemmas.{has_through}
-use Rattle.subquery_filter.proofs.FilterLemmas.{closed_is, open_is, right_verdict}
+use Rattle.subquery_filter.proofs.FilterLemmas.{closed_is}
 use Rattle.subquery_filter.proofs.slots.test_of.Goals as goal
 
 pub returns-then-lacks-clause-test : goal.returns-then-lacks-clause-test

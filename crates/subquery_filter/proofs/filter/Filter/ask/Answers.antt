@@ -1,9 +1,7 @@
-use Rattle.std.proofs.Common.{◌≡◌, ℕ, List, refl, rules, subst, sym}
-use Rattle.query_plan.specs.declared.pieces.Piece.{Piece}
-use Rattle.subquery_filter.specs.declared.filter.Filter.{Filter}
+use Rattle.std.proofs.Common.{List, rules, subst, sym}
 use Rattle.subquery_filter.specs.declared.slots.Beside.{Beside}
 use Rattle.subquery_filter.specs.declared.token.Token.{Token}
-use Rattle.subquery_filter.specs.Filter.{AreCoded, AreSmall, AreTests, AsksTypes, IsFilter, beside_of}
+use Rattle.subquery_filter.specs.Filter.{AreCoded, AreSmall, AreTests}
 use Rattle.subquery_filter.proofs.ClosedLemmas.{are_coded}
 use Rattle.subquery_filter.proofs.MarkLemmas.{asks_ok, filters_ok, told_none}
 use Rattle.subquery_filter.proofs.filter.Filter.ask.Goals as goal
