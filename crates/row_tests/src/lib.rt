@@ -4,6 +4,8 @@
 #[cfg(test)]
 mod books;
 #[cfg(test)]
+mod filter_place_tests;
+#[cfg(test)]
 mod pair_sieve_tests;
 #[cfg(test)]
 mod row_codec_tests;

@@ -12,7 +12,7 @@ use subquery_filter::{Filter, Verdict, accepts, barren, barren_by, is_outside, v
 use wild_match::read_pattern;
 
 /// What is asked by a pattern's plan, and what is to be told.
-enum Case {
+pub(crate) enum Case {
     /// A segment's rows, log types and words: whether it is barren.
     Barren(u32, &'static [u32], &'static [u32], bool),
     /// Whether a segment of one row has stamps, the bounds of a range: whether it is barren.
@@ -26,6 +26,8 @@ enum Case {
     Bits(u32, &'static [u64], &'static [u32], Verdict, bool),
     /// A row's stamp, log type and words: its verdict. A row that is left out is not accepted.
     Number(u8, i64, u32, &'static [u64], Verdict),
+    /// The same of a row without a stamp.
+    Plain(u32, &'static [u64], Verdict),
     /// A segment's log types and words: whether it may match.
     MayMatch(&'static [u32], &'static [u32], bool),
     /// Whether a segment has stamps, its least and its greatest moment: whether it may match, where no log
@@ -34,12 +36,14 @@ enum Case {
     /// The numbers of the words in which the pattern's only token stands, a row's log type and words: its
     /// verdict.
     Marked(&'static [u32], u32, &'static [u64], Verdict),
+    /// The same where other numbers were marked before, and the log types were asked by them.
+    Again(&'static [u32], u32, &'static [u64], Verdict),
     /// How many texts are looked for in words.
     Needles(usize),
 }
 
 /// A pattern's text, and what is asked by it.
-type Row = (&'static [u8], Case);
+pub(crate) type Row = (&'static [u8], Case);
 
 /// The head of a segment of one file.
 fn head_of(
@@ -193,18 +197,23 @@ fn filter_holds(
             let row = row_of(*pattern, *moment, *log_type, words);
             Ok(is_told(&filter, plan, books, row, *want))
         }
+        Case::Plain(log_type, words, want) => {
+            let row = row_of(0, 0, *log_type, words);
+            Ok(is_told(&filter, plan, books, row, *want))
+        }
         _ => filter_leaves(alloc, &filter, case),
     }
 }
 
-/// The plan's filter, whose words are marked by these numbers.
+/// The plan's filter, whose words are marked by these numbers, before all log types are asked.
 fn marked(
     alloc: Global,
     books: &Books,
     plan: &Plan,
     lists: &[NumberList],
 ) -> Result<Filter, AllocError> {
-    Filter::begin(alloc, plan, books)?.mark(alloc, lists)
+    let filter = Filter::begin(alloc, plan)?.mark(alloc, lists)?;
+    filter.ask(alloc, plan, books)
 }
 
 /// Whether that is the verdict on a row by a filter whose words are marked by these numbers.
@@ -221,9 +230,28 @@ fn marks_hold(
     Ok(filter.verdict(row) == want)
 }
 
+/// The same where no word was marked before: until the log types are asked again each row is tried.
+fn marks_again(
+    alloc: Global,
+    books: &Books,
+    plan: &Plan,
+    numbers: &[u32],
+    row: RowRef<'_>,
+    want: Verdict,
+) -> Result<bool, AllocError> {
+    let list = NumberList::new(Vec::from_slice(alloc, numbers)?);
+    let before = marked(alloc, books, plan, &[])?;
+    let marked = before.mark(alloc, &[list])?;
+    if marked.verdict(row) != Verdict::Tried {
+        return Ok(false);
+    }
+    let asked = marked.ask(alloc, plan, books)?;
+    Ok(asked.verdict(row) == want)
+}
+
 /// How many texts are looked for in words.
-fn needles(alloc: Global, books: &Books, plan: &Plan) -> Result<usize, AllocError> {
-    let filter = Filter::begin(alloc, plan, books)?;
+fn needles(alloc: Global, plan: &Plan) -> Result<usize, AllocError> {
+    let filter = Filter::begin(alloc, plan)?;
     Ok(filter.needles().len())
 }
 
@@ -240,7 +268,11 @@ fn plan_holds(alloc: Global, books: &Books, plan: &Plan, case: &Case) -> Result<
             let row = row_of(0, 0, *log_type, words);
             marks_hold(alloc, books, plan, numbers, row, *want)
         }
-        Case::Needles(want) => Ok(needles(alloc, books, plan)? == *want),
+        Case::Again(numbers, log_type, words, want) => {
+            let row = row_of(0, 0, *log_type, words);
+            marks_again(alloc, books, plan, numbers, row, *want)
+        }
+        Case::Needles(want) => Ok(needles(alloc, plan)? == *want),
         _ => filter_holds(alloc, books, plan, case),
     }
 }
@@ -282,7 +314,7 @@ fn add_words(books: &mut Books, texts: &[&[u8]]) -> Result<(), BookRefusal> {
 }
 
 /// Log types and words of books, and rows that are asked over them.
-type Table = (
+pub(crate) type Table = (
     &'static [&'static [u8]],
     &'static [&'static [u8]],
     &'static [Row],
@@ -301,7 +333,7 @@ fn told(alloc: Global, table: &Table) -> Result<usize, Fail> {
 }
 
 /// Fails with the place of the first row that is not as told.
-fn all_hold(alloc: Global, table: &Table) -> Result<(), Fail> {
+pub(crate) fn all_hold(alloc: Global, table: &Table) -> Result<(), Fail> {
     let told = told(alloc, table)?;
     if told == table.2.len() {
         Ok(())
@@ -491,7 +523,7 @@ const NUMBER_WORDS: &[&[u8]] = &[
 const DECIMALS: [u64; 3] = [0x14F32, 0xF10, 0x8000_0000_0000_0510];
 
 /// `2025-03-01 00:00:00,404` and `2021-11-12 11:11:11,111` by the first pattern.
-const MOMENTS: [i64; 2] = [1_740_787_200_404, 1_636_715_471_111];
+pub(crate) const MOMENTS: [i64; 2] = [1_740_787_200_404, 1_636_715_471_111];
 
 /// A row is told by the texts of its words and numbers and by its stamp. None that matches is left
 /// out.
@@ -687,6 +719,9 @@ const MARKED: &[Row] = &[
         Case::Marked(&[70_000, 4_000_000], 0, &[4_000_001], Verdict::Rejected),
     ),
     (b"run", Case::Marked(&[], 0, &[0], Verdict::Certain)),
+    (b"task", Case::Again(&[0, 1], 0, &[1], Verdict::Tried)),
+    (b"task", Case::Again(&[0, 1], 0, &[2], Verdict::Rejected)),
+    (b"task", Case::Again(&[], 0, &[0], Verdict::Rejected)),
 ];
 
 #[test]
@@ -697,7 +732,7 @@ fn rows_by_marks(rt: HostRuntime) -> Result<(), Fail> {
 const NEEDLES: &[Row] = &[
     (b"task", Case::Needles(1)),
     (b"task*oo", Case::Needles(2)),
-    (b" took ", Case::Needles(0)),
+    (b" took ", Case::Needles(1)),
     (b"run", Case::Needles(1)),
 ];
 

@@ -154,11 +154,11 @@ owned_in exact a b t body parts da some db is are m =
 
 -- ---- in a stamp
 
-many : (s : List ℕ) → Match (Many ∷ []) s
+pub many : (s : List ℕ) → Match (Many ∷ []) s
 many [] = refl
 many (c ∷ s) = inr (many s)
 
-here_in : (t s : List ℕ) → Match (bytes t (Many ∷ [])) s → Match (around t) s
+pub here_in : (t s : List ℕ) → Match (bytes t (Many ∷ [])) s → Match (around t) s
 here_in t [] m = m
 here_in t (c ∷ s) m = inl m
 

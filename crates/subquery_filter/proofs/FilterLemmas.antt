@@ -1,5 +1,5 @@
 -- What the bits of a filter tell of rows.
-use Rattle.std.proofs.Common.{◌≡◌, ℕ, zero, suc, ◌+◌, ◌<◌, ◌≤◌, false, List, [], ◌∷◌, ◌++◌, length, get_or, map, refl, sym, ◌∙◌, ap, subst, arith, inl, inr, length-append}
+use Rattle.std.proofs.Common.{◌≡◌, ◌≢◌, ℕ, zero, suc, ◌+◌, ◌<◌, ◌≤◌, false, List, [], ◌∷◌, ◌++◌, length, get_or, map, refl, sym, ◌∙◌, ap, subst, arith, inl, inr, length-append}
 use Rattle.std.specs.Prelude.{◌⊎◌, ◌↔◌, Option, None, Some, bit_or, slice_get, slice_index_or}
 use Rattle.std.specs.List.{Contains}
 use Rattle.std.proofs.lemmas.Bool.{cases_lt}
@@ -23,12 +23,13 @@ use Rattle.query_plan.specs.Laws.{IsSearched}
 use Rattle.query_plan.specs.Pieces.{flat, wide_pieces}
 use Rattle.subquery_filter.specs.declared.filter.Filter.{Filter}
 use Rattle.subquery_filter.specs.declared.marks.WordMarks.{WordMarks}
+use Rattle.subquery_filter.specs.declared.slots.Beside.{Beside}
 use Rattle.subquery_filter.specs.declared.slots.Slot.{Slot}
 use Rattle.subquery_filter.specs.declared.slots.TypeTest.{TypeTest}
 use Rattle.subquery_filter.specs.declared.token.Token.{Token}
 use Rattle.subquery_filter.specs.declared.verdicts.Verdict.{Verdict}
 use Rattle.subquery_filter.specs.declared.verdicts.Verdict.TheVariants.{Rejected, Certain, Tried}
-use Rattle.subquery_filter.specs.Filter.{AreSmall, AreTests, AsksTypes, Covers, Has, HasNoMatch, IsAsked, IsFilter, IsListed, IsRight, IsRowVerdict, IsSlot, IsTest, LacksAll, StampMarks, MarksOpen, MarksVariable, marks_at, may_by}
+use Rattle.subquery_filter.specs.Filter.{AreSlots, AreSmall, AreTests, AsksTypes, Covers, Gives, Has, HasNoMatch, IsAsked, IsFilter, IsListed, IsRight, IsRowVerdict, IsSlot, IsTest, LacksAll, LacksText, StampMarks, MarksOpen, MarksVariable, beside_of, marks_at, may_by}
 use Rattle.subquery_filter.specs.StepsFilter.{AreTokens, HasEach, IsShut, Lacks, LacksTokens, StampsBring, Stays}
 use Rattle.subquery_filter.specs.StepsLetters.{kinds_in}
 use Rattle.subquery_filter.specs.Tokens.{RowsBring}
@@ -140,25 +141,25 @@ pub slot_stays : (tokens : List Token) (old new : List Slot) (first end known pl
 slot_stays tokens old new first end known place kind stays more le (inl h) = inl (listed_stays tokens old new first end place kind stays h more le)
 slot_stays tokens old new first end known place kind stays more le (inr h) = inr h
 
-test_stays : (ps : List Piece) (tokens : List Token) (old new : List Slot) (text : List ℕ) (test : TypeTest) → Stays old new → IsTest ps tokens old text test → IsTest ps tokens new text test
-test_stays ps tokens old new text test stays h = record {
+test_stays : (ps : List Piece) (tokens : List Token) (beside : Beside) (old new : List Slot) (text : List ℕ) (test : TypeTest) → Stays old new → IsTest ps tokens beside old text test → IsTest ps tokens beside new text test
+test_stays ps tokens beside old new text test stays h = record {
   right = h.right;
   gives = h.gives;
   slots_are = λ tried place kind at. slot_stays tokens old new test.first test.end test.has place kind stays test.end (omega arith) (h.slots_are tried place kind at);
 }
 
-pub tests_step : (ps : List Piece) (tokens : List Token) (types : List (List ℕ)) (count : ℕ) (slots more : List Slot) (old new : List TypeTest) (text : List ℕ) (test : TypeTest) → length old ≡ count → new ≡ old ++ test ∷ [] → slice_get types count ≡ Some text
-    → Stays slots more → IsTest ps tokens more text test → AreTests ps tokens types slots old → AreTests ps tokens types more new
-tests_step ps tokens types count slots more old new text test size is there stays here before t other found type_is test_is =
+pub tests_step : (ps : List Piece) (tokens : List Token) (beside : Beside) (types : List (List ℕ)) (count : ℕ) (slots more : List Slot) (old new : List TypeTest) (text : List ℕ) (test : TypeTest) → length old ≡ count → new ≡ old ++ test ∷ [] → slice_get types count ≡ Some text
+    → Stays slots more → IsTest ps tokens beside more text test → AreTests ps tokens beside types slots old → AreTests ps tokens beside types more new
+tests_step ps tokens beside types count slots more old new text test size is there stays here before t other found type_is test_is =
     elim (push_cases old test t found (subst (λ (l : List TypeTest). slice_get l t ≡ Some found) is test_is)) [
-      | inl earlier ↦ test_stays ps tokens slots more other found stays (before t other found type_is earlier)
+      | inl earlier ↦ test_stays ps tokens beside slots more other found stays (before t other found type_is earlier)
       | inr (e, same) ↦
           let texts : text ≡ other = some_same (slice_get types count) text other there (ap (λ (j : ℕ). slice_get types j) (sym (e ∙ size)) ∙ type_is) in
-          subst (λ (x : TypeTest). IsTest ps tokens more other x) same (subst (λ x. IsTest ps tokens more x test) texts here)
+          subst (λ (x : TypeTest). IsTest ps tokens beside more other x) same (subst (λ x. IsTest ps tokens beside more x test) texts here)
     ]
 
-pub tests_none : (ps : List Piece) (tokens : List Token) (types : List (List ℕ)) (slots : List Slot) (tests : List TypeTest) → tests ≡ [] → AreTests ps tokens types slots tests
-tests_none ps tokens types slots tests none t text test found at = absurd (let e : None ≡ Some test = ap (λ (l : List TypeTest). slice_get l t) (sym none) ∙ at in cc)
+pub tests_none : (ps : List Piece) (tokens : List Token) (beside : Beside) (types : List (List ℕ)) (slots : List Slot) (tests : List TypeTest) → tests ≡ [] → AreTests ps tokens beside types slots tests
+tests_none ps tokens beside types slots tests none t text test found at = absurd (let e : None ≡ Some test = ap (λ (l : List TypeTest). slice_get l t) (sym none) ∙ at in cc)
 
 pub small_step : (tokens : List Token) (count : ℕ) (old new : List ℕ) (mark : ℕ) → length old ≡ count → new ≡ old ++ mark ∷ [] → MarksOpen tokens (signed_decimal (cast_signed w64 count)) mark → AreSmall tokens old → AreSmall tokens new
 small_step tokens count old new mark size is marks before n bits at =
@@ -173,11 +174,30 @@ small_none tokens small none n bits at = absurd (let e : None ≡ Some bits = ap
 pub grown : {X : Type 0} (old new : List X) (x : X) (n : ℕ) → length old ≡ n → new ≡ old ++ x ∷ [] → length new ≡ n + 1
 grown old new x n size is = omega (arith, size, ap length is, length-append old (x ∷ []))
 
-pub right_verdict : (ps : List Piece) (text : List ℕ) (v : Verdict) → ((parts : List Part) → text ≡ type_text (map symbol_of parts) → (v ≡ Rejected) ↔ IsRejected ps parts)
-    → ((parts : List Part) → text ≡ type_text (map symbol_of parts) → v ≡ Certain → IsCertain ps parts) → IsRight ps text v
-right_verdict ps text Rejected rejected certain = λ parts is. (rejected parts is).0 refl
-right_verdict ps text Certain rejected certain = λ parts is. certain parts is refl
-right_verdict ps text Tried rejected certain = tt
+pub right_verdict : (ps : List Piece) (tokens : List Token) (beside : Beside) (text : List ℕ) (v : Verdict) → ((parts : List Part) → text ≡ type_text (map symbol_of parts) → v ≡ Rejected → IsRejected ps parts)
+    → ((parts : List Part) → text ≡ type_text (map symbol_of parts) → v ≡ Certain → IsCertain ps parts) → IsRight ps tokens beside text v
+right_verdict ps tokens beside text Rejected rejected certain = inl (λ parts is. rejected parts is refl)
+right_verdict ps tokens beside text Certain rejected certain = λ parts is. certain parts is refl
+right_verdict ps tokens beside text Tried rejected certain = tt
+
+-- a log type of which all is told
+pub closed_is : (ps : List Piece) (tokens : List Token) (beside : Beside) (slots : List Slot) (text : List ℕ) (test : TypeTest) (v : Verdict) (first : ℕ) → test ≡ record { verdict = v; has = 0; first = first; end = first } → v ≢ Tried
+    → IsRight ps tokens beside text v → IsTest ps tokens beside slots text test
+closed_is ps tokens beside slots text test v first is other right =
+    let same : v ≡ test.verdict = sym (ap (λ (t : TypeTest). t.verdict) is) in record {
+      right = subst (IsRight ps tokens beside text) same right;
+      gives = λ tried. absurd (other (same ∙ tried));
+      slots_are = λ tried. absurd (other (same ∙ tried));
+    }
+
+-- and one whose slots are listed
+pub open_is : (ps : List Piece) (tokens : List Token) (beside : Beside) (slots : List Slot) (text : List ℕ) (test : TypeTest) → test.verdict ≡ Tried → Gives tokens text test.has → AreSlots tokens text slots test.first test.end test.has
+    → IsTest ps tokens beside slots text test
+open_is ps tokens beside slots text test tried gives are = record {
+  right = subst (IsRight ps tokens beside text) (sym tried) tt;
+  gives = λ same. gives;
+  slots_are = λ same. are;
+}
 
 pub tokens_push : (ps : List Piece) (old new : List Token) (token : Token) → new ≡ old ++ token ∷ [] → IsAsked ps token → AreTokens ps old → AreTokens ps new
 tokens_push ps old new token is asked are = subst (AreTokens ps) (sym is) (All-push (IsAsked ps) old token are asked)
@@ -222,7 +242,7 @@ lacks_bits law ps types words f is row test bits at tried has stamp variables la
     let k : Token = slice_index_or f.tokens.items j d in
     elim (token_found law version ps row types words text message k is.asks.cut canonical matches (is.asks.are j d lt) typed) [
       | inl (s, stamped, fits) ↦ stamp s stamped j d lt fits
-      | inr (inl there) ↦ has_through bits test.has k.bit has (here.gives tried j d lt there)
+      | inr (inl there) ↦ has_through bits test.has k.bit has (here.gives tried (map symbol_of canonical.means.parts, refl) j d lt there)
       | inr (inr v) ↦ elim (here.slots_are tried v.place v.kind v.slot) [
         | inl listed ↦ variables canonical.means.parts typed v.place v.kind v.word v.variable v.slot v.at listed v.has j d lt v.finds
         | inr covered ↦ has_through bits test.has k.bit has (covered words v.variable v.word v.has j d lt v.finds)
@@ -236,32 +256,71 @@ row_lacks law p types words f is row test at tried h =
     (λ parts typed place kind word variable slot there listed has j d lt fits.
     let same : (k : Kind) → k ≡ kind → HasWord words k variable word = λ k e. subst (λ (x : Kind). HasWord words x variable word) (sym e) has in
     h.slots listed.at listed.from listed.to listed.slot word listed.is (subst (λ (n : ℕ). slice_get row.words n ≡ Some word) (sym listed.same_place) there) words variable
-    (λ w. is.marks listed.at listed.slot listed.is w) is.asks.small is.asks.numbers (are_coded (wide_pieces p) f.tokens.items is.asks.are) (same listed.slot.kind listed.same_kind) j d lt fits (listed.covers words variable word has j d lt fits))
+    (λ w. is.marks) is.asks.small is.asks.numbers (are_coded (wide_pieces p) f.tokens.items is.asks.are) (same listed.slot.kind listed.same_kind) j d lt fits (listed.covers words variable word has j d lt fits))
     h.lacks
 
-rejected_row : RejectedNeverMatches → (p : List Item) → IsSearched p → (types words : List (List ℕ)) (f : Filter) → IsFilter (wide_pieces p) types words f → (row : Row) (test : TypeTest)
+stamp_may : (f : Filter) (types words : List (List ℕ)) (ps : List Piece) → IsFilter ps types words f → (row : Row) (bits : ℕ) → Has bits f.stamped → (s : List ℕ) → HasStampText row.pattern row.moment s → StampMarks f.tokens.items s bits
+stamp_may f types words ps is row bits has s stamped = λ j d lt fits.
+    has_through bits f.stamped (slice_index_or f.tokens.items j d).bit has
+    (has_through f.stamped (slice_index_or f.stamps.items row.pattern 0) (slice_index_or f.tokens.items j d).bit (is.asks.stamped row.pattern) (is.asks.stamps row.pattern row.moment s stamped j d lt fits))
+
+-- what a variable of a row brings is among what numbers and words bring
+variable_may : (f : Filter) (types words : List (List ℕ)) (ps : List Piece) → IsFilter ps types words f → (bits : ℕ) → Has bits f.numbers → Has bits f.brought → (kind : Kind) (word : ℕ) (variable : List ℕ) → HasWord words kind variable word
+    → MarksVariable f.tokens.items variable bits
+variable_may f types words ps is bits by_numbers by_words Whole word variable has j d lt finds =
+    has_through bits f.numbers (slice_index_or f.tokens.items j d).bit by_numbers (is.asks.numbers Whole (λ e. cc (e)) words variable word has j d lt finds)
+variable_may f types words ps is bits by_numbers by_words Decimal word variable has j d lt finds =
+    has_through bits f.numbers (slice_index_or f.tokens.items j d).bit by_numbers (is.asks.numbers Decimal (λ e. cc (e)) words variable word has j d lt finds)
+variable_may f types words ps is bits by_numbers by_words Word word variable has j d lt finds =
+    has_through bits f.brought (slice_index_or f.tokens.items j d).bit by_words
+    (has_through f.brought (marks_at f.marks word) (slice_index_or f.tokens.items j d).bit (is.asks.brought word) (is.marks word variable has.1 j d lt finds.0))
+
+-- a row of a log type whose text lacks what no stamp, no number and no word brings
+lacking_row : RowsBring → (ps : List Piece) (types words : List (List ℕ)) (f : Filter) → IsFilter ps types words f → (row : Row) (text : List ℕ) → slice_get types row.log_type ≡ Some text
+    → LacksText f.tokens.items (beside_of f) text → (version : ℕ) (message : List ℕ) → IsCanonical version row types words message → ¬ Match (flat ps) message
+lacking_row law ps types words f is row text here h version message canonical matches =
+    let both : ℕ = bit_or f.stamped f.numbers in
+    let others : ℕ = bit_or both f.brought in
+    let own : Has h.bits both = has_through h.bits others both h.has (has_left both f.brought both (has_self both)) in
+    let by_words : Has h.bits f.brought = has_through h.bits others f.brought h.has (has_right both f.brought) in
+    let by_numbers : Has h.bits f.numbers = has_through h.bits both f.numbers own (has_right f.stamped f.numbers) in
+    let by_stamps : Has h.bits f.stamped = has_through h.bits both f.stamped own (has_left f.stamped f.numbers f.stamped (has_self f.stamped)) in
+    let symbols = map symbol_of canonical.means.parts in
+    let same : type_text symbols ≡ text = some_same (slice_get types row.log_type) (type_text symbols) text canonical.means.typed here in
+    h.lacks (is.asks.wanted h.bits (λ j d lt.
+    let k : Token = slice_index_or f.tokens.items j d in
+    elim (token_found law version ps row types words text message k is.asks.cut canonical matches (is.asks.are j d lt) here) [
+      | inl (s, stamped, fits) ↦ stamp_may f types words ps is row h.bits by_stamps s stamped j d lt fits
+      | inr (inl there) ↦ h.gives (symbols, same) j d lt there
+      | inr (inr v) ↦ variable_may f types words ps is h.bits by_numbers by_words v.kind v.word v.variable v.has j d lt v.finds
+    ]))
+
+rejected_row : RejectedNeverMatches → RowsBring → (p : List Item) → IsSearched p → (types words : List (List ℕ)) (f : Filter) → IsFilter (wide_pieces p) types words f → (row : Row) (test : TypeTest)
     → slice_get f.tests.items row.log_type ≡ Some test → test.verdict ≡ Rejected → IsRowVerdict (wide_pieces p) types words row Rejected
-rejected_row law p searched types words f is row test at rejected version message canonical =
+rejected_row law bring p searched types words f is row test at rejected version message canonical =
     let text = type_text (map symbol_of canonical.means.parts) in
-    let right = subst (IsRight (wide_pieces p) text) rejected (is.asks.tests row.log_type text test canonical.means.typed at).right in
-    law version p row types words canonical.means.parts message searched canonical.means.typed (right canonical.means.parts refl) canonical
+    let right = subst (IsRight (wide_pieces p) f.tokens.items (beside_of f) text) rejected (is.asks.tests row.log_type text test canonical.means.typed at).right in
+    elim right [
+      | inl never ↦ law version p row types words canonical.means.parts message searched canonical.means.typed (never canonical.means.parts refl) canonical
+      | inr h ↦ lacking_row bring (wide_pieces p) types words f is row text canonical.means.typed h version message canonical
+    ]
 
 certain_row : CertainAlwaysMatches → (p : List Item) (types words : List (List ℕ)) (f : Filter) → AsksTypes (wide_pieces p) types f → (row : Row) (test : TypeTest)
     → slice_get f.tests.items row.log_type ≡ Some test → test.verdict ≡ Certain → IsRowVerdict (wide_pieces p) types words row Certain
 certain_row law p types words f asks row test at certain message spelled =
     let text = type_text (map symbol_of spelled.parts) in
-    let right = subst (IsRight (wide_pieces p) text) certain (asks.tests row.log_type text test spelled.typed at).right in
+    let right = subst (IsRight (wide_pieces p) f.tokens.items (beside_of f) text) certain (asks.tests row.log_type text test spelled.typed at).right in
     law (wide_pieces p) row types words spelled.parts message spelled.typed (right spelled.parts refl) spelled
 
-verdict_by : RejectedNeverMatches → CertainAlwaysMatches → (p : List Item) → IsSearched p → (types words : List (List ℕ)) (f : Filter) → IsFilter (wide_pieces p) types words f → (row : Row) (test : TypeTest) (v : Verdict)
+verdict_by : RejectedNeverMatches → CertainAlwaysMatches → RowsBring → (p : List Item) → IsSearched p → (types words : List (List ℕ)) (f : Filter) → IsFilter (wide_pieces p) types words f → (row : Row) (test : TypeTest) (v : Verdict)
     → slice_get f.tests.items row.log_type ≡ Some test → test.verdict ≡ v → IsRowVerdict (wide_pieces p) types words row v
-verdict_by rejected certain p searched types words f is row test Rejected at same = rejected_row rejected p searched types words f is row test at same
-verdict_by rejected certain p searched types words f is row test Certain at same = certain_row certain p types words f is.asks row test at same
-verdict_by rejected certain p searched types words f is row test Tried at same = tt
+verdict_by rejected certain bring p searched types words f is row test Rejected at same = rejected_row rejected bring p searched types words f is row test at same
+verdict_by rejected certain bring p searched types words f is row test Certain at same = certain_row certain p types words f is.asks row test at same
+verdict_by rejected certain bring p searched types words f is row test Tried at same = tt
 
-row_verdict : RejectedNeverMatches → CertainAlwaysMatches → (p : List Item) → IsSearched p → (types words : List (List ℕ)) (f : Filter) → IsFilter (wide_pieces p) types words f → (row : Row) (test : TypeTest)
+row_verdict : RejectedNeverMatches → CertainAlwaysMatches → RowsBring → (p : List Item) → IsSearched p → (types words : List (List ℕ)) (f : Filter) → IsFilter (wide_pieces p) types words f → (row : Row) (test : TypeTest)
     → slice_get f.tests.items row.log_type ≡ Some test → IsRowVerdict (wide_pieces p) types words row test.verdict
-row_verdict rejected certain p searched types words f is row test at = verdict_by rejected certain p searched types words f is row test test.verdict at refl
+row_verdict rejected certain bring p searched types words f is row test at = verdict_by rejected certain bring p searched types words f is row test test.verdict at refl
 
 -- ---- what they tell of a segment
 
@@ -274,12 +333,7 @@ may_listed f types words ps is brought bits numbers each at slot there Decimal s
     λ j d lt fits. has_through bits slot.bits (slice_index_or f.tokens.items j d).bit has (covers words variable word has_word j d lt fits)
 may_listed f types words ps is brought bits numbers each at slot there Word same has word variable listed has_word covers =
     λ j d lt fits. has_through bits brought (slice_index_or f.tokens.items j d).bit has
-    (has_through brought (marks_at f.marks word) (slice_index_or f.tokens.items j d).bit (each word (listed refl)) (is.marks at slot there same word variable has_word.1 j d lt fits.0))
-
-stamp_may : (f : Filter) (types words : List (List ℕ)) (ps : List Piece) → IsFilter ps types words f → (row : Row) (bits : ℕ) → Has bits f.stamped → (s : List ℕ) → HasStampText row.pattern row.moment s → StampMarks f.tokens.items s bits
-stamp_may f types words ps is row bits has s stamped = λ j d lt fits.
-    has_through bits f.stamped (slice_index_or f.tokens.items j d).bit has
-    (has_through f.stamped (slice_index_or f.stamps.items row.pattern 0) (slice_index_or f.tokens.items j d).bit (is.asks.stamped row.pattern) (is.asks.stamps row.pattern row.moment s stamped j d lt fits))
+    (has_through brought (marks_at f.marks word) (slice_index_or f.tokens.items j d).bit (each word (listed refl)) (is.marks word variable has_word.1 j d lt fits.0))
 
 -- a row of a log type that brings less than is wanted, where the row's stamp and its words bring no more than these
 -- bits
@@ -304,7 +358,7 @@ pub none_may : RejectedNeverMatches → RowsBring → (p : List Item) → IsSear
 none_may rejected law p searched types words f is head listed numbers stamped brought of_types of_words bring each shut version row message may canonical =
     let (test, at, how) = shut row.log_type (subst (λ (l : List ℕ). Contains l row.log_type) (sym of_types) may.listed) in
     elim how [
-      | inl never ↦ rejected_row rejected p searched types words f is row test at never version message canonical
+      | inl never ↦ rejected_row rejected law p searched types words f is row test at never version message canonical
       | inr (tried, h) ↦
           row_shut law p types words f is row test stamped brought at tried h (λ s printed. bring is.asks.stamps row.pattern row.moment s may.within printed)
           (λ n has. each n (subst (λ (l : List ℕ). Contains l n) (sym of_words) (may.words n has))) version message canonical
@@ -317,7 +371,7 @@ pub told_verdict : RejectedNeverMatches → CertainAlwaysMatches → RowsBring �
 told_verdict rejected certain law p searched types words f is row v there =
     let (test, at, how) = is.asks.told row.log_type v there in
     elim how [
-      | inl same ↦ subst (IsRowVerdict (wide_pieces p) types words row) (sym same) (row_verdict rejected certain p searched types words f is row test at)
+      | inl same ↦ subst (IsRowVerdict (wide_pieces p) types words row) (sym same) (row_verdict rejected certain law p searched types words f is row test at)
       | inr (never, tried, h) ↦
           subst (IsRowVerdict (wide_pieces p) types words row) (sym never)
           (row_shut law p types words f is row test f.stamped f.brought at tried h (stamp_may f types words (wide_pieces p) is row f.stamped (has_self f.stamped)) (λ n has. is.asks.brought n))

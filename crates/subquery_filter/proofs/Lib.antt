@@ -4,6 +4,7 @@ mod LetterLemmas
 mod BarrenLemmas
 mod VerdictLemmas
 mod TokenLemmas
+mod StoredLemmas
 mod FilterLemmas
 mod NumberLemmas
 mod DecimalLemmas

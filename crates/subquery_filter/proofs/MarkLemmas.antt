@@ -190,11 +190,10 @@ text_here texts i text d within is = slice_get-get_or texts i d within ∙ ap (�
 
 -- ---- the whole filter
 
-pub marked_ok : {E : Type 0} (ps : List Piece) (types words : List (List ℕ)) (f : Filter) (lists lent : List (List ℕ)) (r : Result Filter E) → lent ≡ lists
-    → IfOk r (λ g. (qs : List Piece) (kinds texts : List (List ℕ)) → AsksTypes qs kinds f → HaveAll f.needles.items texts lent → IsFilter qs kinds texts g) → AsksTypes ps types f → HaveAll f.needles.items words lists
+pub marked_ok : {E : Type 0} (ps : List Piece) (types words : List (List ℕ)) (f : Filter) (r : Result Filter E) → IfOk r (λ g. (texts : List (List ℕ)) → IsFilter ps types texts f → IsFilter ps types texts g) → IsFilter ps types words f
     → IfOk r (IsFilter ps types words)
-marked_ok ps types words f lists lent (Ok g) same told asks have = told ps types words asks (subst (λ l. HaveAll f.needles.items words l) (sym same) have)
-marked_ok ps types words f lists lent (Err e) same told asks have = tt
+marked_ok ps types words f (Ok g) told is = told words is
+marked_ok ps types words f (Err e) told is = tt
 
 -- ---- what is told of all rows of a log type
 
@@ -211,16 +210,16 @@ told_step f i old new test v size is there here before t other at =
       | inr (e, same) ↦ (test, subst (λ n. slice_get f.tests.items n ≡ Some test) (sym (e ∙ size)) there, subst (IsTold f test) same here)
     ]
 
-pub told_ok : {E : Type 0} (ps : List Piece) (types : List (List ℕ)) (f : Filter) (r : Result Filter E) → IfOk r (λ g. (qs : List Piece) (kinds : List (List ℕ)) → AsksTypes qs kinds f → AsksTypes qs kinds g)
-    → AsksTypes ps types f → IfOk r (AsksTypes ps types)
-told_ok ps types f (Ok g) told asks = told ps types asks
-told_ok ps types f (Err e) told asks = tt
+-- what is told of one filter is told of the next
+pub asks_ok : {E : Type 0} (ps : List Piece) (types : List (List ℕ)) (old f : Filter) (r : Result Filter E) → IfOk r (λ g. (qs : List Piece) (kinds : List (List ℕ)) → AsksTypes qs kinds f → AsksTypes qs kinds g)
+    → (AsksTypes ps types old → AsksTypes ps types f) → IfOk r (λ g. AsksTypes ps types old → AsksTypes ps types g)
+asks_ok ps types old f (Ok g) told goes = λ asks. told ps types (goes asks)
+asks_ok ps types old f (Err e) told goes = tt
 
-pub filter_ok : {E : Type 0} (old : Filter) (lists : List (List ℕ)) (f : Filter) (r : Result Filter E) → IfOk r (λ g. (ps : List Piece) (types words : List (List ℕ)) → IsFilter ps types words f → IsFilter ps types words g)
-    → ((ps : List Piece) (types words : List (List ℕ)) → AsksTypes ps types old → HaveAll old.needles.items words lists → IsFilter ps types words f)
-    → IfOk r (λ g. (ps : List Piece) (types words : List (List ℕ)) → AsksTypes ps types old → HaveAll old.needles.items words lists → IsFilter ps types words g)
-filter_ok old lists f (Ok g) told is = λ ps types words asks have. told ps types words (is ps types words asks have)
-filter_ok old lists f (Err e) told is = tt
+pub filters_ok : {E : Type 0} (ps : List Piece) (types : List (List ℕ)) (old f : Filter) (r : Result Filter E) → IfOk r (λ g. (qs : List Piece) (kinds texts : List (List ℕ)) → IsFilter qs kinds texts f → IsFilter qs kinds texts g)
+    → ((words : List (List ℕ)) → IsFilter ps types words old → IsFilter ps types words f) → IfOk r (λ g. (words : List (List ℕ)) → IsFilter ps types words old → IsFilter ps types words g)
+filters_ok ps types old f (Ok g) told goes = λ words is. told ps types words (goes words is)
+filters_ok ps types old f (Err e) told goes = tt
 
 lacks_again : (f g : Filter) (test : TypeTest) (brought : ℕ) → f.slots.items ≡ g.slots.items → f.wanted ≡ g.wanted → f.stamped ≡ g.stamped → LacksAll f test f.stamped brought → LacksAll g test g.stamped brought
 lacks_again f g test brought slots wanted stamped h = record {

@@ -9,7 +9,7 @@ use Rattle.column_store.specs.declared.row.Row.{Row}
 use Rattle.logtype_text.specs.declared.symbols.Kind.{Kind}
 use Rattle.logtype_text.specs.declared.symbols.Kind.TheVariants.{Whole, Word, Decimal}
 use Rattle.logtype_text.specs.Parts.{Part, symbol_of}
-use Rattle.logtype_text.specs.TypeText.{type_text}
+use Rattle.logtype_text.specs.TypeText.{IsTypeText, type_text}
 use Rattle.wild_match.specs.Matches.{Match}
 use Rattle.row_codec.specs.Means.{HasStampText, HasWord, IsCanonical, IsSpelling}
 use Rattle.row_codec.specs.Numbers.{numbers_of_row}
@@ -18,6 +18,7 @@ use Rattle.query_plan.specs.declared.pieces.Piece.{Piece}
 use Rattle.query_plan.specs.Pieces.{IsCut, flat}
 use Rattle.subquery_filter.specs.declared.filter.Filter.{Filter}
 use Rattle.subquery_filter.specs.declared.marks.WordMarks.{WordMarks}
+use Rattle.subquery_filter.specs.declared.slots.Beside.{Beside}
 use Rattle.subquery_filter.specs.declared.slots.Slot.{Slot}
 use Rattle.subquery_filter.specs.declared.slots.KindBits.{KindBits}
 use Rattle.subquery_filter.specs.declared.slots.TypeTest.{TypeTest}
@@ -60,7 +61,7 @@ AreCoded tokens = All (λ k. (code : Coded) → k.closed ≡ Some code → Codes
 
 -- the bit of each token that stands among the constant bytes of the log type is among these
 abbrev pub Gives : List Token → List ℕ → ℕ → Type 0
-Gives tokens text bits = All (λ k. StandsInType k.matcher.items text → Has bits k.bit) tokens
+Gives tokens text bits = IsTypeText text → All (λ k. StandsInType k.matcher.items text → Has bits k.bit) tokens
 
 -- the bit of each token that stands in the text of some variable of this kind is among these
 abbrev pub Covers : List Token → Kind → ℕ → Type 0
@@ -100,11 +101,19 @@ AreStamps tokens stamps =
 
 -- ---- what is known of a log type
 
+-- no row of a log type with this text brings all that is wanted, whatever its slots are
+pub record LacksText (tokens : List Token) (beside : Beside) (text : List ℕ) : Type 0 where
+  pub bits : ℕ
+  pub gives : Gives tokens text bits
+  pub has : Has bits beside.others
+  pub lacks : ¬ Has bits beside.wanted
+
 -- the verdict is right of the log types with this text
-abbrev pub IsRight : List Piece → List ℕ → Verdict → Type 0
-IsRight ps text Rejected = (parts : List Part) → text ≡ type_text (map symbol_of parts) → IsRejected ps parts
-IsRight ps text Certain = (parts : List Part) → text ≡ type_text (map symbol_of parts) → IsCertain ps parts
-IsRight ps text Tried = Unit {0}
+abbrev pub IsRight : List Piece → List Token → Beside → List ℕ → Verdict → Type 0
+IsRight ps tokens beside text Rejected =
+    ((parts : List Part) → text ≡ type_text (map symbol_of parts) → IsRejected ps parts) ⊎ LacksText tokens beside text
+IsRight ps tokens beside text Certain = (parts : List Part) → text ≡ type_text (map symbol_of parts) → IsCertain ps parts
+IsRight ps tokens beside text Tried = Unit {0}
 
 -- a slot of this place and kind is listed between the two, with all bits that it may bring
 pub record IsListed (tokens : List Token) (slots : List Slot) (first end place : ℕ) (kind : Kind) : Type 0 where
@@ -127,16 +136,16 @@ AreSlots tokens text slots first end known =
     (place : ℕ) (kind : Kind) → slice_get (kinds_in false text) place ≡ Some kind → IsSlot tokens slots first end known place kind
 
 -- what is known of the log types with this text: the rest matters where the verdict leaves it open
-pub record IsTest (ps : List Piece) (tokens : List Token) (slots : List Slot) (text : List ℕ) (test : TypeTest) : Type 0 where
-  pub right : IsRight ps text test.verdict
+pub record IsTest (ps : List Piece) (tokens : List Token) (beside : Beside) (slots : List Slot) (text : List ℕ) (test : TypeTest) : Type 0 where
+  pub right : IsRight ps tokens beside text test.verdict
   pub gives : test.verdict ≡ Tried → Gives tokens text test.has
   pub slots_are : test.verdict ≡ Tried → AreSlots tokens text slots test.first test.end test.has
 
 -- what is known of each log type is right
-abbrev pub AreTests : List Piece → List Token → List (List ℕ) → List Slot → List TypeTest → Type 0
-AreTests ps tokens types slots tests =
+abbrev pub AreTests : List Piece → List Token → Beside → List (List ℕ) → List Slot → List TypeTest → Type 0
+AreTests ps tokens beside types slots tests =
     (t : ℕ) (text : List ℕ) (test : TypeTest) → slice_get types t ≡ Some text → slice_get tests t ≡ Some test
-    → IsTest ps tokens slots text test
+    → IsTest ps tokens beside slots text test
 
 -- ---- what rows of a log type may bring
 
@@ -183,16 +192,18 @@ pub record IsAsked (ps : List Piece) (k : Token) : Type 0 where
 abbrev pub AreTexts : List Token → List (List ℕ) → Type 0
 AreTexts tokens texts = (j : ℕ) (k : Token) → slice_get tokens j ≡ Some k → slice_get texts j ≡ Some k.text
 
--- The filter is one of the pattern with these pieces, over an archive with these log types. Where a slot of a
--- word is listed, its needles are the texts of all tokens.
+-- which bits are wanted, and which ones rows may bring beside the constant bytes of their log types
+abbrev pub beside_of : Filter → Beside
+beside_of f = record { wanted = f.wanted; others = bit_or (bit_or f.stamped f.numbers) f.brought }
+
+-- The filter is one of the pattern with these pieces, over an archive with these log types. Its needles are the texts
+-- of all tokens.
 pub record AsksTypes (ps : List Piece) (types : List (List ℕ)) (f : Filter) : Type 0 where
   pub cut : IsCut ps
   pub are : All (IsAsked ps) f.tokens.items
   pub wanted : IsWanted f.tokens.items f.wanted
-  pub tests : AreTests ps f.tokens.items types f.slots.items f.tests.items
-  pub needles :
-      (at : ℕ) (slot : Slot) → slice_get f.slots.items at ≡ Some slot → slot.kind ≡ Word
-      → AreTexts f.tokens.items f.needles.items
+  pub tests : AreTests ps f.tokens.items (beside_of f) types f.slots.items f.tests.items
+  pub needles : AreTexts f.tokens.items f.needles.items
   pub told : AreTold f f.verdicts.items
   pub brought : (n : ℕ) → Has f.brought (marks_at f.marks n)
   pub numbers : AreNumberBits f.tokens.items f.numbers
@@ -200,12 +211,10 @@ pub record AsksTypes (ps : List Piece) (types : List (List ℕ)) (f : Filter) : 
   pub stamps : AreStamps f.tokens.items f.stamps.items
   pub stamped : (pattern : ℕ) → Has f.stamped (slice_index_or f.stamps.items pattern 0)
 
--- The same over an archive with these words too, which are marked where a slot of a word is listed.
+-- The same over an archive with these words too, which are marked.
 pub record IsFilter (ps : List Piece) (types words : List (List ℕ)) (f : Filter) : Type 0 where
   pub asks : AsksTypes ps types f
-  pub marks :
-      (at : ℕ) (slot : Slot) → slice_get f.slots.items at ≡ Some slot → slot.kind ≡ Word
-      → AreMarks f.tokens.items words f.marks
+  pub marks : AreMarks f.tokens.items words f.marks
 
 -- the pattern matches no message of a row that is rejected, and each one of a row that is certain
 abbrev pub IsRowVerdict : List Piece → List (List ℕ) → List (List ℕ) → Row → Verdict → Type 0

@@ -1,12 +1,14 @@
 -- What the tokens of a pattern tell of the rows that it may match: each of them stands in the row's
 -- stamp, among the constant bytes of its log type, or in the text of one of its variables.
-use Rattle.std.specs.Prelude.{◌≡◌, ◌⊎◌, ◌<◌, ◌++◌, ℕ, Some, List, [], ◌∷◌, drop, false, slice_get, take, true}
-use Rattle.std.specs.List.{Contains}
-use Rattle.token_rules.specs.Tokens.{is_variable}
+use Rattle.std.specs.Prelude.{◌≡◌, ◌⊎◌, ◌<◌, ◌++◌, ℕ, Bool, Some, List, [], ◌∷◌, drop, false, map, slice_get, take, true}
+use Rattle.std.specs.List.{Contains, list_all}
+use Rattle.token_rules.specs.Tokens.{is_token_byte, is_variable}
 use Rattle.var_codec.specs.Codes.{Codes}
 use Rattle.var_codec.specs.declared.Coded.{Coded}
 use Rattle.column_store.specs.declared.row.Row.{Row}
 use Rattle.logtype_text.specs.declared.symbols.Kind.{Kind}
+use Rattle.logtype_text.specs.declared.symbols.Symbol.TheVariants.{Byte}
+use Rattle.logtype_text.specs.TypeText.{type_text}
 use Rattle.wild_match.specs.Matches.{Match}
 use Rattle.wild_match.specs.declared.pattern.Item.{Item}
 use Rattle.row_codec.specs.Means.{HasStampText, HasWord, IsCanonical}
@@ -16,6 +18,14 @@ use Rattle.query_plan.specs.Laws.{BeginsMark, IsChunk, chunk_text}
 use Rattle.query_plan.specs.Needs.{around}
 use Rattle.query_plan.specs.Pieces.{IsCut, flat}
 use Rattle.subquery_filter.specs.StepsLetters.{kinds_in, marked_from}
+
+-- what constant bytes are stored as in the text of a log type
+abbrev pub stored : List ℕ → List ℕ
+stored run = type_text (map Byte run)
+
+-- no byte of the text is a delimiter
+abbrev pub is_inner : List ℕ → Bool
+is_inner t = list_all is_token_byte t
 
 -- the items match what a token of the pieces stands in
 abbrev pub IsTokenOf : List Piece → List Item → Type 0

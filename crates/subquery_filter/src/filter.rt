@@ -9,7 +9,7 @@ ghost use Rattle.query_plan.specs.Laws.{IsSearched};
 ghost use Rattle.query_plan.specs.Pieces.{wide_pieces};
 ghost use Rattle.query_plan.specs.declared.pieces.Piece.{Piece};
 ghost use Rattle.subquery_filter.specs.declared.slots.Slot.{Slot};
-ghost use Rattle.subquery_filter.specs.Filter.{AreCoded, AreMarks, AreSmall, AreStamps, AreTold, AsksTypes, Has, HasNoMatch, IsFilter, IsRowVerdict, IsTold, LacksAll, MarksVariable, StampMarks, slot_may};
+ghost use Rattle.subquery_filter.specs.Filter.{AreCoded, AreMarks, AreSmall, AreStamps, AreTold, AsksTypes, Has, HasNoMatch, IsFilter, IsRowVerdict, IsTold, LacksAll, MarksVariable, StampMarks, beside_of, slot_may};
 ghost use Rattle.subquery_filter.specs.declared.verdicts.Verdict.TheVariants.{Certain};
 ghost use Rattle.subquery_filter.specs.Found.{HaveAll};
 ghost use Rattle.subquery_filter.specs.StepsFilter.{HasEach, IsShut, Lacks, LacksTokens, SlotGives, SlotIs, StampsBring};
@@ -17,22 +17,24 @@ ghost use Rattle.subquery_filter.specs.StepsFilter.{HasEach, IsShut, Lacks, Lack
 use crate::bits::{any_of, has, mark_at};
 use crate::laws::{rows_bring_runs, verdicts_hold};
 use crate::marks::WordMarks;
-use crate::needles::{lists_with, needles_of};
+use crate::needles::{lists_with, texts_of};
 use crate::numbers::{decimal_bits, has_open, kind_bits, mark_small, whole_bits};
 use crate::shared::PageTests;
-use crate::slots::{Slot, TypeTest, has_kind, test_types};
+use crate::slots::{Beside, Question, Slot, TypeTest, has_kind, test_types};
 use crate::stamps::{bits_within, mark_stamps, stamp_bits};
 use crate::token::Token;
-use crate::tokens::{all_bits, tokens_of};
+use crate::tokens::{all_bits, stored_text, tokens_of};
 use crate::verdicts::Verdict;
 use column_store::RowRef;
 use logtype_text::Kind;
+use memchr::memmem::Finder;
 use plain_list::{NumberList, Text};
 use query_plan::Plan;
 use row_codec::Names;
 use segment_format::Head;
 use std::alloc::{AllocError, Global};
 use time_patterns::StampPrinter;
+use wild_match::Matcher;
 
 /// What is known of the log types and the words of an archive, for one search.
 ///
@@ -49,9 +51,9 @@ pub struct Filter {
     /// What is known of the log types, by their numbers, and their slots.
     tests: Vec<TypeTest>,
     slots: Vec<Slot>,
-    /// The texts that are looked for in words, where a slot of a word is listed.
+    /// The texts of the tokens, which are looked for in words.
     needles: Vec<Text>,
-    /// The bits of the words, where a slot of a word is listed.
+    /// The bits of the words.
     marks: WordMarks,
     /// The bits that words may bring.
     brought: u8,
@@ -87,6 +89,14 @@ fn small_needed(alloc: Global, slots: &[Slot], tokens: &[Token]) -> Result<Vec<u
     Ok(small)
 }
 
+/// The longest run of literal bytes of the pattern that a search is planned over, as log types store
+/// constant bytes.
+fn longest_run(alloc: Global, plan: &Plan) -> Result<Text, AllocError> {
+    let matcher = Matcher::new(alloc, plan.wide())?;
+    let run = stored_text(alloc, matcher.needle())?;
+    Ok(run)
+}
+
 /// The word at a place.
 #[inline]
 fn word_at(words: &[u64], place: usize) -> Option<u64>
@@ -96,36 +106,31 @@ fn word_at(words: &[u64], place: usize) -> Option<u64>
 }
 
 impl Filter {
-    /// Asks all log types of an archive, and no word.
-    pub fn begin<N: Names>(alloc: Global, plan: &Plan, names: &N) -> Result<Filter, AllocError>
-        ensures { IfOk result (AsksTypes plan.now (N.types names.now)) }
+    /// Asks no log type and no word: nothing is told of a row before these are asked.
+    pub fn begin(alloc: Global, plan: &Plan) -> Result<Filter, AllocError>
+        ensures { IfOk result (λ f. (types : List (List ℕ)) → AsksTypes plan.now types f) }
     {
         let tokens = tokens_of(alloc, plan.pieces())?;
         let looked = tokens.as_slice();
-        let mut slots = Vec::new(alloc);
-        let mut tests = Vec::new(alloc);
         let kinds = kind_bits(looked);
-        test_types(plan, looked, &kinds, names, &mut slots, &mut tests)?;
-        let needles = needles_of(alloc, slots.as_slice(), looked)?;
-        let small = small_needed(alloc, slots.as_slice(), looked)?;
+        let needles = texts_of(alloc, looked)?;
         let stamps = mark_stamps(alloc, looked)?;
         let wanted = all_bits(looked);
         let stamped = any_of(stamps.as_slice());
-        let filter = Filter {
+        Ok(Filter {
             tokens,
             wanted,
             verdicts: Vec::new(alloc),
-            tests,
-            slots,
+            tests: Vec::new(alloc),
+            slots: Vec::new(alloc),
             needles,
             marks: WordMarks::none(alloc),
             brought: wanted,
             numbers: kinds.whole | kinds.decimal,
-            small,
+            small: Vec::new(alloc),
             stamps,
             stamped,
-        };
-        filter.told(alloc)
+        })
     }
 
     /// The verdict on all rows of a log type. It is given up where its rows cannot bring all tokens,
@@ -170,7 +175,7 @@ impl Filter {
         Ok(Filter { verdicts, ..self })
     }
 
-    /// The texts that have to be looked for in words. There are none where no log type asks its words.
+    /// The texts that have to be looked for in words. There are none where the pattern has no token.
     pub fn needles(&self) -> &[Text]
         ensures { result.now ≡ self.now.needles.items }
     {
@@ -178,7 +183,8 @@ impl Filter {
     }
 
     /// Marks the words: for each needle there is a list of the numbers of the words in which it stands.
-    /// Where there are no needles, no lists are needed.
+    /// Where there are no needles, no lists are needed. What log types told before is forgotten, since it
+    /// was told by other words.
     ///
     /// Takes memory for the marks: some bytes for each number, and at most one for each word.
     pub fn mark(self, alloc: Global, lists: &[NumberList]) -> Result<Filter, AllocError>
@@ -187,22 +193,66 @@ impl Filter {
             → HaveAll self.needles.items words lists.now → IsFilter ps types words f) }
     {
         let marks = WordMarks::of(alloc, self.tokens.as_slice(), lists)?;
-        let filter = Filter {
+        Ok(Filter {
             brought: marks.all(),
             marks,
             verdicts: Vec::new(alloc),
+            tests: Vec::new(alloc),
+            slots: Vec::new(alloc),
+            ..self
+        })
+    }
+
+    /// Which bits a row has to bring, and which ones stamps, numbers and words may bring.
+    fn beside(&self) -> Beside
+        ensures { result ≡ beside_of self.now }
+    {
+        Beside {
+            wanted: self.wanted,
+            others: self.stamped | self.numbers | self.brought,
+        }
+    }
+
+    /// Asks all log types of an archive, after its words: a log type is rejected without a look at its
+    /// slots, where its constant bytes do not bring what stamps, numbers and words leave out.
+    ///
+    /// Takes memory for each log type and for each slot that may bring a token.
+    pub fn ask<N: Names>(self, alloc: Global, plan: &Plan, names: &N) -> Result<Filter, AllocError>
+        ensures asks { IfOk result (λ f. AsksTypes plan.now (N.types names.now) self
+            → AsksTypes plan.now (N.types names.now) f) }
+        ensures filter { IfOk result (λ f. (words : List (List ℕ))
+            → IsFilter plan.now (N.types names.now) words self
+            → IsFilter plan.now (N.types names.now) words f) }
+    {
+        let looked = self.tokens.as_slice();
+        let run = longest_run(alloc, plan)?;
+        let question = Question {
+            kinds: kind_bits(looked),
+            beside: self.beside(),
+            run: Finder::new(run.as_slice()),
+        };
+        let mut slots = Vec::new(alloc);
+        let mut tests = Vec::new(alloc);
+        test_types(plan, looked, &question, names, &mut slots, &mut tests)?;
+        let small = small_needed(alloc, slots.as_slice(), looked)?;
+        let filter = Filter {
+            verdicts: Vec::new(alloc),
+            tests,
+            slots,
+            small,
             ..self
         };
         filter.told(alloc)
     }
 
-    /// Asks all log types of an archive, and all its words where a log type needs one.
+    /// Asks all words and all log types of an archive, where the words are in memory.
     pub fn new<N: Names>(alloc: Global, plan: &Plan, names: &N) -> Result<Filter, AllocError>
         ensures { IfOk result (IsFilter plan.now (N.types names.now) (N.words names.now)) }
     {
-        let filter = Filter::begin(alloc, plan, names)?;
+        let filter = Filter::begin(alloc, plan)?;
         let lists = lists_with(alloc, filter.needles(), names)?;
-        filter.mark(alloc, lists.as_slice())
+        let marked = filter.mark(alloc, lists.as_slice())?;
+        marked.ask(alloc, plan, names)
     }
 
     /// What is known of a log type.

@@ -2,21 +2,17 @@
 ghost use Rattle.std.specs.Prelude.{◌≡◌, ◌↔◌, ℕ, Some, IfOk, IsTrue, OnOk, slice_get};
 ghost use Rattle.std.specs.List.{Contains};
 ghost use Rattle.wild_match.specs.Runs.{Occurs};
-ghost use Rattle.logtype_text.specs.declared.symbols.Kind.TheVariants.{Word};
-ghost use Rattle.subquery_filter.specs.declared.slots.Slot.{Slot};
 ghost use Rattle.subquery_filter.specs.Filter.{AreTexts};
 ghost use Rattle.subquery_filter.specs.Found.{HaveAll, HaveNumbers};
 
-use crate::slots::{Slot, has_kind};
 use crate::token::Token;
-use logtype_text::Kind;
 use memchr::memmem::Finder;
 use plain_list::{NumberList, Text};
 use row_codec::Names;
 use std::alloc::{AllocError, Global};
 
 /// The texts of tokens, in their order.
-fn texts_of(alloc: Global, tokens: &[Token]) -> Result<Vec<Text>, AllocError>
+pub(crate) fn texts_of(alloc: Global, tokens: &[Token]) -> Result<Vec<Text>, AllocError>
     ensures { IfOk result (λ texts. AreTexts tokens.now texts.items) }
 {
     let mut texts = Vec::new(alloc);
@@ -24,22 +20,6 @@ fn texts_of(alloc: Global, tokens: &[Token]) -> Result<Vec<Text>, AllocError>
         let bytes = Vec::from_slice(alloc, token.text.as_slice())?;
         texts.push(Text::new(bytes))?;
     }
-    Ok(texts)
-}
-
-/// The texts of the tokens where a slot of a word is listed, and none otherwise.
-pub(crate) fn needles_of(
-    alloc: Global,
-    slots: &[Slot],
-    tokens: &[Token],
-) -> Result<Vec<Text>, AllocError>
-    ensures { IfOk result (λ needles. (at : ℕ) (slot : Slot) → slice_get slots.now at ≡ Some slot
-        → slot.kind ≡ Word → AreTexts tokens.now needles.items) }
-{
-    if !has_kind(slots, Kind::Word) {
-        return Ok(Vec::new(alloc));
-    }
-    let texts = texts_of(alloc, tokens)?;
     Ok(texts)
 }
 

@@ -1,15 +1,16 @@
 //! The slots of log types that may bring tokens.
-ghost use Rattle.std.specs.Prelude.{◌≡◌, ◌≢◌, ◌≤◌, ℕ, List, [], IfOk, IsFalse, OnOk, Some, length, slice_get};
+ghost use Rattle.std.specs.Prelude.{◌≡◌, ◌≢◌, ◌≤◌, ℕ, List, [], IfOk, IsFalse, IsTrue, OnOk, Some, length, slice_get};
 ghost use Rattle.subquery_filter.specs.declared.token.Token.{Token};
-ghost use Rattle.subquery_filter.specs.Filter.{AreKindBits, AreSlots, AreTests, Covers, IsSlot, IsTest};
+ghost use Rattle.subquery_filter.specs.Filter.{AreKindBits, AreSlots, AreTests, Covers, Has, IsSlot, IsTest};
 ghost use Rattle.subquery_filter.specs.StepsFilter.{Stays};
 ghost use Rattle.subquery_filter.specs.declared.slots.Slot.{Slot};
 
 use crate::bits::has;
 use crate::token::Token;
 use crate::tokens::gifts_of;
-use crate::verdicts::{Verdict, verdict_of};
+use crate::verdicts::{Verdict, verdict_behind};
 use logtype_text::{Kind, Symbol, first_symbol};
+use memchr::memmem::Finder;
 use query_plan::Plan;
 use row_codec::Names;
 use std::alloc::{AllocError, Global};
@@ -20,6 +21,25 @@ pub(crate) struct KindBits {
     pub(crate) whole: u8,
     pub(crate) decimal: u8,
     pub(crate) word: u8,
+}
+
+/// Which bits a row has to bring, and which ones rows may bring beside the constant bytes of their log
+/// types: by stamps, by numbers and by words.
+#[derive(Clone, Copy, Debug)]
+pub(crate) struct Beside {
+    pub(crate) wanted: u8,
+    pub(crate) others: u8,
+}
+
+/// What each log type is asked.
+#[derive(Debug, Drop)]
+pub(crate) struct Question<'a> {
+    /// The bits that each kind of variable may bring.
+    pub(crate) kinds: KindBits,
+    pub(crate) beside: Beside,
+    /// The longest run of bytes of the pattern, as log types store constant bytes. A log type of which
+    /// the pattern matches each message has it.
+    pub(crate) run: Finder<'a>,
 }
 
 /// A slot of a log type in which a token may stand.
@@ -40,6 +60,17 @@ pub(crate) struct TypeTest {
     pub(crate) has: u8,
     pub(crate) first: usize,
     pub(crate) end: usize,
+}
+
+impl Beside {
+    /// Whether rows lack some bit that is wanted, where the constant bytes of their log type bring these.
+    #[inline]
+    fn lacks(&self, known: u8) -> bool
+        ensures { IsTrue result → (n : ℕ) × Has n known × Has n self.now.others
+            × ¬ Has n self.now.wanted }
+    {
+        !has(known | self.others, self.wanted)
+    }
 }
 
 impl KindBits {
@@ -101,30 +132,43 @@ fn list_slots(
     Ok(())
 }
 
+/// A log type of which nothing more is asked.
+fn closed_test(verdict: Verdict, first: usize) -> TypeTest
+    ensures { result ≡ record { verdict = verdict; has = 0; first = first; end = first } }
+{
+    TypeTest {
+        verdict,
+        has: 0,
+        first,
+        end: first,
+    }
+}
+
 /// What is known of a log type with this text, whose slots are listed behind those before.
+///
+/// Most log types of a long log are rejected by the bytes of the tokens alone: no symbol of theirs is
+/// looked at.
 fn test_of(
     plan: &Plan,
     tokens: &[Token],
-    kinds: &KindBits,
+    question: &Question<'_>,
     slots: &mut Vec<Slot>,
     text: &[u8],
 ) -> Result<TypeTest, AllocError>
-    ensures test { IfOk result (λ test. AreKindBits tokens.now kinds.now
-        → IsTest plan.now tokens.now slots.new.items text.now test) }
+    ensures test { IfOk result (λ test. AreKindBits tokens.now question.now.kinds
+        → IsTest plan.now tokens.now question.now.beside slots.new.items text.now test) }
     ensures stays { IfOk result (λ _. Stays slots.old.items slots.new.items) }
 {
-    let verdict = verdict_of(plan, text);
     let first = slots.len();
-    if verdict != Verdict::Tried {
-        return Ok(TypeTest {
-            verdict,
-            has: 0,
-            first,
-            end: first,
-        });
-    }
     let known = gifts_of(tokens, text);
-    list_slots(slots, kinds, known, text)?;
+    if question.beside.lacks(known) {
+        return Ok(closed_test(Verdict::Rejected, first));
+    }
+    let verdict = verdict_behind(plan, &question.run, text);
+    if verdict != Verdict::Tried {
+        return Ok(closed_test(verdict, first));
+    }
+    list_slots(slots, &question.kinds, known, text)?;
     Ok(TypeTest {
         verdict,
         has: known,
@@ -137,20 +181,20 @@ fn test_of(
 pub(crate) fn test_types<N: Names>(
     plan: &Plan,
     tokens: &[Token],
-    kinds: &KindBits,
+    question: &Question<'_>,
     names: &N,
     slots: &mut Vec<Slot>,
     tests: &mut Vec<TypeTest>,
 ) -> Result<(), AllocError>
     requires { tests.old.items ≡ [] }
-    ensures { OnOk result (AreKindBits tokens.now kinds.now → AreTests plan.now tokens.now
-        (N.types names.now) slots.new.items tests.new.items) }
+    ensures { OnOk result (AreKindBits tokens.now question.now.kinds → AreTests plan.now tokens.now
+        question.now.beside (N.types names.now) slots.new.items tests.new.items) }
 {
     for number in 0..u32::MAX {
         let Some(text) = names.type_text(number) else {
             return Ok(());
         };
-        let test = test_of(plan, tokens, kinds, slots, text)?;
+        let test = test_of(plan, tokens, question, slots, text)?;
         tests.push(test)?;
     }
     Ok(())

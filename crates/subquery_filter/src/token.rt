@@ -2,6 +2,7 @@
 ghost use Rattle.std.specs.Prelude.{◌≡◌, None, false, true};
 ghost use Rattle.query_plan.specs.Needs.{around};
 ghost use Rattle.subquery_filter.specs.NumberText.{is_number_part, is_plain};
+ghost use Rattle.subquery_filter.specs.Tokens.{is_inner, stored};
 
 use plain_list::Text;
 use var_codec::Coded;
@@ -19,6 +20,9 @@ pub(crate) struct Token {
     pub(crate) matcher: Matcher,
     /// The same as a pattern.
     pub(crate) pattern: Pattern,
+    /// Matches the texts of log types in which the token stands among the constant bytes, as they are
+    /// stored.
+    pub(crate) storing: Matcher,
     /// One of eight bits.
     pub(crate) bit: u8,
     /// What it is stored as, where it is a number between delimiters of the pattern: then it is all of a
@@ -32,4 +36,6 @@ pub(crate) struct Token {
     pub(crate) ghost stands: { pattern ≡ around text },
     pub(crate) ghost numeric_is: { numeric ≡ false → closed ≡ None → is_number_part true text ≡ false },
     pub(crate) ghost plain_is: { plain ≡ is_plain text },
+    pub(crate) ghost inner: { is_inner text ≡ true },
+    pub(crate) ghost storing_is: { storing.items ≡ around (stored text) },
 }

@@ -9,13 +9,15 @@ ghost use Rattle.subquery_filter.specs.Filter.{Gives, Has, IsWanted, MarksOpen};
 ghost use Rattle.subquery_filter.specs.declared.tokens.ClosedNumber.{ClosedNumber};
 ghost use Rattle.subquery_filter.specs.StepsFilter.{AreTokens, EndsRun, HasAll, IsClosedBy};
 ghost use Rattle.query_plan.specs.Needs.{around};
-ghost use Rattle.subquery_filter.specs.Tokens.{StandsInType};
+ghost use Rattle.query_plan.specs.Pieces.{IsCut};
+ghost use Rattle.logtype_text.specs.TypeText.{IsTypeText};
+ghost use Rattle.subquery_filter.specs.Tokens.{StandsInType, stored};
 
 use crate::beside::{pass_piece, text_around};
 use crate::number_text::{is_open, is_plain};
 use crate::short_text::stands_in;
 use crate::token::Token;
-use crate::verdicts::matches_marked;
+use logtype_text::{Symbol, Symbols, to_text};
 use plain_list::Text;
 use query_plan::Piece;
 use std::alloc::{AllocError, Global};
@@ -33,6 +35,28 @@ fn around(alloc: Global, text: &[u8]) -> Result<Pattern, AllocError>
     }
     items.push(Item::Many)?;
     Ok(Pattern::new(items))
+}
+
+/// What constant bytes are stored as in the text of a log type.
+pub(crate) fn stored_text(alloc: Global, run: &[u8]) -> Result<Text, AllocError>
+    ensures { IfOk result (λ text. text ≡ stored run.now) }
+{
+    let mut symbols = Vec::new(alloc);
+    for byte in run {
+        symbols.push(Symbol::Byte(*byte))?;
+    }
+    let text = to_text(alloc, &Symbols::new(symbols))?;
+    Ok(text)
+}
+
+/// Matches the texts of log types among whose constant bytes a token stands.
+fn stored_matcher(alloc: Global, token: &[u8]) -> Result<Matcher, AllocError>
+    ensures { IfOk result (λ matcher. matcher.items ≡ around (stored token.now)) }
+{
+    let text = stored_text(alloc, token)?;
+    let pattern = around(alloc, text.as_slice())?;
+    let matcher = Matcher::new(alloc, &pattern)?;
+    Ok(matcher)
 }
 
 /// The bit of the token that comes behind so many: with more than eight tokens some share one.
@@ -144,6 +168,7 @@ fn push_token(
     place: usize,
     front: &[u8],
 ) -> Result<(), AllocError>
+    requires cut { IsCut pieces.now }
     requires within { place < length pieces.now }
     requires front { EndsRun (take place pieces.now) front.now }
     ensures { OnOk result (AreTokens pieces.now tokens.old.items
@@ -154,6 +179,7 @@ fn push_token(
     };
     let pattern = around(alloc, bytes)?;
     let matcher = Matcher::new(alloc, &pattern)?;
+    let storing = stored_matcher(alloc, bytes)?;
     let bit = bit_behind(tokens.len());
     let number = closed_number(pieces, place, bytes);
     let chunk = text_around(alloc, pieces, place, bytes, front, number)?;
@@ -166,6 +192,7 @@ fn push_token(
         chunk,
         matcher,
         pattern,
+        storing,
         bit,
         closed,
         numeric,
@@ -176,6 +203,7 @@ fn push_token(
 
 /// The tokens among the pieces of a pattern.
 pub(crate) fn tokens_of(alloc: Global, pieces: &[Piece]) -> Result<Vec<Token>, AllocError>
+    requires { IsCut pieces.now }
     ensures { IfOk result (λ tokens. AreTokens pieces.now tokens.items) }
 {
     let mut tokens = Vec::new(alloc);
@@ -210,11 +238,12 @@ pub(crate) fn chunk_marks(tokens: &[Token], text: &[u8]) -> u8 {
     bits
 }
 
-/// The bit of a token where it stands among the constant bytes of a log type.
+/// The bit of a token where it stands among the constant bytes of a log type, as they are stored.
 fn gift_of(token: &Token, text: &[u8]) -> u8
-    ensures { StandsInType token.now.matcher.items text.now → result ≡ token.now.bit }
+    ensures { IsTypeText text.now → StandsInType token.now.matcher.items text.now
+        → result ≡ token.now.bit }
 {
-    if matches_marked(token.pattern.as_slice(), text) {
+    if token.storing.matches(text) {
         token.bit
     } else {
         0

@@ -8,6 +8,7 @@ ghost use Rattle.subquery_filter.specs.StepsLetters.{mark_of, marked_from};
 ghost use Rattle.subquery_filter.specs.Verdicts.{BeginsMany, IsCertain, IsRejected};
 
 use logtype_text::{Symbol, first_symbol};
+use memchr::memmem::Finder;
 use query_plan::{Letters, Plan, matches_letters};
 use wild_match::Item;
 
@@ -76,7 +77,7 @@ fn begins_many(items: &[Item]) -> bool
 }
 
 /// Whether items match the constant bytes of a log type, with the mark for each variable.
-pub(crate) fn matches_marked(items: &[Item], text: &[u8]) -> bool
+fn matches_marked(items: &[Item], text: &[u8]) -> bool
     ensures { IsTrue result
         ↔ Match items.now (marked_from false (mark_of (Some 10)) text.now) }
 {
@@ -113,4 +114,23 @@ pub fn verdict_of(plan: &Plan, text: &[u8]) -> Verdict
     } else {
         Verdict::Tried
     }
+}
+
+/// The same, where the search's longest run of bytes as log types store them is given: only a text that has
+/// it is read for `Certain`.
+pub(crate) fn verdict_behind(plan: &Plan, run: &Finder<'_>, text: &[u8]) -> Verdict
+    ensures rejected { (parts : List Part) → text.now ≡ type_text (map symbol_of parts)
+        → result ≡ Verdict.Rejected → IsRejected plan.now parts }
+    ensures certain { (parts : List Part) → text.now ≡ type_text (map symbol_of parts)
+        → result ≡ Verdict.Certain → IsCertain plan.now parts }
+{
+    let constants = TypeLetters { text, mark: None };
+    if !matches_letters(plan.skeleton().as_slice(), constants) {
+        return Verdict::Rejected;
+    }
+    // That the run stands there is a hint: each log type may be tried.
+    if run.find(text).is_some() && is_certain(plan.wide().as_slice(), text) {
+        return Verdict::Certain;
+    }
+    Verdict::Tried
 }

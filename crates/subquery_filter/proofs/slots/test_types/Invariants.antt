@@ -5,4 +5,4 @@ use Rattle.subquery_filter.proofs.slots.test_types.Given as goal
 abbrev pub invariant-loop-number : goal.invariant-loop-number
 invariant-loop-number g l =
     (length l.tests.items ≡ l.number)
-    × (AreKindBits l.tokens l.kinds → AreTests l.plan l.tokens (g.N.Names.types l.names) l.slots.items l.tests.items)
+    × (AreKindBits l.tokens l.question.kinds → AreTests l.plan l.tokens l.question.beside (g.N.Names.types l.names) l.slots.items l.tests.items)

@@ -1,11 +1,12 @@
-use Rattle.std.proofs.Common.{List, subst}
+use Rattle.std.proofs.Common.{List, rules, subst}
 use Rattle.subquery_filter.specs.declared.token.Token.{Token}
 use Rattle.subquery_filter.specs.StepsFilter.{HasLists}
-use Rattle.subquery_filter.proofs.MarkLemmas.{filter_ok, marks_are, told_none}
+use Rattle.subquery_filter.proofs.FilterLemmas.{tests_none}
+use Rattle.subquery_filter.proofs.MarkLemmas.{marks_are, told_none}
 use Rattle.subquery_filter.proofs.filter.Filter.mark.Goals as goal
 
 pub returns : goal.returns
-returns c = filter_ok c.args.self c.args.lists.now _ c.told.result c.told.ensures.marked (λ ps types words a have.
+returns c = λ ps types words a have.
     let tokens = c.args.self.tokens.items in
     let marks = c.in_ok-marks.marks in
     let lists = subst (λ (l : List Token). HasLists marks.table.items marks.mask l c.args.lists.now) c.as_slice.ensures.value c.in_ok-marks.ensures in
@@ -14,14 +15,14 @@ returns c = filter_ok c.args.self c.args.lists.now _ c.told.result c.told.ensure
         cut = a.cut;
         are = a.are;
         wanted = a.wanted;
-        tests = a.tests;
+        tests = tests_none ps tokens _ types _ _ (search rules);
         needles = a.needles;
-        told = told_none _ c.new.result.items c.new.ensures.items;
+        told = told_none _ _ (search rules);
         brought = c.all.ensures;
         numbers = a.numbers;
         small = a.small;
         stamps = a.stamps;
         stamped = a.stamped;
       };
-      marks = λ at slot there w. marks_are tokens words c.args.self.needles.items c.args.lists.now marks (a.needles at slot there w) have lists;
-    })
+      marks = marks_are tokens words c.args.self.needles.items c.args.lists.now marks a.needles have lists;
+    }

@@ -1,4 +1,4 @@
-use Rattle.std.proofs.Common.{List, ℕ, subst}
+use Rattle.std.proofs.Common.{List, ℕ, subst, sym}
 use Rattle.subquery_filter.specs.Found.{HaveAll}
 use Rattle.subquery_filter.proofs.MarkLemmas.{marked_ok}
 use Rattle.subquery_filter.proofs.filter.Filter.new.Goals as goal
@@ -9,4 +9,5 @@ returns g c =
     let words = g.N.Names.words c.args.names.now in
     let lists = c.in_ok-lists.lists.items in
     let have = subst (λ (l : List (List ℕ)). HaveAll l words lists) c.needles.ensures c.in_ok-lists.ensures in
-    marked_ok c.args.plan.now types words c.in_ok-filter.filter lists c.as_slice.result.now c.mark.result c.as_slice.ensures.value c.mark.ensures c.in_ok-filter.ensures have
+    let lent = subst (λ (l : List (List ℕ)). HaveAll c.in_ok-filter.filter.needles.items words l) (sym c.as_slice.ensures.value) have in
+    marked_ok c.args.plan.now types words c.in_ok-marked.marked c.ask.result c.ask.ensures.filter (c.in_ok-marked.ensures c.args.plan.now types words (c.in_ok-filter.ensures types) lent)
