@@ -17,7 +17,7 @@ use crate::table::RowTable;
 use archive_places::{Places, heads_stand, words_stand};
 use log_seams::Disk;
 use row_codec::Layouts;
-use search_walk::{Context, Query, SearchRefusal, ask_words};
+use search_walk::{Context, LAID_TYPES, Query, SearchRefusal, ask_words};
 use std::sync::ledger::Ledger;
 use step_count::Steps;
 use subquery_filter::Filter;
@@ -83,12 +83,14 @@ pub(crate) fn count_archive<D: Disk, T: RowTable, L: Ledger, M: Ledger>(
     let alloc = counter.alloc();
     let records = words.as_slice();
     let mut held = HeldWords::new(alloc, types, header.version, records)?;
-    let layouts = Layouts::of(alloc, &held)?;
-    let filter = Filter::begin(alloc, query.plan(), &held)?;
+    let layouts = Layouts::front(alloc, &held, LAID_TYPES)?;
+    let plan = query.plan();
+    let filter = Filter::begin(alloc, plan)?;
     let told = ask_words(alloc, query, filter, records, disk)?;
+    let asked = told.filter.ask(alloc, plan, &held)?;
     let names = files.as_slice();
     let found = told.found.as_slice();
-    let context = Context::new(query, &layouts, &told.filter, names, found, &held, disk);
+    let context = Context::new(query, &layouts, &asked, names, found, &held, disk);
     let fronts = segments.as_slice();
     let count = count_segments(&context, &mut held, fronts, disk, counter, opened, expanded)?;
     Ok(Gone {

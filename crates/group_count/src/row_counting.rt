@@ -1,6 +1,7 @@
 //! Rows that are counted, by what they are stored as or by what they are written as.
 ghost use Rattle.std.specs.Prelude.{◌≡◌, ◌↔◌, ◌∷◌, [], ℕ, List, length, IsTrue, OnOk, OnErr, IsErrOf};
 ghost use Rattle.column_store.specs.Row.{row_of};
+ghost use Rattle.row_codec.specs.Laid.{AreCut};
 ghost use Rattle.row_codec.specs.Means.{IsCanonical};
 ghost use Rattle.query_plan.specs.Laws.{IsPlain};
 ghost use Rattle.search_walk.specs.Held.{AreRowsOf, Named};
@@ -110,7 +111,7 @@ fn count_written<T: RowTable, M: Ledger>(
     counts: &mut Counts<T>,
     expanded: &mut Steps<M>,
 ) -> Result<(), TableRefusal>
-    requires { writer.old ≡ held.now.types }
+    requires { AreCut writer.old held.now.types }
     ensures types { writer.new ≡ writer.old }
     ensures done { OnOk result ((n : Named) → ¬ IsPlain query.now.pattern
         → IsLent n query.now held.now (row_of row.entry) verdict
@@ -179,7 +180,7 @@ fn count_written_rows<T: RowTable, M: Ledger>(
     counts: &mut Counts<T>,
     expanded: &mut Steps<M>,
 ) -> Result<(), TableRefusal>
-    requires types { held.now.types ≡ layouts.now }
+    requires types { AreCut layouts.now held.now.types }
     requires decided { length verdicts.now ≡ length page.now.rows }
     ensures done { OnOk result ((n : Named) → ¬ IsPlain query.now.pattern
         → IsReadyPage n query.now held.now page.now.rows verdicts.now

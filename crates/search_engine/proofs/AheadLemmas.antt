@@ -9,7 +9,6 @@ use Rattle.segment_pages.specs.Paged.{AreNextTold, HoldsLeft, Paged, paged, page
 use Rattle.std.specs.Prelude.{Err, IfOk, Ok, OnOk, Result}
 use Rattle.log_seams.specs.Outside.{CountsOf}
 use Rattle.search_walk.specs.declared.refusal.SearchRefusal.{SearchRefusal}
-use Rattle.word_places.specs.declared.held.HeldRecord.{HeldRecord}
 use Rattle.word_places.specs.Held.{AreNumbered, Grow, HeldNames}
 use Rattle.search_walk.specs.Held.{AreRowsOf, IsTold, Named, OfLeft}
 use Rattle.search_walk.specs.PagesRead.{IsOfPage, ReadsPage}

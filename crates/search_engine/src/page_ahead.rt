@@ -2,6 +2,7 @@
 ghost use Rattle.std.specs.Prelude.{◌≡◌, ◌<◌, [], ℕ, All, length, IsFalse, IsTrue, OnOk, OnErr, slice_index_or};
 ghost use Rattle.std.specs.Thread.{IsSync};
 ghost use Rattle.log_seams.specs.Outside.{CountsOf};
+ghost use Rattle.row_codec.specs.Laid.{AreCut};
 ghost use Rattle.search_walk.specs.Held.{Named};
 ghost use Rattle.search_walk.specs.PagesRead.{ReadsPage};
 ghost use Rattle.search_engine.specs.Ahead.{AddsNext, AreHeldPages, ReadAhead};
@@ -177,7 +178,7 @@ pub(crate) fn match_beside<R: Threads + Sync, D: Disk>(
     ahead: &mut PagesAhead,
 ) -> Result<(), SearchRefusal>
     requires workers { 0 < workers }
-    requires types { printer.now.held.now.types ≡ printer.now.layouts.now }
+    requires types { AreCut printer.now.layouts.now printer.now.held.now.types }
 
     // the pages that were searched
     ensures len { length slots.new ≡ length slots.old }
@@ -196,7 +197,7 @@ pub(crate) fn match_beside<R: Threads + Sync, D: Disk>(
         &mut ||
             requires shared { IsSync R.row }
             requires workers { 0 < workers }
-            requires types { printer.now.held.now.types ≡ printer.now.layouts.now }
+            requires types { AreCut printer.now.layouts.now printer.now.held.now.types }
             ensures len { length slots.exit.now ≡ length slots.entry.now }
             ensures pages { (k : ℕ) (d : Slotted) → k < length slots.entry.now
                 → (slice_index_or slots.exit.now k d).page

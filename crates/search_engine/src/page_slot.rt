@@ -2,6 +2,7 @@
 ghost use Rattle.std.specs.Prelude.{◌≡◌, ◌<◌, ◌+◌, ◌^◌, ℕ, List, All, length, IfOk, OnOk, IsErrOf, slice_index_or};
 ghost use Rattle.log_seams.specs.Outside.{CountsOf};
 ghost use Rattle.step_count.specs.Opens.{OpensFor};
+ghost use Rattle.row_codec.specs.Laid.{AreCut};
 ghost use Rattle.segment_pages.specs.Paged.{Paged};
 ghost use Rattle.word_places.specs.Held.{Grow};
 ghost use Rattle.search_walk.specs.Held.{AreRowsOf, IsTold, Named, OfLeft};
@@ -256,7 +257,7 @@ fn match_counted<M: Ledger>(
     blank: Blank,
 ) -> Result<(), PrintRefusal>
     requires blank { OpensFor blank M.name M.parts }
-    requires types { printer.now.held.now.types ≡ printer.now.layouts.now }
+    requires types { AreCut printer.now.layouts.now printer.now.held.now.types }
     ensures page { slot.new.page ≡ slot.old.page }
     ensures done { OnOk result ((n : Named)
         → IsReadyPage n printer.now.query.now printer.now.held.now
@@ -287,7 +288,7 @@ fn match_counted<M: Ledger>(
 
 /// Searches a page that is in memory.
 pub(crate) fn match_page(printer: &Printer<'_>, slot: &mut PageSlot)
-    requires types { printer.now.held.now.types ≡ printer.now.layouts.now }
+    requires types { AreCut printer.now.layouts.now printer.now.held.now.types }
     ensures page { slot.new.page ≡ slot.old.page }
     ensures worked { IsWorkedBy printer.now.query.now printer.now.held.now slot.new }
 {
@@ -297,7 +298,7 @@ pub(crate) fn match_page(printer: &Printer<'_>, slot: &mut PageSlot)
 
 /// Searches pages that are in memory, one after the other.
 fn match_chunk(printer: &Printer<'_>, slots: &mut [PageSlot])
-    requires types { printer.now.held.now.types ≡ printer.now.layouts.now }
+    requires types { AreCut printer.now.layouts.now printer.now.held.now.types }
     ensures { AreMatched printer.now.query.now printer.now.held.now slots.old slots.new }
 {
     for slot in slots.iter_mut() {
@@ -314,7 +315,7 @@ pub(crate) fn match_pages<R: Threads + Sync>(
     slots: &mut [PageSlot],
 )
     requires workers { 0 < workers }
-    requires types { printer.now.held.now.types ≡ printer.now.layouts.now }
+    requires types { AreCut printer.now.layouts.now printer.now.held.now.types }
     ensures len { length slots.new ≡ length slots.old }
     ensures pages { (k : ℕ) (d : Slotted) → k < length slots.old
         → (slice_index_or slots.new k d).page ≡ (slice_index_or slots.old k d).page }
@@ -331,7 +332,7 @@ pub(crate) fn match_pages<R: Threads + Sync>(
         slots,
         size,
         |_start: usize, chunk: &mut [PageSlot]|
-            requires { printer.now.held.now.types ≡ printer.now.layouts.now }
+            requires { AreCut printer.now.layouts.now printer.now.held.now.types }
             ensures { AreMatched printer.entry.now.query.now printer.entry.now.held.now
                 chunk.entry.now chunk.exit.now }
         { match_chunk(printer, chunk) },

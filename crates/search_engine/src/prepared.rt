@@ -11,7 +11,7 @@ use archive_open::FileList;
 use archive_places::{FrontList, Places};
 use log_seams::Disk;
 use row_codec::Layouts;
-use search_walk::{Query, SearchRefusal, Told, ask_words};
+use search_walk::{LAID_TYPES, Query, SearchRefusal, Told, ask_words};
 use std::alloc::Global;
 use subquery_filter::Filter;
 use word_places::HeldWords;
@@ -25,14 +25,15 @@ pub(crate) struct Prepared {
     pub(crate) segments: FrontList,
     /// The words, none of which is held yet, beside the log types.
     pub(crate) held: HeldWords,
-    /// The log types, cut into their constants and slots.
+    /// The first log types, cut into their constants and slots.
     pub(crate) layouts: Layouts,
     /// The filter of the query, and the numbers of the words that it needs.
     pub(crate) told: Told,
 }
 
 impl Prepared {
-    /// Cuts the log types of an archive, and asks its words what a query leaves to them.
+    /// Cuts the first log types of an archive, and asks its words what a query leaves to them, and then its
+    /// log types, of which most are rejected by what the words do not bring.
     ///
     /// # Errors
     ///
@@ -73,15 +74,20 @@ impl Prepared {
         } = places;
         let records = words.as_slice();
         let held = HeldWords::new(alloc, types, header.version, records)?;
-        let layouts = Layouts::of(alloc, &held)?;
-        let filter = Filter::begin(alloc, query.plan(), &held)?;
+        let layouts = Layouts::front(alloc, &held, LAID_TYPES)?;
+        let plan = query.plan();
+        let filter = Filter::begin(alloc, plan)?;
         let told = ask_words(alloc, query, filter, records, disk)?;
+        let asked = told.filter.ask(alloc, plan, &held)?;
         Ok(Prepared {
             files,
             segments,
             held,
             layouts,
-            told,
+            told: Told {
+                filter: asked,
+                found: told.found,
+            },
         })
     }
 }

@@ -1,6 +1,7 @@
 //! Rows that are printed.
 ghost use Rattle.std.specs.Prelude.{◌≡◌, ◌<◌, ◌+◌, ◌^◌, ◌∷◌, [], ℕ, List, Option, length, OnOk, OnErr, IsErrOf};
 ghost use Rattle.column_store.specs.Row.{row_of};
+ghost use Rattle.row_codec.specs.Laid.{AreCut};
 ghost use Rattle.row_codec.specs.Means.{IsCanonical};
 ghost use Rattle.search_walk.specs.Held.{AreRowsOf, Named};
 ghost use Rattle.search_engine.specs.Kept.{Keeps};
@@ -22,8 +23,12 @@ use step_count::Steps;
 use subquery_filter::Verdict;
 use word_places::{HeldWords, rows_are_local};
 
-/// What rows that were decided are printed by: the query, the log types cut into pieces, and the words
-/// that are held.
+/// Of how many rows the words are looked at before they are written. Free to tune: 32 to 256 gain the same,
+/// fewer less.
+const AHEAD: u32 = 64;
+
+/// What rows that were decided are printed by: the query, the first log types cut into pieces, and the
+/// words that are held.
 #[derive(Clone, Copy)]
 pub(crate) struct Printer<'q> {
     pub(crate) query: &'q Query,
@@ -35,7 +40,7 @@ impl<'q> Printer<'q> {
     /// What prints rows of a search by these words.
     pub(crate) fn of<D: Disk>(context: &Context<'q, D>, held: &'q HeldWords) -> Printer<'q>
         ensures query { result.query.now ≡ context.now.query }
-        ensures types { result.layouts.now ≡ context.now.names.types }
+        ensures types { AreCut result.layouts.now context.now.names.types }
         ensures held { result.held.now ≡ held.now }
     {
         Printer {
@@ -90,7 +95,7 @@ fn print_row<M: Ledger>(
     counts: &mut Counts,
     expanded: &mut Steps<M>,
 ) -> Result<(), PrintRefusal>
-    requires { writer.old ≡ printer.now.held.now.types }
+    requires { AreCut writer.old printer.now.held.now.types }
     ensures types { writer.new ≡ writer.old }
     ensures done { OnOk result ((n : Named)
         → IsLent n printer.now.query.now printer.now.held.now (row_of row.entry) verdict
@@ -124,6 +129,29 @@ fn print_row<M: Ledger>(
     Ok(())
 }
 
+/// Looks at the words of the next rows that may be written, where the row at this place is the first of so
+/// many.
+fn look_ahead(
+    printer: &Printer<'_>,
+    page: &Columns,
+    verdicts: &[Verdict],
+    place: u32,
+    writer: &mut RowWriter<'_>,
+)
+    requires { length verdicts.now ≡ length page.now.rows }
+    ensures { writer.new ≡ writer.old }
+{
+    if place % AHEAD != 0 {
+        return;
+    }
+    let end = place.saturating_add(AHEAD).min(page.rows());
+    for next in place..end {
+        if !is_rejected(verdict_at(verdicts, next)) {
+            writer.look_at(page.row(next), printer.held);
+        }
+    }
+}
+
 /// Writes the lines of the rows of a page that are found behind what is gathered. The first row has
 /// this label, and each has its verdict.
 pub(crate) fn print_page<M: Ledger>(
@@ -135,7 +163,7 @@ pub(crate) fn print_page<M: Ledger>(
     counts: &mut Counts,
     expanded: &mut Steps<M>,
 ) -> Result<(), PrintRefusal>
-    requires types { printer.now.held.now.types ≡ printer.now.layouts.now }
+    requires types { AreCut printer.now.layouts.now printer.now.held.now.types }
     requires small { label.number + length page.now.rows < 2 ^ 64 }
     requires decided { length verdicts.now ≡ length page.now.rows }
     ensures done { OnOk result ((n : Named)
@@ -161,6 +189,7 @@ pub(crate) fn print_page<M: Ledger>(
             name: label.name,
             number: label.number + u64::from(place),
         };
+        look_ahead(printer, page, verdicts, place, &mut writer);
         let row = page.row(place);
         let verdict = verdict_at(verdicts, place);
         print_row(

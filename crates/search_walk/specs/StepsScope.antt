@@ -1,6 +1,7 @@
 -- What a search goes over.
 use Rattle.std.specs.Prelude.{◌≡◌, ℕ, List, length, Option}
 use Rattle.archive_open.specs.declared.files.FileEntry.{FileEntry}
+use Rattle.row_codec.specs.Laid.{AreCut}
 use Rattle.query_plan.specs.Laws.{IsSearched}
 use Rattle.query_plan.specs.Needs.{needed_variables_of}
 use Rattle.query_plan.specs.Pieces.{Free, needed_of, wide_pieces}
@@ -19,11 +20,11 @@ pub record Scope : Type 0 where
 abbrev pub scope : Named → Asked → List FileEntry → Scope
 scope names query files = record { names = names; query = query; files = files }
 
--- the pattern is one that was read, the layouts are of the log types, and the filter is that of the query over the words that
--- stand on the disk, of which the needed ones have these numbers
+-- the pattern is one that was read, each layout is that of the log type with its number, and the filter is that of the query over
+-- the words that stand on the disk, of which the needed ones have these numbers
 pub record IsScope (n : Named) (q : Asked) (layouts : List (List ℕ)) (filter : Filter) (found : List (Option ℕ)) : Type 0 where
   pub searched : IsSearched q.pattern
-  pub layouts_are : layouts ≡ n.types
+  pub layouts_are : AreCut layouts n.types
   pub count : length found ≡ length (needed_of Free (wide_pieces q.pattern))
   pub filtered : IsTold n → IsFilter (wide_pieces q.pattern) n.types n.words filter
   pub numbered : IsTold n

@@ -2,6 +2,7 @@
 ghost use Rattle.std.specs.Prelude.{◌≡◌, ◌⊎◌, ◌∷◌, ◌↔◌, [], ℕ, List, Option, IfSome, IsFalse, IsNone, IsTrue};
 ghost use Rattle.plain_list.specs.Texts.{AreDistinct};
 ghost use Rattle.column_store.specs.Row.{row_of};
+ghost use Rattle.row_codec.specs.Laid.{AreCut};
 ghost use Rattle.segment_format.specs.Layout.{IsFixed, IsHead};
 ghost use Rattle.archive_places.specs.Fronts.{fixed_in};
 ghost use Rattle.query_plan.specs.Laws.{IsSearched};
@@ -29,8 +30,13 @@ use step_count::Steps;
 use subquery_filter::{Filter, PageTests, Verdict, barren_by, is_outside};
 use word_places::HeldWords;
 
-/// What a search goes over, borrowed: the query, the log types cut into pieces, what they and the words
-/// tell, and the files. It is the same in all calls of a search.
+/// Of how many log types a search has layouts: the first ones, which most messages have, since a log type
+/// gets its number where its text is first met. Free to tune: a layout costs as much as it saves over some
+/// ten messages or twenty, and messages of other log types are written from their texts.
+pub const LAID_TYPES: u32 = 1024;
+
+/// What a search goes over, borrowed: the query, the first log types cut into pieces, what log types and
+/// words tell, and the files. It is the same in all calls of a search.
 #[derive(Drop)]
 pub struct Context<'q, D: Disk> {
     query: &'q Query,
@@ -58,9 +64,9 @@ impl<'q, D: Disk> Model for Context<'q, D> {
 }
 
 impl<'q, D: Disk> Context<'q, D> {
-    /// What is lent on. The layouts are those of the log types, and the filter is that of the query,
-    /// over these and over the words that stand on the disk, of which the needed ones have the numbers
-    /// that were found.
+    /// What is lent on. The layouts are those of the first log types, and the filter is that of the query,
+    /// over all of these and over the words that stand on the disk, of which the needed ones have the
+    /// numbers that were found.
     pub fn new(
         query: &'q Query,
         layouts: &'q Layouts,
@@ -179,9 +185,9 @@ impl<'q, D: Disk> Context<'q, D> {
         self.query
     }
 
-    /// The log types cut into pieces.
+    /// The first log types, cut into pieces.
     pub fn layouts(&self) -> &'q Layouts
-        ensures { result.now ≡ self.now.names.types }
+        ensures { AreCut result.now self.now.names.types }
     {
         self.layouts
     }

@@ -14,7 +14,7 @@ mod taking;
 mod verdicts;
 
 pub use asking::{Told, ask_words};
-pub use context::Context;
+pub use context::{Context, LAID_TYPES};
 pub use deciding::{decide_page, decide_rows, has_rows, hold_rows};
 pub use label::Label;
 pub use query::{Judgement, Query};

@@ -7,7 +7,7 @@ use Rattle.search_walk.specs.Held.{Named, named}
 use Rattle.search_walk.specs.Opened.{NoFronts, ReadsFronts}
 use Rattle.search_walk.specs.StepsScope.{Scope}
 use Rattle.search_walk.specs.Walked.{SearchedFronts, StoppedFronts}
-use Rattle.subquery_filter.specs.Filter.{AsksTypes}
+use Rattle.subquery_filter.specs.Filter.{AsksTypes, IsFilter}
 use Rattle.query_plan.specs.Needs.{needed_variables_of}
 use Rattle.query_plan.specs.Pieces.{Free, needed_of, wide_pieces}
 use Rattle.subquery_filter.specs.Found.{AreNumbers}
@@ -51,17 +51,29 @@ returns-in_err-told-clause-stopped g c = on_err c.from_residual-in_err-told.resu
 pub returns-in_err-told-clause-damaged : goal.returns-in_err-told-clause-damaged
 returns-in_err-told-clause-damaged g c = λ is. words_damaged _ c.args.places c.as_slice-records.result.now c.words_stand.ensures c.as_slice-records.ensures c.requires.opens (c.in_err-told.ensures.damaged (search rules))
 
+pub returns-in_err-asked-clause-reads : goal.returns-in_err-asked-clause-reads
+returns-in_err-asked-clause-reads g c = words_only _ c.args.places c.args.query.now c.as_slice-records.result.now _ _ c.as_slice-records.ensures c.requires.opens c.ask_words.ensures.reads
+
+pub returns-in_err-asked-clause-stopped : goal.returns-in_err-asked-clause-stopped
+returns-in_err-asked-clause-stopped g c = on_err c.from_residual-in_err-asked.result _ (stopped_nothing _ c.args.places c.args.query.now _ _ _ _ c.requires.opens refl refl)
+
 pub new-context-requires : goal.new-context-requires
 new-context-requires g c =
     let q = c.args.query.now in
     let d0 = g.D.Disk.state c.args.disk.now in
     let d1 = g.D.Disk.state c.ask_words.new.disk in
+    let held = c.in_ok-held.held in
+    let types = held.types in
     record {
       searched = c.requires.searched;
       layouts_are = c.in_ok-layouts.ensures;
       count = ap (λ (l : List (Option ℕ)). length l) c.as_slice-found.ensures.value ∙ c.in_ok-told.ensures.count;
-      filtered = λ told. named_words d0.seen d1.seen c.as_slice-records.result.now c.in_ok-held.held _ c.ask_words.ensures.rests.seen c.in_ok-held.ensures.records c.in_ok-told.ensures.filter told c.in_ok-held.held.types
-          (subst (λ (l : List Piece). AsksTypes l c.in_ok-held.held.types c.in_ok-filter.filter) c.plan.ensures c.in_ok-filter.ensures);
+      filtered = λ told.
+          subst (λ (l : List Piece). IsFilter l types (named d1.seen held).words c.in_ok-asked.asked) c.plan-plan.ensures
+          (c.in_ok-asked.ensures.filter (named d1.seen held).words
+          (subst (λ (l : List Piece). IsFilter l types (named d1.seen held).words c.in_ok-told.told.filter) (sym c.plan-plan.ensures)
+          (named_words d0.seen d1.seen c.as_slice-records.result.now held _ c.ask_words.ensures.rests.seen c.in_ok-held.ensures.records c.in_ok-told.ensures.filter told types
+          (subst (λ (l : List Piece). AsksTypes l types c.in_ok-filter.filter) c.plan-plan.ensures (c.in_ok-filter.ensures types)))));
       numbered = λ told.
           subst (λ (l : List (Option ℕ)). AreNumbers (named d1.seen c.in_ok-held.held).words (needed_of Free (wide_pieces q.pattern)) (needed_variables_of Free (wide_pieces q.pattern)) l) (sym c.as_slice-found.ensures.value)
           (named_words d0.seen d1.seen c.as_slice-records.result.now c.in_ok-held.held (λ words. AreNumbers words (needed_of Free (wide_pieces q.pattern)) (needed_variables_of Free (wide_pieces q.pattern)) c.in_ok-told.told.found.items)

@@ -1,4 +1,5 @@
-use Rattle.std.proofs.Common.{◌∙◌, [], rules, sym}
+use Rattle.std.proofs.Common.{ℕ, List, [], rules, subst, sym}
+use Rattle.row_codec.specs.Laid.{AreCut}
 use Rattle.std.proofs.lemmas.Result.{err_from_is_err_and}
 use Rattle.column_store.specs.Row.{row_of}
 use Rattle.search_walk.proofs.AnswerLemmas.{on_err}
@@ -10,7 +11,7 @@ use Rattle.group_count.proofs.row_counting.count_written_rows.Goals as goal
 pub loop-place-init : goal.loop-place-init
 loop-place-init g c = record {
   past = λ n name number messages other ready are. rows_first g.T.RowTable.counted n c.args.query.now name number c.args.page.now.rows messages (sofar c.args.counts.now c.args.expanded.now) are;
-  types = c.new-writer.ensures ∙ sym c.requires.types;
+  types = subst (λ (cut : List (List ℕ)). AreCut cut c.args.held.now.types) (sym c.new-writer.ensures) c.requires.types;
 }
 
 pub loop-place-preserved : goal.loop-place-preserved
@@ -20,7 +21,7 @@ loop-place-preserved g c = record {
       rows_next g.T.RowTable.counted n c.args.query.now name number c.args.page.now.rows c.loop-place.place (row_of c.row-row.result) messages (sofar c.args.counts.now c.args.expanded.now) (sofar c.loop-place.counts c.loop-place.expanded)
       (sofar c.count_written.new.counts c.count_written.new.expanded) c.row-row.ensures (c.loop-place.invariant.past n name number messages other ready are)
       (λ at message is. c.in_ok-count_written.ensures.done n other lent name at message is);
-  types = c.count_written.ensures.types ∙ c.loop-place.invariant.types;
+  types = subst (λ (cut : List (List ℕ)). AreCut cut c.args.held.now.types) (sym c.count_written.ensures.types) c.loop-place.invariant.types;
 }
 
 pub returns-in_err-count_written-clause-stopped : goal.returns-in_err-count_written-clause-stopped

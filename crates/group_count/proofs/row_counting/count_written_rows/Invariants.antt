@@ -1,4 +1,5 @@
-use Rattle.std.proofs.Common.{◌≡◌, ℕ, List}
+use Rattle.std.proofs.Common.{ℕ, List}
+use Rattle.row_codec.specs.Laid.{AreCut}
 use Rattle.query_plan.specs.Laws.{IsPlain}
 use Rattle.search_walk.specs.Held.{AreRowsOf, Named}
 use Rattle.search_walk.specs.Ready.{IsReadyPage}
@@ -12,5 +13,5 @@ invariant-loop-place g l = record {
       → IsReadyPage n l.query l.held l.page.rows l.verdicts → AreRowsOf n l.page.rows messages
       → PastRows g.T.RowTable.counted n l.query name number l.page.rows l.place messages
       (sofar l.fn.counts l.fn.expanded) (sofar l.counts l.expanded);
-  types : l.writer ≡ l.held.types;
+  types : AreCut l.writer l.held.types;
 }

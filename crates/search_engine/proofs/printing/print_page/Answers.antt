@@ -1,4 +1,5 @@
-use Rattle.std.proofs.Common.{◌∙◌, rules, sym}
+use Rattle.std.proofs.Common.{◌∙◌, ℕ, List, rules, subst, sym}
+use Rattle.row_codec.specs.Laid.{AreCut}
 use Rattle.std.proofs.lemmas.Result.{err_from_is_err_and}
 use Rattle.search_walk.proofs.ReadyLemmas.{lent_at}
 use Rattle.search_walk.proofs.AnswerLemmas.{on_err}
@@ -8,7 +9,7 @@ use Rattle.search_engine.proofs.printing.print_page.Goals as goal
 pub loop-place-init : goal.loop-place-init
 loop-place-init g c = record {
   past = λ n messages ready are. rows_first n c.args.printer.now.query.now c.args.label.name.now c.args.label.number c.args.page.now.rows messages _ _ _ are;
-  types = c.new-writer.ensures ∙ sym c.requires.types;
+  types = subst (λ (cut : List (List ℕ)). AreCut cut c.args.printer.now.held.now.types) (sym c.new-writer.ensures) c.requires.types;
 }
 
 pub loop-place-preserved : goal.loop-place-preserved
@@ -17,7 +18,7 @@ loop-place-preserved g c = record {
       let lent = lent_at n c.args.printer.now.query.now c.args.printer.now.held.now c.args.page.now.rows c.args.verdicts.now c.loop-place.place _ c.verdict_at-verdict.result are.told ready c.row-row.ensures c.verdict_at-verdict.ensures in
       rows_next n c.args.printer.now.query.now c.args.label.name.now c.args.label.number _ c.args.page.now.rows c.loop-place.place _ messages _ _ _ (search rules) c.row-row.ensures
       (c.loop-place.invariant.past n messages ready are) (c.in_ok-print_row.ensures.done n lent);
-  types = c.print_row.ensures.types ∙ c.loop-place.invariant.types;
+  types = subst (λ (cut : List (List ℕ)). AreCut cut c.args.printer.now.held.now.types) (sym (c.print_row.ensures.types ∙ c.look_ahead.ensures)) c.loop-place.invariant.types;
 }
 
 pub returns-in_err-print_row-clause-ticks : goal.returns-in_err-print_row-clause-ticks

@@ -1,4 +1,5 @@
-use Rattle.std.proofs.Common.{◌≡◌, ◌∙◌, All, ap, sym, subst, refl, rules}
+use Rattle.std.proofs.Common.{◌≡◌, ◌∙◌, ℕ, List, All, ap, sym, subst, refl, rules}
+use Rattle.row_codec.specs.Laid.{AreCut}
 use Rattle.word_places.specs.Held.{HeldNames}
 use Rattle.search_walk.specs.Held.{Named}
 use Rattle.search_walk.specs.Scan.{Asked}
@@ -9,7 +10,8 @@ use Rattle.search_engine.specs.StepsWaiting.{round_blames, round_halts, round_re
 use Rattle.search_engine.proofs.page_batch.PageBatch.run.Goals as goal
 
 pub match_pages-requires-clause-types : goal.match_pages-requires-clause-types
-match_pages-requires-clause-types g c = λ _ _. ap (λ (h : HeldNames). h.types) c.of-printer.ensures.held ∙ c.requires.served.serves.types ∙ sym c.of-printer.ensures.types
+match_pages-requires-clause-types g c = λ _ _.
+    subst (λ (ts : List (List ℕ)). AreCut c.of-printer.result.layouts.now ts) (sym (ap (λ (h : HeldNames). h.types) c.of-printer.ensures.held ∙ c.requires.served.serves.types)) c.of-printer.ensures.types
 
 pub returns-in_err-gather_all-clause-stopped : goal.returns-in_err-gather_all-clause-stopped
 returns-in_err-gather_all-clause-stopped g c =

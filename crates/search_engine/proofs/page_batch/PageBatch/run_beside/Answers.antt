@@ -1,4 +1,5 @@
-use Rattle.std.proofs.Common.{◌≡◌, ◌∙◌, All, ap, sym, subst, refl, rules}
+use Rattle.std.proofs.Common.{◌≡◌, ◌∙◌, ℕ, List, All, ap, sym, subst, refl, rules}
+use Rattle.row_codec.specs.Laid.{AreCut}
 use Rattle.word_places.specs.Held.{HeldNames}
 use Rattle.search_walk.specs.Held.{Named}
 use Rattle.search_walk.specs.Scan.{Asked}
@@ -10,7 +11,8 @@ use Rattle.search_engine.specs.StepsWaiting.{halts_same, round_blames, round_hal
 use Rattle.search_engine.proofs.page_batch.PageBatch.run_beside.Goals as goal
 
 pub match_beside-requires-clause-types : goal.match_beside-requires-clause-types
-match_beside-requires-clause-types g c = λ _ _. ap (λ (h : HeldNames). h.types) c.of-printer.ensures.held ∙ c.requires.served.serves.types ∙ sym c.of-printer.ensures.types
+match_beside-requires-clause-types g c = λ _ _.
+    subst (λ (ts : List (List ℕ)). AreCut c.of-printer.result.layouts.now ts) (sym (ap (λ (h : HeldNames). h.types) c.of-printer.ensures.held ∙ c.requires.served.serves.types)) c.of-printer.ensures.types
 
 pub returns-in_err-match_beside-clause-stopped : goal.returns-in_err-match_beside-clause-stopped
 returns-in_err-match_beside-clause-stopped g c = on_err c.from_residual.result _ (halts_same c.args.over.now.context.now.names c.args.over.now.context.now.query _ c.args.self.now _)

@@ -2,13 +2,14 @@ use Rattle.std.proofs.Common.{◌∙◌, List, ap, map, refl, rules, subst, sym}
 use Rattle.query_plan.specs.declared.pieces.Piece.{Piece}
 use Rattle.query_plan.specs.Needs.{needed_variables_of}
 use Rattle.query_plan.specs.Pieces.{Free, needed_of, wide_pieces}
-use Rattle.subquery_filter.specs.Filter.{AsksTypes}
+use Rattle.subquery_filter.specs.Filter.{AsksTypes, IsFilter}
 use Rattle.subquery_filter.specs.Found.{AreNumbers}
 use Rattle.word_places.specs.declared.place.WordsPlace.{WordsPlace}
 use Rattle.word_places.specs.Held.{unread}
 use Rattle.word_places.specs.Places.{AreInOrder, OfWords}
 use Rattle.word_places.specs.Reads.{ReadsWords}
 use Rattle.word_places.proofs.ReadLemmas.{words_none}
+use Rattle.search_walk.specs.Held.{named}
 use Rattle.search_walk.proofs.ReadyLemmas.{named_words}
 use Rattle.search_engine.proofs.prepared.Prepared.of.Goals as goal
 
@@ -32,6 +33,10 @@ pub returns-in_err-told-clause-damaged : goal.returns-in_err-told-clause-damaged
 returns-in_err-told-clause-damaged g c = λ is.
     subst (λ (l : List WordsPlace). OfWords (g.D.Disk.state c.args.disk.now).seen l (λ _. ⊥)) c.as_slice-records.ensures (c.in_err-told.ensures.damaged (search rules))
 
+pub returns-in_err-asked-clause-reads : goal.returns-in_err-asked-clause-reads
+returns-in_err-asked-clause-reads g c =
+    subst (λ (l : List WordsPlace). ReadsWords l (g.D.Disk.state c.args.disk.now) (g.D.Disk.state c.ask_words.new.disk)) c.as_slice-records.ensures c.ask_words.ensures.reads
+
 pub returns-clause-reads : goal.returns-clause-reads
 returns-clause-reads g c =
     subst (λ (l : List WordsPlace). ReadsWords l (g.D.Disk.state c.args.disk.now) (g.D.Disk.state c.ask_words.new.disk)) c.as_slice-records.ensures c.ask_words.ensures.reads
@@ -51,12 +56,18 @@ returns-clause-ready g c =
     let d0 = g.D.Disk.state c.args.disk.now in
     let d1 = g.D.Disk.state c.ask_words.new.disk in
     let records = c.as_slice-records.result.now in
+    let held = c.in_ok-held.held in
+    let types = held.types in
     record {
       searched = c.requires.searched;
       layouts_are = c.in_ok-layouts.ensures;
       count = c.in_ok-told.ensures.count;
-      filtered = λ told. named_words d0.seen d1.seen records c.in_ok-held.held _ c.ask_words.ensures.rests.seen c.in_ok-held.ensures.records c.in_ok-told.ensures.filter told c.in_ok-held.held.types
-          (subst (λ (l : List Piece). AsksTypes l c.in_ok-held.held.types c.in_ok-filter.filter) c.plan.ensures c.in_ok-filter.ensures);
+      filtered = λ told.
+          subst (λ (l : List Piece). IsFilter l types (named d1.seen held).words c.in_ok-asked.asked) c.plan-plan.ensures
+          (c.in_ok-asked.ensures.filter (named d1.seen held).words
+          (subst (λ (l : List Piece). IsFilter l types (named d1.seen held).words c.in_ok-told.told.filter) (sym c.plan-plan.ensures)
+          (named_words d0.seen d1.seen records held _ c.ask_words.ensures.rests.seen c.in_ok-held.ensures.records c.in_ok-told.ensures.filter told types
+          (subst (λ (l : List Piece). AsksTypes l types c.in_ok-filter.filter) c.plan-plan.ensures (c.in_ok-filter.ensures types)))));
       numbered = named_words d0.seen d1.seen records c.in_ok-held.held (λ words. AreNumbers words (needed_of Free (wide_pieces q.pattern)) (needed_variables_of Free (wide_pieces q.pattern)) c.in_ok-told.told.found.items)
           c.ask_words.ensures.rests.seen c.in_ok-held.ensures.records c.in_ok-told.ensures.found;
     }
