@@ -22,6 +22,7 @@ test: rt
 dist: build
 	tools/dist $(PROGRAM)
 
+# docs/INSTALLED.md becomes the README of those who have it installed.
 install:
 	@[ -x $(PROGRAM) ] || { echo 'make install: there is no $(PROGRAM): run make first' >&2; exit 1; }
 	install -d $(DESTDIR)$(PREFIX)/bin $(SHARE)/man/man1 $(SHARE)/bash-completion/completions \
