@@ -7,7 +7,8 @@ addresses, decimals, paths and `key=value` pairs; some are followed by a stack t
 without a stamp. Two words stand in it for the searches: `quorum-lost` in about one line of fifty
 thousand, and `heartbeat` in about one line of twenty. Of the shape `requests` each line has an
 identifier of 32 digits that no other line has, so that words are many. Of the shape `daemon` a few
-dozen texts come again and again with small numbers in them, so that words are few.
+dozen texts come again and again with small numbers in them, so that words are few. The shape `stamped` is
+`service` without the service whose stamps, those of a traditional syslog, the program does not read.
 """
 import random
 import sys
@@ -16,6 +17,7 @@ from datetime import datetime, timedelta
 LEVELS = ["INFO"] * 16 + ["DEBUG"] * 6 + ["WARN"] * 2 + ["ERROR"]
 SERVICES = ["scheduler", "gateway", "billing", "indexer", "auth", "storage", "mailer", "metrics"]
 CLASSES = ["TaskManager", "BlockStore", "RpcServer", "SessionPool", "Shuffle", "LeaseKeeper"]
+TRADITIONAL = lambda t: t.strftime("%b %d %H:%M:%S")
 STAMPS = [
     lambda t: "%04d-%02d-%02d %02d:%02d:%02d,%03d" % parts(t),
     lambda t: "%04d-%02d-%02d %02d:%02d:%02d.%03d" % parts(t),
@@ -24,7 +26,7 @@ STAMPS = [
     lambda t: "%04d-%02d-%02d %02d:%02d:%02d" % parts(t)[:6],
     lambda t: "%04d-%02d-%02dT%02d:%02d:%02dZ" % parts(t)[:6],
     lambda t: "%02d/%02d/%02d %02d:%02d:%02d" % ((t.year % 100,) + parts(t)[1:6]),
-    lambda t: t.strftime("%b %d %H:%M:%S"),
+    TRADITIONAL,
 ]
 
 
@@ -70,15 +72,21 @@ def trace(r):
     return lines
 
 
-def lines_of(r):
+def lines_of(r, left_out=None):
     now = datetime(2025, 3, 1, 0, 0, 0)
     while True:
         now += timedelta(milliseconds=r.randrange(1, 40))
         service = r.randrange(len(SERVICES))
         level = r.choice(LEVELS)
-        yield "%s %s [%s] %s: %s" % (STAMPS[service](now), level, SERVICES[service], r.choice(CLASSES), message(r))
+        lines = ["%s %s [%s] %s: %s" % (STAMPS[service](now), level, SERVICES[service], r.choice(CLASSES), message(r))]
         if level == "ERROR" and r.random() < 0.3:
-            yield from trace(r)
+            lines += trace(r)
+        if service != left_out:
+            yield from lines
+
+
+def stamped(r):
+    return lines_of(r, STAMPS.index(TRADITIONAL))
 
 
 def requests(r):
@@ -100,7 +108,7 @@ def daemon(r):
             STAMPS[7](now), r.choice((1, 1, 1, 612, 733)), r.choice(texts), r.randrange(1, 5), 5, r.randrange(1, 400))
 
 
-SHAPES = {"service": lines_of, "requests": requests, "daemon": daemon}
+SHAPES = {"service": lines_of, "stamped": stamped, "requests": requests, "daemon": daemon}
 
 
 def main():

@@ -5,7 +5,8 @@ Each command's output goes through a pipe to this script, which throws it away: 
 sees that its output is the null device may stop at the first hit. The time of a command is that
 from its start until its end, with its output read. Of each command the median over the rounds is
 shown, with the bytes of the file a second, the ratio to the command that it stands beside, and
-the most memory that it had, looked at every few milliseconds.
+the most memory that it had, looked at every few milliseconds. Each row tells of which version its archive is;
+`show` and `scan` make none.
 """
 import os
 import re
@@ -16,7 +17,7 @@ import statistics
 import subprocess
 import sys
 import time
-from typing import NamedTuple
+from typing import Callable, NamedTuple, Optional
 
 RARE, COMMON, WILD = "quorum-lost", "heartbeat", "Task*SECONDS"
 
@@ -74,17 +75,75 @@ def middle_of(runs):
     return statistics.median(it.seconds for it in runs), statistics.median(it.processor for it in runs)
 
 
-HEAD = "| what | command | seconds | processor | MB/s | ratio | by processor | peak MiB | lines out |\n" + "| --- " * 9 + "|"
+class Command(NamedTuple):
+    """A command of a table: its name, the version of its archive or None, its words, and what is done before it."""
+
+    name: str
+    version: Optional[int]
+    words: list
+    before: Callable = lambda: None
 
 
-def row(what, name, runs, beside, size):
+HEAD = "| what | command | version | seconds | processor | MB/s | ratio | by processor | peak MiB | lines out |\n" + "| --- " * 10 + "|"
+
+
+def row(what, command, runs, beside, size):
     """A row of the table: a command beside the measure of its group."""
     seconds, processor = middle_of(runs)
     peak, first = max(it.peak for it in runs) / 1024, runs[0]
     note = "" if first.status in (0, 1) else f" (status {first.status})"
     ratios = beside[0] / seconds, beside[1] / max(processor, 0.001)
-    return "| %s | %s%s | %.3f | %.3f | %.0f | %.2f | %.2f | %.1f | %d |" % (
-        what, name, note, seconds, processor, size / seconds / 1e6, *ratios, peak, first.lines)
+    return "| %s | %s%s | %s | %.3f | %.3f | %.0f | %.2f | %.2f | %.1f | %d |" % (
+        what, command.name, note, command.version or "-", seconds, processor, size / seconds / 1e6, *ratios, peak, first.lines)
+
+
+def failing(what, text):
+    """A row that tells why the run fails."""
+    return f"| {what} | {text} |" + " |" * 8
+
+
+def table(what, commands, measure, rounds, size):
+    """Runs the commands in turns and prints a row of each; whether one failed, and the lines of each that it printed.
+
+    Each stands beside the command with the name `measure` that is of its version, or of none.
+    """
+    runs = [[] for _ in commands]
+    for _ in range(rounds):
+        for command, found in zip(commands, runs):
+            command.before()
+            found.append(run(command.words))
+    for command, found in zip(commands, runs):
+        place = next(n for n, it in enumerate(commands) if it.name == measure and it.version in (command.version, None))
+        print(row(what, command, found, middle_of(runs[place]), size), flush=True)
+    lines = {(command.name, command.version): found[0].lines for command, found in zip(commands, runs)}
+    # only a search of another program says by 1 that there is nothing
+    failed = any(it.status not in ((0,) if command.name.startswith("clpa") else (0, 1)) for command, found in zip(commands, runs) for it in found)
+    return failed, lines
+
+
+def packed_log(path):
+    """The log compressed by `zstd -3`, beside it; None where zstd is not there."""
+    if not shutil.which("zstd"):
+        return None
+    subprocess.run(["zstd", "-q", "-f", "-3", path, "-o", f"{path}.zst"], check=True)
+    return f"{path}.zst"
+
+
+def others(texts, path, packed, counting=False):
+    """What one would search with otherwise, where it is there, for texts one behind the other.
+
+    They are `rg` over the log, and `zstdgrep` and `rg -z` over the one that is compressed.
+    """
+    fixed, mode = len(texts) == 1, "-c" if counting else "-n"
+    basic = ".*".join(it if fixed else re.sub(r"([][.*^$\\])", r"\\\1", it) for it in texts)
+    full = ".*".join(it if fixed else re.sub(r"([][.*+?^$\\(){}|])", r"\\\1", it) for it in texts)
+    flag = ["-F"] if fixed else []
+    rg = ["rg", "--no-config", "-a", mode, "-j1", *flag]
+    found = [(" ".join(["rg", *flag]), [*rg, "-e", full, path])]
+    if packed:
+        found.append(("zstdgrep", ["zstdgrep", "-a", mode, *flag, "-e", basic, packed]))
+        found.append(("rg -z", [*rg, "-z", "-e", full, packed]))
+    return [Command(name, None, words) for name, words in found if shutil.which(words[0])]
 
 
 def single(path, form):
@@ -94,23 +153,16 @@ def single(path, form):
         return re.search(form, log.read(1 << 20)).group().decode()
 
 
-def groups(clpa, path):
-    """Each group: its name, and its commands with their names; the second is the measure."""
-    grep = ["grep", "-a", "-n"]
-    found = []
-    found.append(("show", [("clpa show", [clpa, "-", "show", path]), ("cat", ["cat", path])]))
+def groups(clpa, path, packed):
+    """Each group: its name, and its commands; the second is the measure."""
+    found = [("show", [Command("clpa show", None, [clpa, "-", "show", path]), Command("cat", None, ["cat", path])])]
     whole = single(path, rb" blk_\d{9,} ")
     for name, text in (("whole word, closed on both sides,", whole), ("rare word", RARE), ("common word", COMMON)):
-        commands = [("clpa scan", [clpa, "-", "scan", text, path]), ("grep -F", grep + ["-F", text, path])]
-        if shutil.which("rg"):
-            commands.append(("rg -F", ["rg", "-a", "-n", "-j1", "-F", text, path]))
-        found.append((f"{name} `{text}`", commands))
-    wild = WILD.replace("*", ".*")
-    commands = [("clpa scan", [clpa, "-", "scan", WILD, path]), ("grep", grep + [wild, path])]
-    if shutil.which("rg"):
-        commands.append(("rg", ["rg", "-a", "-n", "-j1", wild, path]))
-    found.append((f"wildcard `{WILD}`", commands))
-    return found
+        scan, grep = [clpa, "-", "scan", text, path], ["grep", "-a", "-n", "-F", text, path]
+        found.append((f"{name} `{text}`", [Command("clpa scan", None, scan), Command("grep -F", None, grep), *others([text], path, packed)]))
+    scan, grep = [clpa, "-", "scan", WILD, path], ["grep", "-a", "-n", WILD.replace("*", ".*"), path]
+    commands = [Command("clpa scan", None, scan), Command("grep", None, grep), *others(WILD.split("*"), path, packed)]
+    return [*found, (f"wildcard `{WILD}`", commands)]
 
 
 def main():
@@ -119,22 +171,17 @@ def main():
     with open(path, "rb") as log:  # so that the first command does not pay for the disk
         while log.read(1 << 22):
             pass
+    packed, failed = packed_log(path), False
     print(HEAD)
-    failed = False
-    for what, commands in groups(clpa, path):
-        runs = {name: [] for name, _ in commands}
-        for _ in range(rounds):
-            for name, words in commands:
-                runs[name].append(run(words))
-        beside = middle_of(runs[commands[1][0]])
-        for name, _ in commands:
-            failed = failed or runs[name][0].status not in ((0,) if name == "clpa scan" else (0, 1))
-            print(row(what, name, runs[name], beside, size))
-        counts = {runs[name][0].lines for name, _ in commands}
-        if what != "show" and len(counts) > 1:
+    for what, commands in groups(clpa, path, packed):
+        wrong, lines = table(what, commands, commands[1].name, rounds, size)
+        failed = failed or wrong
+        if what != "show" and len(set(lines.values())) > 1:
             failed = True
-            print(f"| {what} | the commands found different lines: {sorted(counts)} | | | | | |")
-    print()
+            print(failing(what, f"the commands found different lines: {sorted(set(lines.values()))}"))
+    if packed:
+        os.remove(packed)
+    print("\n`show` and `scan` read the log alone: they make no archive, and are of no version")
     print("ratio: the speed beside `cat` or `grep` on the same file in the same run, by the clock and by the processor; above 1 is faster")
     sys.exit(1 if failed else 0)
 

@@ -1,9 +1,10 @@
 #!/usr/bin/env python3
-"""Times the commands over an archive in interleaved rounds: measure_archive.py ROUNDS LOG CLPA [SHAPE].
+"""Times the commands over archives in interleaved rounds: measure_archive.py [--format V]... ROUNDS LOG CLPA [SHAPE].
 
-The archives stand beside the log and are made anew in each round of `ingest`. What `decode` gives back
-is held against the log, and the count of lines that `search` finds against that of `grep`; a difference
-fails the run. Times, ratios and memory are as in measure.py.
+The archives, one of each version, stand beside the log and are made anew in each round of `ingest`. What
+`decode` gives back is held against the log. Of the messages that `search` prints, the lines that match are
+counted, and held against the lines that `grep` finds; what `count` tells is held against the messages that
+`search` prints. A difference fails the run. Times, ratios and memory are as in measure.py.
 """
 import filecmp
 import os
@@ -11,8 +12,10 @@ import re
 import shutil
 import subprocess
 import sys
+from typing import NamedTuple
 
-from measure import HEAD, middle_of, row, run, single
+from measure import HEAD, Command, failing, others, packed_log, run, single, table
+from versions import complaint, formats_of, minute, named, printed
 
 # Of each shape of log: a word in few lines of each segment, a part of a word, a common word, a wildcard,
 # and what a word looks like that stands in one line.
@@ -21,9 +24,9 @@ TEXTS = {
     "requests": ("user1234", "user199", "orders", "GET*orders", rb"[0-9a-f]{32}"),
     "daemon": ("612", "reload", "reloaded", "started*network", None),
 }
+TEXTS["stamped"] = TEXTS["service"]
 # A word in one line, with what stands beside it, in segments of 65,536 messages and in short ones.
 WHOLE, SHORT = "whole word, closed on both sides, in one segment", 4096
-MINUTE = ("--from", "1740790800000", "--to", "1740790859999")
 
 
 def closed(path, form):
@@ -56,117 +59,152 @@ def quarters(path):
     return names
 
 
-def made(clpa, archive):
-    """An empty archive."""
+def made(clpa, archive, version=1):
+    """An empty archive of this version."""
     if os.path.exists(archive):
         os.remove(archive)
-    subprocess.run([clpa, archive, "create"], check=True)
+    subprocess.run([clpa, archive, "create", "--format", str(version)], check=True)
 
 
-def in_segments(clpa, archive, messages, path):
+def in_segments(clpa, archive, messages, path, version=1):
     """An archive of the log whose segments have so many messages at most."""
-    made(clpa, archive)
+    made(clpa, archive, version)
     subprocess.run([clpa, archive, "ingest", "--segment", str(messages), path], check=True, stdout=subprocess.DEVNULL)
 
 
-def table(what, commands, rounds, size, before=None):
-    """Runs the commands in turns and prints a row of each; the second is the measure."""
-    runs = {name: [] for name, _ in commands}
-    for _ in range(rounds):
-        for name, words in commands:
-            if before:
-                before(name)
-            runs[name].append(run(words))
-    beside, failed = middle_of(runs[commands[1][0]]), False
-    for name, _ in commands:
-        failed = failed or runs[name][0].status not in (0, 1)
-        print(row(what, name, runs[name], beside, size), flush=True)
-    return failed, {name: runs[name][0].lines for name, _ in commands}
+class Bench(NamedTuple):
+    """What is measured: the program, the log and it compressed, the versions, and how often."""
+
+    clpa: str
+    path: str
+    packed: str
+    versions: list
+    rounds: int
+
+    def size(self):
+        return os.path.getsize(self.path)
+
+    def archive(self, version, kind="one"):
+        return named(self.path, version, kind)
+
+    def each(self, name, words, kind="one"):
+        """The command over the archive of each version; `words` are those behind the archive, or give them by version."""
+        of = words if callable(words) else lambda _: words
+        return [Command(name, it, [self.clpa, self.archive(it, kind), *of(it)]) for it in self.versions]
 
 
-def counted(clpa, archive, path, common, rare, rounds, size):
-    """The groups of `count`, held against the counts of lines that `grep` finds."""
+def grepped(text, path):
+    """How many lines `grep` finds."""
+    found = subprocess.run(["grep", "-aFc", "-e", text, path], check=False, capture_output=True, env=dict(os.environ, LC_ALL="C"))
+    return int(found.stdout)
+
+
+def taken_in(bench):
+    """The rows of `ingest` and `decode`; whether something was not as it should be."""
+    clpa, path, files = bench.clpa, bench.path, quarters(bench.path)
+    commands = []
+    for it in bench.versions:
+        one, four = bench.archive(it), bench.archive(it, "four")
+        commands.append(Command("clpa ingest, 1 worker", it, [clpa, one, "ingest", path], lambda one=one, it=it: made(clpa, one, it)))
+        words = [clpa, four, "ingest", "--workers", "4", *files]
+        commands.append(Command("clpa ingest, 4 workers, 4 files", it, words, lambda four=four, it=it: made(clpa, four, it)))
+    commands.append(Command("zstd -3 -T1", None, ["zstd", "-q", "-f", "-3", "-T1", path, "-o", bench.packed]))
+    failed, _ = table("into an archive", commands, "zstd -3 -T1", bench.rounds, bench.size())
+    for it in bench.versions:
+        for archive in (bench.archive(it), bench.archive(it, "four")):
+            failed = subprocess.run([clpa, archive, "check"], check=False, capture_output=True).returncode != 0 or failed
+        with open(f"{path}.back", "wb") as back:
+            subprocess.run([clpa, bench.archive(it), "decode", "0"], check=True, stdout=back)
+        if not filecmp.cmp(path, f"{path}.back", shallow=False):
+            failed = True
+            print(failing("decode", f"version {it} gives other bytes than the log"))
+        os.remove(f"{path}.back")
+    commands = [*bench.each("clpa decode", ["decode", "0"]), Command("zstd -dc", None, ["zstd", "-dc", bench.packed])]
+    return table("out of it", commands, "zstd -dc", bench.rounds, bench.size())[0] or failed
+
+
+def searched(bench, name, pattern, kind="one", counting=True):
+    """The rows of a search; whether it found other lines than `grep` does."""
+    texts = pattern.split("*")
+    option = "-an" if len(texts) > 1 else "-aFc" if counting else "-aFn"
+    grep = Command(f"grep {option}", None, ["grep", option, "-e", ".*".join(texts), bench.path])
+    commands = bench.each("clpa search", ["search", pattern], kind) + bench.each("clpa search, 4 workers", ["search", "--workers", "4", pattern], kind)
+    commands += [grep, *others(texts, bench.path, bench.packed, option == "-aFc")]
+    what = f"{name} `{pattern}`"
+    failed, lines = table(what, commands, grep.name, bench.rounds, bench.size())
+    wanted = lines[grep.name, None] if len(texts) > 1 else grepped(pattern, bench.path)
+    for command in commands[: 2 * len(bench.versions)]:
+        wrong = complaint(printed(command.words), [bench.path], texts, wanted, command.version)
+        if wrong:
+            failed = True
+            print(failing(what, f"{command.name}: {wrong}"))
+    return failed
+
+
+def messages_of(bench, version, text):
+    """How many messages a search prints, or the archive has where there is no text."""
+    if not text:
+        return int(printed([bench.clpa, bench.archive(version), "files"]).split(b" ")[1])
+    return len(re.findall(rb"^%s:[0-9]+:" % re.escape(bench.path.encode()), printed([bench.clpa, bench.archive(version), "search", text]), re.M))
+
+
+def counted(bench, common, rare):
+    """The groups of `count`, held against the messages that `search` prints."""
     failed, some = False, f"{common[:3]}?{common[4:]}"
     for name, by, text in [("all", "type", ""), ("all", "minute", ""), ("common word", "type", common), ("common word", "minute", common), ("rare word", "minute", rare)]:
-        beside = ["grep", "-aFc", text, path] if text else ["grep", "-ac", "", path]
-        wrong, _ = table(f"count by {by}, {name} `{text}`", [(f"clpa count --by {by}", [clpa, archive, "count", "--by", by, text]), (" ".join(beside[:2]), beside)], rounds, size)
-        groups = subprocess.run([clpa, archive, "count", "--by", by, text], check=True, capture_output=True).stdout.splitlines()
-        told = sum(int(it.split(b" ")[0 if by == "type" else 1]) for it in groups)
-        found = subprocess.run(beside, check=False, capture_output=True, env=dict(os.environ, LC_ALL="C"))
-        if told != int(found.stdout):
-            print(f"| count by {by} of `{text}` tells {told}, and grep {int(found.stdout)} | | | | | |")
-            wrong = True
-        failed = failed or wrong
-    pair = [("clpa count --by type", [clpa, archive, "count", "--by", "type", some]), ("clpa search", [clpa, archive, "search", some])]
-    wrong, _ = table(f"count of a pattern that is expanded, `{some}`", pair, rounds, size)
-    return failed or wrong
+        grep = ["grep", "-aFc", text, bench.path] if text else ["grep", "-ac", "", bench.path]
+        commands = [*bench.each(f"clpa count --by {by}", ["count", "--by", by, text]), Command(" ".join(grep[:2]), None, grep)]
+        what = f"count by {by}, {name} `{text}`"
+        failed = table(what, commands, commands[-1].name, bench.rounds, bench.size())[0] or failed
+        for command in commands[:-1]:
+            told = sum(int(it.split(b" ")[0 if by == "type" else 1]) for it in printed(command.words).splitlines())
+            wanted = messages_of(bench, command.version, text)
+            if told != wanted:
+                failed = True
+                print(failing(what, f"version {command.version} tells {told} messages, and has {wanted}"))
+    pair = bench.each("clpa count --by type", ["count", "--by", "type", some]) + bench.each("clpa search", ["search", some])
+    return table(f"count of a pattern that is expanded, `{some}`", pair, "clpa search", bench.rounds, bench.size())[0] or failed
+
+
+def whole_archives(bench):
+    """The rows of what reads an archive and nothing else; the bytes a second are those of each archive."""
+    failed = False
+    for it in bench.versions:
+        only = bench._replace(versions=[it])
+        commands = [*only.each("clpa check", ["check"]), Command("zstd -t", None, ["zstd", "-q", "-t", bench.packed]), *only.each("clpa files", ["files"])]
+        failed = table("whole archive", commands, "zstd -t", bench.rounds, os.path.getsize(bench.archive(it)))[0] or failed
+    print()
+    for it in bench.versions:
+        opened = bytes_read([bench.clpa, bench.archive(it), "files"])
+        if opened:
+            print(f"version {it}: `files` reads {opened} bytes: {opened / 1e9:.3f} s at 1 GB/s")
+    for it in bench.versions:
+        size = os.path.getsize(bench.archive(it))
+        print(f"version {it}: archive: {size} bytes of {bench.size()}, {size / bench.size():.2f}; zstd -3: {os.path.getsize(bench.packed) / bench.size():.2f}")
+    return failed
 
 
 def main():
-    rounds, path, clpa = int(sys.argv[1]), sys.argv[2], sys.argv[3]
-    size, failed = os.path.getsize(path), False
-    rare, part, common, wild, form = TEXTS[sys.argv[4] if len(sys.argv) > 4 else "service"]
-    files = quarters(path)
-    one, four, short, packed = f"{path}.one.clp", f"{path}.four.clp", f"{path}.short.clp", f"{path}.zst"
+    versions, words = formats_of(sys.argv[1:])
+    path, clpa = words[1], words[2]
+    rare, part, common, wild, form = TEXTS[words[3] if len(words) > 3 else "service"]
+    bench = Bench(clpa, path, packed_log(path), versions, int(words[0]))
     print(HEAD)
-
-    def anew(name):
-        if name.startswith("clpa ingest"):
-            made(clpa, four if "4 workers" in name else one)
-
-    wrong, _ = table("into an archive", [
-        ("clpa ingest, 1 worker", [clpa, one, "ingest", path]),
-        ("zstd -3 -T1", ["zstd", "-q", "-f", "-3", "-T1", path, "-o", packed]),
-        ("clpa ingest, 4 workers, 4 files", [clpa, four, "ingest", "--workers", "4", *files]),
-    ], rounds, size, anew)
-    failed = failed or wrong
-    for archive in (one, four):
-        checked = subprocess.run([clpa, archive, "check"], check=False, capture_output=True)
-        failed = failed or checked.returncode != 0
-    with open(f"{path}.back", "wb") as back:
-        subprocess.run([clpa, one, "decode", "0"], check=True, stdout=back)
-    if not filecmp.cmp(path, f"{path}.back", shallow=False):
-        failed = True
-        print("| decode | it gives other bytes than the log | | | | | |")
-    os.remove(f"{path}.back")
-    wrong, _ = table("out of it", [("clpa decode", [clpa, one, "decode", "0"]), ("zstd -dc", ["zstd", "-dc", packed])], rounds, size)
-    failed = failed or wrong
-    sought = [("rare word", one, rare, "-aFc"), ("part of a word", one, part, "-aFc"), ("common word", one, common, "-aFn")]
+    failed = taken_in(bench)
     if form:
-        in_segments(clpa, short, SHORT, path)
-        whole = closed(path, form)
-        sought[:0] = [
-            ("word in one segment", one, single(path, form), "-aFc"),
-            (WHOLE, one, whole, "-aFc"),
-            (f"word in one segment of {SHORT:,} messages", short, single(path, form), "-aFc"),
-            (f"{WHOLE} of {SHORT:,} messages", short, whole, "-aFc"),
-        ]
-    for name, archive, text, beside in sought:
-        wrong, counts = table(f"{name} `{text}`", [
-            ("clpa search", [clpa, archive, "search", text]),
-            (f"grep {beside}", ["grep", beside, text, path]),
-            ("clpa search, 4 workers", [clpa, archive, "search", "--workers", "4", text]),
-        ], rounds, size)
-        found = subprocess.run(["grep", "-aFc", text, path], check=False, capture_output=True, env=dict(os.environ, LC_ALL="C"))
-        wrong = wrong or counts["clpa search"] != int(found.stdout)
-        failed = failed or wrong
-    wrong, counts = table(f"wildcard `{wild}`", [
-        ("clpa search", [clpa, one, "search", wild]),
-        ("grep -an", ["grep", "-an", wild.replace("*", ".*"), path]),
-        ("clpa search, 4 workers", [clpa, one, "search", "--workers", "4", wild]),
-    ], rounds, size)
-    failed = failed or wrong or len(set(counts.values())) > 1
-    wrong, _ = table("one minute", [("clpa search --from --to", [clpa, one, "search", *MINUTE, ""]), ("grep -aFc", ["grep", "-aFc", common, path])], rounds, size)
-    failed = failed or wrong
-    failed = counted(clpa, one, path, common, rare, rounds, size) or failed
-    wrong, _ = table("whole archive", [("clpa check", [clpa, one, "check"]), ("zstd -t", ["zstd", "-q", "-t", packed]), ("clpa files", [clpa, one, "files"])], rounds, os.path.getsize(one))
-    failed = failed or wrong
-    opened = bytes_read([clpa, one, "files"])
-    if opened:
-        print(f"\n`files` reads {opened} bytes: {opened / 1e9:.3f} s at 1 GB/s")
-    print()
-    print(f"archive: {os.path.getsize(one)} bytes of {size}, {os.path.getsize(one) / size:.2f}; zstd -3: {os.path.getsize(packed) / size:.2f}")
-    print("ratio: the speed beside the second command of the group in the same run, by the clock and by the processor; above 1 is faster")
+        for it in versions:
+            in_segments(clpa, bench.archive(it, "short"), SHORT, path, it)
+        for kind, behind in (("one", ""), ("short", f" of {SHORT:,} messages")):
+            failed = searched(bench, f"word in one segment{behind}", single(path, form), kind) or failed
+            failed = searched(bench, f"{WHOLE}{behind}", closed(path, form), kind) or failed
+    for name, pattern, counting in (("rare word", rare, True), ("part of a word", part, True), ("common word", common, False), ("wildcard", wild, False)):
+        failed = searched(bench, name, pattern, counting=counting) or failed
+    grep = Command("grep -aFc", None, ["grep", "-aFc", common, path])
+    commands = [*bench.each("clpa search --from --to", lambda it: ["search", *minute(it), ""]), grep]
+    failed = table("one minute", commands, grep.name, bench.rounds, bench.size())[0] or failed
+    failed = counted(bench, common, rare) or failed
+    failed = whole_archives(bench) or failed
+    print("ratio: the speed beside `zstd`, `grep` or `search` in the same run, by the clock and by the processor; above 1 is faster")
     sys.exit(1 if failed else 0)
 
 

@@ -1,19 +1,20 @@
 #!/usr/bin/env python3
-"""What an archive costs: measure_shapes.py ROUNDS FOLDER MEGABYTES SEED CLPA.
+"""What an archive costs: measure_shapes.py [--format V]... ROUNDS FOLDER MEGABYTES SEED CLPA.
 
-For each shape of log and each of two sizes: the bytes of the archive and of its dictionaries and heads
+For each shape of log, each of two sizes and each version, which take turns: the bytes of the archive and of its dictionaries and heads
 for a byte of log, the speed of `ingest` and `decode`, the time of opening (`files`), of a search for a
 word that no line has, and of one for a whole word, closed on both sides, that one line has, in segments
 of 65,536 and of 4,096 messages, and the most memory of each. Times are processor seconds, the least
-of the rounds; the last column of a shape's second row has how each grew.
+of the rounds.
 """
 import os
 import struct
 import subprocess
 import sys
 
-from measure import run
-from measure_archive import SHORT, TEXTS, closed, in_segments
+from measure import packed_log, run
+from measure_archive import SHORT, TEXTS, closed, in_segments, made
+from versions import formats_of, named
 
 KINDS = {1: "names", 2: "types", 3: "words", 4: "segments"}
 HEADER, FRAME = 32, 10
@@ -41,68 +42,69 @@ def cost(words):
     return it.processor, it.peak / 1024
 
 
-def least(rounds, words, before=lambda: None):
-    found = []
+def least(rounds, commands, before=lambda version: None):
+    """Of the command of each version, which take turns: the least seconds, and the most memory."""
+    found = {version: [] for version in commands}
     for _ in range(rounds):
-        before()
-        found.append(cost(words))
-    return min(it[0] for it in found), max(it[1] for it in found)
+        for version, words in commands.items():
+            before(version)
+            found[version].append(cost(words))
+    return {version: (min(it[0] for it in costs), max(it[1] for it in costs)) for version, costs in found.items()}
 
 
-def whole_words(clpa, archive, log, form, rounds):
-    """The time of a search for a whole word of one line, in segments of both sizes."""
+def whole_words(clpa, log, form, rounds, versions):
+    """By version the times of a search for a whole word of one line, in segments of both sizes."""
     if not form:
-        return "-", "-"
-    words, short = closed(log, form), f"{log}.short.clp"
-    in_segments(clpa, short, SHORT, log)
-    found = ["%.3f" % least(rounds, [clpa, it, "search", words])[0] for it in (archive, short)]
-    os.remove(short)
+        return {it: ("-", "-") for it in versions}
+    words, found = closed(log, form), {it: [] for it in versions}
+    for it in versions:
+        in_segments(clpa, named(log, it, "short"), SHORT, log, it)
+    for kind in ("one", "short"):
+        times = least(rounds, {it: [clpa, named(log, it, kind), "search", words] for it in versions})
+        for it in versions:
+            found[it].append("%.3f" % times[it][0])
+    for it in versions:
+        os.remove(named(log, it, "short"))
     return found
 
 
-def figures(clpa, log, form, rounds):
-    """The figures of one log."""
-    archive = f"{log}.clp"
-
-    def anew():
-        if os.path.exists(archive):
-            os.remove(archive)
-        subprocess.run([clpa, archive, "create"], check=True)
+def figures(clpa, log, form, rounds, versions):
+    """By version the figures of one log, in the order of the columns."""
+    def of(*words):
+        return {it: [clpa, named(log, it, "one"), *words] for it in versions}
 
     size = os.path.getsize(log)
-    into = least(rounds, [clpa, archive, "ingest", log], anew)
-    kinds = records(archive)
-    return {
-        "archive": os.path.getsize(archive) / size,
-        "dictionaries": (kinds["types"] + kinds["words"]) / size,
-        "into": size / into[0] / 1e6,
-        "into memory": into[1],
-        "back": size / least(rounds, [clpa, archive, "decode", "0"])[0] / 1e6,
-        "check": least(rounds, [clpa, archive, "check"])[0],
-        "open": least(rounds, [clpa, archive, "files"])[0],
-        "search": least(rounds, [clpa, archive, "search", "there-is-no-such-word"])[0],
-        "search memory": least(1, [clpa, archive, "search", "there-is-no-such-word"])[1],
-        "whole": whole_words(clpa, archive, log, form, rounds),
-    }
+    into = least(rounds, of("ingest", log), lambda it: made(clpa, named(log, it, "one"), it))
+    back, check, opened = (least(rounds, of(*words)) for words in (("decode", "0"), ("check",), ("files",)))
+    search = least(rounds, of("search", "there-is-no-such-word"))
+    whole, found = whole_words(clpa, log, form, rounds, versions), {}
+    for it in versions:
+        archive = named(log, it, "one")
+        kinds = records(archive)
+        found[it] = (
+            os.path.getsize(archive) / size, (kinds["types"] + kinds["words"]) / size, size / into[it][0] / 1e6, into[it][1],
+            size / back[it][0] / 1e6, check[it][0], opened[it][0], *search[it], *whole[it])
+        os.remove(archive)
+    return found
 
 
 def main():
-    rounds, folder, megabytes, seed, clpa = int(sys.argv[1]), sys.argv[2], int(sys.argv[3]), sys.argv[4], sys.argv[5]
-    print("| shape | MB | archive / log | dictionaries / log | zstd -3 / log | ingest MB/s | peak MiB | decode MB/s | check s | files s | search s | peak MiB | whole word s | in short segments s |")
-    print("| --- | --- | --- | --- | --- | --- | --- | --- | --- | --- | --- | --- | --- | --- |")
-    for shape in ("service", "requests", "daemon"):
+    versions, words = formats_of(sys.argv[1:])
+    rounds, folder, megabytes, seed, clpa = int(words[0]), words[1], int(words[2]), words[3], words[4]
+    print("| shape | MB | version | zstd -3 / log | archive / log | dictionaries / log | ingest MB/s | peak MiB | decode MB/s | check s | files s | search s | peak MiB | whole word s | in short segments s |")
+    print("| --- " * 15 + "|")
+    for shape in ("service", "stamped", "requests", "daemon"):
         for size in (megabytes // 10, megabytes):
             log = f"{folder}/clpa-{shape}-{size}-{seed}.log"
-            f = figures(clpa, log, TEXTS[shape][-1], rounds)
-            subprocess.run(["zstd", "-q", "-f", "-3", log, "-o", f"{log}.zst"], check=True)
-            packed = os.path.getsize(f"{log}.zst") / os.path.getsize(log)
-            print("| %s | %d | %.3f | %.3f | %.3f | %.0f | %.0f | %.0f | %.2f | %.3f | %.3f | %.0f | %s | %s |" % (
-                shape, size, f["archive"], f["dictionaries"], packed, f["into"], f["into memory"], f["back"], f["check"], f["open"], f["search"], f["search memory"], *f["whole"]))
-            os.remove(f"{log}.clp")
-            os.remove(f"{log}.zst")
+            packed = packed_log(log)
+            share = os.path.getsize(packed) / os.path.getsize(log)
+            os.remove(packed)
+            for version, found in figures(clpa, log, TEXTS[shape][-1], rounds, versions).items():
+                print("| %s | %d | %d | %.3f | %.3f | %.3f | %.0f | %.0f | %.0f | %.2f | %.3f | %.3f | %.0f | %s | %s |" % (
+                    shape, size, version, share, *found), flush=True)
     print()
     print("seconds and MB/s: of processor time; search: for a word that no line has; whole word: closed on both sides, of one line,")
-    print(f"in segments of 65,536 messages and of {SHORT:,}")
+    print(f"in segments of 65,536 messages and of {SHORT:,}; `stamped` is `service` without the lines whose stamp is not read")
 
 
 if __name__ == "__main__":
