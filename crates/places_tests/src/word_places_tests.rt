@@ -190,14 +190,22 @@ fn held(alloc: Global) -> Result<HeldWords, AllocError> {
 // How many log types stand before the last two of many, which are more than have their slots kept.
 const MANY: u32 = 1100;
 
+// Adds a text to some thousand at most.
+fn add(types: &mut Texts, text: &[u8]) -> Result<(), AllocError> {
+    if types.len() < 2 * MANY {
+        return types.push(text);
+    }
+    Ok(())
+}
+
 // The same words, beside many log types.
 fn held_of_many(alloc: Global) -> Result<HeldWords, AllocError> {
     let mut types = Texts::new(alloc);
     for _ in 0..MANY {
-        types.push(b"\x11 \x11")?;
+        add(&mut types, b"\x11 \x11")?;
     }
-    types.push(WITH_WORD)?;
-    types.push(WITH_NUMBER)?;
+    add(&mut types, WITH_WORD)?;
+    add(&mut types, WITH_NUMBER)?;
     HeldWords::new(alloc, types, 1, WORDS)
 }
 
