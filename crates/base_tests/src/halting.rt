@@ -16,6 +16,8 @@ pub(crate) struct Halting<'t> {
     pub(crate) done: usize,
     pub(crate) calls: u64,
     pub(crate) fails: u64,
+    /// Which file it is.
+    pub(crate) number: u64,
     /// Whether another has its lock.
     pub(crate) lock_taken: bool,
     /// What a sync of it fails with.
@@ -38,6 +40,7 @@ impl<'t> Halting<'t> {
             done: 0,
             calls: 0,
             fails,
+            number: 1,
             lock_taken: false,
             sync_fails: None,
             trace,
@@ -102,7 +105,7 @@ impl OffsetFile for Halting<'_> {
     fn id(&mut self) -> io::Result<FileId> {
         Ok(FileId {
             device: 0,
-            number: 1,
+            number: self.number,
         })
     }
 
@@ -153,6 +156,8 @@ pub(crate) struct HaltingPlace<'t> {
     pub(crate) bytes: &'t [u8],
     /// Whether another has the lock of the file.
     pub(crate) lock_taken: bool,
+    /// Whether another file has the name of the one that was opened, once it is locked.
+    pub(crate) is_moved: bool,
     /// What a sync of the file fails with.
     pub(crate) sync_fails: Option<ErrorKind>,
     /// Whether a sync of the folder fails.
@@ -170,6 +175,7 @@ impl<'t> HaltingPlace<'t> {
             is_there: false,
             bytes: &[],
             lock_taken: false,
+            is_moved: false,
             sync_fails: None,
             folder_fails: false,
             trace,
@@ -197,7 +203,11 @@ impl<'t> Place for HaltingPlace<'t> {
 
     fn open_to_read(&self) -> io::Result<Option<Halting<'t>>> {
         note(self.trace, 8);
-        self.open()
+        let mut file = self.file()?;
+        if self.is_moved {
+            file.number = 2;
+        }
+        Ok(Some(file))
     }
 
     fn make(&self) -> io::Result<Halting<'t>> {

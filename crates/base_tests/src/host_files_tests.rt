@@ -126,10 +126,13 @@ fn is_kept(alloc: Global, synced: Result<(), Failed>, calls: u64) -> Result<bool
 }
 
 fn each_is_kept(alloc: Global) -> Result<bool, AllocError> {
-    Ok(is_kept(alloc, Ok(()), 146_777_777_232)? && is_kept(alloc, Err(Failed), 1_467_777_772_323)?)
+    Ok(
+        is_kept(alloc, Ok(()), 1_486_777_777_232)?
+            && is_kept(alloc, Err(Failed), 14_867_777_772_323)?,
+    )
 }
 
-// Made, locked, its length asked, and written in two calls of three parts; then the file and its folder
+// Made, locked, its name looked at, its length asked, and written in two calls of three parts; then the file and its folder
 // are synced; the folder again where it failed.
 #[test]
 fn a_file_is_written_read_and_synced(rt: HostRuntime) -> Result<(), Fail> {
@@ -155,19 +158,25 @@ fn place_of_one<'t>(alloc: Global, trace: &'t Cell<u64>, lock_taken: bool) -> Ha
     place
 }
 
-/// Whether a disk that may be written answers so, by these calls, where another may have the lock.
-fn writes(alloc: Global, lock_taken: bool, want: [bool; 4], calls: u64) -> bool {
+/// Whether a disk that may be written answers each call so, by these calls, where another may have the lock
+/// or the name.
+fn writes(alloc: Global, lock_taken: bool, is_moved: bool, calls: u64) -> bool {
     let trace = Cell::new(0);
-    let mut disk = DiskFile::to_write(place_of_one(alloc, &trace, lock_taken));
-    let is_locked = disk.locked_id().is_some();
-    is_locked != lock_taken && answers(&mut disk) == want && trace.get() == calls
+    let mut place = place_of_one(alloc, &trace, lock_taken);
+    place.is_moved = is_moved;
+    let mut disk = DiskFile::to_write(place);
+    let is_held = !lock_taken && !is_moved;
+    let well = disk.locked_id().is_some() == is_held && answers(&mut disk) == [is_held; 4];
+    well && trace.get() == calls
 }
 
-// One that has no lock makes no call behind the one for the lock.
+// One that has no lock makes no call behind the one for the lock, and one that lost its name none behind the
+// look at the name.
 #[test]
 fn the_lock_comes_before_all_else(rt: HostRuntime) {
-    assert!(rt; writes(rt.alloc(), false, [true; 4], 4_655_723));
-    assert!(rt; writes(rt.alloc(), true, [false; 4], 4));
+    assert!(rt; writes(rt.alloc(), false, false, 48_655_723));
+    assert!(rt; writes(rt.alloc(), true, false, 4));
+    assert!(rt; writes(rt.alloc(), false, true, 48));
 }
 
 /// Whether a disk that is read alone answers a sync so where that of its file fails with this, and asks
@@ -207,5 +216,5 @@ fn yields_to(alloc: Global, lock_taken: bool, calls: u64) -> bool {
 #[test]
 fn of_two_that_make_a_file_one_does(rt: HostRuntime) {
     assert!(rt; yields_to(rt.alloc(), true, 14));
-    assert!(rt; yields_to(rt.alloc(), false, 146));
+    assert!(rt; yields_to(rt.alloc(), false, 1486));
 }

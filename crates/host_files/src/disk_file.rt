@@ -34,7 +34,7 @@ struct PlacedFile<P, F: OffsetFile> {
 /// Opens and locks the file of a place, where one is there.
 fn hold<P: Place>(place: &P) -> io::Result<Held<P::File>> {
     match place.open()? {
-        Some(file) => Ok(Held::Locked(LockedFile::lock(file)?)),
+        Some(file) => Ok(Held::Locked(LockedFile::lock(place, file)?)),
         None => Ok(Held::Absent),
     }
 }
@@ -132,7 +132,7 @@ impl<P: Place> PlacedFile<P, P::File> {
 /// A place at which nothing stands is a disk without bytes, which can be read and synced.
 ///
 /// A disk that is to be written has the lock of its file from before the first call until it is let go.
-/// Where the lock is not to be had each call fails. Where nothing stands yet the first write makes the
+/// Where the lock is not to be had, or the place has another file by then, each call fails. Where nothing stands yet the first write makes the
 /// file, and fails where another made it meanwhile or a link leads nowhere. A file that can only be read
 /// fails at each write.
 #[derive(Drop)]

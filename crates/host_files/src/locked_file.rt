@@ -14,11 +14,23 @@ pub(crate) struct LockedFile<F: OffsetFile> {
     ghost held: { F.is_locked file ≡ true },
 }
 
+/// Whether a place has this file.
+fn stands_at<P: Place>(place: &P, id: FileId) -> io::Result<bool> {
+    match place.open_to_read()? {
+        Some(mut found) => Ok(found.id()? == id),
+        None => Ok(false),
+    }
+}
+
 impl<F: OffsetFile> LockedFile<F> {
-    /// Takes the lock of a file that was opened, without waiting for it.
-    pub(crate) fn lock(mut file: F) -> io::Result<Self> {
+    /// Takes the lock of a file that was opened at a place, without waiting for it. Fails where the place
+    /// has another file once the lock is held: what is written to one that lost its name is lost with it.
+    pub(crate) fn lock<P: Place<File = F>>(place: &P, mut file: F) -> io::Result<Self> {
         let id = file.id()?;
         file.take_lock()?;
+        if !stands_at(place, id)? {
+            return Err(ErrorKind::WouldBlock.into());
+        }
         Ok(LockedFile { file, id })
     }
 
@@ -26,7 +38,7 @@ impl<F: OffsetFile> LockedFile<F> {
     pub(crate) fn make<P: Place<File = F>>(place: &P) -> io::Result<Self>
         ensures { IfOk result (λ made. IfSome (F.content made.file) (λ bytes. bytes ≡ [])) }
     {
-        let mut made = LockedFile::lock(place.make()?)?;
+        let mut made = LockedFile::lock(place, place.make()?)?;
         if made.len()? > 0 {
             return Err(ErrorKind::AlreadyExists.into());
         }
