@@ -62,6 +62,10 @@ pub record IsPage (p : Pages) (bytes : List ℕ) (rows : List Row) : Type 0 wher
 abbrev pub after : Pages → List Row → Pages
 after p rows = record p { row = p.row + page_rows p; variable = p.variable + variable_count rows }
 
+-- what is left behind a page that has so many variables
+abbrev pub passed : Pages → ℕ → Pages
+passed p count = record p { row = p.row + page_rows p; variable = p.variable + count }
+
 -- where a reader of pages may stand
 pub record ArePages (p : Pages) : Type 0 where
   pub start : p.start < 2 ^ 40

@@ -5,7 +5,7 @@ ghost use Rattle.std.specs.List.{flat_map};
 ghost use Rattle.record_format.specs.Lists.{four_bytes};
 ghost use Rattle.column_store.specs.declared.row.Row.{Row};
 ghost use Rattle.segment_format.specs.Layout.{IsHead};
-ghost use Rattle.segment_format.specs.Pages.{first_page, HasPages, page_rows, pieces, FitsPage, IsPage, after};
+ghost use Rattle.segment_format.specs.Pages.{first_page, HasPages, page_rows, pieces, FitsPage, IsPage, after, passed};
 
 use crate::ask::PageAsk;
 use crate::columns::{ROW_LEN, WORD_LEN, columns_in};
@@ -195,6 +195,27 @@ impl PageReader {
         self.row += rows;
         self.variable += words;
         Ok(page)
+    }
+
+    /// Passes the next page by its counts, and tells how many rows it has. None exactly where they say more
+    /// variables than are left, or this is the last page and they are not all of them: then it changes
+    /// nothing.
+    pub fn pass_page(&mut self, counts: &[u8]) -> Option<u32>
+        requires left { self.old.row < self.old.rows }
+        requires counts { length counts.now ≡ 4 * page_rows self.old }
+        ensures rows { IfSome result (λ n. n ≡ page_rows self.old) }
+        ensures some { IfSome result (λ _. (ns : List ℕ) × All (λ k. k < 2 ^ 32) ns
+            × (counts.now ≡ flat_map four_bytes ns) × FitsPage self.old (sum ns)
+            × (self.new ≡ passed self.old (sum ns))) }
+        ensures none { IsNone result → (ns : List ℕ) → All (λ k. k < 2 ^ 32) ns
+            → counts.now ≡ flat_map four_bytes ns → FitsPage self.old (sum ns) → ⊥ }
+        ensures kept { IsNone result → self.new ≡ self.old }
+    {
+        let words = self.words_by(counts)?;
+        let rows = self.page_rows();
+        self.row += rows;
+        self.variable += words;
+        Some(rows)
     }
 
     /// How many variables the next page has, which has so many rows and these bytes.

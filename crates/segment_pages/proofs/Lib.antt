@@ -2,3 +2,4 @@ pub mod ReadLemmas
 pub mod PageLemmas
 pub mod StandLemmas
 pub mod ColumnLemmas
+pub mod PassLemmas

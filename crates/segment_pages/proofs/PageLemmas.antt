@@ -102,7 +102,7 @@ pub has_next : (p : Paged) (bytes : List ℕ) (all : List Row) → Goes p → Ho
 has_next p bytes all goes holds = next_in p bytes all holds.payload holds.stands holds.left goes holds.sized holds.holds holds.are
 
 -- the counts that stand there are those of the page
-counts_once : (p : Paged) (bytes : List ℕ) (all : List Row) (ns : List ℕ) → Goes p → (next : HasNext p bytes all) → All (λ k. k < 2 ^ 32) ns
+pub counts_once : (p : Paged) (bytes : List ℕ) (all : List Row) (ns : List ℕ) → Goes p → (next : HasNext p bytes all) → All (λ k. k < 2 ^ 32) ns
     → piece (pieces p.pages).counts (4 * page_rows p.pages) (drop p.at bytes) ≡ flat_map four_bytes ns → sum ns ≡ variable_count next.page
 counts_once p bytes all ns goes next fit spelled =
     let small : variable_count next.page < 2 ^ 32 = omega (arith, next.is.fits.most, goes.few) in

@@ -48,7 +48,7 @@ reads_on at n old mid new one two = record {
 }
 
 -- bytes behind a place, by their place in the payload
-piece_is : (at x n m : ℕ) (bytes : List ℕ) → n ≡ m → take n (drop (at + x) bytes) ≡ piece x m (drop at bytes)
+pub piece_is : (at x n m : ℕ) (bytes : List ℕ) → n ≡ m → take n (drop (at + x) bytes) ≡ piece x m (drop at bytes)
 piece_is at x n m bytes same = ap (λ (k : ℕ). take k (drop (at + x) bytes)) same ∙ ap (take m) (sym (drop-drop x at bytes))
 
 pub reads_wider : (at n : ℕ) (old new : DiskState) → OnlyReadsIn at n old new → (from size : ℕ) → from ≤ at → at + n ≤ from + size → OnlyReadsIn from size old new

@@ -6,7 +6,7 @@ use Rattle.column_store.specs.declared.row.Row.{Row}
 use Rattle.segment_format.specs.declared.head.Head.{Head}
 use Rattle.segment_format.specs.Layout.{IsHead}
 use Rattle.segment_format.specs.Spelled.{HoldsRows}
-use Rattle.segment_format.specs.Pages.{Pages, after, first_page}
+use Rattle.segment_format.specs.Pages.{Pages, after, first_page, passed}
 use Rattle.segment_format.specs.Laws.{HoldsPages}
 use Rattle.segment_pages.specs.Reads.{OnlyReadsIn}
 
@@ -25,6 +25,10 @@ paged_first at head = paged at (first_page head)
 -- behind a page of these rows
 abbrev pub paged_after : Paged → List Row → Paged
 paged_after p rows = paged p.at (after p.pages rows)
+
+-- behind a page that has so many variables
+abbrev pub paged_passed : Paged → ℕ → Paged
+paged_passed p count = paged p.at (passed p.pages count)
 
 -- behind all rows of the segment
 abbrev pub ended : Pages → Pages
@@ -75,6 +79,15 @@ AreNext old new rows bytes =
 abbrev pub AreNextTold : Option (List ℕ) → Paged → Paged → List Row → Type 0
 AreNextTold None old new rows = Unit {0}
 AreNextTold (Some bytes) old new rows = AreNext old new rows bytes
+
+-- whatever rows the bytes hold, from the later page on they hold those behind the first ones
+abbrev pub AreBehind : Paged → Paged → ℕ → List ℕ → Type 0
+AreBehind old new count bytes = (all : List Row) → HoldsLeft old bytes all → HoldsLeft new bytes (drop count all)
+
+-- the same of the bytes of a disk, where they are told
+abbrev pub AreBehindTold : Option (List ℕ) → Paged → Paged → ℕ → Type 0
+AreBehindTold None old new count = Unit {0}
+AreBehindTold (Some bytes) old new count = AreBehind old new count bytes
 
 -- the bytes hold no rows, where they are told
 abbrev pub HoldsNoneTold : Option (List ℕ) → Paged → Type 0

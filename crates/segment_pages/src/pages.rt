@@ -3,7 +3,7 @@ ghost use Rattle.std.specs.Prelude.{◌≡◌, ◌≤◌, ◌<◌, ◌+◌, ◌-
 ghost use Rattle.log_seams.specs.Outside.{CountsOf};
 ghost use Rattle.column_store.specs.declared.row.Row.{Row};
 ghost use Rattle.segment_format.specs.Pages.{page_rows};
-ghost use Rattle.segment_pages.specs.Paged.{AreNextTold, HoldsLeft, HoldsNoneTold, HoldsSegment, OfRows, ReadsColumns, moments_in, paged_after, paged_end, paged_first, part, patterns_in, types_in};
+ghost use Rattle.segment_pages.specs.Paged.{AreBehindTold, AreNextTold, HoldsLeft, HoldsNoneTold, HoldsSegment, OfRows, ReadsColumns, moments_in, paged_after, paged_end, paged_first, paged_passed, part, patterns_in, types_in};
 
 use crate::columns::{ask_of, fill_moments, fill_numbers, read_part, rows_behind};
 use crate::heads::is_head;
@@ -120,6 +120,61 @@ impl SegmentPages {
         let page = self.pages.fill_page(columns, bytes)?;
         Ok(page)
     }
+
+    /// How many rows the next page has.
+    pub fn page_rows(&self) -> u32
+        requires { self.now.pages.row < self.now.pages.rows }
+        ensures is { result ≡ page_rows self.now.pages }
+        ensures some { 0 < result }
+        ensures within { result ≤ self.now.pages.rows - self.now.pages.row }
+    {
+        let Some(ask) = ask_of(self.passed, &self.pages) else {
+            unreachable!();
+        };
+        ask.rows
+    }
+
+    /// Passes the next page by its counts, which one read fetches, and answers how many rows it has. The
+    /// buffer holds the counts meanwhile. Of its other columns no byte is read.
+    ///
+    /// # Errors
+    ///
+    /// Those of `next_page`.
+    pub fn pass_page<D: Disk>(
+        &mut self,
+        disk: &mut D,
+        buffer: &mut Vec<u8>,
+    ) -> Result<u32, PageRefusal>
+        requires { self.old.pages.row < self.old.pages.rows }
+
+        // what stays
+        ensures reads { ReadsColumns self.old (D.state disk.old) (D.state disk.new) }
+        ensures kept { OnErr result (self.new ≡ self.old) }
+
+        // by the answer
+        ensures behind { IfOk result (λ n.
+            AreBehindTold (D.state disk.old).seen self.old self.new n) }
+        ensures after { IfOk result (λ _. (v : ℕ) × (self.new ≡ paged_passed self.old v)) }
+        ensures count { IfOk result (λ n. n ≡ page_rows self.old.pages) }
+
+        // causes
+        ensures damaged { IsErrOf result PageRefusal.Damaged
+            → HoldsNoneTold (D.state disk.old).seen self.old }
+        ensures counts { CountsOf PageRefusal.DiskFault
+            (D.state disk.old).faults (D.state disk.new).faults result }
+    {
+        let Some(ask) = ask_of(self.passed, &self.pages) else {
+            unreachable!();
+        };
+        let size = 4 * ask.rows as usize;
+        read_part(disk, self.at + ask.counts, size, buffer)?;
+        let (counts, _) = buffer.as_slice().split_at(size);
+        let Some(rows) = self.pages.pass_page(counts) else {
+            return Err(PageRefusal::Damaged);
+        };
+        Ok(rows)
+    }
+
     /// How many rows are left.
     pub fn rows_left(&self) -> u32
         ensures { result ≡ self.now.pages.rows - self.now.pages.row }
