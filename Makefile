@@ -41,7 +41,7 @@ install:
 	chmod 644 $(SHARE)/doc/clpa/README.md
 	install -m 644 CHANGELOG.md CONTRIBUTING.md VERSION $(SHARE)/doc/clpa
 	install -m 644 $(filter-out docs/INSTALLED.md,$(wildcard docs/*.md)) $(SHARE)/doc/clpa/docs
-	install -m 644 benchmarks/README.md $(SHARE)/doc/clpa/benchmarks
+	install -m 644 benchmarks/README.md benchmarks/LEVERS.md benchmarks/ratios.svg $(SHARE)/doc/clpa/benchmarks
 	install -m 644 crates/clpa/data/service.log $(SHARE)/doc/clpa/examples
 	for file in logrotate/service systemd/clpa-archive.service systemd/clpa-archive.timer; do \
 	    install -d $(SHARE)/doc/clpa/examples/$${file%/*} && \

@@ -25,6 +25,8 @@ TEXTS = {
     "daemon": ("612", "reload", "reloaded", "started*network", None),
 }
 TEXTS["stamped"] = TEXTS["service"]
+# A number that few lines have, open on both sides.
+NUMBER = "0.335"
 # A word in one line, with what stands beside it, in segments of 65,536 messages and in short ones.
 WHOLE, SHORT = "whole word, closed on both sides, in one segment", 4096
 
@@ -197,10 +199,11 @@ def main():
         for kind, behind in (("one", ""), ("short", f" of {SHORT:,} messages")):
             failed = searched(bench, f"word in one segment{behind}", single(path, form), kind) or failed
             failed = searched(bench, f"{WHOLE}{behind}", closed(path, form), kind) or failed
-    for name, pattern, counting in (("rare word", rare, True), ("part of a word", part, True), ("common word", common, False), ("wildcard", wild, False)):
+    for name, pattern, counting in (
+        ("rare word", rare, True), ("number", NUMBER, True), ("part of a word", part, True), ("common word", common, False), ("wildcard", wild, False)):
         failed = searched(bench, name, pattern, counting=counting) or failed
     grep = Command("grep -aFc", None, ["grep", "-aFc", common, path])
-    commands = [*bench.each("clpa search --from --to", lambda it: ["search", *minute(it), ""]), grep]
+    commands = [*bench.each("clpa search --from --to", lambda it: ["search", *minute(it), ""]), grep, *others([common], path, bench.packed, True)]
     failed = table("one minute", commands, grep.name, bench.rounds, bench.size())[0] or failed
     failed = counted(bench, common, rare) or failed
     failed = whole_archives(bench) or failed
