@@ -13,6 +13,7 @@ pub mod ReadyLemmas
 pub mod SegmentLemmas
 pub mod JournalLemmas
 pub mod PageLemmas
+pub mod PassLemmas
 pub mod RunLemmas
 pub mod FrontLemmas
 pub mod SearchedLemmas

@@ -24,6 +24,10 @@ IsDecided n q row Certain = Holds q.range row.pattern row.moment
     × ((message : List ℕ) → IsSpelling row n.types n.words message → Match (wide q.pattern) message)
 IsDecided n q row Tried = Holds q.range row.pattern row.moment
 
+-- no message of a row of this log type is expanded, whatever else the row has
+abbrev pub IsRuledOut : Named → Asked → ℕ → Type 0
+IsRuledOut n q t = (row : Row) → row.log_type ≡ t → IsDecided n q row Rejected
+
 -- what is told of each row of a page is right, where the words stand on the disk
 abbrev pub AreDecided : Named → Asked → List Row → List Verdict → Type 0
 AreDecided n q rows verdicts = AllZip (λ row v. IsTold n → IsDecided n q row v) rows verdicts

@@ -1,14 +1,14 @@
 -- What a walk over pages and segments has done. What took the pages tells of the messages that it got past by a word on them,
 -- and by another of those among which it stopped.
-use Rattle.std.specs.Prelude.{◌≡◌, ◌<◌, ◌≤◌, ◌+◌, ℕ, List, ◌++◌, length, Option, Some, None}
+use Rattle.std.specs.Prelude.{◌≡◌, ◌<◌, ◌≤◌, ◌+◌, ℕ, List, [], ◌++◌, length, Option, Some, None}
 use Rattle.column_store.specs.declared.row.Row.{Row}
 use Rattle.segment_format.specs.Pages.{page_rows}
 use Rattle.segment_pages.specs.Paged.{HoldsLeft, Paged, paged_after}
 use Rattle.archive_open.specs.declared.files.FileEntry.{FileEntry}
 use Rattle.archive_open.specs.declared.segments.SegmentPlace.{SegmentPlace}
 use Rattle.archive_places.specs.declared.front.SegmentFront.{SegmentFront}
-use Rattle.printed_lines.specs.Lines.{Placed, numbered}
-use Rattle.search_walk.specs.Scan.{Asked}
+use Rattle.printed_lines.specs.Lines.{Picks, Placed, numbered}
+use Rattle.search_walk.specs.Scan.{Asked, IsFound, IsTried}
 use Rattle.search_walk.specs.Held.{AreRowsOf, Named, OfSegments}
 use Rattle.search_walk.specs.Opened.{AreOpened, OfFronts}
 
@@ -46,6 +46,18 @@ PastTold Reaches None start n name number now count = Unit {0}
 PastTold Reaches (Some bytes) start n name number now count =
     (rows : List Row) (messages : List (List ℕ)) → HoldsLeft start bytes rows → AreRowsOf n rows messages
     → Past Reaches bytes n name number now count messages
+
+-- ---- pages that nobody takes
+
+-- of these messages none is found, and none is expanded
+abbrev pub AreOver : Named → Asked → List Placed → Type 0
+AreOver n q all = Picks (λ p. IsFound n.version q p.message) all [] × Picks (λ p. IsTried n.version q p.message) all []
+
+-- nothing was passed, or a page of so many rows, with no message that is found or expanded
+abbrev pub WentOver : Option (List ℕ) → Paged → Named → Asked → Paged → Option ℕ → Type 0
+WentOver seen old n q new None = new ≡ old
+WentOver seen old n q new (Some count) = PagesGone old new count
+    × ((name : List ℕ) (number : ℕ) → PastTold (AreOver n q) seen old n name number new count)
 
 -- ---- segments
 

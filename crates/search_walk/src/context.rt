@@ -1,5 +1,5 @@
 //! What each call of a search lends on to the next.
-ghost use Rattle.std.specs.Prelude.{◌≡◌, ◌⊎◌, ◌∷◌, ◌↔◌, [], ℕ, List, Option, IfSome, IsFalse, IsNone, IsTrue};
+ghost use Rattle.std.specs.Prelude.{◌≡◌, ◌⊎◌, ◌∷◌, ◌↔◌, [], ℕ, List, All, Option, IfSome, IsFalse, IsNone, IsTrue};
 ghost use Rattle.plain_list.specs.Texts.{AreDistinct};
 ghost use Rattle.column_store.specs.Row.{row_of};
 ghost use Rattle.row_codec.specs.Laid.{AreCut};
@@ -11,7 +11,7 @@ ghost use Rattle.barren_segments.specs.Barren.{IsBounded, LeavesOut};
 ghost use Rattle.subquery_filter.specs.Filter.{HasNoMatch};
 ghost use Rattle.search_walk.specs.Held.{IsTold, Named, named};
 ghost use Rattle.search_walk.specs.Opened.{IsBarrenFor, IsOpened, NoneTold};
-ghost use Rattle.search_walk.specs.Ready.{IsDecided};
+ghost use Rattle.search_walk.specs.Ready.{IsDecided, IsRuledOut};
 ghost use Rattle.search_walk.specs.StepsScope.{IsScope, scope};
 
 use crate::opening::open_segment;
@@ -148,6 +148,15 @@ impl<'q, D: Disk> Context<'q, D> {
             self.now.names.types self.now.names.words segment.now.head }
     {
         self.filter.may_match(&segment.head)
+    }
+
+    /// Whether these log types tell that no message of a row that has one of them is expanded, whatever
+    /// else the row has.
+    pub fn rules_out(&self, types: &[u32]) -> bool
+        ensures { IsTrue result → IsTold self.now.names
+            → All (IsRuledOut self.now.names self.now.query) types.now }
+    {
+        self.filter.rejects_all(types)
     }
 
     /// What is told of a row by its moment, and by its numbers alone. One that is out of the range counts

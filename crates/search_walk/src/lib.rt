@@ -7,6 +7,7 @@ mod deciding;
 mod label;
 mod opening;
 mod paging;
+mod passing;
 mod query;
 mod refusal;
 mod segments;

@@ -7,13 +7,15 @@ ghost use Rattle.printed_lines.specs.Lines.{numbered};
 
 use crate::context::Context;
 use crate::label::Label;
+use crate::passing::{TypeRoom, take_next};
 use crate::refusal::SearchRefusal;
 use crate::taking::TakesPages;
 use log_seams::Disk;
 use segment_pages::SegmentPages;
 use word_places::HeldWords;
 
-/// Reads the pages of a segment, whose first message has this label.
+/// Goes over the pages of a segment, whose first message has this label: those that their log types rule
+/// out are passed, and the others are taken.
 pub(crate) fn read_pages<D: Disk, W: TakesPages>(
     context: &Context<'_, D>,
     held: &mut HeldWords,
@@ -21,6 +23,7 @@ pub(crate) fn read_pages<D: Disk, W: TakesPages>(
     pages: SegmentPages,
     disk: &mut D,
     work: &mut W,
+    room: &mut TypeRoom,
 ) -> Result<(), SearchRefusal>
     requires first { pages.pages.row ≡ 0 }
     requires small { label.number + pages.pages.rows + 4096 < 2 ^ 64 }
@@ -57,7 +60,7 @@ pub(crate) fn read_pages<D: Disk, W: TakesPages>(
             name: label.name,
             number: at,
         };
-        let rows = work.take_page(context, held, here, &mut pages, disk)?;
+        let rows = take_next(context, held, here, &mut pages, disk, work, room)?;
         at += u64::from(rows);
     }
     Ok(())

@@ -11,6 +11,7 @@ ghost use Rattle.search_walk.specs.Walked.{SearchedFronts, SearchedTold, Stopped
 use crate::context::Context;
 use crate::label::Label;
 use crate::paging::read_pages;
+use crate::passing::TypeRoom;
 use crate::refusal::SearchRefusal;
 use crate::taking::TakesPages;
 use archive_open::SegmentPlace;
@@ -31,6 +32,7 @@ fn search_segment<D: Disk, W: TakesPages, L: Ledger>(
     segment: &SegmentPlace,
     disk: &mut D,
     work: &mut W,
+    room: &mut TypeRoom,
     opened: &mut Steps<L>,
 ) -> Result<bool, SearchRefusal>
     requires served { W.served work.old context.now held.old }
@@ -79,7 +81,7 @@ fn search_segment<D: Disk, W: TakesPages, L: Ledger>(
     let name = file.name.as_slice();
     let number = segment.head.first + 1;
     let label = Label { name, number };
-    read_pages(context, held, label, pages, disk, work)?;
+    read_pages(context, held, label, pages, disk, work, room)?;
     Ok(true)
 }
 
@@ -119,6 +121,7 @@ fn visit_segment<D: Disk, W: TakesPages, L: Ledger>(
     front: &SegmentFront,
     disk: &mut D,
     work: &mut W,
+    room: &mut TypeRoom,
     opened: &mut Steps<L>,
 ) -> Result<bool, SearchRefusal>
     requires served { W.served work.old context.now held.old }
@@ -166,7 +169,7 @@ fn visit_segment<D: Disk, W: TakesPages, L: Ledger>(
             return Err(refusal);
         }
     };
-    search_segment(context, held, &segment, disk, work, opened)
+    search_segment(context, held, &segment, disk, work, room, opened)
 }
 
 /// The front at a place.
@@ -215,10 +218,11 @@ pub fn visit_segments<D: Disk, W: TakesPages, L: Ledger>(
     ensures sink_counts { CountsOf SearchRefusal.SinkFault
         (W.sink_faults work.old) (W.sink_faults work.new) result }
 {
+    let mut room = TypeRoom::new(alloc);
     let mut count = 0;
     for place in 0..fronts.len() {
         let front = front_at(fronts, place);
-        let yes = visit_segment(alloc, context, held, front, disk, work, opened)?;
+        let yes = visit_segment(alloc, context, held, front, disk, work, &mut room, opened)?;
         count += u64::from(yes);
     }
     Ok(count)

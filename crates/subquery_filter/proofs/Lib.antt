@@ -6,6 +6,7 @@ mod VerdictLemmas
 mod TokenLemmas
 mod StoredLemmas
 mod FilterLemmas
+mod RejectLemmas
 mod NumberLemmas
 mod DecimalLemmas
 mod SlotLemmas

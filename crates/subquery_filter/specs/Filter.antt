@@ -223,6 +223,10 @@ IsRowVerdict ps types words row Rejected = (version : ℕ) (message : List ℕ) 
 IsRowVerdict ps types words row Certain = (message : List ℕ) → IsSpelling row types words message → Match (flat ps) message
 IsRowVerdict ps types words row Tried = Unit {0}
 
+-- the pattern matches no message of a row of this log type, whatever else the row has
+abbrev pub RejectsType : List Piece → List (List ℕ) → List (List ℕ) → ℕ → Type 0
+RejectsType ps types words t = (row : Row) → row.log_type ≡ t → IsRowVerdict ps types words row Rejected
+
 -- a stamp has one of the moments of a segment with this head
 abbrev pub IsWithin : Head → ℤ → Type 0
 IsWithin head moment = (head.stamped ≡ true) × (head.least ≤ℤ moment) × (moment ≤ℤ head.greatest)

@@ -414,7 +414,7 @@ impl Filter {
 
     /// What is told of all rows of a log type.
     #[inline]
-    fn verdict_at(&self, number: u32) -> Option<Verdict>
+    pub(crate) fn verdict_at(&self, number: u32) -> Option<Verdict>
         ensures { result ≡ slice_get self.now.verdicts.items number }
     {
         self.verdicts.get(number as usize).copied()

@@ -16,6 +16,7 @@ mod marks;
 mod needles;
 mod number_text;
 mod numbers;
+mod rejecting;
 mod rules;
 mod runs;
 mod shared;

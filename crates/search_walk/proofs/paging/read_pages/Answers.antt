@@ -13,7 +13,7 @@ loop-pages-init g c =
     (pages_first (g.W.TakesPages.reaches w w n q) (g.D.Disk.state c.args.disk.now) c.args.pages n c.args.label.name.now c.args.label.number (g.met.W.TakesPages.passes_over w n q [] refl refl) c.requires.first, refl, refl, c.requires.served)
 
 pub returns-in_err-rows-clause-reads : goal.returns-in_err-rows-clause-reads
-returns-in_err-rows-clause-reads g c = pages_reads _ _ _ _ _ c.args.pages c.loop-pages.pages _ c.args.label.name.now c.args.label.number c.loop-pages.at c.loop-pages.invariant.0 c.take_page.ensures.reads
+returns-in_err-rows-clause-reads g c = pages_reads _ _ _ _ _ c.args.pages c.loop-pages.pages _ c.args.label.name.now c.args.label.number c.loop-pages.at c.loop-pages.invariant.0 c.take_next.ensures.reads
 
 pub returns-in_err-rows-clause-stopped : goal.returns-in_err-rows-clause-stopped
 returns-in_err-rows-clause-stopped g c =
@@ -21,7 +21,7 @@ returns-in_err-rows-clause-stopped g c =
     let q = c.args.context.now.query in
     let a = c.args.work.now in
     let b = c.loop-pages.work in
-    let d = c.take_page.new.self in
+    let d = c.take_next.new.work in
     on_err c.from_residual.result _
     (past_stops (g.W.TakesPages.reaches a b n q) (g.W.TakesPages.halts b d n q) (g.W.TakesPages.halts a d n q) _ _ c.args.pages c.loop-pages.pages n c.args.label.name.now c.args.label.number c.loop-pages.at c.loop-pages.pages.pages.row
     (λ xs ys f h. g.met.W.TakesPages.stops_behind a b d n q xs ys f h)
@@ -33,10 +33,10 @@ loop-pages-preserved g c =
     let q = c.args.context.now.query in
     let a = c.args.work.now in
     let b = c.loop-pages.work in
-    let d = c.take_page.new.self in (
-      pages_next (g.W.TakesPages.reaches a b n q) (g.W.TakesPages.reaches b d n q) (g.W.TakesPages.reaches a d n q) _ (g.D.Disk.state c.loop-pages.disk) (g.D.Disk.state c.take_page.new.disk) c.args.pages c.loop-pages.pages c.take_page.new.pages n
+    let d = c.take_next.new.work in (
+      pages_next (g.W.TakesPages.reaches a b n q) (g.W.TakesPages.reaches b d n q) (g.W.TakesPages.reaches a d n q) _ (g.D.Disk.state c.loop-pages.disk) (g.D.Disk.state c.take_next.new.disk) c.args.pages c.loop-pages.pages c.take_next.new.pages n
           c.args.label.name.now c.args.label.number c.loop-pages.at _ c.in_ok-rows.rows (λ xs ys f r. g.met.W.TakesPages.goes_on a b d n q xs ys f r)
-          c.loop-pages.invariant.0 c.take_page.ensures.reads (search rules) c.in_ok-rows.ensures.gone (search rules) c.in_ok-rows.ensures.done,
+          c.loop-pages.invariant.0 c.take_next.ensures.reads (search rules) c.in_ok-rows.ensures.gone (search rules) c.in_ok-rows.ensures.done,
       search rules,
       search rules,
       search rules,
@@ -56,7 +56,7 @@ returns-in_err-rows-clause-damaged g c = λ is stands.
     past_damaged (g.W.TakesPages.reaches a b n q) (g.W.TakesPages.stands b n) _ _ c.args.pages c.loop-pages.pages n c.args.label.name.now c.args.label.number c.loop-pages.pages.pages.row (λ xs f. g.met.W.TakesPages.stands_on a b n q xs f stands)
     c.loop-pages.invariant.0.reads.rests.seen c.loop-pages.invariant.0.past (c.in_err-rows.ensures.damaged (search rules))
 
-pub take_page-requires-clause-left : goal.take_page-requires-clause-left
-take_page-requires-clause-left g c =
+pub take_next-requires-clause-left : goal.take_next-requires-clause-left
+take_next-requires-clause-left g c =
     let page : c.loop-pages.pages.pages.row < c.loop-pages.pages.pages.rows = search rules in
     record { page = page; fits = omega (arith, page, c.loop-pages.invariant.0.place, c.loop-pages.invariant.0.same.2, c.requires.small) }

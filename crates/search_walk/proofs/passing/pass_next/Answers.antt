@@ -1,0 +1,11 @@
+use Rattle.search_walk.proofs.PagesReadLemmas.{columns_such}
+use Rattle.search_walk.proofs.passing.pass_next.Goals as goal
+
+pub returns-in-Ok-clause-reads : goal.returns-in-Ok-clause-reads
+returns-in-Ok-clause-reads g c = columns_such c.args.context.now.names c.args.pages.now (g.D.Disk.state c.args.disk.now) (g.D.Disk.state c.pass_page.new.disk) c.pass_page.ensures.reads
+
+pub returns-in-Err-DiskFault-clause-reads : goal.returns-in-Err-DiskFault-clause-reads
+returns-in-Err-DiskFault-clause-reads g c = columns_such c.args.context.now.names c.args.pages.now (g.D.Disk.state c.args.disk.now) (g.D.Disk.state c.pass_page.new.disk) c.pass_page.ensures.reads
+
+pub returns-in-Err-clause-reads : goal.returns-in-Err-clause-reads
+returns-in-Err-clause-reads g c = columns_such c.args.context.now.names c.args.pages.now (g.D.Disk.state c.args.disk.now) (g.D.Disk.state c.pass_page.new.disk) c.pass_page.ensures.reads
