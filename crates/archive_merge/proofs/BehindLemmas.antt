@@ -407,26 +407,25 @@ module _ {M E D : Type 0} {N : NamesGhosts M} {H : DiskGhosts E} {d : DiskGhosts
             to_end : (s : Stopped) → f.after.stop ≡ Some s → w'.stop ≡ Some s
             to_end s is = goes.stop_is (λ no. absurd (cc (no, is))) ∙ is
 
-            module _ (ran : f.before.stop ≡ None) where
-              done_here : (o : Option Stopped) → f.after.stop ≡ o → IsDone w'.stop job.file → is_none f.after.stop ≡ true
-              done_here None is done = ap is_none is
-              done_here (Some s) is done =
-                  let before_it : job.file < s.file = subst (λ o. IsDone o job.file) (to_end s is) done in
-                  let same = ((f.did_it.moved ran).stopped s is).file in
-                  absurd (omega (arith, before_it, same))
+            done_here : f.before.stop ≡ None → (o : Option Stopped) → f.after.stop ≡ o → IsDone w'.stop job.file → is_none f.after.stop ≡ true
+            done_here ran None is done = ap is_none is
+            done_here ran (Some s) is done =
+                let before_it : job.file < s.file = subst (λ o. IsDone o job.file) (to_end s is) done in
+                let same = ((f.did_it.moved ran).stopped s is).file in
+                absurd (omega (arith, before_it, same))
 
-              not_here : (o : Option Stopped) → f.after.stop ≡ o → (why : Stopped) → w'.stop ≡ Some why → why.file ≤ job.file → is_none f.after.stop ≡ false
-              not_here None is why some le = let later = high why (goes.stopped_by is why some) in absurd (omega (arith, later, le))
-              not_here (Some s) is why some le = ap is_none is
+            not_here : f.before.stop ≡ None → (o : Option Stopped) → f.after.stop ≡ o → (why : Stopped) → w'.stop ≡ Some why → why.file ≤ job.file → is_none f.after.stop ≡ false
+            not_here ran None is why some le = let later = high why (goes.stopped_by is why some) in absurd (omega (arith, later, le))
+            not_here ran (Some s) is why some le = ap is_none is
 
-              none_here : (o : Option Stopped) → f.after.stop ≡ o → (why : Stopped) → w'.stop ≡ Some why → why.file < job.file → ⊥
-              none_here None is why some lt = let later = high why (goes.stopped_by is why some) in omega (arith, later, lt)
-              none_here (Some s) is why some lt =
-                  let end = to_end s is in
-                  let one : s ≡ why = cc (end, some) in
-                  let same = ((f.did_it.moved ran).stopped s is).file in
-                  let file = ap (λ (x : Stopped). x.file) one in
-                  omega (arith, lt, same, file)
+            none_here : f.before.stop ≡ None → (o : Option Stopped) → f.after.stop ≡ o → (why : Stopped) → w'.stop ≡ Some why → why.file < job.file → ⊥
+            none_here ran None is why some lt = let later = high why (goes.stopped_by is why some) in omega (arith, later, lt)
+            none_here ran (Some s) is why some lt =
+                let end = to_end s is in
+                let one : s ≡ why = cc (end, some) in
+                let same = ((f.did_it.moved ran).stopped s is).file in
+                let file = ap (λ (x : Stopped). x.file) one in
+                omega (arith, lt, same, file)
 
             by_stop : (s : Option Stopped) → f.before.stop ≡ s → IsMovedFile (view_of types words version state_second w) first w'.stop before (journal_seen (list_behind d.state (opened before types_reader words_reader t u) store)) job f.job
             by_stop None is = let moved = f.did_it.moved is in
