@@ -405,15 +405,15 @@ module _ {D : Type 0} {d : DiskGhosts D} (lawful : (x : D) → IsLawful (d.state
         -- how many are done, by what was stopped
         few_done : (o : Option Stopped) (i number : ℕ) → number ≡ first + i → i < done_by first (length files') (refusal_by o) → IsDone o number
         few_done None i number is few = tt
-        few_done (Some why) i number is few = omega (arith, is, few)
+        few_done (Some why) i number is few = let low : i < why.file - first = few in let before_it : number < why.file = omega (arith, is, low) in before_it
 
         many_done : (o : Option Stopped) (i : ℕ) → i < length files' → done_by first (length files') (refusal_by o) ≤ i → (why : Stopped) × (o ≡ Some why) × (why.file ≤ first + i)
-        many_done None i within many = absurd (omega (arith, within, many))
-        many_done (Some why) i within many = (why, refl, omega (arith, many))
+        many_done None i within many = let all : length files' ≤ i = many in absurd (omega (arith, within, all))
+        many_done (Some why) i within many = let le : why.file - first ≤ i = many in (why, refl, omega (arith, le))
 
         behind_done : (o : Option Stopped) (i : ℕ) → i < length files' → done_by first (length files') (refusal_by o) < i → (why : Stopped) × (o ≡ Some why) × (why.file < first + i)
-        behind_done None i within many = absurd (omega (arith, within, many))
-        behind_done (Some why) i within many = (why, refl, omega (arith, many))
+        behind_done None i within many = let all : length files' < i = many in absurd (omega (arith, within, all))
+        behind_done (Some why) i within many = let lt : why.file - first < i = many in (why, refl, omega (arith, lt))
 
         merged_by : (i : ℕ) (new : Merged) → slice_get files' i ≡ Some new → IsMergedFile s i (done_by first (length files') (refusal_by stop)) (state_of before) (are.naming ++ fresh) new
         merged_by i new at =
