@@ -1,5 +1,5 @@
 -- What became of a file of the second archive.
-use Rattle.std.specs.Prelude.{◌≡◌, ◌&&◌, ℕ, Bool, true, false, List, [], length, Option, Some, All}
+use Rattle.std.specs.Prelude.{◌≡◌, ◌&&◌, ◌∷◌, ℕ, Bool, true, false, List, [], length, Option, Some, All}
 use Rattle.std.specs.List.{Contains, list_any, sum_by}
 use mathlib.Core.List.{IsPrefix}
 use Rattle.log_seams.specs.Disk.{DiskState}

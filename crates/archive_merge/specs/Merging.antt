@@ -1,5 +1,5 @@
 -- The files of a second archive behind those of a first: their names, and then what was moved of them.
-use Rattle.std.specs.Prelude.{◌≡◌, ◌≢◌, ◌+◌, ◌-◌, ◌<◌, ◌≤◌, ◌&&◌, ℕ, Bool, List, [], ◌++◌, length, take, is_some, Option, None, Some, slice_get, All}
+use Rattle.std.specs.Prelude.{◌≡◌, ◌≢◌, ◌+◌, ◌-◌, ◌<◌, ◌≤◌, ◌&&◌, ℕ, Bool, false, List, [], ◌++◌, length, take, is_some, Option, None, Some, slice_get, All}
 use Rattle.std.specs.Borrow.{MutBor}
 use Rattle.std.specs.List.{Contains, filter_map, list_any, sum_by}
 use mathlib.Core.List.{IsPrefix}

@@ -42,8 +42,8 @@ module _ (seen : Outside) (from to second second_new : DiskState) (status : ℕ)
     by_refusal added done (MergeRefusal.Damaged at) is met disk cause = absurd ((subst (λ t. IfSome t StandsForNone) told disk) h before stood)
     by_refusal added done (MergeRefusal.SecondDamaged at) is met disk cause = absurd ((subst (RefusedAt at) told_second disk).none g others there)
     by_refusal added done MergeRefusal.OutOfMemory is met disk cause = inr is
-    by_refusal added done (MergeRefusal.VersionDiffers one two) is met disk cause = absurd (cause.2 (cause.0 ∙ (sym may.version_is ∙ sym cause.1)))
-    by_refusal added done (MergeRefusal.TooManyFiles held more) is met disk cause = let few = may.few in let many = cause.3.1 in let a = cause.1 in let b = cause.2 in absurd (omega (arith, few, many, a, b))
+    by_refusal added done (MergeRefusal.VersionDiffers one two) is met disk (one_is, two_is, apart) = absurd (apart (one_is ∙ (sym may.version_is ∙ sym two_is)))
+    by_refusal added done (MergeRefusal.TooManyFiles held more) is met disk (version, a, b, same, many) = let few = may.few in absurd (omega (arith, few, many, a, b))
     by_refusal added done (MergeRefusal.ArchiveFull end need) is met disk cause = absurd met
     by_refusal added done (MergeRefusal.Full book count) is met disk cause = absurd met
     by_refusal added done (MergeRefusal.SegmentFull end need) is met disk cause = absurd met
