@@ -129,6 +129,15 @@ def entries_of(program, read):
     return ["\n".join(it) for it in found]
 
 
+def with_places(text, fields):
+    """The text with `%s` in place of each field."""
+    pieces, at = [], 0
+    for field in fields:
+        pieces.append(text[at : field.start()].replace("%", "%%"))
+        at = field.end()
+    return "%s".join([*pieces, text[at:].replace("%", "%%")])
+
+
 class Entry(NamedTuple):
     """A text with places, the values that stand there, and which of these are stamps."""
 
@@ -165,15 +174,6 @@ class Sample:
         for at in entry.stamps:
             self.values[at] = self.forms[at](now)
         return entry.text % entry.picked(self.values)
-
-
-def with_places(text, fields):
-    """The text with `%s` in place of each field."""
-    pieces, at = [], 0
-    for field in fields:
-        pieces.append(text[at : field.start()].replace("%", "%%"))
-        at = field.end()
-    return "%s".join([*pieces, text[at:].replace("%", "%%")])
 
 
 def entries(r, read):
