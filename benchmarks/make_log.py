@@ -9,10 +9,13 @@ thousand, and `heartbeat` in about one line of twenty. Of the shape `requests` e
 identifier of 32 digits that no other line has, so that words are many. Of the shape `daemon` a few
 dozen texts come again and again with small numbers in them, so that words are few. The shape `stamped` is
 `service` without the service whose stamps, those of a traditional syslog, the program does not read.
+The shapes `real` and `written` grow out of what real programs wrote (real/README.md).
 """
 import random
 import sys
 from datetime import datetime, timedelta
+
+from real.grow import real, written
 
 LEVELS = ["INFO"] * 16 + ["DEBUG"] * 6 + ["WARN"] * 2 + ["ERROR"]
 SERVICES = ["scheduler", "gateway", "billing", "indexer", "auth", "storage", "mailer", "metrics"]
@@ -108,7 +111,7 @@ def daemon(r):
             STAMPS[7](now), r.choice((1, 1, 1, 612, 733)), r.choice(texts), r.randrange(1, 5), 5, r.randrange(1, 400))
 
 
-SHAPES = {"service": lines_of, "stamped": stamped, "requests": requests, "daemon": daemon}
+SHAPES = {"service": lines_of, "stamped": stamped, "requests": requests, "daemon": daemon, "real": real, "written": written}
 
 
 def main():

@@ -23,8 +23,9 @@ TEXTS = {
     "service": ("quorum-lost", "task_1734", "heartbeat", "Task*SECONDS", rb"blk_\d{9,}"),
     "requests": ("user1234", "user199", "orders", "GET*orders", rb"[0-9a-f]{32}"),
     "daemon": ("612", "reload", "reloaded", "started*network", None),
+    "real": ("user421", "page-199", "UPDATE", "GET /api*HTTP", rb"(?<=[?]session=)[0-9a-f]{32}"),
 }
-TEXTS["stamped"] = TEXTS["service"]
+TEXTS["stamped"], TEXTS["written"] = TEXTS["service"], TEXTS["real"]
 # A number that few lines have, open on both sides.
 NUMBER = "0.335"
 # A word in one line, with what stands beside it, in segments of 65,536 messages and in short ones.

@@ -93,7 +93,7 @@ def main():
     rounds, folder, megabytes, seed, clpa = int(words[0]), words[1], int(words[2]), words[3], words[4]
     print("| shape | MB | version | zstd -3 / log | archive / log | dictionaries / log | ingest MB/s | peak MiB | decode MB/s | check s | files s | search s | peak MiB | whole word s | in short segments s |")
     print("| --- " * 15 + "|")
-    for shape in ("service", "stamped", "requests", "daemon"):
+    for shape in ("service", "stamped", "requests", "daemon", "real", "written"):
         for size in (megabytes // 10, megabytes):
             log = f"{folder}/clpa-{shape}-{size}-{seed}.log"
             packed = packed_log(log)
@@ -104,7 +104,8 @@ def main():
                     shape, size, version, share, *found), flush=True)
     print()
     print("seconds and MB/s: of processor time; search: for a word that no line has; whole word: closed on both sides, of one line,")
-    print(f"in segments of 65,536 messages and of {SHORT:,}; `stamped` is `service` without the lines whose stamp is not read")
+    print(f"in segments of 65,536 messages and of {SHORT:,}; `stamped` is `service` without the lines whose stamp is not read,")
+    print("and `written` is `real` with the stamps that programs write, of which some are not read")
 
 
 if __name__ == "__main__":
