@@ -12,6 +12,7 @@ mod SlotLemmas
 mod StampLemmas
 mod MarkLemmas
 mod AroundLemmas
+mod AloneLemmas
 mod ClosedLemmas
 mod BitLemmas
 pub mod HeadLemmas
