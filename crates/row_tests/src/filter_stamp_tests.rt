@@ -84,3 +84,89 @@ fn rows_by_runs(rt: HostRuntime) -> Result<(), Fail> {
 fn the_law_of_rows_and_runs() {
     rows_bring_chunks();
 }
+
+/// 2025-03-02 at midnight.
+const MIDNIGHT: i64 = DAY + 86_400_000;
+
+const TRIED: Verdict = Verdict::Tried;
+
+const REJECTED: Verdict = Verdict::Rejected;
+
+/// Rows of one page. One is rejected where its own stamp has no such text, or no stamp of the page may.
+const PAGES: &[Row] = &[
+    // one moment
+    (b"00:04:34", Case::Paged(&[1], &[LATER], 0, &[5], &[TRIED])),
+    (
+        b"00:04:34",
+        Case::Paged(&[1], &[LATER + 1_000], 0, &[5], &[REJECTED]),
+    ),
+    // before, at and behind the time
+    (
+        b"00:04:34",
+        Case::Paged(
+            &[1, 1, 1],
+            &[LATER - 1, LATER, LATER + 1_000],
+            0,
+            &[5],
+            &[REJECTED, TRIED, REJECTED],
+        ),
+    ),
+    // a page of another minute, and rows without a stamp
+    (
+        b"00:04:34",
+        Case::Paged(
+            &[1, 0, 1],
+            &[LATER + 60_000, 0, LATER + 119_000],
+            0,
+            &[5],
+            &[REJECTED, REJECTED, REJECTED],
+        ),
+    ),
+    // over midnight
+    (
+        b"00:00:00",
+        Case::Paged(
+            &[1, 1, 1],
+            &[MIDNIGHT - 1_000, MIDNIGHT + 404, MIDNIGHT + 1_000],
+            0,
+            &[5],
+            &[REJECTED, TRIED, REJECTED],
+        ),
+    ),
+    // two patterns, of milliseconds and of microseconds: each has a span of its own
+    (
+        b"00:04:34",
+        Case::Paged(
+            &[1, 11, 1],
+            &[LATER + 60_000, LATER * 1_000, LATER + 61_000],
+            0,
+            &[5],
+            &[REJECTED, TRIED, REJECTED],
+        ),
+    ),
+    // in the body, and over the border of a stamp and a body
+    (
+        b"00:04:34",
+        Case::Paged(
+            &[1, 1],
+            &[LATER + 60_000, LATER + 61_000],
+            1,
+            &[0, 1, 2, 34],
+            &[TRIED, TRIED],
+        ),
+    ),
+    (
+        b"00:04:34",
+        Case::Paged(&[8, 8], &[DAY, DAY + 1_000], 2, &[], &[TRIED, REJECTED]),
+    ),
+    // nine tokens
+    (
+        b"2025-03-01 00:04:34,000*took*5",
+        Case::Paged(&[1, 1], &[LATER, LATER + 1], 0, &[5], &[TRIED, REJECTED]),
+    ),
+];
+
+#[test]
+fn rows_of_a_page(rt: HostRuntime) -> Result<(), Fail> {
+    all_hold(rt.alloc(), &(STAMP_TYPES, STAMP_WORDS, PAGES))
+}

@@ -156,7 +156,7 @@ table_first runs old new mark empty is = (
     at zero moment s lt stamped = no_stamp runs s (slice_index_or new 0 0) stamped.1
     at (suc pattern) moment s lt stamped = absurd (omega (arith, lt))
 
-prints_of : (k : ℕ) (moment : ℤ) (s : List ℕ) → 1 ≤ k → HasStampText k moment s → Prints k moment s
+pub prints_of : (k : ℕ) (moment : ℤ) (s : List ℕ) → 1 ≤ k → HasStampText k moment s → Prints k moment s
 prints_of zero moment s some stamped = absurd (omega (arith, some))
 prints_of (suc k) moment s some stamped = stamped
 

@@ -11,6 +11,7 @@ mod DecimalLemmas
 mod SlotLemmas
 mod StampLemmas
 mod MarkLemmas
+mod PageLemmas
 mod AroundLemmas
 mod AloneLemmas
 mod ClosedLemmas

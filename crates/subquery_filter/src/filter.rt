@@ -8,10 +8,12 @@ ghost use Rattle.row_codec.specs.Means.{HasStampText, HasWord};
 ghost use Rattle.query_plan.specs.Laws.{IsSearched};
 ghost use Rattle.query_plan.specs.Pieces.{wide_pieces};
 ghost use Rattle.query_plan.specs.declared.pieces.Piece.{Piece};
+ghost use Rattle.subquery_filter.specs.declared.filter.Filter.{Filter};
 ghost use Rattle.subquery_filter.specs.declared.slots.Slot.{Slot};
 ghost use Rattle.subquery_filter.specs.Filter.{AreCoded, AreMarks, AreSmall, AreStamps, AreTold, AsksTypes, Has, HasNoMatch, IsFilter, IsRowVerdict, IsTold, LacksAll, MarksVariable, StampMarks, beside_of, slot_may};
 ghost use Rattle.subquery_filter.specs.declared.verdicts.Verdict.TheVariants.{Certain};
 ghost use Rattle.subquery_filter.specs.Found.{HaveAll};
+ghost use Rattle.subquery_filter.specs.Page.{IsPage};
 ghost use Rattle.subquery_filter.specs.StepsFilter.{HasEach, IsShut, Lacks, LacksStamp, LacksTokens, RunsBring, SlotGives, SlotIs, StampsBring};
 
 use crate::alone::runs_of;
@@ -436,7 +438,8 @@ impl Filter {
     /// and at last by its stamp.
     #[inline]
     fn lacks(&self, test: &TypeTest, row: RowRef<'_>, page: &mut PageTests) -> bool
-        ensures { IsTrue result → Lacks self.now test.now (row_of row.entry) }
+        ensures lacks { IsTrue result → Lacks self.now test.now (row_of row.entry) }
+        ensures kept { page.new.spans ≡ page.old.spans }
     {
         if self.lacks_words(test, row) {
             return true;
@@ -461,7 +464,8 @@ impl Filter {
     /// them, neither its variables nor its stamp are looked at.
     #[inline]
     fn lacks_tokens(&self, row: RowRef<'_>, page: &mut PageTests) -> bool
-        ensures { IsTrue result → LacksTokens self.now (row_of row.entry) }
+        ensures lacks { IsTrue result → LacksTokens self.now (row_of row.entry) }
+        ensures kept { page.new.spans ≡ page.old.spans }
     {
         let Some(test) = self.test_at(row.log_type) else {
             return false;
@@ -472,22 +476,25 @@ impl Filter {
         self.lacks(&test, row, page)
     }
 
-    /// Whether a run that the row's log type leaves to stamps stands in no stamp of the row's pattern.
+    /// Whether a run that the row's log type leaves to stamps stands in no stamp of the row's pattern, of the
+    /// moments of the page.
     #[inline]
-    fn lacks_runs(&self, row: RowRef<'_>) -> bool
-        ensures { IsTrue result → LacksStamp self.now (row_of row.entry) }
+    fn lacks_runs(&self, row: RowRef<'_>, page: &PageTests) -> bool
+        ensures { IsTrue result → IsPage self.now page.now → LacksStamp self.now (row_of row.entry) }
     {
-        let may = mark_at(self.run_stamps.as_slice(), u64::from(row.pattern));
+        let own = mark_at(self.run_stamps.as_slice(), u64::from(row.pattern));
+        let may = page.may_at(row.pattern, row.moment, own);
         !has(may, self.alone_at(u64::from(row.log_type)))
     }
 
     /// Whether a row does not bring all runs, or all tokens.
     #[inline]
     fn lacks_some(&self, row: RowRef<'_>, page: &mut PageTests) -> bool
-        ensures { IsTrue result → LacksStamp self.now (row_of row.entry)
-            ⊎ LacksTokens self.now (row_of row.entry) }
+        ensures lacks { IsTrue result → IsPage self.now page.old
+            → LacksStamp self.now (row_of row.entry) ⊎ LacksTokens self.now (row_of row.entry) }
+        ensures kept { page.new.spans ≡ page.old.spans }
     {
-        self.lacks_runs(row) || self.lacks_tokens(row, page)
+        self.lacks_runs(row, page) || self.lacks_tokens(row, page)
     }
 
     /// What is known of a row: whether the pattern matches its message, or cannot. Takes no memory.
@@ -506,19 +513,28 @@ impl Filter {
     }
 
     /// What goes along while the rows of a page are told, which have these patterns and moments.
-    pub fn begin_page(&self, patterns: &[u8], moments: &[i64]) -> PageTests {
-        if self.stamped == 0 {
+    pub fn begin_page(&self, patterns: &[u8], moments: &[i64]) -> PageTests
+        ensures { IsPage self.now result }
+    {
+        if self.stamped | self.run_stamped == 0 {
             return PageTests::new();
         }
-        PageTests::of(self.tokens.as_slice(), patterns, moments)
+        PageTests::of(
+            self.tokens.as_slice(),
+            self.runs.as_slice(),
+            patterns,
+            moments,
+        )
     }
 
     /// The same as `verdict`, with what goes along from row to row of a page.
     #[inline]
     pub fn verdict_in(&self, row: RowRef<'_>, page: &mut PageTests) -> Verdict
-        ensures told { (p : List Item) (types : List (List ℕ)) (words : List (List ℕ))
+        ensures told { IsPage self.now page.old
+            → (p : List Item) (types : List (List ℕ)) (words : List (List ℕ))
             → IsSearched p → IsFilter (wide_pieces p) types words self.now
             → IsRowVerdict (wide_pieces p) types words (row_of row.entry) result }
+        ensures kept { (f : Filter) → IsPage f page.old → IsPage f page.new }
         ensures certain { result ≡ Certain → (p : List Item) (types : List (List ℕ))
             → AsksTypes (wide_pieces p) types self.now → (words : List (List ℕ))
             → IsRowVerdict (wide_pieces p) types words (row_of row.entry) Certain }

@@ -4,11 +4,11 @@ use Rattle.subquery_filter.proofs.FilterLemmas.{row_lacks_some, told_certain, to
 use Rattle.subquery_filter.proofs.filter.Filter.verdict_in.Goals as goal
 
 pub returns-then-lacks_some-clause-told : goal.returns-then-lacks_some-clause-told
-returns-then-lacks_some-clause-told c = λ p types words searched is.
-    row_lacks_some (c.rows_bring_runs.ensures.runs, c.rows_bring_runs.ensures.closed, c.rows_bring_chunks.ensures) p types words c.args.self.now is (row_of c.args.row) c.in-Some.verdict (search rules) (search rules) (c.lacks_some.ensures (search rules))
+returns-then-lacks_some-clause-told c = λ page p types words searched is.
+    row_lacks_some (c.rows_bring_runs.ensures.runs, c.rows_bring_runs.ensures.closed, c.rows_bring_chunks.ensures) p types words c.args.self.now is (row_of c.args.row) c.in-Some.verdict (search rules) (search rules) (c.lacks_some.ensures.lacks (search rules) page)
 
 pub returns-clause-told : goal.returns-clause-told
-returns-clause-told c = λ p types words searched is.
+returns-clause-told c = λ page p types words searched is.
     told_verdict c.verdicts_hold.ensures.rejected c.verdicts_hold.ensures.certain (c.rows_bring_runs.ensures.runs, c.rows_bring_runs.ensures.closed, c.rows_bring_chunks.ensures) p searched types words c.args.self.now is (row_of c.args.row) c.in-Some.verdict (search rules)
 
 pub returns-clause-certain : goal.returns-clause-certain
