@@ -6,6 +6,8 @@ mod books;
 #[cfg(test)]
 mod filter_place_tests;
 #[cfg(test)]
+mod filter_stamp_tests;
+#[cfg(test)]
 mod pair_sieve_tests;
 #[cfg(test)]
 mod row_codec_tests;

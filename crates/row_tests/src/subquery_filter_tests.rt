@@ -38,6 +38,9 @@ pub(crate) enum Case {
     Marked(&'static [u32], u32, &'static [u64], Verdict),
     /// The same where other numbers were marked before, and the log types were asked by them.
     Again(&'static [u32], u32, &'static [u64], Verdict),
+    /// The rows of a page by the patterns and moments of their stamps, the log type and the words of all of
+    /// them: their verdicts, by what goes along.
+    Paged(&'static [u8], &'static [i64], u32, &'static [u64], &'static [Verdict]),
     /// How many texts are looked for in words.
     Needles(usize),
 }
@@ -160,6 +163,25 @@ fn may_match(
     Ok(filter.may_match(&head))
 }
 
+/// Whether the verdicts on the rows of a page, which have one log type and the same words, are these.
+fn page_told(
+    filter: &Filter,
+    patterns: &[u8],
+    moments: &[i64],
+    log_type: u32,
+    words: &[u64],
+    want: &[Verdict],
+) -> bool {
+    let mut page = filter.begin_page(patterns, moments);
+    for place in 0..patterns.len().min(moments.len()).min(want.len()) {
+        let row = row_of(patterns[place], moments[place], log_type, words);
+        if filter.verdict_in(row, &mut page) != want[place] {
+            return false;
+        }
+    }
+    patterns.len() == want.len() && moments.len() == want.len()
+}
+
 /// Moments of 33 years.
 const YEARS: Option<(i64, i64)> = Some((0, 1_000_000_000_000));
 
@@ -201,6 +223,9 @@ fn filter_holds(
             let row = row_of(0, 0, *log_type, words);
             Ok(is_told(&filter, plan, books, row, *want))
         }
+        Case::Paged(patterns, moments, log_type, words, want) => Ok(page_told(
+            &filter, patterns, moments, *log_type, words, want,
+        )),
         _ => filter_leaves(alloc, &filter, case),
     }
 }

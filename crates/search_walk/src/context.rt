@@ -8,7 +8,9 @@ ghost use Rattle.archive_places.specs.Fronts.{fixed_in};
 ghost use Rattle.query_plan.specs.Laws.{IsSearched};
 ghost use Rattle.query_plan.specs.Pieces.{wide_pieces};
 ghost use Rattle.barren_segments.specs.Barren.{IsBounded, LeavesOut};
-ghost use Rattle.subquery_filter.specs.Filter.{HasNoMatch};
+ghost use Rattle.subquery_filter.specs.declared.filter.Filter.{Filter};
+ghost use Rattle.subquery_filter.specs.Filter.{HasNoMatch, IsFilter};
+ghost use Rattle.subquery_filter.specs.Page.{IsPage};
 ghost use Rattle.search_walk.specs.Held.{IsTold, Named, named};
 ghost use Rattle.search_walk.specs.Opened.{IsBarrenFor, IsOpened, NoneTold};
 ghost use Rattle.search_walk.specs.Ready.{IsDecided, IsRuledOut};
@@ -18,7 +20,7 @@ use crate::opening::open_segment;
 use crate::query::Query;
 use archive_open::{FileEntry, SegmentPlace};
 use archive_places::SegmentFront;
-use column_store::{Columns, RowRef};
+use column_store::RowRef;
 use log_seams::Disk;
 use query_plan::wide_is_wider;
 use row_codec::Layouts;
@@ -165,26 +167,34 @@ impl<'q, D: Disk> Context<'q, D> {
         ensures { IsTold self.now.names
             → IsDecided self.now.names self.now.query (row_of row.entry) result }
     {
-        self.decide_in(row, &mut PageTests::new())
+        self.decide_in(self.filter(), row, &mut PageTests::new())
     }
 
-    /// What goes along while the rows of a page are decided.
-    pub fn begin_page(&self, page: &Columns) -> PageTests {
-        self.filter.begin_page(page.patterns(), page.moments())
+    /// What log types and words tell of rows.
+    pub fn filter(&self) -> &'q Filter
+        ensures { IsTold self.now.names → IsFilter (wide_pieces self.now.query.pattern)
+            self.now.names.types self.now.names.words result.now }
+    {
+        self.filter
     }
 
-    /// The same as `decide`, with what goes along from row to row of a page.
+    /// The same as `decide`, with what goes along from row to row of a page. The filter is the one that is
+    /// lent on.
     #[inline]
-    pub fn decide_in(&self, row: RowRef<'_>, page: &mut PageTests) -> Verdict
-        ensures { IsTold self.now.names
+    pub fn decide_in(&self, filter: &Filter, row: RowRef<'_>, page: &mut PageTests) -> Verdict
+        ensures decided { IsPage filter.now page.old → (IsTold self.now.names
+            → IsFilter (wide_pieces self.now.query.pattern)
+            self.now.names.types self.now.names.words filter.now)
+            → IsTold self.now.names
             → IsDecided self.now.names self.now.query (row_of row.entry) result }
+        ensures kept { (f : Filter) → IsPage f page.old → IsPage f page.new }
     {
         // What the pattern matches, the one that the search is planned over matches too.
         wide_is_wider();
         if !self.query.range().holds(row.pattern, row.moment) {
             return Verdict::Rejected;
         }
-        self.filter.verdict_in(row, page)
+        filter.verdict_in(row, page)
     }
 
     /// The query.

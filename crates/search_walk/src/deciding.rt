@@ -26,9 +26,10 @@ pub fn decide_page<D: Disk>(context: &Context<'_, D>, page: &Columns, verdicts: 
     ensures { AreDecided context.now.names context.now.query page.now.rows verdicts.new.items }
 {
     verdicts.clear();
-    let mut tests = context.begin_page(page);
+    let filter = context.filter();
+    let mut tests = filter.begin_page(page.patterns(), page.moments());
     for place in 0..page.rows() {
-        let verdict = context.decide_in(page.row(place), &mut tests);
+        let verdict = context.decide_in(filter, page.row(place), &mut tests);
         verdicts.push_reserved(verdict);
     }
 }

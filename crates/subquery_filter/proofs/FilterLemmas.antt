@@ -21,6 +21,7 @@ use Rattle.segment_format.specs.declared.head.Head.{Head}
 use Rattle.query_plan.specs.declared.pieces.Piece.{Piece}
 use Rattle.query_plan.specs.Laws.{IsSearched}
 use Rattle.query_plan.specs.Pieces.{flat, wide_pieces}
+use Rattle.subquery_filter.specs.declared.run.Run.{Run}
 use Rattle.subquery_filter.specs.declared.filter.Filter.{Filter}
 use Rattle.subquery_filter.specs.declared.marks.WordMarks.{WordMarks}
 use Rattle.subquery_filter.specs.declared.slots.Beside.{Beside}
@@ -29,10 +30,10 @@ use Rattle.subquery_filter.specs.declared.slots.TypeTest.{TypeTest}
 use Rattle.subquery_filter.specs.declared.token.Token.{Token}
 use Rattle.subquery_filter.specs.declared.verdicts.Verdict.{Verdict}
 use Rattle.subquery_filter.specs.declared.verdicts.Verdict.TheVariants.{Rejected, Certain, Tried}
-use Rattle.subquery_filter.specs.Filter.{AreSlots, AreSmall, AreTests, AsksTypes, Covers, Gives, Has, HasNoMatch, IsAsked, IsFilter, IsListed, IsRight, IsRowVerdict, IsSlot, IsTest, LacksAll, LacksText, StampMarks, MarksOpen, MarksVariable, beside_of, marks_at, may_by}
-use Rattle.subquery_filter.specs.StepsFilter.{AreTokens, HasEach, IsShut, Lacks, LacksTokens, StampsBring, Stays}
+use Rattle.subquery_filter.specs.Filter.{AreSlots, AreSmall, AreTests, AsksTypes, Covers, Gives, Has, HasNoMatch, IsAsked, IsFilter, IsListed, IsRight, IsRowVerdict, IsSlot, IsTest, LacksAll, LacksRuns, LacksText, RunMarks, StampMarks, MarksOpen, MarksVariable, beside_of, marks_at, may_by}
+use Rattle.subquery_filter.specs.StepsFilter.{AreTokens, HasEach, IsShut, Lacks, LacksStamp, LacksTokens, RunsBring, StampsBring, Stays}
 use Rattle.subquery_filter.specs.StepsLetters.{kinds_in}
-use Rattle.subquery_filter.specs.Tokens.{RowsBring}
+use Rattle.subquery_filter.specs.Tokens.{RowsBring, RowsBringChunks}
 use Rattle.subquery_filter.specs.Verdicts.{CertainAlwaysMatches, IsCertain, IsRejected, RejectedNeverMatches}
 use Rattle.subquery_filter.proofs.BitLemmas.{has_both, has_left, has_none, has_right, has_self, has_through}
 use Rattle.subquery_filter.proofs.ClosedLemmas.{are_coded, token_found}
@@ -102,15 +103,16 @@ any_end marks i bits le before n = elim (cases_lt n i) [
 ]
 
 -- the log types so far are shut
-abbrev pub ShutBefore : Filter → ℕ → ℕ → List ℕ → ℕ → Type 0
-ShutBefore f stamped brought types i = (k d : ℕ) → k < i → IsShut f stamped brought (get_or types k d)
+abbrev pub ShutBefore : Filter → ℕ → ℕ → ℕ → List ℕ → ℕ → Type 0
+ShutBefore f runs stamped brought types i = (k d : ℕ) → k < i → IsShut f runs stamped brought (get_or types k d)
 
-pub shut_step : (f : Filter) (stamped brought : ℕ) (types : List ℕ) (i : ℕ) → i < length types → IsShut f stamped brought (get_or types i 0) → ShutBefore f stamped brought types i → ShutBefore f stamped brought types (i + 1)
-shut_step f stamped brought types i lt here before =
-    before_step types (λ (n : ℕ). IsShut f stamped brought n) (λ (n : ℕ). IsShut f stamped brought n) i (get_or types i 0) lt (get_or_default types i 0 (get_or types i 0) lt) (λ n h. h) here before
+pub shut_step : (f : Filter) (runs stamped brought : ℕ) (types : List ℕ) (i : ℕ) → i < length types → IsShut f runs stamped brought (get_or types i 0) → ShutBefore f runs stamped brought types i
+    → ShutBefore f runs stamped brought types (i + 1)
+shut_step f runs stamped brought types i lt here before =
+    before_step types (λ (n : ℕ). IsShut f runs stamped brought n) (λ (n : ℕ). IsShut f runs stamped brought n) i (get_or types i 0) lt (get_or_default types i 0 (get_or types i 0) lt) (λ n h. h) here before
 
-pub shut_end : (f : Filter) (stamped brought : ℕ) (types : List ℕ) (i : ℕ) → length types ≤ i → ShutBefore f stamped brought types i → (t : ℕ) → Contains types t → IsShut f stamped brought t
-shut_end f stamped brought types i le before t (k, lt, e) = subst (λ (x : ℕ). IsShut f stamped brought x) e (before k t (omega (arith, lt, le)))
+pub shut_end : (f : Filter) (runs stamped brought : ℕ) (types : List ℕ) (i : ℕ) → length types ≤ i → ShutBefore f runs stamped brought types i → (t : ℕ) → Contains types t → IsShut f runs stamped brought t
+shut_end f runs stamped brought types i le before t (k, lt, e) = subst (λ (x : ℕ). IsShut f runs stamped brought x) e (before k t (omega (arith, lt, le)))
 
 some_same : (o : Option (List ℕ)) (a b : List ℕ) → o ≡ Some a → o ≡ Some b → a ≡ b
 some_same o a b one two = cc (one, two)
@@ -322,6 +324,20 @@ row_verdict : RejectedNeverMatches → CertainAlwaysMatches → RowsBring → (p
     → slice_get f.tests.items row.log_type ≡ Some test → IsRowVerdict (wide_pieces p) types words row test.verdict
 row_verdict rejected certain bring p searched types words f is row test at = verdict_by rejected certain bring p searched types words f is row test test.verdict at refl
 
+-- ---- what runs tell of a row
+
+-- a row of a log type that leaves a run to stamps, where its own has no more runs than these
+lacks_runs : RowsBringChunks → (ps : List Piece) (types words : List (List ℕ)) (f : Filter) → AsksTypes ps types f → (row : Row) (bits : ℕ)
+    → ((s : List ℕ) → HasStampText row.pattern row.moment s → RunMarks f.runs.items s bits) → LacksRuns f bits row.log_type
+    → (version : ℕ) (message : List ℕ) → IsCanonical version row types words message → ¬ Match (flat ps) message
+lacks_runs law ps types words f asks row bits marks lacks version message canonical matches =
+    let text = type_text (map symbol_of canonical.means.parts) in
+    let typed = canonical.means.typed in
+    lacks (asks.alone row.log_type text typed bits (λ j d lt not_stand not_go.
+    let r : Run = slice_index_or f.runs.items j d in
+    let (s, stamped, there) = law version ps row types words text message r.text asks.cut canonical matches (asks.runs j d lt) typed not_stand not_go in
+    marks s stamped j d lt there))
+
 -- ---- what they tell of a segment
 
 may_listed : (f : Filter) (types words : List (List ℕ)) (ps : List Piece) → IsFilter ps types words f → (brought bits : ℕ) (numbers : List ℕ) → HasEach f.marks numbers brought
@@ -353,18 +369,23 @@ row_shut law p types words f is row test stamped brought at tried h stamp each v
     stamp_more_bits tokens row few bits has marks s stamped = λ j d lt fits. has_through bits few (slice_index_or tokens j d).bit has (marks s stamped j d lt fits)
 
 pub none_may : RejectedNeverMatches → RowsBring → (p : List Item) → IsSearched p → (types words : List (List ℕ)) (f : Filter) → IsFilter (wide_pieces p) types words f
-    → (head : Head) (listed numbers : List ℕ) (stamped brought : ℕ) → listed ≡ head.types → numbers ≡ head.words → StampsBring f head stamped → HasEach f.marks numbers brought
-    → ((t : ℕ) → Contains listed t → IsShut f stamped brought t) → HasNoMatch (wide_pieces p) types words head
-none_may rejected law p searched types words f is head listed numbers stamped brought of_types of_words bring each shut version row message may canonical =
-    let (test, at, how) = shut row.log_type (subst (λ (l : List ℕ). Contains l row.log_type) (sym of_types) may.listed) in
-    elim how [
-      | inl never ↦ rejected_row rejected law p searched types words f is row test at never version message canonical
-      | inr (tried, h) ↦
+    → (head : Head) (listed numbers : List ℕ) (runs stamped brought : ℕ) → listed ≡ head.types → numbers ≡ head.words → RunsBring f head runs → StampsBring f head stamped → HasEach f.marks numbers brought
+    → ((t : ℕ) → Contains listed t → IsShut f runs stamped brought t) → HasNoMatch (wide_pieces p) types words head
+none_may rejected law p searched types words f is head listed numbers runs stamped brought of_types of_words bring_runs bring each shut version row message may canonical =
+    elim (shut row.log_type (subst (λ (l : List ℕ). Contains l row.log_type) (sym of_types) may.listed)) [
+      | inl alone ↦ lacks_runs law.2 (wide_pieces p) types words f is.asks row runs (λ s printed. bring_runs row.pattern row.moment s may.within printed) alone version message canonical
+      | inr (test, at, inl never) ↦ rejected_row rejected law p searched types words f is row test at never version message canonical
+      | inr (test, at, inr (tried, h)) ↦
           row_shut law p types words f is row test stamped brought at tried h (λ s printed. bring is.asks.stamps row.pattern row.moment s may.within printed)
           (λ n has. each n (subst (λ (l : List ℕ). Contains l n) (sym of_words) (may.words n has))) version message canonical
     ]
 
 -- ---- what is told of all rows of a log type
+
+-- the stamp of a row has no more runs than stamps of any pattern
+any_runs : (f : Filter) (ps : List Piece) (types : List (List ℕ)) → AsksTypes ps types f → (row : Row) (s : List ℕ) → HasStampText row.pattern row.moment s → RunMarks f.runs.items s f.run_stamped
+any_runs f ps types asks row s stamped j d lt there =
+    has_through f.run_stamped (slice_index_or f.run_stamps.items row.pattern 0) (slice_index_or f.runs.items j d).bit (asks.run_stamped row.pattern) (asks.run_stamps row.pattern row.moment s stamped j d lt there)
 
 pub told_verdict : RejectedNeverMatches → CertainAlwaysMatches → RowsBring → (p : List Item) → IsSearched p → (types words : List (List ℕ)) (f : Filter) → IsFilter (wide_pieces p) types words f → (row : Row) (v : Verdict)
     → slice_get f.verdicts.items row.log_type ≡ Some v → IsRowVerdict (wide_pieces p) types words row v
@@ -372,9 +393,12 @@ told_verdict rejected certain law p searched types words f is row v there =
     let (test, at, how) = is.asks.told row.log_type v there in
     elim how [
       | inl same ↦ subst (IsRowVerdict (wide_pieces p) types words row) (sym same) (row_verdict rejected certain law p searched types words f is row test at)
-      | inr (never, tried, h) ↦
+      | inr (never, inl (tried, h)) ↦
           subst (IsRowVerdict (wide_pieces p) types words row) (sym never)
           (row_shut law p types words f is row test f.stamped f.brought at tried h (stamp_may f types words (wide_pieces p) is row f.stamped (has_self f.stamped)) (λ n has. is.asks.brought n))
+      | inr (never, inr alone) ↦
+          subst (IsRowVerdict (wide_pieces p) types words row) (sym never)
+          (lacks_runs law.2 (wide_pieces p) types words f is.asks row f.run_stamped (λ s stamped. any_runs f (wide_pieces p) types is.asks row s stamped) alone)
     ]
 
 pub told_certain : CertainAlwaysMatches → (p : List Item) (types words : List (List ℕ)) (f : Filter) → AsksTypes (wide_pieces p) types f → (row : Row) (v : Verdict)
@@ -383,19 +407,25 @@ told_certain certain p types words f asks row v there is_certain =
     let (test, at, how) = asks.told row.log_type v there in
     elim how [
       | inl same ↦ certain_row certain p types words f asks row test at (sym same ∙ is_certain)
-      | inr (never, tried, h) ↦ absurd (let e : Rejected ≡ Certain = sym never ∙ is_certain in cc)
+      | inr (never, how) ↦ absurd (let e : Rejected ≡ Certain = sym never ∙ is_certain in cc)
     ]
 
 -- a row that lacks tokens, whose log type leaves it open
-pub row_lacks_tokens : RowsBring → (p : List Item) (types words : List (List ℕ)) (f : Filter) → IsFilter (wide_pieces p) types words f → (row : Row) (v : Verdict)
+row_lacks_tokens : RowsBring → (p : List Item) (types words : List (List ℕ)) (f : Filter) → IsFilter (wide_pieces p) types words f → (row : Row) (v : Verdict)
     → slice_get f.verdicts.items row.log_type ≡ Some v → v ≡ Tried → LacksTokens f row → IsRowVerdict (wide_pieces p) types words row Rejected
 row_lacks_tokens law p types words f is row v there tried (test, at, lacks) =
     let (other, here, how) = is.asks.told row.log_type v there in
     let same : other ≡ test = same_tests (slice_get f.tests.items row.log_type) other test here at in
     elim how [
       | inl told ↦ row_lacks law p types words f is row test at (ap (λ (t : TypeTest). t.verdict) (sym same) ∙ sym told ∙ tried) lacks
-      | inr (never, other_tried, h) ↦ absurd (let e : Rejected ≡ Tried = sym never ∙ tried in cc)
+      | inr (never, why) ↦ absurd (let e : Rejected ≡ Tried = sym never ∙ tried in cc)
     ]
   where
     same_tests : (o : Option TypeTest) (a b : TypeTest) → o ≡ Some a → o ≡ Some b → a ≡ b
     same_tests o a b one two = cc (one, two)
+
+-- and one that lacks runs or tokens
+pub row_lacks_some : RowsBring → (p : List Item) (types words : List (List ℕ)) (f : Filter) → IsFilter (wide_pieces p) types words f → (row : Row) (v : Verdict)
+    → slice_get f.verdicts.items row.log_type ≡ Some v → v ≡ Tried → LacksStamp f row ⊎ LacksTokens f row → IsRowVerdict (wide_pieces p) types words row Rejected
+row_lacks_some law p types words f is row v there tried (inl (bits, marks, lacks)) = lacks_runs law.2 (wide_pieces p) types words f is.asks row bits (marks is.asks.run_stamps) lacks
+row_lacks_some law p types words f is row v there tried (inr tokens) = row_lacks_tokens law p types words f is row v there tried tokens

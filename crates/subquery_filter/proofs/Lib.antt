@@ -12,7 +12,9 @@ mod DecimalLemmas
 mod SlotLemmas
 mod StampLemmas
 mod MarkLemmas
+mod PageLemmas
 mod AroundLemmas
+mod AloneLemmas
 mod ClosedLemmas
 mod BitLemmas
 pub mod HeadLemmas

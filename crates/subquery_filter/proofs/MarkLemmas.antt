@@ -203,11 +203,11 @@ none_brought brought marks none = subst (Has brought) (sym none) (has_none broug
 pub told_none : (f : Filter) (verdicts : List Verdict) → verdicts ≡ [] → AreTold f verdicts
 told_none f verdicts none t v at = absurd (let e : None ≡ Some v = ap (λ (l : List Verdict). slice_get l t) (sym none) ∙ at in cc)
 
-pub told_step : (f : Filter) (i : ℕ) (old new : List Verdict) (test : TypeTest) (v : Verdict) → length old ≡ i → new ≡ old ++ v ∷ [] → slice_get f.tests.items i ≡ Some test → IsTold f test v → AreTold f old → AreTold f new
+pub told_step : (f : Filter) (i : ℕ) (old new : List Verdict) (test : TypeTest) (v : Verdict) → length old ≡ i → new ≡ old ++ v ∷ [] → slice_get f.tests.items i ≡ Some test → IsTold f i test v → AreTold f old → AreTold f new
 told_step f i old new test v size is there here before t other at =
     elim (push_cases old v t other (subst (λ (l : List Verdict). slice_get l t ≡ Some other) is at)) [
       | inl earlier ↦ before t other earlier
-      | inr (e, same) ↦ (test, subst (λ n. slice_get f.tests.items n ≡ Some test) (sym (e ∙ size)) there, subst (IsTold f test) same here)
+      | inr (e, same) ↦ (test, subst (λ n. slice_get f.tests.items n ≡ Some test) (sym (e ∙ size)) there, subst (λ n. IsTold f n test other) (sym (e ∙ size)) (subst (IsTold f i test) same here))
     ]
 
 -- what is told of one filter is told of the next
@@ -231,14 +231,15 @@ lacks_again f g test brought slots wanted stamped h = record {
 }
 
 -- what is told of the log types by one filter is told by another with the same tests and slots
-pub told_again : (f g : Filter) (verdicts : List Verdict) → f.slots.items ≡ g.slots.items → f.wanted ≡ g.wanted → f.stamped ≡ g.stamped → f.brought ≡ g.brought → f.tests.items ≡ g.tests.items
+pub told_again : (f g : Filter) (verdicts : List Verdict) → f.slots.items ≡ g.slots.items → f.wanted ≡ g.wanted → f.stamped ≡ g.stamped → f.brought ≡ g.brought → f.tests.items ≡ g.tests.items → f.alone.items ≡ g.alone.items → f.run_stamped ≡ g.run_stamped
     → AreTold f verdicts → AreTold g verdicts
-told_again f g verdicts slots wanted stamped brought tests told t v at =
+told_again f g verdicts slots wanted stamped brought tests alone runs told t v at =
     let (test, there, how) = told t v at in (
       test,
       subst (λ (l : List TypeTest). slice_get l t ≡ Some test) tests there,
       elim how [
         | inl same ↦ inl same
-        | inr (never, tried, h) ↦ inr (never, tried, subst (LacksAll g test g.stamped) brought (lacks_again f g test f.brought slots wanted stamped h))
+        | inr (never, inl (tried, h)) ↦ inr (never, inl (tried, subst (LacksAll g test g.stamped) brought (lacks_again f g test f.brought slots wanted stamped h)))
+        | inr (never, inr lacks) ↦ inr (never, inr (λ has. lacks (subst (λ (l : List ℕ). Has f.run_stamped (slice_index_or l t 0)) (sym alone) (subst (λ (n : ℕ). Has n (slice_index_or g.alone.items t 0)) (sym runs) has))))
       ],
     )

@@ -254,3 +254,24 @@ number_bits tokens kinds are Word other words variable word is j d lt finds = ab
 number_bits tokens kinds are Whole other words variable word is j d lt finds = has_left kinds.whole kinds.decimal _ (are.whole words variable word is j d lt finds)
 number_bits tokens kinds are Decimal other words variable word is j d lt finds =
     has_through (bit_or kinds.whole kinds.decimal) kinds.decimal _ (has_right kinds.whole kinds.decimal) (are.decimal words variable word is j d lt finds)
+
+-- these bits, and those that variables may bring
+pub kinds_more : (kinds : KindBits) (known : ℕ) → Has (bit_or (bit_or (bit_or known kinds.whole) kinds.decimal) kinds.word) known
+kinds_more kinds known =
+    let one : ℕ = bit_or known kinds.whole in
+    let two : ℕ = bit_or one kinds.decimal in
+    has_left two kinds.word known (has_left one kinds.decimal known (has_left known kinds.whole known (has_self known)))
+
+pub kinds_with : (tokens : List Token) (kinds : KindBits) (known : ℕ) → AreKindBits tokens kinds → (kind : Kind) → Covers tokens kind (bit_or (bit_or (bit_or known kinds.whole) kinds.decimal) kinds.word)
+kinds_with tokens kinds known are Whole words variable word is j d lt finds =
+    let one : ℕ = bit_or known kinds.whole in
+    let two : ℕ = bit_or one kinds.decimal in
+    has_left two kinds.word _ (has_left one kinds.decimal _ (has_through one kinds.whole _ (has_right known kinds.whole) (are.whole words variable word is j d lt finds)))
+kinds_with tokens kinds known are Decimal words variable word is j d lt finds =
+    let one : ℕ = bit_or known kinds.whole in
+    let two : ℕ = bit_or one kinds.decimal in
+    has_left two kinds.word _ (has_through two kinds.decimal _ (has_right one kinds.decimal) (are.decimal words variable word is j d lt finds))
+kinds_with tokens kinds known are Word words variable word is j d lt finds =
+    let one : ℕ = bit_or known kinds.whole in
+    let two : ℕ = bit_or one kinds.decimal in
+    has_through (bit_or two kinds.word) kinds.word _ (has_right two kinds.word) (are.word words variable word is j d lt finds)

@@ -15,7 +15,9 @@ use Rattle.row_codec.specs.Means.{HasStampText, HasWord, IsCanonical, IsSpelling
 use Rattle.row_codec.specs.Numbers.{numbers_of_row}
 use Rattle.segment_format.specs.declared.head.Head.{Head}
 use Rattle.query_plan.specs.declared.pieces.Piece.{Piece}
+use Rattle.query_plan.specs.Needs.{around}
 use Rattle.query_plan.specs.Pieces.{IsCut, flat}
+use Rattle.subquery_filter.specs.declared.run.Run.{Run}
 use Rattle.subquery_filter.specs.declared.filter.Filter.{Filter}
 use Rattle.subquery_filter.specs.declared.marks.WordMarks.{WordMarks}
 use Rattle.subquery_filter.specs.declared.slots.Beside.{Beside}
@@ -26,7 +28,7 @@ use Rattle.subquery_filter.specs.declared.token.Token.{Token}
 use Rattle.subquery_filter.specs.declared.verdicts.Verdict.{Verdict}
 use Rattle.subquery_filter.specs.declared.verdicts.Verdict.TheVariants.{Rejected, Certain, Tried}
 use Rattle.subquery_filter.specs.StepsLetters.{kinds_in}
-use Rattle.subquery_filter.specs.Tokens.{IsClosedIn, IsInRun, IsTokenOf, LiesInStamp, StandsInType}
+use Rattle.subquery_filter.specs.Tokens.{IsClosedIn, IsInRun, IsRunOf, IsTokenOf, LiesInStamp, MayGoOn, MayStandIn, StandsInType}
 use Rattle.subquery_filter.specs.Verdicts.{IsCertain, IsRejected}
 
 -- all of some bits are among these
@@ -99,6 +101,32 @@ abbrev pub AreStamps : List Token → List ℕ → Type 0
 AreStamps tokens stamps =
     (pattern : ℕ) (moment : ℤ) (s : List ℕ) → HasStampText pattern moment s → StampMarks tokens s (slice_index_or stamps pattern 0)
 
+-- ---- runs of the pattern, as a whole
+
+-- runs of these pieces
+abbrev pub AreRuns : List Piece → List Run → Type 0
+AreRuns ps runs = All (λ r. IsRunOf ps r.text) runs
+
+-- these bits are among any that have the bit of each run that may neither stand in a body of the log type with this
+-- text nor go on there
+abbrev pub IsAlone : List Run → List ℕ → ℕ → Type 0
+IsAlone runs text bits =
+    (may : ℕ) → All (λ r. ¬ MayStandIn r.text text → ¬ MayGoOn r.text text → Has may r.bit) runs → Has may bits
+
+-- so it is of the bits at the number of each log type
+abbrev pub AreAlone : List Run → List (List ℕ) → List ℕ → Type 0
+AreAlone runs types alone =
+    (t : ℕ) (text : List ℕ) → slice_get types t ≡ Some text → IsAlone runs text (slice_index_or alone t 0)
+
+-- the bit of each run that stands in the stamp is among these
+abbrev pub RunMarks : List Run → List ℕ → ℕ → Type 0
+RunMarks runs s bits = All (λ r. Match (around r.text) s → Has bits r.bit) runs
+
+-- the bits of the runs that each pattern's stamps may have stand at its number
+abbrev pub AreRunStamps : List Run → List ℕ → Type 0
+AreRunStamps runs stamps =
+    (pattern : ℕ) (moment : ℤ) (s : List ℕ) → HasStampText pattern moment s → RunMarks runs s (slice_index_or stamps pattern 0)
+
 -- ---- what is known of a log type
 
 -- no row of a log type with this text brings all that is wanted, whatever its slots are
@@ -169,16 +197,21 @@ pub record LacksAll (f : Filter) (test : TypeTest) (stamped brought : ℕ) : Typ
   pub stamps : Has bits stamped
   pub lacks : ¬ Has bits f.wanted
 
--- the verdict is that of the log type's text, or no row of the log type brings all that is wanted
-abbrev pub IsTold : Filter → TypeTest → Verdict → Type 0
-IsTold f test verdict =
-    (verdict ≡ test.verdict) ⊎ ((verdict ≡ Rejected) × (test.verdict ≡ Tried) × LacksAll f test f.stamped f.brought)
+-- the log type with this number leaves a run to stamps alone, and stamps bring no more runs than these
+abbrev pub LacksRuns : Filter → ℕ → ℕ → Type 0
+LacksRuns f bits t = ¬ Has bits (slice_index_or f.alone.items t 0)
+
+-- the verdict is that of the log type's text, or no row of the log type brings all that is wanted, or all runs
+abbrev pub IsTold : Filter → ℕ → TypeTest → Verdict → Type 0
+IsTold f t test verdict =
+    (verdict ≡ test.verdict)
+    ⊎ ((verdict ≡ Rejected) × (((test.verdict ≡ Tried) × LacksAll f test f.stamped f.brought) ⊎ LacksRuns f f.run_stamped t))
 
 -- so it is of each log type, by their numbers
 abbrev pub AreTold : Filter → List Verdict → Type 0
 AreTold f verdicts =
     (t : ℕ) (verdict : Verdict) → slice_get verdicts t ≡ Some verdict
-    → (test : TypeTest) × (slice_get f.tests.items t ≡ Some test) × IsTold f test verdict
+    → (test : TypeTest) × (slice_get f.tests.items t ≡ Some test) × IsTold f t test verdict
 
 -- ---- the filter
 
@@ -210,6 +243,10 @@ pub record AsksTypes (ps : List Piece) (types : List (List ℕ)) (f : Filter) : 
   pub small : AreSmall f.tokens.items f.small.items
   pub stamps : AreStamps f.tokens.items f.stamps.items
   pub stamped : (pattern : ℕ) → Has f.stamped (slice_index_or f.stamps.items pattern 0)
+  pub runs : AreRuns ps f.runs.items
+  pub alone : AreAlone f.runs.items types f.alone.items
+  pub run_stamps : AreRunStamps f.runs.items f.run_stamps.items
+  pub run_stamped : (pattern : ℕ) → Has f.run_stamped (slice_index_or f.run_stamps.items pattern 0)
 
 -- The same over an archive with these words too, which are marked.
 pub record IsFilter (ps : List Piece) (types words : List (List ℕ)) (f : Filter) : Type 0 where

@@ -4,6 +4,7 @@ pub mod Verdicts
 pub mod Tokens
 pub mod NumberText
 pub mod Filter
+pub mod Page
 pub mod Found
 pub mod StepsFilter
 pub mod StepsKnown

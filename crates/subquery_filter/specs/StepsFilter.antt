@@ -16,7 +16,7 @@ use Rattle.subquery_filter.specs.declared.slots.Slot.{Slot}
 use Rattle.subquery_filter.specs.declared.slots.TypeTest.{TypeTest}
 use Rattle.subquery_filter.specs.declared.token.Token.{Token}
 use Rattle.subquery_filter.specs.declared.verdicts.Verdict.TheVariants.{Rejected, Tried}
-use Rattle.subquery_filter.specs.Filter.{AreCoded, AreKindBits, AreMarks, AreNumberBits, AreSmall, AreStamps, Finds, Has, IsAsked, IsSlot, IsWithin, LacksAll, StampMarks, marks_at}
+use Rattle.subquery_filter.specs.Filter.{AreCoded, AreKindBits, AreMarks, AreNumberBits, AreRunStamps, AreSmall, AreStamps, Finds, Has, IsAsked, IsSlot, IsWithin, LacksAll, LacksRuns, RunMarks, StampMarks, marks_at}
 use Rattle.subquery_filter.specs.StepsLetters.{kinds_in}
 use Rattle.subquery_filter.specs.Tokens.{IsClosed}
 
@@ -88,19 +88,33 @@ pub record Lacks (f : Filter) (test : TypeTest) (row : Row) : Type 0 where
 abbrev pub LacksTokens : Filter → Row → Type 0
 LacksTokens f row = (test : TypeTest) × (slice_get f.tests.items row.log_type ≡ Some test) × Lacks f test row
 
+-- a run that its log type leaves to stamps stands in no stamp of the row
+abbrev pub LacksStamp : Filter → Row → Type 0
+LacksStamp f row =
+    (bits : ℕ) × (AreRunStamps f.runs.items f.run_stamps.items → (s : List ℕ) → HasStampText row.pattern row.moment s
+    → RunMarks f.runs.items s bits) × LacksRuns f bits row.log_type
+
 -- ---- what is tested of a segment
 
--- no row of the log type with this number is matched, where the stamps and the words bring these bits
-abbrev pub IsShut : Filter → ℕ → ℕ → ℕ → Type 0
-IsShut f stamped brought t =
-    (test : TypeTest) × (slice_get f.tests.items t ≡ Some test)
-    × ((test.verdict ≡ Rejected) ⊎ ((test.verdict ≡ Tried) × LacksAll f test stamped brought))
+-- no row of the log type with this number is matched, where the stamps bring these runs, and the stamps and the words
+-- these bits
+abbrev pub IsShut : Filter → ℕ → ℕ → ℕ → ℕ → Type 0
+IsShut f runs stamped brought t =
+    LacksRuns f runs t
+    ⊎ ((test : TypeTest) × (slice_get f.tests.items t ≡ Some test)
+    × ((test.verdict ≡ Rejected) ⊎ ((test.verdict ≡ Tried) × LacksAll f test stamped brought)))
 
 -- the bits of the tokens that stand in a stamp of a segment with this head are among these
 abbrev pub StampsBring : Filter → Head → ℕ → Type 0
 StampsBring f head bits =
     AreStamps f.tokens.items f.stamps.items → (pattern : ℕ) (moment : ℤ) (s : List ℕ) → (pattern ≢ 0 → IsWithin head moment)
     → HasStampText pattern moment s → StampMarks f.tokens.items s bits
+
+-- the bits of the runs that stand in a stamp of a segment with this head are among these
+abbrev pub RunsBring : Filter → Head → ℕ → Type 0
+RunsBring f head bits =
+    (pattern : ℕ) (moment : ℤ) (s : List ℕ) → (pattern ≢ 0 → IsWithin head moment) → HasStampText pattern moment s
+    → RunMarks f.runs.items s bits
 
 -- ---- the text around a token
 

@@ -7,6 +7,7 @@ use Rattle.var_codec.specs.Codes.{Codes}
 use Rattle.var_codec.specs.declared.Coded.{Coded}
 use Rattle.column_store.specs.declared.row.Row.{Row}
 use Rattle.logtype_text.specs.declared.symbols.Kind.{Kind}
+use Rattle.logtype_text.specs.declared.symbols.Symbol.{Symbol}
 use Rattle.logtype_text.specs.declared.symbols.Symbol.TheVariants.{Byte}
 use Rattle.logtype_text.specs.TypeText.{type_text}
 use Rattle.wild_match.specs.Matches.{Match}
@@ -17,6 +18,7 @@ use Rattle.query_plan.specs.declared.pieces.Piece.TheVariants.{Mark, Word}
 use Rattle.query_plan.specs.Laws.{BeginsMark, IsChunk, chunk_text}
 use Rattle.query_plan.specs.Needs.{around}
 use Rattle.query_plan.specs.Pieces.{IsCut, flat}
+use Rattle.query_plan.specs.Slots.{MayBegin, MayStand}
 use Rattle.subquery_filter.specs.StepsLetters.{kinds_in, marked_from}
 
 -- what constant bytes are stored as in the text of a log type
@@ -132,6 +134,36 @@ RowsBringClosedRuns =
     → IsCut ps → IsCanonical version row types words message → Match (flat ps) message → IsClosedIn ps t w code
     → slice_get types row.log_type ≡ Some text → StampBrings w t row ⊎ OwnsSlot t words text row.words
 
--- both
+-- ---- as a whole
+
+-- the text is that of some of the pieces in a row, none of them a gap
+abbrev pub IsRunOf : List Piece → List ℕ → Type 0
+IsRunOf ps w = (run : List Piece) × IsChunk ps run × (w ≡ chunk_text run)
+
+-- the text may stand in the body of a message of the log type with this text
+abbrev pub MayStandIn : List ℕ → List ℕ → Type 0
+MayStandIn w text = (symbols : List Symbol) × (text ≡ type_text symbols) × MayStand w symbols
+
+-- behind so many bytes of it the text goes on with a delimiter, and so such a body may begin
+pub record GoesOnAt (w text : List ℕ) (n : ℕ) : Type 0 where
+  pub some : 0 < n
+  pub marks : BeginsMark (drop n w)
+  pub symbols : List Symbol
+  pub typed : text ≡ type_text symbols
+  pub goes : MayBegin (drop n w) symbols
+
+-- the text may go on from a stamp into such a body
+abbrev pub MayGoOn : List ℕ → List ℕ → Type 0
+MayGoOn w text = (n : ℕ) × GoesOnAt w text n
+
+-- A row whose message the pieces match brings the text of each run of them in its stamp, where that may neither stand
+-- in a body of its log type nor go on there.
+abbrev pub RowsBringChunks : Type 0
+RowsBringChunks =
+    (version : ℕ) (ps : List Piece) (row : Row) (types words : List (List ℕ)) (text message w : List ℕ)
+    → IsCut ps → IsCanonical version row types words message → Match (flat ps) message → IsRunOf ps w
+    → slice_get types row.log_type ≡ Some text → ¬ MayStandIn w text → ¬ MayGoOn w text → StandsInStamp (around w) row
+
+-- all of these
 abbrev pub RowsBring : Type 0
-RowsBring = RowsBringRuns × RowsBringClosedRuns
+RowsBring = RowsBringRuns × RowsBringClosedRuns × RowsBringChunks

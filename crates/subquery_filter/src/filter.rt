@@ -1,5 +1,5 @@
 //! What a search knows of an archive's words and log types, so that rows are tested by bits alone.
-ghost use Rattle.std.specs.Prelude.{◌≡◌, ◌<◌, ◌≤◌, ℕ, List, IfOk, IsFalse, IsTrue, Some, length, slice_get};
+ghost use Rattle.std.specs.Prelude.{◌≡◌, ◌⊎◌, ◌<◌, ◌≤◌, ℕ, List, IfOk, IsFalse, IsTrue, Some, length, slice_get, slice_index_or};
 ghost use Rattle.std.specs.List.{Contains};
 ghost use Rattle.column_store.specs.Row.{row_of};
 ghost use Rattle.logtype_text.specs.declared.symbols.Kind.TheVariants.{Word};
@@ -8,17 +8,22 @@ ghost use Rattle.row_codec.specs.Means.{HasStampText, HasWord};
 ghost use Rattle.query_plan.specs.Laws.{IsSearched};
 ghost use Rattle.query_plan.specs.Pieces.{wide_pieces};
 ghost use Rattle.query_plan.specs.declared.pieces.Piece.{Piece};
+ghost use Rattle.subquery_filter.specs.declared.filter.Filter.{Filter};
 ghost use Rattle.subquery_filter.specs.declared.slots.Slot.{Slot};
 ghost use Rattle.subquery_filter.specs.Filter.{AreCoded, AreMarks, AreSmall, AreStamps, AreTold, AsksTypes, Has, HasNoMatch, IsFilter, IsRowVerdict, IsTold, LacksAll, MarksVariable, StampMarks, beside_of, slot_may};
 ghost use Rattle.subquery_filter.specs.declared.verdicts.Verdict.TheVariants.{Certain};
 ghost use Rattle.subquery_filter.specs.Found.{HaveAll};
-ghost use Rattle.subquery_filter.specs.StepsFilter.{HasEach, IsShut, Lacks, LacksTokens, SlotGives, SlotIs, StampsBring};
+ghost use Rattle.subquery_filter.specs.Page.{IsPage};
+ghost use Rattle.subquery_filter.specs.StepsFilter.{HasEach, IsShut, Lacks, LacksStamp, LacksTokens, RunsBring, SlotGives, SlotIs, StampsBring};
 
+use crate::alone::runs_of;
 use crate::bits::{any_of, has, mark_at};
-use crate::laws::{rows_bring_runs, verdicts_hold};
+use crate::laws::{rows_bring_chunks, rows_bring_runs, verdicts_hold};
 use crate::marks::WordMarks;
 use crate::needles::{lists_with, texts_of};
 use crate::numbers::{decimal_bits, has_open, kind_bits, mark_small, whole_bits};
+use crate::run::Run;
+use crate::run_stamps::{mark_runs, runs_within};
 use crate::shared::PageTests;
 use crate::slots::{Beside, Question, Slot, TypeTest, has_kind, test_types};
 use crate::stamps::{bits_within, mark_stamps, stamp_bits};
@@ -64,6 +69,14 @@ pub struct Filter {
     /// The bits that stamps may bring, by the numbers of their patterns, and those of all patterns.
     stamps: Vec<u8>,
     stamped: u8,
+    /// The runs of the pattern, each with a bit too, and those that each log type leaves to stamps, by their
+    /// numbers.
+    runs: Vec<Run>,
+    alone: Vec<u8>,
+    /// The bits of the runs that stamps may have, by the numbers of their patterns, and those of all
+    /// patterns.
+    run_stamps: Vec<u8>,
+    run_stamped: u8,
 }
 
 /// The bits that listed words have.
@@ -110,13 +123,17 @@ impl Filter {
     pub fn begin(alloc: Global, plan: &Plan) -> Result<Filter, AllocError>
         ensures { IfOk result (λ f. (types : List (List ℕ)) → AsksTypes plan.now types f) }
     {
-        let tokens = tokens_of(alloc, plan.pieces())?;
+        let pieces = plan.pieces();
+        let tokens = tokens_of(alloc, pieces)?;
         let looked = tokens.as_slice();
         let kinds = kind_bits(looked);
         let needles = texts_of(alloc, looked)?;
         let stamps = mark_stamps(alloc, looked)?;
         let wanted = all_bits(looked);
         let stamped = any_of(stamps.as_slice());
+        let runs = runs_of(alloc, pieces)?;
+        let run_stamps = mark_runs(alloc, runs.as_slice())?;
+        let run_stamped = any_of(run_stamps.as_slice());
         Ok(Filter {
             tokens,
             wanted,
@@ -130,14 +147,29 @@ impl Filter {
             small: Vec::new(alloc),
             stamps,
             stamped,
+            runs,
+            alone: Vec::new(alloc),
+            run_stamps,
+            run_stamped,
         })
     }
 
-    /// The verdict on all rows of a log type. It is given up where its rows cannot bring all tokens,
-    /// whatever their words are.
-    fn type_verdict(&self, test: &TypeTest) -> Verdict
-        ensures { IsTold self.now test.now result }
+    /// The bits of the runs that a log type leaves to stamps.
+    #[inline]
+    fn alone_at(&self, number: u64) -> u8
+        ensures { result ≡ slice_index_or self.now.alone.items number 0 }
     {
+        mark_at(self.alone.as_slice(), number)
+    }
+
+    /// The verdict on all rows of a log type. It is given up where its rows cannot bring all runs, whatever
+    /// their stamps are, or all tokens, whatever their words are.
+    fn type_verdict(&self, number: usize, test: &TypeTest) -> Verdict
+        ensures { IsTold self.now number test.now result }
+    {
+        if !has(self.run_stamped, self.alone_at(number as u64)) {
+            return Verdict::Rejected;
+        }
         if test.verdict == Verdict::Tried && self.lacks_all(test, self.stamped, self.brought) {
             return Verdict::Rejected;
         }
@@ -159,7 +191,7 @@ impl Filter {
         let mut verdicts = Vec::new(alloc);
         for place in 0..self.tests.len() {
             let test = self.test_here(place);
-            verdicts.push(self.type_verdict(&test))?;
+            verdicts.push(self.type_verdict(place, &test))?;
         }
         Ok(verdicts)
     }
@@ -199,6 +231,7 @@ impl Filter {
             verdicts: Vec::new(alloc),
             tests: Vec::new(alloc),
             slots: Vec::new(alloc),
+            alone: Vec::new(alloc),
             ..self
         })
     }
@@ -230,16 +263,22 @@ impl Filter {
             kinds: kind_bits(looked),
             beside: self.beside(),
             run: Finder::new(run.as_slice()),
+            stamped: self.run_stamped,
         };
+        let runs = self.runs.as_slice();
         let mut slots = Vec::new(alloc);
         let mut tests = Vec::new(alloc);
-        test_types(plan, looked, &question, names, &mut slots, &mut tests)?;
+        let mut alone = Vec::new(alloc);
+        test_types(
+            plan, looked, runs, &question, names, &mut slots, &mut tests, &mut alone,
+        )?;
         let small = small_needed(alloc, slots.as_slice(), looked)?;
         let filter = Filter {
             verdicts: Vec::new(alloc),
             tests,
             slots,
             small,
+            alone,
             ..self
         };
         filter.told(alloc)
@@ -399,7 +438,8 @@ impl Filter {
     /// and at last by its stamp.
     #[inline]
     fn lacks(&self, test: &TypeTest, row: RowRef<'_>, page: &mut PageTests) -> bool
-        ensures { IsTrue result → Lacks self.now test.now (row_of row.entry) }
+        ensures lacks { IsTrue result → Lacks self.now test.now (row_of row.entry) }
+        ensures kept { page.new.spans ≡ page.old.spans }
     {
         if self.lacks_words(test, row) {
             return true;
@@ -424,7 +464,8 @@ impl Filter {
     /// them, neither its variables nor its stamp are looked at.
     #[inline]
     fn lacks_tokens(&self, row: RowRef<'_>, page: &mut PageTests) -> bool
-        ensures { IsTrue result → LacksTokens self.now (row_of row.entry) }
+        ensures lacks { IsTrue result → LacksTokens self.now (row_of row.entry) }
+        ensures kept { page.new.spans ≡ page.old.spans }
     {
         let Some(test) = self.test_at(row.log_type) else {
             return false;
@@ -433,6 +474,27 @@ impl Filter {
             return false;
         }
         self.lacks(&test, row, page)
+    }
+
+    /// Whether a run that the row's log type leaves to stamps stands in no stamp of the row's pattern, of the
+    /// moments of the page.
+    #[inline]
+    fn lacks_runs(&self, row: RowRef<'_>, page: &PageTests) -> bool
+        ensures { IsTrue result → IsPage self.now page.now → LacksStamp self.now (row_of row.entry) }
+    {
+        let own = mark_at(self.run_stamps.as_slice(), u64::from(row.pattern));
+        let may = page.may_at(row.pattern, row.moment, own);
+        !has(may, self.alone_at(u64::from(row.log_type)))
+    }
+
+    /// Whether a row does not bring all runs, or all tokens.
+    #[inline]
+    fn lacks_some(&self, row: RowRef<'_>, page: &mut PageTests) -> bool
+        ensures lacks { IsTrue result → IsPage self.now page.old
+            → LacksStamp self.now (row_of row.entry) ⊎ LacksTokens self.now (row_of row.entry) }
+        ensures kept { page.new.spans ≡ page.old.spans }
+    {
+        self.lacks_runs(row, page) || self.lacks_tokens(row, page)
     }
 
     /// What is known of a row: whether the pattern matches its message, or cannot. Takes no memory.
@@ -451,29 +513,39 @@ impl Filter {
     }
 
     /// What goes along while the rows of a page are told, which have these patterns and moments.
-    pub fn begin_page(&self, patterns: &[u8], moments: &[i64]) -> PageTests {
-        if self.stamped == 0 {
+    pub fn begin_page(&self, patterns: &[u8], moments: &[i64]) -> PageTests
+        ensures { IsPage self.now result }
+    {
+        if self.stamped | self.run_stamped == 0 {
             return PageTests::new();
         }
-        PageTests::of(self.tokens.as_slice(), patterns, moments)
+        PageTests::of(
+            self.tokens.as_slice(),
+            self.runs.as_slice(),
+            patterns,
+            moments,
+        )
     }
 
     /// The same as `verdict`, with what goes along from row to row of a page.
     #[inline]
     pub fn verdict_in(&self, row: RowRef<'_>, page: &mut PageTests) -> Verdict
-        ensures told { (p : List Item) (types : List (List ℕ)) (words : List (List ℕ))
+        ensures told { IsPage self.now page.old
+            → (p : List Item) (types : List (List ℕ)) (words : List (List ℕ))
             → IsSearched p → IsFilter (wide_pieces p) types words self.now
             → IsRowVerdict (wide_pieces p) types words (row_of row.entry) result }
+        ensures kept { (f : Filter) → IsPage f page.old → IsPage f page.new }
         ensures certain { result ≡ Certain → (p : List Item) (types : List (List ℕ))
             → AsksTypes (wide_pieces p) types self.now → (words : List (List ℕ))
             → IsRowVerdict (wide_pieces p) types words (row_of row.entry) Certain }
     {
         verdicts_hold();
         rows_bring_runs();
+        rows_bring_chunks();
         let Some(verdict) = self.verdict_at(row.log_type) else {
             return Verdict::Tried;
         };
-        if verdict == Verdict::Tried && self.lacks_tokens(row, page) {
+        if verdict == Verdict::Tried && self.lacks_some(row, page) {
             return Verdict::Rejected;
         }
         verdict
@@ -504,10 +576,14 @@ impl Filter {
         !has(all, self.wanted)
     }
 
-    /// Whether a row of a log type may match, whose stamp and words bring these bits.
-    fn may_be(&self, number: u32, stamped: u8, brought: u8) -> bool
-        ensures { IsFalse result → IsShut self.now stamped brought number }
+    /// Whether a row of a log type may match, whose stamp has these runs, and whose stamp and words bring
+    /// these bits.
+    fn may_be(&self, number: u32, runs: u8, stamped: u8, brought: u8) -> bool
+        ensures { IsFalse result → IsShut self.now runs stamped brought number }
     {
+        if !has(runs, self.alone_at(u64::from(number))) {
+            return false;
+        }
         let Some(test) = self.test_at(number) else {
             return true;
         };
@@ -518,13 +594,14 @@ impl Filter {
         }
     }
 
-    /// Whether a row of one of these log types may match, whose stamp and words bring these bits.
-    fn some_may(&self, types: &[u32], stamped: u8, brought: u8) -> bool
+    /// Whether a row of one of these log types may match, whose stamp has these runs, and whose stamp and
+    /// words bring these bits.
+    fn some_may(&self, types: &[u32], runs: u8, stamped: u8, brought: u8) -> bool
         ensures { IsFalse result → (t : ℕ) → Contains types.now t
-            → IsShut self.now stamped brought t }
+            → IsShut self.now runs stamped brought t }
     {
         for number in types {
-            if self.may_be(*number, stamped, brought) {
+            if self.may_be(*number, runs, stamped, brought) {
                 return true;
             }
         }
@@ -543,6 +620,16 @@ impl Filter {
         none | bits_within(self.tokens.as_slice(), stamps, head)
     }
 
+    /// The bits of the runs that the stamps of a segment may have.
+    fn stamped_runs(&self, head: &Head) -> u8
+        ensures { RunsBring self.now head.now result }
+    {
+        if !head.stamped {
+            return 0;
+        }
+        runs_within(self.runs.as_slice(), head)
+    }
+
     /// Whether the pattern may match a message of a segment, by what its head lists and by its least and
     /// its greatest moment. Takes no memory.
     ///
@@ -554,12 +641,14 @@ impl Filter {
     {
         verdicts_hold();
         rows_bring_runs();
+        rows_bring_chunks();
         let types = head.types.as_slice();
+        let runs = self.stamped_runs(head);
         let stamped = self.stamps_of(head);
-        if self.some_may(types, stamped, 0) {
+        if self.some_may(types, runs, stamped, 0) {
             return true;
         }
         let brought = bits_of_list(&self.marks, head.words.as_slice());
-        self.some_may(types, stamped, brought)
+        self.some_may(types, runs, stamped, brought)
     }
 }

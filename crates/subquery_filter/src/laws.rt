@@ -1,10 +1,10 @@
 //! Laws of barren segments and of verdicts. The functions do nothing.
 ghost use Rattle.subquery_filter.specs.Laws.{BarrenHasNoMatch};
-ghost use Rattle.subquery_filter.specs.Tokens.{RowsBringClosed, RowsBringClosedRuns, RowsBringRuns, RowsBringTokens};
+ghost use Rattle.subquery_filter.specs.Tokens.{RowsBringChunks, RowsBringClosed, RowsBringClosedRuns, RowsBringRuns, RowsBringTokens};
 ghost use Rattle.subquery_filter.specs.Verdicts.{CertainAlwaysMatches, RejectedNeverMatches};
 
 use query_plan::{
-    chunks_are_brought, constants_suffice, needs_are_brought, readings_are_exact,
+    chunks_are_brought, constants_suffice, needs_are_brought, readings_are_exact, texts_stand,
     tokens_are_brought,
 };
 use time_patterns::laws::stamp_texts_are_short;
@@ -57,4 +57,12 @@ pub fn rows_bring_runs()
     tokens_are_brought();
     chunks_are_brought();
     readings_are_exact();
+}
+
+/// A row whose message a pattern matches has each run of the pattern's pieces in its stamp, where no body of
+/// its log type may have the run or go on with it behind a stamp.
+pub fn rows_bring_chunks()
+    ensures { RowsBringChunks }
+{
+    texts_stand();
 }

@@ -5,6 +5,7 @@
 #![tactic(auto)]
 
 mod accepting;
+mod alone;
 mod beside;
 mod bits;
 mod filter;
@@ -18,6 +19,8 @@ mod number_text;
 mod numbers;
 mod rejecting;
 mod rules;
+mod run;
+mod run_stamps;
 mod runs;
 mod shared;
 mod short_text;
@@ -32,7 +35,8 @@ pub use filter::Filter;
 pub use known::{KnownWord, known_words};
 pub use known_names::KnownNames;
 pub use laws::{
-    barren_has_no_match, rows_bring_closed, rows_bring_runs, rows_bring_tokens, verdicts_hold,
+    barren_has_no_match, rows_bring_chunks, rows_bring_closed, rows_bring_runs, rows_bring_tokens,
+    verdicts_hold,
 };
 pub use rules::{barren, barren_by, is_outside};
 pub use shared::PageTests;

@@ -1,6 +1,12 @@
 //! What the rows of a page share, so that it is told once for all of them.
-ghost use Rattle.std.specs.Prelude.{◌≤◌, length};
+ghost use Rattle.std.specs.Prelude.{◌<◌, ◌≤◌, ℕ, List, length};
+ghost use Rattle.row_codec.specs.Means.{HasStampText};
+ghost use Rattle.subquery_filter.specs.Filter.{RunMarks};
+ghost use Rattle.subquery_filter.specs.declared.run.Run.{Run};
+ghost use Rattle.subquery_filter.specs.Page.{AreMay, IsSpan};
 
+use crate::run::Run;
+use crate::run_stamps::span_runs;
 use crate::token::Token;
 use crate::tokens::chunk_marks;
 use time_patterns::StampPrinter;
@@ -8,21 +14,24 @@ use time_patterns::StampPrinter;
 /// The numbers of patterns are below this.
 const PATTERNS: usize = 32;
 
-/// The least and the greatest moment of rows whose stamps have one pattern.
+/// The least and the greatest moment of rows whose stamps have one pattern, and the bits of the runs that
+/// stamps of the pattern may have between the two.
 #[derive(Clone, Copy, Debug)]
-struct Span {
-    least: i64,
-    greatest: i64,
+pub(crate) struct Span {
+    pub(crate) least: i64,
+    pub(crate) greatest: i64,
+    pub(crate) may: u8,
 }
 
 /// No moments.
 const NO_SPAN: Span = Span {
     least: i64::MAX,
     greatest: i64::MIN,
+    may: 0,
 };
 
 /// What goes along from row to row while the rows of a page are told: which tokens stand in all stamps
-/// of a pattern there, and the day of the last stamp that was printed.
+/// of a pattern there, which runs may stand in some, and the day of the last stamp that was printed.
 ///
 /// That a token stands in all of them is a hint: a row that brings all tokens so is tried, as any row
 /// may be.
@@ -31,6 +40,8 @@ pub struct PageTests {
     pub(crate) printer: StampPrinter,
     /// The bits of the tokens, by the numbers of the patterns.
     shared: [u8; PATTERNS],
+    /// The spans of the page's moments, by the numbers of the patterns.
+    pub(crate) spans: [Span; PATTERNS],
 }
 
 /// The spans of the moments of rows, by the numbers of the patterns of their stamps.
@@ -43,6 +54,7 @@ fn spans_of(patterns: &[u8], moments: &[i64]) -> [Span; PATTERNS] {
         spans[number] = Span {
             least: span.least.min(moment),
             greatest: span.greatest.max(moment),
+            may: 0,
         };
     }
     spans
@@ -79,24 +91,69 @@ fn span_bits(tokens: &[Token], pattern: u8, span: Span, printer: &mut StampPrint
     chunk_marks(tokens, &low[..front])
 }
 
+/// The same span, with the bits of the runs that stamps of the pattern may have there.
+fn with_runs(runs: &[Run], pattern: u8, span: Span) -> Span
+    ensures { 1 ≤ pattern → IsSpan runs.now pattern result }
+{
+    Span {
+        may: span_runs(runs, pattern, span.least, span.greatest),
+        ..span
+    }
+}
+
 impl PageTests {
     /// Nothing is known to be shared. Takes no memory.
-    pub fn new() -> PageTests {
+    pub fn new() -> PageTests
+        ensures { (runs : List Run) → AreMay runs result.spans }
+    {
         PageTests {
             printer: StampPrinter::new(),
             shared: [0; PATTERNS],
+            spans: [NO_SPAN; PATTERNS],
         }
     }
 
+    /// Adds what the stamps of a pattern share between two moments, and may have.
+    fn add_span(&mut self, tokens: &[Token], runs: &[Run], number: u8, span: Span)
+        requires { (1 ≤ number) × (number < 32) }
+        ensures { AreMay runs.now self.old.spans → AreMay runs.now self.new.spans }
+    {
+        if span.greatest < span.least {
+            return;
+        }
+        let place = usize::from(number);
+        self.shared[place] = span_bits(tokens, number, span, &mut self.printer);
+        self.spans[place] = with_runs(runs, number, span);
+    }
+
     /// What the stamps of a page share, whose rows have these patterns and moments.
-    pub(crate) fn of(tokens: &[Token], patterns: &[u8], moments: &[i64]) -> PageTests {
+    pub(crate) fn of(tokens: &[Token], runs: &[Run], patterns: &[u8], moments: &[i64]) -> PageTests
+        ensures { AreMay runs.now result.spans }
+    {
         let mut tests = PageTests::new();
         let spans = spans_of(patterns, moments);
         for number in 1..PATTERNS {
-            let bits = span_bits(tokens, number as u8, spans[number], &mut tests.printer);
-            tests.shared[number] = bits;
+            tests.add_span(tokens, runs, number as u8, spans[number]);
         }
         tests
+    }
+
+    /// The bits of the runs that the stamp of a row may have, of those that its pattern may have.
+    #[inline]
+    pub(crate) fn may_at(&self, pattern: u8, moment: i64, own: u8) -> u8
+        ensures { (runs : List Run) (s : List ℕ) → AreMay runs self.now.spans
+            → HasStampText pattern moment s → RunMarks runs s own → RunMarks runs s result }
+    {
+        let place = usize::from(pattern);
+        if place >= PATTERNS {
+            return own;
+        }
+        let span = self.spans[place];
+        if span.least <= moment && moment <= span.greatest {
+            span.may
+        } else {
+            own
+        }
     }
 
     /// The bits of the tokens that stand in all stamps of a pattern.

@@ -1,11 +1,16 @@
 //! The slots of log types that may bring tokens.
 ghost use Rattle.std.specs.Prelude.{◌≡◌, ◌≢◌, ◌≤◌, ℕ, List, [], IfOk, IsFalse, IsTrue, OnOk, Some, length, slice_get};
+ghost use Rattle.logtype_text.specs.declared.symbols.Kind.{Kind};
+ghost use Rattle.query_plan.specs.declared.pieces.Piece.{Piece};
+ghost use Rattle.subquery_filter.specs.declared.slots.Beside.{Beside};
 ghost use Rattle.subquery_filter.specs.declared.token.Token.{Token};
-ghost use Rattle.subquery_filter.specs.Filter.{AreKindBits, AreSlots, AreTests, Covers, Has, IsSlot, IsTest};
+ghost use Rattle.subquery_filter.specs.Filter.{AreAlone, AreKindBits, AreSlots, AreTests, Covers, Gives, Has, IsAlone, IsSlot, IsTest};
 ghost use Rattle.subquery_filter.specs.StepsFilter.{Stays};
 ghost use Rattle.subquery_filter.specs.declared.slots.Slot.{Slot};
 
+use crate::alone::alone_of;
 use crate::bits::has;
+use crate::run::Run;
 use crate::token::Token;
 use crate::tokens::gifts_of;
 use crate::verdicts::{Verdict, verdict_behind};
@@ -40,6 +45,8 @@ pub(crate) struct Question<'a> {
     /// The longest run of bytes of the pattern, as log types store constant bytes. A log type of which
     /// the pattern matches each message has it.
     pub(crate) run: Finder<'a>,
+    /// The bits of the runs of the pattern that some stamp may have.
+    pub(crate) stamped: u8,
 }
 
 /// A slot of a log type in which a token may stand.
@@ -83,6 +90,15 @@ impl KindBits {
             Kind::Decimal => self.decimal,
             Kind::Word => self.word,
         }
+    }
+
+    /// These bits, and those that variables may bring.
+    fn all_with(&self, known: u8) -> u8
+        ensures more { Has result known }
+        ensures all { (tokens : List Token) → AreKindBits tokens self.now → (kind : Kind)
+            → Covers tokens kind result }
+    {
+        known | self.whole | self.decimal | self.word
     }
 }
 
@@ -144,25 +160,55 @@ fn closed_test(verdict: Verdict, first: usize) -> TypeTest
     }
 }
 
-/// What is known of a log type with this text, whose slots are listed behind those before.
+/// A log type whose rows are rejected by their runs: it is taken to bring all tokens, and no slot is listed.
+fn passed_test(kinds: &KindBits, known: u8, first: usize) -> TypeTest
+    ensures { (plan : List Piece) (tokens : List Token) (beside : Beside) (slots : List Slot)
+        (text : List ℕ) → Gives tokens text known → AreKindBits tokens kinds.now
+        → IsTest plan tokens beside slots text result }
+{
+    TypeTest {
+        verdict: Verdict::Tried,
+        has: kinds.all_with(known),
+        first,
+        end: first,
+    }
+}
+
+/// The bits of the runs that a log type leaves to stamps, where it is not rejected by the tokens that its
+/// constant bytes bring.
+fn left_to_stamps(runs: &[Run], beside: &Beside, known: u8, text: &[u8]) -> u8
+    ensures { IsAlone runs.now text.now result }
+{
+    if beside.lacks(known) {
+        return 0;
+    }
+    alone_of(runs, text)
+}
+
+/// What is known of a log type with this text, whose slots are listed behind those before, by the bits of
+/// the tokens that its constant bytes bring and of the runs that it leaves to stamps.
 ///
 /// Most log types of a long log are rejected by the bytes of the tokens alone: no symbol of theirs is
 /// looked at.
 fn test_of(
     plan: &Plan,
-    tokens: &[Token],
     question: &Question<'_>,
     slots: &mut Vec<Slot>,
     text: &[u8],
+    known: u8,
+    alone: u8,
 ) -> Result<TypeTest, AllocError>
-    ensures test { IfOk result (λ test. AreKindBits tokens.now question.now.kinds
-        → IsTest plan.now tokens.now question.now.beside slots.new.items text.now test) }
+    ensures test { IfOk result (λ test. (tokens : List Token) → Gives tokens text.now known
+        → AreKindBits tokens question.now.kinds
+        → IsTest plan.now tokens question.now.beside slots.new.items text.now test) }
     ensures stays { IfOk result (λ _. Stays slots.old.items slots.new.items) }
 {
     let first = slots.len();
-    let known = gifts_of(tokens, text);
     if question.beside.lacks(known) {
         return Ok(closed_test(Verdict::Rejected, first));
+    }
+    if !has(question.stamped, alone) {
+        return Ok(passed_test(&question.kinds, known, first));
     }
     let verdict = verdict_behind(plan, &question.run, text);
     if verdict != Verdict::Tried {
@@ -177,25 +223,33 @@ fn test_of(
     })
 }
 
-/// What is known of all log types, by their numbers, and their slots.
+/// What is known of all log types, by their numbers, their slots, and the bits of the runs that they leave to
+/// stamps.
 pub(crate) fn test_types<N: Names>(
     plan: &Plan,
     tokens: &[Token],
+    runs: &[Run],
     question: &Question<'_>,
     names: &N,
     slots: &mut Vec<Slot>,
     tests: &mut Vec<TypeTest>,
+    alone: &mut Vec<u8>,
 ) -> Result<(), AllocError>
-    requires { tests.old.items ≡ [] }
-    ensures { OnOk result (AreKindBits tokens.now question.now.kinds → AreTests plan.now tokens.now
-        question.now.beside (N.types names.now) slots.new.items tests.new.items) }
+    requires tests { tests.old.items ≡ [] }
+    requires alone { alone.old.items ≡ [] }
+    ensures tests { OnOk result (AreKindBits tokens.now question.now.kinds → AreTests plan.now
+        tokens.now question.now.beside (N.types names.now) slots.new.items tests.new.items) }
+    ensures alone { OnOk result (AreAlone runs.now (N.types names.now) alone.new.items) }
 {
     for number in 0..u32::MAX {
         let Some(text) = names.type_text(number) else {
             return Ok(());
         };
-        let test = test_of(plan, tokens, question, slots, text)?;
+        let known = gifts_of(tokens, text);
+        let bits = left_to_stamps(runs, &question.beside, known, text);
+        let test = test_of(plan, question, slots, text, known, bits)?;
         tests.push(test)?;
+        alone.push(bits)?;
     }
     Ok(())
 }

@@ -60,7 +60,7 @@ fn stored_matcher(alloc: Global, token: &[u8]) -> Result<Matcher, AllocError>
 }
 
 /// The bit of the token that comes behind so many: with more than eight tokens some share one.
-fn bit_behind(count: usize) -> u8 {
+pub(crate) fn bit_behind(count: usize) -> u8 {
     match count % 8 {
         0 => 1,
         1 => 2,

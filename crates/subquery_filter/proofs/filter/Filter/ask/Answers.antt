@@ -1,7 +1,8 @@
 use Rattle.std.proofs.Common.{List, rules, subst, sym}
+use Rattle.subquery_filter.specs.declared.run.Run.{Run}
 use Rattle.subquery_filter.specs.declared.slots.Beside.{Beside}
 use Rattle.subquery_filter.specs.declared.token.Token.{Token}
-use Rattle.subquery_filter.specs.Filter.{AreCoded, AreSmall, AreTests}
+use Rattle.subquery_filter.specs.Filter.{AreAlone, AreCoded, AreSmall, AreTests}
 use Rattle.subquery_filter.proofs.ClosedLemmas.{are_coded}
 use Rattle.subquery_filter.proofs.MarkLemmas.{asks_ok, filters_ok, told_none}
 use Rattle.subquery_filter.proofs.filter.Filter.ask.Goals as goal
@@ -19,7 +20,7 @@ returns-clause-asks g c = asks_ok c.args.plan.now (g.N.Names.types c.args.names.
       wanted = a.wanted;
       tests =
           subst (λ (x : Beside). AreTests c.args.plan.now c.args.self.tokens.items x types slots tests) c.beside.ensures
-          (subst (λ (l : List Token). AreTests c.args.plan.now l c.beside.result types slots tests) looked (c.in_ok-test_types.ensures (c.kind_bits.ensures coded)));
+          (subst (λ (l : List Token). AreTests c.args.plan.now l c.beside.result types slots tests) looked (c.in_ok-test_types.ensures.tests (c.kind_bits.ensures coded)));
       needles = a.needles;
       told = told_none _ _ (search rules);
       brought = a.brought;
@@ -27,6 +28,10 @@ returns-clause-asks g c = asks_ok c.args.plan.now (g.N.Names.types c.args.names.
       small = subst (λ (l : List Token). AreSmall l c.in_ok-small.small.items) looked c.in_ok-small.ensures;
       stamps = a.stamps;
       stamped = a.stamped;
+      runs = a.runs;
+      alone = subst (λ (l : List Run). AreAlone l types c.test_types.new.alone.items) c.as_slice-runs.ensures.value c.in_ok-test_types.ensures.alone;
+      run_stamps = a.run_stamps;
+      run_stamped = a.run_stamped;
     })
 
 pub returns-clause-filter : goal.returns-clause-filter
@@ -44,7 +49,7 @@ returns-clause-filter g c = filters_ok c.args.plan.now (g.N.Names.types c.args.n
         wanted = a.wanted;
         tests =
             subst (λ (x : Beside). AreTests c.args.plan.now c.args.self.tokens.items x types slots tests) c.beside.ensures
-            (subst (λ (l : List Token). AreTests c.args.plan.now l c.beside.result types slots tests) looked (c.in_ok-test_types.ensures (c.kind_bits.ensures coded)));
+            (subst (λ (l : List Token). AreTests c.args.plan.now l c.beside.result types slots tests) looked (c.in_ok-test_types.ensures.tests (c.kind_bits.ensures coded)));
         needles = a.needles;
         told = told_none _ _ (search rules);
         brought = a.brought;
@@ -52,6 +57,10 @@ returns-clause-filter g c = filters_ok c.args.plan.now (g.N.Names.types c.args.n
         small = subst (λ (l : List Token). AreSmall l c.in_ok-small.small.items) looked c.in_ok-small.ensures;
         stamps = a.stamps;
         stamped = a.stamped;
+        runs = a.runs;
+        alone = subst (λ (l : List Run). AreAlone l types c.test_types.new.alone.items) c.as_slice-runs.ensures.value c.in_ok-test_types.ensures.alone;
+        run_stamps = a.run_stamps;
+        run_stamped = a.run_stamped;
       };
       marks = is.marks;
     })

@@ -1,6 +1,7 @@
 use Rattle.std.proofs.Common.{List, rules, subst}
 use Rattle.subquery_filter.specs.declared.token.Token.{Token}
 use Rattle.subquery_filter.specs.StepsFilter.{HasLists}
+use Rattle.subquery_filter.proofs.AloneLemmas.{alone_none}
 use Rattle.subquery_filter.proofs.FilterLemmas.{tests_none}
 use Rattle.subquery_filter.proofs.MarkLemmas.{marks_are, told_none}
 use Rattle.subquery_filter.proofs.filter.Filter.mark.Goals as goal
@@ -23,6 +24,10 @@ returns c = λ ps types words a have.
         small = a.small;
         stamps = a.stamps;
         stamped = a.stamped;
+        runs = a.runs;
+        alone = alone_none _ types _ (search rules);
+        run_stamps = a.run_stamps;
+        run_stamped = a.run_stamped;
       };
       marks = marks_are tokens words c.args.self.needles.items c.args.lists.now marks a.needles have lists;
     }

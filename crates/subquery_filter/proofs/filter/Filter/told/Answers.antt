@@ -9,12 +9,16 @@ returns-clause-asks c = λ ps types a. record {
   wanted = a.wanted;
   tests = a.tests;
   needles = a.needles;
-  told = told_again c.args.self _ c.in_ok-verdicts.verdicts.items refl refl refl refl refl c.in_ok-verdicts.ensures;
+  told = told_again c.args.self _ c.in_ok-verdicts.verdicts.items refl refl refl refl refl refl refl c.in_ok-verdicts.ensures;
   brought = a.brought;
   numbers = a.numbers;
   small = a.small;
   stamps = a.stamps;
   stamped = a.stamped;
+  runs = a.runs;
+  alone = a.alone;
+  run_stamps = a.run_stamps;
+  run_stamped = a.run_stamped;
 }
 
 pub returns-clause-marked : goal.returns-clause-marked
@@ -27,12 +31,16 @@ returns-clause-marked c = λ ps types words is.
         wanted = a.wanted;
         tests = a.tests;
         needles = a.needles;
-        told = told_again c.args.self _ c.in_ok-verdicts.verdicts.items refl refl refl refl refl c.in_ok-verdicts.ensures;
+        told = told_again c.args.self _ c.in_ok-verdicts.verdicts.items refl refl refl refl refl refl refl c.in_ok-verdicts.ensures;
         brought = a.brought;
         numbers = a.numbers;
         small = a.small;
         stamps = a.stamps;
         stamped = a.stamped;
+        runs = a.runs;
+        alone = a.alone;
+        run_stamps = a.run_stamps;
+        run_stamped = a.run_stamped;
       };
       marks = is.marks;
     }
