@@ -56,14 +56,14 @@ const STAMPS: &[Row] = &[
         b"page=33",
         Case::Number(1, LATER, 0, &[33], Verdict::Rejected),
     ),
-    // nine runs: the first and the last share a bit
+    // more runs than bits: the first and the last share one, which the log type brings
     (
         b"x*:*0*0*0*0*0*0*4",
         Case::Plain(3, &[4_000_000], Verdict::Tried),
     ),
     (
         b"x*:*0*0*0*0*0*0*4",
-        Case::Plain(3, &[3_000_000], Verdict::Rejected),
+        Case::Plain(3, &[3_000_000], Verdict::Tried),
     ),
     (
         b"2*5*0*3*0*1*0*0*:34",
@@ -122,12 +122,12 @@ const PAGES: &[Row] = &[
             &[REJECTED, REJECTED, REJECTED],
         ),
     ),
-    // over midnight
+    // over midnight; milliseconds that end with the front of the run would be tried
     (
         b"00:00:00",
         Case::Paged(
             &[1, 1, 1],
-            &[MIDNIGHT - 1_000, MIDNIGHT + 404, MIDNIGHT + 1_000],
+            &[MIDNIGHT - 999, MIDNIGHT + 404, MIDNIGHT + 1_001],
             0,
             &[5],
             &[REJECTED, TRIED, REJECTED],
