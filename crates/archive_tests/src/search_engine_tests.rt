@@ -278,10 +278,10 @@ fn more_open_tokens_than_planned(rt: HostRuntime) -> Result<(), Fail> {
 
 /// A pattern over rows, what is printed, what is counted, and how many calls of the disk there are.
 /// Three segments have rows, and the head of each is read by one call. Where the pattern has a token,
-/// each of the three records of words is read by one. A page is read by five, and the record of the
-/// word that its row has by one more.
+/// each of the three records of words is read by one. The log types of a page are read by one, the page
+/// then by five, and the record of the word that its row has by one more.
 const OF_ROWS: &[(&[u8], &[u8], Counts, u64)] = &[
-    (b" task_2 ", b"a.log:2:run task_2 x\n", (1, 1, 1, 4), 12),
+    (b" task_2 ", b"a.log:2:run task_2 x\n", (1, 1, 1, 4), 13),
     (b" task_9 ", b"", (0, 0, 0, 4), 6),
     (b"run;x", b"", (0, 0, 3, 4), 6),
 ];
@@ -390,10 +390,15 @@ fn damage_is_met_alike_by_any_number_of_workers(rt: HostRuntime) -> Result<(), F
     Ok(())
 }
 
-/// `WORKED` with zeros behind it up to this length, and with these bytes at places. Its segment then has
+/// An archive with zeros behind it up to this length, and with these bytes at places. Its segment then has
 /// so many rows more, each like the first.
-fn grown(alloc: Global, length: usize, changes: &[(usize, u8)]) -> Result<Vec<u8>, AllocError> {
-    let mut bytes = WORKED.to_vec(alloc)?;
+fn grown(
+    alloc: Global,
+    archive: &[u8],
+    length: usize,
+    changes: &[(usize, u8)],
+) -> Result<Vec<u8>, AllocError> {
+    let mut bytes = archive.to_vec(alloc)?;
     bytes.resize(length, 0)?;
     for &(at, byte) in changes {
         if let Some(place) = bytes.get_mut(at) {
@@ -420,7 +425,7 @@ fn is_as_with_one<R: Threads + Sync>(
         (101, 0x9C),
         (at, byte),
     ];
-    let bytes = grown(alloc, 680_138, &changes)?;
+    let bytes = grown(alloc, &WORKED, 680_138, &changes)?;
     let one = searched(rt, 1, alloc, bytes.as_slice(), b"a", ALL, 1_000_000)?;
     let many = searched(rt, workers, alloc, bytes.as_slice(), b"a", ALL, 1_000_000)?;
     Ok(
@@ -459,7 +464,7 @@ fn calls_until_printed<R: Threads + Sync>(
         (101, 0x86),
         (102, 0x01),
     ];
-    let bytes = grown(alloc, 1_700_138, &changes)?;
+    let bytes = grown(alloc, &WORKED, 1_700_138, &changes)?;
     let outcome = searched(rt, workers, alloc, bytes.as_slice(), b"a", ALL, 1_000)?;
     Ok(outcome.answer == Err(SearchRefusal::SinkFault) && outcome.calls == calls)
 }
@@ -467,14 +472,87 @@ fn calls_until_printed<R: Threads + Sync>(
 /// How many workers there are, and how many calls of the disk there are before something is printed: one
 /// reads the head, and a page is read by five. One worker has a piece for the
 /// output after a page. Of each of the others four pages are in memory, two that are searched, and two
-/// that are read meanwhile.
-const OF_ROUNDS: &[(u32, u64)] = &[(1, 6), (2, 41), (3, 61)];
+/// that are read meanwhile. One more reads the log types of a page before it is taken, and of the one that
+/// finds the round full: none of those that are read meanwhile.
+const OF_ROUNDS: &[(u32, u64)] = &[(1, 7), (2, 46), (3, 68)];
 
 #[test]
 fn a_round_has_four_pages_a_worker(rt: HostRuntime) -> Result<(), Fail> {
     for &(workers, calls) in OF_ROUNDS {
         let well = calls_until_printed(&rt, workers, rt.alloc(), calls)?;
         assert!(rt; well, "{workers}");
+    }
+    Ok(())
+}
+
+/// `LETTERS` with 5,000 rows, which are two pages: all are its first message but the last one, which is its
+/// second. A byte is this one.
+fn two_pages(alloc: Global, at: usize, byte: u8) -> Result<Vec<u8>, AllocError> {
+    let changes = [
+        (26, 0x10),
+        (101, 0x3D),
+        (102, 0x4C),
+        (103, 0x01),
+        (121, 0x88),
+        (122, 0x13),
+        (184, 0),
+        (65_158, 1),
+        (at, byte),
+    ];
+    grown(alloc, &LETTERS, 85_163, &changes)
+}
+
+/// How many workers there are, a pattern, how many messages are found, and how many calls of the disk there
+/// are. One reads the head, and one the log types of a page. Of the first page the log type has no `x`: it is
+/// passed by one more. A page that is taken is read by five.
+const OF_TYPES: &[(u32, &[u8], u64, u64)] = &[
+    (1, b"x", 1, 9),
+    (2, b"x", 1, 9),
+    (1, b"a", 5_000, 13),
+    (1, b"y", 0, 1),
+];
+
+/// Whether with so many workers a search of the two pages finds so many messages, and calls the disk so
+/// often.
+fn finds_by_calls<R: Threads + Sync>(
+    rt: &R,
+    workers: u32,
+    alloc: Global,
+    text: &[u8],
+    found: u64,
+    calls: u64,
+) -> Result<bool, AllocError> {
+    let bytes = two_pages(alloc, 0, 67)?;
+    let outcome = searched(rt, workers, alloc, bytes.as_slice(), text, ALL, 1_000_000)?;
+    Ok(counts_are(&outcome.answer, (found, found, 1, 1)) && outcome.calls == calls)
+}
+
+#[test]
+fn a_page_that_its_log_types_rule_out_is_passed(rt: HostRuntime) -> Result<(), Fail> {
+    for &(workers, text, found, calls) in OF_TYPES {
+        let well = finds_by_calls(&rt, workers, rt.alloc(), text, found, calls)?;
+        assert!(rt; well, "{workers} {text:?}");
+    }
+    Ok(())
+}
+
+/// A place of the first page whose byte is 200, a pattern, and whether the damage is told. A count that says
+/// too many variables is met where the page is passed, which then is taken. A stamp that no pattern has is
+/// met only where its row is written.
+const OF_PASSED: &[(usize, &[u8], bool)] = &[
+    (65_162, b"x", true),
+    (65_162, b"a", true),
+    (162, b"x", false),
+    (162, b"a", true),
+];
+
+#[test]
+fn damage_in_a_page_that_is_passed(rt: HostRuntime) -> Result<(), Fail> {
+    for &(at, text, told) in OF_PASSED {
+        let bytes = two_pages(rt.alloc(), at, 200)?;
+        let outcome = searched(&rt, 1, rt.alloc(), bytes.as_slice(), text, ALL, 1_000_000)?;
+        let damaged = outcome.answer == Err(SearchRefusal::Damaged);
+        assert!(rt; damaged == told, "{at} {text:?}");
     }
     Ok(())
 }

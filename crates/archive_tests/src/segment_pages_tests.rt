@@ -87,6 +87,45 @@ fn a_page_is_read_by_five_reads(rt: HostRuntime) -> Result<(), Fail> {
     Ok(())
 }
 
+/// How many rows the page of a disk has that is passed, and after how many reads none is left, for a caller
+/// that counts nothing.
+fn passes<L: Ledger>(
+    alloc: Global,
+    head: &Head,
+    disk: &mut MemDisk,
+    blank: Blank,
+) -> Result<Option<(u32, usize)>, PageRefusal>
+    requires { OpensFor blank L.name L.parts }
+{
+    let mut steps: Steps<L> = Steps::new(blank);
+    let Some(mut pages) = SegmentPages::open(AT as u64, LEN as u64, head, &mut steps) else {
+        return Ok(None);
+    };
+    let mut buffer = Vec::new(alloc);
+    if !pages.has_next() || pages.page_rows() != 2 {
+        return Ok(None);
+    }
+    let rows = pages.pass_page(disk, &mut buffer)?;
+    Ok((!pages.has_next()).then_some((rows, disk.calls())))
+}
+
+/// Whether the page of the disk is passed, after so many reads.
+fn passes_by(alloc: Global, calls: usize) -> Result<bool, AllocError> {
+    let Ok(head) = read_head(alloc, &TWO_ROWS[..HEAD_LEN]) else {
+        return Ok(false);
+    };
+    let mut disk = disk(alloc, &TWO_ROWS, &[])?;
+    let passed = passes::<Brand>(alloc, &head, &mut disk, Blank::new(1));
+    Ok(passed == Ok(Some((2, calls))))
+}
+
+#[test]
+fn a_page_is_passed_by_one_read(rt: HostRuntime) -> Result<(), Fail> {
+    let well = passes_by(rt.alloc(), 1)?;
+    assert!(rt; well);
+    Ok(())
+}
+
 #[test]
 fn laws_hold() {
     segments_are_held();
