@@ -7,7 +7,7 @@ ghost use Rattle.subquery_filter.specs.Filter.{IsFilter, RejectsType};
 ghost use Rattle.subquery_filter.specs.declared.verdicts.Verdict.TheVariants.{Rejected};
 
 use crate::filter::Filter;
-use crate::laws::{rows_bring_runs, verdicts_hold};
+use crate::laws::{rows_bring_chunks, rows_bring_runs, verdicts_hold};
 use crate::verdicts::Verdict;
 
 impl Filter {
@@ -30,6 +30,7 @@ impl Filter {
     {
         verdicts_hold();
         rows_bring_runs();
+        rows_bring_chunks();
         for number in types {
             if !self.rejects(*number) {
                 return false;

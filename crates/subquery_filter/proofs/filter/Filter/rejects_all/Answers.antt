@@ -7,5 +7,5 @@ loop-number-preserved c = rejecting_step c.args.self.now c.args.types.now c.loop
 
 pub returns : goal.returns
 returns c = λ _ p names texts searched is.
-    rejects_types c.verdicts_hold.ensures.rejected c.verdicts_hold.ensures.certain (c.rows_bring_runs.ensures.runs, c.rows_bring_runs.ensures.closed) p searched names texts c.args.self.now is c.args.types.now c.loop-number.number-index (search rules)
+    rejects_types c.verdicts_hold.ensures.rejected c.verdicts_hold.ensures.certain (c.rows_bring_runs.ensures.runs, c.rows_bring_runs.ensures.closed, c.rows_bring_chunks.ensures) p searched names texts c.args.self.now is c.args.types.now c.loop-number.number-index (search rules)
     c.loop-number.invariant
