@@ -7,7 +7,6 @@ use Rattle.log_seams.specs.declared.disk.Disk.{Ghosts as DiskGhosts}
 use Rattle.record_format.specs.declared.header.Header.{Header}
 use Rattle.disk_journal.specs.Journal.{state_of}
 use Rattle.disk_journal.specs.declared.journal.Journal.{Journal}
-use Rattle.column_store.specs.declared.row.Row.{Row}
 use Rattle.row_codec.specs.Means.{AreCanonical}
 use Rattle.row_codec.specs.declared.namer.Which.{Which}
 use Rattle.row_codec.specs.declared.namer.Which.TheVariants.{Types, Words}
@@ -73,7 +72,7 @@ module _ {D : Type 0} {d : DiskGhosts D} (s : SecondView) (h : Header) (before :
     were = subst (λ v. AreCanonical v next.rows other.types other.words lacked.messages) version
         (subst (λ ts. AreCanonical s.version next.rows ts other.words lacked.messages) (texts Types)
         (subst (λ ts. AreCanonical s.version next.rows s.texts.types ts lacked.messages) (texts Words)
-        (subst (λ (l : List Row). AreCanonical s.version l s.texts.types s.texts.words lacked.messages) (sym rows_are) lacked.source.0)));
+        (subst (λ l. AreCanonical s.version l s.texts.types s.texts.words lacked.messages) (sym rows_are) lacked.source.0)));
     canonical = subst (λ v. AreCanonical v lacked.segment.rows lacked.types lacked.words lacked.messages) version lacked.canonical;
     needs = lacked.needs ∙ ap (λ ns. min (needed_behind lacked.segment ns lacked.front lacked.types lacked.words) 18446744073709551615) lacked.numbers_are;
   }
