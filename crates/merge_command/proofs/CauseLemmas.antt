@@ -47,7 +47,7 @@ module _ {D : Type 0} {d : DiskGhosts D} (s : SecondView) (h : Header) (before :
       (of_told (is_some (state_of j).disk.seen) told full)))
 
   -- a segment that does not fit, which is this one of the second archive's journal
-  lacks_room : (bytes : List ℕ) → s.told ≡ Some bytes → s.version ≡ h.version → (next : SegmentEntry) (first file done number end need : ℕ) → file ≡ number → h.length_limit < end + need
+  pub lacks_room : (bytes : List ℕ) → s.told ≡ Some bytes → s.version ≡ h.version → (next : SegmentEntry) (first file done number end need : ℕ) → file ≡ number → h.length_limit < end + need
       → (lacked : LackedRoom (AreOfBoth s) s first file done j after end need) → IsSegmentAt bytes lacked.place next → LacksRoom h before es other number next end need
   lacks_room bytes told_is version next first file done number end need same past lacked at = record {
     front = lacked.front;
