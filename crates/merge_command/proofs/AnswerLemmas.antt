@@ -6,7 +6,6 @@ use Rattle.log_seams.specs.Disk.{DiskState}
 use Rattle.log_seams.specs.Outside.{Rose}
 use Rattle.record_format.specs.declared.header.Header.{Header}
 use Rattle.archive_meaning.specs.declared.entry.JournalEntry.{JournalEntry}
-use Rattle.archive_meaning.specs.Held.{Held}
 use Rattle.archive_meaning.specs.Stands.{StandsFor}
 use Rattle.archive_open.specs.Shown.{RefusedAt, StandsForNone}
 use Rattle.search_walk.specs.Journal.{OfJournal}
@@ -43,7 +42,7 @@ module _ (seen : Outside) (from to second second_new : DiskState) (status : ℕ)
     by_refusal added done (MergeRefusal.SecondDamaged at) is met disk cause = absurd ((subst (RefusedAt at) told_second disk).none g others there)
     by_refusal added done MergeRefusal.OutOfMemory is met disk cause = inr is
     by_refusal added done (MergeRefusal.VersionDiffers one two) is met disk (one_is, two_is, apart) = absurd (apart (one_is ∙ (sym may.version_is ∙ sym two_is)))
-    by_refusal added done (MergeRefusal.TooManyFiles held more) is met disk (version, a, b, same, many) = let few = may.few in absurd (omega (arith, few, many, a, b))
+    by_refusal added done (MergeRefusal.TooManyFiles held more) is met disk (version, a, b, (same, many)) = let few = may.few in absurd (omega (arith, few, many, a, b))
     by_refusal added done (MergeRefusal.ArchiveFull end need) is met disk cause = absurd met
     by_refusal added done (MergeRefusal.Full book count) is met disk cause = absurd met
     by_refusal added done (MergeRefusal.SegmentFull end need) is met disk cause = absurd met

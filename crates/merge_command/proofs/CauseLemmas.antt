@@ -7,7 +7,6 @@ use Rattle.log_seams.specs.declared.disk.Disk.{Ghosts as DiskGhosts}
 use Rattle.record_format.specs.declared.header.Header.{Header}
 use Rattle.disk_journal.specs.Journal.{state_of}
 use Rattle.disk_journal.specs.declared.journal.Journal.{Journal}
-use Rattle.column_store.specs.declared.row.Row.{Row}
 use Rattle.row_codec.specs.Means.{AreCanonical}
 use Rattle.row_codec.specs.declared.namer.Which.{Which}
 use Rattle.row_codec.specs.declared.namer.Which.TheVariants.{Types, Words}
@@ -48,7 +47,7 @@ module _ {D : Type 0} {d : DiskGhosts D} (s : SecondView) (h : Header) (before :
       (of_told (is_some (state_of j).disk.seen) told full)))
 
   -- a segment that does not fit, which is this one of the second archive's journal
-  lacks_room : (bytes : List ℕ) → s.told ≡ Some bytes → s.version ≡ h.version → (next : SegmentEntry) (first file done number end need : ℕ) → file ≡ number → h.length_limit < end + need
+  pub lacks_room : (bytes : List ℕ) → s.told ≡ Some bytes → s.version ≡ h.version → (next : SegmentEntry) (first file done number end need : ℕ) → file ≡ number → h.length_limit < end + need
       → (lacked : LackedRoom (AreOfBoth s) s first file done j after end need) → IsSegmentAt bytes lacked.place next → LacksRoom h before es other number next end need
   lacks_room bytes told_is version next first file done number end need same past lacked at = record {
     front = lacked.front;
@@ -73,7 +72,7 @@ module _ {D : Type 0} {d : DiskGhosts D} (s : SecondView) (h : Header) (before :
     were = subst (λ v. AreCanonical v next.rows other.types other.words lacked.messages) version
         (subst (λ ts. AreCanonical s.version next.rows ts other.words lacked.messages) (texts Types)
         (subst (λ ts. AreCanonical s.version next.rows s.texts.types ts lacked.messages) (texts Words)
-        (subst (λ (l : List Row). AreCanonical s.version l s.texts.types s.texts.words lacked.messages) (sym rows_are) lacked.source.0)));
+        (subst (λ l. AreCanonical s.version l s.texts.types s.texts.words lacked.messages) (sym rows_are) lacked.source.0)));
     canonical = subst (λ v. AreCanonical v lacked.segment.rows lacked.types lacked.words lacked.messages) version lacked.canonical;
     needs = lacked.needs ∙ ap (λ ns. min (needed_behind lacked.segment ns lacked.front lacked.types lacked.words) 18446744073709551615) lacked.numbers_are;
   }

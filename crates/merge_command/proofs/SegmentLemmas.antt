@@ -1,5 +1,5 @@
 -- The segments of files that were merged, beside those of the second archive's journal.
-use Rattle.std.proofs.Common.{◌≡◌, ◌<◌, refl, subst, ◌∙◌, ℕ, zero, suc, List, [], ◌∷◌, length, arith}
+use Rattle.std.proofs.Common.{refl, subst, ◌∙◌, ℕ, zero, suc, List, [], ◌∷◌, arith}
 use Rattle.std.specs.List.{AllZip, Contains}
 use Rattle.archive_meaning.specs.declared.entry.SegmentEntry.{SegmentEntry}
 use Rattle.archive_open.specs.declared.segments.SegmentPlace.{SegmentPlace}
