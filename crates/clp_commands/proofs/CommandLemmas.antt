@@ -93,11 +93,11 @@ pub asked_of_log : (words : List (List ℕ)) (read : Result Command WordsRefusal
 asked_of_log words read command pattern file is all (inl asks) = inl (only words read command is all _ asks)
 asked_of_log words read command pattern file is all (inr asks) = inr (only words read command is all _ asks)
 
--- what holds of the log that is printed holds of the log that is asked for
-pub log_shown : (name pattern file : List ℕ) (P : List ℕ → Type 0) → (to_show name ≡ to_show file) ⊎ (to_show name ≡ to_scan pattern file) → P name → P file
-log_shown name pattern file P (inl is) holds = subst P (cc : name ≡ file) holds
-log_shown name pattern file P (inr is) holds = absurd cc
+-- the log that is printed is the one that is asked for
+pub shown_log : (name pattern file : List ℕ) → (to_show name ≡ to_show file) ⊎ (to_show name ≡ to_scan pattern file) → name ≡ file
+shown_log name pattern file (inl is) = cc
+shown_log name pattern file (inr is) = absurd cc
 
-pub log_scanned : (asked name pattern file : List ℕ) (P : List ℕ → Type 0) → (to_scan asked name ≡ to_show file) ⊎ (to_scan asked name ≡ to_scan pattern file) → P name → P file
-log_scanned asked name pattern file P (inl is) holds = absurd cc
-log_scanned asked name pattern file P (inr is) holds = subst P (cc : name ≡ file) holds
+pub scanned_log : (asked name pattern file : List ℕ) → (to_scan asked name ≡ to_show file) ⊎ (to_scan asked name ≡ to_scan pattern file) → name ≡ file
+scanned_log asked name pattern file (inl is) = absurd cc
+scanned_log asked name pattern file (inr is) = cc

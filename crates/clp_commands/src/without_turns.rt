@@ -1,6 +1,6 @@
 //! The commands that wait for no turn of a lock.
 ghost use Rattle.std.specs.Prelude.{◌≡◌, ◌<◌, ◌⊎◌, ℕ, List, Option, map, string_bytes, IfErr, IfNone, IfOk, IfSome};
-ghost use Rattle.log_seams.specs.Disk.{DiskState, KeepsBytes};
+ghost use Rattle.log_seams.specs.Disk.{KeepsBytes};
 ghost use Rattle.command_words.specs.Asked.{Asks, IsInRange, asked_by, to_scan, to_show};
 ghost use Rattle.command_refusals.specs.GoesOn.{DiskGoesOn, OutsideGoesOn};
 ghost use Rattle.command_refusals.specs.Outside.{around};
@@ -39,11 +39,11 @@ pub fn run_without_turns<'a, R: Threads + Sync, H: Shelf, D: Disk, K: Sink>(
     err: &mut K,
 ) -> Result<u8, Command<'a>>
     // by the words, whatever archive is known, and over any second disk
-    ensures answers { IfOk result (λ status. (known : Option KnownArchive) (second : DiskState)
+    ensures answers { IfOk result (λ status. (known : Option KnownArchive) (second : D)
         → Answers known (map string_bytes words.entry.now)
         (around H.content H.unread H.open_faults H.read_faults K.written K.faults
         shelf.old shelf.new out.old out.new err.old err.new)
-        (D.state disk.old) (D.state disk.new) second second status) }
+        (D.state disk.old) (D.state disk.new) (D.state second) (D.state second) status) }
     ensures one_failed { (pattern file : List ℕ)
         → Asks (map string_bytes words.entry.now) (to_show file)
         ⊎ Asks (map string_bytes words.entry.now) (to_scan pattern file)
@@ -88,11 +88,11 @@ fn carry_out<R: Threads + Sync, H: Shelf, D: Disk, K: Sink>(
 ) -> Option<u8>
     requires { IsInRange (asked_by command.now) }
     // by the command
-    ensures answers { IfSome result (λ status. (known : Option KnownArchive) (second : DiskState)
+    ensures answers { IfSome result (λ status. (known : Option KnownArchive) (second : D)
         → AnswersAsked known (asked_by command.now)
         (around H.content H.unread H.open_faults H.read_faults K.written K.faults
         shelf.old shelf.new out.old out.new err.old err.new)
-        (D.state disk.old) (D.state disk.new) second second status) }
+        (D.state disk.old) (D.state disk.new) (D.state second) (D.state second) status) }
     ensures one_failed { (pattern file : List ℕ)
         → (asked_by command.now ≡ to_show file) ⊎ (asked_by command.now ≡ to_scan pattern file)
         → H.read_faults shelf.old file < H.read_faults shelf.new file

@@ -153,12 +153,15 @@ fn ran_twice<R: Threads + Wait + Sync>(
     ))
 }
 
-fn ran_twice_anew<R: Threads + Wait + Sync>(
-    rt: &R,
-    alloc: Global,
-) -> Result<(u8, u8), AllocError> {
+fn ran_twice_anew<R: Threads + Wait + Sync>(rt: &R, alloc: Global) -> Result<(u8, u8), AllocError> {
     let mut second = disk(alloc, &[], NEVER)?;
-    ran_twice(rt, alloc, &["create", "--format", "2"], &["upgrade"], &mut second)
+    ran_twice(
+        rt,
+        alloc,
+        &["create", "--format", "2"],
+        &["upgrade"],
+        &mut second,
+    )
 }
 
 #[test]

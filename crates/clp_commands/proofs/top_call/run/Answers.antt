@@ -3,7 +3,7 @@ use Rattle.clp_commands.proofs.CommandLemmas.{Answers-asked, asked_of_none, turn
 use Rattle.clp_commands.proofs.top_call.run.Goals as goal
 
 pub returns-in-Ok-clause-answers : goal.returns-in-Ok-clause-answers
-returns-in-Ok-clause-answers g c = c.in-Ok.ensures.answers g.known _
+returns-in-Ok-clause-answers g c = c.in-Ok.ensures.answers g.known c.args.second.now
 
 pub returns-in-Err-clause-answers : goal.returns-in-Err-clause-answers
 returns-in-Err-clause-answers g c =

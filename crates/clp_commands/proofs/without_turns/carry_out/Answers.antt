@@ -1,6 +1,7 @@
-use Rattle.std.proofs.Common.{refl, rules}
+use Rattle.std.proofs.Common.{◌<◌, refl, subst, rules, ℕ, List, Option}
+use Rattle.command_answers.specs.Printing.{OneFailed}
 use Rattle.read_commands.proofs.CompleteLemmas.{check_answers, decode_answers, files_answers}
-use Rattle.clp_commands.proofs.CommandLemmas.{log_scanned, log_shown}
+use Rattle.clp_commands.proofs.CommandLemmas.{scanned_log, shown_log}
 use Rattle.clp_commands.proofs.without_turns.carry_out.Goals as goal
 
 pub returns-in-Show-clause-answers : goal.returns-in-Show-clause-answers
@@ -51,20 +52,30 @@ returns-in-Decode-clause-untouched g c = λ none. absurd (none (rw (c.in-Decode.
 
 pub returns-in-Search-clause-answers : goal.returns-in-Search-clause-answers
 returns-in-Search-clause-answers g c = λ known second.
-    rw (c.in-Search.is) (c.search_messages.ensures.answers _ _ _ _)
+    rw (c.in-Search.is) (c.search_messages.ensures.answers (g.H.Shelf.content c.args.shelf.now) (g.H.Shelf.unread c.args.shelf.now) (g.H.Shelf.open_faults c.args.shelf.now) (g.H.Shelf.read_faults c.args.shelf.now))
 
 pub returns-in-Search-clause-untouched : goal.returns-in-Search-clause-untouched
 returns-in-Search-clause-untouched g c = λ none. absurd (none (rw (c.in-Search.is) tt))
 
 pub returns-in-Count-clause-answers : goal.returns-in-Count-clause-answers
 returns-in-Count-clause-answers g c = λ known second.
-    rw (c.in-Count.is) (c.count_messages.ensures.answers _ _ _ _)
+    rw (c.in-Count.is) (c.count_messages.ensures.answers (g.H.Shelf.content c.args.shelf.now) (g.H.Shelf.unread c.args.shelf.now) (g.H.Shelf.open_faults c.args.shelf.now) (g.H.Shelf.read_faults c.args.shelf.now))
 
 pub returns-in-Count-clause-untouched : goal.returns-in-Count-clause-untouched
 returns-in-Count-clause-untouched g c = λ none. absurd (none (rw (c.in-Count.is) tt))
 
+-- the log that was closed last
+abbrev Failed : {S : Type 0} → (S → Option (List ℕ)) → (S → ℕ) → (List ℕ → Option (List ℕ)) → (List ℕ → ℕ) → (List ℕ → ℕ) → List ℕ → Type 0
+Failed left faults unread before after name = before name < after name → OneFailed left faults (unread name) (before name) (after name)
+
 pub returns-in-Show-clause-one_failed : goal.returns-in-Show-clause-one_failed
-returns-in-Show-clause-one_failed g c = λ pattern file asks. log_shown c.in-Show.file.now pattern file _ (rw (c.in-Show.is) at asks) c.show.ensures.one_failed
+returns-in-Show-clause-one_failed g c = λ pattern file asks.
+    let old = c.args.shelf.now in
+    let new = c.show.new.shelf in
+    subst (Failed g.H.Src.Source.left g.H.Src.Source.faults (g.H.Shelf.unread new) (g.H.Shelf.read_faults old) (g.H.Shelf.read_faults new)) (shown_log c.in-Show.file.now pattern file (rw (c.in-Show.is) at asks)) c.show.ensures.one_failed
 
 pub returns-in-Scan-clause-one_failed : goal.returns-in-Scan-clause-one_failed
-returns-in-Scan-clause-one_failed g c = λ pattern file asks. log_scanned c.in-Scan.pattern.now c.in-Scan.file.now pattern file _ (rw (c.in-Scan.is) at asks) c.scan.ensures.one_failed
+returns-in-Scan-clause-one_failed g c = λ pattern file asks.
+    let old = c.args.shelf.now in
+    let new = c.scan.new.shelf in
+    subst (Failed g.H.Src.Source.left g.H.Src.Source.faults (g.H.Shelf.unread new) (g.H.Shelf.read_faults old) (g.H.Shelf.read_faults new)) (scanned_log c.in-Scan.pattern.now c.in-Scan.file.now pattern file (rw (c.in-Scan.is) at asks)) c.scan.ensures.one_failed

@@ -25,19 +25,19 @@ pub returns-in-Some-clause-untouched : goal.returns-in-Some-clause-untouched
 returns-in-Some-clause-untouched g c = λ none. c.carry_out.ensures.untouched (none _ c.in-Ok.ensures.asked)
 
 -- a command that may wait
-pub returns-in-None-clause-turns : goal.returns-in-None-clause-turns
-returns-in-None-clause-turns g c = record {
+pub returns-clause-turns : goal.returns-clause-turns
+returns-clause-turns g c = record {
   asked = c.in-Ok.ensures.asked;
   alone = λ a asks. subst (IsAnswer a) c.in-Ok.is (c.read_words.ensures.all a asks);
   in_range = c.in-Ok.ensures.range;
   turns = c.in-None.ensures.turns;
 }
 
-pub returns-in-None-clause-keeps : goal.returns-in-None-clause-keeps
-returns-in-None-clause-keeps g c = λ none. c.carry_out.ensures.keeps (none _ c.in-Ok.ensures.asked)
+pub returns-clause-keeps : goal.returns-clause-keeps
+returns-clause-keeps g c = λ none. c.carry_out.ensures.keeps (none _ c.in-Ok.ensures.asked)
 
-pub returns-in-None-clause-untouched : goal.returns-in-None-clause-untouched
-returns-in-None-clause-untouched g c = λ none. c.carry_out.ensures.untouched (none _ c.in-Ok.ensures.asked)
+pub returns-clause-untouched : goal.returns-clause-untouched
+returns-clause-untouched g c = λ none. c.carry_out.ensures.untouched (none _ c.in-Ok.ensures.asked)
 
 pub returns-in-Some-clause-one_failed : goal.returns-in-Some-clause-one_failed
 returns-in-Some-clause-one_failed g c = λ pattern file asks. c.carry_out.ensures.one_failed pattern file (asked_of_log _ c.read_words.result c.in-Ok.command pattern file c.in-Ok.is c.read_words.ensures.all asks)
