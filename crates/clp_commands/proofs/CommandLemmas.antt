@@ -1,8 +1,8 @@
 -- Words ask for one thing alone, so what that answers is what the program answers.
-use Rattle.std.proofs.Common.{◌≡◌, ◌≢◌, ◌≤◌, arith, refl, sym, subst, inl, inr, ℕ, List, [], ◌∷◌, length, map, Option, None, Some, Result, Ok, Err}
+use Rattle.std.proofs.Common.{◌≡◌, ◌≢◌, ◌≤◌, ◌⊎◌, arith, refl, sym, subst, inl, inr, ℕ, List, [], ◌∷◌, length, map, Option, None, Some, Result, Ok, Err}
 use Rattle.std.specs.Prelude.{IfErr}
 use Rattle.log_seams.specs.Disk.{DiskState}
-use Rattle.command_words.specs.Asked.{AreTaken, Asked, Asks, HaveGoodValues, IsAnswer, asked_by, to_ingest}
+use Rattle.command_words.specs.Asked.{AreTaken, Asked, Asks, HaveGoodValues, IsAnswer, asked_by, to_bench, to_check, to_count, to_create, to_decode, to_ingest, to_list, to_merge, to_scan, to_search, to_show, to_upgrade}
 use Rattle.command_words.specs.declared.command.Command.{Command}
 use Rattle.command_words.specs.declared.command.WordsRefusal.{WordsRefusal}
 use Rattle.command_words.specs.declared.command.WordsRefusal.TheVariants.{Usage as WordsUsage, OutOfMemory as WordsOutOfMemory}
@@ -14,6 +14,8 @@ use Rattle.command_answers.specs.Answers.{AnswersWatch}
 use Rattle.command_answers.specs.Ingested.{EndsIngest}
 use Rattle.command_answers.specs.Known.{KnownArchive, over}
 use Rattle.command_answers.specs.Answers.{Answers, AnswersAsked}
+use Rattle.command_answers.specs.Words.{UsesArchive}
+use Rattle.clp_commands.specs.Turns.{AskForTurns, TakesTurns}
 use Rattle.command_refusals.specs.Outcome.{of_add, of_words}
 
 -- words that were read ask for one thing alone
@@ -61,3 +63,41 @@ pub watch_answers : (known : Option KnownArchive) (workers rows : ℕ) (names : 
     → AnswersWatch known workers rows pattern names seen old new status → AnswersAsked known (to_ingest workers rows watch names) seen old new second second_new status
 watch_answers known workers rows names seen old new second second_new status pattern watch is answers =
     subst (λ w. AnswersAsked known (to_ingest workers rows w names) seen old new second second_new status) (sym is) answers
+
+-- what may wait for a turn works on the archive
+pub turns_use : (a : Asked) → TakesTurns a → UsesArchive a
+turns_use (to_show file) turns = turns
+turns_use (to_scan pattern file) turns = turns
+turns_use (to_create header) turns = tt
+turns_use (to_ingest workers segment watch files) turns = tt
+turns_use to_list turns = tt
+turns_use to_check turns = tt
+turns_use (to_decode number) turns = tt
+turns_use (to_search from to stats workers pattern) turns = tt
+turns_use (to_count by from to stats pattern) turns = tt
+turns_use to_merge turns = tt
+turns_use to_upgrade turns = tt
+turns_use (to_bench number lines workers) turns = tt
+
+-- and prints no log
+pub turns_print_none : (asked : Asked) (pattern file : List ℕ) → TakesTurns asked → (asked ≡ to_show file) ⊎ (asked ≡ to_scan pattern file) → ⊥
+turns_print_none asked pattern file turns (inl is) = subst TakesTurns is turns
+turns_print_none asked pattern file turns (inr is) = subst TakesTurns is turns
+
+pub asked_of_none : {words : List (List ℕ)} (command : Command) (pattern file : List ℕ) → AskForTurns words command → Asks words (to_show file) ⊎ Asks words (to_scan pattern file) → ⊥
+asked_of_none command pattern file asks (inl is) = turns_print_none (asked_by command) pattern file asks.turns (inl (asks.alone _ is))
+asked_of_none command pattern file asks (inr is) = turns_print_none (asked_by command) pattern file asks.turns (inr (asks.alone _ is))
+
+-- words that were read ask for the printing of a log, as the command does
+pub asked_of_log : (words : List (List ℕ)) (read : Result Command WordsRefusal) (command : Command) (pattern file : List ℕ) → read ≡ Ok command → ((a : Asked) → Asks words a → IsAnswer a read) → Asks words (to_show file) ⊎ Asks words (to_scan pattern file) → (asked_by command ≡ to_show file) ⊎ (asked_by command ≡ to_scan pattern file)
+asked_of_log words read command pattern file is all (inl asks) = inl (only words read command is all _ asks)
+asked_of_log words read command pattern file is all (inr asks) = inr (only words read command is all _ asks)
+
+-- the log that is printed is the one that is asked for
+pub shown_log : (name pattern file : List ℕ) → (to_show name ≡ to_show file) ⊎ (to_show name ≡ to_scan pattern file) → name ≡ file
+shown_log name pattern file (inl is) = cc
+shown_log name pattern file (inr is) = absurd cc
+
+pub scanned_log : (asked name pattern file : List ℕ) → (to_scan asked name ≡ to_show file) ⊎ (to_scan asked name ≡ to_scan pattern file) → name ≡ file
+scanned_log asked name pattern file (inl is) = absurd cc
+scanned_log asked name pattern file (inr is) = cc

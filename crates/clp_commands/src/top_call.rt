@@ -1,23 +1,19 @@
 //! The top call.
-ghost use Rattle.std.specs.Prelude.{◌≡◌, ℕ, List, Option, map, string_bytes};
+ghost use Rattle.std.specs.Prelude.{◌≡◌, ◌<◌, ◌⊎◌, ℕ, List, Option, map, string_bytes};
+ghost use Rattle.clp_commands.specs.Turns.{TakesTurns};
 ghost use Rattle.command_answers.specs.Answers.{Answers, AnswersAsked};
-ghost use Rattle.command_answers.specs.Words.{AskNoArchive, AskNoSecond, AskNoWriting, MayWrite, UsesArchive, UsesSecond};
+ghost use Rattle.command_answers.specs.Printing.{OneFailed};
+ghost use Rattle.command_answers.specs.Words.{AskNoArchive, AskNoSecond, AskNoWriting, MayWrite, UsesSecond};
 ghost use Rattle.command_refusals.specs.GoesOn.{DiskGoesOn, OutsideGoesOn};
 ghost use Rattle.command_refusals.specs.Outside.{around};
-ghost use Rattle.command_words.specs.Asked.{IsInRange, asked_by};
+ghost use Rattle.command_words.specs.Asked.{Asks, IsInRange, asked_by, to_scan, to_show};
 ghost use Rattle.log_seams.specs.Disk.{KeepsBytes};
 ghost use Rattle.command_answers.specs.Known.{KnownArchive};
 
-use command_refusals::{
-    answer, refusal_of_create, refusal_of_file, refusal_of_read, refusal_of_words, report,
-};
-use command_words::{Command, read_words};
-use count_command::count_messages;
-use disk_journal::create;
-use log_commands::{scan, show};
+use crate::without_turns::run_without_turns;
+use command_words::Command;
 use log_seams::{Disk, Shelf, Sink};
 use merge_command::merge_archives;
-use read_commands::{check, decode_file, files, search_messages};
 use std::alloc::Global;
 use std::marker::Brand;
 use std::sync::Wait;
@@ -44,7 +40,8 @@ use write_commands::{Base, NewLogs, bench, ingest_files};
 /// it. `disk` is the archive's, and `second` that of the second one.
 /// What is said of the bytes that `ingest` and `merge` leave holds for each archive `known` whose bytes
 /// the disk had at the start: whatever archive it had, and it is not asked for when the program runs.
-/// `rt` starts the threads of `ingest`, `upgrade`, `bench` and `search`.
+/// `rt` starts the threads of `ingest`, `upgrade`, `bench` and `search`. All but `ingest`, `merge`,
+/// `upgrade` and `bench` is done by [`run_without_turns`], which returns on every input.
 pub fn run<R: Threads + Wait + Sync, H: Shelf, D: Disk + Send, K: Sink + Send>(
     rt: &R,
     alloc: Global,
@@ -65,12 +62,19 @@ where
         (around H.content H.unread H.open_faults H.read_faults K.written K.faults
         shelf.old shelf.new out.old out.new err.old err.new)
         (D.state disk.old) (D.state disk.new) (D.state second.old) (D.state second.new) result }
+    ensures one_failed { (pattern file : List ℕ)
+        → Asks (map string_bytes words.now) (to_show file)
+        ⊎ Asks (map string_bytes words.now) (to_scan pattern file)
+        → H.read_faults shelf.old file < H.read_faults shelf.new file
+        → OneFailed H.Src.left H.Src.faults (H.unread shelf.new file)
+        (H.read_faults shelf.old file) (H.read_faults shelf.new file) }
 
     // whatever they ask for
     ensures outside { OutsideGoesOn
         (around H.content H.unread H.open_faults H.read_faults K.written K.faults
         shelf.old shelf.new out.old out.new err.old err.new) }
     ensures goes_on { DiskGoesOn (D.state disk.old) (D.state disk.new) }
+    ensures second_goes_on { DiskGoesOn (D.state second.old) (D.state second.new) }
 
     // what stays
     ensures logs { (name : List ℕ) → H.content shelf.new name ≡ H.content shelf.old name }
@@ -79,15 +83,16 @@ where
     ensures untouched { AskNoArchive (map string_bytes words.now) → disk.new ≡ disk.old }
     ensures second { AskNoSecond (map string_bytes words.now) → second.new ≡ second.old }
 {
-    let command = match read_words(alloc, words) {
-        Ok(command) => command,
-        Err(refusal) => return report(err, "", refusal_of_words(refusal)),
-    };
-    carry_out::<R, H, D, K, Brand>(rt, alloc, &command, shelf, disk, second, out, err)
+    match run_without_turns(rt, alloc, words, shelf, disk, out, err) {
+        Ok(status) => status,
+        Err(command) => take_turns::<R, H, D, K, Brand>(
+            rt, alloc, &command, shelf, disk, second, out, err,
+        ),
+    }
 }
 
-/// Does what a command asks for, and answers the status.
-fn carry_out<R: Threads + Wait + Sync, H: Shelf, D: Disk + Send, K: Sink + Send, B: Base>(
+/// Does what a command asks for that may wait for a turn of a lock, and answers the status.
+fn take_turns<R: Threads + Wait + Sync, H: Shelf, D: Disk + Send, K: Sink + Send, B: Base>(
     rt: &R,
     alloc: Global,
     command: &Command<'_>,
@@ -99,7 +104,8 @@ fn carry_out<R: Threads + Wait + Sync, H: Shelf, D: Disk + Send, K: Sink + Send,
 ) -> u8
 where
     H::Src: Send,
-    requires { IsInRange (asked_by command.now) }
+    requires range { IsInRange (asked_by command.now) }
+    requires turns { TakesTurns (asked_by command.now) }
     ensures answers { AnswersAsked B.archive (asked_by command.now)
         (around H.content H.unread H.open_faults H.read_faults K.written K.faults
         shelf.old shelf.new out.old out.new err.old err.new)
@@ -110,21 +116,15 @@ where
         (around H.content H.unread H.open_faults H.read_faults K.written K.faults
         shelf.old shelf.new out.old out.new err.old err.new) }
     ensures goes_on { DiskGoesOn (D.state disk.old) (D.state disk.new) }
+    ensures second_goes_on { DiskGoesOn (D.state second.old) (D.state second.new) }
 
     // what stays
     ensures logs { (name : List ℕ) → H.content shelf.new name ≡ H.content shelf.old name }
     ensures keeps { ¬ MayWrite (asked_by command.now)
         → KeepsBytes (D.state disk.old) (D.state disk.new) }
-    ensures untouched { ¬ UsesArchive (asked_by command.now) → disk.new ≡ disk.old }
     ensures second { ¬ UsesSecond (asked_by command.now) → second.new ≡ second.old }
 {
     match command {
-        Command::Show { file } => show(alloc, file, shelf, out, err),
-        Command::Scan { pattern, file } => scan(alloc, pattern, file, shelf, out, err),
-        Command::Create { header } => {
-            let outcome = create(disk, header);
-            answer(refusal_of_create(outcome), "", err)
-        }
         Command::Ingest { asked } => {
             let logs = NewLogs::of(asked);
             match asked.watch {
@@ -134,22 +134,10 @@ where
                 ),
             }
         }
-        Command::Files => {
-            let outcome = files(alloc, disk, out);
-            answer(refusal_of_read(outcome), "", err)
-        }
-        Command::Check => {
-            let outcome = check(alloc, disk, out);
-            answer(refusal_of_read(outcome), "", err)
-        }
-        Command::Decode { number } => {
-            let outcome = decode_file(alloc, *number, disk, out);
-            answer(refusal_of_file(outcome), "", err)
-        }
-        Command::Search { asked } => search_messages(rt, alloc, asked, disk, out, err),
-        Command::Count { asked } => count_messages(alloc, asked, disk, out, err),
         Command::Merge => merge_archives::<R, D, D, K, B>(rt, alloc, disk, second, out, err),
         Command::Upgrade => upgrade_archive(rt, alloc, disk, second, out, err),
         Command::Bench { asked } => bench(rt, alloc, *asked, disk, out, err),
+        // no other command takes a turn
+        _ => unreachable!(),
     }
 }

@@ -5,7 +5,7 @@ use Rattle.command_refusals.specs.Ending.{EndsWith, NoneAdded, Stayed, RefusesPa
 use Rattle.command_refusals.specs.Outcome.{of_log, answer_of, of_create, of_add, of_file}
 use Rattle.command_refusals.specs.Refusal.{TellsNoMemory}
 use Rattle.command_refusals.specs.declared.outcome.LogRefusal.{LogRefusal}
-use Rattle.command_refusals.specs.declared.outcome.LogRefusal.TheVariants.{SinkFault}
+use Rattle.command_refusals.specs.declared.outcome.LogRefusal.TheVariants.{ReadFault, SinkFault}
 use Rattle.command_answers.specs.Printing.{Printed, HasCause}
 use Rattle.wild_match.specs.Reading.{IsSearchPattern, IsLoneBackslash}
 use Rattle.wild_match.specs.declared.pattern.Item.{Item}
@@ -48,14 +48,14 @@ use Rattle.command_answers.specs.Shown.{Shows}
 use Rattle.command_refusals.specs.declared.refusal.Refusal.TheVariants.{Usage}
 use Rattle.command_answers.specs.Words.{AskSomething, IsUsage}
 
--- The log of this name was printed, and no read of it failed; or the printing was refused with a cause. A write to the
--- output that failed ends the call.
+-- The log of this name was printed, or the printing was refused with a cause. A read of it that failed is told, unless the
+-- output failed too: so no line is refused behind it. A write to the output that failed ends the call.
 pub record AnswersLog (tells : ℕ → List ℕ → List ℕ → Type 0) (seen : Outside) (name : List ℕ) (status : ℕ) : Type 0 where
   pub answer : Option LogRefusal
   pub ends : EndsWith seen name status (option_map of_log answer)
   pub printed : Printed tells answer (seen.content name) (seen.unread name) seen.out.0 seen.out.1
   pub cause : HasCause seen name answer
-  pub reads : answer ≡ None → NoneAdded (seen.reads name)
+  pub reads : answer ≢ Some ReadFault → answer ≢ Some SinkFault → NoneAdded (seen.reads name)
   pub sink : answer ≢ Some SinkFault → Stayed seen.out_faults
 
 -- The messages of a log that a pattern matches were printed, or the pattern is refused.

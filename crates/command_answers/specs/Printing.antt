@@ -1,6 +1,7 @@
 -- What is printed of the messages of a log.
 use Rattle.std.specs.Prelude.{◌≡◌, ◌<◌, ◌≤◌, ◌+◌, ◌-◌, ℕ, List, [], ◌∷◌, ◌++◌, Bool, true, false, Option, Some, None, IfSome, All, length, take}
 use Rattle.log_messages.specs.Messages.{IsLine, Messages, joined}
+use Rattle.log_seams.specs.Outside.{Adds}
 use Rattle.sink_pieces.specs.Output.{Took}
 use Rattle.command_refusals.specs.declared.outcome.LogRefusal.{LogRefusal}
 use Rattle.command_refusals.specs.LogLimits.{IsLong, most_bytes, most_messages}
@@ -92,6 +93,14 @@ pub record Printed (tells : ℕ → List ℕ → List ℕ → Type 0) (answer : 
   pub text : List ℕ
   pub comes_to : IfSome bytes (λ b. ComesTo tells answer b unread text)
   pub took : Took (is_whole answer) old new text
+
+-- Of a log one was opened of which reads failed, and it was closed last: what is unread is what that one left, and all reads
+-- that failed meanwhile are its own.
+pub record OneFailed {S : Type 0} (left : S → Option (List ℕ)) (faults : S → ℕ) (unread : Option (List ℕ))
+    (before after : ℕ) : Type 0 where
+  pub source : S
+  pub unread_is : unread ≡ left source
+  pub its_own : Adds (faults source) before after
 
 -- What an answer of the printing of a log rests on, beside what was printed. Want of memory is free.
 abbrev pub HasCause : Outside → List ℕ → Option LogRefusal → Type 0

@@ -20,6 +20,8 @@ mod outside;
 #[cfg(test)]
 mod search_tests;
 #[cfg(test)]
+mod turns_tests;
+#[cfg(test)]
 mod upgrade_tests;
 #[cfg(test)]
 mod watch_tests;

@@ -1,5 +1,5 @@
 -- What a call answers, from what it did.
-use Rattle.std.proofs.Common.{◌≡◌, ◌≢◌, refl, sym, ap, subst, ℕ, List, Option, None, Some, OnOk, Result, Ok, Err, option_map}
+use Rattle.std.proofs.Common.{◌≡◌, ◌≢◌, refl, sym, ap, subst, ℕ, List, Option, Some, Result, Ok, Err, option_map}
 use Rattle.wild_match.specs.Reading.{IsLoneBackslash, IsSearchPattern}
 use Rattle.wild_match.specs.declared.pattern.Item.{Item}
 use Rattle.wild_match.specs.declared.read.PatternRefusal.{PatternRefusal}
@@ -35,12 +35,11 @@ stays : {counts : ℕ × ℕ} (outcome : Result Unit LogRefusal) → CountsOf Si
 stays (Ok u) counts other = counts.steady
 stays (Err refusal) counts other = counts.spared refusal refl (λ e. other (ap Some e))
 
--- and the log's where the call is done
-none_added : (counts : ℕ × ℕ) (outcome : Result Unit LogRefusal) → OnOk outcome (NoneAdded counts) → answer_of outcome ≡ None → NoneAdded counts
-none_added counts (Ok u) none done = none
-none_added counts (Err refusal) none done = absurd cc
+-- and the log's unless a read or the output is told as failed
+none_added : (counts : ℕ × ℕ) (outcome : Result Unit LogRefusal) → ((outcome ≡ Err ReadFault → ⊥) → (outcome ≡ Err SinkFault → ⊥) → NoneAdded counts) → answer_of outcome ≢ Some ReadFault → answer_of outcome ≢ Some SinkFault → NoneAdded counts
+none_added counts outcome none other another = none (λ is. other (ap answer_of is)) (λ is. another (ap answer_of is))
 
-pub AnswersLog-from : (tells : ℕ → List ℕ → List ℕ → Type 0) (seen : Outside) (name : List ℕ) (status : ℕ) (outcome : Result Unit LogRefusal) (refusal : Option Refusal) → refusal ≡ option_map of_log (answer_of outcome) → status ≡ exit_status refusal → SaysIn seen (error_line name refusal) → Printed tells (answer_of outcome) (seen.content name) (seen.unread name) seen.out.0 seen.out.1 → (outcome ≡ Err OpenFault → RoseIn (seen.opens name)) → (outcome ≡ Err OpenFault → TookNothing seen.out) → (outcome ≡ Err ReadFault → RoseIn (seen.reads name)) → OnOk outcome (NoneAdded (seen.reads name)) → CountsOf SinkFault seen.out_faults.0 seen.out_faults.1 outcome → AnswersLog tells seen name status
+pub AnswersLog-from : (tells : ℕ → List ℕ → List ℕ → Type 0) (seen : Outside) (name : List ℕ) (status : ℕ) (outcome : Result Unit LogRefusal) (refusal : Option Refusal) → refusal ≡ option_map of_log (answer_of outcome) → status ≡ exit_status refusal → SaysIn seen (error_line name refusal) → Printed tells (answer_of outcome) (seen.content name) (seen.unread name) seen.out.0 seen.out.1 → (outcome ≡ Err OpenFault → RoseIn (seen.opens name)) → (outcome ≡ Err OpenFault → TookNothing seen.out) → (outcome ≡ Err ReadFault → RoseIn (seen.reads name)) → ((outcome ≡ Err ReadFault → ⊥) → (outcome ≡ Err SinkFault → ⊥) → NoneAdded (seen.reads name)) → CountsOf SinkFault seen.out_faults.0 seen.out_faults.1 outcome → AnswersLog tells seen name status
 AnswersLog-from tells seen name status outcome refusal is status_is said printed opens nothing reads none sink = record {
   answer = answer_of outcome;
   ends = subst (EndsWith seen name status) is (record { status_is = status_is; said = said });
@@ -51,14 +50,14 @@ AnswersLog-from tells seen name status outcome refusal is status_is said printed
 }
 
 -- a pattern that was refused, and has none
-pub AnswersLog-refused : (tells : ℕ → List ℕ → List ℕ → Type 0) (seen : Outside) (name : List ℕ) (status : ℕ) (text : List ℕ) (refusal : PatternRefusal) → IsPatternRefusal text refusal → ((at : ℕ) → IsLoneBackslash text at → ⊥) → status ≡ status_of (of_pattern refusal) → SaysIn seen (line_of name (of_pattern refusal)) → TookNothing seen.out → Stayed seen.out_faults → AnswersLog tells seen name status
-AnswersLog-refused tells seen name status text (ReadBadPattern place) is none s said nothing sink = absurd (none place is)
-AnswersLog-refused tells seen name status text ReadOutOfMemory is none s said nothing sink = record {
+pub AnswersLog-refused : (tells : ℕ → List ℕ → List ℕ → Type 0) (seen : Outside) (name : List ℕ) (status : ℕ) (text : List ℕ) (refusal : PatternRefusal) → IsPatternRefusal text refusal → ((at : ℕ) → IsLoneBackslash text at → ⊥) → status ≡ status_of (of_pattern refusal) → SaysIn seen (line_of name (of_pattern refusal)) → TookNothing seen.out → Stayed seen.out_faults → NoneAdded (seen.reads name) → AnswersLog tells seen name status
+AnswersLog-refused tells seen name status text (ReadBadPattern place) is none s said nothing sink reads = absurd (none place is)
+AnswersLog-refused tells seen name status text ReadOutOfMemory is none s said nothing sink reads = record {
   answer = Some LogOutOfMemory;
   ends = record { status_is = s; said = said };
   printed = subst (λ o. Printed tells (Some LogOutOfMemory) (seen.content name) (seen.unread name) seen.out.0 o) (sym nothing) (Printed-no_memory tells (seen.content name) (seen.unread name) seen.out.0);
   cause = tt;
-  reads = λ done. absurd cc;
+  reads = λ _ _. reads;
   sink = λ _. sink;
 }
 

@@ -3,4 +3,5 @@ pub mod CutterLemmas
 pub mod PrintedLemmas
 pub mod PrintingLemmas
 pub mod ReadingLemmas
+pub mod ReadsLemmas
 pub mod ShownLemmas

@@ -1,9 +1,9 @@
 //! The messages of a log on their way from the log to the output.
-ghost use Rattle.std.specs.Prelude.{◌≡◌, ◌≢◌, ◌≤◌, ◌⊎◌, ℕ, List, [], OnOk, IfErr, IsErrOf};
+ghost use Rattle.std.specs.Prelude.{◌≡◌, ◌≢◌, ◌<◌, ◌≤◌, ◌⊎◌, ℕ, List, [], OnOk, IfErr, IsErrOf};
 ghost use Rattle.log_seams.specs.Outside.{Adds, CountsOf, Rose};
 ghost use Rattle.command_refusals.specs.Outcome.{answer_of};
 ghost use Rattle.log_commands.specs.StepsPrinting.{Reaches, IsFresh, TellsNext, FailsAfter, refusal_of};
-ghost use Rattle.command_answers.specs.Printing.{Printed, is_whole};
+ghost use Rattle.command_answers.specs.Printing.{OneFailed, Printed, is_whole};
 ghost use Rattle.command_refusals.specs.declared.outcome.LogRefusal.TheVariants.{OpenFault, ReadFault, SinkFault, OutOfMemory};
 
 use crate::message_text::MessageText;
@@ -71,14 +71,12 @@ fn print_messages<S: Source, K: Sink, T: MessageText>(
     ensures open { ¬ IsErrOf result OpenFault }
 
     // causes
-    ensures read { IsErrOf result ReadFault
-        → Rose (S.faults cutter.old.source) (S.faults cutter.new.source) }
-    ensures steady { OnOk result (S.faults cutter.new.source ≡ S.faults cutter.old.source) }
+    ensures reads { CountsOf ReadFault
+        (S.faults cutter.old.source) (S.faults cutter.new.source) result }
     ensures sink { CountsOf SinkFault (K.faults out.old) (K.faults out.new) result }
 
     // what stays
     ensures name { S.name cutter.new.source ≡ S.name cutter.old.source }
-    ensures later { S.faults cutter.old.source ≤ S.faults cutter.new.source }
 {
     let mut kept = teller.kept();
     let mut number = 0;
@@ -126,7 +124,8 @@ fn print_source<S: Source, K: Sink, T: MessageText>(
     // causes
     ensures read { IsErrOf result ReadFault
         → Rose (S.faults cutter.old.source) (S.faults cutter.new.source) }
-    ensures steady { OnOk result (S.faults cutter.new.source ≡ S.faults cutter.old.source) }
+    ensures steady { ¬ IsErrOf result ReadFault → ¬ IsErrOf result SinkFault
+        → S.faults cutter.new.source ≡ S.faults cutter.old.source }
     ensures sink { CountsOf SinkFault (K.faults out.old) (K.faults out.new) result }
 
     // what stays
@@ -162,8 +161,11 @@ pub(crate) fn print_log<H: Shelf, K: Sink, T: MessageText>(
         → Rose (H.open_faults shelf.old name.now) (H.open_faults shelf.new name.now) }
     ensures read { IsErrOf result ReadFault
         → Rose (H.read_faults shelf.old name.now) (H.read_faults shelf.new name.now) }
-    ensures steady { OnOk result
-        (Adds 0 (H.read_faults shelf.old name.now) (H.read_faults shelf.new name.now)) }
+    ensures steady { ¬ IsErrOf result ReadFault → ¬ IsErrOf result SinkFault
+        → Adds 0 (H.read_faults shelf.old name.now) (H.read_faults shelf.new name.now) }
+    ensures one_failed { H.read_faults shelf.old name.now < H.read_faults shelf.new name.now
+        → OneFailed H.Src.left H.Src.faults (H.unread shelf.new name.now)
+        (H.read_faults shelf.old name.now) (H.read_faults shelf.new name.now) }
     ensures sink { CountsOf SinkFault (K.faults out.old) (K.faults out.new) result }
 
     // what stays

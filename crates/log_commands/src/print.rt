@@ -1,11 +1,12 @@
 //! The commands `show` and `scan`.
-ghost use Rattle.std.specs.Prelude.{◌≡◌, ℕ, List, IfOk, IfErr};
+ghost use Rattle.std.specs.Prelude.{◌≡◌, ◌<◌, ℕ, List, IfOk, IfErr};
 ghost use Rattle.wild_match.specs.Reading.{IsLoneBackslash, IsSearchPattern};
 ghost use Rattle.wild_match.specs.declared.pattern.Item.{Item};
 ghost use Rattle.command_refusals.specs.Outside.{around};
 ghost use Rattle.command_refusals.specs.Ending.{IsPatternRefusal, RefusesPattern};
 ghost use Rattle.command_refusals.specs.GoesOn.{OutsideGoesOn};
 ghost use Rattle.command_answers.specs.Answers.{AnswersLog};
+ghost use Rattle.command_answers.specs.Printing.{OneFailed};
 ghost use Rattle.command_answers.specs.Scanned.{Finds};
 ghost use Rattle.command_answers.specs.Shown.{Shows};
 
@@ -30,6 +31,9 @@ pub fn show<H: Shelf, K: Sink>(
         (around H.content H.unread H.open_faults H.read_faults K.written K.faults
         shelf.old shelf.new out.old out.new err.old err.new)
         file.now result }
+    ensures one_failed { H.read_faults shelf.old file.now < H.read_faults shelf.new file.now
+        → OneFailed H.Src.left H.Src.faults (H.unread shelf.new file.now)
+        (H.read_faults shelf.old file.now) (H.read_faults shelf.new file.now) }
     ensures outside { OutsideGoesOn
         (around H.content H.unread H.open_faults H.read_faults K.written K.faults
         shelf.old shelf.new out.old out.new err.old err.new) }
@@ -57,6 +61,9 @@ pub fn scan<H: Shelf, K: Sink>(
         (around H.content H.unread H.open_faults H.read_faults K.written K.faults
         shelf.old shelf.new out.old out.new err.old err.new)
         file.now result }
+    ensures one_failed { H.read_faults shelf.old file.now < H.read_faults shelf.new file.now
+        → OneFailed H.Src.left H.Src.faults (H.unread shelf.new file.now)
+        (H.read_faults shelf.old file.now) (H.read_faults shelf.new file.now) }
     ensures outside { OutsideGoesOn
         (around H.content H.unread H.open_faults H.read_faults K.written K.faults
         shelf.old shelf.new out.old out.new err.old err.new) }
@@ -87,6 +94,9 @@ fn print_and_report<H: Shelf, K: Sink, T: MessageText>(
         (around H.content H.unread H.open_faults H.read_faults K.written K.faults
         shelf.old shelf.new out.old out.new err.old err.new)
         name.now result }
+    ensures one_failed { H.read_faults shelf.old name.now < H.read_faults shelf.new name.now
+        → OneFailed H.Src.left H.Src.faults (H.unread shelf.new name.now)
+        (H.read_faults shelf.old name.now) (H.read_faults shelf.new name.now) }
     ensures outside { OutsideGoesOn
         (around H.content H.unread H.open_faults H.read_faults K.written K.faults
         shelf.old shelf.new out.old out.new err.old err.new) }

@@ -1,4 +1,4 @@
-use Rattle.std.proofs.Common.{refl}
+use Rattle.std.proofs.Common.{arith, inl, refl}
 use Rattle.wild_match.proofs.Spelling.{IsSearchPattern-not_lone}
 use Rattle.command_refusals.proofs.PatternLemmas.{RefusesPattern-from}
 use Rattle.log_commands.proofs.AnswerLemmas.{AnswersLog-pattern, AnswersLog-refused}
@@ -14,4 +14,4 @@ pub returns-in-Err-clause-lone : goal.returns-in-Err-clause-lone
 returns-in-Err-clause-lone g c = λ at lone. RefusesPattern-from _ c.args.file.now _ _ at c.in-Err.refusal c.in-Err.ensures.refused lone (rw (← c.refusal_of_pattern.ensures) c.report.ensures.status) (rw (← c.refusal_of_pattern.ensures) c.report.ensures.said) refl refl (λ n. refl) (λ n. refl)
 
 pub returns-in-Err-clause-good : goal.returns-in-Err-clause-good
-returns-in-Err-clause-good g c = λ items is. AnswersLog-refused _ _ c.args.file.now _ _ c.in-Err.refusal c.in-Err.ensures.refused (λ at lone. IsSearchPattern-not_lone _ items at is lone) (rw (← c.refusal_of_pattern.ensures) c.report.ensures.status) (rw (← c.refusal_of_pattern.ensures) c.report.ensures.said) refl refl
+returns-in-Err-clause-good g c = λ items is. AnswersLog-refused _ _ c.args.file.now _ _ c.in-Err.refusal c.in-Err.ensures.refused (λ at lone. IsSearchPattern-not_lone _ items at is lone) (rw (← c.refusal_of_pattern.ensures) c.report.ensures.status) (rw (← c.refusal_of_pattern.ensures) c.report.ensures.said) refl refl (inl (omega arith))
