@@ -1,9 +1,7 @@
-//! What is done without a turn of a lock, how often a log is opened, and what is known of two calls.
-ghost use Rattle.command_refusals.specs.GoesOn.{DiskGoesOn};
-
+//! What is done without a turn of a lock, and how often a log is opened.
 use crate::outside::{AMPLE, NEVER, disk, list_of, shelf, tells};
-use clp_commands::{numbers_are_these, run, run_without_turns};
-use log_seams::{Disk, MemDisk, MemShelf, MemSink, Shelf, Sink};
+use clp_commands::{numbers_are_these, run_without_turns};
+use log_seams::{MemDisk, MemShelf, MemSink};
 use std::alloc::{AllocError, Global};
 use std::sync::Wait;
 use std::test::Fail;
@@ -102,72 +100,6 @@ fn shown_anew<R: Threads + Wait + Sync>(rt: &R, alloc: Global) -> Result<usize, 
 fn a_log_is_opened_once_a_call(rt: HostRuntime) -> Result<(), Fail> {
     let shown = shown_anew(&rt, rt.alloc())?;
     assert!(rt; shown == SHOWN.len(), "{shown}");
-    Ok(())
-}
-
-/// What two calls answer, one after the other. What is known of the second disk is joined over both.
-fn run_twice<R: Threads + Wait + Sync, H: Shelf, D: Disk + Send, K: Sink + Send>(
-    rt: &R,
-    alloc: Global,
-    words: &[String],
-    later: &[String],
-    logs: &mut H,
-    archive: &mut D,
-    second: &mut D,
-    out: &mut K,
-    err: &mut K,
-) -> (u8, u8)
-where
-    H::Src: Send,
-    ensures { DiskGoesOn (D.state second.old) (D.state second.new) }
-{
-    let status = run(rt, alloc, words, logs, archive, second, out, err);
-    let later = run(rt, alloc, later, logs, archive, second, out, err);
-    (status, later)
-}
-
-/// What they answer where the second archive is empty.
-fn ran_twice<R: Threads + Wait + Sync>(
-    rt: &R,
-    alloc: Global,
-    words: &[&str],
-    later: &[&str],
-    second: &mut MemDisk,
-) -> Result<(u8, u8), AllocError> {
-    let words = list_of(alloc, words)?;
-    let later = list_of(alloc, later)?;
-    let mut logs = shelf(alloc, &[], NEVER)?;
-    let mut archive = disk(alloc, &[], NEVER)?;
-    let mut out = MemSink::new(alloc, AMPLE.out, Vec::new(alloc))?;
-    let mut err = MemSink::new(alloc, AMPLE.err, Vec::new(alloc))?;
-    Ok(run_twice(
-        rt,
-        alloc,
-        words.as_slice(),
-        later.as_slice(),
-        &mut logs,
-        &mut archive,
-        second,
-        &mut out,
-        &mut err,
-    ))
-}
-
-fn ran_twice_anew<R: Threads + Wait + Sync>(rt: &R, alloc: Global) -> Result<(u8, u8), AllocError> {
-    let mut second = disk(alloc, &[], NEVER)?;
-    ran_twice(
-        rt,
-        alloc,
-        &["create", "--format", "2"],
-        &["upgrade"],
-        &mut second,
-    )
-}
-
-#[test]
-fn two_calls_go_on_with_the_second_disk(rt: HostRuntime) -> Result<(), Fail> {
-    let statuses = ran_twice_anew(&rt, rt.alloc())?;
-    assert!(rt; statuses == (0, 0), "{statuses:?}");
     Ok(())
 }
 

@@ -82,7 +82,6 @@ fn add_lent<'d, D: Disk, E: Disk, R: Wait, L: Lent>(
     // what stays
     ensures back { result.1.ghost_name ≡ disk.entry.ghost_name }
     ensures goes_on { DiskGoesOn (D.state disk.old) (D.state result.1.now) }
-    ensures second { DiskGoesOn (E.state second.old) (E.state second.new) }
 {
     let mut founded = Founded::<'d, D, L> {
         disk,
@@ -115,7 +114,6 @@ fn add_known<D: Disk, E: Disk, R: Wait, B: Base>(
 
     // what stays
     ensures goes_on { DiskGoesOn (D.state disk.old) (D.state disk.new) }
-    ensures second { DiskGoesOn (E.state second.old) (E.state second.new) }
 {
     let (answer, _disk) = add_lent::<D, E, R, Brand>(rt, alloc, disk, second);
     answer
@@ -135,7 +133,6 @@ pub fn merge_archives<R: Wait, D: Disk, E: Disk, K: Sink, B: Base>(
         AnswersMerge B.archive seen (D.state disk.old) (D.state disk.new)
         (E.state second.old) (E.state second.new) result) }
     ensures goes_on { DiskGoesOn (D.state disk.old) (D.state disk.new) }
-    ensures second { DiskGoesOn (E.state second.old) (E.state second.new) }
     ensures out { K.faults out.old ≤ K.faults out.new }
     ensures err { K.faults err.old ≤ K.faults err.new }
 {

@@ -50,7 +50,6 @@ fn open_second<E: Disk>(alloc: Global, disk: &mut E) -> Result<Archive<PlainBook
     ensures refused { IfErr result (RefusesSecond (E.state disk.old) (E.state disk.new)) }
     ensures steady { IfOk result (λ archive.
         (E.state disk.new).faults ≡ (E.state disk.old).faults) }
-    ensures later { (E.state disk.old).faults ≤ (E.state disk.new).faults }
 {
     match open_archive(alloc, disk) {
         Ok(archive) => Ok(archive),
@@ -172,7 +171,6 @@ pub(crate) fn add_second<D: Disk, E: Disk, R: Wait>(
 
     // what stays
     ensures goes_on { DiskGoesOn (D.state disk.old) (D.state disk.new) }
-    ensures second { DiskGoesOn (E.state second.old) (E.state second.new) }
 {
     segments_go_on();
     let header = start(disk)?;

@@ -12,7 +12,7 @@ use Rattle.archive_open.specs.Kept.{Kept}
 use Rattle.archive_open.specs.Shown.{HasLastGate, Opens}
 use Rattle.command_refusals.specs.GoesOn.{DiskGoesOn}
 use Rattle.command_refusals.specs.Reading.{IsArchive}
-use Rattle.command_refusals.proofs.GoingLemmas.{DiskGoesOn-joined, DiskGoesOn-kept, DiskGoesOn-seen}
+use Rattle.command_refusals.proofs.GoingLemmas.{DiskGoesOn-joined}
 use Rattle.command_answers.specs.Merging.{Merges}
 use Rattle.merge_command.specs.Came.{kept_by, merge_of, name_at, refused_by, view_shown}
 use Rattle.write_commands.proofs.AppendLemmas.{OpensFrom, holds_names, may_append}
@@ -259,26 +259,3 @@ returns-clause-goes_on g c =
     let back = c.disk-2-1.given.1 (sym (goes.name ∙ (opened.looks.name ∙ c.begin-journal.ensures.name))) in
     subst (λ d. DiskGoesOn old (g.D.Disk.state d)) (sym back)
     (DiskGoesOn-joined old new last (law _) (looked_goes old mid new looked) (record { counts = goes.counts; tells = goes.tells; moments = goes.moments }))
-
--- ---- the second disk goes on
-
-pub returns-in_err-second_archive-clause-second : goal.returns-in_err-second_archive-clause-second
-returns-in_err-second_archive-clause-second g c =
-    let law = g.met.E.Disk.lawful in
-    let looked = c.open_second.ensures in
-    DiskGoesOn-seen _ _ (law _) (law _) looked.later looked.keeps.seen looked.keeps.time
-
-pub returns-in_err-agree-clause-second : goal.returns-in_err-agree-clause-second
-returns-in_err-agree-clause-second g c =
-    let law = g.met.E.Disk.lawful in
-    let looked = c.open_second.ensures in
-    DiskGoesOn-seen _ _ (law _) (law _) looked.later looked.keeps.seen looked.keeps.time
-
-pub returns-clause-second : goal.returns-clause-second
-returns-clause-second g c =
-    let law = g.met.E.Disk.lawful in
-    let second = g.E.Disk.state c.args.second.now in
-    let looked = c.open_second.ensures in
-    let read = c.merge_opened-left.ensures.second in
-    subst (λ e. DiskGoesOn second (g.E.Disk.state e)) (sym (c.second-1.given.1 (sym read.lent)))
-    (DiskGoesOn-kept second _ _ (law _) (law _) (law _) looked.keeps looked.later (record { seen = read.rests.seen; no_more = read.rests.no_more; time = read.rests.time }) read.later)
