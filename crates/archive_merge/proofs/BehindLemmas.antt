@@ -60,8 +60,8 @@ use Rattle.archive_merge.specs.declared.merger.Merger.{Merger}
 use Rattle.archive_merge.specs.declared.merger.BookPasses.{BookPasses}
 use Rattle.archive_merge.specs.declared.merger.Second.{Second}
 use Rattle.archive_merge.specs.declared.merger.Stopped.{Stopped}
-use Rattle.archive_merge.specs.Behind.{HasStored, IsMovedFile, IsNewIn, IsOfFiles, MayBegin, OnlyRead, SecondView, second_by, HasRun, HasStopCause, HasStopped, old_texts}
-use Rattle.archive_merge.specs.Files.{CameOver}
+use Rattle.archive_merge.specs.Behind.{HasStored, IsMovedFile, IsNewIn, IsOfFiles, MayBegin, OnlyRead, SecondView, second_by, HasRun, HasStopCause, HasStopped, IsDone, old_texts, places_for}
+use Rattle.archive_merge.specs.Files.{AreCutAs, CameOver, IsNotDone}
 use Rattle.archive_merge.specs.Locked.{HasMovedOver, MayMoveAt}
 use Rattle.archive_merge.specs.Merger.{DidFile, MayMoveFile, MovesOn, PassesAdd, StaysRead, file_at, passes_of, HasMoved, IsOneOf, IsStopFor, books_of}
 use Rattle.archive_merge.specs.MergerLaws.{passes_in_is}
@@ -140,23 +140,49 @@ entries_same (x ∷ xs) = ap (λ l. x.1 ∷ l) (entries_same xs)
 more_then : (a b c : Known) → IsMore a b → IsMore b c → IsMore a c
 more_then a b c one two = record { front = prefix_trans a.texts b.texts c.texts one.front two.front; limit = two.limit ∙ one.limit }
 
+-- ---- the numbers of files
+
+-- a file before another has a lower number
+front_low : (first : ℕ) (js bf front rest bh : List Merged) (job : Merged) (i : ℕ) → js ≡ bf ++ (front ++ (job ∷ (rest ++ bh))) → ((k : ℕ) (j : Merged) → slice_get js k ≡ Some j → j.file ≡ first + k)
+    → i ≡ length bf + length front → job.file ≡ first + i → (s : Stopped) → IsOneOf front s → s.file < job.file
+front_low first js bf front rest bh job i cut numbers place number s (k, j, at, same) =
+    let within = slice_get_within front k j at in
+    let file = numbers (length bf + k) j (ap (λ l. slice_get l (length bf + k)) cut ∙ (at_right bf (front ++ (job ∷ (rest ++ bh))) k ∙ (in_left front (job ∷ (rest ++ bh)) k within ∙ at))) in
+    omega (arith, within, file, same, place, number)
+
+-- and one behind it a higher one
+rest_high : (first : ℕ) (js bf front rest bh : List Merged) (job : Merged) (i : ℕ) → js ≡ bf ++ (front ++ (job ∷ (rest ++ bh))) → ((k : ℕ) (j : Merged) → slice_get js k ≡ Some j → j.file ≡ first + k)
+    → i ≡ length bf + length front → job.file ≡ first + i → (s : Stopped) → IsOneOf rest s → job.file < s.file
+rest_high first js bf front rest bh job i cut numbers place number s (k, j, at, same) =
+    let within = slice_get_within rest k j at in
+    let file = numbers (length bf + (length front + suc k)) j (ap (λ l. slice_get l (length bf + (length front + suc k))) cut ∙ (at_right bf (front ++ (job ∷ (rest ++ bh))) (length front + suc k)
+    ∙ (at_right front (job ∷ (rest ++ bh)) (suc k) ∙ (in_left rest bh k within ∙ at)))) in
+    omega (arith, file, same, place, number)
+
 -- ---- a file
 
 module _ {D : Type 0} {d : DiskGhosts D} (view : SecondView) (first : ℕ) (stop : Option Stopped) (before : Journal D d) (fresh : List JournalEntry) (old : Merged) where
   -- one that was begun
   moved_file : (new : Merged) (p q : KeeperPass D) (over : About (StoreFixed D)) (places : List SegmentPlace) (all_done : Bool) → CameOver d.state view.version view.texts places view.told all_done p q old new
-      → (IsNonDecreasingBy file_at view.segments → places ≡ filter (is_of (old.file - first)) view.segments) → (stop ≡ None → all_done ≡ true)
+      → (IsNonDecreasingBy file_at view.segments → places ≡ filter (is_of (old.file - first)) view.segments) → (IsDone stop old.file → all_done ≡ true)
+      → ((why : Stopped) → stop ≡ Some why → why.file ≤ old.file → all_done ≡ false) → ((why : Stopped) → stop ≡ Some why → why.file < old.file → ⊥)
       → number_of p ≡ old.file → about p ≡ Some over → over.fixed.opened ≡ before.disk.now → over.fixed.header ≡ before.header → own_list p ≡ []
       → filter_map (in_file old.file) fresh ≡ filter_map (in_file old.file) (journal_seen (entries_in (own_list q))) → IsPrefix (journal_seen (seen q)) (told_entries (state_of before) ++ fresh)
       → IsMovedFile view first stop before fresh old new
-  moved_file new p q over places all_done came are done number known opened header own picked seen_on = record {
+  moved_file new p q over places all_done came are done some none number known opened header own picked seen_on = record {
     file = came.same_file;
     covered = came.covered;
     ended = came.ended;
     count = came.count;
     first_ones = λ all run. came.first run.bytes all run.told_is (subst (λ l. HoldRun view.version view.texts run.bytes l nothing_so_far all) (sym (are run.sorted)) run.run);
-    all = λ none all run. came.all (done none) run.bytes all run.told_is (subst (λ l. HoldRun view.version view.texts run.bytes l nothing_so_far all) (sym (are run.sorted)) run.run);
+    all = λ is all run. came.all (done is) run.bytes all run.told_is (subst (λ l. HoldRun view.version view.texts run.bytes l nothing_so_far all) (sym (are run.sorted)) run.run);
+    part = λ why is le all run.
+        (came.not_done (some why is le) run.bytes all run.told_is (subst (λ l. HoldRun view.version view.texts run.bytes l nothing_so_far all) (sym (are run.sorted)) run.run)).part;
+    none = λ why is lt. absurd (none why is lt);
     segments = came.segments;
+    cuts = λ all run.
+        let cut = came.cuts run.bytes all run.told_is (subst (λ l. HoldRun view.version view.texts run.bytes l nothing_so_far all) (sym (are run.sorted)) run.run) in
+        subst (λ l. AreCutAs old.file l came.segments) (are run.sorted) (subst (λ n. AreCutAs n places came.segments) number cut);
     rows_count = came.rows_count;
     last_is = came.last_is;
     ended_is = came.ended_is;
@@ -186,7 +212,7 @@ module _ {D : Type 0} {d : DiskGhosts D} (view : SecondView) (first : ℕ) (stop
           }))
 
   -- one that was not, since another was stopped
-  waited_file : (number : ℕ) (q : KeeperPass D) → IsNewIn (state_of before) number old → (stop ≡ None → ⊥) → own_list q ≡ []
+  waited_file : (number : ℕ) (q : KeeperPass D) → IsNewIn (state_of before) number old → (IsDone stop old.file → ⊥) → own_list q ≡ []
       → filter_map (in_file old.file) fresh ≡ filter_map (in_file old.file) (journal_seen (entries_in (own_list q))) → IsMovedFile view first stop before fresh old old
   waited_file number q new stopped own picked = record {
     file = refl;
@@ -194,8 +220,11 @@ module _ {D : Type 0} {d : DiskGhosts D} (view : SecondView) (first : ℕ) (stop
     ended = false;
     count = new.messages_none;
     first_ones = λ all run. (all.messages, refl);
-    all = λ none all run. absurd (stopped none);
+    all = λ is all run. absurd (stopped is);
+    part = λ why is le all run. new.not_whole;
+    none = λ why is lt. (new.messages_none, new.not_whole);
     segments = [];
+    cuts = λ all run. tt;
     rows_count = refl;
     last_is = sym new.not_whole;
     ended_is = sym (ap (λ b. b && false) new.not_whole);
@@ -300,10 +329,10 @@ module _ {M E D : Type 0} {N : NamesGhosts M} {H : DiskGhosts E} {d : DiskGhosts
       by_stop (Some s) is = ap (λ (x : KeeperPass D). number_of x) (did.waited (λ no. absurd (cc (no, is)))).1
 
   module _ (before after : Journal D d) (types_reader words_reader : BookPass) (t u : ℕ) (store : StoreView D) where
-    has_stored : (first : ℕ) (w w' : Merger M E N H) (js js' : List Merged) → w.first ≡ first → MayBegin first (version w.second.names.now) before js
+    has_stored : (first : ℕ) (w w' : Merger M E N H) (js js' : List Merged) → w.first ≡ first → w.stop ≡ None → MayBegin first (version w.second.names.now) before js
         → HasMovedOver types words version d.state state_second first w w' js js' (opened before types_reader words_reader t u) store → IsJournalOf store after → Kept (state_by d.state store)
         → HasStored (view_of types words version state_second w) first w'.stop js js' before after store
-    has_stored first w w' js js' same_first begin h back kept = record {
+    has_stored first w w' js js' same_first fresh begin h back kept = record {
       left_by = left_by (λ (s : Unit {0}). None) (λ s. None) (λ s. 0) before after types_reader words_reader t u store h.fixed back kept;
       fresh = journal_seen (list_behind d.state (opened before types_reader words_reader t u) store);
       grown = sym (list_now before types_reader words_reader t u store) ∙ all_now;
@@ -365,8 +394,38 @@ module _ {M E D : Type 0} {N : NamesGhosts M} {H : DiskGhosts E} {d : DiskGhosts
             seen_on : IsPrefix (journal_seen (seen f.keeper)) (told_entries (state_of before) ++ journal_seen (list_behind d.state (opened before types_reader words_reader t u) store))
             seen_on = subst (λ es. IsPrefix (journal_seen (seen f.keeper)) es) all_now (seen_front (seen f.keeper) (list_of d.state store) (h.seen_on i f.keeper f.keeper_is))
 
-            none_then : w'.stop ≡ None → f.after.stop ≡ None
-            none_then none = not_before types words version state_second f.rest f.rest' f.after w' goes none
+            numbers : (k : ℕ) (j : Merged) → slice_get js k ≡ Some j → j.file ≡ first + k
+            numbers k j there = (begin.new k j there).file_is
+
+            low : (s : Stopped) → IsOneOf f.front s → s.file < job.file
+            low = front_low first js f.of_piece.before f.front f.rest f.of_piece.behind job i f.of_piece.cut numbers f.of_piece.place (numbers i job at)
+
+            high : (s : Stopped) → IsOneOf f.rest s → job.file < s.file
+            high = rest_high first js f.of_piece.before f.front f.rest f.of_piece.behind job i f.of_piece.cut numbers f.of_piece.place (numbers i job at)
+
+            -- what stopped it here did so to the end
+            to_end : (s : Stopped) → f.after.stop ≡ Some s → w'.stop ≡ Some s
+            to_end s is = goes.stop_is (λ no. absurd (cc (no, is))) ∙ is
+
+            done_here : f.before.stop ≡ None → (o : Option Stopped) → f.after.stop ≡ o → IsDone w'.stop job.file → is_none f.after.stop ≡ true
+            done_here ran None is done = ap is_none is
+            done_here ran (Some s) is done =
+                let before_it : job.file < s.file = subst (λ o. IsDone o job.file) (to_end s is) done in
+                let same = ((f.did_it.moved ran).stopped s is).file in
+                absurd (omega (arith, before_it, same))
+
+            not_here : f.before.stop ≡ None → (o : Option Stopped) → f.after.stop ≡ o → (why : Stopped) → w'.stop ≡ Some why → why.file ≤ job.file → is_none f.after.stop ≡ false
+            not_here ran None is why some le = let later = high why (goes.stopped_by is why some) in absurd (omega (arith, later, le))
+            not_here ran (Some s) is why some le = ap is_none is
+
+            none_here : f.before.stop ≡ None → (o : Option Stopped) → f.after.stop ≡ o → (why : Stopped) → w'.stop ≡ Some why → why.file < job.file → ⊥
+            none_here ran None is why some lt = let later = high why (goes.stopped_by is why some) in omega (arith, later, lt)
+            none_here ran (Some s) is why some lt =
+                let end = to_end s is in
+                let one : s ≡ why = cc (end, some) in
+                let same = ((f.did_it.moved ran).stopped s is).file in
+                let file = ap (λ (x : Stopped). x.file) one in
+                omega (arith, lt, same, file)
 
             by_stop : (s : Option Stopped) → f.before.stop ≡ s → IsMovedFile (view_of types words version state_second w) first w'.stop before (journal_seen (list_behind d.state (opened before types_reader words_reader t u) store)) job f.job
             by_stop None is = let moved = f.did_it.moved is in
@@ -374,17 +433,21 @@ module _ {M E D : Type 0} {N : NamesGhosts M} {H : DiskGhosts E} {d : DiskGhosts
                 (subst (λ v. CameOver d.state v.version v.texts moved.places v.told (is_none f.after.stop) p f.keeper job f.job) (view_same types words version state_second f.front f.front' w f.before went) moved.came)
                 (subst (λ (n : ℕ). IsNonDecreasingBy file_at w.second.segments.now → moved.places ≡ filter (is_of (job.file - n)) w.second.segments.now) (went.first_is ∙ same_first)
                 (subst (λ s. IsNonDecreasingBy file_at s.now → moved.places ≡ filter (is_of (job.file - f.before.first)) s.now) went.second_is.segments moved.are))
-                (λ none. ap is_none (none_then none)) number o.about_is refl refl o.own_is picked seen_on
+                (done_here is f.after.stop refl) (not_here is f.after.stop refl) (none_here is f.after.stop refl) number o.about_is refl refl o.own_is picked seen_on
             by_stop (Some s) is = let waited = f.did_it.waited (λ no. absurd (cc (no, is))) in
                 subst (λ x. IsMovedFile (view_of types words version state_second w) first w'.stop before (journal_seen (list_behind d.state (opened before types_reader words_reader t u) store)) job x) (sym waited.0)
                 (waited_file (view_of types words version state_second w) first w'.stop before (journal_seen (list_behind d.state (opened before types_reader words_reader t u) store)) job (first + i) f.keeper (begin.new i job at)
-                (λ none. let after_none = none_then none in let same = waited.2 in absurd (cc (after_none, same, is)))
+                (λ done.
+                let after_is : f.after.stop ≡ Some s = waited.2 ∙ is in
+                let before_it : job.file < s.file = subst (λ o. IsDone o job.file) (to_end s after_is) done in
+                let there = low s (went.stopped_by fresh s is) in
+                omega (arith, before_it, there))
                 (ap (λ (x : KeeperPass D). own_list x) waited.1 ∙ o.own_is) picked)
 
-    pub stored_by : (o : StoreView D) (f first : ℕ) (w w' : Merger M E N H) (js js' : List Merged) → o ≡ (opened before types_reader words_reader t u) → f ≡ first → w.first ≡ first → MayBegin first (version w.second.names.now) before js
+    pub stored_by : (o : StoreView D) (f first : ℕ) (w w' : Merger M E N H) (js js' : List Merged) → o ≡ (opened before types_reader words_reader t u) → f ≡ first → w.first ≡ first → w.stop ≡ None → MayBegin first (version w.second.names.now) before js
         → HasMovedOver types words version d.state state_second f w w' js js' o store → IsJournalOf store after → Kept (state_by d.state store)
         → HasStored (view_of types words version state_second w) first w'.stop js js' before after store
-    stored_by o f first w w' js js' is same same_first begin h back kept = has_stored first w w' js js' same_first begin
+    stored_by o f first w w' js js' is same same_first fresh begin h back kept = has_stored first w w' js js' same_first fresh begin
         (subst (λ (n : ℕ). HasMovedOver types words version d.state state_second n w w' js js' (opened before types_reader words_reader t u) store) same (subst (λ (x : StoreView D). HasMovedOver types words version d.state state_second f w w' js js' x store) is h)) back kept
 
   module _ (before after : Journal D d) (types_reader words_reader : BookPass) (t u : ℕ) (store : StoreView D) (first : ℕ) (w w' : Merger M E N H) (js js' : List Merged) (begin : MayBegin first (version w.second.names.now) before js)
@@ -488,11 +551,11 @@ module _ {M E D : Type 0} {N : NamesGhosts M} {H : DiskGhosts E} {d : DiskGhosts
         (((s.done.did_it.moved s.ran).stopped why s.stopped).fault is)
 
     -- what the moments before and after a file say of its cause, told of the journals
-    cause_of : (books : Books) (file i : ℕ) (p q : KeeperPass D) (b : BookPasses) → IsPassOf d.state first (opened before types_reader words_reader t u) i p → number_of p ≡ file → IsPrefix (seen p) (seen q) → IsPrefix (seen q) (list_of d.state store) → IsJournalOf store after → Kept (state_by d.state store)
+    cause_of : (books : Books) (file done i : ℕ) (places : List SegmentPlace) (p q : KeeperPass D) (b : BookPasses) → (IsNonDecreasingBy file_at view.segments → places ≡ filter (is_of (file - first)) view.segments) → IsPassOf d.state first (opened before types_reader words_reader t u) i p → number_of p ≡ file → IsPrefix (seen p) (seen q) → IsPrefix (seen q) (list_of d.state store) → IsJournalOf store after → Kept (state_by d.state store)
         → ((book : Which) → IsMore (book_of (books_by (pass_in b.types) (pass_in b.words)) book) (book_of books book)) → (cause : MergeCause)
         → (cause ≡ SecondDamaged → All IsFairType view.texts.types → All IsFairWord view.texts.words → (all : SoFar) → ¬ HasRun view (file - first) all)
-        → HasMoveCause d.state view.version view.texts p q (books_of b) cause → HasStopCause (λ book count. WasFull (Contains (old_texts view book)) count (book_of books book)) (WereKnown books) view first file before after cause
-    cause_of books file i p q b o number since on back kept more (Full WhichTypes count) damaged has = record {
+        → HasMoveCause d.state view.version view.texts places view.told done p q (books_of b) cause → HasStopCause (λ book count. WasFull (Contains (old_texts view book)) count (book_of books book)) (WereKnown books) view first file done before after cause
+    cause_of books file done i places p q b are o number since on back kept more (Full WhichTypes count) damaged has = record {
       limit = has.most ∙ sym (more WhichTypes).limit;
       front = seen (pass_in b.types);
       begins = (more WhichTypes).front;
@@ -501,7 +564,7 @@ module _ {M E D : Type 0} {N : NamesGhosts M} {H : DiskGhosts E} {d : DiskGhosts
       is = has.is;
       new = has.new;
     }
-    cause_of books file i p q b o number since on back kept more (Full WhichWords count) damaged has = record {
+    cause_of books file done i places p q b are o number since on back kept more (Full WhichWords count) damaged has = record {
       limit = has.most ∙ sym (more WhichWords).limit;
       front = seen (pass_in b.words);
       begins = (more WhichWords).front;
@@ -510,10 +573,12 @@ module _ {M E D : Type 0} {N : NamesGhosts M} {H : DiskGhosts E} {d : DiskGhosts
       is = has.is;
       new = has.new;
     }
-    cause_of books file i p q b o number since on back kept more (ArchiveFull end need) damaged has = (
+    cause_of books file done i places p q b are o number since on back kept more (ArchiveFull end need) damaged has = (
       has.full.past _ o.about_is,
       told_both (is_some (state_of before).disk.seen)
           (λ ends needs. record {
+            place = has.place;
+            there = λ sorted. subst (λ l. Contains l has.place) (are sorted) has.there;
             front = journal_seen (seen q);
             between = (
               subst (λ l. IsPrefix l (journal_seen (seen q))) (ap journal_seen o.seen_is ∙ list_before before types_reader words_reader t u) (seen_front (seen p) (seen q) since),
@@ -527,7 +592,11 @@ module _ {M E D : Type 0} {N : NamesGhosts M} {H : DiskGhosts E} {d : DiskGhosts
             segment = segment_of has.draft;
             numbers = has.draft.words;
             file_is = has.file ∙ number;
+            next = has.next;
+            at = has.at;
+            marks = has.marks;
             rows = has.rows;
+            rows_are = has.rows_are;
             messages = has.messages;
             source = has.source;
             canonical = all_canonical view.version has.draft.columns.rows has.before.types has.before.words (noted has.types) (noted has.words) has.messages has.full.types_on has.full.words_on has.canonical;
@@ -535,19 +604,26 @@ module _ {M E D : Type 0} {N : NamesGhosts M} {H : DiskGhosts E} {d : DiskGhosts
             needs = needs;
           }) (has.full.ends _ o.about_is) (has.full.needs _ o.about_is),
     )
-    cause_of books file i p q b o number since on back kept more (FirstFault was now) damaged has = (
+    cause_of books file done i places p q b are o number since on back kept more (FirstFault was now) damaged has = (
       has.fault.opened _ o.about_is,
       subst (λ n. Rose n (state_of after).disk.faults) (sym (has.fault.opened _ o.about_is))
           (rose_by before types_reader words_reader t u after store kept (ap (λ (x : StoreFixed D). x.opened) h.fixed) (sym back.disk) has.mark.0 (prefix_trans _ (seen q) (list_of d.state store) has.mark.1 on)),
     )
-    cause_of books file i p q b o number since on back kept more SecondFault damaged has = tt
-    cause_of books file i p q b o number since on back kept more SecondDamaged damaged has = damaged refl
-    cause_of books file i p q b o number since on back kept more OutOfMemory damaged has = tt
+    cause_of books file done i places p q b are o number since on back kept more SecondFault damaged has = tt
+    cause_of books file done i places p q b are o number since on back kept more SecondDamaged damaged has = damaged refl
+    cause_of books file done i places p q b are o number since on back kept more OutOfMemory damaged has = tt
 
     why_stopped : (books : Books) → w.first ≡ first → w.stop ≡ None → IsJournalOf store after → Kept (state_by d.state store)
         → ((book : Which) → IsMore (book_of (books_by (pass_in (passes_of w').types) (pass_in (passes_of w').words)) book) (book_of books book))
-        → (why : Stopped) → w'.stop ≡ Some why → HasStopped (λ book count. WasFull (Contains (old_texts view book)) count (book_of books book)) (WereKnown books) view first js before after why
-    why_stopped books same_first none back kept more why some = record { place = s.place; file = s.job; is = s.is; file_is = s.file; cause = cause }
+        → (why : Stopped) → w'.stop ≡ Some why → HasStopped (λ book count. WasFull (Contains (old_texts view book)) count (book_of books book)) (WereKnown books) view first js' before after why
+    why_stopped books same_first none back kept more why some = record {
+      place = s.place;
+      file = s.done.job;
+      is = s.done.job_is;
+      file_is = s.file ∙ sym moved.came.same_file;
+      not_done = not_done;
+      cause = subst (λ n. HasStopCause (λ book count. WasFull (Contains (old_texts view book)) count (book_of books book)) (WereKnown books) view first n s.done.job.messages before after why.cause) (sym moved.came.same_file) cause;
+    }
       where
         s : StoppedAt why
         s = stopped_at none why some
@@ -555,7 +631,7 @@ module _ {M E D : Type 0} {N : NamesGhosts M} {H : DiskGhosts E} {d : DiskGhosts
         moved : HasMoved types words version d.state state_second s.done.before s.job s.p s.done.after s.done.job s.done.keeper
         moved = s.done.did_it.moved s.ran
 
-        stop : IsStopFor types words version d.state state_second s.done.before s.job s.p s.done.after s.done.keeper moved.places why
+        stop : IsStopFor types words version d.state state_second s.done.before s.job s.p s.done.after s.done.job s.done.keeper moved.places why
         stop = moved.stopped why s.stopped
 
         same : view_of types words version state_second s.done.before ≡ view
@@ -564,6 +640,15 @@ module _ {M E D : Type 0} {N : NamesGhosts M} {H : DiskGhosts E} {d : DiskGhosts
         are : IsNonDecreasingBy file_at view.segments → moved.places ≡ filter (is_of (s.job.file - first)) view.segments
         are = subst (λ (n : ℕ). IsNonDecreasingBy file_at view.segments → moved.places ≡ filter (is_of (s.job.file - n)) view.segments) (s.went.first_is ∙ same_first)
             (subst (λ (v : SecondView). IsNonDecreasingBy file_at v.segments → moved.places ≡ filter (is_of (s.job.file - s.done.before.first)) v.segments) same moved.are)
+
+        came : CameOver d.state view.version view.texts moved.places view.told (is_none s.done.after.stop) s.p s.done.keeper s.job s.done.job
+        came = subst (λ (v : SecondView). CameOver d.state v.version v.texts moved.places v.told (is_none s.done.after.stop) s.p s.done.keeper s.job s.done.job) same moved.came
+
+        not_done : (all : SoFar) → HasRun view (s.done.job.file - first) all → IsNotDone (places_for view (s.done.job.file - first)) s.done.job
+        not_done all later =
+            let run : HasRun view (s.job.file - first) all = subst (λ n. HasRun view (n - first) all) came.same_file later in
+            let here = came.not_done (ap is_none s.stopped) run.bytes all run.told_is (subst (λ l. HoldRun view.version view.texts run.bytes l nothing_so_far all) (sym (are run.sorted)) run.run) in
+            subst (λ n. IsNotDone (places_for view (n - first)) s.done.job) (sym came.same_file) (subst (λ l. IsNotDone l s.done.job) (are run.sorted) here)
 
         NoRun : SecondView → Type 0
         NoRun v = (bytes : List ℕ) (all : SoFar) → v.told ≡ Some bytes → All IsFairType v.texts.types → All IsFairWord v.texts.words → ¬ HoldRun v.version v.texts bytes moved.places nothing_so_far all
@@ -576,16 +661,16 @@ module _ {M E D : Type 0} {N : NamesGhosts M} {H : DiskGhosts E} {d : DiskGhosts
         more_after book = more_then _ _ (book_of books book)
             (books_on (pass_in (passes_of s.done.after).types) (pass_in (passes_of w').types) (pass_in (passes_of s.done.after).words) (pass_in (passes_of w').words) s.goes.adds.types.goes s.goes.adds.words.goes book) (more book)
 
-        cause : HasStopCause (λ book count. WasFull (Contains (old_texts view book)) count (book_of books book)) (WereKnown books) view first s.job.file before after why.cause
-        cause = cause_of books s.job.file s.place s.p s.done.keeper (passes_of s.done.after) (h.opened s.place s.p s.p_is) ((h.opened s.place s.p s.p_is).number ∙ sym (begin.new s.place s.job s.is).file_is) moved.came.added.seen_on (h.seen_on s.place s.done.keeper s.done.keeper_is) back kept more_after why.cause damaged
-            (subst (λ (v : SecondView). HasMoveCause d.state v.version v.texts s.p s.done.keeper (books_of (passes_of s.done.after)) why.cause) same stop.cause)
+        cause : HasStopCause (λ book count. WasFull (Contains (old_texts view book)) count (book_of books book)) (WereKnown books) view first s.job.file s.done.job.messages before after why.cause
+        cause = cause_of books s.job.file s.done.job.messages s.place moved.places s.p s.done.keeper (passes_of s.done.after) are (h.opened s.place s.p s.p_is) ((h.opened s.place s.p s.p_is).number ∙ sym (begin.new s.place s.job s.is).file_is) moved.came.added.seen_on (h.seen_on s.place s.done.keeper s.done.keeper_is) back kept more_after why.cause damaged
+            (subst (λ (v : SecondView). HasMoveCause d.state v.version v.texts moved.places v.told s.done.job.messages s.p s.done.keeper (books_of (passes_of s.done.after)) why.cause) same stop.cause)
 
   module _ (before after : Journal D d) (types_reader words_reader : BookPass) (t u : ℕ) (store : StoreView D) where
     pub why_by : (o : StoreView D) (f first : ℕ) (w w' : Merger M E N H) (js js' : List Merged) (books : Books) → o ≡ opened before types_reader words_reader t u → f ≡ first → w.first ≡ first → w.stop ≡ None → MayBegin first (version w.second.names.now) before js
         → HasMovedOver types words version d.state state_second f w w' js js' o store → IsJournalOf store after → Kept (state_by d.state store)
         → ((book : Which) → IsMore (book_of (books_by (pass_in (passes_of w').types) (pass_in (passes_of w').words)) book) (book_of books book))
         → (why : Stopped) → w'.stop ≡ Some why
-        → HasStopped (λ book count. WasFull (Contains (old_texts (view_of types words version state_second w) book)) count (book_of books book)) (WereKnown books) (view_of types words version state_second w) first js before after why
+        → HasStopped (λ book count. WasFull (Contains (old_texts (view_of types words version state_second w) book)) count (book_of books book)) (WereKnown books) (view_of types words version state_second w) first js' before after why
     why_by o f first w w' js js' books is same same_first none begin h = why_stopped before after types_reader words_reader t u store first w w' js js' begin
         (subst (λ (n : ℕ). HasMovedOver types words version d.state state_second n w w' js js' (opened before types_reader words_reader t u) store) same
         (subst (λ (x : StoreView D). HasMovedOver types words version d.state state_second f w w' js js' x store) is h)) books same_first none

@@ -129,10 +129,10 @@ drop_front [] ys = refl
 drop_front (x ∷ xs) ys = drop_front xs ys
 
 -- the same cause, where more is told of a full book, and of the texts of a book
-module _ {D : Type 0} {d : DiskGhosts D} (view : SecondView) (first file : ℕ) (before after : Journal D d) (full full' : Which → ℕ → Type 0) (has has' : List JournalEntry → Which → List (List ℕ) → Type 0) where
+module _ {D : Type 0} {d : DiskGhosts D} (view : SecondView) (first file done : ℕ) (before after : Journal D d) (full full' : Which → ℕ → Type 0) (has has' : List JournalEntry → Which → List (List ℕ) → Type 0) where
   cause_on : ((book : Which) (count : ℕ) → full book count → full' book count)
-      → ((end need : ℕ) → IfTold (is_some (state_of before).disk.seen) (LackedRoom has view file before after end need) → IfTold (is_some (state_of before).disk.seen) (LackedRoom has' view file before after end need))
-      → (cause : MergeCause) → HasStopCause full has view first file before after cause → HasStopCause full' has' view first file before after cause
+      → ((end need : ℕ) → IfTold (is_some (state_of before).disk.seen) (LackedRoom has view first file done before after end need) → IfTold (is_some (state_of before).disk.seen) (LackedRoom has' view first file done before after end need))
+      → (cause : MergeCause) → HasStopCause full has view first file done before after cause → HasStopCause full' has' view first file done before after cause
   cause_on more room (Full book count) was = more book count was
   cause_on more room (ArchiveFull end need) was = (was.0, room end need was.1)
   cause_on more room (FirstFault opened now) was = was
@@ -163,8 +163,9 @@ module _ {D : Type 0} {d : DiskGhosts D} {G : Ghosts BookState (List ℕ) ℕ} (
       file = was.file;
       is = was.is;
       file_is = was.file_is;
-      cause = cause_on view first was.file.file before after (λ book count. WasFull (Contains (old_texts view book)) count (book_of (books_at types' words') book)) (IsFullByBoth view before) (WereKnown (books_at types' words')) (AreOfBoth view) full
-          (λ end need lacked. if_told told _ (λ told_is. room was.file.file end need told_is (of_told told _ told_is lacked))) one.cause was.cause;
+      not_done = was.not_done;
+      cause = cause_on view first was.file.file was.file.messages before after (λ book count. WasFull (Contains (old_texts view book)) count (book_of (books_at types' words') book)) (IsFullByBoth view before) (WereKnown (books_at types' words')) (AreOfBoth view) full
+          (λ end need lacked. if_told told _ (λ told_is. room was.file.file was.file.messages end need told_is (of_told told _ told_is lacked))) one.cause was.cause;
     };
   }
     where
@@ -200,8 +201,8 @@ module _ {D : Type 0} {d : DiskGhosts D} {G : Ghosts BookState (List ℕ) ℕ} (
       after_is = ap₂ (λ (x : D) n. journal_in (d.state x).seen n) (sym h.stored.left_by.disk) h.stored.left_by.count
 
       -- what had no room were rows and texts of the second archive
-      room : (file end need : ℕ) → told ≡ true → LackedRoom (WereKnown (books_at types' words')) view file before after end need → LackedRoom (AreOfBoth view) view file before after end need
-      room file end need told_is r =
+      room : (file done end need : ℕ) → told ≡ true → LackedRoom (WereKnown (books_at types' words')) view first file done before after end need → LackedRoom (AreOfBoth view) view first file done before after end need
+      room file done end need told_is r =
           let since = r.between.0 in
           let on = subst (IsPrefix r.front) after_is r.between.1 in
           let before_types = types_of r.front in let before_words = words_of r.front in
@@ -212,6 +213,8 @@ module _ {D : Type 0} {d : DiskGhosts D} {G : Ghosts BookState (List ℕ) ℕ} (
           t_saved s.types_saved types types' s.types to h.of_types t_owned these_types grown_types told_is before_types r.types (book_front WhichTypes r.front (journal_of s) on) r.has_types in
           let on_words = noted_behind (Contains view.texts.words) IsFairWord WORDS_FIRST told before.header.words_limit s.header.words_limit (words_of (told_entries (state_of before))) (words_of (journal_of s)) (words_of fresh)
           w_saved s.words_saved words words' s.words wo h.of_words w_owned these_words grown_words told_is before_words r.words (book_front WhichWords r.front (journal_of s) on) r.has_words in record {
+            place = r.place;
+            there = r.there;
             front = r.front;
             between = r.between;
             ends = r.ends;
@@ -226,7 +229,11 @@ module _ {D : Type 0} {d : DiskGhosts D} {G : Ghosts BookState (List ℕ) ℕ} (
             segment = r.segment;
             numbers = r.numbers;
             file_is = r.file_is;
+            next = r.next;
+            at = r.at;
+            marks = r.marks;
             rows = r.rows;
+            rows_are = r.rows_are;
             messages = r.messages;
             source = r.source;
             canonical = all_canonical view.version r.segment.rows r.types r.words (before_types ++ more_types) (before_words ++ more_words) r.messages on_types on_words r.canonical;

@@ -1,9 +1,9 @@
 -- A file, a segment more at a time.
 use Rattle.std.proofs.Common.{◌≡◌, ℕ, ◌+◌, ◌<◌, ◌≤◌, zero, suc, List, [], ◌∷◌, ◌++◌, All, Bool, true, false, append_assoc, arith, refl, sym, ap, ap₂, ◌∙◌, subst, length, length-append, drop, get_or}
 use Rattle.std.specs.Prelude.{◌&&◌, ◌||◌, Err, Ok, Option, Result, Some, is_ok, is_some}
-use Rattle.std.specs.List.{list_any, sum_by}
+use Rattle.std.specs.List.{Contains, list_any, sum_by}
 use Rattle.std.proofs.lemmas.List.{append-nil, drop_all}
-use Rattle.std.proofs.lemmas.List.Elements.{All-append, All-nil}
+use Rattle.std.proofs.lemmas.List.Elements.{All-append, All-nil, Contains-get_or}
 use Rattle.std.proofs.lemmas.List.Sums.{sum_by-append, sum_by-cons}
 use mathlib.Core.List.{IsPrefix}
 use Rattle.log_seams.specs.Disk.{DiskState}
@@ -34,12 +34,13 @@ use Rattle.archive_merge.specs.declared.cause.MergeCause.TheVariants.{ArchiveFul
 use Rattle.archive_merge.specs.declared.file.Merged.{Merged}
 use Rattle.archive_merge.specs.declared.hand.Hand.{Hand}
 use Rattle.archive_merge.specs.Causes.{HasMoveCause}
-use Rattle.archive_merge.specs.Files.{CameOver, IsNewFile}
+use Rattle.archive_merge.specs.Files.{AreCutAs, CameOver, IsCutAs, IsNewFile}
 use Rattle.archive_merge.specs.InHand.{IsEmpty, Texts, sum_in}
 use Rattle.archive_merge.specs.Next.{HoldsNext, part_of}
 use Rattle.archive_merge.specs.Runs.{HoldRun, SoFar, nothing_so_far, so_far_with, sum_of}
 use Rattle.archive_merge.specs.Sealing.{MovesSegment, StandsBehind}
 use Rattle.archive_merge.specs.Taken.{Books}
+use Rattle.archive_merge.proofs.SealingLemmas.{canonical_long}
 
 -- ---- runs
 
@@ -57,6 +58,9 @@ dropped (p ∷ places) (suc i) place within is =
     let next : suc i + 1 ≡ suc (i + 1) = omega arith in
     dropped places i place (omega (arith, within)) is ∙ ap (λ n. place ∷ drop n (p ∷ places)) (sym next)
 
+pub contains_place : (places : List SegmentPlace) (i : ℕ) (place : SegmentPlace) → i < length places → place ≡ get_or places i place → Contains places place
+contains_place places i place within is = subst (Contains places) (sym is) (Contains-get_or places i place within)
+
 -- what holds of one holds of it alone
 one_alone : {X : Type 0} (P : X → Type 0) (x : X) → P x → All P (x ∷ [])
 one_alone P x holds zero d lt = holds
@@ -64,6 +68,15 @@ one_alone P x holds (suc i) d lt = absurd (omega (arith, lt))
 
 abbrev rows_of : SegmentEntry → ℕ
 rows_of s = length s.rows
+
+-- ---- cuts
+
+-- a segment more, by the next place
+cut_more : (number : ℕ) (places : List SegmentPlace) (ss : List SegmentEntry) (p : SegmentPlace) (rest : List SegmentPlace) (s : SegmentEntry) → drop (length ss) places ≡ p ∷ rest → AreCutAs number places ss → IsCutAs number p s
+    → AreCutAs number places (ss ++ s ∷ [])
+cut_more number places [] p rest s left are is = subst (λ l. AreCutAs number l (s ∷ [])) (sym left) (is, tt)
+cut_more number [] (t ∷ ss) p rest s left are is = absurd are
+cut_more number (q ∷ places) (t ∷ ss) p rest s left are is = (are.0, cut_more number places ss p rest s left are.1 is)
 
 -- ---- marks
 
@@ -113,6 +126,8 @@ module _ {D : Type 0} (state : D → DiskState) (version : ℕ) (old : Texts) (p
     pub count : file.messages ≡ length covered
     pub whole : file.whole ≡ hand.draft.last
     pub left : (bytes : List ℕ) (all : SoFar) → told ≡ Some bytes → HoldRun version old bytes places nothing_so_far all → HoldRun version old bytes (drop k places) (so_far_in covered hand) all
+    pub counted : length segments ≡ k
+    pub cuts : (bytes : List ℕ) (all : SoFar) → told ≡ Some bytes → HoldRun version old bytes places nothing_so_far all → AreCutAs (number_of start) places segments
 
   pub way_begins : (file : Merged) (hand : Hand) → IsNewFile state file start → IsReady start → hand.draft.file ≡ file.file → IsEmpty hand → sum_in hand ≡ record { messages = 0; whole = false; open_end = false }
       → FileUnderWay 0 start file hand
@@ -139,6 +154,8 @@ module _ {D : Type 0} (state : D → DiskState) (version : ℕ) (old : Texts) (p
     count = new.messages_none;
     whole = new.not_whole ∙ sym not_last;
     left = λ bytes all told_is run. subst (λ s. HoldRun version old bytes places s all) (so_far_same [] [] _ _ _ _ refl (sym not_last) (ap (λ b. b && hand.draft.ended) (sym not_last))) run;
+    counted = refl;
+    cuts = λ bytes all told_is run. tt;
   }
     where
       not_last : hand.draft.last ≡ false
@@ -187,8 +204,25 @@ module _ {D : Type 0} (state : D → DiskState) (version : ℕ) (old : Texts) (p
         count = count ∙ next_stands.first;
         whole = whole;
         left = λ bytes all told_is run. next_left bytes all told_is (next_run bytes all told_is run);
+        counted = omega (arith, length-append way.segments (segment_in moved.draft ∷ []), way.counted);
+        cuts = λ bytes all told_is run. cut_more (number_of start) places way.segments place (drop (k + 1) places) (segment_in moved.draft)
+            (ap (λ n. drop n places) way.counted ∙ dropped places k place within place_is) (way.cuts bytes all told_is run) (next_cut bytes all told_is (next_run bytes all told_is run));
       }
         where
+          next_cut : (bytes : List ℕ) (all : SoFar) → told ≡ Some bytes → HoldRun version old bytes (place ∷ drop (k + 1) places) (so_far_in way.covered hand) all → IsCutAs (number_of start) place (segment_in moved.draft)
+          next_cut bytes all told_is (rows, messages, holds, adds, run) = record {
+            file = moved.file ∙ (way.stands.file ∙ number_is);
+            first = moved.at;
+            rows = omega (
+              arith,
+              moved.counted,
+              canonical_long version moved.rows old.types old.words moved.messages moved.source.0,
+              ap length (moved.rows_are bytes rows told_is holds),
+              holds.holds.behind.count,
+            );
+            marks = moved.marks;
+          }
+
           next_stands : StandsBehind state (way.covered ++ moved.messages) q hand_new
           next_stands = moved.goes way.covered way.stands
 
@@ -200,8 +234,9 @@ module _ {D : Type 0} (state : D → DiskState) (version : ℕ) (old : Texts) (p
               (so_far_same _ _ _ _ _ _ (ap (λ l. way.covered ++ l) same) (sym moved.last) (ap₂ (λ a b. a && b) (sym moved.last) (sym moved.ended))) run
 
     -- what the file came to, where nothing more is sealed
-    pub came_over : (file_old : Merged) (q : KeeperPass D) (all_done : Bool) → IsNewFile state file_old start → HasNotSealed state p q → (all_done ≡ true → length places ≤ k) → CameOver state version old places told all_done start q file_old file
-    came_over file_old q all_done new nothing far = record {
+    pub came_over : (file_old : Merged) (q : KeeperPass D) (all_done : Bool) → IsNewFile state file_old start → HasNotSealed state p q → (all_done ≡ true → length places ≤ k)
+        → (all_done ≡ false → (place : SegmentPlace) × (k < length places) × (place ≡ get_or places k place)) → CameOver state version old places told all_done start q file_old file
+    came_over file_old q all_done new nothing far near = record {
       same_file = way.number ∙ sym new.number;
       covered = way.covered;
       ended = hand.draft.ended;
@@ -225,6 +260,16 @@ module _ {D : Type 0} (state : D → DiskState) (version : ℕ) (old : Texts) (p
       all = λ yes bytes all told_is run.
           let none : all ≡ so_far_in way.covered hand = subst (λ l. HoldRun version old bytes l (so_far_in way.covered hand) all) (drop_all k places (far yes)) (way.left bytes all told_is run) in
           none ∙ so_far_same _ _ _ _ _ _ refl (sym way.whole) (ap (λ b. b && hand.draft.ended) (sym way.whole));
+      cuts = way.cuts;
+      not_done = λ no bytes all told_is run.
+          let at = near no in
+          let next = next_run at.0 at.1 at.2 bytes all told_is run in
+          let adds = next.3 in record {
+            part = way.whole ∙ adds.goes_on;
+            place = at.0;
+            there = contains_place places k at.0 at.1 at.2;
+            next = adds.first ∙ sym way.count;
+          };
     }
       where
         front_of : (h : Header) → Holds h (journal_seen (seen p)) (number_of start) way.covered file.whole (file.whole && hand.draft.ended) → FrontHolds h (journal_seen (seen q)) (number_of start) way.covered file.whole (file.whole && hand.draft.ended)
@@ -232,11 +277,23 @@ module _ {D : Type 0} (state : D → DiskState) (version : ℕ) (old : Texts) (p
 
 -- ---- causes
 
+-- what a list of one has is that one
+one_there : (p q : SegmentPlace) → Contains (p ∷ []) q → p ≡ q
+one_there p q (zero, within, is) = is
+one_there p q (suc i, within, is) = absurd (omega (arith, within))
+
 -- the same to the pass that the file began with
-pub cause_since : {D : Type 0} (state : D → DiskState) (version : ℕ) (old : Texts) (start p q : KeeperPass D) (more : List (ℕ × StoreEntry)) (books : Books) (cause : MergeCause) → HasAdded start p more → HasMoveCause state version old p q books cause → HasMoveCause state version old start q books cause
-cause_since state version old start p q more books (Full book count) added has = has
-cause_since state version old start p q more books (ArchiveFull end need) added has =
+pub cause_since : {D : Type 0} (state : D → DiskState) (version : ℕ) (old : Texts) (places : List SegmentPlace) (told : Option (List ℕ)) (done : ℕ) (place : SegmentPlace) (first : ℕ) (start p q : KeeperPass D) (more : List (ℕ × StoreEntry)) (books : Books) (cause : MergeCause)
+    → Contains places place → first ≡ done → HasAdded start p more → HasMoveCause state version old (place ∷ []) told first p q books cause → HasMoveCause state version old places told done start q books cause
+cause_since state version old places told done place first start p q more books (Full book count) there same added has = has
+cause_since state version old places told done place first start p q more books (ArchiveFull end need) there same added has =
     let about_is = added.still.about_is in record {
+      place = has.place;
+      there = subst (Contains places) (one_there place has.place has.there) there;
+      rows_are = has.rows_are;
+      next = has.next ∙ same;
+      at = has.at;
+      marks = has.marks;
       rows = has.rows;
       messages = has.messages;
       source = has.source;
@@ -258,13 +315,13 @@ cause_since state version old start p q more books (ArchiveFull end need) added 
       types_on = has.types_on;
       words_on = has.words_on;
     }
-cause_since state version old start p q more books (FirstFault opened now) added has = record {
+cause_since state version old places told done place first start p q more books (FirstFault opened now) there same added has = record {
   fault = record { opened = λ a is. has.fault.opened a (added.still.about_is ∙ is); rose = has.fault.rose };
   mark = has.mark;
 }
-cause_since state version old start p q more books SecondFault added has = tt
-cause_since state version old start p q more books SecondDamaged added has = tt
-cause_since state version old start p q more books OutOfMemory added has = tt
+cause_since state version old places told done place first start p q more books SecondFault there same added has = tt
+cause_since state version old places told done place first start p q more books SecondDamaged there same added has = tt
+cause_since state version old places told done place first start p q more books OutOfMemory there same added has = tt
 
 pub err_not_ok : {T E : Type 0} (r : Result T E) (e : E) → r ≡ Err e → is_ok r ≡ true → ⊥
 err_not_ok (Ok x) e is ok = absurd (cc (is))

@@ -78,7 +78,7 @@ module _ {M E D : Type 0} {G : NamesGhosts M} {H : DiskGhosts E} (types words : 
     -- it was not, and why
     pub did_some : (r : Result (Unit {0}) MergeCause) (s : Stopped) → r ≡ Err s.cause → v.stop ≡ Some s → s.file ≡ j'.file
         → CameOver state (version w.second.names.now) (texts_by types words w.second.names.now) places (state_second w.second.disk.now).seen (is_ok r) k k' j j'
-        → IfErr r (HasMoveCause state (version w.second.names.now) (texts_by types words w.second.names.now) k k' (books_of c))
+        → IfErr r (HasMoveCause state (version w.second.names.now) (texts_by types words w.second.names.now) places (state_second w.second.disk.now).seen j'.messages k k' (books_of c))
         → (IsErrOf r SecondDamaged → (bytes : List ℕ) (all : SoFar) → (state_second w.second.disk.now).seen ≡ Some bytes → All IsFairType (types w.second.names.now) → All IsFairWord (words w.second.names.now)
         → ¬ HoldRun (version w.second.names.now) (texts_by types words w.second.names.now) bytes places nothing_so_far all)
         → CountsOf SecondFault (state_second w.second.disk.now).faults (state_second v.second.disk.now).faults r
@@ -89,7 +89,7 @@ module _ {M E D : Type 0} {G : NamesGhosts M} {H : DiskGhosts E} (types words : 
         places = places;
         are = are;
         came = subst (λ t. CameOver state (version w.second.names.now) (texts_by types words w.second.names.now) places (state_second w.second.disk.now).seen t k k' j j') not_ok came;
-        stopped = λ t at. subst (λ x. IsStopFor types words version state state_second w j k v k' places x) (only t at) here;
+        stopped = λ t at. subst (λ x. IsStopFor types words version state state_second w j k v j' k' places x) (only t at) here;
       };
     }
       where
@@ -99,11 +99,11 @@ module _ {M E D : Type 0} {G : NamesGhosts M} {H : DiskGhosts E} (types words : 
         only : (t : Stopped) → v.stop ≡ Some t → s ≡ t
         only t at = cc (stop, at)
 
-        here : IsStopFor types words version state state_second w j k v k' places s
+        here : IsStopFor types words version state state_second w j k v j' k' places s
         here = record {
           file = file ∙ came.same_file;
-          cause = subst (λ x. HasMoveCause state (version w.second.names.now) (texts_by types words w.second.names.now) k k' (books_of x) s.cause) (sym after_is)
-              (of_err r (HasMoveCause state (version w.second.names.now) (texts_by types words w.second.names.now) k k' (books_of c)) s.cause is causes);
+          cause = subst (λ x. HasMoveCause state (version w.second.names.now) (texts_by types words w.second.names.now) places (state_second w.second.disk.now).seen j'.messages k k' (books_of x) s.cause) (sym after_is)
+              (of_err r (HasMoveCause state (version w.second.names.now) (texts_by types words w.second.names.now) places (state_second w.second.disk.now).seen j'.messages k k' (books_of c)) s.cause is causes);
           damaged = λ same. damaged (is_damaged same);
           fault = λ same. disk.failed (is_fault same);
         }

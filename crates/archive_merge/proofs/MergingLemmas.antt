@@ -47,9 +47,10 @@ use Rattle.archive_merge.specs.declared.merger.Second.{Second}
 use Rattle.archive_merge.specs.declared.merger.Stopped.{Stopped}
 use Rattle.archive_merge.specs.declared.refusal.MergeRefusal.{MergeRefusal}
 use Rattle.archive_merge.specs.declared.refusal.MergeRefusal.TheVariants.{LongName, Names, OutOfMemory, Stopped as StoppedAt}
-use Rattle.archive_merge.specs.Behind.{AreOfBoth, HasMerged, HasRun, HasStopCause, IsFullByBoth, IsMovedFile, IsNewIn, IsOfFiles, LackedRoom, MayBegin, OnlyRead, SecondView, old_texts}
+use Rattle.archive_merge.specs.Behind.{AreOfBoth, HasMerged, HasRun, HasStopCause, IsFullByBoth, IsMovedFile, IsNewIn, IsDone, IsOfFiles, LackedRoom, MayBegin, OnlyRead, SecondView, old_texts, places_for}
 use Rattle.name_records.specs.Left.{HasGoneOn, LeavesEntries, StandsForOr}
-use Rattle.archive_merge.specs.Merging.{EndsMerge, HasMergeCause, IsMergedFile, WasOnlyRead}
+use Rattle.archive_merge.specs.Files.{AreCutAs}
+use Rattle.archive_merge.specs.Merging.{EndsMerge, HasMergeCause, IsMergedFile, WasOnlyRead, done_by}
 use Rattle.name_records.specs.Named.{AreNamed, AreNamesOf, HasNames, IsShort, names_of}
 use Rattle.archive_merge.specs.StepsMerging.{AreFresh, CameBehind, IsFresh, refusal_by}
 use Rattle.name_records.proofs.LeftLemmas.{by_told, either_left, goes_nowhere, goes_then, images_stand, of_told, prefix_on, prefix_same, store_entries_are, store_goes, store_left}
@@ -180,15 +181,18 @@ module _ (first : ℕ) (names : List (List ℕ)) (naming : List JournalEntry) (o
   }
 
 -- nothing was moved of a file
-not_moved : (s : SecondView) (number : ℕ) (done : Type 0) (before : JournalState) (naming : List JournalEntry) (names : List (List ℕ)) (file : Merged) → AreNamesOf naming names → ¬ done → file.messages ≡ 0 → file.whole ≡ false
-    → IfTold (is_some before.disk.seen) (FrontHolds before.header (told_entries before ++ (naming ++ [])) file.file [] false false) → IsMergedFile s number done before (naming ++ []) file
-not_moved s number done before naming names file are undone none part holds = record {
+not_moved : (s : SecondView) (number : ℕ) (before : JournalState) (naming : List JournalEntry) (names : List (List ℕ)) (file : Merged) → AreNamesOf naming names → file.messages ≡ 0 → file.whole ≡ false
+    → IfTold (is_some before.disk.seen) (FrontHolds before.header (told_entries before ++ (naming ++ [])) file.file [] false false) → IsMergedFile s number 0 before (naming ++ []) file
+not_moved s number before naming names file are none part holds = record {
   covered = [];
   ended = false;
   count = none;
   first_ones = λ all run. (all.messages, refl);
-  all = λ is. absurd (undone is);
+  all = λ few. absurd (omega (arith, few));
+  part = λ many all run. part;
+  none = λ behind. (none, part);
   segments = [];
+  cuts = λ all run. tt;
   rows_count = refl;
   last_is = sym part;
   ended_is = sym (ap (λ b. b && false) part);
@@ -246,7 +250,7 @@ module _ {D : Type 0} {d : DiskGhosts D} (lawful : (x : D) → IsLawful (d.state
         others = All-nil (IsOfFiles files);
         types = All-nil (Contains s.texts.types);
         words = All-nil (Contains s.texts.words);
-        each = λ i file at. not_moved s i _ (state_of before) are.naming (take (length files) names) file are.are (λ e. cc (e)) (fresh i file at).messages_none (fresh i file at).not_whole
+        each = λ i file at. not_moved s i (state_of before) are.naming (take (length files) names) file are.are (fresh i file at).messages_none (fresh i file at).not_whole
             (subst (λ es. IfTold (is_some (state_of before).disk.seen) (FrontHolds before.header (told_entries (state_of before) ++ es) file.file [] false false)) (sym (append-nil are.naming)) (empty i file at));
         left = subst (λ es. IfTold (is_some (state_of before).disk.seen) (LeavesEntries before.header (told_entries (state_of before)) (told_entries (state_of before) ++ es) (state_of before).disk (state_of mid).disk)) (sym (append-nil are.naming)) are.left;
         entries = λ spared. told_map (is_some (state_of before).disk.seen) (λ (e : told_entries (state_of mid) ≡ told_entries (state_of before) ++ are.naming). e ∙ ap (λ es. told_entries (state_of before) ++ es) (sym (append-nil are.naming)))
@@ -345,7 +349,7 @@ module _ {D : Type 0} {d : DiskGhosts D} (lawful : (x : D) → IsLawful (d.state
           words = All-nil (Contains s.texts.words);
           each = λ i file at.
               let new = named_holds first some are.naming (state_of before) (state_of mid) may holds has i (omega (arith, counted_names, slice_get_within files i file at)) in
-              not_moved s i _ (state_of before) are.naming some file are.are (λ e. cc (e)) (fresh_files i file at).messages_none (fresh_files i file at).not_whole
+              not_moved s i (state_of before) are.naming some file are.are (fresh_files i file at).messages_none (fresh_files i file at).not_whole
               (subst (λ es. IfTold (is_some (state_of before).disk.seen) (FrontHolds before.header (told_entries (state_of before) ++ es) file.file [] false false)) (sym (append-nil are.naming))
               (subst (λ n. IfTold (is_some (state_of before).disk.seen) (FrontHolds before.header (told_entries (state_of before) ++ are.naming) n [] false false)) (sym (fresh_files i file at).file_is)
               (told_map (is_some (state_of before).disk.seen) (front_stays before.header (told_entries (state_of before) ++ are.naming) (told_entries (state_of before) ++ are.naming) (first + i) [] false false (prefix_same (told_entries (state_of before) ++ are.naming))) new)));
@@ -398,8 +402,21 @@ module _ {D : Type 0} {d : DiskGhosts D} (lawful : (x : D) → IsLawful (d.state
         number_at : (i : ℕ) (new : Merged) → slice_get files' i ≡ Some new → new.file ≡ first + i
         number_at i new at = let was = moved_at i new at in was.2.file ∙ (fresh_files i was.0 was.1).file_is
 
-        merged_file : (refusal : Option MergeRefusal) → refusal ≡ refusal_by stop → (i : ℕ) (new : Merged) → slice_get files' i ≡ Some new → IsMergedFile s i (refusal ≡ None) (state_of before) (are.naming ++ fresh) new
-        merged_file refusal same i new at =
+        -- how many are done, by what was stopped
+        few_done : (o : Option Stopped) (i number : ℕ) → number ≡ first + i → i < done_by first (length files') (refusal_by o) → IsDone o number
+        few_done None i number is few = tt
+        few_done (Some why) i number is few = let low : i < why.file - first = few in let before_it : number < why.file = omega (arith, is, low) in before_it
+
+        many_done : (o : Option Stopped) (i : ℕ) → i < length files' → done_by first (length files') (refusal_by o) ≤ i → (why : Stopped) × (o ≡ Some why) × (why.file ≤ first + i)
+        many_done None i within many = let all : length files' ≤ i = many in absurd (omega (arith, within, all))
+        many_done (Some why) i within many = let le : why.file - first ≤ i = many in (why, refl, omega (arith, le))
+
+        behind_done : (o : Option Stopped) (i : ℕ) → i < length files' → done_by first (length files') (refusal_by o) < i → (why : Stopped) × (o ≡ Some why) × (why.file < first + i)
+        behind_done None i within many = let all : length files' < i = many in absurd (omega (arith, within, all))
+        behind_done (Some why) i within many = let lt : why.file - first < i = many in (why, refl, omega (arith, lt))
+
+        merged_by : (i : ℕ) (new : Merged) → slice_get files' i ≡ Some new → IsMergedFile s i (done_by first (length files') (refusal_by stop)) (state_of before) (are.naming ++ fresh) new
+        merged_by i new at =
             let was = moved_at i new at in
             let is = was.2 in
             let old_is : was.0.file ≡ first + i = (fresh_files i was.0 was.1).file_is in
@@ -409,8 +426,16 @@ module _ {D : Type 0} {d : DiskGhosts D} (lawful : (x : D) → IsLawful (d.state
               ended = is.ended;
               count = is.count;
               first_ones = λ all run. is.first_ones all (subst (λ n. HasRun s n all) (sym place) run);
-              all = λ none all run. is.all (none_stopped stop (sym same ∙ none)) all (subst (λ n. HasRun s n all) (sym place) run);
+              all = λ few all run. is.all (few_done stop i was.0.file old_is few) all (subst (λ n. HasRun s n all) (sym place) run);
+              part = λ many all run.
+                  let by = many_done stop i (slice_get_within files' i new at) many in
+                  is.part by.0 by.1 (subst (λ n. by.0.file ≤ n) (sym old_is) by.2) all (subst (λ n. HasRun s n all) (sym place) run);
+              none = λ many.
+                  let by = behind_done stop i (slice_get_within files' i new at) many in
+                  is.none by.0 by.1 (subst (λ n. by.0.file < n) (sym old_is) by.2);
               segments = is.segments;
+              cuts = λ all run. subst (λ n. AreCutAs n (places_for s i) is.segments) (sym is.file)
+                  (subst (λ n. AreCutAs was.0.file (places_for s n) is.segments) place (is.cuts all (subst (λ n. HasRun s n all) (sym place) run)));
               rows_count = is.rows_count;
               last_is = is.last_is;
               ended_is = is.ended_is;
@@ -423,10 +448,9 @@ module _ {D : Type 0} {d : DiskGhosts D} (lawful : (x : D) → IsLawful (d.state
                   (subst (λ es. FrontHolds before.header (es ++ fresh) was.0.file is.covered new.whole (new.whole && is.ended)) (of_told (is_some (state_of before).disk.seen) told has.entries)
                   (subst (λ h. FrontHolds h (told_entries (state_of mid) ++ fresh) was.0.file is.covered new.whole (new.whole && is.ended)) has.header (of_told (is_some (state_of mid).disk.seen) (has.tells ∙ told) is.held)))));
             }
-          where
-            none_stopped : (o : Option Stopped) → refusal_by o ≡ None → o ≡ None
-            none_stopped None is = refl
-            none_stopped (Some why) is = absurd (cc (is))
+
+        merged_file : (refusal : Option MergeRefusal) → refusal ≡ refusal_by stop → (i : ℕ) (new : Merged) → slice_get files' i ≡ Some new → IsMergedFile s i (done_by first (length files') refusal) (state_of before) (are.naming ++ fresh) new
+        merged_file refusal same i new at = subst (λ r. IsMergedFile s i (done_by first (length files') r) (state_of before) (are.naming ++ fresh) new) (sym same) (merged_by i new at)
 
         of_files : (e : JournalEntry) → IsOfFiles files e → IsOfFiles files' e
         of_files (Files more) of = of
@@ -443,8 +467,10 @@ module _ {D : Type 0} {d : DiskGhosts D} (lawful : (x : D) → IsLawful (d.state
             (subst (λ h. (count ≡ limit_of (header_limits h) book) × IsFullBy (λ t. Contains (book_texts book (told_entries (state_of mid))) t ⊎ Contains (old_texts s book) t) (Contains (old_texts s book)) count) has.header
             (of_told (is_some (state_of mid).disk.seen) (has.tells ∙ told) full))))
 
-        room_on : (file end need : ℕ) → LackedRoom (AreOfBoth s) s file mid after end need → is_some (state_of before).disk.seen ≡ true → LackedRoom (AreOfBoth s) s file before after end need
-        room_on file end need lacked told = record {
+        room_on : (file done end need : ℕ) → LackedRoom (AreOfBoth s) s first file done mid after end need → is_some (state_of before).disk.seen ≡ true → LackedRoom (AreOfBoth s) s first file done before after end need
+        room_on file done end need lacked told = record {
+          place = lacked.place;
+          there = lacked.there;
           front = lacked.front;
           between = (prefix_on (told_entries (state_of before)) (told_entries (state_of mid)) lacked.front (are.naming, sym (of_told (is_some (state_of before).disk.seen) told has.entries)) lacked.between.0, lacked.between.1);
           ends = subst (λ h. end ≡ end_of h lacked.front) has.header lacked.ends;
@@ -455,7 +481,11 @@ module _ {D : Type 0} {d : DiskGhosts D} (lawful : (x : D) → IsLawful (d.state
           segment = lacked.segment;
           numbers = lacked.numbers;
           file_is = lacked.file_is;
+          next = lacked.next;
+          at = lacked.at;
+          marks = lacked.marks;
           rows = lacked.rows;
+          rows_are = lacked.rows_are;
           messages = lacked.messages;
           source = lacked.source;
           canonical = lacked.canonical;
@@ -463,27 +493,26 @@ module _ {D : Type 0} {d : DiskGhosts D} (lawful : (x : D) → IsLawful (d.state
           needs = lacked.needs;
         }
 
-        cause_on : (file : ℕ) (cause : MergeCause) → HasStopCause (IsFullByBoth s mid) (AreOfBoth s) s first file mid after cause → HasStopCause (IsFullByBoth s before) (AreOfBoth s) s first file before after cause
-        cause_on file (Full book count) is = full_on book count is
-        cause_on file (ArchiveFull end need) is = (
+        cause_on : (file done : ℕ) (cause : MergeCause) → HasStopCause (IsFullByBoth s mid) (AreOfBoth s) s first file done mid after cause → HasStopCause (IsFullByBoth s before) (AreOfBoth s) s first file done before after cause
+        cause_on file done (Full book count) is = full_on book count is
+        cause_on file done (ArchiveFull end need) is = (
           subst (λ h. h.length_limit < end + need) has.header is.0,
-          by_told (is_some (state_of before).disk.seen) (λ told. room_on file end need (of_told (is_some (state_of mid).disk.seen) (has.tells ∙ told) is.1) told),
+          by_told (is_some (state_of before).disk.seen) (λ told. room_on file done end need (of_told (is_some (state_of mid).disk.seen) (has.tells ∙ told) is.1) told),
         )
-        cause_on file (FirstFault opened now) is = (is.0 ∙ has.steady, is.1)
-        cause_on file SecondDamaged is = is
-        cause_on file SecondFault is = is
-        cause_on file CauseOutOfMemory is = is
+        cause_on file done (FirstFault opened now) is = (is.0 ∙ has.steady, is.1)
+        cause_on file done SecondDamaged is = is
+        cause_on file done SecondFault is = is
+        cause_on file done CauseOutOfMemory is = is
 
         stopped_on : (why : Stopped) → stop ≡ Some why → HasMergeCause s first names files' before after (StoppedAt why.file why.cause)
         stopped_on why is =
-            let stopped = moved.why why is in
-            let new = moved.stored.each stopped.place stopped.file stopped.is in
-            record {
+            let stopped = moved.why why is in record {
               place = stopped.place;
-              file = new.0;
-              is = new.1;
-              file_is = stopped.file_is ∙ sym new.2.file;
-              cause = subst (λ n. HasStopCause (IsFullByBoth s before) (AreOfBoth s) s first n before after why.cause) (sym new.2.file) (cause_on stopped.file.file why.cause stopped.cause);
+              file = stopped.file;
+              is = stopped.is;
+              file_is = stopped.file_is;
+              not_done = stopped.not_done;
+              cause = cause_on stopped.file.file stopped.file.messages why.cause stopped.cause;
             }
 
         pub all_moved : (refusal : Option MergeRefusal) → refusal ≡ refusal_by stop → EndsMerge s first names files' refusal before after

@@ -1,7 +1,7 @@
 -- The segments of a file in an opened archive are those of the journal, each behind those before it.
 use Rattle.std.proofs.Common.{◌≡◌, refl, sym, ap, ap₂, subst, ◌∙◌, ◌+◌, ◌*◌, ◌^◌, ℕ, All, Bool, true, false, cond, List, [], ◌∷◌, ◌++◌, length, append_assoc, arith, length-append, ◌<◌, get_or}
-use Rattle.std.specs.Prelude.{◌==◌, ◌||◌, ◌&&◌, if◌then◌else◌}
-use Rattle.std.specs.List.{Contains, filter}
+use Rattle.std.specs.Prelude.{◌==◌, ◌||◌, ◌&&◌, if◌then◌else◌, None, Some}
+use Rattle.std.specs.List.{AllZip, Contains, cons_option, filter, filter_map}
 use Rattle.std.specs.List.Sorted.{IsNonDecreasingBy}
 use Rattle.std.proofs.lemmas.List.Sorted.{Contains-permutation, IsPermutation-sym}
 use Rattle.std.proofs.lemmas.List.{append-nil}
@@ -28,7 +28,9 @@ use Rattle.archive_open.specs.declared.segments.SegmentPlace.{SegmentPlace}
 use Rattle.archive_open.specs.Shown.{IsArchiveOf, Shown, head_in, order_of, places_from, places_of}
 use Rattle.archive_decode.specs.StepsHeld.{is_of}
 use Rattle.archive_decode.proofs.OrderLemmas.{AreAbove, AreAtLeast, Rise, above_from, least_lower, sorted_filter}
+use Rattle.ingest_meaning.specs.Parts.{in_file}
 use Rattle.archive_merge.specs.InHand.{Texts}
+use Rattle.archive_merge.specs.Laws.{IsSegmentAt}
 use Rattle.archive_merge.specs.Merger.{file_at}
 use Rattle.archive_merge.specs.Next.{part_of}
 use Rattle.archive_merge.specs.Runs.{HoldRun, SoFar, held_of, nothing_so_far, so_far_with, sum_of}
@@ -276,7 +278,60 @@ run_ordered version old bytes number [] now all of run = record { least = tt; ri
 run_ordered version old bytes number (p ∷ ps) now all of (rows, messages, holds, adds, run) =
     ordered_more version old number p ps now rows messages of.0 adds (run_ordered version old bytes number ps (so_far_with now p.head messages) all of.1 run)
 
+-- ---- the journal's segments
+
+module _ (bytes : List ℕ) (h : Header) (all : List JournalEntry) (stood : StandsFor bytes h all) (law : SegmentsAreHeld) (number : ℕ) where
+  segment_theirs : (before after : List JournalEntry) (s : SegmentEntry) (at : ℕ) (types : List (List ℕ)) (places : List SegmentPlace) → all ≡ before ++ Segment s ∷ after → at ≡ length (front_of h before) → types ≡ types_of before
+      → AllZip (IsSegmentAt bytes) places (filter_map (in_file number) after)
+      → AllZip (IsSegmentAt bytes) (cond (s.file == number) (place_in at types s ∷ places) places) (cons_option (if s.file == number then Some s else None) (filter_map (in_file number) after))
+  segment_theirs before after s at types places is place ts later = by_test (s.file == number)
+    where
+      holds : HoldsSegment (at + 10) (length (record_of types (Segment s)).payload) (head_in types s) bytes s.rows
+      holds = subst (λ t. HoldsSegment (at + 10) (length (record_of t (Segment s)).payload) (head_in t s) bytes s.rows) (sym ts)
+          (subst (λ n. HoldsSegment (n + 10) (length (record_of (types_of before) (Segment s)).payload) (head_in (types_of before) s) bytes s.rows) (sym place) (law bytes h all before after s stood is))
+
+      here : IsSegmentAt bytes (place_in at types s) s
+      here = record { first = refl; rows = refl; marks = (refl, refl); holds = holds }
+
+      by_test : (b : Bool) → AllZip (IsSegmentAt bytes) (cond b (place_in at types s ∷ places) places) (cons_option (if b then Some s else None) (filter_map (in_file number) after))
+      by_test true = (here, later)
+      by_test false = later
+
+  theirs_from : (before es : List JournalEntry) (at : ℕ) (types : List (List ℕ)) → all ≡ before ++ es → at ≡ length (front_of h before) → types ≡ types_of before
+      → AllZip (IsSegmentAt bytes) (filter (is_of number) (places_from at types es)) (filter_map (in_file number) es)
+  theirs_from before [] at types is place ts = tt
+  theirs_from before (e ∷ es) at types is place ts =
+      by_entry e is (theirs_from (before ++ e ∷ []) es (at + 10 + length (record_of types e).payload) (types ++ types_in e) (is ∙ sym (append_assoc before (e ∷ []) es))
+      (ap₂ (λ n t. n + 10 + length (record_of t e).payload) place ts ∙ sym (front_more h before e)) (ap (λ t. t ++ types_in e) ts ∙ sym (types_more before e)))
+    where
+      by_entry : (e : JournalEntry) → all ≡ before ++ e ∷ es → AllZip (IsSegmentAt bytes) (filter (is_of number) (places_from (at + 10 + length (record_of types e).payload) (types ++ types_in e) es)) (filter_map (in_file number) es)
+          → AllZip (IsSegmentAt bytes) (filter (is_of number) (places_from at types (e ∷ es))) (filter_map (in_file number) (e ∷ es))
+      by_entry (Files names) is later = later
+      by_entry (Types first texts) is later = later
+      by_entry (Words first texts) is later = later
+      by_entry (Segment s) is later = segment_theirs before es s at types _ is place ts later
+
 -- ---- the file
+
+front_none : (h : Header) → length (front_of h []) ≡ 32
+front_none h = omega (arith, front_length h [])
+
+-- the archive's segments of a file stand in the journal's order
+of_file : (bytes : List ℕ) (h : Header) (es : List JournalEntry) (a : Shown) (number : ℕ) (stood : StandsFor bytes h es) → SegmentsAreHeld → IsArchiveOf a h es stood.legal.held → filter (is_of number) a.segments ≡ filter (is_of number) (places_of es)
+of_file bytes h es a number stood law is =
+    let held = stood.legal.held in
+    let old : Texts = record { types = held.types; words = held.words } in
+    let run : HoldRun h.version old bytes (filter (is_of number) (places_of es)) nothing_so_far (held_of number held) =
+    run_from bytes h es stood law number held [] es nothing_held 32 [] refl stood.legal.run (sym (front_none h)) refl in
+    let order = run_ordered h.version old bytes number (filter (is_of number) (places_of es)) nothing_so_far (held_of number held) (filter_of number (places_of es)) run in
+    sorted_filter order_of (is_of number) (places_of es) a.segments is.segments is.sorted order.rise
+
+-- they are the journal's
+pub theirs : (bytes : List ℕ) (h : Header) (es : List JournalEntry) (a : Shown) (number : ℕ) (stood : StandsFor bytes h es) → SegmentsAreHeld → IsArchiveOf a h es stood.legal.held
+    → AllZip (IsSegmentAt bytes) (filter (is_of number) a.segments) (filter_map (in_file number) es)
+theirs bytes h es a number stood law is =
+    subst (λ l. AllZip (IsSegmentAt bytes) l (filter_map (in_file number) es)) (sym (of_file bytes h es a number stood law is))
+    (theirs_from bytes h es stood law number [] es 32 [] refl (sym (front_none h)) refl)
 
 -- the segments of a file in the archive of a journal, in the archive's order, are a run to what the journal holds of the file
 pub file_run : (bytes : List ℕ) (h : Header) (es : List JournalEntry) (a : Shown) (number : ℕ) (stood : StandsFor bytes h es) → SegmentsAreHeld → IsArchiveOf a h es stood.legal.held
@@ -286,13 +341,9 @@ file_run bytes h es a number stood law is =
     let old : Texts = record { types = held.types; words = held.words } in
     let run : HoldRun h.version old bytes (filter (is_of number) (places_of es)) nothing_so_far (held_of number held) =
     run_from bytes h es stood law number held [] es nothing_held 32 [] refl stood.legal.run (sym (front_none h)) refl in
-    let order = run_ordered h.version old bytes number (filter (is_of number) (places_of es)) nothing_so_far (held_of number held) (filter_of number (places_of es)) run in
-    let sorted = sorted_filter order_of (is_of number) (places_of es) a.segments is.segments is.sorted order.rise in
+    let sorted = of_file bytes h es a number stood law is in
     let here : HoldRun h.version old bytes (filter (is_of number) a.segments) nothing_so_far (held_of number held) = subst (λ l. HoldRun h.version old bytes l nothing_so_far (held_of number held)) (sym sorted) run in
     subst (λ k. HoldRun k.version (record { types = k.types; words = k.words }) bytes (filter (is_of number) a.segments) nothing_so_far (held_of number held)) (sym is.kept) here
-  where
-    front_none : (h : Header) → length (front_of h []) ≡ 32
-    front_none h = omega (arith, front_length h [])
 
 -- ---- by file
 

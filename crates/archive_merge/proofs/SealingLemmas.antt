@@ -263,11 +263,17 @@ module _ {D R A B C : Type 0} (state : D → DiskState) where
         }
 
       -- where it does not fit
-      pub no_room_now : (end need : ℕ) (q : KeeperPass D) (l : LockNamer R A B C) → LacksRoom state new end need p q n l → HasNoRoomNow state version old end need p q (books_in l)
+      pub no_room_now : (end need : ℕ) (q : KeeperPass D) (l : LockNamer R A B C) → LacksRoom state new end need p q n l → HasNoRoomNow state version old (place ∷ []) told hand.draft.first end need p q (books_in l)
       no_room_now end need q l lacks =
           let rows_same : lacks.draft.columns.rows ≡ new.draft.columns.rows = ap (λ (s : SegmentEntry). s.rows) lacks.is in
           record {
+            place = place;
+            there = (0, (omega arith), refl);
             rows = took.rows;
+            rows_are = took.told;
+            next = ap (λ (s : SegmentEntry). s.first) lacks.is ∙ took.marks.first;
+            at = ap (λ (s : SegmentEntry). s.first) lacks.is ∙ (took.marks.first ∙ sym took.follows.first);
+            marks = (ap (λ (s : SegmentEntry). s.last) lacks.is ∙ took.marks.last, ap (λ (s : SegmentEntry). s.ended) lacks.is ∙ took.marks.ended);
             messages = took.messages;
             source = took.source;
             draft = lacks.draft;
@@ -303,14 +309,14 @@ module _ {D R A B C : Type 0} (state : D → DiskState) where
 
 -- ---- causes
 
-module _ {D : Type 0} (state : D → DiskState) (version : ℕ) (old : Texts) (p q : KeeperPass D) (books : Books) where
-  pub stop_cause : (stop : Stop) → ((book : Which) (count : ℕ) → stop ≡ StopFull book count → IsFull book old.types old.words books.types books.words count) → HasMoveCause state version old p q books (cause_by stop)
+module _ {D : Type 0} (state : D → DiskState) (version : ℕ) (old : Texts) (places : List SegmentPlace) (told : Option (List ℕ)) (done : ℕ) (p q : KeeperPass D) (books : Books) where
+  pub stop_cause : (stop : Stop) → ((book : Which) (count : ℕ) → stop ≡ StopFull book count → IsFull book old.types old.words books.types books.words count) → HasMoveCause state version old places told done p q books (cause_by stop)
   stop_cause (StopFull book count) full = full book count refl
   stop_cause StopDamaged full = tt
   stop_cause StopFault full = tt
   stop_cause StopOutOfMemory full = tt
 
-  pub seal_cause : (no_room : ℕ → ℕ → Type 0) (cause : Cause) → HasSealCause state no_room p q cause → ((end need : ℕ) → cause ≡ ArchiveFull end need → HasNoRoomNow state version old end need p q books) → HasMoveCause state version old p q books (cause_of_sealing cause)
+  pub seal_cause : (no_room : ℕ → ℕ → Type 0) (cause : Cause) → HasSealCause state no_room p q cause → ((end need : ℕ) → cause ≡ ArchiveFull end need → HasNoRoomNow state version old places told done end need p q books) → HasMoveCause state version old places told done p q books (cause_of_sealing cause)
   seal_cause no_room (ArchiveFull end need) has full = full end need refl
   seal_cause no_room (DiskFault opened now) has full = has
   seal_cause no_room OutOfMemory has full = tt

@@ -30,6 +30,7 @@ use Rattle.ingest_workers.specs.Journal.{FrontHolds, Holds}
 use Rattle.ingest_workers.specs.NoRoom.{IsBetween}
 use Rattle.column_store.specs.declared.row.Row.{Row}
 use Rattle.archive_core.specs.Rows.{AreMessages}
+use Rattle.segment_pages.specs.Paged.{HoldsSegment}
 use Rattle.row_codec.specs.Means.{AreCanonical}
 use Rattle.ingest_meaning.specs.Room.{needed_behind}
 use Rattle.archive_merge.specs.declared.cause.MergeCause.{MergeCause}
@@ -38,6 +39,7 @@ use Rattle.archive_merge.specs.declared.file.Merged.{Merged}
 use Rattle.archive_merge.specs.declared.merger.Second.{Second}
 use Rattle.archive_merge.specs.declared.merger.Stopped.{Stopped}
 use Rattle.archive_merge.specs.declared.taker.Taker.{Taker}
+use Rattle.archive_merge.specs.Files.{AreCutAs, IsNotDone}
 use Rattle.archive_merge.specs.InHand.{Texts}
 use Rattle.archive_merge.specs.Merger.{StaysRead, file_at}
 use Rattle.archive_merge.specs.Runs.{HoldRun, SoFar, nothing_so_far}
@@ -79,6 +81,15 @@ pub record HasRun (s : SecondView) (number : ℕ) (all : SoFar) : Type 0 where
   pub sorted : IsNonDecreasingBy file_at s.segments
   pub run : HoldRun s.version s.texts bytes (filter (is_of number) s.segments) nothing_so_far all
 
+-- the places of its segments of the file with this number
+abbrev pub places_for : SecondView → ℕ → List SegmentPlace
+places_for s number = filter (is_of number) s.segments
+
+-- no file was stopped, or one behind the one with this number
+abbrev pub IsDone : Option Stopped → ℕ → Type 0
+IsDone None number = Unit {0}
+IsDone (Some why) number = number < why.file
+
 -- its log types, or its words
 abbrev pub old_texts : SecondView → Which → List (List ℕ)
 old_texts s WhichTypes = s.texts.types
@@ -115,9 +126,10 @@ module _ {D : Type 0} {d : DiskGhosts D} where
 
   -- ---- after
 
-  -- The file has messages that are the first ones of the second archive's file with its number there, and all of them, with its
-  -- marks, where no file was stopped. Where the journal is told, the file's segments among the new entries have as many rows and
-  -- the same marks, and a front of the journal holds exactly these messages of the file.
+  -- The file has messages that are the first ones of the second archive's file with its number there, in segments as the first ones
+  -- there; and all of them, with its marks, where it is done. One that is not done is no whole one, and behind the one that was
+  -- stopped they have nothing. Where the journal is told, these are the file's segments among the new entries, and a front of the
+  -- journal holds exactly these messages of the file.
   pub record IsMovedFile (s : SecondView) (first : ℕ) (stop : Option Stopped) (before : Journal D d) (fresh : List JournalEntry)
       (old new : Merged) : Type 0 where
     pub file : new.file ≡ old.file
@@ -125,9 +137,13 @@ module _ {D : Type 0} {d : DiskGhosts D} where
     pub ended : Bool
     pub count : new.messages ≡ length covered
     pub first_ones : (all : SoFar) → HasRun s (old.file - first) all → IsPrefix covered all.messages
-    pub all : stop ≡ None → (all : SoFar) → HasRun s (old.file - first) all
+    pub all : IsDone stop old.file → (all : SoFar) → HasRun s (old.file - first) all
         → all ≡ record { messages = covered; whole = new.whole; ended = new.whole && ended }
+    pub part : (why : Stopped) → stop ≡ Some why → why.file ≤ old.file → (all : SoFar) → HasRun s (old.file - first) all
+        → new.whole ≡ false
+    pub none : (why : Stopped) → stop ≡ Some why → why.file < old.file → (new.messages ≡ 0) × (new.whole ≡ false)
     pub segments : List SegmentEntry
+    pub cuts : (all : SoFar) → HasRun s (old.file - first) all → AreCutAs old.file (places_for s (old.file - first)) segments
     pub rows_count : sum_by (λ (e : SegmentEntry). length e.rows) segments ≡ length covered
     pub last_is : list_any (λ (e : SegmentEntry). e.last) segments ≡ new.whole
     pub ended_is : list_any (λ (e : SegmentEntry). e.last && e.ended) segments ≡ (new.whole && ended)
@@ -135,12 +151,14 @@ module _ {D : Type 0} {d : DiskGhosts D} where
     pub held : IfTold (is_some (state_of before).disk.seen)
         (FrontHolds before.header (told_entries (state_of before) ++ fresh) old.file covered new.whole (new.whole && ended))
 
-  -- The next segment of a file did not fit: the archive ended behind some entries between those of before and those of
-  -- afterwards, and takes so many bytes more by the record of the segment and those of the texts of both books that these entries
-  -- do not have. This holds of all texts that a book had then. By these texts the segment's rows are the encodings of messages of
-  -- rows of the second archive.
-  pub record LackedRoom (has : List JournalEntry → Which → List (List ℕ) → Type 0) (s : SecondView) (file : ℕ)
+  -- The next segment of a file, which has so many messages, did not fit: the archive ended behind some entries between those of
+  -- before and those of afterwards, and takes so many bytes more by the record of the segment and those of the texts of both books
+  -- that these entries do not have. This holds of all texts that a book had then. The segment is that at the place, which is one
+  -- of the file's, with its marks; by these texts its rows are the encodings of the messages of the rows that stand there.
+  pub record LackedRoom (has : List JournalEntry → Which → List (List ℕ) → Type 0) (s : SecondView) (first file done : ℕ)
       (before after : Journal D d) (end need : ℕ) : Type 0 where
+    pub place : SegmentPlace
+    pub there : IsNonDecreasingBy file_at s.segments → Contains (places_for s (file - first)) place
     pub front : List JournalEntry
     pub between : IsBetween (told_entries (state_of before)) (told_entries (state_of after)) front
     pub ends : end ≡ end_of before.header front
@@ -151,36 +169,43 @@ module _ {D : Type 0} {d : DiskGhosts D} where
     pub segment : SegmentEntry
     pub numbers : List ℕ
     pub file_is : segment.file ≡ file
+    pub next : segment.first ≡ done
+    pub at : segment.first ≡ place.head.first
+    pub marks : (segment.last ≡ place.head.last) × (segment.ended ≡ place.head.ended)
     pub rows : List Row
+    pub rows_are : (bytes : List ℕ) (all : List Row) → s.told ≡ Some bytes
+        → HoldsSegment place.payload place.length place.head bytes all → all ≡ rows
     pub messages : List (List ℕ)
     pub source : AreMessages s.version s.texts.types s.texts.words rows messages
     pub canonical : AreCanonical s.version segment.rows types words messages
     pub numbers_are : numbers ≡ words_named types segment.rows
     pub needs : need ≡ min (needed_behind segment numbers front types words) 18446744073709551615
 
-  -- Why not all of this file was moved: by this a book is full at so many texts; so many bytes behind an end go past the header's
-  -- limit, by a segment of the file, where this holds of a book's texts; the first disk's count of faults rose; the second
-  -- archive's segments of the file are no run with texts that dictionaries may hold. Want of memory is free.
+  -- Why not all of this file was moved, which has so many messages: by this a book is full at so many texts; so many bytes behind
+  -- an end go past the header's limit, by the next segment of the file, where this holds of a book's texts; the first disk's count
+  -- of faults rose; the second archive's segments of the file are no run with texts that dictionaries may hold. Want of memory is
+  -- free.
   abbrev pub HasStopCause : (Which → ℕ → Type 0) → (List JournalEntry → Which → List (List ℕ) → Type 0) → SecondView → ℕ → ℕ
-      → Journal D d → Journal D d → MergeCause → Type 0
-  HasStopCause full has s first file before after (Full book count) = full book count
-  HasStopCause full has s first file before after (ArchiveFull end need) =
+      → ℕ → Journal D d → Journal D d → MergeCause → Type 0
+  HasStopCause full has s first file done before after (Full book count) = full book count
+  HasStopCause full has s first file done before after (ArchiveFull end need) =
       (before.header.length_limit < end + need)
-      × IfTold (is_some (state_of before).disk.seen) (LackedRoom has s file before after end need)
-  HasStopCause full has s first file before after (FirstFault opened now) =
+      × IfTold (is_some (state_of before).disk.seen) (LackedRoom has s first file done before after end need)
+  HasStopCause full has s first file done before after (FirstFault opened now) =
       (opened ≡ (state_of before).disk.faults) × Rose opened (state_of after).disk.faults
-  HasStopCause full has s first file before after SecondDamaged =
+  HasStopCause full has s first file done before after SecondDamaged =
       All IsFairType s.texts.types → All IsFairWord s.texts.words → (all : SoFar) → ¬ HasRun s (file - first) all
-  HasStopCause full has s first file before after _ = Unit {0}
+  HasStopCause full has s first file done before after _ = Unit {0}
 
-  -- it stopped one of the files, for such a cause
+  -- It stopped one of the files, as they are now, for such a cause, and this one is not done.
   pub record HasStopped (full : Which → ℕ → Type 0) (has : List JournalEntry → Which → List (List ℕ) → Type 0)
       (s : SecondView) (first : ℕ) (files : List Merged) (before after : Journal D d) (why : Stopped) : Type 0 where
     pub place : ℕ
     pub file : Merged
     pub is : slice_get files place ≡ Some file
     pub file_is : why.file ≡ file.file
-    pub cause : HasStopCause full has s first file.file before after why.cause
+    pub not_done : (all : SoFar) → HasRun s (file.file - first) all → IsNotDone (places_for s (file.file - first)) file
+    pub cause : HasStopCause full has s first file.file file.messages before after why.cause
 
   -- Where the journal is told, a book may have so many texts by the header, and there are as many of the journal and the second
   -- archive; and one more of the second archive.
@@ -209,5 +234,5 @@ module _ {D : Type 0} {d : DiskGhosts D} where
     pub stored : HasStored s first stop files files' before after store
     pub types : All (Contains s.texts.types) (types_of stored.fresh)
     pub words : All (Contains s.texts.words) (words_of stored.fresh)
-    pub why : (why : Stopped) → stop ≡ Some why → HasStopped (IsFullByBoth s before) (AreOfBoth s) s first files
+    pub why : (why : Stopped) → stop ≡ Some why → HasStopped (IsFullByBoth s before) (AreOfBoth s) s first files'
         before after why

@@ -1,5 +1,6 @@
 -- Why not all messages of the second archive were sealed.
-use Rattle.std.specs.Prelude.{◌≡◌, ℕ, List}
+use Rattle.std.specs.Prelude.{◌≡◌, ℕ, List, Option, Some}
+use Rattle.std.specs.List.{Contains}
 use Rattle.log_seams.specs.Disk.{DiskState}
 use mathlib.Core.List.{IsPrefix}
 use Rattle.turn_lock.specs.Words.{noted, number_of}
@@ -8,9 +9,11 @@ use Rattle.row_codec.specs.Means.{AreCanonical}
 use Rattle.row_rename.specs.Causes.{IsFull}
 use Rattle.archive_meaning.specs.Spelled.{words_named}
 use Rattle.archive_core.specs.Rows.{AreMessages}
+use Rattle.archive_open.specs.declared.segments.SegmentPlace.{SegmentPlace}
 use Rattle.disk_seal.specs.declared.draft.Draft.{Draft}
 use Rattle.disk_seal.specs.Fixed.{KeeperPass}
 use Rattle.disk_seal.specs.Prepare.{BookNote, IsFullAt}
+use Rattle.segment_pages.specs.Paged.{HoldsSegment}
 use Rattle.ingest_workers.specs.declared.outcome.Cause.{Cause}
 use Rattle.ingest_workers.specs.declared.outcome.Cause.TheVariants.{ArchiveFull, DiskFault, OutOfMemory}
 use Rattle.ingest_workers.specs.Causes.{HasFailed}
@@ -42,16 +45,24 @@ cause_of_sealing (DiskFault opened now) = FirstFault opened now
 cause_of_sealing _ = MergeOutOfMemory
 
 module _ {D : Type 0} where
-  -- The next segment of the pass' file does not fit, with the texts of both books that are not saved. Its rows are the encodings
-  -- of the messages of rows of the second archive, and all texts of both books are among what is known of them.
-  pub record HasNoRoomNow (state : D → DiskState) (version : ℕ) (old : Texts) (end need : ℕ) (p q : KeeperPass D) (books : Books)
-      : Type 0 where
+  -- The next segment of the pass' file, behind so many messages, does not fit with the texts of both books that are not saved. It
+  -- is the one at one of the places, with its marks. Where the bytes are told, its rows are the encodings of the messages of the
+  -- rows that stand there; all texts of both books are among what is known of them.
+  pub record HasNoRoomNow (state : D → DiskState) (version : ℕ) (old : Texts) (places : List SegmentPlace)
+      (told : Option (List ℕ)) (done end need : ℕ) (p q : KeeperPass D) (books : Books) : Type 0 where
+    pub place : SegmentPlace
+    pub there : Contains places place
     pub rows : List Row
+    pub rows_are : (bytes : List ℕ) (all : List Row) → told ≡ Some bytes
+        → HoldsSegment place.payload place.length place.head bytes all → all ≡ rows
     pub messages : List (List ℕ)
     pub source : AreMessages version old.types old.words rows messages
     pub draft : Draft
     pub before : Texts
     pub file : draft.file ≡ number_of p
+    pub next : draft.first ≡ done
+    pub at : draft.first ≡ place.head.first
+    pub marks : (draft.last ≡ place.head.last) × (draft.ended ≡ place.head.ended)
     pub canonical : AreCanonical version draft.columns.rows before.types before.words messages
     pub numbers : draft.words ≡ words_named before.types draft.columns.rows
     pub types : BookNote
@@ -60,10 +71,13 @@ module _ {D : Type 0} where
     pub types_on : IsPrefix (noted types) books.types.texts
     pub words_on : IsPrefix (noted words) books.words.texts
 
-  -- Why a segment was not moved, where this is known of the books. Want of memory is free, and of the second archive's disk and
-  -- bytes other clauses tell.
-  abbrev pub HasMoveCause : (D → DiskState) → ℕ → Texts → KeeperPass D → KeeperPass D → Books → MergeCause → Type 0
-  HasMoveCause state version old p q books (MergeFull book count) = IsFull book old.types old.words books.types books.words count
-  HasMoveCause state version old p q books (MergeArchiveFull end need) = HasNoRoomNow state version old end need p q books
-  HasMoveCause state version old p q books (FirstFault opened now) = HasFailed state p q opened now
-  HasMoveCause state version old p q books _ = Unit {0}
+  -- Why the segment at one of the places was not moved behind so many messages of its file, where this is known of the books. Want
+  -- of memory is free, and of the second archive's disk and bytes other clauses tell.
+  abbrev pub HasMoveCause : (D → DiskState) → ℕ → Texts → List SegmentPlace → Option (List ℕ) → ℕ → KeeperPass D → KeeperPass D
+      → Books → MergeCause → Type 0
+  HasMoveCause state version old places told done p q books (MergeFull book count) =
+      IsFull book old.types old.words books.types books.words count
+  HasMoveCause state version old places told done p q books (MergeArchiveFull end need) =
+      HasNoRoomNow state version old places told done end need p q books
+  HasMoveCause state version old places told done p q books (FirstFault opened now) = HasFailed state p q opened now
+  HasMoveCause state version old places told done p q books _ = Unit {0}

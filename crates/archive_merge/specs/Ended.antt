@@ -59,4 +59,4 @@ module _ {D : Type 0} {d : DiskGhosts D} {G : Ghosts BookState (List ℕ) ℕ} w
     pub of_words : EndsBook (Contains s.texts.words) words words' store.words
     pub why : (why : Stopped) → stop ≡ Some why
         → HasStopped (λ book count. WasFull (Contains (old_texts s book)) count (book_of (books_at types' words') book))
-        (WereKnown (books_at types' words')) s first files before after why
+        (WereKnown (books_at types' words')) s first files' before after why

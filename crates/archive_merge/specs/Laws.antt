@@ -1,14 +1,18 @@
 -- What follows for the segments of the second archive.
-use Rattle.std.specs.Prelude.{ℕ, List, Some, All}
-use Rattle.std.specs.List.{filter}
+use Rattle.std.specs.Prelude.{◌≡◌, ℕ, List, Some, All, length}
+use Rattle.std.specs.List.{AllZip, filter, filter_map}
 use Rattle.std.specs.List.Sorted.{IsNonDecreasingBy}
 use Rattle.logtype_text.specs.Fair.{IsFairType, IsFairWord}
 use Rattle.record_format.specs.declared.header.Header.{Header}
 use Rattle.archive_meaning.specs.declared.entry.JournalEntry.{JournalEntry}
+use Rattle.archive_meaning.specs.declared.entry.SegmentEntry.{SegmentEntry}
 use Rattle.archive_meaning.specs.Stands.{StandsFor}
 use Rattle.archive_open.specs.Kept.{Kept}
 use Rattle.archive_open.specs.Shown.{IsArchiveOf, Shown}
+use Rattle.archive_open.specs.declared.segments.SegmentPlace.{SegmentPlace}
 use Rattle.archive_decode.specs.StepsHeld.{is_of}
+use Rattle.ingest_meaning.specs.Parts.{in_file}
+use Rattle.segment_pages.specs.Paged.{HoldsSegment}
 use Rattle.archive_merge.specs.Behind.{HasRun, SecondView}
 use Rattle.archive_merge.specs.InHand.{Texts}
 use Rattle.archive_merge.specs.Merger.{file_at}
@@ -25,6 +29,20 @@ SegmentsGoOn =
     → IsArchiveOf a h es stood.legal.held
     → HoldRun a.kept.version (texts_kept a.kept) bytes (filter (is_of number) a.segments) nothing_so_far
     (held_of number stood.legal.held)
+
+-- the bytes hold the segment at the place, with its place in its file and its marks
+pub record IsSegmentAt (bytes : List ℕ) (place : SegmentPlace) (s : SegmentEntry) : Type 0 where
+  pub first : place.head.first ≡ s.first
+  pub rows : place.head.rows ≡ length s.rows
+  pub marks : (place.head.last ≡ s.last) × (place.head.ended ≡ s.ended)
+  pub holds : HoldsSegment place.payload place.length place.head bytes s.rows
+
+-- And they are the journal's segments of the file, in its order.
+abbrev pub SegmentsAreTheirs : Type 0
+SegmentsAreTheirs =
+    (bytes : List ℕ) (h : Header) (es : List JournalEntry) (a : Shown) (number : ℕ) (stood : StandsFor bytes h es)
+    → IsArchiveOf a h es stood.legal.held
+    → AllZip (IsSegmentAt bytes) (filter (is_of number) a.segments) (filter_map (in_file number) es)
 
 -- the texts of the archive are those that dictionaries may hold
 abbrev pub TextsAreFair : Type 0

@@ -127,9 +127,11 @@ module _ {M E : Type 0} {G : NamesGhosts M} {H : DiskGhosts E} (types words : M 
 
     -- why a file stopped it
     pub record IsStopFor (state : D → DiskState) (state_second : E → DiskState) (w : Merger M E G H) (j : Merged)
-        (k : KeeperPass D) (v : Merger M E G H) (k' : KeeperPass D) (places : List SegmentPlace) (s : Stopped) : Type 0 where
+        (k : KeeperPass D) (v : Merger M E G H) (j' : Merged) (k' : KeeperPass D) (places : List SegmentPlace) (s : Stopped)
+        : Type 0 where
       pub file : s.file ≡ j.file
-      pub cause : HasMoveCause state (version_of w) (old_of w) k k' (books_of (passes_of v)) s.cause
+      pub cause : HasMoveCause state (version_of w) (old_of w) places (state_second w.second.disk.now).seen j'.messages k k'
+          (books_of (passes_of v)) s.cause
       pub damaged : s.cause ≡ SecondDamaged → (bytes : List ℕ) (all : SoFar) → (state_second w.second.disk.now).seen ≡ Some bytes
           → All IsFairType (old_of w).types → All IsFairWord (old_of w).words
           → ¬ HoldRun (version_of w) (old_of w) bytes places nothing_so_far all
@@ -141,7 +143,7 @@ module _ {M E : Type 0} {G : NamesGhosts M} {H : DiskGhosts E} (types words : M 
       pub places : List SegmentPlace
       pub are : IsNonDecreasingBy file_at w.second.segments.now → places ≡ filter (is_of (j.file - w.first)) w.second.segments.now
       pub came : CameOver state (version_of w) (old_of w) places (state_second w.second.disk.now).seen (is_none v.stop) k k' j j'
-      pub stopped : (s : Stopped) → v.stop ≡ Some s → IsStopFor state state_second w j k v k' places s
+      pub stopped : (s : Stopped) → v.stop ≡ Some s → IsStopFor state state_second w j k v j' k' places s
 
     -- what became of a file: nothing, where it was stopped before, and it stays so
     pub record DidFile (state : D → DiskState) (state_second : E → DiskState) (w : Merger M E G H) (j : Merged)

@@ -1,5 +1,5 @@
 -- The files of a second archive behind those of a first: their names, and then what was moved of them.
-use Rattle.std.specs.Prelude.{◌≡◌, ◌≢◌, ◌+◌, ◌≤◌, ◌&&◌, ℕ, Bool, List, [], ◌++◌, length, take, is_some, Option, None, Some, slice_get, All}
+use Rattle.std.specs.Prelude.{◌≡◌, ◌≢◌, ◌+◌, ◌-◌, ◌<◌, ◌≤◌, ◌&&◌, ℕ, Bool, false, List, [], ◌++◌, length, take, is_some, Option, None, Some, slice_get, All}
 use Rattle.std.specs.Borrow.{MutBor}
 use Rattle.std.specs.List.{Contains, filter_map, list_any, sum_by}
 use mathlib.Core.List.{IsPrefix}
@@ -26,7 +26,8 @@ use Rattle.archive_merge.specs.declared.file.Merged.{Merged}
 use Rattle.archive_merge.specs.declared.merging.ToMerge.{ToMerge}
 use Rattle.archive_merge.specs.declared.refusal.MergeRefusal.{MergeRefusal}
 use Rattle.archive_merge.specs.declared.refusal.MergeRefusal.TheVariants.{LongName, Names, OutOfMemory, Stopped}
-use Rattle.archive_merge.specs.Behind.{AreOfBoth, HasRun, HasStopped, IsFullByBoth, IsOfFiles, SecondView}
+use Rattle.archive_merge.specs.Behind.{AreOfBoth, HasRun, HasStopped, IsFullByBoth, IsOfFiles, SecondView, places_for}
+use Rattle.archive_merge.specs.Files.{AreCutAs}
 use Rattle.name_records.specs.Left.{HasGoneOn, LeavesEntries}
 use Rattle.name_records.specs.Named.{AreNamesOf, HasNamesCause, IsShort}
 use Rattle.archive_merge.specs.Runs.{SoFar}
@@ -49,18 +50,28 @@ pub record WasOnlyRead {E : Type 0} (state : E → DiskState) (refusal : Option 
   pub later : (state a.now).faults ≤ (state b.now).faults
   pub fault : (file : ℕ) → refusal ≡ Some (Stopped file SecondFault) → Rose (state a.now).faults (state b.now).faults
 
--- The file has messages that are the first ones of the second archive's file with this number, and all of them, with its marks,
--- where all was done. Where the journal is told, the file's segments among the entries that were added have as many rows and
--- these marks, and a front of the journal holds exactly these messages of the file.
-pub record IsMergedFile (s : SecondView) (number : ℕ) (done : Type 0) (before : JournalState) (added : List JournalEntry)
-    (file : Merged) : Type 0 where
+-- how many of so many files are done, by a refusal: all without one, else those before the one that was stopped, or none
+abbrev pub done_by : ℕ → ℕ → Option MergeRefusal → ℕ
+done_by first count None = count
+done_by first count (Some (Stopped file cause)) = file - first
+done_by first count (Some _) = 0
+
+-- The file has messages that are the first ones of the second archive's file with this number, in segments as the first ones there.
+-- The first so many files are done, and have all of them, with their marks. Of the others none is whole, and only the first of them
+-- has messages. Where the journal is told, these are the file's segments among the entries that were added, and a front of the
+-- journal holds exactly these messages of the file.
+pub record IsMergedFile (s : SecondView) (number done : ℕ) (before : JournalState) (added : List JournalEntry) (file : Merged)
+    : Type 0 where
   pub covered : List (List ℕ)
   pub ended : Bool
   pub count : file.messages ≡ length covered
   pub first_ones : (all : SoFar) → HasRun s number all → IsPrefix covered all.messages
-  pub all : done → (all : SoFar) → HasRun s number all
+  pub all : number < done → (all : SoFar) → HasRun s number all
       → all ≡ record { messages = covered; whole = file.whole; ended = file.whole && ended }
+  pub part : done ≤ number → (all : SoFar) → HasRun s number all → file.whole ≡ false
+  pub none : done < number → (file.messages ≡ 0) × (file.whole ≡ false)
   pub segments : List SegmentEntry
+  pub cuts : (all : SoFar) → HasRun s number all → AreCutAs file.file (places_for s number) segments
   pub rows_count : sum_by (λ (e : SegmentEntry). length e.rows) segments ≡ length covered
   pub last_is : list_any (λ (e : SegmentEntry). e.last) segments ≡ file.whole
   pub ended_is : list_any (λ (e : SegmentEntry). e.last && e.ended) segments ≡ (file.whole && ended)
@@ -92,7 +103,7 @@ module _ {D : Type 0} {d : DiskGhosts D} where
     pub types : All (Contains s.texts.types) (types_of fresh)
     pub words : All (Contains s.texts.words) (words_of fresh)
     pub each : (i : ℕ) (file : Merged) → slice_get files i ≡ Some file
-        → IsMergedFile s i (refusal ≡ None) (state_of before) (naming ++ fresh) file
+        → IsMergedFile s i (done_by first (length files) refusal) (state_of before) (naming ++ fresh) file
     -- the disk, at each moment since the start and at the end
     pub left : IfTold (is_some (state_of before).disk.seen) (LeavesEntries before.header (told_entries (state_of before))
         (told_entries (state_of before) ++ (naming ++ fresh)) (state_of before).disk (state_of after).disk)

@@ -66,7 +66,8 @@ pub fn move_file<'d, 'b, M: Names, E: Disk, D: Disk, R: Wait, A: Ledger, B: Ledg
 
     // causes
     ensures causes { IfErr result (HasMoveCause D.state (M.version names.now)
-        (texts_by M.types M.words names.now) keeper.old keeper.new (books_in namer.new)) }
+        (texts_by M.types M.words names.now) places.now (E.state disk.old).seen
+        file.new.messages keeper.old keeper.new (books_in namer.new)) }
     ensures damaged { IsErrOf result SecondDamaged
         → (bytes : List ℕ) (all : SoFar) → (E.state disk.old).seen ≡ Some bytes
         → All IsFairType (M.types names.now) → All IsFairWord (M.words names.now)

@@ -112,7 +112,8 @@ fn move_with<'b, 'd, M: Names, E: Disk, D: Disk, R: Wait, A: Ledger, B: Ledger, 
 
     // causes
     ensures causes { IfErr result.1 (HasMoveCause D.state (M.version second.old.names.now)
-        (texts_by M.types M.words second.old.names.now) keeper.old keeper.new
+        (texts_by M.types M.words second.old.names.now) places.now
+        (E.state second.old.disk.now).seen file.new.messages keeper.old keeper.new
         (books_of result.0)) }
     ensures damaged { IsErrOf result.1 SecondDamaged
         → (bytes : List ℕ) (all : SoFar) → (E.state second.old.disk.now).seen ≡ Some bytes
@@ -178,7 +179,8 @@ fn move_by<'b, 'd, M: Names, E: Disk, D: Disk, R: Wait>(
 
     // causes
     ensures causes { IfErr result.1 (HasMoveCause D.state (M.version second.old.names.now)
-        (texts_by M.types M.words second.old.names.now) keeper.old keeper.new
+        (texts_by M.types M.words second.old.names.now) places.now
+        (E.state second.old.disk.now).seen file.new.messages keeper.old keeper.new
         (books_of result.0)) }
     ensures damaged { IsErrOf result.1 SecondDamaged
         → (bytes : List ℕ) (all : SoFar) → (E.state second.old.disk.now).seen ≡ Some bytes

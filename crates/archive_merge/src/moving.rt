@@ -1,5 +1,5 @@
 //! A segment of the second archive as one of the first.
-ghost use Rattle.std.specs.Prelude.{◌≡◌, ℕ, List, IfErr, IsErrOf, OnErr, OnOk, Some};
+ghost use Rattle.std.specs.Prelude.{◌≡◌, ◌∷◌, [], ℕ, List, IfErr, IsErrOf, OnErr, OnOk, Some};
 ghost use Rattle.log_seams.specs.Disk.{Rests};
 ghost use Rattle.log_seams.specs.Outside.{CountsOf};
 ghost use Rattle.ingest_workers.specs.Sealed.{HasNotSealed};
@@ -57,7 +57,8 @@ pub fn move_segment<'d, 'b, M: Names, E: Disk, D: Disk, R: Wait, A: Ledger, B: L
 
     // causes
     ensures causes { IfErr result (HasMoveCause D.state (M.version names.now)
-        (texts_by M.types M.words names.now) keeper.old keeper.new (books_in namer.new)) }
+        (texts_by M.types M.words names.now) (place.now ∷ []) (E.state disk.old).seen
+        hand.old.draft.first keeper.old keeper.new (books_in namer.new)) }
     ensures damaged { IsErrOf result SecondDamaged
         → (bytes : List ℕ) → (E.state disk.old).seen ≡ Some bytes
         → ¬ HoldsNext (M.version names.now) (texts_by M.types M.words names.now)

@@ -50,13 +50,13 @@ returns-in-Ok-clause-moved g c =
       stored = subst (λ s. HasStored (second_by g.M.Names.types g.M.Names.words g.M.Names.version g.E.Disk.state c.args.order.second) c.args.order.first s c.args.files.now c.move_files.new.files c.args.journal c.end-journal.result c.in-Ok.store) (sym c.into_parts-second.ensures.stop)
           (subst (λ s. HasStored (second_by g.M.Names.types g.M.Names.words g.M.Names.version g.E.Disk.state s) c.args.order.first c.move_files.new.merger.stop c.args.files.now c.move_files.new.files c.args.journal c.end-journal.result c.in-Ok.store) c.new-merger.ensures.second
           (stored_by g.M.Names.types g.M.Names.words g.M.Names.version g.E.Disk.state c.args.journal c.end-journal.result c.pass-types_reader.result c.pass-words_reader.result c.args.order.types_saved c.args.order.words_saved c.in-Ok.store _ _ c.args.order.first c.new-merger.result c.move_files.new.merger c.args.files.now c.move_files.new.files
-          c.open_store-store.ensures c.from.ensures c.new-merger.ensures.first (subst (λ s. MayBegin c.args.order.first (g.M.Names.version s.names.now) c.args.journal c.args.files.now) (sym c.new-merger.ensures.second) c.requires.begin) done c.end-journal.ensures.journal kept));
+          c.open_store-store.ensures c.from.ensures c.new-merger.ensures.first c.new-merger.ensures.stop (subst (λ s. MayBegin c.args.order.first (g.M.Names.version s.names.now) c.args.journal c.args.files.now) (sym c.new-merger.ensures.second) c.requires.begin) done c.end-journal.ensures.journal kept));
       of_types = book_ends _ _ _ _ _ _ _ _ _ _ _ _ (pass_in b.types) _ c.requires.types c.pass-types_reader.ensures.still c.pass-types_reader.ensures.made c.pass-types_pass.ensures.still c.pass-types_pass.ensures.made types_fresh adds.types
           ended.types_read kept.types.number kept.types.own ended.types_ended;
       of_words = book_ends _ _ _ _ _ _ _ _ _ _ _ _ (pass_in b.words) _ c.requires.words c.pass-words_reader.ensures.still c.pass-words_reader.ensures.made c.pass-words_pass.ensures.still c.pass-words_pass.ensures.made words_fresh adds.words
           ended.words_read kept.words.number kept.words.own ended.words_ended;
       why = λ why is. subst (λ s. HasStopped (λ book count. WasFull (Contains (old_texts (second_by g.M.Names.types g.M.Names.words g.M.Names.version g.E.Disk.state s) book)) count (book_of (books_at c.end-journal.new.types c.end-journal.new.words) book)) (WereKnown (books_at c.end-journal.new.types c.end-journal.new.words))
-          (second_by g.M.Names.types g.M.Names.words g.M.Names.version g.E.Disk.state s) c.args.order.first c.args.files.now c.args.journal c.end-journal.result why) c.new-merger.ensures.second
+          (second_by g.M.Names.types g.M.Names.words g.M.Names.version g.E.Disk.state s) c.args.order.first c.move_files.new.files c.args.journal c.end-journal.result why) c.new-merger.ensures.second
           (why_by g.M.Names.types g.M.Names.words g.M.Names.version g.E.Disk.state c.args.journal c.end-journal.result c.pass-types_reader.result c.pass-words_reader.result c.args.order.types_saved c.args.order.words_saved c.in-Ok.store _ _ c.args.order.first c.new-merger.result c.move_files.new.merger c.args.files.now c.move_files.new.files
           (books_at c.end-journal.new.types c.end-journal.new.words) c.open_store-store.ensures c.from.ensures c.new-merger.ensures.first c.new-merger.ensures.stop (subst (λ s. MayBegin c.args.order.first (g.M.Names.version s.names.now) c.args.journal c.args.files.now) (sym c.new-merger.ensures.second) c.requires.begin)
           done c.end-journal.ensures.journal kept

@@ -1,4 +1,4 @@
-use Rattle.std.proofs.Common.{◌≡◌, ◌∙◌, refl, rules, subst}
+use Rattle.std.proofs.Common.{◌≡◌, ◌∙◌, [], ◌∷◌, refl, rules, subst, sym}
 use Rattle.std.specs.Prelude.{Err, IsErrOf, is_ok}
 use Rattle.std.proofs.lemmas.Result.{err_from_is_err_and}
 use Rattle.log_seams.proofs.MomentLemmas.{rests_on}
@@ -8,7 +8,7 @@ use Rattle.archive_merge.specs.declared.cause.MergeCause.TheVariants.{SecondDama
 use Rattle.archive_merge.specs.Causes.{HasMoveCause}
 use Rattle.archive_merge.specs.Sealing.{MovesSegment, books_in}
 use Rattle.archive_merge.specs.Taken.{texts_by}
-use Rattle.archive_merge.proofs.FileLemmas.{came_over, cause_since, err_not_ok, holds_next, way_begins, way_moves}
+use Rattle.archive_merge.proofs.FileLemmas.{came_over, cause_since, contains_place, err_not_ok, holds_next, way_begins, way_moves}
 use Rattle.archive_merge.proofs.SealingLemmas.{adds_self, texts_then}
 use Rattle.archive_decode.proofs.SegmentLemmas.{rests_none}
 use Rattle.archive_merge.proofs.file.move_file.Goals as goal
@@ -30,7 +30,7 @@ returns-in_err-move_segment-clause-came g c =
     let p = err_from_is_err_and c.from_residual.result c.from_residual.ensures.1 in
     let way = c.loop-place.invariant.way in
     came_over _ _ _ _ _ _ c.loop-place.place-index c.loop-place.keeper c.loop-place.file c.loop-place.hand way c.args.file.now c.move_segment.new.keeper (is_ok c.from_residual.result) c.requires.new c.in_err-move_segment.ensures.refused
-    (λ ok. absurd (err_not_ok c.from_residual.result p.0 p.1 ok))
+    (λ ok. absurd (err_not_ok c.from_residual.result p.0 p.1 ok)) (λ no. (c.place-item.result, c.loop-place-test.true, c.place-item.is))
 
 pub returns-in_err-move_segment-clause-causes : goal.returns-in_err-move_segment-clause-causes
 returns-in_err-move_segment-clause-causes g c =
@@ -38,10 +38,16 @@ returns-in_err-move_segment-clause-causes g c =
     let p = err_from_is_err_and c.from_residual.result c.from_residual.ensures.1 in
     let version = g.M.Names.version c.args.names.now in
     let old = texts_by g.M.Names.types g.M.Names.words c.args.names.now in
-    each_err c.from_residual.result (λ e. HasMoveCause g.D.Disk.state version old c.args.keeper.now c.move_segment.new.keeper (books_in c.move_segment.new.namer) e) (λ y is.
+    let place = c.place-item.result in
+    let told = (g.E.Disk.state c.args.disk.now).seen in
+    let now = c.loop-place in
+    let way = now.invariant.way in
+    each_err c.from_residual.result (λ e. HasMoveCause g.D.Disk.state version old c.args.places.now told now.file.messages c.args.keeper.now c.move_segment.new.keeper (books_in c.move_segment.new.namer) e) (λ y is.
     let same : refusal ≡ y = cc (p.1, p.2, is) in
-    cause_since g.D.Disk.state version old c.args.keeper.now c.loop-place.keeper c.move_segment.new.keeper c.loop-place.invariant.way.more (books_in c.move_segment.new.namer) y c.loop-place.invariant.way.added
-    (subst (λ e. HasMoveCause g.D.Disk.state version old c.loop-place.keeper c.move_segment.new.keeper (books_in c.move_segment.new.namer) e) same c.in_err-move_segment.ensures.causes))
+    cause_since g.D.Disk.state version old c.args.places.now told now.file.messages place now.hand.draft.first c.args.keeper.now now.keeper c.move_segment.new.keeper way.more (books_in c.move_segment.new.namer) y
+    (contains_place c.args.places.now now.place-index place c.loop-place-test.true c.place-item.is) (way.stands.first ∙ sym way.count) way.added
+    (subst (λ s. HasMoveCause g.D.Disk.state version old (place ∷ []) s now.hand.draft.first now.keeper c.move_segment.new.keeper (books_in c.move_segment.new.namer) y) now.invariant.rests.seen
+    (subst (λ e. HasMoveCause g.D.Disk.state version old (place ∷ []) (g.E.Disk.state now.disk).seen now.hand.draft.first now.keeper c.move_segment.new.keeper (books_in c.move_segment.new.namer) e) same c.in_err-move_segment.ensures.causes)))
 
 pub returns-in_err-move_segment-clause-damaged : goal.returns-in_err-move_segment-clause-damaged
 returns-in_err-move_segment-clause-damaged g c = λ same bytes all told fair_types fair_words run.
@@ -69,4 +75,4 @@ loop-place-preserved g c =
 pub returns-clause-came : goal.returns-clause-came
 returns-clause-came g c =
     came_over _ _ _ _ _ _ c.loop-place.place-index c.loop-place.keeper c.loop-place.file c.loop-place.hand c.loop-place.invariant.way c.args.file.now c.loop-place.keeper _ c.requires.new (nothing_sealed g.D.Disk.state c.loop-place.keeper c.loop-place.invariant.way.added.ready)
-    (λ ok. search rules)
+    (λ ok. search rules) (λ no. absurd (cc (no)))

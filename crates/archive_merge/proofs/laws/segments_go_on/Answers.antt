@@ -1,11 +1,14 @@
 use Rattle.std.proofs.Common.{refl, sym, subst}
 use Rattle.std.specs.Prelude.{All}
 use Rattle.logtype_text.specs.Fair.{IsFairType, IsFairWord}
-use Rattle.archive_merge.proofs.RunLemmas.{fair_held, file_run, files_rise}
+use Rattle.archive_merge.proofs.RunLemmas.{fair_held, file_run, files_rise, theirs}
 use Rattle.archive_merge.proofs.laws.segments_go_on.Goals as goal
 
 pub returns-clause-runs : goal.returns-clause-runs
 returns-clause-runs c = λ bytes h es a number stood is. file_run bytes h es a number stood c.segments_are_held.ensures is
+
+pub returns-clause-theirs : goal.returns-clause-theirs
+returns-clause-theirs c = λ bytes h es a number stood is. theirs bytes h es a number stood c.segments_are_held.ensures is
 
 pub returns-clause-fair : goal.returns-clause-fair
 returns-clause-fair c = λ bytes h es a stood is.

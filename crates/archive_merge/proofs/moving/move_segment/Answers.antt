@@ -1,4 +1,4 @@
-use Rattle.std.proofs.Common.{◌≡◌, ◌∙◌, subst, sym}
+use Rattle.std.proofs.Common.{◌≡◌, ◌∙◌, [], ◌∷◌, subst, sym}
 use Rattle.std.specs.Prelude.{Err, IsErrOf}
 use Rattle.std.proofs.lemmas.Result.{err_from_is_err_and}
 use Rattle.ingest_workers.specs.declared.outcome.Cause.TheVariants.{ArchiveFull}
@@ -73,8 +73,11 @@ returns-in-Err-clause-causes g c =
     let worker = worker_named c.args.keeper.now c.args.namer.now c.take_next.new.namer took.namer.0 (stays c.args.namer.now c.take_next.new.namer took.namer.1) c.requires.mover.worker in
     let version = g.M.Names.version c.args.names.now in
     let old = texts_by g.M.Names.types g.M.Names.words c.args.names.now in
-    subst (λ e. HasMoveCause g.D.Disk.state version old c.args.keeper.now c.seal.new.keeper (books_in c.seal.new.namer) e) (sym c.of_sealing.ensures)
-    (seal_cause g.D.Disk.state version old c.args.keeper.now c.seal.new.keeper (books_in c.seal.new.namer) _ c.in-Err.cause c.in-Err.ensures.causes
+    let places = c.args.place.now ∷ [] in
+    let told = (g.E.Disk.state c.args.disk.now).seen in
+    let done = c.args.hand.now.draft.first in
+    subst (λ e. HasMoveCause g.D.Disk.state version old places told done c.args.keeper.now c.seal.new.keeper (books_in c.seal.new.namer) e) (sym c.of_sealing.ensures)
+    (seal_cause g.D.Disk.state version old places told done c.args.keeper.now c.seal.new.keeper (books_in c.seal.new.namer) _ c.in-Err.cause c.in-Err.ensures.causes
     (λ end need is.
     let refused : IsErrOf c.seal.result (ArchiveFull end need) = cc (c.in-Err.is, is) in
     no_room_now g.D.Disk.state _ _ _ _ _ c.args.keeper.now c.take_next.new.namer c.args.hand.now c.take_next.new.hand worker (took.namer.0 ∙ c.requires.mover.version_is) c.in_ok-take_next.ensures.taken
