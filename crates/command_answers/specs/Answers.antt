@@ -20,9 +20,9 @@ use Rattle.disk_journal.specs.declared.refusals.CreateRefusal.{CreateRefusal}
 use Rattle.command_answers.specs.Known.{KnownArchive, over}
 use Rattle.command_answers.specs.Names.{RefusesNames}
 use Rattle.command_refusals.specs.declared.outcome.AddRefusal.{AddRefusal}
-use Rattle.command_answers.specs.Ingested.{EndsIngest}
+use Rattle.command_answers.specs.Ingested.{EndsIngest, FromArchive}
 use Rattle.command_answers.specs.Watching.{EndsWatch}
-use Rattle.command_answers.specs.Merging.{Merge, Merges, PrintsMerge}
+use Rattle.command_answers.specs.Merging.{MayCome, MeetsNoLimit, Merge, Merges, PrintsMerge}
 use Rattle.command_answers.specs.Upgrading.{EndsUpgrade, MetNone}
 use Rattle.archive_meaning.specs.declared.TheConstants.{MAX_ROWS}
 use Rattle.archive_open.specs.Shown.{RefusedAt}
@@ -41,7 +41,7 @@ use Rattle.search_walk.specs.Scan.{Asked}
 use Rattle.command_answers.specs.Searching.{PrintsFound, SparesBarren}
 use Rattle.command_answers.specs.Grouping.{PrintsGroups, grouped_by}
 use Rattle.command_words.specs.declared.command.CountKey.{CountKey}
-use Rattle.search_walk.specs.Journal.{asked}
+use Rattle.search_walk.specs.Journal.{OfJournal, asked}
 use Rattle.command_answers.specs.Benched.{SumsUpAll, EndsBench, MetNoLimit}
 use Rattle.command_words.specs.Asked.{Asked as AskedFor, to_bench, to_check, to_count, to_create, to_decode, to_ingest, to_list, to_merge, to_scan, to_search, to_show, to_upgrade, AreTaken, Asks, HaveGoodValues}
 use Rattle.command_answers.specs.Shown.{Shows}
@@ -161,13 +161,17 @@ pub record AnswersCount (by : CountKey) (from to : Option ℤ) (stats : Bool) (p
       → AnswersGroups by (asked items (record { from = from; to = to })) stats seen old new status
 
 -- What `merge` answers, whatever archive is known. What is said of the disk's bytes, and of the journal that they stand for, holds
--- where they were those of the known archive at the start.
+-- where they were those of the known archive at the start. A second archive that may come behind is merged, or memory ended, where
+-- no call of the disks and no write to the output failed, and no limit was met.
 pub record AnswersMerge (known : Option KnownArchive) (seen : Outside) (old new second second_new : DiskState) (status : ℕ)
     : Type 0 where
   pub merge : Merge
   pub first : ℕ
   pub merges : Merges merge first (over known old old) (over known old new) second second_new
   pub printed : PrintsMerge merge first seen status
+  pub complete : FromArchive (over known old old) (λ h before bytes stood. OfJournal second.seen (λ g others other.
+      MayCome h (length stood.legal.held.names) g other → ¬ Rose old.faults new.faults → ¬ Rose second.faults second_new.faults
+      → ¬ RoseIn seen.out_faults → MeetsNoLimit merge.refusal → (status ≡ 0) ⊎ TellsNoMemory status))
 
 -- What `upgrade` answers, whose segments have so many rows at most. The archive is only read. One of an earlier version than the
 -- last is upgraded, or memory ended, where the second disk was empty, no call of the disks and no write to the output failed, and

@@ -1,10 +1,11 @@
 -- What `merge` answers: the files of a second archive come behind those of the archive, and the second disk is only read.
-use Rattle.std.specs.Prelude.{◌≡◌, ◌≢◌, ◌⊎◌, ◌+◌, ◌<◌, ℕ, List, [], ◌∷◌, ◌++◌, length, map, take, drop, min, Option, Some, None, IfSome}
-use Rattle.std.specs.List.{Contains}
+use Rattle.std.specs.Prelude.{◌≡◌, ◌≢◌, ◌⊎◌, ◌+◌, ◌<◌, ℕ, zero, suc, All, false, List, [], ◌∷◌, ◌++◌, length, map, take, drop, min, Option, Some, None, IfSome, slice_get}
+use Rattle.std.specs.List.{Contains, filter_map}
 use mathlib.Core.List.{IsPrefix}
 use Rattle.log_seams.specs.Disk.{DiskState, KeepsBytes}
 use Rattle.log_seams.specs.Outside.{Rose}
 use Rattle.record_format.specs.declared.header.Header.{Header}
+use Rattle.row_codec.specs.Means.{AreCanonical}
 use Rattle.row_codec.specs.declared.namer.Which.{Which}
 use Rattle.row_codec.specs.declared.namer.Which.TheVariants.{Types, Words}
 use Rattle.archive_meaning.specs.declared.entry.SegmentEntry.{SegmentEntry}
@@ -14,6 +15,7 @@ use Rattle.archive_meaning.specs.Stands.{StandsFor}
 use Rattle.archive_meaning.specs.Spelled.{end_of, words_named}
 use Rattle.archive_open.specs.Shown.{RefusedAt, StandsForNone, counted}
 use Rattle.ingest_meaning.specs.Room.{files_size, needed_behind}
+use Rattle.ingest_meaning.specs.Parts.{in_file}
 use Rattle.ingest_meaning.specs.Dictionaries.{HasTextsBehind, IsFullBy, book_texts, header_limits, limit_of}
 use Rattle.search_walk.specs.Journal.{OfJournal}
 use Rattle.sink_pieces.specs.Output.{Grew, GrewByFront}
@@ -39,16 +41,36 @@ pub record Merge : Type 0 where
 abbrev pub line_of_held : File → FileLine
 line_of_held f = line_of_file (counted f)
 
--- a new file has the name of one of the second archive, and first messages of it
+-- a new file that is not done has the name of one of the second archive and first messages of it, and is a part
 pub record IsFrontOf (g f : File) : Type 0 where
   pub name : f.name ≡ g.name
   pub messages : IsPrefix f.messages g.messages
+  pub part : (f.whole ≡ false) × (f.ended ≡ false)
 
--- the new files are so the first ones of the second archive's files, in their order
-abbrev pub AreFrontsOf : List File → List File → Type 0
-AreFrontsOf gs [] = Unit {0}
-AreFrontsOf [] (f ∷ fs) = ⊥
-AreFrontsOf (g ∷ gs) (f ∷ fs) = IsFrontOf g f × AreFrontsOf gs fs
+-- a new file that has nothing but the name of one of the second archive
+abbrev pub name_alone : File → File
+name_alone g = record { name = g.name; messages = []; whole = false; ended = false }
+
+-- The new files are the first ones of the second archive's, in their order. So many are done, and are as they are there; the next
+-- one is not; and those behind it have names alone.
+abbrev pub AreFrontsOf : ℕ → List File → List File → Type 0
+AreFrontsOf done gs [] = Unit {0}
+AreFrontsOf done [] (f ∷ fs) = ⊥
+AreFrontsOf zero (g ∷ gs) (f ∷ fs) = IsFrontOf g f × (fs ≡ map name_alone (take (length fs) gs))
+AreFrontsOf (suc done) (g ∷ gs) (f ∷ fs) = (f ≡ g) × AreFrontsOf done gs fs
+
+-- the segment is of this file, and has as many rows as another one, the same place in its file and the same marks
+pub record IsSegmentAs (number : ℕ) (was s : SegmentEntry) : Type 0 where
+  pub file : s.file ≡ number
+  pub first : s.first ≡ was.first
+  pub rows : length s.rows ≡ length was.rows
+  pub marks : (s.last ≡ was.last) × (s.ended ≡ was.ended)
+
+-- so are these segments, by the first ones of others
+abbrev pub AreSegmentsAs : ℕ → List SegmentEntry → List SegmentEntry → Type 0
+AreSegmentsAs number were [] = Unit {0}
+AreSegmentsAs number [] (s ∷ ss) = ⊥
+AreSegmentsAs number (was ∷ were) (s ∷ ss) = IsSegmentAs number was s × AreSegmentsAs number were ss
 
 -- ---- why not all was merged, by both journals
 
@@ -65,8 +87,10 @@ IsFullOfBoth h before other book count =
     (Contains (texts_held book other)) count
 
 -- The archive ended behind some entries, and goes past its limit of length with the record of a segment and those of texts of
--- the second archive that these entries do not have.
-pub record LacksRoom (h : Header) (before es : List JournalEntry) (other : Held) (end need : ℕ) : Type 0 where
+-- the second archive that these entries do not have. It is this segment of the second archive as one of a file with this number:
+-- by these texts its rows are the encodings of the same messages.
+pub record LacksRoom (h : Header) (before es : List JournalEntry) (other : Held) (number : ℕ) (next : SegmentEntry)
+    (end need : ℕ) : Type 0 where
   pub front : List JournalEntry
   pub begins : IsPrefix before front × IsPrefix front es
   pub ends : end ≡ end_of h front
@@ -74,12 +98,22 @@ pub record LacksRoom (h : Header) (before es : List JournalEntry) (other : Held)
   pub texts : Which → List (List ℕ)
   pub are : (book : Which) → HasTextsBehind (Contains (texts_held book other)) (book_texts book front) (texts book)
   pub segment : SegmentEntry
+  pub same : IsSegmentAs number next segment
+  pub messages : List (List ℕ)
+  pub were : AreCanonical h.version next.rows other.types other.words messages
+  pub canonical : AreCanonical h.version segment.rows (texts Types) (texts Words) messages
   pub needs : need ≡ min
       (needed_behind segment (words_named (texts Types) segment.rows) front (texts Types) (texts Words)) 18446744073709551615
 
--- the file that stopped the merge has this name, and is told
-abbrev pub IsStopped : Merge → Type 0
-IsStopped m = (line : FileLine) × Contains m.files line × (line.name ≡ m.name)
+-- The file behind so many that are done stopped the merge: it is told with this name, and of its segments in the second archive
+-- this one is next, behind as many messages as are told.
+pub record IsStopped (others : List JournalEntry) (m : Merge) (done : ℕ) : Type 0 where
+  pub line : FileLine
+  pub at : slice_get m.files done ≡ Some line
+  pub name : line.name ≡ m.name
+  pub next : SegmentEntry
+  pub there : Contains (filter_map (in_file done) others) next
+  pub behind : next.first ≡ line.messages
 
 -- the second archive may come behind one with so many files: both are of one version, and their files are not too many
 pub record MayCome (h : Header) (held : ℕ) (g : Header) (other : Held) : Type 0 where
@@ -87,22 +121,25 @@ pub record MayCome (h : Header) (held : ℕ) (g : Header) (other : Held) : Type 
   pub few : RefusesMore held (length other.names) None
 
 -- What a refusal rests on, where the archive was a journal with the entries `before` and has the entries `es`, and the second
--- disk's bytes stand for one that holds `other`. Want of memory is free. That archives are of two versions comes first, and then
--- that they have too many files: all other causes are those of a second archive that may come behind.
-abbrev pub HasJournalCause : Header → List JournalEntry → List JournalEntry → ℕ → Header → Held → Merge → MergeRefusal → Type 0
-HasJournalCause h before es held g other m (MergeRefusal.VersionDiffers first second) =
+-- disk's bytes stand for one with the entries `others` that holds `other`; so many of its files are done. Want of memory is free.
+-- That archives are of two versions comes first, and then that they have too many files: all other causes are those of a second
+-- archive that may come behind.
+abbrev pub HasJournalCause : Header → List JournalEntry → List JournalEntry → ℕ → Header → List JournalEntry → Held → Merge → ℕ
+    → MergeRefusal → Type 0
+HasJournalCause h before es held g others other m done (MergeRefusal.VersionDiffers first second) =
     (first ≡ h.version) × (second ≡ g.version) × (first ≢ second)
-HasJournalCause h before es held g other m (MergeRefusal.TooManyFiles told more) =
+HasJournalCause h before es held g others other m done (MergeRefusal.TooManyFiles told more) =
     (g.version ≡ h.version) × (told ≡ held) × (more ≡ length other.names)
     × RefusesMore told more (Some (TooManyFiles told more))
-HasJournalCause h before es held g other m (MergeRefusal.ArchiveFull end need) =
+HasJournalCause h before es held g others other m done (MergeRefusal.ArchiveFull end need) =
     MayCome h held g other × (end ≡ end_of h es)
     × (need ≡ files_size (take 512 (drop (length m.files) other.names))) × (h.length_limit < end + need)
-HasJournalCause h before es held g other m (MergeRefusal.Full book count) =
-    MayCome h held g other × IsStopped m × IsFullOfBoth h before other book count
-HasJournalCause h before es held g other m (MergeRefusal.SegmentFull end need) =
-    MayCome h held g other × IsStopped m × LacksRoom h before es other end need
-HasJournalCause h before es held g other m _ = Unit {0}
+HasJournalCause h before es held g others other m done (MergeRefusal.Full book count) =
+    MayCome h held g other × IsStopped others m done × IsFullOfBoth h before other book count
+HasJournalCause h before es held g others other m done (MergeRefusal.SegmentFull end need) =
+    MayCome h held g other
+    × ((stopped : IsStopped others m done) × LacksRoom h before es other (held + done) stopped.next end need)
+HasJournalCause h before es held g others other m done _ = Unit {0}
 
 -- And what it rests on by the disks alone.
 abbrev pub HasDiskCause : DiskState → DiskState → DiskState → DiskState → MergeRefusal → Type 0
@@ -115,8 +152,8 @@ HasDiskCause old new second second_new _ = Unit {0}
 -- ---- the answer
 
 -- The journal begins with the old one, and each image since the start stands for a journal between the two. The old files are as
--- they were. Behind them stand the new ones as they are told, which have first messages of the second archive's; where nothing
--- was refused they are its files, and it may come behind.
+-- they were. Behind them stand the new ones as they are told: so many are done, and are the second archive's, in segments as there;
+-- where nothing was refused all are, and it may come behind. All texts that were added are the second archive's.
 pub record TakesOver {bytes : List ℕ} (second : Option (List ℕ)) (h : Header) (before : List JournalEntry)
     (stood : StandsFor bytes h before) (m : Merge) (old new : DiskState) : Type 0 where
   pub added : List JournalEntry
@@ -125,20 +162,38 @@ pub record TakesOver {bytes : List ℕ} (second : Option (List ℕ)) (h : Header
   pub content_is : (image : List ℕ) (stands : StandsFor image h (before ++ added))
       → content_of stands.legal.held ≡ content_of stood.legal.held ++ files
   pub told : m.files ≡ map line_of_held files
-  pub fronts : OfJournal second (λ g es other. AreFrontsOf (content_of other) files)
-  pub all : m.refusal ≡ None → OfJournal second (λ g es other.
+  pub done : ℕ
+  pub fronts : OfJournal second (λ g others other. AreFrontsOf done (content_of other) files)
+  pub cuts : OfJournal second (λ g others other. (i : ℕ) → i < length files → AreSegmentsAs (length stood.legal.held.names + i)
+      (filter_map (in_file i) others) (filter_map (in_file (length stood.legal.held.names + i)) added))
+  pub texts : OfJournal second (λ g others other. (book : Which) → All (Contains (texts_held book other)) (book_texts book added))
+  pub all : m.refusal ≡ None → OfJournal second (λ g others other.
       (files ≡ content_of other) × MayCome h (length stood.legal.held.names) g other)
-  pub cause : IfSome m.refusal (λ refusal. OfJournal second (λ g es other.
-      HasJournalCause h before (before ++ added) (length stood.legal.held.names) g other m refusal))
+  pub cause : IfSome m.refusal (λ refusal. OfJournal second (λ g others other.
+      HasJournalCause h before (before ++ added) (length stood.legal.held.names) g others other m done refusal))
+
+-- it is found before anything is written that the second archive may not come behind
+abbrev pub MayNotCome : Option MergeRefusal → Type 0
+MayNotCome (Some (MergeRefusal.VersionDiffers first second)) = Unit {0}
+MayNotCome (Some (MergeRefusal.TooManyFiles told more)) = Unit {0}
+MayNotCome _ = ⊥
 
 -- The new files, numbered on from `first`, are those that the archive has behind its old ones. A second archive without files
--- leaves the first alone. The second disk was only read.
+-- leaves the first alone, and so does one that may not come behind, of which no file is told. The second disk was only read.
 pub record Merges (m : Merge) (first : ℕ) (old new second second_new : DiskState) : Type 0 where
   pub takes : FromArchive old (λ h before bytes stood. TakesOver second.seen h before stood m old new)
   pub numbered : m.files ≢ [] → OverJournal old.seen (λ journal. first ≡ length journal.names)
   pub cause : IfSome m.refusal (HasDiskCause old new second second_new)
   pub idle : OfJournal second.seen (λ g es other. other.names ≡ [] → KeepsBytes old new)
+  pub nothing : MayNotCome m.refusal → KeepsBytes old new × (m.files ≡ [])
   pub only_read : KeepsBytes second second_new
+
+-- no limit was met: of a dictionary, of the archive's length
+abbrev pub MeetsNoLimit : Option MergeRefusal → Type 0
+MeetsNoLimit (Some (MergeRefusal.ArchiveFull end need)) = ⊥
+MeetsNoLimit (Some (MergeRefusal.Full book count)) = ⊥
+MeetsNoLimit (Some (MergeRefusal.SegmentFull end need)) = ⊥
+MeetsNoLimit _ = Unit {0}
 
 abbrev pub merged_status : Option MergeRefusal → ℕ
 merged_status None = 0

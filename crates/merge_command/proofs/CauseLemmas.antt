@@ -1,16 +1,17 @@
 -- What a refusal of a merge rests on, as it is told.
-use Rattle.std.proofs.Common.{◌≡◌, ◌+◌, ◌<◌, ◌≤◌, ◌⊎◌, refl, ap, subst, ◌∙◌, ℕ, zero, suc, true, List, [], ◌∷◌, length, Some, arith}
+use Rattle.std.proofs.Common.{◌≡◌, ◌+◌, ◌<◌, ◌≤◌, ◌⊎◌, refl, sym, ap, subst, ◌∙◌, ℕ, zero, suc, true, List, [], ◌∷◌, length, Some, arith}
 use Rattle.std.specs.Prelude.{is_some, min, slice_get}
 use Rattle.std.specs.List.{Contains}
 use mathlib.Core.List.{IsPrefix}
-use Rattle.std.proofs.lemmas.Option.{get_or_from_slice_get, slice_get_within}
 use Rattle.log_seams.specs.declared.disk.Disk.{Ghosts as DiskGhosts}
 use Rattle.record_format.specs.declared.header.Header.{Header}
 use Rattle.disk_journal.specs.Journal.{state_of}
 use Rattle.disk_journal.specs.declared.journal.Journal.{Journal}
+use Rattle.row_codec.specs.Means.{AreCanonical}
 use Rattle.row_codec.specs.declared.namer.Which.{Which}
 use Rattle.row_codec.specs.declared.namer.Which.TheVariants.{Types, Words}
 use Rattle.archive_meaning.specs.declared.entry.JournalEntry.{JournalEntry}
+use Rattle.archive_meaning.specs.declared.entry.SegmentEntry.{SegmentEntry}
 use Rattle.archive_meaning.specs.Held.{Held}
 use Rattle.archive_meaning.specs.Spelled.{end_of}
 use Rattle.archive_open.specs.Kept.{Kept}
@@ -20,8 +21,9 @@ use Rattle.ingest_meaning.specs.Dictionaries.{HasTextsBehind, IsFullBy, book_tex
 use Rattle.ingest_meaning.specs.Room.{needed_behind}
 use Rattle.ingest_workers.specs.Ingested.{told_entries}
 use Rattle.archive_merge.specs.Behind.{AreOfBoth, IsFullByBoth, LackedRoom, SecondView, old_texts}
-use Rattle.archive_merge.specs.Laws.{view_in}
+use Rattle.archive_merge.specs.Laws.{IsSegmentAt, view_in}
 use Rattle.archive_merge.specs.declared.file.Merged.{Merged}
+use Rattle.archive_merge.proofs.SealingLemmas.{canonical_long}
 use Rattle.file_lines.specs.Directory.{FileLine}
 use Rattle.command_answers.specs.Merging.{IsFullOfBoth, LacksRoom, texts_held}
 use Rattle.merge_command.specs.Came.{lines_by, name_in}
@@ -44,9 +46,10 @@ module _ {D : Type 0} {d : DiskGhosts D} (s : SecondView) (h : Header) (before :
       (subst (λ x. (count ≡ limit_of (header_limits x) book) × IsFullBy (λ t. Contains (book_texts book (told_entries (state_of j))) t ⊎ Contains (old_texts s book) t) (Contains (old_texts s book)) count) header
       (of_told (is_some (state_of j).disk.seen) told full)))
 
-  -- a segment that does not fit
-  pub lacks_room : (file end need : ℕ) → h.length_limit < end + need → LackedRoom (AreOfBoth s) s file j after end need → LacksRoom h before es other end need
-  lacks_room file end need past lacked = record {
+  -- a segment that does not fit, which is this one of the second archive's journal
+  pub lacks_room : (bytes : List ℕ) → s.told ≡ Some bytes → s.version ≡ h.version → (next : SegmentEntry) (first file done number end need : ℕ) → file ≡ number → h.length_limit < end + need
+      → (lacked : LackedRoom (AreOfBoth s) s first file done j after end need) → IsSegmentAt bytes lacked.place next → LacksRoom h before es other number next end need
+  lacks_room bytes told_is version next first file done number end need same past lacked at = record {
     front = lacked.front;
     begins = (subst (λ l. IsPrefix l lacked.front) entries lacked.between.0, subst (λ l. IsPrefix lacked.front l) left lacked.between.1);
     ends = subst (λ x. end ≡ end_of x lacked.front) header lacked.ends;
@@ -54,9 +57,29 @@ module _ {D : Type 0} {d : DiskGhosts D} (s : SecondView) (h : Header) (before :
     texts = in_book;
     are = are;
     segment = lacked.segment;
+    same = record {
+      file = lacked.file_is ∙ same;
+      first = lacked.at ∙ at.first;
+      rows = omega (
+        arith,
+        canonical_long s.version lacked.segment.rows lacked.types lacked.words lacked.messages lacked.canonical,
+        canonical_long s.version lacked.rows s.texts.types s.texts.words lacked.messages lacked.source.0,
+        ap length rows_are,
+      );
+      marks = (lacked.marks.0 ∙ at.marks.0, lacked.marks.1 ∙ at.marks.1);
+    };
+    messages = lacked.messages;
+    were = subst (λ v. AreCanonical v next.rows other.types other.words lacked.messages) version
+        (subst (λ ts. AreCanonical s.version next.rows ts other.words lacked.messages) (texts Types)
+        (subst (λ ts. AreCanonical s.version next.rows s.texts.types ts lacked.messages) (texts Words)
+        (subst (λ l. AreCanonical s.version l s.texts.types s.texts.words lacked.messages) (sym rows_are) lacked.source.0)));
+    canonical = subst (λ v. AreCanonical v lacked.segment.rows lacked.types lacked.words lacked.messages) version lacked.canonical;
     needs = lacked.needs ∙ ap (λ ns. min (needed_behind lacked.segment ns lacked.front lacked.types lacked.words) 18446744073709551615) lacked.numbers_are;
   }
     where
+      rows_are : next.rows ≡ lacked.rows
+      rows_are = lacked.rows_are bytes next.rows told_is at.holds
+
       in_book : Which → List (List ℕ)
       in_book Types = lacked.types
       in_book Words = lacked.words
@@ -67,12 +90,12 @@ module _ {D : Type 0} {d : DiskGhosts D} (s : SecondView) (h : Header) (before :
 
 -- ---- the file that stopped a merge
 
--- there is a line of each new file, with its name
-pub line_at : (files : List FileEntry) (ms : List Merged) (place : ℕ) (m : Merged) → length ms ≤ length files → slice_get ms place ≡ Some m → (line : FileLine) × (slice_get (lines_by files ms) place ≡ Some line) × (line.name ≡ name_in (slice_get files place))
+-- there is a line of each new file, with its name and its count
+pub line_at : (files : List FileEntry) (ms : List Merged) (place : ℕ) (m : Merged) → length ms ≤ length files → slice_get ms place ≡ Some m
+    → (line : FileLine) × (slice_get (lines_by files ms) place ≡ Some line) × (line.name ≡ name_in (slice_get files place)) × (line.messages ≡ m.messages)
 line_at files [] place m few at = absurd (cc (at))
 line_at [] (x ∷ ms) place m few at = absurd (omega (arith, few))
-line_at (f ∷ files) (x ∷ ms) zero m few at = (record { name = f.name; messages = x.messages; whole = x.whole }, refl, refl)
+line_at (f ∷ files) (x ∷ ms) zero m few at =
+    let same : x ≡ m = cc (at) in
+    (record { name = f.name; messages = x.messages; whole = x.whole }, refl, refl, ap (λ (y : Merged). y.messages) same)
 line_at (f ∷ files) (x ∷ ms) (suc place) m few at = line_at files ms place m (omega (arith, few)) at
-
-pub contains_at : {A : Type 0} (xs : List A) (i : ℕ) (x : A) → slice_get xs i ≡ Some x → Contains xs x
-contains_at xs i x at = (i, slice_get_within xs i x at, get_or_from_slice_get xs i x x at)

@@ -1,5 +1,5 @@
 -- What the archive holds of files that were merged into it.
-use Rattle.std.proofs.Common.{◌≡◌, ◌+◌, ◌<◌, ◌≤◌, ◌&&◌, ◌||◌, refl, sym, ap, ap₂, subst, ◌∙◌, ℕ, zero, suc, Bool, List, [], ◌∷◌, ◌++◌, length, map, take, Some, arith, append_assoc, append-nil}
+use Rattle.std.proofs.Common.{◌≡◌, ◌+◌, ◌<◌, ◌≤◌, ◌&&◌, ◌||◌, refl, sym, ap, ap₂, subst, ◌∙◌, ℕ, zero, suc, Bool, false, List, [], ◌∷◌, ◌++◌, length, map, take, Some, arith, append_assoc, append-nil}
 use Rattle.std.specs.Prelude.{All, slice_get}
 use Rattle.std.specs.List.{filter_map, list_any, sum_by}
 use Rattle.std.proofs.lemmas.List.{length-append, nil_from_length}
@@ -11,15 +11,17 @@ use Rattle.archive_meaning.specs.declared.entry.JournalEntry.{JournalEntry}
 use Rattle.archive_meaning.specs.declared.entry.JournalEntry.TheVariants.{Files, Types, Words, Segment}
 use Rattle.archive_meaning.specs.Held.{File, Held, Piece, content_of, files_from, is_ended, is_whole, messages_of, nothing_held}
 use Rattle.archive_meaning.specs.Legal.{Accepts, Run, piece_of}
+use Rattle.archive_meaning.specs.Spelled.{types_of}
 use Rattle.archive_meaning.specs.Stands.{IsLegal, StandsFor}
 use Rattle.archive_meaning.proofs.RunLemmas.{one_held, runs_split}
 use Rattle.archive_meaning.proofs.SumsLemmas.{messages_joined}
 use Rattle.archive_open.specs.declared.files.FileEntry.{FileEntry}
 use Rattle.ingest_meaning.specs.Parts.{in_file}
+use Rattle.ingest_meaning.specs.WordsIn.{words_of}
 use Rattle.ingest_workers.specs.Journal.{FrontHolds}
 use Rattle.archive_merge.specs.Named.{AreNamesOf}
 use Rattle.archive_merge.specs.declared.file.Merged.{Merged}
-use Rattle.command_answers.specs.Merging.{AreFrontsOf, line_of_held}
+use Rattle.command_answers.specs.Merging.{AreFrontsOf, line_of_held, name_alone}
 use Rattle.merge_command.specs.Came.{lines_by}
 use Rattle.write_commands.proofs.JoinLemmas.{HasNone, content_grows, new_file, with_names}
 use Rattle.write_commands.proofs.PieceLemmas.{HasBehind, HasGrown, HasSegments, HoldsOf, IsNewFrom, grown, has_ended, has_last, rows_in, segments_held}
@@ -132,28 +134,94 @@ module _ (h : Header) (before naming fresh : List JournalEntry) (names : List (L
           joined
           ∙ (ap (λ l. covered ++ l) (nil_from_length (messages_of (first + i) more.more) (omega (arith, long, ap length joined, length-append covered (messages_of (first + i) more.more)))) ∙ append-nil covered)
 
--- ---- beside the second archive
+-- ---- the texts that were added
 
--- where each file has first messages of the second archive's
-pub fronts_are : (first : ℕ) (ps qs : List Piece) (k n : ℕ) (names : List (List ℕ)) → n ≤ length names
-    → ((i : ℕ) → i < n → IsPrefix (messages_of (first + (k + i)) ps) (messages_of (k + i) qs)) → AreFrontsOf (files_from k names qs) (files_from (first + k) (take n names) ps)
-fronts_are first ps qs k zero names few each = tt
-fronts_are first ps qs k (suc n) [] few each = absurd (omega (arith, few))
-fronts_are first ps qs k (suc n) (name ∷ names) few each =
-    let here : k + 0 ≡ k = omega arith in
-    let next : (first + k) + 1 ≡ first + (k + 1) = omega arith in (
-      record { name = refl; messages = subst (λ m. IsPrefix (messages_of (first + m) ps) (messages_of m qs)) here (each 0 (omega arith)) },
-      subst (λ m. AreFrontsOf (files_from (k + 1) names qs) (files_from m (take n names) ps)) (sym next) (fronts_are first ps qs (k + 1) n names (omega (arith, few)) (λ i less. later i less)),
-    )
-  where
-    later : (i : ℕ) → i < n → IsPrefix (messages_of (first + ((k + 1) + i)) ps) (messages_of ((k + 1) + i) qs)
-    later i less = let same : k + suc i ≡ (k + 1) + i = omega arith in subst (λ m. IsPrefix (messages_of (first + m) ps) (messages_of m qs)) same (each (suc i) (omega (arith, less)))
+-- records of names add none
+pub types_behind : (naming fresh : List JournalEntry) (names : List (List ℕ)) → AreNamesOf naming names → types_of (naming ++ fresh) ≡ types_of fresh
+types_behind [] fresh names are = refl
+types_behind (Files some ∷ naming) fresh names are = types_behind naming fresh are.2.0 are.2.2
+types_behind (Types number texts ∷ naming) fresh names are = absurd are
+types_behind (Words number texts ∷ naming) fresh names are = absurd are
+types_behind (Segment s ∷ naming) fresh names are = absurd are
+
+pub words_behind : (naming fresh : List JournalEntry) (names : List (List ℕ)) → AreNamesOf naming names → words_of (naming ++ fresh) ≡ words_of fresh
+words_behind [] fresh names are = refl
+words_behind (Files some ∷ naming) fresh names are = words_behind naming fresh are.2.0 are.2.2
+words_behind (Types number texts ∷ naming) fresh names are = absurd are
+words_behind (Words number texts ∷ naming) fresh names are = absurd are
+words_behind (Segment s ∷ naming) fresh names are = absurd are
+
+-- ---- beside the second archive
 
 -- where each has all of them, with the same marks
 pub record IsSameAt (ps qs : List Piece) (file number : ℕ) : Type 0 where
   pub messages : messages_of file ps ≡ messages_of number qs
   pub whole_is : is_whole file ps ≡ is_whole number qs
   pub ended_is : is_ended file ps ≡ is_ended number qs
+
+-- where it has first messages, and is a part
+pub record IsFrontAt (ps qs : List Piece) (file number : ℕ) : Type 0 where
+  pub messages : IsPrefix (messages_of file ps) (messages_of number qs)
+  pub part : (is_whole file ps ≡ false) × (is_ended file ps ≡ false)
+
+-- where there is nothing of it
+pub record IsNoneAt (ps : List Piece) (file : ℕ) : Type 0 where
+  pub messages : messages_of file ps ≡ []
+  pub part : (is_whole file ps ≡ false) × (is_ended file ps ≡ false)
+
+pub length-files : (k : ℕ) (names : List (List ℕ)) (ps : List Piece) → length (files_from k names ps) ≡ length names
+length-files k [] ps = refl
+length-files k (name ∷ names) ps = ap suc (length-files (k + 1) names ps)
+
+-- files of which there is nothing
+names_alone : (first : ℕ) (ps qs : List Piece) (k n : ℕ) (names : List (List ℕ)) → n ≤ length names → ((i : ℕ) → i < n → IsNoneAt ps (first + (k + i)))
+    → files_from (first + k) (take n names) ps ≡ map name_alone (take (length (files_from (first + k) (take n names) ps)) (files_from k names qs))
+names_alone first ps qs k zero names few each = refl
+names_alone first ps qs k (suc n) [] few each = absurd (omega (arith, few))
+names_alone first ps qs k (suc n) (name ∷ names) few each =
+    let here : k + 0 ≡ k = omega arith in
+    let next : (first + k) + 1 ≡ first + (k + 1) = omega arith in
+    let one : IsNoneAt ps (first + k) = subst (λ m. IsNoneAt ps (first + m)) here (each 0 (omega arith)) in
+    ap₂ (λ (f : File) (fs : List File). f ∷ fs)
+    (λ i. record { name = name; messages = one.messages i; whole = one.part.0 i; ended = one.part.1 i })
+    (subst (λ m. files_from m (take n names) ps ≡ map name_alone (take (length (files_from m (take n names) ps)) (files_from (k + 1) names qs))) (sym next) (names_alone first ps qs (k + 1) n names (omega (arith, few)) later))
+  where
+    later : (i : ℕ) → i < n → IsNoneAt ps (first + ((k + 1) + i))
+    later i less = let same : k + suc i ≡ (k + 1) + i = omega arith in subst (λ m. IsNoneAt ps (first + m)) same (each (suc i) (omega (arith, less)))
+
+-- so many files are the second archive's, the next one has first messages, and of those behind it there is nothing
+pub fronts_are : (first : ℕ) (ps qs : List Piece) (k n done : ℕ) (names : List (List ℕ)) → n ≤ length names → ((i : ℕ) → i < n → i < done → IsSameAt ps qs (first + (k + i)) (k + i))
+    → ((i : ℕ) → i < n → done ≤ i → IsFrontAt ps qs (first + (k + i)) (k + i)) → ((i : ℕ) → i < n → done < i → IsNoneAt ps (first + (k + i)))
+    → AreFrontsOf done (files_from k names qs) (files_from (first + k) (take n names) ps)
+fronts_are first ps qs k zero done names few all front none = tt
+fronts_are first ps qs k (suc n) done [] few all front none = absurd (omega (arith, few))
+fronts_are first ps qs k (suc n) zero (name ∷ names) few all front none =
+    let here : k + 0 ≡ k = omega arith in
+    let next : (first + k) + 1 ≡ first + (k + 1) = omega arith in
+    let one : IsFrontAt ps qs (first + k) k = subst (λ m. IsFrontAt ps qs (first + m) m) here (front 0 (omega arith) (omega arith)) in (
+      record { name = refl; messages = one.messages; part = one.part },
+      subst (λ m. files_from m (take n names) ps ≡ map name_alone (take (length (files_from m (take n names) ps)) (files_from (k + 1) names qs))) (sym next) (names_alone first ps qs (k + 1) n names (omega (arith, few)) later),
+    )
+  where
+    later : (i : ℕ) → i < n → IsNoneAt ps (first + ((k + 1) + i))
+    later i less = let same : k + suc i ≡ (k + 1) + i = omega arith in subst (λ m. IsNoneAt ps (first + m)) same (none (suc i) (omega (arith, less)) (omega arith))
+fronts_are first ps qs k (suc n) (suc done) (name ∷ names) few all front none =
+    let here : k + 0 ≡ k = omega arith in
+    let next : (first + k) + 1 ≡ first + (k + 1) = omega arith in
+    let one : IsSameAt ps qs (first + k) k = subst (λ m. IsSameAt ps qs (first + m) m) here (all 0 (omega arith) (omega arith)) in (
+      (λ i. record { name = name; messages = one.messages i; whole = one.whole_is i; ended = one.ended_is i }),
+      subst (λ m. AreFrontsOf done (files_from (k + 1) names qs) (files_from m (take n names) ps)) (sym next)
+          (fronts_are first ps qs (k + 1) n done names (omega (arith, few)) (λ i less low. all_later i less low) (λ i less many. front_later i less many) (λ i less many. none_later i less many)),
+    )
+  where
+    all_later : (i : ℕ) → i < n → i < done → IsSameAt ps qs (first + ((k + 1) + i)) ((k + 1) + i)
+    all_later i less low = let same : k + suc i ≡ (k + 1) + i = omega arith in subst (λ m. IsSameAt ps qs (first + m) m) same (all (suc i) (omega (arith, less)) (omega (arith, low)))
+
+    front_later : (i : ℕ) → i < n → done ≤ i → IsFrontAt ps qs (first + ((k + 1) + i)) ((k + 1) + i)
+    front_later i less many = let same : k + suc i ≡ (k + 1) + i = omega arith in subst (λ m. IsFrontAt ps qs (first + m) m) same (front (suc i) (omega (arith, less)) (omega (arith, many)))
+
+    none_later : (i : ℕ) → i < n → done < i → IsNoneAt ps (first + ((k + 1) + i))
+    none_later i less many = let same : k + suc i ≡ (k + 1) + i = omega arith in subst (λ m. IsNoneAt ps (first + m)) same (none (suc i) (omega (arith, less)) (omega (arith, many)))
 
 pub all_same : (first : ℕ) (ps qs : List Piece) (k : ℕ) (names : List (List ℕ)) → ((i : ℕ) → i < length names → IsSameAt ps qs (first + (k + i)) (k + i)) → files_from (first + k) names ps ≡ files_from k names qs
 all_same first ps qs k [] each = refl

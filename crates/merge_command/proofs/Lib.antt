@@ -5,5 +5,6 @@ mod LineLemmas
 mod MergedLemmas
 mod OverLemmas
 mod RefusedLemmas
+mod SegmentLemmas
 mod TakesOverLemmas
 mod WholeLemmas

@@ -3,7 +3,7 @@ use Rattle.std.proofs.Common.{◌≡◌, ◌+◌, ◌<◌, ◌≤◌, ◌&&◌, 
 use Rattle.std.specs.Prelude.{All, IfSome, is_some, slice_get}
 use Rattle.std.specs.List.{filter_map}
 use Rattle.std.proofs.lemmas.Option.{slice_get_within}
-use Rattle.std.proofs.lemmas.List.{length-map, take_all}
+use Rattle.std.proofs.lemmas.List.{length-map, nil_from_length, take_all}
 use Rattle.std.proofs.lemmas.List.Elements.{All-weaker}
 use mathlib.Core.List.{IsPrefix}
 use Rattle.log_seams.specs.Disk.{DiskState}
@@ -20,19 +20,21 @@ use Rattle.ingest_meaning.specs.Parts.{in_file}
 use Rattle.ingest_workers.specs.Ingested.{told_entries}
 use Rattle.ingest_workers.specs.Journal.{FrontHolds}
 use Rattle.search_walk.specs.Journal.{OfJournal}
-use Rattle.archive_merge.specs.Behind.{HasRun, IsOfFiles, SecondView}
-use Rattle.archive_merge.specs.Laws.{FilesAreRuns, view_in}
+use Rattle.archive_merge.specs.Behind.{HasRun, IsOfFiles, SecondView, places_for}
+use Rattle.archive_merge.specs.Files.{AreCutAs}
+use Rattle.archive_merge.specs.Laws.{FilesAreRuns, SegmentsAreTheirs, view_in}
 use Rattle.archive_merge.specs.Left.{LeavesEntries}
 use Rattle.archive_merge.specs.Merging.{IsMergedFile}
 use Rattle.archive_merge.specs.Named.{AreNamesOf, names_of}
 use Rattle.archive_merge.specs.Runs.{SoFar, held_of}
 use Rattle.archive_merge.specs.declared.file.Merged.{Merged}
 use Rattle.command_answers.specs.Ingested.{LeavesJournal}
-use Rattle.command_answers.specs.Merging.{AreFrontsOf, line_of_held}
+use Rattle.command_answers.specs.Merging.{AreFrontsOf, AreSegmentsAs, line_of_held}
 use Rattle.merge_command.specs.Came.{lines_by}
 use Rattle.write_commands.proofs.LeavesLemmas.{of_told}
 use Rattle.write_commands.proofs.PieceLemmas.{HoldsOf, IsNewFrom}
-use Rattle.merge_command.proofs.ContentLemmas.{IsSameAt, all_same, content_is, fronts_are, holds, told_lines}
+use Rattle.merge_command.proofs.ContentLemmas.{IsFrontAt, IsNoneAt, IsSameAt, all_same, content_is, fronts_are, holds, length-files, told_lines}
+use Rattle.merge_command.proofs.SegmentLemmas.{cuts_theirs}
 
 -- ---- what the disk is left with
 
@@ -94,7 +96,7 @@ module _ (runs : FilesAreRuns) (s : SecondView) (b : Shown) (opens : Opens s.tol
     (named : AreNamesOf naming (take (length ms) (names_of b.files))) (legal : IsLegal h (before ++ (naming ++ fresh)))
     (new : All (IsNewFrom (length stood.legal.held.names)) fresh)
     (j : JournalState) (told : is_some j.disk.seen ≡ true) (header : j.header ≡ h) (entries : told_entries j ≡ before)
-    (done : Type 0) (numbers : (i : ℕ) (m : Merged) → slice_get ms i ≡ Some m → m.file ≡ length stood.legal.held.names + i)
+    (done : ℕ) (numbers : (i : ℕ) (m : Merged) → slice_get ms i ≡ Some m → m.file ≡ length stood.legal.held.names + i)
     (each : (i : ℕ) (m : Merged) → slice_get ms i ≡ Some m → IsMergedFile s i done j (naming ++ fresh) m) where
   abbrev first : ℕ
   first = length stood.legal.held.names
@@ -142,26 +144,76 @@ module _ (runs : FilesAreRuns) (s : SecondView) (b : Shown) (opens : Opens s.tol
   run_at : (bytes : List ℕ) → s.told ≡ Some bytes → (g : Header) (es : List JournalEntry) (other : StandsFor bytes g es) → IsArchiveOf b g es other.legal.held → (i : ℕ) → HasRun s i (held_of i other.legal.held)
   run_at bytes told_is g es other is i = subst (λ v. HasRun v i (held_of i other.legal.held)) (sym (view bytes told_is)) (runs bytes g es b i other is)
 
-  pub fronts : OfJournal s.told (λ g es other. AreFrontsOf (content_of other) files)
+  -- a file that is done is that of the second archive
+  same_at : (image : List ℕ) → s.told ≡ Some image → (g : Header) (es : List JournalEntry) (other : StandsFor image g es) → IsArchiveOf b g es other.legal.held → (i : ℕ) (m : Merged) → slice_get ms i ≡ Some m → i < done
+      → IsSameAt pieces other.legal.held.pieces (first + i) i
+  same_at image told_is g es other is i m at low =
+      let f = each i m at in
+      let held = held_at i m at in
+      let full : held_of i other.legal.held ≡ record { messages = f.covered; whole = m.whole; ended = m.whole && f.ended } = f.all low (held_of i other.legal.held) (run_at image told_is g es other is i) in record {
+        messages = held.messages ∙ sym (ap (λ (x : SoFar). x.messages) full);
+        whole_is = held.whole_is ∙ sym (ap (λ (x : SoFar). x.whole) full);
+        ended_is = held.ended_is ∙ sym (ap (λ (x : SoFar). x.ended) full);
+      }
+
+  -- another has first messages of it, and is a part
+  front_at : (image : List ℕ) → s.told ≡ Some image → (g : Header) (es : List JournalEntry) (other : StandsFor image g es) → IsArchiveOf b g es other.legal.held → (i : ℕ) (m : Merged) → slice_get ms i ≡ Some m → done ≤ i
+      → IsFrontAt pieces other.legal.held.pieces (first + i) i
+  front_at image told_is g es other is i m at many =
+      let f = each i m at in
+      let held = held_at i m at in
+      let run = run_at image told_is g es other is i in
+      let part = f.part many (held_of i other.legal.held) run in record {
+        messages = subst (λ l. IsPrefix l (messages_of i other.legal.held.pieces)) (sym held.messages) (f.first_ones (held_of i other.legal.held) run);
+        part = (held.whole_is ∙ part, held.ended_is ∙ ap (λ b. b && f.ended) part);
+      }
+
+  -- and behind the first of these there is nothing
+  none_at : (i : ℕ) (m : Merged) → slice_get ms i ≡ Some m → done < i → IsNoneAt pieces (first + i)
+  none_at i m at many =
+      let f = each i m at in
+      let held = held_at i m at in
+      let none = f.none many in record {
+        messages = held.messages ∙ nil_from_length f.covered (sym f.count ∙ none.0);
+        part = (held.whole_is ∙ none.1, held.ended_is ∙ ap (λ b. b && f.ended) none.1);
+      }
+
+  pub fronts : OfJournal s.told (λ g es other. AreFrontsOf done (content_of other) files)
   fronts = go s.told refl opens
     where
-      go : (seen : Option (List ℕ)) → s.told ≡ seen → Opens seen b → OfJournal seen (λ g es other. AreFrontsOf (content_of other) files)
+      go : (seen : Option (List ℕ)) → s.told ≡ seen → Opens seen b → OfJournal seen (λ g es other. AreFrontsOf done (content_of other) files)
       go None told_is opened = tt
       go (Some image) told_is opened = λ g es other.
           let is = opened g es other in
           let same : names_of b.files ≡ other.legal.held.names = names_shown b g es other.legal.held is in
-          subst (λ n. AreFrontsOf (content_of other.legal.held) (files_from n names pieces)) (omega arith)
-          (subst (λ ns. AreFrontsOf (content_of other.legal.held) (files_from (first + 0) (take (length ms) ns) pieces)) (sym same)
-          (fronts_are first pieces other.legal.held.pieces 0 (length ms) other.legal.held.names
+          let theirs : List Piece = other.legal.held.pieces in
+          subst (λ n. AreFrontsOf done (content_of other.legal.held) (files_from n names pieces)) (omega arith)
+          (subst (λ ns. AreFrontsOf done (content_of other.legal.held) (files_from (first + 0) (take (length ms) ns) pieces)) (sym same)
+          (fronts_are first pieces theirs 0 (length ms) done other.legal.held.names
           (omega (arith, few, ap length same, length-map b.files (λ (f : FileEntry). f.name)))
-          (λ i less.
-          let m = at_place ms i less in
-          subst (λ n. IsPrefix (messages_of (first + n) pieces) (messages_of n other.legal.held.pieces)) (zero_plus i)
-          (subst (λ l. IsPrefix l (messages_of i other.legal.held.pieces)) (sym (held_at i m.0 m.1).messages)
-          ((each i m.0 m.1).first_ones (held_of i other.legal.held) (run_at image told_is g es other is i))))))
+          (λ i less low. let m = at_place ms i less in subst (λ n. IsSameAt pieces theirs (first + n) n) (zero_plus i) (same_at image told_is g es other is i m.0 m.1 low))
+          (λ i less many. let m = at_place ms i less in subst (λ n. IsFrontAt pieces theirs (first + n) n) (zero_plus i) (front_at image told_is g es other is i m.0 m.1 many))
+          (λ i less many. let m = at_place ms i less in subst (λ n. IsNoneAt pieces (first + n)) (zero_plus i) (none_at i m.0 m.1 many))))
+
+  -- the segments of each are as the first ones there
+  pub cuts : SegmentsAreTheirs → OfJournal s.told (λ g es other. (i : ℕ) → i < length files → AreSegmentsAs (first + i) (filter_map (in_file i) es) (filter_map (in_file (first + i)) (naming ++ fresh)))
+  cuts law = go s.told refl opens
+    where
+      go : (seen : Option (List ℕ)) → s.told ≡ seen → Opens seen b → OfJournal seen (λ g es other. (i : ℕ) → i < length files → AreSegmentsAs (first + i) (filter_map (in_file i) es) (filter_map (in_file (first + i)) (naming ++ fresh)))
+      go None told_is opened = tt
+      go (Some image) told_is opened = λ g es other i less.
+          let is = opened g es other in
+          let m = at_place ms i (omega (arith, less, length-files first names pieces, length-names)) in
+          let f = each i m.0 m.1 in
+          let number = numbers i m.0 m.1 in
+          let places : places_for s i ≡ places_for (view_in image b) i = ap (λ v. places_for v i) (view image told_is) in
+          let cut = f.cuts (held_of i other.legal.held) (run_at image told_is g es other is i) in
+          let here = subst (λ n. AreCutAs n (places_for (view_in image b) i) f.segments) number (subst (λ l. AreCutAs m.0.file l f.segments) places cut) in
+          subst (AreSegmentsAs (first + i) (filter_map (in_file i) es)) (sym (of_told (is_some j.disk.seen) told f.sealed) ∙ ap (λ n. filter_map (in_file n) (naming ++ fresh)) number)
+          (cuts_theirs image (first + i) (places_for (view_in image b) i) (filter_map (in_file i) es) f.segments (law image g es b i other is) here)
 
   -- where all was done
-  pub whole : done → length ms ≡ length b.files → OfJournal s.told (λ g es other. files ≡ content_of other)
+  pub whole : length b.files ≤ done → length ms ≡ length b.files → OfJournal s.told (λ g es other. files ≡ content_of other)
   whole finished all = go s.told refl opens
     where
       go : (seen : Option (List ℕ)) → s.told ≡ seen → Opens seen b → OfJournal seen (λ g es other. files ≡ content_of other)
@@ -174,13 +226,6 @@ module _ (runs : FilesAreRuns) (s : SecondView) (b : Shown) (opens : Opens s.tol
           (subst (λ ns. files_from (first + 0) ns pieces ≡ content_of other.legal.held) (sym taken)
           (all_same first pieces other.legal.held.pieces 0 other.legal.held.names
           (λ i less.
-          let m = at_place ms i (omega (arith, less, ap length taken, length-names)) in
-          let f = each i m.0 m.1 in
-          let held = held_at i m.0 m.1 in
-          let full : held_of i other.legal.held ≡ record { messages = f.covered; whole = m.0.whole; ended = m.0.whole && f.ended } = f.all finished (held_of i other.legal.held) (run_at image told_is g es other is i) in
-          subst (λ n. IsSameAt pieces other.legal.held.pieces (first + n) n) (zero_plus i)
-          (let same_file : IsSameAt pieces other.legal.held.pieces (first + i) i = record {
-            messages = held.messages ∙ sym (ap (λ (x : SoFar). x.messages) full);
-            whole_is = held.whole_is ∙ sym (ap (λ (x : SoFar). x.whole) full);
-            ended_is = held.ended_is ∙ sym (ap (λ (x : SoFar). x.ended) full);
-          } in same_file))))
+          let within : i < length ms = omega (arith, less, ap length taken, length-names) in
+          let m = at_place ms i within in
+          subst (λ n. IsSameAt pieces other.legal.held.pieces (first + n) n) (zero_plus i) (same_at image told_is g es other is i m.0 m.1 (omega (arith, finished, all, within))))))

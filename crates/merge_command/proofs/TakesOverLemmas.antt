@@ -1,6 +1,7 @@
 -- What an archive holds with the files of a second one.
-use Rattle.std.proofs.Common.{◌≡◌, ◌+◌, ◌≤◌, refl, ap, subst, ◌∙◌, ℕ, List, ◌++◌, length, map, Option, Some, None, arith, true}
+use Rattle.std.proofs.Common.{◌≡◌, ◌+◌, ◌≤◌, refl, sym, ap, subst, ◌∙◌, ℕ, List, ◌++◌, length, map, Option, Some, None, arith, true}
 use Rattle.std.specs.Prelude.{All, IfSome, is_some, slice_get}
+use Rattle.std.specs.List.{Contains}
 use Rattle.std.proofs.lemmas.List.{length-map}
 use Rattle.log_seams.specs.Disk.{IsLawful, LeavesOnly}
 use Rattle.log_seams.specs.declared.disk.Disk.{Ghosts as DiskGhosts}
@@ -10,35 +11,43 @@ use Rattle.disk_journal.specs.Journal.{state_of}
 use Rattle.disk_journal.specs.State.{JournalState}
 use Rattle.disk_journal.specs.declared.journal.Journal.{Journal}
 use Rattle.archive_meaning.specs.declared.entry.JournalEntry.{JournalEntry}
+use Rattle.row_codec.specs.declared.namer.Which.{Which}
+use Rattle.row_codec.specs.declared.namer.Which.TheVariants.{Types, Words}
 use Rattle.archive_meaning.specs.Held.{Held}
+use Rattle.archive_meaning.specs.Spelled.{types_of}
 use Rattle.archive_meaning.specs.Stands.{IsLegal, StandsFor}
-use Rattle.archive_open.specs.Shown.{Opens, Shown}
+use Rattle.archive_open.specs.Shown.{IsArchiveOf, Opens, Shown}
 use Rattle.archive_open.specs.declared.files.FileEntry.{FileEntry}
+use Rattle.ingest_meaning.specs.Dictionaries.{book_texts}
+use Rattle.ingest_meaning.specs.WordsIn.{words_of}
 use Rattle.disk_seal.specs.Opening.{MayOpen}
 use Rattle.ingest_workers.specs.Ingested.{told_entries}
 use Rattle.search_walk.specs.Journal.{OfJournal}
 use Rattle.archive_merge.specs.Behind.{SecondView}
-use Rattle.archive_merge.specs.Laws.{FilesAreRuns, view_in}
+use Rattle.archive_merge.specs.Laws.{FilesAreRuns, SegmentsAreTheirs, view_in}
 use Rattle.archive_merge.specs.Left.{LeavesEntries}
-use Rattle.archive_merge.specs.Merging.{HasMergedAll}
+use Rattle.archive_merge.specs.Merging.{HasMergedAll, done_by}
 use Rattle.archive_merge.specs.Named.{names_of}
 use Rattle.archive_merge.specs.declared.file.Merged.{Merged}
 use Rattle.archive_merge.specs.declared.refusal.MergeRefusal.{MergeRefusal as Why}
 use Rattle.command_answers.specs.Ingested.{LeavesJournal}
-use Rattle.command_answers.specs.Merging.{HasJournalCause, MayCome, Merge, TakesOver}
+use Rattle.command_answers.specs.Merging.{HasJournalCause, MayCome, Merge, TakesOver, texts_held}
 use Rattle.merge_command.specs.Came.{lines_by}
 use Rattle.write_commands.specs.JournalLeft.{StandsBetween}
 use Rattle.write_commands.proofs.AppendLemmas.{OpensFrom, files_counted, may_append}
 use Rattle.write_commands.proofs.LeavesLemmas.{begun_sooner, of_told, opened_as, prefix_same, still_between}
 use Rattle.write_commands.proofs.PieceLemmas.{IsNewFrom}
-use Rattle.merge_command.proofs.OverLemmas.{all_new, content, files as new_files, fronts, leaves_journal, legal_left, lines, whole}
+use Rattle.merge_command.proofs.CauseLemmas.{texts_same}
+use Rattle.merge_command.proofs.ContentLemmas.{types_behind, words_behind}
+use Rattle.merge_command.proofs.MergedLemmas.{over_opened}
+use Rattle.merge_command.proofs.OverLemmas.{all_new, content, cuts, files as new_files, fronts, leaves_journal, legal_left, lines, whole}
 
 -- both hold of the journal
 both_of : (seen : Option (List ℕ)) (P Q R : Header → List JournalEntry → Held → Type 0) → ((h : Header) (es : List JournalEntry) (held : Held) → P h es held → Q h es held → R h es held) → OfJournal seen P → OfJournal seen Q → OfJournal seen R
 both_of None P Q R join p q = tt
 both_of (Some bytes) P Q R join p q = λ h es stood. join h es stood.legal.held (p h es stood) (q h es stood)
 
-module _ (runs : FilesAreRuns) {D : Type 0} {d : DiskGhosts D} (old : JournalState) (j after : Journal D d) (a : Shown) (from : OpensFrom old (state_of j) a)
+module _ (runs : FilesAreRuns) (theirs : SegmentsAreTheirs) {D : Type 0} {d : DiskGhosts D} (old : JournalState) (j after : Journal D d) (a : Shown) (from : OpensFrom old (state_of j) a)
     (law_old : IsLawful old.disk) (law_now : IsLawful (state_of j).disk) (law_new : IsLawful (state_of after).disk) (risen : old.disk.faults ≤ (state_of j).disk.faults)
     (s : SecondView) (b : Shown) (opens : Opens s.told b) (view : (bytes : List ℕ) → s.told ≡ Some bytes → s ≡ view_in bytes b)
     (first : ℕ) (counted : first ≡ length a.files) (ms : List Merged) (why : Option Why) (merged : HasMergedAll s first (names_of b.files) ms why j after)
@@ -91,16 +100,28 @@ module _ (runs : FilesAreRuns) {D : Type 0} {d : DiskGhosts D} (old : JournalSta
     new : All (IsNewFrom (length stood.legal.held.names)) merged.fresh
     new = all_new (length stood.legal.held.names) ms merged.fresh numbers merged.others
 
-    pub takes_over : IfSome m.refusal (λ refusal. OfJournal s.told (λ g es other. HasJournalCause h before (before ++ added) (length stood.legal.held.names) g other m refusal)) → TakesOver s.told h before stood m old.disk (state_of after).disk
+    pub takes_over : IfSome m.refusal (λ refusal. OfJournal s.told (λ g es other. HasJournalCause h before (before ++ added) (length stood.legal.held.names) g es other m (done_by first (length ms) why) refusal)) → TakesOver s.told h before stood m old.disk (state_of after).disk
     takes_over cause = record {
       added = added;
       leaves = leaves;
-      files = new_files runs s b opens view h before merged.naming merged.fresh stood ms few merged.named legal new (state_of j) some opened.0 opened.1 (why ≡ None) numbers merged.each;
-      content_is = content runs s b opens view h before merged.naming merged.fresh stood ms few merged.named legal new (state_of j) some opened.0 opened.1 (why ≡ None) numbers merged.each;
-      told = lines_are ∙ lines runs s b opens view h before merged.naming merged.fresh stood ms few merged.named legal new (state_of j) some opened.0 opened.1 (why ≡ None) numbers merged.each;
-      fronts = fronts runs s b opens view h before merged.naming merged.fresh stood ms few merged.named legal new (state_of j) some opened.0 opened.1 (why ≡ None) numbers merged.each;
+      files = new_files runs s b opens view h before merged.naming merged.fresh stood ms few merged.named legal new (state_of j) some opened.0 opened.1 (done_by first (length ms) why) numbers merged.each;
+      content_is = content runs s b opens view h before merged.naming merged.fresh stood ms few merged.named legal new (state_of j) some opened.0 opened.1 (done_by first (length ms) why) numbers merged.each;
+      told = lines_are ∙ lines runs s b opens view h before merged.naming merged.fresh stood ms few merged.named legal new (state_of j) some opened.0 opened.1 (done_by first (length ms) why) numbers merged.each;
+      fronts = fronts runs s b opens view h before merged.naming merged.fresh stood ms few merged.named legal new (state_of j) some opened.0 opened.1 (done_by first (length ms) why) numbers merged.each;
+      done = done_by first (length ms) why;
+      cuts = cuts runs s b opens view h before merged.naming merged.fresh stood ms few merged.named legal new (state_of j) some opened.0 opened.1 (done_by first (length ms) why) numbers merged.each theirs;
+      texts = over_opened s.told b (λ g es other. (book : Which) → All (Contains (texts_held book other)) (book_texts book added)) opens (λ image g es other is shown. texts_of image g es other is shown);
       all = λ is. both_of s.told _ _ _ (λ g es other one two. (one, two))
-          (whole runs s b opens view h before merged.naming merged.fresh stood ms few merged.named legal new (state_of j) some opened.0 opened.1 (why ≡ None) numbers merged.each (none is) (merged.done (none is) ∙ length-map b.files (λ (f : FileEntry). f.name)))
+          (whole runs s b opens view h before merged.naming merged.fresh stood ms few merged.named legal new (state_of j) some opened.0 opened.1 (done_by first (length ms) why) numbers merged.each (omega (arith, all_done (none is), merged.done (none is), length-map b.files (λ (f : FileEntry). f.name))) (merged.done (none is) ∙ length-map b.files (λ (f : FileEntry). f.name)))
           (comes h (length stood.legal.held.names) opened.0 number);
       cause = cause;
     }
+      where
+        all_done : why ≡ None → done_by first (length ms) why ≡ length ms
+        all_done is = ap (done_by first (length ms)) is
+
+        texts_of : (image : List ℕ) (g : Header) (es : List JournalEntry) (other : Held) → s.told ≡ Some image → IsArchiveOf b g es other → (book : Which) → All (Contains (texts_held book other)) (book_texts book added)
+        texts_of image g es other is shown Types = subst (All (Contains other.types)) (sym (types_behind merged.naming merged.fresh _ merged.named))
+            (subst (λ ts. All (Contains ts) (types_of merged.fresh)) (texts_same s b image g es other (view image is) shown Types) merged.types)
+        texts_of image g es other is shown Words = subst (All (Contains other.words)) (sym (words_behind merged.naming merged.fresh _ merged.named))
+            (subst (λ ts. All (Contains ts) (words_of merged.fresh)) (texts_same s b image g es other (view image is) shown Words) merged.words)

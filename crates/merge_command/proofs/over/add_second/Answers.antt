@@ -227,7 +227,7 @@ returns-clause-came g c =
     let back_second = c.second-1.given.1 (sym read.lent) in
     subst (λ d. Merges m (length c.as_slice.result.now) old (g.D.Disk.state d) second (g.E.Disk.state c.second-1.given.0)) (sym back)
     (subst (λ e. Merges m (length c.as_slice.result.now) old (g.D.Disk.state c.merge_opened-left.result.journal.disk.now) second (g.E.Disk.state e)) (sym back_second)
-    (merges c.segments_go_on.ensures.files c.segments_go_on.ensures.fair old (state_of c.begin-journal.result) c.open_for_append.new.journal c.merge_opened-left.result.journal _ from looked (law _)
+    (merges c.segments_go_on.ensures.files c.segments_go_on.ensures.fair c.segments_go_on.ensures.theirs old (state_of c.begin-journal.result) c.open_for_append.new.journal c.merge_opened-left.result.journal _ from looked (law _)
     (view_shown b second_mid.seen) b (subst (λ t. Opens t b) told c.in_ok-second_archive.ensures.opened) (view_told b second_mid.seen)
     (subst (λ t. HasLastGate t b) told c.in_ok-second_archive.ensures.last) c.last_gate.result c.last_gate.ensures
     second second_new told (keeps_on second second_mid second_new c.open_second.ensures.keeps read.rests)
