@@ -181,9 +181,10 @@ module _ {D : Type 0} {d : DiskGhosts D} where
     pub numbers_are : numbers ≡ words_named types segment.rows
     pub needs : need ≡ min (needed_behind segment numbers front types words) 18446744073709551615
 
-  -- Why not all of this file was moved, which has so many messages: by this a book is full at so many texts; so many bytes behind an end go past the header's
-  -- limit, by a segment of the file, where this holds of a book's texts; the first disk's count of faults rose; the second
-  -- archive's segments of the file are no run with texts that dictionaries may hold. Want of memory is free.
+  -- Why not all of this file was moved, which has so many messages: by this a book is full at so many texts; so many bytes behind
+  -- an end go past the header's limit, by the next segment of the file, where this holds of a book's texts; the first disk's count
+  -- of faults rose; the second archive's segments of the file are no run with texts that dictionaries may hold. Want of memory is
+  -- free.
   abbrev pub HasStopCause : (Which → ℕ → Type 0) → (List JournalEntry → Which → List (List ℕ) → Type 0) → SecondView → ℕ → ℕ
       → ℕ → Journal D d → Journal D d → MergeCause → Type 0
   HasStopCause full has s first file done before after (Full book count) = full book count
