@@ -16,7 +16,7 @@ pub loop-place-preserved : goal.loop-place-preserved
 loop-place-preserved g c = record {
   room = search rules;
   len = search rules;
-  page = c.decide_in-verdict.ensures.kept _ c.loop-place.invariant.page;
+  page = c.decide_in-verdict.ensures.kept c.filter-filter.result.now c.loop-place.invariant.page;
   decided = zip_more (λ row v. IsTold c.args.context.now.names → IsDecided c.args.context.now.names c.args.context.now.query row v) c.args.page.now.rows c.loop-place.verdicts.items c.push_reserved.new.self.items c.loop-place.place _ _ c.row.ensures c.push_reserved.ensures.items c.loop-place.invariant.decided (c.decide_in-verdict.ensures.decided c.loop-place.invariant.page c.filter-filter.ensures);
 }
 

@@ -7,6 +7,6 @@ abbrev pub invariant-loop-place : goal.invariant-loop-place
 invariant-loop-place g l = record {
   room : length l.page.rows ≤ vec_capacity l.verdicts;
   len : vec_len l.verdicts ≡ l.place;
-  page : IsPage l.filter.now l.tests;
+  page : IsPage l.filter l.tests;
   decided : AreDecided l.context.names l.context.query (take l.place l.page.rows) l.verdicts.items;
 }
