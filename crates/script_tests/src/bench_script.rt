@@ -20,6 +20,6 @@ is 8 "" "clpa: archive: not empty, 1 bytes\n"
 
 #[test]
 fn generated_logs_are_summed_up(rt: HostRuntime) {
-    let line = failing_line(&rt, rt.alloc(), BENCH_SCRIPT);
+    let line = failing_line(&rt, rt.alloc(), BENCH_SCRIPT, "");
     assert!(rt; line == 0, "line {line}");
 }

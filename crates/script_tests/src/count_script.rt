@@ -90,6 +90,6 @@ front 7 $text $output_failed
 
 #[test]
 fn messages_are_counted(rt: HostRuntime) {
-    let line = failing_line(&rt, rt.alloc(), COUNT_SCRIPT);
+    let line = failing_line(&rt, rt.alloc(), COUNT_SCRIPT, "");
     assert!(rt; line == 0, "line {line}");
 }

@@ -50,6 +50,6 @@ end
 
 #[test]
 fn archives_are_made(rt: HostRuntime) {
-    let line = failing_line(&rt, rt.alloc(), CREATE_SCRIPT);
+    let line = failing_line(&rt, rt.alloc(), CREATE_SCRIPT, "");
     assert!(rt; line == 0, "line {line}");
 }

@@ -88,6 +88,6 @@ is 0 "entries 3 files 1 messages 1\n"
 
 #[test]
 fn damage_is_told(rt: HostRuntime) {
-    let line = failing_line(&rt, rt.alloc(), DAMAGE_SCRIPT);
+    let line = failing_line(&rt, rt.alloc(), DAMAGE_SCRIPT, "");
     assert!(rt; line == 0, "line {line}");
 }

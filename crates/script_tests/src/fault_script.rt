@@ -7,6 +7,7 @@ log c.log "8 x7\n"
 
 # ---- each call of ingest that fails leaves an archive: the last twelve append three records of the
 # log, behind four that append its name
+test ingest
 disk $worked
 call ingest b.log
 is 0 "1 1 whole b.log\n"
@@ -28,6 +29,7 @@ each k n-12 n-1
 end
 
 # ---- each call of a reading that fails is told, and the archive stays
+test readings
 disk $worked
 call search a
 is 0 "a.log:1:a\n"
@@ -74,6 +76,7 @@ each k 0 n-1
 end
 
 # ---- a disk that failed is called no more
+test silence
 disk $worked
 call ingest b.log c.log
 status 0
@@ -98,7 +101,19 @@ back
 "#;
 
 #[test]
-fn failing_disks_are_told(rt: HostRuntime) {
-    let line = failing_line(&rt, rt.alloc(), FAULT_SCRIPT);
+fn each_call_of_ingest_that_fails_leaves_an_archive(rt: HostRuntime) {
+    let line = failing_line(&rt, rt.alloc(), FAULT_SCRIPT, "ingest");
+    assert!(rt; line == 0, "line {line}");
+}
+
+#[test]
+fn each_call_of_a_reading_that_fails_is_told(rt: HostRuntime) {
+    let line = failing_line(&rt, rt.alloc(), FAULT_SCRIPT, "readings");
+    assert!(rt; line == 0, "line {line}");
+}
+
+#[test]
+fn a_disk_that_failed_is_called_no_more(rt: HostRuntime) {
+    let line = failing_line(&rt, rt.alloc(), FAULT_SCRIPT, "silence");
     assert!(rt; line == 0, "line {line}");
 }

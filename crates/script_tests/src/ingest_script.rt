@@ -177,6 +177,6 @@ back
 
 #[test]
 fn logs_become_files(rt: HostRuntime) {
-    let line = failing_line(&rt, rt.alloc(), INGEST_SCRIPT);
+    let line = failing_line(&rt, rt.alloc(), INGEST_SCRIPT, "");
     assert!(rt; line == 0, "line {line}");
 }

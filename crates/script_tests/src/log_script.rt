@@ -164,6 +164,6 @@ is 0 "n.log:1:a\n"
 
 #[test]
 fn logs_are_printed(rt: HostRuntime) {
-    let line = failing_line(&rt, rt.alloc(), LOG_SCRIPT);
+    let line = failing_line(&rt, rt.alloc(), LOG_SCRIPT, "");
     assert!(rt; line == 0, "line {line}");
 }

@@ -1,7 +1,7 @@
 //! Lines on what is played next: loops and parts.
 use crate::checks::wanted;
 use crate::machine::Machine;
-use crate::rounds::{begin, end_behind, next_round, part_named};
+use crate::rounds::{begin, end_behind, line_behind, next_round};
 use crate::texts::{at, first_of, put_text};
 use std::alloc::AllocError;
 use std::mem;
@@ -60,7 +60,7 @@ fn play_part(
     lines: &[&str],
     values: &[Vec<u8>],
 ) -> Result<bool, AllocError> {
-    let Some(line) = part_named(lines, at(values, 0)) else {
+    let Some(line) = line_behind(lines, "part", at(values, 0)) else {
         return Ok(false);
     };
     name_values(machine, values)?;

@@ -219,6 +219,6 @@ image $second
 
 #[test]
 fn archives_are_merged(rt: HostRuntime) {
-    let line = failing_line(&rt, rt.alloc(), MERGE_SCRIPT);
+    let line = failing_line(&rt, rt.alloc(), MERGE_SCRIPT, "");
     assert!(rt; line == 0, "line {line}");
 }

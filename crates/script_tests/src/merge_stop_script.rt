@@ -8,6 +8,7 @@ log c.log "task_2 done\n7\n"
 
 # ---- each stop of merge keeps what was acknowledged: three records, each by four calls, are the
 # name, the log type that is new, and the segment
+test stops
 play two $never $never
 call merge
 count n
@@ -29,6 +30,7 @@ each p 2 3
 end
 
 # ---- each call of merge that fails leaves an archive
+test failures
 play two $never $never
 count f
 swap
@@ -104,7 +106,13 @@ back
 "#;
 
 #[test]
-fn merges_stop_and_fail(rt: HostRuntime) {
-    let line = failing_line(&rt, rt.alloc(), MERGE_STOP_SCRIPT);
+fn each_stop_of_merge_keeps_what_was_acknowledged(rt: HostRuntime) {
+    let line = failing_line(&rt, rt.alloc(), MERGE_STOP_SCRIPT, "stops");
+    assert!(rt; line == 0, "line {line}");
+}
+
+#[test]
+fn each_call_of_merge_that_fails_leaves_an_archive(rt: HostRuntime) {
+    let line = failing_line(&rt, rt.alloc(), MERGE_STOP_SCRIPT, "failures");
     assert!(rt; line == 0, "line {line}");
 }

@@ -3,6 +3,7 @@ use crate::play::failing_line;
 
 static OUTPUT_SCRIPT: &str = r#"
 # ---- a first write that fails is told
+test first
 log b.log "7 x7\n"
 disk $worked
 write 0
@@ -77,6 +78,7 @@ is 4 "0 2 part a.log\n" "clpa: a.log: dictionary of types is full at 2\n"
 
 # ---- each write that fails leaves a front: of nine long lines, with their numbers where they are
 # printed
+test long
 repeat line 40000 x
 text line $line "\n"
 repeat long 9 $line
@@ -160,7 +162,13 @@ back
 "#;
 
 #[test]
-fn failing_outputs_are_told(rt: HostRuntime) {
-    let line = failing_line(&rt, rt.alloc(), OUTPUT_SCRIPT);
+fn a_first_write_that_fails_is_told(rt: HostRuntime) {
+    let line = failing_line(&rt, rt.alloc(), OUTPUT_SCRIPT, "first");
+    assert!(rt; line == 0, "line {line}");
+}
+
+#[test]
+fn each_write_that_fails_leaves_a_front(rt: HostRuntime) {
+    let line = failing_line(&rt, rt.alloc(), OUTPUT_SCRIPT, "long");
     assert!(rt; line == 0, "line {line}");
 }

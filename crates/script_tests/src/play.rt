@@ -6,6 +6,7 @@ use crate::loops::over_lines;
 use crate::machine::Machine;
 use crate::names::NAMES;
 use crate::naming::over_names;
+use crate::rounds::line_behind;
 use crate::texts::{values_of, verb_of};
 use std::alloc::{AllocError, Global};
 use std::sync::Wait;
@@ -68,7 +69,7 @@ fn play_line<R: Threads + Wait + Sync>(
     carry_out(rt, machine, lines, verb, values.as_slice())
 }
 
-/// Plays the next line; None where the script is done: at its end, or before its parts.
+/// Plays the next line; None where the script is done: at its end, or before its tests and parts.
 fn play_next<R: Threads + Wait + Sync>(
     rt: &R,
     machine: &mut Machine,
@@ -80,18 +81,19 @@ fn play_next<R: Threads + Wait + Sync>(
     machine.place.line = machine.place.line.saturating_add(1);
     match verb_of(line) {
         None => Ok(Some(true)),
-        Some(("part", _)) => Ok(None),
+        Some(("test" | "part", _)) => Ok(None),
         Some((verb, rest)) => Ok(Some(play_line(rt, machine, lines, verb, rest)?)),
     }
 }
 
-/// The number of the line that fails, counted from one; 0 where none does.
-fn play_lines<R: Threads + Wait + Sync>(
+/// Plays lines from this one on. The number of the one that fails, counted from one; 0 where none does.
+fn play_from<R: Threads + Wait + Sync>(
     rt: &R,
     machine: &mut Machine,
     lines: &[&str],
+    first: usize,
 ) -> Result<usize, AllocError> {
-    machine.place.line = 0;
+    machine.place.line = first;
     for _ in 0..MOST {
         let line = machine.place.line;
         match play_next(rt, machine, lines)? {
@@ -103,14 +105,32 @@ fn play_lines<R: Threads + Wait + Sync>(
     Ok(usize::MAX)
 }
 
+/// Plays what stands before all tests, and then the one with this name, if it has any.
+fn play_lines<R: Threads + Wait + Sync>(
+    rt: &R,
+    machine: &mut Machine,
+    lines: &[&str],
+    test: &str,
+) -> Result<usize, AllocError> {
+    let failing = play_from(rt, machine, lines, 0)?;
+    if failing != 0 || test.is_empty() {
+        return Ok(failing);
+    }
+    match line_behind(lines, "test", test.as_bytes()) {
+        Some(first) => play_from(rt, machine, lines, first),
+        None => Ok(usize::MAX),
+    }
+}
+
 /// The same of a text, by a machine that played others.
 fn play_text<R: Threads + Wait + Sync>(
     rt: &R,
     machine: &mut Machine,
     text: &str,
+    test: &str,
 ) -> Result<usize, AllocError> {
     let lines: Vec<&str> = text.lines().collect(machine.alloc)?;
-    play_lines(rt, machine, lines.as_slice())
+    play_lines(rt, machine, lines.as_slice(), test)
 }
 
 /// The same of a text behind the names that all scripts have.
@@ -118,23 +138,31 @@ fn play_behind_names<R: Threads + Wait + Sync>(
     rt: &R,
     machine: &mut Machine,
     script: &str,
+    test: &str,
 ) -> Result<usize, AllocError> {
-    if play_text(rt, machine, NAMES)? != 0 {
+    if play_text(rt, machine, NAMES, "")? != 0 {
         return Ok(usize::MAX);
     }
-    play_text(rt, machine, script)
+    play_text(rt, machine, script, test)
 }
 
 fn play_anew<R: Threads + Wait + Sync>(
     rt: &R,
     alloc: Global,
     script: &str,
+    test: &str,
 ) -> Result<usize, AllocError> {
     let mut machine = Machine::new(alloc)?;
-    play_behind_names(rt, &mut machine, script)
+    play_behind_names(rt, &mut machine, script, test)
 }
 
-/// The number of the line of a script that fails; 0 where none does.
-pub(crate) fn failing_line<R: Threads + Wait + Sync>(rt: &R, alloc: Global, script: &str) -> usize {
-    play_anew(rt, alloc, script).unwrap_or(usize::MAX)
+/// The number of the line of a script that fails where a test of it is played, or all of a script without
+/// tests, whose name is empty; 0 where none does.
+pub(crate) fn failing_line<R: Threads + Wait + Sync>(
+    rt: &R,
+    alloc: Global,
+    script: &str,
+    test: &str,
+) -> usize {
+    play_anew(rt, alloc, script, test).unwrap_or(usize::MAX)
 }

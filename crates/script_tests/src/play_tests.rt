@@ -1,7 +1,16 @@
 //! That scripts fail where what they want is not so, and at which line.
 use crate::play::failing_line;
 
-/// A script, and the number of its line that fails; 0 where none does.
+/// A script, the name of its test, and the number of the line that fails; 0 where none does.
+const TESTS: &[(&str, &str, usize)] = &[
+    ("disk a\ntest b\nimage b", "", 0),
+    ("disk a\ntest b\nimage b\ntest c\nimage a", "c", 0),
+    ("disk a\ntest b\nimage b\ntest c\nimage a", "b", 3),
+    ("disk a\none\ntest b", "b", 2),
+    ("test b", "a", usize::MAX),
+];
+
+/// A script without tests, and the number of its line that fails; 0 where none does.
 const ROWS: &[(&str, usize)] = &[
     ("", 0),
     ("# a comment\ncall # of a line\nis 2 \"\" $usage", 0),
@@ -101,7 +110,15 @@ const ROWS: &[(&str, usize)] = &[
 #[test]
 fn scripts_fail_where_what_they_want_is_not_so(rt: HostRuntime) {
     for (script, wanted) in ROWS {
-        let line = failing_line(&rt, rt.alloc(), script);
+        let line = failing_line(&rt, rt.alloc(), script, "");
+        assert!(rt; line == *wanted, "line {line} of {script}");
+    }
+}
+
+#[test]
+fn tests_are_played_behind_what_stands_before_them(rt: HostRuntime) {
+    for (script, test, wanted) in TESTS {
+        let line = failing_line(&rt, rt.alloc(), script, test);
         assert!(rt; line == *wanted, "line {line} of {script}");
     }
 }

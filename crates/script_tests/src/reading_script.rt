@@ -78,6 +78,6 @@ front 7 "0 1 w" $output_failed
 
 #[test]
 fn archives_are_read(rt: HostRuntime) {
-    let line = failing_line(&rt, rt.alloc(), READING_SCRIPT);
+    let line = failing_line(&rt, rt.alloc(), READING_SCRIPT, "");
     assert!(rt; line == 0, "line {line}");
 }

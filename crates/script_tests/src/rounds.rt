@@ -62,10 +62,11 @@ pub(crate) fn end_behind(lines: &[&str], line: usize) -> Option<usize> {
     None
 }
 
-/// The line behind the one that gives a part this name.
-pub(crate) fn part_named(lines: &[&str], name: &[u8]) -> Option<usize> {
+/// The line behind the one that gives this name to a part, or to a test.
+pub(crate) fn line_behind(lines: &[&str], verb: &str, name: &[u8]) -> Option<usize> {
     for (at, text) in lines.iter().enumerate() {
-        if let Some(("part", rest)) = verb_of(text)
+        if let Some((first, rest)) = verb_of(text)
+            && first == verb
             && rest.trim().as_bytes() == name
         {
             return Some(at.saturating_add(1));

@@ -50,6 +50,6 @@ front 7 $text $output_failed
 
 #[test]
 fn archives_are_searched(rt: HostRuntime) {
-    let line = failing_line(&rt, rt.alloc(), SEARCH_SCRIPT);
+    let line = failing_line(&rt, rt.alloc(), SEARCH_SCRIPT, "");
     assert!(rt; line == 0, "line {line}");
 }

@@ -40,6 +40,6 @@ is 0 "a.log:1:a\na.log:1:a\n"
 
 #[test]
 fn failing_logs_are_told(rt: HostRuntime) {
-    let line = failing_line(&rt, rt.alloc(), SOURCE_SCRIPT);
+    let line = failing_line(&rt, rt.alloc(), SOURCE_SCRIPT, "");
     assert!(rt; line == 0, "line {line}");
 }

@@ -9,6 +9,7 @@ log b.log $log
 
 # ---- each stop of ingest keeps what was acknowledged: four records, each by four calls, are the
 # name of the log, its log type, its word and its segment
+test empty
 row
 disk $empty
 call ingest a.log
@@ -33,6 +34,7 @@ each p 2 3
 end
 
 # ---- each stop of ingest keeps the files before
+test worked
 row
 disk $worked
 call ingest b.log
@@ -72,7 +74,13 @@ back
 "#;
 
 #[test]
-fn ingests_stop(rt: HostRuntime) {
-    let line = failing_line(&rt, rt.alloc(), STOP_SCRIPT);
+fn each_stop_of_ingest_keeps_what_was_acknowledged(rt: HostRuntime) {
+    let line = failing_line(&rt, rt.alloc(), STOP_SCRIPT, "empty");
+    assert!(rt; line == 0, "line {line}");
+}
+
+#[test]
+fn each_stop_of_ingest_keeps_the_files_before(rt: HostRuntime) {
+    let line = failing_line(&rt, rt.alloc(), STOP_SCRIPT, "worked");
     assert!(rt; line == 0, "line {line}");
 }

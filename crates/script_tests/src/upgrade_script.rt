@@ -245,6 +245,6 @@ back
 
 #[test]
 fn archives_are_upgraded(rt: HostRuntime) {
-    let line = failing_line(&rt, rt.alloc(), UPGRADE_SCRIPT);
+    let line = failing_line(&rt, rt.alloc(), UPGRADE_SCRIPT, "");
     assert!(rt; line == 0, "line {line}");
 }

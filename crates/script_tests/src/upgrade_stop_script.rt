@@ -8,6 +8,7 @@ log a.log "task_1 done\ntask_2 done\n"
 # ---- each stop of upgrade leaves a front of the new archive: no archive or an empty one until it
 # is made by three calls, then four records, each by four calls: the name, the log type, the words,
 # and the segment
+test stops
 play made $never $never
 call upgrade
 swap
@@ -57,6 +58,7 @@ end
 
 # ---- each call of upgrade that fails is told, as the outcome of the file where this was begun: the
 # last twelve calls of the new disk append the records behind the name
+test failures
 play made $never $never
 count f
 call upgrade
@@ -143,7 +145,13 @@ back
 "#;
 
 #[test]
-fn upgrades_stop_and_fail(rt: HostRuntime) {
-    let line = failing_line(&rt, rt.alloc(), UPGRADE_STOP_SCRIPT);
+fn each_stop_of_upgrade_leaves_both_archives(rt: HostRuntime) {
+    let line = failing_line(&rt, rt.alloc(), UPGRADE_STOP_SCRIPT, "stops");
+    assert!(rt; line == 0, "line {line}");
+}
+
+#[test]
+fn each_call_of_upgrade_that_fails_is_told(rt: HostRuntime) {
+    let line = failing_line(&rt, rt.alloc(), UPGRADE_STOP_SCRIPT, "failures");
     assert!(rt; line == 0, "line {line}");
 }

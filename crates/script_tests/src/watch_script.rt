@@ -232,6 +232,6 @@ is 0 $three
 
 #[test]
 fn matches_are_printed(rt: HostRuntime) {
-    let line = failing_line(&rt, rt.alloc(), WATCH_SCRIPT);
+    let line = failing_line(&rt, rt.alloc(), WATCH_SCRIPT, "");
     assert!(rt; line == 0, "line {line}");
 }

@@ -14,6 +14,7 @@ text printed "b.log:1:7 x7\nb.log:2:8 x7\n1 2 whole b.log\n"
 # ---- each stop of a watched ingest keeps what was acknowledged: first none of the six records,
 # then one more at a time, and in the end all. These are the name of the log, its log type, its word
 # and three segments
+test empty
 row
 disk $empty
 play watch
@@ -30,6 +31,7 @@ each p 0 3
 end
 
 # ---- each stop of a watched ingest keeps the files before
+test worked
 row
 disk $worked
 play watch
@@ -48,6 +50,7 @@ end
 # ---- each call of a watched ingest that fails leaves an archive: the file's line stands behind
 # lines of messages that are in it. Twenty-four calls append the records, and the reader makes one
 # at least for each of them
+test failures
 # of the reader, and of the file
 text both_failed "clpa: archive: disk failed\nclpa: b.log: disk failed\n"
 disk $worked
@@ -73,6 +76,7 @@ end
 
 # ---- each write of a watched ingest that fails leaves the log whole: the lines of each segment go
 # out at once, and then that of the file
+test writes
 each k 0 19
   disk $worked
   write k
@@ -116,7 +120,25 @@ back
 "#;
 
 #[test]
-fn watched_ingests_stop_and_fail(rt: HostRuntime) {
-    let line = failing_line(&rt, rt.alloc(), WATCH_STOP_SCRIPT);
+fn each_stop_of_a_watched_ingest_keeps_what_was_acknowledged(rt: HostRuntime) {
+    let line = failing_line(&rt, rt.alloc(), WATCH_STOP_SCRIPT, "empty");
+    assert!(rt; line == 0, "line {line}");
+}
+
+#[test]
+fn each_stop_of_a_watched_ingest_keeps_the_files_before(rt: HostRuntime) {
+    let line = failing_line(&rt, rt.alloc(), WATCH_STOP_SCRIPT, "worked");
+    assert!(rt; line == 0, "line {line}");
+}
+
+#[test]
+fn each_call_of_a_watched_ingest_that_fails_leaves_an_archive(rt: HostRuntime) {
+    let line = failing_line(&rt, rt.alloc(), WATCH_STOP_SCRIPT, "failures");
+    assert!(rt; line == 0, "line {line}");
+}
+
+#[test]
+fn each_write_of_a_watched_ingest_that_fails_leaves_the_log_whole(rt: HostRuntime) {
+    let line = failing_line(&rt, rt.alloc(), WATCH_STOP_SCRIPT, "writes");
     assert!(rt; line == 0, "line {line}");
 }
